@@ -1,0 +1,4 @@
+pub mod Cuts
+pub mod KindWords
+pub mod StepText
+pub mod Answering

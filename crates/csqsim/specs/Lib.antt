@@ -1,0 +1,4 @@
+pub mod Pieces
+pub mod StepLine
+pub mod Inputs
+pub mod Schedule
