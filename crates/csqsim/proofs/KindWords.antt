@@ -1,5 +1,5 @@
 -- The words of a kind of step.
-use Rattle.std.proofs.Common.{◌≡◌, ◌≢◌, ℕ, ◌+◌, ◌-◌, ◌<◌, ◌≤◌, ◌^◌, Bool, true, false, List, [], ◌∷◌, length, get_or, Option, Some, None, refl, ap, sym, ◌∙◌, arith, subst, decimal, codes}
+use Rattle.std.proofs.Common.{◌≡◌, ◌≢◌, ℕ, ◌<◌, ◌^◌, List, [], ◌∷◌, get_or, Option, Some, None, ap, sym, ◌∙◌, arith, decimal}
 use Rattle.std.specs.Prelude.{◌==◌, MatchOption}
 use Rattle.std.proofs.lemmas.List.Splits.{slice_split_none, join_with_byte-slice_split}
 use Rattle.std.proofs.lemmas.Str.Parse.{digit_at, numerals_by_value, tells_digits}
@@ -9,9 +9,9 @@ use Rattle.std.proofs.lemmas.Bool.{ne_eqb}
 use Rattle.std.specs.List.{join_with_byte}
 use Rattle.irp_core.specs.declared.step.Kind.{Kind}
 use Rattle.irp_core.specs.declared.step.Kind.TheVariants.{Arm, Test, Disarm, Flag, Take}
-use Rattle.irp_core.specs.Steps.{Irp, number}
+use Rattle.irp_core.specs.Steps.{number}
 use Rattle.irp_core.specs.Runs.{OfIrp}
-use Rattle.csqsim.specs.Pieces.{pieces, words_of, IsShort, IsNumber}
+use Rattle.csqsim.specs.Pieces.{words_of, IsShort, IsNumber}
 use Rattle.csqsim.specs.StepLine.{kind_words, AreKindWords}
 
 -- a number is one word

@@ -2,3 +2,4 @@ pub mod Pieces
 pub mod StepLine
 pub mod Inputs
 pub mod Schedule
+pub mod Jobs

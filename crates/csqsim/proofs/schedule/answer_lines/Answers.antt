@@ -1,7 +1,6 @@
-use Rattle.std.proofs.Common.{◌≡◌, ◌+◌, ◌++◌, ◌∙◌, [], List, ℕ, ap, append_assoc, arith, subst}
-use Rattle.irp_core.specs.MachineState.{size_of}
+use Rattle.std.proofs.Common.{◌++◌, ◌∙◌, ap, append_assoc, arith}
 use Rattle.csqsim.specs.Pieces.{lines_of}
-use Rattle.csqsim.proofs.Answering.{Completes, line_stops, line_goes_on, lines_end}
+use Rattle.csqsim.proofs.Answering.{line_stops, line_goes_on, lines_end}
 use Rattle.csqsim.proofs.schedule.answer_lines.Goals as goal
 
 pub returns-in-Stops : goal.returns-in-Stops

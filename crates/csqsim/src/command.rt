@@ -1,0 +1,130 @@
+//! The command line.
+ghost use Rattle.std.specs.Prelude.{◌≤◌, IfOk};
+ghost use Rattle.csqsim.specs.Jobs.{IsInRange};
+
+use clap::error::ErrorKind;
+use clap::{Arg, ArgMatches, Command, value_parser};
+use std::alloc::{AllocError, Global};
+use std::convert::AsStr;
+use thiserror::Error;
+
+/// What the program is asked to do.
+#[derive(Clone, Copy, Debug, PartialEq, Eq)]
+pub enum Job {
+    /// To replay a schedule over this many IRPs and passes.
+    Schedule { irps: u32, passes: u32 },
+}
+
+/// Why a command line asks for nothing that can be done.
+#[derive(Debug, Drop, Error)]
+pub enum CommandFault {
+    /// 1: there is too little memory.
+    #[error("out of memory")]
+    Memory,
+    /// 2: it was refused, or asks for help.
+    #[error("{0}")]
+    Refused(clap::Error),
+}
+
+impl From<AllocError> for CommandFault {
+    fn from(_: AllocError) -> Self {
+        CommandFault::Memory
+    }
+}
+
+impl From<clap::Error> for CommandFault {
+    fn from(error: clap::Error) -> Self {
+        if error.kind() == ErrorKind::OutOfMemory {
+            CommandFault::Memory
+        } else {
+            CommandFault::Refused(error)
+        }
+    }
+}
+
+const ABOUT: &str = "Replays the steps of a cancel-safe IRP queue";
+
+const SCHEDULE_ABOUT: &str = "Replays a schedule from standard input, one step a line";
+
+const SCHEDULE_HELP: &str = "\
+A line is a pass, a step and an IRP. The answer is the line and the value that the step found:
+  p1 arm 0     an insert sets the cancel routine
+  p1 test 0    an insert reads the Cancel flag
+  p1 disarm 0  an insert or a removal takes the cancel routine
+  p2 flag 0    a cancel sets the Cancel flag
+  p2 take 0    a cancel takes the cancel routine
+Empty lines, and lines that begin with #, are skipped.
+
+Example:
+  printf 'p1 arm 0\\np1 test 0\\np2 flag 0\\np2 take 0\\n' | csqsim schedule";
+
+/// An option that takes a number in a range.
+fn number_option<'a>(
+    alloc: Global,
+    name: &'a str,
+    help: &'a str,
+    most: i64,
+    default: &'a str,
+) -> Arg<'a> {
+    Arg::new(alloc, name)
+        .long(name)
+        .value_name("N")
+        .help(help)
+        .value_parser(value_parser!(u32).range(1..=most))
+        .default_value(default)
+}
+
+/// The command line that the program takes.
+fn program<'a>(alloc: Global) -> Result<Command<'a>, AllocError> {
+    let irps = number_option(alloc, "irps", "IRPs, 1 to 1,024", 1024, "8");
+    let passes = number_option(alloc, "passes", "Passes, 1 to 64", 64, "4");
+    let schedule = Command::new(alloc, "schedule")
+        .about(SCHEDULE_ABOUT)
+        .after_help(SCHEDULE_HELP)
+        .arg(irps)?
+        .arg(passes)?;
+    Command::new(alloc, "csqsim")
+        .about(ABOUT)
+        .subcommand_required(true)
+        .arg_required_else_help(true)
+        .subcommand(schedule)
+}
+
+/// The number of an option, or the default where its text is no number from 1 to `most`.
+fn number_of(options: &ArgMatches<'_>, name: &str, most: u32, default: u32) -> u32
+    requires least { 1 ≤ default }
+    requires most { default ≤ most }
+    ensures least { 1 ≤ result }
+    ensures most { result ≤ most }
+{
+    match options.get_one::<u32>(name) {
+        Some(number) if 1 <= number && number <= most => number,
+        _ => default,
+    }
+}
+
+fn schedule_job(options: &ArgMatches<'_>) -> Job
+    ensures { IsInRange result }
+{
+    Job::Schedule {
+        irps: number_of(options, "irps", 1024, 8),
+        passes: number_of(options, "passes", 64, 4),
+    }
+}
+
+/// Reads a command line, the program's name first.
+///
+/// Refused: 1 Memory; 2 Refused, with `clap`'s error, which also carries the help that was asked for.
+/// Own rule.
+pub fn read_command<S: AsStr>(alloc: Global, words: &[S]) -> Result<Job, CommandFault>
+    ensures { IfOk result IsInRange }
+{
+    let matches = program(alloc)?.try_get_matches_from(words)?;
+    match matches.subcommand() {
+        Some((_, options)) => Ok(schedule_job(options)),
+        None => {
+            let refused = program(alloc)?.error(ErrorKind::MissingSubcommand, "no command")?;
+            Err(CommandFault::Refused(refused))
+        }
+    }
+}
