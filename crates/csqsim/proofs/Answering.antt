@@ -25,9 +25,13 @@ module _ (size : Size) (whole : List (List ℕ)) (E : List Made) (n : ℕ) (line
   goes_on_here : Completes size whole E n (line ∷ left) added → (more : Option (List Made)) → AnswersLine size E n line text more
       → LeavesMachine GoesOn state more → (F : List Made) × (Agrees state F) × Completes size whole F (n + 1) left (added ++ text)
   goes_on_here complete None h leaves = absurd leaves
-  goes_on_here complete (Some F) h leaves = (F, leaves, λ rest ended answers.
-      let P : List ℕ → Type 0 = λ t. AnswersLines size [] 1 whole t ended in
-      subst P (sym (append_assoc added text rest)) (complete (text ++ rest) ended (goes_on E F n line left text rest ended h answers)))
+  goes_on_here complete (Some F) h leaves = (
+    F,
+    leaves,
+    λ rest ended answers.
+        let P : List ℕ → Type 0 = λ t. AnswersLines size [] 1 whole t ended in
+        subst P (sym (append_assoc added text rest)) (complete (text ++ rest) ended (goes_on E F n line left text rest ended h answers)),
+  )
 
 -- the same, where the code tells the line, the size and how the handling goes on
 module _ (size now : Size) (same : now ≡ size) (whole : List (List ℕ)) (E : List Made) (n : ℕ) (lines : List (List ℕ)) (line : List ℕ) (left : List (List ℕ))

@@ -19,9 +19,9 @@ pub words_of-decimal : (n : ℕ) → n < 2 ^ 64 → words_of (decimal n) ≡ dec
 words_of-decimal n lt =
     let digits = digits_decimal (numerals_by_value _ tells_digits) n lt in
     slice_split_none (λ b. b == 32) (decimal n) (λ k d in_range.
-        let digit = digit_at (decimal n) k digits in_range in
-        let same = get_or_default (decimal n) k d 0 in_range in
-        ne_eqb (get_or (decimal n) k d) 32 (λ e. omega (arith, digit, same, e)))
+    let digit = digit_at (decimal n) k digits in_range in
+    let same = get_or_default (decimal n) k d 0 in_range in
+    ne_eqb (get_or (decimal n) k d) 32 (λ e. omega (arith, digit, same, e)))
 
 -- what is one word is that word
 pub alone : (text word : List ℕ) → words_of text ≡ word ∷ [] → text ≡ word

@@ -33,6 +33,21 @@ pub enum SimFault {
     Write,
 }
 
+impl SimFault {
+    /// The number of the fault, from 1. Own rule.
+    pub fn number(self) -> u8
+        ensures memory { self ≡ SimFault.Memory → result ≡ 1 }
+        ensures read { self ≡ SimFault.Read → result ≡ 2 }
+        ensures write { self ≡ SimFault.Write → result ≡ 3 }
+    {
+        match self {
+            SimFault::Memory => 1,
+            SimFault::Read => 2,
+            SimFault::Write => 3,
+        }
+    }
+}
+
 impl From<AllocError> for SimFault {
     ghost use Rattle.std.specs.Prelude.{◌≡◌};
     ghost use Rattle.csqsim.specs.declared.answer.SimFault.TheVariants.{Memory};

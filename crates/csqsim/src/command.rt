@@ -1,6 +1,6 @@
 //! The command line.
-ghost use Rattle.std.specs.Prelude.{◌≤◌, IfOk};
-ghost use Rattle.csqsim.specs.Jobs.{IsInRange};
+ghost use Rattle.std.specs.Prelude.{◌≡◌, ◌≤◌, IfOk};
+ghost use Rattle.csqsim.specs.Jobs.{IsInRange, number_of};
 
 use clap::error::ErrorKind;
 use clap::{Arg, ArgMatches, Command, value_parser};
@@ -24,6 +24,18 @@ pub enum CommandFault {
     /// 2: it was refused, or asks for help.
     #[error("{0}")]
     Refused(clap::Error),
+}
+
+impl CommandFault {
+    /// The number of the fault, from 1. Own rule.
+    pub fn number(&self) -> u8
+        ensures { result ≡ number_of self.now }
+    {
+        match self {
+            CommandFault::Memory => 1,
+            CommandFault::Refused(_) => 2,
+        }
+    }
 }
 
 impl From<AllocError> for CommandFault {
@@ -91,7 +103,7 @@ fn program<'a>(alloc: Global) -> Result<Command<'a>, AllocError> {
 }
 
 /// The number of an option, or the default where its text is no number from 1 to `most`.
-fn number_of(options: &ArgMatches<'_>, name: &str, most: u32, default: u32) -> u32
+fn number_in(options: &ArgMatches<'_>, name: &str, most: u32, default: u32) -> u32
     requires least { 1 ≤ default }
     requires most { default ≤ most }
     ensures least { 1 ≤ result }
@@ -107,8 +119,8 @@ fn schedule_job(options: &ArgMatches<'_>) -> Job
     ensures { IsInRange result }
 {
     Job::Schedule {
-        irps: number_of(options, "irps", 1024, 8),
-        passes: number_of(options, "passes", 64, 4),
+        irps: number_in(options, "irps", 1024, 8),
+        passes: number_in(options, "passes", 64, 4),
     }
 }
 

@@ -19,14 +19,22 @@ mod tests;
 const STOPPED: u8 = 2;
 
 /// Does what the command line asks for, and answers the exit status.
-fn run<R: AllocGlobal + Print + Eprint + Input + std::rt::Env>(rt: &R) -> Result<ExitCode, SimFault> {
+fn run<R: AllocGlobal + Print + Eprint + Input + std::rt::Env>(
+    rt: &R,
+) -> Result<ExitCode, SimFault> {
     let arguments = std::env::args(rt).map_err(|_| SimFault::Read)?;
     let words: Vec<String> = arguments.collect(rt.alloc())?;
     match read_command(rt.alloc(), words.as_slice()) {
         Ok(Job::Schedule { irps, passes }) => {
             let mut reader = rt.reader();
             let mut writer = io::writer(rt);
-            let ended = schedule::answer_schedule(rt.alloc(), irps, passes, &mut reader, &mut writer)?;
+            let ended = schedule::answer_schedule(
+                rt.alloc(),
+                irps,
+                passes,
+                &mut reader,
+                &mut writer,
+            )?;
             Ok(status_of(ended))
         }
         Err(CommandFault::Memory) => Err(SimFault::Memory),

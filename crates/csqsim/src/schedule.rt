@@ -71,11 +71,7 @@ fn answer_line(
 }
 
 /// Answers each line, one after the other.
-fn answer_lines(
-    machine: &mut Machine,
-    input: &[u8],
-    text: &mut String,
-) -> Result<Ended, AllocError>
+fn answer_lines(machine: &mut Machine, input: &[u8], text: &mut String) -> Result<Ended, AllocError>
     ensures { Agrees machine.old [] → IfOk result (λ ended.
         (added : List ℕ) × (string_bytes text.new ≡ string_bytes text.old ++ added)
         × AnswersLines (size_of machine.old) [] 1 (lines_of input.now) added ended) }

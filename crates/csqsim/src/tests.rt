@@ -1,0 +1,210 @@
+use crate::answer::{Ended, MAX_INPUT, SimFault};
+use crate::command::{CommandFault, Job, read_command};
+use crate::schedule::answer_schedule;
+use std::alloc::Global;
+use std::io;
+use std::io::{Error, ErrorKind, Read, Write};
+use std::process::Abort;
+use std::test::Fail;
+
+/// Answers a schedule over 8 IRPs and 4 passes, from memory to memory.
+fn answered(alloc: Global, mut input: &[u8], text: &mut Vec<u8>) -> Result<Ended, SimFault> {
+    answer_schedule(alloc, 8, 4, &mut input, text)
+}
+
+/// Answers each input, and compares the text.
+fn compare(
+    rt: &impl Abort,
+    alloc: Global,
+    ended: Ended,
+    cases: &[(&str, &str)],
+) -> Result<(), SimFault> {
+    for (input, output) in cases {
+        let mut text = Vec::new(alloc);
+        assert_eq!(rt; answered(alloc, input.as_bytes(), &mut text)?, ended);
+        assert_eq!(rt; text.as_slice(), output.as_bytes(), "at {input:?}");
+    }
+    Ok(())
+}
+
+#[test]
+fn steps_are_answered(rt: HostRuntime) -> Result<(), Fail> {
+    let cases = [
+        (
+            "p1 arm 0\np1 test 0\np2 flag 0\np2 take 0\n",
+            "p1 arm 0 found 0\np1 test 0 found 0\np2 flag 0 found 0\np2 take 0 found 1\n",
+        ),
+        ("", ""),
+        ("\n# a comment\np1 disarm 7", "p1 disarm 7 found 0\n"),
+    ];
+    compare(&rt, rt.alloc(), Ended::AllHandled, &cases)?;
+    Ok(())
+}
+
+#[test]
+fn a_line_may_end_the_handling(rt: HostRuntime) -> Result<(), Fail> {
+    let cases = [
+        (
+            "p1 take 0\np1 test 0\np1 out 0\n",
+            "p1 take 0 found 0\np1 test 0 found 0\nline 3 malformed\n",
+        ),
+        ("# a comment\n\np1 arm 00\n", "line 3 malformed\n"),
+        ("p9 flag 8\n", "line 1 refused UnknownIrp\n"),
+        ("p5 flag 7\n", "line 1 refused UnknownPass\n"),
+        ("p0 flag 7\n", "line 1 refused UnknownPass\n"),
+        ("p1 ar", "line 1 malformed\n"),
+        ("p1 arm 0 \n", "line 1 malformed\n"),
+        ("p1  arm 0\n", "line 1 malformed\n"),
+        ("p1 arm 1000000000\n", "line 1 malformed\n"),
+        ("p1 arm 999999999\n", "line 1 refused UnknownIrp\n"),
+    ];
+    compare(&rt, rt.alloc(), Ended::Stopped, &cases)?;
+    Ok(())
+}
+
+#[test]
+fn lines_and_inputs_have_limits(rt: HostRuntime) -> Result<(), Fail> {
+    let alloc = rt.alloc();
+    let mut comment = vec![in alloc; b'#'; 64]?;
+    let mut text = Vec::new(alloc);
+    assert_eq!(rt; answered(alloc, &comment, &mut text)?, Ended::AllHandled);
+    assert!(rt; text.is_empty());
+    comment.push(b'x')?;
+    assert_eq!(rt; answered(alloc, &comment, &mut text)?, Ended::Stopped);
+    assert_eq!(rt; text.as_slice(), b"line 1 too long\n".as_slice());
+
+    let mut feeds = vec![in alloc; b'\n'; MAX_INPUT]?;
+    let mut text = Vec::new(alloc);
+    assert_eq!(rt; answered(alloc, &feeds, &mut text)?, Ended::AllHandled);
+    assert!(rt; text.is_empty());
+    feeds.extend_from_slice(b"\n\n\n")?;
+    let mut rest = feeds.as_slice();
+    assert_eq!(rt;
+        answer_schedule(alloc, 8, 4, &mut rest, &mut text)?,
+        Ended::Stopped
+    );
+    assert_eq!(rt; text.as_slice(), b"input too long\n".as_slice());
+    assert_eq!(rt; rest.len(), 2);
+    Ok(())
+}
+
+/// Gives its bytes one at a time, is interrupted before each, and then fails.
+#[derive(Drop)]
+struct FailingReader<'a> {
+    bytes: &'a [u8],
+    interrupted: bool,
+}
+
+impl Read for FailingReader<'_> {
+    fn read(&mut self, buf: &mut [u8]) -> io::Result<usize> {
+        self.interrupted = !self.interrupted;
+        if self.interrupted {
+            return Err(Error::from(ErrorKind::Interrupted));
+        }
+        let Some((first, rest)) = self.bytes.split_first() else {
+            return Err(Error::from(ErrorKind::Other));
+        };
+        if buf.is_empty() {
+            return Ok(0);
+        }
+        buf[0] = *first;
+        self.bytes = rest;
+        Ok(1)
+    }
+}
+
+/// Takes so many bytes, and then fails or takes nothing.
+#[derive(Drop)]
+struct FailingWriter {
+    room: usize,
+    fails: bool,
+}
+
+impl Write for FailingWriter {
+    fn write(&mut self, buf: &[u8]) -> io::Result<usize> {
+        if self.room == 0 && self.fails {
+            return Err(Error::from(ErrorKind::Other));
+        }
+        let taken = self.room.min(buf.len());
+        self.room -= taken;
+        Ok(taken)
+    }
+
+    fn flush(&mut self) -> io::Result<()> {
+        Ok(())
+    }
+}
+
+#[test]
+fn a_failing_reader_is_told(rt: HostRuntime) -> Result<(), Fail> {
+    let mut reader = FailingReader {
+        bytes: b"p1 arm 0\n",
+        interrupted: false,
+    };
+    let mut text = Vec::new(rt.alloc());
+    let fault = answer_schedule(rt.alloc(), 8, 4, &mut reader, &mut text);
+    assert_eq!(rt; fault, Err(SimFault::Read));
+    assert_eq!(rt; SimFault::Read.number(), 2);
+    assert!(rt; text.is_empty());
+    Ok(())
+}
+
+#[test]
+fn a_failing_writer_is_told(rt: HostRuntime) -> Result<(), Fail> {
+    for room in 0..17 {
+        for fails in [false, true] {
+            let mut input = b"p1 arm 0\n".as_slice();
+            let mut writer = FailingWriter { room, fails };
+            let fault = answer_schedule(rt.alloc(), 8, 4, &mut input, &mut writer);
+            assert_eq!(rt; fault, Err(SimFault::Write));
+        }
+    }
+    Ok(())
+}
+
+#[test]
+fn command_lines_are_read(rt: HostRuntime) -> Result<(), Fail> {
+    let alloc = rt.alloc();
+    let plain = ["csqsim", "schedule"];
+    let least = ["csqsim", "schedule", "--irps", "1", "--passes=1"];
+    let most = ["csqsim", "schedule", "--irps=1024", "--passes", "64"];
+    let jobs = [
+        (plain.as_slice(), 8, 4),
+        (least.as_slice(), 1, 1),
+        (most.as_slice(), 1024, 64),
+    ];
+    for (words, irps, passes) in jobs {
+        let job = read_command(alloc, words).ok();
+        assert_eq!(rt; job, Some(Job::Schedule { irps, passes }));
+    }
+    Ok(())
+}
+
+#[test]
+fn other_command_lines_are_refused(rt: HostRuntime) -> Result<(), Fail> {
+    let alloc = rt.alloc();
+    let refused = [
+        ("csqsim", "run", "--irps=1", 2),
+        ("csqsim", "schedule", "--irps=0", 2),
+        ("csqsim", "schedule", "--irps=1025", 2),
+        ("csqsim", "schedule", "--passes=0", 2),
+        ("csqsim", "schedule", "--passes=65", 2),
+        ("csqsim", "schedule", "--passes=x", 2),
+        ("csqsim", "schedule", "--help", 0),
+    ];
+    for (program, command, option, status) in refused {
+        let words = [program, command, option];
+        match read_command(alloc, words.as_slice()) {
+            Err(CommandFault::Refused(error)) => assert_eq!(rt; error.exit_code(), status),
+            Err(CommandFault::Memory) | Ok(_) => assert!(rt; false, "at {option}"),
+        }
+    }
+    Ok(())
+}
+
+#[test]
+fn faults_have_numbers(rt: HostRuntime) {
+    assert_eq!(rt; CommandFault::Memory.number(), 1);
+    assert_eq!(rt; SimFault::Memory.number(), 1);
+    assert_eq!(rt; SimFault::Write.number(), 3);
+}
