@@ -1,14 +1,14 @@
 -- The words of a kind of step.
-use Rattle.std.proofs.Common.{◌≡◌, ◌≢◌, ℕ, ◌<◌, ◌^◌, List, [], ◌∷◌, get_or, Option, Some, None, ap, sym, ◌∙◌, arith, decimal}
+use Rattle.std.proofs.Common.{length, ◌≡◌, ◌≢◌, ℕ, ◌<◌, ◌^◌, List, [], ◌∷◌, get_or, Option, Some, None, ap, sym, ◌∙◌, arith, decimal}
 use Rattle.std.specs.Prelude.{◌==◌, MatchOption}
-use Rattle.std.proofs.lemmas.List.Splits.{slice_split_none, join_with_byte-slice_split}
+use Rattle.std.proofs.lemmas.List.Splits.{slice_split_none, length-slice_split, join_with_byte-slice_split}
 use Rattle.std.proofs.lemmas.Str.Parse.{digit_at, numerals_by_value, tells_digits}
 use Rattle.std.proofs.lemmas.Fmt.{digits_decimal}
 use Rattle.std.proofs.lemmas.List.{get_or_default}
 use Rattle.std.proofs.lemmas.Bool.{ne_eqb}
 use Rattle.std.specs.List.{join_with_byte}
 use Rattle.irp_core.specs.declared.step.Kind.{Kind}
-use Rattle.irp_core.specs.declared.step.Kind.TheVariants.{Arm, Test, Disarm, Flag, Take}
+use Rattle.irp_core.specs.declared.step.Kind.TheVariants.{Arm, Test, Disarm, End, Flag, Take, Out, Done}
 use Rattle.irp_core.specs.Steps.{number}
 use Rattle.irp_core.specs.Runs.{OfIrp}
 use Rattle.csqsim.specs.Pieces.{words_of, IsShort, IsNumber}
@@ -32,8 +32,11 @@ short : (n : ℕ) → IsShort n → (k : Kind) → OfIrp (λ i. number i ≡ n) 
 short n lt (Arm i) e = omega (arith, e, lt)
 short n lt (Test i) e = omega (arith, e, lt)
 short n lt (Disarm i) e = omega (arith, e, lt)
+short n lt End e = tt
 short n lt (Flag i) e = omega (arith, e, lt)
 short n lt (Take i) e = omega (arith, e, lt)
+short n lt (Out i) e = omega (arith, e, lt)
+short n lt (Done i) e = omega (arith, e, lt)
 
 module _ (text name operand : List ℕ) (cut : words_of text ≡ name ∷ words_of operand) where
   operand_is : (verb word : List ℕ) → words_of text ≡ verb ∷ word ∷ [] → operand ≡ word
@@ -44,8 +47,13 @@ module _ (text name operand : List ℕ) (cut : words_of text ≡ name ∷ words_
   no_number none (Arm i) h = none (number i) (operand_is _ _ h.0, h.1)
   no_number none (Test i) h = none (number i) (operand_is _ _ h.0, h.1)
   no_number none (Disarm i) h = none (number i) (operand_is _ _ h.0, h.1)
+  no_number none End h =
+      let nothing : words_of operand ≡ [] = cc (cut, h.0) in
+      absurd (omega (arith, ap length nothing, length-slice_split (λ b. b == 32) operand))
   no_number none (Flag i) h = none (number i) (operand_is _ _ h.0, h.1)
   no_number none (Take i) h = none (number i) (operand_is _ _ h.0, h.1)
+  no_number none (Out i) h = none (number i) (operand_is _ _ h.0, h.1)
+  no_number none (Done i) h = none (number i) (operand_is _ _ h.0, h.1)
 
   spelled : (n : ℕ) → IsNumber operand n → words_of text ≡ name ∷ decimal n ∷ []
   spelled n is = cut ∙ ap (λ words. name ∷ words) (ap words_of is.0 ∙ words_of-decimal n (omega (arith, is.1)))

@@ -2,3 +2,4 @@ pub mod Cuts
 pub mod KindWords
 pub mod StepText
 pub mod Answering
+pub mod Closings

@@ -8,7 +8,7 @@ use Rattle.csqsim.specs.declared.command.CommandFault.TheVariants.{Memory, Refus
 
 -- each number is in its range
 abbrev pub IsInRange : Job → Type 0
-IsInRange (Schedule irps passes) = IsInLimits (record { irps = irps; passes = passes })
+IsInRange (Schedule irps passes claims) = IsInLimits (record { irps = irps; passes = passes })
 
 -- the number of a fault
 abbrev pub number_of : CommandFault → ℕ

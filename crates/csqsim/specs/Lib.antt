@@ -2,4 +2,5 @@ pub mod Pieces
 pub mod StepLine
 pub mod Inputs
 pub mod Schedule
+pub mod Replays
 pub mod Jobs

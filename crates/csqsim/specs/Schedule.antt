@@ -1,21 +1,35 @@
 -- What a schedule is answered.
-use Rattle.std.specs.Prelude.{◌≡◌, ℕ, ◌+◌, ◌<◌, ◌≤◌, List, [], ◌∷◌, ◌++◌, length, codes, decimal, Option, Some, None}
+use Rattle.std.specs.Prelude.{◌≡◌, ℕ, zero, suc, ◌+◌, ◌<◌, ◌≤◌, ◌⊎◌, Bool, true, false, List, [], ◌∷◌, ◌++◌, map, length, codes, decimal, Option, Some, None, if◌then◌else◌}
+use Rattle.std.specs.Option.{option_map_or}
 use Rattle.std.specs.Io.KnownBytes.{Appends}
+use Rattle.irp_core.specs.declared.step.Kind.{Kind}
+use Rattle.irp_core.specs.declared.step.Kind.TheVariants.{Disarm, Take}
 use Rattle.irp_core.specs.declared.step.Made.{Made}
 use Rattle.irp_core.specs.declared.step.Step.{Step}
 use Rattle.irp_core.specs.declared.step.StepRefused.{StepRefused}
-use Rattle.irp_core.specs.Steps.{made}
-use Rattle.irp_core.specs.Texts.{refusal_text}
-use Rattle.irp_core.specs.Runs.{Size, IsRun}
+use Rattle.irp_core.specs.declared.step.IrpPlace.{IrpPlace}
+use Rattle.irp_core.specs.declared.step.IrpPlace.TheVariants.{Home}
+use Rattle.irp_core.specs.Steps.{Irp, made}
+use Rattle.irp_core.specs.Words.{bit, flagged}
+use Rattle.irp_core.specs.Owners.{is_claim}
+use Rattle.irp_core.specs.Completion.{IsPlace}
+use Rattle.irp_core.specs.Runs.{Size, IsRun, IsAtRest}
 use Rattle.irp_core.specs.Refusals.{IsFirstCause}
-use Rattle.irp_core.specs.MachineState.{MachineState, Agrees}
+use Rattle.irp_core.specs.Texts.{irp_text, pass_text, place_text, refusal_text}
 use Rattle.csqsim.specs.declared.answer.Ended.{Ended}
 use Rattle.csqsim.specs.declared.answer.Ended.TheVariants.{AllHandled, Stopped}
-use Rattle.csqsim.specs.declared.schedule.Handling.{Handling}
-use Rattle.csqsim.specs.declared.schedule.Handling.TheVariants.{GoesOn, Stops}
 use Rattle.csqsim.specs.Inputs.{input_limit, ReadsInput}
 use Rattle.csqsim.specs.Pieces.{lines_of}
 use Rattle.csqsim.specs.StepLine.{IsStepLine}
+
+-- a step that was made, and the number of its line
+pub record Numbered : Type 0 where
+  pub line : ℕ
+  pub step : Made
+
+-- the run of these steps
+abbrev pub run_of : List Numbered → List Made
+run_of W = map (λ w. w.step) W
 
 -- what is said of the nth line
 abbrev pub of_line : ℕ → List ℕ → List ℕ
@@ -25,43 +39,82 @@ of_line n text = codes "line " ++ (decimal n ++ (codes " " ++ text))
 abbrev pub IsWithinLine : List ℕ → Type 0
 IsWithinLine line = length line ≤ 64
 
--- an empty line, or a comment
+-- an empty line, or one that begins with #
 abbrev pub IsSkipped : List ℕ → Type 0
 IsSkipped [] = Unit {0}
 IsSkipped (byte ∷ more) = byte ≡ 35
 
--- after the run E the nth line is answered this text, and E grows to the run that goes on, if one does
-pub data AnswersLine (size : Size) (E : List Made) (n : ℕ) (line : List ℕ) : List ℕ → Option (List Made) → Type 0 where
-  too_long : 64 < length line → AnswersLine size E n line (of_line n (codes "too long\n")) None
-  skipped : IsWithinLine line → IsSkipped line → AnswersLine size E n line [] (Some E)
-  malformed : IsWithinLine line → ¬ IsSkipped line → ((s : Step) → ¬ IsStepLine line s) → AnswersLine size E n line (of_line n (codes "malformed\n")) None
-  accepted : (s : Step) (v : ℕ) → IsStepLine line s → IsRun size (made s v ∷ E)
-      → AnswersLine size E n line (line ++ (codes " found " ++ (decimal v ++ codes "\n"))) (Some (made s v ∷ E))
-  refused : (s : Step) (cause : StepRefused) → IsStepLine line s → IsFirstCause size E s cause
-      → AnswersLine size E n line (of_line n (codes "refused " ++ (refusal_text cause ++ codes "\n"))) None
+-- after the steps W the nth line is answered this text, and W grows to the steps with which the handling goes on, if it does
+pub data AnswersLine (size : Size) (W : List Numbered) (n : ℕ) (line : List ℕ) : List ℕ → Option (List Numbered) → Type 0 where
+  too_long : 64 < length line → AnswersLine size W n line (of_line n (codes "too long\n")) None
+  skipped : IsWithinLine line → IsSkipped line → AnswersLine size W n line [] (Some W)
+  malformed : IsWithinLine line → ¬ IsSkipped line → ((s : Step) → ¬ IsStepLine line s) → AnswersLine size W n line (of_line n (codes "malformed\n")) None
+  accepted : (s : Step) (v : ℕ) → IsStepLine line s → IsRun size (made s v ∷ run_of W)
+      → AnswersLine size W n line (line ++ (codes " found " ++ (decimal v ++ codes "\n"))) (Some (record { line = n; step = made s v } ∷ W))
+  refused : (s : Step) (cause : StepRefused) → IsStepLine line s → IsFirstCause size (run_of W) s cause
+      → AnswersLine size W n line (of_line n (codes "refused " ++ (refusal_text cause ++ codes "\n"))) None
 
--- after the run E these lines, from the nth on, are answered this text
-pub data AnswersLines (size : Size) : List Made → ℕ → List (List ℕ) → List ℕ → Ended → Type 0 where
-  all_handled : (E : List Made) (n : ℕ) → AnswersLines size E n [] [] AllHandled
-  goes_on : (E more : List Made) (n : ℕ) (line : List ℕ) (lines : List (List ℕ)) (text rest : List ℕ) (ended : Ended)
-      → AnswersLine size E n line text (Some more) → AnswersLines size more (n + 1) lines rest ended
-      → AnswersLines size E n (line ∷ lines) (text ++ rest) ended
-  stops : (E : List Made) (n : ℕ) (line : List ℕ) (lines : List (List ℕ)) (text : List ℕ)
-      → AnswersLine size E n line text None → AnswersLines size E n (line ∷ lines) text Stopped
+-- an IRP that is home with a clear Cancel flag isn't told of
+abbrev pub is_silent : IrpPlace → Bool → Bool
+is_silent Home false = true
+is_silent _ _ = false
+
+-- of an IRP with this place and this Cancel flag
+abbrev pub irp_line : Irp → IrpPlace → Bool → List ℕ
+irp_line i place flag = if is_silent place flag then []
+    else codes "irp " ++ (irp_text i ++ (codes " " ++ (place_text place ++ (codes " cancel " ++ (decimal (bit flag) ++ codes "\n")))))
+
+-- the text is the line of i after E
+abbrev pub IsIrpLine : List Made → Irp → List ℕ → Type 0
+IsIrpLine E i text = (place : IrpPlace) × IsPlace E i place × (text ≡ irp_line i place (flagged E i))
+
+-- the text is the lines of the first IRPs, by rising number
+abbrev pub AreIrpLines : List Made → ℕ → List ℕ → Type 0
+AreIrpLines E zero text = text ≡ []
+AreIrpLines E (suc n) text = (before : List ℕ) × (last : List ℕ) × AreIrpLines E n before × IsIrpLine E (record { 0 = n }) last × (text ≡ before ++ last)
+
+-- the text says whether E is at rest
+abbrev pub IsRestLine : List Made → List ℕ → Type 0
+IsRestLine E text = (IsAtRest E × (text ≡ codes "rest yes\n")) ⊎ ((¬ IsAtRest E) × (text ≡ codes "rest no\n"))
+
+-- the IRP whose routine a step of this kind takes out
+abbrev pub exchanged_irp : Kind → Option Irp
+exchanged_irp (Disarm i) = Some i
+exchanged_irp (Take i) = Some i
+exchanged_irp _ = None
+
+-- of a step that claims its IRP
+abbrev pub claim_line : Numbered → List ℕ
+claim_line w = option_map_or
+    (λ i. if is_claim i w.step then codes "claim " ++ (irp_text i ++ (codes " line " ++ (decimal w.line ++ (codes " " ++ (pass_text w.step.pass ++ codes "\n"))))) else [])
+    (exchanged_irp w.step.kind) []
+
+-- a line for each claim, by rising line
+abbrev pub claim_lines : List Numbered → List ℕ
+claim_lines [] = []
+claim_lines (w ∷ W) = claim_lines W ++ claim_line w
+
+-- the closing lines after the steps W, with the claims where they are asked for
+abbrev pub IsClosing : Size → Bool → List Numbered → List ℕ → Type 0
+IsClosing size claims W text = (irps : List ℕ) × (rest : List ℕ) × AreIrpLines (run_of W) size.irps irps × IsRestLine (run_of W) rest
+    × (text ≡ irps ++ (rest ++ (if claims then claim_lines W else [])))
+
+-- after the steps W these lines, from the nth on, are answered this text
+pub data AnswersLines (size : Size) (claims : Bool) : List Numbered → ℕ → List (List ℕ) → List ℕ → Ended → Type 0 where
+  all_handled : (W : List Numbered) (n : ℕ) (text : List ℕ) → IsClosing size claims W text → AnswersLines size claims W n [] text AllHandled
+  goes_on : (W more : List Numbered) (n : ℕ) (line : List ℕ) (lines : List (List ℕ)) (text rest : List ℕ) (ended : Ended)
+      → AnswersLine size W n line text (Some more) → AnswersLines size claims more (n + 1) lines rest ended
+      → AnswersLines size claims W n (line ∷ lines) (text ++ rest) ended
+  stops : (W : List Numbered) (n : ℕ) (line : List ℕ) (lines : List (List ℕ)) (text : List ℕ)
+      → AnswersLine size W n line text None → AnswersLines size claims W n (line ∷ lines) text Stopped
 
 -- a schedule is answered this text
-pub data IsScheduleAnswer (size : Size) (input : List ℕ) : List ℕ → Ended → Type 0 where
-  too_long_input : input_limit < length input → IsScheduleAnswer size input (codes "input too long\n") Stopped
-  answered : (text : List ℕ) (ended : Ended) → length input ≤ input_limit → AnswersLines size [] 1 (lines_of input) text ended
-      → IsScheduleAnswer size input text ended
+pub data IsScheduleAnswer (size : Size) (claims : Bool) (input : List ℕ) : List ℕ → Ended → Type 0 where
+  too_long_input : input_limit < length input → IsScheduleAnswer size claims input (codes "input too long\n") Stopped
+  answered : (text : List ℕ) (ended : Ended) → length input ≤ input_limit → AnswersLines size claims [] 1 (lines_of input) text ended
+      → IsScheduleAnswer size claims input text ended
 
 -- of a reader and a writer that tell their bytes: a schedule was read, and its answer was written
-abbrev pub RepliesToSchedule : Size → Option (List ℕ) → Option (List ℕ) → Option (List ℕ) → Option (List ℕ) → Ended → Type 0
-RepliesToSchedule size unread left held holds ended =
-    (input : List ℕ) × (text : List ℕ) × ReadsInput unread left input × IsScheduleAnswer size input text ended × Appends held holds text
-
--- where a line's handling left a machine: it agrees with the run that goes on, if one does
-abbrev pub LeavesMachine : Handling → MachineState → Option (List Made) → Type 0
-LeavesMachine GoesOn state (Some E) = Agrees state E
-LeavesMachine Stops state None = Unit {0}
-LeavesMachine _ state _ = ⊥
+abbrev pub RepliesToSchedule : Size → Bool → Option (List ℕ) → Option (List ℕ) → Option (List ℕ) → Option (List ℕ) → Ended → Type 0
+RepliesToSchedule size claims unread left held holds ended =
+    (input : List ℕ) × (text : List ℕ) × ReadsInput unread left input × IsScheduleAnswer size claims input text ended × Appends held holds text

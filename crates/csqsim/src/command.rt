@@ -3,7 +3,7 @@ ghost use Rattle.std.specs.Prelude.{◌≡◌, ◌≤◌, IfOk};
 ghost use Rattle.csqsim.specs.Jobs.{IsInRange, number_of};
 
 use clap::error::ErrorKind;
-use clap::{Arg, ArgMatches, Command, value_parser};
+use clap::{Arg, ArgAction, ArgMatches, Command, value_parser};
 use std::alloc::{AllocError, Global};
 use std::convert::AsStr;
 use thiserror::Error;
@@ -11,8 +11,12 @@ use thiserror::Error;
 /// What the program is asked to do.
 #[derive(Clone, Copy, Debug, PartialEq, Eq)]
 pub enum Job {
-    /// To replay a schedule over this many IRPs and passes.
-    Schedule { irps: u32, passes: u32 },
+    /// To replay a schedule over this many IRPs and passes, and to tell its claims or not.
+    Schedule {
+        irps: u32,
+        passes: u32,
+        claims: bool,
+    },
 }
 
 /// Why a command line asks for nothing that can be done.
@@ -63,9 +67,13 @@ A line is a pass, a step and an IRP. The answer is the line and the value that t
   p1 arm 0     an insert sets the cancel routine
   p1 test 0    an insert reads the Cancel flag
   p1 disarm 0  an insert or a removal takes the cancel routine
+  p1 end       a removal ends that found no IRP
   p2 flag 0    a cancel sets the Cancel flag
   p2 take 0    a cancel takes the cancel routine
-Empty lines, and lines that begin with #, are skipped.
+  p2 out 0     the cancel routine takes the IRP out of the queue
+  p2 done 0    the IRP is completed
+Empty lines, and lines that begin with #, are skipped. In the end each IRP is told that isn't home
+or is cancelled, and whether all passes are at rest.
 
 Example:
   printf 'p1 arm 0\\np1 test 0\\np2 flag 0\\np2 take 0\\n' | csqsim schedule";
@@ -90,11 +98,16 @@ fn number_option<'a>(
 fn program<'a>(alloc: Global) -> Result<Command<'a>, AllocError> {
     let irps = number_option(alloc, "irps", "IRPs, 1 to 1,024", 1024, "8");
     let passes = number_option(alloc, "passes", "Passes, 1 to 64", 64, "4");
+    let claims = Arg::new(alloc, "claims")
+        .long("claims")
+        .help("Tells each claim: the IRP, the line and the pass")
+        .action(ArgAction::SetTrue);
     let schedule = Command::new(alloc, "schedule")
         .about(SCHEDULE_ABOUT)
         .after_help(SCHEDULE_HELP)
         .arg(irps)?
-        .arg(passes)?;
+        .arg(passes)?
+        .arg(claims)?;
     Command::new(alloc, "csqsim")
         .about(ABOUT)
         .subcommand_required(true)
@@ -121,6 +134,7 @@ fn schedule_job(options: &ArgMatches<'_>) -> Job
     Job::Schedule {
         irps: number_in(options, "irps", 1024, 8),
         passes: number_in(options, "passes", 64, 4),
+        claims: options.get_flag("claims"),
     }
 }
 

@@ -2,8 +2,10 @@
 #![tactic(auto)]
 
 mod answer;
+mod closing;
 mod command;
 mod pieces;
+mod replay;
 mod schedule;
 mod step_line;
 
@@ -25,13 +27,20 @@ fn run<R: AllocGlobal + Print + Eprint + Input + std::rt::Env>(
     let arguments = std::env::args(rt).map_err(|_| SimFault::Read)?;
     let words: Vec<String> = arguments.collect(rt.alloc())?;
     match read_command(rt.alloc(), words.as_slice()) {
-        Ok(Job::Schedule { irps, passes }) => {
+        Ok(
+            Job::Schedule {
+                irps,
+                passes,
+                claims,
+            },
+        ) => {
             let mut reader = rt.reader();
             let mut writer = io::writer(rt);
             let ended = schedule::answer_schedule(
                 rt.alloc(),
                 irps,
                 passes,
+                claims,
                 &mut reader,
                 &mut writer,
             )?;

@@ -29,6 +29,8 @@ fn kind_named(name: &[u8], irp: IrpId) -> Option<Kind>
         b"disarm" => Some(Kind::Disarm(irp)),
         b"flag" => Some(Kind::Flag(irp)),
         b"take" => Some(Kind::Take(irp)),
+        b"out" => Some(Kind::Out(irp)),
+        b"done" => Some(Kind::Done(irp)),
         _ => None,
     }
 }
@@ -39,8 +41,11 @@ fn parse_kind(text: &[u8]) -> Option<Kind>
         (AreKindWords (words_of text.now)) }
 {
     let (name, operand) = split_piece(text, b' ');
-    let irp = IrpId(parse_number(operand?)?);
-    kind_named(name, irp)
+    match operand {
+        Some(operand) => kind_named(name, IrpId(parse_number(operand)?)),
+        None if name == b"end".as_slice() => Some(Kind::End),
+        None => None,
+    }
 }
 
 /// The step that a line names.

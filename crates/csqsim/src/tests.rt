@@ -7,9 +7,9 @@ use std::io::{Error, ErrorKind, Read, Write};
 use std::process::Abort;
 use std::test::Fail;
 
-/// Answers a schedule over 8 IRPs and 4 passes, from memory to memory.
+/// Answers a schedule over 8 IRPs and 4 passes, from memory to memory, without the claims.
 fn answered(alloc: Global, mut input: &[u8], text: &mut Vec<u8>) -> Result<Ended, SimFault> {
-    answer_schedule(alloc, 8, 4, &mut input, text)
+    answer_schedule(alloc, 8, 4, false, &mut input, text)
 }
 
 /// Answers each input, and compares the text.
@@ -28,14 +28,47 @@ fn compare(
 }
 
 #[test]
-fn steps_are_answered(rt: HostRuntime) -> Result<(), Fail> {
+fn handled_schedules_are_closed(rt: HostRuntime) -> Result<(), Fail> {
     let cases = [
         (
-            "p1 arm 0\np1 test 0\np2 flag 0\np2 take 0\n",
-            "p1 arm 0 found 0\np1 test 0 found 0\np2 flag 0 found 0\np2 take 0 found 1\n",
+            "p1 arm 0\np1 test 0\np2 flag 0\np2 take 0\np2 out 0\np2 done 0\n",
+            "p1 arm 0 found 0\np1 test 0 found 0\np2 flag 0 found 0\np2 take 0 found 1\np2 out 0 found 0\np2 done 0 found 0\nirp 0 completed C0000120 by p2 cancel 1\nrest yes\n",
         ),
-        ("", ""),
-        ("\n# a comment\np1 disarm 7", "p1 disarm 7 found 0\n"),
+        (
+            "p2 flag 0\np2 take 0\np1 arm 0\np1 test 0\np1 disarm 0\np1 done 0\n",
+            "p2 flag 0 found 0\np2 take 0 found 0\np1 arm 0 found 0\np1 test 0 found 1\np1 disarm 0 found 1\np1 done 0 found 0\nirp 0 completed C0000120 by p1 cancel 1\nrest yes\n",
+        ),
+        (
+            "p1 arm 0\np2 flag 0\np1 test 0\np2 take 0\np1 disarm 0\np2 out 0\np2 done 0\n",
+            "p1 arm 0 found 0\np2 flag 0 found 0\np1 test 0 found 1\np2 take 0 found 1\np1 disarm 0 found 0\np2 out 0 found 0\np2 done 0 found 0\nirp 0 completed C0000120 by p2 cancel 1\nrest yes\n",
+        ),
+        (
+            "p1 arm 0\np2 flag 0\np1 test 0\np1 disarm 0\np2 take 0\n",
+            "p1 arm 0 found 0\np2 flag 0 found 0\np1 test 0 found 1\np1 disarm 0 found 1\np2 take 0 found 0\nirp 0 held by p1 cancel 1\nrest no\n",
+        ),
+        (
+            "p1 arm 0\np1 test 0\np1 arm 1\np1 test 1\np2 flag 0\np2 take 0\np3 disarm 0\np3 disarm 1\n",
+            "p1 arm 0 found 0\np1 test 0 found 0\np1 arm 1 found 0\np1 test 1 found 0\np2 flag 0 found 0\np2 take 0 found 1\np3 disarm 0 found 0\np3 disarm 1 found 1\nirp 0 listed cancel 1\nirp 1 held by p3 cancel 0\nrest no\n",
+        ),
+        (
+            "p1 arm 0\np1 test 0\np2 flag 0\np3 flag 0\np2 take 0\np3 take 0\n",
+            "p1 arm 0 found 0\np1 test 0 found 0\np2 flag 0 found 0\np3 flag 0 found 1\np2 take 0 found 1\np3 take 0 found 0\nirp 0 listed cancel 1\nrest no\n",
+        ),
+        (
+            "p1 arm 0\np1 test 0\np3 disarm 0\np3 done 0\n",
+            "p1 arm 0 found 0\np1 test 0 found 0\np3 disarm 0 found 1\np3 done 0 found 0\nirp 0 completed 00000000 by p3 cancel 0\nrest yes\n",
+        ),
+        (
+            "p1 arm 0\np1 test 0\np2 flag 0\np2 take 0\np3 disarm 0\np3 end\np2 out 0\n",
+            "p1 arm 0 found 0\np1 test 0 found 0\np2 flag 0 found 0\np2 take 0 found 1\np3 disarm 0 found 0\np3 end found 0\np2 out 0 found 0\nirp 0 held by p2 cancel 1\nrest no\n",
+        ),
+        ("p1 end", "p1 end found 0\nrest yes\n"),
+        ("", "rest yes\n"),
+        (
+            "p2 flag 3\np2 take 3\n",
+            "p2 flag 3 found 0\np2 take 3 found 0\nirp 3 home cancel 1\nrest yes\n",
+        ),
+        ("\n# a comment\np1 end", "p1 end found 0\nrest yes\n"),
     ];
     compare(&rt, rt.alloc(), Ended::AllHandled, &cases)?;
     Ok(())
@@ -45,20 +78,78 @@ fn steps_are_answered(rt: HostRuntime) -> Result<(), Fail> {
 fn a_line_may_end_the_handling(rt: HostRuntime) -> Result<(), Fail> {
     let cases = [
         (
-            "p1 take 0\np1 test 0\np1 out 0\n",
-            "p1 take 0 found 0\np1 test 0 found 0\nline 3 malformed\n",
+            "p1 arm 0\np3 disarm 0\n",
+            "p1 arm 0 found 0\nline 2 refused LockHeld p1\n",
         ),
-        ("# a comment\n\np1 arm 00\n", "line 3 malformed\n"),
+        (
+            "p1 arm 0\np1 test 0\np2 out 0\n",
+            "p1 arm 0 found 0\np1 test 0 found 0\nline 3 refused NotOwed\n",
+        ),
+        (
+            "p2 flag 0\np2 done 0\n",
+            "p2 flag 0 found 0\nline 2 refused NotNext\n",
+        ),
+        (
+            "p1 arm 0\np1 test 0\np2 flag 0\np2 take 0\np3 disarm 0\np2 out 0\n",
+            "p1 arm 0 found 0\np1 test 0 found 0\np2 flag 0 found 0\np2 take 0 found 1\np3 disarm 0 found 0\nline 6 refused LockHeld p3\n",
+        ),
+        (
+            "p1 arm 0\np1 end\n",
+            "p1 arm 0 found 0\nline 2 refused NotNext\n",
+        ),
+        ("p1 disarm 0\n", "line 1 refused NotListed\n"),
+        (
+            "p1 arm 0\np1 test 0\np2 arm 0\n",
+            "p1 arm 0 found 0\np1 test 0 found 0\nline 3 refused NotHome\n",
+        ),
+        (
+            "p1 arm 0\np1 test 0\np1 done 0\n",
+            "p1 arm 0 found 0\np1 test 0 found 0\nline 3 refused NotHeld\n",
+        ),
         ("p9 flag 8\n", "line 1 refused UnknownIrp\n"),
-        ("p5 flag 7\n", "line 1 refused UnknownPass\n"),
-        ("p0 flag 7\n", "line 1 refused UnknownPass\n"),
+        (
+            "p1 arm 0\np2 take 0\n",
+            "p1 arm 0 found 0\nline 2 refused NotNext\n",
+        ),
         ("p1 ar", "line 1 malformed\n"),
+        ("p5 end\n", "line 1 refused UnknownPass\n"),
+        ("p0 end\n", "line 1 refused UnknownPass\n"),
+        ("# a comment\n\np1 arm 00\n", "line 3 malformed\n"),
         ("p1 arm 0 \n", "line 1 malformed\n"),
         ("p1  arm 0\n", "line 1 malformed\n"),
+        ("p1 arm 0\r\n", "line 1 malformed\n"),
+        ("P1 arm 0\n", "line 1 malformed\n"),
+        ("p1 end 0\n", "line 1 malformed\n"),
+        ("p01 end\n", "line 1 malformed\n"),
         ("p1 arm 1000000000\n", "line 1 malformed\n"),
         ("p1 arm 999999999\n", "line 1 refused UnknownIrp\n"),
     ];
     compare(&rt, rt.alloc(), Ended::Stopped, &cases)?;
+    Ok(())
+}
+
+#[test]
+fn claims_are_told_where_they_are_asked_for(rt: HostRuntime) -> Result<(), Fail> {
+    let cases = [
+        (
+            "p2 flag 0\np2 take 0\np1 arm 0\np1 test 0\np1 disarm 0\np1 done 0\n",
+            "rest yes\nclaim 0 line 5 p1\n",
+        ),
+        (
+            "p1 arm 0\np2 flag 0\np1 test 0\np2 take 0\np1 disarm 0\np2 out 0\np2 done 0\n",
+            "rest yes\nclaim 0 line 4 p2\n",
+        ),
+        (
+            "p1 arm 0\np1 test 0\np1 arm 1\np1 test 1\np2 flag 0\np2 take 0\np3 disarm 0\np3 disarm 1\n",
+            "rest no\nclaim 0 line 6 p2\nclaim 1 line 8 p3\n",
+        ),
+    ];
+    for (input, last) in cases {
+        let mut bytes = input.as_bytes();
+        let mut text = Vec::new(rt.alloc());
+        answer_schedule(rt.alloc(), 8, 4, true, &mut bytes, &mut text)?;
+        assert!(rt; text.as_slice().ends_with(last.as_bytes()), "at {input:?}");
+    }
     Ok(())
 }
 
@@ -68,7 +159,8 @@ fn lines_and_inputs_have_limits(rt: HostRuntime) -> Result<(), Fail> {
     let mut comment = vec![in alloc; b'#'; 64]?;
     let mut text = Vec::new(alloc);
     assert_eq!(rt; answered(alloc, &comment, &mut text)?, Ended::AllHandled);
-    assert!(rt; text.is_empty());
+    assert_eq!(rt; text.as_slice(), b"rest yes\n".as_slice());
+    let mut text = Vec::new(alloc);
     comment.push(b'x')?;
     assert_eq!(rt; answered(alloc, &comment, &mut text)?, Ended::Stopped);
     assert_eq!(rt; text.as_slice(), b"line 1 too long\n".as_slice());
@@ -76,11 +168,12 @@ fn lines_and_inputs_have_limits(rt: HostRuntime) -> Result<(), Fail> {
     let mut feeds = vec![in alloc; b'\n'; MAX_INPUT]?;
     let mut text = Vec::new(alloc);
     assert_eq!(rt; answered(alloc, &feeds, &mut text)?, Ended::AllHandled);
-    assert!(rt; text.is_empty());
+    assert_eq!(rt; text.as_slice(), b"rest yes\n".as_slice());
+    let mut text = Vec::new(alloc);
     feeds.extend_from_slice(b"\n\n\n")?;
     let mut rest = feeds.as_slice();
     assert_eq!(rt;
-        answer_schedule(alloc, 8, 4, &mut rest, &mut text)?,
+        answer_schedule(alloc, 8, 4, false, &mut rest, &mut text)?,
         Ended::Stopped
     );
     assert_eq!(rt; text.as_slice(), b"input too long\n".as_slice());
@@ -142,7 +235,7 @@ fn a_failing_reader_is_told(rt: HostRuntime) -> Result<(), Fail> {
         interrupted: false,
     };
     let mut text = Vec::new(rt.alloc());
-    let fault = answer_schedule(rt.alloc(), 8, 4, &mut reader, &mut text);
+    let fault = answer_schedule(rt.alloc(), 8, 4, false, &mut reader, &mut text);
     assert_eq!(rt; fault, Err(SimFault::Read));
     assert_eq!(rt; SimFault::Read.number(), 2);
     assert!(rt; text.is_empty());
@@ -155,7 +248,7 @@ fn a_failing_writer_is_told(rt: HostRuntime) -> Result<(), Fail> {
         for fails in [false, true] {
             let mut input = b"p1 arm 0\n".as_slice();
             let mut writer = FailingWriter { room, fails };
-            let fault = answer_schedule(rt.alloc(), 8, 4, &mut input, &mut writer);
+            let fault = answer_schedule(rt.alloc(), 8, 4, false, &mut input, &mut writer);
             assert_eq!(rt; fault, Err(SimFault::Write));
         }
     }
@@ -167,15 +260,27 @@ fn command_lines_are_read(rt: HostRuntime) -> Result<(), Fail> {
     let alloc = rt.alloc();
     let plain = ["csqsim", "schedule"];
     let least = ["csqsim", "schedule", "--irps", "1", "--passes=1"];
-    let most = ["csqsim", "schedule", "--irps=1024", "--passes", "64"];
-    let jobs = [
-        (plain.as_slice(), 8, 4),
-        (least.as_slice(), 1, 1),
-        (most.as_slice(), 1024, 64),
+    let most = [
+        "csqsim",
+        "schedule",
+        "--irps=1024",
+        "--claims",
+        "--passes",
+        "64",
     ];
-    for (words, irps, passes) in jobs {
+    let jobs = [
+        (plain.as_slice(), 8, 4, false),
+        (least.as_slice(), 1, 1, false),
+        (most.as_slice(), 1024, 64, true),
+    ];
+    for (words, irps, passes, claims) in jobs {
         let job = read_command(alloc, words).ok();
-        assert_eq!(rt; job, Some(Job::Schedule { irps, passes }));
+        let wanted = Job::Schedule {
+            irps,
+            passes,
+            claims,
+        };
+        assert_eq!(rt; job, Some(wanted));
     }
     Ok(())
 }

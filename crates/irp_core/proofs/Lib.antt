@@ -1,2 +1,12 @@
 pub mod Names
+pub mod Reading
+pub mod Growing
+pub mod Rows
+pub mod Owning
+pub mod MachineStates
+pub mod Agreeing
+pub mod Moves
 pub mod Stepping
+pub mod Resting
+pub mod Next
+pub mod Facts

@@ -1,91 +1,73 @@
--- A step takes a machine that agrees with a run to one that agrees with the longer run.
-use Rattle.std.proofs.Common.{◌≡◌, ℕ, ◌<◌, ◌≤◌, Bool, true, false, cond, ◌||◌, not, ◌&&◌, List, ◌∷◌, length, set, refl, ap, sym, ◌∙◌, subst}
-use Rattle.std.proofs.lemmas.List.{get_or-set_same, get_or-set_other, length-set}
+-- What a machine's step says of each run that it agrees with.
+use Rattle.std.proofs.Common.{◌≡◌, ℕ, false, List, [], ◌∷◌, Option, Some, None, refl, ap, sym, ◌∙◌, subst}
+use Rattle.std.proofs.lemmas.List.{length-replicate}
 use Rattle.irp_core.specs.declared.ids.PassId.{PassId}
 use Rattle.irp_core.specs.declared.step.Kind.{Kind}
-use Rattle.irp_core.specs.declared.step.Kind.TheVariants.{Arm, Test, Disarm, Flag, Take}
+use Rattle.irp_core.specs.declared.step.Kind.TheVariants.{Arm, Disarm, Out, Done}
 use Rattle.irp_core.specs.declared.step.Made.{Made}
-use Rattle.irp_core.specs.declared.step.Step.{Step}
-use Rattle.irp_core.specs.Steps.{Irp, number, same_irp, made}
-use Rattle.irp_core.specs.Words.{bit, flagged, armed, found_by}
-use Rattle.irp_core.specs.Runs.{OfIrp}
-use Rattle.irp_core.specs.MachineState.{MachineState, Agrees}
-use Rattle.irp_core.specs.TableState.{irp_of, at, found_at, flags_after, routines_after, after_step}
-use Rattle.irp_core.proofs.Names.{same_irp-eq, same_irp-ne}
+use Rattle.irp_core.specs.declared.step.Inside.TheVariants.{Nothing}
+use Rattle.irp_core.specs.declared.step.StepRefused.{StepRefused}
+use Rattle.irp_core.specs.declared.step.StepRefused.TheVariants.{UnknownIrp, UnknownPass, LockHeld, NotNext, NotHome, NotListed, NotOwed, NotHeld}
+use Rattle.irp_core.specs.Words.{found_by}
+use Rattle.irp_core.specs.Runs.{Size, IsInLimits, IsRun, MayFollow}
+use Rattle.irp_core.specs.MachineState.{MachineState, size_of, Agrees, IsReached}
+use Rattle.irp_core.specs.TableSteps.{refusal_of, found_at, after_step, new_state}
+use Rattle.irp_core.specs.Refusals.{IsCause, IsFirstCause}
+use Rattle.irp_core.proofs.Growing.{run_last, HasLock-has_lock}
+use Rattle.irp_core.proofs.MachineStates.{Reflects, state_found, Verdict, verdict}
+use Rattle.irp_core.proofs.Moves.{reflects_more, after_size}
+use Rattle.irp_core.proofs.Resting.{reflects_none}
+use Rattle.irp_core.proofs.Agreeing.{agrees_reflects, reflects_agrees}
 
--- after one write, each place has what was written there, or what it had
-at_set : (bits : List Bool) (j i : Irp) (b : Bool) → number j < length bits → at (set bits (number j) b) i ≡ cond (same_irp j i) b (at bits i)
-at_set bits j i b lt = go (same_irp j i) refl
-  where
-    go : (t : Bool) → same_irp j i ≡ t → at (set bits (number j) b) i ≡ cond t b (at bits i)
-    go true e = let same : j ≡ i = same_irp-eq j i e in subst (λ (x : Irp). at (set bits (number j) b) x ≡ b) same (get_or-set_same bits (number j) b false lt)
-    go false e = get_or-set_other bits (number j) (number i) b false (λ q. same_irp-ne j i e (sym q))
+-- a step that the state doesn't refuse may follow
+may_follow : (b : MachineState) (E : List Made) → Reflects b E → (p : PassId) (k : Kind) → refusal_of b p k ≡ None
+    → MayFollow (size_of b) E (record { pass = p; kind = k; found = found_at b k })
+may_follow b E a p k h =
+    let f = subst (λ (o : Option StepRefused). Verdict b E p k o) h (verdict b E a p k) in
+    subst (λ (n : ℕ). MayFollow (size_of b) E (record { pass = p; kind = k; found = n })) (state_found b E a k f.known.irp) f
 
-or_flag : (t u : Bool) → cond t true u ≡ (t || u)
-or_flag true u = refl
-or_flag false u = refl
+-- against a step that may follow there is no cause
+no_cause : (n : Size) (E : List Made) (p : PassId) (k : Kind) (v : ℕ) (cause : StepRefused) → MayFollow n E (record { pass = p; kind = k; found = v }) → ¬ IsCause n E p k cause
+no_cause n E p k v UnknownIrp f c = c f.known.irp
+no_cause n E p k v UnknownPass f c = c (f.known.from, f.known.to)
+no_cause n E p k v (LockHeld q) f c = c.2 (f.alone c.0 q (HasLock-has_lock E q c.1))
+no_cause n E p k v NotNext f c = absurd (cc (c, f.next))
+no_cause n E p (Arm i) v NotHome f c = absurd (cc (c, f.owned))
+no_cause n E p (Disarm i) v NotListed f c = absurd (cc (c, f.owned))
+no_cause n E p (Out i) v NotOwed f c = absurd (cc (c, f.owned))
+no_cause n E p (Done i) v NotHeld f c = absurd (cc (c, f.owned))
+no_cause n E p _ v _ f c = c
 
-and_clear : (t u : Bool) → cond t false u ≡ (not t && u)
-and_clear true u = refl
-and_clear false u = refl
+module _ (b old : MachineState) (view : b ≡ old) (p : PassId) (k : Kind) where
+  seen : (E : List Made) → Agrees old E → Reflects b E
+  seen E a = agrees_reflects b E (subst (λ (x : MachineState). Agrees x E) (sym view) a)
 
-or_none : (t : Bool) → (t || false) ≡ t
-or_none true = refl
-or_none false = refl
+  pub made_agrees : (new : MachineState) (r : ℕ) → None ≡ refusal_of b p k → new ≡ after_step b p k → r ≡ found_at b k
+      → (E : List Made) → Agrees old E → Agrees new (record { pass = p; kind = k; found = r } ∷ E)
+  made_agrees new r h after found E a = rw (after, found) (reflects_agrees _ _ (reflects_more b E (seen E a) p k (may_follow b E (seen E a) p k (sym h))))
 
-flags_more : (s : MachineState) (E : List Made) → Agrees s E → (p : PassId) (k : Kind) (v : ℕ) → number (irp_of k) < length s.flags
-    → (i : Irp) → number i < length (flags_after s.flags k) → at (flags_after s.flags k) i ≡ flagged (record { pass = p; kind = k; found = v } ∷ E) i
-flags_more s E a p (Flag j) v known i lt =
-    let before : number i < length s.flags = rw (← length-set s.flags (number j) true) lt in
-    at_set s.flags j i true known ∙ or_flag (same_irp j i) (at s.flags i) ∙ ap (λ b. same_irp j i || b) (a.flags i before)
-flags_more s E a p k v known i lt = a.flags i lt
+  pub made_found : (r : ℕ) → None ≡ refusal_of b p k → r ≡ found_at b k → (E : List Made) → Agrees old E → r ≡ found_by E k
+  made_found r h found E a = found ∙ (may_follow b E (seen E a) p k (sym h)).found
 
-routines_more : (s : MachineState) (E : List Made) → Agrees s E → (p : PassId) (k : Kind) (v : ℕ) → number (irp_of k) < length s.flags
-    → (i : Irp) → number i < length s.flags → at (routines_after s.routines k) i ≡ armed (record { pass = p; kind = k; found = v } ∷ E) i
-routines_more s E a p (Arm j) v known i lt =
-    at_set s.routines j i true (rw a.sizes known) ∙ or_flag (same_irp j i) (at s.routines i) ∙ ap (λ b. same_irp j i || b) (a.routines i lt)
-routines_more s E a p (Disarm j) v known i lt =
-    at_set s.routines j i false (rw a.sizes known) ∙ and_clear (same_irp j i) (at s.routines i)
-    ∙ ap (λ b. not (same_irp j i) && b) (a.routines i lt) ∙ ap (λ b. not b && armed E i) (sym (or_none (same_irp j i)))
-routines_more s E a p (Take j) v known i lt =
-    at_set s.routines j i false (rw a.sizes known) ∙ and_clear (same_irp j i) (at s.routines i) ∙ ap (λ b. not (same_irp j i) && b) (a.routines i lt)
-routines_more s E a p k v known i lt = a.routines i lt
+  pub refused_cause : (cause : StepRefused) → Some cause ≡ refusal_of b p k → (E : List Made) → Agrees old E
+      → IsFirstCause (size_of old) E (record { pass = p; kind = k }) cause
+  refused_cause cause h E a = rw (← view) (subst (λ (o : Option StepRefused). Verdict b E p k o) (sym h) (verdict b E (seen E a) p k))
 
-length_flags : (flags : List Bool) (k : Kind) → length (flags_after flags k) ≡ length flags
-length_flags flags (Flag i) = length-set flags (number i) true
-length_flags flags k = refl
+  pub refused_rightly : (cause : StepRefused) → Some cause ≡ refusal_of b p k → (E : List Made) (v : ℕ) → Agrees old E
+      → IsRun (size_of old) (record { pass = p; kind = k; found = v } ∷ E) → ⊥
+  refused_rightly cause h E v a r =
+      no_cause (size_of old) E p k v cause (run_last (size_of old) (record { pass = p; kind = k; found = v }) E r) (refused_cause cause h E a).holds
 
-length_routines : (routines : List Bool) (k : Kind) → length (routines_after routines k) ≡ length routines
-length_routines routines (Arm i) = length-set _ _ _
-length_routines routines (Disarm i) = length-set _ _ _
-length_routines routines (Take i) = length-set _ _ _
-length_routines routines k = refl
+-- a step that isn't refused leads to a machine that is reached
+pub reached_more : (b new : MachineState) (p : PassId) (k : Kind) → None ≡ refusal_of b p k → new ≡ after_step b p k → IsReached b → IsReached new
+reached_more b new p k h after was = record {
+  limits = subst IsInLimits (sym (ap size_of after ∙ after_size b p k)) was.limits;
+  run = (_, made_agrees b b refl p k new (found_at b k) h after refl was.run.0 was.run.1);
+}
 
--- the value in the tables is the definition's
-pub found_agrees : (s : MachineState) (E : List Made) → Agrees s E → (k : Kind) → number (irp_of k) < length s.flags → found_at s k ≡ found_by E k
-found_agrees s E a (Arm i) lt = ap bit (a.routines i lt)
-found_agrees s E a (Test i) lt = ap bit (a.flags i lt)
-found_agrees s E a (Disarm i) lt = ap bit (a.routines i lt)
-found_agrees s E a (Flag i) lt = ap bit (a.flags i lt)
-found_agrees s E a (Take i) lt = ap bit (a.routines i lt)
-
-known_irp : (n : ℕ) (k : Kind) → number (irp_of k) < n → OfIrp (λ i. number i < n) k
-known_irp n (Arm i) lt = lt
-known_irp n (Test i) lt = lt
-known_irp n (Disarm i) lt = lt
-known_irp n (Flag i) lt = lt
-known_irp n (Take i) lt = lt
-
-pub agrees_more : (s : MachineState) (E : List Made) → Agrees s E → (step : Step) (v : ℕ) → number (irp_of step.kind) < length s.flags
-    → 1 ≤ step.pass.0 → step.pass.0 ≤ s.passes → v ≡ found_at s step.kind → Agrees (after_step s step.kind) (made step v ∷ E)
-agrees_more s E a step v known from to found =
-    let same = length_flags s.flags step.kind in
-    record {
-      run = rw same (record {
-        known = (record { irp = known_irp _ step.kind known; from = from; to = to }, a.run.known);
-        found = (found ∙ found_agrees s E a step.kind known, a.run.found);
-      });
-      flags = flags_more s E a step.pass step.kind v known;
-      routines = λ i lt. routines_more s E a step.pass step.kind v known i (rw (← same) lt);
-      sizes = length_routines s.routines step.kind ∙ a.sizes ∙ sym same;
-    }
+-- a new machine is reached
+pub reached_none : (n m : ℕ) (b : MachineState) → b ≡ new_state n m → IsInLimits (record { irps = n; passes = m }) → IsReached b
+reached_none n m b e h = rw e (record {
+  limits = rw (length-replicate n false, length-replicate m Nothing) h;
+  run = ([], reflects_agrees _ _ (reflects_none n m));
+})

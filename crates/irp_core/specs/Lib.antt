@@ -1,7 +1,16 @@
 pub mod Steps
 pub mod Words
+pub mod Programs
+pub mod Begun
+pub mod Lock
+pub mod Owners
+pub mod Inside
+pub mod Completion
+pub mod Standings
 pub mod Runs
 pub mod Refusals
+pub mod Laws
 pub mod Texts
 pub mod MachineState
+pub mod TableSteps
 pub mod TableState

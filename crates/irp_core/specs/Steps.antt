@@ -1,9 +1,9 @@
--- Steps, and what is said of a list of them. A list of steps has its newest step first: m ∷ E is E followed by m.
-use Rattle.std.specs.Prelude.{ℕ, Bool, false, ◌==◌, ◌&&◌, ◌||◌, not, List, [], ◌∷◌}
+-- Steps, and what is said of a list of them. A run is listed with its newest step first: m ∷ E is E followed by m.
+use Rattle.std.specs.Prelude.{ℕ, Bool, true, false, ◌==◌, ◌&&◌, ◌||◌, not, List, [], ◌∷◌, filter}
 use Rattle.irp_core.specs.declared.ids.IrpId.{IrpId}
 use Rattle.irp_core.specs.declared.ids.PassId.{PassId}
 use Rattle.irp_core.specs.declared.step.Kind.{Kind}
-use Rattle.irp_core.specs.declared.step.Kind.TheVariants.{Arm, Test, Disarm, Flag, Take}
+use Rattle.irp_core.specs.declared.step.Kind.TheVariants.{Arm, Test, Disarm, End, Flag, Take, Out, Done}
 use Rattle.irp_core.specs.declared.step.Made.{Made}
 use Rattle.irp_core.specs.declared.step.Step.{Step}
 
@@ -11,7 +11,7 @@ use Rattle.irp_core.specs.declared.step.Step.{Step}
 abbrev pub Irp : Type 0
 Irp = IrpId
 
--- the number of the IRP of that name
+-- the number of the IRP that is named
 abbrev pub number : Irp → ℕ
 number i = i.0
 
@@ -28,8 +28,11 @@ abbrev pub same_kind : Kind → Kind → Bool
 same_kind (Arm i) (Arm j) = same_irp i j
 same_kind (Test i) (Test j) = same_irp i j
 same_kind (Disarm i) (Disarm j) = same_irp i j
+same_kind End End = true
 same_kind (Flag i) (Flag j) = same_irp i j
 same_kind (Take i) (Take j) = same_irp i j
+same_kind (Out i) (Out j) = same_irp i j
+same_kind (Done i) (Done j) = same_irp i j
 same_kind _ _ = false
 
 -- the step, with the value that it found
@@ -39,6 +42,18 @@ made s v = record { pass = s.pass; kind = s.kind; found = v }
 -- the step is of this kind
 abbrev pub is : Kind → Made → Bool
 is k m = same_kind m.kind k
+
+-- the step is of this kind, and found 1
+abbrev pub found_one : Kind → Made → Bool
+found_one k m = is k m && m.found == 1
+
+-- p made the step
+abbrev pub by : PassId → Made → Bool
+by p m = same_pass m.pass p
+
+-- the steps of p, the newest first
+abbrev pub own : PassId → List Made → List Made
+own p E = filter (by p) E
 
 -- a step that begins it was made, and none that ends it since
 abbrev pub since : (Made → Bool) → (Made → Bool) → List Made → Bool

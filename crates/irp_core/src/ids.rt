@@ -1,18 +1,18 @@
 use std::fmt;
 
-/// An IRP (I/O request packet), by its number from 0. Own rule: IRPs are numbers of a fixed pool.
+/// An IRP, by its number in a fixed pool, from 0 on.
 #[derive(Clone, Copy, Debug, PartialEq, Eq, PartialOrd, Ord, Hash)]
 pub struct IrpId(pub u32);
 
-/// A file object, by its number from 0. Own rule: file objects are numbers of a fixed pool.
+/// A file object, by its number from 0 on.
 #[derive(Clone, Copy, Debug, PartialEq, Eq, PartialOrd, Ord, Hash)]
 pub struct FileId(pub u32);
 
-/// A pass, by its number from 1. Own rule: each step is made by a pass, and a pass serves one thread at a time.
+/// A pass, by its number from 1 on. A pass makes its steps one after the other, whatever thread has it.
 #[derive(Clone, Copy, Debug, PartialEq, Eq, PartialOrd, Ord, Hash)]
 pub struct PassId(pub u32);
 
-/// The number.
+/// Its number.
 impl fmt::Display for IrpId {
     ghost use Rattle.std.specs.Prelude.{Some};
     ghost use Rattle.irp_core.specs.Texts.{irp_text};
@@ -25,7 +25,7 @@ impl fmt::Display for IrpId {
     }
 }
 
-/// The letter p, and the number.
+/// The letter p and its number, as `p1`.
 impl fmt::Display for PassId {
     ghost use Rattle.std.specs.Prelude.{Some};
     ghost use Rattle.irp_core.specs.Texts.{pass_text};

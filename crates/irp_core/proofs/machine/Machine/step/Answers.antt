@@ -1,19 +1,17 @@
-use Rattle.std.proofs.Common.{List, ◌∷◌, arith, sym, subst, ap}
-use Rattle.irp_core.specs.declared.step.Made.{Made}
-use Rattle.irp_core.specs.MachineState.{MachineState, Agrees}
-use Rattle.irp_core.specs.TableState.{state_of}
-use Rattle.irp_core.specs.Steps.{Irp, number, made}
-use Rattle.irp_core.proofs.Stepping.{agrees_more}
+use Rattle.irp_core.proofs.Stepping.{reached_more, made_agrees, made_found, refused_cause, refused_rightly}
 use Rattle.irp_core.proofs.machine.Machine.step.Goals as goal
 
--- the tables after the step agree with the longer run
-made_more : (c : goal.After-make) (E : List Made) → Agrees (state_of c.self.inside.tables) E → Agrees (state_of c.make.new.self) (made c.args.step c.make.result ∷ E)
-made_more c E a =
-    let named = ap (λ (i : Irp). number i) c.irp.ensures in
-    rw c.make.ensures.after (agrees_more _ E a c.args.step _ (omega (arith, named)) (omega arith) (omega arith) c.make.ensures.found)
-
 pub invariant_of-self : goal.invariant_of-self
-invariant_of-self c = (_, made_more c c.self.invariant.0 c.self.invariant.1)
+invariant_of-self c = reached_more _ _ c.args.step.pass c.args.step.kind c.in-None.ensures c.make.ensures.after c.self.invariant
 
-pub returns-clause-made : goal.returns-clause-made
-returns-clause-made c = λ E a. made_more c E (subst (λ (s : MachineState). Agrees s E) (sym c.self.view_is) a)
+pub returns-in-Some-clause-accepted : goal.returns-in-Some-clause-accepted
+returns-in-Some-clause-accepted c = λ E v a r. absurd (refused_rightly _ _ c.self.view_is _ _ _ c.in-Some.ensures E v a r)
+
+pub returns-in-Some-clause-cause : goal.returns-in-Some-clause-cause
+returns-in-Some-clause-cause c = refused_cause _ _ c.self.view_is _ _ _ c.in-Some.ensures
+
+pub returns-in-None-clause-made : goal.returns-in-None-clause-made
+returns-in-None-clause-made c = made_agrees _ _ c.self.view_is _ _ _ _ c.in-None.ensures c.make.ensures.after c.make.ensures.found
+
+pub returns-in-None-clause-found : goal.returns-in-None-clause-found
+returns-in-None-clause-found c = made_found _ _ c.self.view_is _ _ _ c.in-None.ensures c.make.ensures.found

@@ -1,0 +1,4 @@
+pub mod Searches
+pub mod Listing
+pub mod Causes
+pub mod VecParts

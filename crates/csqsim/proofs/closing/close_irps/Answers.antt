@@ -1,0 +1,20 @@
+use Rattle.std.proofs.Common.{◌≡◌, ◌++◌, ℕ, arith, subst}
+use Rattle.csqsim.specs.Schedule.{AreIrpLines}
+use Rattle.csqsim.proofs.Closings.{grew_more, lines_more}
+use Rattle.csqsim.proofs.closing.close_irps.Goals as goal
+
+pub loop-number-preserved : goal.loop-number-preserved
+loop-number-preserved c =
+    let (added, grown, lines) = c.loop-number.invariant in
+    let (last, grown_now, line) = c.in_ok-close_irp.ensures in
+    (added ++ last, grew_more _ _ _ added last grown grown_now, λ E a. lines_more E c.loop-number.number added last (lines E a) (line E a))
+
+pub returns : goal.returns
+returns c =
+    let (added, grown, lines) = c.loop-number.invariant in (
+      added,
+      grown,
+      λ E a.
+          let P : ℕ → Type 0 = λ n. AreIrpLines E n added in
+          subst P (omega (arith, c.loop-number-test.false, c.loop-number.auto.number-end, c.irps-number-end.ensures)) (lines E a),
+    )

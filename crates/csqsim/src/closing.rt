@@ -1,0 +1,55 @@
+//! The closing lines of a schedule.
+ghost use Rattle.std.specs.Prelude.{◌≡◌, ◌<◌, ◌++◌, List, ℕ, string_bytes, OnOk};
+ghost use Rattle.irp_core.specs.declared.step.Made.{Made};
+ghost use Rattle.irp_core.specs.MachineState.{Agrees, size_of};
+ghost use Rattle.csqsim.specs.Schedule.{is_silent, IsIrpLine, AreIrpLines, IsRestLine};
+ghost use Rattle.csqsim.specs.Replays.{GrewBy};
+
+use irp_core::{IrpId, IrpPlace, Machine};
+use std::alloc::AllocError;
+
+/// Whether an IRP isn't told of: one that is home, and not cancelled.
+fn is_silent(place: IrpPlace, cancelled: bool) -> bool
+    ensures { result ≡ is_silent place cancelled }
+{
+    !cancelled && matches!(place, IrpPlace::Home)
+}
+
+/// The line of an IRP.
+fn close_irp(machine: &Machine, irp: IrpId, text: &mut String) -> Result<(), AllocError>
+    requires { irp.0 < (size_of machine.now).irps }
+    ensures { OnOk result ((added : List ℕ) × GrewBy (string_bytes text.old) (string_bytes text.new) added
+        × ((E : List Made) → Agrees machine.now E → IsIrpLine E irp added)) }
+{
+    let place = machine.place(irp).unwrap();
+    let cancelled = machine.cancelled(irp);
+    if is_silent(place, cancelled) {
+        return Ok(());
+    }
+    let flag = u64::from(cancelled);
+    writeln!(text, "irp {irp} {place} cancel {flag}")?;
+    Ok(())
+}
+
+/// The lines of all IRPs, by rising number.
+pub(crate) fn close_irps(machine: &Machine, text: &mut String) -> Result<(), AllocError>
+    ensures { OnOk result ((added : List ℕ) × GrewBy (string_bytes text.old) (string_bytes text.new) added
+        × ((E : List Made) → Agrees machine.now E → AreIrpLines E (size_of machine.now).irps added)) }
+{
+    for number in 0..machine.irps() {
+        close_irp(machine, IrpId(number), text)?;
+    }
+    Ok(())
+}
+
+/// Whether the run is at rest.
+pub(crate) fn close_rest(machine: &Machine, text: &mut String) -> Result<(), AllocError>
+    ensures { OnOk result ((added : List ℕ) × GrewBy (string_bytes text.old) (string_bytes text.new) added
+        × ((E : List Made) → Agrees machine.now E → IsRestLine E added)) }
+{
+    if machine.at_rest() {
+        writeln!(text, "rest yes")
+    } else {
+        writeln!(text, "rest no")
+    }
+}

@@ -1,0 +1,279 @@
+//! Schedules whose answers are known.
+use crate::{
+    FinalStatus, IrpId, IrpPlace, Kind, Machine, MachineNew, NtStatus, PassId, Step, StepRefused,
+};
+use std::process::Abort;
+use std::test::Fail;
+
+const ZERO: IrpId = IrpId(0);
+
+const ONE: IrpId = IrpId(1);
+
+fn make(machine: &mut Machine, pass: u32, kind: Kind) -> Result<u64, StepRefused> {
+    machine.step(Step {
+        pass: PassId(pass),
+        kind,
+    })
+}
+
+/// Makes steps, each with the value that it is to find.
+fn make_all(rt: &impl Abort, machine: &mut Machine, steps: &[(u32, Kind, u64)]) {
+    for (pass, kind, found) in steps {
+        assert_eq!(rt;
+            make(machine, *pass, *kind),
+            Ok(*found),
+            "pass {pass}, {kind:?}"
+        );
+    }
+}
+
+/// IRP 0 is inserted by pass 1, and found clear.
+fn insert(rt: &impl Abort, machine: &mut Machine, irp: IrpId) {
+    make_all(
+        rt,
+        machine,
+        &[(1, Kind::Arm(irp), 0), (1, Kind::Test(irp), 0)],
+    );
+}
+
+fn has_completed(machine: &Machine, status: NtStatus, pass: u32) -> bool {
+    machine.place(ZERO) == Some(IrpPlace::Completed(status, PassId(pass))) && machine.at_rest()
+}
+
+#[test]
+fn a_cancel_takes_a_listed_irp(rt: HostRuntime) -> Result<(), Fail> {
+    let mut machine = Machine::new(rt.alloc(), 8, 4)?;
+    insert(&rt, &mut machine, ZERO);
+    let steps = [
+        (2, Kind::Flag(ZERO), 0),
+        (2, Kind::Take(ZERO), 1),
+        (2, Kind::Out(ZERO), 0),
+        (2, Kind::Done(ZERO), 0),
+    ];
+    make_all(&rt, &mut machine, &steps);
+    assert!(rt; has_completed(&machine, NtStatus::CANCELLED, 2));
+    assert!(rt; machine.cancelled(ZERO));
+    Ok(())
+}
+
+#[test]
+fn an_insert_takes_a_flagged_irp_back(rt: HostRuntime) -> Result<(), Fail> {
+    let mut machine = Machine::new(rt.alloc(), 8, 4)?;
+    let steps = [
+        (2, Kind::Flag(ZERO), 0),
+        (2, Kind::Take(ZERO), 0),
+        (1, Kind::Arm(ZERO), 0),
+        (1, Kind::Test(ZERO), 1),
+        (1, Kind::Disarm(ZERO), 1),
+        (1, Kind::Done(ZERO), 0),
+    ];
+    make_all(&rt, &mut machine, &steps);
+    assert!(rt; has_completed(&machine, NtStatus::CANCELLED, 1));
+    assert!(rt; machine.cancelled(ZERO));
+    Ok(())
+}
+
+#[test]
+fn an_insert_leaves_its_irp_to_a_cancel(rt: HostRuntime) -> Result<(), Fail> {
+    let mut machine = Machine::new(rt.alloc(), 8, 4)?;
+    let steps = [
+        (1, Kind::Arm(ZERO), 0),
+        (2, Kind::Flag(ZERO), 0),
+        (1, Kind::Test(ZERO), 1),
+        (2, Kind::Take(ZERO), 1),
+        (1, Kind::Disarm(ZERO), 0),
+        (2, Kind::Out(ZERO), 0),
+        (2, Kind::Done(ZERO), 0),
+    ];
+    make_all(&rt, &mut machine, &steps);
+    assert!(rt; has_completed(&machine, NtStatus::CANCELLED, 2));
+    assert!(rt; machine.cancelled(ZERO));
+    Ok(())
+}
+
+#[test]
+fn a_cancel_leaves_an_irp_to_its_insert(rt: HostRuntime) -> Result<(), Fail> {
+    let mut machine = Machine::new(rt.alloc(), 8, 4)?;
+    let steps = [
+        (1, Kind::Arm(ZERO), 0),
+        (2, Kind::Flag(ZERO), 0),
+        (1, Kind::Test(ZERO), 1),
+        (1, Kind::Disarm(ZERO), 1),
+        (2, Kind::Take(ZERO), 0),
+    ];
+    make_all(&rt, &mut machine, &steps);
+    assert_eq!(rt; machine.place(ZERO), Some(IrpPlace::HeldBy(PassId(1))));
+    assert!(rt; machine.cancelled(ZERO));
+    assert!(rt; !machine.at_rest());
+    Ok(())
+}
+
+#[test]
+fn a_removal_passes_over_a_claimed_irp(rt: HostRuntime) -> Result<(), Fail> {
+    let mut machine = Machine::new(rt.alloc(), 8, 4)?;
+    insert(&rt, &mut machine, ZERO);
+    insert(&rt, &mut machine, ONE);
+    let steps = [
+        (2, Kind::Flag(ZERO), 0),
+        (2, Kind::Take(ZERO), 1),
+        (3, Kind::Disarm(ZERO), 0),
+        (3, Kind::Disarm(ONE), 1),
+    ];
+    make_all(&rt, &mut machine, &steps);
+    assert_eq!(rt; machine.place(ZERO), Some(IrpPlace::Listed));
+    assert_eq!(rt; machine.place(ONE), Some(IrpPlace::HeldBy(PassId(3))));
+    assert!(rt; machine.cancelled(ZERO) && !machine.cancelled(ONE));
+    assert!(rt; !machine.at_rest());
+    Ok(())
+}
+
+#[test]
+fn one_of_two_cancels_takes_an_irp(rt: HostRuntime) -> Result<(), Fail> {
+    let mut machine = Machine::new(rt.alloc(), 8, 4)?;
+    insert(&rt, &mut machine, ZERO);
+    let steps = [
+        (2, Kind::Flag(ZERO), 0),
+        (3, Kind::Flag(ZERO), 1),
+        (2, Kind::Take(ZERO), 1),
+        (3, Kind::Take(ZERO), 0),
+    ];
+    make_all(&rt, &mut machine, &steps);
+    assert_eq!(rt; machine.place(ZERO), Some(IrpPlace::Listed));
+    assert!(rt; machine.cancelled(ZERO));
+    assert!(rt; !machine.at_rest());
+    Ok(())
+}
+
+#[test]
+fn a_removal_completes_with_success(rt: HostRuntime) -> Result<(), Fail> {
+    let mut machine = Machine::new(rt.alloc(), 8, 4)?;
+    insert(&rt, &mut machine, ZERO);
+    make_all(
+        &rt,
+        &mut machine,
+        &[(3, Kind::Disarm(ZERO), 1), (3, Kind::Done(ZERO), 0)],
+    );
+    assert!(rt; has_completed(&machine, NtStatus::SUCCESS, 3));
+    assert!(rt; !machine.cancelled(ZERO));
+    Ok(())
+}
+
+#[test]
+fn a_removal_keeps_the_lock_until_its_end(rt: HostRuntime) -> Result<(), Fail> {
+    let mut machine = Machine::new(rt.alloc(), 8, 4)?;
+    insert(&rt, &mut machine, ZERO);
+    let steps = [
+        (2, Kind::Flag(ZERO), 0),
+        (2, Kind::Take(ZERO), 1),
+        (3, Kind::Disarm(ZERO), 0),
+    ];
+    make_all(&rt, &mut machine, &steps);
+    let refused = Err(StepRefused::LockHeld(PassId(3)));
+    assert_eq!(rt; make(&mut machine, 2, Kind::Out(ZERO)), refused);
+    make_all(
+        &rt,
+        &mut machine,
+        &[(3, Kind::End, 0), (2, Kind::Out(ZERO), 0)],
+    );
+    assert_eq!(rt; machine.place(ZERO), Some(IrpPlace::HeldBy(PassId(2))));
+    assert!(rt; machine.cancelled(ZERO));
+    assert!(rt; !machine.at_rest());
+    Ok(())
+}
+
+#[test]
+fn a_removal_may_find_nothing(rt: HostRuntime) -> Result<(), Fail> {
+    let mut machine = Machine::new(rt.alloc(), 8, 4)?;
+    make_all(&rt, &mut machine, &[(1, Kind::End, 0)]);
+    assert_eq!(rt; machine.place(ZERO), Some(IrpPlace::Home));
+    assert!(rt; machine.at_rest());
+    Ok(())
+}
+
+#[test]
+fn what_may_not_come_first_is_refused(rt: HostRuntime) -> Result<(), Fail> {
+    let mut machine = Machine::new(rt.alloc(), 8, 4)?;
+    let unknown = IrpId(8);
+    let refusals = [
+        (9, Kind::Flag(unknown), StepRefused::UnknownIrp, 1),
+        (5, Kind::End, StepRefused::UnknownPass, 2),
+        (0, Kind::End, StepRefused::UnknownPass, 2),
+        (2, Kind::Take(ZERO), StepRefused::NotNext, 4),
+        (1, Kind::Disarm(ZERO), StepRefused::NotListed, 6),
+        (1, Kind::Out(ZERO), StepRefused::NotOwed, 7),
+        (1, Kind::Done(ZERO), StepRefused::NotHeld, 8),
+    ];
+    for (pass, kind, refused, number) in &refusals {
+        assert_eq!(rt; make(&mut machine, *pass, *kind), Err(*refused));
+        assert_eq!(rt; refused.number(), *number);
+    }
+    assert_eq!(rt; machine.place(unknown), None);
+    assert!(rt; !machine.cancelled(unknown));
+    Ok(())
+}
+
+#[test]
+fn what_may_not_come_next_is_refused(rt: HostRuntime) -> Result<(), Fail> {
+    let mut machine = Machine::new(rt.alloc(), 8, 4)?;
+    make_all(&rt, &mut machine, &[(1, Kind::Arm(ZERO), 0)]);
+    let held = StepRefused::LockHeld(PassId(1));
+    assert_eq!(rt; held.number(), 3);
+    assert_eq!(rt; make(&mut machine, 3, Kind::Disarm(ZERO)), Err(held));
+    assert_eq!(rt;
+        make(&mut machine, 2, Kind::Take(ZERO)),
+        Err(StepRefused::NotNext)
+    );
+    assert_eq!(rt; make(&mut machine, 1, Kind::End), Err(StepRefused::NotNext));
+    make_all(&rt, &mut machine, &[(1, Kind::Test(ZERO), 0)]);
+    let home = StepRefused::NotHome;
+    assert_eq!(rt; home.number(), 5);
+    assert_eq!(rt; make(&mut machine, 2, Kind::Arm(ZERO)), Err(home));
+    assert_eq!(rt;
+        make(&mut machine, 2, Kind::Out(ZERO)),
+        Err(StepRefused::NotOwed)
+    );
+    assert_eq!(rt;
+        make(&mut machine, 1, Kind::Done(ZERO)),
+        Err(StepRefused::NotHeld)
+    );
+    make_all(&rt, &mut machine, &[(2, Kind::Flag(ZERO), 0)]);
+    assert_eq!(rt;
+        make(&mut machine, 2, Kind::Done(ZERO)),
+        Err(StepRefused::NotNext)
+    );
+    Ok(())
+}
+
+#[test]
+fn sizes_have_limits(rt: HostRuntime) -> Result<(), Fail> {
+    for (irps, passes) in &[(1, 1), (1024, 64)] {
+        let machine = Machine::new(rt.alloc(), *irps, *passes)?;
+        assert_eq!(rt; (machine.irps(), machine.passes()), (*irps, *passes));
+    }
+    for (irps, passes) in &[(0, 1), (1025, 1), (1, 0), (1, 65)] {
+        let refused = Machine::new(rt.alloc(), *irps, *passes);
+        assert!(rt; matches!(refused, Err(MachineNew::BadSize)));
+    }
+    assert_eq!(rt; MachineNew::BadSize.number(), 1);
+    Ok(())
+}
+
+/// Run it with allocations that are refused in turn.
+#[test]
+fn a_refused_allocation_answers_memory(rt: HostRuntime) {
+    match Machine::new(rt.alloc(), 2, 3) {
+        Ok(machine) => assert!(rt; machine.at_rest()),
+        Err(refused) => assert_eq!(rt; refused, MachineNew::Memory),
+    }
+    assert_eq!(rt; MachineNew::Memory.number(), 2);
+}
+
+#[test]
+fn an_irp_is_not_completed_as_pending(rt: HostRuntime) -> Result<(), Fail> {
+    assert!(rt; FinalStatus::new(NtStatus(0x103)).is_none());
+    let cancelled = FinalStatus::new(NtStatus(0xC000_0120)).ok_or("a final status")?;
+    assert_eq!(rt; cancelled.status(), NtStatus::CANCELLED);
+    assert!(rt; NtStatus(0x7FFF_FFFF).is_success());
+    assert!(rt; !NtStatus(0x8000_0000).is_success());
+    Ok(())
+}

@@ -1,0 +1,54 @@
+//! A list takes all its memory when it is made.
+use csq_list::{InsertStatus, ListNew, Peek, PendingList, Place, VecList};
+use irp_core::{FileId, IrpId};
+use linked_list_allocator::LocalHeap;
+use std::process::Abort;
+use std::test::Fail;
+
+// How many IRPs a list here has, and its limit.
+const IRPS: u32 = 64;
+
+const FILES: u32 = 32;
+
+// Fills a list from both ends, and empties it again.
+fn fill_and_empty<L: PendingList>(rt: &impl Abort, list: &mut L) {
+    for number in 0..IRPS {
+        let place = if number % 2 == 0 {
+            Place::Back
+        } else {
+            Place::Front
+        };
+        let answer = list.insert_ex(IrpId(number), FileId(number % FILES), place);
+        assert_eq!(rt; answer, Ok(()));
+    }
+    assert_eq!(rt; list.len(), IRPS);
+    assert_eq!(rt; list.close_file(FileId(0)), Ok(()));
+    assert_eq!(rt;
+        list.insert_ex(IrpId(0), FileId(0), Place::Back),
+        Err(InsertStatus::NotHome)
+    );
+    for _ in 0..IRPS {
+        if let Some(irp) = list.peek_next(None, Peek::Any) {
+            list.remove(irp);
+        }
+    }
+    assert_eq!(rt; list.len(), 0);
+}
+
+// On a heap of each size: the list is refused for want of memory, until one is made that leaves none.
+#[test]
+fn a_vec_list_takes_no_memory_later(rt: HostRuntime) -> Result<(), Fail> {
+    for blocks in 1..64 {
+        let heap = LocalHeap::new(rt.alloc(), 16 * blocks)?;
+        match VecList::new(&heap, IRPS, FILES, IRPS) {
+            Err(refused) => assert_eq!(rt; refused, ListNew::Memory),
+            Ok(mut list) => {
+                assert_eq!(rt; heap.free(), 0);
+                fill_and_empty(&rt, &mut list);
+                assert_eq!(rt; heap.free(), 0);
+                return Ok(());
+            }
+        }
+    }
+    Err(Fail::from("no heap was large enough"))
+}
