@@ -1,12 +1,10 @@
 -- The closing lines.
-use Rattle.std.proofs.Common.{◌≡◌, ℕ, ◌+◌, Bool, true, false, cond, List, [], ◌++◌, Option, Some, ap, append_assoc, append-nil, ◌∙◌, sym, subst, add-one, refl, codes, decimal}
-use Rattle.std.specs.Prelude.{IfSome}
+use Rattle.std.proofs.Common.{◌≡◌, ℕ, ◌+◌, Bool, true, false, cond, List, [], ◌++◌, ap, append_assoc, append-nil, ◌∙◌, sym, subst, add-one, refl, codes, decimal}
 use mir.Val.{bool_byte}
 use Rattle.irp_core.specs.declared.step.Made.{Made}
 use Rattle.irp_core.specs.declared.step.IrpPlace.{IrpPlace}
 use Rattle.irp_core.specs.Steps.{Irp}
-use Rattle.irp_core.specs.Words.{bit, flagged}
-use Rattle.irp_core.specs.Completion.{IsPlace}
+use Rattle.irp_core.specs.Words.{bit}
 use Rattle.irp_core.specs.Texts.{irp_text, place_text}
 use Rattle.csqsim.specs.Schedule.{is_silent, irp_line, IsIrpLine, AreIrpLines}
 use Rattle.csqsim.specs.Replays.{GrewBy}

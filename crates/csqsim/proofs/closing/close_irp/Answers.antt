@@ -1,9 +1,5 @@
-use Rattle.std.proofs.Common.{◌≡◌, ◌∙◌, [], List, ℕ, Some, sym, ap, subst}
-use Rattle.std.specs.Prelude.{IfSome, Option}
-use Rattle.irp_core.specs.declared.step.IrpPlace.{IrpPlace}
-use Rattle.irp_core.specs.Completion.{IsPlace}
-use Rattle.irp_core.specs.Words.{bit}
-use Rattle.csqsim.specs.Schedule.{is_silent, irp_line}
+use Rattle.std.proofs.Common.{◌∙◌, [], sym, ap}
+use Rattle.csqsim.specs.Schedule.{irp_line}
 use Rattle.csqsim.proofs.Closings.{byte_is_bit, grew_none, told, silent}
 use Rattle.csqsim.proofs.closing.close_irp.Goals as goal
 

@@ -1,4 +1,4 @@
-use Rattle.std.proofs.Common.{◌≡◌, ◌++◌, ℕ, arith, subst}
+use Rattle.std.proofs.Common.{◌++◌, ℕ, arith, subst}
 use Rattle.csqsim.specs.Schedule.{AreIrpLines}
 use Rattle.csqsim.proofs.Closings.{grew_more, lines_more}
 use Rattle.csqsim.proofs.closing.close_irps.Goals as goal

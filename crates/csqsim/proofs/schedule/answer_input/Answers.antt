@@ -1,4 +1,4 @@
-use Rattle.std.proofs.Common.{◌≡◌, ◌++◌, ◌∙◌, ℕ, List, [], ap, arith, subst, sym, codes}
+use Rattle.std.proofs.Common.{◌++◌, ◌∙◌, ℕ, List, [], ap, arith, subst, sym, codes}
 use Rattle.irp_core.specs.Runs.{Size}
 use Rattle.csqsim.specs.declared.answer.Ended.TheVariants.{Stopped}
 use Rattle.csqsim.specs.Pieces.{lines_of}

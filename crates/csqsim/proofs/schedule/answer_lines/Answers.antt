@@ -1,4 +1,4 @@
-use Rattle.std.proofs.Common.{◌≡◌, ◌+◌, ◌++◌, ◌∙◌, [], refl, arith}
+use Rattle.std.proofs.Common.{◌++◌, ◌∙◌, [], refl, arith}
 use Rattle.csqsim.specs.Pieces.{lines_of}
 use Rattle.csqsim.proofs.Closings.{grew_more, grew_none}
 use Rattle.csqsim.proofs.Answering.{line_stops, line_goes_on, lines_end}

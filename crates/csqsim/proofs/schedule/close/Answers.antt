@@ -1,4 +1,4 @@
-use Rattle.std.proofs.Common.{◌≡◌, ◌++◌, ◌∙◌, ap, sym, string_bytes}
+use Rattle.std.proofs.Common.{◌++◌, ◌∙◌, ap, string_bytes}
 use Rattle.csqsim.specs.Schedule.{run_of, claim_lines}
 use Rattle.csqsim.specs.Replays.{GrewBy}
 use Rattle.csqsim.proofs.Closings.{grew_more, asked, not_asked}
