@@ -28,7 +28,7 @@ fn compare(
 }
 
 #[test]
-fn handled_schedules_are_closed(rt: HostRuntime) -> Result<(), Fail> {
+fn cancels_are_replayed(rt: HostRuntime) -> Result<(), Fail> {
     let cases = [
         (
             "p1 arm 0\np1 test 0\np2 flag 0\np2 take 0\np2 out 0\np2 done 0\n",
@@ -54,6 +54,14 @@ fn handled_schedules_are_closed(rt: HostRuntime) -> Result<(), Fail> {
             "p1 arm 0\np1 test 0\np2 flag 0\np3 flag 0\np2 take 0\np3 take 0\n",
             "p1 arm 0 found 0\np1 test 0 found 0\np2 flag 0 found 0\np3 flag 0 found 1\np2 take 0 found 1\np3 take 0 found 0\nirp 0 listed cancel 1\nrest no\n",
         ),
+    ];
+    compare(&rt, rt.alloc(), Ended::AllHandled, &cases)?;
+    Ok(())
+}
+
+#[test]
+fn other_schedules_are_closed(rt: HostRuntime) -> Result<(), Fail> {
+    let cases = [
         (
             "p1 arm 0\np1 test 0\np3 disarm 0\np3 done 0\n",
             "p1 arm 0 found 0\np1 test 0 found 0\np3 disarm 0 found 1\np3 done 0 found 0\nirp 0 completed 00000000 by p3 cancel 0\nrest yes\n",
@@ -75,7 +83,7 @@ fn handled_schedules_are_closed(rt: HostRuntime) -> Result<(), Fail> {
 }
 
 #[test]
-fn a_line_may_end_the_handling(rt: HostRuntime) -> Result<(), Fail> {
+fn a_refused_step_ends_the_handling(rt: HostRuntime) -> Result<(), Fail> {
     let cases = [
         (
             "p1 arm 0\np3 disarm 0\n",
@@ -112,6 +120,14 @@ fn a_line_may_end_the_handling(rt: HostRuntime) -> Result<(), Fail> {
             "p1 arm 0 found 0\nline 2 refused NotNext\n",
         ),
         ("p1 ar", "line 1 malformed\n"),
+    ];
+    compare(&rt, rt.alloc(), Ended::Stopped, &cases)?;
+    Ok(())
+}
+
+#[test]
+fn a_malformed_line_ends_the_handling(rt: HostRuntime) -> Result<(), Fail> {
+    let cases = [
         ("p5 end\n", "line 1 refused UnknownPass\n"),
         ("p0 end\n", "line 1 refused UnknownPass\n"),
         ("# a comment\n\np1 arm 00\n", "line 3 malformed\n"),
