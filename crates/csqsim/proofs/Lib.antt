@@ -3,3 +3,5 @@ pub mod KindWords
 pub mod StepText
 pub mod Answering
 pub mod Closings
+pub mod OneStep
+pub mod OneAnswer

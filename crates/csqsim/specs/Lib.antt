@@ -4,3 +4,4 @@ pub mod Inputs
 pub mod Schedule
 pub mod Replays
 pub mod Jobs
+pub mod Laws

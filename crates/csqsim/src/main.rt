@@ -4,6 +4,7 @@
 mod answer;
 mod closing;
 mod command;
+mod laws;
 mod pieces;
 mod replay;
 mod schedule;

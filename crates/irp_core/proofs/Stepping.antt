@@ -27,7 +27,7 @@ may_follow b E a p k h =
     subst (λ (n : ℕ). MayFollow (size_of b) E (record { pass = p; kind = k; found = n })) (state_found b E a k f.known.irp) f
 
 -- against a step that may follow there is no cause
-no_cause : (n : Size) (E : List Made) (p : PassId) (k : Kind) (v : ℕ) (cause : StepRefused) → MayFollow n E (record { pass = p; kind = k; found = v }) → ¬ IsCause n E p k cause
+pub no_cause : (n : Size) (E : List Made) (p : PassId) (k : Kind) (v : ℕ) (cause : StepRefused) → MayFollow n E (record { pass = p; kind = k; found = v }) → ¬ IsCause n E p k cause
 no_cause n E p k v UnknownIrp f c = c f.known.irp
 no_cause n E p k v UnknownPass f c = c (f.known.from, f.known.to)
 no_cause n E p k v (LockHeld q) f c = c.2 (f.alone c.0 q (HasLock-has_lock E q c.1))

@@ -1,0 +1,199 @@
+-- The steps of a removal and of the cancel routine: disarm, end, out.
+use Rattle.std.proofs.Common.{◌≡◌, ℕ, ◌<◌, Bool, true, false, cond, not, ◌&&◌, List, [], ◌∷◌, ◌++◌, set, refl, sym, ap, ◌∙◌, subst, arith, length-set}
+use Rattle.csq_words.specs.Own.{inside_of, owes_in}
+use Rattle.irp_core.specs.declared.ids.PassId.{PassId}
+use Rattle.irp_core.specs.declared.step.Kind.TheVariants.{Disarm, End, Out}
+use Rattle.irp_core.specs.declared.step.Made.{Made}
+use Rattle.irp_core.specs.declared.step.Inside.{Inside}
+use Rattle.irp_core.specs.declared.step.Inside.TheVariants.{Nothing, Removing}
+use Rattle.irp_core.specs.Steps.{Irp, same_irp}
+use Rattle.irp_core.specs.Words.{found_by}
+use Rattle.irp_core.specs.Inside.{after_disarm, follows}
+use Rattle.irp_core.specs.Owners.{owes, listed}
+use Rattle.irp_core.specs.Completion.{removed}
+use Rattle.irp_core.specs.Runs.{Size, IsRun}
+use Rattle.irp_core.proofs.Names.{same_irp-refl}
+use Rattle.irp_core.proofs.Next.{grows_by_removal_disarm, grows_by_end, grows_by_out}
+use Rattle.csq_list.specs.declared.entry.Peek.{Peek}
+use Rattle.csq_words.specs.declared.views.Event.{Event}
+use Rattle.csq_words.specs.declared.views.Event.TheVariants.{Mark}
+use Rattle.csq_words.specs.declared.views.Event.TheVariants as event
+use Rattle.csq_words.specs.declared.views.PassRecord.{PassRecord}
+use Rattle.csq_words.specs.declared.views.QueueRecord.{QueueRecord}
+use Rattle.csq_words.specs.Queue.{Queued, QueueState, has_entry, has_unmarked, has_irp, marking, without, after_event}
+use Rattle.csq_words.specs.History.{end_of}
+use Rattle.csq_words.specs.Records.{entries_of}
+use Rattle.irp_core.specs.Owners.{taken}
+use Rattle.irp_core.specs.Words.{was_armed}
+use Rattle.csq_words.specs.Rule.{routine_at, inserts, WasCancelled, IsTrueOf, AreTrueOf}
+use Rattle.csq_words.specs.Calls.{due_mark, IsNextMatch, MayRemove}
+use Rattle.csq_words.proofs.Laws.{off, or_true, owed_listed, listed_taken}
+use Rattle.csq_words.proofs.Own.{owes_in-own}
+use Rattle.csq_words.proofs.Truths.{true_stays, truths_stay}
+use Rattle.csq_words.proofs.Changes.{disarm_words, end_words, out_words, stored_else}
+use Rattle.csq_words.proofs.Entries.{has_entry-marking, has_entry-without}
+use Rattle.csq_words.proofs.Making.{Sees, IsMade}
+use Rattle.csq_words.proofs.Inserts.{and_false, listed_miss, listed_hit, other_word}
+
+-- a removal is no insert
+removal_inserts : (s : Inside) (j : Irp) → follows s End ≡ true → inserts s j ≡ false
+removal_inserts Nothing j h = refl
+removal_inserts Removing j h = refl
+removal_inserts s j h = off h
+
+removal_after : (s : Inside) (j : Irp) → follows s End ≡ true → inserts (after_disarm s 0) j ≡ false
+removal_after Nothing j h = refl
+removal_after Removing j h = refl
+removal_after s j h = off h
+
+removal_ended : (s : Inside) (j : Irp) → follows s End ≡ true → inserts (after_disarm s 1) j ≡ false
+removal_ended Nothing j h = refl
+removal_ended Removing j h = refl
+removal_ended s j h = off h
+
+-- the event takes i out of the list
+pub record TakesOut (i : Irp) (e : Event) : Type 0 where
+  pub taken : (q : QueueState) → after_event q e ≡ record q { entries = without i q.entries }
+  pub plain : (run : List Made) → IsTrueOf run e
+
+-- the event leaves the queue as it is
+pub record Leaves (e : Event) : Type 0 where
+  pub left : (q : QueueState) → after_event q e ≡ q
+  pub plain : (run : List Made) → IsTrueOf run e
+
+-- the next match is listed
+pub next_listed : (k : Peek) (es : List Queued) (i : Irp) → IsNextMatch k es i → has_entry es i ≡ true
+next_listed k es i h = subst (λ l. has_entry l i ≡ true) (sym h.parts) (among h.before)
+  where
+    among : (before : List Queued) → has_entry (before ++ h.entry ∷ h.after) i ≡ true
+    among [] = rw (h.irp_is, same_irp-refl) refl
+    among (e ∷ before) = or_true (same_irp e.irp i) _ (among before)
+
+pub listed_out : (p : PassId) (i j : Irp) (run : List Made) → listed (record { pass = p; kind = Out i; found = 0 } ∷ run) j ≡ (not (same_irp i j) && listed run j)
+listed_out p i j run = go (same_irp i j) refl
+  where
+    go : (b : Bool) → same_irp i j ≡ b → listed (record { pass = p; kind = Out i; found = 0 } ∷ run) j ≡ (not b && listed run j)
+    go true e = rw e (and_false (was_armed run j))
+    go false e = rw e refl
+
+module _ (size : Size) (words : List ℕ) (run : List Made) (q : QueueRecord) (r : PassRecord) (x : Sees size words run q r) where
+  module _ (removes : MayRemove r) where
+    entries_are : (j : Irp) → has_entry (end_of q.history).entries j ≡ listed run j
+    entries_are j = x.history_is.listed_is j ∙ ap (λ b. not b && listed run j) (removal_inserts (inside_of r.steps) j removes)
+
+    used_are : (j : Irp) → has_irp (end_of q.history).used j ≡ was_armed run j
+    used_are j = x.history_is.used_is j ∙ ap (λ b. not b && was_armed run j) (removal_inserts (inside_of r.steps) j removes)
+
+    module _ (i : Irp) (inside' : i.0 < size.irps) (there : has_entry (end_of q.history).entries i ≡ true) where
+      listed_i : listed run i ≡ true
+      listed_i = sym (entries_are i) ∙ there
+
+      disarm_run : (n : ℕ) → n ≡ found_by run (Disarm i) → IsRun size (record { pass = r.pass; kind = Disarm i; found = n } ∷ run)
+      disarm_run n is = subst (λ v. IsRun size (record { pass = r.pass; kind = Disarm i; found = v } ∷ run)) (sym is)
+          (grows_by_removal_disarm size run x.history_is.is_run r.pass x.from x.to i inside' (rw (← x.same) removes) x.free listed_i)
+
+      -- the removal finds the routine taken: the IRP is marked, if it isn't yet
+      pub miss_made : 0 ≡ found_by run (Disarm i) → IsMade size words (set words (routine_at i) 0) run q r (Disarm i) 0 (due_mark i q.history)
+      miss_made is = go (has_unmarked (end_of q.history).entries i)
+        where
+          made : (es : List Event) → ((j : Irp) → has_entry (end_of (entries_of r.pass es ++ q.history)).entries j ≡ has_entry (end_of q.history).entries j)
+              → ((j : Irp) → has_irp (end_of (entries_of r.pass es ++ q.history)).used j ≡ has_irp (end_of q.history).used j)
+              → AreTrueOf (record { pass = r.pass; kind = Disarm i; found = 0 } ∷ run) (entries_of r.pass es ++ q.history)
+              → IsMade size words (set words (routine_at i) 0) run q r (Disarm i) 0 es
+          made es listed' used' true' = let wide = x.wide in record {
+            wide = length-set words (routine_at i) 0;
+            is_run = disarm_run 0 is;
+            words_are = λ j l. disarm_words words run r.pass i 0 j (x.words_are j l) (omega arith);
+            inert = λ is. refl;
+            stored = λ cs h. stored_else words (routine_at i) 0 cs (λ j e. other_word j i e) h;
+            listed_is = λ j. listed' j ∙ (entries_are j ∙ (sym (listed_miss r.pass i j run) ∙ ap (λ b. not b && listed (record { pass = r.pass; kind = Disarm i; found = 0 } ∷ run) j) (sym (removal_after (inside_of r.steps) j removes))));
+            used_is = λ j. used' j ∙ (used_are j ∙ ap (λ b. not b && was_armed run j) (sym (removal_after (inside_of r.steps) j removes)));
+            true_of = true';
+          }
+
+          stay : AreTrueOf (record { pass = r.pass; kind = Disarm i; found = 0 } ∷ run) q.history
+          stay = truths_stay size _ run (disarm_run 0 is) q.history x.history_is.true_of
+
+          go : (b : Bool) → IsMade size words (set words (routine_at i) 0) run q r (Disarm i) 0 (cond b (Mark i ∷ []) [])
+          go false = made [] (λ j. refl) (λ j. refl) stay
+          go true = made (Mark i ∷ []) (λ j. has_entry-marking i (end_of q.history).entries j) (λ j. refl)
+              (true_stays size _ run (disarm_run 0 is) (Mark i) (listed_taken size run x.history_is.is_run i listed_i (sym is)), stay)
+
+      -- the removal finds the routine: the IRP is its
+      pub hit_made : 1 ≡ found_by run (Disarm i) → (e : Event) → TakesOut i e → IsMade size words (set words (routine_at i) 0) run q r (Disarm i) 1 (e ∷ [])
+      hit_made is e t = let wide = x.wide in record {
+        wide = length-set words (routine_at i) 0;
+        is_run = disarm_run 1 is;
+        words_are = λ j l. disarm_words words run r.pass i 1 j (x.words_are j l) (omega arith);
+        inert = λ is. refl;
+        stored = λ cs h. stored_else words (routine_at i) 0 cs (λ j e. other_word j i e) h;
+        listed_is = λ j. ap (λ (u : QueueState). has_entry u.entries j) (t.taken (end_of q.history)) ∙ (has_entry-without i (end_of q.history).entries j
+            ∙ (ap (λ b. not (same_irp i j) && b) (entries_are j) ∙ (sym (listed_hit r.pass i j run) ∙ ap (λ b. not b && listed (record { pass = r.pass; kind = Disarm i; found = 1 } ∷ run) j) (sym (removal_ended (inside_of r.steps) j removes)))));
+        used_is = λ j. ap (λ (u : QueueState). has_irp u.used j) (t.taken (end_of q.history)) ∙ (used_are j ∙ ap (λ b. not b && was_armed run j) (sym (removal_ended (inside_of r.steps) j removes)));
+        true_of = (t.plain (record { pass = r.pass; kind = Disarm i; found = 1 } ∷ run), truths_stay size _ run (disarm_run 1 is) q.history x.history_is.true_of);
+      }
+
+    -- the removal ends with none
+    pub end_made : (e : Event) → Leaves e → IsMade size words words run q r End 0 (e ∷ [])
+    end_made e l =
+        let is_run = grows_by_end size run x.history_is.is_run r.pass x.from x.to (rw (← x.same) removes) x.free in record {
+          wide = refl;
+          is_run = is_run;
+          words_are = λ j l. end_words words run r.pass j 0 j (x.words_are j l);
+          inert = λ is. refl;
+          stored = λ cs h. h;
+          listed_is = λ j. ap (λ (u : QueueState). has_entry u.entries j) (l.left (end_of q.history)) ∙ entries_are j;
+          used_is = λ j. ap (λ (u : QueueState). has_irp u.used j) (l.left (end_of q.history)) ∙ used_are j;
+          true_of = (l.plain (record { pass = r.pass; kind = End; found = 0 } ∷ run), truths_stay size _ run is_run q.history x.history_is.true_of);
+        }
+
+  module _ (i : Irp) (inside' : i.0 < size.irps) (outside : inside_of r.steps ≡ Nothing) (owed : owes_in r.steps i ≡ true) where
+    removing : MayRemove r
+    removing = rw outside refl
+
+    owed_run : owes run r.pass i ≡ true
+    owed_run = sym (ap (λ t. owes_in t i) x.steps_is ∙ owes_in-own r.pass i run) ∙ owed
+
+    out_run : IsRun size (record { pass = r.pass; kind = Out i; found = 0 } ∷ run)
+    out_run = grows_by_out size run x.history_is.is_run r.pass x.from x.to i inside' (sym x.same ∙ outside) x.free owed_run
+
+    -- what the cancel routine takes out is in the list
+    pub out_listed : has_entry (end_of q.history).entries i ≡ true
+    out_listed = entries_are removing i ∙ (owed_listed size run x.history_is.is_run i r.pass owed_run).1
+
+    -- the cancel routine takes the IRP out, which is marked, if it isn't yet
+    pub out_made : IsMade size words words run q r (Out i) 0 (event.Out i ∷ due_mark i q.history)
+    out_made = go (has_unmarked (end_of q.history).entries i)
+      where
+        facts : (was_armed run i ≡ true) × (listed run i ≡ true) × (removed run i ≡ false) × (taken run i ≡ true)
+        facts = owed_listed size run x.history_is.is_run i r.pass owed_run
+
+        was_cancelled : WasCancelled (record { pass = r.pass; kind = Out i; found = 0 } ∷ run) i
+        was_cancelled = record {
+          armed = facts.0;
+          unlisted = listed_out r.pass i i run ∙ ap (λ b. not b && listed run i) (same_irp-refl i);
+          not_removed = facts.2;
+        }
+
+        made : (es : List Event) → ((j : Irp) → has_entry (end_of (entries_of r.pass (event.Out i ∷ es) ++ q.history)).entries j ≡ (not (same_irp i j) && has_entry (end_of q.history).entries j))
+            → ((j : Irp) → has_irp (end_of (entries_of r.pass es ++ q.history)).used j ≡ has_irp (end_of q.history).used j)
+            → AreTrueOf (record { pass = r.pass; kind = Out i; found = 0 } ∷ run) (entries_of r.pass es ++ q.history)
+            → IsMade size words words run q r (Out i) 0 (event.Out i ∷ es)
+        made es listed' used' true' = record {
+          wide = refl;
+          is_run = out_run;
+          words_are = λ j l. out_words words run r.pass i 0 j (x.words_are j l);
+          inert = λ is. refl;
+          stored = λ cs h. h;
+          listed_is = λ j. listed' j ∙ (ap (λ b. not (same_irp i j) && b) (entries_are removing j) ∙ sym (listed_out r.pass i j run));
+          used_is = λ j. used' j ∙ used_are removing j;
+          true_of = (was_cancelled, true');
+        }
+
+        stay : AreTrueOf (record { pass = r.pass; kind = Out i; found = 0 } ∷ run) q.history
+        stay = truths_stay size _ run out_run q.history x.history_is.true_of
+
+        go : (b : Bool) → IsMade size words words run q r (Out i) 0 (event.Out i ∷ cond b (Mark i ∷ []) [])
+        go false = made [] (λ j. has_entry-without i (end_of q.history).entries j) (λ j. refl) stay
+        go true = made (Mark i ∷ []) (λ j. has_entry-without i (marking i (end_of q.history).entries) j ∙ ap (λ b. not (same_irp i j) && b) (has_entry-marking i (end_of q.history).entries j)) (λ j. refl)
+            (true_stays size _ run out_run (Mark i) facts.3, stay)

@@ -1,0 +1,9 @@
+pub mod Queue
+pub mod History
+pub mod Records
+pub mod Own
+pub mod Rule
+pub mod Calls
+pub mod Plays
+pub mod Seats
+pub mod Finals

@@ -1,0 +1,6 @@
+//! Tests of interleavings of the words' steps, made in one thread beside the machine and in two
+//! threads. There is no other code here.
+#![tactic(auto)]
+
+#[cfg(test)]
+mod tests;
