@@ -7,5 +7,4 @@ ghost use Rattle.csqsim.specs.Laws.{HasOneAnswer};
 /// A schedule has at most one answer, so the relation that `answer_schedule` meets names its bytes.
 pub fn a_schedule_has_one_answer()
     ensures { (size : Size) (claims : Bool) (input : List ℕ) → HasOneAnswer size claims input }
-{
-}
+{}
