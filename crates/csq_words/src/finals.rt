@@ -5,19 +5,19 @@ ghost use Rattle.csq_words.specs.Finals.{is_cancelled, final_status};
 
 use atomic_table::Closed;
 use irp_core::{IrpId, NtStatus};
-use std::alloc::Global;
+use std::alloc::{Allocator, Global};
 use std::marker::Model;
 
 /// The least status word that is set.
 const SET: u64 = 1 << 32;
 
 /// The Cancel flags and statuses at the end. A contract sees the number of IRPs and the words.
-pub struct Finals {
-    pub(crate) closed: Closed<(), Global>,
+pub struct Finals<A: Allocator = Global> {
+    pub(crate) closed: Closed<(), A>,
     pub(crate) irps: u32,
 }
 
-impl Model for Finals {
+impl<A: Allocator> Model for Finals<A> {
     ghost use Rattle.std.specs.Prelude.{◌≡◌, ◌*◌};
     ghost use Rattle.std.specs.Mem.Slots.{slots_items, slots_len, IsFull};
     ghost use Rattle.csq_words.specs.Finals.{FinalWords};
@@ -42,7 +42,7 @@ pub(crate) fn status_in(word: u64) -> Option<NtStatus>
     Some(NtStatus((word - SET) as u32))
 }
 
-impl Finals {
+impl<A: Allocator> Finals<A> {
     /// Whether the Cancel flag is set. False for an unknown IRP.
     pub fn cancelled(&self, irp: IrpId) -> bool
         ensures { result ≡ is_cancelled self.now irp }
@@ -61,7 +61,7 @@ impl Finals {
     }
 }
 
-impl Drop for Finals {
+impl<A: Allocator> Drop for Finals<A> {
     fn drop(self) {
         let Self { closed, irps: _ } = self;
         closed.free();

@@ -18,6 +18,7 @@ use crate::finals::status_in;
 use crate::rule::{self, OwnStep, WordSeat};
 use crate::words::Words;
 use irp_core::{FinalStatus, IrpId, NtStatus};
+use std::alloc::Allocator;
 use std::marker::{Brand, Model};
 
 /// The seat that has a pass's record, and is away while that is joined with the queue's. A contract
@@ -50,7 +51,7 @@ impl Default for PassSeat {
 
 impl PassSeat {
     /// Sets the Cancel flag of an IRP, as `IoCancelIrp` does first, and answers what it was.
-    pub fn flag(&mut self, words: &Words, irp: IrpId) -> u64
+    pub fn flag<A: Allocator>(&mut self, words: &Words<A>, irp: IrpId) -> u64
         requires words { IsHere words.now.table self.old }
         requires irp { irp.0 < words.now.size.irps }
         requires outside { inside_of (pass_record self.old).steps ≡ Nothing }
@@ -58,12 +59,12 @@ impl PassSeat {
         ensures step { self.new ≡ pass_at words.now.table (with_step (Flag irp) result (pass_record self.old)) }
         ensures last { IsLastOf (record { pass = (pass_record self.old).pass; kind = Flag irp; found = result }) (pass_record self.new) }
     {
-        flag_as::<Brand>(self, words, irp)
+        flag_as::<Brand, A>(self, words, irp)
     }
 
     /// Takes the routine of the IRP that was just flagged, as `IoCancelIrp` does then, and answers
     /// whether it was there. If so the pass owes the IRP.
-    pub fn take(&mut self, words: &Words, irp: IrpId) -> u64
+    pub fn take<A: Allocator>(&mut self, words: &Words<A>, irp: IrpId) -> u64
         requires words { IsHere words.now.table self.old }
         requires irp { irp.0 < words.now.size.irps }
         requires flagged { inside_of (pass_record self.old).steps ≡ Cancelling irp }
@@ -71,12 +72,12 @@ impl PassSeat {
         ensures step { self.new ≡ pass_at words.now.table (with_step (Take irp) result (pass_record self.old)) }
         ensures last { IsLastOf (record { pass = (pass_record self.old).pass; kind = Take irp; found = result }) (pass_record self.new) }
     {
-        take_as::<Brand>(self, words, irp)
+        take_as::<Brand, A>(self, words, irp)
     }
 
     /// Completes an IRP that the pass holds. Its status wasn't set. Where no removal got it, the
     /// status is `NtStatus::CANCELLED`.
-    pub fn done(&mut self, words: &Words, irp: IrpId, status: FinalStatus)
+    pub fn done<A: Allocator>(&mut self, words: &Words<A>, irp: IrpId, status: FinalStatus)
         requires words { IsHere words.now.table self.old }
         requires irp { irp.0 < words.now.size.irps }
         requires outside { inside_of (pass_record self.old).steps ≡ Nothing }
@@ -84,12 +85,12 @@ impl PassSeat {
         requires due { removed_in (pass_record self.old).steps irp ≡ false → status ≡ CANCELLED }
         ensures step { self.new ≡ pass_at words.now.table (with_completion irp status (with_step (Done irp) 0 (pass_record self.old))) }
     {
-        done_as::<Brand>(self, words, irp, status.status().0);
+        done_as::<Brand, A>(self, words, irp, status.status().0);
     }
 
     /// Whether the Cancel flag of an IRP is set. It is where this pass set it, or has seen in the
     /// history that it was. Nothing is recorded.
-    pub fn read_cancel(&mut self, words: &Words, irp: IrpId) -> bool
+    pub fn read_cancel<A: Allocator>(&mut self, words: &Words<A>, irp: IrpId) -> bool
         requires words { IsHere words.now.table self.old }
         requires irp { irp.0 < words.now.size.irps }
         ensures same { self.new ≡ self.old }
@@ -97,12 +98,12 @@ impl PassSeat {
         ensures mine { flagged (pass_record self.old).steps irp ≡ true → result ≡ true }
         ensures seen { shows_flagged irp (pass_record self.old).seen ≡ true → result ≡ true }
     {
-        read_cancel_as::<Brand>(self, words, irp)
+        read_cancel_as::<Brand, A>(self, words, irp)
     }
 
     /// The status of an IRP, once it is completed. It is None while this pass owes or holds the IRP,
     /// and what this pass completed it with from then on. Nothing is recorded.
-    pub fn read_status(&mut self, words: &Words, irp: IrpId) -> Option<NtStatus>
+    pub fn read_status<A: Allocator>(&mut self, words: &Words<A>, irp: IrpId) -> Option<NtStatus>
         requires words { IsHere words.now.table self.old }
         requires irp { irp.0 < words.now.size.irps }
         ensures same { self.new ≡ self.old }
@@ -111,12 +112,12 @@ impl PassSeat {
         ensures owed { owes_in (pass_record self.old).steps irp ≡ true → result ≡ None }
         ensures held { holds_in (pass_record self.old).steps irp ≡ true → result ≡ None }
     {
-        read_status_as::<Brand>(self, words, irp)
+        read_status_as::<Brand, A>(self, words, irp)
     }
 }
 
 // Sets the Cancel flag of the IRP that S names.
-fn flag_as<S: OwnStep>(pass: &mut PassSeat, words: &Words, irp: IrpId) -> u64
+fn flag_as<S: OwnStep, A: Allocator>(pass: &mut PassSeat, words: &Words<A>, irp: IrpId) -> u64
     requires named { S.irp ≡ irp }
     requires words { IsHere words.now.table pass.old }
     requires irp { irp.0 < words.now.size.irps }
@@ -135,7 +136,7 @@ fn flag_as<S: OwnStep>(pass: &mut PassSeat, words: &Words, irp: IrpId) -> u64
 }
 
 // Takes the routine of the IRP that S names.
-fn take_as<S: OwnStep>(pass: &mut PassSeat, words: &Words, irp: IrpId) -> u64
+fn take_as<S: OwnStep, A: Allocator>(pass: &mut PassSeat, words: &Words<A>, irp: IrpId) -> u64
     requires named { S.irp ≡ irp }
     requires words { IsHere words.now.table pass.old }
     requires irp { irp.0 < words.now.size.irps }
@@ -154,7 +155,7 @@ fn take_as<S: OwnStep>(pass: &mut PassSeat, words: &Words, irp: IrpId) -> u64
 }
 
 // Sets the status that S names of its IRP.
-fn done_as<S: OwnStep>(pass: &mut PassSeat, words: &Words, irp: IrpId, status: u32)
+fn done_as<S: OwnStep, A: Allocator>(pass: &mut PassSeat, words: &Words<A>, irp: IrpId, status: u32)
     requires named { (S.irp ≡ irp) × (S.status ≡ record { 0 = status }) }
     requires words { IsHere words.now.table pass.old }
     requires irp { irp.0 < words.now.size.irps }
@@ -175,7 +176,11 @@ fn done_as<S: OwnStep>(pass: &mut PassSeat, words: &Words, irp: IrpId, status: u
 }
 
 // Reads the Cancel flag of the IRP that S names.
-fn read_cancel_as<S: OwnStep>(pass: &mut PassSeat, words: &Words, irp: IrpId) -> bool
+fn read_cancel_as<S: OwnStep, A: Allocator>(
+    pass: &mut PassSeat,
+    words: &Words<A>,
+    irp: IrpId,
+) -> bool
     requires named { S.irp ≡ irp }
     requires words { IsHere words.now.table pass.old }
     requires irp { irp.0 < words.now.size.irps }
@@ -195,7 +200,11 @@ fn read_cancel_as<S: OwnStep>(pass: &mut PassSeat, words: &Words, irp: IrpId) ->
 }
 
 // Reads the status of the IRP that S names.
-fn read_status_as<S: OwnStep>(pass: &mut PassSeat, words: &Words, irp: IrpId) -> Option<NtStatus>
+fn read_status_as<S: OwnStep, A: Allocator>(
+    pass: &mut PassSeat,
+    words: &Words<A>,
+    irp: IrpId,
+) -> Option<NtStatus>
     requires named { S.irp ≡ irp }
     requires words { IsHere words.now.table pass.old }
     requires irp { irp.0 < words.now.size.irps }

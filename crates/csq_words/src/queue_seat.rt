@@ -16,6 +16,7 @@ use crate::pass_seat::PassSeat;
 use crate::rule::{CallNote, CallStep, Enter, Leave, Make, Record, Tell, WordSeat};
 use crate::words::Words;
 use irp_core::{IrpId, Kind};
+use std::alloc::Allocator;
 use std::marker::{Brand, Model};
 
 /// The seat that has the queue's record. A contract sees the table that it belongs to, that record,
@@ -37,7 +38,7 @@ impl Model for QueueSeat {
 
 impl QueueSeat {
     /// Takes in the record of a pass. It is the first step of each call under the lock.
-    pub fn enter(&mut self, words: &Words, pass: &mut PassSeat)
+    pub fn enter<A: Allocator>(&mut self, words: &Words<A>, pass: &mut PassSeat)
         requires words { self.old.table ≡ words.now.table }
         requires alone { self.old.joined ≡ None }
         requires pass { IsHere words.now.table pass.old }
@@ -54,7 +55,7 @@ impl QueueSeat {
 
     /// Gives the record back to the pass, which has then seen the whole history. It is the last step
     /// of a call under the lock, once no insert and no removal is in flight.
-    pub fn leave(&mut self, words: &Words, pass: &mut PassSeat)
+    pub fn leave<A: Allocator>(&mut self, words: &Words<A>, pass: &mut PassSeat)
         requires words { self.old.table ≡ words.now.table }
         requires joined { IsJoined self.old }
         requires ended { has_lock (inside_of (joined_record self.old).steps) ≡ false }
@@ -66,7 +67,7 @@ impl QueueSeat {
 
     /// Sets the routine of an IRP that an insert has just listed (`IoSetCancelRoutine`). No routine
     /// stood there.
-    pub fn arm(&mut self, words: &Words, call: Call, irp: IrpId) -> u64
+    pub fn arm<A: Allocator>(&mut self, words: &Words<A>, call: Call, irp: IrpId) -> u64
         requires words { self.old.table ≡ words.now.table }
         requires joined { IsJoined self.old }
         requires irp { irp.0 < words.now.size.irps }
@@ -75,12 +76,12 @@ impl QueueSeat {
         ensures step { self.new ≡ with_view (after_step call (Arm irp) result self.old.queue (joined_record self.old)) self.old }
         ensures told { IsTold self.new.queue (joined_record self.new) }
     {
-        arm_as::<Brand>(self, words, call, Kind::Arm(irp), irp)
+        arm_as::<Brand, A>(self, words, call, Kind::Arm(irp), irp)
     }
 
     /// Tests the Cancel flag of the IRP that the insert has just armed, and answers it. Where it is
     /// clear, the insert is pending.
-    pub fn test(&mut self, words: &Words, call: Call, irp: IrpId) -> u64
+    pub fn test<A: Allocator>(&mut self, words: &Words<A>, call: Call, irp: IrpId) -> u64
         requires words { self.old.table ≡ words.now.table }
         requires joined { IsJoined self.old }
         requires irp { irp.0 < words.now.size.irps }
@@ -89,13 +90,13 @@ impl QueueSeat {
         ensures step { self.new ≡ with_view (after_step call (Test irp) result self.old.queue (joined_record self.old)) self.old }
         ensures told { IsTold self.new.queue (joined_record self.new) }
     {
-        test_as::<Brand>(self, words, call, Kind::Test(irp), irp)
+        test_as::<Brand, A>(self, words, call, Kind::Test(irp), irp)
     }
 
     /// Exchanges the routine of an IRP for none, and answers whether it was there. In an insert that
     /// has found the flag set, the IRP is then the inserter's; else it is left to its canceller. In a
     /// removal, the IRP is then removed; else it is marked, and the removal goes on.
-    pub fn disarm(&mut self, words: &Words, call: Call, irp: IrpId) -> u64
+    pub fn disarm<A: Allocator>(&mut self, words: &Words<A>, call: Call, irp: IrpId) -> u64
         requires words { self.old.table ≡ words.now.table }
         requires joined { IsJoined self.old }
         requires irp { irp.0 < words.now.size.irps }
@@ -105,26 +106,26 @@ impl QueueSeat {
         ensures told { IsTold self.new.queue (joined_record self.new) }
         ensures unmarked { 0 < result → has_marked (end_of self.old.queue.history).entries irp ≡ false }
     {
-        disarm_as::<Brand>(self, words, call, Kind::Disarm(irp), irp)
+        disarm_as::<Brand, A>(self, words, call, Kind::Disarm(irp), irp)
     }
 
     /// Notes a call that ends without an exchange: a refused insert, a removal that answers none, an
     /// IRP that its canceller takes out, a closed file, or a pass that is back, which ends the join.
-    pub fn note(&mut self, words: &Words, call: Call, note: Note)
+    pub fn note<A: Allocator>(&mut self, words: &Words<A>, call: Call, note: Note)
         requires words { self.old.table ≡ words.now.table }
         requires joined { IsJoined self.old }
         requires may { MayNote words.now.size.irps call note self.old.queue (joined_record self.old) }
         ensures noted { self.new ≡ with_view (after_note call note self.old.queue (joined_record self.old)) self.old }
         ensures told { IsToldAfter call self.new.queue (joined_record self.new) }
     {
-        note_as::<Brand>(self, words, call, note);
+        note_as::<Brand, A>(self, words, call, note);
     }
 }
 
 // Sets the routine of an IRP, as a step of the call that S names.
-fn arm_as<S: CallStep>(
+fn arm_as<S: CallStep, A: Allocator>(
     queue: &mut QueueSeat,
-    words: &Words,
+    words: &Words<A>,
     _call: Call,
     _kind: Kind,
     irp: IrpId,
@@ -145,9 +146,9 @@ fn arm_as<S: CallStep>(
 }
 
 // Tests a Cancel flag, as a step of the call that S names.
-fn test_as<S: CallStep>(
+fn test_as<S: CallStep, A: Allocator>(
     queue: &mut QueueSeat,
-    words: &Words,
+    words: &Words<A>,
     _call: Call,
     _kind: Kind,
     irp: IrpId,
@@ -168,9 +169,9 @@ fn test_as<S: CallStep>(
 }
 
 // Exchanges a routine for none, as a step of the call that S names.
-fn disarm_as<S: CallStep>(
+fn disarm_as<S: CallStep, A: Allocator>(
     queue: &mut QueueSeat,
-    words: &Words,
+    words: &Words<A>,
     _call: Call,
     _kind: Kind,
     irp: IrpId,
@@ -192,7 +193,12 @@ fn disarm_as<S: CallStep>(
 }
 
 // Notes the call that N names, by a load of the first word.
-fn note_as<N: CallNote>(queue: &mut QueueSeat, words: &Words, _call: Call, _note: Note)
+fn note_as<N: CallNote, A: Allocator>(
+    queue: &mut QueueSeat,
+    words: &Words<A>,
+    _call: Call,
+    _note: Note,
+)
     requires words { queue.old.table ≡ words.now.table }
     requires joined { IsJoined queue.old }
     requires may { MayNote words.now.size.irps N.call N.note queue.old.queue (joined_record queue.old) }

@@ -2,7 +2,6 @@
 
 use crate::views::{Bounds, View};
 use atomic_table::{Join, Play, Seat, Split, Table, TableRule};
-use std::alloc::Global;
 use std::marker::{Brand, PhantomData};
 
 /// There is a run with which the words and all records agree.
@@ -18,7 +17,7 @@ impl TableRule<(), View, Bounds> for OneRun {
     ghost first = { λ _. view_of (new_queue 0) None };
 }
 
-pub(crate) type WordTable = Table<(), View, Bounds, OneRun, Global>;
+pub(crate) type WordTable<A> = Table<(), View, Bounds, OneRun, A>;
 
 pub(crate) type WordSeat = Seat<(), View>;
 

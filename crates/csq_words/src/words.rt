@@ -14,7 +14,7 @@ use crate::rule::{Cut, WordTable};
 use crate::views::Bounds;
 use arrayvec::ArrayVec;
 use atomic_table::Table;
-use std::alloc::{AllocError, Global};
+use std::alloc::{AllocError, Allocator, Global};
 use std::marker::Model;
 
 const MAX_IRPS: u32 = 1024;
@@ -57,12 +57,12 @@ impl From<AllocError> for WordsNew {
 /// The words of some IRPs, which some passes share: a Cancel flag, a cancel routine and a status of
 /// each IRP. A contract sees which table it is, and the numbers of IRPs and passes.
 #[derive(Drop)]
-pub struct Words {
-    pub(crate) table: WordTable,
+pub struct Words<A: Allocator = Global> {
+    pub(crate) table: WordTable<A>,
     pub(crate) irps: u32,
 }
 
-impl Model for Words {
+impl<A: Allocator> Model for Words<A> {
     ghost use Rattle.std.specs.Prelude.{◌≡◌, ◌<◌, ◌*◌};
     ghost use Rattle.csq_words.specs.Rule.{size_of};
     ghost use Rattle.csq_words.specs.Seats.{WordsState};
@@ -74,16 +74,18 @@ impl Model for Words {
     ghost invariant = { λ w. (w.table.shared.table_id.words ≡ 3 * w.irps) × (w.table.shared.key.irps ≡ w.irps) × (0 < w.irps) × (w.table.shared.table_id.slots ≡ 0) };
 }
 
-impl Words {
+impl<A: Allocator> Words<A> {
     /// The words of so many IRPs, the queue's seat, and the seats of the passes 1, 2, and so on: no
     /// IRP is flagged, armed or completed, and no call was made. `BadSize` comes exactly where the
     /// IRPs aren't 1 to 1,024 or the passes aren't 1 to 64; `Memory` where an allocation was refused.
-    /// All memory is taken here.
+    /// All memory is taken here, from `alloc`.
     pub fn new(
-        alloc: Global,
+        alloc: A,
         irps: u32,
         passes: u32,
-    ) -> Result<(Words, QueueSeat, PassSeats), WordsNew>
+    ) -> Result<(Words<A>, QueueSeat, PassSeats), WordsNew>
+    where
+        A: Clone,
         ensures size { IfOk result (λ w. w.0.size ≡ record { irps = irps; passes = passes }) }
         ensures queue { IfOk result (λ w. w.1 ≡ record { table = w.0.table; queue = new_queue passes; joined = None }) }
         ensures seats { IfOk result (λ w. w.2 ≡ new_seats w.0.table 1 passes) }
@@ -96,7 +98,7 @@ impl Words {
             irps: u64::from(irps),
             passes: u64::from(passes),
         };
-        let zeros = vec![in alloc; 0u64; 3 * irps as usize]?;
+        let zeros = vec![in alloc.clone()?; 0u64; 3 * irps as usize]?;
         let (table, seat) = Table::of_words(alloc, zeros.as_slice(), &bounds)?;
         let words = Words { table, irps };
         let mut queue = QueueSeat { seat };
@@ -106,7 +108,7 @@ impl Words {
 
     /// Ends the queue, once the seat records every pass as back, and tells the words. They are those
     /// of a run at rest, with which the end of the history agrees.
-    pub fn close(self, queue: QueueSeat) -> Finals
+    pub fn close(self, queue: QueueSeat) -> Finals<A>
         requires words { queue.table ≡ self.table }
         requires alone { queue.joined ≡ None }
         requires back { AllBack queue.queue }

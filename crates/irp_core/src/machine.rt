@@ -10,7 +10,7 @@ ghost use Rattle.irp_core.specs.Refusals.{IsFirstCause};
 use crate::ids::IrpId;
 use crate::step::{IrpPlace, Step, StepRefused};
 use crate::tables::Tables;
-use std::alloc::{AllocError, Global};
+use std::alloc::{AllocError, Allocator, Global};
 use std::marker::Model;
 
 /// Replays the steps of passes over a pool of IRPs, one after the other, and refuses each step that may
@@ -18,11 +18,11 @@ use std::marker::Model;
 /// with. `step`, `place` and `cancelled` take constant time, `at_rest` time in proportion to the IRPs and
 /// passes; none of them takes memory.
 #[derive(Debug, Drop)]
-pub struct Machine {
-    tables: Tables,
+pub struct Machine<A: Allocator = Global> {
+    tables: Tables<A>,
 }
 
-impl Model for Machine {
+impl<A: Allocator> Model for Machine<A> {
     ghost use Rattle.irp_core.specs.MachineState.{MachineState, IsReached};
 
     ghost Value = { MachineState };
@@ -72,11 +72,13 @@ impl From<AllocError> for MachineNew {
     }
 }
 
-impl Machine {
+impl<A: Allocator> Machine<A> {
     /// A machine of so many IRPs and passes, with which no step was made. `BadSize` comes exactly where
     /// the IRPs aren't 1 to 1,024 or the passes aren't 1 to 64; `Memory` where an allocation was refused.
-    /// All memory is taken here.
-    pub fn new(alloc: Global, irps: u32, passes: u32) -> Result<Machine, MachineNew>
+    /// All memory is taken here, from `alloc`.
+    pub fn new(alloc: A, irps: u32, passes: u32) -> Result<Machine<A>, MachineNew>
+    where
+        A: Clone,
         ensures agrees { IfOk result (λ m. Agrees m []) }
         ensures size { IfOk result (λ m. size_of m ≡ record { irps = irps; passes = passes }) }
         ensures bad_size { (result ≡ Err MachineNew.BadSize) ↔ ¬ IsInLimits (record { irps = irps; passes = passes }) }

@@ -8,24 +8,26 @@ ghost use Rattle.irp_core.specs.Standings.{place_of, is_free};
 
 use crate::ids::{IrpId, PassId};
 use crate::step::{Inside, IrpPlace, Kind, Standing, Step, StepRefused};
-use std::alloc::{AllocError, Global};
+use std::alloc::{AllocError, Allocator};
 
 /// What a machine keeps of each IRP and of each pass.
 #[derive(Debug, Drop)]
-pub(crate) struct Tables {
-    flags: Vec<bool>,
-    standings: Vec<Standing>,
-    insides: Vec<Inside>,
+pub(crate) struct Tables<A: Allocator> {
+    flags: Vec<bool, A>,
+    standings: Vec<Standing, A>,
+    insides: Vec<Inside, A>,
     lock: Option<PassId>,
 }
 
-impl Tables {
-    pub(crate) fn new(alloc: Global, irps: usize, passes: usize) -> Result<Tables, AllocError>
+impl<A: Allocator> Tables<A> {
+    pub(crate) fn new(alloc: A, irps: usize, passes: usize) -> Result<Tables<A>, AllocError>
+    where
+        A: Clone,
         ensures { IfOk result (λ t. state_of t ≡ new_state irps passes) }
     {
         Ok(Tables {
-            flags: vec![in alloc; false; irps]?,
-            standings: vec![in alloc; Standing::Home; irps]?,
+            flags: vec![in alloc.clone()?; false; irps]?,
+            standings: vec![in alloc.clone()?; Standing::Home; irps]?,
             insides: vec![in alloc; Inside::Nothing; passes]?,
             lock: None,
         })

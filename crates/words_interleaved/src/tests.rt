@@ -14,6 +14,9 @@ use std::process::Abort;
 use std::test::Fail;
 use std::thread::join;
 
+mod notes;
+mod removals;
+
 const ZERO: IrpId = IrpId(0);
 
 const INSERT: Call = Call::Insert(ZERO, FileId(0), Place::Back);

@@ -7,7 +7,7 @@ use Rattle.csq_words.proofs.Indexes.{read_at}
 use Rattle.csq_words.proofs.finals.Finals.cancelled.Goals as goal
 
 pub returns-then-irp-self : goal.returns-then-irp-self
-returns-then-irp-self c =
+returns-then-irp-self g c =
     let s = c.args.self.now in
     let words = ap (λ (f : FinalWords). f.words) c.self.view_is in
     let inside = subst (λ n. c.args.irp.0 < n) (ap (λ (f : FinalWords). f.irps) c.self.view_is) c.if-irp-self.true in

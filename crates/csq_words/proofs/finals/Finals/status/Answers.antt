@@ -7,7 +7,7 @@ use Rattle.csq_words.proofs.Indexes.{read_at}
 use Rattle.csq_words.proofs.finals.Finals.status.Goals as goal
 
 pub returns : goal.returns
-returns c =
+returns g c =
     let s = c.args.self.now in
     let words = ap (λ (f : FinalWords). f.words) c.self.view_is in
     let inside = subst (λ n. c.args.irp.0 < n) (ap (λ (f : FinalWords). f.irps) c.self.view_is) c.if-irp-self.false in

@@ -5,7 +5,7 @@ use Rattle.csq_words.proofs.Values.{joined}
 use Rattle.csq_words.proofs.queue_seat.QueueSeat.leave.Goals as goal
 
 pub split_seat-requires : goal.split_seat-requires
-split_seat-requires c =
+split_seat-requires g c =
     let words = c.words.inside in
     let queue = joined c.self.inside.seat c.args.self.now c.self.view_is c.self.invariant c.requires.joined in (
       ap (λ z. z.table) c.self.view_is ∙ (c.requires.words ∙ sym (ap (λ w. w.table) c.words.view_is)),

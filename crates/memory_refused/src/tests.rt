@@ -1,0 +1,62 @@
+//! On heaps of growing size: each that is too small is told and keeps no memory, and on the first that is
+//! large enough all memory is taken at once.
+use csq_words::{Words, WordsNew};
+use irp_core::{IrpId, Kind, Machine, MachineNew, PassId, Step};
+use linked_list_allocator::LocalHeap;
+use std::test::Fail;
+
+const IRPS: u32 = 64;
+
+const PASSES: u32 = 16;
+
+#[test]
+fn a_machine_is_refused_for_want_of_memory(rt: HostRuntime) -> Result<(), Fail> {
+    let mut refused = false;
+    for blocks in 1..256 {
+        let heap = LocalHeap::new(rt.alloc(), 16 * blocks)?;
+        match Machine::new(&heap, IRPS, PASSES) {
+            Err(cause) => {
+                assert_eq!(rt; cause, MachineNew::Memory);
+                assert_eq!(rt; heap.used(), 0);
+                refused = true;
+            }
+            Ok(mut machine) => {
+                assert!(rt; refused, "no heap was too small");
+                assert_eq!(rt; heap.free(), 0);
+                let arm = Step {
+                    pass: PassId(1),
+                    kind: Kind::Arm(IrpId(IRPS - 1)),
+                };
+                assert_eq!(rt; machine.step(arm), Ok(0));
+                assert!(rt; !machine.at_rest());
+                return Ok(());
+            }
+        }
+    }
+    Err(Fail::from("no heap was large enough"))
+}
+
+#[test]
+fn words_are_refused_for_want_of_memory(rt: HostRuntime) -> Result<(), Fail> {
+    let mut refused = false;
+    for blocks in 1..256 {
+        let heap = LocalHeap::new(rt.alloc(), 16 * blocks)?;
+        match Words::new(&heap, IRPS, PASSES) {
+            Err(cause) => {
+                assert_eq!(rt; cause, WordsNew::Memory);
+                assert_eq!(rt; heap.used(), 0);
+                refused = true;
+            }
+            Ok((words, _queue, mut seats)) => {
+                assert!(rt; refused, "no heap was too small");
+                let used = heap.used();
+                let mut pass = seats.take().ok_or("a pass")?;
+                assert_eq!(rt; pass.flag(&words, IrpId(IRPS - 1)), 0);
+                assert_eq!(rt; pass.take(&words, IrpId(IRPS - 1)), 0);
+                assert_eq!(rt; heap.used(), used);
+                return Ok(());
+            }
+        }
+    }
+    Err(Fail::from("no heap was large enough"))
+}
