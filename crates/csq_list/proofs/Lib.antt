@@ -1,3 +1,11 @@
 pub mod Finding
 pub mod Keeping
 pub mod VecKeeping
+pub mod Slots
+pub mod Reading
+pub mod Relinking
+pub mod Chaining
+pub mod Filing
+pub mod ChainKeeping
+pub mod ChainParts
+pub mod Peeking

@@ -7,6 +7,7 @@ ghost use Rattle.csq_list.specs.VecParts.{listing_of};
 ghost use Rattle.csq_list.specs.Listing.{IsListSize};
 
 use crate::entry::{Entry, Peek, Place};
+use crate::flags::are_clear;
 use crate::pending::PendingList;
 use crate::refusals::{InsertStatus, ListNew, UnknownFile};
 use crate::size::is_list_size;
@@ -124,13 +125,6 @@ impl<A: Allocator> PendingList for VecList<A> {
         self.closed[file.0 as usize] = true;
         Ok(())
     }
-}
-
-// Whether no flag is set.
-fn are_clear(flags: &[bool]) -> bool
-    ensures { result ≡ list_all not flags.now }
-{
-    flags.iter().all(|flag| !*flag)
 }
 
 fn has_irp(entries: &[Entry], irp: IrpId) -> bool

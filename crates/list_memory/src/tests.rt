@@ -1,5 +1,5 @@
 //! A list takes all its memory when it is made.
-use csq_list::{InsertStatus, ListNew, Peek, PendingList, Place, VecList};
+use csq_list::{ChainList, InsertStatus, ListNew, Peek, PendingList, Place, VecList};
 use irp_core::{FileId, IrpId};
 use linked_list_allocator::LocalHeap;
 use std::process::Abort;
@@ -41,6 +41,23 @@ fn a_vec_list_takes_no_memory_later(rt: HostRuntime) -> Result<(), Fail> {
     for blocks in 1..64 {
         let heap = LocalHeap::new(rt.alloc(), 16 * blocks)?;
         match VecList::new(&heap, IRPS, FILES, IRPS) {
+            Err(refused) => assert_eq!(rt; refused, ListNew::Memory),
+            Ok(mut list) => {
+                assert_eq!(rt; heap.free(), 0);
+                fill_and_empty(&rt, &mut list);
+                assert_eq!(rt; heap.free(), 0);
+                return Ok(());
+            }
+        }
+    }
+    Err(Fail::from("no heap was large enough"))
+}
+
+#[test]
+fn a_chain_list_takes_no_memory_later(rt: HostRuntime) -> Result<(), Fail> {
+    for blocks in 1..512 {
+        let heap = LocalHeap::new(rt.alloc(), 16 * blocks)?;
+        match ChainList::new(&heap, IRPS, FILES, IRPS) {
             Err(refused) => assert_eq!(rt; refused, ListNew::Memory),
             Ok(mut list) => {
                 assert_eq!(rt; heap.free(), 0);

@@ -1,0 +1,165 @@
+//! A list in one vector and a list in chains give the same answers.
+ghost use Rattle.csq_list.specs.Searches.{IsPlaceIn};
+
+use csq_list::{ChainList, Peek, PendingList, Place, VecList};
+use irp_core::{FileId, IrpId};
+use rand_core::Rng;
+use rand_pcg::Pcg32;
+use std::process::Abort;
+use std::test::Fail;
+
+// A call of a list, with known names and unknown ones.
+#[derive(Clone, Copy, Debug)]
+enum Call {
+    Insert(IrpId, FileId, Place),
+    Remove(IrpId),
+    Close(FileId),
+}
+
+// The numbers of IRPs and files, and the limit, of the lists that every sequence of calls is tried on.
+const IRPS: u32 = 3;
+
+const FILES: u32 = 2;
+
+const LIMIT: u32 = 2;
+
+impl Call {
+    const COUNT: u32 = 20;
+
+    // One of the calls of a small list.
+    fn numbered(number: u32) -> Call {
+        let irp = IrpId(number % IRPS);
+        let file = FileId(number % FILES);
+        match number {
+            0..6 => Call::Insert(irp, file, Place::Back),
+            6..12 => Call::Insert(irp, file, Place::Front),
+            12 => Call::Insert(IrpId(IRPS), file, Place::Back),
+            13 => Call::Insert(irp, FileId(FILES), Place::Front),
+            14..17 => Call::Remove(irp),
+            17..19 => Call::Close(file),
+            _ => Call::Close(FileId(FILES)),
+        }
+    }
+
+    // A call of a list of many IRPs: more inserts than removals, and few closings.
+    fn drawn<R: Rng>(rng: &mut R) -> Call {
+        let irp = IrpId(rng.next_u32() % (MANY_IRPS + 1));
+        let file = FileId(rng.next_u32() % (MANY_FILES + 1));
+        match rng.next_u32() % 512 {
+            0 => Call::Close(file),
+            1..160 => Call::Insert(irp, file, Place::Back),
+            160..320 => Call::Insert(irp, file, Place::Front),
+            _ => Call::Remove(irp),
+        }
+    }
+}
+
+// Makes one call at both lists.
+fn follow<L: PendingList, M: PendingList>(rt: &impl Abort, one: &mut L, other: &mut M, call: Call) {
+    match call {
+        Call::Insert(irp, file, place) => {
+            assert_eq!(rt;
+                one.insert_ex(irp, file, place),
+                other.insert_ex(irp, file, place)
+            );
+        }
+        Call::Remove(irp) => {
+            assert_eq!(rt; one.is_listed(irp), other.is_listed(irp));
+            if one.is_listed(irp) && other.is_listed(irp) {
+                one.remove(irp);
+                other.remove(irp);
+            }
+        }
+        Call::Close(file) => assert_eq!(rt; one.close_file(file), other.close_file(file)),
+    }
+    assert_eq!(rt; one.len(), other.len());
+    compare_from(rt, one, other, None);
+}
+
+// Compares what is found after a place.
+fn compare_from<L: PendingList, M: PendingList>(
+    rt: &impl Abort,
+    one: &L,
+    other: &M,
+    after: Option<IrpId>,
+)
+    requires one { IsPlaceIn (L.listing one.now).entries after }
+    requires other { IsPlaceIn (M.listing other.now).entries after }
+{
+    assert_eq!(rt;
+        one.peek_next(after, Peek::Any),
+        other.peek_next(after, Peek::Any)
+    );
+    for file in 0..=one.files() {
+        let peek = Peek::File(FileId(file));
+        assert_eq!(rt; one.peek_next(after, peek), other.peek_next(after, peek));
+    }
+}
+
+// Compares all that can be asked.
+fn compare<L: PendingList, M: PendingList>(rt: &impl Abort, one: &L, other: &M) {
+    assert_eq!(rt;
+        (one.irps(), one.files(), one.limit()),
+        (other.irps(), other.files(), other.limit())
+    );
+    assert_eq!(rt; one.is_fresh(), other.is_fresh());
+    for number in 0..=one.irps() {
+        let irp = IrpId(number);
+        assert_eq!(rt; one.is_home(irp), other.is_home(irp));
+        assert_eq!(rt; one.is_listed(irp), other.is_listed(irp));
+        if one.is_listed(irp) && other.is_listed(irp) {
+            compare_from(rt, one, other, Some(irp));
+        }
+    }
+}
+
+// How many calls are tried one after another, in each of their sequences.
+const CALLS: u32 = 4;
+
+#[test]
+fn every_short_sequence(rt: HostRuntime) -> Result<(), Fail> {
+    for sequence in 0..Call::COUNT.pow(CALLS) {
+        let mut one = VecList::new(rt.alloc(), IRPS, FILES, LIMIT)?;
+        let mut other = ChainList::new(rt.alloc(), IRPS, FILES, LIMIT)?;
+        let mut left = sequence;
+        for _ in 0..CALLS {
+            follow(
+                &rt,
+                &mut one,
+                &mut other,
+                Call::numbered(left % Call::COUNT),
+            );
+            left /= Call::COUNT;
+        }
+        compare(&rt, &one, &other);
+    }
+    Ok(())
+}
+
+// The numbers of IRPs and files, and the limit, of the lists that long sequences are tried on.
+const MANY_IRPS: u32 = 256;
+
+const MANY_FILES: u32 = 8;
+
+const HIGH_LIMIT: u32 = 96;
+
+const MANY_CALLS: u32 = 2048;
+
+const SEED: u64 = 0x5eed_0f11_57c0_9a1e;
+
+#[test]
+fn long_sequences(rt: HostRuntime) -> Result<(), Fail> {
+    for stream in 0..16 {
+        let mut rng = Pcg32::new(SEED, stream);
+        let mut one = VecList::new(rt.alloc(), MANY_IRPS, MANY_FILES, HIGH_LIMIT)?;
+        let mut other = ChainList::new(rt.alloc(), MANY_IRPS, MANY_FILES, HIGH_LIMIT)?;
+        for turn in 0..MANY_CALLS {
+            follow(&rt, &mut one, &mut other, Call::drawn(&mut rng));
+            if turn % 64 == 0 {
+                compare(&rt, &one, &other);
+            }
+        }
+        compare(&rt, &one, &other);
+    }
+    Ok(())
+}
