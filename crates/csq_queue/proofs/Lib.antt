@@ -1,0 +1,16 @@
+pub mod Lists
+pub mod Counting
+pub mod Newness
+pub mod Inserting
+pub mod Leaving
+pub mod Marking
+pub mod Searching
+pub mod Removing
+pub mod Ones
+pub mod Owning
+pub mod Spending
+pub mod Passing
+pub mod Cleaning
+pub mod Beginning
+pub mod Backing
+pub mod Leftovers

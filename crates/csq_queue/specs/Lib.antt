@@ -1,0 +1,10 @@
+pub mod Counts
+pub mod Named
+pub mod Told
+pub mod Adding
+pub mod Inserts
+pub mod Searches
+pub mod Owned
+pub mod Blanks
+pub mod Cleanups
+pub mod Rests

@@ -1,0 +1,177 @@
+//! Fills a cancel-safe queue and completes what was inserted, turn after turn: what `bench/queue` times.
+#![tactic(auto)]
+
+ghost use Rattle.std.specs.Prelude.{◌≡◌};
+
+use anyhow::{Context, Result, bail};
+use csq_list::{Peek, PendingList, Place, VecList};
+use csq_queue::{Blank, Csq, Inserted, Pass, QueueName};
+use irp_core::{FileId, FinalStatus, IrpId, NtStatus};
+use std::env;
+use std::marker::Brand;
+use std::rt::{Clock, Env};
+use std::sync::Wait;
+use std::thread::{Threads, join};
+use std::time::Instant;
+
+const IRPS: u32 = 1024;
+
+// What ends an inserted IRP.
+#[derive(Clone, Copy, Debug, PartialEq, Eq)]
+enum End {
+    // It is removed and completed.
+    Remove,
+    // It is cancelled.
+    Cancel,
+}
+
+// What the turns did: how many IRPs were completed, how many weren't, and the time it took.
+#[derive(Clone, Copy, Debug, Default)]
+struct Totals {
+    completed: u32,
+    left: u32,
+    nanoseconds: u64,
+}
+
+// Inserts an IRP at the back.
+fn insert<L: PendingList + Drop, N: QueueName, R: Wait>(
+    rt: &R,
+    queue: &Csq<L, N>,
+    pass: &mut Pass<N>,
+    irp: IrpId,
+) {
+    match queue.insert(rt, pass, irp, FileId(0), Place::Back) {
+        Ok(Inserted::Pending(_)) => {}
+        Ok(Inserted::Cancelled(token)) => queue.complete_cancelled(pass, token),
+        Err(_) => {}
+    }
+}
+
+// Removes an IRP and completes it. Answers how many that were.
+fn remove<L: PendingList + Drop, N: QueueName, R: Wait>(
+    rt: &R,
+    queue: &Csq<L, N>,
+    pass: &mut Pass<N>,
+    success: FinalStatus,
+) -> u32 {
+    match queue.remove_next(rt, pass, Peek::Any) {
+        None => 0,
+        Some(token) => {
+            queue.complete(pass, token, success);
+            1
+        }
+    }
+}
+
+// One thread's share of a turn: each IRP from the first on, this many apart, is inserted and ended.
+fn share<L: PendingList + Drop, N: QueueName, R: Wait>(
+    rt: &R,
+    queue: &Csq<L, N>,
+    pass: &mut Pass<N>,
+    end: End,
+    success: FinalStatus,
+    first: u32,
+    threads: u32,
+) -> u32 {
+    let mut completed = 0u32;
+    for number in first..IRPS {
+        if number & threads.wrapping_sub(1) != first {
+            continue;
+        }
+        insert(rt, queue, pass, IrpId(number));
+        completed = completed.wrapping_add(match end {
+            End::Remove => remove(rt, queue, pass, success),
+            End::Cancel => u32::from(queue.cancel(rt, pass, IrpId(number)) == Ok(true)),
+        });
+    }
+    completed
+}
+
+// One turn of one thread, or of four.
+fn turn<N: QueueName + Send + Sync, R: Clock + Threads + Wait + Sync>(
+    rt: &R,
+    blank: Blank<VecList>,
+    end: End,
+    success: FinalStatus,
+    threads: u32,
+) -> Result<Totals>
+    requires { blank ≡ record { table = N.table; limits = N.limits; passes = N.passes } }
+{
+    let (queue, mut rack) = blank.into_queue::<N>();
+    let mut one = rack.take().context("a pass")?;
+    let mut two = rack.take().context("a pass")?;
+    let mut three = rack.take().context("a pass")?;
+    let mut four = rack.take().context("a pass")?;
+    let start = Instant::now(rt)?;
+    let completed = if threads == 1 {
+        share(rt, &queue, &mut one, end, success, 0, 1)
+    } else {
+        let ((a, b), (c, d)) = join(
+            rt,
+            || {
+                join(
+                    rt,
+                    || share(rt, &queue, &mut one, end, success, 0, 4),
+                    || share(rt, &queue, &mut two, end, success, 1, 4),
+                )
+            },
+            || {
+                join(
+                    rt,
+                    || share(rt, &queue, &mut three, end, success, 2, 4),
+                    || share(rt, &queue, &mut four, end, success, 3, 4),
+                )
+            },
+        );
+        a.wrapping_add(b).wrapping_add(c).wrapping_add(d)
+    };
+    let nanoseconds = u64::try_from(start.elapsed(rt)?.as_nanos()).unwrap_or(u64::MAX);
+    Ok(Totals {
+        completed,
+        left: IRPS.wrapping_sub(completed),
+        nanoseconds,
+    })
+}
+
+fn run<R: Clock + Threads + Wait + AllocGlobal + Sync>(
+    rt: &R,
+    end: End,
+    threads: u32,
+    turns: u32,
+) -> Result<Totals> {
+    let success = FinalStatus::new(NtStatus::SUCCESS).context("a final status")?;
+    let mut totals = Totals::default();
+    for _ in 0..turns {
+        let Ok(list) = VecList::new(rt.alloc(), IRPS, 1, IRPS) else {
+            bail!("out of memory");
+        };
+        let Ok(blank) = Blank::new(rt.alloc(), list, IRPS, 4) else {
+            bail!("out of memory");
+        };
+        let done = turn::<Brand, _>(rt, blank, end, success, threads)?;
+        totals = Totals {
+            completed: totals.completed.saturating_add(done.completed),
+            left: totals.left.saturating_add(done.left),
+            nanoseconds: totals.nanoseconds.saturating_add(done.nanoseconds),
+        };
+    }
+    Ok(totals)
+}
+
+const USAGE: &str = "usage: queue_turns remove|cancel 1|4 TURNS";
+
+fn main(rt: HostRuntime) -> Result<()> {
+    let mut args = env::args(&rt)?.skip(1);
+    let kind = args.next().context(USAGE)?;
+    let end = match kind.as_str() {
+        "remove" => End::Remove,
+        "cancel" => End::Cancel,
+        _ => bail!(USAGE),
+    };
+    let threads = args.next().context(USAGE)?.as_str().parse::<u32>()?;
+    let turns = args.next().context(USAGE)?.as_str().parse::<u32>()?;
+    let totals = run(&rt, end, threads, turns)?;
+    println!(rt; "completed {}, left {}", totals.completed, totals.left)?;
+    eprintln!(rt; "{} ns", totals.nanoseconds)?;
+    Ok(())
+}
