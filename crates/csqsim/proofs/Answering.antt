@@ -17,7 +17,7 @@ abbrev pub Completes : Size → Bool → List (List ℕ) → List Numbered → �
 Completes size claims whole W n left added =
     (more : List ℕ) (ended : Ended) → AnswersLines size claims W n left more ended → AnswersLines size claims [] 1 whole (added ++ more) ended
 
-module _ (size : Size) (claims : Bool) (whole : List (List ℕ)) (W : List Numbered) (n : ℕ) (line : List ℕ) (left : List (List ℕ)) (added text : List ℕ) (replay : Replay) where
+module _ (size : Size) (claims : Bool) (whole : List (List ℕ)) (W : List Numbered) (n : ℕ) (line : List ℕ) (left : List (List ℕ)) (added text : List ℕ) {A : Type 0} (replay : Replay A) where
   stops_here : Completes size claims whole W n (line ∷ left) added → (more : Option (List Numbered)) → AnswersLine size W n line text more
       → LeavesReplay Stops replay more → AnswersLines size claims [] 1 whole (added ++ text) Stopped
   stops_here complete None h leaves = complete text Stopped (stops W n line left text h)
@@ -37,7 +37,7 @@ module _ (size : Size) (claims : Bool) (whole : List (List ℕ)) (W : List Numbe
 -- the same, where the code tells the line, the size and how the handling goes on
 module _ (size now : Size) (same : now ≡ size) (claims : Bool) (whole : List (List ℕ)) (W : List Numbered) (n : ℕ) (lines : List (List ℕ)) (line : List ℕ) (left : List (List ℕ))
     (cut : lines ≡ line ∷ left) (added : List ℕ) (complete : Completes size claims whole W n lines added) (text : List ℕ) (more : Option (List Numbered))
-    (answer : AnswersLine now W n line text more) (replay : Replay) (handling : Handling) (leaves : LeavesReplay handling replay more) where
+    (answer : AnswersLine now W n line text more) {A : Type 0} (replay : Replay A) (handling : Handling) (leaves : LeavesReplay handling replay more) where
   with_line : Completes size claims whole W n (line ∷ left) added
   with_line = let P : List (List ℕ) → Type 0 = λ ls. Completes size claims whole W n ls added in subst P cut complete
 

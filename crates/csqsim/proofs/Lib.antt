@@ -5,3 +5,15 @@ pub mod Answering
 pub mod Closings
 pub mod OneStep
 pub mod OneAnswer
+pub mod Going
+pub mod Listings
+pub mod Queueing
+pub mod Calling
+pub mod Removing
+pub mod Inserting
+pub mod Cleaning
+pub mod StatusWords
+pub mod CallWords
+pub mod LastLines
+pub mod ScriptLines
+pub mod Accounting

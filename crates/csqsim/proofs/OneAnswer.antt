@@ -77,7 +77,7 @@ places E i (place.HeldBy p) e = e
 places E i (place.Completed status p) e = e
 
 -- an IRP is in one place
-one_place : (size : Size) (E : List Made) → IsRun size E → (i : Irp) (p q : IrpPlace) → IsPlace E i p → IsPlace E i q → p ≡ q
+pub one_place : (size : Size) (E : List Made) → IsRun size E → (i : Irp) (p q : IrpPlace) → IsPlace E i p → IsPlace E i q → p ≡ q
 one_place size E r i p q a b =
     let (s, h) = stands size E r i in
     let is = λ (x : IrpPlace) (e : IsPlace E i x). place_row _ _ _ _ _ s h.ever_is h.left_is h.holding_is h.done_is h.due x (places E i x e) in

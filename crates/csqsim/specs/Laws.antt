@@ -1,10 +1,27 @@
--- What holds of every schedule.
-use Rattle.std.specs.Prelude.{◌≡◌, ℕ, Bool, List}
+-- What holds of every schedule, and of every script.
+use Rattle.std.specs.Prelude.{◌≡◌, ◌⊎◌, ℕ, Bool, List, Some, IsTrue}
 use Rattle.irp_core.specs.Runs.{Size}
 use Rattle.csqsim.specs.declared.answer.Ended.{Ended}
 use Rattle.csqsim.specs.Schedule.{IsScheduleAnswer}
+use Rattle.irp_core.specs.declared.status.NtStatus.{NtStatus}
+use Rattle.irp_core.specs.Steps.{Irp}
+use Rattle.irp_core.specs.Owners.{holds}
+use Rattle.csq_words.specs.Queue.{Limits, has_irp, has_entry}
+use Rattle.csqsim.specs.declared.call.Call.{Call}
+use Rattle.csqsim.specs.declared.call.Reply.{Reply}
+use Rattle.csqsim.specs.Calls.{Script, script_pass, new_script, status_of, Does}
 
 -- two answers to one schedule are the same
 abbrev pub HasOneAnswer : Size → Bool → List ℕ → Type 0
 HasOneAnswer size claims input = (text other : List ℕ) (ended otherwise : Ended)
     → IsScheduleAnswer size claims input text ended → IsScheduleAnswer size claims input other otherwise → (text ≡ other) × (ended ≡ otherwise)
+
+-- a script that calls lead to, one after the other
+pub data IsReached (l : Limits) : Script → Type 0 where
+  at_first : IsReached l new_script
+  by_call : (s t : Script) (c : Call) (r : Reply) → IsReached l s → Does l s c r t → IsReached l t
+
+-- each IRP that an insert accepted is listed, held, or completed with a status that is told
+abbrev pub EachInsertedIrpIsAccountedFor : Limits → Type 0
+EachInsertedIrpIsAccountedFor l = (s : Script) → IsReached l s → (i : Irp) → IsTrue (has_irp s.queue.used i)
+    → IsTrue (has_entry s.queue.entries i) ⊎ (IsTrue (holds s.run script_pass i) ⊎ ((status : NtStatus) × (status_of s.completed i ≡ Some status)))

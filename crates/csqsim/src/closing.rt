@@ -6,7 +6,7 @@ ghost use Rattle.csqsim.specs.Schedule.{is_silent, IsIrpLine, AreIrpLines, IsRes
 ghost use Rattle.csqsim.specs.Replays.{GrewBy};
 
 use irp_core::{IrpId, IrpPlace, Machine};
-use std::alloc::AllocError;
+use std::alloc::{AllocError, Allocator};
 
 /// Whether an IRP isn't told of: one that is home, and not cancelled.
 fn is_silent(place: IrpPlace, cancelled: bool) -> bool
@@ -16,7 +16,11 @@ fn is_silent(place: IrpPlace, cancelled: bool) -> bool
 }
 
 /// The line of an IRP.
-fn close_irp(machine: &Machine, irp: IrpId, text: &mut String) -> Result<(), AllocError>
+fn close_irp<A: Allocator>(
+    machine: &Machine<A>,
+    irp: IrpId,
+    text: &mut String<A>,
+) -> Result<(), AllocError>
     requires { irp.0 < (size_of machine.now).irps }
     ensures { OnOk result ((added : List ℕ) × GrewBy (string_bytes text.old) (string_bytes text.new) added
         × ((E : List Made) → Agrees machine.now E → IsIrpLine E irp added)) }
@@ -32,7 +36,10 @@ fn close_irp(machine: &Machine, irp: IrpId, text: &mut String) -> Result<(), All
 }
 
 /// The lines of all IRPs, by rising number.
-pub(crate) fn close_irps(machine: &Machine, text: &mut String) -> Result<(), AllocError>
+pub(crate) fn close_irps<A: Allocator>(
+    machine: &Machine<A>,
+    text: &mut String<A>,
+) -> Result<(), AllocError>
     ensures { OnOk result ((added : List ℕ) × GrewBy (string_bytes text.old) (string_bytes text.new) added
         × ((E : List Made) → Agrees machine.now E → AreIrpLines E (size_of machine.now).irps added)) }
 {
@@ -43,7 +50,10 @@ pub(crate) fn close_irps(machine: &Machine, text: &mut String) -> Result<(), All
 }
 
 /// Whether the run is at rest.
-pub(crate) fn close_rest(machine: &Machine, text: &mut String) -> Result<(), AllocError>
+pub(crate) fn close_rest<A: Allocator>(
+    machine: &Machine<A>,
+    text: &mut String<A>,
+) -> Result<(), AllocError>
     ensures { OnOk result ((added : List ℕ) × GrewBy (string_bytes text.old) (string_bytes text.new) added
         × ((E : List Made) → Agrees machine.now E → IsRestLine E added)) }
 {

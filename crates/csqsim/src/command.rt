@@ -1,5 +1,5 @@
 //! The command line.
-ghost use Rattle.std.specs.Prelude.{◌≡◌, ◌≤◌, IfOk};
+ghost use Rattle.std.specs.Prelude.{◌≡◌, ◌≤◌, IfOk, IfSome};
 ghost use Rattle.csqsim.specs.Jobs.{IsInRange, number_of};
 
 use clap::error::ErrorKind;
@@ -16,6 +16,14 @@ pub enum Job {
         irps: u32,
         passes: u32,
         claims: bool,
+    },
+    /// To make the calls of a script over this many IRPs and file objects, of which `limit` IRPs may
+    /// be listed at a time: all, where none is given. The list is in one vector, or in chains.
+    Script {
+        irps: u32,
+        files: u32,
+        limit: Option<u32>,
+        chain: bool,
     },
 }
 
@@ -58,7 +66,7 @@ impl From<clap::Error> for CommandFault {
     }
 }
 
-const ABOUT: &str = "Replays the steps of a cancel-safe IRP queue";
+const ABOUT: &str = "Replays the steps and the calls of a cancel-safe IRP queue";
 
 const SCHEDULE_ABOUT: &str = "Replays a schedule from standard input, one step a line";
 
@@ -78,41 +86,79 @@ or is cancelled, and whether all passes are at rest.
 Example:
   printf 'p1 arm 0\\np1 test 0\\np2 flag 0\\np2 take 0\\n' | csqsim schedule";
 
-/// An option that takes a number in a range.
-fn number_option<'a>(
-    alloc: Global,
-    name: &'a str,
-    help: &'a str,
-    most: i64,
-    default: &'a str,
-) -> Arg<'a> {
+const SCRIPT_ABOUT: &str = "Makes the calls of a script from standard input, one call a line";
+
+const SCRIPT_HELP: &str = "\
+A line is a call of one pass, which keeps the IRPs that it takes out and the claims of its cancels:
+  insert 0 1 back      inserts IRP 0 for file object 1 at the back, or at the front
+  next *               removes the next IRP of any file object, or of one
+  remove 0             removes IRP 0
+  mark 0               sets the Cancel flag of IRP 0 and takes its cancel routine
+  routine 0            runs the cancel routine of IRP 0, which was claimed by a mark, and completes it
+  cancel 0             cancels IRP 0
+  complete 0 00000000  completes IRP 0, which was removed, with a status
+  close 1              closes file object 1 to inserts
+  cleanup 1            closes it, and completes what is queued for it as cancelled
+  flag 0               tells the Cancel flag of IRP 0
+  status 0             tells the status of IRP 0
+Empty lines, and lines that begin with #, are skipped. In the end the listed IRPs are told, and those
+that are held and owed.
+
+Example:
+  printf 'insert 0 0 back\\nmark 0\\nroutine 0\\n' | csqsim script";
+
+/// An option that takes a number from 1 to a limit.
+fn number_option<'a>(alloc: Global, name: &'a str, help: &'a str, most: i64) -> Arg<'a> {
     Arg::new(alloc, name)
         .long(name)
         .value_name("N")
         .help(help)
         .value_parser(value_parser!(u32).range(1..=most))
-        .default_value(default)
 }
 
-/// The command line that the program takes.
-fn program<'a>(alloc: Global) -> Result<Command<'a>, AllocError> {
-    let irps = number_option(alloc, "irps", "IRPs, 1 to 1,024", 1024, "8");
-    let passes = number_option(alloc, "passes", "Passes, 1 to 64", 64, "4");
+/// The command line of a schedule.
+fn schedule_command<'a>(alloc: Global) -> Result<Command<'a>, AllocError> {
+    let irps = number_option(alloc, "irps", "IRPs, 1 to 1,024", 1024);
+    let passes = number_option(alloc, "passes", "Passes, 1 to 64", 64);
     let claims = Arg::new(alloc, "claims")
         .long("claims")
         .help("Tells each claim: the IRP, the line and the pass")
         .action(ArgAction::SetTrue);
-    let schedule = Command::new(alloc, "schedule")
+    Command::new(alloc, "schedule")
         .about(SCHEDULE_ABOUT)
         .after_help(SCHEDULE_HELP)
-        .arg(irps)?
-        .arg(passes)?
-        .arg(claims)?;
+        .arg(irps.default_value("8"))?
+        .arg(passes.default_value("4"))?
+        .arg(claims)
+}
+
+/// The command line of a script.
+fn script_command<'a>(alloc: Global) -> Result<Command<'a>, AllocError> {
+    let irps = number_option(alloc, "irps", "IRPs, 1 to 1,024", 1024);
+    let files = number_option(alloc, "files", "File objects, 1 to 256", 256);
+    let help = "IRPs that may be listed at a time, 1 to the IRPs [default: the IRPs]";
+    let limit = number_option(alloc, "limit", help, 1024);
+    let chain = Arg::new(alloc, "chain")
+        .long("chain")
+        .help("Keeps the list in linked chains; the answers are the same")
+        .action(ArgAction::SetTrue);
+    Command::new(alloc, "script")
+        .about(SCRIPT_ABOUT)
+        .after_help(SCRIPT_HELP)
+        .arg(irps.default_value("8"))?
+        .arg(files.default_value("4"))?
+        .arg(limit)?
+        .arg(chain)
+}
+
+/// The command line that the program takes.
+fn program<'a>(alloc: Global) -> Result<Command<'a>, AllocError> {
     Command::new(alloc, "csqsim")
         .about(ABOUT)
         .subcommand_required(true)
         .arg_required_else_help(true)
-        .subcommand(schedule)
+        .subcommand(schedule_command(alloc)?)?
+        .subcommand(script_command(alloc)?)
 }
 
 /// The number of an option, or the default where its text is no number from 1 to `most`.
@@ -128,6 +174,16 @@ fn number_in(options: &ArgMatches<'_>, name: &str, most: u32, default: u32) -> u
     }
 }
 
+/// The limit of the list, if one is given.
+fn limit_in(options: &ArgMatches<'_>) -> Option<u32>
+    ensures { IfSome result (λ limit. (1 ≤ limit) × (limit ≤ 1024)) }
+{
+    match options.get_one::<u32>("limit") {
+        Some(limit) if 1 <= limit && limit <= 1024 => Some(limit),
+        _ => None,
+    }
+}
+
 fn schedule_job(options: &ArgMatches<'_>) -> Job
     ensures { IsInRange result }
 {
@@ -135,6 +191,17 @@ fn schedule_job(options: &ArgMatches<'_>) -> Job
         irps: number_in(options, "irps", 1024, 8),
         passes: number_in(options, "passes", 64, 4),
         claims: options.get_flag("claims"),
+    }
+}
+
+fn script_job(options: &ArgMatches<'_>) -> Job
+    ensures { IsInRange result }
+{
+    Job::Script {
+        irps: number_in(options, "irps", 1024, 8),
+        files: number_in(options, "files", 256, 4),
+        limit: limit_in(options),
+        chain: options.get_flag("chain"),
     }
 }
 
@@ -147,6 +214,7 @@ pub fn read_command<S: AsStr>(alloc: Global, words: &[S]) -> Result<Job, Command
 {
     let matches = program(alloc)?.try_get_matches_from(words)?;
     match matches.subcommand() {
+        Some(("script", options)) => Ok(script_job(options)),
         Some((_, options)) => Ok(schedule_job(options)),
         None => {
             let refused = program(alloc)?.error(ErrorKind::MissingSubcommand, "no command")?;

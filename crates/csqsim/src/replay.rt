@@ -6,10 +6,10 @@ ghost use Rattle.csqsim.specs.Schedule.{Numbered, IsSkipped, AnswersLine, claim_
 
 use crate::step_line::parse_step;
 use irp_core::{Kind, Machine, Step};
-use std::alloc::AllocError;
+use std::alloc::{AllocError, Allocator};
 
 /// The most bytes of a line, without its line feed. Own rule.
-const MAX_LINE: usize = 64;
+pub(crate) const MAX_LINE: usize = 64;
 
 /// Whether the handling goes on after a line.
 #[derive(Clone, Copy, Debug, PartialEq, Eq)]
@@ -20,13 +20,13 @@ pub(crate) enum Handling {
 
 /// A machine, and a line for each claim that its steps made.
 #[derive(Drop)]
-pub(crate) struct Replay {
-    pub(crate) machine: Machine,
-    pub(crate) claims: String,
+pub(crate) struct Replay<A: Allocator> {
+    pub(crate) machine: Machine<A>,
+    pub(crate) claims: String<A>,
 }
 
 /// Whether a line is empty or a comment.
-fn is_skipped(line: &[u8]) -> bool
+pub(crate) fn is_skipped(line: &[u8]) -> bool
     ensures { IsTrue result ↔ IsSkipped line.now }
 {
     match line.first() {
@@ -37,7 +37,12 @@ fn is_skipped(line: &[u8]) -> bool
 
 /// Notes the claim of a step, if it made one.
 #[tactic(auto, unfolding(irp_core::specs::Steps::same_irp))]
-fn note_claim(claims: &mut String, number: usize, step: Step, found: u64) -> Result<(), AllocError>
+fn note_claim<A: Allocator>(
+    claims: &mut String<A>,
+    number: usize,
+    step: Step,
+    found: u64,
+) -> Result<(), AllocError>
     ensures { OnOk result (string_bytes claims.new
         ≡ string_bytes claims.old ++ claim_line (record { line = number; step = made step found })) }
 {
@@ -50,7 +55,7 @@ fn note_claim(claims: &mut String, number: usize, step: Step, found: u64) -> Res
     }
 }
 
-impl Replay {
+impl<A: Allocator> Replay<A> {
     ghost use Rattle.csqsim.specs.Replays.{Follows, LeavesReplay, GrewBy};
 
     /// Answers the line of this number: makes its step, if it names one.
@@ -58,7 +63,7 @@ impl Replay {
         &mut self,
         number: usize,
         line: &[u8],
-        text: &mut String,
+        text: &mut String<A>,
     ) -> Result<Handling, AllocError>
         ensures answered { (W : List Numbered) → Follows self.old W → IfOk result (λ handling.
             (added : List ℕ) × GrewBy (string_bytes text.old) (string_bytes text.new) added

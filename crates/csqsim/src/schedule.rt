@@ -12,11 +12,15 @@ use crate::closing::{close_irps, close_rest};
 use crate::pieces::split_line;
 use crate::replay::{Handling, Replay};
 use irp_core::Machine;
-use std::alloc::{AllocError, Global};
+use std::alloc::{AllocError, Allocator};
 use std::io::{Read, Write};
 
 /// The closing lines.
-fn close(replay: &Replay, claims: bool, text: &mut String) -> Result<(), AllocError>
+fn close<A: Allocator>(
+    replay: &Replay<A>,
+    claims: bool,
+    text: &mut String<A>,
+) -> Result<(), AllocError>
     ensures { OnOk result ((added : List ℕ) × GrewBy (string_bytes text.old) (string_bytes text.new) added
         × ((W : List Numbered) → Follows replay.now W → IsClosing (size_of replay.now.machine) claims W added)) }
 {
@@ -29,11 +33,11 @@ fn close(replay: &Replay, claims: bool, text: &mut String) -> Result<(), AllocEr
 }
 
 /// Answers each line, one after the other, and closes.
-fn answer_lines(
-    replay: &mut Replay,
+fn answer_lines<A: Allocator>(
+    replay: &mut Replay<A>,
     claims: bool,
     input: &[u8],
-    text: &mut String,
+    text: &mut String<A>,
 ) -> Result<Ended, AllocError>
     ensures { Follows replay.old [] → IfOk result (λ ended.
         (added : List ℕ) × GrewBy (string_bytes text.old) (string_bytes text.new) added
@@ -55,13 +59,13 @@ fn answer_lines(
 }
 
 /// The answer to the bytes of a schedule.
-fn answer_input(
-    alloc: Global,
+fn answer_input<A: Allocator + Copy>(
+    alloc: A,
     irps: u32,
     passes: u32,
     claims: bool,
     input: &[u8],
-) -> Result<(String, Ended), AllocError>
+) -> Result<(String<A>, Ended), AllocError>
     requires { IsInLimits (record { irps = irps; passes = passes }) }
     ensures { IfOk result (λ answer. IsScheduleAnswer
         (record { irps = irps; passes = passes }) claims input.now (string_bytes answer.0) answer.1) }
@@ -89,8 +93,8 @@ fn answer_input(
 /// All of the input is read, up to 1,048,577 bytes; more stays unread. `irps` is 1 to 1,024 and
 /// `passes` 1 to 64. Faults: 1 Memory and 2 Read, after which nothing was written; 3 Write.
 /// Own rule.
-pub fn answer_schedule<R: Read, W: Write>(
-    alloc: Global,
+pub fn answer_schedule<A: Allocator + Copy, R: Read, W: Write>(
+    alloc: A,
     irps: u32,
     passes: u32,
     claims: bool,

@@ -1,3 +1,5 @@
+mod scripts;
+
 use crate::answer::{Ended, MAX_INPUT, SimFault};
 use crate::command::{CommandFault, Job, read_command};
 use crate::schedule::answer_schedule;
@@ -6,6 +8,8 @@ use std::io;
 use std::io::{Error, ErrorKind, Read, Write};
 use std::process::Abort;
 use std::test::Fail;
+
+mod memory;
 
 /// Answers a schedule over 8 IRPs and 4 passes, from memory to memory, without the claims.
 fn answered(alloc: Global, mut input: &[u8], text: &mut Vec<u8>) -> Result<Ended, SimFault> {
@@ -199,9 +203,9 @@ fn lines_and_inputs_have_limits(rt: HostRuntime) -> Result<(), Fail> {
 
 /// Gives its bytes one at a time, is interrupted before each, and then fails.
 #[derive(Drop)]
-struct FailingReader<'a> {
-    bytes: &'a [u8],
-    interrupted: bool,
+pub(crate) struct FailingReader<'a> {
+    pub(crate) bytes: &'a [u8],
+    pub(crate) interrupted: bool,
 }
 
 impl Read for FailingReader<'_> {
@@ -224,9 +228,9 @@ impl Read for FailingReader<'_> {
 
 /// Takes so many bytes, and then fails or takes nothing.
 #[derive(Drop)]
-struct FailingWriter {
-    room: usize,
-    fails: bool,
+pub(crate) struct FailingWriter {
+    pub(crate) room: usize,
+    pub(crate) fails: bool,
 }
 
 impl Write for FailingWriter {

@@ -4,7 +4,7 @@ use Rattle.csqsim.proofs.Closings.{byte_is_bit, grew_none, told, silent}
 use Rattle.csqsim.proofs.closing.close_irp.Goals as goal
 
 pub returns-then-is_silent : goal.returns-then-is_silent
-returns-then-is_silent c = (
+returns-then-is_silent g c = (
   [],
   grew_none _,
   λ E a.
@@ -15,7 +15,7 @@ returns-then-is_silent c = (
 )
 
 pub returns : goal.returns
-returns c = (
+returns g c = (
   _,
   c.in_ok-writeln.ensures.bytes,
   λ E a.

@@ -4,13 +4,13 @@ use Rattle.csqsim.proofs.Closings.{grew_more, lines_more}
 use Rattle.csqsim.proofs.closing.close_irps.Goals as goal
 
 pub loop-number-preserved : goal.loop-number-preserved
-loop-number-preserved c =
+loop-number-preserved g c =
     let (added, grown, lines) = c.loop-number.invariant in
     let (last, grown_now, line) = c.in_ok-close_irp.ensures in
     (added ++ last, grew_more _ _ _ added last grown grown_now, λ E a. lines_more E c.loop-number.number added last (lines E a) (line E a))
 
 pub returns : goal.returns
-returns c =
+returns g c =
     let (added, grown, lines) = c.loop-number.invariant in (
       added,
       grown,

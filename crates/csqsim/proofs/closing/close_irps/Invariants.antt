@@ -7,5 +7,5 @@ use Rattle.csqsim.proofs.closing.close_irps.Given as goal
 
 -- the lines of the IRPs so far were added
 abbrev pub invariant-loop-number : goal.invariant-loop-number
-invariant-loop-number l = (added : List ℕ) × GrewBy (string_bytes l.fn.text) (string_bytes l.text) added
+invariant-loop-number g l = (added : List ℕ) × GrewBy (string_bytes l.fn.text) (string_bytes l.text) added
     × ((E : List Made) → Agrees l.machine E → AreIrpLines E l.number added)

@@ -7,14 +7,14 @@ use Rattle.csqsim.specs.Schedule.IsScheduleAnswer.{too_long_input, answered}
 use Rattle.csqsim.proofs.schedule.answer_input.Goals as goal
 
 pub returns-then-input-gt-MAX_INPUT : goal.returns-then-input-gt-MAX_INPUT
-returns-then-input-gt-MAX_INPUT c =
+returns-then-input-gt-MAX_INPUT g c =
     let size : Size = record { irps = c.args.irps; passes = c.args.passes } in
     let P : List ℕ → Type 0 = λ t. IsScheduleAnswer size c.args.claims c.args.input.now t Stopped in
     let text = c.in_ok-writeln.ensures.bytes ∙ ap (λ t. t ++ codes "input too long\n") c.new-text.ensures.bytes in
     subst P (sym text) (too_long_input (omega arith))
 
 pub returns : goal.returns
-returns c =
+returns g c =
     let size : Size = record { irps = c.args.irps; passes = c.args.passes } in
     let (added, grown, answers) = c.in_ok-ended.ensures (c.in-Ok.ensures.agrees, c.new-2.ensures.bytes) in
     let P : List ℕ → Type 0 = λ t. IsScheduleAnswer size c.args.claims c.args.input.now t c.in_ok-ended.ended in

@@ -6,19 +6,19 @@ use Rattle.csqsim.proofs.StepText.{step_line}
 use Rattle.csqsim.proofs.replay.Replay.answer_line.Goals as goal
 
 pub returns-then-line-gt-MAX_LINE-clause-answered : goal.returns-then-line-gt-MAX_LINE-clause-answered
-returns-then-line-gt-MAX_LINE-clause-answered c = λ W a.
+returns-then-line-gt-MAX_LINE-clause-answered g c = λ W a.
     (_, c.in_ok-writeln.ensures.bytes, (None, too_long (omega arith), tt))
 
 pub returns-then-is_skipped-clause-answered : goal.returns-then-is_skipped-clause-answered
-returns-then-is_skipped-clause-answered c = λ W a.
+returns-then-is_skipped-clause-answered g c = λ W a.
     (_, sym (append-nil _), (Some W, skipped (omega arith) (c.is_skipped.ensures.0 c.if-is_skipped.true), a))
 
 pub returns-in_default-clause-answered : goal.returns-in_default-clause-answered
-returns-in_default-clause-answered c = λ W a.
+returns-in_default-clause-answered g c = λ W a.
     (_, c.in_ok-writeln-2.ensures.bytes, (None, malformed (omega arith) (λ h. let t = c.is_skipped.ensures.1 h in cc (t, c.if-is_skipped.false)) c.in_default.ensures, tt))
 
 pub returns-in_ok-writeln-in-Ok-clause-answered : goal.returns-in_ok-writeln-in-Ok-clause-answered
-returns-in_ok-writeln-in-Ok-clause-answered c = λ W a.
+returns-in_ok-writeln-in-Ok-clause-answered g c = λ W a.
     let step = c.in-Some.step in
     let more = c.in-Ok.ensures.made (run_of W) a.0 in
     let is_line = c.in-Some.ensures in
@@ -34,5 +34,5 @@ returns-in_ok-writeln-in-Ok-clause-answered c = λ W a.
     )
 
 pub returns-in_ok-writeln-in-Err-clause-answered : goal.returns-in_ok-writeln-in-Err-clause-answered
-returns-in_ok-writeln-in-Err-clause-answered c = λ W a.
+returns-in_ok-writeln-in-Err-clause-answered g c = λ W a.
     (_, c.in_ok-writeln-in-Err.ensures.bytes, (None, refused c.in-Some.step c.in-Err.cause c.in-Some.ensures (c.in-Err.ensures.cause (run_of W) a.0), tt))

@@ -1,0 +1,13 @@
+use Rattle.std.proofs.Common.{◌++◌, true, false, sym, ap, ◌∙◌, codes, string_bytes}
+use Rattle.irp_core.specs.Owners.{holds}
+use Rattle.csqsim.specs.Calls.{script_pass}
+use Rattle.csqsim.proofs.LastLines.{kept_more, kept_same}
+use Rattle.csqsim.proofs.remains.write_held.Goals.{then-holds+in_ok-write, else-holds}
+use Rattle.csqsim.proofs.remains.write_held.Goals as goal
+
+pub loop-number-preserved : goal.loop-number-preserved
+loop-number-preserved g c =
+    elim c.if-holds.branch [
+      | then-holds+in_ok-write w ↦ λ E a. kept_more (holds E script_pass) c.loop-number.number _ _ (c.loop-number.invariant E a) (sym (c.holds.ensures E a) ∙ w.if-holds.true) _ (ap string_bytes w.text-is ∙ w.in_ok-write.ensures.bytes)
+      | else-holds w ↦ λ E a. ap string_bytes w.text-is ∙ kept_same (holds E script_pass) c.loop-number.number _ _ (c.loop-number.invariant E a) (sym (c.holds.ensures E a) ∙ w.if-holds.false)
+    ]
