@@ -56,7 +56,12 @@ pub record KeepsRecord (limits : Limits) (pass : PassRecord) (finals : FinalWord
   pub flags : (i : Irp) → number i < limits.irps → flagged pass.steps i ≡ true → is_cancelled finals i ≡ true
   pub statuses : (i : Irp) (status : NtStatus) → number i < limits.irps → status_recorded i pass.completed ≡ Some status → final_status finals i ≡ Some status
 
--- Holding has the numbers of the pass's record, PassesOut the other passes that were taken less those that some queue's record has as back
+-- the pass holds and owes no IRP
+abbrev pub HoldsNothing : Limits → PassRecord → Type 0
+HoldsNothing limits pass = (held_count limits.irps pass.steps ≡ 0) × (owed_count limits.irps pass.steps ≡ 0)
+
+-- Holding has the numbers of the pass's record. PassesOut comes where these are 0, and has the other passes that were taken less those
+-- that some queue's record has as back
 abbrev pub IsCloseCause : Limits → PassRecord → ℕ → CloseCause → Type 0
 IsCloseCause limits pass taken (Holding tokens claims) = (tokens ≡ held_count limits.irps pass.steps) × (claims ≡ owed_count limits.irps pass.steps) × (0 < tokens + claims)
-IsCloseCause limits pass taken (PassesOut out) = (queue : QueueRecord) × (out ≡ out_count pass.pass.0 queue.back taken) × (0 < out)
+IsCloseCause limits pass taken (PassesOut out) = HoldsNothing limits pass × (queue : QueueRecord) × (out ≡ out_count pass.pass.0 queue.back taken) × (0 < out)

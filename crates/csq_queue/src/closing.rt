@@ -8,7 +8,7 @@ ghost use Rattle.csq_words.specs.Records.{with_back};
 ghost use Rattle.csq_words.specs.Finals.{AllBack, IsFinal, IsLeft, KeepsRecords};
 ghost use Rattle.csq_queue.specs.Counts.{held_count, owed_count};
 ghost use Rattle.csq_queue.specs.Named.{pass_at, is_back, out_count};
-ghost use Rattle.csq_queue.specs.Rests.{IsRestOf, KeepsRecord, IsCloseCause};
+ghost use Rattle.csq_queue.specs.Rests.{IsRestOf, KeepsRecord, HoldsNothing, IsCloseCause};
 
 use crate::locked::Locked;
 use crate::name::QueueName;
@@ -97,7 +97,7 @@ impl<L: PendingList + Drop, N: QueueName, A: Allocator> Csq<L, N, A> {
         ensures tokens { IfErr result (λ holding. holding.tokens ≡ held_count N.limits.irps pass.steps) }
         ensures claims { IfErr result (λ holding. holding.claims ≡ owed_count N.limits.irps pass.steps) }
         ensures some { IfErr result (λ holding. 0 < holding.tokens + holding.claims) }
-        ensures none { OnOk result ((held_count N.limits.irps pass.steps ≡ 0) × (owed_count N.limits.irps pass.steps ≡ 0)) }
+        ensures none { OnOk result (HoldsNothing N.limits pass) }
     {
         if pass.tokens > 0 || pass.claims > 0 {
             return Err(Holding {
@@ -110,9 +110,9 @@ impl<L: PendingList + Drop, N: QueueName, A: Allocator> Csq<L, N, A> {
         Ok(())
     }
 
-    /// Gives this pass and those in the rack back, and ends the queue. Refused are a pass that holds or
-    /// owes IRPs, and then other passes that were taken and not given back; queue, pass and rack come
-    /// back with a refusal. It takes neither the lock nor memory. Own rule.
+    /// Gives this pass and those in the rack back, and ends the queue. `Holding` comes exactly where
+    /// the pass holds or owes IRPs; then `PassesOut` where other passes were taken and not given back.
+    /// Queue, pass and rack come back with a refusal. It takes neither the lock nor memory. Own rule.
     pub fn close(
         self,
         pass: Pass<N>,
@@ -120,6 +120,7 @@ impl<L: PendingList + Drop, N: QueueName, A: Allocator> Csq<L, N, A> {
     ) -> Result<Rest<L, A>, CloseRefused<L, N, A>>
         ensures rest { IfOk result (λ rest. IsRestOf N.limits pass (L.listing rest.list) rest.finals) }
         ensures records { IfOk result (λ rest. KeepsRecord N.limits pass rest.finals) }
+        ensures none { OnOk result (HoldsNothing N.limits pass) }
         ensures cause { IfErr result (λ refused. IsCloseCause N.limits pass (N.passes - rack) refused.cause) }
         ensures handed_back { IfErr result (λ refused. (refused.queue ≡ self) × (refused.pass ≡ pass) × (refused.rack ≡ rack)) }
     {

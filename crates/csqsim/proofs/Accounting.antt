@@ -35,7 +35,7 @@ use Rattle.csqsim.specs.Calls.{Script, script_pass, next_step, after_steps, remo
 use Rattle.csqsim.specs.Calls.Calls.{refuses_insert, lists, cancels_insert, removes_next, removes, removes_none, claims, claims_none, runs_routine, has_no_claim, completes, holds_none, refuses_pending, closes, tells_flag, tells_status, knows_no_irp, knows_no_file}
 use Rattle.csqsim.specs.Calls.Cleans.{none_left, one_more}
 use Rattle.csqsim.specs.Calls.Does.{calls, cancel_claimed, cancel_unclaimed, cleaned}
-use Rattle.csqsim.specs.Laws.{IsReached, EachInsertedIrpIsAccountedFor}
+use Rattle.csqsim.specs.Laws.{IsReached}
 use Rattle.csqsim.specs.Laws.IsReached.{at_first, by_call}
 use Rattle.csqsim.specs.Drivers.{AreMarked}
 use Rattle.csqsim.proofs.Queueing.{marks_stay, marks_without, marks_marking, marked_is, taken_routine, or_no}
@@ -360,9 +360,7 @@ does_account l s t c r (cancel_claimed i u v mark routine) a = calls_account l u
 does_account l s t c r (cancel_unclaimed i u mark) a = calls_account l s t (Mark i) Unclaimed mark a
 does_account l s t c r (cleaned f u v n close cleans) a = cleans_account l f u t n cleans (calls_account l s u (Close f) Closed close a)
 
-reached_accounts : (l : Limits) (s : Script) → IsReached l s → Accounts s
+-- so is every IRP of a script that calls lead to
+pub reached_accounts : (l : Limits) (s : Script) → IsReached l s → Accounts s
 reached_accounts l s at_first = record { marks = tt; used = λ i h. absurd cc; each = λ i h. absurd cc }
 reached_accounts l s (by_call s' t c r before does) = does_account l s' s c r does (reached_accounts l s' before)
-
-pub accounted : (l : Limits) → EachInsertedIrpIsAccountedFor l
-accounted l s reached i used = (reached_accounts l s reached).each i used

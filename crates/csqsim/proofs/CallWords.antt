@@ -16,7 +16,7 @@ use Rattle.csqsim.proofs.KindWords.{alone, words_of-decimal}
 use Rattle.csqsim.proofs.StatusWords.{words_of-digits}
 
 -- three letters tell a name
-abbrev letters : List ℕ → ℕ
+abbrev pub letters : List ℕ → ℕ
 letters name = slice_index name 0 + (1000 * slice_index name 1 + 1000000 * slice_index name 2)
 
 module _ (operands irp rest file place : List ℕ) (cut : words_of operands ≡ irp ∷ words_of rest) (cut_file : words_of rest ≡ file ∷ words_of place) where

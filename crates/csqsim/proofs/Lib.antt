@@ -17,3 +17,6 @@ pub mod CallWords
 pub mod LastLines
 pub mod ScriptLines
 pub mod Accounting
+pub mod Handled
+pub mod OneCall
+pub mod OneScript

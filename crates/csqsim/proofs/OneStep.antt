@@ -14,10 +14,10 @@ use Rattle.csqsim.specs.StepLine.{kind_words, IsPassWord, AreKindWords, IsStepLi
 use Rattle.csqsim.specs.Schedule.{IsSkipped, IsWithinLine}
 use Rattle.csqsim.proofs.StepText.{step_line}
 
-same_number : (m n : ℕ) → IsShort m → IsShort n → decimal m ≡ decimal n → m ≡ n
+pub same_number : (m n : ℕ) → IsShort m → IsShort n → decimal m ≡ decimal n → m ≡ n
 same_number m n a b e = decimal_injective m n (omega (arith, a)) (omega (arith, b)) e
 
-same_name : (i j : Irp) → IsShort (number i) → IsShort (number j) → irp_text i ≡ irp_text j → i ≡ j
+pub same_name : (i j : Irp) → IsShort (number i) → IsShort (number j) → irp_text i ≡ irp_text j → i ≡ j
 same_name i j a b e = let named : ℕ → IrpId = λ n. record { 0 = n } in ap named (same_number (number i) (number j) a b e)
 
 same_passes : (p q : PassId) → IsShort p.0 → IsShort q.0 → pass_text p ≡ pass_text q → p ≡ q
@@ -61,7 +61,7 @@ pub not_skipped : (line : List ℕ) (s : Step) → IsStepLine line s → ¬ IsSk
 not_skipped line s h skipped =
     let hash : 112 ≡ 35 = subst IsSkipped (step_line line s h) skipped in absurd (omega (arith, hash))
 
-short_number : (n : ℕ) → IsShort n → length (decimal n) ≤ 9
+pub short_number : (n : ℕ) → IsShort n → length (decimal n) ≤ 9
 short_number n lt = length-decimal-le 9 n (lit< tt) lt (omega (arith, lt))
 
 short_kind : (k : Kind) → OfIrp (λ i. IsShort (number i)) k → length (kind_text k) ≤ 16
