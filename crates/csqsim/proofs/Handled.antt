@@ -8,7 +8,7 @@ use Rattle.csqsim.specs.Calls.{Script, new_script}
 use Rattle.csqsim.specs.ScriptAnswer.{AnswersCall, AnswersCalls, IsScriptAnswer, closing_lines}
 use Rattle.csqsim.specs.ScriptAnswer.AnswersCall.{too_long, skipped, malformed, answered}
 use Rattle.csqsim.specs.ScriptAnswer.AnswersCalls.{all_handled, goes_on, stops}
-use Rattle.csqsim.specs.ScriptAnswer.IsScriptAnswer as answer
+use Rattle.csqsim.specs.ScriptAnswer.IsScriptAnswer.{too_long_input, answered as lines_answered}
 use Rattle.csqsim.specs.Laws.{IsReached, EndsWith, EachInsertedIrpIsAccountedFor}
 use Rattle.csqsim.specs.Laws.IsReached.{at_first, by_call}
 use Rattle.csqsim.proofs.Accounting.{reached_accounts}
@@ -30,8 +30,8 @@ module _ (l : Limits) where
   lines_end s n lines text ended reached (stops a m line left told h) e = absurd (cc e)
 
   handled : (input text : List ℕ) (ended : Ended) → IsScriptAnswer l input text ended → ended ≡ AllHandled → (last : Script) × IsReached l last × EndsWith text (closing_lines l last)
-  handled input text ended (answer.too_long_input lt) e = absurd (cc e)
-  handled input text ended (answer.answered text' ended' le answers) e = lines_end new_script 1 (lines_of input) text ended at_first answers e
+  handled input text ended (too_long_input lt) e = absurd (cc e)
+  handled input text ended (lines_answered text' ended' le answers) e = lines_end new_script 1 (lines_of input) text ended at_first answers e
 
   pub accounted : EachInsertedIrpIsAccountedFor l
   accounted input text is =

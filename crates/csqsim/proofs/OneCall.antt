@@ -90,11 +90,11 @@ module _ (words : List (List ℕ)) where
   same_operands c d e a b = let names = ap letters e in absurd (omega (arith, names))
 
 pub same_call : (line : List ℕ) (c d : Call) → IsCallLine line c → IsCallLine line d → c ≡ d
-same_call line c d (name, operands, cut, named, is) (name', operands', cut', named', is') =
+same_call line c d (name, operands, cut, is) (name', operands', cut', is') =
     let names : name ≡ name' = cc (cut, cut') in
     let others : operands' ≡ operands = cc (cut, cut') in
     let P : List (List ℕ) → Type 0 = λ ws. AreOperands ws d in
-    same_operands operands c d (sym named ∙ names ∙ named') is (subst P others is')
+    same_operands operands c d (sym is.0 ∙ names ∙ is'.0) is.1 (subst P others is'.1)
 
 -- the line, its words in a row
 line_is : (line : List ℕ) (words : List (List ℕ)) → words_of line ≡ words → line ≡ join_with_byte 32 words
@@ -127,8 +127,8 @@ no_comment (Status i) (w ∷ ws) h = absurd (omega (arith, h))
 
 -- a line that names a call is no comment
 pub call_not_skipped : (line : List ℕ) (c : Call) → IsCallLine line c → ¬ IsSkipped line
-call_not_skipped line c (name, operands, cut, named, is) skipped =
-    no_comment c operands (subst IsSkipped (line_is line (name ∷ operands) cut ∙ ap (λ w. join_with_byte 32 (w ∷ operands)) named) skipped)
+call_not_skipped line c (name, operands, cut, is) skipped =
+    no_comment c operands (subst IsSkipped (line_is line (name ∷ operands) cut ∙ ap (λ w. join_with_byte 32 (w ∷ operands)) is.0) skipped)
 
 module _ (words : List (List ℕ)) where
   one_irp_short : (i : Irp) → IsOne (λ word. IsIrpWord word i) words → length (join_with_byte 32 words) ≤ 9
@@ -177,5 +177,5 @@ joined_short name (w ∷ ws) a b = omega (arith, a, b, length-append name (32 �
 
 -- a line that names a call isn't too long
 pub call_is_within : (line : List ℕ) (c : Call) → IsCallLine line c → IsWithinLine line
-call_is_within line c (name, operands, cut, named, is) =
-    rw (line_is line (name ∷ operands) cut) (joined_short name operands (rw named (name_short c)) (operands_short operands c is))
+call_is_within line c (name, operands, cut, is) =
+    rw (line_is line (name ∷ operands) cut) (joined_short name operands (rw is.0 (name_short c)) (operands_short operands c is.1))

@@ -31,7 +31,7 @@ use Rattle.csqsim.specs.ReplyText.{reply_text}
 use Rattle.csqsim.specs.ScriptAnswer.{AnswersCall, AnswersCalls, IsScriptAnswer}
 use Rattle.csqsim.specs.ScriptAnswer.AnswersCall.{too_long, skipped, malformed, answered}
 use Rattle.csqsim.specs.ScriptAnswer.AnswersCalls.{all_handled, goes_on, stops}
-use Rattle.csqsim.specs.ScriptAnswer.IsScriptAnswer as answer
+use Rattle.csqsim.specs.ScriptAnswer.IsScriptAnswer.{too_long_input, answered as lines_answered}
 use Rattle.csqsim.specs.Laws.{HasOneScriptAnswer}
 use Rattle.csqsim.proofs.OneCall.{same_call, call_not_skipped, call_is_within}
 
@@ -219,8 +219,8 @@ module _ (l : Limits) where
   one_answer s n lines t u e f (stops a m line left text h) (stops a' m' line' left' text' h') = ((one_line s n line t u None None h h').0, refl)
 
   pub one_script_answer : (input : List ℕ) → HasOneScriptAnswer l input
-  one_script_answer input t u e f (answer.too_long_input lt) (answer.too_long_input lt') = (refl, refl)
-  one_script_answer input t u e f (answer.too_long_input lt) (answer.answered text ended le answers) = absurd (omega (arith, lt, le))
-  one_script_answer input t u e f (answer.answered text ended le answers) (answer.too_long_input lt) = absurd (omega (arith, lt, le))
-  one_script_answer input t u e f (answer.answered text ended le answers) (answer.answered text' ended' le' answers') =
+  one_script_answer input t u e f (too_long_input lt) (too_long_input lt') = (refl, refl)
+  one_script_answer input t u e f (too_long_input lt) (lines_answered text ended le answers) = absurd (omega (arith, lt, le))
+  one_script_answer input t u e f (lines_answered text ended le answers) (too_long_input lt) = absurd (omega (arith, lt, le))
+  one_script_answer input t u e f (lines_answered text ended le answers) (lines_answered text' ended' le' answers') =
       one_answer new_script 1 (lines_of input) t u e f answers answers'
