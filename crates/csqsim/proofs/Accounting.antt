@@ -1,5 +1,5 @@
 -- Each IRP that an insert accepted is accounted for.
-use Rattle.std.proofs.Common.{◌≡◌, ◌≢◌, ℕ, ◌<◌, ◌≤◌, Bool, true, false, cond, not, ◌&&◌, ◌||◌, ◌==◌, ◌⊎◌, inl, inr, List, [], ◌∷◌, map, length, Option, Some, None, refl, ap, sym, ◌∙◌, subst, arith}
+use Rattle.std.proofs.Common.{◌≡◌, ℕ, Bool, true, false, cond, not, ◌&&◌, ◌||◌, ◌==◌, ◌⊎◌, inl, inr, List, [], ◌∷◌, Option, Some, None, refl, ap, sym, ◌∙◌, subst, arith}
 use Rattle.std.specs.Option.{option_map}
 use Rattle.std.specs.List.{find}
 use Rattle.irp_core.specs.declared.ids.FileId.{FileId}
@@ -8,8 +8,8 @@ use Rattle.irp_core.specs.declared.status.TheConstants.NtStatus.{CANCELLED}
 use Rattle.irp_core.specs.declared.step.Kind.{Kind}
 use Rattle.irp_core.specs.declared.step.Kind.TheVariants.{Arm, Test, Disarm, End, Flag, Take, Out, Done}
 use Rattle.irp_core.specs.declared.step.Made.{Made}
-use Rattle.irp_core.specs.Steps.{Irp, number, same_irp, same_pass}
-use Rattle.irp_core.specs.Words.{bit, armed, found_by}
+use Rattle.irp_core.specs.Steps.{Irp, same_irp, same_pass}
+use Rattle.irp_core.specs.Words.{bit, armed}
 use Rattle.irp_core.specs.Owners.{holds}
 use Rattle.irp_core.proofs.Names.{same_irp-refl, same_irp-eq, same_pass-refl}
 use Rattle.csq_list.specs.declared.entry.Place.{Place}
@@ -25,7 +25,7 @@ use Rattle.csq_words.specs.declared.views.InsertReply.TheVariants as insert
 use Rattle.csq_words.specs.declared.views.Event.TheVariants as event
 use Rattle.csq_list.specs.Searches.{matches}
 use Rattle.csq_words.specs.declared.views.Completion.{Completion}
-use Rattle.csq_words.specs.Queue.{Queued, QueueState, Limits, listing_of, refusal, reply_to_insert, first_match, has_irp, has_entry, has_unmarked, has_marked, marking, without}
+use Rattle.csq_words.specs.Queue.{Queued, Limits, listing_of, refusal, reply_to_insert, first_match, has_irp, has_entry, has_unmarked, has_marked, marking, without}
 use Rattle.csq_words.proofs.Entries.{has_entry-marking, has_entry-placed, has_entry-without}
 use Rattle.csqsim.specs.declared.call.Call.{Call}
 use Rattle.csqsim.specs.declared.call.Call.TheVariants.{Next, Mark, Routine, Complete, Close}
@@ -39,7 +39,7 @@ use Rattle.csqsim.specs.Laws.{IsReached}
 use Rattle.csqsim.specs.Laws.IsReached.{at_first, by_call}
 use Rattle.csqsim.specs.Drivers.{AreMarked}
 use Rattle.csqsim.proofs.Queueing.{marks_stay, marks_without, marks_marking, marked_is, taken_routine, or_no}
-use Rattle.csqsim.proofs.Cleaning.{removal_holds, first_listed}
+use Rattle.csqsim.proofs.Cleaning.{removal_holds}
 
 -- listed, held or completed
 abbrev pub Accounted : Script → Irp → Type 0

@@ -1,17 +1,15 @@
 -- The words of a call.
-use Rattle.std.proofs.Common.{Bool, true, false, eq-eqb, ◌≡◌, ◌≢◌, ℕ, ◌+◌, ◌*◌, ◌<◌, List, [], ◌∷◌, length, slice_index, Option, Some, None, refl, ap, sym, ◌∙◌, arith, decimal, codes, subst}
-use Rattle.std.specs.Prelude.{◌==◌, nat_eq, MatchOption}
+use Rattle.std.proofs.Common.{Bool, true, false, eq-eqb, ◌≡◌, ℕ, ◌+◌, ◌*◌, List, [], ◌∷◌, slice_index, Option, refl, ap, sym, ◌∙◌, arith, decimal, codes, subst}
+use Rattle.std.specs.Prelude.{nat_eq, MatchOption}
 use Rattle.std.specs.Cmp.Lexicographic.{pointwise}
-use Rattle.std.proofs.lemmas.List.Splits.{length-slice_split}
 use Rattle.irp_core.specs.declared.status.NtStatus.{NtStatus}
 use Rattle.irp_core.specs.Steps.{number}
-use Rattle.irp_core.specs.Texts.{irp_text}
 use Rattle.csq_list.specs.declared.entry.Place.{Place}
 use Rattle.csq_list.specs.declared.entry.Peek.TheVariants.{Any, File}
 use Rattle.csqsim.specs.declared.call.Call.{Call}
 use Rattle.csqsim.specs.declared.call.Call.TheVariants.{Insert, Next, Remove, Mark, Routine, Cancel, Complete, Close, Cleanup, Flag, Status}
 use Rattle.csqsim.specs.Pieces.{words_of, IsShort, IsNumber}
-use Rattle.csqsim.specs.CallLine.{call_name, place_word, IsStatusWord, IsOne, IsIrpWord, IsNamed}
+use Rattle.csqsim.specs.CallLine.{place_word, IsStatusWord, IsOne, IsNamed}
 use Rattle.csqsim.proofs.KindWords.{alone, words_of-decimal}
 use Rattle.csqsim.proofs.StatusWords.{words_of-digits}
 

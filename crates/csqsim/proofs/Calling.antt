@@ -1,45 +1,41 @@
 -- What a driver keeps after a call.
-use Rattle.std.proofs.Common.{◌≡◌, ◌≢◌, ℕ, ◌<◌, ◌≤◌, Bool, true, false, cond, not, ◌&&◌, ◌||◌, ◌==◌, List, [], ◌∷◌, length, Option, Some, None, refl, ap, sym, ◌∙◌, subst, arith}
+use Rattle.std.proofs.Common.{◌≡◌, ◌≢◌, ℕ, ◌<◌, Bool, true, false, cond, not, ◌&&◌, ◌||◌, ◌==◌, List, [], ◌∷◌, length, Option, Some, None, refl, ap, sym, ◌∙◌, subst, arith}
 use Rattle.std.specs.Prelude.{slice_index_or, slice_set}
 use Rattle.std.proofs.lemmas.List.{get_or-set_same, get_or-set_other, length-set}
 use Rattle.std.specs.Option.{option_map}
 use Rattle.std.specs.List.{find}
 use Rattle.irp_core.specs.declared.ids.FileId.{FileId}
 use Rattle.irp_core.specs.declared.status.NtStatus.{NtStatus}
-use Rattle.irp_core.specs.declared.status.TheConstants.NtStatus.{PENDING, CANCELLED}
-use Rattle.irp_core.specs.declared.step.Kind.{Kind}
+use Rattle.irp_core.specs.declared.status.TheConstants.NtStatus.{PENDING}
 use Rattle.irp_core.specs.declared.step.Kind.TheVariants.{Arm, Test, Disarm, End, Take, Out, Done}
 use Rattle.irp_core.specs.declared.step.Kind.TheVariants as step
 use Rattle.irp_core.specs.declared.step.Made.{Made}
-use Rattle.irp_core.specs.declared.step.Inside.TheVariants.{Nothing}
 use Rattle.irp_core.specs.declared.step.IrpPlace.{IrpPlace}
 use Rattle.irp_core.specs.declared.step.IrpPlace.TheVariants.{Home, Listed, HeldBy}
 use Rattle.irp_core.specs.declared.step.IrpPlace.TheVariants.{Completed as PlaceCompleted}
 use Rattle.irp_core.specs.Completion.{IsPlace}
 use Rattle.csqsim.proofs.OneAnswer.{one_place}
 use Rattle.irp_core.specs.Steps.{Irp, number, same_irp, same_pass}
-use Rattle.irp_core.specs.Words.{bit, armed, flagged, found_by}
-use Rattle.irp_core.specs.Inside.{inside}
-use Rattle.irp_core.specs.Owners.{owes, holds, listed}
+use Rattle.irp_core.specs.Words.{bit, armed, flagged}
+use Rattle.irp_core.specs.Owners.{owes, holds}
 use Rattle.irp_core.specs.Runs.{Size, IsRun}
 use Rattle.irp_core.specs.MachineState.{MachineState, Agrees, size_of}
-use Rattle.irp_core.proofs.Names.{same_irp-refl, same_irp-eq, same_irp-ne, same_pass-refl, same_pass-eq}
+use Rattle.irp_core.proofs.Names.{same_irp-eq, same_irp-ne, same_pass-refl, same_pass-eq}
 use Rattle.csq_list.specs.Searches.{is_listed}
 use Rattle.csq_list.specs.Listing.{Listing, with_closed, removed}
 use Rattle.csq_words.specs.declared.views.Completion.{Completion}
 use Rattle.csq_words.specs.declared.views.Event.TheVariants as event
-use Rattle.csq_words.specs.Queue.{QueueState, Limits, listing_of, without, after_event, has_entry, has_marked, has_unmarked}
+use Rattle.csq_words.specs.Queue.{Limits, after_event, has_entry, has_marked, has_unmarked}
 use Rattle.csqsim.specs.declared.call.Call.{Call}
-use Rattle.csqsim.specs.declared.call.Call.TheVariants.{Remove, Mark, Routine, Cancel, Complete, Close, Cleanup, Flag, Status}
+use Rattle.csqsim.specs.declared.call.Call.TheVariants.{Mark, Routine, Complete, Close, Flag, Status}
 use Rattle.csqsim.specs.declared.call.Refusal.TheVariants.{UnknownIrp, UnknownFile, NoClaim, NotHeld, StatusPending}
-use Rattle.csqsim.specs.declared.call.Reply.{Reply}
 use Rattle.csqsim.specs.declared.call.Reply.TheVariants.{Claimed, Unclaimed, Completed, Closed, Unset, Refused}
 use Rattle.csqsim.specs.declared.call.Reply.TheVariants as reply
-use Rattle.csqsim.specs.Calls.{Script, script_pass, next_step, after_steps, doing, completing, after_mark, status_of, status_reply, irp_of, file_of, Calls}
-use Rattle.csqsim.specs.Calls.Calls.{runs_routine, has_no_claim, completes, holds_none, refuses_pending, closes, tells_flag, tells_status, knows_no_irp, knows_no_file, claims_none}
+use Rattle.csqsim.specs.Calls.{Script, script_pass, next_step, doing, completing, after_mark, status_reply, irp_of, file_of, Calls}
+use Rattle.csqsim.specs.Calls.Calls.{has_no_claim, completes, holds_none, refuses_pending, closes, tells_flag, tells_status, knows_no_irp, knows_no_file, claims_none}
 use Rattle.csqsim.specs.Calls.Calls.{claims as claims_it}
-use Rattle.csqsim.specs.Drivers.{Keeping, Keeps, IsOfRun, Called}
-use Rattle.csqsim.proofs.Listings.{same_listed, listing_removed, listing_closed, listing_marked}
+use Rattle.csqsim.specs.Drivers.{Keeping, Keeps, IsOfRun}
+use Rattle.csqsim.proofs.Listings.{same_listed, listing_removed, listing_marked}
 use Rattle.csqsim.proofs.Queueing.{marked_is, queue_done, queue_flag, queue_take, queue_take_none, queue_out, armed_listed, owed_listed}
 
 module _ (l : Limits) (kept : Keeping) (s : Script) (k : Keeps l kept s) where

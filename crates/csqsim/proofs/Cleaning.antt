@@ -1,22 +1,14 @@
 -- What the calls answer that other calls are made of.
-use Rattle.std.proofs.Common.{◌≡◌, ◌≢◌, ℕ, ◌+◌, ◌<◌, ◌≤◌, Bool, true, false, cond, not, ◌&&◌, ◌||◌, List, [], ◌∷◌, map, length, Option, Some, None, refl, ap, sym, ◌∙◌, subst, arith}
-use Rattle.irp_core.specs.declared.ids.PassId.{PassId}
+use Rattle.std.proofs.Common.{◌≡◌, ℕ, ◌+◌, ◌<◌, Bool, true, false, cond, not, ◌&&◌, ◌||◌, List, [], ◌∷◌, map, length, Some, None, refl, ap, sym, ◌∙◌, subst, arith}
 use Rattle.irp_core.specs.declared.ids.FileId.{FileId}
-use Rattle.irp_core.specs.declared.status.NtStatus.{NtStatus}
-use Rattle.irp_core.specs.declared.status.TheConstants.NtStatus.{PENDING, CANCELLED}
-use Rattle.irp_core.specs.declared.step.Kind.TheVariants.{Disarm, Flag, Take}
+use Rattle.irp_core.specs.declared.status.TheConstants.NtStatus.{CANCELLED}
+use Rattle.irp_core.specs.declared.step.Kind.TheVariants.{Disarm}
 use Rattle.irp_core.specs.declared.step.Made.{Made}
-use Rattle.irp_core.specs.declared.step.Standing.{Standing}
-use Rattle.irp_core.specs.declared.step.Standing.TheVariants.{Held}
-use Rattle.irp_core.specs.Steps.{Irp, number, same_irp, same_pass}
-use Rattle.irp_core.specs.Words.{bit, armed, found_by, was_armed}
+use Rattle.irp_core.specs.Steps.{Irp, number, same_irp}
+use Rattle.irp_core.specs.Words.{armed}
 use Rattle.irp_core.specs.Owners.{owes, holds}
-use Rattle.irp_core.specs.Runs.{Size, IsRun}
-use Rattle.irp_core.specs.MachineState.{size_of}
+use Rattle.irp_core.specs.Runs.{Size}
 use Rattle.irp_core.proofs.Names.{same_irp-refl, same_irp-eq, same_pass-refl}
-use Rattle.irp_core.proofs.Rows.{Row}
-use Rattle.irp_core.proofs.Owning.{stands}
-use Rattle.csq_list.specs.declared.entry.Entry.{Entry}
 use Rattle.csq_list.specs.declared.entry.Peek.{Peek}
 use Rattle.csq_list.specs.declared.entry.Peek.TheVariants.{File}
 use Rattle.csq_list.specs.Searches.{matches, is_distinct}
@@ -27,8 +19,8 @@ use Rattle.csq_words.specs.Queue.{Queued, QueueState, Limits, first_match, has_e
 use Rattle.csqsim.specs.declared.call.Call.TheVariants.{Next, Mark, Routine, Cancel, Complete, Close, Cleanup}
 use Rattle.csqsim.specs.declared.call.Reply.{Reply}
 use Rattle.csqsim.specs.declared.call.Reply.TheVariants.{Removed, NoIrp, Claimed, Unclaimed, Completed, Closed}
-use Rattle.csqsim.specs.Calls.{Script, script_pass, next_step, after_steps, removal_steps, removal_reply, Calls, Cleans, Does}
-use Rattle.csqsim.specs.Calls.Calls.{removes_next, claims, claims_none, runs_routine, has_no_claim, completes, holds_none, refuses_pending, closes, knows_no_irp, knows_no_file}
+use Rattle.csqsim.specs.Calls.{Script, script_pass, next_step, after_steps, removal_steps, Calls, Cleans, Does}
+use Rattle.csqsim.specs.Calls.Calls.{removes_next, claims, claims_none, runs_routine, has_no_claim, completes, holds_none, closes, knows_no_irp, knows_no_file}
 use Rattle.csqsim.specs.Calls.Cleans.{none_left, one_more}
 use Rattle.csqsim.specs.Calls.Does.{calls}
 use Rattle.csqsim.specs.Drivers.{Keeping, Keeps, AreMarked}

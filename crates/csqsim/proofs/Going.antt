@@ -5,7 +5,7 @@ use Rattle.irp_core.specs.declared.step.Kind.{Kind}
 use Rattle.irp_core.specs.declared.step.Kind.TheVariants.{Arm, Test, Disarm, End, Flag, Take, Out, Done}
 use Rattle.irp_core.specs.declared.step.Made.{Made}
 use Rattle.irp_core.specs.declared.step.Inside.{Inside}
-use Rattle.irp_core.specs.declared.step.Inside.TheVariants.{Nothing, Armed, FlagSeen, Removing, Cancelling}
+use Rattle.irp_core.specs.declared.step.Inside.TheVariants.{Nothing, Armed, FlagSeen, Cancelling}
 use Rattle.irp_core.specs.Steps.{Irp, number, same_pass, Each}
 use Rattle.irp_core.specs.Words.{was_armed, found_by}
 use Rattle.irp_core.specs.Inside.{inside, inside_after, follows, has_lock}

@@ -1,8 +1,8 @@
 -- What a handled script has come to.
-use Rattle.std.proofs.Common.{◌≡◌, ℕ, ◌+◌, List, [], ◌∷◌, ◌++◌, Option, Some, None, refl, ap, sym, ◌∙◌, append_assoc, subst}
+use Rattle.std.proofs.Common.{◌≡◌, ℕ, ◌+◌, List, [], ◌++◌, Option, Some, refl, ap, sym, ◌∙◌, append_assoc, subst}
 use Rattle.csq_words.specs.Queue.{Limits}
 use Rattle.csqsim.specs.declared.answer.Ended.{Ended}
-use Rattle.csqsim.specs.declared.answer.Ended.TheVariants.{AllHandled, Stopped}
+use Rattle.csqsim.specs.declared.answer.Ended.TheVariants.{AllHandled}
 use Rattle.csqsim.specs.Pieces.{lines_of}
 use Rattle.csqsim.specs.Calls.{Script, new_script}
 use Rattle.csqsim.specs.ScriptAnswer.{AnswersCall, AnswersCalls, IsScriptAnswer, closing_lines}

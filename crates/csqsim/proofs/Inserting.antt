@@ -1,19 +1,16 @@
 -- Inserts: what the driver keeps in the end.
-use Rattle.std.proofs.Common.{nat_le, ◌≡◌, ℕ, ◌<◌, ◌≤◌, Bool, true, false, cond, not, ◌&&◌, ◌||◌, ◌==◌, List, [], ◌∷◌, Option, Some, None, refl, ap, sym, ◌∙◌, subst, arith}
+use Rattle.std.proofs.Common.{nat_le, ◌≡◌, ℕ, ◌<◌, Bool, true, false, cond, not, ◌||◌, List, [], ◌∷◌, Option, Some, None, refl, ap, sym, ◌∙◌, subst, arith}
 use borrow.Author.Tests.{leb-false}
 use Rattle.irp_core.specs.declared.ids.FileId.{FileId}
 use Rattle.irp_core.specs.declared.step.Kind.TheVariants.{Arm, Test, Disarm, Done}
 use Rattle.irp_core.specs.declared.step.Made.{Made}
-use Rattle.irp_core.specs.declared.step.Inside.{Inside}
 use Rattle.irp_core.specs.declared.step.Inside.TheVariants.{Nothing, Armed, FlagSeen}
 use Rattle.irp_core.specs.Steps.{Irp, number, same_irp}
-use Rattle.irp_core.specs.Words.{bit, armed, flagged, was_armed, found_by}
+use Rattle.irp_core.specs.Words.{bit, flagged, was_armed, found_by}
 use Rattle.irp_core.specs.Inside.{inside, inside_after}
-use Rattle.irp_core.specs.Owners.{holds}
 use Rattle.irp_core.specs.Runs.{Size}
 use Rattle.irp_core.specs.MachineState.{MachineState, Agrees, size_of}
-use Rattle.irp_core.proofs.Names.{same_irp-refl, same_irp-eq, same_pass-refl}
-use Rattle.csq_list.specs.declared.entry.Entry.{Entry}
+use Rattle.irp_core.proofs.Names.{same_irp-refl, same_pass-refl}
 use Rattle.csq_list.specs.declared.entry.Place.{Place}
 use Rattle.csq_list.specs.declared.entry.Place.TheVariants.{Back, Front}
 use Rattle.csq_list.specs.declared.refusals.InsertStatus.{InsertStatus}
@@ -26,12 +23,12 @@ use Rattle.csq_words.specs.declared.views.Event.TheVariants as event
 use Rattle.csq_words.specs.Queue.{Queued, QueueState, Limits, listing_of, refusal, reply_to_insert, has_irp, has_entry, without, after_event}
 use Rattle.csq_words.proofs.Entries.{has_entry-placed}
 use Rattle.csqsim.specs.declared.call.Call.TheVariants.{Insert}
-use Rattle.csqsim.specs.declared.call.Reply.TheVariants.{Pending, Cancelled, InsertRefused}
+use Rattle.csqsim.specs.declared.call.Reply.TheVariants.{Pending, InsertRefused}
 use Rattle.csqsim.specs.Calls.{Script, script_pass, next_step, doing, Calls}
 use Rattle.csqsim.specs.Calls.Calls.{refuses_insert, lists}
 use Rattle.csqsim.specs.Drivers.{Keeping, Keeps, IsOfRun}
 use Rattle.csqsim.proofs.Going.{Goes, May, starts, went, may_arm, may_test, may_disarm, may_done}
-use Rattle.csqsim.proofs.Listings.{plain, same_listed, listing_inserted, listing_removed}
+use Rattle.csqsim.proofs.Listings.{same_listed, listing_inserted, listing_removed}
 use Rattle.csqsim.proofs.Queueing.{queue_arm, queue_test, queue_hit, unlisted, found_then}
 use Rattle.csqsim.proofs.Removing.{keeps_run}
 

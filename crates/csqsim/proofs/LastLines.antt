@@ -1,6 +1,5 @@
 -- The closing lines of a script.
-use Rattle.std.proofs.Common.{◌≡◌, ℕ, zero, suc, ◌+◌, ◌<◌, Bool, true, false, cond, List, [], ◌∷◌, ◌++◌, map, filter, length, Option, Some, None, refl, ap, sym, ◌∙◌, subst, arith, append_assoc, append-nil, add-one, codes}
-use Rattle.irp_core.specs.declared.ids.IrpId.{IrpId}
+use Rattle.std.proofs.Common.{◌≡◌, ℕ, zero, suc, ◌+◌, ◌<◌, Bool, true, false, cond, List, [], ◌∷◌, ◌++◌, map, filter, length, Option, Some, None, refl, ap, sym, ◌∙◌, arith, append_assoc, append-nil, add-one, codes}
 use Rattle.std.specs.Prelude.{slice_index_or}
 use Rattle.irp_core.specs.Steps.{Irp, number}
 use Rattle.irp_core.specs.Owners.{owes, holds}

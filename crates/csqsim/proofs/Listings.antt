@@ -1,5 +1,5 @@
 -- What the list means, beside the queue of one thread.
-use Rattle.std.proofs.Common.{◌≡◌, ℕ, Bool, true, false, cond, not, ◌||◌, List, [], ◌∷◌, ◌++◌, map, refl, ap, ap₂, sym, ◌∙◌}
+use Rattle.std.proofs.Common.{◌≡◌, Bool, true, false, cond, not, ◌||◌, List, [], ◌∷◌, map, refl, ap, sym}
 use Rattle.std.proofs.lemmas.List.{map-append}
 use Rattle.irp_core.specs.declared.ids.FileId.{FileId}
 use Rattle.irp_core.specs.Steps.{Irp, same_irp}
@@ -11,7 +11,7 @@ use Rattle.csq_list.specs.Searches as plainly
 use Rattle.csq_list.specs.Listing.{Listing, put_at, inserted, removed, with_closed}
 use Rattle.csq_words.specs.declared.views.InsertReply.TheVariants.{Pending}
 use Rattle.csq_words.specs.declared.views.Event.TheVariants.{Mark, Insert, CloseFile}
-use Rattle.csq_words.specs.Queue.{Queued, QueueState, Limits, listing_of, has_irp, has_entry, marking, without, after_event}
+use Rattle.csq_words.specs.Queue.{Queued, QueueState, Limits, listing_of, has_entry, marking, without, after_event}
 
 -- an entry without its mark
 abbrev pub plain : Queued → Entry

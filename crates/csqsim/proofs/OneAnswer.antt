@@ -1,8 +1,8 @@
 -- A schedule has one answer.
-use Rattle.std.proofs.Common.{◌≡◌, ◌≢◌, ℕ, zero, suc, ◌+◌, ◌<◌, ◌≤◌, Bool, true, false, cond, not, ◌&&◌, ◌||◌, List, [], ◌∷◌, ◌++◌, Option, Some, None, map, length, refl, ap, ap₂, sym, ◌∙◌, arith, subst, inl, inr, decimal, codes}
+use Rattle.std.proofs.Common.{◌≡◌, ℕ, zero, suc, ◌+◌, ◌<◌, Bool, true, false, cond, not, ◌&&◌, ◌||◌, List, [], ◌∷◌, ◌++◌, Option, Some, None, refl, ap, sym, ◌∙◌, arith, subst, inl, inr, decimal, codes}
 use Rattle.irp_core.specs.declared.ids.PassId.{PassId}
 use Rattle.irp_core.specs.declared.step.Kind.{Kind}
-use Rattle.irp_core.specs.declared.step.Kind.TheVariants.{Arm, Disarm, Out, Done}
+use Rattle.irp_core.specs.declared.step.Kind.TheVariants.{Disarm, Out}
 use Rattle.irp_core.specs.declared.step.Made.{Made}
 use Rattle.irp_core.specs.declared.step.Step.{Step}
 use Rattle.irp_core.specs.declared.step.StepRefused.{StepRefused}
@@ -13,7 +13,7 @@ use Rattle.irp_core.specs.declared.step.Standing.{Standing}
 use Rattle.irp_core.specs.declared.step.Standing.TheVariants.{Home, Waiting, Owed, Held, Finished}
 use Rattle.irp_core.specs.Steps.{Irp, is, found_one, made}
 use Rattle.irp_core.specs.Words.{flagged, was_armed, found_by}
-use Rattle.irp_core.specs.Runs.{Size, IsRun, IsAtRest}
+use Rattle.irp_core.specs.Runs.{Size, IsRun}
 use Rattle.irp_core.specs.Refusals.{number_of, IsCause, IsFirstCause}
 use Rattle.irp_core.specs.Owners.{holds}
 use Rattle.irp_core.specs.Texts.{refusal_text}
@@ -21,15 +21,14 @@ use Rattle.std.specs.List.{list_any}
 use Rattle.irp_core.specs.Standings.{place_of, is_home, is_held_by}
 use Rattle.irp_core.specs.Completion.{IsPlace, completed_by, removed, status_due}
 use Rattle.irp_core.proofs.Names.{same_pass-eq}
-use Rattle.irp_core.proofs.Growing.{run_none, run_less, run_last, HasLock-has_lock}
+use Rattle.irp_core.proofs.Growing.{run_none, run_last, HasLock-has_lock}
 use Rattle.irp_core.proofs.Rows.{done_at, has_left, IsDue}
 use Rattle.irp_core.proofs.Stepping.{no_cause}
 use Rattle.irp_core.proofs.Owning.{stands}
 use Rattle.irp_core.proofs.Next.{lock_one}
 use Rattle.csqsim.specs.declared.answer.Ended.{Ended}
 use Rattle.csqsim.specs.Pieces.{lines_of}
-use Rattle.csqsim.specs.StepLine.{IsStepLine}
-use Rattle.csqsim.specs.Schedule.{Numbered, run_of, IsSkipped, AnswersLine, IsIrpLine, AreIrpLines, IsRestLine, IsClosing, AnswersLines, IsScheduleAnswer, irp_line, of_line, claim_lines}
+use Rattle.csqsim.specs.Schedule.{Numbered, run_of, AnswersLine, IsIrpLine, AreIrpLines, IsRestLine, IsClosing, AnswersLines, irp_line, of_line, claim_lines}
 use Rattle.csqsim.specs.Schedule.AnswersLine.{too_long, skipped, malformed, accepted, refused}
 use Rattle.csqsim.specs.Schedule.AnswersLines.{all_handled, goes_on, stops}
 use Rattle.csqsim.specs.Schedule.IsScheduleAnswer.{too_long_input, answered}

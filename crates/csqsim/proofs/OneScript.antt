@@ -1,5 +1,5 @@
 -- A script has one answer.
-use Rattle.std.proofs.Common.{◌≡◌, ◌≢◌, ℕ, zero, suc, ◌+◌, ◌<◌, ◌≤◌, ◌==◌, Bool, true, false, cond, List, [], ◌∷◌, ◌++◌, Option, Some, None, ltb, eq-eqb, refl, ap, sym, ◌∙◌, subst, arith, codes}
+use Rattle.std.proofs.Common.{◌≡◌, ℕ, zero, suc, ◌+◌, ◌<◌, ◌≤◌, ◌==◌, Bool, true, false, cond, List, [], ◌∷◌, ◌++◌, Option, Some, None, ltb, eq-eqb, refl, ap, sym, ◌∙◌, subst, arith, codes}
 use Rattle.std.proofs.lemmas.Bool.{lt-ltb, le-ltb, ne_eqb}
 use Rattle.irp_core.specs.declared.ids.FileId.{FileId}
 use Rattle.irp_core.specs.declared.status.NtStatus.{NtStatus}
@@ -28,7 +28,7 @@ use Rattle.csqsim.specs.Calls.Cleans.{none_left, one_more}
 use Rattle.csqsim.specs.Calls.Does.{calls, cancel_claimed, cancel_unclaimed, cleaned}
 use Rattle.csqsim.specs.Pieces.{lines_of}
 use Rattle.csqsim.specs.ReplyText.{reply_text}
-use Rattle.csqsim.specs.ScriptAnswer.{AnswersCall, AnswersCalls, IsScriptAnswer}
+use Rattle.csqsim.specs.ScriptAnswer.{AnswersCall, AnswersCalls}
 use Rattle.csqsim.specs.ScriptAnswer.AnswersCall.{too_long, skipped, malformed, answered}
 use Rattle.csqsim.specs.ScriptAnswer.AnswersCalls.{all_handled, goes_on, stops}
 use Rattle.csqsim.specs.ScriptAnswer.IsScriptAnswer.{too_long_input, answered as lines_answered}

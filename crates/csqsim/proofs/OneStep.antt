@@ -1,5 +1,5 @@
 -- A line names at most one step.
-use Rattle.std.proofs.Common.{◌≡◌, ◌≢◌, ℕ, ◌+◌, ◌<◌, ◌≤◌, ◌^◌, List, [], ◌∷◌, ◌++◌, length, slice_index, refl, ap, sym, ◌∙◌, arith, decimal, codes, length-append, subst, lit≤, lit<}
+use Rattle.std.proofs.Common.{◌≡◌, ℕ, ◌≤◌, List, [], ◌∷◌, ◌++◌, length, slice_index, refl, ap, sym, ◌∙◌, arith, decimal, codes, length-append, subst, lit≤, lit<}
 use Rattle.std.proofs.lemmas.Fmt.{decimal_injective, length-decimal-le}
 use Rattle.irp_core.specs.declared.ids.IrpId.{IrpId}
 use Rattle.irp_core.specs.declared.ids.PassId.{PassId}
@@ -8,9 +8,9 @@ use Rattle.irp_core.specs.declared.step.Kind.TheVariants.{Arm, Test, Disarm, End
 use Rattle.irp_core.specs.declared.step.Step.{Step}
 use Rattle.irp_core.specs.Steps.{Irp, number}
 use Rattle.irp_core.specs.Runs.{OfIrp}
-use Rattle.irp_core.specs.Texts.{irp_text, pass_text, kind_text, step_text}
-use Rattle.csqsim.specs.Pieces.{words_of, IsShort}
-use Rattle.csqsim.specs.StepLine.{kind_words, IsPassWord, AreKindWords, IsStepLine}
+use Rattle.irp_core.specs.Texts.{irp_text, pass_text, kind_text}
+use Rattle.csqsim.specs.Pieces.{IsShort}
+use Rattle.csqsim.specs.StepLine.{kind_words, IsStepLine}
 use Rattle.csqsim.specs.Schedule.{IsSkipped, IsWithinLine}
 use Rattle.csqsim.proofs.StepText.{step_line}
 

@@ -1,15 +1,15 @@
 -- The queue of one thread says of each IRP what the run says, step by step.
-use Rattle.std.proofs.Common.{◌≡◌, ℕ, Bool, true, false, cond, not, ◌&&◌, ◌||◌, ◌==◌, List, [], ◌∷◌, ◌++◌, filter, refl, ap, sym, ◌∙◌}
+use Rattle.std.proofs.Common.{◌≡◌, ℕ, Bool, true, false, cond, not, ◌&&◌, ◌||◌, List, [], ◌∷◌, refl, ap, sym, ◌∙◌}
 use Rattle.irp_core.specs.declared.ids.PassId.{PassId}
 use Rattle.irp_core.specs.declared.ids.FileId.{FileId}
 use Rattle.irp_core.specs.declared.step.Kind.{Kind}
 use Rattle.irp_core.specs.declared.step.Kind.TheVariants.{Arm, Test, Disarm, End, Flag, Take, Out, Done}
 use Rattle.irp_core.specs.declared.step.Made.{Made}
 use Rattle.irp_core.specs.declared.step.Standing.{Standing}
-use Rattle.irp_core.specs.declared.step.Standing.TheVariants.{Home, Waiting, Owed, Held, Finished}
+use Rattle.irp_core.specs.declared.step.Standing.TheVariants.{Home, Waiting, Owed}
 use Rattle.irp_core.specs.Steps.{Irp, same_irp, is, found_one}
-use Rattle.irp_core.specs.Words.{bit, armed, flagged, was_armed}
-use Rattle.irp_core.specs.Owners.{owes, holds, listed}
+use Rattle.irp_core.specs.Words.{armed, flagged, was_armed}
+use Rattle.irp_core.specs.Owners.{owes, listed}
 use Rattle.irp_core.specs.Runs.{Size, IsRun}
 use Rattle.irp_core.proofs.Names.{same_irp-refl, same_irp-eq}
 use Rattle.irp_core.proofs.Rows.{Row}
@@ -18,9 +18,9 @@ use Rattle.std.specs.List.{list_any}
 use Rattle.csq_list.specs.declared.entry.Place.{Place}
 use Rattle.csq_list.specs.declared.entry.Place.TheVariants.{Back, Front}
 use Rattle.csq_list.specs.Listing.{put_at}
-use Rattle.csq_words.specs.declared.views.InsertReply.TheVariants.{Pending, Cancelled}
+use Rattle.csq_words.specs.declared.views.InsertReply.TheVariants.{Pending}
 use Rattle.csq_words.specs.declared.views.Event.TheVariants as event
-use Rattle.csq_words.specs.Queue.{Queued, QueueState, has_irp, has_entry, has_marked, has_unmarked, marking, without, after_event}
+use Rattle.csq_words.specs.Queue.{Queued, QueueState, has_entry, has_marked, has_unmarked, marking, without, after_event}
 use Rattle.csq_words.proofs.Entries.{has_entry-marking, has_entry-placed, has_entry-without}
 use Rattle.csqsim.specs.Calls.{script_pass, next_step}
 use Rattle.csqsim.specs.Drivers.{AreMarked, IsOfRun}

@@ -1,5 +1,5 @@
 -- What a driver keeps of its script: the private side of its contracts.
-use Rattle.std.specs.Prelude.{◌≡◌, ℕ, ◌<◌, Bool, false, not, List, [], ◌∷◌, length, Option, Some, None, slice_index_or}
+use Rattle.std.specs.Prelude.{◌≡◌, ◌<◌, Bool, false, not, List, [], ◌∷◌, length, Option, Some, None, slice_index_or}
 use Rattle.irp_core.specs.declared.status.NtStatus.{NtStatus}
 use Rattle.irp_core.specs.declared.step.Made.{Made}
 use Rattle.irp_core.specs.declared.step.Inside.TheVariants.{Nothing}
@@ -14,7 +14,7 @@ use Rattle.csqsim.specs.declared.call.Call.{Call}
 use Rattle.csqsim.specs.declared.call.Reply.{Reply}
 use Rattle.csqsim.specs.declared.replay.Handling.{Handling}
 use Rattle.csqsim.specs.declared.replay.Handling.TheVariants.{GoesOn, Stops}
-use Rattle.csqsim.specs.Calls.{Script, script_pass, status_of, Calls, Cleans, Does}
+use Rattle.csqsim.specs.Calls.{Script, script_pass, status_of, Calls, Does}
 
 -- each entry is marked where its routine is gone
 abbrev pub AreMarked : List Made → List Queued → Type 0

@@ -74,14 +74,12 @@ fn share<L: PendingList + Drop, N: QueueName, R: Wait>(
     threads: u32,
 ) -> u32 {
     let mut completed = 0u32;
-    for number in first..IRPS {
-        if number & threads.wrapping_sub(1) != first {
-            continue;
-        }
-        insert(rt, queue, pass, IrpId(number));
+    for nth in 0..IRPS.checked_div(threads).unwrap_or(0) {
+        let irp = IrpId(nth.wrapping_mul(threads).wrapping_add(first));
+        insert(rt, queue, pass, irp);
         completed = completed.wrapping_add(match end {
             End::Remove => remove(rt, queue, pass, success),
-            End::Cancel => u32::from(queue.cancel(rt, pass, IrpId(number)) == Ok(true)),
+            End::Cancel => u32::from(queue.cancel(rt, pass, irp) == Ok(true)),
         });
     }
     completed

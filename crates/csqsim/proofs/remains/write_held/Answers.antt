@@ -1,4 +1,4 @@
-use Rattle.std.proofs.Common.{◌++◌, true, false, sym, ap, ◌∙◌, codes, string_bytes}
+use Rattle.std.proofs.Common.{sym, ap, ◌∙◌, string_bytes}
 use Rattle.irp_core.specs.Owners.{holds}
 use Rattle.csqsim.specs.Calls.{script_pass}
 use Rattle.csqsim.proofs.LastLines.{kept_more, kept_same}

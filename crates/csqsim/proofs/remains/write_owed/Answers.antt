@@ -1,4 +1,4 @@
-use Rattle.std.proofs.Common.{◌++◌, true, false, sym, ap, ◌∙◌, codes, string_bytes}
+use Rattle.std.proofs.Common.{false, sym, ap, ◌∙◌, string_bytes}
 use Rattle.std.specs.Prelude.{slice_index_or}
 use Rattle.irp_core.specs.Steps.{Irp}
 use Rattle.csqsim.proofs.LastLines.{kept_more, kept_same}

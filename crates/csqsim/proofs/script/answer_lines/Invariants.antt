@@ -1,4 +1,4 @@
-use Rattle.std.proofs.Common.{◌≡◌, ◌+◌, ◌≤◌, List, ℕ, [], length, string_bytes}
+use Rattle.std.proofs.Common.{◌+◌, ◌≤◌, List, ℕ, length, string_bytes}
 use Rattle.csq_words.specs.Queue.{Limits}
 use Rattle.csqsim.specs.Pieces.{lines_of}
 use Rattle.csqsim.specs.Replays.{GrewBy}

@@ -1,4 +1,4 @@
-use Rattle.std.proofs.Common.{◌≡◌, ◌++◌, ◌∙◌, sym, ap, filter, codes, string_bytes}
+use Rattle.std.proofs.Common.{◌++◌, ◌∙◌, ap, filter, string_bytes}
 use Rattle.irp_core.specs.Owners.{owes, holds}
 use Rattle.csqsim.specs.Calls.{script_pass}
 use Rattle.csqsim.specs.ScriptAnswer.{irps_below}

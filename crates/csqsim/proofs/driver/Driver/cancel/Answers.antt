@@ -1,5 +1,4 @@
-use Rattle.std.proofs.Common.{refl, sym, ap, ◌∙◌, subst}
-use Rattle.irp_core.specs.declared.status.TheConstants.NtStatus.{CANCELLED}
+use Rattle.std.proofs.Common.{subst}
 use Rattle.csqsim.specs.declared.call.Call.TheVariants.{Mark, Routine}
 use Rattle.csqsim.specs.declared.call.Reply.{Reply}
 use Rattle.csqsim.specs.Calls.{Calls}

@@ -1,10 +1,8 @@
-use Rattle.std.proofs.Common.{not, refl, sym, ap, ◌∙◌, subst, arith}
+use Rattle.std.proofs.Common.{not, refl, sym, ap, ◌∙◌}
 use Rattle.irp_core.specs.declared.step.Inside.TheVariants.{Nothing}
 use Rattle.csqsim.specs.declared.call.Call.TheVariants.{Complete}
-use Rattle.csqsim.specs.Calls.{completing}
-use Rattle.csqsim.specs.Calls.Calls.{completes, holds_none, refuses_pending}
 use Rattle.csqsim.proofs.Going.{starts, may_done}
-use Rattle.csqsim.proofs.Calling.{irps_are, done_keeps, unknown_keeps, keeps_as, not_held_keeps, pending_keeps, completed_keeps}
+use Rattle.csqsim.proofs.Calling.{unknown_keeps, keeps_as, not_held_keeps, pending_keeps, completed_keeps}
 use Rattle.csqsim.proofs.driver.Driver.complete.Goals as goal
 
 pub returns-then-not-is_known : goal.returns-then-not-is_known

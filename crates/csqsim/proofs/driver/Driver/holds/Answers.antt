@@ -1,4 +1,4 @@
-use Rattle.std.proofs.Common.{◌≡◌, false, ap, inl, inr, sym, ◌∙◌, Some, subst}
+use Rattle.std.proofs.Common.{◌≡◌, false, ap, inl, inr, sym, ◌∙◌, subst}
 use Rattle.irp_core.specs.Steps.{same_pass}
 use Rattle.irp_core.specs.declared.step.IrpPlace.{IrpPlace}
 use Rattle.irp_core.specs.declared.step.IrpPlace.TheVariants.{HeldBy}

@@ -1,4 +1,4 @@
-use Rattle.std.proofs.Common.{refl, sym, ap, ◌∙◌, subst, arith, ◌∷◌, []}
+use Rattle.std.proofs.Common.{refl, ap, arith, ◌∷◌, []}
 use Rattle.irp_core.specs.declared.step.Kind.TheVariants.{Arm, Test, Disarm}
 use Rattle.irp_core.specs.declared.status.TheConstants.NtStatus.{CANCELLED}
 use Rattle.csq_words.specs.declared.views.InsertReply.TheVariants as reply

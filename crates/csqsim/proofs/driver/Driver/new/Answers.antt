@@ -1,4 +1,4 @@
-use Rattle.std.proofs.Common.{◌≡◌, Some, None, false, ℕ, refl, sym, ◌∙◌, ap, subst, arith, List, Bool, Option, replicate, length}
+use Rattle.std.proofs.Common.{◌≡◌, Some, None, false, ℕ, refl, ◌∙◌, ap, arith, List, Bool, Option, replicate, length}
 use Rattle.std.specs.Prelude.{slice_index_or}
 use Rattle.std.proofs.lemmas.List.{get_or-replicate, length-replicate}
 use Rattle.irp_core.specs.Runs.{Size}

@@ -1,10 +1,8 @@
-use Rattle.std.proofs.Common.{◌≡◌, true, Some, None, refl, sym, ap, ◌∙◌, subst}
-use Rattle.irp_core.specs.declared.step.Kind.TheVariants.{Disarm}
+use Rattle.std.proofs.Common.{◌≡◌, true, Some, None, refl, ap, ◌∙◌, subst}
 use Rattle.csq_list.specs.Listing.{Listing, removed}
 use Rattle.csq_list.specs.Searches.{is_listed, rest_after}
 use Rattle.csq_list.specs.Searches as plainly
-use Rattle.csqsim.specs.Calls.{next_step}
-use Rattle.csqsim.proofs.Going.{May, may_end}
+use Rattle.csqsim.proofs.Going.{may_end}
 use Rattle.csqsim.proofs.Calling.{keeps_as}
 use Rattle.csqsim.proofs.Removing.{seeks_first, may_disarm_next, seeks_more, seeks_hit, seeks_end}
 use Rattle.csqsim.proofs.driver.Driver.next.Goals as goal

@@ -1,6 +1,6 @@
-use Rattle.std.proofs.Common.{None, refl, sym, ap, ◌∙◌, subst, arith}
+use Rattle.std.proofs.Common.{None, refl, sym, ◌∙◌, subst}
 use Rattle.irp_core.specs.Runs.{Size, IsRun}
-use Rattle.irp_core.specs.declared.step.Inside.TheVariants.{Nothing, Removing}
+use Rattle.irp_core.specs.declared.step.Inside.TheVariants.{Nothing}
 use Rattle.irp_core.specs.declared.step.Kind.TheVariants.{Disarm}
 use Rattle.csq_list.specs.declared.entry.Peek.TheVariants.{Any}
 use Rattle.csqsim.specs.declared.call.Call.TheVariants.{Remove}

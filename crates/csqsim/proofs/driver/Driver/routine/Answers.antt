@@ -1,12 +1,11 @@
 use Rattle.std.proofs.Common.{refl, sym, ap, ◌∙◌, subst, arith, ◌∷◌, []}
-use Rattle.irp_core.specs.Runs.{Size}
 use Rattle.irp_core.specs.declared.step.Inside.TheVariants.{Nothing}
-use Rattle.irp_core.specs.MachineState.{MachineState, Agrees, size_of}
+use Rattle.irp_core.specs.MachineState.{MachineState}
 use Rattle.irp_core.specs.declared.step.Kind.TheVariants.{Out, Done}
 use Rattle.irp_core.specs.declared.status.TheConstants.NtStatus.{CANCELLED}
 use Rattle.csq_words.specs.declared.views.Event.TheVariants as event
 use Rattle.csqsim.specs.declared.call.Call.TheVariants.{Routine}
-use Rattle.csqsim.specs.Calls.{next_step, completing, doing}
+use Rattle.csqsim.specs.Calls.{completing, doing}
 use Rattle.csqsim.specs.Calls.Calls.{runs_routine}
 use Rattle.csqsim.proofs.Going.{May, starts, may_out, may_out_done}
 use Rattle.csqsim.proofs.Calling.{unknown_keeps, no_claim_keeps, owes_is, owed_there, out_keeps, out_may_come, done_keeps, keeps_as, irps_are}
