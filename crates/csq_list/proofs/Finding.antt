@@ -1,5 +1,6 @@
 -- What a removal finds, and what then stands after it.
 use Rattle.std.proofs.Common.{◌≡◌, ◌==◌, ◌<◌, Bool, true, false, true≢false, not, ◌&&◌, ◌||◌, List, [], ◌∷◌, ◌++◌, map, length, Option, Some, None, IfSome, refl, sym, ap, ◌∙◌, subst, arith, append_assoc, append-nil, length-append, eqb-true, eq-eqb}
+use Rattle.std.proofs.Math.Bool.{or-true}
 use Rattle.irp_core.specs.declared.ids.IrpId.{IrpId}
 use Rattle.csq_list.specs.declared.entry.Entry.{Entry}
 use Rattle.csq_list.specs.declared.entry.Peek.{Peek}
@@ -22,19 +23,15 @@ pub not_true : (a : Bool) → not a ≡ true → a ≡ false
 not_true true h = absurd (true≢false (sym h))
 not_true false h = refl
 
-or_right : (a : Bool) → (a || true) ≡ true
-or_right true = refl
-or_right false = refl
-
 -- an entry among others is listed
 pub is_listed-among : (before : List Entry) (e : Entry) (later : List Entry) → is_listed (before ++ e ∷ later) e.irp ≡ true
 is_listed-among [] e later = ap (λ b. b || is_listed later e.irp) (eq-eqb e.irp.0 e.irp.0 refl)
-is_listed-among (x ∷ before) e later = ap (λ b. is_of e.irp x || b) (is_listed-among before e later) ∙ or_right (is_of e.irp x)
+is_listed-among (x ∷ before) e later = ap (λ b. is_of e.irp x || b) (is_listed-among before e later) ∙ or-true (is_of e.irp x)
 
 -- what is listed in a later part is listed
 pub is_listed-behind : (before rest : List Entry) (i : IrpId) → is_listed rest i ≡ true → is_listed (before ++ rest) i ≡ true
 is_listed-behind [] rest i h = h
-is_listed-behind (x ∷ before) rest i h = ap (λ b. is_of i x || b) (is_listed-behind before rest i h) ∙ or_right (is_of i x)
+is_listed-behind (x ∷ before) rest i h = ap (λ b. is_of i x || b) (is_listed-behind before rest i h) ∙ or-true (is_of i x)
 
 -- the first match in a list: the entries before it don't match
 pub record IsFound (k : Peek) (i : IrpId) (es : List Entry) : Type 0 where

@@ -1,5 +1,6 @@
 -- What holds of a list after each call.
 use Rattle.std.proofs.Common.{◌≡◌, ◌==◌, ◌<◌, ◌≤◌, ◌+◌, ℕ, ◌⊎◌, inl, inr, Bool, true, false, true≢false, not, ◌||◌, nat_lt, List, [], ◌∷◌, length, filter, refl, sym, ap, ◌∙◌, subst, arith, length-append, eqb-true, eq-eqb, lt-ltb}
+use Rattle.std.proofs.Math.Bool.{or-true}
 use Rattle.std.specs.List.{list_any, list_all}
 use Rattle.irp_core.specs.declared.ids.IrpId.{IrpId}
 use Rattle.irp_core.specs.declared.ids.FileId.{FileId}
@@ -118,13 +119,9 @@ module _ (s : Listing) (sound : IsSound s) where
     within_limit = omega (arith, length-put_at place e s.entries);
   }
     where
-      or_true : (b : Bool) → (b || true) ≡ true
-      or_true true = refl
-      or_true false = refl
-
       listed_used : (i : IrpId) → (is_of i e ≡ true) ⊎ (is_listed s.entries i ≡ true) → (is_of i e || s.used i) ≡ true
       listed_used i (inl h) = rw h refl
-      listed_used i (inr h) = ap (λ b. is_of i e || b) (sound.listed_used i h) ∙ or_true (is_of i e)
+      listed_used i (inr h) = ap (λ b. is_of i e || b) (sound.listed_used i h) ∙ or-true (is_of i e)
 
       used_known : (i : IrpId) → (is_of i e ≡ true) ⊎ (s.used i ≡ true) → i.0 < s.irps
       used_known i (inl h) = subst (λ n. n < s.irps) (eqb-true e.irp.0 i.0 h) known

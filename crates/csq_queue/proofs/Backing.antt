@@ -1,5 +1,6 @@
 -- The passes that are back, by their flags.
 use Rattle.std.proofs.Common.{◌≡◌, ◌≢◌, ℕ, zero, suc, ◌+◌, ◌-◌, ◌<◌, ◌≤◌, ◌==◌, ◌||◌, ◌&&◌, not, ◌++◌, ⊎_elim, Bool, true, false, true≢false, List, [], ◌∷◌, length, set, refl, sym, ap, ◌∙◌, arith, ne_eqb, length-set, get_or-set_other, get_or-set_same}
+use Rattle.csq_words.proofs.Laws.{or_true}
 use Rattle.std.specs.Prelude.{slice_index_or, slice_set}
 use mathlib.Core.Option.{some}
 use lib.ListN.{get_elem?}
@@ -69,13 +70,9 @@ none_out own back n r e is (suc p) l h =
     ap (λ (q : PassId). same_pass q (pass_at (suc p)) || is_back (pass_at (suc p)) back) is
     ∙ by_number ((same_pass (pass_at own) (pass_at (suc p)) || is_back (pass_at (suc p)) back) ≡ true) (suc p) own
     (λ same. ap (λ b. b || is_back (pass_at (suc p)) back) (same_at own (suc p) (sym same)))
-    (λ other. or_right (same_pass (pass_at own) (pass_at (suc p))) (is_back (pass_at (suc p)) back)
+    (λ other. or_true (same_pass (pass_at own) (pass_at (suc p))) (is_back (pass_at (suc p)) back)
     (there (suc p == own) (is_back (pass_at (suc p)) back) (ne_eqb (suc p) own other) (tally_none (λ k. not (suc k == own) && not (is_back (pass_at (suc k)) back)) n p e (omega arith))))
   where
-    or_right : (a b : Bool) → b ≡ true → (a || b) ≡ true
-    or_right true b h = refl
-    or_right false b h = h
-
     there : (a b : Bool) → a ≡ false → (not a && not b) ≡ false → b ≡ true
     there true b e h = absurd (true≢false e)
     there false true e h = refl
@@ -86,12 +83,8 @@ pub rack_more : (passes left left' : ℕ) (back : List PassRecord) (r : PassReco
     → ((p : ℕ) → 1 ≤ p → p ≤ passes - left → is_back (pass_at p) back ≡ true) → (p : ℕ) → 1 ≤ p → p ≤ passes - left' → is_back (pass_at p) (r ∷ back) ≡ true
 rack_more passes left left' back r is e few h p l m = by_number (is_back (pass_at p) (r ∷ back) ≡ true) p (passes + 1 - left)
     (λ same. ap (λ b. b || is_back (pass_at p) back) (ap (λ (q : PassId). same_pass q (pass_at p)) is ∙ same_at (passes + 1 - left) p (sym same)))
-    (λ ne. or_right (same_pass r.pass (pass_at p)) (is_back (pass_at p) back) (h p l (less passes left left' p e few m ne)))
+    (λ ne. or_true (same_pass r.pass (pass_at p)) (is_back (pass_at p) back) (h p l (less passes left left' p e few m ne)))
   where
-    or_right : (a b : Bool) → b ≡ true → (a || b) ≡ true
-    or_right true b h = refl
-    or_right false b h = h
-
     same : (passes left left' p : ℕ) → left' + 1 ≡ left → left ≤ passes → p ≤ passes - left' → passes - left < p → p ≡ passes + 1 - left
     same passes left left' p e few m over = omega arith
 

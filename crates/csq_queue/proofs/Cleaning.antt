@@ -1,5 +1,6 @@
 -- A cleanup on its way.
 use Rattle.std.proofs.Common.{◌≡◌, ℕ, suc, ◌+◌, ◌≤◌, ◌==◌, not, ◌&&◌, ◌||◌, Bool, true, false, true≢false, List, [], ◌∷◌, ◌++◌, length, Option, Some, None, refl, sym, ap, ◌∙◌, subst, append_assoc, eqb-true, eq-eqb, arith}
+use Rattle.csq_words.proofs.Laws.{or_true}
 use Rattle.irp_core.specs.Steps.{Irp, number, same_irp}
 use Rattle.irp_core.specs.Words.{flagged}
 use Rattle.irp_core.specs.declared.ids.FileId.{FileId}
@@ -47,10 +48,6 @@ pub record IsCleaning (l : Limits) (f : FileId) (old now : PassRecord) (count : 
   pub closed : has_file (end_of now.seen).closed f ≡ true
   pub counted : count ≤ done_count l.irps now
 
-or_right : (a b : Bool) → b ≡ true → (a || b) ≡ true
-or_right true b h = refl
-or_right false b h = h
-
 begins_on : (a b c : List Entry) → Begins a b → Begins b c → Begins a c
 begins_on a b c h g = (g.0 ++ h.0, g.1 ∙ (ap (λ (x : List Entry). g.0 ++ x) h.1 ∙ sym (append_assoc g.0 h.0 a)))
 
@@ -71,7 +68,7 @@ closed_after q (RemoveNext k (Some i)) f h = h
 closed_after q (Remove i false) f h = h
 closed_after q (Remove i true) f h = h
 closed_after q (Out i) f h = h
-closed_after q (CloseFile g) f h = or_right (g.0 == f.0) (has_file q.closed f) h
+closed_after q (CloseFile g) f h = or_true (g.0 == f.0) (has_file q.closed f) h
 
 closed_later : (newer h : List Entry) (f : FileId) → has_file (end_of h).closed f ≡ true → has_file (end_of (newer ++ h)).closed f ≡ true
 closed_later [] h f c = c
@@ -176,7 +173,7 @@ module _ (l : Limits) (f : FileId) (old now : PassRecord) (count : ℕ) (c : IsC
         flags = λ j. g.flags j ∙ c.completes.flags j;
         owed = λ j. g.owed j ∙ c.completes.owed j;
         held = λ j. ap (λ h. not (same_irp i j) && h) (g.held j) ∙ (kept (same_irp i j) (holds_in now.steps j) (λ t. ap (λ (x : Irp). holds_in now.steps x) (sym (same_irp-eq i j t)) ∙ (g.new_to_it i refl).not_held) ∙ c.completes.held j);
-        removed = λ j h. g.removed j ∙ or_right (same_irp i j) (removed_in now.steps j) (c.completes.removed j h);
+        removed = λ j h. g.removed j ∙ or_true (same_irp i j) (removed_in now.steps j) (c.completes.removed j h);
       };
       closed = still_closed r a.begins;
       counted = let more = done_more in let was = c.counted in omega arith;

@@ -1,5 +1,7 @@
 -- An insert that no cause refuses.
 use Rattle.std.proofs.Common.{◌≡◌, ℕ, ◌<◌, not, ◌&&◌, ◌||◌, cond, Bool, true, false, true≢false, List, [], ◌∷◌, Some, None, refl, sym, ap, ◌∙◌, subst}
+use Rattle.csq_words.proofs.Laws.{or_true}
+use Rattle.std.proofs.lemmas.Bool.{false_from_ne_true}
 use Rattle.std.specs.List.{find}
 use borrow.Author.Tests.{leb-false}
 use Rattle.atomic_table.specs.Seated.{TableId}
@@ -42,18 +44,10 @@ accepted_irp l q i f h =
     let three = find_none (is_cause (listing_of l q) i f) NotHome (FileClosed ∷ Full ∷ []) two.1 in
     (leb-false l.irps (number i) one.0, three.0)
 
-bool_false : (b : Bool) → (b ≡ true → ⊥) → b ≡ false
-bool_false true h = absurd (h refl)
-bool_false false h = refl
-
-or_right : (a b : Bool) → b ≡ true → (a || b) ≡ true
-or_right true b h = refl
-or_right false b h = h
-
 unmarked-put_at : (place : Place) (i : Irp) (f : FileId) (es : List Queued) → has_unmarked (put_at place (new_entry i f) es) i ≡ true
 unmarked-put_at Front i f es = rw (same_irp-refl i) refl
 unmarked-put_at Back i f [] = rw (same_irp-refl i) refl
-unmarked-put_at Back i f (e ∷ es) = or_right (same_irp e.irp i && not e.marked) _ (unmarked-put_at Back i f es)
+unmarked-put_at Back i f (e ∷ es) = or_true (same_irp e.irp i && not e.marked) _ (unmarked-put_at Back i f es)
 
 -- the seat after each step of the insert
 abbrev armed : Irp → FileId → Place → ℕ → QueueSeatState → QueueSeatState
@@ -67,16 +61,16 @@ disarmed i f place n z = with_view (after_step (InsertCall i f place) (Disarm i)
 
 module _ (t : TableId) (l : Limits) (s : Listing) (old : QueueSeatState) (h : IsEntered t l s old) (i : Irp) (f : FileId) (place : Place) (none' : refusal l (end_of old.queue.history) i f ≡ None) where
   unflagged : has_irp (end_of old.queue.history).flags i ≡ false
-  unflagged = bool_false (has_irp (end_of old.queue.history).flags i) (λ e. true≢false (sym (h.list_is.flags_used i e) ∙ (accepted_irp l (end_of old.queue.history) i f none').1))
+  unflagged = false_from_ne_true (has_irp (end_of old.queue.history).flags i) (λ e. true≢false (sym (h.list_is.flags_used i e) ∙ (accepted_irp l (end_of old.queue.history) i f none').1))
 
   used_stays : (j : Irp) → has_irp (end_of old.queue.history).flags j ≡ true → has_irp (i ∷ (end_of old.queue.history).used) j ≡ true
-  used_stays j e = or_right (same_irp i j) (has_irp (end_of old.queue.history).used j) (h.list_is.flags_used j e)
+  used_stays j e = or_true (same_irp i j) (has_irp (end_of old.queue.history).used j) (h.list_is.flags_used j e)
 
   pending : Pending ≡ reply_to_insert (refusal l (end_of old.queue.history) i f) (has_irp (end_of old.queue.history).flags i)
   pending = sym (λ k. reply_to_insert (none' k) (unflagged k))
 
   unlisted : IsSound s → has_entry (end_of old.queue.history).entries i ≡ false
-  unlisted sound = bool_false (has_entry (end_of old.queue.history).entries i) (λ e.
+  unlisted sound = false_from_ne_true (has_entry (end_of old.queue.history).entries i) (λ e.
       let listed : is_listed s.entries i ≡ true = ap (λ (x : Listing). is_listed x.entries i) h.list_is.listing_is ∙ (is_listed-plain (end_of old.queue.history).entries i ∙ e) in
       true≢false (sym (sound.listed_used i listed) ∙ (ap (λ (x : Listing). x.used i) h.list_is.listing_is ∙ (accepted_irp l (end_of old.queue.history) i f none').1)))
 

@@ -12,10 +12,6 @@ use Rattle.csq_words.specs.History.{end_of, IsLegal}
 use Rattle.csq_words.specs.Records.{entries_of}
 use Rattle.csq_words.specs.Calls.{due_mark}
 
-and_off : (a : Bool) → (a && false) ≡ false
-and_off true = refl
-and_off false = refl
-
 or_off : (a b : Bool) → (a || b) ≡ false → (a ≡ false) × (b ≡ false)
 or_off true b h = absurd (true≢false h)
 or_off false b h = (refl, h)

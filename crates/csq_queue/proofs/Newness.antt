@@ -1,5 +1,6 @@
 -- What a pass gets it did not hold before.
 use Rattle.std.proofs.Common.{◌≡◌, ◌≢◌, true≢false, Bool, true, false, cond, List, [], ◌∷◌, refl, sym, ap, ◌∙◌, subst}
+use Rattle.std.proofs.lemmas.Bool.{false_from_ne_true}
 use Rattle.irp_core.specs.declared.ids.PassId.{PassId}
 use Rattle.irp_core.specs.declared.step.Kind.TheVariants.{Disarm, Done}
 use Rattle.irp_core.specs.declared.step.Made.{Made}
@@ -13,7 +14,7 @@ use Rattle.csq_words.specs.declared.views.PassRecord.{PassRecord}
 use Rattle.csq_words.specs.declared.views.QueueRecord.{QueueRecord}
 use Rattle.csq_words.specs.Own.{owes_in, holds_in}
 use Rattle.csq_words.specs.Rule.{IsTold, is_done}
-use Rattle.csq_words.proofs.Laws.{bool_off, none_filtered}
+use Rattle.csq_words.proofs.Laws.{none_filtered}
 use Rattle.csq_words.proofs.Own.{any_filtered, owes_in-own, holds_in-own}
 
 -- the run before the last step of a pass
@@ -54,5 +55,5 @@ disarm_new q r i p steps told e =
     let new = routine_new told.size b.run (run_less told.size m b.run b.is_run) i (sym (run_last told.size m b.run b.is_run).found) r.pass in (
       subst (λ s. owes_in s i ≡ false) b.steps_is (owes_in-own r.pass i b.run ∙ new.0),
       subst (λ s. holds_in s i ≡ false) b.steps_is (holds_in-own r.pass i b.run ∙ new.1),
-      subst (λ s. is_done s i ≡ false) b.steps_is (bool_off (is_done (own r.pass b.run) i) (λ d. true≢false (sym (any_filtered (is (Done i)) (by r.pass) b.run d) ∙ undone))),
+      subst (λ s. is_done s i ≡ false) b.steps_is (false_from_ne_true (is_done (own r.pass b.run) i) (λ d. true≢false (sym (any_filtered (is (Done i)) (by r.pass) b.run d) ∙ undone))),
     )

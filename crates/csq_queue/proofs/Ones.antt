@@ -28,11 +28,7 @@ use Rattle.csq_queue.proofs.Lists.{is_listed-plain, listing-removed}
 use Rattle.csq_queue.proofs.Newness.{disarm_new}
 use Rattle.csq_queue.proofs.Marking.{due_marks, due_legal, none_unmarked, one_marked, unmarked_else, unlisted_unmarked}
 use Rattle.csq_queue.proofs.Searching.{with_made, adds_none, adds_more, gives_none, gives_missed, gives_ended, gives_got, removes_on}
-use Rattle.csq_queue.proofs.Removing.{due_list}
-
-due_marked : (b : Bool) (i : Irp) → cond b (Mark i ∷ []) [] ++ [] ≡ marked (cond b (i ∷ []) [])
-due_marked true i = refl
-due_marked false i = refl
+use Rattle.csq_queue.proofs.Removing.{due_list, due_marked}
 
 module _ (t : TableId) (l : Limits) (s : Listing) (seat : QueueSeatState) (h : IsEntered t l s seat) (i : Irp) where
   same_listed : is_listed s.entries i ≡ has_entry (end_of seat.queue.history).entries i
@@ -87,7 +83,7 @@ module _ (t : TableId) (l : Limits) (s : Listing) (seat : QueueSeatState) (h : I
       let seat' = with_made (Disarm i) 0 new seat in
       let marks : List Irp = cond (has_unmarked (end_of history).entries i) (i ∷ []) [] in
       let added : Adds l seat (new ++ []) s seat' = adds_more l seat [] new s s seat (Disarm i) 0 (adds_none t l s seat h) (due_legal l p i history h.legal) (due_list l s seat i h.list_is) told in
-      let next : Adds l seat (marked marks) s seat' = subst (λ (es : List Event). Adds l seat es s seat') (due_marked (has_unmarked (end_of history).entries i) i) added in (
+      let next : Adds l seat (marked marks) s seat' = subst (λ (es : List Event). Adds l seat es s seat') (due_marked (has_unmarked (end_of history).entries i) i []) added in (
         (marks, adds_more l seat (marked marks) (Remove i false ∷ []) s s seat' End 0 next (sym one_marked_now, next.legal) record { listing_is = next.list_is.listing_is; flags_used = next.list_is.flags_used } told'),
         gives_ended l (joined_record seat) (joined_record seat') (gives_missed l (joined_record seat) (joined_record seat) (gives_none l true (joined_record seat)) new i) (Remove i false ∷ []),
       )

@@ -48,7 +48,7 @@ search_start t l s k seat h = record {
   place = tt;
 }
 
-due_marked : (b : Bool) (i : Irp) (ms : List Irp) → cond b (Mark i ∷ []) [] ++ marked ms ≡ marked (cond b (i ∷ ms) ms)
+pub due_marked : (b : Bool) (i : Irp) (ms : List Irp) → cond b (Mark i ∷ []) [] ++ marked ms ≡ marked (cond b (i ∷ ms) ms)
 due_marked true i ms = refl
 due_marked false i ms = refl
 

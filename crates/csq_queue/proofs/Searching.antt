@@ -1,5 +1,6 @@
 -- A removal goes through the list, and the history keeps pace.
 use Rattle.std.proofs.Common.{◌≡◌, ℕ, ◌<◌, not, ◌&&◌, ◌||◌, Bool, true, false, true≢false, List, [], ◌∷◌, ◌++◌, map, Some, None, refl, sym, ap, ◌∙◌, subst}
+use Rattle.csq_words.proofs.Laws.{or_true}
 use Rattle.atomic_table.specs.Seated.{TableId}
 use Rattle.irp_core.specs.Steps.{Irp, number, same_irp}
 use Rattle.irp_core.specs.Inside.{follows, in_insert, after_disarm}
@@ -77,10 +78,6 @@ adds_more l old es new s s' seat kind n a legal list_is told =
 pub gives_none : (l : Limits) (by_removal : Bool) (r : PassRecord) → GivesOut l None by_removal r r
 gives_none l true r = record { pass = refl; completed = refl; dones = λ j. refl; flags = λ j. refl; owed = λ j. refl; held = λ j. refl; removed = λ j. refl; new_to_it = λ i e. let x : None ≡ Some i = e in absurd (cc) }
 gives_none l false r = record { pass = refl; completed = refl; dones = λ j. refl; flags = λ j. refl; owed = λ j. refl; held = λ j. refl; removed = λ j. refl; new_to_it = λ i e. let x : None ≡ Some i = e in absurd (cc) }
-
-and_off : (a : Bool) → (a && false) ≡ false
-and_off true = refl
-and_off false = refl
 
 module _ (l : Limits) (old r : PassRecord) (g : GivesOut l None true old r) (es : List Event) where
   -- the pass found that a canceller has the IRP
@@ -201,8 +198,4 @@ bare (b ∷ before) e later i is h = bare before e later i is (right (same_irp b
 
 pub listed_at : (before : List Queued) (e : Queued) (later : List Queued) (i : Irp) → e.irp ≡ i → has_entry (before ++ e ∷ later) i ≡ true
 listed_at [] e later i is = rw (is, same_irp-refl i) refl
-listed_at (b ∷ before) e later i is = or_right (same_irp b.irp i) (has_entry (before ++ e ∷ later) i) (listed_at before e later i is)
-  where
-    or_right : (a b : Bool) → b ≡ true → (a || b) ≡ true
-    or_right true b h = refl
-    or_right false b h = h
+listed_at (b ∷ before) e later i is = or_true (same_irp b.irp i) (has_entry (before ++ e ∷ later) i) (listed_at before e later i is)

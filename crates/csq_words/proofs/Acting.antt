@@ -1,5 +1,6 @@
 -- The steps of a pass's own seat keep the rule.
 use Rattle.std.proofs.Common.{◌≡◌, ◌≢◌, ℕ, ◌+◌, ◌*◌, ◌<◌, ◌≤◌, Bool, true, false, List, [], ◌∷◌, map, length, set, refl, sym, ap, ◌∙◌, subst, arith, length-set, get_or-set_other, get_or-set_same}
+use Rattle.std.proofs.lemmas.Bool.{false_from_ne_true}
 use Rattle.std.specs.Prelude.{slice_index}
 use mathlib.Core.Option.{none}
 use Rattle.atomic_table.specs.Table.{Allows, step, keeps}
@@ -28,7 +29,7 @@ use Rattle.irp_core.specs.declared.status.TheConstants.NtStatus.{CANCELLED}
 use Rattle.irp_core.specs.Words.{was_armed}
 use Rattle.csq_words.specs.Rule.{cancel_at, routine_at, status_at, status_in, is_done, IsStatusWord, HasWords, with_done, completed_in, AreStored, IsRecord, IsKept}
 use Rattle.csq_words.specs.Plays.{SeatView, IsFound, Acts, Completes}
-use Rattle.csq_words.proofs.Laws.{or_true, off, bool_off, bit_bound, open_undone}
+use Rattle.csq_words.proofs.Laws.{or_true, off, bit_bound, open_undone}
 use Rattle.csq_words.proofs.Own.{own-mine, any_filtered}
 use Rattle.csq_words.proofs.Own.{holds_in-own, removed_in-own}
 use Rattle.csq_words.proofs.Named.{irp_eq}
@@ -189,7 +190,7 @@ completes size slots id r held i status inside' small outside held' due s (run, 
     let few = k.agrees.few in
     let wide = k.agrees.wide in
     let room : status_at i < length s.words = omega arith in
-    let due' : removed run i ≡ false → status ≡ CANCELLED = λ e. due (bool_off (removed_in r.steps i) (λ h. off (sym e ∙ removed_in-own r.pass i run (subst (λ t. removed_in t i ≡ true) was.steps_is h)))) in
+    let due' : removed run i ≡ false → status ≡ CANCELLED = λ e. due (false_from_ne_true (removed_in r.steps i) (λ h. off (sym e ∙ removed_in-own r.pass i run (subst (λ t. removed_in t i ≡ true) was.steps_is h)))) in
     let steps = ap (λ u. m ∷ u) was.steps_is ∙ sym (own-mine r.pass m run refl) in (
       pass_view r',
       keeps,

@@ -2,7 +2,7 @@
 use Rattle.std.proofs.Common.{◌≡◌, ℕ, ◌<◌, ◌≤◌, ◌==◌, ◌||◌, ◌&&◌, cond, Bool, true, false, List, [], ◌∷◌, filter, Some, None, IsSome, inl, inr, ◌⊎◌, ⊎_elim, refl, sym, ap, ◌∙◌, subst, arith, eq-eqb}
 use Rattle.std.specs.Prelude.{slice_index}
 use Rattle.std.specs.List.{list_any}
-use Rattle.std.proofs.lemmas.Bool.{cases_lt, lt-ltb}
+use Rattle.std.proofs.lemmas.Bool.{cases_lt, lt-ltb, false_from_ne_true}
 use mathlib.Core.Option.{some}
 use Rattle.atomic_table.specs.Table.{Final, Seen}
 use Rattle.csq_words.specs.Own.{inside_of, owes_in, holds_in}
@@ -36,7 +36,7 @@ use Rattle.csq_words.specs.Records.{view_of}
 use Rattle.irp_core.specs.Words.{was_armed}
 use Rattle.csq_words.specs.Rule.{cancel_at, status_at, status_in, IsStatusWord, HasWords, WasCancelled, IsTrueOf, AreTrueOf, Agrees, IsKept}
 use Rattle.csq_words.specs.Finals.{AllBack, IsFinal, says_cancelled, IsLeft, KeepsRecords}
-use Rattle.csq_words.proofs.Laws.{off, bool_off, none_filtered}
+use Rattle.csq_words.proofs.Laws.{off, none_filtered}
 use Rattle.csq_words.proofs.Own.{own-other, flagged_own}
 use Rattle.csq_words.proofs.Truths.{left}
 use Rattle.csq_words.proofs.Keeping.{at_queue}
@@ -157,7 +157,7 @@ all_left size words q f i inside' =
     go (inl h) = inl record { unlisted = f.agrees.history_is.listed_is i ∙ rw h.0 refl; unused = f.agrees.history_is.used_is i ∙ h.0; unset = undone h.1 }
     go (inr (inl h)) =
         let there : listed f.run i ≡ true = rw (h.0, h.1) refl in
-        let clear : flagged f.run i ≡ false = bool_off (flagged f.run i) (λ e. rest_flagged size f.run is_run f.rests i (e, there)) in
+        let clear : flagged f.run i ≡ false = false_from_ne_true (flagged f.run i) (λ e. rest_flagged size f.run is_run f.rests i (e, there)) in
         inr (inl record { listed = f.agrees.history_is.listed_is i ∙ there; used = f.agrees.history_is.used_is i ∙ h.0; clear = w.cancel_is ∙ ap bit clear; unset = undone h.2 })
     go (inr (inr h)) =
         let gone : listed f.run i ≡ false = rw (h.0, h.1) refl in

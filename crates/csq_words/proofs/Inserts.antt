@@ -1,5 +1,6 @@
 -- The steps of an insert: arm, test, and its own disarm.
 use Rattle.std.proofs.Common.{◌≡◌, ◌≢◌, ℕ, zero, suc, ◌<◌, Bool, true, false, not, ◌&&◌, ◌||◌, List, ◌∷◌, set, refl, sym, ap, ◌∙◌, subst, arith, length-set}
+use Rattle.std.proofs.Math.Bool.{and-false}
 use Rattle.std.proofs.lemmas.Bool.{and_parts}
 use Rattle.csq_words.specs.Own.{inside_of}
 use Rattle.irp_core.specs.declared.ids.FileId.{FileId}
@@ -33,23 +34,19 @@ use Rattle.csq_words.proofs.Changes.{arm_words, disarm_words, test_words, stored
 use Rattle.csq_words.proofs.Entries.{has_entry-placed, has_entry-marking}
 use Rattle.csq_words.proofs.Making.{Sees, IsMade}
 
-pub and_false : (b : Bool) → (b && false) ≡ false
-and_false true = refl
-and_false false = refl
-
 -- a list with i in front, of which the rest leaves i out
 joins : (i j : Irp) (b l : Bool) → (i ≡ j → l ≡ true) → b ≡ (not (same_irp i j) && l) → (same_irp i j || b) ≡ l
 joins i j b l here e = by_irp _ i j (λ s. rw (same_irp-is i j s) (sym (here s))) (λ ne. rw (e, ne) refl)
 
 -- what is listed after a disarm that found none, and after one that found the routine
 pub listed_miss : (p : PassId) (i j : Irp) (run : List Made) → listed (record { pass = p; kind = Disarm i; found = 0 } ∷ run) j ≡ listed run j
-listed_miss p i j run = rw (and_false (same_irp i j)) refl
+listed_miss p i j run = rw (and-false (same_irp i j)) refl
 
 pub listed_hit : (p : PassId) (i j : Irp) (run : List Made) → listed (record { pass = p; kind = Disarm i; found = 1 } ∷ run) j ≡ (not (same_irp i j) && listed run j)
 listed_hit p i j run = go (same_irp i j) refl
   where
     go : (b : Bool) → same_irp i j ≡ b → listed (record { pass = p; kind = Disarm i; found = 1 } ∷ run) j ≡ (not b && listed run j)
-    go true e = rw e (and_false (was_armed run j))
+    go true e = rw e (and-false (was_armed run j))
     go false e = rw e refl
 
 -- a status word isn't a routine word
@@ -167,7 +164,7 @@ module _ (size : Size) (words : List ℕ) (run : List Made) (q : QueueRecord) (r
         let m : Made = record { pass = r.pass; kind = Disarm i; found = 1 } in
         let is_run = disarm_run 1 is in
         let set_i = set_listed size run x.history_is.is_run i (bit_true (armed run i) 1 is (omega arith)) in
-        let not_removed : removed (m ∷ run) i ≡ false = rw (run_seen, and_false (found_one (Disarm i) m)) set_i.2 in
+        let not_removed : removed (m ∷ run) i ≡ false = rw (run_seen, and-false (found_one (Disarm i) m)) set_i.2 in
         let unlisted : listed (m ∷ run) i ≡ false = listed_hit r.pass i i run ∙ ap (λ b. not b && listed run i) (same_irp-refl i) in
         let wide = x.wide in record {
           wide = length-set words (routine_at i) 0;

@@ -1,5 +1,6 @@
 -- The rule holds at the start, and where seats are cut and joined.
 use Rattle.std.proofs.Common.{◌≡◌, ◌≢◌, ℕ, zero, suc, ◌+◌, ◌*◌, ◌<◌, ◌≤◌, Bool, true, false, not, ◌&&◌, List, [], ◌∷◌, ◌++◌, length, set, replicate, Option, Some, None, refl, sym, ap, ◌∙◌, subst, ⊎_elim, arith}
+use Rattle.std.proofs.lemmas.Bool.{false_from_ne_true}
 use Rattle.std.proofs.lemmas.List.{append-nil, length-replicate, set-get_or}
 use Rattle.std.specs.Prelude.{slice_index}
 use mathlib.Core.Option.{some, none, some-injective, some-ne-none}
@@ -23,7 +24,7 @@ use Rattle.csq_words.specs.Records.{new_pass, new_queue, view_of, pass_view, spe
 use Rattle.irp_core.specs.Words.{was_armed}
 use Rattle.csq_words.specs.Rule.{inserts, in_flight, IsHistoryOf, IsRecord, IsOut, Agrees, Fits, HasRecord, KeptBy, IsKept}
 use Rattle.csq_words.specs.Plays.{SeatView, Tells}
-use Rattle.csq_words.proofs.Laws.{off, bool_off}
+use Rattle.csq_words.proofs.Laws.{off}
 use Rattle.csq_words.proofs.Named.{by_pass, moved, moved_here, moved_else}
 use Rattle.csq_words.proofs.Own.{inside_of-own}
 use Rattle.csq_words.proofs.Indexes.{at_push, at_end, at_below, at_once}
@@ -200,7 +201,7 @@ enters size id other q r s h at ne there' =
     let (run, seat, k) = at_queue size s id q None h at in
     let there : get_elem? s.views other ≡ some (pass_view r) = sym (set_else s.views id other (view_of q (Some r)) ne) ∙ there' in
     let theirs = (k.each_view other (pass_view r) there).pass_here r refl in
-    let free : has_lock (inside_of r.steps) ≡ false = bool_off (has_lock (inside_of r.steps))
+    let free : has_lock (inside_of r.steps) ≡ false = false_from_ne_true (has_lock (inside_of r.steps))
     (λ l. let no = k.lock r.pass (ap has_lock (sym (inside_is run r s.words q theirs.2)) ∙ l) in none_is no.0 no.1) in
     let seat' = moved seat r.pass id in
     let both = set s.views id (view_of q (Some r)) in

@@ -1,5 +1,6 @@
 -- What a run says of an IRP, read off the way in which the IRP stands.
 use Rattle.std.proofs.Common.{◌≡◌, ℕ, ◌<◌, Bool, true, false, cond, not, ◌&&◌, ◌||◌, ◌==◌, List, [], ◌∷◌, filter, refl, ap, sym, ◌∙◌, arith}
+use Rattle.std.proofs.lemmas.Bool.{false_from_ne_true}
 use Rattle.std.specs.List.{list_any}
 use Rattle.irp_core.specs.declared.ids.PassId.{PassId}
 use Rattle.irp_core.specs.declared.step.Kind.{Kind}
@@ -29,10 +30,6 @@ or_true false c h = h
 
 pub off : {P : Type 0} → false ≡ true → P
 off e = absurd cc
-
-pub bool_off : (b : Bool) → (b ≡ true → ⊥) → b ≡ false
-bool_off true h = absurd (h refl)
-bool_off false h = refl
 
 module _ {A : Type 0} where
   -- where nothing is left of a list, nothing in it meets the test
@@ -122,7 +119,7 @@ module _ (size : Size) (E : List Made) (r : IsRun size E) (i : Irp) where
   pub set_listed : armed E i ≡ true → (was_armed E i ≡ true) × (listed E i ≡ true) × (removed E i ≡ false) × (taken E i ≡ false)
   set_listed h = let s = stands size E r i in
       let f = row_set _ _ _ _ _ _ _ _ _ i s.0 s.1 h in
-      (f.0.0, rw (f.0.0, f.0.1) refl, f.1, bool_off (taken E i) (λ t. some_filtered (λ m. found_one (Disarm i) m || found_one (Take i) m) (found_one (Take i)) E (λ m g. or_true (found_one (Disarm i) m) (found_one (Take i) m) g) f.2 t))
+      (f.0.0, rw (f.0.0, f.0.1) refl, f.1, false_from_ne_true (taken E i) (λ t. some_filtered (λ m. found_one (Disarm i) m || found_one (Take i) m) (found_one (Take i)) E (λ m g. or_true (found_one (Disarm i) m) (found_one (Take i) m) g) f.2 t))
 
   -- who finds no routine of a listed IRP knows that a canceller took it
   pub listed_taken : listed E i ≡ true → routine E i ≡ 0 → taken E i ≡ true

@@ -1,7 +1,7 @@
 -- What a step or a note under the lock may do to the table.
 use Rattle.std.proofs.Common.{◌≡◌, ◌≢◌, ℕ, zero, suc, ◌<◌, ◌≤◌, ⊎_elim, true, false, List, [], ◌∷◌, ◌++◌, set, Option, Some, None, refl, sym, ap, ◌∙◌, subst, arith}
 use Rattle.std.proofs.lemmas.List.{set-get_or}
-use Rattle.std.proofs.lemmas.Bool.{cases_lt}
+use Rattle.std.proofs.lemmas.Bool.{cases_lt, false_from_ne_true}
 use Rattle.std.specs.Prelude.{slice_index}
 use mathlib.Core.Option.{some, none, some-injective}
 use lib.ListN.{get_elem?}
@@ -35,7 +35,7 @@ use Rattle.csq_words.specs.Records.{view_of, queue_in, pass_in, entries_of, with
 use Rattle.csq_words.specs.Rule.{cancel_at, routine_at, in_flight, AreTrueOf, IsHistoryOf, IsPassOf, IsRecord, IsResting, IsBack, IsOut, Fits, KeptBy, IsKept}
 use Rattle.csq_words.specs.Calls.{recorded, MayRemove, MayMake, MayComeBack, MayNote, after_note}
 use Rattle.csq_words.specs.Plays.{SeatView, IsFound, FindsUnmarked, Makes, IsToldAfter, Notes}
-use Rattle.csq_words.proofs.Laws.{off, bool_off, bit_bound, bit_true, set_listed}
+use Rattle.csq_words.proofs.Laws.{off, bit_bound, bit_true, set_listed}
 use Rattle.csq_words.proofs.Own.{owes_in-own, holds_in-own}
 use Rattle.csq_words.proofs.Indexes.{at_below}
 use Rattle.csq_words.proofs.Acting.{AllWords}
@@ -100,7 +100,7 @@ module _ (size : Size) (words : List ℕ) (run : List Made) (q : QueueRecord) (r
   finds call kind may known = absurd may
 
   unmarked : (kind : Kind) (n : ℕ) → n ≡ found_by run kind → FindsUnmarked kind n q.history
-  unmarked (Disarm i) (suc n) is = bool_off (has_marked (end_of q.history).entries i)
+  unmarked (Disarm i) (suc n) is = false_from_ne_true (has_marked (end_of q.history).entries i)
       (λ h. off (sym (set_listed size run x.history_is.is_run i (bit_true (armed run i) (suc n) is (omega arith))).3 ∙ marked_taken run q.history i x.history_is.true_of h))
   unmarked (Disarm i) zero is = tt
   unmarked (Arm i) n is = tt

@@ -1,15 +1,15 @@
 -- Two names are of one pass, or IRP, or not.
 use Rattle.std.proofs.Common.{◌≡◌, ◌≢◌, ℕ, Bool, true, false, cond, refl, sym, ap, ◌∙◌}
+use Rattle.std.proofs.lemmas.Bool.{false_from_ne_true}
 use Rattle.irp_core.specs.declared.ids.PassId.{PassId}
 use Rattle.irp_core.specs.Steps.{Irp, same_irp, same_pass}
 use Rattle.irp_core.proofs.Names.{same_irp-refl, same_irp-eq, same_pass-refl, same_pass-eq, same_pass-ne, same_irp-ne}
-use Rattle.csq_words.proofs.Laws.{bool_off}
 
 pub same_pass-is : (p q : PassId) → p ≡ q → same_pass p q ≡ true
 same_pass-is p q e = ap (λ (x : PassId). same_pass x q) e ∙ same_pass-refl q
 
 pub same_pass-not : (p q : PassId) → p ≢ q → same_pass p q ≡ false
-same_pass-not p q ne = bool_off (same_pass p q) (λ h. ne (same_pass-eq p q h))
+same_pass-not p q ne = false_from_ne_true (same_pass p q) (λ h. ne (same_pass-eq p q h))
 
 pub by_pass : (P : Type 0) (p q : PassId) → (p ≡ q → P) → (p ≢ q → P) → P
 by_pass P p q same other = go (same_pass p q) refl
@@ -22,7 +22,7 @@ pub same_irp-is : (i j : Irp) → i ≡ j → same_irp i j ≡ true
 same_irp-is i j e = ap (λ (x : Irp). same_irp x j) e ∙ same_irp-refl j
 
 pub same_irp-not : (i j : Irp) → i ≢ j → same_irp i j ≡ false
-same_irp-not i j ne = bool_off (same_irp i j) (λ h. ne (same_irp-eq i j h))
+same_irp-not i j ne = false_from_ne_true (same_irp i j) (λ h. ne (same_irp-eq i j h))
 
 pub by_irp : (P : Type 0) (i j : Irp) → (i ≡ j → P) → (same_irp i j ≡ false → P) → P
 by_irp P i j same other = go (same_irp i j) refl

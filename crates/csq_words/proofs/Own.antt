@@ -1,5 +1,6 @@
 -- A pass's own steps in a run.
 use Rattle.std.proofs.Common.{◌≡◌, ◌≢◌, Bool, true, false, cond, not, ◌&&◌, ◌||◌, List, [], ◌∷◌, filter, refl, sym, ap, ◌∙◌}
+use Rattle.std.proofs.Math.Bool.{and-false}
 use Rattle.std.specs.List.{list_any}
 use Rattle.irp_core.specs.declared.ids.PassId.{PassId}
 use Rattle.irp_core.specs.declared.step.Kind.TheVariants.{Disarm, Flag, Take, Out, Done}
@@ -51,10 +52,6 @@ and_true : (b : Bool) → (b && true) ≡ b
 and_true true = refl
 and_true false = refl
 
-and_false : (b : Bool) → (b && false) ≡ false
-and_false true = refl
-and_false false = refl
-
 since_own : (p : PassId) (begins ends : Made → Bool) (E : List Made) → since begins ends (own p E) ≡ since (λ m. begins m && by p m) (λ m. ends m && by p m) E
 since_own p begins ends [] = refl
 since_own p begins ends (m ∷ E) = go (by p m) refl (since_own p begins ends E)
@@ -62,7 +59,7 @@ since_own p begins ends (m ∷ E) = go (by p m) refl (since_own p begins ends E)
     go : (t : Bool) → by p m ≡ t → since begins ends (own p E) ≡ since (λ x. begins x && by p x) (λ x. ends x && by p x) E
         → since begins ends (cond t (m ∷ own p E) (own p E)) ≡ ((begins m && by p m) || (not (ends m && by p m) && since (λ x. begins x && by p x) (λ x. ends x && by p x) E))
     go true e ih = rw (e, and_true (begins m), and_true (ends m), ih) refl
-    go false e ih = rw (e, and_false (begins m), and_false (ends m)) ih
+    go false e ih = rw (e, and-false (begins m), and-false (ends m)) ih
 
 pub owes_in-own : (p : PassId) (i : Irp) (E : List Made) → owes_in (own p E) i ≡ owes E p i
 owes_in-own p i E = since_own p (found_one (Take i)) (is (Out i)) E

@@ -1,5 +1,6 @@
 -- The steps of a removal and of the cancel routine: disarm, end, out.
 use Rattle.std.proofs.Common.{◌≡◌, ℕ, ◌<◌, Bool, true, false, cond, not, ◌&&◌, List, [], ◌∷◌, ◌++◌, set, refl, sym, ap, ◌∙◌, subst, arith, length-set}
+use Rattle.std.proofs.Math.Bool.{and-false}
 use Rattle.csq_words.specs.Own.{inside_of, owes_in}
 use Rattle.irp_core.specs.declared.ids.PassId.{PassId}
 use Rattle.irp_core.specs.declared.step.Kind.TheVariants.{Disarm, End, Out}
@@ -33,7 +34,7 @@ use Rattle.csq_words.proofs.Truths.{true_stays, truths_stay}
 use Rattle.csq_words.proofs.Changes.{disarm_words, end_words, out_words, stored_else}
 use Rattle.csq_words.proofs.Entries.{has_entry-marking, has_entry-without}
 use Rattle.csq_words.proofs.Making.{Sees, IsMade}
-use Rattle.csq_words.proofs.Inserts.{and_false, listed_miss, listed_hit, other_word}
+use Rattle.csq_words.proofs.Inserts.{listed_miss, listed_hit, other_word}
 
 -- a removal is no insert
 removal_inserts : (s : Inside) (j : Irp) → follows s End ≡ true → inserts s j ≡ false
@@ -73,7 +74,7 @@ pub listed_out : (p : PassId) (i j : Irp) (run : List Made) → listed (record {
 listed_out p i j run = go (same_irp i j) refl
   where
     go : (b : Bool) → same_irp i j ≡ b → listed (record { pass = p; kind = Out i; found = 0 } ∷ run) j ≡ (not b && listed run j)
-    go true e = rw e (and_false (was_armed run j))
+    go true e = rw e (and-false (was_armed run j))
     go false e = rw e refl
 
 module _ (size : Size) (words : List ℕ) (run : List Made) (q : QueueRecord) (r : PassRecord) (x : Sees size words run q r) where

@@ -1,5 +1,6 @@
 -- What an event says of a run stays true as the run grows.
 use Rattle.std.proofs.Common.{◌≡◌, Bool, true, false, not, ◌&&◌, ◌||◌, List, [], ◌∷◌, refl, sym, ap, ◌∙◌}
+use Rattle.std.proofs.lemmas.Bool.{false_from_ne_true}
 use Rattle.std.specs.List.{list_any}
 use Rattle.irp_core.specs.declared.ids.PassId.{PassId}
 use Rattle.irp_core.specs.declared.step.Kind.{Kind}
@@ -19,7 +20,7 @@ use Rattle.csq_words.specs.declared.views.Entry.{Entry}
 use Rattle.irp_core.specs.Owners.{taken}
 use Rattle.irp_core.specs.Words.{was_armed}
 use Rattle.csq_words.specs.Rule.{WasCancelled, IsTrueOf, AreTrueOf}
-use Rattle.csq_words.proofs.Laws.{or_true, bool_off, off}
+use Rattle.csq_words.proofs.Laws.{or_true, off}
 
 -- whether i left the list
 abbrev pub left : List Made → Irp → Bool
@@ -37,7 +38,7 @@ gone false b h = refl
 
 -- only what is listed is disarmed
 no_disarm : (size : Size) (p : PassId) (E : List Made) (i : Irp) (k : Kind) → MayTouch size p k E → listed E i ≡ false → same_kind k (Disarm i) ≡ false
-no_disarm size p E i (Disarm j) t l = bool_off _ (λ h. off (sym l ∙ (ap (listed E) (sym (same_irp-eq j i h)) ∙ t)))
+no_disarm size p E i (Disarm j) t l = false_from_ne_true _ (λ h. off (sym l ∙ (ap (listed E) (sym (same_irp-eq j i h)) ∙ t)))
 no_disarm size p E i (Arm j) t l = refl
 no_disarm size p E i (Test j) t l = refl
 no_disarm size p E i End t l = refl

@@ -1,5 +1,6 @@
 -- Each IRP that an insert accepted is accounted for.
 use Rattle.std.proofs.Common.{◌≡◌, ℕ, Bool, true, false, cond, not, ◌&&◌, ◌||◌, ◌==◌, ◌⊎◌, inl, inr, List, [], ◌∷◌, Option, Some, None, refl, ap, sym, ◌∙◌, subst, arith}
+use Rattle.csq_words.proofs.Laws.{or_true}
 use Rattle.std.specs.Option.{option_map}
 use Rattle.std.specs.List.{find}
 use Rattle.irp_core.specs.declared.ids.FileId.{FileId}
@@ -55,10 +56,6 @@ pub record Accounts (s : Script) : Type 0 where
 abbrev is_done : Kind → Bool
 is_done (Done i) = true
 is_done _ = false
-
-or_true : (a b : Bool) → b ≡ true → (a || b) ≡ true
-or_true true b h = refl
-or_true false b h = h
 
 holds_more : (E : List Made) (k : Kind) (i : Irp) → is_done k ≡ false → holds E script_pass i ≡ true → holds (next_step E k) script_pass i ≡ true
 holds_more E (Arm j) i n h = h
