@@ -1,12 +1,17 @@
 -- What a contract's value of a seat says of the seat.
-use Rattle.std.proofs.Common.{◌≡◌, ℕ, List, [], Option, Some, None, sym, ap, ◌∙◌, subst}
+use Rattle.std.proofs.Common.{◌≡◌, ℕ, List, [], Option, Some, None, refl, sym, ap, ◌∙◌, subst}
+use mathlib.Core.Option.{none}
 use Rattle.std.specs.Option.{option_map}
 use Rattle.atomic_table.specs.Seated.{TableId}
+use Rattle.atomic_table.specs.Table.{step}
+use Rattle.irp_core.specs.declared.step.Kind.{Kind}
+use Rattle.csq_words.specs.declared.calls.Call.{Call}
 use Rattle.csq_words.specs.declared.views.View.{View}
 use Rattle.csq_words.specs.declared.views.PassRecord.{PassRecord}
 use Rattle.csq_words.specs.declared.views.QueueRecord.{QueueRecord}
 use Rattle.csq_words.specs.Records.{view_of, pass_view, queue_in, pass_in}
-use Rattle.csq_words.specs.Plays.{SeatView}
+use Rattle.csq_words.specs.Calls.{after_step}
+use Rattle.csq_words.specs.Plays.{SeatView, Makes, IsFound, FindsUnmarked}
 use Rattle.csq_words.specs.Seats.{WordSeat, QueueSeatState, PassSeatState, queue_seat_of, IsQueueSeat, pass_seat_of, IsPassSeat, pass_record, pass_at, IsHere, joined_record, IsJoined, with_view}
 
 -- a pass's seat that is here
@@ -57,3 +62,18 @@ stepped s s' q f view inv is table has me =
     let was = joined s q view inv is in
     let me' : s'.me ≡ (f q.queue (joined_record q), []) = me ∙ (λ i. (f (queue_in (was i)) (pass_in (was i)), inv.0 i)) in
     stepped_queue s' (f q.queue (joined_record q)) q.table (table ∙ ap (λ z. z.table) view) (has q.queue (joined_record q)) me'
+
+-- the queue's seat after a step of a call, of a kind that goes by another name
+module _ (call : Call) (named kind : Kind) (is : named ≡ kind) (s s' : WordSeat) (q : QueueSeatState) (n : ℕ) (view : queue_seat_of s ≡ q) (inv : IsQueueSeat s) (joins : IsJoined q)
+    (table : s'.table_id ≡ s.table_id) (makes : Makes call named (step 0 0 0 0 none) s.me n s'.me) where
+  made : Makes call kind (step 0 0 0 0 none) s.me n s'.me
+  made = subst (λ (k : Kind). Makes call k (step 0 0 0 0 none) s.me n s'.me) is makes
+
+  pub made_found : IsFound kind n
+  made_found = made.1
+
+  pub made_seat : IsQueueSeat s' × (queue_seat_of s' ≡ with_view (after_step call kind n q.queue (joined_record q)) q)
+  made_seat = stepped s s' q (after_step call kind n) view inv joins table (λ a b. refl) made.0
+
+  pub made_unmarked : FindsUnmarked kind n q.queue.history
+  made_unmarked = subst (λ (v : View). FindsUnmarked kind n (queue_in v).history) (joined s q view inv joins) made.3

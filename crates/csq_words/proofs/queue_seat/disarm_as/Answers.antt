@@ -1,17 +1,14 @@
-use Rattle.std.proofs.Common.{◌≡◌, ◌∙◌, ℕ, zero, suc, ◌<◌, false, refl, ap, sym, subst, arith}
-use mathlib.Core.Option.{none}
-use Rattle.atomic_table.specs.Table.{step}
-use Rattle.irp_core.specs.declared.step.Kind.{Kind}
+use Rattle.std.proofs.Common.{◌≡◌, ℕ, zero, suc, ◌<◌, List, false, ◌∙◌, ap, sym, subst, arith}
 use Rattle.irp_core.specs.declared.step.Kind.TheVariants.{Disarm}
 use Rattle.csq_words.specs.declared.views.View.{View}
+use Rattle.csq_words.specs.declared.views.Entry.{Entry}
 use Rattle.csq_words.specs.Queue.{has_marked}
 use Rattle.csq_words.specs.History.{end_of}
 use Rattle.csq_words.specs.Records.{queue_in, pass_in}
 use Rattle.csq_words.specs.Rule.{size_of, IsTold}
-use Rattle.csq_words.specs.Calls.{after_step}
-use Rattle.csq_words.specs.Plays.{Makes, FindsUnmarked}
+use Rattle.csq_words.specs.Plays.{FindsUnmarked}
 use Rattle.csq_words.proofs.Locked.{disarms_as}
-use Rattle.csq_words.proofs.Values.{joined, stepped}
+use Rattle.csq_words.proofs.Values.{joined, made_found, made_seat, made_unmarked}
 use Rattle.csq_words.proofs.queue_seat.disarm_as.Goals as goal
 
 pub swap-requires : goal.swap-requires
@@ -26,16 +23,15 @@ swap-requires g c =
 
 pub invariant_of-queue : goal.invariant_of-queue
 invariant_of-queue g c =
-    let x = subst (λ (k : Kind). Makes g.S.CallStep.call k (step 0 0 0 0 none) c.queue.inside.seat.me c.swap.result c.swap.new.seat.me) c.requires.kind c.swap.ensures.2 in
-    (stepped c.queue.inside.seat c.swap.new.seat c.args.queue.now (after_step g.S.CallStep.call (Disarm c.args.irp) c.swap.result) c.queue.view_is c.queue.invariant c.requires.joined c.swap.ensures.0 (λ a b. refl) x.0).0
+    (made_seat g.S.CallStep.call g.S.CallStep.kind (Disarm c.args.irp) c.requires.kind c.queue.inside.seat c.swap.new.seat c.args.queue.now c.swap.result c.queue.view_is c.queue.invariant c.requires.joined c.swap.ensures.0 c.swap.ensures.2).0
 
 pub returns-clause-found : goal.returns-clause-found
-returns-clause-found g c = (subst (λ (k : Kind). Makes g.S.CallStep.call k (step 0 0 0 0 none) c.queue.inside.seat.me c.swap.result c.swap.new.seat.me) c.requires.kind c.swap.ensures.2).1
+returns-clause-found g c =
+    made_found g.S.CallStep.call g.S.CallStep.kind (Disarm c.args.irp) c.requires.kind c.queue.inside.seat c.swap.new.seat c.args.queue.now c.swap.result c.queue.view_is c.queue.invariant c.requires.joined c.swap.ensures.0 c.swap.ensures.2
 
 pub returns-clause-step : goal.returns-clause-step
 returns-clause-step g c =
-    let x = subst (λ (k : Kind). Makes g.S.CallStep.call k (step 0 0 0 0 none) c.queue.inside.seat.me c.swap.result c.swap.new.seat.me) c.requires.kind c.swap.ensures.2 in
-    (stepped c.queue.inside.seat c.swap.new.seat c.args.queue.now (after_step g.S.CallStep.call (Disarm c.args.irp) c.swap.result) c.queue.view_is c.queue.invariant c.requires.joined c.swap.ensures.0 (λ a b. refl) x.0).1
+    (made_seat g.S.CallStep.call g.S.CallStep.kind (Disarm c.args.irp) c.requires.kind c.queue.inside.seat c.swap.new.seat c.args.queue.now c.swap.result c.queue.view_is c.queue.invariant c.requires.joined c.swap.ensures.0 c.swap.ensures.2).1
 
 pub returns-clause-told : goal.returns-clause-told
 returns-clause-told g c =
@@ -43,11 +39,9 @@ returns-clause-told g c =
     subst (λ (v : View). IsTold (queue_in v) (pass_in v)) (sym (ap (λ m. m.0) x.0)) x.2
 
 pub returns-clause-unmarked : goal.returns-clause-unmarked
-returns-clause-unmarked g c = λ some.
-    let x = subst (λ (k : Kind). Makes g.S.CallStep.call k (step 0 0 0 0 none) c.queue.inside.seat.me c.swap.result c.swap.new.seat.me) c.requires.kind c.swap.ensures.2 in
-    let queue = joined c.queue.inside.seat c.args.queue.now c.queue.view_is c.queue.invariant c.requires.joined in
-    subst (λ (v : View). has_marked (end_of (queue_in v).history).entries c.args.irp ≡ false) queue (unmarked c.swap.result some x.3)
+returns-clause-unmarked g c = λ some. unmarked c.swap.result some c.args.queue.now.queue.history
+    (made_unmarked g.S.CallStep.call g.S.CallStep.kind (Disarm c.args.irp) c.requires.kind c.queue.inside.seat c.swap.new.seat c.args.queue.now c.swap.result c.queue.view_is c.queue.invariant c.requires.joined c.swap.ensures.0 c.swap.ensures.2)
   where
-    unmarked : (n : ℕ) → 0 < n → FindsUnmarked (Disarm c.args.irp) n (queue_in c.queue.inside.seat.me.0).history → has_marked (end_of (queue_in c.queue.inside.seat.me.0).history).entries c.args.irp ≡ false
-    unmarked zero h u = absurd (omega arith)
-    unmarked (suc n) h u = u
+    unmarked : (n : ℕ) → 0 < n → (history : List Entry) → FindsUnmarked (Disarm c.args.irp) n history → has_marked (end_of history).entries c.args.irp ≡ false
+    unmarked zero h history u = absurd (omega arith)
+    unmarked (suc n) h history u = u

@@ -1,15 +1,10 @@
-use Rattle.std.proofs.Common.{◌∙◌, refl, ap, sym, subst, arith}
-use mathlib.Core.Option.{none}
-use Rattle.atomic_table.specs.Table.{step}
-use Rattle.irp_core.specs.declared.step.Kind.{Kind}
+use Rattle.std.proofs.Common.{◌∙◌, ap, sym, subst, arith}
 use Rattle.irp_core.specs.declared.step.Kind.TheVariants.{Test}
 use Rattle.csq_words.specs.declared.views.View.{View}
 use Rattle.csq_words.specs.Records.{queue_in, pass_in}
 use Rattle.csq_words.specs.Rule.{size_of, IsTold}
-use Rattle.csq_words.specs.Calls.{after_step}
-use Rattle.csq_words.specs.Plays.{Makes}
 use Rattle.csq_words.proofs.Locked.{tests_as}
-use Rattle.csq_words.proofs.Values.{joined, stepped}
+use Rattle.csq_words.proofs.Values.{joined, made_found, made_seat}
 use Rattle.csq_words.proofs.queue_seat.test_as.Goals as goal
 
 pub load-requires : goal.load-requires
@@ -24,16 +19,15 @@ load-requires g c =
 
 pub invariant_of-queue : goal.invariant_of-queue
 invariant_of-queue g c =
-    let x = subst (λ (k : Kind). Makes g.S.CallStep.call k (step 0 0 0 0 none) c.queue.inside.seat.me c.load.result c.load.new.seat.me) c.requires.kind c.load.ensures.2 in
-    (stepped c.queue.inside.seat c.load.new.seat c.args.queue.now (after_step g.S.CallStep.call (Test c.args.irp) c.load.result) c.queue.view_is c.queue.invariant c.requires.joined c.load.ensures.0 (λ a b. refl) x.0).0
+    (made_seat g.S.CallStep.call g.S.CallStep.kind (Test c.args.irp) c.requires.kind c.queue.inside.seat c.load.new.seat c.args.queue.now c.load.result c.queue.view_is c.queue.invariant c.requires.joined c.load.ensures.0 c.load.ensures.2).0
 
 pub returns-clause-found : goal.returns-clause-found
-returns-clause-found g c = (subst (λ (k : Kind). Makes g.S.CallStep.call k (step 0 0 0 0 none) c.queue.inside.seat.me c.load.result c.load.new.seat.me) c.requires.kind c.load.ensures.2).1
+returns-clause-found g c =
+    made_found g.S.CallStep.call g.S.CallStep.kind (Test c.args.irp) c.requires.kind c.queue.inside.seat c.load.new.seat c.args.queue.now c.load.result c.queue.view_is c.queue.invariant c.requires.joined c.load.ensures.0 c.load.ensures.2
 
 pub returns-clause-step : goal.returns-clause-step
 returns-clause-step g c =
-    let x = subst (λ (k : Kind). Makes g.S.CallStep.call k (step 0 0 0 0 none) c.queue.inside.seat.me c.load.result c.load.new.seat.me) c.requires.kind c.load.ensures.2 in
-    (stepped c.queue.inside.seat c.load.new.seat c.args.queue.now (after_step g.S.CallStep.call (Test c.args.irp) c.load.result) c.queue.view_is c.queue.invariant c.requires.joined c.load.ensures.0 (λ a b. refl) x.0).1
+    (made_seat g.S.CallStep.call g.S.CallStep.kind (Test c.args.irp) c.requires.kind c.queue.inside.seat c.load.new.seat c.args.queue.now c.load.result c.queue.view_is c.queue.invariant c.requires.joined c.load.ensures.0 c.load.ensures.2).1
 
 pub returns-clause-told : goal.returns-clause-told
 returns-clause-told g c =
