@@ -1,5 +1,5 @@
 -- What a call told while its pass was joined it tells its caller.
-use Rattle.std.proofs.Common.{◌≡◌, ℕ, ◌+◌, ◌≤◌, Bool, List, ◌++◌, Option, sym, ap, ◌∙◌, subst, arith}
+use Rattle.std.proofs.Common.{◌≡◌, ℕ, ◌+◌, ◌≤◌, Bool, List, ◌++◌, Option, refl, sym, ap, ◌∙◌, subst, arith}
 use Rattle.atomic_table.specs.Seated.{TableId}
 use Rattle.irp_core.specs.Steps.{Irp}
 use Rattle.irp_core.specs.declared.step.Inside.TheVariants.{Nothing}
@@ -48,26 +48,30 @@ left_gives l given by_removal r new entered seat r_is new_is h =
     again : GivesOut l given by_removal (joined_record entered) (caught_up seat.queue.history (joined_record seat))
     again = record { pass = h.pass; completed = h.completed; dones = h.dones; flags = h.flags; owed = h.owed; held = h.held; removed = h.removed; new_to_it = h.new_to_it }
 
--- there is room for what a call gave out
-pub room_for : (l : Limits) (given : Option Irp) (by_removal : Bool) (old new : PassRecord) (tokens n : ℕ) → tokens ≡ held_count l.irps old.steps → n ≡ count_given given → GivesOut l given by_removal old new → tokens + n ≤ l.irps
-room_for l given by_removal old new tokens n tokens_are n_is h =
-    let counts = given_counts l given by_removal old new h in
-    let most = counts.2 in
-    let more = counts.0 in
-    omega arith
+module _ (l : Limits) (given : Option Irp) (by_removal : Bool) (entered seat : QueueSeatState) (tokens n : ℕ) (n_is : n ≡ count_given given) (gives : GivesOut l given by_removal (joined_record entered) (joined_record seat)) where
+  -- there is room for what a call gave out
+  pub room_for : (old : PassRecord) → joined_record entered ≡ old → tokens ≡ held_count l.irps old.steps → tokens + n ≤ l.irps
+  room_for old old_is tokens_are =
+      let counts = given_counts l given by_removal (joined_record entered) (joined_record seat) gives in
+      let held = ap (λ (z : PassRecord). held_count l.irps z.steps) old_is in
+      let most = counts.2 in
+      let more = counts.0 in
+      omega arith
 
--- the pass's own numbers, after a call that gave this out
-pub left_pass : (t : TableId) (l : Limits) (passes : ℕ) (given : Option Irp) (by_removal : Bool) (old new : Option PassSeatState) (r : PassRecord) (number tokens claims n : ℕ) → new ≡ pass_at t r → inside_of r.steps ≡ Nothing
-    → IsPassOf t l passes old number tokens claims → n ≡ count_given given → GivesOut l given by_removal (pass_record old) r → IsPassOf t l passes new number (tokens + n) claims
-left_pass t l passes given by_removal old new r number tokens claims n e outside was n_is h =
-    let counts = given_counts l given by_removal (pass_record old) r h in
-    let is : pass_record new ≡ r = ap pass_record e in
-    record {
-      here = e ∙ ap (pass_at t) (sym is);
-      outside = ap (λ (z : PassRecord). inside_of z.steps) is ∙ outside;
-      pass_is = ap (λ (z : PassRecord). z.pass) is ∙ (h.pass ∙ was.pass_is);
-      from = was.from;
-      to = was.to;
-      tokens_are = (λ k. was.tokens_are k + n_is k) ∙ (sym counts.0 ∙ ap (λ (z : PassRecord). held_count l.irps z.steps) (sym is));
-      claims_are = was.claims_are ∙ (sym counts.1 ∙ ap (λ (z : PassRecord). owed_count l.irps z.steps) (sym is));
-    }
+  -- the pass's own numbers, after a call that gave this out
+  pub left_pass : (t : TableId) (passes : ℕ) (old new : Option PassSeatState) (number claims : ℕ) → joined_record entered ≡ pass_record old → new ≡ pass_at t (caught_up seat.queue.history (joined_record seat))
+      → inside_of (joined_record seat).steps ≡ Nothing → IsPassOf t l passes old number tokens claims → IsPassOf t l passes new number (tokens + n) claims
+  left_pass t passes old new number claims old_is new_is outside was =
+      let r : PassRecord = caught_up seat.queue.history (joined_record seat) in
+      let h = left_gives l given by_removal (pass_record old) r entered seat old_is refl gives in
+      let counts = given_counts l given by_removal (pass_record old) r h in
+      let is : pass_record new ≡ r = ap pass_record new_is in
+      record {
+        here = new_is ∙ ap (pass_at t) (sym is);
+        outside = ap (λ (z : PassRecord). inside_of z.steps) is ∙ outside;
+        pass_is = ap (λ (z : PassRecord). z.pass) is ∙ (h.pass ∙ was.pass_is);
+        from = was.from;
+        to = was.to;
+        tokens_are = (λ k. was.tokens_are k + n_is k) ∙ (sym counts.0 ∙ ap (λ (z : PassRecord). held_count l.irps z.steps) (sym is));
+        claims_are = was.claims_are ∙ (sym counts.1 ∙ ap (λ (z : PassRecord). owed_count l.irps z.steps) (sym is));
+      }

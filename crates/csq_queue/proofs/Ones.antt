@@ -1,5 +1,5 @@
 -- A removal of one IRP, and of one that a canceller owes.
-use Rattle.std.proofs.Common.{◌≡◌, ◌<◌, not, ◌&&◌, cond, Bool, true, false, List, [], ◌∷◌, ◌++◌, Some, None, refl, sym, ap, ◌∙◌, subst, append-nil}
+use Rattle.std.proofs.Common.{◌≡◌, ◌<◌, not, ◌&&◌, cond, true, false, List, [], ◌∷◌, ◌++◌, Some, None, refl, sym, ap, ◌∙◌, subst, append-nil}
 use Rattle.atomic_table.specs.Seated.{TableId}
 use Rattle.irp_core.specs.Steps.{Irp, number}
 use Rattle.irp_core.specs.Inside.{follows}
@@ -10,7 +10,7 @@ use Rattle.irp_core.specs.declared.step.Kind.TheVariants as step
 use Rattle.csq_list.specs.Listing.{Listing, IsSound, removed}
 use Rattle.csq_list.specs.Searches.{is_listed}
 use Rattle.csq_words.specs.declared.views.Event.{Event}
-use Rattle.csq_words.specs.declared.views.Event.TheVariants.{Mark, Remove, Out}
+use Rattle.csq_words.specs.declared.views.Event.TheVariants.{Remove, Out}
 use Rattle.csq_words.specs.Own.{inside_of, owes_in, holds_in}
 use Rattle.csq_words.specs.Queue.{QueueState, Limits, has_entry, has_marked, has_unmarked}
 use Rattle.csq_words.specs.History.{end_of}

@@ -1,31 +1,25 @@
-use Rattle.std.proofs.Common.{false, List, Result, IfOk, Ok, Err, refl, ap, subst, arith, rules}
+use Rattle.std.proofs.Common.{false, List, Result, IfOk, Ok, Err, ap, arith, rules}
 use Rattle.csq_list.specs.declared.refusals.InsertStatus.{InsertStatus}
 use Rattle.csq_words.specs.declared.views.Event.{Event}
-use Rattle.csq_words.specs.declared.views.PassRecord.{PassRecord}
-use Rattle.csq_words.specs.Records.{caught_up}
 use Rattle.csq_words.specs.Seats.{joined_record, pass_record}
-use Rattle.csq_queue.specs.Told.{AddsEvents, GivesOut}
+use Rattle.csq_queue.specs.Told.{AddsEvents}
 use Rattle.csq_queue.specs.declared.tokens.Inserted.{Inserted}
 use Rattle.csq_queue.specs.Adding.{Adds}
 use Rattle.csq_queue.specs.Inserts.{IsInsert, given_in}
-use Rattle.csq_queue.proofs.Leaving.{left_adds, left_gives, left_pass, room_for}
+use Rattle.csq_queue.proofs.Leaving.{left_adds, left_pass, room_for}
 use Rattle.csq_queue.proofs.locked.Locked.insert.Goals as goal
 
 pub overflow_add-pass : goal.overflow_add-pass
 overflow_add-pass g c =
-    let l = g.N.QueueName.limits in
-    let gives = subst (λ (r : PassRecord). GivesOut l (given_in c.list_irp-inserted.result) false r (joined_record c.list_irp-inserted.new.seat)) (ap joined_record c.enter.ensures.joined) c.list_irp-inserted.ensures.given in
     let most = c.self.invariant.most in
-    let room = room_for l (given_in c.list_irp-inserted.result) false (pass_record c.pass.inside.seat) (joined_record c.list_irp-inserted.new.seat) c.pass.inside.tokens c.count_cancelled.result c.pass.invariant.tokens_are c.count_cancelled.ensures gives in
+    let room = room_for g.N.QueueName.limits (given_in c.list_irp-inserted.result) false c.enter.new.self c.list_irp-inserted.new.seat c.pass.inside.tokens c.count_cancelled.result c.count_cancelled.ensures c.list_irp-inserted.ensures.given
+        (pass_record c.pass.inside.seat) (ap joined_record c.enter.ensures.joined) c.pass.invariant.tokens_are in
     omega arith
 
 pub invariant_of-pass : goal.invariant_of-pass
 invariant_of-pass g c =
-    let l = g.N.QueueName.limits in
-    let r : PassRecord = caught_up c.list_irp-inserted.new.seat.queue.history (joined_record c.list_irp-inserted.new.seat) in
-    let gives = left_gives l (given_in c.list_irp-inserted.result) false (pass_record c.pass.inside.seat) r c.enter.new.self c.list_irp-inserted.new.seat (ap joined_record c.enter.ensures.joined) refl c.list_irp-inserted.ensures.given in
-    left_pass g.N.QueueName.table l g.N.QueueName.passes (given_in c.list_irp-inserted.result) false c.pass.inside.seat c.leave.new.pass r c.pass.inside.number c.pass.inside.tokens c.pass.inside.claims c.count_cancelled.result
-    (search rules) c.list_irp-inserted.ensures.outside c.pass.invariant c.count_cancelled.ensures gives
+    left_pass g.N.QueueName.limits (given_in c.list_irp-inserted.result) false c.enter.new.self c.list_irp-inserted.new.seat c.pass.inside.tokens c.count_cancelled.result c.count_cancelled.ensures c.list_irp-inserted.ensures.given
+    g.N.QueueName.table g.N.QueueName.passes c.pass.inside.seat c.leave.new.pass c.pass.inside.number c.pass.inside.claims (ap joined_record c.enter.ensures.joined) (search rules) c.list_irp-inserted.ensures.outside c.pass.invariant
 
 pub returns-clause-accepted : goal.returns-clause-accepted
 returns-clause-accepted g c = go c.list_irp-inserted.result c.list_irp-inserted.ensures.accepted
