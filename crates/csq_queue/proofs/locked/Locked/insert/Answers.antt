@@ -13,7 +13,7 @@ pub overflow_add-pass : goal.overflow_add-pass
 overflow_add-pass g c =
     let most = c.self.invariant.most in
     let room = room_for g.N.QueueName.limits (given_in c.list_irp-inserted.result) false c.enter.new.self c.list_irp-inserted.new.seat c.pass.inside.tokens c.count_cancelled.result c.count_cancelled.ensures c.list_irp-inserted.ensures.given
-        (pass_record c.pass.inside.seat) (ap joined_record c.enter.ensures.joined) c.pass.invariant.tokens_are in
+    (pass_record c.pass.inside.seat) (ap joined_record c.enter.ensures.joined) c.pass.invariant.tokens_are in
     omega arith
 
 pub invariant_of-pass : goal.invariant_of-pass

@@ -8,7 +8,7 @@ pub overflow_add-pass : goal.overflow_add-pass
 overflow_add-pass g c =
     let most = c.self.invariant.most in
     let room = room_for g.N.QueueName.limits c.take_match-taken.result true c.enter.new.self c.take_match-taken.new.seat c.pass.inside.tokens c.count.result c.count.ensures c.take_match-taken.ensures.given
-        (pass_record c.pass.inside.seat) (ap joined_record c.enter.ensures.joined) c.pass.invariant.tokens_are in
+    (pass_record c.pass.inside.seat) (ap joined_record c.enter.ensures.joined) c.pass.invariant.tokens_are in
     omega arith
 
 pub invariant_of-pass : goal.invariant_of-pass
