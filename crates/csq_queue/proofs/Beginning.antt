@@ -6,7 +6,8 @@ use Rattle.csq_list.proofs.VecKeeping.{get_or-clear, clear-replicate}
 use Rattle.csq_words.specs.History.{IsLegal, end_of}
 use Rattle.csq_words.specs.Seats.{WordsState, QueueSeatState, PassSeatState}
 use Rattle.csq_queue.specs.Named.{IsLockedOf, IsListOf, AreFlags}
-use Rattle.csq_queue.specs.Blanks.{BlankState, IsBlank, limits_of}
+use Rattle.csq_words.specs.Queue.{limits_of}
+use Rattle.csq_queue.specs.Blanks.{BlankState, IsBlank}
 
 new_flags : (n : ℕ) → AreFlags (replicate n false) n []
 new_flags n = record { one_each = length-replicate n false; each = λ k l. get_or-clear (replicate n false) k (clear-replicate n) }

@@ -13,10 +13,6 @@ pub record BlankState : Type 0 where
   pub limits : Limits
   pub passes : ℕ
 
--- the limits of a list
-abbrev pub limits_of : Listing → Limits
-limits_of s = record { irps = s.irps; files = s.files; limit = s.limit }
-
 -- nothing is listed, used or closed, nothing was called, and no pass was handed out
 pub record IsBlank (words : WordsState) (listing : Listing) (seat : QueueSeatState) (seats : List (Option PassSeatState)) (back : List Bool) : Type 0 where
   pub in_limits : IsInLimits words.size

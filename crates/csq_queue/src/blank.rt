@@ -2,7 +2,7 @@
 ghost use Rattle.std.specs.Prelude.{◌≡◌, ◌↔◌, IfOk, IfErr};
 ghost use Rattle.irp_core.specs.Runs.{IsInLimits};
 ghost use Rattle.csq_list.specs.Listing.{IsFresh};
-ghost use Rattle.csq_queue.specs.Blanks.{limits_of};
+ghost use Rattle.csq_words.specs.Queue.{limits_of};
 ghost use Rattle.csq_queue.specs.declared.blank.NewCause.TheVariants.{BadSize, ListNotFresh};
 
 use crate::locked::Locked;
@@ -62,7 +62,8 @@ pub struct Blank<L: PendingList + Drop, A: Allocator = Global> {
 
 impl<L: PendingList + Drop, A: Allocator> Model for Blank<L, A> {
     ghost use Rattle.std.specs.Prelude.{◌≡◌};
-    ghost use Rattle.csq_queue.specs.Blanks.{BlankState, IsBlank, limits_of};
+    ghost use Rattle.csq_queue.specs.Blanks.{BlankState, IsBlank};
+    ghost use Rattle.csq_words.specs.Queue.{limits_of};
 
     ghost Value = { BlankState };
 

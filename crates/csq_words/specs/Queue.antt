@@ -81,6 +81,10 @@ listing_of l q = record {
   limit = l.limit;
 }
 
+-- the limits of a list
+abbrev pub limits_of : Listing → Limits
+limits_of s = record { irps = s.irps; files = s.files; limit = s.limit }
+
 -- why an insert of i for f is refused. Marked entries count towards the limit
 abbrev pub refusal : Limits → QueueState → Irp → FileId → Option InsertStatus
 refusal l q i f = first_cause (listing_of l q) i f

@@ -12,6 +12,7 @@ use Rattle.csq_list.specs.Listing.{Listing}
 use Rattle.csq_words.specs.Queue.{Queued, QueueState, Limits, listing_of, has_irp, has_entry}
 use Rattle.csqsim.specs.declared.call.Call.{Call}
 use Rattle.csqsim.specs.declared.call.Reply.{Reply}
+use Rattle.csqsim.specs.declared.driver.Driver.{Driver}
 use Rattle.csqsim.specs.declared.replay.Handling.{Handling}
 use Rattle.csqsim.specs.declared.replay.Handling.TheVariants.{GoesOn, Stops}
 use Rattle.csqsim.specs.Calls.{Script, script_pass, status_of, Calls, Does}
@@ -34,6 +35,10 @@ pub record Keeping : Type 0 where
   pub listing : Listing
   pub claims : List Bool
   pub statuses : List (Option NtStatus)
+
+-- what a driver keeps, by what its list means
+abbrev pub keeping : {L : Type 0} → (L → Listing) → Driver L → Keeping
+keeping listing driver = record { machine = driver.machine; listing = listing driver.list; claims = driver.claims.items; statuses = driver.statuses.items }
 
 -- so it keeps the script s
 pub record Keeps (l : Limits) (kept : Keeping) (s : Script) : Type 0 where

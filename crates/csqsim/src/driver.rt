@@ -7,10 +7,10 @@ ghost use Rattle.irp_core.specs.Runs.{IsRun};
 ghost use Rattle.irp_core.specs.Words.{found_by};
 ghost use Rattle.csq_list.specs.Listing.{IsFresh};
 ghost use Rattle.csq_list.specs.declared.entry.Peek.TheVariants.{File};
-ghost use Rattle.csq_words.specs.Queue.{Limits};
+ghost use Rattle.csq_words.specs.Queue.{Limits, limits_of};
 ghost use Rattle.csqsim.specs.declared.call.Call.TheVariants as call;
 ghost use Rattle.csqsim.specs.Calls.{Script, script_pass, new_script, next_step, Cleans};
-ghost use Rattle.csqsim.specs.Drivers.{Keeping, Keeps, IsKeeping, Called, Did};
+ghost use Rattle.csqsim.specs.Drivers.{Keeps, IsKeeping, Called, Did, keeping};
 
 use crate::call::{Call, Refusal, Reply};
 use csq_list::{Peek, PendingList, Place};
@@ -46,8 +46,8 @@ impl<L: PendingList> Driver<L> {
         L: Drop,
         requires fresh { IsFresh (L.listing list) }
         requires irps { (1 ≤ (L.listing list).irps) × ((L.listing list).irps ≤ 1024) }
-        ensures { IfOk result (λ driver. Keeps (record { irps = (L.listing list).irps; files = (L.listing list).files; limit = (L.listing list).limit })
-            (record { machine = driver.machine; listing = L.listing driver.list; claims = driver.claims.items; statuses = driver.statuses.items }) new_script) }
+        ensures { IfOk result (λ driver. Keeps (limits_of (L.listing list))
+            (keeping L.listing driver) new_script) }
     {
         let irps = list.irps();
         let Ok(machine) = Machine::new(alloc, irps, 1) else {
@@ -63,8 +63,8 @@ impl<L: PendingList> Driver<L> {
 
     /// Makes a call.
     pub(crate) fn answer(&mut self, call: Call) -> Reply
-        requires { IsKeeping (record { machine = self.old.machine; listing = L.listing self.old.list; claims = self.old.claims.items; statuses = self.old.statuses.items }) }
-        ensures { Did (record { machine = self.old.machine; listing = L.listing self.old.list; claims = self.old.claims.items; statuses = self.old.statuses.items }) call result (record { machine = self.new.machine; listing = L.listing self.new.list; claims = self.new.claims.items; statuses = self.new.statuses.items }) }
+        requires { IsKeeping (keeping L.listing self.old) }
+        ensures { Did (keeping L.listing self.old) call result (keeping L.listing self.new) }
     {
         match call {
             Call::Insert(irp, file, place) => self.insert(irp, file, place),
@@ -133,8 +133,8 @@ impl<L: PendingList> Driver<L> {
     }
 
     fn insert(&mut self, irp: IrpId, file: FileId, place: Place) -> Reply
-        requires { IsKeeping (record { machine = self.old.machine; listing = L.listing self.old.list; claims = self.old.claims.items; statuses = self.old.statuses.items }) }
-        ensures { Called (record { machine = self.old.machine; listing = L.listing self.old.list; claims = self.old.claims.items; statuses = self.old.statuses.items }) (call.Insert irp file place) result (record { machine = self.new.machine; listing = L.listing self.new.list; claims = self.new.claims.items; statuses = self.new.statuses.items }) }
+        requires { IsKeeping (keeping L.listing self.old) }
+        ensures { Called (keeping L.listing self.old) (call.Insert irp file place) result (keeping L.listing self.new) }
     {
         if let Err(cause) = self.list.insert_ex(irp, file, place) {
             return Reply::InsertRefused(cause);
@@ -150,8 +150,8 @@ impl<L: PendingList> Driver<L> {
     }
 
     fn next(&mut self, peek: Peek) -> Reply
-        requires { IsKeeping (record { machine = self.old.machine; listing = L.listing self.old.list; claims = self.old.claims.items; statuses = self.old.statuses.items }) }
-        ensures { Called (record { machine = self.old.machine; listing = L.listing self.old.list; claims = self.old.claims.items; statuses = self.old.statuses.items }) (call.Next peek) result (record { machine = self.new.machine; listing = L.listing self.new.list; claims = self.new.claims.items; statuses = self.new.statuses.items }) }
+        requires { IsKeeping (keeping L.listing self.old) }
+        ensures { Called (keeping L.listing self.old) (call.Next peek) result (keeping L.listing self.new) }
     {
         let mut after = None;
         while let Some(irp) = self.list.peek_next(after, peek) {
@@ -166,8 +166,8 @@ impl<L: PendingList> Driver<L> {
     }
 
     fn remove(&mut self, irp: IrpId) -> Reply
-        requires { IsKeeping (record { machine = self.old.machine; listing = L.listing self.old.list; claims = self.old.claims.items; statuses = self.old.statuses.items }) }
-        ensures { Called (record { machine = self.old.machine; listing = L.listing self.old.list; claims = self.old.claims.items; statuses = self.old.statuses.items }) (call.Remove irp) result (record { machine = self.new.machine; listing = L.listing self.new.list; claims = self.new.claims.items; statuses = self.new.statuses.items }) }
+        requires { IsKeeping (keeping L.listing self.old) }
+        ensures { Called (keeping L.listing self.old) (call.Remove irp) result (keeping L.listing self.new) }
     {
         if !self.is_known(irp) {
             return Reply::Refused(Refusal::UnknownIrp);
@@ -185,8 +185,8 @@ impl<L: PendingList> Driver<L> {
     }
 
     fn mark(&mut self, irp: IrpId) -> Reply
-        requires { IsKeeping (record { machine = self.old.machine; listing = L.listing self.old.list; claims = self.old.claims.items; statuses = self.old.statuses.items }) }
-        ensures { Called (record { machine = self.old.machine; listing = L.listing self.old.list; claims = self.old.claims.items; statuses = self.old.statuses.items }) (call.Mark irp) result (record { machine = self.new.machine; listing = L.listing self.new.list; claims = self.new.claims.items; statuses = self.new.statuses.items }) }
+        requires { IsKeeping (keeping L.listing self.old) }
+        ensures { Called (keeping L.listing self.old) (call.Mark irp) result (keeping L.listing self.new) }
     {
         if !self.is_known(irp) {
             return Reply::Refused(Refusal::UnknownIrp);
@@ -200,8 +200,8 @@ impl<L: PendingList> Driver<L> {
     }
 
     fn routine(&mut self, irp: IrpId) -> Reply
-        requires { IsKeeping (record { machine = self.old.machine; listing = L.listing self.old.list; claims = self.old.claims.items; statuses = self.old.statuses.items }) }
-        ensures { Called (record { machine = self.old.machine; listing = L.listing self.old.list; claims = self.old.claims.items; statuses = self.old.statuses.items }) (call.Routine irp) result (record { machine = self.new.machine; listing = L.listing self.new.list; claims = self.new.claims.items; statuses = self.new.statuses.items }) }
+        requires { IsKeeping (keeping L.listing self.old) }
+        ensures { Called (keeping L.listing self.old) (call.Routine irp) result (keeping L.listing self.new) }
     {
         if !self.is_known(irp) {
             return Reply::Refused(Refusal::UnknownIrp);
@@ -217,8 +217,8 @@ impl<L: PendingList> Driver<L> {
     }
 
     fn cancel(&mut self, irp: IrpId) -> Reply
-        requires { IsKeeping (record { machine = self.old.machine; listing = L.listing self.old.list; claims = self.old.claims.items; statuses = self.old.statuses.items }) }
-        ensures { Did (record { machine = self.old.machine; listing = L.listing self.old.list; claims = self.old.claims.items; statuses = self.old.statuses.items }) (call.Cancel irp) result (record { machine = self.new.machine; listing = L.listing self.new.list; claims = self.new.claims.items; statuses = self.new.statuses.items }) }
+        requires { IsKeeping (keeping L.listing self.old) }
+        ensures { Did (keeping L.listing self.old) (call.Cancel irp) result (keeping L.listing self.new) }
     {
         match self.mark(irp) {
             Reply::Claimed => {
@@ -231,8 +231,8 @@ impl<L: PendingList> Driver<L> {
     }
 
     fn complete(&mut self, irp: IrpId, status: NtStatus) -> Reply
-        requires { IsKeeping (record { machine = self.old.machine; listing = L.listing self.old.list; claims = self.old.claims.items; statuses = self.old.statuses.items }) }
-        ensures { Called (record { machine = self.old.machine; listing = L.listing self.old.list; claims = self.old.claims.items; statuses = self.old.statuses.items }) (call.Complete irp status) result (record { machine = self.new.machine; listing = L.listing self.new.list; claims = self.new.claims.items; statuses = self.new.statuses.items }) }
+        requires { IsKeeping (keeping L.listing self.old) }
+        ensures { Called (keeping L.listing self.old) (call.Complete irp status) result (keeping L.listing self.new) }
     {
         if !self.is_known(irp) {
             return Reply::Refused(Refusal::UnknownIrp);
@@ -248,8 +248,8 @@ impl<L: PendingList> Driver<L> {
     }
 
     fn close(&mut self, file: FileId) -> Reply
-        requires { IsKeeping (record { machine = self.old.machine; listing = L.listing self.old.list; claims = self.old.claims.items; statuses = self.old.statuses.items }) }
-        ensures { Called (record { machine = self.old.machine; listing = L.listing self.old.list; claims = self.old.claims.items; statuses = self.old.statuses.items }) (call.Close file) result (record { machine = self.new.machine; listing = L.listing self.new.list; claims = self.new.claims.items; statuses = self.new.statuses.items }) }
+        requires { IsKeeping (keeping L.listing self.old) }
+        ensures { Called (keeping L.listing self.old) (call.Close file) result (keeping L.listing self.new) }
     {
         match self.list.close_file(file) {
             Ok(()) => Reply::Closed,
@@ -258,8 +258,8 @@ impl<L: PendingList> Driver<L> {
     }
 
     fn cleanup(&mut self, file: FileId) -> Reply
-        requires { IsKeeping (record { machine = self.old.machine; listing = L.listing self.old.list; claims = self.old.claims.items; statuses = self.old.statuses.items }) }
-        ensures { Did (record { machine = self.old.machine; listing = L.listing self.old.list; claims = self.old.claims.items; statuses = self.old.statuses.items }) (call.Cleanup file) result (record { machine = self.new.machine; listing = L.listing self.new.list; claims = self.new.claims.items; statuses = self.new.statuses.items }) }
+        requires { IsKeeping (keeping L.listing self.old) }
+        ensures { Did (keeping L.listing self.old) (call.Cleanup file) result (keeping L.listing self.new) }
     {
         match self.close(file) {
             Reply::Closed => Reply::Cleaned(self.remove_all(file)),
@@ -269,8 +269,8 @@ impl<L: PendingList> Driver<L> {
 
     /// Completes the IRPs of a file object as cancelled, until no removal answers one.
     fn remove_all(&mut self, file: FileId) -> u32
-        requires { IsKeeping (record { machine = self.old.machine; listing = L.listing self.old.list; claims = self.old.claims.items; statuses = self.old.statuses.items }) }
-        ensures { (l : Limits) (s : Script) → Keeps l (record { machine = self.old.machine; listing = L.listing self.old.list; claims = self.old.claims.items; statuses = self.old.statuses.items }) s → (t : Script) × Cleans l file s result t × Keeps l (record { machine = self.new.machine; listing = L.listing self.new.list; claims = self.new.claims.items; statuses = self.new.statuses.items }) t }
+        requires { IsKeeping (keeping L.listing self.old) }
+        ensures { (l : Limits) (s : Script) → Keeps l (keeping L.listing self.old) s → (t : Script) × Cleans l file s result t × Keeps l (keeping L.listing self.new) t }
     {
         let listed = self.list.len();
         while let Reply::Removed(irp) = self.next(Peek::File(file)) {
@@ -280,8 +280,8 @@ impl<L: PendingList> Driver<L> {
     }
 
     fn flag(&self, irp: IrpId) -> Reply
-        requires { IsKeeping (record { machine = self.now.machine; listing = L.listing self.now.list; claims = self.now.claims.items; statuses = self.now.statuses.items }) }
-        ensures { Called (record { machine = self.now.machine; listing = L.listing self.now.list; claims = self.now.claims.items; statuses = self.now.statuses.items }) (call.Flag irp) result (record { machine = self.now.machine; listing = L.listing self.now.list; claims = self.now.claims.items; statuses = self.now.statuses.items }) }
+        requires { IsKeeping (keeping L.listing self.now) }
+        ensures { Called (keeping L.listing self.now) (call.Flag irp) result (keeping L.listing self.now) }
     {
         if self.is_known(irp) {
             Reply::Flag(self.machine.cancelled(irp))
@@ -291,8 +291,8 @@ impl<L: PendingList> Driver<L> {
     }
 
     fn status(&self, irp: IrpId) -> Reply
-        requires { IsKeeping (record { machine = self.now.machine; listing = L.listing self.now.list; claims = self.now.claims.items; statuses = self.now.statuses.items }) }
-        ensures { Called (record { machine = self.now.machine; listing = L.listing self.now.list; claims = self.now.claims.items; statuses = self.now.statuses.items }) (call.Status irp) result (record { machine = self.now.machine; listing = L.listing self.now.list; claims = self.now.claims.items; statuses = self.now.statuses.items }) }
+        requires { IsKeeping (keeping L.listing self.now) }
+        ensures { Called (keeping L.listing self.now) (call.Status irp) result (keeping L.listing self.now) }
     {
         if !self.is_known(irp) {
             return Reply::Refused(Refusal::UnknownIrp);

@@ -2,11 +2,11 @@
 ghost use Rattle.std.specs.Prelude.{◌≡◌, ◌≢◌, ◌≤◌, ◌++◌, ℕ, List, Option, string_bytes, IfOk, IfErr, OnOk};
 ghost use Rattle.std.specs.Io.KnownBytes.{Keeps as KeepsBytes};
 ghost use Rattle.csq_list.specs.Listing.{IsFresh};
-ghost use Rattle.csq_words.specs.Queue.{Limits};
+ghost use Rattle.csq_words.specs.Queue.{Limits, limits_of};
 ghost use Rattle.csqsim.specs.Pieces.{lines_of};
 ghost use Rattle.csqsim.specs.Replays.{GrewBy};
 ghost use Rattle.csqsim.specs.Calls.{Script, new_script};
-ghost use Rattle.csqsim.specs.Drivers.{IsKeeping, Keeps, LeavesDriver};
+ghost use Rattle.csqsim.specs.Drivers.{IsKeeping, Keeps, LeavesDriver, keeping};
 ghost use Rattle.csqsim.specs.ScriptAnswer.{AnswersCall, AnswersCalls, IsScriptAnswer, RepliesToScript, closing_lines};
 
 use crate::answer::{Ended, MAX_INPUT, SimFault, read_input, write_answer};
@@ -26,10 +26,10 @@ fn answer_line<L: PendingList>(
     line: &[u8],
     text: &mut String,
 ) -> Result<Handling, AllocError>
-    requires { IsKeeping (record { machine = driver.old.machine; listing = L.listing driver.old.list; claims = driver.old.claims.items; statuses = driver.old.statuses.items }) }
-    ensures { (l : Limits) (s : Script) → Keeps l (record { machine = driver.old.machine; listing = L.listing driver.old.list; claims = driver.old.claims.items; statuses = driver.old.statuses.items }) s → IfOk result (λ handling.
+    requires { IsKeeping (keeping L.listing driver.old) }
+    ensures { (l : Limits) (s : Script) → Keeps l (keeping L.listing driver.old) s → IfOk result (λ handling.
         (added : List ℕ) × GrewBy (string_bytes text.old) (string_bytes text.new) added
-        × ((more : Option Script) × AnswersCall l s number line.now added more × LeavesDriver l handling (record { machine = driver.new.machine; listing = L.listing driver.new.list; claims = driver.new.claims.items; statuses = driver.new.statuses.items }) more)) }
+        × ((more : Option Script) × AnswersCall l s number line.now added more × LeavesDriver l handling (keeping L.listing driver.new) more)) }
 {
     if line.len() > MAX_LINE {
         writeln!(text, "line {number} too long")?;
@@ -53,8 +53,8 @@ fn close<L: PendingList>(
     driver: &Driver<L>,
     text: &mut String,
 ) -> Result<(), AllocError>
-    requires { IsKeeping (record { machine = driver.now.machine; listing = L.listing driver.now.list; claims = driver.now.claims.items; statuses = driver.now.statuses.items }) }
-    ensures { OnOk result ((l : Limits) (s : Script) → Keeps l (record { machine = driver.now.machine; listing = L.listing driver.now.list; claims = driver.now.claims.items; statuses = driver.now.statuses.items }) s
+    requires { IsKeeping (keeping L.listing driver.now) }
+    ensures { OnOk result ((l : Limits) (s : Script) → Keeps l (keeping L.listing driver.now) s
         → GrewBy (string_bytes text.old) (string_bytes text.new) (closing_lines l s)) }
 {
     close_left(&driver.list, text)?;
@@ -74,8 +74,8 @@ fn answer_lines<L: PendingList>(
     input: &[u8],
     text: &mut String,
 ) -> Result<Ended, AllocError>
-    requires { IsKeeping (record { machine = driver.old.machine; listing = L.listing driver.old.list; claims = driver.old.claims.items; statuses = driver.old.statuses.items }) }
-    ensures { (l : Limits) → Keeps l (record { machine = driver.old.machine; listing = L.listing driver.old.list; claims = driver.old.claims.items; statuses = driver.old.statuses.items }) new_script → IfOk result (λ ended.
+    requires { IsKeeping (keeping L.listing driver.old) }
+    ensures { (l : Limits) → Keeps l (keeping L.listing driver.old) new_script → IfOk result (λ ended.
         (added : List ℕ) × GrewBy (string_bytes text.old) (string_bytes text.new) added
         × AnswersCalls l new_script 1 (lines_of input.now) added ended) }
 {
@@ -102,7 +102,7 @@ fn answer_input<L: PendingList + Drop>(
 ) -> Result<(String, Ended), AllocError>
     requires fresh { IsFresh (L.listing list) }
     requires irps { (1 ≤ (L.listing list).irps) × ((L.listing list).irps ≤ 1024) }
-    ensures { IfOk result (λ answer. IsScriptAnswer (record { irps = (L.listing list).irps; files = (L.listing list).files; limit = (L.listing list).limit }) input.now (string_bytes answer.0) answer.1) }
+    ensures { IfOk result (λ answer. IsScriptAnswer (limits_of (L.listing list)) input.now (string_bytes answer.0) answer.1) }
 {
     let mut text = String::new(alloc);
     if input.len() > MAX_INPUT {
@@ -127,7 +127,7 @@ pub fn answer_script<L: PendingList + Drop, R: Read, W: Write>(
 ) -> Result<Ended, SimFault>
     requires fresh { IsFresh (L.listing list) }
     requires irps { (1 ≤ (L.listing list).irps) × ((L.listing list).irps ≤ 1024) }
-    ensures answered { IfOk result (RepliesToScript (record { irps = (L.listing list).irps; files = (L.listing list).files; limit = (L.listing list).limit })
+    ensures answered { IfOk result (RepliesToScript (limits_of (L.listing list))
         (R.remaining reader.old) (R.remaining reader.new) (W.contents writer.old) (W.contents writer.new)) }
     ensures unwritten { IfErr result (λ fault. fault ≢ SimFault.Write
         → KeepsBytes (W.contents writer.old) (W.contents writer.new)) }
