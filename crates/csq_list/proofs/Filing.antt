@@ -1,7 +1,8 @@
 -- The file that an IRP is listed for, and the entries of a file.
 use Rattle.std.proofs.Common.{◌≡◌, ◌==◌, ◌<◌, ℕ, nat_lt, Bool, true, false, true≢false, not, ◌||◌, List, [], ◌∷◌, ◌++◌, filter, Some, None, is_some, refl, sym, ap, ◌∙◌, subst, eqb-true}
 use Rattle.std.specs.List.{list_all}
-use Rattle.std.proofs.lemmas.Bool.{ltb-true}
+use Rattle.std.proofs.lemmas.Bool.{ltb-true, or_parts, and_parts, or_right}
+use Rattle.std.proofs.lemmas.List.Elements.{filter-append}
 use Rattle.irp_core.specs.declared.ids.IrpId.{IrpId}
 use Rattle.irp_core.specs.declared.ids.FileId.{FileId}
 use Rattle.csq_list.specs.declared.entry.Entry.{Entry}
@@ -11,22 +12,14 @@ use Rattle.csq_list.specs.declared.entry.Peek.TheVariants.{Any, File}
 use Rattle.csq_list.specs.Searches.{is_of, is_listed, matches, first_match, without, is_distinct}
 use Rattle.csq_list.specs.Listing.{put_at}
 use Rattle.csq_list.specs.Chains.{of_file, file_in}
-use Rattle.csq_list.proofs.Finding.{or_false, and_true, irp_by_number}
+use Rattle.csq_list.proofs.Finding.{irp_by_number, same_number-refl}
 use Rattle.csq_list.proofs.Keeping.{list_any-filter}
-use Rattle.csq_list.proofs.Reading.{distinct-head, distinct-tail, distinct-middle, listed-apart, same_irp-refl, or_right}
+use Rattle.csq_list.proofs.Reading.{distinct-head, distinct-tail, distinct-middle, listed-apart}
 
 pub file_by_number : (f g : FileId) → (f.0 == g.0) ≡ true → f ≡ g
 file_by_number f g h = let e : f.0 ≡ g.0 = eqb-true f.0 g.0 h in λ k. record { 0 = e k }
 
 module _ {X : Type 0} (p : X → Bool) where
-  pub filter-append : (xs ys : List X) → filter p (xs ++ ys) ≡ filter p xs ++ filter p ys
-  filter-append [] ys = refl
-  filter-append (x ∷ xs) ys = by_case (p x) refl (filter-append xs ys)
-    where
-      by_case : (b : Bool) → p x ≡ b → filter p (xs ++ ys) ≡ filter p xs ++ filter p ys → filter p (x ∷ xs ++ ys) ≡ filter p (x ∷ xs) ++ filter p ys
-      by_case true m rest = rw m (ap (λ zs. x ∷ zs) rest)
-      by_case false m rest = rw m rest
-
   pub filter-yes : (x : X) (xs : List X) → p x ≡ true → filter p (x ∷ xs) ≡ x ∷ filter p xs
   filter-yes x xs m = rw m refl
 
@@ -35,7 +28,7 @@ module _ {X : Type 0} (p : X → Bool) where
 
   -- an element that passes is put where it is put in the whole
   pub filter-put_yes : (place : Place) (x : X) (xs : List X) → p x ≡ true → filter p (put_at place x xs) ≡ put_at place x (filter p xs)
-  filter-put_yes Back x xs m = filter-append xs (x ∷ []) ∙ ap (λ ys. filter p xs ++ ys) (filter-yes x [] m)
+  filter-put_yes Back x xs m = filter-append p xs (x ∷ []) ∙ ap (λ ys. filter p xs ++ ys) (filter-yes x [] m)
   filter-put_yes Front x xs m = filter-yes x xs m
 
   -- and another one nowhere
@@ -66,13 +59,13 @@ file_in-listed (e ∷ es) i = by_case (is_of i e) refl (file_in-listed es i)
 
 pub file_in-absent : (es : List Entry) (i : IrpId) → is_listed es i ≡ false → file_in es i ≡ None
 file_in-absent [] i h = refl
-file_in-absent (e ∷ es) i h = let parts = or_false (is_of i e) (is_listed es i) h in file_in-there e es i parts.0 ∙ file_in-absent es i parts.1
+file_in-absent (e ∷ es) i h = let parts = or_parts (is_of i e) (is_listed es i) h in file_in-there e es i parts.0 ∙ file_in-absent es i parts.1
 
 -- the new entry's file, and those of the others
 pub file_in-put_new : (place : Place) (e : Entry) (es : List Entry) → is_listed es e.irp ≡ false → file_in (put_at place e es) e.irp ≡ Some e.file
-file_in-put_new Front e es absent = file_in-here e es e.irp (same_irp-refl e.irp)
-file_in-put_new Back e [] absent = file_in-here e [] e.irp (same_irp-refl e.irp)
-file_in-put_new Back e (x ∷ es) absent = let parts = or_false (is_of e.irp x) (is_listed es e.irp) absent in file_in-there x (es ++ e ∷ []) e.irp parts.0 ∙ file_in-put_new Back e es parts.1
+file_in-put_new Front e es absent = file_in-here e es e.irp (same_number-refl e.irp)
+file_in-put_new Back e [] absent = file_in-here e [] e.irp (same_number-refl e.irp)
+file_in-put_new Back e (x ∷ es) absent = let parts = or_parts (is_of e.irp x) (is_listed es e.irp) absent in file_in-there x (es ++ e ∷ []) e.irp parts.0 ∙ file_in-put_new Back e es parts.1
 
 pub file_in-middle : (xs : List Entry) (e : Entry) (ys : List Entry) (i : IrpId) → is_of i e ≡ false → file_in (xs ++ e ∷ ys) i ≡ file_in (xs ++ ys) i
 file_in-middle [] e ys i m = file_in-there e ys i m
@@ -119,7 +112,7 @@ other-file f g es i distinct differ h = by_case (is_listed (of_file g es) i) ref
     by_case true m =
         let same : Some g ≡ Some f = sym (in-file g es i distinct m) ∙ in-file f es i distinct h in
         let one : g ≡ f = cc in
-        absurd (true≢false (sym (ap (λ (x : FileId). x.0 == f.0) one ∙ same_irp-refl (record { 0 = f.0 })) ∙ differ))
+        absurd (true≢false (sym (ap (λ (x : FileId). x.0 == f.0) one ∙ same_number-refl (record { 0 = f.0 })) ∙ differ))
 
 -- a listed IRP stands between others
 pub record IsAmong (i : IrpId) (es : List Entry) : Type 0 where
@@ -141,16 +134,16 @@ among i (e ∷ es) h = by_case (is_of i e) refl (λ k. among i es k)
 
 -- an entry's own file
 pub file_in-among : (xs : List Entry) (e : Entry) (ys : List Entry) → is_distinct (xs ++ e ∷ ys) ≡ true → file_in (xs ++ e ∷ ys) e.irp ≡ Some e.file
-file_in-among [] e ys distinct = file_in-here e ys e.irp (same_irp-refl e.irp)
+file_in-among [] e ys distinct = file_in-here e ys e.irp (same_number-refl e.irp)
 file_in-among (x ∷ xs) e ys distinct =
     let apart = distinct-middle (x ∷ xs) e ys distinct in
-    file_in-there x (xs ++ e ∷ ys) e.irp (or_false (is_of e.irp x) (is_listed xs e.irp) apart.0).0 ∙ file_in-among xs e ys (distinct-tail x (xs ++ e ∷ ys) distinct)
+    file_in-there x (xs ++ e ∷ ys) e.irp (or_parts (is_of e.irp x) (is_listed xs e.irp) apart.0).0 ∙ file_in-among xs e ys (distinct-tail x (xs ++ e ∷ ys) distinct)
 
 -- a list without an IRP that it doesn't have, and one without an entry
 pub without-absent : (i : IrpId) (es : List Entry) → is_listed es i ≡ false → without i es ≡ es
 without-absent i [] h = refl
 without-absent i (e ∷ es) h =
-    let parts = or_false (is_of i e) (is_listed es i) h in
+    let parts = or_parts (is_of i e) (is_listed es i) h in
     rw parts.0 (ap (λ xs. e ∷ xs) (without-absent i es parts.1))
 
 pub without-middle : (xs : List Entry) (e : Entry) (ys : List Entry) → is_distinct (xs ++ e ∷ ys) ≡ true → without e.irp (xs ++ e ∷ ys) ≡ xs ++ ys
@@ -158,7 +151,7 @@ without-middle xs e ys distinct =
     let apart = distinct-middle xs e ys distinct in
     let keeps : Entry → Bool = λ x. not (is_of e.irp x) in
     filter-append keeps xs (e ∷ ys)
-    ∙ ap (λ zs. without e.irp xs ++ zs) (filter-no keeps e ys (ap not (same_irp-refl e.irp)))
+    ∙ ap (λ zs. without e.irp xs ++ zs) (filter-no keeps e ys (ap not (same_number-refl e.irp)))
     ∙ (λ t. without-absent e.irp xs apart.0 t ++ without-absent e.irp ys apart.1 t)
 
 -- the first match for a file is the first of its entries
@@ -191,7 +184,7 @@ among-file f (e ∷ es) i h = by_case (is_of i e) refl (λ k. among-file f es i 
     by_case true m later =
         let same : Some e.file ≡ Some f = sym (file_in-here e es i m) ∙ h in
         let one : e.file ≡ f = cc in
-        let own : matches (File f) e.file ≡ true = ap (λ (g : FileId). matches (File f) g) one ∙ same_irp-refl (record { 0 = f.0 }) in
+        let own : matches (File f) e.file ≡ true = ap (λ (g : FileId). matches (File f) g) one ∙ same_number-refl (record { 0 = f.0 }) in
         rw own (ap (λ b. b || is_listed (of_file f es) i) m)
     by_case false m later = later_too (matches (File f) e.file) refl (later (sym (file_in-there e es i m) ∙ h))
 
@@ -199,7 +192,7 @@ among-file f (e ∷ es) i h = by_case (is_of i e) refl (λ k. among-file f es i 
 pub file_in-known : (files : ℕ) (es : List Entry) (i : IrpId) (f : FileId) → list_all (λ (e : Entry). nat_lt e.file.0 files) es ≡ true → file_in es i ≡ Some f → f.0 < files
 file_in-known files [] i f known h = absurd (cc)
 file_in-known files (e ∷ es) i f known h =
-    let parts = and_true (nat_lt e.file.0 files) (list_all (λ (x : Entry). nat_lt x.file.0 files) es) known in
+    let parts = and_parts (nat_lt e.file.0 files) (list_all (λ (x : Entry). nat_lt x.file.0 files) es) known in
     by_case (is_of i e) refl parts.0 (λ k. file_in-known files es i f parts.1 k)
   where
     by_case : (b : Bool) → is_of i e ≡ b → nat_lt e.file.0 files ≡ true → (file_in es i ≡ Some f → f.0 < files) → f.0 < files

@@ -1,5 +1,7 @@
 -- What a peek finds along a chain's links, and what it reads.
 use Rattle.std.proofs.Common.{◌≡◌, ◌<◌, ◌≤◌, ◌+◌, Bool, true, false, true≢false, if◌then◌else◌, List, [], ◌∷◌, ◌++◌, length, get_or, Option, Some, None, is_some, refl, sym, ap, ◌∙◌, subst, append_assoc, length-append, arith}
+use Rattle.std.proofs.lemmas.List.Elements.{filter-append}
+use Rattle.std.proofs.lemmas.Bool.{or_parts}
 use Rattle.irp_core.specs.declared.ids.IrpId.{IrpId}
 use Rattle.irp_core.specs.declared.ids.FileId.{FileId}
 use Rattle.csq_list.specs.declared.entry.Entry.{Entry}
@@ -11,19 +13,19 @@ use Rattle.csq_list.specs.declared.links.Record.{Record}
 use Rattle.csq_list.specs.Searches.{is_of, is_listed, is_distinct, matches, first_match, rest_after, IsPlaceIn}
 use Rattle.csq_list.specs.Chains.{IsChain, IsKept, links_at, of_file, file_in, unlinked}
 use Rattle.csq_list.specs.Counts.{takes, is_near, up_to_match, reads_to_peek, rest_from}
-use Rattle.csq_list.proofs.Finding.{or_false, rest_after-among, is_listed-among}
-use Rattle.csq_list.proofs.Reading.{first_of, same_irp-refl, first_match-any, distinct-middle, distinct-tail}
+use Rattle.csq_list.proofs.Finding.{rest_after-among, is_listed-among, same_number-refl}
+use Rattle.csq_list.proofs.Reading.{first_of, first_match-any, distinct-middle, distinct-tail}
 use Rattle.csq_list.proofs.Chaining.{chain-first, chain-next}
-use Rattle.csq_list.proofs.Filing.{IsAmong, among, filter-append, filter-yes, first_match-file, file_in-among, file_by_number, among-file, file_in-listed}
+use Rattle.csq_list.proofs.Filing.{IsAmong, among, filter-yes, first_match-file, file_in-among, file_by_number, among-file, file_in-listed}
 use Rattle.csq_list.proofs.Keeping.{distinct-filter}
 use Rattle.csq_list.proofs.ChainParts.{chain-follows}
 
 -- what stands from an entry on
 from-among : (xs : List Entry) (e : Entry) (ys : List Entry) → is_distinct (xs ++ e ∷ ys) ≡ true → rest_from (Some e.irp) (xs ++ e ∷ ys) ≡ e ∷ ys
-from-among [] e ys distinct = rw (same_irp-refl e.irp) refl
+from-among [] e ys distinct = rw (same_number-refl e.irp) refl
 from-among (x ∷ xs) e ys distinct =
     let apart = distinct-middle (x ∷ xs) e ys distinct in
-    rw (or_false (is_of e.irp x) (is_listed xs e.irp) apart.0).0 (from-among xs e ys (distinct-tail x (xs ++ e ∷ ys) distinct))
+    rw (or_parts (is_of e.irp x) (is_listed xs e.irp) apart.0).0 (from-among xs e ys (distinct-tail x (xs ++ e ∷ ys) distinct))
 
 from-first : (xs ys : List Entry) → is_distinct (xs ++ ys) ≡ true → rest_from (first_of None ys) (xs ++ ys) ≡ ys
 from-first xs [] distinct = refl
@@ -122,7 +124,7 @@ module _ (records : IrpId → Record) (ends : Links) (file_ends : List Links) (e
         let own : file_in es i ≡ Some f = sym (kept.files i) ∙ file in
         let one : Some place.entry.file ≡ Some f = sym step-entry ∙ file in
         let same : place.entry.file ≡ f = cc in
-        let taken : matches (File f) place.entry.file ≡ true = ap (matches (File f)) same ∙ same_irp-refl (record { 0 = f.0 }) in
+        let taken : matches (File f) place.entry.file ≡ true = ap (matches (File f)) same ∙ same_number-refl (record { 0 = f.0 }) in
         let parts : of_file f es ≡ of_file f place.before ++ place.entry ∷ of_file f place.later =
         ap (of_file f) place.splits ∙ filter-append (λ (x : Entry). matches (File f) x.file) place.before (place.entry ∷ place.later)
         ∙ ap (λ xs. of_file f place.before ++ xs) (filter-yes (λ (x : Entry). matches (File f) x.file) place.entry place.later taken) in

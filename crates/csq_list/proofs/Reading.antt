@@ -1,15 +1,17 @@
 -- What is read along the links of a chain, after each change of them.
-use Rattle.std.proofs.Common.{◌≡◌, Bool, true, false, true≢false, not, ◌||◌, List, [], ◌∷◌, ◌++◌, reverse, Option, Some, None, refl, sym, ap, ◌∙◌, eqb-true, eq-eqb}
+use Rattle.std.proofs.Common.{◌≡◌, Bool, true, false, true≢false, not, ◌||◌, List, [], ◌∷◌, ◌++◌, reverse, Option, Some, None, refl, sym, ap, ◌∙◌}
 use Rattle.std.proofs.lemmas.List.{reverse-append, reverse-reverse, append_assoc}
+use Rattle.std.proofs.lemmas.List.Folds.{list_any-append}
+use Rattle.std.proofs.lemmas.Bool.{or_parts, and_parts, not-true, or_left, or_right, or_from}
 use Rattle.irp_core.specs.declared.ids.IrpId.{IrpId}
 use Rattle.csq_list.specs.declared.entry.Entry.{Entry}
 use Rattle.csq_list.specs.declared.entry.Place.TheVariants.{Back}
 use Rattle.csq_list.specs.declared.entry.Peek.TheVariants.{Any}
-use Rattle.csq_list.specs.Searches.{is_of, is_listed, first_match, is_distinct}
+use Rattle.csq_list.specs.Searches.{is_of, is_listed, first_match, is_distinct, same_number}
 use Rattle.csq_list.specs.Chains.{Reads}
-use Rattle.csq_list.specs.ChainSteps.{same_irp, same_place}
-use Rattle.csq_list.proofs.Finding.{or_false, and_true, not_true, irp_by_number}
-use Rattle.csq_list.proofs.Keeping.{is_listed-put_at, distinct-put_at}
+use Rattle.csq_list.specs.ChainSteps.{same_place}
+use Rattle.csq_list.proofs.Finding.{irp_by_number, same_number-refl, same_number-sym}
+use Rattle.csq_list.proofs.Keeping.{distinct-put_at, list_any-put_at}
 
 -- no entry is of this place's IRP
 abbrev pub Apart : Option IrpId → List Entry → Type 0
@@ -26,25 +28,15 @@ abbrev pub first_of : Option IrpId → List Entry → Option IrpId
 first_of p [] = p
 first_of p (e ∷ es) = Some e.irp
 
-pub same_irp-refl : (i : IrpId) → same_irp i i ≡ true
-same_irp-refl i = eq-eqb i.0 i.0 refl
-
-pub same_irp-sym : (i j : IrpId) → same_irp i j ≡ false → same_irp j i ≡ false
-same_irp-sym i j h = by_case (same_irp j i) refl
-  where
-    by_case : (b : Bool) → same_irp j i ≡ b → same_irp j i ≡ false
-    by_case false m = m
-    by_case true m = absurd (true≢false (sym (eq-eqb i.0 j.0 (sym (eqb-true j.0 i.0 m))) ∙ h))
-
 pub same_place-refl : (p : Option IrpId) → same_place p p ≡ true
 same_place-refl None = refl
-same_place-refl (Some i) = same_irp-refl i
+same_place-refl (Some i) = same_number-refl i
 
 pub same_place-sym : (p q : Option IrpId) → same_place p q ≡ false → same_place q p ≡ false
 same_place-sym None None h = h
 same_place-sym None (Some j) h = refl
 same_place-sym (Some i) None h = refl
-same_place-sym (Some i) (Some j) h = same_irp-sym i j h
+same_place-sym (Some i) (Some j) h = same_number-sym i j h
 
 -- places of one name are one
 pub place_by_name : (p q : Option IrpId) → same_place p q ≡ true → p ≡ q
@@ -53,19 +45,11 @@ place_by_name None (Some j) h = absurd (true≢false (sym h))
 place_by_name (Some i) None h = absurd (true≢false (sym h))
 place_by_name (Some i) (Some j) h = ap (λ (k : IrpId). Some k) (irp_by_number i j h)
 
-or_left : (a b : Bool) → a ≡ true → (a || b) ≡ true
-or_left true b h = refl
-or_left false b h = absurd (true≢false (sym h))
-
-pub or_right : (a b : Bool) → b ≡ true → (a || b) ≡ true
-or_right true b h = refl
-or_right false b h = h
-
 -- a listed IRP is another than one that isn't
-pub listed-apart : (es : List Entry) (i j : IrpId) → is_listed es i ≡ true → is_listed es j ≡ false → same_irp j i ≡ false
-listed-apart es i j h absent = by_case (same_irp j i) refl
+pub listed-apart : (es : List Entry) (i j : IrpId) → is_listed es i ≡ true → is_listed es j ≡ false → same_number j i ≡ false
+listed-apart es i j h absent = by_case (same_number j i) refl
   where
-    by_case : (b : Bool) → same_irp j i ≡ b → same_irp j i ≡ false
+    by_case : (b : Bool) → same_number j i ≡ b → same_number j i ≡ false
     by_case false m = m
     by_case true m = absurd (true≢false (sym h ∙ ap (is_listed es) (sym (irp_by_number j i m)) ∙ absent))
 
@@ -76,23 +60,15 @@ place-apart es (Some j) i h a = listed-apart es i j h a
 -- the parts of what is apart from more
 pub apart-head : (p : Option IrpId) (e : Entry) (es : List Entry) → Apart p (e ∷ es) → same_place (Some e.irp) p ≡ false
 apart-head None e es h = refl
-apart-head (Some i) e es h = (or_false (is_of i e) (is_listed es i) h).0
+apart-head (Some i) e es h = (or_parts (is_of i e) (is_listed es i) h).0
 
 pub apart-tail : (p : Option IrpId) (e : Entry) (es : List Entry) → Apart p (e ∷ es) → Apart p es
 apart-tail None e es h = tt
-apart-tail (Some i) e es h = (or_false (is_of i e) (is_listed es i) h).1
-
-pub is_listed-append : (xs ys : List Entry) (i : IrpId) → is_listed (xs ++ ys) i ≡ (is_listed xs i || is_listed ys i)
-is_listed-append [] ys i = refl
-is_listed-append (x ∷ xs) ys i = ap (λ b. is_of i x || b) (is_listed-append xs ys i) ∙ regroup (is_of i x) (is_listed xs i) (is_listed ys i)
-  where
-    regroup : (a b c : Bool) → (a || (b || c)) ≡ ((a || b) || c)
-    regroup true b c = refl
-    regroup false b c = refl
+apart-tail (Some i) e es h = (or_parts (is_of i e) (is_listed es i) h).1
 
 pub apart-append : (p : Option IrpId) (xs ys : List Entry) → Apart p (xs ++ ys) → Apart p xs × Apart p ys
 apart-append None xs ys h = (tt, tt)
-apart-append (Some i) xs ys h = or_false (is_listed xs i) (is_listed ys i) (sym (is_listed-append xs ys i) ∙ h)
+apart-append (Some i) xs ys h = or_parts (is_listed xs i) (is_listed ys i) (sym (list_any-append (is_of i) xs ys) ∙ h)
 
 -- the last of entries that a place is apart from is another
 pub last-apart : (q p : Option IrpId) (es : List Entry) → same_place q p ≡ false → Apart p es → same_place (last_of q es) p ≡ false
@@ -101,21 +77,17 @@ last-apart q p (e ∷ es) h a = last-apart (Some e.irp) p es (apart-head p e es 
 
 -- where a chain's entries are distinct, the first is apart from the others
 pub distinct-head : (e : Entry) (es : List Entry) → is_distinct (e ∷ es) ≡ true → Apart (Some e.irp) es
-distinct-head e es h = not_true (is_listed es e.irp) (and_true (not (is_listed es e.irp)) (is_distinct es) h).0
+distinct-head e es h = not-true (is_listed es e.irp) (and_parts (not (is_listed es e.irp)) (is_distinct es) h).0
 
 pub distinct-tail : (e : Entry) (es : List Entry) → is_distinct (e ∷ es) ≡ true → is_distinct es ≡ true
-distinct-tail e es h = (and_true (not (is_listed es e.irp)) (is_distinct es) h).1
+distinct-tail e es h = (and_parts (not (is_listed es e.irp)) (is_distinct es) h).1
 
 pub distinct-middle : (xs : List Entry) (e : Entry) (ys : List Entry) → is_distinct (xs ++ e ∷ ys) ≡ true → Apart (Some e.irp) xs × Apart (Some e.irp) ys
 distinct-middle [] e ys h = (refl, distinct-head e ys h)
 distinct-middle (x ∷ xs) e ys h =
     let rest = distinct-middle xs e ys (distinct-tail x (xs ++ e ∷ ys) h) in
-    let other = same_irp-sym e.irp x.irp (apart-head (Some x.irp) e ys (apart-append (Some x.irp) xs (e ∷ ys) (distinct-head x (xs ++ e ∷ ys) h)).1) in
-    (both (is_of e.irp x) (is_listed xs e.irp) other rest.0, rest.1)
-  where
-    both : (a b : Bool) → a ≡ false → b ≡ false → (a || b) ≡ false
-    both true b h k = h
-    both false b h k = k
+    let other = same_number-sym e.irp x.irp (apart-head (Some x.irp) e ys (apart-append (Some x.irp) xs (e ∷ ys) (distinct-head x (xs ++ e ∷ ys) h)).1) in
+    (or_from (is_of e.irp x) (is_listed xs e.irp) other rest.0, rest.1)
 
 pub reverse-cons : (e : Entry) (es : List Entry) → reverse (e ∷ es) ≡ reverse es ++ e ∷ []
 reverse-cons e es = reverse-append (e ∷ []) es
@@ -131,7 +103,7 @@ pub is_listed-reverse : (es : List Entry) (i : IrpId) → is_listed (reverse es)
 is_listed-reverse [] i = refl
 is_listed-reverse (e ∷ es) i =
     ap (λ xs. is_listed xs i) (reverse-cons e es)
-    ∙ is_listed-put_at Back e (reverse es) i
+    ∙ list_any-put_at (is_of i) Back e (reverse es)
     ∙ ap (λ b. is_of i e || b) (is_listed-reverse es i)
 
 pub apart-reverse : (p : Option IrpId) (es : List Entry) → Apart p es → Apart p (reverse es)
@@ -179,7 +151,7 @@ module _ (link new : Option IrpId → Option IrpId) where
   pub reads-moved : (p q : Option IrpId) (es : List Entry) → new q ≡ link p → ((i : IrpId) → is_listed es i ≡ true → new (Some i) ≡ link (Some i)) → Reads link p es → Reads new q es
   reads-moved p q [] here there h = here ∙ h
   reads-moved p q (e ∷ es) here there h =
-      (here ∙ h.0, reads-moved (Some e.irp) (Some e.irp) es (there e.irp (or_left (is_of e.irp e) (is_listed es e.irp) (same_irp-refl e.irp))) (λ i m. there i (or_right (is_of i e) (is_listed es i) m)) h.1)
+      (here ∙ h.0, reads-moved (Some e.irp) (Some e.irp) es (there e.irp (or_left (is_of e.irp e) (is_listed es e.irp) (same_number-refl e.irp))) (λ i m. there i (or_right (is_of i e) (is_listed es i) m)) h.1)
 
   -- an entry that is put before all
   pub reads-put_first : (e : Entry) (es : List Entry) → new None ≡ Some e.irp → new (Some e.irp) ≡ link None → ((i : IrpId) → is_listed es i ≡ true → new (Some i) ≡ link (Some i)) → Reads link None es → Reads new None (e ∷ es)
@@ -190,8 +162,8 @@ module _ (link new : Option IrpId → Option IrpId) where
       → ((q : Option IrpId) → same_place (last_of p es) q ≡ false → same_place (Some e.irp) q ≡ false → new q ≡ link q) → is_listed es e.irp ≡ false → Reads link p es → Reads new p (es ++ e ∷ [])
   reads-put_last p e [] distinct apart fresh last here there absent h = (last, here)
   reads-put_last p e (x ∷ es) distinct apart fresh last here there absent h =
-      let parts = or_false (is_of e.irp x) (is_listed es e.irp) absent in
-      let other = same_irp-sym x.irp e.irp parts.0 in (
+      let parts = or_parts (is_of e.irp x) (is_listed es e.irp) absent in
+      let other = same_number-sym x.irp e.irp parts.0 in (
         there p (last-apart (Some x.irp) p es (apart-head p x es apart) (apart-tail p x es apart)) (apart-head p e [] fresh) ∙ h.0,
         reads-put_last (Some x.irp) e es (distinct-tail x es distinct) (distinct-head x es distinct) (rw other refl) last here there parts.1 h.1,
       )

@@ -6,7 +6,8 @@ use Rattle.csq_list.specs.declared.links.Chain.{Chain}
 use Rattle.csq_list.specs.declared.links.Chain.TheVariants.{Listed, OfFile}
 use Rattle.csq_list.specs.declared.links.Record.{Record}
 use Rattle.csq_list.specs.Chains.{links_of, links_at}
-use Rattle.csq_list.specs.ChainSteps.{same_irp, same_place, with_links, with_record, other, SameBut}
+use Rattle.csq_list.specs.ChainSteps.{same_place, with_links, with_record, other, SameBut}
+use Rattle.csq_list.specs.Searches.{same_number}
 use Rattle.csq_list.proofs.Finding.{irp_by_number}
 
 -- links of which one leads elsewhere
@@ -39,20 +40,20 @@ changed k change r = with_links k (change (links_of k r)) r
 module _ (k : Chain) (head : Links) (records : IrpId → Record) (i : IrpId) (change : Links → Links) where
   linked-changed : (q : Option IrpId) → links_at k head (with_record i (changed k change (records i)) records) q ≡ changed_at (Some i) change (links_at k head records) q
   linked-changed None = refl
-  linked-changed (Some j) = by_case (same_irp i j) refl
+  linked-changed (Some j) = by_case (same_number i j) refl
     where
-      by_case : (b : Bool) → same_irp i j ≡ b → links_at k head (with_record i (changed k change (records i)) records) (Some j) ≡ changed_at (Some i) change (links_at k head records) (Some j)
+      by_case : (b : Bool) → same_number i j ≡ b → links_at k head (with_record i (changed k change (records i)) records) (Some j) ≡ changed_at (Some i) change (links_at k head records) (Some j)
       by_case true m = rw m (links_of-with_links k (change (links_of k (records i))) (records i) ∙ ap (λ (x : IrpId). change (links_of k (records x))) (irp_by_number i j m))
       by_case false m = rw m refl
 
   rest-changed : SameBut k records (with_record i (changed k change (records i)) records)
-  rest-changed = record { file = λ j. file j (same_irp i j) refl; links = λ j. links j (same_irp i j) refl }
+  rest-changed = record { file = λ j. file j (same_number i j) refl; links = λ j. links j (same_number i j) refl }
     where
-      file : (j : IrpId) (b : Bool) → same_irp i j ≡ b → (with_record i (changed k change (records i)) records j).file ≡ (records j).file
+      file : (j : IrpId) (b : Bool) → same_number i j ≡ b → (with_record i (changed k change (records i)) records j).file ≡ (records j).file
       file j true m = rw m (file-with_links k (change (links_of k (records i))) (records i) ∙ ap (λ (x : IrpId). (records x).file) (irp_by_number i j m))
       file j false m = rw m refl
 
-      links : (j : IrpId) (b : Bool) → same_irp i j ≡ b → links_of (other k) (with_record i (changed k change (records i)) records j) ≡ links_of (other k) (records j)
+      links : (j : IrpId) (b : Bool) → same_number i j ≡ b → links_of (other k) (with_record i (changed k change (records i)) records j) ≡ links_of (other k) (records j)
       links j true m = rw m (other-with_links k (change (links_of k (records i))) (records i) ∙ ap (λ (x : IrpId). links_of (other k) (records x)) (irp_by_number i j m))
       links j false m = rw m refl
 

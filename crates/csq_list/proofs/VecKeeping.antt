@@ -2,6 +2,7 @@
 use Rattle.std.proofs.Common.{◌≡◌, ◌==◌, ◌<◌, ℕ, zero, suc, Bool, true, false, true≢false, not, ◌||◌, List, [], ◌∷◌, length, replicate, get_or, set, refl, sym, ap, ◌∙◌, subst, length-set, get_or-set_same, get_or-set_other, eqb-true, eq-eqb}
 use Rattle.std.specs.List.{list_all}
 use Rattle.std.proofs.lemmas.List.{length-replicate}
+use Rattle.std.proofs.lemmas.Bool.{and_parts, not-true}
 use Rattle.irp_core.specs.declared.ids.IrpId.{IrpId}
 use Rattle.irp_core.specs.declared.ids.FileId.{FileId}
 use Rattle.csq_list.specs.declared.entry.Entry.{Entry}
@@ -9,7 +10,6 @@ use Rattle.csq_list.specs.declared.entry.Place.{Place}
 use Rattle.csq_list.specs.Searches.{without}
 use Rattle.csq_list.specs.Listing.{Listing, IsSound, IsFresh, put_at, inserted, with_closed, fresh}
 use Rattle.csq_list.specs.VecParts.{listing_of}
-use Rattle.csq_list.proofs.Finding.{and_true, not_true}
 use Rattle.csq_list.proofs.Keeping.{sound-inserted, sound-removed}
 
 -- a flag that is set, and the others
@@ -23,8 +23,8 @@ get_or-set_flag flags m n below = by_case (m == n) refl
 -- no flag is set
 pub get_or-clear : (flags : List Bool) (n : ℕ) → list_all not flags ≡ true → get_or flags n false ≡ false
 get_or-clear [] n h = refl
-get_or-clear (f ∷ flags) zero h = not_true f (and_true (not f) (list_all not flags) h).0
-get_or-clear (f ∷ flags) (suc n) h = get_or-clear flags n (and_true (not f) (list_all not flags) h).1
+get_or-clear (f ∷ flags) zero h = not-true f (and_parts (not f) (list_all not flags) h).0
+get_or-clear (f ∷ flags) (suc n) h = get_or-clear flags n (and_parts (not f) (list_all not flags) h).1
 
 pub clear-from_get_or : (flags : List Bool) → ((n : ℕ) → get_or flags n false ≡ false) → list_all not flags ≡ true
 clear-from_get_or [] h = refl

@@ -8,9 +8,13 @@ use Rattle.csq_list.specs.declared.entry.Entry.{Entry}
 use Rattle.csq_list.specs.declared.entry.Peek.{Peek}
 use Rattle.csq_list.specs.declared.entry.Peek.TheVariants.{Any, File}
 
+-- whether two numbers of the pool are one: a list knows IRPs by number alone
+abbrev pub same_number : IrpId → IrpId → Bool
+same_number i j = i.0 == j.0
+
 -- whether an entry is of this IRP
 abbrev pub is_of : IrpId → Entry → Bool
-is_of i e = e.irp.0 == i.0
+is_of i e = same_number e.irp i
 
 -- whether an IRP is listed
 abbrev pub is_listed : List Entry → IrpId → Bool

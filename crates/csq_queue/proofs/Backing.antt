@@ -1,10 +1,9 @@
 -- The passes that are back, by their flags.
 use Rattle.std.proofs.Common.{◌≡◌, ◌≢◌, ℕ, zero, suc, ◌+◌, ◌-◌, ◌<◌, ◌≤◌, ◌==◌, ◌||◌, ◌&&◌, not, ◌++◌, ⊎_elim, Bool, true, false, true≢false, List, [], ◌∷◌, length, set, refl, sym, ap, ◌∙◌, arith, ne_eqb, length-set, get_or-set_other, get_or-set_same}
-use Rattle.csq_words.proofs.Laws.{or_true}
 use Rattle.std.specs.Prelude.{slice_index_or, slice_set}
 use mathlib.Core.Option.{some}
 use lib.ListN.{get_elem?}
-use Rattle.std.proofs.lemmas.Bool.{cases_lt}
+use Rattle.std.proofs.lemmas.Bool.{cases_lt, or_right}
 use Rattle.irp_core.specs.Steps.{number, same_pass}
 use Rattle.irp_core.specs.declared.ids.PassId.{PassId}
 use Rattle.irp_core.specs.declared.step.Inside.TheVariants.{Nothing}
@@ -16,7 +15,7 @@ use Rattle.csq_words.specs.Calls.{MayComeBack}
 use Rattle.csq_words.specs.Finals.{AllBack}
 use Rattle.csq_words.proofs.Named.{same_pass-is, same_pass-not}
 use Rattle.csq_queue.specs.Counts.{held_count, owed_count, irp_at}
-use Rattle.csq_queue.specs.Named.{AreFlags, pass_at, is_back, out_count}
+use Rattle.csq_queue.specs.Named.{AreFlags, pass_numbered, is_back, out_count}
 use Rattle.csq_queue.proofs.Counting.{by_number, tally_none, tally_zero}
 
 -- a pass without tokens and claims may come back
@@ -33,22 +32,22 @@ held_none n = tally_zero (λ k. holds_in [] (irp_at k)) n (λ k. refl)
 pub owed_none : (n : ℕ) → owed_count n [] ≡ 0
 owed_none n = tally_zero (λ k. owes_in [] (irp_at k)) n (λ k. refl)
 
-same_at : (n m : ℕ) → n ≡ m → same_pass (pass_at n) (pass_at m) ≡ true
-same_at n m e = same_pass-is (pass_at n) (pass_at m) (λ k. pass_at (e k))
+same_at : (n m : ℕ) → n ≡ m → same_pass (pass_numbered n) (pass_numbered m) ≡ true
+same_at n m e = same_pass-is (pass_numbered n) (pass_numbered m) (λ k. pass_numbered (e k))
 
-other_at : (n m : ℕ) → n ≢ m → same_pass (pass_at n) (pass_at m) ≡ false
-other_at n m ne = same_pass-not (pass_at n) (pass_at m) (λ e. ne (ap (λ (p : PassId). p.0) e))
+other_at : (n m : ℕ) → n ≢ m → same_pass (pass_numbered n) (pass_numbered m) ≡ false
+other_at n m ne = same_pass-not (pass_numbered n) (pass_numbered m) (λ e. ne (ap (λ (p : PassId). p.0) e))
 
 -- the flags with one pass more
-pub flags_more : (flags : List Bool) (passes n : ℕ) (r : PassRecord) (back : List PassRecord) → r.pass ≡ pass_at n → 1 ≤ n → n ≤ passes → AreFlags flags passes back → AreFlags (slice_set flags (n - 1) true) passes (r ∷ back)
+pub flags_more : (flags : List Bool) (passes n : ℕ) (r : PassRecord) (back : List PassRecord) → r.pass ≡ pass_numbered n → 1 ≤ n → n ≤ passes → AreFlags flags passes back → AreFlags (slice_set flags (n - 1) true) passes (r ∷ back)
 flags_more flags passes n r back is low high h = record {
   one_each = length-set flags (n - 1) true ∙ h.one_each;
-  each = λ p l. by_number (slice_index_or (set flags (n - 1) true) p false ≡ (same_pass r.pass (pass_at (suc p)) || is_back (pass_at (suc p)) back)) p (n - 1)
+  each = λ p l. by_number (slice_index_or (set flags (n - 1) true) p false ≡ (same_pass r.pass (pass_numbered (suc p)) || is_back (pass_numbered (suc p)) back)) p (n - 1)
       (λ e. ap (λ j. slice_index_or (set flags (n - 1) true) j false) e
       ∙ (get_or-set_same flags (n - 1) true false (inside n passes (length flags) low high h.one_each)
-      ∙ ap (λ b. b || is_back (pass_at (suc p)) back) (sym (ap (λ (q : PassId). same_pass q (pass_at (suc p))) is ∙ same_at n (suc p) (next n p low e)))))
+      ∙ ap (λ b. b || is_back (pass_numbered (suc p)) back) (sym (ap (λ (q : PassId). same_pass q (pass_numbered (suc p))) is ∙ same_at n (suc p) (next n p low e)))))
       (λ ne. get_or-set_other flags (n - 1) p true false ne
-      ∙ (h.each p l ∙ ap (λ b. b || is_back (pass_at (suc p)) back) (sym (ap (λ (q : PassId). same_pass q (pass_at (suc p))) is ∙ other_at n (suc p) (λ e. ne (before n p low e))))));
+      ∙ (h.each p l ∙ ap (λ b. b || is_back (pass_numbered (suc p)) back) (sym (ap (λ (q : PassId). same_pass q (pass_numbered (suc p))) is ∙ other_at n (suc p) (λ e. ne (before n p low e))))));
 }
   where
     inside : (n m l : ℕ) → 1 ≤ n → n ≤ m → l ≡ m → n - 1 < l
@@ -61,17 +60,17 @@ flags_more flags passes n r back is low high h = record {
     before n p a e = omega arith
 
 -- where none of the others is out, they are back
-pub none_out : (own : ℕ) (back : List PassRecord) (n : ℕ) (r : PassRecord) → out_count own back n ≡ 0 → r.pass ≡ pass_at own → (p : ℕ) → 1 ≤ p → p ≤ n → is_back (pass_at p) (r ∷ back) ≡ true
+pub none_out : (own : ℕ) (back : List PassRecord) (n : ℕ) (r : PassRecord) → out_count own back n ≡ 0 → r.pass ≡ pass_numbered own → (p : ℕ) → 1 ≤ p → p ≤ n → is_back (pass_numbered p) (r ∷ back) ≡ true
 none_out own back n r e is zero l h = absurd (empty l)
   where
     empty : 1 ≤ 0 → ⊥
     empty l = omega arith
 none_out own back n r e is (suc p) l h =
-    ap (λ (q : PassId). same_pass q (pass_at (suc p)) || is_back (pass_at (suc p)) back) is
-    ∙ by_number ((same_pass (pass_at own) (pass_at (suc p)) || is_back (pass_at (suc p)) back) ≡ true) (suc p) own
-    (λ same. ap (λ b. b || is_back (pass_at (suc p)) back) (same_at own (suc p) (sym same)))
-    (λ other. or_true (same_pass (pass_at own) (pass_at (suc p))) (is_back (pass_at (suc p)) back)
-    (there (suc p == own) (is_back (pass_at (suc p)) back) (ne_eqb (suc p) own other) (tally_none (λ k. not (suc k == own) && not (is_back (pass_at (suc k)) back)) n p e (omega arith))))
+    ap (λ (q : PassId). same_pass q (pass_numbered (suc p)) || is_back (pass_numbered (suc p)) back) is
+    ∙ by_number ((same_pass (pass_numbered own) (pass_numbered (suc p)) || is_back (pass_numbered (suc p)) back) ≡ true) (suc p) own
+    (λ same. ap (λ b. b || is_back (pass_numbered (suc p)) back) (same_at own (suc p) (sym same)))
+    (λ other. or_right (same_pass (pass_numbered own) (pass_numbered (suc p))) (is_back (pass_numbered (suc p)) back)
+    (there (suc p == own) (is_back (pass_numbered (suc p)) back) (ne_eqb (suc p) own other) (tally_none (λ k. not (suc k == own) && not (is_back (pass_numbered (suc k)) back)) n p e (omega arith))))
   where
     there : (a b : Bool) → a ≡ false → (not a && not b) ≡ false → b ≡ true
     there true b e h = absurd (true≢false e)
@@ -79,11 +78,11 @@ none_out own back n r e is (suc p) l h =
     there false false e h = absurd (true≢false h)
 
 -- one pass more of the rack is back
-pub rack_more : (passes left left' : ℕ) (back : List PassRecord) (r : PassRecord) → r.pass ≡ pass_at (passes + 1 - left) → left' + 1 ≡ left → left ≤ passes
-    → ((p : ℕ) → 1 ≤ p → p ≤ passes - left → is_back (pass_at p) back ≡ true) → (p : ℕ) → 1 ≤ p → p ≤ passes - left' → is_back (pass_at p) (r ∷ back) ≡ true
-rack_more passes left left' back r is e few h p l m = by_number (is_back (pass_at p) (r ∷ back) ≡ true) p (passes + 1 - left)
-    (λ same. ap (λ b. b || is_back (pass_at p) back) (ap (λ (q : PassId). same_pass q (pass_at p)) is ∙ same_at (passes + 1 - left) p (sym same)))
-    (λ ne. or_true (same_pass r.pass (pass_at p)) (is_back (pass_at p) back) (h p l (less passes left left' p e few m ne)))
+pub rack_more : (passes left left' : ℕ) (back : List PassRecord) (r : PassRecord) → r.pass ≡ pass_numbered (passes + 1 - left) → left' + 1 ≡ left → left ≤ passes
+    → ((p : ℕ) → 1 ≤ p → p ≤ passes - left → is_back (pass_numbered p) back ≡ true) → (p : ℕ) → 1 ≤ p → p ≤ passes - left' → is_back (pass_numbered p) (r ∷ back) ≡ true
+rack_more passes left left' back r is e few h p l m = by_number (is_back (pass_numbered p) (r ∷ back) ≡ true) p (passes + 1 - left)
+    (λ same. ap (λ b. b || is_back (pass_numbered p) back) (ap (λ (q : PassId). same_pass q (pass_numbered p)) is ∙ same_at (passes + 1 - left) p (sym same)))
+    (λ ne. or_right (same_pass r.pass (pass_numbered p)) (is_back (pass_numbered p) back) (h p l (less passes left left' p e few m ne)))
   where
     same : (passes left left' p : ℕ) → left' + 1 ≡ left → left ≤ passes → p ≤ passes - left' → passes - left < p → p ≡ passes + 1 - left
     same passes left left' p e few m over = omega arith
@@ -100,7 +99,7 @@ recorded p (r ∷ back) h = at (same_pass r.pass p) refl (recorded p back)
     at true e rest = (0, r, refl, same_pass-eq r.pass p e)
     at false e rest = let t = rest (sym (ap (λ b. b || is_back p back) e) ∙ h) in (suc t.0, t.1, t.2, t.3)
 
-pub all_recorded : (q : QueueRecord) → ((p : ℕ) → 1 ≤ p → p ≤ q.made → is_back (pass_at p) q.back ≡ true) → AllBack q
+pub all_recorded : (q : QueueRecord) → ((p : ℕ) → 1 ≤ p → p ≤ q.made → is_back (pass_numbered p) q.back ≡ true) → AllBack q
 all_recorded q h = λ p low high. recorded p q.back (h p.0 low high)
 
 -- what was back stays so

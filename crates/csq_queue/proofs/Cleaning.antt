@@ -1,6 +1,6 @@
 -- A cleanup on its way.
 use Rattle.std.proofs.Common.{◌≡◌, ℕ, suc, ◌+◌, ◌≤◌, ◌==◌, not, ◌&&◌, ◌||◌, Bool, true, false, true≢false, List, [], ◌∷◌, ◌++◌, length, Option, Some, None, refl, sym, ap, ◌∙◌, subst, append_assoc, eqb-true, eq-eqb, arith}
-use Rattle.csq_words.proofs.Laws.{or_true}
+use Rattle.std.proofs.lemmas.Bool.{or_right}
 use Rattle.irp_core.specs.Steps.{Irp, number, same_irp}
 use Rattle.irp_core.specs.Words.{flagged}
 use Rattle.irp_core.specs.declared.ids.FileId.{FileId}
@@ -22,7 +22,7 @@ use Rattle.csq_words.specs.declared.views.Event.TheVariants.{FlagSeen, Mark, Ins
 use Rattle.csq_words.specs.declared.views.Entry.{Entry}
 use Rattle.csq_words.specs.declared.views.PassRecord.{PassRecord}
 use Rattle.csq_words.specs.Own.{owes_in, holds_in, removed_in}
-use Rattle.csq_words.specs.Queue.{Queued, QueueState, Limits, has_irp, has_file, without, first_match, listing_of, refusal, reply_to_insert, after_event}
+use Rattle.csq_words.specs.Queue.{Queued, QueueState, Limits, has_irp, has_file, without, first_match, listing_of, refusal, reply_to_insert, after_event, new_entry}
 use Rattle.csq_words.specs.History.{IsLegal, MayCome, Begins, end_of}
 use Rattle.csq_words.specs.Records.{entries_of, only_calls, with_step, with_completion}
 use Rattle.csq_words.specs.Rule.{is_done}
@@ -30,7 +30,6 @@ use Rattle.csq_queue.specs.Counts.{tally, irp_at}
 use Rattle.csq_queue.specs.Told.{AddsEvents, KeepsRest, GivesOut}
 use Rattle.csq_queue.specs.Searches.{marked}
 use Rattle.csq_queue.specs.Cleanups.{removals, cleanup_calls, SeesCalls, CompletesAll, NothingIsLeft}
-use Rattle.csq_queue.proofs.Lists.{new_entry}
 use Rattle.csq_queue.proofs.Marking.{none_head, none_both, none_marking}
 use Rattle.csq_queue.proofs.Inserting.{find_none}
 use Rattle.csq_queue.proofs.Counting.{tally_bound, tally_more, same_irp-at, same_irp-own}
@@ -68,7 +67,7 @@ closed_after q (RemoveNext k (Some i)) f h = h
 closed_after q (Remove i false) f h = h
 closed_after q (Remove i true) f h = h
 closed_after q (Out i) f h = h
-closed_after q (CloseFile g) f h = or_true (g.0 == f.0) (has_file q.closed f) h
+closed_after q (CloseFile g) f h = or_right (g.0 == f.0) (has_file q.closed f) h
 
 closed_later : (newer h : List Entry) (f : FileId) → has_file (end_of h).closed f ≡ true → has_file (end_of (newer ++ h)).closed f ≡ true
 closed_later [] h f c = c
@@ -173,7 +172,7 @@ module _ (l : Limits) (f : FileId) (old now : PassRecord) (count : ℕ) (c : IsC
         flags = λ j. g.flags j ∙ c.completes.flags j;
         owed = λ j. g.owed j ∙ c.completes.owed j;
         held = λ j. ap (λ h. not (same_irp i j) && h) (g.held j) ∙ (kept (same_irp i j) (holds_in now.steps j) (λ t. ap (λ (x : Irp). holds_in now.steps x) (sym (same_irp-eq i j t)) ∙ (g.new_to_it i refl).not_held) ∙ c.completes.held j);
-        removed = λ j h. g.removed j ∙ or_true (same_irp i j) (removed_in now.steps j) (c.completes.removed j h);
+        removed = λ j h. g.removed j ∙ or_right (same_irp i j) (removed_in now.steps j) (c.completes.removed j h);
       };
       closed = still_closed r a.begins;
       counted = let more = done_more in let was = c.counted in omega arith;

@@ -1,7 +1,6 @@
 -- An insert that no cause refuses.
 use Rattle.std.proofs.Common.{◌≡◌, ℕ, ◌<◌, not, ◌&&◌, ◌||◌, cond, Bool, true, false, true≢false, List, [], ◌∷◌, Some, None, refl, sym, ap, ◌∙◌, subst}
-use Rattle.csq_words.proofs.Laws.{or_true}
-use Rattle.std.proofs.lemmas.Bool.{false_from_ne_true}
+use Rattle.std.proofs.lemmas.Bool.{false_from_ne_true, or_right}
 use Rattle.std.specs.List.{find}
 use borrow.Author.Tests.{leb-false}
 use Rattle.atomic_table.specs.Seated.{TableId}
@@ -19,14 +18,14 @@ use Rattle.csq_words.specs.declared.calls.Call.TheVariants.{Insert as InsertCall
 use Rattle.csq_words.specs.declared.views.Event.TheVariants.{FlagSeen, Mark, Insert}
 use Rattle.csq_words.specs.declared.views.InsertReply.TheVariants.{Pending, Cancelled}
 use Rattle.csq_words.specs.Own.{holds_in, removed_in}
-use Rattle.csq_words.specs.Queue.{Queued, QueueState, Limits, has_irp, has_entry, has_unmarked, listing_of, refusal, reply_to_insert}
+use Rattle.csq_words.specs.Queue.{Queued, QueueState, Limits, has_irp, has_entry, has_unmarked, listing_of, refusal, reply_to_insert, plain, new_entry}
 use Rattle.csq_words.specs.History.{end_of}
 use Rattle.csq_words.specs.Rule.{IsTold}
 use Rattle.csq_words.specs.Calls.{after_step}
 use Rattle.csq_words.specs.Seats.{QueueSeatState, joined_record, with_view}
 use Rattle.csq_queue.specs.Told.{GivesOut, IsNew}
 use Rattle.csq_queue.specs.Adding.{IsEntered, Adds}
-use Rattle.csq_queue.proofs.Lists.{plain, new_entry, is_listed-plain, listing-inserted, listing-marked, listing-taken_back}
+use Rattle.csq_words.proofs.Listings.{is_listed-plain, listing-inserted, listing-marked, listing-taken_back}
 use Rattle.csq_queue.proofs.Newness.{disarm_new}
 
 pub find_none : {X : Type 0} (test : X → Bool) (x : X) (xs : List X) → find test (x ∷ xs) ≡ None → (test x ≡ false) × (find test xs ≡ None)
@@ -47,7 +46,7 @@ accepted_irp l q i f h =
 unmarked-put_at : (place : Place) (i : Irp) (f : FileId) (es : List Queued) → has_unmarked (put_at place (new_entry i f) es) i ≡ true
 unmarked-put_at Front i f es = rw (same_irp-refl i) refl
 unmarked-put_at Back i f [] = rw (same_irp-refl i) refl
-unmarked-put_at Back i f (e ∷ es) = or_true (same_irp e.irp i && not e.marked) _ (unmarked-put_at Back i f es)
+unmarked-put_at Back i f (e ∷ es) = or_right (same_irp e.irp i && not e.marked) _ (unmarked-put_at Back i f es)
 
 -- the seat after each step of the insert
 abbrev armed : Irp → FileId → Place → ℕ → QueueSeatState → QueueSeatState
@@ -64,7 +63,7 @@ module _ (t : TableId) (l : Limits) (s : Listing) (old : QueueSeatState) (h : Is
   unflagged = false_from_ne_true (has_irp (end_of old.queue.history).flags i) (λ e. true≢false (sym (h.list_is.flags_used i e) ∙ (accepted_irp l (end_of old.queue.history) i f none').1))
 
   used_stays : (j : Irp) → has_irp (end_of old.queue.history).flags j ≡ true → has_irp (i ∷ (end_of old.queue.history).used) j ≡ true
-  used_stays j e = or_true (same_irp i j) (has_irp (end_of old.queue.history).used j) (h.list_is.flags_used j e)
+  used_stays j e = or_right (same_irp i j) (has_irp (end_of old.queue.history).used j) (h.list_is.flags_used j e)
 
   pending : Pending ≡ reply_to_insert (refusal l (end_of old.queue.history) i f) (has_irp (end_of old.queue.history).flags i)
   pending = sym (λ k. reply_to_insert (none' k) (unflagged k))

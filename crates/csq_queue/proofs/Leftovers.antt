@@ -11,7 +11,7 @@ use Rattle.csq_words.specs.History.{end_of}
 use Rattle.csq_words.specs.Rule.{cancel_at, status_at, status_in}
 use Rattle.csq_words.specs.Finals.{FinalWords, IsLeft, IsHomeAt, IsListedAt, IsCompletedAt, final_status}
 use Rattle.csq_queue.specs.Rests.{IsLeftHome, IsLeftListed, IsLeftCompleted}
-use Rattle.csq_queue.proofs.Lists.{is_listed-plain}
+use Rattle.csq_words.proofs.Listings.{is_listed-plain}
 
 module _ (l : Limits) (s : Listing) (f : FinalWords) (q : QueueRecord) (s_is : s ≡ listing_of l (end_of q.history)) (irps : f.irps ≡ l.irps) (i : Irp) (known : number i < l.irps) where
   there : nat_lt (number i) f.irps ≡ true

@@ -1,5 +1,6 @@
 -- Marks in the queue of one thread.
 use Rattle.std.proofs.Common.{◌≡◌, not, ◌&&◌, ◌||◌, cond, Bool, true, false, true≢false, List, [], ◌∷◌, ◌++◌, Some, None, refl, sym, ap, ◌∙◌}
+use Rattle.std.proofs.lemmas.Bool.{or_parts}
 use Rattle.irp_core.specs.Steps.{Irp, same_irp}
 use Rattle.irp_core.specs.declared.ids.PassId.{PassId}
 use Rattle.irp_core.proofs.Names.{same_irp-refl}
@@ -12,15 +13,11 @@ use Rattle.csq_words.specs.History.{end_of, IsLegal}
 use Rattle.csq_words.specs.Records.{entries_of}
 use Rattle.csq_words.specs.Calls.{due_mark}
 
-or_off : (a b : Bool) → (a || b) ≡ false → (a ≡ false) × (b ≡ false)
-or_off true b h = absurd (true≢false h)
-or_off false b h = (refl, h)
-
 -- where no entry of i is unmarked, a mark changes nothing
 pub marking_idle : (i : Irp) (es : List Queued) → has_unmarked es i ≡ false → marking i es ≡ es
 marking_idle i [] h = refl
 marking_idle i (e ∷ es) h =
-    let parts = or_off (same_irp e.irp i && not e.marked) (has_unmarked es i) h in
+    let parts = or_parts (same_irp e.irp i && not e.marked) (has_unmarked es i) h in
     λ k. record { irp = e.irp; file = e.file; marked = same (same_irp e.irp i) e.marked parts.0 k } ∷ marking_idle i es parts.1 k
   where
     same : (a m : Bool) → (a && not m) ≡ false → (a || m) ≡ m

@@ -21,7 +21,7 @@ use Rattle.csq_queue.specs.Named.{IsListOf}
 use Rattle.csq_queue.specs.Told.{GivesOut}
 use Rattle.csq_queue.specs.Adding.{IsEntered, Adds}
 use Rattle.csq_queue.specs.Searches.{marked, IsSearch}
-use Rattle.csq_queue.proofs.Lists.{is_listed-plain, plain-marking, listing-marked, listing-removed}
+use Rattle.csq_words.proofs.Listings.{is_listed-plain, plain-marking, listing-marked, listing-removed}
 use Rattle.csq_queue.proofs.Newness.{disarm_new}
 use Rattle.csq_queue.proofs.Marking.{due_marks, due_legal, none_both, none_marking, none_marked, marking-append}
 use Rattle.csq_queue.proofs.Searching.{with_made, adds_none, adds_more, gives_none, gives_missed, gives_ended, gives_got, removes_on, Parts, cut, none_plain, first_of, bare, listed_at}

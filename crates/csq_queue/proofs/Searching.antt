@@ -1,6 +1,6 @@
 -- A removal goes through the list, and the history keeps pace.
 use Rattle.std.proofs.Common.{◌≡◌, ℕ, ◌<◌, not, ◌&&◌, ◌||◌, Bool, true, false, true≢false, List, [], ◌∷◌, ◌++◌, map, Some, None, refl, sym, ap, ◌∙◌, subst}
-use Rattle.csq_words.proofs.Laws.{or_true}
+use Rattle.std.proofs.lemmas.Bool.{or_parts, or_right}
 use Rattle.atomic_table.specs.Seated.{TableId}
 use Rattle.irp_core.specs.Steps.{Irp, number, same_irp}
 use Rattle.irp_core.specs.Inside.{follows, in_insert, after_disarm}
@@ -21,7 +21,7 @@ use Rattle.csq_words.specs.declared.views.Entry.{Entry}
 use Rattle.csq_words.specs.declared.views.PassRecord.{PassRecord}
 use Rattle.csq_words.specs.declared.views.QueueRecord.{QueueRecord}
 use Rattle.csq_words.specs.Own.{inside_of, holds_in, removed_in}
-use Rattle.csq_words.specs.Queue.{Queued, Limits, has_entry, has_marked, first_match}
+use Rattle.csq_words.specs.Queue.{Queued, Limits, has_entry, has_marked, first_match, plain}
 use Rattle.csq_words.specs.History.{end_of, IsLegal, is_call}
 use Rattle.csq_words.specs.Records.{entries_of, only_calls, with_events, with_calls, with_step}
 use Rattle.csq_words.specs.Rule.{IsTold, is_done}
@@ -30,7 +30,6 @@ use Rattle.csq_words.specs.Seats.{QueueSeatState, joined_record, with_view}
 use Rattle.csq_queue.specs.Named.{IsListOf}
 use Rattle.csq_queue.specs.Told.{GivesOut, IsNew}
 use Rattle.csq_queue.specs.Adding.{IsEntered, Adds}
-use Rattle.csq_queue.proofs.Lists.{plain}
 use Rattle.csq_queue.proofs.Marking.{none_head}
 
 -- the seat after a step of the joined pass with these events
@@ -190,12 +189,8 @@ bare [] e later i is h = left (same_irp e.irp i) e.marked (has_marked later i) (
 
     same_is : (i j : Irp) → i ≡ j → same_irp i j ≡ true
     same_is i j e = ap (λ (x : Irp). same_irp x j) e ∙ same_irp-refl j
-bare (b ∷ before) e later i is h = bare before e later i is (right (same_irp b.irp i && b.marked) (has_marked (before ++ e ∷ later) i) h)
-  where
-    right : (a b : Bool) → (a || b) ≡ false → b ≡ false
-    right true b h = absurd (true≢false h)
-    right false b h = h
+bare (b ∷ before) e later i is h = bare before e later i is (or_parts (same_irp b.irp i && b.marked) (has_marked (before ++ e ∷ later) i) h).1
 
 pub listed_at : (before : List Queued) (e : Queued) (later : List Queued) (i : Irp) → e.irp ≡ i → has_entry (before ++ e ∷ later) i ≡ true
 listed_at [] e later i is = rw (is, same_irp-refl i) refl
-listed_at (b ∷ before) e later i is = or_true (same_irp b.irp i) (has_entry (before ++ e ∷ later) i) (listed_at before e later i is)
+listed_at (b ∷ before) e later i is = or_right (same_irp b.irp i) (has_entry (before ++ e ∷ later) i) (listed_at before e later i is)

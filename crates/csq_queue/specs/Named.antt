@@ -22,14 +22,14 @@ abbrev pub no_limits : Limits
 no_limits = record { irps = 0; files = 0; limit = 0 }
 
 -- the pass of this number
-abbrev pub pass_at : ℕ → PassId
-pass_at n = record { 0 = n }
+abbrev pub pass_numbered : ℕ → PassId
+pass_numbered n = record { 0 = n }
 
 -- the pass's seat is here and inside no program, and its numbers are those of its record
 pub record IsPassOf (table : TableId) (limits : Limits) (passes : ℕ) (seat : Option PassSeatState) (number tokens claims : ℕ) : Type 0 where
   pub here : IsHere table seat
   pub outside : inside_of (pass_record seat).steps ≡ Nothing
-  pub pass_is : (pass_record seat).pass ≡ pass_at number
+  pub pass_is : (pass_record seat).pass ≡ pass_numbered number
   pub from : 1 ≤ number
   pub to : number ≤ passes
   pub tokens_are : tokens ≡ held_count limits.irps (pass_record seat).steps
@@ -42,7 +42,7 @@ is_back p back = list_any (λ (r : PassRecord). same_pass r.pass p) back
 -- the flag n says whether the pass n + 1 is back
 pub record AreFlags (flags : List Bool) (passes : ℕ) (back : List PassRecord) : Type 0 where
   pub one_each : length flags ≡ passes
-  pub each : (n : ℕ) → n < passes → slice_index_or flags n false ≡ is_back (pass_at (suc n)) back
+  pub each : (n : ℕ) → n < passes → slice_index_or flags n false ≡ is_back (pass_numbered (suc n)) back
 
 -- the list is that of the queue of one thread, marks aside, and each IRP that was found flagged is used
 pub record IsListOf (limits : Limits) (listing : Listing) (queue : QueueState) : Type 0 where
@@ -62,4 +62,4 @@ pub record IsLockedOf (table : TableId) (limits : Limits) (passes : ℕ) (listin
 
 -- how many of the passes 1 to n, beside this one, are not back
 abbrev pub out_count : ℕ → List PassRecord → ℕ → ℕ
-out_count own back n = tally (λ k. not (suc k == own) && not (is_back (pass_at (suc k)) back)) n
+out_count own back n = tally (λ k. not (suc k == own) && not (is_back (pass_numbered (suc k)) back)) n

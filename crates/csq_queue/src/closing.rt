@@ -7,7 +7,7 @@ ghost use Rattle.csq_words.specs.History.{IsLegal, Begins, end_of};
 ghost use Rattle.csq_words.specs.Records.{with_back};
 ghost use Rattle.csq_words.specs.Finals.{AllBack, IsFinal, IsLeft, KeepsRecords};
 ghost use Rattle.csq_queue.specs.Counts.{held_count, owed_count};
-ghost use Rattle.csq_queue.specs.Named.{pass_at, is_back, out_count};
+ghost use Rattle.csq_queue.specs.Named.{pass_numbered, is_back, out_count};
 ghost use Rattle.csq_queue.specs.Rests.{IsRestOf, KeepsRecord, HoldsNothing, IsCloseCause};
 
 use crate::locked::Locked;
@@ -55,7 +55,7 @@ impl<L: PendingList + Drop, N: QueueName, A: Allocator> Locked<L, N, A> {
         requires words { words.now.table ≡ N.table }
         requires irps { words.now.size.irps ≡ N.limits.irps }
         requires made { self.old.made ≡ N.passes }
-        requires back { (p : ℕ) → 1 ≤ p → p ≤ N.passes - rack → is_back (pass_at p) self.old.back ≡ true }
+        requires back { (p : ℕ) → 1 ≤ p → p ≤ N.passes - rack → is_back (pass_numbered p) self.old.back ≡ true }
         ensures all { AllBack self.new }
         ensures history { self.new.history ≡ self.old.history }
         ensures kept { (newer : List PassRecord) × (self.new.back ≡ newer ++ self.old.back) }

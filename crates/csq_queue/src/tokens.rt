@@ -27,7 +27,8 @@ impl InsertContext {
     pub fn irp(&self) -> IrpId
         ensures { result ≡ self.now }
     {
-        self.irp
+        let InsertContext { irp } = self;
+        *irp
     }
 }
 
@@ -52,7 +53,8 @@ impl Token {
     pub fn irp(&self) -> IrpId
         ensures { result ≡ self.now }
     {
-        self.irp
+        let Token { irp } = self;
+        *irp
     }
 }
 
@@ -78,7 +80,8 @@ impl Claim {
     pub fn irp(&self) -> IrpId
         ensures { result ≡ self.now }
     {
-        self.irp
+        let Claim { irp } = self;
+        *irp
     }
 }
 
@@ -104,7 +107,8 @@ impl CancelToken {
     pub fn irp(&self) -> IrpId
         ensures { result ≡ self.now }
     {
-        self.irp
+        let CancelToken { irp } = self;
+        *irp
     }
 }
 

@@ -1,6 +1,6 @@
 -- The steps of a pass's own seat keep the rule.
 use Rattle.std.proofs.Common.{◌≡◌, ◌≢◌, ℕ, ◌+◌, ◌*◌, ◌<◌, ◌≤◌, Bool, true, false, List, [], ◌∷◌, map, length, set, refl, sym, ap, ◌∙◌, subst, arith, length-set, get_or-set_other, get_or-set_same}
-use Rattle.std.proofs.lemmas.Bool.{false_from_ne_true}
+use Rattle.std.proofs.lemmas.Bool.{false_from_ne_true, or_right}
 use Rattle.std.specs.Prelude.{slice_index}
 use mathlib.Core.Option.{none}
 use Rattle.atomic_table.specs.Table.{Allows, step, keeps}
@@ -29,7 +29,7 @@ use Rattle.irp_core.specs.declared.status.TheConstants.NtStatus.{CANCELLED}
 use Rattle.irp_core.specs.Words.{was_armed}
 use Rattle.csq_words.specs.Rule.{cancel_at, routine_at, status_at, status_in, is_done, IsStatusWord, HasWords, with_done, completed_in, AreStored, IsRecord, IsKept}
 use Rattle.csq_words.specs.Plays.{SeatView, IsFound, Acts, Completes}
-use Rattle.csq_words.proofs.Laws.{or_true, off, bit_bound, open_undone}
+use Rattle.csq_words.proofs.Laws.{off, bit_bound, open_undone}
 use Rattle.csq_words.proofs.Own.{own-mine, any_filtered}
 use Rattle.csq_words.proofs.Own.{holds_in-own, removed_in-own}
 use Rattle.csq_words.proofs.Named.{irp_eq}
@@ -159,7 +159,7 @@ done_now p (Out i) v E is h = h
 
 completed_done : (E : List Made) → AllDone E (completed_in E)
 completed_done [] = tt
-completed_done (m ∷ E) = done_now m.pass m.kind m.found E (completed_in E) (all_done_in E (m ∷ E) (λ i h. or_true (is (Done i) m) (is_done E i) h) (completed_in E) (completed_done E))
+completed_done (m ∷ E) = done_now m.pass m.kind m.found E (completed_in E) (all_done_in E (m ∷ E) (λ i h. or_right (is (Done i) m) (is_done E i) h) (completed_in E) (completed_done E))
 
 stored_apart : (words : List ℕ) (run : List Made) (i : Irp) (n : ℕ) (cs : List Completion) → is_done run i ≡ false → AllDone run (map (λ (c : Completion). c.irp) cs) → AreStored words cs → AreStored (set words (status_at i) n) cs
 stored_apart words run i n [] undone all h = tt
@@ -184,7 +184,7 @@ completes size slots id r held i status inside' small outside held' due s (run, 
     let mine = (k.each_view id (pass_view r) here).pass_here r refl in
     let was = mine.2.of_pass in
     let holds' : holds run r.pass i ≡ true = sym (ap (λ t. holds_in t i) was.steps_is ∙ holds_in-own r.pass i run) ∙ held' in
-    let undone = open_undone size run k.agrees.history_is.is_run i r.pass (or_true (owes run r.pass i) (holds run r.pass i) holds') in
+    let undone = open_undone size run k.agrees.history_is.is_run i r.pass (or_right (owes run r.pass i) (holds run r.pass i) holds') in
     let unset : found ≡ 0 = unset_word found (is_done run i) (removed run i) undone (k.agrees.words_are i inside').status_is in
     let to = mine.1.to in
     let few = k.agrees.few in

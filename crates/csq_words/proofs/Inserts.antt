@@ -21,7 +21,7 @@ use Rattle.csq_words.specs.declared.calls.Call.TheVariants.{Insert}
 use Rattle.csq_words.specs.declared.views.Event.TheVariants as event
 use Rattle.csq_words.specs.declared.views.PassRecord.{PassRecord}
 use Rattle.csq_words.specs.declared.views.QueueRecord.{QueueRecord}
-use Rattle.csq_words.specs.Queue.{has_entry, has_irp}
+use Rattle.csq_words.specs.Queue.{has_entry, has_irp, new_entry}
 use Rattle.csq_list.specs.Listing.{put_at}
 use Rattle.csq_words.specs.History.{end_of}
 use Rattle.irp_core.specs.Words.{was_armed}
@@ -92,8 +92,8 @@ module _ (size : Size) (words : List ℕ) (run : List Made) (q : QueueRecord) (r
     used_are : (j : Irp) → has_irp (end_of q.history).used j ≡ (not (same_irp i j) && was_armed run j)
     used_are j = x.history_is.used_is j ∙ ap (λ b. not b && was_armed run j) (flight j)
 
-    listed_now : (j : Irp) → has_entry (put_at place record { irp = i; file = f; marked = false } (end_of q.history).entries) j ≡ listed run j
-    listed_now j = has_entry-placed place record { irp = i; file = f; marked = false } (end_of q.history).entries j ∙ joins i j _ (listed run j) (λ e. ap (listed run) (sym e) ∙ is_listed) (entries_are j)
+    listed_now : (j : Irp) → has_entry (put_at place (new_entry i f) (end_of q.history).entries) j ≡ listed run j
+    listed_now j = has_entry-placed place (new_entry i f) (end_of q.history).entries j ∙ joins i j _ (listed run j) (λ e. ap (listed run) (sym e) ∙ is_listed) (entries_are j)
 
     used_now : (j : Irp) → (same_irp i j || has_irp (end_of q.history).used j) ≡ was_armed run j
     used_now j = joins i j _ (was_armed run j) (λ e. ap (was_armed run) (sym e) ∙ armed_i) (used_are j)
@@ -156,7 +156,7 @@ module _ (size : Size) (words : List ℕ) (run : List Made) (q : QueueRecord) (r
           words_are = λ j l. disarm_words words run r.pass i 0 j (x.words_are j l) (omega arith);
           inert = λ is. refl;
           stored = λ cs h. stored_else words (routine_at i) 0 cs (λ j e. other_word j i e) h;
-          listed_is = λ j. rw seen (has_entry-marking i (put_at place record { irp = i; file = f; marked = false } (end_of q.history).entries) j ∙ (listed_now flight_of_seen listed_of_seen j ∙ sym (listed_miss r.pass i j run)));
+          listed_is = λ j. rw seen (has_entry-marking i (put_at place (new_entry i f) (end_of q.history).entries) j ∙ (listed_now flight_of_seen listed_of_seen j ∙ sym (listed_miss r.pass i j run)));
           used_is = λ j. rw seen (used_now flight_of_seen listed_of_seen j);
           true_of = (true_stays size m run is_run (event.Mark i) (listed_taken size run x.history_is.is_run i listed_of_seen (sym is)), (tt, truths_stay size m run is_run q.history x.history_is.true_of));
         }

@@ -1,6 +1,6 @@
 -- What a run says of an IRP, read off the way in which the IRP stands.
 use Rattle.std.proofs.Common.{◌≡◌, ℕ, ◌<◌, Bool, true, false, cond, not, ◌&&◌, ◌||◌, ◌==◌, List, [], ◌∷◌, filter, refl, ap, sym, ◌∙◌, arith}
-use Rattle.std.proofs.lemmas.Bool.{false_from_ne_true}
+use Rattle.std.proofs.lemmas.Bool.{false_from_ne_true, or_right}
 use Rattle.std.specs.List.{list_any}
 use Rattle.irp_core.specs.declared.ids.PassId.{PassId}
 use Rattle.irp_core.specs.declared.step.Kind.{Kind}
@@ -23,10 +23,6 @@ use Rattle.irp_core.proofs.Owning.{stands, open_dones}
 use Rattle.irp_core.specs.Owners.{taken}
 use Rattle.irp_core.specs.Words.{was_armed}
 use Rattle.csq_words.specs.Rule.{is_done}
-
-pub or_true : (b c : Bool) → c ≡ true → (b || c) ≡ true
-or_true true c h = refl
-or_true false c h = h
 
 pub off : {P : Type 0} → false ≡ true → P
 off e = absurd cc
@@ -57,7 +53,7 @@ taken_claims p i (m ∷ E) h = go (taken_claims p i E) (found_one (Disarm i) m |
   where
     go : (claims E i ≡ record { pass = p; kind = Take i; found = 1 } ∷ [] → taken E i ≡ true) → (b : Bool) → cond b (m ∷ claims E i) (claims E i) ≡ record { pass = p; kind = Take i; found = 1 } ∷ [] → (found_one (Take i) m || taken E i) ≡ true
     go rest true e = let same : m ≡ record { pass = p; kind = Take i; found = 1 } = cc in rw (same, same_irp-refl) refl
-    go rest false e = or_true (found_one (Take i) m) (taken E i) (rest e)
+    go rest false e = or_right (found_one (Take i) m) (taken E i) (rest e)
 
 module _ (ever set : Bool) (cl : List Made) (ow ho dn : PassId → Bool) (ends : List Made) (left byr : Bool) (i : Irp) where
   row_fresh : (s : Standing) → Row ever set cl ow ho dn ends left byr i s → ever ≡ false → (set ≡ false) × (left ≡ false)
@@ -119,7 +115,7 @@ module _ (size : Size) (E : List Made) (r : IsRun size E) (i : Irp) where
   pub set_listed : armed E i ≡ true → (was_armed E i ≡ true) × (listed E i ≡ true) × (removed E i ≡ false) × (taken E i ≡ false)
   set_listed h = let s = stands size E r i in
       let f = row_set _ _ _ _ _ _ _ _ _ i s.0 s.1 h in
-      (f.0.0, rw (f.0.0, f.0.1) refl, f.1, false_from_ne_true (taken E i) (λ t. some_filtered (λ m. found_one (Disarm i) m || found_one (Take i) m) (found_one (Take i)) E (λ m g. or_true (found_one (Disarm i) m) (found_one (Take i) m) g) f.2 t))
+      (f.0.0, rw (f.0.0, f.0.1) refl, f.1, false_from_ne_true (taken E i) (λ t. some_filtered (λ m. found_one (Disarm i) m || found_one (Take i) m) (found_one (Take i)) E (λ m g. or_right (found_one (Disarm i) m) (found_one (Take i) m) g) f.2 t))
 
   -- who finds no routine of a listed IRP knows that a canceller took it
   pub listed_taken : listed E i ≡ true → routine E i ≡ 0 → taken E i ≡ true
@@ -154,7 +150,7 @@ flag_seen size [] r p i e = absurd cc
 flag_seen size (m ∷ E) r p i e = go (flag_seen size E (run_less size m E r) p i) (same_pass m.pass p) e
   where
     stays : flagged E i ≡ true → flagged (m ∷ E) i ≡ true
-    stays h = or_true (is (Flag i) m) (flagged E i) h
+    stays h = or_right (is (Flag i) m) (flagged E i) h
 
     found : (k : Kind) → k ≡ Test i → m.found ≡ found_by E k → (m.found == 0) ≡ false → flagged E i ≡ true
     found k same f some = go (flagged E i) refl
@@ -193,7 +189,7 @@ cancelling_flagged (m ∷ E) p i e = go (cancelling_flagged E p i) (same_pass m.
   where
     go : (inside E p ≡ Cancelling i → flagged E i ≡ true) → (b : Bool) → cond b (inside_after (inside E p) m.kind m.found) (inside E p) ≡ Cancelling i → (is (Flag i) m || flagged E i) ≡ true
     go rest true e = rw (cancelling_step m.kind m.found (inside E p) i e, same_irp-refl) refl
-    go rest false e = or_true (is (Flag i) m) (flagged E i) (rest e)
+    go rest false e = or_right (is (Flag i) m) (flagged E i) (rest e)
 
 take_follows : (s : Inside) (j : Irp) → follows s (Take j) ≡ true → s ≡ Cancelling j
 take_follows (Cancelling l) j h = ap Cancelling (sym (same_irp-eq j l h))
@@ -214,7 +210,7 @@ taken_flagged size (m ∷ E) r i h = go m.kind m.found (run_last size m E r).nex
     go : (k : Kind) (v : ℕ) → follows (inside E m.pass) k ≡ true → (taken E i ≡ true → flagged E i ≡ true) → (found_one (Take i) (record { pass = m.pass; kind = k; found = v }) || taken E i) ≡ true
         → (is (Flag i) (record { pass = m.pass; kind = k; found = v }) || flagged E i) ≡ true
     go (Take j) v f rest h = now j f (same_irp j i) (v == 1) refl rest h
-    go (Flag j) v f rest h = or_true (same_irp j i) (flagged E i) (rest h)
+    go (Flag j) v f rest h = or_right (same_irp j i) (flagged E i) (rest h)
     go (Arm j) v f rest h = rest h
     go (Test j) v f rest h = rest h
     go (Disarm j) v f rest h = rest h

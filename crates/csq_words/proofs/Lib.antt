@@ -9,6 +9,7 @@ pub mod Changes
 pub mod Acting
 pub mod Entries
 pub mod Marks
+pub mod Listings
 pub mod Making
 pub mod Inserts
 pub mod Removals

@@ -1,5 +1,6 @@
 -- What is marked was taken.
 use Rattle.std.proofs.Common.{◌≡◌, Bool, true, false, not, ◌&&◌, ◌||◌, List, [], ◌∷◌, Some, None, refl, sym, ap, ◌∙◌}
+use Rattle.std.proofs.Math.Bool.{and-false}
 use Rattle.irp_core.specs.declared.ids.FileId.{FileId}
 use Rattle.irp_core.specs.declared.step.Made.{Made}
 use Rattle.irp_core.specs.Steps.{Irp, same_irp}
@@ -10,7 +11,7 @@ use Rattle.csq_words.specs.declared.views.InsertReply.TheVariants.{Pending, Canc
 use Rattle.csq_words.specs.declared.views.Event.{Event}
 use Rattle.csq_words.specs.declared.views.Event.TheVariants.{FlagSeen, Mark, Insert, RemoveNext, Remove, Out, CloseFile}
 use Rattle.csq_words.specs.declared.views.Entry.{Entry}
-use Rattle.csq_words.specs.Queue.{Queued, QueueState, has_marked, marking, without, after_event}
+use Rattle.csq_words.specs.Queue.{Queued, QueueState, has_marked, marking, without, after_event, new_entry}
 use Rattle.csq_list.specs.Listing.{put_at}
 use Rattle.csq_words.specs.History.{end_of}
 use Rattle.irp_core.specs.Owners.{taken}
@@ -30,17 +31,9 @@ marking_other i j (e ∷ es) ne = go (same_irp e.irp j) refl (same_irp e.irp i) 
     go true h false g rest = ap (λ x. e.marked || x) rest
     go true h true g rest = off (sym ne ∙ (ap (λ (x : Irp). same_irp x j) (sym (same_irp-eq e.irp i g)) ∙ h))
 
-marked-placed : (place : Place) (i : Irp) (f : FileId) (es : List Queued) (j : Irp) → has_marked (put_at place record { irp = i; file = f; marked = false } es) j ≡ has_marked es j
-marked-placed Front i f es j = rw (none (same_irp i j)) refl
-  where
-    none : (b : Bool) → (b && false) ≡ false
-    none true = refl
-    none false = refl
-marked-placed Back i f [] j = rw (none (same_irp i j)) refl
-  where
-    none : (b : Bool) → (b && false) ≡ false
-    none true = refl
-    none false = refl
+marked-placed : (place : Place) (i : Irp) (f : FileId) (es : List Queued) (j : Irp) → has_marked (put_at place (new_entry i f) es) j ≡ has_marked es j
+marked-placed Front i f es j = rw and-false refl
+marked-placed Back i f [] j = rw and-false refl
 marked-placed Back i f (x ∷ es) j = ap (λ b. (same_irp x.irp j && x.marked) || b) (marked-placed Back i f es j)
 
 marked-without : (i j : Irp) (es : List Queued) → has_marked (without i es) j ≡ true → has_marked es j ≡ true

@@ -1,6 +1,7 @@
 -- What a pass reads.
 use Rattle.std.proofs.Common.{◌≡◌, ℕ, ◌<◌, ◌||◌, cond, Bool, true, false, List, [], ◌∷◌, ◌++◌, set, Some, None, refl, sym, ap, ◌∙◌, subst}
 use Rattle.std.proofs.lemmas.List.{set-get_or}
+use Rattle.std.proofs.lemmas.Bool.{or_right}
 use Rattle.std.specs.Prelude.{slice_index}
 use mathlib.Core.Option.{some, none}
 use lib.ListN.{get_elem?}
@@ -24,7 +25,7 @@ use Rattle.csq_words.specs.declared.views.View.{View}
 use Rattle.csq_words.specs.Records.{pass_view}
 use Rattle.csq_words.specs.Rule.{cancel_at, status_at, status_in, IsStatusWord, IsTrueOf, AreTrueOf, AreStored, IsKept}
 use Rattle.csq_words.specs.Plays.{SeatView, says_flagged, shows_flagged, status_recorded, ReadsCancel, ReadsStatus}
-use Rattle.csq_words.proofs.Laws.{off, or_true, open_undone, taken_flagged}
+use Rattle.csq_words.proofs.Laws.{off, open_undone, taken_flagged}
 use Rattle.csq_words.proofs.Own.{flagged_own}
 use Rattle.csq_words.proofs.Keeping.{none_is}
 
@@ -109,7 +110,7 @@ reads_status size slots id r held i inside' s h _ at _ =
         (λ f. let o : owes run r.pass i ≡ true = sym (ap (λ t. owes_in t i) was.steps_is ∙ owes_in-own r.pass i run) ∙ f in
             unset_status _ _ _ (open_undone size run is_run i r.pass (rw o refl)) word),
         (λ f. let o : holds run r.pass i ≡ true = sym (ap (λ t. holds_in t i) was.steps_is ∙ holds_in-own r.pass i run) ∙ f in
-            unset_status _ _ _ (open_undone size run is_run i r.pass (or_true (owes run r.pass i) (holds run r.pass i) o)) word),
+            unset_status _ _ _ (open_undone size run is_run i r.pass (or_right (owes run r.pass i) (holds run r.pass i) o)) word),
       ),
     )
 

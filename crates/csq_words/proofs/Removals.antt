@@ -1,6 +1,7 @@
 -- The steps of a removal and of the cancel routine: disarm, end, out.
 use Rattle.std.proofs.Common.{◌≡◌, ℕ, ◌<◌, Bool, true, false, cond, not, ◌&&◌, List, [], ◌∷◌, ◌++◌, set, refl, sym, ap, ◌∙◌, subst, arith, length-set}
 use Rattle.std.proofs.Math.Bool.{and-false}
+use Rattle.std.proofs.lemmas.Bool.{or_right}
 use Rattle.csq_words.specs.Own.{inside_of, owes_in}
 use Rattle.irp_core.specs.declared.ids.PassId.{PassId}
 use Rattle.irp_core.specs.declared.step.Kind.TheVariants.{Disarm, End, Out}
@@ -28,7 +29,7 @@ use Rattle.irp_core.specs.Owners.{taken}
 use Rattle.irp_core.specs.Words.{was_armed}
 use Rattle.csq_words.specs.Rule.{routine_at, inserts, WasCancelled, IsTrueOf, AreTrueOf}
 use Rattle.csq_words.specs.Calls.{due_mark, IsNextMatch, MayRemove}
-use Rattle.csq_words.proofs.Laws.{off, or_true, owed_listed, listed_taken}
+use Rattle.csq_words.proofs.Laws.{off, owed_listed, listed_taken}
 use Rattle.csq_words.proofs.Own.{owes_in-own}
 use Rattle.csq_words.proofs.Truths.{true_stays, truths_stay}
 use Rattle.csq_words.proofs.Changes.{disarm_words, end_words, out_words, stored_else}
@@ -68,7 +69,7 @@ next_listed k es i h = subst (λ l. has_entry l i ≡ true) (sym h.parts) (among
   where
     among : (before : List Queued) → has_entry (before ++ h.entry ∷ h.after) i ≡ true
     among [] = rw (h.irp_is, same_irp-refl) refl
-    among (e ∷ before) = or_true (same_irp e.irp i) _ (among before)
+    among (e ∷ before) = or_right (same_irp e.irp i) _ (among before)
 
 pub listed_out : (p : PassId) (i j : Irp) (run : List Made) → listed (record { pass = p; kind = Out i; found = 0 } ∷ run) j ≡ (not (same_irp i j) && listed run j)
 listed_out p i j run = go (same_irp i j) refl

@@ -1,6 +1,6 @@
 -- What an event says of a run stays true as the run grows.
 use Rattle.std.proofs.Common.{◌≡◌, Bool, true, false, not, ◌&&◌, ◌||◌, List, [], ◌∷◌, refl, sym, ap, ◌∙◌}
-use Rattle.std.proofs.lemmas.Bool.{false_from_ne_true}
+use Rattle.std.proofs.lemmas.Bool.{false_from_ne_true, or_right}
 use Rattle.std.specs.List.{list_any}
 use Rattle.irp_core.specs.declared.ids.PassId.{PassId}
 use Rattle.irp_core.specs.declared.step.Kind.{Kind}
@@ -20,7 +20,7 @@ use Rattle.csq_words.specs.declared.views.Entry.{Entry}
 use Rattle.irp_core.specs.Owners.{taken}
 use Rattle.irp_core.specs.Words.{was_armed}
 use Rattle.csq_words.specs.Rule.{WasCancelled, IsTrueOf, AreTrueOf}
-use Rattle.csq_words.proofs.Laws.{or_true, off}
+use Rattle.csq_words.proofs.Laws.{off}
 
 -- whether i left the list
 abbrev pub left : List Made → Irp → Bool
@@ -50,14 +50,14 @@ no_disarm size p E i (Done j) t l = refl
 module _ (size : Size) (m : Made) (run : List Made) (r : IsRun size (m ∷ run)) where
   pub cancelled_stays : (i : Irp) → WasCancelled run i → WasCancelled (m ∷ run) i
   cancelled_stays i h = record {
-    armed = or_true (is (Arm i) m) (was_armed run i) h.armed;
-    unlisted = gone (was_armed (m ∷ run) i) (left (m ∷ run) i) (or_true (found_one (Disarm i) m || is (Out i) m) (left run i) (left_is (was_armed run i) (left run i) h.armed h.unlisted));
+    armed = or_right (is (Arm i) m) (was_armed run i) h.armed;
+    unlisted = gone (was_armed (m ∷ run) i) (left (m ∷ run) i) (or_right (found_one (Disarm i) m || is (Out i) m) (left run i) (left_is (was_armed run i) (left run i) h.armed h.unlisted));
     not_removed = rw (no_disarm size m.pass run i m.kind (run_last size m run r).owned h.unlisted) h.not_removed;
   }
 
   pub true_stays : (e : Event) → IsTrueOf run e → IsTrueOf (m ∷ run) e
-  true_stays (Mark i) h = or_true (found_one (Take i) m) (taken run i) h
-  true_stays (FlagSeen i) h = or_true (is (Flag i) m) (flagged run i) h
+  true_stays (Mark i) h = or_right (found_one (Take i) m) (taken run i) h
+  true_stays (FlagSeen i) h = or_right (is (Flag i) m) (flagged run i) h
   true_stays (Insert i f place Cancelled) h = cancelled_stays i h
   true_stays (Insert i f place Pending) h = h
   true_stays (Insert i f place (Refused cause)) h = h

@@ -4,6 +4,7 @@ use Rattle.std.specs.List.{list_any, find}
 use Rattle.std.specs.Option.{option_map}
 use Rattle.irp_core.specs.Steps.{Irp, same_irp}
 use Rattle.irp_core.specs.declared.ids.FileId.{FileId}
+use Rattle.csq_list.specs.declared.entry.Entry.{Entry}
 use Rattle.csq_list.specs.declared.entry.Place.{Place}
 use Rattle.csq_list.specs.declared.entry.Peek.{Peek}
 use Rattle.csq_list.specs.declared.refusals.InsertStatus.{InsertStatus}
@@ -33,6 +34,14 @@ pub record Limits : Type 0 where
   pub irps : ℕ
   pub files : ℕ
   pub limit : ℕ
+
+-- an entry that was just inserted
+abbrev pub new_entry : Irp → FileId → Queued
+new_entry i f = record { irp = i; file = f; marked = false }
+
+-- the entry without its mark
+abbrev pub plain : Queued → Entry
+plain e = record { irp = e.irp; file = e.file }
 
 -- the queue at the start
 abbrev pub empty_queue : QueueState
@@ -73,7 +82,7 @@ first_match k es = option_map (λ (e : Queued). e.irp) (find (λ (e : Queued). n
 -- the list that the queue keeps, without the marks
 abbrev pub listing_of : Limits → QueueState → Listing
 listing_of l q = record {
-  entries = map (λ (e : Queued). record { irp = e.irp; file = e.file }) q.entries;
+  entries = map plain q.entries;
   used = has_irp q.used;
   closed = has_file q.closed;
   irps = l.irps;
@@ -96,7 +105,7 @@ reply_to_insert None flagged = if flagged then Cancelled else Pending
 
 -- the queue after an insert, by its reply
 abbrev pub after_insert : QueueState → Irp → FileId → Place → InsertReply → QueueState
-after_insert q i f place Pending = record q { entries = put_at place record { irp = i; file = f; marked = false } q.entries; used = i ∷ q.used }
+after_insert q i f place Pending = record q { entries = put_at place (new_entry i f) q.entries; used = i ∷ q.used }
 after_insert q i f place Cancelled = record q { used = i ∷ q.used }
 after_insert q i f place (Refused cause) = q
 

@@ -1,6 +1,7 @@
 -- Each IRP that an insert accepted is accounted for.
 use Rattle.std.proofs.Common.{◌≡◌, ℕ, Bool, true, false, cond, not, ◌&&◌, ◌||◌, ◌==◌, ◌⊎◌, inl, inr, List, [], ◌∷◌, Option, Some, None, refl, ap, sym, ◌∙◌, subst, arith}
-use Rattle.csq_words.proofs.Laws.{or_true}
+use Rattle.std.proofs.lemmas.Bool.{or_left, or_right}
+use Rattle.std.proofs.Math.Bool.{or-false}
 use Rattle.std.specs.Option.{option_map}
 use Rattle.std.specs.List.{find}
 use Rattle.irp_core.specs.declared.ids.FileId.{FileId}
@@ -26,7 +27,7 @@ use Rattle.csq_words.specs.declared.views.InsertReply.TheVariants as insert
 use Rattle.csq_words.specs.declared.views.Event.TheVariants as event
 use Rattle.csq_list.specs.Searches.{matches}
 use Rattle.csq_words.specs.declared.views.Completion.{Completion}
-use Rattle.csq_words.specs.Queue.{Queued, Limits, listing_of, refusal, reply_to_insert, first_match, has_irp, has_entry, has_unmarked, has_marked, marking, without}
+use Rattle.csq_words.specs.Queue.{Queued, Limits, listing_of, refusal, reply_to_insert, first_match, has_irp, has_entry, has_unmarked, has_marked, marking, without, new_entry}
 use Rattle.csq_words.proofs.Entries.{has_entry-marking, has_entry-placed, has_entry-without}
 use Rattle.csqsim.specs.declared.call.Call.{Call}
 use Rattle.csqsim.specs.declared.call.Call.TheVariants.{Next, Mark, Routine, Complete, Close}
@@ -39,7 +40,7 @@ use Rattle.csqsim.specs.Calls.Does.{calls, cancel_claimed, cancel_unclaimed, cle
 use Rattle.csqsim.specs.Laws.{IsReached}
 use Rattle.csqsim.specs.Laws.IsReached.{at_first, by_call}
 use Rattle.csqsim.specs.Drivers.{AreMarked}
-use Rattle.csqsim.proofs.Queueing.{marks_stay, marks_without, marks_marking, marked_is, taken_routine, or_no}
+use Rattle.csqsim.proofs.Queueing.{marks_stay, marks_without, marks_marking, marked_is, taken_routine}
 use Rattle.csqsim.proofs.Cleaning.{removal_holds}
 
 -- listed, held or completed
@@ -60,11 +61,11 @@ is_done _ = false
 holds_more : (E : List Made) (k : Kind) (i : Irp) → is_done k ≡ false → holds E script_pass i ≡ true → holds (next_step E k) script_pass i ≡ true
 holds_more E (Arm j) i n h = h
 holds_more E (Test j) i n h = h
-holds_more E (Disarm j) i n h = or_true (((same_irp j i && bit (armed E j) == 1) || false) && same_pass script_pass script_pass) (holds E script_pass i) h
+holds_more E (Disarm j) i n h = or_right (((same_irp j i && bit (armed E j) == 1) || false) && same_pass script_pass script_pass) (holds E script_pass i) h
 holds_more E End i n h = h
 holds_more E (Flag j) i n h = h
 holds_more E (Take j) i n h = h
-holds_more E (Out j) i n h = or_true (same_irp j i && same_pass script_pass script_pass) (holds E script_pass i) h
+holds_more E (Out j) i n h = or_right (same_irp j i && same_pass script_pass script_pass) (holds E script_pass i) h
 holds_more E (Done j) i n h = absurd cc
 
 -- what an IRP was completed with stays, and one more is completed
@@ -134,7 +135,7 @@ stays_apart i es j there = go (same_irp i j) (sym (has_entry-without i es j) ∙
 
 -- one Disarm: of an IRP without its routine, or of one that leaves
 marks_miss : (E : List Made) (i : Irp) (es : List Queued) → armed E i ≡ false → AreMarked E es → AreMarked (next_step E (Disarm i)) es
-marks_miss E i es gone h = marks_stay E (next_step E (Disarm i)) es (λ j there. taken_routine E i j (same_irp i j || false) (or_no (same_irp i j)) gone) h
+marks_miss E i es gone h = marks_stay E (next_step E (Disarm i)) es (λ j there. taken_routine E i j (same_irp i j || false) (or-false (same_irp i j)) gone) h
 
 marks_leave : (E : List Made) (i : Irp) (es : List Queued) → AreMarked E es → AreMarked (next_step E (Disarm i)) (without i es)
 marks_leave E i es h = marks_stay E (next_step E (Disarm i)) (without i es) (λ j there. ap (λ b. not (b || false) && armed E j) (stays_apart i es j there)) (marks_without E i es h)
@@ -217,14 +218,11 @@ module _ (l : Limits) (s : Script) (a : Accounts s) (i : Irp) (f : FileId) where
   unused none = accepted_unused (causes UnknownIrp) (causes UnknownFile) (causes NotHome) (causes FileClosed) (causes Full) UnknownIrp UnknownFile NotHome FileClosed Full none
 
   module _ (place : Place) (absent : has_entry s.queue.entries i ≡ false) where
-    or_first : (b c : Bool) → b ≡ true → (b || c) ≡ true
-    or_first b c h = rw h refl
-
     pub lists_accounts : Accounts (doing (Arm i ∷ Test i ∷ []) (event.Insert i f place insert.Pending) s)
     lists_accounts = record {
-      marks = marks_put (after_steps (Arm i ∷ Test i ∷ []) s.run) place (record { irp = i; file = f; marked = false }) s.queue.entries (rw same_irp-refl refl)
+      marks = marks_put (after_steps (Arm i ∷ Test i ∷ []) s.run) place (new_entry i f) s.queue.entries (rw same_irp-refl refl)
           (marks_stay s.run (after_steps (Arm i ∷ Test i ∷ []) s.run) s.queue.entries (λ j there. ap (λ b. b || armed s.run j) (apart s.queue.entries i j absent there)) a.marks);
-      used = λ j h. used_more j (same_irp i j) (sym (has_entry-placed place (record { irp = i; file = f; marked = false }) s.queue.entries j) ∙ h);
+      used = λ j h. used_more j (same_irp i j) (sym (has_entry-placed place (new_entry i f) s.queue.entries j) ∙ h);
       each = λ j h. each_more j (same_irp i j) refl h;
     }
       where
@@ -233,18 +231,18 @@ module _ (l : Limits) (s : Script) (a : Accounts s) (i : Irp) (f : FileId) where
         used_more j false h = a.used j h
 
         old : (j : Irp) → Accounted s j → Accounted (doing (Arm i ∷ Test i ∷ []) (event.Insert i f place insert.Pending) s) j
-        old j (inl h) = inl (has_entry-placed place (record { irp = i; file = f; marked = false }) s.queue.entries j ∙ or_true (same_irp i j) (has_entry s.queue.entries j) h)
+        old j (inl h) = inl (has_entry-placed place (new_entry i f) s.queue.entries j ∙ or_right (same_irp i j) (has_entry s.queue.entries j) h)
         old j (inr (inl h)) = inr (inl h)
         old j (inr (inr h)) = inr (inr h)
 
         each_more : (j : Irp) (b : Bool) → same_irp i j ≡ b → (same_irp i j || has_irp s.queue.used j) ≡ true → Accounted (doing (Arm i ∷ Test i ∷ []) (event.Insert i f place insert.Pending) s) j
-        each_more j true e h = inl (has_entry-placed place (record { irp = i; file = f; marked = false }) s.queue.entries j ∙ or_first (same_irp i j) (has_entry s.queue.entries j) e)
+        each_more j true e h = inl (has_entry-placed place (new_entry i f) s.queue.entries j ∙ or_left (same_irp i j) (has_entry s.queue.entries j) e)
         each_more j false e h = old j (a.each j (rw e at h))
 
     pub cancels_accounts : Accounts (doing (Arm i ∷ Test i ∷ Disarm i ∷ []) (event.Insert i f place insert.Cancelled) s)
     cancels_accounts = record {
       marks = marks_stay s.run (after_steps (Arm i ∷ Test i ∷ Disarm i ∷ []) s.run) s.queue.entries (λ j there. rw (apart s.queue.entries i j absent there) refl) a.marks;
-      used = λ j h. or_true (same_irp i j) (has_irp s.queue.used j) (a.used j h);
+      used = λ j h. or_right (same_irp i j) (has_irp s.queue.used j) (a.used j h);
       each = λ j h. each_more j (same_irp i j) refl h;
     }
       where

@@ -2,6 +2,7 @@
 use Rattle.std.proofs.Common.{◌≡◌, ◌≢◌, ℕ, ◌<◌, Bool, true, false, cond, not, ◌&&◌, ◌||◌, ◌==◌, List, [], ◌∷◌, length, Option, Some, None, refl, ap, sym, ◌∙◌, subst, arith}
 use Rattle.std.specs.Prelude.{slice_index_or, slice_set}
 use Rattle.std.proofs.lemmas.List.{get_or-set_same, get_or-set_other, length-set}
+use Rattle.std.proofs.Math.Bool.{and-true}
 use Rattle.std.specs.Option.{option_map}
 use Rattle.std.specs.List.{find}
 use Rattle.irp_core.specs.declared.ids.FileId.{FileId}
@@ -26,6 +27,7 @@ use Rattle.csq_list.specs.Listing.{Listing, with_closed, removed}
 use Rattle.csq_words.specs.declared.views.Completion.{Completion}
 use Rattle.csq_words.specs.declared.views.Event.TheVariants as event
 use Rattle.csq_words.specs.Queue.{Limits, after_event, has_entry, has_marked, has_unmarked}
+use Rattle.csq_words.proofs.Listings.{is_listed-plain, listing-removed, listing-marked}
 use Rattle.csqsim.specs.declared.call.Call.{Call}
 use Rattle.csqsim.specs.declared.call.Call.TheVariants.{Mark, Routine, Complete, Close, Flag, Status}
 use Rattle.csqsim.specs.declared.call.Refusal.TheVariants.{UnknownIrp, UnknownFile, NoClaim, NotHeld, StatusPending}
@@ -35,7 +37,6 @@ use Rattle.csqsim.specs.Calls.{Script, script_pass, next_step, doing, completing
 use Rattle.csqsim.specs.Calls.Calls.{has_no_claim, completes, holds_none, refuses_pending, closes, tells_flag, tells_status, knows_no_irp, knows_no_file, claims_none}
 use Rattle.csqsim.specs.Calls.Calls.{claims as claims_it}
 use Rattle.csqsim.specs.Drivers.{Keeping, Keeps, IsOfRun}
-use Rattle.csqsim.proofs.Listings.{same_listed, listing_removed, listing_marked}
 use Rattle.csqsim.proofs.Queueing.{marked_is, queue_done, queue_flag, queue_take, queue_take_none, queue_out, armed_listed, owed_listed}
 
 module _ (l : Limits) (kept : Keeping) (s : Script) (k : Keeps l kept s) where
@@ -119,11 +120,7 @@ module _ (l : Limits) (kept : Keeping) (s : Script) (k : Keeps l kept s) where
   flagged_queue i = queue_flag (size_of kept.machine) s.run k.agrees.run s.queue k.queue i
 
   owes_more : (i j : Irp) (v : ℕ) → owes (record { pass = script_pass; kind = Take i; found = v } ∷ next_step s.run (step.Flag i)) script_pass j ≡ ((same_irp i j && v == 1) || owes s.run script_pass j)
-  owes_more i j v = rw same_pass-refl (ap (λ b. b || owes s.run script_pass j) (and_yes (same_irp i j && v == 1)))
-    where
-      and_yes : (b : Bool) → (b && true) ≡ b
-      and_yes true = refl
-      and_yes false = refl
+  owes_more i j v = rw same_pass-refl (ap (λ b. b || owes s.run script_pass j) (and-true (same_irp i j && v == 1)))
 
   pub unclaimed_keeps : (i : Irp) → number i < (size_of kept.machine).irps → armed s.run i ≡ false → (machine : MachineState)
       → Agrees machine (next_step (next_step s.run (step.Flag i)) (Take i)) → size_of machine ≡ size_of kept.machine
@@ -173,7 +170,7 @@ module _ (l : Limits) (kept : Keeping) (s : Script) (k : Keeps l kept s) where
         record {
           agrees = a;
           size = same ∙ k.size;
-          listing = k.listing ∙ listing_marked l (after_event s.queue (event.FlagSeen i)) i;
+          listing = k.listing ∙ listing-marked l (after_event s.queue (event.FlagSeen i)) i;
           queue = queue_take (next_step s.run (step.Flag i)) (after_event s.queue (event.FlagSeen i)) (flagged_queue i) i (bit (armed s.run i));
           outside = rw same_pass-refl refl;
           claims = λ j in_range. ap (λ x. slice_index_or x (number j) false) is ∙ set_claim i true here j in_range
@@ -196,7 +193,7 @@ module _ (l : Limits) (kept : Keeping) (s : Script) (k : Keeps l kept s) where
   out_keeps i known owed machine a same claims is new without_i = record {
     agrees = a;
     size = same ∙ k.size;
-    listing = without_i ∙ ap (removed i) k.listing ∙ listing_removed l s.queue i;
+    listing = without_i ∙ ap (removed i) k.listing ∙ listing-removed l s.queue i;
     queue = queue_out s.run s.queue k.queue i 0;
     outside = rw same_pass-refl refl;
     claims = λ j in_range. ap (λ x. slice_index_or x (number j) false) is ∙ set_claim i false (omega (arith, known, irps_are)) j in_range ∙ sym (rw same_pass-refl (spent (same_irp i j) (owes s.run script_pass j)));
@@ -240,7 +237,7 @@ module _ (l : Limits) (kept : Keeping) (s : Script) (k : Keeps l kept s) where
 
   pub owed_there : (i : Irp) → owes s.run script_pass i ≡ true → is_listed kept.listing.entries i ≡ true
   owed_there i owed =
-      ap (λ (x : Listing). is_listed x.entries i) k.listing ∙ same_listed s.queue.entries i ∙ k.queue.entries i ∙ (owed_listed (size_of kept.machine) s.run k.agrees.run i owed).0
+      ap (λ (x : Listing). is_listed x.entries i) k.listing ∙ is_listed-plain s.queue.entries i ∙ k.queue.entries i ∙ (owed_listed (size_of kept.machine) s.run k.agrees.run i owed).0
 
 -- the same parts are kept
 pub keeps_as : (l : Limits) (a b : Keeping) (s : Script) → Keeps l a s → b.machine ≡ a.machine → b.listing ≡ a.listing → b.claims ≡ a.claims → b.statuses ≡ a.statuses → Keeps l b s

@@ -1,5 +1,8 @@
 -- What the calls answer that other calls are made of.
 use Rattle.std.proofs.Common.{◌≡◌, ℕ, ◌+◌, ◌<◌, Bool, true, false, cond, not, ◌&&◌, ◌||◌, List, [], ◌∷◌, map, length, Some, None, refl, ap, sym, ◌∙◌, subst, arith}
+use Rattle.std.proofs.lemmas.Bool.{and_parts, not-true}
+use Rattle.std.proofs.Math.Bool.{or-false}
+use Rattle.std.proofs.lemmas.List.{length-map}
 use Rattle.irp_core.specs.declared.ids.FileId.{FileId}
 use Rattle.irp_core.specs.declared.status.TheConstants.NtStatus.{CANCELLED}
 use Rattle.irp_core.specs.declared.step.Kind.TheVariants.{Disarm}
@@ -13,9 +16,9 @@ use Rattle.csq_list.specs.declared.entry.Peek.{Peek}
 use Rattle.csq_list.specs.declared.entry.Peek.TheVariants.{File}
 use Rattle.csq_list.specs.Searches.{matches, is_distinct}
 use Rattle.csq_list.specs.Listing.{Listing, IsSound}
-use Rattle.csq_list.proofs.Finding.{and_true, not_true}
 use Rattle.csq_words.specs.declared.views.Event.TheVariants as event
-use Rattle.csq_words.specs.Queue.{Queued, QueueState, Limits, first_match, has_entry, without, after_event}
+use Rattle.csq_words.specs.Queue.{Queued, QueueState, Limits, first_match, has_entry, without, after_event, plain}
+use Rattle.csq_words.proofs.Listings.{is_listed-plain}
 use Rattle.csqsim.specs.declared.call.Call.TheVariants.{Next, Mark, Routine, Cancel, Complete, Close, Cleanup}
 use Rattle.csqsim.specs.declared.call.Reply.{Reply}
 use Rattle.csqsim.specs.declared.call.Reply.TheVariants.{Removed, NoIrp, Claimed, Unclaimed, Completed, Closed}
@@ -24,9 +27,8 @@ use Rattle.csqsim.specs.Calls.Calls.{removes_next, claims, claims_none, runs_rou
 use Rattle.csqsim.specs.Calls.Cleans.{none_left, one_more}
 use Rattle.csqsim.specs.Calls.Does.{calls}
 use Rattle.csqsim.specs.Drivers.{Keeping, Keeps, AreMarked}
-use Rattle.csqsim.proofs.Listings.{plain, same_listed}
 use Rattle.csqsim.proofs.Removing.{listed_is, listed_known}
-use Rattle.csqsim.proofs.Queueing.{marks_stay, taken_routine, or_no}
+use Rattle.csqsim.proofs.Queueing.{marks_stay, taken_routine}
 
 -- after a mark with a claim, the cancel routine runs
 pub routine_claimed : (l : Limits) (s t u : Script) (i : Irp) (r : Reply) → Calls l s (Mark i) Claimed t → Calls l t (Routine i) r u → r ≡ Completed CANCELLED
@@ -67,7 +69,7 @@ removal_holds k i (e ∷ es) E h f = go (removal_holds k i es) (matches k e.file
     go rest false other m marked = rw other (rest E h.1 (past false m refl f (rw other (none_of (not e.marked)))))
     go rest true match true marked =
         let gone : armed E e.irp ≡ false = flip (armed E e.irp) (sym h.0 ∙ marked) in
-        let marks : AreMarked (next_step E (Disarm e.irp)) es = marks_stay E (next_step E (Disarm e.irp)) es (λ j there. taken_routine E e.irp j (same_irp e.irp j || false) (or_no (same_irp e.irp j)) gone) h.1 in
+        let marks : AreMarked (next_step E (Disarm e.irp)) es = marks_stay E (next_step E (Disarm e.irp)) es (λ j there. taken_routine E e.irp j (same_irp e.irp j || false) (or-false (same_irp e.irp j)) gone) h.1 in
         rw (match, marked) (rest (next_step E (Disarm e.irp)) marks (past false true refl f (rw (match, marked) refl)))
       where
         flip : (b : Bool) → not b ≡ true → b ≡ false
@@ -110,12 +112,12 @@ without_none i (e ∷ es) h = go (same_irp e.irp i) h (without_none i es)
 -- one entry leaves
 pub length_without : (i : Irp) (es : List Queued) → is_distinct (map plain es) ≡ true → has_entry es i ≡ true → length (without i es) + 1 ≡ length es
 length_without i [] d h = absurd cc
-length_without i (e ∷ es) d h = go (same_irp e.irp i) refl h (length_without i es (and_true _ _ d).1)
+length_without i (e ∷ es) d h = go (same_irp e.irp i) refl h (length_without i es (and_parts _ _ d).1)
   where
     go : (b : Bool) → same_irp e.irp i ≡ b → (b || has_entry es i) ≡ true → (has_entry es i ≡ true → length (without i es) + 1 ≡ length es)
         → length (cond (not b) (e ∷ without i es) (without i es)) + 1 ≡ length (e ∷ es)
     go true same h rest =
-        let alone : has_entry es i ≡ false = ap (has_entry es) (sym (same_irp-eq e.irp i same)) ∙ sym (same_listed es e.irp) ∙ not_true _ (and_true _ _ d).0 in
+        let alone : has_entry es i ≡ false = ap (has_entry es) (sym (same_irp-eq e.irp i same)) ∙ sym (is_listed-plain es e.irp) ∙ not-true _ (and_parts _ _ d).0 in
         omega (arith, ap length (without_none i es alone))
     go false other h rest = omega (arith, rest h)
 
@@ -160,12 +162,8 @@ pub record CleansSoFar (l : Limits) (f : FileId) (s : Script) (kept : Keeping) :
 pub cleans_first : (l : Limits) (f : FileId) (s : Script) (kept : Keeping) → Keeps l kept s → CleansSoFar l f s kept
 cleans_first l f s kept k = record { now = s; count = 0; keeps = k; left = omega arith; more = λ m u h. let P : ℕ → Type 0 = λ n. Cleans l f s n u in subst P (omega arith) h }
 
-length_plain : (es : List Queued) → length (map plain es) ≡ length es
-length_plain [] = refl
-length_plain (e ∷ es) = omega (arith, length_plain es)
-
 pub entries_length : (l : Limits) (kept : Keeping) (s : Script) → Keeps l kept s → length kept.listing.entries ≡ length s.queue.entries
-entries_length l kept s k = ap (λ (x : Listing). length x.entries) k.listing ∙ length_plain s.queue.entries
+entries_length l kept s k = ap (λ (x : Listing). length x.entries) k.listing ∙ length-map s.queue.entries plain
 
 module _ (l : Limits) (f : FileId) (s : Script) (kept : Keeping) (h : CleansSoFar l f s kept) (sound : IsSound kept.listing) where
   module _ (i : Irp) (t : Script) (next : Calls l h.now (Next (File f)) (Removed i) t) where

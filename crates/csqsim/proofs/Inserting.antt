@@ -20,15 +20,15 @@ use Rattle.csq_list.specs.Causes.{is_cause, first_cause}
 use Rattle.csq_list.specs.Listing.{Listing, put_at, inserted, removed}
 use Rattle.csq_words.specs.declared.views.InsertReply.TheVariants as reply
 use Rattle.csq_words.specs.declared.views.Event.TheVariants as event
-use Rattle.csq_words.specs.Queue.{Queued, QueueState, Limits, listing_of, refusal, reply_to_insert, has_irp, has_entry, without, after_event}
+use Rattle.csq_words.specs.Queue.{Queued, QueueState, Limits, listing_of, refusal, reply_to_insert, has_irp, has_entry, without, after_event, new_entry}
 use Rattle.csq_words.proofs.Entries.{has_entry-placed}
+use Rattle.csq_words.proofs.Listings.{is_listed-plain, listing-removed, listing-inserted}
 use Rattle.csqsim.specs.declared.call.Call.TheVariants.{Insert}
 use Rattle.csqsim.specs.declared.call.Reply.TheVariants.{Pending, InsertRefused}
 use Rattle.csqsim.specs.Calls.{Script, script_pass, next_step, doing, Calls}
 use Rattle.csqsim.specs.Calls.Calls.{refuses_insert, lists}
 use Rattle.csqsim.specs.Drivers.{Keeping, Keeps, IsOfRun}
 use Rattle.csqsim.proofs.Going.{Goes, May, starts, went, may_arm, may_test, may_disarm, may_done}
-use Rattle.csqsim.proofs.Listings.{same_listed, listing_inserted, listing_removed}
 use Rattle.csqsim.proofs.Queueing.{queue_arm, queue_test, queue_hit, unlisted, found_then}
 use Rattle.csqsim.proofs.Removing.{keeps_run}
 
@@ -40,7 +40,7 @@ not_refused false false true x y z r h = absurd cc
 not_refused false false false x y z r h = (refl, refl)
 
 -- an entry that is put among others and taken out again
-back_out : (i : Irp) (f : FileId) (place : Place) (es : List Queued) → has_entry es i ≡ false → without i (put_at place (record { irp = i; file = f; marked = false }) es) ≡ es
+back_out : (i : Irp) (f : FileId) (place : Place) (es : List Queued) → has_entry es i ≡ false → without i (put_at place (new_entry i f) es) ≡ es
 back_out i f Front es absent = rw same_irp-refl (stays i es absent)
   where
     stays : (i : Irp) (es : List Queued) → has_entry es i ≡ false → without i es ≡ es
@@ -54,11 +54,11 @@ back_out i f Back [] absent = rw same_irp-refl refl
 back_out i f Back (e ∷ es) absent = go (same_irp e.irp i) absent (back_out i f Back es)
   where
     new : List Queued
-    new = put_at Back (record { irp = i; file = f; marked = false }) es
+    new = put_at Back (new_entry i f) es
 
     go : (b : Bool) → (b || has_entry es i) ≡ false
-        → (has_entry es i ≡ false → without i (put_at Back (record { irp = i; file = f; marked = false }) es) ≡ es)
-        → cond (not b) (e ∷ without i (put_at Back (record { irp = i; file = f; marked = false }) es)) (without i (put_at Back (record { irp = i; file = f; marked = false }) es)) ≡ e ∷ es
+        → (has_entry es i ≡ false → without i (put_at Back (new_entry i f) es) ≡ es)
+        → cond (not b) (e ∷ without i (put_at Back (new_entry i f) es)) (without i (put_at Back (new_entry i f) es)) ≡ e ∷ es
     go true h rest = absurd cc
     go false h rest = ap (λ l. e ∷ l) (rest h)
 
@@ -127,7 +127,7 @@ module _ (l : Limits) (kept : Keeping) (s : Script) (k : Keeps l kept s) (i : Ir
         queue2 = queue_test (size_of m1) (next_step s.run (Arm i)) a1.run (after_event s.queue (event.Insert i f place reply.Pending)) queue1 i
 
         listing_is : listing ≡ listing_of l (after_event s.queue (event.Insert i f place reply.Pending))
-        listing_is = is ∙ ap (inserted place (record { irp = i; file = f })) k.listing ∙ listing_inserted l s.queue i f place
+        listing_is = is ∙ ap (inserted place (record { irp = i; file = f })) k.listing ∙ listing-inserted l s.queue i f place
 
         pub pending_keeps : v ≡ 0 → (t : Script) × Calls l s (Insert i f place) Pending t × Keeps l (record kept { machine = m2; listing = listing }) t
         pending_keeps clear =
@@ -156,8 +156,8 @@ module _ (l : Limits) (kept : Keeping) (s : Script) (k : Keeps l kept s) (i : Ir
 
           pub listed_now : is_listed listing.entries i ≡ true
           listed_now =
-              ap (λ (x : Listing). is_listed x.entries i) listing_is ∙ same_listed (put_at place (record { irp = i; file = f; marked = false }) s.queue.entries) i
-              ∙ has_entry-placed place (record { irp = i; file = f; marked = false }) s.queue.entries i ∙ ap (λ b. b || has_entry s.queue.entries i) (same_irp-refl i)
+              ap (λ (x : Listing). is_listed x.entries i) listing_is ∙ is_listed-plain (put_at place (new_entry i f) s.queue.entries) i
+              ∙ has_entry-placed place (new_entry i f) s.queue.entries i ∙ ap (λ b. b || has_entry s.queue.entries i) (same_irp-refl i)
 
           -- the insert's own exchange finds the routine
           one_found : found_by (next_step (next_step s.run (Arm i)) (Test i)) (Disarm i) ≡ 1
@@ -178,7 +178,7 @@ module _ (l : Limits) (kept : Keeping) (s : Script) (k : Keeps l kept s) (i : Ir
             pub done_may : May m3 (Done i)
             done_may = may_done m3 _ Nothing goes3 i refl known3 (rw (same_irp-refl, same_pass-refl) refl)
 
-            entries_back : without i (put_at place (record { irp = i; file = f; marked = false }) s.queue.entries) ≡ s.queue.entries
+            entries_back : without i (put_at place (new_entry i f) s.queue.entries) ≡ s.queue.entries
             entries_back = back_out i f place s.queue.entries (unlisted (size_of kept.machine) s.run k.agrees.run s.queue k.queue i home)
 
             with_these : List Queued → QueueState
@@ -194,7 +194,7 @@ module _ (l : Limits) (kept : Keeping) (s : Script) (k : Keeps l kept s) (i : Ir
 
             last_is : last ≡ listing_of l (after_event s.queue (event.Insert i f place reply.Cancelled))
             unfolding with_these
-            last_is = without_i ∙ ap (removed i) listing_is ∙ listing_removed l (after_event s.queue (event.Insert i f place reply.Pending)) i ∙ ap (λ es. listing_of l (with_these es)) entries_back
+            last_is = without_i ∙ ap (removed i) listing_is ∙ listing-removed l (after_event s.queue (event.Insert i f place reply.Pending)) i ∙ ap (λ es. listing_of l (with_these es)) entries_back
 
             pub taken_keeps : Keeps l (record kept { machine = m3; listing = last }) (doing (Arm i ∷ Test i ∷ Disarm i ∷ []) (event.Insert i f place reply.Cancelled) s)
             taken_keeps = keeps_run l kept s k m3 last (next_step (next_step (next_step s.run (Arm i)) (Test i)) (Disarm i)) (after_event s.queue (event.Insert i f place reply.Cancelled)) a3 (same3 ∙ same2 ∙ same1)

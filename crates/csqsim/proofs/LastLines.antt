@@ -1,15 +1,15 @@
 -- The closing lines of a script.
 use Rattle.std.proofs.Common.{◌≡◌, ℕ, zero, suc, ◌+◌, ◌<◌, Bool, true, false, cond, List, [], ◌∷◌, ◌++◌, map, filter, length, Option, Some, None, refl, ap, sym, ◌∙◌, arith, append_assoc, append-nil, add-one, codes}
+use Rattle.std.proofs.lemmas.List.Elements.{filter-append}
 use Rattle.std.specs.Prelude.{slice_index_or}
 use Rattle.irp_core.specs.Steps.{Irp, number}
 use Rattle.irp_core.specs.Owners.{owes, holds}
 use Rattle.irp_core.specs.Runs.{Size}
 use Rattle.irp_core.specs.MachineState.{size_of}
 use Rattle.csq_list.specs.Listing.{Listing}
-use Rattle.csq_words.specs.Queue.{Queued, Limits}
+use Rattle.csq_words.specs.Queue.{Queued, Limits, plain}
 use Rattle.csqsim.specs.Calls.{Script, script_pass}
 use Rattle.csqsim.specs.Drivers.{Keeping, Keeps}
-use Rattle.csqsim.proofs.Listings.{plain}
 use Rattle.irp_core.specs.Texts.{irp_text}
 use Rattle.csq_list.specs.declared.entry.Entry.{Entry}
 use Rattle.csq_list.specs.declared.entry.Peek.TheVariants.{Any}
@@ -39,14 +39,6 @@ listed_all after es old all none told = sym (append-nil old) ∙ ap (λ (xs : Li
 numbers-append : (is js : List Irp) → numbers (is ++ js) ≡ numbers is ++ numbers js
 numbers-append [] js = refl
 numbers-append (i ∷ is) js = ap (λ t. (codes " " ++ irp_text i) ++ t) (numbers-append is js) ∙ sym (append_assoc (codes " " ++ irp_text i) (numbers is) (numbers js))
-
-filter-append : (p : Irp → Bool) (is js : List Irp) → filter p (is ++ js) ≡ filter p is ++ filter p js
-filter-append p [] js = refl
-filter-append p (i ∷ is) js = go (p i) (filter-append p is js)
-  where
-    go : (b : Bool) → filter p (is ++ js) ≡ filter p is ++ filter p js → cond b (i ∷ filter p (is ++ js)) (filter p (is ++ js)) ≡ cond b (i ∷ filter p is) (filter p is) ++ filter p js
-    go true h = ap (λ l. i ∷ l) h
-    go false h = h
 
 -- one more IRP was looked at
 module _ (p : Irp → Bool) (n : ℕ) (first old : List ℕ) (told : old ≡ first ++ numbers (filter p (irps_below n))) where

@@ -6,7 +6,6 @@ pub mod Closings
 pub mod OneStep
 pub mod OneAnswer
 pub mod Going
-pub mod Listings
 pub mod Queueing
 pub mod Calling
 pub mod Removing

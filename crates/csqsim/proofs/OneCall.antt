@@ -17,17 +17,17 @@ use Rattle.csqsim.specs.Pieces.{words_of, IsShort}
 use Rattle.csqsim.specs.CallLine.{call_name, place_word, IsIrpWord, IsFileWord, IsStatusWord, IsOne, AreOperands, IsCallLine}
 use Rattle.csqsim.specs.Schedule.{IsSkipped, IsWithinLine}
 use Rattle.csqsim.proofs.CallWords.{letters}
-use Rattle.csqsim.proofs.OneStep.{same_number, same_name, short_number}
+use Rattle.csqsim.proofs.OneStep.{number_by_text, irp_by_text, short_number}
 
-same_file : (f g : FileId) → IsShort f.0 → IsShort g.0 → decimal f.0 ≡ decimal g.0 → f ≡ g
-same_file f g a b e = let named : ℕ → FileId = λ n. record { 0 = n } in ap named (same_number f.0 g.0 a b e)
+file_by_text : (f g : FileId) → IsShort f.0 → IsShort g.0 → decimal f.0 ≡ decimal g.0 → f ≡ g
+file_by_text f g a b e = let named : ℕ → FileId = λ n. record { 0 = n } in ap named (number_by_text f.0 g.0 a b e)
 
 -- a word names one IRP, one file object, one place, one status
 one_irp : (word : List ℕ) (i j : Irp) → IsIrpWord word i → IsIrpWord word j → i ≡ j
-one_irp word i j a b = same_name i j a.1 b.1 (sym a.0 ∙ b.0)
+one_irp word i j a b = irp_by_text i j a.1 b.1 (sym a.0 ∙ b.0)
 
 one_file : (word : List ℕ) (f g : FileId) → IsFileWord word f → IsFileWord word g → f ≡ g
-one_file word f g a b = same_file f g a.1 b.1 (sym a.0 ∙ b.0)
+one_file word f g a b = file_by_text f g a.1 b.1 (sym a.0 ∙ b.0)
 
 one_place : (p q : Place) → place_word p ≡ place_word q → p ≡ q
 one_place Back Back e = refl

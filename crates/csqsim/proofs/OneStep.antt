@@ -14,17 +14,17 @@ use Rattle.csqsim.specs.StepLine.{kind_words, IsStepLine}
 use Rattle.csqsim.specs.Schedule.{IsSkipped, IsWithinLine}
 use Rattle.csqsim.proofs.StepText.{step_line}
 
-pub same_number : (m n : ℕ) → IsShort m → IsShort n → decimal m ≡ decimal n → m ≡ n
-same_number m n a b e = decimal_injective m n (omega (arith, a)) (omega (arith, b)) e
+pub number_by_text : (m n : ℕ) → IsShort m → IsShort n → decimal m ≡ decimal n → m ≡ n
+number_by_text m n a b e = decimal_injective m n (omega (arith, a)) (omega (arith, b)) e
 
-pub same_name : (i j : Irp) → IsShort (number i) → IsShort (number j) → irp_text i ≡ irp_text j → i ≡ j
-same_name i j a b e = let named : ℕ → IrpId = λ n. record { 0 = n } in ap named (same_number (number i) (number j) a b e)
+pub irp_by_text : (i j : Irp) → IsShort (number i) → IsShort (number j) → irp_text i ≡ irp_text j → i ≡ j
+irp_by_text i j a b e = let named : ℕ → IrpId = λ n. record { 0 = n } in ap named (number_by_text (number i) (number j) a b e)
 
 same_passes : (p q : PassId) → IsShort p.0 → IsShort q.0 → pass_text p ≡ pass_text q → p ≡ q
 same_passes p q a b e =
     let digits : decimal p.0 ≡ decimal q.0 = cc in
     let named : ℕ → PassId = λ n. record { 0 = n } in
-    ap named (same_number p.0 q.0 a b digits)
+    ap named (number_by_text p.0 q.0 a b digits)
 
 abbrev second_letter : List (List ℕ) → ℕ
 second_letter [] = 0
@@ -37,14 +37,14 @@ second_word (word ∷ next ∷ words) = next
 
 -- the second letter of its name tells a kind
 same_kinds : (k l : Kind) → OfIrp (λ i. IsShort (number i)) k → OfIrp (λ i. IsShort (number i)) l → kind_words k ≡ kind_words l → k ≡ l
-same_kinds (Arm i) (Arm j) a b e = ap Arm (same_name i j a b (ap second_word e))
-same_kinds (Test i) (Test j) a b e = ap Test (same_name i j a b (ap second_word e))
-same_kinds (Disarm i) (Disarm j) a b e = ap Disarm (same_name i j a b (ap second_word e))
+same_kinds (Arm i) (Arm j) a b e = ap Arm (irp_by_text i j a b (ap second_word e))
+same_kinds (Test i) (Test j) a b e = ap Test (irp_by_text i j a b (ap second_word e))
+same_kinds (Disarm i) (Disarm j) a b e = ap Disarm (irp_by_text i j a b (ap second_word e))
 same_kinds End End a b e = refl
-same_kinds (Flag i) (Flag j) a b e = ap Flag (same_name i j a b (ap second_word e))
-same_kinds (Take i) (Take j) a b e = ap Take (same_name i j a b (ap second_word e))
-same_kinds (Out i) (Out j) a b e = ap Out (same_name i j a b (ap second_word e))
-same_kinds (Done i) (Done j) a b e = ap Done (same_name i j a b (ap second_word e))
+same_kinds (Flag i) (Flag j) a b e = ap Flag (irp_by_text i j a b (ap second_word e))
+same_kinds (Take i) (Take j) a b e = ap Take (irp_by_text i j a b (ap second_word e))
+same_kinds (Out i) (Out j) a b e = ap Out (irp_by_text i j a b (ap second_word e))
+same_kinds (Done i) (Done j) a b e = ap Done (irp_by_text i j a b (ap second_word e))
 same_kinds k l a b e = let letters = ap second_letter e in absurd (omega (arith, letters))
 
 pub same_step : (line : List ℕ) (s t : Step) → IsStepLine line s → IsStepLine line t → s ≡ t

@@ -1,5 +1,6 @@
 -- The queue of one thread says of each IRP what the run says, step by step.
 use Rattle.std.proofs.Common.{◌≡◌, ℕ, Bool, true, false, cond, not, ◌&&◌, ◌||◌, List, [], ◌∷◌, refl, ap, sym, ◌∙◌}
+use Rattle.std.proofs.Math.Bool.{or-false}
 use Rattle.irp_core.specs.declared.ids.PassId.{PassId}
 use Rattle.irp_core.specs.declared.ids.FileId.{FileId}
 use Rattle.irp_core.specs.declared.step.Kind.{Kind}
@@ -20,7 +21,7 @@ use Rattle.csq_list.specs.declared.entry.Place.TheVariants.{Back, Front}
 use Rattle.csq_list.specs.Listing.{put_at}
 use Rattle.csq_words.specs.declared.views.InsertReply.TheVariants.{Pending}
 use Rattle.csq_words.specs.declared.views.Event.TheVariants as event
-use Rattle.csq_words.specs.Queue.{Queued, QueueState, has_entry, has_marked, has_unmarked, marking, without, after_event}
+use Rattle.csq_words.specs.Queue.{Queued, QueueState, has_entry, has_marked, has_unmarked, marking, without, after_event, new_entry}
 use Rattle.csq_words.proofs.Entries.{has_entry-marking, has_entry-placed, has_entry-without}
 use Rattle.csqsim.specs.Calls.{script_pass, next_step}
 use Rattle.csqsim.specs.Drivers.{AreMarked, IsOfRun}
@@ -124,7 +125,7 @@ module _ (size : Size) (E : List Made) (r : IsRun size E) (q : QueueState) (h : 
   pub queue_arm : (i : Irp) (f : FileId) (place : Place) → was_armed E i ≡ false → IsOfRun (next_step E (Arm i)) (after_event q (event.Insert i f place Pending))
   queue_arm i f place home = record {
     used = λ j. ap (λ b. same_irp i j || b) (h.used j);
-    entries = λ j. has_entry-placed place (record { irp = i; file = f; marked = false }) q.entries j ∙ ap (λ b. same_irp i j || b) (h.entries j)
+    entries = λ j. has_entry-placed place (new_entry i f) q.entries j ∙ ap (λ b. same_irp i j || b) (h.entries j)
         ∙ sym (joins (same_irp i j) (was_armed E j) (left E j) (λ e. ap (left E) (sym (same_irp-eq i j e)) ∙ home_left size E r i home));
     flags = h.flags;
     marks = put place q.entries (marks_stay E (next_step E (Arm i)) q.entries (λ j there. ap (λ b. b || armed E j) (other_entry q.entries i j (unlisted i home) there)) h.marks);
@@ -138,19 +139,15 @@ module _ (size : Size) (E : List Made) (r : IsRun size E) (q : QueueState) (h : 
       F = next_step E (Arm i)
 
       new : Queued
-      new = record { irp = i; file = f; marked = false }
+      new = new_entry i f
 
       here : false ≡ not (armed (next_step E (Arm i)) i)
       here = rw same_irp-refl refl
 
-      put : (place : Place) (es : List Queued) → AreMarked (next_step E (Arm i)) es → AreMarked (next_step E (Arm i)) (put_at place (record { irp = i; file = f; marked = false }) es)
+      put : (place : Place) (es : List Queued) → AreMarked (next_step E (Arm i)) es → AreMarked (next_step E (Arm i)) (put_at place (new_entry i f) es)
       put Front es m = (here, m)
       put Back [] m = (here, tt)
       put Back (e ∷ es) m = (m.0, put Back es m.1)
-
-pub or_no : (b : Bool) → (b || false) ≡ b
-or_no true = refl
-or_no false = refl
 
 -- a step that takes the routine of i, which it had or not
 pub taken_routine : (E : List Made) (i j : Irp) (b : Bool) → b ≡ same_irp i j → armed E i ≡ false → (not b && armed E j) ≡ armed E j
@@ -229,7 +226,7 @@ module _ (E : List Made) (q : QueueState) (h : IsOfRun E q) (i : Irp) where
     used = h.used;
     entries = λ j. h.entries j ∙ ap (λ b. was_armed E j && not b) (sym (gone (same_irp i j) (left E j)));
     flags = h.flags;
-    marks = marks_stay E (found_then E (Disarm i) 0) q.entries (λ j there. taken_routine E i j (same_irp i j || false) (or_no (same_irp i j)) none) h.marks;
+    marks = marks_stay E (found_then E (Disarm i) 0) q.entries (λ j there. taken_routine E i j (same_irp i j || false) (or-false (same_irp i j)) none) h.marks;
   }
     where
       gone : (b x : Bool) → (((b && false) || false) || x) ≡ x

@@ -19,14 +19,14 @@ use Rattle.csq_list.specs.Searches as plainly
 use Rattle.csq_list.specs.Listing.{Listing, IsSound, removed}
 use Rattle.csq_list.proofs.Finding.{rest_after-ends, rest_after-among}
 use Rattle.csq_words.specs.declared.views.Event.TheVariants as event
-use Rattle.csq_words.specs.Queue.{Queued, QueueState, Limits, listing_of, first_match, has_entry, has_marked, has_unmarked, after_event}
+use Rattle.csq_words.specs.Queue.{Queued, QueueState, Limits, listing_of, first_match, has_entry, has_marked, has_unmarked, after_event, plain}
+use Rattle.csq_words.proofs.Listings.{is_listed-plain, listing-removed}
 use Rattle.csqsim.specs.declared.call.Call.TheVariants.{Next, Remove}
 use Rattle.csqsim.specs.declared.call.Reply.TheVariants.{Removed, NoIrp}
 use Rattle.csqsim.specs.Calls.{Script, script_pass, next_step, after_steps, doing, removal_steps, remove_steps, Calls}
 use Rattle.csqsim.specs.Calls.Calls.{removes_next, removes, removes_none}
 use Rattle.csqsim.specs.Drivers.{Keeping, Keeps, IsOfRun, AreMarked}
 use Rattle.csqsim.proofs.Going.{Goes, May, starts, went, may_remove, may_end}
-use Rattle.csqsim.proofs.Listings.{plain, same_listed, listing_removed}
 use Rattle.csqsim.proofs.Queueing.{marked_is, queue_hit, queue_miss, queue_end, found_then}
 
 and_no : (b : Bool) → (b && false) ≡ false
@@ -150,7 +150,7 @@ module _ (l : Limits) (kept : Keeping) (s : Script) (k : Keeps l kept s) where
   entries_are = ap (λ (x : Listing). x.entries) k.listing
 
   pub listed_is : (i : Irp) → is_listed kept.listing.entries i ≡ has_entry s.queue.entries i
-  listed_is i = ap (λ es. is_listed es i) entries_are ∙ same_listed s.queue.entries i
+  listed_is i = ap (λ es. is_listed es i) entries_are ∙ is_listed-plain s.queue.entries i
 
   pub listed_known : IsSound kept.listing → (i : Irp) → is_listed kept.listing.entries i ≡ true → number i < (size_of kept.machine).irps
   listed_known sound i there =
@@ -234,7 +234,7 @@ module _ (l : Limits) (kept : Keeping) (s : Script) (k : Keeps l kept s) where
           sym (sym h.first ∙ here.first ∙ ap (λ b. cond b (first_match peek here.later) (Some here.entry.irp)) unmarked ∙ ap (λ j. Some j) here.is) in (
             doing (removal_steps peek s.queue.entries) (event.RemoveNext peek (Some i)) s,
             removes_next peek (Some i) reply,
-            subst KeepsAt steps (keeps_run new listing (next_step h.run (Disarm i)) q a same (without_i ∙ ap (removed i) k.listing ∙ listing_removed l s.queue i)
+            subst KeepsAt steps (keeps_run new listing (next_step h.run (Disarm i)) q a same (without_i ∙ ap (removed i) k.listing ∙ listing-removed l s.queue i)
                 (subst IsQueue (ap F (sym one_found)) (queue_hit h.run s.queue h.queue i))
                 ((went machine h.run h.at h.goes new (Disarm i) a (same ∙ sym size_now)).at ∙ ap (inside_after h.at (Disarm i)) one_found ∙ after_hit h.at i)
                 h.owed),
@@ -267,7 +267,7 @@ module _ (l : Limits) (kept : Keeping) (s : Script) (k : Keeps l kept s) where
       let KeepsAt : List Made → Type 0 = λ E. Keeps l (record kept { machine = new; listing = listing }) (record s { run = E; queue = q }) in (
         doing (remove_steps i s.queue.entries) (event.Remove i true) s,
         removes i (omega (arith, known, ap (λ (n : Size). n.irps) k.size)) (sym unmarked),
-        subst KeepsAt steps (keeps_run new listing (next_step s.run (Disarm i)) q a same (without_i ∙ ap (removed i) k.listing ∙ listing_removed l s.queue i)
+        subst KeepsAt steps (keeps_run new listing (next_step s.run (Disarm i)) q a same (without_i ∙ ap (removed i) k.listing ∙ listing-removed l s.queue i)
             (subst IsQueue (ap F (sym one_found)) (queue_hit s.run s.queue k.queue i))
             ((went kept.machine s.run Nothing (starts l kept s k) new (Disarm i) a same).at ∙ ap (inside_after Nothing (Disarm i)) one_found) (λ j. refl)),
       )

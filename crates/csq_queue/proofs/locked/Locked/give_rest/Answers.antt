@@ -2,7 +2,7 @@ use Rattle.std.proofs.Common.{◌∙◌, ◌∷◌, ap, arith, List}
 use Rattle.csq_words.specs.declared.views.PassRecord.{PassRecord}
 use Rattle.csq_words.specs.declared.views.QueueRecord.{QueueRecord}
 use Rattle.csq_queue.specs.Counts.{held_count, owed_count}
-use Rattle.csq_queue.specs.Named.{pass_at, is_back}
+use Rattle.csq_queue.specs.Named.{pass_numbered, is_back}
 use Rattle.csq_queue.proofs.Backing.{held_none, owed_none, rack_more, all_recorded}
 use Rattle.csq_queue.proofs.locked.Locked.give_rest.Goals as goal
 
@@ -27,7 +27,7 @@ rest-preserved g c =
       ap (λ (q : QueueRecord). q.made) give ∙ was.0,
       omega arith,
       ap (λ (q : QueueRecord). q.history) give ∙ was.2,
-      λ p l m. ap (λ (q : QueueRecord). is_back (pass_at p) q.back) give ∙ rack_more g.N.QueueName.passes c.rest.rack c.take.new.self c.rest.self.back pass (ap (λ (r : PassRecord). r.pass) new) less c.in-Some.ensures.most was.3 p l m,
+      λ p l m. ap (λ (q : QueueRecord). is_back (pass_numbered p) q.back) give ∙ rack_more g.N.QueueName.passes c.rest.rack c.take.new.self c.rest.self.back pass (ap (λ (r : PassRecord). r.pass) new) less c.in-Some.ensures.most was.3 p l m,
       (pass ∷ was.4.0, ap (λ (q : QueueRecord). q.back) give ∙ ap (λ (t : List PassRecord). pass ∷ t) was.4.1),
     )
 

@@ -5,7 +5,7 @@ use Rattle.csq_words.specs.declared.views.Entry.{Entry}
 use Rattle.csq_words.specs.declared.views.PassRecord.{PassRecord}
 use Rattle.csq_words.specs.declared.views.QueueRecord.{QueueRecord}
 use Rattle.csq_words.specs.History.{Begins}
-use Rattle.csq_queue.specs.Named.{pass_at, is_back, out_count}
+use Rattle.csq_queue.specs.Named.{pass_numbered, is_back, out_count}
 use Rattle.csq_queue.proofs.Backing.{none_out, at_later}
 use Rattle.csq_queue.proofs.Leftovers.{left_so}
 use Rattle.csq_queue.proofs.queue.Csq.close.Goals as goal
@@ -17,7 +17,7 @@ give_rest-requires-clause-back g c =
     let back = c.into_inner-locked.result.back in
     let none' : out_count c.pass.inside.number back c.taken.result ≡ 0 = omega arith in
     let number' = ap (λ (r : PassRecord). r.pass) (sym c.pass.view_is) ∙ c.pass.invariant.pass_is in
-    λ p l m. ap (λ (q : QueueRecord). is_back (pass_at p) q.back) c.give.ensures.queue ∙ none_out c.pass.inside.number back c.taken.result c.args.pass none' number' p l (subst (λ n. p ≤ n) (sym c.taken.ensures) m)
+    λ p l m. ap (λ (q : QueueRecord). is_back (pass_numbered p) q.back) c.give.ensures.queue ∙ none_out c.pass.inside.number back c.taken.result c.args.pass none' number' p l (subst (λ n. p ≤ n) (sym c.taken.ensures) m)
 
 pub returns-clause-rest : goal.returns-clause-rest
 returns-clause-rest g c =

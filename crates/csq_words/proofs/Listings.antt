@@ -1,4 +1,4 @@
--- The list behind the lock, beside the queue of one thread.
+-- What a pending list means, beside the queue of one thread.
 use Rattle.std.proofs.Common.{◌≡◌, ◌==◌, Bool, true, false, ◌||◌, List, [], ◌∷◌, map, true≢false, refl, sym, ap, ◌∙◌, eq-eqb}
 use Rattle.irp_core.specs.Steps.{Irp, same_irp}
 use Rattle.irp_core.specs.declared.ids.FileId.{FileId}
@@ -8,15 +8,7 @@ use Rattle.csq_list.specs.declared.entry.Place.TheVariants.{Back, Front}
 use Rattle.csq_list.specs.Searches.{is_of, is_listed}
 use Rattle.csq_list.specs.Searches as list
 use Rattle.csq_list.specs.Listing.{put_at, inserted, removed, with_closed}
-use Rattle.csq_words.specs.Queue.{Queued, QueueState, Limits, has_irp, has_file, has_entry, marking, without, listing_of}
-
--- the entry without its mark
-abbrev pub plain : Queued → ListEntry
-plain e = record { irp = e.irp; file = e.file }
-
--- an entry that was just inserted
-abbrev pub new_entry : Irp → FileId → Queued
-new_entry i f = record { irp = i; file = f; marked = false }
+use Rattle.csq_words.specs.Queue.{Queued, QueueState, Limits, new_entry, plain, has_irp, has_file, has_entry, marking, without, listing_of}
 
 pub same_irp-numbers : (i j : Irp) → same_irp i j ≡ (i.0 == j.0)
 unfolding same_irp
