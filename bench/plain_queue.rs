@@ -1,5 +1,6 @@
 //! A plain queue of the same design, to time the proved one against: a mutex round a list of entries,
-//! and for each IRP a Cancel flag, a routine and a status in atomic words.
+//! the IRPs that were used and the files that were closed, and for each IRP a Cancel flag, a routine and
+//! a status in atomic words. It refuses what the proved one refuses.
 use std::collections::VecDeque;
 use std::sync::Mutex;
 use std::sync::atomic::{AtomicU64, Ordering::SeqCst};
@@ -10,11 +11,28 @@ const IRPS: usize = 1024;
 const SET: u64 = 1 << 32;
 const CANCELLED: u64 = 0xC000_0120;
 
+struct List {
+    entries: VecDeque<(usize, usize)>,
+    used: Vec<bool>,
+    closed: Vec<bool>,
+    limit: usize,
+}
+
+impl List {
+    fn refuses(&self, irp: usize, file: usize) -> bool {
+        irp >= self.used.len()
+            || file >= self.closed.len()
+            || self.used[irp]
+            || self.closed[file]
+            || self.entries.len() == self.limit
+    }
+}
+
 struct Queue {
     cancel: Vec<AtomicU64>,
     routine: Vec<AtomicU64>,
     status: Vec<AtomicU64>,
-    list: Mutex<VecDeque<(usize, usize)>>,
+    list: Mutex<List>,
 }
 
 fn zeros() -> Vec<AtomicU64> {
@@ -27,7 +45,12 @@ impl Queue {
             cancel: zeros(),
             routine: zeros(),
             status: zeros(),
-            list: Mutex::new(VecDeque::with_capacity(IRPS)),
+            list: Mutex::new(List {
+                entries: VecDeque::with_capacity(IRPS),
+                used: vec![false; IRPS],
+                closed: vec![false],
+                limit: IRPS,
+            }),
         }
     }
 
@@ -35,23 +58,28 @@ impl Queue {
         self.status[irp].swap(SET + status, SeqCst);
     }
 
-    fn insert(&self, irp: usize, file: usize) {
+    fn insert(&self, irp: usize, file: usize) -> bool {
         let mut list = self.list.lock().unwrap();
-        list.push_back((irp, file));
+        if list.refuses(irp, file) {
+            return false;
+        }
+        list.entries.push_back((irp, file));
+        list.used[irp] = true;
         self.routine[irp].swap(1, SeqCst);
         if self.cancel[irp].load(SeqCst) == 1 && self.routine[irp].swap(0, SeqCst) == 1 {
-            list.retain(|entry| entry.0 != irp);
+            list.entries.retain(|entry| entry.0 != irp);
             drop(list);
             self.complete(irp, CANCELLED);
         }
+        true
     }
 
     fn remove_next(&self) -> Option<usize> {
         let mut list = self.list.lock().unwrap();
-        for at in 0..list.len() {
-            let irp = list[at].0;
+        for at in 0..list.entries.len() {
+            let irp = list.entries[at].0;
             if self.routine[irp].swap(0, SeqCst) == 1 {
-                list.remove(at);
+                list.entries.remove(at);
                 return Some(irp);
             }
         }
@@ -59,11 +87,14 @@ impl Queue {
     }
 
     fn cancel(&self, irp: usize) -> bool {
+        if irp >= self.cancel.len() {
+            return false;
+        }
         self.cancel[irp].swap(1, SeqCst);
         if self.routine[irp].swap(0, SeqCst) == 0 {
             return false;
         }
-        self.list.lock().unwrap().retain(|entry| entry.0 != irp);
+        self.list.lock().unwrap().entries.retain(|entry| entry.0 != irp);
         self.complete(irp, CANCELLED);
         true
     }
@@ -72,7 +103,7 @@ impl Queue {
 fn share(queue: &Queue, cancels: bool, first: usize, threads: usize) -> usize {
     let mut completed = 0;
     for irp in (first..IRPS).step_by(threads) {
-        queue.insert(irp, 0);
+        assert!(queue.insert(irp, 0));
         if cancels {
             completed += usize::from(queue.cancel(irp));
         } else if let Some(irp) = queue.remove_next() {

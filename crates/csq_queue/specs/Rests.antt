@@ -40,11 +40,12 @@ pub record IsLeftCompleted (listing : Listing) (finals : FinalWords) (history : 
   pub set : IsSome (final_status finals i)
   pub cancelled : list_any (λ (e : Entry). says_cancelled i e.event) history ≡ true → final_status finals i ≡ Some CANCELLED
 
--- the words and the history's end agree with a run at rest. The history is legal, begins with all that the closing pass had seen, and the list is that of its end. Each IRP is home, listed or completed
+-- the words and the history's end agree with a run of the queue's IRPs at rest. The history is legal, begins with all that the closing pass had seen, and the list is that of its end. Each IRP is home, listed or completed
 pub record IsRestOf (limits : Limits) (pass : PassRecord) (listing : Listing) (finals : FinalWords) : Type 0 where
   pub size : Size
   pub queue : QueueRecord
   pub irps : finals.irps ≡ limits.irps
+  pub of_irps : size.irps ≡ limits.irps
   pub last : IsFinal size finals.words queue
   pub legal : IsLegal limits queue.history
   pub list_is : listing ≡ listing_of limits (end_of queue.history)

@@ -28,6 +28,7 @@ returns-clause-rest g c =
       size = c.self.inside.words.size;
       queue = c.give_rest.new.self;
       irps = e.irps;
+      of_irps = c.self.invariant.1;
       last = e.last;
       legal = e.legal;
       list_is = e.list;
