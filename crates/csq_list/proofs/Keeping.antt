@@ -1,10 +1,11 @@
 -- What holds of a list after each call.
-use Rattle.std.proofs.Common.{◌≡◌, ◌<◌, ◌≤◌, ◌+◌, ℕ, ◌⊎◌, inl, inr, Bool, true, false, true≢false, not, ◌||◌, nat_lt, List, [], ◌∷◌, length, filter, refl, sym, ap, ◌∙◌, subst, arith, length-append, eqb-true, lt-ltb}
+use Rattle.std.proofs.Common.{◌≡◌, ◌<◌, ◌≤◌, ◌+◌, ℕ, ◌⊎◌, inl, inr, Bool, true, false, true≢false, not, ◌||◌, nat_lt, List, [], ◌∷◌, ◌++◌, append-nil, length, filter, refl, sym, ap, ◌∙◌, subst, arith, length-append, eqb-true, lt-ltb}
 use Rattle.std.proofs.Math.Bool.{or-true, or-false, or_comm}
 use Rattle.std.proofs.lemmas.List.Sums.{count_by-le-length}
 use Rattle.std.proofs.lemmas.List.Sums as counted
 use Rattle.std.proofs.lemmas.Bool.{or_parts, and_parts, not-true, or_cases}
 use Rattle.std.proofs.lemmas.List.Folds.{list_any-append}
+use Rattle.std.proofs.lemmas.List.Elements.{filter-append}
 use Rattle.std.specs.List.{list_any, list_all}
 use Rattle.irp_core.specs.declared.ids.IrpId.{IrpId}
 use Rattle.irp_core.specs.declared.ids.FileId.{FileId}
@@ -50,6 +51,18 @@ distinct-filter q (e ∷ es) h =
 pub list_any-put_at : {X : Type 0} (p : X → Bool) (place : Place) (x : X) (xs : List X) → list_any p (put_at place x xs) ≡ (p x || list_any p xs)
 list_any-put_at p Front x xs = refl
 list_any-put_at p Back x xs = list_any-append p xs (x ∷ []) ∙ (ap (λ b. list_any p xs || b) (or-false (p x)) ∙ or_comm (list_any p xs) (p x))
+
+-- where no element passes a test, the elements that don't are all
+pub filter-none : {X : Type 0} (p : X → Bool) (xs : List X) → list_any p xs ≡ false → filter (λ x. not (p x)) xs ≡ xs
+filter-none p [] h = refl
+filter-none p (x ∷ xs) h = let parts = or_parts (p x) (list_any p xs) h in rw parts.0 (ap (λ ys. x ∷ ys) (filter-none p xs parts.1))
+
+-- and one that passes, put at a place, is the only one that is dropped
+pub filter-put_at : {X : Type 0} (p : X → Bool) (place : Place) (x : X) (xs : List X) → p x ≡ true → list_any p xs ≡ false → filter (λ y. not (p y)) (put_at place x xs) ≡ xs
+filter-put_at p Front x xs px h = rw px (filter-none p xs h)
+filter-put_at p Back x xs px h =
+    filter-append (λ y. not (p y)) xs (x ∷ [])
+    ∙ (ap (λ ys. ys ++ filter (λ y. not (p y)) (x ∷ [])) (filter-none p xs h) ∙ rw px (append-nil xs))
 
 pub distinct-put_at : (place : Place) (e : Entry) (es : List Entry) → is_distinct es ≡ true → is_listed es e.irp ≡ false → is_distinct (put_at place e es) ≡ true
 distinct-put_at Front e es h absent = rw absent h

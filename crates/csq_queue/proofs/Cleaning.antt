@@ -1,5 +1,5 @@
 -- A cleanup on its way.
-use Rattle.std.proofs.Common.{◌≡◌, ℕ, suc, ◌+◌, ◌≤◌, ◌==◌, not, ◌&&◌, ◌||◌, Bool, true, false, true≢false, List, [], ◌∷◌, ◌++◌, length, Option, Some, None, refl, sym, ap, ◌∙◌, subst, append_assoc, eqb-true, eq-eqb, arith}
+use Rattle.std.proofs.Common.{◌≡◌, ℕ, suc, ◌+◌, ◌≤◌, ◌==◌, not, ◌&&◌, ◌||◌, Bool, true, false, true≢false, List, [], ◌∷◌, ◌++◌, length, Option, Some, None, refl, sym, ap, ◌∙◌, subst, append_assoc, eqb-true, eq-eqb, arith, add-one}
 use Rattle.std.proofs.lemmas.Bool.{or_right}
 use Rattle.irp_core.specs.Steps.{Irp, number, same_irp}
 use Rattle.irp_core.specs.Words.{flagged}
@@ -158,7 +158,7 @@ module _ (l : Limits) (f : FileId) (old now : PassRecord) (count : ℕ) (c : IsC
     after : IsCleaning l f old (with_completion i CANCELLED (with_step (Done i) 0 r)) (count + 1)
     after = record {
       taken = i ∷ c.taken;
-      count_is = ap (λ (n : ℕ). n + 1) c.count_is ∙ plus (length c.taken);
+      count_is = ap (λ (n : ℕ). n + 1) c.count_is ∙ add-one (length c.taken);
       sees = record {
         legal = a.legal;
         marks = a.marks;
@@ -178,9 +178,6 @@ module _ (l : Limits) (f : FileId) (old now : PassRecord) (count : ℕ) (c : IsC
       counted = let more = done_more in let was = c.counted in omega arith;
     }
       where
-        plus : (n : ℕ) → n + 1 ≡ suc n
-        plus n = omega arith
-
         kept : (b h : Bool) → (b ≡ true → h ≡ false) → (not b && (b || h)) ≡ h
         kept true h off = sym (off refl)
         kept false h off = refl

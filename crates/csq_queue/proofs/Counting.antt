@@ -1,6 +1,7 @@
 -- How many IRPs a pass holds and owes, from one record to the next.
 use Rattle.std.proofs.Common.{◌≡◌, ◌≢◌, ℕ, zero, suc, ◌+◌, ◌<◌, ◌≤◌, ◌||◌, ◌&&◌, not, cond, Bool, true, false, List, ◌∷◌, Option, Some, None, refl, sym, ap, ◌∙◌, ⊎_elim, arith}
 use Rattle.std.proofs.lemmas.Bool.{cases_lt}
+use Rattle.std.proofs.Math.Numerals.{suc-eq-add-one}
 use Rattle.irp_core.specs.Steps.{Irp, number, same_irp}
 use Rattle.irp_core.proofs.Names.{same_irp-refl}
 use Rattle.irp_core.specs.declared.step.Made.{Made}
@@ -12,6 +13,7 @@ use Rattle.csq_queue.specs.Counts.{tally, irp_at, held_count, owed_count}
 use Rattle.irp_core.specs.declared.ids.PassId.{PassId}
 use Rattle.irp_core.specs.declared.step.Kind.TheVariants.{Flag, Take, Out, Done}
 use Rattle.csq_queue.specs.Told.{GivesOut, count_given}
+use Rattle.csq_queue.proofs.Owning.{held_now}
 
 pub by_number : (P : Type 0) (a b : ℕ) → (a ≡ b → P) → (a ≢ b → P) → P
 by_number P a b same other = ⊎_elim (λ l. other (λ e. less a b l e)) (λ h. ⊎_elim (λ l. other (λ e. less b a l (sym e))) (λ h'. same (equal a b h h')) (cases_lt b a)) (cases_lt a b)
@@ -104,24 +106,18 @@ given_counts l (Some i) by_removal old new h =
       tally_more (λ n. holds_in old.steps (irp_at n)) (λ n. holds_in new.steps (irp_at n)) (number i) l.irps fresh.known fresh.not_held
           (h.held i ∙ ap (λ b. b || holds_in old.steps i) (same_irp-own i))
           (λ n ne. sym (h.held (irp_at n) ∙ ap (λ b. b || holds_in old.steps (irp_at n)) (same_irp-at i n ne)))
-          ∙ plus_one (held_count l.irps old.steps),
+          ∙ suc-eq-add-one (held_count l.irps old.steps),
       tally_same (λ n. owes_in new.steps (irp_at n)) (λ n. owes_in old.steps (irp_at n)) l.irps (λ n _. h.owed (irp_at n)),
       tally_bound (λ n. holds_in new.steps (irp_at n)) l.irps,
     )
-  where
-    plus_one : (n : ℕ) → suc n ≡ n + 1
-    plus_one n = omega arith
 
 -- an IRP that was owed is held, once its canceller has taken it out
 module _ (n : ℕ) (p : PassId) (i : Irp) (steps : List Made) (known : number i < n) (owed : owes_in steps i ≡ true) (new : holds_in steps i ≡ false) where
   pub out_held : held_count n (record { pass = p; kind = Out i; found = 0 } ∷ steps) ≡ suc (held_count n steps)
   out_held = tally_more (λ k. holds_in steps (irp_at k)) (λ k. holds_in (record { pass = p; kind = Out i; found = 0 } ∷ steps) (irp_at k)) (number i) n known new
-      (gets (same_irp i (irp_at (number i))) (holds_in steps i) (same_irp-own i))
+      (held_now (same_irp i (irp_at (number i))) (holds_in steps i) (same_irp-own i))
       (λ k ne. sym (stays (same_irp i (irp_at k)) (holds_in steps (irp_at k)) (same_irp-at i k ne)))
     where
-      gets : (b h : Bool) → b ≡ true → ((false || b) || (true && h)) ≡ true
-      gets b h e = ap (λ b. (false || b) || (true && h)) e
-
       stays : (b h : Bool) → b ≡ false → ((false || b) || (true && h)) ≡ h
       stays b h e = ap (λ b. (false || b) || (true && h)) e
 

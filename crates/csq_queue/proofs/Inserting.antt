@@ -7,7 +7,7 @@ use Rattle.atomic_table.specs.Seated.{TableId}
 use Rattle.irp_core.specs.Steps.{Irp, number, same_irp}
 use Rattle.irp_core.specs.declared.ids.FileId.{FileId}
 use Rattle.irp_core.specs.declared.step.Kind.TheVariants.{Arm, Test, Disarm}
-use Rattle.irp_core.proofs.Names.{same_irp-refl}
+use Rattle.irp_core.proofs.Names.{same_irp-refl, same_some}
 use Rattle.csq_list.specs.declared.entry.Place.{Place}
 use Rattle.csq_list.specs.declared.entry.Place.TheVariants.{Back, Front}
 use Rattle.csq_list.specs.declared.refusals.InsertStatus.TheVariants.{UnknownIrp, UnknownFile, NotHome, FileClosed, Full}
@@ -27,6 +27,7 @@ use Rattle.csq_queue.specs.Told.{GivesOut, IsNew}
 use Rattle.csq_queue.specs.Adding.{IsEntered, Adds}
 use Rattle.csq_words.proofs.Listings.{is_listed-plain, listing-inserted, listing-marked, listing-taken_back}
 use Rattle.csq_queue.proofs.Newness.{disarm_new}
+use Rattle.csq_queue.proofs.Owning.{held_more}
 
 pub find_none : {X : Type 0} (test : X → Bool) (x : X) (xs : List X) → find test (x ∷ xs) ≡ None → (test x ≡ false) × (find test xs ≡ None)
 find_none test x xs h = at (test x) refl
@@ -161,7 +162,7 @@ module _ (t : TableId) (l : Limits) (s : Listing) (old : QueueSeatState) (h : Is
             owed = λ j. refl;
             held = λ j. held_more (same_irp i j) (holds_in (joined_record old).steps j);
             removed = λ j. not_removed (same_irp i j) (removed_in (joined_record old).steps j);
-            new_to_it = λ j e. subst (λ (o : Irp). IsNew l (joined_record old) o) (some_is i j e) record {
+            new_to_it = λ j e. subst (λ (o : Irp). IsNew l (joined_record old) o) (same_some i j e) record {
               known = (accepted_irp l (end_of old.queue.history) i f none').0;
               not_held = (disarm_new _ _ i _ _ told' refl).1;
               not_done = (disarm_new _ _ i _ _ told' refl).2;
@@ -169,13 +170,6 @@ module _ (t : TableId) (l : Limits) (s : Listing) (old : QueueSeatState) (h : Is
           })
           told
         where
-          held_more : (b h : Bool) → (((b && true) || false) || (true && h)) ≡ (b || h)
-          held_more true h = refl
-          held_more false h = refl
-
           not_removed : (b r : Bool) → (((b && true) && false) || r) ≡ r
           not_removed true r = refl
           not_removed false r = refl
-
-          some_is : (j k : Irp) → Some j ≡ Some k → j ≡ k
-          some_is j k e = cc

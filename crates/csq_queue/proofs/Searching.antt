@@ -4,7 +4,7 @@ use Rattle.std.proofs.lemmas.Bool.{or_parts, or_right}
 use Rattle.atomic_table.specs.Seated.{TableId}
 use Rattle.irp_core.specs.Steps.{Irp, number, same_irp}
 use Rattle.irp_core.specs.Inside.{follows, in_insert, after_disarm}
-use Rattle.irp_core.proofs.Names.{same_irp-refl}
+use Rattle.irp_core.proofs.Names.{same_irp-refl, same_some}
 use Rattle.irp_core.specs.declared.ids.PassId.{PassId}
 use Rattle.irp_core.specs.declared.step.Kind.{Kind}
 use Rattle.irp_core.specs.declared.step.Kind.TheVariants.{Disarm, End}
@@ -27,10 +27,12 @@ use Rattle.csq_words.specs.Records.{entries_of, only_calls, with_events, with_ca
 use Rattle.csq_words.specs.Rule.{IsTold, is_done}
 use Rattle.csq_words.specs.Calls.{with_noted}
 use Rattle.csq_words.specs.Seats.{QueueSeatState, joined_record, with_view}
+use Rattle.csq_words.proofs.Named.{same_irp-is}
 use Rattle.csq_queue.specs.Named.{IsListOf}
 use Rattle.csq_queue.specs.Told.{GivesOut, IsNew}
 use Rattle.csq_queue.specs.Adding.{IsEntered, Adds}
 use Rattle.csq_queue.proofs.Marking.{none_head}
+use Rattle.csq_queue.proofs.Owning.{held_more}
 
 -- the seat after a step of the joined pass with these events
 abbrev pub with_made : Kind → ℕ → List Event → QueueSeatState → QueueSeatState
@@ -112,23 +114,16 @@ module _ (l : Limits) (old r : PassRecord) (g : GivesOut l None true old r) (es 
     dones = g.dones;
     flags = g.flags;
     owed = g.owed;
-    held = λ j. hit (same_irp i j) (holds_in r.steps j) ∙ ap (λ h. same_irp i j || h) (g.held j);
+    held = λ j. held_more (same_irp i j) (holds_in r.steps j) ∙ ap (λ h. same_irp i j || h) (g.held j);
     removed = λ j. got (same_irp i j) (inside_of r.steps) (removed_in r.steps j) removes ∙ ap (λ h. same_irp i j || h) (g.removed j);
-    new_to_it = λ j e. subst (λ (o : Irp). IsNew l old o) (some_is i j e) record { known = known; not_held = sym (g.held i) ∙ new; not_done = sym (g.dones i) ∙ undone };
+    new_to_it = λ j e. subst (λ (o : Irp). IsNew l old o) (same_some i j e) record { known = known; not_held = sym (g.held i) ∙ new; not_done = sym (g.dones i) ∙ undone };
   }
     where
-      hit : (b h : Bool) → (((b && true) || false) || (true && h)) ≡ (b || h)
-      hit true h = refl
-      hit false h = refl
-
       got : (b : Bool) (s : Inside) (d : Bool) → follows s End ≡ true → (((b && true) && not (in_insert s)) || d) ≡ (b || d)
       got true Nothing d h = refl
       got true Removing d h = refl
       got false s d h = refl
       got true s d h = absurd (true≢false (sym h))
-
-      some_is : (j k : Irp) → Some j ≡ Some k → j ≡ k
-      some_is j k e = cc
 
 pub removes_on : (s : Inside) → follows s End ≡ true → follows (after_disarm s 0) End ≡ true
 removes_on Nothing h = refl
@@ -180,15 +175,12 @@ first_of k (b ∷ before) e later h m u = let head = none_head k b before h in r
 
 -- an entry of an IRP of which none is marked is unmarked
 pub bare : (before : List Queued) (e : Queued) (later : List Queued) (i : Irp) → e.irp ≡ i → has_marked (before ++ e ∷ later) i ≡ false → e.marked ≡ false
-bare [] e later i is h = left (same_irp e.irp i) e.marked (has_marked later i) (same_is e.irp i is) h
+bare [] e later i is h = left (same_irp e.irp i) e.marked (has_marked later i) (same_irp-is e.irp i is) h
   where
     left : (a m r : Bool) → a ≡ true → ((a && m) || r) ≡ false → m ≡ false
     left true true r t h = absurd (true≢false h)
     left true false r t h = refl
     left false m r t h = absurd (true≢false (sym t))
-
-    same_is : (i j : Irp) → i ≡ j → same_irp i j ≡ true
-    same_is i j e = ap (λ (x : Irp). same_irp x j) e ∙ same_irp-refl j
 bare (b ∷ before) e later i is h = bare before e later i is (or_parts (same_irp b.irp i && b.marked) (has_marked (before ++ e ∷ later) i) h).1
 
 pub listed_at : (before : List Queued) (e : Queued) (later : List Queued) (i : Irp) → e.irp ≡ i → has_entry (before ++ e ∷ later) i ≡ true

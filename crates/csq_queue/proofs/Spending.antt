@@ -19,6 +19,7 @@ use Rattle.csq_words.specs.Rule.{IsLastOf}
 use Rattle.csq_words.proofs.Own.{own-mine, owes_in-own}
 use Rattle.csq_queue.specs.Told.{GivesOut}
 use Rattle.csq_queue.specs.Owned.{Holds, HoldsRemoved, MissedTheRoutine}
+use Rattle.csq_queue.proofs.Owning.{held_now}
 
 -- what a removal gave out
 pub removed_holds : (l : Limits) (given : Option Irp) (old new : PassRecord) → GivesOut l given true old new → IfSome given (HoldsRemoved l new)
@@ -39,10 +40,7 @@ cancelled_holds l (Some i) old new h = record {
 
 -- what the cancel routine took out
 pub out_holds : (l : Limits) (i : Irp) (old new : PassRecord) → number i < l.irps → new.steps ≡ (with_step (step.Out i) 0 old).steps → Holds l new i
-out_holds l i old new known e = record { known = known; held = ap (λ s. holds_in s i) e ∙ gets (same_irp i i) (holds_in old.steps i) (same_irp-refl i) }
-  where
-    gets : (b h : Bool) → b ≡ true → ((false || b) || (true && h)) ≡ true
-    gets b h e = ap (λ b. (false || b) || (true && h)) e
+out_holds l i old new known e = record { known = known; held = ap (λ s. holds_in s i) e ∙ held_now (same_irp i i) (holds_in old.steps i) (same_irp-refl i) }
 
 -- what a cancel took
 pub take_owes : (i : Irp) (r new : PassRecord) → new.steps ≡ (with_step (Take i) 1 r).steps → owes_in new.steps i ≡ true

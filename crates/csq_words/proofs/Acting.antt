@@ -35,7 +35,7 @@ use Rattle.csq_words.proofs.Own.{holds_in-own, removed_in-own}
 use Rattle.csq_words.proofs.Named.{irp_eq}
 use Rattle.csq_words.proofs.Keeping.{inside_is}
 use Rattle.csq_words.proofs.Steps.{own_step}
-use Rattle.csq_words.proofs.Changes.{flag_words, take_words, done_words, stored_else, status_put}
+use Rattle.csq_words.proofs.Changes.{flag_words, take_words, done_words, stored_else, status_put, other_word}
 
 -- every IRP of the words has those of the run
 abbrev pub AllWords : Size → List ℕ → List Made → Type 0
@@ -116,15 +116,12 @@ take_exchange size r i inside' flagged' = record {
   grows = λ run is from to same. grows_by_take size run is r.pass from to i inside' (sym same ∙ flagged');
   found_is = λ words run w. (w i inside').routine_is;
   changes = λ words run n wide w j l. take_words words run r.pass i n j (w j l) (omega arith);
-  apart = λ j e. other j i e;
+  apart = λ j e. other_word j i e;
   listed_same = λ run n j. refl;
   armed_same = λ run n j. refl;
   unlocked = λ run n. rw same_pass-refl refl;
   bound = λ run. bit_bound (armed run i);
 }
-  where
-    other : (j i : Irp) → status_at j ≢ routine_at i
-    other j i e = omega arith
 
 pub flags_as : (size : Size) (slots id : ℕ) (m : SeatView) (r : PassRecord) (i : Irp) → m.0 ≡ pass_view r → i.0 < size.irps → inside_of r.steps ≡ Nothing
     → Allows (IsKept size) slots id m (cancel_at i) (λ _. 1) (Acts (Flag i) (step slots (cancel_at i) 1 0 none) m)

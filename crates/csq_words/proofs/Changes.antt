@@ -14,6 +14,10 @@ use Rattle.irp_core.specs.declared.status.TheConstants.NtStatus.{CANCELLED}
 use Rattle.csq_words.specs.Rule.{cancel_at, routine_at, status_at, status_in, is_done, IsStatusWord, HasWords, AreStored}
 use Rattle.csq_words.proofs.Named.{by_irp, same_irp-is, same_irp-apart}
 
+-- a status word isn't a routine word
+pub other_word : (j i : Irp) → status_at j ≢ routine_at i
+other_word j i e = omega arith
+
 -- a word after a change of another one
 pub word_else : (words : List ℕ) (at n k x : ℕ) → k ≢ at → slice_index words k ≡ x → slice_index (set words at n) k ≡ x
 word_else words at n k x ne was = get_or-set_other words at k n 0 ne ∙ was

@@ -1,5 +1,5 @@
 -- The steps of an insert: arm, test, and its own disarm.
-use Rattle.std.proofs.Common.{◌≡◌, ◌≢◌, ℕ, zero, suc, ◌<◌, Bool, true, false, not, ◌&&◌, ◌||◌, List, ◌∷◌, set, refl, sym, ap, ◌∙◌, subst, arith, length-set}
+use Rattle.std.proofs.Common.{◌≡◌, ℕ, zero, suc, ◌<◌, Bool, true, false, not, ◌&&◌, ◌||◌, List, ◌∷◌, set, refl, sym, ap, ◌∙◌, subst, arith, length-set}
 use Rattle.std.proofs.Math.Bool.{and-false}
 use Rattle.std.proofs.lemmas.Bool.{and_parts}
 use Rattle.csq_words.specs.Own.{inside_of}
@@ -25,12 +25,12 @@ use Rattle.csq_words.specs.Queue.{has_entry, has_irp, new_entry}
 use Rattle.csq_list.specs.Listing.{put_at}
 use Rattle.csq_words.specs.History.{end_of}
 use Rattle.irp_core.specs.Words.{was_armed}
-use Rattle.csq_words.specs.Rule.{routine_at, status_at, inserts}
+use Rattle.csq_words.specs.Rule.{routine_at, inserts}
 use Rattle.csq_words.specs.Calls.{recorded}
 use Rattle.csq_words.proofs.Laws.{fresh, set_listed, listed_taken, flag_seen, bit_true, bit_bound}
 use Rattle.csq_words.proofs.Named.{by_irp, same_irp-is}
 use Rattle.csq_words.proofs.Truths.{true_stays, truths_stay}
-use Rattle.csq_words.proofs.Changes.{arm_words, disarm_words, test_words, stored_else}
+use Rattle.csq_words.proofs.Changes.{arm_words, disarm_words, test_words, stored_else, other_word}
 use Rattle.csq_words.proofs.Entries.{has_entry-placed, has_entry-marking}
 use Rattle.csq_words.proofs.Making.{Sees, IsMade}
 
@@ -48,10 +48,6 @@ listed_hit p i j run = go (same_irp i j) refl
     go : (b : Bool) → same_irp i j ≡ b → listed (record { pass = p; kind = Disarm i; found = 1 } ∷ run) j ≡ (not b && listed run j)
     go true e = rw e (and-false (was_armed run j))
     go false e = rw e refl
-
--- a status word isn't a routine word
-pub other_word : (j i : Irp) → status_at j ≢ routine_at i
-other_word j i e = omega arith
 
 module _ (size : Size) (words : List ℕ) (run : List Made) (q : QueueRecord) (r : PassRecord) (x : Sees size words run q r) (i : Irp) (f : FileId) (place : Place) (inside' : i.0 < size.irps) where
   module _ (outside : inside_of r.steps ≡ Nothing) (unused : has_irp (end_of q.history).used i ≡ false) where

@@ -88,7 +88,7 @@ module _ (ever set : Bool) (cl : List Made) (ow ho dn : PassId → Bool) (ends :
   row_taken (Held q status) h e f = let e' : false ≡ true = rw (h.ever_is, h.left_is) at e in absurd cc
   row_taken (Finished status q) h e f = let e' : false ≡ true = rw (h.ever_is, h.left_is) at e in absurd cc
 
-bit_false : (b : Bool) → bit b ≡ 0 → b ≡ false
+pub bit_false : (b : Bool) → bit b ≡ 0 → b ≡ false
 bit_false true e = absurd (omega arith)
 bit_false false e = refl
 

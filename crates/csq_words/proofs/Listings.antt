@@ -1,16 +1,17 @@
 -- What a pending list means, beside the queue of one thread.
-use Rattle.std.proofs.Common.{◌≡◌, ◌==◌, Bool, true, false, ◌||◌, List, [], ◌∷◌, map, true≢false, refl, sym, ap, ◌∙◌, eq-eqb}
+use Rattle.std.proofs.Common.{◌≡◌, Bool, true, false, ◌||◌, List, [], ◌∷◌, map, true≢false, refl, sym, ap, ◌∙◌}
 use Rattle.irp_core.specs.Steps.{Irp, same_irp}
 use Rattle.irp_core.specs.declared.ids.FileId.{FileId}
-use Rattle.csq_list.specs.declared.entry.Entry.{Entry as ListEntry}
 use Rattle.csq_list.specs.declared.entry.Place.{Place}
 use Rattle.csq_list.specs.declared.entry.Place.TheVariants.{Back, Front}
-use Rattle.csq_list.specs.Searches.{is_of, is_listed}
+use Rattle.csq_list.specs.Searches.{is_of, is_listed, same_number}
 use Rattle.csq_list.specs.Searches as list
 use Rattle.csq_list.specs.Listing.{put_at, inserted, removed, with_closed}
+use Rattle.csq_list.proofs.Finding.{same_number-refl}
+use Rattle.csq_list.proofs.Keeping.{filter-put_at}
 use Rattle.csq_words.specs.Queue.{Queued, QueueState, Limits, new_entry, plain, has_irp, has_file, has_entry, marking, without, listing_of}
 
-pub same_irp-numbers : (i j : Irp) → same_irp i j ≡ (i.0 == j.0)
+pub same_irp-numbers : (i j : Irp) → same_irp i j ≡ same_number i j
 unfolding same_irp
 same_irp-numbers i j = refl
 
@@ -29,34 +30,13 @@ plain-put_at Back e (x ∷ es) = ap (λ l. plain x ∷ l) (plain-put_at Back e e
 
 pub plain-without : (i : Irp) (es : List Queued) → map plain (without i es) ≡ list.without i (map plain es)
 plain-without i [] = refl
-plain-without i (e ∷ es) = at (plain-without i es) (same_irp e.irp i) (e.irp.0 == i.0) refl refl (same_irp-numbers e.irp i)
+plain-without i (e ∷ es) = at (plain-without i es) (same_irp e.irp i) (same_number e.irp i) refl refl (same_irp-numbers e.irp i)
   where
-    at : map plain (without i es) ≡ list.without i (map plain es) → (a b : Bool) → same_irp e.irp i ≡ a → (e.irp.0 == i.0) ≡ b → same_irp e.irp i ≡ (e.irp.0 == i.0) → map plain (without i (e ∷ es)) ≡ list.without i (map plain (e ∷ es))
+    at : map plain (without i es) ≡ list.without i (map plain es) → (a b : Bool) → same_irp e.irp i ≡ a → (same_number e.irp i) ≡ b → same_irp e.irp i ≡ (same_number e.irp i) → map plain (without i (e ∷ es)) ≡ list.without i (map plain (e ∷ es))
     at rest true true h g s = rw (h, g) rest
     at rest false false h g s = rw (h, g) (ap (λ l. plain e ∷ l) rest)
     at rest true false h g s = absurd (true≢false (sym h ∙ (s ∙ g)))
     at rest false true h g s = absurd (true≢false (sym g ∙ (sym s ∙ h)))
-
-own : (i : Irp) → (i.0 == i.0) ≡ true
-own i = eq-eqb i.0 i.0 refl
-
--- an IRP that isn't listed leaves again as if it had not come
-pub without-absent : (i : Irp) (es : List ListEntry) → is_listed es i ≡ false → list.without i es ≡ es
-without-absent i [] h = refl
-without-absent i (e ∷ es) h = at (without-absent i es) (e.irp.0 == i.0) refl
-  where
-    at : (is_listed es i ≡ false → list.without i es ≡ es) → (b : Bool) → (e.irp.0 == i.0) ≡ b → list.without i (e ∷ es) ≡ e ∷ es
-    at rest true g = absurd (true≢false (sym (ap (λ x. x || is_listed es i) g) ∙ h))
-    at rest false g = rw g (ap (λ l. e ∷ l) (rest (sym (ap (λ x. x || is_listed es i) g) ∙ h)))
-
-pub without-put_at : (place : Place) (e : ListEntry) (es : List ListEntry) → is_listed es e.irp ≡ false → list.without e.irp (put_at place e es) ≡ es
-without-put_at Front e es h = rw (own e.irp) (without-absent e.irp es h)
-without-put_at Back e [] h = rw (own e.irp) refl
-without-put_at Back e (x ∷ es) h = at (without-put_at Back e es) (x.irp.0 == e.irp.0) refl
-  where
-    at : (is_listed es e.irp ≡ false → list.without e.irp (put_at Back e es) ≡ es) → (b : Bool) → (x.irp.0 == e.irp.0) ≡ b → list.without e.irp (put_at Back e (x ∷ es)) ≡ x ∷ es
-    at rest true g = absurd (true≢false (sym (ap (λ y. y || is_listed es e.irp) g) ∙ h))
-    at rest false g = rw g (ap (λ l. x ∷ l) (rest (sym (ap (λ y. y || is_listed es e.irp) g) ∙ h)))
 
 pub used-more : (i : Irp) (f : FileId) (is : List Irp) (j : Irp) → (is_of j (plain (new_entry i f)) || has_irp is j) ≡ has_irp (i ∷ is) j
 used-more i f is j = λ k. sym (same_irp-numbers i j) k || has_irp is j
@@ -96,7 +76,7 @@ listing-removed l q i = λ k. record {
 pub listing-taken_back : (l : Limits) (q : QueueState) (i : Irp) (f : FileId) (place : Place) → has_entry q.entries i ≡ false
     → removed i (inserted place (plain (new_entry i f)) (listing_of l q)) ≡ listing_of l (record q { used = i ∷ q.used })
 listing-taken_back l q i f place h = λ k. record {
-  entries = without-put_at place (plain (new_entry i f)) (map plain q.entries) (is_listed-plain q.entries i ∙ h) k;
+  entries = filter-put_at (is_of i) place (plain (new_entry i f)) (map plain q.entries) (same_number-refl i) (is_listed-plain q.entries i ∙ h) k;
   used = λ j. used-more i f q.used j k;
   closed = has_file q.closed;
   irps = l.irps;

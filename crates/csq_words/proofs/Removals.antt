@@ -32,10 +32,10 @@ use Rattle.csq_words.specs.Calls.{due_mark, IsNextMatch, MayRemove}
 use Rattle.csq_words.proofs.Laws.{off, owed_listed, listed_taken}
 use Rattle.csq_words.proofs.Own.{owes_in-own}
 use Rattle.csq_words.proofs.Truths.{true_stays, truths_stay}
-use Rattle.csq_words.proofs.Changes.{disarm_words, end_words, out_words, stored_else}
+use Rattle.csq_words.proofs.Changes.{disarm_words, end_words, out_words, stored_else, other_word}
 use Rattle.csq_words.proofs.Entries.{has_entry-marking, has_entry-without}
 use Rattle.csq_words.proofs.Making.{Sees, IsMade}
-use Rattle.csq_words.proofs.Inserts.{listed_miss, listed_hit, other_word}
+use Rattle.csq_words.proofs.Inserts.{listed_miss, listed_hit}
 
 -- a removal is no insert
 removal_inserts : (s : Inside) (j : Irp) → follows s End ≡ true → inserts s j ≡ false

@@ -1,7 +1,7 @@
 -- Each IRP that an insert accepted is accounted for.
-use Rattle.std.proofs.Common.{◌≡◌, ℕ, Bool, true, false, cond, not, ◌&&◌, ◌||◌, ◌==◌, ◌⊎◌, inl, inr, List, [], ◌∷◌, Option, Some, None, refl, ap, sym, ◌∙◌, subst, arith}
-use Rattle.std.proofs.lemmas.Bool.{or_left, or_right}
-use Rattle.std.proofs.Math.Bool.{or-false}
+use Rattle.std.proofs.Common.{◌≡◌, ℕ, Bool, true, false, cond, not, ◌&&◌, ◌||◌, ◌==◌, ◌⊎◌, inl, inr, List, [], ◌∷◌, Option, Some, None, refl, ap, sym, ◌∙◌, subst}
+use Rattle.std.proofs.lemmas.Bool.{or_left, or_right, and_parts, not-true}
+use Rattle.std.proofs.Math.Bool.{or-false, and-false}
 use Rattle.std.specs.Option.{option_map}
 use Rattle.std.specs.List.{find}
 use Rattle.irp_core.specs.declared.ids.FileId.{FileId}
@@ -29,6 +29,7 @@ use Rattle.csq_list.specs.Searches.{matches}
 use Rattle.csq_words.specs.declared.views.Completion.{Completion}
 use Rattle.csq_words.specs.Queue.{Queued, Limits, listing_of, refusal, reply_to_insert, first_match, has_irp, has_entry, has_unmarked, has_marked, marking, without, new_entry}
 use Rattle.csq_words.proofs.Entries.{has_entry-marking, has_entry-placed, has_entry-without}
+use Rattle.csq_words.proofs.Laws.{bit_false}
 use Rattle.csqsim.specs.declared.call.Call.{Call}
 use Rattle.csqsim.specs.declared.call.Call.TheVariants.{Next, Mark, Routine, Complete, Close}
 use Rattle.csqsim.specs.declared.call.Reply.{Reply}
@@ -40,7 +41,7 @@ use Rattle.csqsim.specs.Calls.Does.{calls, cancel_claimed, cancel_unclaimed, cle
 use Rattle.csqsim.specs.Laws.{IsReached}
 use Rattle.csqsim.specs.Laws.IsReached.{at_first, by_call}
 use Rattle.csqsim.specs.Drivers.{AreMarked}
-use Rattle.csqsim.proofs.Queueing.{marks_stay, marks_without, marks_marking, marked_is, taken_routine}
+use Rattle.csqsim.proofs.Queueing.{marks_stay, marks_without, marks_marking, marked_is, taken_routine, other_entry}
 use Rattle.csqsim.proofs.Cleaning.{removal_holds}
 
 -- listed, held or completed
@@ -108,14 +109,6 @@ unused_unlisted s a i none = go (has_entry s.queue.entries i) refl
     go false e = refl
     go true e = let used = a.used i e in absurd (cc (used, none))
 
--- another IRP than one that isn't listed
-apart : (es : List Queued) (i j : Irp) → has_entry es i ≡ false → has_entry es j ≡ true → same_irp i j ≡ false
-apart es i j absent there = go (same_irp i j) refl
-  where
-    go : (b : Bool) → same_irp i j ≡ b → b ≡ false
-    go false e = refl
-    go true e = let same : i ≡ j = same_irp-eq i j e in absurd (cc (absent, there, same))
-
 marks_put : (E : List Made) (place : Place) (e : Queued) (es : List Queued) → e.marked ≡ not (armed E e.irp) → AreMarked E es → AreMarked E (put_at place e es)
 marks_put E Front e es here h = (here, h)
 marks_put E Back e [] here h = (here, tt)
@@ -149,13 +142,9 @@ marks_removal : (k : Peek) (all es : List Queued) (E : List Made) → AreMarked 
 marks_removal k all [] E ha h = marks_stay E (next_step E End) all (λ j there. refl) ha
 marks_removal k all (e ∷ es) E ha h = go (marks_removal k all es) (matches k e.file) refl e.marked refl
   where
-    none_of : (b : Bool) → (b && false) ≡ false
-    none_of true = refl
-    none_of false = refl
-
     go : ((F : List Made) → AreMarked F all → AreMarked F es → AreMarked (after_steps (removal_steps k es) F) (left_after (first_match k es) all)) → (b : Bool) → matches k e.file ≡ b → (m : Bool) → e.marked ≡ m
         → AreMarked (after_steps (removal_steps k (e ∷ es)) E) (left_after (first_match k (e ∷ es)) all)
-    go rest false other m marked = rw other (rw (none_of (not e.marked)) (rest E ha h.1))
+    go rest false other m marked = rw other (rw (and-false (not e.marked)) (rest E ha h.1))
     go rest true match true marked =
         let gone : armed E e.irp ≡ false = mark_off (armed E e.irp) e.marked h.0 marked in
         rw (match, marked) (rest (next_step E (Disarm e.irp)) (marks_miss E e.irp all gone ha) (marks_miss E e.irp es gone h.1))
@@ -221,7 +210,7 @@ module _ (l : Limits) (s : Script) (a : Accounts s) (i : Irp) (f : FileId) where
     pub lists_accounts : Accounts (doing (Arm i ∷ Test i ∷ []) (event.Insert i f place insert.Pending) s)
     lists_accounts = record {
       marks = marks_put (after_steps (Arm i ∷ Test i ∷ []) s.run) place (new_entry i f) s.queue.entries (rw same_irp-refl refl)
-          (marks_stay s.run (after_steps (Arm i ∷ Test i ∷ []) s.run) s.queue.entries (λ j there. ap (λ b. b || armed s.run j) (apart s.queue.entries i j absent there)) a.marks);
+          (marks_stay s.run (after_steps (Arm i ∷ Test i ∷ []) s.run) s.queue.entries (λ j there. ap (λ b. b || armed s.run j) (other_entry s.queue.entries i j absent there)) a.marks);
       used = λ j h. used_more j (same_irp i j) (sym (has_entry-placed place (new_entry i f) s.queue.entries j) ∙ h);
       each = λ j h. each_more j (same_irp i j) refl h;
     }
@@ -241,7 +230,7 @@ module _ (l : Limits) (s : Script) (a : Accounts s) (i : Irp) (f : FileId) where
 
     pub cancels_accounts : Accounts (doing (Arm i ∷ Test i ∷ Disarm i ∷ []) (event.Insert i f place insert.Cancelled) s)
     cancels_accounts = record {
-      marks = marks_stay s.run (after_steps (Arm i ∷ Test i ∷ Disarm i ∷ []) s.run) s.queue.entries (λ j there. rw (apart s.queue.entries i j absent there) refl) a.marks;
+      marks = marks_stay s.run (after_steps (Arm i ∷ Test i ∷ Disarm i ∷ []) s.run) s.queue.entries (λ j there. rw (other_entry s.queue.entries i j absent there) refl) a.marks;
       used = λ j h. or_right (same_irp i j) (has_irp s.queue.used j) (a.used j h);
       each = λ j h. each_more j (same_irp i j) refl h;
     }
@@ -255,22 +244,10 @@ module _ (l : Limits) (s : Script) (a : Accounts s) (i : Irp) (f : FileId) where
         each_more j true e h = inr (inl (rw (e, same_irp-refl, same_pass-refl) refl))
         each_more j false e h = old j (a.each j (rw e at h))
 
-not_armed : (b : Bool) → bit b ≡ 0 → b ≡ false
-not_armed true e = absurd (omega arith)
-not_armed false e = refl
-
-and_second : (b c : Bool) → (b && c) ≡ true → c ≡ true
-and_second true c h = h
-and_second false c h = absurd cc
-
-not_off : (b : Bool) → not b ≡ true → b ≡ false
-not_off true h = absurd cc
-not_off false h = refl
-
 module _ (s : Script) (a : Accounts s) (i : Irp) where
   removed_one : true ≡ has_unmarked s.queue.entries i → Accounts (doing (remove_steps i s.queue.entries) (event.Remove i true) s)
   removed_one may =
-      let set : armed s.run i ≡ true = and_second (has_entry s.queue.entries i) (armed s.run i) (sym (marked_is s.run s.queue.entries a.marks i).0 ∙ sym may) in
+      let set : armed s.run i ≡ true = (and_parts (has_entry s.queue.entries i) (armed s.run i) (sym (marked_is s.run s.queue.entries a.marks i).0 ∙ sym may)).1 in
       let P : List Made → Type 0 = λ E. Accounts (record { run = E; queue = record { entries = without i s.queue.entries; closed = s.queue.closed; used = s.queue.used; flags = s.queue.flags }; completed = s.completed }) in
       let steps : next_step s.run (Disarm i) ≡ after_steps (remove_steps i s.queue.entries) s.run = rw (← may) refl in
       subst P steps (leaves_accounts s a (next_step s.run (Disarm i)) s.queue.closed s.queue.flags (λ j. holds_more s.run (Disarm i) j refl) i (marks_leave s.run i s.queue.entries a.marks)
@@ -278,7 +255,7 @@ module _ (s : Script) (a : Accounts s) (i : Irp) where
 
   removed_none : false ≡ has_unmarked s.queue.entries i → (b : Bool) → has_marked s.queue.entries i ≡ b → Accounts (doing (remove_steps i s.queue.entries) (event.Remove i false) s)
   removed_none may true marked =
-      let gone : armed s.run i ≡ false = not_off (armed s.run i) (and_second (has_entry s.queue.entries i) (not (armed s.run i)) (sym (marked_is s.run s.queue.entries a.marks i).1 ∙ marked)) in
+      let gone : armed s.run i ≡ false = not-true (armed s.run i) (and_parts (has_entry s.queue.entries i) (not (armed s.run i)) (sym (marked_is s.run s.queue.entries a.marks i).1 ∙ marked)).1 in
       let P : List Made → Type 0 = λ E. Accounts (record { run = E; queue = s.queue; completed = s.completed }) in
       let E1 : List Made = next_step s.run (Disarm i) in
       let steps : next_step (next_step s.run (Disarm i)) End ≡ after_steps (remove_steps i s.queue.entries) s.run = rw (← may, marked) refl in
@@ -300,7 +277,7 @@ module _ (s : Script) (a : Accounts s) (i : Irp) where
 
   marked_none : bit (armed s.run i) ≡ 0 → Accounts (after_mark i s)
   marked_none none = stays_accounts s a (next_step (next_step s.run (Flag i)) (Take i)) s.queue.closed (i ∷ s.queue.flags) (λ j h. h) s.queue.entries (λ j. refl)
-      (marks_stay s.run (next_step (next_step s.run (Flag i)) (Take i)) s.queue.entries (λ j there. taken_routine s.run i j (same_irp i j) refl (not_armed (armed s.run i) none)) a.marks)
+      (marks_stay s.run (next_step (next_step s.run (Flag i)) (Take i)) s.queue.entries (λ j there. taken_routine s.run i j (same_irp i j) refl (bit_false (armed s.run i) none)) a.marks)
 
   taken_out : Accounts (doing (Out i ∷ []) (event.Out i) s)
   taken_out = leaves_accounts s a (next_step s.run (Out i)) s.queue.closed s.queue.flags (λ j. holds_more s.run (Out i) j refl) i

@@ -1,7 +1,7 @@
 -- What the calls answer that other calls are made of.
 use Rattle.std.proofs.Common.{◌≡◌, ℕ, ◌+◌, ◌<◌, Bool, true, false, cond, not, ◌&&◌, ◌||◌, List, [], ◌∷◌, map, length, Some, None, refl, ap, sym, ◌∙◌, subst, arith}
-use Rattle.std.proofs.lemmas.Bool.{and_parts, not-true}
-use Rattle.std.proofs.Math.Bool.{or-false}
+use Rattle.std.proofs.lemmas.Bool.{and_parts, not-true, not-false}
+use Rattle.std.proofs.Math.Bool.{or-false, and-false, or-true}
 use Rattle.std.proofs.lemmas.List.{length-map}
 use Rattle.irp_core.specs.declared.ids.FileId.{FileId}
 use Rattle.irp_core.specs.declared.status.TheConstants.NtStatus.{CANCELLED}
@@ -16,6 +16,7 @@ use Rattle.csq_list.specs.declared.entry.Peek.{Peek}
 use Rattle.csq_list.specs.declared.entry.Peek.TheVariants.{File}
 use Rattle.csq_list.specs.Searches.{matches, is_distinct}
 use Rattle.csq_list.specs.Listing.{Listing, IsSound}
+use Rattle.csq_list.proofs.Keeping.{filter-none}
 use Rattle.csq_words.specs.declared.views.Event.TheVariants as event
 use Rattle.csq_words.specs.Queue.{Queued, QueueState, Limits, first_match, has_entry, without, after_event, plain}
 use Rattle.csq_words.proofs.Listings.{is_listed-plain}
@@ -60,54 +61,30 @@ removal_holds k i (e ∷ es) E h f = go (removal_holds k i es) (matches k e.file
     past : (a m : Bool) → (a ≡ false) → first_match k (e ∷ es) ≡ Some i → (not e.marked && matches k e.file) ≡ false → first_match k es ≡ Some i
     past a m x found none = rw none at found
 
-    none_of : (b : Bool) → (b && false) ≡ false
-    none_of true = refl
-    none_of false = refl
-
     go : ((F : List Made) → AreMarked F es → first_match k es ≡ Some i → holds (after_steps (removal_steps k es) F) script_pass i ≡ true) → (b : Bool) → matches k e.file ≡ b → (m : Bool) → e.marked ≡ m
         → holds (after_steps (removal_steps k (e ∷ es)) E) script_pass i ≡ true
-    go rest false other m marked = rw other (rest E h.1 (past false m refl f (rw other (none_of (not e.marked)))))
+    go rest false other m marked = rw other (rest E h.1 (past false m refl f (rw other (and-false (not e.marked)))))
     go rest true match true marked =
-        let gone : armed E e.irp ≡ false = flip (armed E e.irp) (sym h.0 ∙ marked) in
+        let gone : armed E e.irp ≡ false = not-true (armed E e.irp) (sym h.0 ∙ marked) in
         let marks : AreMarked (next_step E (Disarm e.irp)) es = marks_stay E (next_step E (Disarm e.irp)) es (λ j there. taken_routine E e.irp j (same_irp e.irp j || false) (or-false (same_irp e.irp j)) gone) h.1 in
         rw (match, marked) (rest (next_step E (Disarm e.irp)) marks (past false true refl f (rw (match, marked) refl)))
-      where
-        flip : (b : Bool) → not b ≡ true → b ≡ false
-        flip true x = absurd cc
-        flip false x = refl
     go rest true match false marked =
-        let here : armed E e.irp ≡ true = flip (armed E e.irp) (sym h.0 ∙ marked) in
+        let here : armed E e.irp ≡ true = not-false (armed E e.irp) (sym h.0 ∙ marked) in
         let found : Some e.irp ≡ Some i = rw (match, marked) at f in
         let same : e.irp ≡ i = cc in
         rw (match, marked) (rw here (rw (same, same_irp-refl, same_pass-refl) refl))
-      where
-        flip : (b : Bool) → not b ≡ false → b ≡ true
-        flip true x = refl
-        flip false x = absurd cc
 
 -- the IRP of a match is listed
 pub first_listed : (k : Peek) (i : Irp) (es : List Queued) → first_match k es ≡ Some i → has_entry es i ≡ true
 first_listed k i [] f = absurd cc
 first_listed k i (e ∷ es) f = go (not e.marked && matches k e.file) refl (first_listed k i es)
   where
-    or_yes : (b : Bool) → (b || true) ≡ true
-    or_yes true = refl
-    or_yes false = refl
-
     go : (b : Bool) → (not e.marked && matches k e.file) ≡ b → (first_match k es ≡ Some i → has_entry es i ≡ true) → (same_irp e.irp i || has_entry es i) ≡ true
     go true match rest =
         let found : Some e.irp ≡ Some i = rw match at f in
         let same : e.irp ≡ i = cc in
         rw (same, same_irp-refl) refl
-    go false match rest = ap (λ b. same_irp e.irp i || b) (rest (rw match at f)) ∙ or_yes (same_irp e.irp i)
-
-without_none : (i : Irp) (es : List Queued) → has_entry es i ≡ false → without i es ≡ es
-without_none i [] h = refl
-without_none i (e ∷ es) h = go (same_irp e.irp i) h (without_none i es)
-  where
-    go : (b : Bool) → (b || has_entry es i) ≡ false → (has_entry es i ≡ false → without i es ≡ es) → cond (not b) (e ∷ without i es) (without i es) ≡ e ∷ es
-    go true h rest = absurd cc
-    go false h rest = ap (λ l. e ∷ l) (rest h)
+    go false match rest = ap (λ b. same_irp e.irp i || b) (rest (rw match at f)) ∙ or-true (same_irp e.irp i)
 
 -- one entry leaves
 pub length_without : (i : Irp) (es : List Queued) → is_distinct (map plain es) ≡ true → has_entry es i ≡ true → length (without i es) + 1 ≡ length es
@@ -118,7 +95,7 @@ length_without i (e ∷ es) d h = go (same_irp e.irp i) refl h (length_without i
         → length (cond (not b) (e ∷ without i es) (without i es)) + 1 ≡ length (e ∷ es)
     go true same h rest =
         let alone : has_entry es i ≡ false = ap (has_entry es) (sym (same_irp-eq e.irp i same)) ∙ sym (is_listed-plain es e.irp) ∙ not-true _ (and_parts _ _ d).0 in
-        omega (arith, ap length (without_none i es alone))
+        omega (arith, ap length (filter-none (λ (e : Queued). same_irp e.irp i) es alone))
     go false other h rest = omega (arith, rest h)
 
 -- what a removal of the next match tells

@@ -1,5 +1,5 @@
 -- Inserts: what the driver keeps in the end.
-use Rattle.std.proofs.Common.{nat_le, ◌≡◌, ℕ, ◌<◌, Bool, true, false, cond, not, ◌||◌, List, [], ◌∷◌, Option, Some, None, refl, ap, sym, ◌∙◌, subst, arith}
+use Rattle.std.proofs.Common.{nat_le, ◌≡◌, ℕ, ◌<◌, Bool, true, false, cond, ◌||◌, List, [], ◌∷◌, Option, Some, None, refl, ap, sym, ◌∙◌, subst, arith}
 use borrow.Author.Tests.{leb-false}
 use Rattle.irp_core.specs.declared.ids.FileId.{FileId}
 use Rattle.irp_core.specs.declared.step.Kind.TheVariants.{Arm, Test, Disarm, Done}
@@ -12,12 +12,12 @@ use Rattle.irp_core.specs.Runs.{Size}
 use Rattle.irp_core.specs.MachineState.{MachineState, Agrees, size_of}
 use Rattle.irp_core.proofs.Names.{same_irp-refl, same_pass-refl}
 use Rattle.csq_list.specs.declared.entry.Place.{Place}
-use Rattle.csq_list.specs.declared.entry.Place.TheVariants.{Back, Front}
 use Rattle.csq_list.specs.declared.refusals.InsertStatus.{InsertStatus}
 use Rattle.csq_list.specs.declared.refusals.InsertStatus.TheVariants.{UnknownIrp, UnknownFile, NotHome, FileClosed, Full}
 use Rattle.csq_list.specs.Searches.{is_listed}
 use Rattle.csq_list.specs.Causes.{is_cause, first_cause}
 use Rattle.csq_list.specs.Listing.{Listing, put_at, inserted, removed}
+use Rattle.csq_list.proofs.Keeping.{filter-put_at}
 use Rattle.csq_words.specs.declared.views.InsertReply.TheVariants as reply
 use Rattle.csq_words.specs.declared.views.Event.TheVariants as event
 use Rattle.csq_words.specs.Queue.{Queued, QueueState, Limits, listing_of, refusal, reply_to_insert, has_irp, has_entry, without, after_event, new_entry}
@@ -38,29 +38,6 @@ not_refused true b c x y z r h = absurd cc
 not_refused false true c x y z r h = absurd cc
 not_refused false false true x y z r h = absurd cc
 not_refused false false false x y z r h = (refl, refl)
-
--- an entry that is put among others and taken out again
-back_out : (i : Irp) (f : FileId) (place : Place) (es : List Queued) → has_entry es i ≡ false → without i (put_at place (new_entry i f) es) ≡ es
-back_out i f Front es absent = rw same_irp-refl (stays i es absent)
-  where
-    stays : (i : Irp) (es : List Queued) → has_entry es i ≡ false → without i es ≡ es
-    stays i [] h = refl
-    stays i (e ∷ es) h = go (same_irp e.irp i) h (stays i es)
-      where
-        go : (b : Bool) → (b || has_entry es i) ≡ false → (has_entry es i ≡ false → without i es ≡ es) → cond (not b) (e ∷ without i es) (without i es) ≡ e ∷ es
-        go true h rest = absurd cc
-        go false h rest = ap (λ l. e ∷ l) (rest h)
-back_out i f Back [] absent = rw same_irp-refl refl
-back_out i f Back (e ∷ es) absent = go (same_irp e.irp i) absent (back_out i f Back es)
-  where
-    new : List Queued
-    new = put_at Back (new_entry i f) es
-
-    go : (b : Bool) → (b || has_entry es i) ≡ false
-        → (has_entry es i ≡ false → without i (put_at Back (new_entry i f) es) ≡ es)
-        → cond (not b) (e ∷ without i (put_at Back (new_entry i f) es)) (without i (put_at Back (new_entry i f) es)) ≡ e ∷ es
-    go true h rest = absurd cc
-    go false h rest = ap (λ l. e ∷ l) (rest h)
 
 pub zero_is : (b : Bool) (v : ℕ) → v ≡ bit b → v ≡ 0 → b ≡ false
 zero_is true v is e = absurd (omega arith)
@@ -179,7 +156,7 @@ module _ (l : Limits) (kept : Keeping) (s : Script) (k : Keeps l kept s) (i : Ir
             done_may = may_done m3 _ Nothing goes3 i refl known3 (rw (same_irp-refl, same_pass-refl) refl)
 
             entries_back : without i (put_at place (new_entry i f) s.queue.entries) ≡ s.queue.entries
-            entries_back = back_out i f place s.queue.entries (unlisted (size_of kept.machine) s.run k.agrees.run s.queue k.queue i home)
+            entries_back = filter-put_at (λ (e : Queued). same_irp e.irp i) place (new_entry i f) s.queue.entries (same_irp-refl i) (unlisted (size_of kept.machine) s.run k.agrees.run s.queue k.queue i home)
 
             with_these : List Queued → QueueState
             with_these es = record { entries = es; closed = s.queue.closed; used = i ∷ s.queue.used; flags = s.queue.flags }

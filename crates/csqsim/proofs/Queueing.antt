@@ -1,6 +1,6 @@
 -- The queue of one thread says of each IRP what the run says, step by step.
 use Rattle.std.proofs.Common.{◌≡◌, ℕ, Bool, true, false, cond, not, ◌&&◌, ◌||◌, List, [], ◌∷◌, refl, ap, sym, ◌∙◌}
-use Rattle.std.proofs.Math.Bool.{or-false}
+use Rattle.std.proofs.Math.Bool.{or-false, or-true}
 use Rattle.irp_core.specs.declared.ids.PassId.{PassId}
 use Rattle.irp_core.specs.declared.ids.FileId.{FileId}
 use Rattle.irp_core.specs.declared.step.Kind.{Kind}
@@ -60,15 +60,11 @@ pub marks_stay : (E F : List Made) (es : List Queued) → ((j : Irp) → has_ent
 marks_stay E F [] same h = tt
 marks_stay E F (e ∷ es) same h = (
   h.0 ∙ ap not (sym (same e.irp (ap (λ b. b || has_entry es e.irp) (same_irp-refl e.irp)))),
-  marks_stay E F es (λ j there. same j (ap (λ b. same_irp e.irp j || b) there ∙ or_yes (same_irp e.irp j))) h.1,
+  marks_stay E F es (λ j there. same j (ap (λ b. same_irp e.irp j || b) there ∙ or-true (same_irp e.irp j))) h.1,
 )
-  where
-    or_yes : (b : Bool) → (b || true) ≡ true
-    or_yes true = refl
-    or_yes false = refl
 
--- an entry of an unlisted IRP is none
-other_entry : (es : List Queued) (i j : Irp) → has_entry es i ≡ false → has_entry es j ≡ true → same_irp i j ≡ false
+-- another IRP than one that isn't listed
+pub other_entry : (es : List Queued) (i j : Irp) → has_entry es i ≡ false → has_entry es j ≡ true → same_irp i j ≡ false
 other_entry es i j absent there = go (same_irp i j) refl
   where
     go : (b : Bool) → same_irp i j ≡ b → b ≡ false

@@ -1,6 +1,7 @@
 -- Removals: the matches that are looked at, and what the driver keeps in the end.
-use Rattle.std.proofs.Common.{◌≡◌, ℕ, ◌<◌, Bool, true, false, cond, not, ◌&&◌, List, [], ◌∷◌, ◌++◌, map, Option, Some, None, refl, ap, sym, ◌∙◌, subst, arith, append_assoc}
+use Rattle.std.proofs.Common.{◌≡◌, ℕ, ◌<◌, Bool, true, false, cond, not, List, [], ◌∷◌, ◌++◌, map, Option, Some, None, refl, ap, sym, ◌∙◌, subst, arith, append_assoc}
 use Rattle.std.proofs.lemmas.List.{map-append}
+use Rattle.std.proofs.Math.Bool.{and-false}
 use Rattle.irp_core.specs.declared.step.Kind.TheVariants.{Disarm, End}
 use Rattle.irp_core.specs.declared.step.Made.{Made}
 use Rattle.irp_core.specs.declared.step.Inside.{Inside}
@@ -29,10 +30,6 @@ use Rattle.csqsim.specs.Drivers.{Keeping, Keeps, IsOfRun, AreMarked}
 use Rattle.csqsim.proofs.Going.{Goes, May, starts, went, may_remove, may_end}
 use Rattle.csqsim.proofs.Queueing.{marked_is, queue_hit, queue_miss, queue_end, found_then}
 
-and_no : (b : Bool) → (b && false) ≡ false
-and_no true = refl
-and_no false = refl
-
 -- the first entry that matches, and what a removal does from it on
 pub record Sought (k : Peek) (i : Irp) (es : List Queued) : Type 0 where
   pub before : List Queued
@@ -43,6 +40,10 @@ pub record Sought (k : Peek) (i : Irp) (es : List Queued) : Type 0 where
   pub steps : removal_steps k es ≡ Disarm entry.irp ∷ cond entry.marked (removal_steps k later) []
   pub first : first_match k es ≡ cond entry.marked (first_match k later) (Some entry.irp)
 
+-- an entry that doesn't match is passed
+past : (k : Peek) (e : Queued) (es : List Queued) → matches k e.file ≡ false → first_match k (e ∷ es) ≡ first_match k es
+past k e es m = rw m (rw (and-false (not e.marked)) refl)
+
 pub sought : (k : Peek) (i : Irp) (es : List Queued) → plainly.first_match k (map plain es) ≡ Some i → Sought k i es
 sought k i [] h = absurd cc
 sought k i (e ∷ es) h = go (matches k e.file) refl (sought k i es)
@@ -51,29 +52,23 @@ sought k i (e ∷ es) h = go (matches k e.file) refl (sought k i es)
     here m true is = rw (m, is) refl
     here m false is = rw (m, is) refl
 
-    past : matches k e.file ≡ false → first_match k (e ∷ es) ≡ first_match k es
-    past m = rw m (rw (and_no (not e.marked)) refl)
-
     go : (b : Bool) → matches k e.file ≡ b → (plainly.first_match k (map plain es) ≡ Some i → Sought k i es) → Sought k i (e ∷ es)
     go true m rest =
         let found : Some e.irp ≡ Some i = rw m at h in
         record { before = []; entry = e; later = es; parts = refl; is = cc; steps = rw m refl; first = here m e.marked refl }
     go false m rest =
         let f : Sought k i es = rest (rw m at h) in
-        record { before = e ∷ f.before; entry = f.entry; later = f.later; parts = ap (λ l. e ∷ l) f.parts; is = f.is; steps = rw m f.steps; first = past m ∙ f.first }
+        record { before = e ∷ f.before; entry = f.entry; later = f.later; parts = ap (λ l. e ∷ l) f.parts; is = f.is; steps = rw m f.steps; first = past k e es m ∙ f.first }
 
 -- where no entry matches, a removal ends
 pub none_sought : (k : Peek) (es : List Queued) → plainly.first_match k (map plain es) ≡ None → (removal_steps k es ≡ End ∷ []) × (first_match k es ≡ None)
 none_sought k [] h = (refl, refl)
 none_sought k (e ∷ es) h = go (matches k e.file) refl (none_sought k es)
   where
-    past : matches k e.file ≡ false → first_match k (e ∷ es) ≡ first_match k es
-    past m = rw m (rw (and_no (not e.marked)) refl)
-
     go : (b : Bool) → matches k e.file ≡ b → (plainly.first_match k (map plain es) ≡ None → (removal_steps k es ≡ End ∷ []) × (first_match k es ≡ None))
         → (removal_steps k (e ∷ es) ≡ End ∷ []) × (first_match k (e ∷ es) ≡ None)
     go true m rest = let none : Some e.irp ≡ None = rw m at h in absurd cc
-    go false m rest = let f = rest (rw m at h) in (rw m f.0, past m ∙ f.1)
+    go false m rest = let f = rest (rw m at h) in (rw m f.0, past k e es m ∙ f.1)
 
 -- the entries of a later part are marked too
 marks_later : (E : List Made) (before later : List Queued) → AreMarked E (before ++ later) → AreMarked E later

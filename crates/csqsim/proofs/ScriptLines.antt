@@ -1,5 +1,6 @@
 -- Answers to a script, line after line.
-use Rattle.std.proofs.Common.{◌≡◌, ℕ, ◌+◌, List, [], ◌∷◌, ◌++◌, Option, Some, None, append_assoc, subst, sym, refl, arith, length, true, eqb-true}
+use Rattle.std.proofs.Common.{◌≡◌, ℕ, ◌+◌, List, ◌∷◌, ◌++◌, Option, Some, None, append_assoc, subst, sym, length, true, eqb-true}
+use Rattle.std.proofs.lemmas.List.{nil_from_length}
 use Rattle.std.specs.Prelude.{◌==◌}
 use Rattle.irp_core.specs.Runs.{Size, IsRun}
 use Rattle.csq_words.specs.Queue.{Limits}
@@ -57,13 +58,9 @@ goes_on_keeping l GoesOn kept (Some s) leaves is = (l, s, leaves)
 goes_on_keeping l GoesOn kept None leaves is = absurd leaves
 goes_on_keeping l Stops kept more leaves is = absurd cc
 
-no_bytes : (bytes : List ℕ) → length bytes ≡ 0 → bytes ≡ []
-no_bytes [] e = refl
-no_bytes (byte ∷ more) e = absurd (omega arith)
-
 -- where no bytes are left, the closing lines complete the answer
 pub script_ends : (l : Limits) (whole : List (List ℕ)) (s : Script) (n : ℕ) (rest added : List ℕ) → true ≡ (length rest == 0) → Completes l whole s n (lines_of rest) added
     → AnswersCalls l new_script 1 whole (added ++ closing_lines l s) AllHandled
 script_ends l whole s n rest added none complete =
     let C : List ℕ → Type 0 = λ bytes. Completes l whole s n (lines_of bytes) added in
-    subst C (no_bytes rest (eqb-true (length rest) 0 (sym none))) complete (closing_lines l s) AllHandled (all_handled s n)
+    subst C (nil_from_length rest (eqb-true (length rest) 0 (sym none))) complete (closing_lines l s) AllHandled (all_handled s n)

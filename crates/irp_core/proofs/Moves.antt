@@ -16,13 +16,10 @@ use Rattle.irp_core.specs.Standings.{names, IsStanding, moved}
 use Rattle.irp_core.specs.Runs.{OfIrp, MayFollow}
 use Rattle.irp_core.specs.MachineState.{MachineState, size_of, standing_at, inside_at}
 use Rattle.irp_core.specs.TableSteps.{found_at, flags_after, standings_after, released, lock_after, after_step}
-use Rattle.irp_core.proofs.Names.{same_irp-eq, same_irp-ne, same_pass-refl, same_pass-eq, same_pass-ne}
+use Rattle.irp_core.proofs.Names.{same_irp-eq, same_irp-ne, same_pass-refl, same_pass-eq, same_pass-ne, same_some}
 use Rattle.irp_core.proofs.Growing.{lock_needs, run_parted, run_more, has_lock-HasLock, HasLock-has_lock}
 use Rattle.irp_core.proofs.Rows.{Stands, stands_same, stands_moved}
 use Rattle.irp_core.proofs.MachineStates.{Reflects, is_standing, state_stands}
-
-iff_some : {A : Type 0} (x y : A) → Some x ≡ Some y → x ≡ y
-iff_some x y e = cc
 
 -- the lock's holder after a step, by whether each pass had the lock
 module _ (old : Option PassId) (p : PassId) (x : Inside) (h : PassId → Bool) (told : (q : PassId) → (old ≡ Some q → h q ≡ true) × (h q ≡ true → old ≡ Some q)) where
@@ -52,12 +49,12 @@ module _ (old : Option PassId) (p : PassId) (x : Inside) (h : PassId → Bool) (
       go true s = λ q. (
         (λ g. absurd cc),
         λ g. let w = kept_from q (same_pass p q) refl g in
-            let same : r ≡ q = iff_some r q (sym e ∙ (told q).1 w.0) in absurd (w.1 (sym (same_pass-eq r p s) ∙ same)),
+            let same : r ≡ q = same_some r q (sym e ∙ (told q).1 w.0) in absurd (w.1 (sym (same_pass-eq r p s) ∙ same)),
       )
-      go false s = λ q. ((λ g. kept_to q (same_pass p q) refl (λ c. same_pass-ne r p s (ap (λ (x : PassId). x.0) (iff_some r q g ∙ sym c))) ((told q).0 (e ∙ g))), λ g. let w = kept_from q (same_pass p q) refl g in sym e ∙ (told q).1 w.0)
+      go false s = λ q. ((λ g. kept_to q (same_pass p q) refl (λ c. same_pass-ne r p s (ap (λ (x : PassId). x.0) (same_some r q g ∙ sym c))) ((told q).0 (e ∙ g))), λ g. let w = kept_from q (same_pass p q) refl g in sym e ∙ (told q).1 w.0)
 
   lock_more : (b : Bool) → has_lock x ≡ b → (b ≡ true → (q : PassId) → h q ≡ true → q ≡ p) → Told b (lock_after old p x)
-  lock_more true e alone = rw e (λ q. ((λ g. taken_to q (iff_some p q g)), taken_from (alone refl) q (same_pass p q) refl))
+  lock_more true e alone = rw e (λ q. ((λ g. taken_to q (same_some p q g)), taken_from (alone refl) q (same_pass p q) refl))
   lock_more false e alone = rw e (let_go old refl)
 
 has_lock-cond : (t : Bool) (x y : Inside) → has_lock (cond t x y) ≡ cond t (has_lock x) (has_lock y)
