@@ -8,12 +8,11 @@ use Rattle.std.proofs.lemmas.List.Folds.{list_any-append}
 use Rattle.std.proofs.lemmas.List.Elements.{filter-append}
 use Rattle.std.specs.List.{list_any, list_all}
 use Rattle.irp_core.specs.declared.ids.IrpId.{IrpId}
-use Rattle.irp_core.specs.declared.ids.FileId.{FileId}
 use Rattle.csq_list.specs.declared.entry.Entry.{Entry}
 use Rattle.csq_list.specs.declared.entry.Place.{Place}
 use Rattle.csq_list.specs.declared.entry.Place.TheVariants.{Back, Front}
 use Rattle.csq_list.specs.Searches.{is_of, is_listed, without, is_distinct}
-use Rattle.csq_list.specs.Listing.{Listing, IsSound, put_at, inserted, removed, with_closed, same_file, fresh}
+use Rattle.csq_list.specs.Listing.{Listing, IsSound, put_at, inserted, removed, fresh}
 use Rattle.csq_list.proofs.Finding.{same_number-sym}
 
 -- the tests of a filtered list, where those of the whole list hold
@@ -134,17 +133,3 @@ module _ (s : Listing) (sound : IsSound s) where
       still : (j : IrpId) → is_listed (without i s.entries) j ≡ true → (b : Bool) → s.used j ≡ b → s.used j ≡ true
       still j h true used = used
       still j h false unused = absurd (true≢false (sym h ∙ list_any-filter (is_of j) (λ e. not (is_of i e)) s.entries (unused-unlisted j unused)))
-
-  pub sound-closed : (f : FileId) → f.0 < s.files → IsSound (with_closed f s)
-  sound-closed f known = record {
-    distinct = sound.distinct;
-    listed_used = sound.listed_used;
-    used_known = sound.used_known;
-    files_known = sound.files_known;
-    closed_known = λ g h. closed_known g (or_cases (same_file f g) (s.closed g) h);
-    within_limit = sound.within_limit;
-  }
-    where
-      closed_known : (g : FileId) → (same_file f g ≡ true) ⊎ (s.closed g ≡ true) → g.0 < s.files
-      closed_known g (inl h) = subst (λ n. n < s.files) (eqb-true f.0 g.0 h) known
-      closed_known g (inr h) = sound.closed_known g h

@@ -4,11 +4,10 @@ use Rattle.std.specs.List.{list_all}
 use Rattle.std.proofs.lemmas.List.{length-replicate}
 use Rattle.std.proofs.lemmas.Bool.{and_parts, not-true}
 use Rattle.irp_core.specs.declared.ids.IrpId.{IrpId}
-use Rattle.irp_core.specs.declared.ids.FileId.{FileId}
 use Rattle.csq_list.specs.declared.entry.Entry.{Entry}
 use Rattle.csq_list.specs.declared.entry.Place.{Place}
 use Rattle.csq_list.specs.Searches.{without}
-use Rattle.csq_list.specs.Listing.{Listing, IsSound, IsFresh, put_at, inserted, with_closed, fresh}
+use Rattle.csq_list.specs.Listing.{Listing, IsSound, IsFresh, put_at, inserted, fresh}
 use Rattle.csq_list.specs.VecParts.{listing_of}
 use Rattle.csq_list.proofs.Keeping.{sound-inserted, sound-removed}
 
@@ -68,17 +67,6 @@ listing_of-inserted place e entries used closed limit known = λ k. record {
   closed = λ f. get_or closed f.0 false;
   irps = length-set used e.irp.0 true k;
   files = length closed;
-  limit = limit;
-}
-
--- after the closing of a file
-pub listing_of-closed : (f : FileId) (entries : List Entry) (used closed : List Bool) (limit : ℕ) → f.0 < length closed → listing_of entries used (set closed f.0 true) limit ≡ with_closed f (listing_of entries used closed limit)
-listing_of-closed f entries used closed limit known = λ k. record {
-  entries = entries;
-  used = λ i. get_or used i.0 false;
-  closed = λ g. get_or-set_flag closed f.0 g.0 known k;
-  irps = length used;
-  files = length-set closed f.0 true k;
   limit = limit;
 }
 

@@ -130,11 +130,6 @@ removes_on Nothing h = refl
 removes_on Removing h = refl
 removes_on s h = absurd (true≢false (sym h))
 
-pub removed_out : (s : Inside) → follows s End ≡ true → after_disarm s 1 ≡ Nothing
-removed_out Nothing h = refl
-removed_out Removing h = refl
-removed_out s h = absurd (true≢false (sym h))
-
 -- a list of plain entries, cut in two
 pub record Parts (es : List Queued) (before : List ListEntry) (entry : ListEntry) (later : List ListEntry) : Type 0 where
   pub first : List Queued

@@ -6,7 +6,7 @@ use Rattle.csq_list.specs.declared.entry.Place.{Place}
 use Rattle.csq_list.specs.declared.entry.Place.TheVariants.{Back, Front}
 use Rattle.csq_list.specs.Searches.{is_of, is_listed, same_number}
 use Rattle.csq_list.specs.Searches as list
-use Rattle.csq_list.specs.Listing.{put_at, inserted, removed, with_closed}
+use Rattle.csq_list.specs.Listing.{put_at, inserted, removed}
 use Rattle.csq_list.proofs.Finding.{same_number-refl}
 use Rattle.csq_list.proofs.Keeping.{filter-put_at}
 use Rattle.csq_words.specs.Queue.{Queued, QueueState, Limits, new_entry, plain, has_irp, has_file, has_entry, marking, without, listing_of}
@@ -83,6 +83,3 @@ listing-taken_back l q i f place h = λ k. record {
   files = l.files;
   limit = l.limit;
 }
-
-pub listing-closed : (l : Limits) (q : QueueState) (f : FileId) → with_closed f (listing_of l q) ≡ listing_of l (record q { closed = f ∷ q.closed })
-listing-closed l q f = refl

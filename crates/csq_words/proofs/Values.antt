@@ -1,5 +1,5 @@
 -- What a contract's value of a seat says of the seat.
-use Rattle.std.proofs.Common.{◌≡◌, ℕ, List, [], Option, Some, None, refl, sym, ap, ◌∙◌, subst}
+use Rattle.std.proofs.Common.{◌≡◌, ℕ, [], Option, Some, None, refl, sym, ap, ◌∙◌, subst}
 use mathlib.Core.Option.{none}
 use Rattle.std.specs.Option.{option_map}
 use Rattle.atomic_table.specs.Seated.{TableId}
@@ -11,7 +11,7 @@ use Rattle.csq_words.specs.declared.views.PassRecord.{PassRecord}
 use Rattle.csq_words.specs.declared.views.QueueRecord.{QueueRecord}
 use Rattle.csq_words.specs.Records.{view_of, pass_view, queue_in, pass_in}
 use Rattle.csq_words.specs.Calls.{after_step}
-use Rattle.csq_words.specs.Plays.{SeatView, Makes, IsFound, FindsUnmarked}
+use Rattle.csq_words.specs.Plays.{Makes, IsFound, FindsUnmarked}
 use Rattle.csq_words.specs.Seats.{WordSeat, QueueSeatState, PassSeatState, queue_seat_of, IsQueueSeat, pass_seat_of, IsPassSeat, pass_record, pass_at, IsHere, joined_record, IsJoined, with_view}
 
 -- a pass's seat that is here
@@ -37,22 +37,12 @@ joined s q view inv is =
     let pass : s.me.0.pass ≡ Some (joined_record q) = ap (λ z. z.joined) view ∙ is in
     λ i. record { queue = queue i; pass = pass i }
 
--- a pass's seat after a step
-pub stepped_pass : (s : WordSeat) (r : PassRecord) (t : TableId) → s.table_id ≡ t → s.me ≡ (pass_view r, []) → IsPassSeat (Some s) × (option_map pass_seat_of (Some s) ≡ pass_at t r)
-stepped_pass s r t table me =
-    let pass : pass_in s.me.0 ≡ r = ap (λ m. pass_in m.0) me in
-    ((ap (λ m. m.1) me, ap (λ m. m.0) me ∙ ap pass_view (sym pass)), λ i. Some record { table = table i; pass = pass i })
-
 -- the queue's seat after a step that leaves it the queue's record
 pub stepped_queue : (s : WordSeat) (v : View) (t : TableId) → s.table_id ≡ t → v.queue ≡ Some (queue_in v) → s.me ≡ (v, []) → IsQueueSeat s × (queue_seat_of s ≡ record { table = t; queue = queue_in v; joined = v.pass })
 stepped_queue s v t table has me =
     let view : s.me.0 ≡ v = ap (λ m. m.0) me in
     let is : queue_in s.me.0 ≡ queue_in v = ap queue_in view in
     ((ap (λ m. m.1) me, ap (λ u. u.queue) view ∙ (has ∙ ap (λ (u : QueueRecord). Some u) (sym is))), λ i. record { table = table i; queue = is i; joined = (view i).pass })
-
--- a seat that holds no slot
-pub emptied : (m : SeatView) (v : View) (held : List (ℕ × Unit {0})) → held ≡ [] → m ≡ (v, held) → m ≡ (v, [])
-emptied m v held e is = is ∙ ap (λ (h : List (ℕ × Unit {0})). (v, h)) e
 
 -- the queue's seat after a step of the pass that it is joined with
 pub stepped : (s s' : WordSeat) (q : QueueSeatState) (f : QueueRecord → PassRecord → View) → queue_seat_of s ≡ q → IsQueueSeat s → IsJoined q → s'.table_id ≡ s.table_id

@@ -267,10 +267,6 @@ module _ (s : Script) (a : Accounts s) (i : Irp) where
       subst P steps (stays_accounts s a (next_step s.run End) s.queue.closed s.queue.flags (λ j h. h) s.queue.entries (λ j. refl)
       (marks_stay s.run (next_step s.run End) s.queue.entries (λ j there. refl) a.marks))
 
-  -- the run after a mark
-  taken_run : List Made
-  taken_run = next_step (next_step s.run (Flag i)) (Take i)
-
   marked_one : Accounts (doing [] (event.Mark i) (after_mark i s))
   marked_one = stays_accounts s a (next_step (next_step s.run (Flag i)) (Take i)) s.queue.closed (i ∷ s.queue.flags) (λ j h. h) (marking i s.queue.entries) (has_entry-marking i s.queue.entries)
       (marks_marking s.run (next_step (next_step s.run (Flag i)) (Take i)) i s.queue.entries (λ j. refl) a.marks)

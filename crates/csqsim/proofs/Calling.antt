@@ -112,10 +112,6 @@ module _ (l : Limits) (kept : Keeping) (s : Script) (k : Keeps l kept s) where
       told j in_range false e =
           rw e (get_or-set_other kept.statuses (number i) (number j) (Some status) None (λ same. same_irp-ne i j e (sym same)) ∙ k.statuses j in_range)
 
-  -- a mark
-  marked_run : Irp → ℕ → List Made
-  marked_run i v = record { pass = script_pass; kind = Take i; found = v } ∷ next_step s.run (step.Flag i)
-
   flagged_queue : (i : Irp) → IsOfRun (next_step s.run (step.Flag i)) (after_event s.queue (event.FlagSeen i))
   flagged_queue i = queue_flag (size_of kept.machine) s.run k.agrees.run s.queue k.queue i
 
@@ -153,9 +149,6 @@ module _ (l : Limits) (kept : Keeping) (s : Script) (k : Keeps l kept s) where
       go : (t : Bool) → same_irp i j ≡ t → slice_index_or (slice_set kept.claims (number i) b) (number j) false ≡ cond (same_irp i j) b (owes s.run script_pass j)
       go true e = rw (e, ap number (sym (same_irp-eq i j e))) (get_or-set_same kept.claims (number i) b false (omega (arith, known, k.claims_size)))
       go false e = rw e (get_or-set_other kept.claims (number i) (number j) b false (λ same. same_irp-ne i j e (sym same)) ∙ k.claims j in_range)
-
-  claimed_script : Irp → Script
-  claimed_script i = doing [] (event.Mark i) (after_mark i s)
 
   pub claimed_keeps : (i : Irp) → number i < (size_of kept.machine).irps → armed s.run i ≡ true → (machine : MachineState)
       → Agrees machine (next_step (next_step s.run (step.Flag i)) (Take i)) → size_of machine ≡ size_of kept.machine

@@ -1,5 +1,5 @@
 -- The closing lines of a script.
-use Rattle.std.proofs.Common.{◌≡◌, ℕ, zero, suc, ◌+◌, ◌<◌, Bool, true, false, cond, List, [], ◌∷◌, ◌++◌, map, filter, length, Option, Some, None, refl, ap, sym, ◌∙◌, arith, append_assoc, append-nil, add-one, codes}
+use Rattle.std.proofs.Common.{◌≡◌, ℕ, zero, suc, ◌+◌, ◌<◌, Bool, true, false, cond, List, [], ◌∷◌, ◌++◌, map, filter, Option, Some, None, refl, ap, sym, ◌∙◌, arith, append_assoc, append-nil, add-one, codes}
 use Rattle.std.proofs.lemmas.List.Elements.{filter-append}
 use Rattle.std.specs.Prelude.{slice_index_or}
 use Rattle.irp_core.specs.Steps.{Irp, number}
@@ -15,7 +15,7 @@ use Rattle.csq_list.specs.declared.entry.Entry.{Entry}
 use Rattle.csq_list.specs.declared.entry.Peek.TheVariants.{Any}
 use Rattle.csq_list.specs.Searches.{first_match, rest_after, is_distinct}
 use Rattle.csq_list.proofs.Finding.{found-first, nothing-left}
-use Rattle.csqsim.specs.ScriptAnswer.{numbers, left_line, kept_line, irps_below}
+use Rattle.csqsim.specs.ScriptAnswer.{numbers, left_line, irps_below}
 
 abbrev irps_of : List Entry → List Irp
 irps_of es = map (λ (e : Entry). e.irp) es
@@ -56,27 +56,6 @@ module _ (p : Irp → Bool) (n : ℕ) (first old : List ℕ) (told : old ≡ fir
 
   pub kept_same : p (record { 0 = n }) ≡ false → old ≡ first ++ numbers (filter p (irps_below (n + 1)))
   kept_same is = told ∙ ap (λ l. first ++ numbers l) (sym (append-nil (filter p (irps_below n))) ∙ sym (last_is false is))
-
-pub kept_first : (p : Irp → Bool) (text : List ℕ) → text ≡ text ++ numbers (filter p (irps_below 0))
-kept_first p text = sym (append-nil text)
-
--- the line of what is listed
-pub left_none : (es : List Entry) → length es ≡ 0 → left_line (map (λ (e : Entry). e.irp) es) ≡ codes "left none\n"
-left_none [] h = refl
-left_none (e ∷ es) h = absurd (omega arith)
-
-pub left_some : (es : List Entry) → (length es ≡ 0 → ⊥) → left_line (map (λ (e : Entry). e.irp) es) ≡ codes "left" ++ (numbers (map (λ (e : Entry). e.irp) es) ++ codes "\n")
-left_some [] h = absurd (h refl)
-left_some (e ∷ es) h = refl
-
--- a line of this name
-pub kept_none : (name : List ℕ) (is : List Irp) → numbers is ≡ [] → kept_line name is ≡ []
-kept_none name [] h = refl
-kept_none name (i ∷ is) h = absurd cc
-
-pub kept_some : (name : List ℕ) (is : List Irp) → (numbers is ≡ [] → ⊥) → kept_line name is ≡ name ++ (numbers is ++ codes "\n")
-kept_some name [] h = absurd (h refl)
-kept_some name (i ∷ is) h = refl
 
 -- the same IRPs pass two tests
 pub filter_same : (p q : Irp → Bool) (n : ℕ) → ((i : Irp) → number i < n → p i ≡ q i) → filter p (irps_below n) ≡ filter q (irps_below n)

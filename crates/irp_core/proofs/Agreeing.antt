@@ -1,12 +1,12 @@
 -- A state shows of a run what the run says exactly where it holds what the run leads to.
-use Rattle.std.proofs.Common.{◌≡◌, ◌<◌, ◌≤◌, List, length, Some, refl, sym, ◌∙◌, subst}
+use Rattle.std.proofs.Common.{◌≡◌, List, Some, refl, sym, ◌∙◌, subst}
 use Rattle.irp_core.specs.declared.ids.PassId.{PassId}
 use Rattle.irp_core.specs.declared.status.NtStatus.{NtStatus}
 use Rattle.irp_core.specs.declared.step.Made.{Made}
 use Rattle.irp_core.specs.declared.step.Inside.{Inside}
 use Rattle.irp_core.specs.declared.step.Standing.{Standing}
 use Rattle.irp_core.specs.declared.step.Standing.TheVariants.{Home, Waiting, Owed, Held, Finished}
-use Rattle.irp_core.specs.Steps.{Irp, number}
+use Rattle.irp_core.specs.Steps.{Irp}
 use Rattle.irp_core.specs.Words.{armed}
 use Rattle.irp_core.specs.Programs.{Act}
 use Rattle.irp_core.specs.Begun.{Begun}
@@ -61,11 +61,3 @@ agrees_reflects b E a = record {
   lock = a.lock;
   sizes = a.sizes;
 }
-
--- of each IRP such a state has how it stands
-pub agrees_standing : (b : MachineState) (E : List Made) → Agrees b E → (i : Irp) → number i < length b.flags → IsStanding E i (standing_at b i)
-agrees_standing b E a = (agrees_reflects b E a).standings
-
--- of each pass it has what that is inside of
-pub agrees_inside : (b : MachineState) (E : List Made) → Agrees b E → (p : PassId) → 1 ≤ p.0 → p.0 ≤ length b.insides → inside_at b p ≡ inside E p
-agrees_inside b E a = (agrees_reflects b E a).insides

@@ -57,10 +57,6 @@ module _ (old : Option PassId) (p : PassId) (x : Inside) (h : PassId → Bool) (
   lock_more true e alone = rw e (λ q. ((λ g. taken_to q (same_some p q g)), taken_from (alone refl) q (same_pass p q) refl))
   lock_more false e alone = rw e (let_go old refl)
 
-has_lock-cond : (t : Bool) (x y : Inside) → has_lock (cond t x y) ≡ cond t (has_lock x) (has_lock y)
-has_lock-cond true x y = refl
-has_lock-cond false x y = refl
-
 length_flags : (flags : List Bool) (k : Kind) → length (flags_after flags k) ≡ length flags
 length_flags flags (Flag i) = length-set flags i.0 true
 length_flags flags k = refl

@@ -72,14 +72,6 @@ module _ (ever set : Bool) (cl : List Made) (ow ho dn : PassId → Bool) (ends :
   row_owner (Held q status) h p e = let e' : same_pass q p ≡ true = rw (h.owing_is p, h.holding_is p) at e in (h.claims_are.0, h.claims_are.1, h.claims_are.2 ∙ same_pass-eq q p e')
   row_owner (Finished status q) h p e = let e' : false ≡ true = rw (h.owing_is p, h.holding_is p) at e in absurd cc
 
-  -- who holds or completed it has the one claim
-  pub row_ended : (s : Standing) → Row ever set cl ow ho dn ends left byr i s → (p : PassId) → (ho p || dn p) ≡ true → OneOf p cl
-  row_ended Home h p e = let e' : false ≡ true = rw (h.holding_is p, h.done_is p) at e in absurd cc
-  row_ended Waiting h p e = let e' : false ≡ true = rw (h.holding_is p, h.done_is p) at e in absurd cc
-  row_ended (Owed q) h p e = let e' : false ≡ true = rw (h.holding_is p, h.done_is p) at e in absurd cc
-  row_ended (Held q status) h p e = let e' : (same_pass q p || false) ≡ true = rw (h.holding_is p, h.done_is p) at e in (h.claims_are.0, h.claims_are.1, h.claims_are.2 ∙ same_pass-eq q p (or_none (same_pass q p) e'))
-  row_ended (Finished status q) h p e = let e' : same_pass q p ≡ true = rw (h.holding_is p, h.done_is p) at e in (h.claims_are.0, h.claims_are.1, h.claims_are.2 ∙ same_pass-eq q p e')
-
   -- what is owed or held is not done
   pub row_open : (s : Standing) → Row ever set cl ow ho dn ends left byr i s → (p : PassId) → (ow p || ho p) ≡ true → ends ≡ []
   row_open (Finished status q) h p e = let e' : false ≡ true = rw (h.owing_is p, h.holding_is p) at e in absurd cc
