@@ -13,7 +13,7 @@ use Rattle.irp_core.specs.declared.step.Inside.TheVariants.{Nothing, Removing}
 use Rattle.csq_list.specs.declared.entry.Peek.{Peek}
 use Rattle.csq_list.specs.declared.entry.Entry.{Entry as ListEntry}
 use Rattle.csq_list.specs.Listing.{Listing}
-use Rattle.csq_list.specs.Searches.{is_listed, is_distinct, rest_after, IsPlaceIn, matches}
+use Rattle.csq_list.specs.Searches.{matches}
 use Rattle.csq_list.specs.Searches as list
 use Rattle.csq_list.proofs.Finding.{found}
 use Rattle.csq_words.specs.declared.views.Event.{Event}

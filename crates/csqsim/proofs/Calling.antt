@@ -8,7 +8,7 @@ use Rattle.std.specs.List.{find}
 use Rattle.irp_core.specs.declared.ids.FileId.{FileId}
 use Rattle.irp_core.specs.declared.status.NtStatus.{NtStatus}
 use Rattle.irp_core.specs.declared.status.TheConstants.NtStatus.{PENDING}
-use Rattle.irp_core.specs.declared.step.Kind.TheVariants.{Arm, Test, Disarm, End, Take, Out, Done}
+use Rattle.irp_core.specs.declared.step.Kind.TheVariants.{Take, Out, Done}
 use Rattle.irp_core.specs.declared.step.Kind.TheVariants as step
 use Rattle.irp_core.specs.declared.step.Made.{Made}
 use Rattle.irp_core.specs.declared.step.IrpPlace.{IrpPlace}
@@ -31,7 +31,7 @@ use Rattle.csq_words.proofs.Listings.{is_listed-plain, listing-removed, listing-
 use Rattle.csqsim.specs.declared.call.Call.{Call}
 use Rattle.csqsim.specs.declared.call.Call.TheVariants.{Mark, Routine, Complete, Close, Flag, Status}
 use Rattle.csqsim.specs.declared.call.Refusal.TheVariants.{UnknownIrp, UnknownFile, NoClaim, NotHeld, StatusPending}
-use Rattle.csqsim.specs.declared.call.Reply.TheVariants.{Claimed, Unclaimed, Completed, Closed, Unset, Refused}
+use Rattle.csqsim.specs.declared.call.Reply.TheVariants.{Claimed, Unclaimed, Completed, Closed, Refused}
 use Rattle.csqsim.specs.declared.call.Reply.TheVariants as reply
 use Rattle.csqsim.specs.Calls.{Script, script_pass, next_step, doing, completing, after_mark, status_reply, irp_of, file_of, Calls}
 use Rattle.csqsim.specs.Calls.Calls.{has_no_claim, completes, holds_none, refuses_pending, closes, tells_flag, tells_status, knows_no_irp, knows_no_file, claims_none}

@@ -20,7 +20,7 @@ use Rattle.csqsim.specs.declared.call.Call.{Call}
 use Rattle.csqsim.specs.declared.call.Call.TheVariants.{Insert, Next, Remove, Mark, Routine, Cancel, Complete, Close, Cleanup, Flag, Status}
 use Rattle.csqsim.specs.declared.call.Refusal.TheVariants.{UnknownIrp, UnknownFile, NoClaim, NotHeld, StatusPending}
 use Rattle.csqsim.specs.declared.call.Reply.{Reply}
-use Rattle.csqsim.specs.declared.call.Reply.TheVariants.{Pending, Cancelled, InsertRefused, Removed, NoIrp, Claimed, Unclaimed, Completed, CancelAnswered, Closed, Cleaned, Refused}
+use Rattle.csqsim.specs.declared.call.Reply.TheVariants.{Pending, Cancelled, InsertRefused, Removed, NoIrp, Claimed, Unclaimed, Completed, Closed, Cleaned, Refused}
 use Rattle.csqsim.specs.declared.call.Reply.TheVariants as reply
 use Rattle.csqsim.specs.Calls.{Script, script_pass, new_script, doing, completing, removal_steps, remove_steps, removal_reply, status_of, status_reply, irp_of, file_of, after_mark, Calls, Cleans, Does}
 use Rattle.csqsim.specs.Calls.Calls.{refuses_insert, lists, cancels_insert, removes_next, removes, removes_none, claims, claims_none, runs_routine, has_no_claim, completes, holds_none, refuses_pending, closes, tells_flag, tells_status, knows_no_irp, knows_no_file}
