@@ -1,12 +1,12 @@
 -- What a pending list means, and how each call changes it.
-use Rattle.std.specs.Prelude.{◌≡◌, ℕ, ◌<◌, ◌≤◌, nat_lt, ◌==◌, ◌&&◌, ◌||◌, Bool, false, not, List, [], ◌∷◌, ◌++◌, length, IsTrue}
+use Rattle.std.specs.Prelude.{◌≡◌, ℕ, ◌<◌, ◌≤◌, nat_lt, ◌&&◌, ◌||◌, Bool, false, not, List, [], ◌∷◌, ◌++◌, length, IsTrue}
 use Rattle.std.specs.List.{list_all}
 use Rattle.irp_core.specs.declared.ids.IrpId.{IrpId}
 use Rattle.irp_core.specs.declared.ids.FileId.{FileId}
 use Rattle.csq_list.specs.declared.entry.Entry.{Entry}
 use Rattle.csq_list.specs.declared.entry.Place.{Place}
 use Rattle.csq_list.specs.declared.entry.Place.TheVariants.{Back, Front}
-use Rattle.csq_list.specs.Searches.{is_of, is_listed, is_distinct, without}
+use Rattle.csq_list.specs.Searches.{same_file, is_of, is_listed, is_distinct, without}
 
 -- the listed IRPs with their files, in order, the IRPs that inserts accepted, the closed files, and how many of each there may be
 pub record Listing : Type 0 where
@@ -41,10 +41,6 @@ inserted place e s = record s { entries = put_at place e s.entries; used = λ i.
 -- after a removal: the others keep their order, and the IRP stays used
 abbrev pub removed : IrpId → Listing → Listing
 removed i s = record s { entries = without i s.entries }
-
--- whether two names are of one file
-abbrev pub same_file : FileId → FileId → Bool
-same_file f g = f.0 == g.0
 
 -- after the closing of a file
 abbrev pub with_closed : FileId → Listing → Listing

@@ -1,5 +1,5 @@
 -- The queue of one thread: what it keeps, and what each event does to it.
-use Rattle.std.specs.Prelude.{ℕ, Bool, true, false, not, ◌&&◌, ◌||◌, ◌==◌, List, [], ◌∷◌, filter, map, Option, Some, None, if◌then◌else◌}
+use Rattle.std.specs.Prelude.{ℕ, Bool, true, false, not, ◌&&◌, ◌||◌, List, [], ◌∷◌, filter, map, Option, Some, None, if◌then◌else◌}
 use Rattle.std.specs.List.{list_any, find}
 use Rattle.std.specs.Option.{option_map}
 use Rattle.irp_core.specs.Steps.{Irp, same_irp}
@@ -8,7 +8,7 @@ use Rattle.csq_list.specs.declared.entry.Entry.{Entry}
 use Rattle.csq_list.specs.declared.entry.Place.{Place}
 use Rattle.csq_list.specs.declared.entry.Peek.{Peek}
 use Rattle.csq_list.specs.declared.refusals.InsertStatus.{InsertStatus}
-use Rattle.csq_list.specs.Searches.{matches}
+use Rattle.csq_list.specs.Searches.{same_file, matches}
 use Rattle.csq_list.specs.Listing.{Listing, put_at}
 use Rattle.csq_list.specs.Causes.{first_cause}
 use Rattle.csq_words.specs.declared.views.InsertReply.{InsertReply}
@@ -53,7 +53,7 @@ has_irp is i = list_any (λ j. same_irp j i) is
 
 -- the file object is among them
 abbrev pub has_file : List FileId → FileId → Bool
-has_file fs f = list_any (λ (g : FileId). g.0 == f.0) fs
+has_file fs f = list_any (λ g. same_file g f) fs
 
 -- i is in the list
 abbrev pub has_entry : List Queued → Irp → Bool
