@@ -1,5 +1,6 @@
-use Rattle.std.proofs.Common.{◌≡◌, ◌<◌, true, [], ◌∷◌, Some, None, ap, ◌∙◌, sym, subst, arith, rules}
+use Rattle.std.proofs.Common.{◌≡◌, ◌<◌, true, [], ◌∷◌, List, Some, None, ap, ◌∙◌, sym, subst, arith, rules}
 use Rattle.irp_core.specs.declared.step.Kind.TheVariants.{Disarm, End}
+use Rattle.irp_core.specs.Steps.{Irp}
 use Rattle.csq_list.specs.Listing.{Listing}
 use Rattle.csq_words.specs.declared.calls.Call.TheVariants.{RemoveNext as RemoveNextCall}
 use Rattle.csq_words.specs.declared.views.Event.TheVariants.{RemoveNext}
@@ -11,7 +12,9 @@ use Rattle.csq_queue.specs.Adding.{Adds}
 use Rattle.csq_queue.specs.Searches.{marked, IsSearch}
 use Rattle.csq_queue.proofs.Searching.{with_made}
 use Rattle.csq_queue.proofs.Removing.{search_start, next_match, search_hit, search_miss, none_left, search_end}
+use Rattle.csq_queue.proofs.joined.take_match.Given.{Over}
 use Rattle.csq_queue.proofs.joined.take_match.Goals as goal
+use Rattle.csq_queue.proofs.joined.take_match.Goals.{After-remove}
 
 pub search-init : goal.search-init
 search-init g c = search_start g.N.QueueName.table g.N.QueueName.limits (g.L.PendingList.listing c.args.list.now) c.args.peek c.args.seat.now c.requires.entered
@@ -22,8 +25,10 @@ disarm-requires-clause-next g c = (
   next_match g.N.QueueName.limits c.args.seat.now c.args.peek c.search.after (g.L.PendingList.listing c.search.list) c.search.seat c.search.invariant (g.met.L.PendingList.sound c.search.list) c.in-Some.next c.in-Some.ensures.found,
 )
 
-pub returns-then-disarm-ne0-clause-adds : goal.returns-then-disarm-ne0-clause-adds
-returns-then-disarm-ne0-clause-adds g c =
+-- the removal found the routine of the next match
+hit : (g : Over) (c : After-remove g) → ((marks : List Irp) × Adds g.N.QueueName.limits c.args.seat.now (RemoveNext c.args.peek (Some c.in-Some.next) ∷ marked marks) (g.L.PendingList.listing c.remove.new.self) c.disarm.new.self)
+    × GivesOut g.N.QueueName.limits (Some c.in-Some.next) true (joined_record c.args.seat.now) (joined_record c.disarm.new.self)
+hit g c =
     let s = g.L.PendingList.listing c.search.list in
     let i = c.in-Some.next in
     let below = c.disarm.ensures.found in
@@ -31,20 +36,15 @@ returns-then-disarm-ne0-clause-adds g c =
     let some : 0 < c.disarm.result = omega arith in
     let one : c.disarm.result ≡ 1 = omega arith in
     let is : c.disarm.new.self ≡ with_made (Disarm i) 1 (RemoveNext c.args.peek (Some i) ∷ []) c.search.seat = c.disarm.ensures.step ∙ ap (λ n. with_view (after_step (RemoveNextCall c.args.peek) (Disarm i) n c.search.seat.queue (joined_record c.search.seat)) c.search.seat) one in
-    let hit = search_hit g.N.QueueName.limits c.args.seat.now c.args.peek c.search.after s c.search.seat c.search.invariant (g.met.L.PendingList.sound c.search.list) i c.in-Some.ensures.found (c.disarm.ensures.unmarked some) (subst (λ (z : QueueSeatState). IsTold z.queue (joined_record z)) is c.disarm.ensures.told) in
-    (hit.0.0, subst (λ (z : Listing × QueueSeatState). Adds g.N.QueueName.limits c.args.seat.now (RemoveNext c.args.peek (Some i) ∷ marked hit.0.0) z.0 z.1) (λ k. (sym c.remove.ensures k, sym is k)) hit.0.1)
+    subst (λ (z : Listing × QueueSeatState). ((marks : List Irp) × Adds g.N.QueueName.limits c.args.seat.now (RemoveNext c.args.peek (Some i) ∷ marked marks) z.0 z.1) × GivesOut g.N.QueueName.limits (Some i) true (joined_record c.args.seat.now) (joined_record z.1))
+    (λ k. (sym c.remove.ensures k, sym is k))
+    (search_hit g.N.QueueName.limits c.args.seat.now c.args.peek c.search.after s c.search.seat c.search.invariant (g.met.L.PendingList.sound c.search.list) i c.in-Some.ensures.found (c.disarm.ensures.unmarked some) (subst (λ (z : QueueSeatState). IsTold z.queue (joined_record z)) is c.disarm.ensures.told))
+
+pub returns-then-disarm-ne0-clause-adds : goal.returns-then-disarm-ne0-clause-adds
+returns-then-disarm-ne0-clause-adds g c = (hit g c).0
 
 pub returns-then-disarm-ne0-clause-given : goal.returns-then-disarm-ne0-clause-given
-returns-then-disarm-ne0-clause-given g c =
-    let s = g.L.PendingList.listing c.search.list in
-    let i = c.in-Some.next in
-    let below = c.disarm.ensures.found in
-    let set' = c.if-disarm-ne0.true in
-    let some : 0 < c.disarm.result = omega arith in
-    let one : c.disarm.result ≡ 1 = omega arith in
-    let is : c.disarm.new.self ≡ with_made (Disarm i) 1 (RemoveNext c.args.peek (Some i) ∷ []) c.search.seat = c.disarm.ensures.step ∙ ap (λ n. with_view (after_step (RemoveNextCall c.args.peek) (Disarm i) n c.search.seat.queue (joined_record c.search.seat)) c.search.seat) one in
-    let hit = search_hit g.N.QueueName.limits c.args.seat.now c.args.peek c.search.after s c.search.seat c.search.invariant (g.met.L.PendingList.sound c.search.list) i c.in-Some.ensures.found (c.disarm.ensures.unmarked some) (subst (λ (z : QueueSeatState). IsTold z.queue (joined_record z)) is c.disarm.ensures.told) in
-    subst (λ (z : QueueSeatState). GivesOut g.N.QueueName.limits (Some i) true (joined_record c.args.seat.now) (joined_record z)) (sym is) hit.1
+returns-then-disarm-ne0-clause-given g c = (hit g c).1
 
 pub search-preserved : goal.search-preserved
 search-preserved g c =

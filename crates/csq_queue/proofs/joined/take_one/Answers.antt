@@ -14,7 +14,9 @@ use Rattle.csq_queue.specs.Adding.{Adds}
 use Rattle.csq_queue.specs.Searches.{marked}
 use Rattle.csq_queue.proofs.Searching.{with_made}
 use Rattle.csq_queue.proofs.Ones.{removes, one_listed, one_absent, one_none, one_hit, one_marked_now, one_goes_on, one_miss}
+use Rattle.csq_queue.proofs.joined.take_one.Given.{Over}
 use Rattle.csq_queue.proofs.joined.take_one.Goals as goal
+use Rattle.csq_queue.proofs.joined.take_one.Goals.{After-remove}
 
 pub note-requires-clause-may : goal.note-requires-clause-may
 note-requires-clause-may g c =
@@ -39,8 +41,10 @@ disarm-requires-clause-next g c =
       one_listed g.N.QueueName.table g.N.QueueName.limits (g.L.PendingList.listing c.args.list.now) c.args.seat.now c.requires.entered c.args.irp there,
     )
 
-pub returns-then-disarm-ne0-clause-adds : goal.returns-then-disarm-ne0-clause-adds
-returns-then-disarm-ne0-clause-adds g c =
+-- the removal found its routine
+hit : (g : Over) (c : After-remove g) → Adds g.N.QueueName.limits c.args.seat.now (Remove c.args.irp true ∷ []) (g.L.PendingList.listing c.remove.new.self) c.disarm.new.self
+    × GivesOut g.N.QueueName.limits (Some c.args.irp) true (joined_record c.args.seat.now) (joined_record c.disarm.new.self)
+hit g c =
     let s = g.L.PendingList.listing c.args.list.now in
     let i = c.args.irp in
     let there : is_listed (g.L.PendingList.listing c.args.list.now).entries c.args.irp ≡ true = search rules in
@@ -49,21 +53,15 @@ returns-then-disarm-ne0-clause-adds g c =
     let some : 0 < c.disarm.result = omega arith in
     let one : c.disarm.result ≡ 1 = omega arith in
     let is : c.disarm.new.self ≡ with_made (Disarm i) 1 (Remove i true ∷ []) c.args.seat.now = c.disarm.ensures.step ∙ ap (λ n. with_view (after_step (RemoveCall i) (Disarm i) n c.args.seat.now.queue (joined_record c.args.seat.now)) c.args.seat.now) one in
-    let hit = one_hit g.N.QueueName.table g.N.QueueName.limits s c.args.seat.now c.requires.entered i (g.met.L.PendingList.sound c.args.list.now) there (c.disarm.ensures.unmarked some) (subst (λ (z : QueueSeatState). IsTold z.queue (joined_record z)) is c.disarm.ensures.told) in
-    ([], subst (λ (z : Listing × QueueSeatState). Adds g.N.QueueName.limits c.args.seat.now (Remove i true ∷ []) z.0 z.1) (λ k. (sym c.remove.ensures k, sym is k)) hit.0)
+    subst (λ (z : Listing × QueueSeatState). Adds g.N.QueueName.limits c.args.seat.now (Remove i true ∷ []) z.0 z.1 × GivesOut g.N.QueueName.limits (Some i) true (joined_record c.args.seat.now) (joined_record z.1))
+    (λ k. (sym c.remove.ensures k, sym is k))
+    (one_hit g.N.QueueName.table g.N.QueueName.limits s c.args.seat.now c.requires.entered i (g.met.L.PendingList.sound c.args.list.now) there (c.disarm.ensures.unmarked some) (subst (λ (z : QueueSeatState). IsTold z.queue (joined_record z)) is c.disarm.ensures.told))
+
+pub returns-then-disarm-ne0-clause-adds : goal.returns-then-disarm-ne0-clause-adds
+returns-then-disarm-ne0-clause-adds g c = ([], (hit g c).0)
 
 pub returns-then-disarm-ne0-clause-given : goal.returns-then-disarm-ne0-clause-given
-returns-then-disarm-ne0-clause-given g c =
-    let s = g.L.PendingList.listing c.args.list.now in
-    let i = c.args.irp in
-    let there : is_listed (g.L.PendingList.listing c.args.list.now).entries c.args.irp ≡ true = search rules in
-    let below = c.disarm.ensures.found in
-    let set' = c.if-disarm-ne0.true in
-    let some : 0 < c.disarm.result = omega arith in
-    let one : c.disarm.result ≡ 1 = omega arith in
-    let is : c.disarm.new.self ≡ with_made (Disarm i) 1 (Remove i true ∷ []) c.args.seat.now = c.disarm.ensures.step ∙ ap (λ n. with_view (after_step (RemoveCall i) (Disarm i) n c.args.seat.now.queue (joined_record c.args.seat.now)) c.args.seat.now) one in
-    let hit = one_hit g.N.QueueName.table g.N.QueueName.limits s c.args.seat.now c.requires.entered i (g.met.L.PendingList.sound c.args.list.now) there (c.disarm.ensures.unmarked some) (subst (λ (z : QueueSeatState). IsTold z.queue (joined_record z)) is c.disarm.ensures.told) in
-    subst (λ (z : QueueSeatState). GivesOut g.N.QueueName.limits (Some i) true (joined_record c.args.seat.now) (joined_record z)) (sym is) hit.1
+returns-then-disarm-ne0-clause-given g c = (hit g c).1
 
 pub note-requires-2-clause-may : goal.note-requires-2-clause-may
 note-requires-2-clause-may g c =
