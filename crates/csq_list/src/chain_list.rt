@@ -7,7 +7,7 @@ ghost use Rattle.csq_list.specs.Chains.{record_at, entries_of, IsKept, IsKept-pr
 ghost use Rattle.csq_list.specs.Counts.{is_near, reads_to_peek, reads_to_remove, up_to_match, rest_from};
 
 use crate::entry::{Entry, Peek, Place};
-use crate::flags::are_clear;
+use crate::flags::{are_clear, may_insert};
 use crate::links::{Chain, Links, Record};
 use crate::pending::PendingList;
 use crate::records::{Reader, Records};
@@ -241,21 +241,8 @@ impl<A: Allocator> PendingList for ChainList<A> {
     }
 
     fn insert_ex(&mut self, irp: IrpId, file: FileId, place: Place) -> Result<(), InsertStatus> {
-        if irp.0 as usize >= self.used.len() {
-            return Err(InsertStatus::UnknownIrp);
-        }
-        if file.0 as usize >= self.closed.len() {
-            return Err(InsertStatus::UnknownFile);
-        }
-        if self.used[irp.0 as usize] {
-            return Err(InsertStatus::NotHome);
-        }
-        if self.closed[file.0 as usize] {
-            return Err(InsertStatus::FileClosed);
-        }
-        if self.len == self.limit {
-            return Err(InsertStatus::Full);
-        }
+        let full = self.len == self.limit;
+        may_insert(&self.used, &self.closed, full, irp, file)?;
         self.link(Entry { irp, file }, place);
         Ok(())
     }

@@ -7,7 +7,7 @@ ghost use Rattle.csq_list.specs.VecParts.{listing_of};
 ghost use Rattle.csq_list.specs.Listing.{IsListSize};
 
 use crate::entry::{Entry, Peek, Place};
-use crate::flags::are_clear;
+use crate::flags::{are_clear, may_insert};
 use crate::pending::PendingList;
 use crate::refusals::{InsertStatus, ListNew, UnknownFile};
 use crate::size::is_list_size;
@@ -90,21 +90,8 @@ impl<A: Allocator> PendingList for VecList<A> {
     }
 
     fn insert_ex(&mut self, irp: IrpId, file: FileId, place: Place) -> Result<(), InsertStatus> {
-        if irp.0 as usize >= self.used.len() {
-            return Err(InsertStatus::UnknownIrp);
-        }
-        if file.0 as usize >= self.closed.len() {
-            return Err(InsertStatus::UnknownFile);
-        }
-        if self.used[irp.0 as usize] {
-            return Err(InsertStatus::NotHome);
-        }
-        if self.closed[file.0 as usize] {
-            return Err(InsertStatus::FileClosed);
-        }
-        if self.entries.len() == self.limit as usize {
-            return Err(InsertStatus::Full);
-        }
+        let full = self.entries.len() == self.limit as usize;
+        may_insert(&self.used, &self.closed, full, irp, file)?;
         self.used[irp.0 as usize] = true;
         put(&mut self.entries, Entry { irp, file }, place);
         Ok(())
