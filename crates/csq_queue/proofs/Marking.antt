@@ -8,7 +8,7 @@ use Rattle.csq_list.specs.declared.entry.Peek.{Peek}
 use Rattle.csq_list.specs.Searches.{matches}
 use Rattle.csq_words.specs.declared.views.Event.TheVariants.{Mark}
 use Rattle.csq_words.specs.declared.views.Entry.{Entry}
-use Rattle.csq_words.specs.Queue.{Queued, Limits, has_entry, has_marked, has_unmarked, marking, first_match}
+use Rattle.csq_words.specs.Queue.{Queued, Limits, has_entry, has_marked, has_unmarked, marking, first_unmarked}
 use Rattle.csq_words.specs.History.{end_of, IsLegal}
 use Rattle.csq_words.specs.Records.{entries_of}
 use Rattle.csq_words.specs.Calls.{due_mark}
@@ -78,24 +78,24 @@ unlisted_unmarked i (e ∷ es) h = pick (same_irp e.irp i) e.marked (has_entry e
     pick false m r f rest p = rest p
 
 -- no match in either part
-pub none_both : (k : Peek) (xs ys : List Queued) → first_match k xs ≡ None → first_match k ys ≡ None → first_match k (xs ++ ys) ≡ None
+pub none_both : (k : Peek) (xs ys : List Queued) → first_unmarked k xs ≡ None → first_unmarked k ys ≡ None → first_unmarked k (xs ++ ys) ≡ None
 none_both k [] ys h g = g
 none_both k (e ∷ xs) ys h g = at (none_both k xs ys) (not e.marked && matches k e.file) refl
   where
-    at : (first_match k xs ≡ None → first_match k ys ≡ None → first_match k (xs ++ ys) ≡ None) → (b : Bool) → (not e.marked && matches k e.file) ≡ b → first_match k (e ∷ xs ++ ys) ≡ None
+    at : (first_unmarked k xs ≡ None → first_unmarked k ys ≡ None → first_unmarked k (xs ++ ys) ≡ None) → (b : Bool) → (not e.marked && matches k e.file) ≡ b → first_unmarked k (e ∷ xs ++ ys) ≡ None
     at rest true t = let s : Some e.irp ≡ None = sym (rw t refl) ∙ h in absurd (cc)
     at rest false t = rw t (rest (rw t at h) g)
 
 -- the first entry is no match, nor is any later one
-pub none_head : (k : Peek) (e : Queued) (xs : List Queued) → first_match k (e ∷ xs) ≡ None → ((not e.marked && matches k e.file) ≡ false) × (first_match k xs ≡ None)
+pub none_head : (k : Peek) (e : Queued) (xs : List Queued) → first_unmarked k (e ∷ xs) ≡ None → ((not e.marked && matches k e.file) ≡ false) × (first_unmarked k xs ≡ None)
 none_head k e xs h = at (not e.marked && matches k e.file) refl
   where
-    at : (b : Bool) → (not e.marked && matches k e.file) ≡ b → ((not e.marked && matches k e.file) ≡ false) × (first_match k xs ≡ None)
+    at : (b : Bool) → (not e.marked && matches k e.file) ≡ b → ((not e.marked && matches k e.file) ≡ false) × (first_unmarked k xs ≡ None)
     at true t = let s : Some e.irp ≡ None = sym (rw t refl) ∙ h in absurd (cc)
     at false t = (t, rw t at h)
 
 -- a mark makes no match
-pub none_marking : (k : Peek) (i : Irp) (xs : List Queued) → first_match k xs ≡ None → first_match k (marking i xs) ≡ None
+pub none_marking : (k : Peek) (i : Irp) (xs : List Queued) → first_unmarked k xs ≡ None → first_unmarked k (marking i xs) ≡ None
 none_marking k i [] h = refl
 none_marking k i (e ∷ xs) h =
     let head = none_head k e xs h in
@@ -106,7 +106,7 @@ none_marking k i (e ∷ xs) h =
     still false m f h = h
 
 -- a marked entry is no match
-pub none_marked : (k : Peek) (i : Irp) (e : Queued) → e.irp ≡ i → first_match k (marking i (e ∷ [])) ≡ None
+pub none_marked : (k : Peek) (i : Irp) (e : Queued) → e.irp ≡ i → first_unmarked k (marking i (e ∷ [])) ≡ None
 none_marked k i e is = rw (is, same_irp-refl i) refl
 
 pub marking-append : (i : Irp) (xs ys : List Queued) → marking i (xs ++ ys) ≡ marking i xs ++ marking i ys

@@ -10,7 +10,7 @@ use Rattle.csq_list.proofs.Finding.{IsFound, found, found-rest, found-listed}
 use Rattle.csq_words.specs.declared.views.Event.{Event}
 use Rattle.csq_words.specs.declared.views.Event.TheVariants.{Mark, RemoveNext}
 use Rattle.csq_words.specs.Own.{inside_of}
-use Rattle.csq_words.specs.Queue.{Queued, QueueState, Limits, has_entry, has_marked, has_unmarked, marking, first_match}
+use Rattle.csq_words.specs.Queue.{Queued, QueueState, Limits, has_entry, has_marked, has_unmarked, marking, first_unmarked}
 use Rattle.csq_words.specs.History.{end_of}
 use Rattle.csq_words.specs.Records.{entries_of}
 use Rattle.csq_words.specs.Rule.{IsTold}
@@ -54,8 +54,8 @@ due_marked false i ms = refl
 
 module _ (l : Limits) (old : QueueSeatState) (k : Peek) (after : Option Irp) (s : Listing) (seat : QueueSeatState) (x : IsSearch l old k after s seat) where
   -- the list in which no match is left
-  pub none_left : None ≡ list.first_match k (rest_after after s.entries) → first_match k (end_of seat.queue.history).entries ≡ None
-  none_left peeked = ap (first_match k) x.parts ∙ none_both k x.before x.rest x.passed (none_plain k x.rest (ap (list.first_match k) (sym x.rest_is) ∙ sym peeked))
+  pub none_left : None ≡ list.first_match k (rest_after after s.entries) → first_unmarked k (end_of seat.queue.history).entries ≡ None
+  none_left peeked = ap (first_unmarked k) x.parts ∙ none_both k x.before x.rest x.passed (none_plain k x.rest (ap (list.first_match k) (sym x.rest_is) ∙ sym peeked))
 
   -- the removal ends
   pub search_end : None ≡ list.first_match k (rest_after after s.entries) → let new = RemoveNext k None ∷ [] in IsTold (with_made End 0 new seat).queue (joined_record (with_made End 0 new seat))
@@ -81,7 +81,7 @@ module _ (l : Limits) (old : QueueSeatState) (k : Peek) (after : Option Irp) (s 
     matching : matches k c.middle.file ≡ true
     matching = ap (λ e. matches k e.file) c.middle_is ∙ f.matching
 
-    passed : first_match k (x.before ++ c.first) ≡ None
+    passed : first_unmarked k (x.before ++ c.first) ≡ None
     passed = none_both k x.before c.first x.passed (none_plain k c.first (ap (list.first_match k) c.first_is ∙ f.none_before))
 
     -- what was peeked is the next match
@@ -127,7 +127,7 @@ module _ (l : Limits) (old : QueueSeatState) (k : Peek) (after : Option Irp) (s 
         let h = seat.queue.history in
         let entries = (end_of h).entries in
         let clear = bare (x.before ++ c.first) c.middle c.last i irp_is (ap (λ (es : List Queued). has_marked es i) (sym parts) ∙ unmarked) in
-        let first : first_match k entries ≡ Some i = ap (first_match k) parts ∙ (first_of k (x.before ++ c.first) c.middle c.last passed matching clear ∙ ap (λ (j : Irp). Some j) irp_is) in
+        let first : first_unmarked k entries ≡ Some i = ap (first_unmarked k) parts ∙ (first_of k (x.before ++ c.first) c.middle c.last passed matching clear ∙ ap (λ (j : Irp). Some j) irp_is) in
         let taken : IsListOf l (removed i s) (end_of (entries_of (joined_record seat).pass (RemoveNext k (Some i) ∷ []) ++ h)) = record { listing_is = ap (removed i) x.adds.list_is.listing_is ∙ listing-removed l (end_of h) i; flags_used = x.adds.list_is.flags_used } in (
           (x.marks, adds_more l old (marked x.marks) (RemoveNext k (Some i) ∷ []) s (removed i s) seat (Disarm i) 1 x.adds (sym first, x.adds.legal) taken told),
           gives_got l (joined_record old) (joined_record seat) x.gives (RemoveNext k (Some i) ∷ []) i x.removes next_known (disarm_new _ _ i _ _ told refl).1 (disarm_new _ _ i _ _ told refl).2,

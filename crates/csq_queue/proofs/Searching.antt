@@ -21,7 +21,7 @@ use Rattle.csq_words.specs.declared.views.Entry.{Entry}
 use Rattle.csq_words.specs.declared.views.PassRecord.{PassRecord}
 use Rattle.csq_words.specs.declared.views.QueueRecord.{QueueRecord}
 use Rattle.csq_words.specs.Own.{inside_of, holds_in, removed_in}
-use Rattle.csq_words.specs.Queue.{Queued, Limits, has_entry, has_marked, first_match, plain}
+use Rattle.csq_words.specs.Queue.{Queued, Limits, has_entry, has_marked, first_unmarked, plain}
 use Rattle.csq_words.specs.History.{end_of, IsLegal, is_call}
 use Rattle.csq_words.specs.Records.{entries_of, only_calls, with_events, with_calls, with_step}
 use Rattle.csq_words.specs.Rule.{IsTold, is_done}
@@ -151,7 +151,7 @@ cut (e ∷ es) (b ∷ before) entry later h =
     record { first = e ∷ c.first; middle = c.middle; last = c.last; parts = ap (λ xs. e ∷ xs) c.parts; first_is = λ k. head k ∷ c.first_is k; middle_is = c.middle_is; last_is = c.last_is }
 
 -- what doesn't match without its mark doesn't with it
-pub none_plain : (k : Peek) (es : List Queued) → list.first_match k (map plain es) ≡ None → first_match k es ≡ None
+pub none_plain : (k : Peek) (es : List Queued) → list.first_match k (map plain es) ≡ None → first_unmarked k es ≡ None
 none_plain k [] h = refl
 none_plain k (e ∷ es) h = at (none_plain k es) (matches k e.file) refl
   where
@@ -159,12 +159,12 @@ none_plain k (e ∷ es) h = at (none_plain k es) (matches k e.file) refl
     off true f h = refl
     off false f h = h
 
-    at : (list.first_match k (map plain es) ≡ None → first_match k es ≡ None) → (b : Bool) → matches k e.file ≡ b → first_match k (e ∷ es) ≡ None
+    at : (list.first_match k (map plain es) ≡ None → first_unmarked k es ≡ None) → (b : Bool) → matches k e.file ≡ b → first_unmarked k (e ∷ es) ≡ None
     at rest true t = let s : Some e.irp ≡ None = sym (rw t refl) ∙ h in absurd (cc)
     at rest false t = rw (off e.marked (matches k e.file) t) (rest (rw t at h))
 
 -- the first of the rest that matches, where it is unmarked and nothing before it matches
-pub first_of : (k : Peek) (before : List Queued) (e : Queued) (later : List Queued) → first_match k before ≡ None → matches k e.file ≡ true → e.marked ≡ false → first_match k (before ++ e ∷ later) ≡ Some e.irp
+pub first_of : (k : Peek) (before : List Queued) (e : Queued) (later : List Queued) → first_unmarked k before ≡ None → matches k e.file ≡ true → e.marked ≡ false → first_unmarked k (before ++ e ∷ later) ≡ Some e.irp
 first_of k [] e later h m u = rw (u, m) refl
 first_of k (b ∷ before) e later h m u = let head = none_head k b before h in rw head.0 (first_of k before e later head.1 m u)
 

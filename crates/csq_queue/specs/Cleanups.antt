@@ -13,7 +13,7 @@ use Rattle.csq_words.specs.declared.views.Entry.{Entry}
 use Rattle.csq_words.specs.declared.views.Completion.{Completion}
 use Rattle.csq_words.specs.declared.views.PassRecord.{PassRecord}
 use Rattle.csq_words.specs.Own.{owes_in, holds_in, removed_in}
-use Rattle.csq_words.specs.Queue.{Limits, first_match, has_file}
+use Rattle.csq_words.specs.Queue.{Limits, first_unmarked, has_file}
 use Rattle.csq_words.specs.History.{IsLegal, Begins, calls_of, end_of}
 use Rattle.csq_words.specs.Records.{entries_of, with_step, with_completion}
 use Rattle.csq_queue.specs.Told.{HasTrueMarks}
@@ -54,4 +54,4 @@ pub record CompletesAll (taken : List Irp) (old new : PassRecord) : Type 0 where
 -- the file is closed, and no unmarked entry of it is listed, now or at the end of any legal history that begins so
 pub record NothingIsLeft (limits : Limits) (f : FileId) (history : List Entry) : Type 0 where
   pub closed : has_file (end_of history).closed f ≡ true
-  pub none_left : (newer : List Entry) → IsLegal limits (newer ++ history) → first_match (File f) (end_of (newer ++ history)).entries ≡ None
+  pub none_left : (newer : List Entry) → IsLegal limits (newer ++ history) → first_unmarked (File f) (end_of (newer ++ history)).entries ≡ None

@@ -9,7 +9,7 @@ use Rattle.csq_list.specs.Searches.{rest_after, IsPlaceIn}
 use Rattle.csq_words.specs.declared.views.Event.{Event}
 use Rattle.csq_words.specs.declared.views.Event.TheVariants.{Mark}
 use Rattle.csq_words.specs.Own.{inside_of}
-use Rattle.csq_words.specs.Queue.{Queued, Limits, plain, first_match}
+use Rattle.csq_words.specs.Queue.{Queued, Limits, plain, first_unmarked}
 use Rattle.csq_words.specs.History.{end_of}
 use Rattle.csq_words.specs.Seats.{QueueSeatState, joined_record}
 use Rattle.csq_queue.specs.Told.{GivesOut}
@@ -29,6 +29,6 @@ pub record IsSearch (limits : Limits) (old : QueueSeatState) (peek : Peek) (afte
   pub before : List Queued
   pub rest : List Queued
   pub parts : (end_of seat.queue.history).entries ≡ before ++ rest
-  pub passed : first_match peek before ≡ None
+  pub passed : first_unmarked peek before ≡ None
   pub rest_is : rest_after after listing.entries ≡ map plain rest
   pub place : IsPlaceIn listing.entries after

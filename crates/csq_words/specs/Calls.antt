@@ -24,7 +24,7 @@ use Rattle.csq_words.specs.declared.views.Entry.{Entry}
 use Rattle.csq_words.specs.declared.views.PassRecord.{PassRecord}
 use Rattle.csq_words.specs.declared.views.QueueRecord.{QueueRecord}
 use Rattle.csq_words.specs.declared.views.View.{View}
-use Rattle.csq_words.specs.Queue.{Queued, has_entry, has_unmarked, has_irp, first_match}
+use Rattle.csq_words.specs.Queue.{Queued, has_entry, has_unmarked, has_irp, first_unmarked}
 use Rattle.csq_words.specs.History.{end_of}
 use Rattle.csq_words.specs.Records.{view_of, with_step, with_events, with_calls, with_back}
 
@@ -60,7 +60,7 @@ pub record IsNextMatch (k : Peek) (es : List Queued) (i : Irp) : Type 0 where
   pub parts : es ≡ before ++ entry ∷ after
   pub irp_is : entry.irp ≡ i
   pub matching : matches k entry.file ≡ true
-  pub marked_before : first_match k before ≡ None
+  pub marked_before : first_unmarked k before ≡ None
 
 -- a removal may go on, or begin
 abbrev pub MayRemove : PassRecord → Type 0
@@ -72,7 +72,7 @@ MayMake (Insert i f place) (Arm j) q r = (j ≡ i) × (inside_of r.steps ≡ Not
 MayMake (Insert i f place) (Test j) q r = (j ≡ i) × (inside_of r.steps ≡ Armed i)
 MayMake (Insert i f place) (Disarm j) q r = (j ≡ i) × (inside_of r.steps ≡ inner.FlagSeen i)
 MayMake (RemoveNext k) (Disarm j) q r = MayRemove r × IsNextMatch k (end_of q.history).entries j
-MayMake (RemoveNext k) End q r = MayRemove r × (first_match k (end_of q.history).entries ≡ None)
+MayMake (RemoveNext k) End q r = MayRemove r × (first_unmarked k (end_of q.history).entries ≡ None)
 MayMake (Remove i) (Disarm j) q r = (j ≡ i) × MayRemove r × (has_entry (end_of q.history).entries i ≡ true)
 MayMake (Remove i) End q r = MayRemove r × (has_unmarked (end_of q.history).entries i ≡ false)
 MayMake (CancelRoutine i) (step.Out j) q r = (j ≡ i) × (inside_of r.steps ≡ Nothing) × (owes_in r.steps i ≡ true)

@@ -5,14 +5,14 @@ use Rattle.irp_core.specs.declared.ids.PassId.{PassId}
 use Rattle.csq_words.specs.declared.views.Event.{Event}
 use Rattle.csq_words.specs.declared.views.Event.TheVariants.{FlagSeen, Mark, Insert, RemoveNext, Remove, Out, CloseFile}
 use Rattle.csq_words.specs.declared.views.Entry.{Entry}
-use Rattle.csq_words.specs.Queue.{QueueState, Limits, empty_queue, has_irp, has_marked, has_unmarked, first_match, refusal, reply_to_insert, after_event}
+use Rattle.csq_words.specs.Queue.{QueueState, Limits, empty_queue, has_irp, has_marked, has_unmarked, first_unmarked, refusal, reply_to_insert, after_event}
 
 -- the event may come here, with this reply
 abbrev pub MayCome : Limits → QueueState → Event → Type 0
 MayCome l q (FlagSeen i) = Unit {0}
 MayCome l q (Mark i) = has_unmarked q.entries i ≡ true
 MayCome l q (Insert i f place reply) = reply ≡ reply_to_insert (refusal l q i f) (has_irp q.flags i)
-MayCome l q (RemoveNext k reply) = reply ≡ first_match k q.entries
+MayCome l q (RemoveNext k reply) = reply ≡ first_unmarked k q.entries
 MayCome l q (Remove i reply) = reply ≡ has_unmarked q.entries i
 MayCome l q (Out i) = has_marked q.entries i ≡ true
 MayCome l q (CloseFile f) = f.0 < l.files

@@ -76,8 +76,8 @@ abbrev pub without : Irp → List Queued → List Queued
 without i es = filter (λ (e : Queued). not (same_irp e.irp i)) es
 
 -- the first entry that matches and isn't marked
-abbrev pub first_match : Peek → List Queued → Option Irp
-first_match k es = option_map (λ (e : Queued). e.irp) (find (λ (e : Queued). not e.marked && matches k e.file) es)
+abbrev pub first_unmarked : Peek → List Queued → Option Irp
+first_unmarked k es = option_map (λ (e : Queued). e.irp) (find (λ (e : Queued). not e.marked && matches k e.file) es)
 
 -- the list that the queue keeps, without the marks
 abbrev pub listing_of : Limits → QueueState → Listing

@@ -27,7 +27,7 @@ use Rattle.csq_words.specs.declared.views.InsertReply.TheVariants as insert
 use Rattle.csq_words.specs.declared.views.Event.TheVariants as event
 use Rattle.csq_list.specs.Searches.{matches}
 use Rattle.csq_words.specs.declared.views.Completion.{Completion}
-use Rattle.csq_words.specs.Queue.{Queued, Limits, listing_of, refusal, reply_to_insert, first_match, has_irp, has_entry, has_unmarked, has_marked, marking, without, new_entry}
+use Rattle.csq_words.specs.Queue.{Queued, Limits, listing_of, refusal, reply_to_insert, first_unmarked, has_irp, has_entry, has_unmarked, has_marked, marking, without, new_entry}
 use Rattle.csq_words.proofs.Entries.{has_entry-marking, has_entry-placed, has_entry-without}
 use Rattle.csq_words.proofs.Laws.{bit_false}
 use Rattle.csqsim.specs.declared.call.Call.{Call}
@@ -138,12 +138,12 @@ mark_off true m is e = absurd (cc (is, e))
 mark_off false m is e = refl
 
 -- what a removal leaves is marked, and what was held is held
-marks_removal : (k : Peek) (all es : List Queued) (E : List Made) → AreMarked E all → AreMarked E es → AreMarked (after_steps (removal_steps k es) E) (left_after (first_match k es) all)
+marks_removal : (k : Peek) (all es : List Queued) (E : List Made) → AreMarked E all → AreMarked E es → AreMarked (after_steps (removal_steps k es) E) (left_after (first_unmarked k es) all)
 marks_removal k all [] E ha h = marks_stay E (next_step E End) all (λ j there. refl) ha
 marks_removal k all (e ∷ es) E ha h = go (marks_removal k all es) (matches k e.file) refl e.marked refl
   where
-    go : ((F : List Made) → AreMarked F all → AreMarked F es → AreMarked (after_steps (removal_steps k es) F) (left_after (first_match k es) all)) → (b : Bool) → matches k e.file ≡ b → (m : Bool) → e.marked ≡ m
-        → AreMarked (after_steps (removal_steps k (e ∷ es)) E) (left_after (first_match k (e ∷ es)) all)
+    go : ((F : List Made) → AreMarked F all → AreMarked F es → AreMarked (after_steps (removal_steps k es) F) (left_after (first_unmarked k es) all)) → (b : Bool) → matches k e.file ≡ b → (m : Bool) → e.marked ≡ m
+        → AreMarked (after_steps (removal_steps k (e ∷ es)) E) (left_after (first_unmarked k (e ∷ es)) all)
     go rest false other m marked = rw other (rw (and-false (not e.marked)) (rest E ha h.1))
     go rest true match true marked =
         let gone : armed E e.irp ≡ false = mark_off (armed E e.irp) e.marked h.0 marked in
@@ -281,14 +281,14 @@ module _ (s : Script) (a : Accounts s) (i : Irp) where
       (rw (same_irp-refl, same_pass-refl) refl)
 
 module _ (s : Script) (a : Accounts s) (k : Peek) where
-  next_one : (i : Irp) → Some i ≡ first_match k s.queue.entries → Accounts (doing (removal_steps k s.queue.entries) (event.RemoveNext k (Some i)) s)
+  next_one : (i : Irp) → Some i ≡ first_unmarked k s.queue.entries → Accounts (doing (removal_steps k s.queue.entries) (event.RemoveNext k (Some i)) s)
   next_one i may =
       let F : List Made = after_steps (removal_steps k s.queue.entries) s.run in
       let P : Option Irp → Type 0 = λ o. AreMarked (after_steps (removal_steps k s.queue.entries) s.run) (left_after o s.queue.entries) in
       leaves_accounts s a (after_steps (removal_steps k s.queue.entries) s.run) s.queue.closed s.queue.flags (holds_removal k s.queue.entries s.run) i
       (subst P (sym may) (marks_removal k s.queue.entries s.queue.entries s.run a.marks a.marks)) (removal_holds k i s.queue.entries s.run a.marks (sym may))
 
-  next_none : None ≡ first_match k s.queue.entries → Accounts (doing (removal_steps k s.queue.entries) (event.RemoveNext k None) s)
+  next_none : None ≡ first_unmarked k s.queue.entries → Accounts (doing (removal_steps k s.queue.entries) (event.RemoveNext k None) s)
   next_none may =
       let P : Option Irp → Type 0 = λ o. AreMarked (after_steps (removal_steps k s.queue.entries) s.run) (left_after o s.queue.entries) in
       stays_accounts s a (after_steps (removal_steps k s.queue.entries) s.run) s.queue.closed s.queue.flags (holds_removal k s.queue.entries s.run) s.queue.entries (λ j. refl)

@@ -18,7 +18,7 @@ use Rattle.csq_list.specs.Searches.{matches, is_distinct}
 use Rattle.csq_list.specs.Listing.{Listing, IsSound}
 use Rattle.csq_list.proofs.Keeping.{filter-none}
 use Rattle.csq_words.specs.declared.views.Event.TheVariants as event
-use Rattle.csq_words.specs.Queue.{Queued, QueueState, Limits, first_match, has_entry, without, after_event, plain}
+use Rattle.csq_words.specs.Queue.{Queued, QueueState, Limits, first_unmarked, has_entry, without, after_event, plain}
 use Rattle.csq_words.proofs.Listings.{is_listed-plain}
 use Rattle.csqsim.specs.declared.call.Call.TheVariants.{Next, Mark, Routine, Cancel, Complete, Close, Cleanup}
 use Rattle.csqsim.specs.declared.call.Reply.{Reply}
@@ -54,14 +54,14 @@ cleanup_refused l s t f r (knows_no_irp c j names le) other = absurd (cc names)
 cleanup_refused l s t f r (knows_no_file c g names le) other = calls (Cleanup f) r t (knows_no_file (Cleanup f) g names le)
 
 -- what a removal disarms last, it holds
-pub removal_holds : (k : Peek) (i : Irp) (es : List Queued) (E : List Made) → AreMarked E es → first_match k es ≡ Some i → holds (after_steps (removal_steps k es) E) script_pass i ≡ true
+pub removal_holds : (k : Peek) (i : Irp) (es : List Queued) (E : List Made) → AreMarked E es → first_unmarked k es ≡ Some i → holds (after_steps (removal_steps k es) E) script_pass i ≡ true
 removal_holds k i [] E h f = absurd cc
 removal_holds k i (e ∷ es) E h f = go (removal_holds k i es) (matches k e.file) refl e.marked refl
   where
-    past : (a m : Bool) → (a ≡ false) → first_match k (e ∷ es) ≡ Some i → (not e.marked && matches k e.file) ≡ false → first_match k es ≡ Some i
+    past : (a m : Bool) → (a ≡ false) → first_unmarked k (e ∷ es) ≡ Some i → (not e.marked && matches k e.file) ≡ false → first_unmarked k es ≡ Some i
     past a m x found none = rw none at found
 
-    go : ((F : List Made) → AreMarked F es → first_match k es ≡ Some i → holds (after_steps (removal_steps k es) F) script_pass i ≡ true) → (b : Bool) → matches k e.file ≡ b → (m : Bool) → e.marked ≡ m
+    go : ((F : List Made) → AreMarked F es → first_unmarked k es ≡ Some i → holds (after_steps (removal_steps k es) F) script_pass i ≡ true) → (b : Bool) → matches k e.file ≡ b → (m : Bool) → e.marked ≡ m
         → holds (after_steps (removal_steps k (e ∷ es)) E) script_pass i ≡ true
     go rest false other m marked = rw other (rest E h.1 (past false m refl f (rw other (and-false (not e.marked)))))
     go rest true match true marked =
@@ -75,11 +75,11 @@ removal_holds k i (e ∷ es) E h f = go (removal_holds k i es) (matches k e.file
         rw (match, marked) (rw here (rw (same, same_irp-refl, same_pass-refl) refl))
 
 -- the IRP of a match is listed
-pub first_listed : (k : Peek) (i : Irp) (es : List Queued) → first_match k es ≡ Some i → has_entry es i ≡ true
+pub first_listed : (k : Peek) (i : Irp) (es : List Queued) → first_unmarked k es ≡ Some i → has_entry es i ≡ true
 first_listed k i [] f = absurd cc
 first_listed k i (e ∷ es) f = go (not e.marked && matches k e.file) refl (first_listed k i es)
   where
-    go : (b : Bool) → (not e.marked && matches k e.file) ≡ b → (first_match k es ≡ Some i → has_entry es i ≡ true) → (same_irp e.irp i || has_entry es i) ≡ true
+    go : (b : Bool) → (not e.marked && matches k e.file) ≡ b → (first_unmarked k es ≡ Some i → has_entry es i ≡ true) → (same_irp e.irp i || has_entry es i) ≡ true
     go true match rest =
         let found : Some e.irp ≡ Some i = rw match at f in
         let same : e.irp ≡ i = cc in
@@ -100,7 +100,7 @@ length_without i (e ∷ es) d h = go (same_irp e.irp i) refl h (length_without i
 
 -- what a removal of the next match tells
 pub next_removed : (l : Limits) (s t : Script) (k : Peek) (i : Irp) (r : Reply) → r ≡ Removed i → Calls l s (Next k) r t
-    → (first_match k s.queue.entries ≡ Some i) × (t.run ≡ after_steps (removal_steps k s.queue.entries) s.run) × (t.queue ≡ after_event s.queue (event.RemoveNext k (Some i)))
+    → (first_unmarked k s.queue.entries ≡ Some i) × (t.run ≡ after_steps (removal_steps k s.queue.entries) s.run) × (t.queue ≡ after_event s.queue (event.RemoveNext k (Some i)))
 next_removed l s t k i r is (removes_next k' (Some j) may) =
     let same : j ≡ i = cc is in (sym may ∙ ap (λ x. Some x) same, refl, ap (λ x. after_event s.queue (event.RemoveNext k (Some x))) same)
 next_removed l s t k i r is (removes_next k' None may) = absurd (cc is)
@@ -144,7 +144,7 @@ entries_length l kept s k = ap (λ (x : Listing). length x.entries) k.listing �
 
 module _ (l : Limits) (f : FileId) (s : Script) (kept : Keeping) (h : CleansSoFar l f s kept) (sound : IsSound kept.listing) where
   module _ (i : Irp) (t : Script) (next : Calls l h.now (Next (File f)) (Removed i) t) where
-    facts : (first_match (File f) h.now.queue.entries ≡ Some i) × (t.run ≡ after_steps (removal_steps (File f) h.now.queue.entries) h.now.run) × (t.queue ≡ after_event h.now.queue (event.RemoveNext (File f) (Some i)))
+    facts : (first_unmarked (File f) h.now.queue.entries ≡ Some i) × (t.run ≡ after_steps (removal_steps (File f) h.now.queue.entries) h.now.run) × (t.queue ≡ after_event h.now.queue (event.RemoveNext (File f) (Some i)))
     facts = next_removed l h.now t (File f) i (Removed i) refl next
 
     there : has_entry h.now.queue.entries i ≡ true

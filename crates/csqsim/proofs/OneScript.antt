@@ -14,7 +14,7 @@ use Rattle.csq_list.specs.declared.entry.Peek.TheVariants.{File}
 use Rattle.csq_words.specs.declared.views.InsertReply.{InsertReply}
 use Rattle.csq_words.specs.declared.views.InsertReply.TheVariants as insert
 use Rattle.csq_words.specs.declared.views.Event.TheVariants as event
-use Rattle.csq_words.specs.Queue.{Limits, has_irp, has_unmarked, first_match, refusal, reply_to_insert}
+use Rattle.csq_words.specs.Queue.{Limits, has_irp, has_unmarked, first_unmarked, refusal, reply_to_insert}
 use Rattle.csqsim.specs.declared.answer.Ended.{Ended}
 use Rattle.csqsim.specs.declared.call.Call.{Call}
 use Rattle.csqsim.specs.declared.call.Call.TheVariants.{Insert, Next, Remove, Mark, Routine, Cancel, Complete, Close, Cleanup, Flag, Status}
@@ -70,7 +70,7 @@ of_known l s i outcome = cond (ltb (number i) l.irps) outcome (Refused UnknownIr
 -- what a call that isn't made of others comes to
 abbrev outcome : Limits → Script → Call → Outcome
 outcome l s (Insert i f place) = inserted i f place s (reply_to_insert (refusal l s.queue i f) (has_irp s.queue.flags i))
-outcome l s (Next k) = removed_next k s (first_match k s.queue.entries)
+outcome l s (Next k) = removed_next k s (first_unmarked k s.queue.entries)
 outcome l s (Remove i) = of_known l s i (removed i s (has_unmarked s.queue.entries i))
 outcome l s (Mark i) = of_known l s i (marked i s (found_by s.run (step.Take i)))
 outcome l s (Routine i) = of_known l s i (routine_run i s (owes s.run script_pass i))

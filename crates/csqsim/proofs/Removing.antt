@@ -20,7 +20,7 @@ use Rattle.csq_list.specs.Searches as plainly
 use Rattle.csq_list.specs.Listing.{Listing, IsSound, removed}
 use Rattle.csq_list.proofs.Finding.{rest_after-ends, rest_after-among}
 use Rattle.csq_words.specs.declared.views.Event.TheVariants as event
-use Rattle.csq_words.specs.Queue.{Queued, QueueState, Limits, listing_of, first_match, has_entry, has_marked, has_unmarked, after_event, plain}
+use Rattle.csq_words.specs.Queue.{Queued, QueueState, Limits, listing_of, first_unmarked, has_entry, has_marked, has_unmarked, after_event, plain}
 use Rattle.csq_words.proofs.Listings.{is_listed-plain, listing-removed}
 use Rattle.csqsim.specs.declared.call.Call.TheVariants.{Next, Remove}
 use Rattle.csqsim.specs.declared.call.Reply.TheVariants.{Removed, NoIrp}
@@ -38,17 +38,17 @@ pub record Sought (k : Peek) (i : Irp) (es : List Queued) : Type 0 where
   pub parts : es ≡ before ++ entry ∷ later
   pub is : entry.irp ≡ i
   pub steps : removal_steps k es ≡ Disarm entry.irp ∷ cond entry.marked (removal_steps k later) []
-  pub first : first_match k es ≡ cond entry.marked (first_match k later) (Some entry.irp)
+  pub first : first_unmarked k es ≡ cond entry.marked (first_unmarked k later) (Some entry.irp)
 
 -- an entry that doesn't match is passed
-past : (k : Peek) (e : Queued) (es : List Queued) → matches k e.file ≡ false → first_match k (e ∷ es) ≡ first_match k es
+past : (k : Peek) (e : Queued) (es : List Queued) → matches k e.file ≡ false → first_unmarked k (e ∷ es) ≡ first_unmarked k es
 past k e es m = rw m (rw (and-false (not e.marked)) refl)
 
 pub sought : (k : Peek) (i : Irp) (es : List Queued) → plainly.first_match k (map plain es) ≡ Some i → Sought k i es
 sought k i [] h = absurd cc
 sought k i (e ∷ es) h = go (matches k e.file) refl (sought k i es)
   where
-    here : matches k e.file ≡ true → (b : Bool) → e.marked ≡ b → first_match k (e ∷ es) ≡ cond e.marked (first_match k es) (Some e.irp)
+    here : matches k e.file ≡ true → (b : Bool) → e.marked ≡ b → first_unmarked k (e ∷ es) ≡ cond e.marked (first_unmarked k es) (Some e.irp)
     here m true is = rw (m, is) refl
     here m false is = rw (m, is) refl
 
@@ -61,12 +61,12 @@ sought k i (e ∷ es) h = go (matches k e.file) refl (sought k i es)
         record { before = e ∷ f.before; entry = f.entry; later = f.later; parts = ap (λ l. e ∷ l) f.parts; is = f.is; steps = rw m f.steps; first = past k e es m ∙ f.first }
 
 -- where no entry matches, a removal ends
-pub none_sought : (k : Peek) (es : List Queued) → plainly.first_match k (map plain es) ≡ None → (removal_steps k es ≡ End ∷ []) × (first_match k es ≡ None)
+pub none_sought : (k : Peek) (es : List Queued) → plainly.first_match k (map plain es) ≡ None → (removal_steps k es ≡ End ∷ []) × (first_unmarked k es ≡ None)
 none_sought k [] h = (refl, refl)
 none_sought k (e ∷ es) h = go (matches k e.file) refl (none_sought k es)
   where
-    go : (b : Bool) → matches k e.file ≡ b → (plainly.first_match k (map plain es) ≡ None → (removal_steps k es ≡ End ∷ []) × (first_match k es ≡ None))
-        → (removal_steps k (e ∷ es) ≡ End ∷ []) × (first_match k (e ∷ es) ≡ None)
+    go : (b : Bool) → matches k e.file ≡ b → (plainly.first_match k (map plain es) ≡ None → (removal_steps k es ≡ End ∷ []) × (first_unmarked k es ≡ None))
+        → (removal_steps k (e ∷ es) ≡ End ∷ []) × (first_unmarked k (e ∷ es) ≡ None)
     go true m rest = let none : Some e.irp ≡ None = rw m at h in absurd cc
     go false m rest = let f = rest (rw m at h) in (rw m f.0, past k e es m ∙ f.1)
 
@@ -112,7 +112,7 @@ pub record Seeks (k : Peek) (s : Script) (listing : Listing) (machine : MachineS
   pub parts : s.queue.entries ≡ before ++ rest
   pub plainly : map plain rest ≡ rest_after after listing.entries
   pub steps : after_steps (removal_steps k rest) run ≡ after_steps (removal_steps k s.queue.entries) s.run
-  pub first : first_match k rest ≡ first_match k s.queue.entries
+  pub first : first_unmarked k rest ≡ first_unmarked k s.queue.entries
   pub owed : (j : Irp) → owes run script_pass j ≡ owes s.run script_pass j
 
 bit_set : (b : Bool) (v : ℕ) → v ≡ bit b → v ≡ 1 → b ≡ true
@@ -206,7 +206,7 @@ module _ (l : Limits) (kept : Keeping) (s : Script) (k : Keeps l kept s) where
             plainly = rest_later after kept.listing.entries here.before here.entry here.later sound.distinct (ap (map plain) (sym here.parts) ∙ h.plainly) ∙ ap (λ j. rest_after (Some j) kept.listing.entries) here.is;
             steps = ap (λ j. after_steps (removal_steps peek here.later) (next_step h.run (Disarm j))) (sym here.is)
                 ∙ sym (ap (λ ks. after_steps ks h.run) (here.steps ∙ ap (λ b. Disarm here.entry.irp ∷ cond b (removal_steps peek here.later) []) marked)) ∙ h.steps;
-            first = sym (here.first ∙ ap (λ b. cond b (first_match peek here.later) (Some here.entry.irp)) marked) ∙ h.first;
+            first = sym (here.first ∙ ap (λ b. cond b (first_unmarked peek here.later) (Some here.entry.irp)) marked) ∙ h.first;
             owed = h.owed;
           }
 
@@ -225,8 +225,8 @@ module _ (l : Limits) (kept : Keeping) (s : Script) (k : Keeps l kept s) where
           let F : ℕ → List Made = λ n. found_then h.run (Disarm i) n in
           let IsQueue : List Made → Type 0 = λ E. IsOfRun E q in
           let KeepsAt : List Made → Type 0 = λ E. Keeps l (record kept { machine = new; listing = listing }) (record s { run = E; queue = q }) in
-          let reply : Some i ≡ first_match peek s.queue.entries =
-          sym (sym h.first ∙ here.first ∙ ap (λ b. cond b (first_match peek here.later) (Some here.entry.irp)) unmarked ∙ ap (λ j. Some j) here.is) in (
+          let reply : Some i ≡ first_unmarked peek s.queue.entries =
+          sym (sym h.first ∙ here.first ∙ ap (λ b. cond b (first_unmarked peek here.later) (Some here.entry.irp)) unmarked ∙ ap (λ j. Some j) here.is) in (
             doing (removal_steps peek s.queue.entries) (event.RemoveNext peek (Some i)) s,
             removes_next peek (Some i) reply,
             subst KeepsAt steps (keeps_run new listing (next_step h.run (Disarm i)) q a same (without_i ∙ ap (removed i) k.listing ∙ listing-removed l s.queue i)
