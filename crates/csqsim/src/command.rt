@@ -25,6 +25,16 @@ pub enum Job {
         limit: Option<u32>,
         chain: bool,
     },
+    /// To run a device of these numbers. The list is in one vector, or in chains.
+    Run {
+        irps: u32,
+        files: u32,
+        submitters: u32,
+        workers: u32,
+        cancellers: u32,
+        turns: u32,
+        chain: bool,
+    },
 }
 
 /// Why a command line asks for nothing that can be done.
@@ -66,7 +76,8 @@ impl From<clap::Error> for CommandFault {
     }
 }
 
-const ABOUT: &str = "Replays the steps and the calls of a cancel-safe IRP queue";
+const ABOUT: &str =
+    "Replays the steps and the calls of a cancel-safe IRP queue, and runs threads over one";
 
 const SCHEDULE_ABOUT: &str = "Replays a schedule from standard input, one step a line";
 
@@ -106,6 +117,17 @@ that are held and owed.
 
 Example:
   printf 'insert 0 0 back\\nmark 0\\nroutine 0\\n' | csqsim script";
+
+const RUN_ABOUT: &str = "Runs threads over one queue, and tells how many IRPs are accounted for";
+
+const RUN_HELP: &str = "\
+Submitters insert the IRPs, workers remove and complete them, cancellers cancel them, and one thread
+cleans the last file object up. Each has so many turns. In the end it is told how many IRPs there are,
+how many of them are home, listed or completed by some thread, and how many are both cancelled and
+listed.
+
+Example:
+  csqsim run --irps 8 --turns 8";
 
 /// An option that takes a number from 1 to a limit.
 fn number_option<'a>(alloc: Global, name: &'a str, help: &'a str, most: i64) -> Arg<'a> {
@@ -151,6 +173,30 @@ fn script_command<'a>(alloc: Global) -> Result<Command<'a>, AllocError> {
         .arg(chain)
 }
 
+/// The command line of a run.
+fn run_command<'a>(alloc: Global) -> Result<Command<'a>, AllocError> {
+    let irps = number_option(alloc, "irps", "IRPs, 1 to 1,024", 1024);
+    let files = number_option(alloc, "files", "File objects, 1 to 256", 256);
+    let submitters = number_option(alloc, "submitters", "Threads that insert, 1 to 20", 20);
+    let workers = number_option(alloc, "workers", "Threads that remove, 1 to 20", 20);
+    let cancellers = number_option(alloc, "cancellers", "Threads that cancel, 1 to 20", 20);
+    let turns = number_option(alloc, "turns", "Turns of each, 1 to 100,000", 100_000);
+    let chain = Arg::new(alloc, "chain")
+        .long("chain")
+        .help("Keeps the list in linked chains")
+        .action(ArgAction::SetTrue);
+    Command::new(alloc, "run")
+        .about(RUN_ABOUT)
+        .after_help(RUN_HELP)
+        .arg(irps.default_value("64"))?
+        .arg(files.default_value("4"))?
+        .arg(submitters.default_value("2"))?
+        .arg(workers.default_value("2"))?
+        .arg(cancellers.default_value("2"))?
+        .arg(turns.default_value("64"))?
+        .arg(chain)
+}
+
 /// The command line that the program takes.
 fn program<'a>(alloc: Global) -> Result<Command<'a>, AllocError> {
     Command::new(alloc, "csqsim")
@@ -158,7 +204,8 @@ fn program<'a>(alloc: Global) -> Result<Command<'a>, AllocError> {
         .subcommand_required(true)
         .arg_required_else_help(true)
         .subcommand(schedule_command(alloc)?)?
-        .subcommand(script_command(alloc)?)
+        .subcommand(script_command(alloc)?)?
+        .subcommand(run_command(alloc)?)
 }
 
 /// The number of an option, or the default where its text is no number from 1 to `most`.
@@ -205,6 +252,20 @@ fn script_job(options: &ArgMatches<'_>) -> Job
     }
 }
 
+fn device_job(options: &ArgMatches<'_>) -> Job
+    ensures { IsInRange result }
+{
+    Job::Run {
+        irps: number_in(options, "irps", 1024, 64),
+        files: number_in(options, "files", 256, 4),
+        submitters: number_in(options, "submitters", 20, 2),
+        workers: number_in(options, "workers", 20, 2),
+        cancellers: number_in(options, "cancellers", 20, 2),
+        turns: number_in(options, "turns", 100_000, 64),
+        chain: options.get_flag("chain"),
+    }
+}
+
 /// Reads a command line, the program's name first.
 ///
 /// Refused: 1 Memory; 2 Refused, with `clap`'s error, which also carries the help that was asked for.
@@ -215,6 +276,7 @@ pub fn read_command<S: AsStr>(alloc: Global, words: &[S]) -> Result<Job, Command
     let matches = program(alloc)?.try_get_matches_from(words)?;
     match matches.subcommand() {
         Some(("script", options)) => Ok(script_job(options)),
+        Some(("run", options)) => Ok(device_job(options)),
         Some((_, options)) => Ok(schedule_job(options)),
         None => {
             let refused = program(alloc)?.error(ErrorKind::MissingSubcommand, "no command")?;

@@ -1,3 +1,4 @@
+mod runs;
 mod scripts;
 
 use crate::answer::{Ended, MAX_INPUT, SimFault};
@@ -309,7 +310,7 @@ fn command_lines_are_read(rt: HostRuntime) -> Result<(), Fail> {
 fn other_command_lines_are_refused(rt: HostRuntime) -> Result<(), Fail> {
     let alloc = rt.alloc();
     let refused = [
-        ("csqsim", "run", "--irps=1", 2),
+        ("csqsim", "walk", "--irps=1", 2),
         ("csqsim", "schedule", "--irps=0", 2),
         ("csqsim", "schedule", "--irps=1025", 2),
         ("csqsim", "schedule", "--passes=0", 2),
