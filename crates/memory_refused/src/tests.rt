@@ -1,13 +1,18 @@
 //! On heaps of growing size: each that is too small is told and keeps no memory, and on the first that is
 //! large enough all memory is taken at once.
 use csq_words::{Words, WordsNew};
-use irp_core::{IrpId, Kind, Machine, MachineNew, PassId, Step};
+use irp_core::{IrpId, IrpLife, Kind, Life, Machine, MachineNew, PassId, Step};
 use linked_list_allocator::LocalHeap;
 use std::test::Fail;
 
 const IRPS: u32 = 64;
 
 const PASSES: u32 = 16;
+
+const LAST: IrpLife = IrpLife {
+    irp: IrpId(IRPS - 1),
+    life: Life(0),
+};
 
 #[test]
 fn a_machine_is_refused_for_want_of_memory(rt: HostRuntime) -> Result<(), Fail> {
@@ -25,7 +30,7 @@ fn a_machine_is_refused_for_want_of_memory(rt: HostRuntime) -> Result<(), Fail> 
                 assert_eq!(rt; heap.free(), 0);
                 let arm = Step {
                     pass: PassId(1),
-                    kind: Kind::Arm(IrpId(IRPS - 1)),
+                    kind: Kind::Arm(LAST),
                 };
                 assert_eq!(rt; machine.step(arm), Ok(0));
                 assert!(rt; !machine.at_rest());
@@ -51,8 +56,8 @@ fn words_are_refused_for_want_of_memory(rt: HostRuntime) -> Result<(), Fail> {
                 assert!(rt; refused, "no heap was too small");
                 let used = heap.used();
                 let mut pass = seats.take().ok_or("a pass")?;
-                assert_eq!(rt; pass.flag(&words, IrpId(IRPS - 1)), 0);
-                assert_eq!(rt; pass.take(&words, IrpId(IRPS - 1)), 0);
+                assert_eq!(rt; pass.flag(&words, LAST), 0);
+                assert_eq!(rt; pass.take(&words, LAST), 0);
                 assert_eq!(rt; heap.used(), used);
                 return Ok(());
             }

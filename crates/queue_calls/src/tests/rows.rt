@@ -6,7 +6,7 @@ use csq_queue::{
     Blank, CloseCause, CloseRefused, Csq, InsertContext, Inserted, NewCause, Pass, PassRack,
     QueueName,
 };
-use irp_core::{FileId, FinalStatus, IrpId, NtStatus};
+use irp_core::{FileId, FinalStatus, IrpId, Life, NtStatus};
 use linked_list_allocator::LocalHeap;
 use std::alloc::{AllocError, Allocator, Global};
 use std::marker::Brand;
@@ -32,7 +32,7 @@ fn small(rt: &HostRuntime) -> Result<Blank<VecList>, Fail> {
 }
 
 // Inserts an IRP that nobody cancels.
-fn insert<L: PendingList + Drop, N: QueueName, A: Allocator, R: Wait + Abort>(
+pub(super) fn insert<L: PendingList + Drop, N: QueueName, A: Allocator, R: Wait + Abort>(
     rt: &R,
     queue: &Csq<L, N, A>,
     pass: &mut Pass<N>,
@@ -77,7 +77,10 @@ fn remove_once<L: PendingList + Drop, N: QueueName, A: Allocator, R: Wait + Abor
             return Err(Fail::from("removed again"));
         }
     }
-    assert_eq!(rt; queue.status(one, ZERO), Ok(Some(NtStatus::SUCCESS)));
+    assert_eq!(rt;
+        queue.status(one, ZERO),
+        Ok((Life(0), Some(NtStatus::SUCCESS)))
+    );
     Ok(())
 }
 
@@ -272,10 +275,10 @@ fn follow_reads<N: QueueName, R: Wait + Abort>(rt: &R, blank: Blank<VecList>) ->
     let (queue, mut rack) = blank.into_queue::<N>();
     let mut one = rack.take().ok_or("a pass")?;
     let mut two = rack.take().ok_or("a pass")?;
-    assert_eq!(rt; queue.is_cancelled(&mut two, ZERO), Ok(false));
-    assert_eq!(rt; queue.status(&mut two, ZERO), Ok(None));
+    assert_eq!(rt; queue.is_cancelled(&mut two, ZERO), Ok((Life(0), false)));
+    assert_eq!(rt; queue.status(&mut two, ZERO), Ok((Life(0), None)));
     insert(rt, &queue, &mut one, ZERO, FileId(0))?;
-    match queue.mark_cancel(&mut one, ZERO) {
+    match queue.mark_cancel(&mut one, ZERO, Life(0)) {
         Ok(Some(claim)) => {
             assert_eq!(rt; claim.irp(), ZERO);
             let token = queue.cancel_routine(rt, &mut one, claim);
@@ -284,8 +287,11 @@ fn follow_reads<N: QueueName, R: Wait + Abort>(rt: &R, blank: Blank<VecList>) ->
         }
         Ok(None) | Err(_) => return Err(Fail::from("no claim")),
     }
-    assert_eq!(rt; queue.is_cancelled(&mut two, ZERO), Ok(true));
-    assert_eq!(rt; queue.status(&mut two, ZERO), Ok(Some(NtStatus::CANCELLED)));
+    assert_eq!(rt; queue.is_cancelled(&mut two, ZERO), Ok((Life(0), true)));
+    assert_eq!(rt;
+        queue.status(&mut two, ZERO),
+        Ok((Life(0), Some(NtStatus::CANCELLED)))
+    );
     assert!(rt; queue.is_cancelled(&mut two, IrpId(4)).is_err());
     assert!(rt; queue.status(&mut two, IrpId(4)).is_err());
     queue.meet(rt, &mut one, &mut two);
@@ -304,10 +310,10 @@ fn cancel_each<N: QueueName, R: Wait + Abort>(rt: &R, blank: Blank<VecList>) -> 
     let (queue, mut rack) = blank.into_queue::<N>();
     let mut one = rack.take().ok_or("a pass")?;
     insert(rt, &queue, &mut one, ZERO, FileId(0))?;
-    assert_eq!(rt; queue.cancel(rt, &mut one, ZERO), Ok(true));
-    assert_eq!(rt; queue.cancel(rt, &mut one, ZERO), Ok(false));
-    assert_eq!(rt; queue.cancel(rt, &mut one, ONE), Ok(false));
-    assert!(rt; queue.cancel(rt, &mut one, IrpId(4)).is_err());
+    assert_eq!(rt; queue.cancel(rt, &mut one, ZERO, Life(0)), Ok(true));
+    assert_eq!(rt; queue.cancel(rt, &mut one, ZERO, Life(0)), Ok(false));
+    assert_eq!(rt; queue.cancel(rt, &mut one, ONE, Life(0)), Ok(false));
+    assert!(rt; queue.cancel(rt, &mut one, IrpId(4), Life(0)).is_err());
     match queue.insert(rt, &mut one, ONE, FileId(0), Place::Front) {
         Ok(Inserted::Cancelled(token)) => queue.complete_cancelled(&mut one, token),
         Ok(Inserted::Pending(_)) => return Err(Fail::from("pending")),

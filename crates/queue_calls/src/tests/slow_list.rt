@@ -74,6 +74,10 @@ impl<'a, L: PendingList + Drop> PendingList for SlowList<'a, L> {
         self.list.remove(irp);
     }
 
+    fn renew(&mut self, irp: IrpId) {
+        self.list.renew(irp);
+    }
+
     fn close_file(&mut self, file: FileId) -> Result<(), UnknownFile> {
         self.signals.inside.store(true, Ordering::SeqCst);
         wait_for(&self.signals.go_on, &self.signals.gave_up);

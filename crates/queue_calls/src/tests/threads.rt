@@ -4,7 +4,7 @@ ghost use Rattle.std.specs.Prelude.{◌≡◌};
 use super::slow_list::{Signals, SlowList, wait_for};
 use csq_list::{Peek, PendingList, Place, VecList};
 use csq_queue::{Blank, Csq, Inserted, Pass, QueueName};
-use irp_core::{FileId, FinalStatus, IrpId, NtStatus};
+use irp_core::{FileId, FinalStatus, IrpId, Life, NtStatus};
 use std::marker::Brand;
 use std::process::Abort;
 use std::sync::Wait;
@@ -124,7 +124,7 @@ fn go_past<L: PendingList + Drop, N: QueueName, R: Wait>(
     signals.held.store(true, Ordering::SeqCst);
     wait_for(&signals.inside, &signals.gave_up);
     queue.complete(pass, token, success);
-    let claim = queue.mark_cancel(pass, IrpId(1));
+    let claim = queue.mark_cancel(pass, IrpId(1), Life(0));
     signals.go_on.store(true, Ordering::SeqCst);
     match claim {
         Ok(Some(claim)) => {
@@ -215,7 +215,7 @@ fn cancel_each<L: PendingList + Drop, N: QueueName, R: Wait>(
 ) -> u32 {
     let mut completed = 0u32;
     for number in 0..64 {
-        if let Ok(true) = queue.cancel(rt, pass, IrpId(number)) {
+        if let Ok(true) = queue.cancel(rt, pass, IrpId(number), Life(0)) {
             completed = completed.wrapping_add(1);
         }
     }
@@ -241,7 +241,7 @@ fn insert_and_cancel<N: QueueName + Send + Sync, R: Threads + Wait + Abort + Syn
     for number in 0..64 {
         assert_eq!(rt;
             queue.status(&mut one, IrpId(number)),
-            Ok(Some(NtStatus::CANCELLED))
+            Ok((Life(0), Some(NtStatus::CANCELLED)))
         );
     }
     assert!(rt; queue.give_back(rt, two).is_ok());

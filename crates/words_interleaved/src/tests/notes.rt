@@ -1,16 +1,14 @@
 //! Calls that end without an exchange: what is noted of them moves no word.
-ghost use Rattle.std.specs.Prelude.{◌≡◌, None, false};
+ghost use Rattle.std.specs.Prelude.{◌≡◌, None};
 ghost use Rattle.irp_core.specs.declared.step.Inside.TheVariants.{Nothing};
 ghost use Rattle.csq_words.specs.Own.{inside_of};
-ghost use Rattle.csq_words.specs.Queue.{has_irp};
-ghost use Rattle.csq_words.specs.History.{end_of};
 ghost use Rattle.csq_words.specs.Seats.{pass_record, IsHere};
-ghost use Rattle.words_interleaved.specs.Listed.{IsEmpty};
+ghost use Rattle.words_interleaved.specs.Listed.{IsHome};
 
-use super::{INSERT, ZERO, arm, compare, find_clear};
+use super::{Begun, FIRST, INSERT, ZERO, arm, begin, compare, find_clear};
 use csq_list::{InsertStatus, Peek};
 use csq_words::{Call, Note, PassSeat, QueueSeat, Words};
-use irp_core::{FileId, Kind, Machine};
+use irp_core::{FileId, Kind, Life, Machine};
 use std::process::Abort;
 use std::test::Fail;
 
@@ -18,12 +16,12 @@ use std::test::Fail;
 fn refuse(words: &Words, queue: &mut QueueSeat, pass: &mut PassSeat)
     requires words { queue.old.table ≡ words.now.table }
     requires alone { queue.old.joined ≡ None }
-    requires unused { has_irp (end_of queue.old.queue.history).used (record { 0 = 0 }) ≡ false }
+    requires home { IsHome FIRST queue.old.queue }
     requires here { IsHere words.now.table pass.old }
     requires outside { inside_of (pass_record pass.old).steps ≡ Nothing }
     ensures words { queue.new.table ≡ words.now.table }
     ensures alone { queue.new.joined ≡ None }
-    ensures unused { has_irp (end_of queue.new.queue.history).used (record { 0 = 0 }) ≡ false }
+    ensures home { IsHome FIRST queue.new.queue }
     ensures here { IsHere words.now.table pass.new }
     ensures outside { inside_of (pass_record pass.new).steps ≡ Nothing }
 {
@@ -36,12 +34,12 @@ fn refuse(words: &Words, queue: &mut QueueSeat, pass: &mut PassSeat)
 fn close_file(words: &Words, queue: &mut QueueSeat, pass: &mut PassSeat)
     requires words { queue.old.table ≡ words.now.table }
     requires alone { queue.old.joined ≡ None }
-    requires empty { IsEmpty queue.old.queue }
+    requires home { IsHome FIRST queue.old.queue }
     requires here { IsHere words.now.table pass.old }
     requires outside { inside_of (pass_record pass.old).steps ≡ Nothing }
     ensures words { queue.new.table ≡ words.now.table }
     ensures alone { queue.new.joined ≡ None }
-    ensures empty { IsEmpty queue.new.queue }
+    ensures home { IsHome FIRST queue.new.queue }
     ensures here { IsHere words.now.table pass.new }
     ensures outside { inside_of (pass_record pass.new).steps ≡ Nothing }
 {
@@ -60,12 +58,12 @@ fn find_no_next(
 )
     requires words { queue.old.table ≡ words.now.table }
     requires alone { queue.old.joined ≡ None }
-    requires empty { IsEmpty queue.old.queue }
+    requires home { IsHome FIRST queue.old.queue }
     requires here { IsHere words.now.table pass.old }
     requires outside { inside_of (pass_record pass.old).steps ≡ Nothing }
     ensures words { queue.new.table ≡ words.now.table }
     ensures alone { queue.new.joined ≡ None }
-    ensures empty { IsEmpty queue.new.queue }
+    ensures home { IsHome FIRST queue.new.queue }
     ensures here { IsHere words.now.table pass.new }
     ensures outside { inside_of (pass_record pass.new).steps ≡ Nothing }
 {
@@ -85,13 +83,13 @@ fn find_unlisted(
 )
     requires words { queue.old.table ≡ words.now.table }
     requires alone { queue.old.joined ≡ None }
-    requires empty { IsEmpty queue.old.queue }
+    requires home { IsHome FIRST queue.old.queue }
     requires here { IsHere words.now.table pass.old }
     requires outside { inside_of (pass_record pass.old).steps ≡ Nothing }
     ensures here { IsHere words.now.table pass.new }
 {
     queue.enter(words, pass);
-    queue.note(words, Call::Remove(ZERO), Note::Event);
+    queue.note(words, Call::Remove(FIRST), Note::Event);
     compare(rt, machine, 1, Kind::End, 0);
     queue.leave(words, pass);
 }
@@ -99,23 +97,31 @@ fn find_unlisted(
 #[test]
 fn a_refused_insert_may_be_made_again(rt: HostRuntime) -> Result<(), Fail> {
     let mut machine = Machine::new(rt.alloc(), 1, 1)?;
-    let (words, mut queue, mut seats) = Words::new(rt.alloc(), 1, 1)?;
-    let mut one = seats.take().ok_or("a pass")?;
+    let Begun {
+        words,
+        mut queue,
+        mut one,
+        ..
+    } = begin(&rt, FIRST)?;
     refuse(&words, &mut queue, &mut one);
-    arm(&rt, &mut machine, &words, &mut queue, &mut one);
-    find_clear(&rt, &mut machine, &words, &mut queue, &mut one);
+    arm(&rt, &mut machine, &words, &mut queue, &mut one, FIRST);
+    find_clear(&rt, &mut machine, &words, &mut queue, &mut one, FIRST);
     Ok(())
 }
 
 #[test]
 fn an_empty_queue_answers_none(rt: HostRuntime) -> Result<(), Fail> {
     let mut machine = Machine::new(rt.alloc(), 1, 1)?;
-    let (words, mut queue, mut seats) = Words::new(rt.alloc(), 1, 1)?;
-    let mut one = seats.take().ok_or("a pass")?;
+    let Begun {
+        words,
+        mut queue,
+        mut one,
+        ..
+    } = begin(&rt, FIRST)?;
     close_file(&words, &mut queue, &mut one);
     find_no_next(&rt, &mut machine, &words, &mut queue, &mut one);
     find_unlisted(&rt, &mut machine, &words, &mut queue, &mut one);
-    assert!(rt; !one.read_cancel(&words, ZERO));
-    assert!(rt; one.read_status(&words, ZERO).is_none());
+    assert_eq!(rt; one.read_cancel(&words, ZERO), (Life(0), false));
+    assert_eq!(rt; one.read_status(&words, ZERO), (Life(0), None));
     Ok(())
 }

@@ -1,17 +1,19 @@
 use Rattle.std.proofs.Common.{◌≡◌, true, refl, sym, subst}
+use Rattle.irp_core.specs.Steps.{Irp}
 use Rattle.irp_core.specs.declared.step.Kind.TheVariants.{End}
 use Rattle.irp_core.specs.Inside.{follows}
 use Rattle.irp_core.proofs.Names.{same_irp-refl}
 use Rattle.csq_words.specs.Own.{inside_of}
 use Rattle.csq_words.specs.Queue.{has_entry}
-use Rattle.csq_words.specs.History.{end_of}
+use Rattle.csq_words.specs.Records.{queue_of}
 use Rattle.csq_words.specs.Seats.{QueueSeatState, joined_record}
 use Rattle.words_interleaved.proofs.tests.removals.find_taken.Goals as goal
 
 -- the IRP is listed, and the removal may begin
 pub disarm-found-requires-clause-next : goal.disarm-found-requires-clause-next
-disarm-found-requires-clause-next g c = (
-  refl,
-  subst (λ (q : QueueSeatState). follows (inside_of (joined_record q).steps) End ≡ true) (sym c.enter.ensures.joined) (rw c.requires.outside refl),
-  subst (λ (q : QueueSeatState). has_entry (end_of q.queue.history).entries record { 0 = 0 } ≡ true) (sym c.enter.ensures.joined) (rw (c.requires.listed, same_irp-refl) refl),
-)
+disarm-found-requires-clause-next g c =
+    let first : Irp = record { irp = record { 0 = 0 }; life = record { 0 = 0 } } in (
+      refl,
+      subst (λ (q : QueueSeatState). follows (inside_of (joined_record q).steps) End ≡ true) (sym c.enter.ensures.joined) (rw c.requires.outside refl),
+      subst (λ (q : QueueSeatState). has_entry (queue_of q.queue).entries first ≡ true) (sym c.enter.ensures.joined) (rw (c.requires.inserted.entries_are, same_irp-refl) refl),
+    )

@@ -1,0 +1,46 @@
+-- What the program may be asked to do.
+use Rattle.std.specs.Prelude.{◌≡◌, ◌≢◌, ℕ, ◌≤◌, Bool, true, false, List, codes, None, Some, IfSome}
+use Rattle.clap.specs.declared.error.kind.ErrorKind.{ErrorKind}
+use Rattle.clap.specs.Matches.{found_of, one_text}
+use Rattle.clap.specs.Values.{kind_of}
+use Rattle.clap.specs.declared.parser.matches.ArgMatches.{ArgMatches}
+use Rattle.irp_core.specs.Runs.{IsInLimits}
+use Rattle.csq_device.specs.Plans.{IsPlan}
+use Rattle.csq_program.specs.declared.command.Job.{Job}
+use Rattle.csq_program.specs.declared.command.Job.TheVariants.{Schedule, Script, Run}
+use Rattle.csq_program.specs.declared.command.CommandFault.{CommandFault}
+use Rattle.csq_program.specs.declared.command.CommandFault.TheVariants.{Memory, Refused}
+
+-- each number is in its range
+abbrev pub IsInRange : Job → Type 0
+IsInRange (Schedule irps passes claims) = IsInLimits (record { irps = irps; passes = passes; first = 0 })
+IsInRange (Script irps files limit chain) = ((1 ≤ irps) × (irps ≤ 1024)) × ((1 ≤ files) × (files ≤ 256)) × IfSome limit (λ n. (1 ≤ n) × (n ≤ 1024))
+IsInRange (Run plan chain) = IsPlan plan.irps plan.files plan.submitters plan.workers plan.cancellers plan.turns
+
+-- the command of this name, of which any but a script's and a run's is a schedule's
+abbrev pub IsJobOf : List ℕ → Job → Type 0
+IsJobOf name (Schedule irps passes claims) = (name ≢ codes "script") × (name ≢ codes "run")
+IsJobOf name (Script irps files limit chain) = name ≡ codes "script"
+IsJobOf name (Run plan chain) = name ≡ codes "run"
+
+-- a flag of this name: whether the options have it set
+pub record IsFlag (options : ArgMatches) (name : List ℕ) (flag : Bool) : Type 0 where
+  pub set : one_text (found_of options) name ≡ Some (codes "true") → flag ≡ true
+  pub clear : one_text (found_of options) name ≡ Some (codes "false") → flag ≡ false
+  pub absent : one_text (found_of options) name ≡ None → flag ≡ false
+
+-- the job's flag is that of the options
+abbrev pub TellsFlag : ArgMatches → Job → Type 0
+TellsFlag options (Schedule irps passes claims) = IsFlag options (codes "claims") claims
+TellsFlag options (Script irps files limit chain) = IsFlag options (codes "chain") chain
+TellsFlag options (Run plan chain) = IsFlag options (codes "chain") chain
+
+-- the number of a fault
+abbrev pub number_of : CommandFault → ℕ
+number_of Memory = 1
+number_of (Refused error) = 2
+
+-- of a command line that was refused for a reason of this kind, or there is too little memory
+abbrev pub IsRefusalOf : ErrorKind → CommandFault → Type 0
+IsRefusalOf kind Memory = Unit
+IsRefusalOf kind (Refused error) = kind_of error ≡ kind

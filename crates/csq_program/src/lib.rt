@@ -1,0 +1,13 @@
+//! The program `csqsim`: its command line, and what its commands do.
+#![tactic(auto)]
+
+mod command;
+mod device_run;
+mod program;
+
+pub use command::{CommandFault, Job, read_command, refuse_bytes};
+pub use device_run::{RunFault, answer_run};
+pub use program::{ProgramFault, run_program};
+
+#[cfg(test)]
+mod tests;

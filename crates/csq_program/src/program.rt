@@ -1,0 +1,170 @@
+//! What each command of the program does, and its exit status.
+ghost use Rattle.std.specs.Prelude.{◌≤◌, IfOk};
+ghost use Rattle.irp_core.specs.Runs.{IsInLimits};
+ghost use Rattle.csq_list.specs.Listing.{IsFresh};
+ghost use Rattle.csq_device.specs.Plans.{IsListFor};
+ghost use Rattle.csq_program.specs.Jobs.{IsInRange};
+
+use crate::command::{CommandFault, Job, read_command, refuse_bytes};
+use crate::device_run::{RunFault, answer_run};
+use csq_device::{Free, Plan};
+use csq_list::{ChainList, ListNew, PendingList, VecList};
+use csq_replay::{SimFault, answer_schedule, answer_script, exit_status};
+use std::io;
+use std::io::ErrorKind;
+use std::process::ExitCode;
+use std::sync::Wait;
+use std::thread::Threads;
+use thiserror::Error;
+
+/// Why the program did not do what it was asked for.
+#[derive(Clone, Copy, Debug, PartialEq, Eq, Error)]
+pub enum ProgramFault {
+    /// A schedule or a script has no answer.
+    #[error(transparent)]
+    Replay(#[from] SimFault),
+    /// A device's totals were not written.
+    #[error(transparent)]
+    Run(#[from] RunFault),
+}
+
+// The exit status where all went well.
+const DONE: u8 = 0;
+
+// The exit status of a refused command line, and of a list whose size is refused.
+const REFUSED: u8 = 2;
+
+/// What the words of this process's command line ask for.
+fn read_job<R: AllocGlobal + std::rt::Env>(rt: &R) -> Result<Job, CommandFault>
+    ensures { IfOk result IsInRange }
+{
+    match std::env::args(rt) {
+        Ok(arguments) => {
+            let words: Vec<String> = arguments.collect(rt.alloc())?;
+            read_command(rt.alloc(), words.as_slice())
+        }
+        Err(error) if error.kind() == ErrorKind::OutOfMemory => Err(CommandFault::Memory),
+        Err(_) => Err(refuse_bytes(rt.alloc())),
+    }
+}
+
+/// Does what the command line asks for, and answers the exit status.
+fn run_command_line<R>(rt: &R) -> Result<u8, ProgramFault>
+where
+    R: AllocGlobal + Print + Eprint + Input + std::rt::Env + Threads + Wait + Sync,
+{
+    match read_job(rt) {
+        Ok(job) => run_job(rt, job),
+        Err(CommandFault::Memory) => Err(ProgramFault::Replay(SimFault::Memory)),
+        Err(CommandFault::Refused(error)) => {
+            error.print(rt).map_err(|_| SimFault::Write)?;
+            Ok(error.exit_code() as u8)
+        }
+    }
+}
+
+/// Runs a command from standard input to standard output.
+fn run_job<R>(rt: &R, job: Job) -> Result<u8, ProgramFault>
+where
+    R: AllocGlobal + Print + Eprint + Input + Threads + Wait + Sync,
+    requires { IsInRange job }
+{
+    match job {
+        Job::Schedule {
+            irps,
+            passes,
+            claims,
+        } => run_schedule(rt, irps, passes, claims),
+        Job::Script {
+            irps,
+            files,
+            limit,
+            chain,
+        } => {
+            let limit = limit.unwrap_or(irps);
+            if chain {
+                run_script(rt, ChainList::new(rt.alloc(), irps, files, limit))
+            } else {
+                run_script(rt, VecList::new(rt.alloc(), irps, files, limit))
+            }
+        }
+        Job::Run { plan, chain } => {
+            let Plan { irps, files, .. } = plan;
+            if chain {
+                run_device(rt, plan, ChainList::new(rt.alloc(), irps, files, irps))
+            } else {
+                run_device(rt, plan, VecList::new(rt.alloc(), irps, files, irps))
+            }
+        }
+    }
+}
+
+/// Replays a schedule.
+fn run_schedule<R: AllocGlobal + Print + Input>(
+    rt: &R,
+    irps: u32,
+    passes: u32,
+    claims: bool,
+) -> Result<u8, ProgramFault>
+    requires { IsInLimits (record { irps = irps; passes = passes; first = 0 }) }
+{
+    let mut reader = rt.reader();
+    let mut writer = io::writer(rt);
+    let ended = answer_schedule(rt.alloc(), irps, passes, claims, &mut reader, &mut writer)?;
+    Ok(exit_status(ended))
+}
+
+/// Runs a script over a fresh list, if there is one.
+fn run_script<L: PendingList + Drop, R: AllocGlobal + Print + Eprint + Input>(
+    rt: &R,
+    list: Result<L, ListNew>,
+) -> Result<u8, ProgramFault>
+    requires fresh { IfOk list (λ l. IsFresh (L.listing l)) }
+    requires irps { IfOk list (λ l. (1 ≤ (L.listing l).irps) × ((L.listing l).irps ≤ 1024)) }
+{
+    match list {
+        Ok(list) => {
+            let mut reader = rt.reader();
+            let mut writer = io::writer(rt);
+            let ended = answer_script(rt.alloc(), list, &mut reader, &mut writer)?;
+            Ok(exit_status(ended))
+        }
+        Err(ListNew::Memory) => Err(ProgramFault::Replay(SimFault::Memory)),
+        Err(ListNew::BadSize) => {
+            let _ = eprintln!(rt; "csqsim: bad size");
+            Ok(REFUSED)
+        }
+    }
+}
+
+/// Runs a device over a list that fits its plan, if there is memory for one.
+fn run_device<L, R>(rt: &R, plan: Plan, list: Result<L, ListNew>) -> Result<u8, ProgramFault>
+where
+    L: PendingList + Drop + Send,
+    R: AllocGlobal + Print + Threads + Wait + Sync,
+    requires { IfOk list (λ l. IsListFor plan.irps plan.files (L.listing l)) }
+{
+    match list {
+        Ok(list) => {
+            answer_run(rt, plan, list, Free, &mut io::writer(rt))?;
+            Ok(DONE)
+        }
+        Err(_) => Err(ProgramFault::Run(RunFault::Memory)),
+    }
+}
+
+/// Does what the command line of this process asks for, and answers the exit status: 0 where all went
+/// well, 2 where a line ended the handling or the command line or the size of the list was refused, and 1
+/// with a line on standard error where there was a fault. Own rule.
+pub fn run_program<R>(rt: &R) -> ExitCode
+where
+    R: AllocGlobal + Print + Eprint + Input + std::rt::Env + Threads + Wait + Sync,
+{
+    match run_command_line(rt) {
+        Ok(status) => ExitCode::from(status),
+        Err(fault) => {
+            let _ = eprintln!(rt; "csqsim: {fault}");
+            ExitCode::FAILURE
+        }
+    }
+}

@@ -1,0 +1,137 @@
+//! Runs of a device, and their command lines.
+ghost use Rattle.csq_device.specs.Plans.{IsListFor};
+
+use crate::command::{Job, read_command};
+use crate::device_run::{RunFault, answer_run};
+use crate::program::ProgramFault;
+use csq_device::{Free, Plan, RunRefused};
+use csq_list::{ChainList, PendingList, VecList};
+use std::alloc::AllocError;
+use std::io;
+use std::io::{Error, ErrorKind, Write};
+use std::process::Abort;
+use std::sync::Wait;
+use std::test::Fail;
+use std::thread::Threads;
+
+const USUAL: &str = "irps 64\naccounted 64\ncancelled and listed 0\n";
+
+// Runs a device of the usual size over this list, and compares what is written.
+fn compare<L, R>(rt: &R, list: L) -> Result<(), Fail>
+where
+    L: PendingList + Drop + Send,
+    R: AllocGlobal + Threads + Wait + Abort + Sync,
+    requires { IsListFor 64 4 (L.listing list) }
+{
+    let plan = Plan::new(64, 4, 2, 2, 2, 64).ok_or("a plan")?;
+    let mut text = Vec::new(rt.alloc());
+    assert!(rt; answer_run(rt, plan, list, Free, &mut text).is_ok());
+    assert_eq!(rt; text.as_slice(), USUAL.as_bytes());
+    Ok(())
+}
+
+#[test]
+fn ten_runs_of_each_list_are_accounted_for(rt: HostRuntime) -> Result<(), Fail> {
+    for _ in 0..10 {
+        compare(&rt, VecList::new(rt.alloc(), 64, 4, 64)?)?;
+        compare(&rt, ChainList::new(rt.alloc(), 64, 4, 64)?)?;
+    }
+    Ok(())
+}
+
+/// Takes so many bytes, and then fails or takes nothing.
+#[derive(Drop)]
+struct FailingWriter {
+    room: usize,
+    fails: bool,
+}
+
+impl Write for FailingWriter {
+    fn write(&mut self, buf: &[u8]) -> io::Result<usize> {
+        if self.room == 0 && self.fails {
+            return Err(Error::from(ErrorKind::Other));
+        }
+        let taken = self.room.min(buf.len());
+        self.room -= taken;
+        Ok(taken)
+    }
+
+    fn flush(&mut self) -> io::Result<()> {
+        Ok(())
+    }
+}
+
+#[test]
+fn a_failing_writer_of_totals_is_told(rt: HostRuntime) -> Result<(), Fail> {
+    for fails in [false, true] {
+        let plan = Plan::new(1, 1, 1, 1, 1, 1).ok_or("a plan")?;
+        let list = VecList::new(rt.alloc(), 1, 1, 1)?;
+        let mut writer = FailingWriter { room: 3, fails };
+        assert_eq!(rt;
+            answer_run(&rt, plan, list, Free, &mut writer),
+            Err(RunFault::Write)
+        );
+    }
+    Ok(())
+}
+
+#[test]
+fn command_lines_of_runs_are_read(rt: HostRuntime) -> Result<(), Fail> {
+    let plain = ["csqsim", "run"];
+    let sized = [
+        "csqsim",
+        "run",
+        "--irps=1",
+        "--files=256",
+        "--submitters=3",
+        "--workers=4",
+        "--cancellers=20",
+        "--turns=100000",
+        "--chain",
+    ];
+    let jobs = [
+        (plain.as_slice(), [64, 4, 2, 2, 2, 64], false),
+        (sized.as_slice(), [1, 256, 3, 4, 20, 100_000], true),
+    ];
+    for (words, numbers, chain) in jobs {
+        let [irps, files, submitters, workers, cancellers, turns] = numbers;
+        let plan = Plan::new(irps, files, submitters, workers, cancellers, turns).ok_or("a plan")?;
+        let wanted = Job::Run { plan, chain };
+        assert_eq!(rt; read_command(rt.alloc(), words).ok(), Some(wanted));
+    }
+    Ok(())
+}
+
+#[test]
+fn other_command_lines_of_runs_are_refused(rt: HostRuntime) -> Result<(), Fail> {
+    for option in [
+        "--irps=1025",
+        "--files=0",
+        "--submitters=21",
+        "--workers=0",
+        "--cancellers=21",
+        "--turns=100001",
+        "--limit=1",
+    ] {
+        let words = ["csqsim", "run", option];
+        assert!(rt; read_command(rt.alloc(), words.as_slice()).is_err());
+    }
+    Ok(())
+}
+
+#[test]
+fn faults_of_runs_have_numbers_and_texts(rt: HostRuntime) -> Result<(), Fail> {
+    let faults = [
+        (RunFault::from(RunRefused::Memory), 1, "out of memory"),
+        (RunFault::from(AllocError), 1, "out of memory"),
+        (RunFault::from(RunRefused::Spawn), 2, "thread refused"),
+        (RunFault::from(RunRefused::NotClosed), 3, "close refused"),
+        (RunFault::Write, 4, "write failed"),
+    ];
+    for (fault, number, text) in faults {
+        assert_eq!(rt; fault.number(), number);
+        let told = format!(in rt.alloc(); "{}", ProgramFault::Run(fault))?;
+        assert_eq!(rt; told.as_str(), text);
+    }
+    Ok(())
+}

@@ -1,0 +1,160 @@
+//! Each turn of each thread, counted, of threads that all run at once.
+use super::runs::run;
+use csq_device::{Gate, Plan, Point};
+use csq_list::{ChainList, PendingList, VecList};
+use irp_core::{FileId, IrpId};
+use std::process::Abort;
+use std::sync::Wait;
+use std::sync::atomic::{AtomicBool, AtomicU64, Ordering};
+use std::test::Fail;
+use std::thread::{Threads, yield_now};
+
+// How often a thread yields at most before it gives up.
+const PATIENCE: u32 = 1_000_000;
+
+// Submitters, workers, cancellers and the cleanup.
+const THREADS: u64 = 3 + 3 + 4 + 1;
+
+// How many IRPs three submitters insert in 70 turns each.
+const INSERTED: u64 = 210;
+
+// How often a point was told, and the sum of the numbers that it was told with.
+#[derive(Drop)]
+struct Count {
+    times: AtomicU64,
+    sum: AtomicU64,
+}
+
+fn uncounted() -> Count {
+    Count {
+        times: AtomicU64::new(0),
+        sum: AtomicU64::new(0),
+    }
+}
+
+impl Count {
+    fn add(&self, number: u32) {
+        self.times.fetch_add(1, Ordering::SeqCst);
+        self.sum.fetch_add(u64::from(number), Ordering::SeqCst);
+    }
+
+    fn is(&self, times: u64, sum: u64) -> bool {
+        self.times.load(Ordering::SeqCst) == times && self.sum.load(Ordering::SeqCst) == sum
+    }
+}
+
+// What the gate was told, by kinds of points, and how many threads have come to their first point.
+#[derive(Drop)]
+struct Counts {
+    submitted: Count,
+    working: Count,
+    removed: Count,
+    cancelling: Count,
+    cancelled: Count,
+    cleaning: Count,
+    come: AtomicU64,
+    gave_up: AtomicBool,
+}
+
+impl Counts {
+    // Yields until so many were counted, or gives up.
+    fn wait_for(&self, counted: &AtomicU64, wanted: u64) {
+        for _ in 0..PATIENCE {
+            if counted.load(Ordering::SeqCst) >= wanted {
+                return;
+            }
+            yield_now();
+        }
+        self.gave_up.store(true, Ordering::SeqCst);
+    }
+
+    // Waits at the first point of a thread for those of all others.
+    fn meet(&self) {
+        self.come.fetch_add(1, Ordering::SeqCst);
+        self.wait_for(&self.come, THREADS);
+    }
+}
+
+// A gate that counts, at which all threads meet first, and the cleanup waits for the inserts.
+#[derive(Clone, Copy)]
+struct Counting<'a>(&'a Counts);
+
+impl<'a> Gate for Counting<'a> {
+    fn at(&self, point: Point) {
+        let counts = self.0;
+        match point {
+            Point::Submitted(IrpId(irp)) => {
+                counts.submitted.add(irp);
+                if irp < 3 {
+                    counts.meet();
+                }
+            }
+            Point::Working(turn) => {
+                counts.working.add(turn);
+                if turn == 0 {
+                    counts.meet();
+                }
+            }
+            Point::Removed(IrpId(irp)) => counts.removed.add(irp),
+            Point::Cancelling(IrpId(irp)) => {
+                counts.cancelling.add(irp);
+                if irp < 4 {
+                    counts.meet();
+                }
+            }
+            Point::Cancelled(IrpId(irp)) => counts.cancelled.add(irp),
+            Point::Cleaning(FileId(file)) => {
+                counts.cleaning.add(file);
+                counts.meet();
+                counts.wait_for(&counts.submitted.times, INSERTED);
+            }
+        }
+    }
+}
+
+fn uncounted_points() -> Counts {
+    Counts {
+        submitted: uncounted(),
+        working: uncounted(),
+        removed: uncounted(),
+        cancelling: uncounted(),
+        cancelled: uncounted(),
+        cleaning: uncounted(),
+        come: AtomicU64::new(0),
+        gave_up: AtomicBool::new(false),
+    }
+}
+
+// Of 300 IRPs the submitters insert 0 to 209, and the cancellers cancel 0 to 279.
+fn count_over<L, R>(rt: &R, list: L) -> Result<(), Fail>
+where
+    L: PendingList + Drop + Send,
+    R: Threads + Wait + AllocGlobal + Abort + Sync,
+{
+    let plan = Plan::new(300, 5, 3, 3, 4, 70).ok_or("a plan")?;
+    let counts = uncounted_points();
+    let totals = run(rt, plan, list, Counting(&counts))?;
+    assert!(rt; !counts.gave_up.load(Ordering::SeqCst));
+    assert_eq!(rt; counts.come.load(Ordering::SeqCst), THREADS);
+    assert!(rt; counts.submitted.is(210, 21_945));
+    assert!(rt; counts.working.is(210, 7_245));
+    assert!(rt; counts.cancelling.is(280, 39_060));
+    assert!(rt; counts.cancelled.is(280, 39_060));
+    assert!(rt; counts.cleaning.is(1, 4));
+    let removed = counts.removed.times.load(Ordering::SeqCst);
+    assert_eq!(rt; removed, u64::from(totals.succeeded));
+    assert_eq!(rt; totals.home, 90);
+    assert_eq!(rt; totals.listed, 0);
+    assert_eq!(rt; totals.accounted(), 300);
+    Ok(())
+}
+
+#[test]
+fn each_turn_is_taken_over_a_vector(rt: HostRuntime) -> Result<(), Fail> {
+    count_over(&rt, VecList::new(rt.alloc(), 300, 5, 300)?)
+}
+
+#[test]
+fn each_turn_is_taken_over_chains(rt: HostRuntime) -> Result<(), Fail> {
+    count_over(&rt, ChainList::new(rt.alloc(), 300, 5, 300)?)
+}
