@@ -35,12 +35,12 @@ use Rattle.csq_replay.specs.declared.call.Call.{Call}
 use Rattle.csq_replay.specs.declared.call.Call.TheVariants.{Next, Mark, Routine, Complete, Close}
 use Rattle.csq_replay.specs.declared.call.Reply.{Reply}
 use Rattle.csq_replay.specs.declared.call.Reply.TheVariants.{Removed, NoIrp, Claimed, Unclaimed, Completed, Closed}
-use Rattle.csq_replay.specs.Calls.{Script, script_pass, present_of, after_reuse, next_step, after_steps, removal_steps, remove_steps, status_of, doing, completing, after_mark, Calls, Cleans, Does}
+use Rattle.csq_replay.specs.Calls.{Script, script_pass, new_script, present_of, after_reuse, next_step, after_steps, removal_steps, remove_steps, status_of, doing, completing, after_mark, Calls, Cleans, Does}
 use Rattle.csq_replay.specs.Calls.Calls.{refuses_insert, lists, cancels_insert, removes_next, removes, removes_none, claims, claims_none, runs_routine, has_no_claim, completes, holds_none, refuses_pending, closes, is_stale, reuses, not_completed, lives_spent, tells_flag, tells_status, knows_no_irp, knows_no_file}
 use Rattle.csq_replay.specs.Calls.Cleans.{none_left, one_more}
 use Rattle.csq_replay.specs.Calls.Does.{calls, cancel_claimed, cancel_unclaimed, cleaned}
-use Rattle.csq_replay.specs.Laws.{IsReached}
-use Rattle.csq_replay.specs.Laws.IsReached.{at_first, by_call}
+use Rattle.csq_replay.specs.Laws.{LeadTo}
+use Rattle.csq_replay.specs.Laws.LeadTo.{at_end, by_nothing, by_call}
 use Rattle.csq_replay.specs.Drivers.{AreMarked}
 use Rattle.csq_replay.proofs.Queueing.{marks_stay, marks_without, marks_marking, marked_is, taken_routine, other_entry}
 use Rattle.csq_replay.proofs.Cleaning.{removal_holds}
@@ -341,7 +341,12 @@ does_account l s t c r (cancel_claimed i u v mark routine) a = calls_account l u
 does_account l s t c r (cancel_unclaimed i u mark) a = calls_account l s t (Mark i) Unclaimed mark a
 does_account l s t c r (cleaned f u v n close cleans) a = cleans_account l f u t n cleans (calls_account l s u (Close f) Closed close a)
 
--- so is every IRP of a script that calls lead to
-pub reached_accounts : (l : Limits) (s : Script) → IsReached l s → Accounts s
-reached_accounts l s at_first = record { marks = tt; used = λ i h. absurd cc; each = λ i h. absurd cc }
-reached_accounts l s (by_call s' t c r before does) = does_account l s' s c r does (reached_accounts l s' before)
+-- so it is in the beginning, where no insert was accepted
+pub new_accounts : (l : Limits) → Accounts (new_script l)
+new_accounts l = record { marks = tt; used = λ i h. absurd cc; each = λ i h. absurd cc }
+
+-- and after all that lines lead to
+pub led_accounts : (l : Limits) (s t : Script) (lines : List (List ℕ)) → LeadTo l s lines t → Accounts s → Accounts t
+led_accounts l s t lines (at_end u) a = a
+led_accounts l s t lines (by_nothing u v line left skip led) a = led_accounts l s t left led a
+led_accounts l s t lines (by_call u v w line left c r is does led) a = led_accounts l v t left led (does_account l s v c r does a)

@@ -15,9 +15,9 @@ pub fn a_script_has_one_answer()
     ensures { (l : Limits) (input : List ℕ) → HasOneScriptAnswer l input }
 {}
 
-/// The answer to a script that is handled to its end closes with the lines of what its calls led to: the
-/// list of the queue of one thread, and what is held and owed. There, each life of an IRP that an insert
-/// accepted is listed, held, or completed with the status that the script is told of it.
+/// The answer to a script that is handled to its end closes with the lines of what the calls of its lines
+/// led to: the list of the queue of one thread, and what is held and owed. There, each life of an IRP that
+/// an insert accepted is listed, held, or completed with the status that the script is told of it.
 pub fn each_inserted_irp_is_accounted_for()
     ensures { (l : Limits) → EachInsertedIrpIsAccountedFor l }
 {}

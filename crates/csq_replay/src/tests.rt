@@ -295,8 +295,38 @@ fn a_failing_reader_is_told(rt: HostRuntime) -> Result<(), Fail> {
     let mut text = Vec::new(rt.alloc());
     let fault = answer_schedule(rt.alloc(), 8, 4, false, &mut reader, &mut text);
     assert_eq!(rt; fault, Err(SimFault::Read));
-    assert_eq!(rt; SimFault::Read.number(), 2);
     assert!(rt; text.is_empty());
+    Ok(())
+}
+
+/// Is interrupted once, and then gives its bytes.
+#[derive(Drop)]
+struct InterruptedReader<'a> {
+    bytes: &'a [u8],
+    interrupted: bool,
+}
+
+impl Read for InterruptedReader<'_> {
+    fn read(&mut self, buf: &mut [u8]) -> io::Result<usize> {
+        if !self.interrupted {
+            self.interrupted = true;
+            return Err(Error::from(ErrorKind::Interrupted));
+        }
+        self.bytes.read(buf)
+    }
+}
+
+#[test]
+fn an_interrupted_read_is_tried_again(rt: HostRuntime) -> Result<(), Fail> {
+    let mut reader = InterruptedReader {
+        bytes: b"p1 end\n",
+        interrupted: false,
+    };
+    let mut text = Vec::new(rt.alloc());
+    let ended = answer_schedule(rt.alloc(), 8, 4, false, &mut reader, &mut text)?;
+    assert_eq!(rt; ended, Ended::AllHandled);
+    assert!(rt; reader.interrupted);
+    assert_eq!(rt; text.as_slice(), b"p1 end found 0\nrest yes\n".as_slice());
     Ok(())
 }
 
@@ -316,6 +346,7 @@ fn a_failing_writer_is_told(rt: HostRuntime) -> Result<(), Fail> {
 #[test]
 fn faults_have_numbers(rt: HostRuntime) {
     assert_eq!(rt; SimFault::Memory.number(), 1);
+    assert_eq!(rt; SimFault::Read.number(), 2);
     assert_eq!(rt; SimFault::Write.number(), 3);
 }
 
