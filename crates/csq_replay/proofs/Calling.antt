@@ -1,0 +1,299 @@
+-- What a driver keeps after a call.
+use Rattle.std.proofs.Common.{◌≡◌, ◌≢◌, ℕ, ◌<◌, Bool, true, false, cond, not, ◌&&◌, ◌||◌, ◌==◌, List, [], ◌∷◌, length, Option, Some, None, refl, ap, sym, ◌∙◌, subst, arith}
+use Rattle.std.specs.Prelude.{slice_index_or, slice_set}
+use Rattle.std.proofs.lemmas.List.{get_or-set_same, get_or-set_other, length-set}
+use Rattle.std.proofs.Math.Bool.{and-true}
+use Rattle.std.specs.Option.{option_map}
+use Rattle.std.specs.List.{find}
+use Rattle.irp_core.specs.declared.ids.FileId.{FileId}
+use Rattle.irp_core.specs.declared.ids.IrpId.{IrpId}
+use Rattle.irp_core.specs.declared.status.NtStatus.{NtStatus}
+use Rattle.irp_core.specs.declared.status.TheConstants.NtStatus.{PENDING}
+use Rattle.irp_core.specs.declared.step.Kind.TheVariants.{Take, Out, Done}
+use Rattle.irp_core.specs.declared.step.Kind.TheVariants as step
+use Rattle.irp_core.specs.declared.step.Made.{Made}
+use Rattle.irp_core.specs.declared.step.IrpPlace.{IrpPlace}
+use Rattle.irp_core.specs.declared.step.IrpPlace.TheVariants.{Home, Listed, HeldBy}
+use Rattle.irp_core.specs.declared.step.IrpPlace.TheVariants.{Completed as PlaceCompleted}
+use Rattle.irp_core.specs.Completion.{IsPlace}
+use Rattle.csq_replay.proofs.OneAnswer.{one_place}
+use Rattle.irp_core.specs.Steps.{Irp, number, same_irp, same_pass}
+use Rattle.irp_core.specs.Words.{bit, armed, flagged}
+use Rattle.irp_core.specs.Owners.{owes, holds, listed, dones}
+use Rattle.irp_core.specs.Lives.{present}
+use Rattle.irp_core.specs.Runs.{Size, IsRun}
+use Rattle.irp_core.specs.MachineState.{MachineState, Agrees, size_of}
+use Rattle.irp_core.proofs.Names.{same_irp-eq, same_irp-ne, same_pass-refl, same_pass-eq}
+use Rattle.csq_list.specs.Searches.{is_listed}
+use Rattle.csq_list.specs.Listing.{Listing, with_closed, removed}
+use Rattle.csq_words.specs.declared.views.Completion.{Completion}
+use Rattle.csq_words.specs.declared.views.Event.TheVariants as event
+use Rattle.csq_words.specs.Queue.{Limits, after_event, has_entry, has_marked, has_unmarked}
+use Rattle.csq_words.proofs.Named.{id_eq}
+use Rattle.csq_words.proofs.Listings.{is_listed-plain, listing-removed, listing-marked}
+use Rattle.csq_replay.specs.declared.call.Call.{Call}
+use Rattle.csq_replay.specs.declared.call.Call.TheVariants.{Mark, Routine, Complete, Close, Flag, Status}
+use Rattle.csq_replay.specs.declared.call.Refusal.TheVariants.{UnknownIrp, UnknownFile, NoClaim, NotHeld, StatusPending, Stale}
+use Rattle.csq_replay.specs.declared.call.Reply.TheVariants.{Claimed, Unclaimed, Completed, Closed, Refused}
+use Rattle.csq_replay.specs.declared.call.Reply.TheVariants as reply
+use Rattle.csq_replay.specs.Calls.{Script, script_pass, script_size, present_of, IsNow, next_step, doing, completing, after_mark, status_reply, irp_of, cancelled_life, file_of, Calls}
+use Rattle.csq_replay.specs.Calls.Calls.{has_no_claim, completes, holds_none, refuses_pending, closes, tells_flag, tells_status, knows_no_irp, knows_no_file, claims_none, is_stale}
+use Rattle.csq_replay.specs.Calls.Calls.{claims as claims_it}
+use Rattle.csq_replay.specs.Drivers.{Keeping, Keeps, IsOfRun}
+use Rattle.csq_replay.proofs.Queueing.{marked_is, queue_done, queue_flag, queue_take, queue_take_none, queue_out, armed_listed, owed_listed, sound_lives}
+use Rattle.csq_replay.proofs.Going.{run_for, present_is}
+
+module _ (l : Limits) (kept : Keeping) (s : Script) (k : Keeps l kept s) where
+  pub irps_are : (size_of kept.machine).irps ≡ l.irps
+  irps_are = ap (λ (n : Size). n.irps) k.size
+
+  -- an IRP that the machine doesn't have
+  pub unknown_keeps : (c : Call) (n : IrpId) → irp_of c ≡ Some n → (n.0 < (size_of kept.machine).irps → ⊥)
+      → (t : Script) × Calls l s c (Refused UnknownIrp) t × Keeps l kept t
+  unknown_keeps c n names none = (s, knows_no_irp c n names (omega (arith, none, irps_are)), k)
+
+  -- a life that isn't the present one
+  pub stale_keeps : (c : Call) (i : Irp) → cancelled_life c ≡ Some i → number i < (size_of kept.machine).irps → (x : Irp) → x ≡ present_of s i.irp → same_irp x i ≡ false
+      → (t : Script) × Calls l s c (Refused (Stale x.life)) t × Keeps l kept t
+  stale_keeps c i names known x is other =
+      let P : Irp → Type 0 = λ y. Calls l s c (Refused (Stale y.life)) s in
+      (s, subst P (sym is) (is_stale c i names (omega (arith, known, irps_are)) (λ now. same_irp-ne x i other (is ∙ now))), k)
+
+  pub unknown_file_keeps : (c : Call) (f : FileId) → file_of c ≡ Some f → (f.0 < kept.listing.files → ⊥) → (new : Listing) → new ≡ kept.listing
+      → (t : Script) × Calls l s c (Refused UnknownFile) t × Keeps l (record kept { listing = new }) t
+  unknown_file_keeps c f names none new same =
+      let files : kept.listing.files ≡ l.files = ap (λ (x : Listing). x.files) k.listing in
+      let P : Listing → Type 0 = λ x. Keeps l (record kept { listing = x }) s in
+      (s, knows_no_file c f names (omega (arith, none, files)), subst P (sym same) k)
+
+  pub flag_keeps : (n : IrpId) → n.0 < (size_of kept.machine).irps → (b : Bool) → b ≡ flagged s.run (present (size_of kept.machine).first s.run n)
+      → (t : Script) × Calls l s (Flag n) (reply.Flag b) t × Keeps l kept t
+  flag_keeps n known b is =
+      let P : Bool → Type 0 = λ x. Calls l s (Flag n) (reply.Flag x) s in
+      (s, subst P (sym (is ∙ ap (flagged s.run) (present_is l kept s k n))) (tells_flag n (omega (arith, known, irps_are))), k)
+
+  pub status_keeps : (n : IrpId) → n.0 < (size_of kept.machine).irps → (o : Option NtStatus) → o ≡ slice_index_or kept.statuses n.0 None
+      → (t : Script) × Calls l s (Status n) (status_reply o) t × Keeps l kept t
+  status_keeps n known o is =
+      let here : n.0 < l.irps = omega (arith, known, irps_are) in
+      let P : Option NtStatus → Type 0 = λ x. Calls l s (Status n) (status_reply x) s in
+      (s, subst P (sym (is ∙ k.statuses n here)) (tells_status n here), k)
+
+  pub close_keeps : (f : FileId) → f.0 < kept.listing.files → (new : Listing) → new ≡ with_closed f kept.listing
+      → (t : Script) × Calls l s (Close f) Closed t × Keeps l (record kept { listing = new }) t
+  close_keeps f known new is = (
+    doing [] (event.CloseFile f) s,
+    closes f (omega (arith, known, ap (λ (x : Listing). x.files) k.listing)),
+    record {
+      agrees = k.agrees;
+      size = k.size;
+      listing = is ∙ ap (with_closed f) k.listing;
+      queue = record { lives = k.queue.lives; used = k.queue.used; entries = k.queue.entries; flags = k.queue.flags; marks = k.queue.marks };
+      outside = k.outside;
+      told = k.told;
+      claims = k.claims;
+      statuses = k.statuses;
+      claims_size = k.claims_size;
+      statuses_size = k.statuses_size;
+    },
+  )
+
+  -- names of present lives are one where their numbers are
+  number_of_now : (n m : IrpId) → same_irp (present_of s n) (present_of s m) ≡ true → m.0 ≡ n.0
+  number_of_now n m e = ap number (sym (same_irp-eq (present_of s n) (present_of s m) e))
+
+  other_number : (n m : IrpId) → same_irp (present_of s n) (present_of s m) ≡ false → m.0 ≡ n.0 → ⊥
+  other_number n m e same = same_irp-ne (present_of s n) (present_of s m) e (ap (present_of s) (sym (id_eq m n same)))
+
+  -- the pass completes what it holds
+  pub done_keeps : (n : IrpId) (status : NtStatus) → n.0 < l.irps → (machine : MachineState) → Agrees machine (next_step s.run (Done (present_of s n))) → size_of machine ≡ size_of kept.machine
+      → (statuses : List (Option NtStatus)) → statuses ≡ slice_set kept.statuses n.0 (Some status)
+      → Keeps l (record kept { machine = machine; statuses = statuses }) (completing (present_of s n) status s)
+  done_keeps n status known machine a same statuses is = record {
+    agrees = a;
+    size = same ∙ k.size;
+    listing = k.listing;
+    queue = queue_done s.run s.queue k.queue (present_of s n);
+    outside = rw same_pass-refl refl;
+    told = λ i none. untold i (same_irp (present_of s n) i) refl none;
+    claims = k.claims;
+    statuses = λ j in_range. ap (λ x. slice_index_or x j.0 None) is ∙ told j in_range (same_irp (present_of s n) (present_of s j)) refl;
+    claims_size = k.claims_size;
+    statuses_size = ap length is ∙ length-set kept.statuses n.0 (Some status) ∙ k.statuses_size;
+  }
+    where
+      told : (j : IrpId) → j.0 < l.irps → (b : Bool) → same_irp (present_of s n) (present_of s j) ≡ b
+          → slice_index_or (slice_set kept.statuses n.0 (Some status)) j.0 None
+          ≡ option_map (λ (c : Completion). c.status) (cond (same_irp (present_of s n) (present_of s j)) (Some (record { irp = present_of s n; status = status })) (find (λ (c : Completion). same_irp c.irp (present_of s j)) s.completed))
+      told j in_range true e =
+          rw (e, number_of_now n j e) (get_or-set_same kept.statuses n.0 (Some status) None (omega (arith, known, k.statuses_size)))
+      told j in_range false e =
+          rw e (get_or-set_other kept.statuses n.0 j.0 (Some status) None (other_number n j e) ∙ k.statuses j in_range)
+
+      untold : (i : Irp) (b : Bool) → same_irp (present_of s n) i ≡ b → dones (next_step s.run (Done (present_of s n))) i ≡ []
+          → option_map (λ (c : Completion). c.status) (cond (same_irp (present_of s n) i) (Some (record { irp = present_of s n; status = status })) (find (λ (c : Completion). same_irp c.irp i) s.completed)) ≡ None
+      untold i true e none = absurd (cc (rw e at none))
+      untold i false e none = rw e (k.told i (rw e at none))
+
+  flagged_queue : (i : Irp) → IsOfRun l.first (next_step s.run (step.Flag i)) (after_event s.queue (event.FlagSeen i))
+  flagged_queue i = queue_flag s.run s.queue k.queue i
+
+  owes_more : (i j : Irp) (v : ℕ) → owes (record { pass = script_pass; kind = Take i; found = v } ∷ next_step s.run (step.Flag i)) script_pass j ≡ ((same_irp i j && v == 1) || owes s.run script_pass j)
+  owes_more i j v = rw same_pass-refl (ap (λ b. b || owes s.run script_pass j) (and-true (same_irp i j && v == 1)))
+
+  pub unclaimed_keeps : (i : Irp) → number i < (size_of kept.machine).irps → IsNow s i → armed s.run i ≡ false → (machine : MachineState)
+      → Agrees machine (next_step (next_step s.run (step.Flag i)) (Take i)) → size_of machine ≡ size_of kept.machine
+      → (t : Script) × Calls l s (Mark i) Unclaimed t × Keeps l (record kept { machine = machine }) t
+  unclaimed_keeps i known now none machine a same = (
+    after_mark i s,
+    claims_none i (omega (arith, known, irps_are)) now (ap bit none),
+    record {
+      agrees = a;
+      size = same ∙ k.size;
+      listing = k.listing;
+      queue = queue_take_none (next_step s.run (step.Flag i)) (after_event s.queue (event.FlagSeen i)) (flagged_queue i) i (bit (armed s.run i)) none;
+      outside = rw same_pass-refl refl;
+      told = k.told;
+      claims = λ m in_range.
+          let j = present_of s m in
+          k.claims m in_range ∙ sym (owes_more i j (bit (armed s.run i)) ∙ ap (λ n. (same_irp i j && n == 1) || owes s.run script_pass j) (ap bit none) ∙ same_owes (same_irp i j) (owes s.run script_pass j));
+      statuses = k.statuses;
+      claims_size = k.claims_size;
+      statuses_size = k.statuses_size;
+    },
+  )
+    where
+      same_owes : (b o : Bool) → ((b && false) || o) ≡ o
+      same_owes true o = refl
+      same_owes false o = refl
+
+  -- a claim is kept, or spent
+  set_claim : (n : IrpId) (b : Bool) → n.0 < l.irps → (m : IrpId) → m.0 < l.irps
+      → slice_index_or (slice_set kept.claims n.0 b) m.0 false ≡ cond (same_irp (present_of s n) (present_of s m)) b (owes s.run script_pass (present_of s m))
+  set_claim n b known m in_range = go (same_irp (present_of s n) (present_of s m)) refl
+    where
+      go : (t : Bool) → same_irp (present_of s n) (present_of s m) ≡ t
+          → slice_index_or (slice_set kept.claims n.0 b) m.0 false ≡ cond (same_irp (present_of s n) (present_of s m)) b (owes s.run script_pass (present_of s m))
+      go true e = rw (e, number_of_now n m e) (get_or-set_same kept.claims n.0 b false (omega (arith, known, k.claims_size)))
+      go false e = rw e (get_or-set_other kept.claims n.0 m.0 b false (other_number n m e) ∙ k.claims m in_range)
+
+  pub claimed_keeps : (i : Irp) → number i < (size_of kept.machine).irps → IsNow s i → armed s.run i ≡ true → (machine : MachineState)
+      → Agrees machine (next_step (next_step s.run (step.Flag i)) (Take i)) → size_of machine ≡ size_of kept.machine
+      → (claims : List Bool) → claims ≡ slice_set kept.claims i.irp.0 true
+      → (t : Script) × Calls l s (Mark i) Claimed t × Keeps l (record kept { machine = machine; claims = claims }) t
+  claimed_keeps i known now set machine a same claims is =
+      let here : number i < l.irps = omega (arith, known, irps_are) in
+      let there : has_entry s.queue.entries i ≡ true = k.queue.entries i ∙ armed_listed (size_of kept.machine) s.run k.agrees.run i set in
+      let unmarked : has_unmarked s.queue.entries i ≡ true = (marked_is s.run s.queue.entries k.queue.marks i).0 ∙ rw (there, set) refl in (
+        doing [] (event.Mark i) (after_mark i s),
+        claims_it i here now (ap bit set) unmarked,
+        record {
+          agrees = a;
+          size = same ∙ k.size;
+          listing = k.listing ∙ listing-marked l (after_event s.queue (event.FlagSeen i)) i;
+          queue = queue_take (next_step s.run (step.Flag i)) (after_event s.queue (event.FlagSeen i)) (flagged_queue i) i (bit (armed s.run i));
+          outside = rw same_pass-refl refl;
+          told = k.told;
+          claims = λ m in_range.
+              let j = present_of s m in
+              ap (λ x. slice_index_or x m.0 false) is ∙ set_claim i.irp true here m in_range ∙ ap (λ x. cond (same_irp x j) true (owes s.run script_pass j)) now
+              ∙ sym (owes_more i j (bit (armed s.run i)) ∙ ap (λ n. (same_irp i j && n == 1) || owes s.run script_pass j) (ap bit set) ∙ joined (same_irp i j) (owes s.run script_pass j));
+          statuses = k.statuses;
+          claims_size = ap length is ∙ length-set kept.claims i.irp.0 true ∙ k.claims_size;
+          statuses_size = k.statuses_size;
+        },
+      )
+    where
+      joined : (b o : Bool) → ((b && true) || o) ≡ cond b true o
+      joined true o = refl
+      joined false o = refl
+
+  -- the cancel routine takes out what is owed
+  pub out_keeps : (n : IrpId) → n.0 < (size_of kept.machine).irps → owes s.run script_pass (present_of s n) ≡ true → (machine : MachineState)
+      → Agrees machine (next_step s.run (Out (present_of s n))) → size_of machine ≡ size_of kept.machine
+      → (claims : List Bool) → claims ≡ slice_set kept.claims n.0 false → (new : Listing) → new ≡ removed n kept.listing
+      → Keeps l (record kept { machine = machine; claims = claims; listing = new }) (doing (Out (present_of s n) ∷ []) (event.Out (present_of s n)) s)
+  out_keeps n known owed machine a same claims is new without_n = record {
+    agrees = a;
+    size = same ∙ k.size;
+    listing = without_n ∙ ap (removed n) k.listing ∙ listing-removed l s.queue (present_of s n) refl (sound_lives (script_size l) s.run (run_for l kept s k) s.queue k.queue).entries;
+    queue = queue_out s.run s.queue k.queue (present_of s n) 0;
+    outside = rw same_pass-refl refl;
+    told = k.told;
+    claims = λ m in_range.
+        ap (λ x. slice_index_or x m.0 false) is ∙ set_claim n false (omega (arith, known, irps_are)) m in_range
+        ∙ sym (rw same_pass-refl (spent (same_irp (present_of s n) (present_of s m)) (owes s.run script_pass (present_of s m))));
+    statuses = k.statuses;
+    claims_size = ap length is ∙ length-set kept.claims n.0 false ∙ k.claims_size;
+    statuses_size = k.statuses_size;
+  }
+    where
+      spent : (b o : Bool) → (not (b && true) && o) ≡ cond b false o
+      spent true o = refl
+      spent false o = refl
+
+  pub out_may_come : (i : Irp) → owes s.run script_pass i ≡ true → has_marked s.queue.entries i ≡ true
+  out_may_come i owed =
+      let h = owed_listed (size_of kept.machine) s.run k.agrees.run i owed in
+      (marked_is s.run s.queue.entries k.queue.marks i).1 ∙ rw (k.queue.entries i ∙ h.0, h.1) refl
+
+  pub not_held_keeps : (n : IrpId) → n.0 < (size_of kept.machine).irps → (status : NtStatus) → holds s.run script_pass (present_of s n) ≡ false
+      → (t : Script) × Calls l s (Complete n status) (Refused NotHeld) t × Keeps l kept t
+  not_held_keeps n known status none = (s, holds_none n status (omega (arith, known, irps_are)) none, k)
+
+  pub pending_keeps : (n : IrpId) → n.0 < (size_of kept.machine).irps → (status : NtStatus) → holds s.run script_pass (present_of s n) ≡ true → status ≡ PENDING
+      → (t : Script) × Calls l s (Complete n status) (Refused StatusPending) t × Keeps l kept t
+  pending_keeps n known status held pending =
+      let P : NtStatus → Type 0 = λ x. Calls l s (Complete n x) (Refused StatusPending) s in
+      (s, subst P (sym pending) (refuses_pending n (omega (arith, known, irps_are)) held), k)
+
+  pub completed_keeps : (n : IrpId) → n.0 < (size_of kept.machine).irps → (status : NtStatus) → holds s.run script_pass (present_of s n) ≡ true → status ≢ PENDING
+      → (machine : MachineState) → Agrees machine (next_step s.run (Done (present_of s n))) → size_of machine ≡ size_of kept.machine
+      → (statuses : List (Option NtStatus)) → statuses ≡ slice_set kept.statuses n.0 (Some status)
+      → (t : Script) × Calls l s (Complete n status) (Completed status) t × Keeps l (record kept { machine = machine; statuses = statuses }) t
+  completed_keeps n known status held final machine a same statuses is =
+      let here : n.0 < l.irps = omega (arith, known, irps_are) in
+      (completing (present_of s n) status s, completes n status here held final, done_keeps n status here machine a same statuses is)
+
+  pub no_claim_keeps : (n : IrpId) → n.0 < (size_of kept.machine).irps → owes s.run script_pass (present_of s n) ≡ false → (t : Script) × Calls l s (Routine n) (Refused NoClaim) t × Keeps l kept t
+  no_claim_keeps n known none = (s, has_no_claim n (omega (arith, known, irps_are)) none, k)
+
+  pub owes_is : (n : IrpId) → n.0 < (size_of kept.machine).irps → slice_index_or kept.claims n.0 false ≡ owes s.run script_pass (present_of s n)
+  owes_is n known = k.claims n (omega (arith, known, irps_are))
+
+  -- whether the list has it
+  pub listed_there : (n : IrpId) → is_listed kept.listing.entries n ≡ listed s.run (present_of s n)
+  listed_there n =
+      ap (λ (x : Listing). is_listed x.entries n) k.listing
+      ∙ is_listed-plain s.queue.lives (present_of s n) refl s.queue.entries (sound_lives (script_size l) s.run (run_for l kept s k) s.queue k.queue).entries ∙ k.queue.entries (present_of s n)
+
+  pub owed_there : (n : IrpId) → owes s.run script_pass (present_of s n) ≡ true → is_listed kept.listing.entries n ≡ true
+  owed_there n owed = listed_there n ∙ (owed_listed (size_of kept.machine) s.run k.agrees.run (present_of s n) owed).0
+
+-- the same parts are kept
+pub keeps_as : (l : Limits) (a b : Keeping) (s : Script) → Keeps l a s → b.machine ≡ a.machine → b.listing ≡ a.listing → b.claims ≡ a.claims → b.statuses ≡ a.statuses → Keeps l b s
+keeps_as l a b s k machine listing claims statuses =
+    let M : MachineState → Type 0 = λ x. Keeps l (record { machine = x; listing = b.listing; claims = b.claims; statuses = b.statuses }) s in
+    let G : Listing → Type 0 = λ x. Keeps l (record { machine = a.machine; listing = x; claims = b.claims; statuses = b.statuses }) s in
+    let C : List Bool → Type 0 = λ x. Keeps l (record { machine = a.machine; listing = a.listing; claims = x; statuses = b.statuses }) s in
+    let S : List (Option NtStatus) → Type 0 = λ x. Keeps l (record { machine = a.machine; listing = a.listing; claims = a.claims; statuses = x }) s in
+    subst M (sym machine) (subst G (sym listing) (subst C (sym claims) (subst S (sym statuses) k)))
+
+-- where an IRP is says whether the pass holds it
+abbrev pub held_there : IrpPlace → Bool
+held_there (HeldBy q) = same_pass q script_pass
+held_there _ = false
+
+pub place_holds : (size : Size) (E : List Made) → IsRun size E → (i : Irp) (place : IrpPlace) → IsPlace E i place → held_there place ≡ holds E script_pass i
+place_holds size E r i place is = go (holds E script_pass i) refl
+  where
+    not_there : (p : IrpPlace) → IsPlace E i p → (b : Bool) → held_there p ≡ b → holds E script_pass i ≡ false → b ≡ false
+    not_there (HeldBy q) at true e none = let same : q ≡ script_pass = same_pass-eq q script_pass e in let held : holds E script_pass i ≡ true = ap (λ p. holds E p i) (sym same) ∙ at in cc
+    not_there (HeldBy q) at false e none = refl
+    not_there Home at b e none = sym e
+    not_there Listed at b e none = sym e
+    not_there (PlaceCompleted status p) at b e none = sym e
+
+    go : (b : Bool) → holds E script_pass i ≡ b → held_there place ≡ b
+    go true e = ap held_there (one_place size E r i place (HeldBy script_pass) is e) ∙ same_pass-refl script_pass
+    go false e = not_there place is (held_there place) refl e

@@ -1,0 +1,209 @@
+-- What the calls answer that other calls are made of.
+use Rattle.std.proofs.Common.{◌≡◌, ℕ, ◌+◌, ◌<◌, Bool, true, false, cond, not, ◌&&◌, ◌||◌, List, [], ◌∷◌, map, length, Some, None, refl, ap, sym, ◌∙◌, subst, arith}
+use Rattle.std.proofs.lemmas.Bool.{and_parts, not-true, not-false}
+use Rattle.std.proofs.Math.Bool.{or-false, and-false, or-true}
+use Rattle.std.proofs.lemmas.List.{length-map}
+use Rattle.irp_core.specs.declared.ids.FileId.{FileId}
+use Rattle.irp_core.specs.declared.ids.IrpId.{IrpId}
+use Rattle.irp_core.specs.declared.status.TheConstants.NtStatus.{CANCELLED}
+use Rattle.irp_core.specs.declared.step.Kind.TheVariants.{Disarm}
+use Rattle.irp_core.specs.declared.step.Made.{Made}
+use Rattle.irp_core.specs.Steps.{Irp, life_of, same_irp}
+use Rattle.irp_core.specs.Words.{armed}
+use Rattle.irp_core.specs.Owners.{owes, holds}
+use Rattle.irp_core.specs.Runs.{Size}
+use Rattle.irp_core.proofs.Names.{same_irp-refl, same_irp-eq, same_pass-refl}
+use Rattle.csq_list.specs.declared.entry.Peek.{Peek}
+use Rattle.csq_list.specs.declared.entry.Peek.TheVariants.{File}
+use Rattle.csq_list.specs.Searches.{matches, is_listed, is_distinct}
+use Rattle.csq_list.specs.Listing.{Listing, IsSound}
+use Rattle.csq_list.proofs.Keeping.{filter-none}
+use Rattle.csq_words.specs.declared.views.Event.TheVariants as event
+use Rattle.csq_words.specs.Queue.{Queued, QueueState, Limits, current, first_unmarked, has_entry, without, after_event, plain}
+use Rattle.csq_words.proofs.Listings.{is_listed-plain}
+use Rattle.csq_words.proofs.Lives.{ArePresent}
+use Rattle.csq_replay.specs.declared.call.Call.TheVariants.{Next, Mark, Routine, Cancel, Complete, Close, Cleanup}
+use Rattle.csq_replay.specs.declared.call.Reply.{Reply}
+use Rattle.csq_replay.specs.declared.call.Reply.TheVariants.{Removed, NoIrp, Claimed, Unclaimed, Completed, Closed}
+use Rattle.csq_replay.specs.Calls.{Script, script_pass, present_of, next_step, after_steps, removal_steps, Calls, Cleans, Does}
+use Rattle.csq_replay.specs.Calls.Calls.{removes_next, claims, claims_none, runs_routine, has_no_claim, completes, holds_none, closes, is_stale, knows_no_irp, knows_no_file}
+use Rattle.csq_replay.specs.Calls.Cleans.{none_left, one_more}
+use Rattle.csq_replay.specs.Calls.Does.{calls}
+use Rattle.csq_replay.specs.Drivers.{Keeping, Keeps, AreMarked}
+use Rattle.csq_replay.proofs.Removing.{present, entry_now, listed_is, listed_known}
+use Rattle.csq_replay.proofs.Queueing.{marks_stay, taken_routine}
+
+-- after a mark with a claim, the cancel routine runs
+pub routine_claimed : (l : Limits) (s t u : Script) (i : Irp) (r : Reply) → Calls l s (Mark i) Claimed t → Calls l t (Routine i.irp) r u → r ≡ Completed CANCELLED
+routine_claimed l s t u i r (claims j known now found may) (runs_routine k there owed out) = refl
+routine_claimed l s t u i r (claims j known now found may) (has_no_claim k there none) =
+    let mine : owes t.run script_pass i ≡ true = rw (same_irp-refl, same_pass-refl, found) refl in
+    let owed : owes t.run script_pass (present_of s i.irp) ≡ true = ap (owes t.run script_pass) now ∙ mine in absurd (cc (owed, none))
+routine_claimed l s t u i r (claims j known now found may) (is_stale c k names there stale) = absurd (cc names)
+routine_claimed l s t u i r (claims j known now found may) (knows_no_irp c k names le) =
+    let same : i.irp ≡ k = cc names in absurd (omega (arith, known, le, ap (λ (n : IrpId). n.0) same))
+routine_claimed l s t u i r (claims j known now found may) (knows_no_file c f names le) = absurd (cc names)
+
+-- a mark that is refused refuses the cancel
+pub cancel_refused : (l : Limits) (s t : Script) (i : Irp) (r : Reply) → Calls l s (Mark i) r t → (r ≡ Claimed → ⊥) → (r ≡ Unclaimed → ⊥) → Does l s (Cancel i) r t
+cancel_refused l s t i r (claims j known now found may) no_claim no_unclaimed = absurd (no_claim refl)
+cancel_refused l s t i r (claims_none j known now found) no_claim no_unclaimed = absurd (no_unclaimed refl)
+cancel_refused l s t i r (is_stale c k names known stale) no_claim no_unclaimed = calls (Cancel i) r t (is_stale (Cancel i) k names known stale)
+cancel_refused l s t i r (knows_no_irp c k names le) no_claim no_unclaimed = calls (Cancel i) r t (knows_no_irp (Cancel i) k names le)
+cancel_refused l s t i r (knows_no_file c f names le) no_claim no_unclaimed = absurd (cc names)
+
+-- a close that is refused refuses the cleanup
+pub cleanup_refused : (l : Limits) (s t : Script) (f : FileId) (r : Reply) → Calls l s (Close f) r t → (r ≡ Closed → ⊥) → Does l s (Cleanup f) r t
+cleanup_refused l s t f r (closes g known) other = absurd (other refl)
+cleanup_refused l s t f r (is_stale c j names known stale) other = absurd (cc names)
+cleanup_refused l s t f r (knows_no_irp c j names le) other = absurd (cc names)
+cleanup_refused l s t f r (knows_no_file c g names le) other = calls (Cleanup f) r t (knows_no_file (Cleanup f) g names le)
+
+-- what a removal disarms last, it holds
+pub removal_holds : (k : Peek) (i : Irp) (es : List Queued) (E : List Made) → AreMarked E es → first_unmarked k es ≡ Some i → holds (after_steps (removal_steps k es) E) script_pass i ≡ true
+removal_holds k i [] E h f = absurd cc
+removal_holds k i (e ∷ es) E h f = go (removal_holds k i es) (matches k e.file) refl e.marked refl
+  where
+    past : (a m : Bool) → (a ≡ false) → first_unmarked k (e ∷ es) ≡ Some i → (not e.marked && matches k e.file) ≡ false → first_unmarked k es ≡ Some i
+    past a m x found none = rw none at found
+
+    go : ((F : List Made) → AreMarked F es → first_unmarked k es ≡ Some i → holds (after_steps (removal_steps k es) F) script_pass i ≡ true) → (b : Bool) → matches k e.file ≡ b → (m : Bool) → e.marked ≡ m
+        → holds (after_steps (removal_steps k (e ∷ es)) E) script_pass i ≡ true
+    go rest false other m marked = rw other (rest E h.1 (past false m refl f (rw other (and-false (not e.marked)))))
+    go rest true match true marked =
+        let gone : armed E e.irp ≡ false = not-true (armed E e.irp) (sym h.0 ∙ marked) in
+        let marks : AreMarked (next_step E (Disarm e.irp)) es = marks_stay E (next_step E (Disarm e.irp)) es (λ j there. taken_routine E e.irp j (same_irp e.irp j || false) (or-false (same_irp e.irp j)) gone) h.1 in
+        rw (match, marked) (rest (next_step E (Disarm e.irp)) marks (past false true refl f (rw (match, marked) refl)))
+    go rest true match false marked =
+        let here : armed E e.irp ≡ true = not-false (armed E e.irp) (sym h.0 ∙ marked) in
+        let found : Some e.irp ≡ Some i = rw (match, marked) at f in
+        let same : e.irp ≡ i = cc in
+        rw (match, marked) (rw here (rw (same, same_irp-refl, same_pass-refl) refl))
+
+-- the IRP of a match is listed
+pub first_listed : (k : Peek) (i : Irp) (es : List Queued) → first_unmarked k es ≡ Some i → has_entry es i ≡ true
+first_listed k i [] f = absurd cc
+first_listed k i (e ∷ es) f = go (not e.marked && matches k e.file) refl (first_listed k i es)
+  where
+    go : (b : Bool) → (not e.marked && matches k e.file) ≡ b → (first_unmarked k es ≡ Some i → has_entry es i ≡ true) → (same_irp e.irp i || has_entry es i) ≡ true
+    go true match rest =
+        let found : Some e.irp ≡ Some i = rw match at f in
+        let same : e.irp ≡ i = cc in
+        rw (same, same_irp-refl) refl
+    go false match rest = ap (λ b. same_irp e.irp i || b) (rest (rw match at f)) ∙ or-true (same_irp e.irp i)
+
+-- one entry leaves
+pub length_without : (lives : IrpId → ℕ) (i : Irp) (es : List Queued) → ArePresent lives es → is_distinct (map plain es) ≡ true → has_entry es i ≡ true → length (without i es) + 1 ≡ length es
+length_without lives i [] present d h = absurd cc
+length_without lives i (e ∷ es) present d h = go (same_irp e.irp i) refl h (length_without lives i es present.1 (and_parts _ _ d).1)
+  where
+    go : (b : Bool) → same_irp e.irp i ≡ b → (b || has_entry es i) ≡ true → (has_entry es i ≡ true → length (without i es) + 1 ≡ length es)
+        → length (cond (not b) (e ∷ without i es) (without i es)) + 1 ≡ length (e ∷ es)
+    go true same h rest =
+        let alone : has_entry es i ≡ false = ap (has_entry es) (sym (same_irp-eq e.irp i same)) ∙ sym (is_listed-plain lives e.irp present.0 es present.1) ∙ not-true _ (and_parts _ _ d).0 in
+        omega (arith, ap length (filter-none (λ (e : Queued). same_irp e.irp i) es alone))
+    go false other h rest = omega (arith, rest h)
+
+-- what a removal of the next match tells
+pub next_removed : (l : Limits) (s t : Script) (k : Peek) (n : IrpId) (r : Reply) → r ≡ Removed n → Calls l s (Next k) r t
+    → (j : Irp) × (j.irp ≡ n) × (first_unmarked k s.queue.entries ≡ Some j) × (t.run ≡ after_steps (removal_steps k s.queue.entries) s.run) × (t.queue ≡ after_event s.queue (event.RemoveNext k (Some j)))
+next_removed l s t k n r is (removes_next k' (Some j) may) = let same : j.irp ≡ n = cc is in (j, same, sym may, refl, refl)
+next_removed l s t k n r is (removes_next k' None may) = absurd (cc is)
+next_removed l s t k n r is (is_stale c j names known stale) = absurd (cc names)
+next_removed l s t k n r is (knows_no_irp c j names le) = absurd (cc names)
+next_removed l s t k n r is (knows_no_file c f names le) = absurd (cc names)
+
+pub next_none : (l : Limits) (s t : Script) (k : Peek) (r : Reply) → ((n : IrpId) → r ≡ Removed n → ⊥) → Calls l s (Next k) r t → r ≡ NoIrp
+next_none l s t k r other (removes_next k' (Some j) may) = absurd (other j.irp refl)
+next_none l s t k r other (removes_next k' None may) = refl
+next_none l s t k r other (is_stale c j names known stale) = absurd (cc names)
+next_none l s t k r other (knows_no_irp c j names le) = absurd (cc names)
+next_none l s t k r other (knows_no_file c f names le) = absurd (cc names)
+
+-- a removal that answers none leaves the queue as it was
+pub next_kept : (l : Limits) (s t : Script) (k : Peek) (r : Reply) → r ≡ NoIrp → Calls l s (Next k) r t → t.queue ≡ s.queue
+next_kept l s t k r is (removes_next k' (Some j) may) = absurd (cc is)
+next_kept l s t k r is (removes_next k' None may) = refl
+next_kept l s t k r is (is_stale c j names known stale) = absurd (cc names)
+next_kept l s t k r is (knows_no_irp c j names le) = absurd (cc names)
+next_kept l s t k r is (knows_no_file c f names le) = absurd (cc names)
+
+-- what is held is completed
+pub held_completed : (l : Limits) (s t : Script) (n : IrpId) (r : Reply) → n.0 < l.irps → holds s.run script_pass (present_of s n) ≡ true → Calls l s (Complete n CANCELLED) r t
+    → (r ≡ Completed CANCELLED) × (t.queue ≡ s.queue)
+held_completed l s t n r known held (completes j status there holding final) = (refl, refl)
+held_completed l s t n r known held (holds_none j status there none) = absurd (cc (held, none))
+held_completed l s t n r known held (is_stale c j names there stale) = absurd (cc names)
+held_completed l s t n r known held (knows_no_irp c j names le) = let same : n ≡ j = cc names in absurd (omega (arith, known, le, ap (λ (m : IrpId). m.0) same))
+held_completed l s t n r known held (knows_no_file c f names le) = absurd (cc names)
+
+-- a cleanup so far: the script now, and how many IRPs were completed
+pub record CleansSoFar (l : Limits) (f : FileId) (s : Script) (kept : Keeping) : Type 0 where
+  pub now : Script
+  pub count : ℕ
+  pub keeps : Keeps l kept now
+  pub left : length now.queue.entries + count ≡ length s.queue.entries
+  pub more : (m : ℕ) (u : Script) → Cleans l f now m u → Cleans l f s (count + m) u
+
+pub cleans_first : (l : Limits) (f : FileId) (s : Script) (kept : Keeping) → Keeps l kept s → CleansSoFar l f s kept
+cleans_first l f s kept k = record { now = s; count = 0; keeps = k; left = omega arith; more = λ m u h. let P : ℕ → Type 0 = λ n. Cleans l f s n u in subst P (omega arith) h }
+
+pub entries_length : (l : Limits) (kept : Keeping) (s : Script) → Keeps l kept s → length kept.listing.entries ≡ length s.queue.entries
+entries_length l kept s k = ap (λ (x : Listing). length x.entries) k.listing ∙ length-map s.queue.entries plain
+
+module _ (l : Limits) (f : FileId) (s : Script) (kept : Keeping) (h : CleansSoFar l f s kept) (sound : IsSound kept.listing) where
+  module _ (i : IrpId) (t : Script) (next : Calls l h.now (Next (File f)) (Removed i) t) where
+    got : (j : Irp) × (j.irp ≡ i) × (first_unmarked (File f) h.now.queue.entries ≡ Some j) × (t.run ≡ after_steps (removal_steps (File f) h.now.queue.entries) h.now.run)
+        × (t.queue ≡ after_event h.now.queue (event.RemoveNext (File f) (Some j)))
+    got = next_removed l h.now t (File f) i (Removed i) refl next
+
+    there : has_entry h.now.queue.entries got.0 ≡ true
+    there = first_listed (File f) got.0 h.now.queue.entries got.2
+
+    -- what was got, by its number
+    got_now : present_of h.now i ≡ got.0
+    got_now = ap (present_of h.now) (sym got.1) ∙ entry_now l kept h.now h.keeps got.0 there
+
+    -- one entry less
+    pub one_less : length t.queue.entries + 1 ≡ length h.now.queue.entries
+    one_less =
+        let distinct : is_distinct (map plain h.now.queue.entries) ≡ true = sym (ap (λ (x : Listing). is_distinct x.entries) h.keeps.listing) ∙ sound.distinct in
+        ap (λ (q : QueueState). length q.entries + 1) got.4 ∙ length_without h.now.queue.lives got.0 h.now.queue.entries (present l kept h.now h.keeps) distinct there
+
+    module _ (u : Script) (r : Reply) (complete : Calls l t (Complete i CANCELLED) r u) where
+      completed : (r ≡ Completed CANCELLED) × (u.queue ≡ t.queue)
+      completed =
+          let life : life_of (present_of h.now i) ≡ h.now.queue.lives i = refl in
+          let here : is_listed kept.listing.entries i ≡ true = listed_is l kept h.now h.keeps (present_of h.now i) life ∙ ap (has_entry h.now.queue.entries) got_now ∙ there in
+          let known : i.0 < l.irps = omega (arith, listed_known l kept h.now h.keeps sound i here, ap (λ (n : Size). n.irps) h.keeps.size) in
+          let mine : holds t.run script_pass got.0 ≡ true = ap (λ E. holds E script_pass got.0) got.3 ∙ removal_holds (File f) got.0 h.now.queue.entries h.now.run h.keeps.queue.marks got.2 in
+          let name : present_of t i ≡ got.0 = ap (λ (q : QueueState). current q i) got.4 ∙ got_now in
+          let held : holds t.run script_pass (present_of t i) ≡ true = ap (holds t.run script_pass) name ∙ mine in
+          held_completed l t u i r known held complete
+
+      pub cleans_more : (last : Keeping) → Keeps l last u → CleansSoFar l f s last
+      cleans_more last k =
+          let IsCall : Reply → Type 0 = λ x. Calls l t (Complete i CANCELLED) x u in
+          let done = subst IsCall completed.0 complete in
+          record {
+            now = u;
+            count = h.count + 1;
+            keeps = k;
+            left = omega (arith, ap (λ (q : QueueState). length q.entries) completed.1, one_less, h.left);
+            more = λ m v rest.
+                let P : ℕ → Type 0 = λ n. Cleans l f s n v in
+                subst P (omega arith) (h.more (m + 1) v (one_more i h.now t u v m next done rest));
+          }
+
+      pub cleans_nearer : (last : Keeping) → Keeps l last u → length last.listing.entries < length kept.listing.entries
+      cleans_nearer last k =
+          omega (arith, entries_length l last u k, entries_length l kept h.now h.keeps, ap (λ (q : QueueState). length q.entries) completed.1, one_less)
+
+  -- none is left
+  pub cleans_all : (t : Script) (r : Reply) → ((i : IrpId) → r ≡ Removed i → ⊥) → Calls l h.now (Next (File f)) r t → (t.queue ≡ h.now.queue) × Cleans l f s h.count t
+  cleans_all t r other next =
+      let none = next_none l h.now t (File f) r other next in
+      let IsCall : Reply → Type 0 = λ x. Calls l h.now (Next (File f)) x t in
+      let P : ℕ → Type 0 = λ n. Cleans l f s n t in
+      let call = subst IsCall none next in
+      (next_kept l h.now t (File f) NoIrp refl call, subst P (omega arith) (h.more 0 t (none_left h.now t call)))

@@ -1,0 +1,43 @@
+-- What a handled script has come to.
+use Rattle.std.proofs.Common.{◌≡◌, ℕ, ◌+◌, List, [], ◌∷◌, ◌++◌, Option, Some, refl, ap, sym, ◌∙◌, append_assoc, subst}
+use Rattle.csq_words.specs.Queue.{Limits}
+use Rattle.csq_replay.specs.declared.answer.Ended.{Ended}
+use Rattle.csq_replay.specs.declared.answer.Ended.TheVariants.{AllHandled}
+use Rattle.csq_replay.specs.Pieces.{lines_of}
+use Rattle.csq_replay.specs.Calls.{Script, new_script}
+use Rattle.csq_replay.specs.ScriptAnswer.{AnswersCall, AnswersCalls, IsScriptAnswer, closing_lines}
+use Rattle.csq_replay.specs.ScriptAnswer.AnswersCall.{too_long, skipped, malformed, answered}
+use Rattle.csq_replay.specs.ScriptAnswer.AnswersCalls.{all_handled, goes_on, stops}
+use Rattle.csq_replay.specs.ScriptAnswer.IsScriptAnswer.{too_long_input, answered as lines_answered}
+use Rattle.csq_replay.specs.Laws.{LeadTo, EndsWith, EachInsertedIrpIsAccountedFor}
+use Rattle.csq_replay.specs.Laws.LeadTo.{at_end, by_nothing, by_call}
+use Rattle.csq_replay.proofs.Accounting.{new_accounts, led_accounts}
+
+module _ (l : Limits) where
+  -- a line leads on by its call, or by nothing
+  led_by : (s t : Script) (n : ℕ) (line text : List ℕ) (more : Option Script) (lines : List (List ℕ)) (last : Script) → AnswersCall l s n line text more → more ≡ Some t
+      → LeadTo l t lines last → LeadTo l s (line ∷ lines) last
+  led_by s t n line text more lines last (too_long lt) e led = absurd (cc e)
+  led_by s t n line text more lines last (skipped within skip) e led =
+      let same : t ≡ s = cc e in by_nothing s last line lines skip (subst (λ u. LeadTo l u lines last) same led)
+  led_by s t n line text more lines last (malformed within skip no_call) e led = absurd (cc e)
+  led_by s t n line text more lines last (answered c r u is does run) e led =
+      let same : t ≡ u = cc e in by_call s u last line lines c r is does (subst (λ v. LeadTo l v lines last) same led)
+
+  lines_end : (s : Script) (n : ℕ) (lines : List (List ℕ)) (text : List ℕ) (ended : Ended) → AnswersCalls l s n lines text ended → ended ≡ AllHandled
+      → (last : Script) × LeadTo l s lines last × EndsWith text (closing_lines l last)
+  lines_end s n lines text ended (all_handled a m) e = (s, at_end s, ([], refl))
+  lines_end s n lines text ended (goes_on a t m line left told rest ended' h answers) e =
+      let (last, led, (front, is)) = lines_end t (n + 1) left rest ended answers e in
+      (last, led_by s t n line told (Some t) left last h refl led, (told ++ front, ap (λ x. told ++ x) is ∙ sym (append_assoc told front (closing_lines l last))))
+  lines_end s n lines text ended (stops a m line left told h) e = absurd (cc e)
+
+  handled : (input text : List ℕ) (ended : Ended) → IsScriptAnswer l input text ended → ended ≡ AllHandled
+      → (last : Script) × LeadTo l (new_script l) (lines_of input) last × EndsWith text (closing_lines l last)
+  handled input text ended (too_long_input lt) e = absurd (cc e)
+  handled input text ended (lines_answered text' ended' le answers) e = lines_end (new_script l) 1 (lines_of input) text ended answers e
+
+  pub accounted : EachInsertedIrpIsAccountedFor l
+  accounted input text is =
+      let (last, led, ends) = handled input text AllHandled is refl in
+      (last, led, ends, λ i used. (led_accounts l (new_script l) last (lines_of input) led (new_accounts l)).each i used)

@@ -1,0 +1,186 @@
+-- Inserts: what the driver keeps in the end.
+use Rattle.std.proofs.Common.{nat_le, ◌≡◌, ℕ, ◌<◌, Bool, true, false, cond, ◌||◌, List, [], ◌∷◌, Option, Some, None, refl, ap, sym, ◌∙◌, subst, arith}
+use borrow.Author.Tests.{leb-false}
+use Rattle.irp_core.specs.declared.ids.FileId.{FileId}
+use Rattle.irp_core.specs.declared.ids.IrpId.{IrpId}
+use Rattle.irp_core.specs.declared.step.Kind.TheVariants.{Arm, Test, Disarm, Done}
+use Rattle.irp_core.specs.declared.step.Made.{Made}
+use Rattle.irp_core.specs.declared.step.Inside.TheVariants.{Nothing, Armed, FlagSeen}
+use Rattle.irp_core.specs.Steps.{Irp, number, same_irp}
+use Rattle.irp_core.specs.Words.{bit, flagged, was_armed, found_by}
+use Rattle.irp_core.specs.Inside.{inside, inside_after}
+use Rattle.irp_core.specs.Runs.{Size}
+use Rattle.irp_core.specs.MachineState.{MachineState, Agrees, size_of}
+use Rattle.irp_core.proofs.Names.{same_irp-refl, same_pass-refl}
+use Rattle.csq_list.specs.declared.entry.Place.{Place}
+use Rattle.csq_list.specs.declared.refusals.InsertStatus.{InsertStatus}
+use Rattle.csq_list.specs.declared.refusals.InsertStatus.TheVariants.{UnknownIrp, UnknownFile, NotHome, FileClosed, Full}
+use Rattle.csq_list.specs.Searches.{is_of, is_listed}
+use Rattle.csq_list.specs.Causes.{is_cause, first_cause}
+use Rattle.csq_list.specs.Listing.{Listing, put_at, inserted, removed}
+use Rattle.csq_list.proofs.Keeping.{filter-put_at, list_any-put_at}
+use Rattle.csq_list.proofs.Finding.{same_number-refl}
+use Rattle.csq_words.specs.declared.views.InsertReply.TheVariants as reply
+use Rattle.csq_words.specs.declared.views.Event.TheVariants as event
+use Rattle.csq_words.specs.Queue.{Queued, QueueState, Limits, listing_of, refusal, reply_to_insert, has_irp, has_entry, without, after_event, new_entry}
+use Rattle.csq_words.proofs.Listings.{listing-taken_back, listing-inserted}
+use Rattle.csq_replay.specs.declared.call.Call.TheVariants.{Insert}
+use Rattle.csq_replay.specs.declared.call.Reply.TheVariants.{Pending, InsertRefused}
+use Rattle.csq_replay.specs.Calls.{Script, script_pass, script_size, present_of, next_step, doing, Calls}
+use Rattle.csq_replay.specs.Calls.Calls.{refuses_insert, lists}
+use Rattle.csq_replay.specs.Drivers.{Keeping, Keeps, IsOfRun}
+use Rattle.csq_replay.proofs.Going.{Goes, May, starts, run_for, now_present, went, may_arm, may_test, may_disarm, may_done}
+use Rattle.csq_replay.proofs.Queueing.{queue_arm, queue_test, queue_hit, unlisted, sound_lives, found_then}
+use Rattle.csq_replay.proofs.Removing.{keeps_run}
+
+-- no cause holds of what isn't refused
+not_refused : {X : Type 0} (a b c : Bool) (x y z : X) (r : Option X) → None ≡ cond a (Some x) (cond b (Some y) (cond c (Some z) r)) → (a ≡ false) × (c ≡ false)
+not_refused true b c x y z r h = absurd cc
+not_refused false true c x y z r h = absurd cc
+not_refused false false true x y z r h = absurd cc
+not_refused false false false x y z r h = (refl, refl)
+
+pub zero_is : (b : Bool) (v : ℕ) → v ≡ bit b → v ≡ 0 → b ≡ false
+zero_is true v is e = absurd (omega arith)
+zero_is false v is e = refl
+
+pub one_is : (b : Bool) (v : ℕ) → v ≡ bit b → (v ≡ 0 → ⊥) → b ≡ true
+one_is true v is e = refl
+one_is false v is e = absurd (e is)
+
+module _ (l : Limits) (kept : Keeping) (s : Script) (k : Keeps l kept s) (n : IrpId) (f : FileId) (place : Place) where
+  abbrev pub i : Irp
+  i = present_of s n
+
+  replies : (o : Option InsertStatus) → o ≡ first_cause kept.listing n f → (b : Bool) → flagged s.run i ≡ b → reply_to_insert o b ≡ reply_to_insert (refusal l s.queue n f) (has_irp s.queue.flags i)
+  replies o is b flag =
+      ap (λ x. reply_to_insert x b) (is ∙ ap (λ (x : Listing). first_cause x n f) k.listing) ∙ ap (reply_to_insert (refusal l s.queue n f)) (sym (k.queue.flags i ∙ flag))
+
+  pub refused_keeps : (cause : InsertStatus) → Some cause ≡ first_cause kept.listing n f → (listing : Listing) → listing ≡ kept.listing
+      → (t : Script) × Calls l s (Insert n f place) (InsertRefused cause) t × Keeps l (record kept { listing = listing }) t
+  refused_keeps cause is listing same =
+      let P : Listing → Type 0 = λ x. Keeps l (record kept { listing = x }) s in
+      (s, refuses_insert n f place cause (replies (Some cause) is (flagged s.run i) refl), subst P (sym same) k)
+
+  module _ (accepted : None ≡ first_cause kept.listing n f) where
+    causes : InsertStatus → Bool
+    causes cause = is_cause kept.listing n f cause
+
+    tests : (nat_le kept.listing.irps n.0 ≡ false) × (kept.listing.used n ≡ false)
+    unfolding causes
+    tests = not_refused (causes UnknownIrp) (causes UnknownFile) (causes NotHome) UnknownIrp UnknownFile NotHome (cond (causes FileClosed) (Some FileClosed) (cond (causes Full) (Some Full) None)) accepted
+
+    pub known : number i < (size_of kept.machine).irps
+    known = omega (arith, leb-false kept.listing.irps n.0 tests.0, ap (λ (x : Listing). x.irps) k.listing, ap (λ (n : Size). n.irps) k.size)
+
+    home : was_armed s.run i ≡ false
+    home = sym (k.queue.used i) ∙ sym (ap (λ (x : Listing). x.used n) k.listing) ∙ tests.1
+
+    E1 : List Made
+    E1 = next_step s.run (Arm i)
+
+    pub arm_may : May kept.machine (Arm i)
+    arm_may = may_arm kept.machine s.run Nothing (starts l kept s k) i refl known home (now_present l kept s k n)
+
+    module _ (m1 : MachineState) (a1 : Agrees m1 (next_step s.run (Arm i))) (same1 : size_of m1 ≡ size_of kept.machine) where
+      goes1 : Goes m1 (next_step s.run (Arm i)) (Armed i)
+      goes1 = went kept.machine s.run Nothing (starts l kept s k) m1 (Arm i) a1 same1
+
+      known1 : number i < (size_of m1).irps
+      known1 = omega (arith, known, ap (λ (n : Size). n.irps) same1)
+
+      pub test_may : May m1 (Test i)
+      test_may = may_test m1 (next_step s.run (Arm i)) (Armed i) goes1 i refl known1
+
+      -- the queue of one thread, where the IRP is listed
+      listed_queue : QueueState
+      listed_queue = after_event s.queue (event.Insert n f place reply.Pending)
+
+      queue1 : IsOfRun l.first (next_step s.run (Arm i)) (after_event s.queue (event.Insert n f place reply.Pending))
+      queue1 = queue_arm (script_size l) s.run (run_for l kept s k) s.queue k.queue n f place home
+
+      module _ (m2 : MachineState) (a2 : Agrees m2 (next_step (next_step s.run (Arm i)) (Test i))) (same2 : size_of m2 ≡ size_of m1)
+          (v : ℕ) (value : v ≡ found_by (next_step s.run (Arm i)) (Test i)) (listing : Listing) (is : listing ≡ inserted place (record { irp = n; file = f }) kept.listing) where
+        goes2 : Goes m2 (next_step (next_step s.run (Arm i)) (Test i)) (inside_after (Armed i) (Test i) (bit (flagged s.run i)))
+        goes2 = went m1 (next_step s.run (Arm i)) (Armed i) goes1 m2 (Test i) a2 same2
+
+        queue2 : IsOfRun l.first (next_step (next_step s.run (Arm i)) (Test i)) (after_event s.queue (event.Insert n f place reply.Pending))
+        queue2 = queue_test (next_step s.run (Arm i)) (after_event s.queue (event.Insert n f place reply.Pending)) queue1 i
+
+        listing_is : listing ≡ listing_of l (after_event s.queue (event.Insert n f place reply.Pending))
+        listing_is = is ∙ ap (inserted place (record { irp = n; file = f })) k.listing ∙ listing-inserted l s.queue n f place
+
+        pub pending_keeps : v ≡ 0 → (t : Script) × Calls l s (Insert n f place) Pending t × Keeps l (record kept { machine = m2; listing = listing }) t
+        pending_keeps clear =
+            let flag : flagged s.run i ≡ false = zero_is (flagged s.run i) v value clear in (
+              doing (Arm i ∷ Test i ∷ []) (event.Insert n f place reply.Pending) s,
+              lists n f place (replies None accepted false flag),
+              keeps_run l kept s k m2 listing (next_step (next_step s.run (Arm i)) (Test i)) (after_event s.queue (event.Insert n f place reply.Pending)) a2 (same2 ∙ same1) listing_is queue2
+                  (goes2.at ∙ ap (λ b. inside_after (Armed i) (Test i) (bit b)) flag) (λ j. refl) (λ j. refl) (λ j. refl),
+            )
+
+        module _ (set : v ≡ 0 → ⊥) where
+          flag : flagged s.run i ≡ true
+          flag = one_is (flagged s.run i) v value set
+
+          E2 : List Made
+          E2 = next_step (next_step s.run (Arm i)) (Test i)
+
+          at2 : inside_after (Armed i) (Test i) (bit (flagged s.run i)) ≡ FlagSeen i
+          at2 = ap (λ b. inside_after (Armed i) (Test i) (bit b)) flag
+
+          known2 : number i < (size_of m2).irps
+          known2 = omega (arith, known1, ap (λ (n : Size). n.irps) same2)
+
+          pub disarm_may : May m2 (Disarm i)
+          disarm_may = may_disarm m2 (next_step (next_step s.run (Arm i)) (Test i)) _ goes2 i at2 known2
+
+          pub listed_now : is_listed listing.entries n ≡ true
+          listed_now =
+              ap (λ (x : Listing). is_listed x.entries n) is ∙ list_any-put_at (is_of n) place (record { irp = n; file = f }) kept.listing.entries
+              ∙ ap (λ b. b || is_listed kept.listing.entries n) (same_number-refl n)
+
+          -- the insert's own exchange finds the routine
+          one_found : found_by (next_step (next_step s.run (Arm i)) (Test i)) (Disarm i) ≡ 1
+          one_found = rw same_irp-refl refl
+
+          module _ (m3 : MachineState) (a3 : Agrees m3 (next_step (next_step (next_step s.run (Arm i)) (Test i)) (Disarm i))) (same3 : size_of m3 ≡ size_of m2)
+              (last : Listing) (without_i : last ≡ removed n listing) where
+            at3 : inside (next_step (next_step (next_step s.run (Arm i)) (Test i)) (Disarm i)) script_pass ≡ Nothing
+            at3 = (went m2 (next_step (next_step s.run (Arm i)) (Test i)) _ goes2 m3 (Disarm i) a3 same3).at
+                ∙ ap (λ x. inside_after x (Disarm i) (found_by (next_step (next_step s.run (Arm i)) (Test i)) (Disarm i))) at2
+
+            goes3 : Goes m3 (next_step (next_step (next_step s.run (Arm i)) (Test i)) (Disarm i)) Nothing
+            goes3 = record { agrees = a3; one = (went m2 (next_step (next_step s.run (Arm i)) (Test i)) _ goes2 m3 (Disarm i) a3 same3).one; at = at3 }
+
+            pub known3 : number i < (size_of m3).irps
+            known3 = omega (arith, known2, ap (λ (n : Size). n.irps) same3)
+
+            pub done_may : May m3 (Done i)
+            done_may = may_done m3 _ Nothing goes3 i refl known3 (rw (same_irp-refl, same_pass-refl) refl)
+
+            entries_back : without i (put_at place (new_entry i f) s.queue.entries) ≡ s.queue.entries
+            entries_back = filter-put_at (λ (e : Queued). same_irp e.irp i) place (new_entry i f) s.queue.entries (same_irp-refl i) (unlisted (script_size l) s.run (run_for l kept s k) s.queue k.queue i home)
+
+            with_these : List Queued → QueueState
+            with_these es = record { entries = es; closed = s.queue.closed; used = i ∷ s.queue.used; flags = s.queue.flags; lives = s.queue.lives }
+
+            queue3 : IsOfRun l.first (next_step (next_step (next_step s.run (Arm i)) (Test i)) (Disarm i)) (after_event s.queue (event.Insert n f place reply.Cancelled))
+            unfolding with_these
+            queue3 =
+                let F : ℕ → List Made = λ n. found_then (next_step (next_step s.run (Arm i)) (Test i)) (Disarm i) n in
+                let IsQueue : List Made → Type 0 = λ E. IsOfRun l.first E (with_these s.queue.entries) in
+                let OfEntries : List Queued → Type 0 = λ es. IsOfRun l.first (found_then (next_step (next_step s.run (Arm i)) (Test i)) (Disarm i) 1) (with_these es) in
+                subst IsQueue (ap F (sym one_found)) (subst OfEntries entries_back (queue_hit (next_step (next_step s.run (Arm i)) (Test i)) (after_event s.queue (event.Insert n f place reply.Pending)) queue2 i))
+
+            last_is : last ≡ listing_of l (after_event s.queue (event.Insert n f place reply.Cancelled))
+            last_is = without_i ∙ ap (removed n) (is ∙ ap (inserted place (record { irp = n; file = f })) k.listing)
+                ∙ listing-taken_back l s.queue n f place (sound_lives (script_size l) s.run (run_for l kept s k) s.queue k.queue).entries
+                (unlisted (script_size l) s.run (run_for l kept s k) s.queue k.queue i home)
+
+            pub taken_keeps : Keeps l (record kept { machine = m3; listing = last }) (doing (Arm i ∷ Test i ∷ Disarm i ∷ []) (event.Insert n f place reply.Cancelled) s)
+            taken_keeps = keeps_run l kept s k m3 last (next_step (next_step (next_step s.run (Arm i)) (Test i)) (Disarm i)) (after_event s.queue (event.Insert n f place reply.Cancelled)) a3 (same3 ∙ same2 ∙ same1)
+                last_is queue3 at3 (λ j. refl) (λ j. refl) (λ j. refl)
+
+            pub cancel_reply : reply.Cancelled ≡ reply_to_insert (refusal l s.queue n f) (has_irp s.queue.flags i)
+            cancel_reply = replies None accepted true flag

@@ -1,0 +1,13 @@
+use Rattle.std.proofs.Common.{◌≡◌, ◌++◌, List, filter, string_bytes}
+use Rattle.irp_core.specs.declared.step.Made.{Made}
+use Rattle.irp_core.specs.MachineState.{Agrees, size_of}
+use Rattle.irp_core.specs.declared.ids.IrpId.{IrpId}
+use Rattle.irp_core.specs.Lives.{present}
+use Rattle.irp_core.specs.Owners.{holds}
+use Rattle.csq_replay.specs.Calls.{script_pass}
+use Rattle.csq_replay.specs.ScriptAnswer.{numbers, irps_below}
+use Rattle.csq_replay.proofs.remains.write_held.Given as goal
+
+-- the numbers of the IRPs so far that are held
+abbrev pub invariant-loop-number : goal.invariant-loop-number
+invariant-loop-number g l = (E : List Made) → Agrees l.driver.machine E → string_bytes l.text ≡ string_bytes l.fn.text ++ numbers (filter (λ (n : IrpId). holds E script_pass (present (size_of l.driver.machine).first E n)) (irps_below l.number))

@@ -1,0 +1,192 @@
+-- What the calls of a script do: steps of one pass beside events of the queue of one thread.
+use Rattle.std.specs.Prelude.{◌≡◌, ◌≢◌, ℕ, ◌+◌, ◌<◌, ◌≤◌, true, false, List, [], ◌∷◌, Option, Some, None, if◌then◌else◌}
+use Rattle.std.specs.List.{find}
+use Rattle.std.specs.Option.{option_map}
+use Rattle.irp_core.specs.declared.ids.PassId.{PassId}
+use Rattle.irp_core.specs.declared.ids.FileId.{FileId}
+use Rattle.irp_core.specs.declared.ids.IrpId.{IrpId}
+use Rattle.irp_core.specs.declared.ids.Life.{Life}
+use Rattle.irp_core.specs.declared.status.NtStatus.{NtStatus}
+use Rattle.irp_core.specs.declared.status.TheConstants.NtStatus.{PENDING, CANCELLED}
+use Rattle.irp_core.specs.declared.step.Kind.{Kind}
+use Rattle.irp_core.specs.declared.step.Kind.TheVariants as step
+use Rattle.irp_core.specs.declared.step.Made.{Made}
+use Rattle.irp_core.specs.Steps.{Irp, number, same_irp}
+use Rattle.irp_core.specs.Lives.{last_life}
+use Rattle.irp_core.specs.Words.{flagged, found_by}
+use Rattle.irp_core.specs.Owners.{owes, holds}
+use Rattle.irp_core.specs.Runs.{Size}
+use Rattle.csq_list.specs.declared.entry.Place.{Place}
+use Rattle.csq_list.specs.declared.entry.Peek.{Peek}
+use Rattle.csq_list.specs.declared.entry.Peek.TheVariants.{File}
+use Rattle.csq_list.specs.declared.refusals.InsertStatus.{InsertStatus}
+use Rattle.csq_list.specs.Searches.{matches}
+use Rattle.csq_words.specs.declared.views.Completion.{Completion}
+use Rattle.csq_words.specs.declared.views.InsertReply.TheVariants as insert
+use Rattle.csq_words.specs.declared.views.Event.{Event}
+use Rattle.csq_words.specs.declared.views.Event.TheVariants as event
+use Rattle.csq_words.specs.Queue.{Queued, QueueState, Limits, empty_queue, current, has_marked, has_unmarked, after_event}
+use Rattle.csq_words.specs.History.{MayCome}
+use Rattle.csq_replay.specs.declared.call.Call.{Call}
+use Rattle.csq_replay.specs.declared.call.Call.TheVariants.{Insert, Next, Remove, Mark, Routine, Cancel, Complete, Close, Cleanup, Flag, Status, Reuse}
+use Rattle.csq_replay.specs.declared.call.Refusal.TheVariants.{UnknownIrp, UnknownFile, NoClaim, NotHeld, StatusPending, Stale, NotCompleted, LivesSpent}
+use Rattle.csq_replay.specs.declared.call.Reply.{Reply}
+use Rattle.csq_replay.specs.declared.call.Reply.TheVariants.{Pending, Cancelled, InsertRefused, Removed, NoIrp, Claimed, Unclaimed, Completed, CancelAnswered, Closed, Cleaned, Unset, Begun, Refused}
+use Rattle.csq_replay.specs.declared.call.Reply.TheVariants as reply
+
+-- the one pass of a script
+abbrev pub script_pass : PassId
+script_pass = record { 0 = 1 }
+
+-- so many IRPs, one pass, and the life in which all IRPs begin
+abbrev pub script_size : Limits → Size
+script_size l = record { irps = l.irps; passes = 1; first = l.first }
+
+-- the steps of the pass, the queue of one thread, and what was completed with which status, the newest first
+pub record Script : Type 0 where
+  pub run : List Made
+  pub queue : QueueState
+  pub completed : List Completion
+
+-- before the first call
+abbrev pub new_script : Limits → Script
+new_script l = record { run = []; queue = empty_queue l.first; completed = [] }
+
+-- IRP n in its present life
+abbrev pub present_of : Script → IrpId → Irp
+present_of s n = current s.queue n
+
+-- i names the present life of its IRP
+abbrev pub IsNow : Script → Irp → Type 0
+IsNow s i = present_of s i.irp ≡ i
+
+-- the present life of IRP n, and the one after it
+abbrev pub life_now : Script → IrpId → Life
+life_now s n = record { 0 = s.queue.lives n }
+
+abbrev pub life_after : Script → IrpId → Life
+life_after s n = record { 0 = s.queue.lives n + 1 }
+
+-- E followed by a step of the pass, with the value that it finds
+abbrev pub next_step : List Made → Kind → List Made
+next_step E k = record { pass = script_pass; kind = k; found = found_by E k } ∷ E
+
+-- E followed by these steps, one after the other
+abbrev pub after_steps : List Kind → List Made → List Made
+after_steps [] E = E
+after_steps (k ∷ ks) E = after_steps ks (next_step E k)
+
+-- the script after steps and an event
+abbrev pub doing : List Kind → Event → Script → Script
+doing ks e s = record s { run = after_steps ks s.run; queue = after_event s.queue e }
+
+-- the script after the completion of an IRP
+abbrev pub completing : Irp → NtStatus → Script → Script
+completing i status s = record s { run = next_step s.run (step.Done i); completed = record { irp = i; status = status } ∷ s.completed }
+
+-- a removal of the next match disarms each match until one isn't marked. Where none is left, it ends
+abbrev pub removal_steps : Peek → List Queued → List Kind
+removal_steps k [] = step.End ∷ []
+removal_steps k (e ∷ es) = if matches k e.file then step.Disarm e.irp ∷ (if e.marked then removal_steps k es else []) else removal_steps k es
+
+-- a removal of i disarms it where it is listed, and ends where it is marked or not listed
+abbrev pub remove_steps : Irp → List Queued → List Kind
+remove_steps i es = if has_unmarked es i then step.Disarm i ∷ [] else (if has_marked es i then step.Disarm i ∷ step.End ∷ [] else step.End ∷ [])
+
+-- what a removal answers that takes this IRP, or none
+abbrev pub removal_reply : Option Irp → Reply
+removal_reply (Some i) = Removed i.irp
+removal_reply None = NoIrp
+
+-- the status of a life, if it was completed
+abbrev pub status_of : List Completion → Irp → Option NtStatus
+status_of completed i = option_map (λ (c : Completion). c.status) (find (λ (c : Completion). same_irp c.irp i) completed)
+
+abbrev pub status_reply : Option NtStatus → Reply
+status_reply (Some status) = reply.Status status
+status_reply None = Unset
+
+-- the IRP that a call names, an insert's aside
+abbrev pub irp_of : Call → Option IrpId
+irp_of (Remove i) = Some i.irp
+irp_of (Mark i) = Some i.irp
+irp_of (Routine n) = Some n
+irp_of (Cancel i) = Some i.irp
+irp_of (Complete n status) = Some n
+irp_of (Flag n) = Some n
+irp_of (Status n) = Some n
+irp_of (Reuse n) = Some n
+irp_of _ = None
+
+-- the life that a call is to cancel
+abbrev pub cancelled_life : Call → Option Irp
+cancelled_life (Mark i) = Some i
+cancelled_life (Cancel i) = Some i
+cancelled_life _ = None
+
+-- the file object that a call closes
+abbrev pub file_of : Call → Option FileId
+file_of (Close f) = Some f
+file_of (Cleanup f) = Some f
+file_of _ = None
+
+-- the script after a mark: the Take found the routine, or didn't
+abbrev pub after_mark : Irp → Script → Script
+after_mark i s = doing (step.Flag i ∷ step.Take i ∷ []) (event.FlagSeen i) s
+
+-- the script after a reuse
+abbrev pub after_reuse : IrpId → Script → Script
+after_reuse n s = doing (step.Renew (present_of s n) ∷ []) (event.Reuse n (life_after s n)) s
+
+-- a call that isn't made of others, in a script that did s before: what it answers, and the script after it
+pub data Calls (l : Limits) (s : Script) : Call → Reply → Script → Type 0 where
+  refuses_insert : (n : IrpId) (f : FileId) (place : Place) (cause : InsertStatus) → MayCome l s.queue (event.Insert n f place (insert.Refused cause))
+      → Calls l s (Insert n f place) (InsertRefused cause) s
+  lists : (n : IrpId) (f : FileId) (place : Place) → MayCome l s.queue (event.Insert n f place insert.Pending)
+      → Calls l s (Insert n f place) Pending (doing (step.Arm (present_of s n) ∷ step.Test (present_of s n) ∷ []) (event.Insert n f place insert.Pending) s)
+  cancels_insert : (n : IrpId) (f : FileId) (place : Place) → MayCome l s.queue (event.Insert n f place insert.Cancelled)
+      → Calls l s (Insert n f place) Cancelled
+      (completing (present_of s n) CANCELLED
+      (doing (step.Arm (present_of s n) ∷ step.Test (present_of s n) ∷ step.Disarm (present_of s n) ∷ []) (event.Insert n f place insert.Cancelled) s))
+  removes_next : (k : Peek) (got : Option Irp) → MayCome l s.queue (event.RemoveNext k got)
+      → Calls l s (Next k) (removal_reply got) (doing (removal_steps k s.queue.entries) (event.RemoveNext k got) s)
+  removes : (i : Irp) → number i < l.irps → MayCome l s.queue (event.Remove i true)
+      → Calls l s (Remove i) (Removed i.irp) (doing (remove_steps i s.queue.entries) (event.Remove i true) s)
+  removes_none : (i : Irp) → number i < l.irps → MayCome l s.queue (event.Remove i false)
+      → Calls l s (Remove i) NoIrp (doing (remove_steps i s.queue.entries) (event.Remove i false) s)
+  claims : (i : Irp) → number i < l.irps → IsNow s i → found_by s.run (step.Take i) ≡ 1 → MayCome l s.queue (event.Mark i)
+      → Calls l s (Mark i) Claimed (doing [] (event.Mark i) (after_mark i s))
+  claims_none : (i : Irp) → number i < l.irps → IsNow s i → found_by s.run (step.Take i) ≡ 0
+      → Calls l s (Mark i) Unclaimed (after_mark i s)
+  is_stale : (c : Call) (i : Irp) → cancelled_life c ≡ Some i → number i < l.irps → ¬ IsNow s i → Calls l s c (Refused (Stale (life_now s i.irp))) s
+  runs_routine : (n : IrpId) → n.0 < l.irps → owes s.run script_pass (present_of s n) ≡ true → MayCome l s.queue (event.Out (present_of s n))
+      → Calls l s (Routine n) (Completed CANCELLED)
+      (completing (present_of s n) CANCELLED (doing (step.Out (present_of s n) ∷ []) (event.Out (present_of s n)) s))
+  has_no_claim : (n : IrpId) → n.0 < l.irps → owes s.run script_pass (present_of s n) ≡ false → Calls l s (Routine n) (Refused NoClaim) s
+  completes : (n : IrpId) (status : NtStatus) → n.0 < l.irps → holds s.run script_pass (present_of s n) ≡ true → status ≢ PENDING
+      → Calls l s (Complete n status) (Completed status) (completing (present_of s n) status s)
+  holds_none : (n : IrpId) (status : NtStatus) → n.0 < l.irps → holds s.run script_pass (present_of s n) ≡ false → Calls l s (Complete n status) (Refused NotHeld) s
+  refuses_pending : (n : IrpId) → n.0 < l.irps → holds s.run script_pass (present_of s n) ≡ true → Calls l s (Complete n PENDING) (Refused StatusPending) s
+  closes : (f : FileId) → MayCome l s.queue (event.CloseFile f) → Calls l s (Close f) Closed (doing [] (event.CloseFile f) s)
+  tells_flag : (n : IrpId) → n.0 < l.irps → Calls l s (Flag n) (reply.Flag (flagged s.run (present_of s n))) s
+  tells_status : (n : IrpId) → n.0 < l.irps → Calls l s (Status n) (status_reply (status_of s.completed (present_of s n))) s
+  reuses : (n : IrpId) (status : NtStatus) → n.0 < l.irps → status_of s.completed (present_of s n) ≡ Some status → s.queue.lives n < last_life
+      → MayCome l s.queue (event.Reuse n (life_after s n)) → Calls l s (Reuse n) (Begun (life_after s n)) (after_reuse n s)
+  not_completed : (n : IrpId) → n.0 < l.irps → status_of s.completed (present_of s n) ≡ None → Calls l s (Reuse n) (Refused NotCompleted) s
+  lives_spent : (n : IrpId) (status : NtStatus) → n.0 < l.irps → status_of s.completed (present_of s n) ≡ Some status → last_life ≤ s.queue.lives n
+      → Calls l s (Reuse n) (Refused LivesSpent) s
+  knows_no_irp : (c : Call) (n : IrpId) → irp_of c ≡ Some n → l.irps ≤ n.0 → Calls l s c (Refused UnknownIrp) s
+  knows_no_file : (c : Call) (f : FileId) → file_of c ≡ Some f → l.files ≤ f.0 → Calls l s c (Refused UnknownFile) s
+
+-- removals for a file object, with the completion of each IRP, until none is answered: how many there were
+pub data Cleans (l : Limits) (f : FileId) : Script → ℕ → Script → Type 0 where
+  none_left : (s t : Script) → Calls l s (Next (File f)) NoIrp t → Cleans l f s 0 t
+  one_more : (i : IrpId) (s t u v : Script) (n : ℕ) → Calls l s (Next (File f)) (Removed i) t → Calls l t (Complete i CANCELLED) (Completed CANCELLED) u
+      → Cleans l f u n v → Cleans l f s (n + 1) v
+
+-- a call, which may be made of others: a cancel is a mark and, with its claim, the cancel routine; a cleanup closes and cleans
+pub data Does (l : Limits) (s : Script) : Call → Reply → Script → Type 0 where
+  calls : (c : Call) (r : Reply) (t : Script) → Calls l s c r t → Does l s c r t
+  cancel_claimed : (i : Irp) (t u : Script) → Calls l s (Mark i) Claimed t → Calls l t (Routine i.irp) (Completed CANCELLED) u → Does l s (Cancel i) (CancelAnswered true) u
+  cancel_unclaimed : (i : Irp) (t : Script) → Calls l s (Mark i) Unclaimed t → Does l s (Cancel i) (CancelAnswered false) t
+  cleaned : (f : FileId) (t u : Script) (n : ℕ) → Calls l s (Close f) Closed t → Cleans l f t n u → Does l s (Cleanup f) (Cleaned n) u

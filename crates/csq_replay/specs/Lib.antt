@@ -1,0 +1,11 @@
+pub mod Pieces
+pub mod StepLine
+pub mod Inputs
+pub mod Schedule
+pub mod Replays
+pub mod Laws
+pub mod ReplyText
+pub mod CallLine
+pub mod Calls
+pub mod ScriptAnswer
+pub mod Drivers

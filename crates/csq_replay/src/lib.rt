@@ -1,0 +1,26 @@
+//! Schedules of the steps of a cancel-safe IRP queue, and scripts of its calls: how each line is read, made
+//! and answered.
+#![tactic(auto)]
+
+mod answer;
+mod call;
+mod call_line;
+mod closing;
+mod driver;
+mod laws;
+mod pieces;
+mod remains;
+mod replay;
+mod schedule;
+mod script;
+mod step_line;
+
+pub use answer::{Ended, MAX_INPUT, SimFault, exit_status};
+pub use laws::{
+    a_schedule_has_one_answer, a_script_has_one_answer, each_inserted_irp_is_accounted_for,
+};
+pub use schedule::answer_schedule;
+pub use script::answer_script;
+
+#[cfg(test)]
+mod tests;

@@ -1,0 +1,365 @@
+mod memory;
+mod scripts;
+
+use crate::answer::{Ended, MAX_INPUT, SimFault, exit_status};
+use crate::schedule::answer_schedule;
+use std::alloc::Global;
+use std::io;
+use std::io::{Error, ErrorKind, Read, Write};
+use std::process::Abort;
+use std::test::Fail;
+
+/// Answers a schedule over 8 IRPs and 4 passes, from memory to memory, without the claims.
+fn answered(alloc: Global, mut input: &[u8], text: &mut Vec<u8>) -> Result<Ended, SimFault> {
+    answer_schedule(alloc, 8, 4, false, &mut input, text)
+}
+
+/// Answers each input, and compares the text.
+fn compare(
+    rt: &impl Abort,
+    alloc: Global,
+    ended: Ended,
+    cases: &[(&str, &str)],
+) -> Result<(), SimFault> {
+    for (input, output) in cases {
+        let mut text = Vec::new(alloc);
+        assert_eq!(rt; answered(alloc, input.as_bytes(), &mut text)?, ended);
+        assert_eq!(rt; text.as_slice(), output.as_bytes(), "at {input:?}");
+    }
+    Ok(())
+}
+
+#[test]
+fn cancels_are_replayed(rt: HostRuntime) -> Result<(), Fail> {
+    let cases = [
+        (
+            "p1 arm 0\np1 test 0\np2 flag 0\np2 take 0\np2 out 0\np2 done 0\n",
+            "p1 arm 0 found 0\np1 test 0 found 0\np2 flag 0 found 0\np2 take 0 found 1\np2 out 0 found 0\np2 done 0 found 0\nirp 0 completed C0000120 by p2 cancel 1\nrest yes\n",
+        ),
+        (
+            "p2 flag 0\np2 take 0\np1 arm 0\np1 test 0\np1 disarm 0\np1 done 0\n",
+            "p2 flag 0 found 0\np2 take 0 found 0\np1 arm 0 found 0\np1 test 0 found 1\np1 disarm 0 found 1\np1 done 0 found 0\nirp 0 completed C0000120 by p1 cancel 1\nrest yes\n",
+        ),
+        (
+            "p1 arm 0\np2 flag 0\np1 test 0\np2 take 0\np1 disarm 0\np2 out 0\np2 done 0\n",
+            "p1 arm 0 found 0\np2 flag 0 found 0\np1 test 0 found 1\np2 take 0 found 1\np1 disarm 0 found 0\np2 out 0 found 0\np2 done 0 found 0\nirp 0 completed C0000120 by p2 cancel 1\nrest yes\n",
+        ),
+        (
+            "p1 arm 0\np2 flag 0\np1 test 0\np1 disarm 0\np2 take 0\n",
+            "p1 arm 0 found 0\np2 flag 0 found 0\np1 test 0 found 1\np1 disarm 0 found 1\np2 take 0 found 0\nirp 0 held by p1 cancel 1\nrest no\n",
+        ),
+        (
+            "p1 arm 0\np1 test 0\np1 arm 1\np1 test 1\np2 flag 0\np2 take 0\np3 disarm 0\np3 disarm 1\n",
+            "p1 arm 0 found 0\np1 test 0 found 0\np1 arm 1 found 0\np1 test 1 found 0\np2 flag 0 found 0\np2 take 0 found 1\np3 disarm 0 found 0\np3 disarm 1 found 1\nirp 0 listed cancel 1\nirp 1 held by p3 cancel 0\nrest no\n",
+        ),
+        (
+            "p1 arm 0\np1 test 0\np2 flag 0\np3 flag 0\np2 take 0\np3 take 0\n",
+            "p1 arm 0 found 0\np1 test 0 found 0\np2 flag 0 found 0\np3 flag 0 found 1\np2 take 0 found 1\np3 take 0 found 0\nirp 0 listed cancel 1\nrest no\n",
+        ),
+    ];
+    compare(&rt, rt.alloc(), Ended::AllHandled, &cases)?;
+    Ok(())
+}
+
+#[test]
+fn other_schedules_are_closed(rt: HostRuntime) -> Result<(), Fail> {
+    let cases = [
+        (
+            "p1 arm 0\np1 test 0\np3 disarm 0\np3 done 0\n",
+            "p1 arm 0 found 0\np1 test 0 found 0\np3 disarm 0 found 1\np3 done 0 found 0\nirp 0 completed 00000000 by p3 cancel 0\nrest yes\n",
+        ),
+        (
+            "p1 arm 0\np1 test 0\np2 flag 0\np2 take 0\np3 disarm 0\np3 end\np2 out 0\n",
+            "p1 arm 0 found 0\np1 test 0 found 0\np2 flag 0 found 0\np2 take 0 found 1\np3 disarm 0 found 0\np3 end found 0\np2 out 0 found 0\nirp 0 held by p2 cancel 1\nrest no\n",
+        ),
+        ("p1 end", "p1 end found 0\nrest yes\n"),
+        ("", "rest yes\n"),
+        (
+            "p2 flag 3\np2 take 3\n",
+            "p2 flag 3 found 0\np2 take 3 found 0\nirp 3 home cancel 1\nrest yes\n",
+        ),
+        ("\n# a comment\np1 end", "p1 end found 0\nrest yes\n"),
+    ];
+    compare(&rt, rt.alloc(), Ended::AllHandled, &cases)?;
+    Ok(())
+}
+
+#[test]
+fn a_refused_step_ends_the_handling(rt: HostRuntime) -> Result<(), Fail> {
+    let cases = [
+        (
+            "p1 arm 0\np3 disarm 0\n",
+            "p1 arm 0 found 0\nline 2 refused LockHeld p1\n",
+        ),
+        (
+            "p1 arm 0\np1 test 0\np2 out 0\n",
+            "p1 arm 0 found 0\np1 test 0 found 0\nline 3 refused NotOwed\n",
+        ),
+        (
+            "p2 flag 0\np2 done 0\n",
+            "p2 flag 0 found 0\nline 2 refused NotNext\n",
+        ),
+        (
+            "p1 arm 0\np1 test 0\np2 flag 0\np2 take 0\np3 disarm 0\np2 out 0\n",
+            "p1 arm 0 found 0\np1 test 0 found 0\np2 flag 0 found 0\np2 take 0 found 1\np3 disarm 0 found 0\nline 6 refused LockHeld p3\n",
+        ),
+        (
+            "p1 arm 0\np1 end\n",
+            "p1 arm 0 found 0\nline 2 refused NotNext\n",
+        ),
+        ("p1 disarm 0\n", "line 1 refused NotListed\n"),
+        (
+            "p1 arm 0\np1 test 0\np2 arm 0\n",
+            "p1 arm 0 found 0\np1 test 0 found 0\nline 3 refused NotHome\n",
+        ),
+        (
+            "p1 arm 0\np1 test 0\np1 done 0\n",
+            "p1 arm 0 found 0\np1 test 0 found 0\nline 3 refused NotHeld\n",
+        ),
+        ("p9 flag 8\n", "line 1 refused UnknownIrp\n"),
+        (
+            "p1 arm 0\np2 take 0\n",
+            "p1 arm 0 found 0\nline 2 refused NotNext\n",
+        ),
+        ("p1 ar", "line 1 malformed\n"),
+    ];
+    compare(&rt, rt.alloc(), Ended::Stopped, &cases)?;
+    Ok(())
+}
+
+#[test]
+fn a_malformed_line_ends_the_handling(rt: HostRuntime) -> Result<(), Fail> {
+    let cases = [
+        ("p5 end\n", "line 1 refused UnknownPass\n"),
+        ("p0 end\n", "line 1 refused UnknownPass\n"),
+        ("# a comment\n\np1 arm 00\n", "line 3 malformed\n"),
+        ("p1 arm 0 \n", "line 1 malformed\n"),
+        ("p1  arm 0\n", "line 1 malformed\n"),
+        ("p1 arm 0\r\n", "line 1 malformed\n"),
+        ("P1 arm 0\n", "line 1 malformed\n"),
+        ("p1 end 0\n", "line 1 malformed\n"),
+        ("p01 end\n", "line 1 malformed\n"),
+        ("p1 arm 1000000000\n", "line 1 malformed\n"),
+        ("p1 arm 999999999\n", "line 1 refused UnknownIrp\n"),
+    ];
+    compare(&rt, rt.alloc(), Ended::Stopped, &cases)?;
+    Ok(())
+}
+
+#[test]
+fn claims_are_told_where_they_are_asked_for(rt: HostRuntime) -> Result<(), Fail> {
+    let cases = [
+        (
+            "p2 flag 0\np2 take 0\np1 arm 0\np1 test 0\np1 disarm 0\np1 done 0\n",
+            "rest yes\nclaim 0 line 5 p1\n",
+        ),
+        (
+            "p1 arm 0\np2 flag 0\np1 test 0\np2 take 0\np1 disarm 0\np2 out 0\np2 done 0\n",
+            "rest yes\nclaim 0 line 4 p2\n",
+        ),
+        (
+            "p1 arm 0\np1 test 0\np1 arm 1\np1 test 1\np2 flag 0\np2 take 0\np3 disarm 0\np3 disarm 1\n",
+            "rest no\nclaim 0 line 6 p2\nclaim 1 line 8 p3\n",
+        ),
+    ];
+    for (input, last) in cases {
+        let mut bytes = input.as_bytes();
+        let mut text = Vec::new(rt.alloc());
+        answer_schedule(rt.alloc(), 8, 4, true, &mut bytes, &mut text)?;
+        assert!(rt; text.as_slice().ends_with(last.as_bytes()), "at {input:?}");
+    }
+    Ok(())
+}
+
+#[test]
+fn lives_are_replayed(rt: HostRuntime) -> Result<(), Fail> {
+    let renewed = "p1 arm 0\np1 test 0\np3 disarm 0\np2 flag 0\np3 done 0\np1 renew 0\np2 take 0\n";
+    let found =
+        "p1 arm 0 found 0\np1 test 0 found 0\np3 disarm 0 found 1\np2 flag 0 found 0\np3 done 0 found 0\np1 renew 0 found 0\np2 take 0 found 0\n";
+    let ends = [
+        (
+            "p1 arm 0@1\np1 test 0@1\n",
+            "p1 arm 0@1 found 0\np1 test 0@1 found 0\nirp 0@1 listed cancel 0\nrest yes\nclaim 0 line 3 p3\n",
+        ),
+        ("", "irp 0@1 home cancel 0\nrest yes\nclaim 0 line 3 p3\n"),
+        ("p2 flag 0\n", "line 8 refused Stale 1\n"),
+        ("p2 renew 0@0\n", "line 8 refused Stale 1\n"),
+        ("p2 arm 0\n", "line 8 refused NotHome\n"),
+        ("p2 renew 0@1\n", "line 8 refused NotCompleted\n"),
+        ("p2 arm 0@01\n", "line 8 malformed\n"),
+        ("p2 arm 0@\n", "line 8 malformed\n"),
+        ("p2 arm 0@1@1\n", "line 8 malformed\n"),
+    ];
+    for (last, end) in ends {
+        let input = format!(in rt.alloc(); "{renewed}{last}")?;
+        let output = format!(in rt.alloc(); "{found}{end}")?;
+        let mut bytes = input.as_bytes();
+        let mut text = Vec::new(rt.alloc());
+        answer_schedule(rt.alloc(), 8, 4, true, &mut bytes, &mut text)?;
+        assert_eq!(rt; text.as_slice(), output.as_bytes(), "at {input:?}");
+    }
+    Ok(())
+}
+
+#[test]
+fn a_step_is_answered_as_its_line_has_it(rt: HostRuntime) -> Result<(), Fail> {
+    let cases = [(
+        "p2 flag 3@0\np2 take 3\n",
+        "p2 flag 3@0 found 0\np2 take 3 found 0\nirp 3 home cancel 1\nrest yes\n",
+    )];
+    compare(&rt, rt.alloc(), Ended::AllHandled, &cases)?;
+    Ok(())
+}
+
+#[test]
+fn lines_and_inputs_have_limits(rt: HostRuntime) -> Result<(), Fail> {
+    let alloc = rt.alloc();
+    let mut comment = vec![in alloc; b'#'; 64]?;
+    let mut text = Vec::new(alloc);
+    assert_eq!(rt; answered(alloc, &comment, &mut text)?, Ended::AllHandled);
+    assert_eq!(rt; text.as_slice(), b"rest yes\n".as_slice());
+    let mut text = Vec::new(alloc);
+    comment.push(b'x')?;
+    assert_eq!(rt; answered(alloc, &comment, &mut text)?, Ended::Stopped);
+    assert_eq!(rt; text.as_slice(), b"line 1 too long\n".as_slice());
+
+    let mut feeds = vec![in alloc; b'\n'; MAX_INPUT]?;
+    let mut text = Vec::new(alloc);
+    assert_eq!(rt; answered(alloc, &feeds, &mut text)?, Ended::AllHandled);
+    assert_eq!(rt; text.as_slice(), b"rest yes\n".as_slice());
+    let mut text = Vec::new(alloc);
+    feeds.extend_from_slice(b"\n\n\n")?;
+    let mut rest = feeds.as_slice();
+    assert_eq!(rt;
+        answer_schedule(alloc, 8, 4, false, &mut rest, &mut text)?,
+        Ended::Stopped
+    );
+    assert_eq!(rt; text.as_slice(), b"input too long\n".as_slice());
+    assert_eq!(rt; rest.len(), 2);
+    Ok(())
+}
+
+/// Gives its bytes one at a time, is interrupted before each, and then fails.
+#[derive(Drop)]
+pub(crate) struct FailingReader<'a> {
+    pub(crate) bytes: &'a [u8],
+    pub(crate) interrupted: bool,
+}
+
+impl Read for FailingReader<'_> {
+    fn read(&mut self, buf: &mut [u8]) -> io::Result<usize> {
+        self.interrupted = !self.interrupted;
+        if self.interrupted {
+            return Err(Error::from(ErrorKind::Interrupted));
+        }
+        let Some((first, rest)) = self.bytes.split_first() else {
+            return Err(Error::from(ErrorKind::Other));
+        };
+        if buf.is_empty() {
+            return Ok(0);
+        }
+        buf[0] = *first;
+        self.bytes = rest;
+        Ok(1)
+    }
+}
+
+/// Takes so many bytes, and then fails or takes nothing.
+#[derive(Drop)]
+pub(crate) struct FailingWriter {
+    pub(crate) room: usize,
+    pub(crate) fails: bool,
+}
+
+impl Write for FailingWriter {
+    fn write(&mut self, buf: &[u8]) -> io::Result<usize> {
+        if self.room == 0 && self.fails {
+            return Err(Error::from(ErrorKind::Other));
+        }
+        let taken = self.room.min(buf.len());
+        self.room -= taken;
+        Ok(taken)
+    }
+
+    fn flush(&mut self) -> io::Result<()> {
+        Ok(())
+    }
+}
+
+#[test]
+fn a_failing_reader_is_told(rt: HostRuntime) -> Result<(), Fail> {
+    let mut reader = FailingReader {
+        bytes: b"p1 arm 0\n",
+        interrupted: false,
+    };
+    let mut text = Vec::new(rt.alloc());
+    let fault = answer_schedule(rt.alloc(), 8, 4, false, &mut reader, &mut text);
+    assert_eq!(rt; fault, Err(SimFault::Read));
+    assert!(rt; text.is_empty());
+    Ok(())
+}
+
+/// Is interrupted once, and then gives its bytes.
+#[derive(Drop)]
+struct InterruptedReader<'a> {
+    bytes: &'a [u8],
+    interrupted: bool,
+}
+
+impl Read for InterruptedReader<'_> {
+    fn read(&mut self, buf: &mut [u8]) -> io::Result<usize> {
+        if !self.interrupted {
+            self.interrupted = true;
+            return Err(Error::from(ErrorKind::Interrupted));
+        }
+        self.bytes.read(buf)
+    }
+}
+
+#[test]
+fn an_interrupted_read_is_tried_again(rt: HostRuntime) -> Result<(), Fail> {
+    let mut reader = InterruptedReader {
+        bytes: b"p1 end\n",
+        interrupted: false,
+    };
+    let mut text = Vec::new(rt.alloc());
+    let ended = answer_schedule(rt.alloc(), 8, 4, false, &mut reader, &mut text)?;
+    assert_eq!(rt; ended, Ended::AllHandled);
+    assert!(rt; reader.interrupted);
+    assert_eq!(rt; text.as_slice(), b"p1 end found 0\nrest yes\n".as_slice());
+    Ok(())
+}
+
+#[test]
+fn a_failing_writer_is_told(rt: HostRuntime) -> Result<(), Fail> {
+    for room in 0..17 {
+        for fails in [false, true] {
+            let mut input = b"p1 arm 0\n".as_slice();
+            let mut writer = FailingWriter { room, fails };
+            let fault = answer_schedule(rt.alloc(), 8, 4, false, &mut input, &mut writer);
+            assert_eq!(rt; fault, Err(SimFault::Write));
+        }
+    }
+    Ok(())
+}
+
+#[test]
+fn faults_have_numbers(rt: HostRuntime) {
+    assert_eq!(rt; SimFault::Memory.number(), 1);
+    assert_eq!(rt; SimFault::Read.number(), 2);
+    assert_eq!(rt; SimFault::Write.number(), 3);
+}
+
+#[test]
+fn faults_and_ends_have_texts_and_statuses(rt: HostRuntime) -> Result<(), Fail> {
+    let told = format!(in rt.alloc();
+        "{}, {}, {}",
+        SimFault::Memory,
+        SimFault::Read,
+        SimFault::Write
+    )?;
+    assert_eq!(rt; told.as_str(), "out of memory, read failed, write failed");
+    assert_eq!(rt; exit_status(Ended::AllHandled), 0);
+    assert_eq!(rt; exit_status(Ended::Stopped), 2);
+    Ok(())
+}
