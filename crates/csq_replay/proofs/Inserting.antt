@@ -22,7 +22,7 @@ use Rattle.csq_list.proofs.Keeping.{filter-put_at, list_any-put_at}
 use Rattle.csq_list.proofs.Finding.{same_number-refl}
 use Rattle.csq_words.specs.declared.views.InsertReply.TheVariants as reply
 use Rattle.csq_words.specs.declared.views.Event.TheVariants as event
-use Rattle.csq_words.specs.Queue.{Queued, QueueState, Limits, listing_of, refusal, reply_to_insert, has_irp, has_entry, without, after_event, new_entry}
+use Rattle.csq_words.specs.Queue.{Queued, QueueState, Limits, listing_of, refusal, reply_to_insert, has_irp, without, after_event, new_entry}
 use Rattle.csq_words.proofs.Listings.{listing-taken_back, listing-inserted}
 use Rattle.csq_replay.specs.declared.call.Call.TheVariants.{Insert}
 use Rattle.csq_replay.specs.declared.call.Reply.TheVariants.{Pending, InsertRefused}

@@ -12,7 +12,7 @@ use Rattle.irp_core.specs.Words.{bit, armed, found_by}
 use Rattle.irp_core.specs.Lives as life
 use Rattle.irp_core.specs.Inside.{inside, inside_after, follows}
 use Rattle.irp_core.specs.Owners.{owes, listed, dones}
-use Rattle.irp_core.specs.Runs.{Size, IsRun}
+use Rattle.irp_core.specs.Runs.{Size}
 use Rattle.irp_core.specs.MachineState.{MachineState, Agrees, size_of}
 use Rattle.irp_core.proofs.Names.{same_pass-refl}
 use Rattle.irp_core.proofs.Lives.{listed_present}

@@ -1,5 +1,5 @@
 -- A reuse: what the driver keeps in the end.
-use Rattle.std.proofs.Common.{◌≡◌, ◌≢◌, ℕ, ◌+◌, ◌<◌, ◌≤◌, Bool, true, false, cond, not, ◌&&◌, ◌||◌, inr, List, [], ◌∷◌, length, Option, Some, None, refl, ap, sym, ◌∙◌, subst, arith}
+use Rattle.std.proofs.Common.{◌≡◌, ◌≢◌, ℕ, ◌+◌, ◌<◌, ◌≤◌, Bool, true, false, cond, not, List, [], length, Option, Some, None, refl, ap, sym, ◌∙◌, arith}
 use Rattle.std.specs.Prelude.{slice_index_or, slice_set}
 use Rattle.std.specs.Option.{is_some}
 use Rattle.std.proofs.lemmas.List.{get_or-set_same, get_or-set_other, length-set}
@@ -15,7 +15,6 @@ use Rattle.irp_core.specs.Steps.{Irp, same_id}
 use Rattle.irp_core.specs.Words.{was_armed}
 use Rattle.irp_core.specs.Owners.{owes, listed, dones}
 use Rattle.irp_core.specs.Lives.{last_life}
-use Rattle.irp_core.specs.Runs.{Size, IsRun}
 use Rattle.irp_core.specs.MachineState.{MachineState, Agrees, size_of}
 use Rattle.irp_core.proofs.Names.{same_id-eq, same_id-ne, same_pass-refl}
 use Rattle.irp_core.proofs.Rows.{Row}
@@ -24,7 +23,7 @@ use Rattle.irp_core.proofs.Lives.{away, unborn_home}
 use Rattle.csq_list.specs.Searches.{is_listed}
 use Rattle.csq_list.specs.Listing.{Listing, renewed}
 use Rattle.csq_words.specs.declared.views.Event.TheVariants as event
-use Rattle.csq_words.specs.Queue.{Limits, current, begin_next, has_irp, has_entry, after_event}
+use Rattle.csq_words.specs.Queue.{Limits}
 use Rattle.csq_words.proofs.Listings.{listing-renewed}
 use Rattle.csq_replay.specs.declared.call.Call.TheVariants.{Reuse}
 use Rattle.csq_replay.specs.declared.call.Refusal.TheVariants.{NotCompleted, LivesSpent}

@@ -1,4 +1,4 @@
-use Rattle.std.proofs.Common.{◌≡◌, ◌&&◌, None, refl, sym, ap, ◌∙◌, subst}
+use Rattle.std.proofs.Common.{◌&&◌, None, refl, sym, ap, ◌∙◌}
 use Rattle.std.proofs.lemmas.Bool.{and_parts}
 use Rattle.irp_core.specs.Steps.{Irp, same_irp}
 use Rattle.irp_core.specs.declared.step.Inside.TheVariants.{Nothing}
