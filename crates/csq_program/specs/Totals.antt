@@ -1,5 +1,5 @@
 -- What a run of a device is answered.
-use Rattle.std.specs.Prelude.{◌≡◌, ℕ, ◌+◌, ◌≤◌, List, ◌++◌, codes, decimal, Option}
+use Rattle.std.specs.Prelude.{◌≡◌, ℕ, ◌+◌, List, ◌++◌, codes, decimal, Option}
 use Rattle.std.specs.Io.KnownBytes.{Appends}
 use Rattle.csq_device.specs.declared.totals.Totals.{Totals}
 use Rattle.csq_device.specs.declared.refusals.RunRefused.{RunRefused}
