@@ -1,11 +1,12 @@
 -- What the program may be asked to do.
-use Rattle.std.specs.Prelude.{◌≡◌, ◌≢◌, ℕ, ◌≤◌, Bool, true, false, List, codes, None, Some, IfSome}
+use Rattle.std.specs.Prelude.{◌≡◌, ◌≢◌, ℕ, ◌≤◌, Bool, true, false, List, codes, decimal, Option, None, Some, IfSome}
 use Rattle.clap.specs.declared.error.kind.ErrorKind.{ErrorKind}
 use Rattle.clap.specs.Matches.{found_of, one_text}
 use Rattle.clap.specs.Values.{kind_of}
 use Rattle.clap.specs.declared.parser.matches.ArgMatches.{ArgMatches}
 use Rattle.irp_core.specs.Runs.{IsInLimits}
 use Rattle.csq_device.specs.Plans.{IsPlan}
+use Rattle.csq_device.specs.declared.plan.Plan.{Plan}
 use Rattle.csq_program.specs.declared.command.Job.{Job}
 use Rattle.csq_program.specs.declared.command.Job.TheVariants.{Schedule, Script, Run}
 use Rattle.csq_program.specs.declared.command.CommandFault.{CommandFault}
@@ -34,6 +35,31 @@ abbrev pub TellsFlag : ArgMatches → Job → Type 0
 TellsFlag options (Schedule irps passes claims) = IsFlag options (codes "claims") claims
 TellsFlag options (Script irps files limit chain) = IsFlag options (codes "chain") chain
 TellsFlag options (Run plan chain) = IsFlag options (codes "chain") chain
+
+-- an option of this name: the number that its text writes, where that is from 1 to `most`, and the default without a text
+pub record IsNumber (options : ArgMatches) (name : List ℕ) (most default number : ℕ) : Type 0 where
+  pub given : (n : ℕ) → 1 ≤ n → n ≤ most → one_text (found_of options) name ≡ Some (decimal n) → number ≡ n
+  pub absent : one_text (found_of options) name ≡ None → number ≡ default
+
+-- the limit of a list: the number that its text writes, where that is from 1 to 1,024, and none without a text
+pub record IsLimit (options : ArgMatches) (limit : Option ℕ) : Type 0 where
+  pub given : (n : ℕ) → 1 ≤ n → n ≤ 1024 → one_text (found_of options) (codes "limit") ≡ Some (decimal n) → limit ≡ Some n
+  pub absent : one_text (found_of options) (codes "limit") ≡ None → limit ≡ None
+
+-- the numbers of a plan are those of the options
+pub record ArePlanned (options : ArgMatches) (plan : Plan) : Type 0 where
+  pub irps : IsNumber options (codes "irps") 1024 64 plan.irps
+  pub files : IsNumber options (codes "files") 256 4 plan.files
+  pub submitters : IsNumber options (codes "submitters") 20 2 plan.submitters
+  pub workers : IsNumber options (codes "workers") 20 2 plan.workers
+  pub cancellers : IsNumber options (codes "cancellers") 20 2 plan.cancellers
+  pub turns : IsNumber options (codes "turns") 100000 64 plan.turns
+
+-- the job's numbers are those of the options
+abbrev pub TellsNumbers : ArgMatches → Job → Type 0
+TellsNumbers options (Schedule irps passes claims) = IsNumber options (codes "irps") 1024 8 irps × IsNumber options (codes "passes") 64 4 passes
+TellsNumbers options (Script irps files limit chain) = IsNumber options (codes "irps") 1024 8 irps × IsNumber options (codes "files") 256 4 files × IsLimit options limit
+TellsNumbers options (Run plan chain) = ArePlanned options plan
 
 -- the number of a fault
 abbrev pub number_of : CommandFault → ℕ

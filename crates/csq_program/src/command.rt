@@ -1,6 +1,6 @@
 //! The command line.
 ghost use Rattle.std.specs.Prelude.{◌≡◌, ◌≤◌, codes, IfOk, IfSome};
-ghost use Rattle.csq_program.specs.Jobs.{IsInRange, IsJobOf, IsRefusalOf, TellsFlag, number_of};
+ghost use Rattle.csq_program.specs.Jobs.{IsInRange, IsJobOf, IsLimit, IsNumber, IsRefusalOf, TellsFlag, TellsNumbers, number_of};
 
 use clap::error::ErrorKind;
 use clap::{Arg, ArgAction, ArgMatches, Command, value_parser};
@@ -220,6 +220,7 @@ fn number_in(options: &ArgMatches<'_>, name: &str, most: u32, default: u32) -> u
     requires most { default ≤ most }
     ensures least { 1 ≤ result }
     ensures most { result ≤ most }
+    ensures number { IsNumber options.now name.now most default result }
 {
     match options.get_one::<u32>(name) {
         Some(number) if 1 <= number && number <= most => number,
@@ -229,7 +230,8 @@ fn number_in(options: &ArgMatches<'_>, name: &str, most: u32, default: u32) -> u
 
 /// The limit of the list, if one is given.
 fn limit_in(options: &ArgMatches<'_>) -> Option<u32>
-    ensures { IfSome result (λ limit. (1 ≤ limit) × (limit ≤ 1024)) }
+    ensures range { IfSome result (λ limit. (1 ≤ limit) × (limit ≤ 1024)) }
+    ensures limit { IsLimit options.now result }
 {
     match options.get_one::<u32>("limit") {
         Some(limit) if 1 <= limit && limit <= 1024 => Some(limit),
@@ -241,6 +243,7 @@ fn schedule_job(options: &ArgMatches<'_>) -> Job
     ensures range { IsInRange result }
     ensures command { IsJobOf (codes "schedule") result }
     ensures flag { TellsFlag options.now result }
+    ensures numbers { TellsNumbers options.now result }
 {
     Job::Schedule {
         irps: number_in(options, "irps", 1024, 8),
@@ -253,6 +256,7 @@ fn script_job(options: &ArgMatches<'_>) -> Job
     ensures range { IsInRange result }
     ensures command { IsJobOf (codes "script") result }
     ensures flag { TellsFlag options.now result }
+    ensures numbers { TellsNumbers options.now result }
 {
     Job::Script {
         irps: number_in(options, "irps", 1024, 8),
@@ -266,6 +270,7 @@ fn device_job(options: &ArgMatches<'_>) -> Job
     ensures range { IsInRange result }
     ensures command { IsJobOf (codes "run") result }
     ensures flag { TellsFlag options.now result }
+    ensures numbers { TellsNumbers options.now result }
 {
     let plan = Plan::new(
         number_in(options, "irps", 1024, 64),
@@ -287,6 +292,7 @@ fn job_of(name: &str, options: &ArgMatches<'_>) -> Job
     ensures range { IsInRange result }
     ensures command { IsJobOf name.now result }
     ensures flag { TellsFlag options.now result }
+    ensures numbers { TellsNumbers options.now result }
 {
     match name {
         "script" => script_job(options),

@@ -67,6 +67,17 @@ fn the_most_threads_run(rt: HostRuntime) -> Result<(), Fail> {
     Ok(())
 }
 
+// The IRPs are few, so that most turns of a worker find none.
+#[test]
+fn the_most_turns_are_taken(rt: HostRuntime) -> Result<(), Fail> {
+    let plan = Plan::new(8, 2, 2, 2, 2, 100_000).ok_or("a plan")?;
+    let list = VecList::new(rt.alloc(), 8, 2, 8)?;
+    check(&rt, run(&rt, plan, list, Free)?, 8);
+    let chains = ChainList::new(rt.alloc(), 8, 2, 8)?;
+    check(&rt, run(&rt, plan, chains, Free)?, 8);
+    Ok(())
+}
+
 // A gate that yields the processor at each seventh of its calls.
 #[derive(Drop)]
 struct Yielding {
