@@ -1,19 +1,23 @@
 //! A plain queue of the same design, to time the proved one against: a mutex round a list of entries,
-//! the IRPs that were used and the files that were closed, and for each IRP a Cancel flag, a routine and
-//! a status in atomic words. It refuses what the proved one refuses.
+//! the IRPs that were used, their lives and the files that were closed, and for each IRP a Cancel flag, a
+//! routine and a status in atomic words, each with the life that it stands for. It refuses what the
+//! proved one refuses.
 use std::collections::VecDeque;
 use std::sync::Mutex;
 use std::sync::atomic::{AtomicU64, Ordering::SeqCst};
 use std::thread;
 use std::time::Instant;
 
-const IRPS: usize = 1024;
+const INSERTS: usize = 1024;
+const REUSED_IRPS: usize = 64;
 const SET: u64 = 1 << 32;
+const LAST: u64 = (1 << 30) - 1;
 const CANCELLED: u64 = 0xC000_0120;
 
 struct List {
     entries: VecDeque<(usize, usize)>,
     used: Vec<bool>,
+    lives: Vec<u64>,
     closed: Vec<bool>,
     limit: usize,
 }
@@ -35,100 +39,154 @@ struct Queue {
     list: Mutex<List>,
 }
 
-fn zeros() -> Vec<AtomicU64> {
-    (0..IRPS).map(|_| AtomicU64::new(0)).collect()
+fn zeros(irps: usize) -> Vec<AtomicU64> {
+    (0..irps).map(|_| AtomicU64::new(0)).collect()
 }
 
 impl Queue {
-    fn new() -> Queue {
+    fn new(irps: usize) -> Queue {
         Queue {
-            cancel: zeros(),
-            routine: zeros(),
-            status: zeros(),
+            cancel: zeros(irps),
+            routine: zeros(irps),
+            status: zeros(irps),
             list: Mutex::new(List {
-                entries: VecDeque::with_capacity(IRPS),
-                used: vec![false; IRPS],
+                entries: VecDeque::with_capacity(irps),
+                used: vec![false; irps],
+                lives: vec![0; irps],
                 closed: vec![false],
-                limit: IRPS,
+                limit: irps,
             }),
         }
     }
 
-    fn complete(&self, irp: usize, status: u64) {
-        self.status[irp].swap(SET + status, SeqCst);
+    fn complete(&self, irp: usize, life: u64, status: u64) {
+        self.status[irp].swap((life << 33) + SET + status, SeqCst);
     }
 
-    fn insert(&self, irp: usize, file: usize) -> bool {
+    fn insert(&self, irp: usize, file: usize) -> Option<u64> {
         let mut list = self.list.lock().unwrap();
         if list.refuses(irp, file) {
-            return false;
+            return None;
         }
+        let life = list.lives[irp];
         list.entries.push_back((irp, file));
         list.used[irp] = true;
-        self.routine[irp].swap(1, SeqCst);
-        if self.cancel[irp].load(SeqCst) == 1 && self.routine[irp].swap(0, SeqCst) == 1 {
+        self.routine[irp].swap(2 * life + 1, SeqCst);
+        if self.cancel[irp].load(SeqCst) % 2 == 1 && self.routine[irp].swap(2 * life, SeqCst) % 2 == 1 {
             list.entries.retain(|entry| entry.0 != irp);
             drop(list);
-            self.complete(irp, CANCELLED);
+            self.complete(irp, life, CANCELLED);
         }
-        true
+        Some(life)
     }
 
-    fn remove_next(&self) -> Option<usize> {
+    fn remove_next(&self) -> Option<(usize, u64)> {
         let mut list = self.list.lock().unwrap();
         for at in 0..list.entries.len() {
             let irp = list.entries[at].0;
-            if self.routine[irp].swap(0, SeqCst) == 1 {
+            let life = list.lives[irp];
+            if self.routine[irp].swap(2 * life, SeqCst) % 2 == 1 {
                 list.entries.remove(at);
-                return Some(irp);
+                return Some((irp, life));
             }
         }
         None
     }
 
-    fn cancel(&self, irp: usize) -> bool {
+    fn remove(&self, irp: usize, life: u64) -> bool {
+        let mut list = self.list.lock().unwrap();
+        let Some(at) = list.entries.iter().position(|entry| entry.0 == irp) else {
+            return false;
+        };
+        if list.lives[irp] != life || self.routine[irp].swap(2 * life, SeqCst) % 2 == 0 {
+            return false;
+        }
+        list.entries.remove(at);
+        true
+    }
+
+    fn cancel(&self, irp: usize, life: u64) -> bool {
         if irp >= self.cancel.len() {
             return false;
         }
-        self.cancel[irp].swap(1, SeqCst);
-        if self.routine[irp].swap(0, SeqCst) == 0 {
+        let (clear, set) = (2 * life, 2 * life + 1);
+        if let Err(found) = self.cancel[irp].compare_exchange(clear, set, SeqCst, SeqCst) {
+            if found != set {
+                return false;
+            }
+        }
+        if self.routine[irp].compare_exchange(set, clear, SeqCst, SeqCst).is_err() {
             return false;
         }
         self.list.lock().unwrap().entries.retain(|entry| entry.0 != irp);
-        self.complete(irp, CANCELLED);
+        self.complete(irp, life, CANCELLED);
         true
+    }
+
+    fn reuse(&self, irp: usize) -> Option<u64> {
+        let mut list = self.list.lock().unwrap();
+        let found = self.status[irp].load(SeqCst);
+        let life = found >> 33;
+        if (found >> 32) % 2 == 0 || life == LAST {
+            return None;
+        }
+        let next = life + 1;
+        self.status[irp].swap(next << 33, SeqCst);
+        self.routine[irp].swap(2 * next, SeqCst);
+        self.cancel[irp].swap(2 * next, SeqCst);
+        list.used[irp] = false;
+        list.lives[irp] = next;
+        Some(next)
     }
 }
 
-fn share(queue: &Queue, cancels: bool, first: usize, threads: usize) -> usize {
-    let mut completed = 0;
-    for irp in (first..IRPS).step_by(threads) {
-        assert!(queue.insert(irp, 0));
-        if cancels {
-            completed += usize::from(queue.cancel(irp));
-        } else if let Some(irp) = queue.remove_next() {
-            queue.complete(irp, 0);
-            completed += 1;
+fn end(queue: &Queue, kind: &str, irp: usize, life: u64) -> bool {
+    match kind {
+        "cancel" => queue.cancel(irp, life),
+        "reuse" => {
+            let removed = queue.remove(irp, life);
+            if removed {
+                queue.complete(irp, life, 0);
+            }
+            removed && queue.reuse(irp).is_some()
         }
+        _ => match queue.remove_next() {
+            None => false,
+            Some((irp, life)) => {
+                queue.complete(irp, life, 0);
+                true
+            }
+        },
+    }
+}
+
+fn share(queue: &Queue, kind: &str, first: usize, threads: usize) -> usize {
+    let irps = queue.cancel.len();
+    let mut completed = 0;
+    for place in (first..INSERTS).step_by(threads) {
+        let irp = place % irps;
+        let life = queue.insert(irp, 0).expect("home");
+        completed += usize::from(end(queue, kind, irp, life));
     }
     completed
 }
 
 fn main() {
     let words: Vec<String> = std::env::args().collect();
-    let cancels = words[1] == "cancel";
+    let kind = words[1].as_str();
+    let irps = if kind == "reuse" { REUSED_IRPS } else { INSERTS };
     let threads: usize = words[2].parse().unwrap();
     let turns: usize = words[3].parse().unwrap();
     let (mut completed, mut nanoseconds) = (0, 0);
     for _ in 0..turns {
-        let queue = Queue::new();
+        let queue = Queue::new(irps);
         let start = Instant::now();
         completed += if threads == 1 {
-            share(&queue, cancels, 0, 1)
+            share(&queue, kind, 0, 1)
         } else {
             thread::scope(|scope| {
                 let handles: Vec<_> = (0..threads)
-                    .map(|first| scope.spawn({ let queue = &queue; move || share(queue, cancels, first, threads) }))
+                    .map(|first| scope.spawn({ let queue = &queue; move || share(queue, kind, first, threads) }))
                     .collect();
                 handles.into_iter().map(|handle| handle.join().unwrap()).sum::<usize>()
             })

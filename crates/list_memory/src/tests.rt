@@ -10,7 +10,7 @@ const IRPS: u32 = 64;
 
 const FILES: u32 = 32;
 
-// Fills a list from both ends, and empties it again.
+// Fills a list from both ends, empties it again and renews what was used.
 fn fill_and_empty<L: PendingList>(rt: &impl Abort, list: &mut L) {
     for number in 0..IRPS {
         let place = if number % 2 == 0 {
@@ -33,6 +33,17 @@ fn fill_and_empty<L: PendingList>(rt: &impl Abort, list: &mut L) {
         }
     }
     assert_eq!(rt; list.len(), 0);
+    renew_all(rt, list);
+}
+
+// Renews each IRP. They are home then.
+fn renew_all<L: PendingList>(rt: &impl Abort, list: &mut L) {
+    for number in 0..IRPS {
+        let irp = IrpId(number);
+        assert!(rt; irp.0 < list.irps() && !list.is_home(irp) && !list.is_listed(irp));
+        list.renew(irp);
+        assert!(rt; list.is_home(irp));
+    }
 }
 
 // On a heap of each size: the list is refused for want of memory, until one is made that leaves none.

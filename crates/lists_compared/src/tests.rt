@@ -1,5 +1,6 @@
 //! A list in one vector and a list in chains give the same answers.
-ghost use Rattle.csq_list.specs.Searches.{IsPlaceIn};
+ghost use Rattle.std.specs.Prelude.{◌≡◌, true, false, IsTrue};
+ghost use Rattle.csq_list.specs.Searches.{IsPlaceIn, is_listed};
 
 use csq_list::{ChainList, Peek, PendingList, Place, VecList};
 use irp_core::{FileId, IrpId};
@@ -13,6 +14,7 @@ use std::test::Fail;
 enum Call {
     Insert(IrpId, FileId, Place),
     Remove(IrpId),
+    Renew(IrpId),
     Close(FileId),
 }
 
@@ -24,7 +26,7 @@ const FILES: u32 = 2;
 const LIMIT: u32 = 2;
 
 impl Call {
-    const COUNT: u32 = 20;
+    const COUNT: u32 = 23;
 
     // One of the calls of a small list.
     fn numbered(number: u32) -> Call {
@@ -36,12 +38,13 @@ impl Call {
             12 => Call::Insert(IrpId(IRPS), file, Place::Back),
             13 => Call::Insert(irp, FileId(FILES), Place::Front),
             14..17 => Call::Remove(irp),
-            17..19 => Call::Close(file),
+            17..20 => Call::Renew(irp),
+            20..22 => Call::Close(file),
             _ => Call::Close(FileId(FILES)),
         }
     }
 
-    // A call of a list of many IRPs: more inserts than removals, and few closings.
+    // A call of a list of many IRPs: more inserts than removals, as many renewals, and few closings.
     fn drawn<R: Rng>(rng: &mut R) -> Call {
         let irp = IrpId(rng.next_u32() % (MANY_IRPS + 1));
         let file = FileId(rng.next_u32() % (MANY_FILES + 1));
@@ -49,6 +52,7 @@ impl Call {
             0 => Call::Close(file),
             1..160 => Call::Insert(irp, file, Place::Back),
             160..320 => Call::Insert(irp, file, Place::Front),
+            320..416 => Call::Renew(irp),
             _ => Call::Remove(irp),
         }
     }
@@ -70,10 +74,28 @@ fn follow<L: PendingList, M: PendingList>(rt: &impl Abort, one: &mut L, other: &
                 other.remove(irp);
             }
         }
+        Call::Renew(irp) => renew(rt, one, other, irp),
         Call::Close(file) => assert_eq!(rt; one.close_file(file), other.close_file(file)),
     }
     assert_eq!(rt; one.len(), other.len());
     compare_from(rt, one, other, None);
+}
+
+// Renews an IRP at both lists, where it was used and isn't listed.
+fn renew<L: PendingList, M: PendingList>(rt: &impl Abort, one: &mut L, other: &mut M, irp: IrpId) {
+    assert_eq!(rt; is_renewable(one, irp), is_renewable(other, irp));
+    if is_renewable(one, irp) && is_renewable(other, irp) {
+        one.renew(irp);
+        other.renew(irp);
+    }
+}
+
+// Whether an IRP was used and isn't listed.
+fn is_renewable<L: PendingList>(list: &L, irp: IrpId) -> bool
+    ensures used { result ≡ true → IsTrue ((L.listing list.now).used irp) }
+    ensures unlisted { result ≡ true → is_listed (L.listing list.now).entries irp ≡ false }
+{
+    irp.0 < list.irps() && !list.is_home(irp) && !list.is_listed(irp)
 }
 
 // Compares what is found after a place.

@@ -1,5 +1,36 @@
-//! Calls of a cancel-safe queue, from one thread and from several. It has tests alone.
+//! Calls of a cancel-safe queue from one thread: tests, and the insert that tests of lives make too.
 #![tactic(auto)]
+
+ghost use Rattle.std.specs.Prelude.{◌≡◌, IfSome};
+
+use csq_list::{PendingList, Place};
+use csq_queue::{Csq, InsertContext, Inserted, Pass, QueueName};
+use irp_core::{FileId, IrpId};
+use std::alloc::Allocator;
+use std::sync::Wait;
 
 #[cfg(test)]
 mod tests;
+
+/// Inserts an IRP at the back, and answers its context where it is pending then. None where the insert
+/// was refused, or found the IRP cancelled: that one is completed. Own rule.
+pub fn insert_pending<L: PendingList + Drop, N: QueueName, A: Allocator>(
+    rt: &impl Wait,
+    queue: &Csq<L, N, A>,
+    pass: &mut Pass<N>,
+    irp: IrpId,
+    file: FileId,
+) -> Option<InsertContext>
+    ensures { IfSome result (λ context. context.irp ≡ irp) }
+{
+    match queue.insert(rt, pass, irp, file, Place::Back) {
+        Err(_) => None,
+        Ok(inserted) => match inserted {
+            Inserted::Pending(context) => Some(context),
+            Inserted::Cancelled(token) => {
+                queue.complete_cancelled(pass, token);
+                None
+            }
+        },
+    }
+}

@@ -1,12 +1,13 @@
-//! Fills a cancel-safe queue and completes what was inserted, turn after turn: what `bench/queue` times.
+//! Inserts into a cancel-safe queue and completes what was inserted, turn after turn: what `bench/queue`
+//! times.
 #![tactic(auto)]
 
 ghost use Rattle.std.specs.Prelude.{◌≡◌};
 
 use anyhow::{Context, Result, bail};
 use csq_list::{Peek, PendingList, Place, VecList};
-use csq_queue::{Blank, Csq, Inserted, Pass, QueueName};
-use irp_core::{FileId, FinalStatus, IrpId, NtStatus};
+use csq_queue::{Blank, Csq, InsertContext, Inserted, Pass, QueueName};
+use irp_core::{FileId, FinalStatus, IrpId, Life, NtStatus};
 use std::env;
 use std::marker::Brand;
 use std::rt::{Clock, Env};
@@ -14,7 +15,11 @@ use std::sync::Wait;
 use std::thread::{Threads, join};
 use std::time::Instant;
 
-const IRPS: u32 = 1024;
+// How many inserts a turn makes.
+const INSERTS: u32 = 1024;
+
+// How many IRPs there are where they are reused.
+const REUSED_IRPS: u32 = 64;
 
 // What ends an inserted IRP.
 #[derive(Clone, Copy, Debug, PartialEq, Eq)]
@@ -23,6 +28,18 @@ enum End {
     Remove,
     // It is cancelled.
     Cancel,
+    // It is removed and completed, and its next life begins.
+    Reuse,
+}
+
+impl End {
+    // How many IRPs a queue has: one for each insert, unless they are reused.
+    fn irps(self) -> u32 {
+        match self {
+            End::Remove | End::Cancel => INSERTS,
+            End::Reuse => REUSED_IRPS,
+        }
+    }
 }
 
 // What the turns did: how many IRPs were completed, how many weren't, and the time it took.
@@ -33,17 +50,20 @@ struct Totals {
     nanoseconds: u64,
 }
 
-// Inserts an IRP at the back.
+// Inserts an IRP at the back. Answers its context, where it is pending.
 fn insert<L: PendingList + Drop, N: QueueName, R: Wait>(
     rt: &R,
     queue: &Csq<L, N>,
     pass: &mut Pass<N>,
     irp: IrpId,
-) {
+) -> Option<InsertContext> {
     match queue.insert(rt, pass, irp, FileId(0), Place::Back) {
-        Ok(Inserted::Pending(_)) => {}
-        Ok(Inserted::Cancelled(token)) => queue.complete_cancelled(pass, token),
-        Err(_) => {}
+        Ok(Inserted::Pending(context)) => Some(context),
+        Ok(Inserted::Cancelled(token)) => {
+            queue.complete_cancelled(pass, token);
+            None
+        }
+        Err(_) => None,
     }
 }
 
@@ -63,7 +83,29 @@ fn remove<L: PendingList + Drop, N: QueueName, R: Wait>(
     }
 }
 
-// One thread's share of a turn: each IRP from the first on, this many apart, is inserted and ended.
+// Removes the IRP of a context, completes it and begins its next life. Answers how many that were.
+fn reuse<L: PendingList + Drop, N: QueueName, R: Wait>(
+    rt: &R,
+    queue: &Csq<L, N>,
+    pass: &mut Pass<N>,
+    context: Option<InsertContext>,
+    success: FinalStatus,
+) -> u32 {
+    let Some(context) = context else {
+        return 0;
+    };
+    match queue.remove(rt, pass, context) {
+        None => 0,
+        Some(token) => {
+            let irp = token.irp();
+            queue.complete(pass, token, success);
+            u32::from(queue.reuse(rt, pass, irp).is_ok())
+        }
+    }
+}
+
+// One thread's share of a turn: each IRP from the first on, this many apart and round again where there
+// are fewer than inserts, is inserted and ended.
 fn share<L: PendingList + Drop, N: QueueName, R: Wait>(
     rt: &R,
     queue: &Csq<L, N>,
@@ -74,12 +116,14 @@ fn share<L: PendingList + Drop, N: QueueName, R: Wait>(
     threads: u32,
 ) -> u32 {
     let mut completed = 0u32;
-    for nth in 0..IRPS.checked_div(threads).unwrap_or(0) {
-        let irp = IrpId(nth.wrapping_mul(threads).wrapping_add(first));
-        insert(rt, queue, pass, irp);
+    for nth in 0..INSERTS.checked_div(threads).unwrap_or(0) {
+        let place = nth.wrapping_mul(threads).wrapping_add(first);
+        let irp = IrpId(place.checked_rem(end.irps()).unwrap_or(0));
+        let context = insert(rt, queue, pass, irp);
         completed = completed.wrapping_add(match end {
             End::Remove => remove(rt, queue, pass, success),
-            End::Cancel => u32::from(queue.cancel(rt, pass, irp) == Ok(true)),
+            End::Cancel => u32::from(queue.cancel(rt, pass, irp, Life(0)) == Ok(true)),
+            End::Reuse => reuse(rt, queue, pass, context, success),
         });
     }
     completed
@@ -126,7 +170,7 @@ fn turn<N: QueueName + Send + Sync, R: Clock + Threads + Wait + Sync>(
     let nanoseconds = u64::try_from(start.elapsed(rt)?.as_nanos()).unwrap_or(u64::MAX);
     Ok(Totals {
         completed,
-        left: IRPS.wrapping_sub(completed),
+        left: INSERTS.wrapping_sub(completed),
         nanoseconds,
     })
 }
@@ -138,12 +182,13 @@ fn run<R: Clock + Threads + Wait + AllocGlobal + Sync>(
     turns: u32,
 ) -> Result<Totals> {
     let success = FinalStatus::new(NtStatus::SUCCESS).context("a final status")?;
+    let irps = end.irps();
     let mut totals = Totals::default();
     for _ in 0..turns {
-        let Ok(list) = VecList::new(rt.alloc(), IRPS, 1, IRPS) else {
+        let Ok(list) = VecList::new(rt.alloc(), irps, 1, irps) else {
             bail!("out of memory");
         };
-        let Ok(blank) = Blank::new(rt.alloc(), list, IRPS, 4) else {
+        let Ok(blank) = Blank::new(rt.alloc(), list, irps, 4) else {
             bail!("out of memory");
         };
         let done = turn::<Brand, _>(rt, blank, end, success, threads)?;
@@ -156,7 +201,7 @@ fn run<R: Clock + Threads + Wait + AllocGlobal + Sync>(
     Ok(totals)
 }
 
-const USAGE: &str = "usage: queue_turns remove|cancel 1|4 TURNS";
+const USAGE: &str = "usage: queue_turns remove|cancel|reuse 1|4 TURNS";
 
 fn main(rt: HostRuntime) -> Result<()> {
     let mut args = env::args(&rt)?.skip(1);
@@ -164,6 +209,7 @@ fn main(rt: HostRuntime) -> Result<()> {
     let end = match kind.as_str() {
         "remove" => End::Remove,
         "cancel" => End::Cancel,
+        "reuse" => End::Reuse,
         _ => bail!(USAGE),
     };
     let threads = args.next().context(USAGE)?.as_str().parse::<u32>()?;

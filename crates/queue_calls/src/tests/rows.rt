@@ -1,20 +1,17 @@
 //! Worked rows, in one thread.
 ghost use Rattle.std.specs.Prelude.{◌≡◌};
 
-use csq_list::{ChainList, InsertStatus, Peek, PendingList, Place, VecList};
-use csq_queue::{
-    Blank, CloseCause, CloseRefused, Csq, InsertContext, Inserted, NewCause, Pass, PassRack,
-    QueueName,
-};
+use crate::insert_pending;
+use csq_list::{ChainList, InsertStatus, PendingList, Place, VecList};
+use csq_queue::{Blank, Csq, Inserted, Pass, QueueName};
 use irp_core::{FileId, FinalStatus, IrpId, Life, NtStatus};
-use linked_list_allocator::LocalHeap;
-use std::alloc::{AllocError, Allocator, Global};
+use std::alloc::Allocator;
 use std::marker::Brand;
 use std::process::Abort;
 use std::sync::Wait;
 use std::test::Fail;
 
-const ZERO: IrpId = IrpId(0);
+pub(super) const ZERO: IrpId = IrpId(0);
 
 const ONE: IrpId = IrpId(1);
 
@@ -22,35 +19,12 @@ const TWO: IrpId = IrpId(2);
 
 const THREE: IrpId = IrpId(3);
 
-// A queue of 4 IRPs, 2 files and 2 passes.
-fn small(rt: &HostRuntime) -> Result<Blank<VecList>, Fail> {
+// A queue of 4 IRPs, 2 files and so many passes.
+pub(super) fn small(rt: &HostRuntime, passes: u32) -> Result<Blank<VecList>, Fail> {
     let list = VecList::new(rt.alloc(), 4, 2, 4)?;
-    match Blank::new(rt.alloc(), list, 4, 2) {
+    match Blank::new(rt.alloc(), list, 4, passes) {
         Ok(blank) => Ok(blank),
         Err(_) => Err(Fail::from("no queue")),
-    }
-}
-
-// Inserts an IRP that nobody cancels.
-pub(super) fn insert<L: PendingList + Drop, N: QueueName, A: Allocator, R: Wait + Abort>(
-    rt: &R,
-    queue: &Csq<L, N, A>,
-    pass: &mut Pass<N>,
-    irp: IrpId,
-    file: FileId,
-) -> Result<InsertContext, Fail> {
-    match queue.insert(rt, pass, irp, file, Place::Back) {
-        Ok(inserted) => {
-            assert_eq!(rt; inserted.nt(), NtStatus::PENDING);
-            match inserted {
-                Inserted::Pending(context) => Ok(context),
-                Inserted::Cancelled(token) => {
-                    queue.complete_cancelled(pass, token);
-                    Err(Fail::from("cancelled"))
-                }
-            }
-        }
-        Err(_) => Err(Fail::from("refused")),
     }
 }
 
@@ -62,9 +36,9 @@ fn remove_once<L: PendingList + Drop, N: QueueName, A: Allocator, R: Wait + Abor
     two: &mut Pass<N>,
 ) -> Result<(), Fail> {
     let success = FinalStatus::new(NtStatus::SUCCESS).ok_or("a final status")?;
-    let context = insert(rt, queue, one, ZERO, FileId(0))?;
+    let context = insert_pending(rt, queue, one, ZERO, FileId(0)).ok_or("not pending")?;
     assert_eq!(rt; context.irp(), ZERO);
-    insert(rt, queue, one, ONE, FileId(1))?;
+    insert_pending(rt, queue, one, ONE, FileId(1)).ok_or("not pending")?;
     let Some(token) = queue.remove(rt, two, context) else {
         return Err(Fail::from("not removed"));
     };
@@ -105,7 +79,7 @@ fn clean_up<L: PendingList + Drop, N: QueueName, A: Allocator, R: Wait + Abort>(
 }
 
 // The first three rows, over any list with 4 IRPs and 2 files.
-fn follow_rows<L: PendingList + Drop, N: QueueName, A: Allocator, R: Wait + Abort>(
+pub(super) fn follow_rows<L: PendingList + Drop, N: QueueName, A: Allocator, R: Wait + Abort>(
     rt: &R,
     blank: Blank<L, A>,
 ) -> Result<(), Fail>
@@ -131,7 +105,7 @@ fn follow_rows<L: PendingList + Drop, N: QueueName, A: Allocator, R: Wait + Abor
 
 #[test]
 fn rows_of_a_queue(rt: HostRuntime) -> Result<(), Fail> {
-    follow_rows::<VecList, Brand, _, _>(&rt, small(&rt)?)
+    follow_rows::<VecList, Brand, _, _>(&rt, small(&rt, 2)?)
 }
 
 #[test]
@@ -143,131 +117,6 @@ fn rows_of_a_queue_over_chains(rt: HostRuntime) -> Result<(), Fail> {
     follow_rows::<ChainList, Brand, _, _>(&rt, blank)
 }
 
-// What is left of a heap, in pieces.
-fn take_rest<'a>(
-    heap: &'a LocalHeap,
-    alloc: Global,
-) -> Result<Vec<Vec<u8, &'a LocalHeap>>, AllocError> {
-    let mut pieces = Vec::new(alloc);
-    for _ in 0..64 {
-        if let Ok(piece) = Vec::with_capacity(heap, 16) {
-            pieces.push(piece)?;
-        }
-    }
-    Ok(pieces)
-}
-
-// On a heap of each size: the queue is refused for want of memory, with a fresh list, until one is
-// made. With nothing left of the heap, its calls answer as ever.
-#[test]
-fn a_queue_takes_no_memory_later(rt: HostRuntime) -> Result<(), Fail> {
-    let mut refused = false;
-    for blocks in 1..64 {
-        let heap = LocalHeap::new(rt.alloc(), 16 * blocks)?;
-        let list = VecList::new(rt.alloc(), 4, 2, 4)?;
-        match Blank::new(&heap, list, 4, 2) {
-            Err(back) => {
-                assert_eq!(rt; back.cause, NewCause::Memory);
-                assert!(rt; back.list.is_fresh());
-                refused = true;
-            }
-            Ok(blank) => {
-                assert!(rt; refused, "no heap was too small");
-                let _rest = take_rest(&heap, rt.alloc())?;
-                assert_eq!(rt; heap.free(), 0);
-                return follow_rows::<VecList, Brand, _, _>(&rt, blank);
-            }
-        }
-    }
-    Err(Fail::from("no heap was large enough"))
-}
-
-#[test]
-fn a_list_that_is_not_fresh_comes_back(rt: HostRuntime) -> Result<(), Fail> {
-    let mut list = VecList::new(rt.alloc(), 4, 2, 4)?;
-    assert_eq!(rt; list.insert_ex(ZERO, FileId(0), Place::Back), Ok(()));
-    let Err(refused) = Blank::new(rt.alloc(), list, 4, 2) else {
-        return Err(Fail::from("a queue"));
-    };
-    assert_eq!(rt; refused.cause, NewCause::ListNotFresh);
-    assert_eq!(rt; refused.cause.number(), 3);
-    assert!(rt; refused.list.is_listed(ZERO));
-    Ok(())
-}
-
-#[test]
-fn queues_are_made_in_range(rt: HostRuntime) -> Result<(), Fail> {
-    for (irps, passes) in [(1, 1), (1024, 64)] {
-        let list = VecList::new(rt.alloc(), irps, 1, 1)?;
-        assert!(rt; Blank::new(rt.alloc(), list, irps, passes).is_ok());
-    }
-    for (irps, passes) in [(0, 1), (1025, 1), (1, 0), (1, 65)] {
-        let list = VecList::new(rt.alloc(), 1, 1, 1)?;
-        match Blank::new(rt.alloc(), list, irps, passes) {
-            Ok(_) => return Err(Fail::from("a queue")),
-            Err(refused) => assert_eq!(rt; refused.cause, NewCause::BadSize),
-        }
-    }
-    Ok(())
-}
-
-// A pass that is out keeps the queue open, and so does a token.
-fn count_passes<N: QueueName, R: Wait + Abort>(rt: &R, blank: Blank<VecList>) -> Result<(), Fail>
-    requires { blank ≡ record { table = N.table; limits = N.limits; passes = N.passes } }
-{
-    let (queue, mut rack) = blank.into_queue::<N>();
-    let one = rack.take().ok_or("a pass")?;
-    let mut two = rack.take().ok_or("a pass")?;
-    let Err(refused) = queue.close(one, rack) else {
-        return Err(Fail::from("closed"));
-    };
-    assert_eq!(rt; refused.cause, CloseCause::PassesOut(1));
-    let CloseRefused {
-        cause: _,
-        queue,
-        pass: one,
-        rack,
-    } = refused;
-    insert(rt, &queue, &mut two, ZERO, FileId(0))?;
-    hold_and_close(rt, queue, one, two, rack)
-}
-
-fn hold_and_close<N: QueueName, R: Wait + Abort>(
-    rt: &R,
-    queue: Csq<VecList, N>,
-    one: Pass<N>,
-    mut two: Pass<N>,
-    rack: PassRack<N>,
-) -> Result<(), Fail> {
-    let success = FinalStatus::new(NtStatus::SUCCESS).ok_or("a final status")?;
-    let Some(token) = queue.remove_next(rt, &mut two, Peek::Any) else {
-        return Err(Fail::from("nothing listed"));
-    };
-    let Err(holding) = queue.give_back(rt, two) else {
-        panic!(rt; "given back");
-    };
-    assert!(rt; holding.tokens == 1 && holding.claims == 0);
-    let Err(refused) = queue.close(holding.pass, rack) else {
-        panic!(rt; "closed");
-    };
-    assert_eq!(rt; refused.cause, CloseCause::Holding(1, 0));
-    let CloseRefused {
-        cause: _,
-        queue,
-        pass: mut two,
-        rack,
-    } = refused;
-    queue.complete(&mut two, token, success);
-    assert!(rt; queue.give_back(rt, two).is_ok());
-    assert!(rt; queue.close(one, rack).is_ok());
-    Ok(())
-}
-
-#[test]
-fn passes_that_are_out_are_counted(rt: HostRuntime) -> Result<(), Fail> {
-    count_passes::<Brand, _>(&rt, small(&rt)?)
-}
-
 // The reads follow the steps of another pass.
 fn follow_reads<N: QueueName, R: Wait + Abort>(rt: &R, blank: Blank<VecList>) -> Result<(), Fail>
     requires { blank ≡ record { table = N.table; limits = N.limits; passes = N.passes } }
@@ -277,7 +126,7 @@ fn follow_reads<N: QueueName, R: Wait + Abort>(rt: &R, blank: Blank<VecList>) ->
     let mut two = rack.take().ok_or("a pass")?;
     assert_eq!(rt; queue.is_cancelled(&mut two, ZERO), Ok((Life(0), false)));
     assert_eq!(rt; queue.status(&mut two, ZERO), Ok((Life(0), None)));
-    insert(rt, &queue, &mut one, ZERO, FileId(0))?;
+    insert_pending(rt, &queue, &mut one, ZERO, FileId(0)).ok_or("not pending")?;
     match queue.mark_cancel(&mut one, ZERO, Life(0)) {
         Ok(Some(claim)) => {
             assert_eq!(rt; claim.irp(), ZERO);
@@ -300,7 +149,7 @@ fn follow_reads<N: QueueName, R: Wait + Abort>(rt: &R, blank: Blank<VecList>) ->
 
 #[test]
 fn reads_follow(rt: HostRuntime) -> Result<(), Fail> {
-    follow_reads::<Brand, _>(&rt, small(&rt)?)
+    follow_reads::<Brand, _>(&rt, small(&rt, 2)?)
 }
 
 // A cancel completes what is listed, and only flags what isn't. A late insert finds the flag.
@@ -309,7 +158,7 @@ fn cancel_each<N: QueueName, R: Wait + Abort>(rt: &R, blank: Blank<VecList>) -> 
 {
     let (queue, mut rack) = blank.into_queue::<N>();
     let mut one = rack.take().ok_or("a pass")?;
-    insert(rt, &queue, &mut one, ZERO, FileId(0))?;
+    insert_pending(rt, &queue, &mut one, ZERO, FileId(0)).ok_or("not pending")?;
     assert_eq!(rt; queue.cancel(rt, &mut one, ZERO, Life(0)), Ok(true));
     assert_eq!(rt; queue.cancel(rt, &mut one, ZERO, Life(0)), Ok(false));
     assert_eq!(rt; queue.cancel(rt, &mut one, ONE, Life(0)), Ok(false));
@@ -326,5 +175,5 @@ fn cancel_each<N: QueueName, R: Wait + Abort>(rt: &R, blank: Blank<VecList>) -> 
 
 #[test]
 fn a_cancel_completes_what_is_listed(rt: HostRuntime) -> Result<(), Fail> {
-    cancel_each::<Brand, _>(&rt, small(&rt)?)
+    cancel_each::<Brand, _>(&rt, small(&rt, 2)?)
 }

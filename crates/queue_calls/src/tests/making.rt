@@ -1,0 +1,103 @@
+//! Making queues.
+use super::rows::{ZERO, follow_rows};
+use csq_list::{PendingList, Place, VecList};
+use csq_queue::{Blank, NewCause};
+use irp_core::FileId;
+use linked_list_allocator::LocalHeap;
+use std::alloc::{AllocError, Global};
+use std::marker::Brand;
+use std::test::Fail;
+
+// What is left of a heap, in pieces.
+fn take_rest<'a>(
+    heap: &'a LocalHeap,
+    alloc: Global,
+) -> Result<Vec<Vec<u8, &'a LocalHeap>>, AllocError> {
+    let mut pieces = Vec::new(alloc);
+    for _ in 0..64 {
+        if let Ok(piece) = Vec::with_capacity(heap, 16) {
+            pieces.push(piece)?;
+        }
+    }
+    Ok(pieces)
+}
+
+// On a heap of each size: the queue is refused for want of memory, with a fresh list, until one is
+// made. With nothing left of the heap, its calls answer as ever.
+#[test]
+fn a_queue_takes_no_memory_later(rt: HostRuntime) -> Result<(), Fail> {
+    let mut refused = false;
+    for blocks in 1..64 {
+        let heap = LocalHeap::new(rt.alloc(), 16 * blocks)?;
+        let list = VecList::new(rt.alloc(), 4, 2, 4)?;
+        match Blank::new(&heap, list, 4, 2) {
+            Err(back) => {
+                assert_eq!(rt; back.cause, NewCause::Memory);
+                assert!(rt; back.list.is_fresh());
+                refused = true;
+            }
+            Ok(blank) => {
+                assert!(rt; refused, "no heap was too small");
+                let _rest = take_rest(&heap, rt.alloc())?;
+                assert_eq!(rt; heap.free(), 0);
+                return follow_rows::<VecList, Brand, _, _>(&rt, blank);
+            }
+        }
+    }
+    Err(Fail::from("no heap was large enough"))
+}
+
+#[test]
+fn a_list_that_is_not_fresh_comes_back(rt: HostRuntime) -> Result<(), Fail> {
+    let mut list = VecList::new(rt.alloc(), 4, 2, 4)?;
+    assert_eq!(rt; list.insert_ex(ZERO, FileId(0), Place::Back), Ok(()));
+    let Err(refused) = Blank::new(rt.alloc(), list, 4, 2) else {
+        return Err(Fail::from("a queue"));
+    };
+    assert_eq!(rt; refused.cause, NewCause::ListNotFresh);
+    assert_eq!(rt; refused.cause.number(), 3);
+    assert!(rt; refused.list.is_listed(ZERO));
+    Ok(())
+}
+
+#[test]
+fn a_list_of_another_size_comes_back(rt: HostRuntime) -> Result<(), Fail> {
+    for irps in [3, 5] {
+        let list = VecList::new(rt.alloc(), irps, 2, 3)?;
+        let Err(refused) = Blank::new(rt.alloc(), list, 4, 2) else {
+            return Err(Fail::from("a queue"));
+        };
+        assert_eq!(rt; refused.cause, NewCause::ListNotFresh);
+        assert_eq!(rt; refused.list.irps(), irps);
+    }
+    Ok(())
+}
+
+#[test]
+fn want_of_memory_comes_before_the_list(rt: HostRuntime) -> Result<(), Fail> {
+    let heap = LocalHeap::new(rt.alloc(), 16)?;
+    let mut list = VecList::new(rt.alloc(), 4, 2, 4)?;
+    assert_eq!(rt; list.insert_ex(ZERO, FileId(0), Place::Back), Ok(()));
+    let Err(refused) = Blank::new(&heap, list, 4, 2) else {
+        return Err(Fail::from("a queue"));
+    };
+    assert_eq!(rt; refused.cause, NewCause::Memory);
+    assert!(rt; refused.list.is_listed(ZERO));
+    Ok(())
+}
+
+#[test]
+fn queues_are_made_in_range(rt: HostRuntime) -> Result<(), Fail> {
+    for (irps, passes) in [(1, 1), (1024, 64)] {
+        let list = VecList::new(rt.alloc(), irps, 1, 1)?;
+        assert!(rt; Blank::new(rt.alloc(), list, irps, passes).is_ok());
+    }
+    for (irps, passes) in [(0, 1), (1025, 1), (1, 0), (1, 65)] {
+        let list = VecList::new(rt.alloc(), 1, 1, 1)?;
+        match Blank::new(rt.alloc(), list, irps, passes) {
+            Ok(_) => return Err(Fail::from("a queue")),
+            Err(refused) => assert_eq!(rt; refused.cause, NewCause::BadSize),
+        }
+    }
+    Ok(())
+}

@@ -1,0 +1,85 @@
+//! Passes that are out, and those that were given back.
+ghost use Rattle.std.specs.Prelude.{◌≡◌};
+
+use super::rows::{ZERO, small};
+use crate::insert_pending;
+use csq_list::{Peek, VecList};
+use csq_queue::{Blank, CloseCause, CloseRefused, Csq, Pass, PassRack, QueueName};
+use irp_core::{FileId, FinalStatus, NtStatus};
+use std::marker::Brand;
+use std::process::Abort;
+use std::sync::Wait;
+use std::test::Fail;
+
+// Closes a queue of which that many other passes are out, which is refused.
+fn close_early<N: QueueName, R: Abort>(
+    rt: &R,
+    queue: Csq<VecList, N>,
+    one: Pass<N>,
+    rack: PassRack<N>,
+    out: u32,
+) -> Result<(Csq<VecList, N>, Pass<N>, PassRack<N>), Fail> {
+    let Err(refused) = queue.close(one, rack) else {
+        return Err(Fail::from("closed"));
+    };
+    assert_eq!(rt; refused.cause, CloseCause::PassesOut(out));
+    let CloseRefused {
+        cause: _,
+        queue,
+        pass,
+        rack,
+    } = refused;
+    Ok((queue, pass, rack))
+}
+
+// A pass that is out keeps the queue open until it is given back, and so does a token.
+fn count_passes<N: QueueName, R: Wait + Abort>(rt: &R, blank: Blank<VecList>) -> Result<(), Fail>
+    requires { blank ≡ record { table = N.table; limits = N.limits; passes = N.passes } }
+{
+    let (queue, mut rack) = blank.into_queue::<N>();
+    let one = rack.take().ok_or("a pass")?;
+    let mut two = rack.take().ok_or("a pass")?;
+    let three = rack.take().ok_or("a pass")?;
+    let (queue, one, rack) = close_early(rt, queue, one, rack, 2)?;
+    assert!(rt; queue.give_back(rt, three).is_ok());
+    let (queue, one, rack) = close_early(rt, queue, one, rack, 1)?;
+    insert_pending(rt, &queue, &mut two, ZERO, FileId(0)).ok_or("not pending")?;
+    hold_and_close(rt, queue, one, two, rack)
+}
+
+// Removes an IRP. With its token unspent the pass isn't given back, nor the queue closed.
+fn hold_and_close<N: QueueName, R: Wait + Abort>(
+    rt: &R,
+    queue: Csq<VecList, N>,
+    one: Pass<N>,
+    mut two: Pass<N>,
+    rack: PassRack<N>,
+) -> Result<(), Fail> {
+    let success = FinalStatus::new(NtStatus::SUCCESS).ok_or("a final status")?;
+    let Some(token) = queue.remove_next(rt, &mut two, Peek::Any) else {
+        return Err(Fail::from("nothing listed"));
+    };
+    let Err(holding) = queue.give_back(rt, two) else {
+        panic!(rt; "given back");
+    };
+    assert!(rt; holding.tokens == 1 && holding.claims == 0);
+    let Err(refused) = queue.close(holding.pass, rack) else {
+        panic!(rt; "closed");
+    };
+    assert_eq!(rt; refused.cause, CloseCause::Holding(1, 0));
+    let CloseRefused {
+        cause: _,
+        queue,
+        pass: mut two,
+        rack,
+    } = refused;
+    queue.complete(&mut two, token, success);
+    assert!(rt; queue.give_back(rt, two).is_ok());
+    assert!(rt; queue.close(one, rack).is_ok());
+    Ok(())
+}
+
+#[test]
+fn passes_that_are_out_are_counted(rt: HostRuntime) -> Result<(), Fail> {
+    count_passes::<Brand, _>(&rt, small(&rt, 3)?)
+}
