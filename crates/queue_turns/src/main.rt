@@ -58,12 +58,14 @@ fn insert<L: PendingList + Drop, N: QueueName, R: Wait>(
     irp: IrpId,
 ) -> Option<InsertContext> {
     match queue.insert(rt, pass, irp, FileId(0), Place::Back) {
-        Ok(Inserted::Pending(context)) => Some(context),
-        Ok(Inserted::Cancelled(token)) => {
-            queue.complete_cancelled(pass, token);
-            None
-        }
         Err(_) => None,
+        Ok(inserted) => match inserted {
+            Inserted::Pending(context) => Some(context),
+            Inserted::Cancelled(token) => {
+                queue.complete_cancelled(pass, token);
+                None
+            }
+        },
     }
 }
 
