@@ -49,7 +49,7 @@ fn renew_all<L: PendingList>(rt: &impl Abort, list: &mut L) {
 // On a heap of each size: the list is refused for want of memory, until one is made that leaves none.
 #[test]
 fn a_vec_list_takes_no_memory_later(rt: HostRuntime) -> Result<(), Fail> {
-    for blocks in 1..64 {
+    for blocks in 1..512 {
         let heap = LocalHeap::new(rt.alloc(), 16 * blocks)?;
         match VecList::new(&heap, IRPS, FILES, IRPS) {
             Err(refused) => assert_eq!(rt; refused, ListNew::Memory),
