@@ -32,23 +32,27 @@ impl List {
     }
 }
 
-struct Queue {
-    cancel: Vec<AtomicU64>,
-    routine: Vec<AtomicU64>,
-    status: Vec<AtomicU64>,
-    list: Mutex<List>,
+// Which of an IRP's three words.
+#[derive(Clone, Copy)]
+enum Word {
+    Cancel,
+    Routine,
+    Status,
 }
+use Word::{Cancel, Routine, Status};
 
-fn zeros(irps: usize) -> Vec<AtomicU64> {
-    (0..irps).map(|_| AtomicU64::new(0)).collect()
+struct Queue {
+    irps: usize,
+    // Three for each IRP, side by side.
+    words: Vec<AtomicU64>,
+    list: Mutex<List>,
 }
 
 impl Queue {
     fn new(irps: usize) -> Queue {
         Queue {
-            cancel: zeros(irps),
-            routine: zeros(irps),
-            status: zeros(irps),
+            irps,
+            words: (0..3 * irps).map(|_| AtomicU64::new(0)).collect(),
             list: Mutex::new(List {
                 entries: VecDeque::with_capacity(irps),
                 used: vec![false; irps],
@@ -59,8 +63,12 @@ impl Queue {
         }
     }
 
+    fn word(&self, irp: usize, word: Word) -> &AtomicU64 {
+        &self.words[3 * irp + word as usize]
+    }
+
     fn complete(&self, irp: usize, life: u64, status: u64) {
-        self.status[irp].swap((life << 33) + SET + status, SeqCst);
+        self.word(irp, Status).swap((life << 33) + SET + status, SeqCst);
     }
 
     fn insert(&self, irp: usize, file: usize) -> Option<u64> {
@@ -71,8 +79,8 @@ impl Queue {
         let life = list.lives[irp];
         list.entries.push_back((irp, file));
         list.used[irp] = true;
-        self.routine[irp].swap(2 * life + 1, SeqCst);
-        if self.cancel[irp].load(SeqCst) % 2 == 1 && self.routine[irp].swap(2 * life, SeqCst) % 2 == 1 {
+        self.word(irp, Routine).swap(2 * life + 1, SeqCst);
+        if self.word(irp, Cancel).load(SeqCst) % 2 == 1 && self.word(irp, Routine).swap(2 * life, SeqCst) % 2 == 1 {
             list.entries.retain(|entry| entry.0 != irp);
             drop(list);
             self.complete(irp, life, CANCELLED);
@@ -85,7 +93,7 @@ impl Queue {
         for at in 0..list.entries.len() {
             let irp = list.entries[at].0;
             let life = list.lives[irp];
-            if self.routine[irp].swap(2 * life, SeqCst) % 2 == 1 {
+            if self.word(irp, Routine).swap(2 * life, SeqCst) % 2 == 1 {
                 list.entries.remove(at);
                 return Some((irp, life));
             }
@@ -98,7 +106,7 @@ impl Queue {
         let Some(at) = list.entries.iter().position(|entry| entry.0 == irp) else {
             return false;
         };
-        if list.lives[irp] != life || self.routine[irp].swap(2 * life, SeqCst) % 2 == 0 {
+        if list.lives[irp] != life || self.word(irp, Routine).swap(2 * life, SeqCst) % 2 == 0 {
             return false;
         }
         list.entries.remove(at);
@@ -106,16 +114,16 @@ impl Queue {
     }
 
     fn cancel(&self, irp: usize, life: u64) -> bool {
-        if irp >= self.cancel.len() {
+        if irp >= self.irps {
             return false;
         }
         let (clear, set) = (2 * life, 2 * life + 1);
-        if let Err(found) = self.cancel[irp].compare_exchange(clear, set, SeqCst, SeqCst) {
+        if let Err(found) = self.word(irp, Cancel).compare_exchange(clear, set, SeqCst, SeqCst) {
             if found != set {
                 return false;
             }
         }
-        if self.routine[irp].compare_exchange(set, clear, SeqCst, SeqCst).is_err() {
+        if self.word(irp, Routine).compare_exchange(set, clear, SeqCst, SeqCst).is_err() {
             return false;
         }
         self.list.lock().unwrap().entries.retain(|entry| entry.0 != irp);
@@ -125,15 +133,15 @@ impl Queue {
 
     fn reuse(&self, irp: usize) -> Option<u64> {
         let mut list = self.list.lock().unwrap();
-        let found = self.status[irp].load(SeqCst);
+        let found = self.word(irp, Status).load(SeqCst);
         let life = found >> 33;
         if (found >> 32) % 2 == 0 || life == LAST {
             return None;
         }
         let next = life + 1;
-        self.status[irp].swap(next << 33, SeqCst);
-        self.routine[irp].swap(2 * next, SeqCst);
-        self.cancel[irp].swap(2 * next, SeqCst);
+        self.word(irp, Status).swap(next << 33, SeqCst);
+        self.word(irp, Routine).swap(2 * next, SeqCst);
+        self.word(irp, Cancel).swap(2 * next, SeqCst);
         list.used[irp] = false;
         list.lives[irp] = next;
         Some(next)
@@ -161,7 +169,7 @@ fn end(queue: &Queue, kind: &str, irp: usize, life: u64) -> bool {
 }
 
 fn share(queue: &Queue, kind: &str, first: usize, threads: usize) -> usize {
-    let irps = queue.cancel.len();
+    let irps = queue.irps;
     let mut completed = 0;
     for place in (first..INSERTS).step_by(threads) {
         let irp = place % irps;
@@ -185,10 +193,9 @@ fn main() {
             share(&queue, kind, 0, 1)
         } else {
             thread::scope(|scope| {
-                let handles: Vec<_> = (0..threads)
-                    .map(|first| scope.spawn({ let queue = &queue; move || share(queue, kind, first, threads) }))
-                    .collect();
-                handles.into_iter().map(|handle| handle.join().unwrap()).sum::<usize>()
+                let share = |first| share(&queue, kind, first, threads);
+                let handles: Vec<_> = (1..threads).map(|first| scope.spawn(move || share(first))).collect();
+                share(0) + handles.into_iter().map(|handle| handle.join().unwrap()).sum::<usize>()
             })
         };
         nanoseconds += start.elapsed().as_nanos();

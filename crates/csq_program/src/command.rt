@@ -2,6 +2,9 @@
 ghost use Rattle.std.specs.Prelude.{◌≡◌, ◌≤◌, codes, IfOk, IfSome};
 ghost use Rattle.csq_program.specs.Jobs.{IsInRange, IsJobOf, IsLimit, IsNumber, IsRefusalOf, TellsFlag, TellsNumbers, number_of};
 
+use crate::help::{
+    ABOUT, RUN_ABOUT, RUN_HELP, SCHEDULE_ABOUT, SCHEDULE_HELP, SCRIPT_ABOUT, SCRIPT_HELP, VERSION,
+};
 use clap::error::ErrorKind;
 use clap::{Arg, ArgAction, ArgMatches, Command, value_parser};
 use csq_device::Plan;
@@ -72,82 +75,34 @@ impl From<clap::Error> for CommandFault {
     }
 }
 
-const ABOUT: &str =
-    "Replays the steps and the calls of a cancel-safe IRP queue, and runs threads over one";
+// The most IRPs.
+const MAX_IRPS: u32 = 1024;
 
-const SCHEDULE_ABOUT: &str = "Replays a schedule from standard input, one step a line";
+// The most passes.
+const MAX_PASSES: u32 = 64;
 
-const SCHEDULE_HELP: &str = "\
-A line is a pass, a step and an IRP in life 0, or in the life after an @. The answer is the line and
-the value that the step found:
-  p1 arm 0     an insert sets the cancel routine
-  p1 test 0    an insert reads the Cancel flag
-  p1 disarm 0  an insert or a removal takes the cancel routine
-  p1 end       a removal ends that found no IRP
-  p2 flag 0    a cancel sets the Cancel flag
-  p2 take 0    a cancel takes the cancel routine
-  p2 out 0     the cancel routine takes the IRP out of the queue
-  p2 done 0    the IRP is completed
-  p1 renew 0   the completed IRP begins its next life, in which it is named 0@1
-Empty lines, and lines that begin with #, are skipped. In the end each IRP is told that isn't home,
-is cancelled or is in a later life, and whether all passes are at rest.
+// The most file objects.
+const MAX_FILES: u32 = 256;
 
-Example:
-  printf 'p1 arm 0\\np1 test 0\\np2 flag 0\\np2 take 0\\n' | csqsim schedule";
+// The most threads of a kind.
+const MAX_THREADS: u32 = 20;
 
-const SCRIPT_ABOUT: &str = "Makes the calls of a script from standard input, one call a line";
-
-const SCRIPT_HELP: &str = "\
-A line is a call of one pass, which keeps the IRPs that it takes out and the claims of its cancels:
-  insert 0 1 back      inserts IRP 0 for file object 1 at the back, or at the front
-  next *               removes the next IRP of any file object, or of one
-  remove 0             removes IRP 0
-  mark 0               sets the Cancel flag of IRP 0 and takes its cancel routine
-  routine 0            runs the cancel routine of IRP 0, which was claimed by a mark, and completes it
-  cancel 0             cancels IRP 0
-  complete 0 00000000  completes IRP 0, which was removed, with a status
-  close 1              closes file object 1 to inserts
-  cleanup 1            closes it, and completes what is queued for it as cancelled
-  flag 0               tells the Cancel flag of IRP 0
-  status 0             tells the status of IRP 0
-  reuse 0              begins the next life of IRP 0, which was completed
-A remove, mark or cancel names IRP 0 in its life 1 as 0@1, and as 0 in life 0; the others are of the
-present life.
-Empty lines, and lines that begin with #, are skipped. In the end the listed IRPs are told, and those
-that are held and owed.
-
-Example:
-  printf 'insert 0 0 back\\nmark 0\\nroutine 0\\n' | csqsim script";
-
-const RUN_ABOUT: &str = "Runs threads over one queue, and tells how many IRPs are accounted for";
-
-const RUN_HELP: &str = "\
-Each submitter inserts an IRP each turn, each worker removes the next one and completes it, each
-canceller cancels one, and one more thread cleans the last file object up: it completes what is queued
-for that file as cancelled. A submitter or canceller has at most so many turns, and ends after the last
-IRP. Once all threads have ended the queue is closed, and three lines are written:
-  irps N                  how many IRPs the device has
-  accounted N             how many were never queued, are still listed, or were completed by the
-                          threads' own counts
-  cancelled and listed N  how many are still listed though their Cancel flag is set
-The first two numbers are the same, and the third is 0.
-
-Example:
-  csqsim run --irps 8 --turns 8";
+// The most turns of a thread.
+const MAX_TURNS: u32 = 100_000;
 
 /// An option that takes a number from 1 to a limit.
-fn number_option<'a>(alloc: Global, name: &'a str, help: &'a str, most: i64) -> Arg<'a> {
+fn number_option<'a>(alloc: Global, name: &'a str, help: &'a str, most: u32) -> Arg<'a> {
     Arg::new(alloc, name)
         .long(name)
         .value_name("N")
         .help(help)
-        .value_parser(value_parser!(u32).range(1..=most))
+        .value_parser(value_parser!(u32).range(1..=i64::from(most)))
 }
 
 /// The command line of a schedule.
 fn schedule_command<'a>(alloc: Global) -> Result<Command<'a>, AllocError> {
-    let irps = number_option(alloc, "irps", "IRPs, 1 to 1,024", 1024);
-    let passes = number_option(alloc, "passes", "Passes, 1 to 64", 64);
+    let irps = number_option(alloc, "irps", "IRPs, 1 to 1,024", MAX_IRPS);
+    let passes = number_option(alloc, "passes", "Passes, 1 to 64", MAX_PASSES);
     let claims = Arg::new(alloc, "claims")
         .long("claims")
         .help("Tells each claim: the IRP, the line and the pass")
@@ -162,10 +117,10 @@ fn schedule_command<'a>(alloc: Global) -> Result<Command<'a>, AllocError> {
 
 /// The command line of a script.
 fn script_command<'a>(alloc: Global) -> Result<Command<'a>, AllocError> {
-    let irps = number_option(alloc, "irps", "IRPs, 1 to 1,024", 1024);
-    let files = number_option(alloc, "files", "File objects, 1 to 256", 256);
+    let irps = number_option(alloc, "irps", "IRPs, 1 to 1,024", MAX_IRPS);
+    let files = number_option(alloc, "files", "File objects, 1 to 256", MAX_FILES);
     let help = "IRPs that may be listed at a time, 1 to the IRPs [default: the IRPs]";
-    let limit = number_option(alloc, "limit", help, 1024);
+    let limit = number_option(alloc, "limit", help, MAX_IRPS);
     let chain = Arg::new(alloc, "chain")
         .long("chain")
         .help("Keeps the list in linked chains; the answers are the same")
@@ -181,12 +136,27 @@ fn script_command<'a>(alloc: Global) -> Result<Command<'a>, AllocError> {
 
 /// The command line of a run.
 fn run_command<'a>(alloc: Global) -> Result<Command<'a>, AllocError> {
-    let irps = number_option(alloc, "irps", "IRPs, 1 to 1,024", 1024);
-    let files = number_option(alloc, "files", "File objects, 1 to 256", 256);
-    let submitters = number_option(alloc, "submitters", "Threads that insert, 1 to 20", 20);
-    let workers = number_option(alloc, "workers", "Threads that remove, 1 to 20", 20);
-    let cancellers = number_option(alloc, "cancellers", "Threads that cancel, 1 to 20", 20);
-    let turns = number_option(alloc, "turns", "Turns of each, 1 to 100,000", 100_000);
+    let irps = number_option(alloc, "irps", "IRPs, 1 to 1,024", MAX_IRPS);
+    let files = number_option(alloc, "files", "File objects, 1 to 256", MAX_FILES);
+    let submitters = number_option(
+        alloc,
+        "submitters",
+        "Threads that insert, 1 to 20",
+        MAX_THREADS,
+    );
+    let workers = number_option(
+        alloc,
+        "workers",
+        "Threads that remove, 1 to 20",
+        MAX_THREADS,
+    );
+    let cancellers = number_option(
+        alloc,
+        "cancellers",
+        "Threads that cancel, 1 to 20",
+        MAX_THREADS,
+    );
+    let turns = number_option(alloc, "turns", "Turns of each, 1 to 100,000", MAX_TURNS);
     let chain = Arg::new(alloc, "chain")
         .long("chain")
         .help("Keeps the list in linked chains")
@@ -206,7 +176,9 @@ fn run_command<'a>(alloc: Global) -> Result<Command<'a>, AllocError> {
 /// The command line that the program takes.
 fn program<'a>(alloc: Global) -> Result<Command<'a>, AllocError> {
     Command::new(alloc, "csqsim")
+        .bin_name("csqsim")?
         .about(ABOUT)
+        .version(VERSION)
         .subcommand_required(true)
         .arg_required_else_help(true)
         .subcommand(schedule_command(alloc)?)?
@@ -234,7 +206,7 @@ fn limit_in(options: &ArgMatches<'_>) -> Option<u32>
     ensures limit { IsLimit options.now result }
 {
     match options.get_one::<u32>("limit") {
-        Some(limit) if 1 <= limit && limit <= 1024 => Some(limit),
+        Some(limit) if 1 <= limit && limit <= MAX_IRPS => Some(limit),
         _ => None,
     }
 }
@@ -246,8 +218,8 @@ fn schedule_job(options: &ArgMatches<'_>) -> Job
     ensures numbers { TellsNumbers options.now result }
 {
     Job::Schedule {
-        irps: number_in(options, "irps", 1024, 8),
-        passes: number_in(options, "passes", 64, 4),
+        irps: number_in(options, "irps", MAX_IRPS, 8),
+        passes: number_in(options, "passes", MAX_PASSES, 4),
         claims: options.get_flag("claims"),
     }
 }
@@ -259,8 +231,8 @@ fn script_job(options: &ArgMatches<'_>) -> Job
     ensures numbers { TellsNumbers options.now result }
 {
     Job::Script {
-        irps: number_in(options, "irps", 1024, 8),
-        files: number_in(options, "files", 256, 4),
+        irps: number_in(options, "irps", MAX_IRPS, 8),
+        files: number_in(options, "files", MAX_FILES, 4),
         limit: limit_in(options),
         chain: options.get_flag("chain"),
     }
@@ -273,12 +245,12 @@ fn device_job(options: &ArgMatches<'_>) -> Job
     ensures numbers { TellsNumbers options.now result }
 {
     let plan = Plan::new(
-        number_in(options, "irps", 1024, 64),
-        number_in(options, "files", 256, 4),
-        number_in(options, "submitters", 20, 2),
-        number_in(options, "workers", 20, 2),
-        number_in(options, "cancellers", 20, 2),
-        number_in(options, "turns", 100_000, 64),
+        number_in(options, "irps", MAX_IRPS, 64),
+        number_in(options, "files", MAX_FILES, 4),
+        number_in(options, "submitters", MAX_THREADS, 2),
+        number_in(options, "workers", MAX_THREADS, 2),
+        number_in(options, "cancellers", MAX_THREADS, 2),
+        number_in(options, "turns", MAX_TURNS, 64),
     );
     let chain = options.get_flag("chain");
     match plan {

@@ -3,6 +3,7 @@
 
 mod command;
 mod device_run;
+mod help;
 mod program;
 
 pub use command::{CommandFault, Job, read_command, refuse_bytes};

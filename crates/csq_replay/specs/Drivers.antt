@@ -40,7 +40,7 @@ pub record Keeping : Type 0 where
   pub statuses : List (Option NtStatus)
 
 -- what a driver keeps, by what its list means
-abbrev pub keeping : {L : Type 0} → (L → Listing) → Driver L → Keeping
+abbrev pub keeping : {L A : Type 0} → (L → Listing) → Driver L A → Keeping
 keeping listing driver = record { machine = driver.machine; listing = listing driver.list; claims = driver.claims.items; statuses = driver.statuses.items }
 
 -- so it keeps the script s

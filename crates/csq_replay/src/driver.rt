@@ -20,7 +20,7 @@ use csq_list::{Peek, PendingList, Place};
 use irp_core::{
     FileId, FinalStatus, IrpId, IrpLife, IrpPlace, Kind, Life, Machine, NtStatus, PassId, Step,
 };
-use std::alloc::{AllocError, Global};
+use std::alloc::{AllocError, Allocator};
 
 /// The one pass of a script.
 const PASS: PassId = PassId(1);
@@ -28,15 +28,15 @@ const PASS: PassId = PassId(1);
 /// A machine with one pass, a list, the IRPs that the pass owes in their present lives, and the statuses of
 /// those that it completed in them.
 #[derive(Drop)]
-pub(crate) struct Driver<L> {
-    pub(crate) machine: Machine,
+pub(crate) struct Driver<L, A: Allocator> {
+    pub(crate) machine: Machine<A>,
     pub(crate) list: L,
-    pub(crate) claims: Vec<bool>,
-    pub(crate) statuses: Vec<Option<NtStatus>>,
+    pub(crate) claims: Vec<bool, A>,
+    pub(crate) statuses: Vec<Option<NtStatus>, A>,
 }
 
 /// Makes a step of the pass, which is one that may come next, and answers the value that it found.
-fn make(machine: &mut Machine, kind: Kind) -> u64
+fn make<A: Allocator>(machine: &mut Machine<A>, kind: Kind) -> u64
     requires { (E : List Made) × Agrees machine.old E × IsRun (size_of machine.old) (next_step E kind) }
     ensures made { (E : List Made) → Agrees machine.old E → Agrees machine.new (next_step E kind) × (result ≡ found_by E kind) }
     ensures size { size_of machine.new ≡ size_of machine.old }
@@ -44,11 +44,12 @@ fn make(machine: &mut Machine, kind: Kind) -> u64
     machine.step(Step { pass: PASS, kind }).unwrap()
 }
 
-impl<L: PendingList> Driver<L> {
+impl<L: PendingList, A: Allocator> Driver<L, A> {
     /// A driver that made no call yet.
-    pub(crate) fn new(alloc: Global, list: L) -> Result<Driver<L>, AllocError>
+    pub(crate) fn new(alloc: A, list: L) -> Result<Driver<L, A>, AllocError>
     where
         L: Drop,
+        A: Copy,
         requires fresh { IsFresh (L.listing list) }
         requires irps { (1 ≤ (L.listing list).irps) × ((L.listing list).irps ≤ 1024) }
         ensures { IfOk result (λ driver. Keeps (limits_of 0 (L.listing list))

@@ -11,10 +11,13 @@ ghost use Rattle.csq_replay.specs.ScriptAnswer.{numbers, left_line, kept_line, i
 use crate::driver::Driver;
 use csq_list::{Peek, PendingList};
 use irp_core::IrpId;
-use std::alloc::AllocError;
+use std::alloc::{AllocError, Allocator};
 
 /// The numbers of the listed IRPs, in the list's order, each after a space.
-fn write_listed<L: PendingList>(list: &L, text: &mut String) -> Result<(), AllocError>
+fn write_listed<L: PendingList, A: Allocator>(
+    list: &L,
+    text: &mut String<A>,
+) -> Result<(), AllocError>
     ensures { OnOk result (string_bytes text.new ≡ string_bytes text.old ++ numbers (map (λ e. e.irp) (L.listing list.now).entries)) }
 {
     let mut after = None;
@@ -26,7 +29,10 @@ fn write_listed<L: PendingList>(list: &L, text: &mut String) -> Result<(), Alloc
 }
 
 /// The line of what is listed.
-pub(crate) fn close_left<L: PendingList>(list: &L, text: &mut String) -> Result<(), AllocError>
+pub(crate) fn close_left<L: PendingList, A: Allocator>(
+    list: &L,
+    text: &mut String<A>,
+) -> Result<(), AllocError>
     ensures { OnOk result (string_bytes text.new ≡ string_bytes text.old ++ left_line (map (λ e. e.irp) (L.listing list.now).entries)) }
 {
     if list.len() == 0 {
@@ -38,9 +44,9 @@ pub(crate) fn close_left<L: PendingList>(list: &L, text: &mut String) -> Result<
 }
 
 /// The numbers of the IRPs that are held in their present lives, by rising number, each after a space.
-pub(crate) fn write_held<L: PendingList>(
-    driver: &Driver<L>,
-    text: &mut String,
+pub(crate) fn write_held<L: PendingList, A: Allocator>(
+    driver: &Driver<L, A>,
+    text: &mut String<A>,
 ) -> Result<(), AllocError>
     ensures { OnOk result ((E : List Made) → Agrees driver.now.machine E
         → string_bytes text.new ≡ string_bytes text.old ++ numbers (filter (λ n. holds E script_pass (present (size_of driver.now.machine).first E n)) (irps_below (size_of driver.now.machine).irps))) }
@@ -55,9 +61,9 @@ pub(crate) fn write_held<L: PendingList>(
 }
 
 /// The numbers of the IRPs that are owed in their present lives, by rising number, each after a space.
-pub(crate) fn write_owed<L: PendingList>(
-    driver: &Driver<L>,
-    text: &mut String,
+pub(crate) fn write_owed<L: PendingList, A: Allocator>(
+    driver: &Driver<L, A>,
+    text: &mut String<A>,
 ) -> Result<(), AllocError>
     requires { (size_of driver.now.machine).irps ≤ length driver.now.claims.items }
     ensures { OnOk result (string_bytes text.new
@@ -73,7 +79,11 @@ pub(crate) fn write_owed<L: PendingList>(
 }
 
 /// A line of a name and of numbers, where there are any.
-pub(crate) fn close_kept(name: &str, kept: &str, text: &mut String) -> Result<(), AllocError>
+pub(crate) fn close_kept<A: Allocator>(
+    name: &str,
+    kept: &str,
+    text: &mut String<A>,
+) -> Result<(), AllocError>
     ensures { (irps : List IrpId) → kept.now ≡ numbers irps
         → OnOk result (string_bytes text.new ≡ string_bytes text.old ++ kept_line name.now irps) }
 {

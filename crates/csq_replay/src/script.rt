@@ -16,15 +16,15 @@ use crate::pieces::split_line;
 use crate::remains::{close_kept, close_left, write_held, write_owed};
 use crate::replay::{Handling, MAX_LINE, is_skipped};
 use csq_list::PendingList;
-use std::alloc::{AllocError, Global};
+use std::alloc::{AllocError, Allocator};
 use std::io::{Read, Write};
 
 /// Answers the line of this number: makes its call, if it names one.
-fn answer_line<L: PendingList>(
-    driver: &mut Driver<L>,
+fn answer_line<L: PendingList, A: Allocator>(
+    driver: &mut Driver<L, A>,
     number: usize,
     line: &[u8],
-    text: &mut String,
+    text: &mut String<A>,
 ) -> Result<Handling, AllocError>
     requires { IsKeeping (keeping L.listing driver.old) }
     ensures { (l : Limits) (s : Script) → Keeps l (keeping L.listing driver.old) s → IfOk result (λ handling.
@@ -48,10 +48,10 @@ fn answer_line<L: PendingList>(
 }
 
 /// The closing lines.
-fn close<L: PendingList>(
-    alloc: Global,
-    driver: &Driver<L>,
-    text: &mut String,
+fn close<L: PendingList, A: Allocator + Copy>(
+    alloc: A,
+    driver: &Driver<L, A>,
+    text: &mut String<A>,
 ) -> Result<(), AllocError>
     requires { IsKeeping (keeping L.listing driver.now) }
     ensures { OnOk result ((l : Limits) (s : Script) → Keeps l (keeping L.listing driver.now) s
@@ -68,11 +68,11 @@ fn close<L: PendingList>(
 }
 
 /// Answers each line, one after the other, and closes.
-fn answer_lines<L: PendingList>(
-    alloc: Global,
-    driver: &mut Driver<L>,
+fn answer_lines<L: PendingList, A: Allocator + Copy>(
+    alloc: A,
+    driver: &mut Driver<L, A>,
     input: &[u8],
-    text: &mut String,
+    text: &mut String<A>,
 ) -> Result<Ended, AllocError>
     requires { IsKeeping (keeping L.listing driver.old) }
     ensures { (l : Limits) → Keeps l (keeping L.listing driver.old) (new_script l) → IfOk result (λ ended.
@@ -95,11 +95,11 @@ fn answer_lines<L: PendingList>(
 }
 
 /// The answer to the bytes of a script.
-fn answer_input<L: PendingList + Drop>(
-    alloc: Global,
+fn answer_input<L: PendingList + Drop, A: Allocator + Copy>(
+    alloc: A,
     list: L,
     input: &[u8],
-) -> Result<(String, Ended), AllocError>
+) -> Result<(String<A>, Ended), AllocError>
     requires fresh { IsFresh (L.listing list) }
     requires irps { (1 ≤ (L.listing list).irps) × ((L.listing list).irps ≤ 1024) }
     ensures { IfOk result (λ answer. IsScriptAnswer (limits_of 0 (L.listing list)) input.now (string_bytes answer.0) answer.1) }
@@ -119,8 +119,8 @@ fn answer_input<L: PendingList + Drop>(
 ///
 /// All of the input is read, up to 1,048,577 bytes; more stays unread. The list is fresh and has 1 to
 /// 1,024 IRPs. Faults: 1 Memory and 2 Read, after which nothing was written; 3 Write. Own rule.
-pub fn answer_script<L: PendingList + Drop, R: Read, W: Write>(
-    alloc: Global,
+pub fn answer_script<L: PendingList + Drop, A: Allocator + Copy, R: Read, W: Write>(
+    alloc: A,
     list: L,
     reader: &mut R,
     writer: &mut W,

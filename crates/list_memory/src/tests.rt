@@ -80,3 +80,15 @@ fn a_chain_list_takes_no_memory_later(rt: HostRuntime) -> Result<(), Fail> {
     }
     Err(Fail::from("no heap was large enough"))
 }
+
+// Each number of IRPs has its list, where there is memory.
+#[test]
+fn lists_are_made_of_each_size(rt: HostRuntime) -> Result<(), Fail> {
+    for irps in 1..=1024 {
+        let list = VecList::new(rt.alloc(), irps, 1, irps);
+        assert!(rt; list.is_ok(), "{irps} IRPs");
+        let chains = ChainList::new(rt.alloc(), irps, 1, irps);
+        assert!(rt; chains.is_ok(), "chains of {irps} IRPs");
+    }
+    Ok(())
+}

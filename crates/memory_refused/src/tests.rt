@@ -65,3 +65,16 @@ fn words_are_refused_for_want_of_memory(rt: HostRuntime) -> Result<(), Fail> {
     }
     Err(Fail::from("no heap was large enough"))
 }
+
+// Each number of IRPs has its machine and its words, where there is memory.
+#[test]
+fn a_machine_and_words_are_made_of_each_size(rt: HostRuntime) -> Result<(), Fail> {
+    for irps in 1..=1024 {
+        assert!(rt; Machine::new(rt.alloc(), irps, 1).is_ok(), "{irps} IRPs");
+        assert!(rt;
+            Words::new(rt.alloc(), irps, 1).is_ok(),
+            "words of {irps} IRPs"
+        );
+    }
+    Ok(())
+}

@@ -21,6 +21,7 @@ use std::thread::join;
 mod notes;
 mod removals;
 mod reuses;
+mod statuses;
 
 const ZERO: IrpId = IrpId(0);
 

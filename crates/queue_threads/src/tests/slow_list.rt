@@ -85,10 +85,10 @@ impl<'a, L: PendingList + Drop> PendingList for SlowList<'a, L> {
     }
 }
 
-// Yields until a flag is set, or gives up.
+// Yields until a flag is set, or gives up. Where some wait gave up, none goes on.
 pub(crate) fn wait_for(flag: &AtomicBool, gave_up: &AtomicBool) {
     for _ in 0..TURNS {
-        if flag.load(Ordering::SeqCst) {
+        if flag.load(Ordering::SeqCst) || gave_up.load(Ordering::SeqCst) {
             return;
         }
         yield_now();

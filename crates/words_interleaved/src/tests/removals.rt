@@ -108,6 +108,29 @@ pub(crate) fn remove_next(
     remove(rt, machine, words, queue, pass, REMOVE_NEXT, name);
 }
 
+// Pass 3 completes what it has removed, with this status, if it is a final one.
+pub(crate) fn complete_as(
+    rt: &impl Abort,
+    machine: &mut Machine,
+    words: &Words,
+    pass: &mut PassSeat,
+    name: IrpLife,
+    status: NtStatus,
+)
+    requires irp { name.irp.0 < words.now.size.irps }
+    requires here { IsHere words.now.table pass.old }
+    requires outside { inside_of (pass_record pass.old).steps ≡ Nothing }
+    requires held { holds_in (pass_record pass.old).steps name ≡ true }
+    requires removed { removed_in (pass_record pass.old).steps name ≡ true }
+    ensures here { IsHere words.now.table pass.new }
+    ensures outside { inside_of (pass_record pass.new).steps ≡ Nothing }
+{
+    if let Some(status) = FinalStatus::new(status) {
+        pass.done(words, name, status);
+        compare(rt, machine, 3, Kind::Done(name), 0);
+    }
+}
+
 // Pass 3 completes what it has removed, with success.
 pub(crate) fn complete(
     rt: &impl Abort,
@@ -124,10 +147,7 @@ pub(crate) fn complete(
     ensures here { IsHere words.now.table pass.new }
     ensures outside { inside_of (pass_record pass.new).steps ≡ Nothing }
 {
-    if let Some(success) = FinalStatus::new(NtStatus::SUCCESS) {
-        pass.done(words, name, success);
-        compare(rt, machine, 3, Kind::Done(name), 0);
-    }
+    complete_as(rt, machine, words, pass, name, NtStatus::SUCCESS);
 }
 
 // Pass 3 finds that the routine was taken, and its removal ends with no IRP.

@@ -35,7 +35,7 @@ const SIXTH: IrpLife = IrpLife {
     life: Life(6),
 };
 
-const LAST: IrpLife = IrpLife {
+pub(crate) const LAST: IrpLife = IrpLife {
     irp: ZERO,
     life: Life(0x3FFF_FFFF),
 };
@@ -45,8 +45,15 @@ const LAST_BUT_ONE: IrpLife = IrpLife {
     life: Life(0x3FFF_FFFE),
 };
 
-// Pass 1 begins a reuse: it looks at the status of the IRP, which is success.
-fn look(rt: &impl Abort, words: &Words, queue: &mut QueueSeat, pass: &mut PassSeat, name: IrpLife)
+// Pass 1 begins a reuse: it looks at the status of the IRP, which is the one of its completion.
+pub(crate) fn look(
+    rt: &impl Abort,
+    words: &Words,
+    queue: &mut QueueSeat,
+    pass: &mut PassSeat,
+    name: IrpLife,
+    due: NtStatus,
+)
     requires words { queue.old.table ≡ words.now.table }
     requires irp { name.irp.0 < words.now.size.irps }
     requires alone { queue.old.joined ≡ None }
@@ -63,11 +70,17 @@ fn look(rt: &impl Abort, words: &Words, queue: &mut QueueSeat, pass: &mut PassSe
     let (life, status) = status_read(queue.look(words, REUSE, ZERO));
     assert_eq!(rt; life, name.life);
     assert!(rt; status.is_some());
-    assert_eq!(rt; status, Some(NtStatus::SUCCESS));
+    assert_eq!(rt; status, Some(due));
 }
 
 // It renews the status.
-fn renew_status(rt: &impl Abort, words: &Words, queue: &mut QueueSeat, name: IrpLife)
+pub(crate) fn renew_status(
+    rt: &impl Abort,
+    words: &Words,
+    queue: &mut QueueSeat,
+    name: IrpLife,
+    due: NtStatus,
+)
     requires words { queue.old.table ≡ words.now.table }
     requires irp { name.irp.0 < words.now.size.irps }
     requires named { name.irp ≡ ZERO }
@@ -76,11 +89,11 @@ fn renew_status(rt: &impl Abort, words: &Words, queue: &mut QueueSeat, name: Irp
     ensures { queue.new ≡ record queue.old { queue = with_reusing (Reusing.StatusRenewed name) queue.old.queue } }
 {
     let found = queue.renew_status(words, REUSE, name);
-    assert_eq!(rt; status_read(found), (name.life, Some(NtStatus::SUCCESS)));
+    assert_eq!(rt; status_read(found), (name.life, Some(due)));
 }
 
 // It renews the routine.
-fn renew_routine(rt: &impl Abort, words: &Words, queue: &mut QueueSeat, name: IrpLife)
+pub(crate) fn renew_routine(rt: &impl Abort, words: &Words, queue: &mut QueueSeat, name: IrpLife)
     requires words { queue.old.table ≡ words.now.table }
     requires irp { name.irp.0 < words.now.size.irps }
     requires named { name.irp ≡ ZERO }
@@ -93,7 +106,7 @@ fn renew_routine(rt: &impl Abort, words: &Words, queue: &mut QueueSeat, name: Ir
 }
 
 // It renews the Cancel flag, which begins the next life. The reuse ends.
-fn renew_cancel(
+pub(crate) fn renew_cancel(
     rt: &impl Abort,
     machine: &mut Machine,
     words: &Words,
@@ -142,14 +155,15 @@ fn reuse(
     ensures here { IsHere words.now.table pass.new }
     ensures outside { inside_of (pass_record pass.new).steps ≡ Nothing }
 {
-    look(rt, words, queue, pass, name);
-    renew_status(rt, words, queue, name);
+    look(rt, words, queue, pass, name, NtStatus::SUCCESS);
+    renew_status(rt, words, queue, name, NtStatus::SUCCESS);
     renew_routine(rt, words, queue, name);
     let (life, _) = renew_cancel(rt, machine, words, queue, pass, name);
     assert_eq!(rt; life, name.life);
 }
 
-// A flag by pass 2 that names another life than the present one finds the present one.
+// A flag by pass 2 that names another life than the present one finds the present one, and answers the
+// flag found.
 fn flag_stale(
     rt: &impl Abort,
     machine: &mut Machine,
@@ -157,7 +171,7 @@ fn flag_stale(
     pass: &mut PassSeat,
     name: IrpLife,
     present: IrpLife,
-)
+) -> bool
     requires irp { name.irp.0 < words.now.size.irps }
     requires here { IsHere words.now.table pass.old }
     requires outside { inside_of (pass_record pass.old).steps ≡ Nothing }
@@ -169,6 +183,7 @@ fn flag_stale(
     let status = pass.read_status(words, ZERO);
     let found = pass.flag(words, name);
     assert!(rt; found / 2 == u64::from(present.life.0));
+    let (_, set) = flag_read(found);
     let step = Step {
         pass: PassId(2),
         kind: Kind::Flag(name),
@@ -176,6 +191,7 @@ fn flag_stale(
     assert_eq!(rt; machine.step(step), Err(StepRefused::Stale(present.life)));
     assert_eq!(rt; pass.read_cancel(words, ZERO), cancel);
     assert_eq!(rt; pass.read_status(words, ZERO), status);
+    set
 }
 
 // Pass 2 cancels the life that a reuse is about to end. Its take finds this word, which has no routine,
@@ -212,9 +228,9 @@ fn cancels_come_between_the_renewals(rt: HostRuntime) -> Result<(), Fail> {
     insert(&rt, &mut machine, &words, &mut queue, &mut one, FIFTH);
     remove_next(&rt, &mut machine, &words, &mut queue, &mut three, FIFTH);
     complete(&rt, &mut machine, &words, &mut three, FIFTH);
-    look(&rt, &words, &mut queue, &mut one, FIFTH);
+    look(&rt, &words, &mut queue, &mut one, FIFTH, NtStatus::SUCCESS);
     flag_stale(&rt, &mut machine, &words, &mut two, SIXTH, FIFTH);
-    renew_status(&rt, &words, &mut queue, FIFTH);
+    renew_status(&rt, &words, &mut queue, FIFTH, NtStatus::SUCCESS);
     assert_eq!(rt; two.read_status(&words, ZERO), (Life(6), None));
     assert_eq!(rt; two.read_cancel(&words, ZERO), (Life(5), false));
     // The flag is still of the old life, and so is the routine, which is gone.
@@ -258,9 +274,9 @@ fn a_stale_flag_changes_no_word(rt: HostRuntime) -> Result<(), Fail> {
     remove_next(&rt, &mut machine, &words, &mut queue, &mut three, FIFTH);
     flag_stale(&rt, &mut machine, &words, &mut two, SIXTH, FIFTH);
     complete(&rt, &mut machine, &words, &mut three, FIFTH);
-    look(&rt, &words, &mut queue, &mut one, FIFTH);
+    look(&rt, &words, &mut queue, &mut one, FIFTH, NtStatus::SUCCESS);
     flag_stale(&rt, &mut machine, &words, &mut two, FIRST, FIFTH);
-    renew_status(&rt, &words, &mut queue, FIFTH);
+    renew_status(&rt, &words, &mut queue, FIFTH, NtStatus::SUCCESS);
     flag_stale(&rt, &mut machine, &words, &mut two, FIRST, FIFTH);
     renew_routine(&rt, &words, &mut queue, FIFTH);
     flag_stale(&rt, &mut machine, &words, &mut two, FIRST, FIFTH);
@@ -274,8 +290,37 @@ fn a_stale_flag_changes_no_word(rt: HostRuntime) -> Result<(), Fail> {
     Ok(())
 }
 
+#[test]
+fn a_stale_flag_tells_the_flag_found(rt: HostRuntime) -> Result<(), Fail> {
+    let mut machine = Machine::new_at(rt.alloc(), 1, 3, Life(5))?;
+    let Begun {
+        words,
+        mut queue,
+        mut one,
+        mut two,
+        mut three,
+    } = begin(&rt, FIFTH)?;
+    insert(&rt, &mut machine, &words, &mut queue, &mut one, FIFTH);
+    assert!(rt; !flag_stale(&rt, &mut machine, &words, &mut two, FIRST, FIFTH));
+    assert!(rt; !flag_stale(&rt, &mut machine, &words, &mut two, SIXTH, FIFTH));
+    remove_next(&rt, &mut machine, &words, &mut queue, &mut three, FIFTH);
+    flag(&rt, &mut machine, &words, &mut two, FIFTH);
+    assert_eq!(rt; take(&rt, &mut machine, &words, &mut two, FIFTH), 10);
+    assert!(rt; flag_stale(&rt, &mut machine, &words, &mut two, FIRST, FIFTH));
+    assert!(rt; flag_stale(&rt, &mut machine, &words, &mut one, SIXTH, FIFTH));
+    complete(&rt, &mut machine, &words, &mut three, FIFTH);
+    assert!(rt; flag_stale(&rt, &mut machine, &words, &mut three, FIRST, FIFTH));
+    reuse(&rt, &mut machine, &words, &mut queue, &mut one, FIFTH);
+    assert!(rt; !flag_stale(&rt, &mut machine, &words, &mut two, FIFTH, SIXTH));
+    Ok(())
+}
+
 // A look by pass 1 that begins no reuse.
-fn look_alone(words: &Words, queue: &mut QueueSeat, pass: &mut PassSeat) -> (Life, Option<NtStatus>)
+pub(crate) fn look_alone(
+    words: &Words,
+    queue: &mut QueueSeat,
+    pass: &mut PassSeat,
+) -> (Life, Option<NtStatus>)
     requires words { queue.old.table ≡ words.now.table }
     requires irp { 0 < words.now.size.irps }
     requires alone { queue.old.joined ≡ None }

@@ -15,7 +15,7 @@ returns-in_default-clause-limit c = record {
   given = λ n least most text.
       let read = option_read c.args.options.now (codes "limit") c.get_one.result c.get_one.ensures.value n (omega arith) text in
       let same = same_read c.get_one.result c.in-Some.limit n c.in-Some.is read in
-      let above = c.if-limit-le1024.false in
+      let above = c.if-limit-le-MAX_IRPS.false in
       absurd (omega arith);
   absent = λ none. refl;
 }

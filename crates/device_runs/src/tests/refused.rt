@@ -1,0 +1,143 @@
+//! A run in which a file object is cleaned up before most inserts, which are refused then.
+use super::closing_list::ClosingList;
+use super::runs::run;
+use csq_device::{Gate, Plan, Point};
+use csq_list::{ChainList, PendingList, VecList};
+use irp_core::IrpId;
+use std::process::Abort;
+use std::sync::Wait;
+use std::sync::atomic::{AtomicBool, AtomicU64, Ordering};
+use std::test::Fail;
+use std::thread::{Threads, yield_now};
+
+// How often a thread yields at most before it gives up.
+const PATIENCE: u32 = 1_000_000;
+
+// How many inserts two submitters make.
+const SUBMITTED: u64 = 14;
+
+// How many cancels come before the workers.
+const CANCELS: u64 = 7;
+
+// The bit that stands for an IRP.
+fn bit(irp: u32) -> u64 {
+    1u64.checked_shl(irp).unwrap_or(0)
+}
+
+// How often each point was told, and of which IRPs, by their bits.
+#[derive(Drop)]
+struct Told {
+    submitted: AtomicU64,
+    submitted_irps: AtomicU64,
+    cancelled: AtomicU64,
+    removed: AtomicU64,
+    removed_irps: AtomicU64,
+    // The last file is closed.
+    closed: AtomicBool,
+    // Some wait came to its end unanswered.
+    gave_up: AtomicBool,
+}
+
+impl Told {
+    // Yields until the point was told so often, or gives up. Where some wait gave up, none goes on.
+    fn wait_for(&self, told: &AtomicU64, times: u64) {
+        for _ in 0..PATIENCE {
+            let enough = told.load(Ordering::SeqCst) >= times;
+            if enough || self.gave_up.load(Ordering::SeqCst) {
+                return;
+            }
+            yield_now();
+        }
+        self.gave_up.store(true, Ordering::SeqCst);
+    }
+
+    // Yields until the flag is set, or gives up likewise.
+    fn wait_until(&self, flag: &AtomicBool) {
+        for _ in 0..PATIENCE {
+            if flag.load(Ordering::SeqCst) || self.gave_up.load(Ordering::SeqCst) {
+                return;
+            }
+            yield_now();
+        }
+        self.gave_up.store(true, Ordering::SeqCst);
+    }
+}
+
+// A gate at which each submitter waits after its first insert until the last file is closed, the canceller
+// for all inserts, and the workers for all cancels.
+#[derive(Clone, Copy)]
+struct Late<'a>(&'a Told);
+
+impl<'a> Gate for Late<'a> {
+    fn at(&self, point: Point) {
+        let told = self.0;
+        match point {
+            Point::Submitted(IrpId(irp)) => {
+                told.submitted.fetch_add(1, Ordering::SeqCst);
+                told.submitted_irps.fetch_or(bit(irp), Ordering::SeqCst);
+                told.wait_until(&told.closed);
+            }
+            Point::Working(_) => told.wait_for(&told.cancelled, CANCELS),
+            Point::Removed(IrpId(irp)) => {
+                told.removed.fetch_add(1, Ordering::SeqCst);
+                told.removed_irps.fetch_or(bit(irp), Ordering::SeqCst);
+            }
+            Point::Cancelling(_) => told.wait_for(&told.submitted, SUBMITTED),
+            Point::Cancelled(_) => {
+                told.cancelled.fetch_add(1, Ordering::SeqCst);
+            }
+            Point::Cleaning(_) => {}
+        }
+    }
+}
+
+fn untold() -> Told {
+    Told {
+        submitted: AtomicU64::new(0),
+        submitted_irps: AtomicU64::new(0),
+        cancelled: AtomicU64::new(0),
+        removed: AtomicU64::new(0),
+        removed_irps: AtomicU64::new(0),
+        closed: AtomicBool::new(false),
+        gave_up: AtomicBool::new(false),
+    }
+}
+
+// Of 20 IRPs 0 to 13 are submitted; 2, 5, 8 and 11 are refused, since their file is closed. 0 to 6 are
+// cancelled, of which 2 and 5 are home, and 7, 9, 10, 12 and 13 are removed.
+fn refuse_over<L, R>(rt: &R, list: L) -> Result<(), Fail>
+where
+    L: PendingList + Drop + Send,
+    R: Threads + Wait + AllocGlobal + Abort + Sync,
+{
+    let plan = Plan::new(20, 3, 2, 2, 1, 7).ok_or("a plan")?;
+    let told = untold();
+    let closing = ClosingList {
+        list,
+        closed: &told.closed,
+    };
+    let totals = run(rt, plan, closing, Late(&told))?;
+    assert!(rt; !told.gave_up.load(Ordering::SeqCst));
+    assert_eq!(rt; told.submitted.load(Ordering::SeqCst), SUBMITTED);
+    assert_eq!(rt; told.submitted_irps.load(Ordering::SeqCst), 0x3FFF);
+    assert_eq!(rt; told.removed.load(Ordering::SeqCst), 5);
+    assert_eq!(rt; told.removed_irps.load(Ordering::SeqCst), 0x3680);
+    assert_eq!(rt; totals.home, 10);
+    assert_eq!(rt; totals.listed, 0);
+    assert_eq!(rt; totals.completed, 10);
+    assert_eq!(rt; totals.succeeded, 5);
+    assert_eq!(rt; totals.cancelled, 5);
+    assert_eq!(rt; totals.handed, 10);
+    assert_eq!(rt; totals.accounted(), 20);
+    Ok(())
+}
+
+#[test]
+fn refused_inserts_are_told_over_a_vector(rt: HostRuntime) -> Result<(), Fail> {
+    refuse_over(&rt, VecList::new(rt.alloc(), 20, 3, 20)?)
+}
+
+#[test]
+fn refused_inserts_are_told_over_chains(rt: HostRuntime) -> Result<(), Fail> {
+    refuse_over(&rt, ChainList::new(rt.alloc(), 20, 3, 20)?)
+}

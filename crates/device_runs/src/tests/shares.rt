@@ -1,0 +1,101 @@
+//! A run in which the workers alone complete, each its own share.
+use super::runs::run;
+use csq_device::{Gate, Plan, Point};
+use csq_list::{ChainList, PendingList, VecList};
+use irp_core::IrpId;
+use std::process::Abort;
+use std::sync::Wait;
+use std::sync::atomic::{AtomicBool, AtomicU64, Ordering};
+use std::test::Fail;
+use std::thread::{Threads, yield_now};
+
+// How often a thread yields at most before it gives up.
+const PATIENCE: u32 = 1_000_000;
+
+// How many IRPs there are.
+const IRPS: u32 = 12;
+
+// How many inserts were answered, how many IRPs were removed and the sum of their numbers, and whether some
+// wait came to its end unanswered.
+#[derive(Drop)]
+struct Told {
+    submitted: AtomicU64,
+    removed: AtomicU64,
+    sum: AtomicU64,
+    gave_up: AtomicBool,
+}
+
+impl Told {
+    // Yields until as many were counted as there are IRPs, or gives up. Where some wait gave up, none goes on.
+    fn wait_for_all(&self, counted: &AtomicU64) {
+        for _ in 0..PATIENCE {
+            let all = counted.load(Ordering::SeqCst) >= u64::from(IRPS);
+            if all || self.gave_up.load(Ordering::SeqCst) {
+                return;
+            }
+            yield_now();
+        }
+        self.gave_up.store(true, Ordering::SeqCst);
+    }
+}
+
+// A gate at which the workers wait for all inserts, and the canceller and the cleanup for all removals. So do
+// the two workers that come first: each has removed one IRP, and the third removes the ten others.
+#[derive(Clone, Copy)]
+struct Unequal<'a>(&'a Told);
+
+impl<'a> Gate for Unequal<'a> {
+    fn at(&self, point: Point) {
+        let told = self.0;
+        match point {
+            Point::Submitted(_) => {
+                told.submitted.fetch_add(1, Ordering::SeqCst);
+            }
+            Point::Working(_) => told.wait_for_all(&told.submitted),
+            Point::Removed(IrpId(irp)) => {
+                told.sum.fetch_add(u64::from(irp), Ordering::SeqCst);
+                if told.removed.fetch_add(1, Ordering::SeqCst) < 2 {
+                    told.wait_for_all(&told.removed);
+                }
+            }
+            Point::Cancelling(_) | Point::Cleaning(_) => told.wait_for_all(&told.removed),
+            Point::Cancelled(_) => {}
+        }
+    }
+}
+
+// What the threads completed by their own counts is what the three workers removed.
+fn share_over<L, R>(rt: &R, list: L) -> Result<(), Fail>
+where
+    L: PendingList + Drop + Send,
+    R: Threads + Wait + AllocGlobal + Abort + Sync,
+{
+    let plan = Plan::new(IRPS, 2, 3, 3, 1, 10).ok_or("a plan")?;
+    let told = Told {
+        submitted: AtomicU64::new(0),
+        removed: AtomicU64::new(0),
+        sum: AtomicU64::new(0),
+        gave_up: AtomicBool::new(false),
+    };
+    let totals = run(rt, plan, list, Unequal(&told))?;
+    assert!(rt; !told.gave_up.load(Ordering::SeqCst));
+    assert_eq!(rt; told.removed.load(Ordering::SeqCst), 12);
+    assert_eq!(rt; told.sum.load(Ordering::SeqCst), 66);
+    assert_eq!(rt; totals.home, 0);
+    assert_eq!(rt; totals.listed, 0);
+    assert_eq!(rt; totals.completed, 12);
+    assert_eq!(rt; totals.succeeded, 12);
+    assert_eq!(rt; totals.cancelled, 0);
+    assert_eq!(rt; totals.handed, 12);
+    Ok(())
+}
+
+#[test]
+fn the_workers_shares_are_summed_over_a_vector(rt: HostRuntime) -> Result<(), Fail> {
+    share_over(&rt, VecList::new(rt.alloc(), IRPS, 2, IRPS)?)
+}
+
+#[test]
+fn the_workers_shares_are_summed_over_chains(rt: HostRuntime) -> Result<(), Fail> {
+    share_over(&rt, ChainList::new(rt.alloc(), IRPS, 2, IRPS)?)
+}

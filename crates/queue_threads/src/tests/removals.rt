@@ -1,0 +1,165 @@
+//! Removals and cancels of the same IRPs.
+ghost use Rattle.std.specs.Prelude.{◌≡◌};
+
+use csq_list::{Peek, PendingList, Place, VecList};
+use csq_queue::{Blank, Csq, InsertContext, Inserted, Pass, QueueName};
+use irp_core::{FileId, FinalStatus, IrpId, Life, NtStatus};
+use std::marker::Brand;
+use std::process::Abort;
+use std::sync::Wait;
+use std::sync::atomic::{AtomicBool, AtomicU64, Ordering};
+use std::test::Fail;
+use std::thread::{Threads, join, yield_now};
+
+// How many IRPs are raced for.
+const IRPS: u32 = 1000;
+
+// How often a thread looks at most before it gives up.
+const PATIENCE: u32 = 1_000_000;
+
+// Where two threads wait for each other.
+#[derive(Drop)]
+struct Start {
+    come: AtomicU64,
+    gave_up: AtomicBool,
+}
+
+impl Start {
+    // Waits in each turn, counted from 0, for the other thread, or gives up for all turns.
+    fn meet(&self, turn: u32) {
+        self.come.fetch_add(1, Ordering::SeqCst);
+        let both = 2 * u64::from(turn) + 2;
+        for look in 0..PATIENCE {
+            let come = self.come.load(Ordering::SeqCst);
+            if come >= both || self.gave_up.load(Ordering::SeqCst) {
+                return;
+            }
+            if look >= 1000 {
+                yield_now();
+            }
+        }
+        self.gave_up.store(true, Ordering::SeqCst);
+    }
+}
+
+// Removes an IRP by its context in even turns, and as the next one in odd ones. Answers whether it was
+// there, and so completed here.
+fn remove_one<L: PendingList + Drop, N: QueueName, R: Wait>(
+    rt: &R,
+    queue: &Csq<L, N>,
+    pass: &mut Pass<N>,
+    context: InsertContext,
+    success: FinalStatus,
+) -> u32 {
+    if context.irp().0 % 2 == 0 {
+        let Some(token) = queue.remove(rt, pass, context) else {
+            return 0;
+        };
+        queue.complete(pass, token, success);
+        return 1;
+    }
+    let Some(token) = queue.remove_next(rt, pass, Peek::Any) else {
+        return 0;
+    };
+    queue.complete(pass, token, success);
+    1
+}
+
+// Inserts each IRP, and removes it while it is being cancelled. Counts those that it completed.
+fn remove_each<L: PendingList + Drop, N: QueueName, R: Wait>(
+    rt: &R,
+    queue: &Csq<L, N>,
+    pass: &mut Pass<N>,
+    start: &Start,
+    success: FinalStatus,
+) -> u32 {
+    let mut completed = 0u32;
+    for turn in 0..IRPS {
+        match queue.insert(rt, pass, IrpId(turn), FileId(0), Place::Back) {
+            Err(_) => start.gave_up.store(true, Ordering::SeqCst),
+            Ok(inserted) => match inserted {
+                Inserted::Pending(context) => {
+                    start.meet(turn);
+                    let removed = remove_one(rt, queue, pass, context, success);
+                    completed = completed.wrapping_add(removed);
+                }
+                Inserted::Cancelled(token) => {
+                    queue.complete_cancelled(pass, token);
+                    start.gave_up.store(true, Ordering::SeqCst);
+                }
+            },
+        }
+    }
+    completed
+}
+
+// Cancels each IRP while it is being removed. Counts those that it completed.
+fn cancel_each<L: PendingList + Drop, N: QueueName, R: Wait>(
+    rt: &R,
+    queue: &Csq<L, N>,
+    pass: &mut Pass<N>,
+    start: &Start,
+) -> u32 {
+    let mut completed = 0u32;
+    for turn in 0..IRPS {
+        start.meet(turn);
+        if let Ok(true) = queue.cancel(rt, pass, IrpId(turn), Life(0)) {
+            completed = completed.wrapping_add(1);
+        }
+    }
+    completed
+}
+
+// How many IRPs have a status.
+fn count<L: PendingList + Drop, N: QueueName>(
+    queue: &Csq<L, N>,
+    pass: &mut Pass<N>,
+    status: NtStatus,
+) -> u32 {
+    let mut having = 0u32;
+    for number in 0..IRPS {
+        if queue.status(pass, IrpId(number)) == Ok((Life(0), Some(status))) {
+            having = having.wrapping_add(1);
+        }
+    }
+    having
+}
+
+// One thread removes what another cancels. As many completions were counted as there are IRPs, and each
+// IRP has the status of one of the two.
+fn remove_and_cancel<N: QueueName + Send + Sync, R: Threads + Wait + Abort + Sync>(
+    rt: &R,
+    blank: Blank<VecList>,
+) -> Result<(), Fail>
+    requires { blank ≡ record { table = N.table; limits = N.limits; passes = N.passes } }
+{
+    let success = FinalStatus::new(NtStatus::SUCCESS).ok_or("a final status")?;
+    let (queue, mut rack) = blank.into_queue::<N>();
+    let mut one = rack.take().ok_or("a pass")?;
+    let mut two = rack.take().ok_or("a pass")?;
+    let start = Start {
+        come: AtomicU64::new(0),
+        gave_up: AtomicBool::new(false),
+    };
+    let (removed, cancelled) = join(
+        rt,
+        || remove_each(rt, &queue, &mut one, &start, success),
+        || cancel_each(rt, &queue, &mut two, &start),
+    );
+    assert!(rt; !start.gave_up.load(Ordering::SeqCst));
+    assert_eq!(rt; removed.wrapping_add(cancelled), IRPS);
+    assert_eq!(rt; count(&queue, &mut one, NtStatus::SUCCESS), removed);
+    assert_eq!(rt; count(&queue, &mut one, NtStatus::CANCELLED), cancelled);
+    assert!(rt; queue.give_back(rt, two).is_ok());
+    assert!(rt; queue.close(one, rack).is_ok());
+    Ok(())
+}
+
+#[test]
+fn each_is_removed_or_cancelled(rt: HostRuntime) -> Result<(), Fail> {
+    let list = VecList::new(rt.alloc(), IRPS, 1, IRPS)?;
+    let Ok(blank) = Blank::new(rt.alloc(), list, IRPS, 2) else {
+        return Err(Fail::from("no queue"));
+    };
+    remove_and_cancel::<Brand, _>(&rt, blank)
+}
