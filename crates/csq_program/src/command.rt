@@ -7,7 +7,9 @@ use crate::help::{
 };
 use clap::error::ErrorKind;
 use clap::{Arg, ArgAction, ArgMatches, Command, value_parser};
-use csq_device::Plan;
+use csq_device::{MAX_THREADS, MAX_TURNS, Plan};
+use csq_list::MAX_FILES;
+use irp_core::{MAX_IRPS, MAX_PASSES};
 use std::alloc::{AllocError, Global};
 use std::convert::AsStr;
 use thiserror::Error;
@@ -74,21 +76,6 @@ impl From<clap::Error> for CommandFault {
         }
     }
 }
-
-// The most IRPs.
-const MAX_IRPS: u32 = 1024;
-
-// The most passes.
-const MAX_PASSES: u32 = 64;
-
-// The most file objects.
-const MAX_FILES: u32 = 256;
-
-// The most threads of a kind.
-const MAX_THREADS: u32 = 20;
-
-// The most turns of a thread.
-const MAX_TURNS: u32 = 100_000;
 
 /// An option that takes a number from 1 to a limit.
 fn number_option<'a>(alloc: Global, name: &'a str, help: &'a str, most: u32) -> Arg<'a> {

@@ -1,63 +1,87 @@
 -- Answers, line after line.
-use Rattle.std.proofs.Common.{◌≡◌, ℕ, ◌+◌, Bool, List, [], ◌∷◌, ◌++◌, Option, Some, None, append_assoc, subst, sym, length, true, eqb-true}
+use Rattle.std.proofs.Common.{◌≡◌, ℕ, ◌+◌, List, [], ◌∷◌, ◌++◌, Option, Some, None, append_assoc, refl, ap, subst, sym, ◌∙◌, length, true, eqb-true, arith}
 use Rattle.std.proofs.lemmas.List.{nil_from_length}
 use Rattle.std.specs.Prelude.{◌==◌}
-use Rattle.irp_core.specs.Runs.{Size}
-use Rattle.csq_replay.specs.declared.answer.Ended.{Ended}
-use Rattle.csq_replay.specs.declared.answer.Ended.TheVariants.{AllHandled, Stopped}
-use Rattle.csq_replay.specs.declared.replay.Handling.{Handling}
-use Rattle.csq_replay.specs.declared.replay.Handling.TheVariants.{GoesOn, Stops}
-use Rattle.csq_replay.specs.declared.replay.Replay.{Replay}
+use Rattle.csq_replay.specs.declared.lines.answer.Ended.{Ended}
+use Rattle.csq_replay.specs.declared.lines.answer.Ended.TheVariants.{AllHandled, Stopped}
+use Rattle.csq_replay.specs.declared.lines.Handling.{Handling}
+use Rattle.csq_replay.specs.declared.lines.Handling.TheVariants.{GoesOn, Stops}
 use Rattle.csq_replay.specs.Pieces.{lines_of}
-use Rattle.csq_replay.specs.Schedule.{Numbered, AnswersLine, AnswersLines, IsClosing}
-use Rattle.csq_replay.specs.Schedule.AnswersLines.{all_handled, goes_on, stops}
-use Rattle.csq_replay.specs.Replays.{Follows, LeavesReplay}
+use Rattle.csq_replay.specs.Lines.{Leaves, AnswersAll, IsAnswer}
+use Rattle.csq_replay.specs.Lines.AnswersAll.{all_handled, goes_on, stops}
+use Rattle.csq_replay.specs.Lines.IsAnswer.{too_long_input, answered}
 
--- whatever the lines that are left are answered after W, with `added` before it it answers all
-abbrev pub Completes : Size → Bool → List (List ℕ) → List Numbered → ℕ → List (List ℕ) → List ℕ → Type 0
-Completes size claims whole W n left added =
-    (more : List ℕ) (ended : Ended) → AnswersLines size claims W n left more ended → AnswersLines size claims [] 1 whole (added ++ more) ended
+-- the handling goes on at the state that it left
+pub went_on : {S : Type 0} (stands : S → Type 0) (handling : Handling) (more : Option S) → Leaves stands handling more → handling ≡ GoesOn → (s : S) × stands s
+went_on stands GoesOn (Some s) at is = (s, at)
+went_on stands GoesOn None at is = absurd at
+went_on stands Stops more at is = absurd cc
 
-module _ (size : Size) (claims : Bool) (whole : List (List ℕ)) (W : List Numbered) (n : ℕ) (line : List ℕ) (left : List (List ℕ)) (added text : List ℕ) {A : Type 0} (replay : Replay A) where
-  stops_here : Completes size claims whole W n (line ∷ left) added → (more : Option (List Numbered)) → AnswersLine size W n line text more
-      → LeavesReplay Stops replay more → AnswersLines size claims [] 1 whole (added ++ text) Stopped
-  stops_here complete None h leaves = complete text Stopped (stops W n line left text h)
-  stops_here complete (Some V) h leaves = absurd leaves
+module _ {S : Type 0} (answers : S → ℕ → List ℕ → List ℕ → Option S → Type 0) (closes : S → List ℕ → Type 0) where
+  -- whatever the lines that are left are answered after s, with `added` before it it answers all
+  abbrev pub Completes : List (List ℕ) → S → S → ℕ → List (List ℕ) → List ℕ → Type 0
+  Completes whole first s n left added =
+      (more : List ℕ) (ended : Ended) → AnswersAll answers closes s n left more ended → AnswersAll answers closes first 1 whole (added ++ more) ended
 
-  goes_on_here : Completes size claims whole W n (line ∷ left) added → (more : Option (List Numbered)) → AnswersLine size W n line text more
-      → LeavesReplay GoesOn replay more → (V : List Numbered) × Follows replay V × Completes size claims whole V (n + 1) left (added ++ text)
-  goes_on_here complete None h leaves = absurd leaves
-  goes_on_here complete (Some V) h leaves = (
-    V,
-    leaves,
-    λ rest ended answers.
-        let P : List ℕ → Type 0 = λ t. AnswersLines size claims [] 1 whole t ended in
-        subst P (sym (append_assoc added text rest)) (complete (text ++ rest) ended (goes_on W V n line left text rest ended h answers)),
-  )
+  module _ (whole : List (List ℕ)) (first s : S) (n : ℕ) (lines : List (List ℕ)) (line : List ℕ) (left : List (List ℕ)) (cut : lines ≡ line ∷ left)
+      (added : List ℕ) (complete : Completes whole first s n lines added) (text : List ℕ) (more : Option S) (answer : answers s n line text more)
+      (stands : S → Type 0) (handling : Handling) (leaves : Leaves stands handling more) where
+    with_line : Completes whole first s n (line ∷ left) added
+    with_line = let P : List (List ℕ) → Type 0 = λ ls. Completes whole first s n ls added in subst P cut complete
 
--- the same, where the code tells the line, the size and how the handling goes on
-module _ (size now : Size) (same : now ≡ size) (claims : Bool) (whole : List (List ℕ)) (W : List Numbered) (n : ℕ) (lines : List (List ℕ)) (line : List ℕ) (left : List (List ℕ))
-    (cut : lines ≡ line ∷ left) (added : List ℕ) (complete : Completes size claims whole W n lines added) (text : List ℕ) (more : Option (List Numbered))
-    (answer : AnswersLine now W n line text more) {A : Type 0} (replay : Replay A) (handling : Handling) (leaves : LeavesReplay handling replay more) where
-  with_line : Completes size claims whole W n (line ∷ left) added
-  with_line = let P : List (List ℕ) → Type 0 = λ ls. Completes size claims whole W n ls added in subst P cut complete
+    left_by : (h : Handling) → handling ≡ h → Leaves stands h more
+    left_by h is = let P : Handling → Type 0 = λ x. Leaves stands x more in subst P is leaves
 
-  with_size : AnswersLine size W n line text more
-  with_size = let P : Size → Type 0 = λ k. AnswersLine k W n line text more in subst P same answer
+    pub line_stops : handling ≡ Stops → AnswersAll answers closes first 1 whole (added ++ text) Stopped
+    line_stops is = go more answer (left_by Stops is)
+      where
+        go : (m : Option S) → answers s n line text m → Leaves stands Stops m → AnswersAll answers closes first 1 whole (added ++ text) Stopped
+        go None h at = with_line text Stopped (stops s n line left text h)
+        go (Some t) h at = absurd at
 
-  left_by : (h : Handling) → handling ≡ h → LeavesReplay h replay more
-  left_by h is = let P : Handling → Type 0 = λ x. LeavesReplay x replay more in subst P is leaves
+    pub line_goes_on : handling ≡ GoesOn → (t : S) × stands t × Completes whole first t (n + 1) left (added ++ text)
+    line_goes_on is = go more answer (left_by GoesOn is)
+      where
+        go : (m : Option S) → answers s n line text m → Leaves stands GoesOn m → (t : S) × stands t × Completes whole first t (n + 1) left (added ++ text)
+        go None h at = absurd at
+        go (Some t) h at = (
+          t,
+          at,
+          λ rest ended others.
+              let P : List ℕ → Type 0 = λ x. AnswersAll answers closes first 1 whole x ended in
+              subst P (sym (append_assoc added text rest)) (with_line (text ++ rest) ended (goes_on s t n line left text rest ended h others)),
+        )
 
-  pub line_stops : handling ≡ Stops → AnswersLines size claims [] 1 whole (added ++ text) Stopped
-  line_stops is = stops_here size claims whole W n line left added text replay with_line more with_size (left_by Stops is)
+  -- where no bytes are left, the closing lines complete the answer
+  pub lines_end : (whole : List (List ℕ)) (first s : S) (n : ℕ) (rest added closing : List ℕ) → true ≡ (length rest == 0) → Completes whole first s n (lines_of rest) added
+      → closes s closing → AnswersAll answers closes first 1 whole (added ++ closing) AllHandled
+  lines_end whole first s n rest added closing none complete closed =
+      let C : List ℕ → Type 0 = λ bytes. Completes whole first s n (lines_of bytes) added in
+      subst C (nil_from_length rest (eqb-true (length rest) 0 (sym none))) complete closing AllHandled (all_handled s n closing closed)
 
-  pub line_goes_on : handling ≡ GoesOn → (V : List Numbered) × Follows replay V × Completes size claims whole V (n + 1) left (added ++ text)
-  line_goes_on is = goes_on_here size claims whole W n line left added text replay with_line more with_size (left_by GoesOn is)
+  -- two answers are one, where two answers to a line are, and two closings are, after every state that fits
+  module _ (Fits : S → Type 0)
+      (one_line : (s : S) (n : ℕ) (line t u : List ℕ) (m k : Option S) → Fits s → answers s n line t m → answers s n line u k → (t ≡ u) × (m ≡ k))
+      (fits_on : (s t : S) (n : ℕ) (line text : List ℕ) → Fits s → answers s n line text (Some t) → Fits t)
+      (one_closing : (s : S) (t u : List ℕ) → Fits s → closes s t → closes s u → t ≡ u) where
+    one_answer : (s : S) (n : ℕ) (lines : List (List ℕ)) (t u : List ℕ) (e f : Ended) → Fits s
+        → AnswersAll answers closes s n lines t e → AnswersAll answers closes s n lines u f → (t ≡ u) × (e ≡ f)
+    one_answer s n lines t u e f fits (all_handled a m text closed) (all_handled a' m' text' closed') = (one_closing s t u fits closed closed', refl)
+    one_answer s n lines t u e f fits (goes_on a more m line left text rest ended h others) (goes_on a' more' m' line' left' text' rest' ended' h' others') =
+        let same = one_line s n line text text' (Some more) (Some more') fits h h' in
+        let next : more' ≡ more = cc (sym same.1) in
+        let P : S → Type 0 = λ x. AnswersAll answers closes x (n + 1) left rest' f in
+        let rests = one_answer more (n + 1) left rest rest' e f (fits_on s more n line text fits h) others (subst P next others') in
+        (ap (λ x. x ++ rest) same.0 ∙ ap (λ x. text' ++ x) rests.0, rests.1)
+    one_answer s n lines t u e f fits (goes_on a more m line left text rest ended h others) (stops a' m' line' left' text' h') =
+        absurd (cc ((one_line s n line text u (Some more) None fits h h').1))
+    one_answer s n lines t u e f fits (stops a m line left text h) (goes_on a' more' m' line' left' text' rest' ended' h' others') =
+        absurd (cc ((one_line s n line t text' None (Some more') fits h h').1))
+    one_answer s n lines t u e f fits (stops a m line left text h) (stops a' m' line' left' text' h') = ((one_line s n line t u None None fits h h').0, refl)
 
--- where no bytes are left, the closing lines complete the answer
-pub lines_end : (size now : Size) → now ≡ size → (claims : Bool) (whole : List (List ℕ)) (W : List Numbered) (n : ℕ) (rest added closing : List ℕ) → true ≡ (length rest == 0)
-    → Completes size claims whole W n (lines_of rest) added → IsClosing now claims W closing → AnswersLines size claims [] 1 whole (added ++ closing) AllHandled
-lines_end size now same claims whole W n rest added closing none complete closes =
-    let C : List ℕ → Type 0 = λ bytes. Completes size claims whole W n (lines_of bytes) added in
-    let Q : Size → Type 0 = λ k. IsClosing k claims W closing in
-    subst C (nil_from_length rest (eqb-true (length rest) 0 (sym none))) complete closing AllHandled (all_handled W n closing (subst Q same closes))
+    pub one_input_answer : (s : S) → Fits s → (input t u : List ℕ) (e f : Ended) → IsAnswer answers closes s input t e → IsAnswer answers closes s input u f → (t ≡ u) × (e ≡ f)
+    one_input_answer s fits input t u e f (too_long_input lt) (too_long_input lt') = (refl, refl)
+    one_input_answer s fits input t u e f (too_long_input lt) (answered text ended le others) = absurd (omega (arith, lt, le))
+    one_input_answer s fits input t u e f (answered text ended le others) (too_long_input lt) = absurd (omega (arith, lt, le))
+    one_input_answer s fits input t u e f (answered text ended le others) (answered text' ended' le' others') =
+        one_answer s 1 (lines_of input) t u e f fits others others'

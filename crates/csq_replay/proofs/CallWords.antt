@@ -6,8 +6,8 @@ use Rattle.irp_core.specs.declared.status.NtStatus.{NtStatus}
 use Rattle.irp_core.specs.Steps.{Irp}
 use Rattle.csq_list.specs.declared.entry.Place.{Place}
 use Rattle.csq_list.specs.declared.entry.Peek.TheVariants.{Any, File}
-use Rattle.csq_replay.specs.declared.call.Call.{Call}
-use Rattle.csq_replay.specs.declared.call.Call.TheVariants.{Insert, Next, Remove, Mark, Routine, Cancel, Complete, Close, Cleanup, Flag, Status, Reuse}
+use Rattle.csq_replay.specs.declared.script.call.Call.{Call}
+use Rattle.csq_replay.specs.declared.script.call.Call.TheVariants.{Insert, Next, Remove, Mark, Routine, Cancel, Complete, Close, Cleanup, Flag, Status, Reuse}
 use Rattle.csq_replay.specs.Pieces.{words_of, IsShort, IsNumber}
 use Rattle.csq_replay.specs.CallLine.{call_name, named_life, place_word, IsLifeName, IsStatusWord, IsOne, IsNamed}
 use Rattle.csq_replay.specs.StepLine.{IsNameWord}

@@ -23,7 +23,7 @@ use Rattle.irp_core.specs.Owners.{owes, holds, listed, dones}
 use Rattle.irp_core.specs.Lives.{present}
 use Rattle.irp_core.specs.Runs.{Size, IsRun}
 use Rattle.irp_core.specs.MachineState.{MachineState, Agrees, size_of}
-use Rattle.irp_core.proofs.Names.{same_irp-eq, same_irp-ne, same_pass-refl, same_pass-eq}
+use Rattle.irp_core.proofs.Names.{same_irp-refl, same_irp-eq, same_irp-ne, same_pass-refl, same_pass-eq}
 use Rattle.csq_list.specs.Searches.{is_listed}
 use Rattle.csq_list.specs.Listing.{Listing, with_closed, removed}
 use Rattle.csq_words.specs.declared.views.Completion.{Completion}
@@ -31,15 +31,16 @@ use Rattle.csq_words.specs.declared.views.Event.TheVariants as event
 use Rattle.csq_words.specs.Queue.{Limits, after_event, has_entry, has_marked, has_unmarked}
 use Rattle.csq_words.proofs.Named.{id_eq}
 use Rattle.csq_words.proofs.Listings.{is_listed-plain, listing-removed, listing-marked}
-use Rattle.csq_replay.specs.declared.call.Call.{Call}
-use Rattle.csq_replay.specs.declared.call.Call.TheVariants.{Mark, Routine, Complete, Close, Flag, Status}
-use Rattle.csq_replay.specs.declared.call.Refusal.TheVariants.{UnknownIrp, UnknownFile, NoClaim, NotHeld, StatusPending, Stale}
-use Rattle.csq_replay.specs.declared.call.Reply.TheVariants.{Claimed, Unclaimed, Completed, Closed, Refused}
-use Rattle.csq_replay.specs.declared.call.Reply.TheVariants as reply
+use Rattle.csq_replay.specs.declared.script.call.Call.{Call}
+use Rattle.csq_replay.specs.declared.script.call.Call.TheVariants.{Mark, Routine, Complete, Close, Flag, Status}
+use Rattle.csq_replay.specs.declared.script.call.Refusal.TheVariants.{UnknownIrp, UnknownFile, NoClaim, NotHeld, StatusPending, Stale}
+use Rattle.csq_replay.specs.declared.script.call.Reply.TheVariants.{Claimed, Unclaimed, Completed, Closed, Refused}
+use Rattle.csq_replay.specs.declared.script.call.Reply.TheVariants as reply
 use Rattle.csq_replay.specs.Calls.{Script, script_pass, script_size, present_of, IsNow, next_step, doing, completing, after_mark, status_reply, irp_of, cancelled_life, file_of, Calls}
 use Rattle.csq_replay.specs.Calls.Calls.{has_no_claim, completes, holds_none, refuses_pending, closes, tells_flag, tells_status, knows_no_irp, knows_no_file, claims_none, is_stale}
 use Rattle.csq_replay.specs.Calls.Calls.{claims as claims_it}
 use Rattle.csq_replay.specs.Drivers.{Keeping, Keeps, IsOfRun}
+use Rattle.csq_replay.specs.Replies.{mark_reply}
 use Rattle.csq_replay.proofs.Queueing.{marked_is, queue_done, queue_flag, queue_take, queue_take_none, queue_out, armed_listed, owed_listed, sound_lives}
 use Rattle.csq_replay.proofs.Going.{run_for, present_is}
 
@@ -87,13 +88,12 @@ module _ (l : Limits) (kept : Keeping) (s : Script) (k : Keeps l kept s) where
     record {
       agrees = k.agrees;
       size = k.size;
+      few = k.few;
       listing = is ∙ ap (with_closed f) k.listing;
       queue = record { lives = k.queue.lives; used = k.queue.used; entries = k.queue.entries; flags = k.queue.flags; marks = k.queue.marks };
       outside = k.outside;
       told = k.told;
-      claims = k.claims;
       statuses = k.statuses;
-      claims_size = k.claims_size;
       statuses_size = k.statuses_size;
     },
   )
@@ -112,13 +112,12 @@ module _ (l : Limits) (kept : Keeping) (s : Script) (k : Keeps l kept s) where
   done_keeps n status known machine a same statuses is = record {
     agrees = a;
     size = same ∙ k.size;
+    few = k.few;
     listing = k.listing;
     queue = queue_done s.run s.queue k.queue (present_of s n);
     outside = rw same_pass-refl refl;
     told = λ i none. untold i (same_irp (present_of s n) i) refl none;
-    claims = k.claims;
     statuses = λ j in_range. ap (λ x. slice_index_or x j.0 None) is ∙ told j in_range (same_irp (present_of s n) (present_of s j)) refl;
-    claims_size = k.claims_size;
     statuses_size = ap length is ∙ length-set kept.statuses n.0 (Some status) ∙ k.statuses_size;
   }
     where
@@ -138,10 +137,7 @@ module _ (l : Limits) (kept : Keeping) (s : Script) (k : Keeps l kept s) where
   flagged_queue : (i : Irp) → IsOfRun l.first (next_step s.run (step.Flag i)) (after_event s.queue (event.FlagSeen i))
   flagged_queue i = queue_flag s.run s.queue k.queue i
 
-  owes_more : (i j : Irp) (v : ℕ) → owes (record { pass = script_pass; kind = Take i; found = v } ∷ next_step s.run (step.Flag i)) script_pass j ≡ ((same_irp i j && v == 1) || owes s.run script_pass j)
-  owes_more i j v = rw same_pass-refl (ap (λ b. b || owes s.run script_pass j) (and-true (same_irp i j && v == 1)))
-
-  pub unclaimed_keeps : (i : Irp) → number i < (size_of kept.machine).irps → IsNow s i → armed s.run i ≡ false → (machine : MachineState)
+  unclaimed_keeps : (i : Irp) → number i < (size_of kept.machine).irps → IsNow s i → armed s.run i ≡ false → (machine : MachineState)
       → Agrees machine (next_step (next_step s.run (step.Flag i)) (Take i)) → size_of machine ≡ size_of kept.machine
       → (t : Script) × Calls l s (Mark i) Unclaimed t × Keeps l (record kept { machine = machine }) t
   unclaimed_keeps i known now none machine a same = (
@@ -150,38 +146,20 @@ module _ (l : Limits) (kept : Keeping) (s : Script) (k : Keeps l kept s) where
     record {
       agrees = a;
       size = same ∙ k.size;
+      few = k.few;
       listing = k.listing;
       queue = queue_take_none (next_step s.run (step.Flag i)) (after_event s.queue (event.FlagSeen i)) (flagged_queue i) i (bit (armed s.run i)) none;
       outside = rw same_pass-refl refl;
       told = k.told;
-      claims = λ m in_range.
-          let j = present_of s m in
-          k.claims m in_range ∙ sym (owes_more i j (bit (armed s.run i)) ∙ ap (λ n. (same_irp i j && n == 1) || owes s.run script_pass j) (ap bit none) ∙ same_owes (same_irp i j) (owes s.run script_pass j));
       statuses = k.statuses;
-      claims_size = k.claims_size;
       statuses_size = k.statuses_size;
     },
   )
-    where
-      same_owes : (b o : Bool) → ((b && false) || o) ≡ o
-      same_owes true o = refl
-      same_owes false o = refl
 
-  -- a claim is kept, or spent
-  set_claim : (n : IrpId) (b : Bool) → n.0 < l.irps → (m : IrpId) → m.0 < l.irps
-      → slice_index_or (slice_set kept.claims n.0 b) m.0 false ≡ cond (same_irp (present_of s n) (present_of s m)) b (owes s.run script_pass (present_of s m))
-  set_claim n b known m in_range = go (same_irp (present_of s n) (present_of s m)) refl
-    where
-      go : (t : Bool) → same_irp (present_of s n) (present_of s m) ≡ t
-          → slice_index_or (slice_set kept.claims n.0 b) m.0 false ≡ cond (same_irp (present_of s n) (present_of s m)) b (owes s.run script_pass (present_of s m))
-      go true e = rw (e, number_of_now n m e) (get_or-set_same kept.claims n.0 b false (omega (arith, known, k.claims_size)))
-      go false e = rw e (get_or-set_other kept.claims n.0 m.0 b false (other_number n m e) ∙ k.claims m in_range)
-
-  pub claimed_keeps : (i : Irp) → number i < (size_of kept.machine).irps → IsNow s i → armed s.run i ≡ true → (machine : MachineState)
+  claimed_keeps : (i : Irp) → number i < (size_of kept.machine).irps → IsNow s i → armed s.run i ≡ true → (machine : MachineState)
       → Agrees machine (next_step (next_step s.run (step.Flag i)) (Take i)) → size_of machine ≡ size_of kept.machine
-      → (claims : List Bool) → claims ≡ slice_set kept.claims i.irp.0 true
-      → (t : Script) × Calls l s (Mark i) Claimed t × Keeps l (record kept { machine = machine; claims = claims }) t
-  claimed_keeps i known now set machine a same claims is =
+      → (t : Script) × Calls l s (Mark i) Claimed t × Keeps l (record kept { machine = machine }) t
+  claimed_keeps i known now set machine a same =
       let here : number i < l.irps = omega (arith, known, irps_are) in
       let there : has_entry s.queue.entries i ≡ true = k.queue.entries i ∙ armed_listed (size_of kept.machine) s.run k.agrees.run i set in
       let unmarked : has_unmarked s.queue.entries i ≡ true = (marked_is s.run s.queue.entries k.queue.marks i).0 ∙ rw (there, set) refl in (
@@ -190,47 +168,46 @@ module _ (l : Limits) (kept : Keeping) (s : Script) (k : Keeps l kept s) where
         record {
           agrees = a;
           size = same ∙ k.size;
+          few = k.few;
           listing = k.listing ∙ listing-marked l (after_event s.queue (event.FlagSeen i)) i;
           queue = queue_take (next_step s.run (step.Flag i)) (after_event s.queue (event.FlagSeen i)) (flagged_queue i) i (bit (armed s.run i));
           outside = rw same_pass-refl refl;
           told = k.told;
-          claims = λ m in_range.
-              let j = present_of s m in
-              ap (λ x. slice_index_or x m.0 false) is ∙ set_claim i.irp true here m in_range ∙ ap (λ x. cond (same_irp x j) true (owes s.run script_pass j)) now
-              ∙ sym (owes_more i j (bit (armed s.run i)) ∙ ap (λ n. (same_irp i j && n == 1) || owes s.run script_pass j) (ap bit set) ∙ joined (same_irp i j) (owes s.run script_pass j));
           statuses = k.statuses;
-          claims_size = ap length is ∙ length-set kept.claims i.irp.0 true ∙ k.claims_size;
           statuses_size = k.statuses_size;
         },
       )
+
+  -- a mark answers whether its Take found the routine
+  pub mark_keeps : (i : Irp) → number i < (size_of kept.machine).irps → IsNow s i → (v : ℕ) → v ≡ bit (armed s.run i) → (machine : MachineState)
+      → Agrees machine (next_step (next_step s.run (step.Flag i)) (Take i)) → size_of machine ≡ size_of kept.machine
+      → (t : Script) × Calls l s (Mark i) (mark_reply (not (v == 0))) t × Keeps l (record kept { machine = machine }) t
+  mark_keeps i known now v found machine a same = go (armed s.run i) refl
     where
-      joined : (b o : Bool) → ((b && true) || o) ≡ cond b true o
-      joined true o = refl
-      joined false o = refl
+      go : (b : Bool) → armed s.run i ≡ b → (t : Script) × Calls l s (Mark i) (mark_reply (not (v == 0))) t × Keeps l (record kept { machine = machine }) t
+      go true set = rw (found ∙ ap bit set) (claimed_keeps i known now set machine a same)
+      go false none = rw (found ∙ ap bit none) (unclaimed_keeps i known now none machine a same)
+
+  -- after a mark with a claim, the pass owes the IRP
+  pub claimed_owes : (i : Irp) (t : Script) → Calls l s (Mark i) Claimed t → (number i < l.irps) × (owes t.run script_pass (present_of t i.irp) ≡ true)
+  claimed_owes i t (claims_it j known now found may) =
+      let mine : owes t.run script_pass i ≡ true = rw (same_irp-refl, same_pass-refl, found) refl in (known, ap (owes t.run script_pass) now ∙ mine)
 
   -- the cancel routine takes out what is owed
-  pub out_keeps : (n : IrpId) → n.0 < (size_of kept.machine).irps → owes s.run script_pass (present_of s n) ≡ true → (machine : MachineState)
-      → Agrees machine (next_step s.run (Out (present_of s n))) → size_of machine ≡ size_of kept.machine
-      → (claims : List Bool) → claims ≡ slice_set kept.claims n.0 false → (new : Listing) → new ≡ removed n kept.listing
-      → Keeps l (record kept { machine = machine; claims = claims; listing = new }) (doing (Out (present_of s n) ∷ []) (event.Out (present_of s n)) s)
-  out_keeps n known owed machine a same claims is new without_n = record {
+  pub out_keeps : (n : IrpId) (machine : MachineState)
+      → Agrees machine (next_step s.run (Out (present_of s n))) → size_of machine ≡ size_of kept.machine → (new : Listing) → new ≡ removed n kept.listing
+      → Keeps l (record kept { machine = machine; listing = new }) (doing (Out (present_of s n) ∷ []) (event.Out (present_of s n)) s)
+  out_keeps n machine a same new without_n = record {
     agrees = a;
     size = same ∙ k.size;
+    few = k.few;
     listing = without_n ∙ ap (removed n) k.listing ∙ listing-removed l s.queue (present_of s n) refl (sound_lives (script_size l) s.run (run_for l kept s k) s.queue k.queue).entries;
     queue = queue_out s.run s.queue k.queue (present_of s n) 0;
     outside = rw same_pass-refl refl;
     told = k.told;
-    claims = λ m in_range.
-        ap (λ x. slice_index_or x m.0 false) is ∙ set_claim n false (omega (arith, known, irps_are)) m in_range
-        ∙ sym (rw same_pass-refl (spent (same_irp (present_of s n) (present_of s m)) (owes s.run script_pass (present_of s m))));
     statuses = k.statuses;
-    claims_size = ap length is ∙ length-set kept.claims n.0 false ∙ k.claims_size;
     statuses_size = k.statuses_size;
   }
-    where
-      spent : (b o : Bool) → (not (b && true) && o) ≡ cond b false o
-      spent true o = refl
-      spent false o = refl
 
   pub out_may_come : (i : Irp) → owes s.run script_pass i ≡ true → has_marked s.queue.entries i ≡ true
   out_may_come i owed =
@@ -247,19 +224,8 @@ module _ (l : Limits) (kept : Keeping) (s : Script) (k : Keeps l kept s) where
       let P : NtStatus → Type 0 = λ x. Calls l s (Complete n x) (Refused StatusPending) s in
       (s, subst P (sym pending) (refuses_pending n (omega (arith, known, irps_are)) held), k)
 
-  pub completed_keeps : (n : IrpId) → n.0 < (size_of kept.machine).irps → (status : NtStatus) → holds s.run script_pass (present_of s n) ≡ true → status ≢ PENDING
-      → (machine : MachineState) → Agrees machine (next_step s.run (Done (present_of s n))) → size_of machine ≡ size_of kept.machine
-      → (statuses : List (Option NtStatus)) → statuses ≡ slice_set kept.statuses n.0 (Some status)
-      → (t : Script) × Calls l s (Complete n status) (Completed status) t × Keeps l (record kept { machine = machine; statuses = statuses }) t
-  completed_keeps n known status held final machine a same statuses is =
-      let here : n.0 < l.irps = omega (arith, known, irps_are) in
-      (completing (present_of s n) status s, completes n status here held final, done_keeps n status here machine a same statuses is)
-
   pub no_claim_keeps : (n : IrpId) → n.0 < (size_of kept.machine).irps → owes s.run script_pass (present_of s n) ≡ false → (t : Script) × Calls l s (Routine n) (Refused NoClaim) t × Keeps l kept t
   no_claim_keeps n known none = (s, has_no_claim n (omega (arith, known, irps_are)) none, k)
-
-  pub owes_is : (n : IrpId) → n.0 < (size_of kept.machine).irps → slice_index_or kept.claims n.0 false ≡ owes s.run script_pass (present_of s n)
-  owes_is n known = k.claims n (omega (arith, known, irps_are))
 
   -- whether the list has it
   pub listed_there : (n : IrpId) → is_listed kept.listing.entries n ≡ listed s.run (present_of s n)
@@ -271,13 +237,12 @@ module _ (l : Limits) (kept : Keeping) (s : Script) (k : Keeps l kept s) where
   owed_there n owed = listed_there n ∙ (owed_listed (size_of kept.machine) s.run k.agrees.run (present_of s n) owed).0
 
 -- the same parts are kept
-pub keeps_as : (l : Limits) (a b : Keeping) (s : Script) → Keeps l a s → b.machine ≡ a.machine → b.listing ≡ a.listing → b.claims ≡ a.claims → b.statuses ≡ a.statuses → Keeps l b s
-keeps_as l a b s k machine listing claims statuses =
-    let M : MachineState → Type 0 = λ x. Keeps l (record { machine = x; listing = b.listing; claims = b.claims; statuses = b.statuses }) s in
-    let G : Listing → Type 0 = λ x. Keeps l (record { machine = a.machine; listing = x; claims = b.claims; statuses = b.statuses }) s in
-    let C : List Bool → Type 0 = λ x. Keeps l (record { machine = a.machine; listing = a.listing; claims = x; statuses = b.statuses }) s in
-    let S : List (Option NtStatus) → Type 0 = λ x. Keeps l (record { machine = a.machine; listing = a.listing; claims = a.claims; statuses = x }) s in
-    subst M (sym machine) (subst G (sym listing) (subst C (sym claims) (subst S (sym statuses) k)))
+pub keeps_as : (l : Limits) (a b : Keeping) (s : Script) → Keeps l a s → b.machine ≡ a.machine → b.listing ≡ a.listing → b.statuses ≡ a.statuses → Keeps l b s
+keeps_as l a b s k machine listing statuses =
+    let M : MachineState → Type 0 = λ x. Keeps l (record { machine = x; listing = b.listing; statuses = b.statuses }) s in
+    let G : Listing → Type 0 = λ x. Keeps l (record { machine = a.machine; listing = x; statuses = b.statuses }) s in
+    let S : List (Option NtStatus) → Type 0 = λ x. Keeps l (record { machine = a.machine; listing = a.listing; statuses = x }) s in
+    subst M (sym machine) (subst G (sym listing) (subst S (sym statuses) k))
 
 -- where an IRP is says whether the pass holds it
 abbrev pub held_there : IrpPlace → Bool

@@ -1,11 +1,12 @@
 -- What the calls answer that other calls are made of.
-use Rattle.std.proofs.Common.{◌≡◌, ℕ, ◌+◌, ◌<◌, Bool, true, false, cond, not, ◌&&◌, ◌||◌, List, [], ◌∷◌, map, length, Some, None, refl, ap, sym, ◌∙◌, subst, arith}
+use Rattle.std.proofs.Common.{◌≡◌, ◌≢◌, ℕ, ◌+◌, ◌<◌, Bool, true, false, cond, not, ◌&&◌, ◌||◌, List, [], ◌∷◌, map, length, Some, None, refl, ap, sym, ◌∙◌, subst, arith}
 use Rattle.std.proofs.lemmas.Bool.{and_parts, not-true, not-false}
 use Rattle.std.proofs.Math.Bool.{or-false, and-false, or-true}
 use Rattle.std.proofs.lemmas.List.{length-map}
 use Rattle.irp_core.specs.declared.ids.FileId.{FileId}
 use Rattle.irp_core.specs.declared.ids.IrpId.{IrpId}
-use Rattle.irp_core.specs.declared.status.TheConstants.NtStatus.{CANCELLED}
+use Rattle.irp_core.specs.declared.status.NtStatus.{NtStatus}
+use Rattle.irp_core.specs.declared.status.TheConstants.NtStatus.{PENDING, CANCELLED}
 use Rattle.irp_core.specs.declared.step.Kind.TheVariants.{Disarm}
 use Rattle.irp_core.specs.declared.step.Made.{Made}
 use Rattle.irp_core.specs.Steps.{Irp, life_of, same_irp}
@@ -22,42 +23,29 @@ use Rattle.csq_words.specs.declared.views.Event.TheVariants as event
 use Rattle.csq_words.specs.Queue.{Queued, QueueState, Limits, current, first_unmarked, has_entry, without, after_event, plain}
 use Rattle.csq_words.proofs.Listings.{is_listed-plain}
 use Rattle.csq_words.proofs.Lives.{ArePresent}
-use Rattle.csq_replay.specs.declared.call.Call.TheVariants.{Next, Mark, Routine, Cancel, Complete, Close, Cleanup}
-use Rattle.csq_replay.specs.declared.call.Reply.{Reply}
-use Rattle.csq_replay.specs.declared.call.Reply.TheVariants.{Removed, NoIrp, Claimed, Unclaimed, Completed, Closed}
-use Rattle.csq_replay.specs.Calls.{Script, script_pass, present_of, next_step, after_steps, removal_steps, Calls, Cleans, Does}
-use Rattle.csq_replay.specs.Calls.Calls.{removes_next, claims, claims_none, runs_routine, has_no_claim, completes, holds_none, closes, is_stale, knows_no_irp, knows_no_file}
+use Rattle.csq_replay.specs.declared.script.call.Call.TheVariants.{Next, Mark, Cancel, Close, Cleanup}
+use Rattle.csq_replay.specs.declared.script.call.Refusal.{Refusal}
+use Rattle.csq_replay.specs.declared.script.call.Reply.{Reply}
+use Rattle.csq_replay.specs.declared.script.call.Reply.TheVariants.{Removed, NoIrp, Refused}
+use Rattle.csq_replay.specs.Calls.{Script, script_pass, present_of, completing, next_step, after_steps, removal_steps, Calls, Cleans, Does}
+use Rattle.csq_replay.specs.Calls.Calls.{removes_next, completes, is_stale, knows_no_irp, knows_no_file}
 use Rattle.csq_replay.specs.Calls.Cleans.{none_left, one_more}
 use Rattle.csq_replay.specs.Calls.Does.{calls}
 use Rattle.csq_replay.specs.Drivers.{Keeping, Keeps, AreMarked}
 use Rattle.csq_replay.proofs.Removing.{present, entry_now, listed_is, listed_known}
 use Rattle.csq_replay.proofs.Queueing.{marks_stay, taken_routine}
 
--- after a mark with a claim, the cancel routine runs
-pub routine_claimed : (l : Limits) (s t u : Script) (i : Irp) (r : Reply) → Calls l s (Mark i) Claimed t → Calls l t (Routine i.irp) r u → r ≡ Completed CANCELLED
-routine_claimed l s t u i r (claims j known now found may) (runs_routine k there owed out) = refl
-routine_claimed l s t u i r (claims j known now found may) (has_no_claim k there none) =
-    let mine : owes t.run script_pass i ≡ true = rw (same_irp-refl, same_pass-refl, found) refl in
-    let owed : owes t.run script_pass (present_of s i.irp) ≡ true = ap (owes t.run script_pass) now ∙ mine in absurd (cc (owed, none))
-routine_claimed l s t u i r (claims j known now found may) (is_stale c k names there stale) = absurd (cc names)
-routine_claimed l s t u i r (claims j known now found may) (knows_no_irp c k names le) =
-    let same : i.irp ≡ k = cc names in absurd (omega (arith, known, le, ap (λ (n : IrpId). n.0) same))
-routine_claimed l s t u i r (claims j known now found may) (knows_no_file c f names le) = absurd (cc names)
-
 -- a mark that is refused refuses the cancel
-pub cancel_refused : (l : Limits) (s t : Script) (i : Irp) (r : Reply) → Calls l s (Mark i) r t → (r ≡ Claimed → ⊥) → (r ≡ Unclaimed → ⊥) → Does l s (Cancel i) r t
-cancel_refused l s t i r (claims j known now found may) no_claim no_unclaimed = absurd (no_claim refl)
-cancel_refused l s t i r (claims_none j known now found) no_claim no_unclaimed = absurd (no_unclaimed refl)
-cancel_refused l s t i r (is_stale c k names known stale) no_claim no_unclaimed = calls (Cancel i) r t (is_stale (Cancel i) k names known stale)
-cancel_refused l s t i r (knows_no_irp c k names le) no_claim no_unclaimed = calls (Cancel i) r t (knows_no_irp (Cancel i) k names le)
-cancel_refused l s t i r (knows_no_file c f names le) no_claim no_unclaimed = absurd (cc names)
+pub cancel_refused : (l : Limits) (s t : Script) (i : Irp) (refusal : Refusal) → Calls l s (Mark i) (Refused refusal) t → Does l s (Cancel i) (Refused refusal) t
+cancel_refused l s t i refusal (is_stale c k names known stale) = calls (Cancel i) (Refused refusal) t (is_stale (Cancel i) k names known stale)
+cancel_refused l s t i refusal (knows_no_irp c k names le) = calls (Cancel i) (Refused refusal) t (knows_no_irp (Cancel i) k names le)
+cancel_refused l s t i refusal (knows_no_file c f names le) = absurd (cc names)
 
 -- a close that is refused refuses the cleanup
-pub cleanup_refused : (l : Limits) (s t : Script) (f : FileId) (r : Reply) → Calls l s (Close f) r t → (r ≡ Closed → ⊥) → Does l s (Cleanup f) r t
-cleanup_refused l s t f r (closes g known) other = absurd (other refl)
-cleanup_refused l s t f r (is_stale c j names known stale) other = absurd (cc names)
-cleanup_refused l s t f r (knows_no_irp c j names le) other = absurd (cc names)
-cleanup_refused l s t f r (knows_no_file c g names le) other = calls (Cleanup f) r t (knows_no_file (Cleanup f) g names le)
+pub cleanup_refused : (l : Limits) (s t : Script) (f : FileId) (refusal : Refusal) → Calls l s (Close f) (Refused refusal) t → Does l s (Cleanup f) (Refused refusal) t
+cleanup_refused l s t f refusal (is_stale c j names known stale) = absurd (cc names)
+cleanup_refused l s t f refusal (knows_no_irp c j names le) = absurd (cc names)
+cleanup_refused l s t f refusal (knows_no_file c g names le) = calls (Cleanup f) (Refused refusal) t (knows_no_file (Cleanup f) g names le)
 
 -- what a removal disarms last, it holds
 pub removal_holds : (k : Peek) (i : Irp) (es : List Queued) (E : List Made) → AreMarked E es → first_unmarked k es ≡ Some i → holds (after_steps (removal_steps k es) E) script_pass i ≡ true
@@ -113,46 +101,24 @@ next_removed l s t k n r is (is_stale c j names known stale) = absurd (cc names)
 next_removed l s t k n r is (knows_no_irp c j names le) = absurd (cc names)
 next_removed l s t k n r is (knows_no_file c f names le) = absurd (cc names)
 
-pub next_none : (l : Limits) (s t : Script) (k : Peek) (r : Reply) → ((n : IrpId) → r ≡ Removed n → ⊥) → Calls l s (Next k) r t → r ≡ NoIrp
-next_none l s t k r other (removes_next k' (Some j) may) = absurd (other j.irp refl)
-next_none l s t k r other (removes_next k' None may) = refl
-next_none l s t k r other (is_stale c j names known stale) = absurd (cc names)
-next_none l s t k r other (knows_no_irp c j names le) = absurd (cc names)
-next_none l s t k r other (knows_no_file c f names le) = absurd (cc names)
+cancelled_final : CANCELLED ≢ PENDING
+cancelled_final e = let same = ap (λ (s : NtStatus). s.0) e in absurd (omega (arith, same))
 
--- a removal that answers none leaves the queue as it was
-pub next_kept : (l : Limits) (s t : Script) (k : Peek) (r : Reply) → r ≡ NoIrp → Calls l s (Next k) r t → t.queue ≡ s.queue
-next_kept l s t k r is (removes_next k' (Some j) may) = absurd (cc is)
-next_kept l s t k r is (removes_next k' None may) = refl
-next_kept l s t k r is (is_stale c j names known stale) = absurd (cc names)
-next_kept l s t k r is (knows_no_irp c j names le) = absurd (cc names)
-next_kept l s t k r is (knows_no_file c f names le) = absurd (cc names)
-
--- what is held is completed
-pub held_completed : (l : Limits) (s t : Script) (n : IrpId) (r : Reply) → n.0 < l.irps → holds s.run script_pass (present_of s n) ≡ true → Calls l s (Complete n CANCELLED) r t
-    → (r ≡ Completed CANCELLED) × (t.queue ≡ s.queue)
-held_completed l s t n r known held (completes j status there holding final) = (refl, refl)
-held_completed l s t n r known held (holds_none j status there none) = absurd (cc (held, none))
-held_completed l s t n r known held (is_stale c j names there stale) = absurd (cc names)
-held_completed l s t n r known held (knows_no_irp c j names le) = let same : n ≡ j = cc names in absurd (omega (arith, known, le, ap (λ (m : IrpId). m.0) same))
-held_completed l s t n r known held (knows_no_file c f names le) = absurd (cc names)
-
--- a cleanup so far: the script now, and how many IRPs were completed
-pub record CleansSoFar (l : Limits) (f : FileId) (s : Script) (kept : Keeping) : Type 0 where
+-- a cleanup so far: the script now, after so many completions
+pub record CleansSoFar (l : Limits) (f : FileId) (s : Script) (kept : Keeping) (count : ℕ) : Type 0 where
   pub now : Script
-  pub count : ℕ
   pub keeps : Keeps l kept now
   pub left : length now.queue.entries + count ≡ length s.queue.entries
   pub more : (m : ℕ) (u : Script) → Cleans l f now m u → Cleans l f s (count + m) u
 
-pub cleans_first : (l : Limits) (f : FileId) (s : Script) (kept : Keeping) → Keeps l kept s → CleansSoFar l f s kept
-cleans_first l f s kept k = record { now = s; count = 0; keeps = k; left = omega arith; more = λ m u h. let P : ℕ → Type 0 = λ n. Cleans l f s n u in subst P (omega arith) h }
+pub cleans_first : (l : Limits) (f : FileId) (s : Script) (kept : Keeping) → Keeps l kept s → CleansSoFar l f s kept 0
+cleans_first l f s kept k = record { now = s; keeps = k; left = omega arith; more = λ m u h. let P : ℕ → Type 0 = λ n. Cleans l f s n u in subst P (omega arith) h }
 
 pub entries_length : (l : Limits) (kept : Keeping) (s : Script) → Keeps l kept s → length kept.listing.entries ≡ length s.queue.entries
 entries_length l kept s k = ap (λ (x : Listing). length x.entries) k.listing ∙ length-map s.queue.entries plain
 
-module _ (l : Limits) (f : FileId) (s : Script) (kept : Keeping) (h : CleansSoFar l f s kept) (sound : IsSound kept.listing) where
-  module _ (i : IrpId) (t : Script) (next : Calls l h.now (Next (File f)) (Removed i) t) where
+module _ (l : Limits) (f : FileId) (s : Script) (kept : Keeping) (count : ℕ) (h : CleansSoFar l f s kept count) where
+  module _ (sound : IsSound kept.listing) (i : IrpId) (t : Script) (next : Calls l h.now (Next (File f)) (Removed i) t) where
     got : (j : Irp) × (j.irp ≡ i) × (first_unmarked (File f) h.now.queue.entries ≡ Some j) × (t.run ≡ after_steps (removal_steps (File f) h.now.queue.entries) h.now.run)
         × (t.queue ≡ after_event h.now.queue (event.RemoveNext (File f) (Some j)))
     got = next_removed l h.now t (File f) i (Removed i) refl next
@@ -170,40 +136,41 @@ module _ (l : Limits) (f : FileId) (s : Script) (kept : Keeping) (h : CleansSoFa
         let distinct : is_distinct (map plain h.now.queue.entries) ≡ true = sym (ap (λ (x : Listing). is_distinct x.entries) h.keeps.listing) ∙ sound.distinct in
         ap (λ (q : QueueState). length q.entries + 1) got.4 ∙ length_without h.now.queue.lives got.0 h.now.queue.entries (present l kept h.now h.keeps) distinct there
 
-    module _ (u : Script) (r : Reply) (complete : Calls l t (Complete i CANCELLED) r u) where
-      completed : (r ≡ Completed CANCELLED) × (u.queue ≡ t.queue)
-      completed =
-          let life : life_of (present_of h.now i) ≡ h.now.queue.lives i = refl in
-          let here : is_listed kept.listing.entries i ≡ true = listed_is l kept h.now h.keeps (present_of h.now i) life ∙ ap (has_entry h.now.queue.entries) got_now ∙ there in
-          let known : i.0 < l.irps = omega (arith, listed_known l kept h.now h.keeps sound i here, ap (λ (n : Size). n.irps) h.keeps.size) in
-          let mine : holds t.run script_pass got.0 ≡ true = ap (λ E. holds E script_pass got.0) got.3 ∙ removal_holds (File f) got.0 h.now.queue.entries h.now.run h.keeps.queue.marks got.2 in
-          let name : present_of t i ≡ got.0 = ap (λ (q : QueueState). current q i) got.4 ∙ got_now in
-          let held : holds t.run script_pass (present_of t i) ≡ true = ap (holds t.run script_pass) name ∙ mine in
-          held_completed l t u i r known held complete
+    pub got_known : i.0 < l.irps
+    got_known =
+        let life : life_of (present_of h.now i) ≡ h.now.queue.lives i = refl in
+        let here : is_listed kept.listing.entries i ≡ true = listed_is l kept h.now h.keeps (present_of h.now i) life ∙ ap (has_entry h.now.queue.entries) got_now ∙ there in
+        omega (arith, listed_known l kept h.now h.keeps sound i here, ap (λ (n : Size). n.irps) h.keeps.size)
 
-      pub cleans_more : (last : Keeping) → Keeps l last u → CleansSoFar l f s last
-      cleans_more last k =
-          let IsCall : Reply → Type 0 = λ x. Calls l t (Complete i CANCELLED) x u in
-          let done = subst IsCall completed.0 complete in
-          record {
-            now = u;
-            count = h.count + 1;
-            keeps = k;
-            left = omega (arith, ap (λ (q : QueueState). length q.entries) completed.1, one_less, h.left);
-            more = λ m v rest.
-                let P : ℕ → Type 0 = λ n. Cleans l f s n v in
-                subst P (omega arith) (h.more (m + 1) v (one_more i h.now t u v m next done rest));
-          }
+    pub got_held : holds t.run script_pass (present_of t i) ≡ true
+    got_held =
+        let mine : holds t.run script_pass got.0 ≡ true = ap (λ E. holds E script_pass got.0) got.3 ∙ removal_holds (File f) got.0 h.now.queue.entries h.now.run h.keeps.queue.marks got.2 in
+        let name : present_of t i ≡ got.0 = ap (λ (q : QueueState). current q i) got.4 ∙ got_now in
+        ap (holds t.run script_pass) name ∙ mine
 
-      pub cleans_nearer : (last : Keeping) → Keeps l last u → length last.listing.entries < length kept.listing.entries
-      cleans_nearer last k =
-          omega (arith, entries_length l last u k, entries_length l kept h.now h.keeps, ap (λ (q : QueueState). length q.entries) completed.1, one_less)
+    -- what was removed is completed
+    abbrev last : Script
+    last = completing (present_of t i) CANCELLED t
+
+    pub cleans_more : (new : Keeping) → Keeps l new (completing (present_of t i) CANCELLED t) → CleansSoFar l f s new (count + 1)
+    cleans_more new k = record {
+      now = last;
+      keeps = k;
+      left = omega (arith, one_less, h.left);
+      more = λ m v rest.
+          let P : ℕ → Type 0 = λ n. Cleans l f s n v in
+          subst P (omega arith) (h.more (m + 1) v (one_more i h.now t last v m next (completes i CANCELLED got_known got_held cancelled_final) rest));
+    }
+
+    pub cleans_nearer : (new : Keeping) → Keeps l new (completing (present_of t i) CANCELLED t) → length new.listing.entries < length kept.listing.entries
+    cleans_nearer new k = omega (arith, entries_length l new last k, entries_length l kept h.now h.keeps, one_less)
+
+    -- as many IRPs can be counted as there were entries
+    pub cleans_few : count < length s.queue.entries
+    cleans_few = omega (arith, one_less, h.left)
 
   -- none is left
-  pub cleans_all : (t : Script) (r : Reply) → ((i : IrpId) → r ≡ Removed i → ⊥) → Calls l h.now (Next (File f)) r t → (t.queue ≡ h.now.queue) × Cleans l f s h.count t
-  cleans_all t r other next =
-      let none = next_none l h.now t (File f) r other next in
-      let IsCall : Reply → Type 0 = λ x. Calls l h.now (Next (File f)) x t in
+  pub cleans_all : (t : Script) → Calls l h.now (Next (File f)) NoIrp t → Cleans l f s count t
+  cleans_all t next =
       let P : ℕ → Type 0 = λ n. Cleans l f s n t in
-      let call = subst IsCall none next in
-      (next_kept l h.now t (File f) NoIrp refl call, subst P (omega arith) (h.more 0 t (none_left h.now t call)))
+      subst P (omega arith) (h.more 0 t (none_left h.now t next))

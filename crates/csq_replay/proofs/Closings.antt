@@ -9,8 +9,12 @@ use Rattle.irp_core.specs.Completion.{IsPlace}
 use Rattle.irp_core.specs.Lives.{present, present_life}
 use Rattle.irp_core.proofs.Names.{named}
 use Rattle.irp_core.specs.Texts.{name_text, place_text}
-use Rattle.csq_replay.specs.Schedule.{is_silent, irp_line, IsIrpLine, AreIrpLines}
-use Rattle.csq_replay.specs.Replays.{GrewBy}
+use Rattle.irp_core.specs.declared.step.Step.{Step}
+use Rattle.irp_core.specs.declared.step.StepRefused.{StepRefused}
+use Rattle.irp_core.specs.Runs.{Size, IsRun}
+use Rattle.irp_core.specs.Refusals.{IsFirstCause}
+use Rattle.csq_replay.specs.Schedule.{Numbered, is_silent, irp_line, IsIrpLine, AreIrpLines, IsClosing}
+use Rattle.csq_replay.specs.Lines.{GrewBy}
 
 -- a text that grew twice grew by both
 pub grew_more : (old between new first second : List ℕ) → GrewBy old between first → GrewBy between new second → GrewBy old new (first ++ second)
@@ -51,3 +55,13 @@ asked irps rest told_claims claims asks on same = rw (on, same) refl
 
 pub not_asked : (irps rest claims : List ℕ) (asks : Bool) → asks ≡ false → irps ++ rest ≡ irps ++ (rest ++ cond asks claims [])
 not_asked irps rest claims asks off = rw off (ap (λ t. irps ++ t) (sym (append-nil rest)))
+
+-- the same, of a machine whose size is known by another name
+pub run_of_size : (now size : Size) (E : List Made) → now ≡ size → IsRun now E → IsRun size E
+run_of_size now size E same r = let P : Size → Type 0 = λ n. IsRun n E in subst P same r
+
+pub cause_of_size : (now size : Size) (E : List Made) (s : Step) (cause : StepRefused) → now ≡ size → IsFirstCause now E s cause → IsFirstCause size E s cause
+cause_of_size now size E s cause same first = let P : Size → Type 0 = λ n. IsFirstCause n E s cause in subst P same first
+
+pub closing_of_size : (now size : Size) → now ≡ size → (claims : Bool) (W : List Numbered) (text : List ℕ) → IsClosing now claims W text → IsClosing size claims W text
+closing_of_size now size same claims W text closes = let P : Size → Type 0 = λ n. IsClosing n claims W text in subst P same closes

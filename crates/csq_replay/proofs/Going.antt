@@ -1,8 +1,6 @@
 -- The run of a script's one pass goes on.
 use Rattle.std.proofs.Common.{◌≡◌, ◌≢◌, ℕ, ◌<◌, ◌≤◌, Bool, true, false, cond, List, [], ◌∷◌, Option, refl, ap, sym, ◌∙◌, subst, arith, lit≤}
-use Rattle.std.specs.Prelude.{slice_set}
 use Rattle.irp_core.specs.declared.ids.IrpId.{IrpId}
-use Rattle.irp_core.specs.declared.status.NtStatus.{NtStatus}
 use Rattle.irp_core.specs.declared.ids.PassId.{PassId}
 use Rattle.irp_core.specs.declared.step.Kind.{Kind}
 use Rattle.irp_core.specs.declared.step.Kind.TheVariants.{Arm, Test, Disarm, End, Flag, Take, Out, Done, Renew}
@@ -117,14 +115,5 @@ module _ (state : MachineState) (E : List Made) (x : Inside) (g : Goes state E x
 pub done_as : (new : MachineState) (E : List Made) (x i : Irp) → x ≡ i → Agrees new (next_step E (Done x)) → Agrees new (next_step E (Done i))
 done_as new E x i e h = let P : Irp → Type 0 = λ y. Agrees new (next_step E (Done y)) in subst P e h
 
-pub set_as : (new old : List (Option NtStatus)) (v : Option NtStatus) (x i : Irp) → x ≡ i → new ≡ slice_set old (number x) v → new ≡ slice_set old (number i) v
-set_as new old v x i e h = h ∙ ap (λ (y : Irp). slice_set old (number y) v) e
-
 pub may_as : (state : MachineState) (K : Irp → Kind) (x i : Irp) → x ≡ i → May state (K i) → May state (K x)
 may_as state K x i e h = let P : Irp → Type 0 = λ y. May state (K y) in subst P (sym e) h
-
--- what was taken out is held
-pub may_out_done : (state : MachineState) (E : List Made) (x : Inside) → Goes state E x → (new : MachineState) (i : Irp) → Agrees new (next_step E (Out i)) → size_of new ≡ size_of state
-    → number i < (size_of state).irps → May new (Done i)
-may_out_done state E x g new i a same known =
-    may_done new (next_step E (Out i)) Nothing (went state E x g new (Out i) a same) i refl (omega (arith, known, ap (λ (n : Size). n.irps) same)) (rw (same_irp-refl, same_pass-refl) refl)

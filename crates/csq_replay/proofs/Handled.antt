@@ -1,14 +1,15 @@
 -- What a handled script has come to.
 use Rattle.std.proofs.Common.{◌≡◌, ℕ, ◌+◌, List, [], ◌∷◌, ◌++◌, Option, Some, refl, ap, sym, ◌∙◌, append_assoc, subst}
 use Rattle.csq_words.specs.Queue.{Limits}
-use Rattle.csq_replay.specs.declared.answer.Ended.{Ended}
-use Rattle.csq_replay.specs.declared.answer.Ended.TheVariants.{AllHandled}
+use Rattle.csq_replay.specs.declared.lines.answer.Ended.{Ended}
+use Rattle.csq_replay.specs.declared.lines.answer.Ended.TheVariants.{AllHandled}
 use Rattle.csq_replay.specs.Pieces.{lines_of}
 use Rattle.csq_replay.specs.Calls.{Script, new_script}
-use Rattle.csq_replay.specs.ScriptAnswer.{AnswersCall, AnswersCalls, IsScriptAnswer, closing_lines}
+use Rattle.csq_replay.specs.Lines.{AnswersAll}
+use Rattle.csq_replay.specs.Lines.AnswersAll.{all_handled, goes_on, stops}
+use Rattle.csq_replay.specs.Lines.IsAnswer.{too_long_input, answered as lines_answered}
+use Rattle.csq_replay.specs.ScriptAnswer.{AnswersCall, IsScriptAnswer, closing_lines}
 use Rattle.csq_replay.specs.ScriptAnswer.AnswersCall.{too_long, skipped, malformed, answered}
-use Rattle.csq_replay.specs.ScriptAnswer.AnswersCalls.{all_handled, goes_on, stops}
-use Rattle.csq_replay.specs.ScriptAnswer.IsScriptAnswer.{too_long_input, answered as lines_answered}
 use Rattle.csq_replay.specs.Laws.{LeadTo, EndsWith, EachInsertedIrpIsAccountedFor}
 use Rattle.csq_replay.specs.Laws.LeadTo.{at_end, by_nothing, by_call}
 use Rattle.csq_replay.proofs.Accounting.{new_accounts, led_accounts}
@@ -24,9 +25,9 @@ module _ (l : Limits) where
   led_by s t n line text more lines last (answered c r u is does run) e led =
       let same : t ≡ u = cc e in by_call s u last line lines c r is does (subst (λ v. LeadTo l v lines last) same led)
 
-  lines_end : (s : Script) (n : ℕ) (lines : List (List ℕ)) (text : List ℕ) (ended : Ended) → AnswersCalls l s n lines text ended → ended ≡ AllHandled
+  lines_end : (s : Script) (n : ℕ) (lines : List (List ℕ)) (text : List ℕ) (ended : Ended) → AnswersAll (AnswersCall l) (λ s text. text ≡ closing_lines l s) s n lines text ended → ended ≡ AllHandled
       → (last : Script) × LeadTo l s lines last × EndsWith text (closing_lines l last)
-  lines_end s n lines text ended (all_handled a m) e = (s, at_end s, ([], refl))
+  lines_end s n lines text ended (all_handled a m told closed) e = (s, at_end s, ([], closed))
   lines_end s n lines text ended (goes_on a t m line left told rest ended' h answers) e =
       let (last, led, (front, is)) = lines_end t (n + 1) left rest ended answers e in
       (last, led_by s t n line told (Some t) left last h refl led, (told ++ front, ap (λ x. told ++ x) is ∙ sym (append_assoc told front (closing_lines l last))))

@@ -24,8 +24,8 @@ use Rattle.csq_words.specs.declared.views.InsertReply.TheVariants as reply
 use Rattle.csq_words.specs.declared.views.Event.TheVariants as event
 use Rattle.csq_words.specs.Queue.{Queued, QueueState, Limits, listing_of, refusal, reply_to_insert, has_irp, without, after_event, new_entry}
 use Rattle.csq_words.proofs.Listings.{listing-taken_back, listing-inserted}
-use Rattle.csq_replay.specs.declared.call.Call.TheVariants.{Insert}
-use Rattle.csq_replay.specs.declared.call.Reply.TheVariants.{Pending, InsertRefused}
+use Rattle.csq_replay.specs.declared.script.call.Call.TheVariants.{Insert}
+use Rattle.csq_replay.specs.declared.script.call.Reply.TheVariants.{Pending, InsertRefused}
 use Rattle.csq_replay.specs.Calls.{Script, script_pass, script_size, present_of, next_step, doing, Calls}
 use Rattle.csq_replay.specs.Calls.Calls.{refuses_insert, lists}
 use Rattle.csq_replay.specs.Drivers.{Keeping, Keeps, IsOfRun}
@@ -40,11 +40,11 @@ not_refused false true c x y z r h = absurd cc
 not_refused false false true x y z r h = absurd cc
 not_refused false false false x y z r h = (refl, refl)
 
-pub zero_is : (b : Bool) (v : ℕ) → v ≡ bit b → v ≡ 0 → b ≡ false
+zero_is : (b : Bool) (v : ℕ) → v ≡ bit b → v ≡ 0 → b ≡ false
 zero_is true v is e = absurd (omega arith)
 zero_is false v is e = refl
 
-pub one_is : (b : Bool) (v : ℕ) → v ≡ bit b → (v ≡ 0 → ⊥) → b ≡ true
+one_is : (b : Bool) (v : ℕ) → v ≡ bit b → (v ≡ 0 → ⊥) → b ≡ true
 one_is true v is e = refl
 one_is false v is e = absurd (e is)
 
@@ -116,7 +116,7 @@ module _ (l : Limits) (kept : Keeping) (s : Script) (k : Keeps l kept s) (n : Ir
               doing (Arm i ∷ Test i ∷ []) (event.Insert n f place reply.Pending) s,
               lists n f place (replies None accepted false flag),
               keeps_run l kept s k m2 listing (next_step (next_step s.run (Arm i)) (Test i)) (after_event s.queue (event.Insert n f place reply.Pending)) a2 (same2 ∙ same1) listing_is queue2
-                  (goes2.at ∙ ap (λ b. inside_after (Armed i) (Test i) (bit b)) flag) (λ j. refl) (λ j. refl) (λ j. refl),
+                  (goes2.at ∙ ap (λ b. inside_after (Armed i) (Test i) (bit b)) flag) (λ j. refl) (λ j. refl),
             )
 
         module _ (set : v ≡ 0 → ⊥) where
@@ -156,9 +156,6 @@ module _ (l : Limits) (kept : Keeping) (s : Script) (k : Keeps l kept s) (n : Ir
             pub known3 : number i < (size_of m3).irps
             known3 = omega (arith, known2, ap (λ (n : Size). n.irps) same3)
 
-            pub done_may : May m3 (Done i)
-            done_may = may_done m3 _ Nothing goes3 i refl known3 (rw (same_irp-refl, same_pass-refl) refl)
-
             entries_back : without i (put_at place (new_entry i f) s.queue.entries) ≡ s.queue.entries
             entries_back = filter-put_at (λ (e : Queued). same_irp e.irp i) place (new_entry i f) s.queue.entries (same_irp-refl i) (unlisted (script_size l) s.run (run_for l kept s k) s.queue k.queue i home)
 
@@ -180,7 +177,7 @@ module _ (l : Limits) (kept : Keeping) (s : Script) (k : Keeps l kept s) (n : Ir
 
             pub taken_keeps : Keeps l (record kept { machine = m3; listing = last }) (doing (Arm i ∷ Test i ∷ Disarm i ∷ []) (event.Insert n f place reply.Cancelled) s)
             taken_keeps = keeps_run l kept s k m3 last (next_step (next_step (next_step s.run (Arm i)) (Test i)) (Disarm i)) (after_event s.queue (event.Insert n f place reply.Cancelled)) a3 (same3 ∙ same2 ∙ same1)
-                last_is queue3 at3 (λ j. refl) (λ j. refl) (λ j. refl)
+                last_is queue3 at3 (λ j. refl) (λ j. refl)
 
             pub cancel_reply : reply.Cancelled ≡ reply_to_insert (refusal l s.queue n f) (has_irp s.queue.flags i)
             cancel_reply = replies None accepted true flag

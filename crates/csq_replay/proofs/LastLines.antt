@@ -1,15 +1,13 @@
 -- The closing lines of a script.
 use Rattle.std.proofs.Common.{◌≡◌, ℕ, zero, suc, ◌+◌, ◌<◌, Bool, true, false, cond, List, [], ◌∷◌, ◌++◌, map, filter, Option, Some, None, refl, ap, sym, ◌∙◌, arith, append_assoc, append-nil, add-one, codes}
 use Rattle.std.proofs.lemmas.List.Elements.{filter-append}
-use Rattle.std.specs.Prelude.{slice_index_or}
 use Rattle.irp_core.specs.declared.ids.IrpId.{IrpId}
 use Rattle.irp_core.specs.Lives.{present}
-use Rattle.irp_core.specs.Owners.{owes, holds}
 use Rattle.irp_core.specs.Runs.{Size}
 use Rattle.irp_core.specs.MachineState.{size_of}
 use Rattle.csq_list.specs.Listing.{Listing}
 use Rattle.csq_words.specs.Queue.{Queued, Limits, plain}
-use Rattle.csq_replay.specs.Calls.{Script, script_pass, present_of}
+use Rattle.csq_replay.specs.Calls.{Script, present_of}
 use Rattle.csq_replay.proofs.Going.{present_is}
 use Rattle.csq_replay.specs.Drivers.{Keeping, Keeps}
 use Rattle.irp_core.specs.Texts.{irp_text}
@@ -17,7 +15,8 @@ use Rattle.csq_list.specs.declared.entry.Entry.{Entry}
 use Rattle.csq_list.specs.declared.entry.Peek.TheVariants.{Any}
 use Rattle.csq_list.specs.Searches.{first_match, rest_after, is_distinct}
 use Rattle.csq_list.proofs.Finding.{found-first, nothing-left}
-use Rattle.csq_replay.specs.ScriptAnswer.{numbers, left_line, irps_below}
+use Rattle.csq_replay.specs.declared.script.remains.Kept.{Kept}
+use Rattle.csq_replay.specs.ScriptAnswer.{numbers, left_line, irps_below, is_kept}
 
 abbrev irps_of : List Entry → List IrpId
 irps_of es = map (λ (e : Entry). e.irp) es
@@ -85,19 +84,13 @@ module _ (l : Limits) (kept : Keeping) (s : Script) (k : Keeps l kept s) where
   pub left_text : left_line (map (λ (e : Entry). e.irp) kept.listing.entries) ≡ left_line (map (λ (e : Queued). e.irp.irp) s.queue.entries)
   left_text = ap left_line (ap (λ (x : Listing). map (λ (e : Entry). e.irp) x.entries) k.listing ∙ irps_plain s.queue.entries)
 
-  abbrev held_now : IrpId → Bool
-  held_now n = holds s.run script_pass (present (size_of kept.machine).first s.run n)
+  abbrev kept_now : Kept → IrpId → Bool
+  kept_now so n = is_kept so s.run (present (size_of kept.machine).first s.run n)
 
-  pub held_text : (text : List ℕ) → text ≡ [] → (new : List ℕ)
-      → new ≡ text ++ numbers (filter (λ (n : IrpId). holds s.run script_pass (present (size_of kept.machine).first s.run n)) (irps_below (size_of kept.machine).irps))
-      → new ≡ numbers (filter (λ (n : IrpId). holds s.run script_pass (present_of s n)) (irps_below l.irps))
-  held_text text none new written =
-      written ∙ ap (λ t. t ++ numbers (filter held_now (irps_below (size_of kept.machine).irps))) none ∙ ap (λ n. numbers (filter held_now (irps_below n))) irps_are
-      ∙ ap numbers (filter_same held_now (λ (n : IrpId). holds s.run script_pass (present_of s n)) l.irps (λ n lt. ap (holds s.run script_pass) (present_is l kept s k n)))
-
-  pub owed_text : (text : List ℕ) → text ≡ [] → (new : List ℕ) → new ≡ text ++ numbers (filter (λ (n : IrpId). slice_index_or kept.claims n.0 false) (irps_below (size_of kept.machine).irps))
-      → new ≡ numbers (filter (λ (n : IrpId). owes s.run script_pass (present_of s n)) (irps_below l.irps))
-  owed_text text none new written =
-      written ∙ ap (λ t. t ++ numbers (filter (λ (n : IrpId). slice_index_or kept.claims n.0 false) (irps_below (size_of kept.machine).irps))) none
-      ∙ ap (λ n. numbers (filter (λ (i : IrpId). slice_index_or kept.claims i.0 false) (irps_below n))) irps_are
-      ∙ ap numbers (filter_same (λ (n : IrpId). slice_index_or kept.claims n.0 false) (λ (n : IrpId). owes s.run script_pass (present_of s n)) l.irps k.claims)
+  -- what is kept so, by the machine's present lives and by the queue's
+  pub kept_text : (so : Kept) (text : List ℕ) → text ≡ [] → (new : List ℕ)
+      → new ≡ text ++ numbers (filter (λ (n : IrpId). is_kept so s.run (present (size_of kept.machine).first s.run n)) (irps_below (size_of kept.machine).irps))
+      → new ≡ numbers (filter (λ (n : IrpId). is_kept so s.run (present_of s n)) (irps_below l.irps))
+  kept_text so text none new written =
+      written ∙ ap (λ t. t ++ numbers (filter (kept_now so) (irps_below (size_of kept.machine).irps))) none ∙ ap (λ n. numbers (filter (kept_now so) (irps_below n))) irps_are
+      ∙ ap numbers (filter_same (kept_now so) (λ (n : IrpId). is_kept so s.run (present_of s n)) l.irps (λ n lt. ap (is_kept so s.run) (present_is l kept s k n)))

@@ -27,13 +27,11 @@ use Rattle.irp_core.proofs.Rows.{done_at, has_left, IsDue}
 use Rattle.irp_core.proofs.Stepping.{no_cause}
 use Rattle.irp_core.proofs.Owning.{stands}
 use Rattle.irp_core.proofs.Next.{lock_one}
-use Rattle.csq_replay.specs.declared.answer.Ended.{Ended}
-use Rattle.csq_replay.specs.Pieces.{lines_of}
-use Rattle.csq_replay.specs.Schedule.{Numbered, run_of, AnswersLine, IsIrpLine, AreIrpLines, IsRestLine, IsClosing, AnswersLines, irp_line, of_line, claim_lines}
+use Rattle.csq_replay.specs.Schedule.{Numbered, run_of, AnswersLine, IsIrpLine, AreIrpLines, IsRestLine, IsClosing, irp_line, claim_lines}
+use Rattle.csq_replay.specs.Lines.{of_line}
 use Rattle.csq_replay.specs.Schedule.AnswersLine.{too_long, skipped, malformed, accepted, refused}
-use Rattle.csq_replay.specs.Schedule.AnswersLines.{all_handled, goes_on, stops}
-use Rattle.csq_replay.specs.Schedule.IsScheduleAnswer.{too_long_input, answered}
 use Rattle.csq_replay.specs.Laws.{HasOneAnswer}
+use Rattle.csq_replay.proofs.Answering.{one_input_answer}
 use Rattle.csq_replay.proofs.OneStep.{same_step, not_skipped, is_within}
 
 module _ (ever left : Bool) (ho dn : PassId → Bool) (byr : Bool) where
@@ -193,25 +191,7 @@ module _ (size : Size) (W : List Numbered) (n : ℕ) (line : List ℕ) (r : IsRu
   run_after t m V e (accepted s v l run) = let same : record { line = n; step = made s v } ∷ W ≡ V = cc e in let P : List Numbered → Type 0 = λ x. IsRun size (run_of x) in subst P same run
   run_after t m V e (refused s d l first) = absurd (cc e)
 
-module _ (size : Size) (claims : Bool) where
-  one_answer : (W : List Numbered) (n : ℕ) (lines : List (List ℕ)) (t u : List ℕ) (e f : Ended) → IsRun size (run_of W)
-      → AnswersLines size claims W n lines t e → AnswersLines size claims W n lines u f → (t ≡ u) × (e ≡ f)
-  one_answer W n lines t u e f r (all_handled V m text closes) (all_handled V' m' text' closes') = (one_closing size claims W r t u closes closes', refl)
-  one_answer W n lines t u e f r (goes_on V more m line left text rest ended h answers) (goes_on V' more' m' line' left' text' rest' ended' h' answers') =
-      let same = one_line size W n line r text text' (Some more) (Some more') h h' in
-      let runs : more' ≡ more = cc (sym same.1) in
-      let P : List Numbered → Type 0 = λ x. AnswersLines size claims x (n + 1) left rest' f in
-      let others = one_answer more (n + 1) left rest rest' e f (run_after size W n line r text (Some more) more refl h) answers (subst P runs answers') in
-      (ap (λ x. x ++ rest) same.0 ∙ ap (λ x. text' ++ x) others.0, others.1)
-  one_answer W n lines t u e f r (goes_on V more m line left text rest ended h answers) (stops V' m' line' left' text' h') =
-      absurd (cc ((one_line size W n line r text u (Some more) None h h').1))
-  one_answer W n lines t u e f r (stops V m line left text h) (goes_on V' more m' line' left' text' rest' ended' h' answers') =
-      absurd (cc ((one_line size W n line r t text' None (Some more) h h').1))
-  one_answer W n lines t u e f r (stops V m line left text h) (stops V' m' line' left' text' h') = ((one_line size W n line r t u None None h h').0, refl)
-
-  pub one_schedule_answer : (input : List ℕ) → HasOneAnswer size claims input
-  one_schedule_answer input t u e f (too_long_input lt) (too_long_input lt') = (refl, refl)
-  one_schedule_answer input t u e f (too_long_input lt) (answered text ended le answers) = absurd (omega (arith, lt, le))
-  one_schedule_answer input t u e f (answered text ended le answers) (too_long_input lt) = absurd (omega (arith, lt, le))
-  one_schedule_answer input t u e f (answered text ended le answers) (answered text' ended' le' answers') =
-      one_answer [] 1 (lines_of input) t u e f (run_none size) answers answers'
+pub one_schedule_answer : (size : Size) (claims : Bool) (input : List ℕ) → HasOneAnswer size claims input
+one_schedule_answer size claims input t u e f is other =
+    one_input_answer (AnswersLine size) (IsClosing size claims) (λ W. IsRun size (run_of W)) (λ W n line x y m k r. one_line size W n line r x y m k) (λ W V n line text r h. run_after size W n line r text (Some V) V refl h)
+    (λ W x y r closed closed'. one_closing size claims W r x y closed closed') [] (run_none size) input t u e f is other

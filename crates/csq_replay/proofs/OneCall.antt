@@ -12,11 +12,11 @@ use Rattle.irp_core.specs.Steps.{Irp}
 use Rattle.csq_list.specs.declared.entry.Place.{Place}
 use Rattle.csq_list.specs.declared.entry.Place.TheVariants.{Back, Front}
 use Rattle.csq_list.specs.declared.entry.Peek.TheVariants.{Any, File}
-use Rattle.csq_replay.specs.declared.call.Call.{Call}
-use Rattle.csq_replay.specs.declared.call.Call.TheVariants.{Insert, Next, Remove, Mark, Routine, Cancel, Complete, Close, Cleanup, Flag, Status, Reuse}
+use Rattle.csq_replay.specs.declared.script.call.Call.{Call}
+use Rattle.csq_replay.specs.declared.script.call.Call.TheVariants.{Insert, Next, Remove, Mark, Routine, Cancel, Complete, Close, Cleanup, Flag, Status, Reuse}
 use Rattle.csq_replay.specs.Pieces.{words_of, IsShort}
 use Rattle.csq_replay.specs.CallLine.{call_name, place_word, IsIrpWord, IsFileWord, IsStatusWord, IsOne, AreOperands, IsCallLine}
-use Rattle.csq_replay.specs.Schedule.{IsSkipped, IsWithinLine}
+use Rattle.csq_replay.specs.Lines.{IsSkipped, IsWithinLine}
 use Rattle.csq_replay.proofs.CallWords.{letters}
 use Rattle.csq_replay.proofs.NameWords.{number_by_text, irp_by_text, same_name, short_number}
 use Rattle.csq_replay.specs.StepLine.{IsNameWord}

@@ -18,24 +18,21 @@ use Rattle.csq_words.specs.declared.views.InsertReply.{InsertReply}
 use Rattle.csq_words.specs.declared.views.InsertReply.TheVariants as insert
 use Rattle.csq_words.specs.declared.views.Event.TheVariants as event
 use Rattle.csq_words.specs.Queue.{Limits, has_irp, has_unmarked, first_unmarked, refusal, reply_to_insert}
-use Rattle.csq_replay.specs.declared.answer.Ended.{Ended}
-use Rattle.csq_replay.specs.declared.call.Call.{Call}
-use Rattle.csq_replay.specs.declared.call.Call.TheVariants.{Insert, Next, Remove, Mark, Routine, Cancel, Complete, Close, Cleanup, Flag, Status, Reuse}
-use Rattle.csq_replay.specs.declared.call.Refusal.TheVariants.{UnknownIrp, UnknownFile, NoClaim, NotHeld, StatusPending, Stale, NotCompleted, LivesSpent}
-use Rattle.csq_replay.specs.declared.call.Reply.{Reply}
-use Rattle.csq_replay.specs.declared.call.Reply.TheVariants.{Pending, Cancelled, InsertRefused, Removed, NoIrp, Claimed, Unclaimed, Completed, Closed, Cleaned, Begun, Refused}
-use Rattle.csq_replay.specs.declared.call.Reply.TheVariants as reply
+use Rattle.csq_replay.specs.declared.script.call.Call.{Call}
+use Rattle.csq_replay.specs.declared.script.call.Call.TheVariants.{Insert, Next, Remove, Mark, Routine, Cancel, Complete, Close, Cleanup, Flag, Status, Reuse}
+use Rattle.csq_replay.specs.declared.script.call.Refusal.TheVariants.{UnknownIrp, UnknownFile, NoClaim, NotHeld, StatusPending, Stale, NotCompleted, LivesSpent}
+use Rattle.csq_replay.specs.declared.script.call.Reply.{Reply}
+use Rattle.csq_replay.specs.declared.script.call.Reply.TheVariants.{Pending, Cancelled, InsertRefused, Removed, NoIrp, Claimed, Unclaimed, Completed, Closed, Cleaned, Begun, Refused}
+use Rattle.csq_replay.specs.declared.script.call.Reply.TheVariants as reply
 use Rattle.csq_replay.specs.Calls.{Script, script_pass, new_script, present_of, IsNow, life_now, life_after, after_reuse, cancelled_life, doing, completing, removal_steps, remove_steps, removal_reply, status_of, status_reply, irp_of, file_of, after_mark, Calls, Cleans, Does}
 use Rattle.csq_replay.specs.Calls.Calls.{refuses_insert, lists, cancels_insert, removes_next, removes, removes_none, claims, claims_none, runs_routine, has_no_claim, completes, holds_none, refuses_pending, closes, is_stale, reuses, not_completed, lives_spent, tells_flag, tells_status, knows_no_irp, knows_no_file}
 use Rattle.csq_replay.specs.Calls.Cleans.{none_left, one_more}
 use Rattle.csq_replay.specs.Calls.Does.{calls, cancel_claimed, cancel_unclaimed, cleaned}
-use Rattle.csq_replay.specs.Pieces.{lines_of}
 use Rattle.csq_replay.specs.ReplyText.{reply_text}
-use Rattle.csq_replay.specs.ScriptAnswer.{AnswersCall, AnswersCalls}
+use Rattle.csq_replay.specs.ScriptAnswer.{AnswersCall, closing_lines}
 use Rattle.csq_replay.specs.ScriptAnswer.AnswersCall.{too_long, skipped, malformed, answered}
-use Rattle.csq_replay.specs.ScriptAnswer.AnswersCalls.{all_handled, goes_on, stops}
-use Rattle.csq_replay.specs.ScriptAnswer.IsScriptAnswer.{too_long_input, answered as lines_answered}
 use Rattle.csq_replay.specs.Laws.{HasOneScriptAnswer}
+use Rattle.csq_replay.proofs.Answering.{one_input_answer}
 use Rattle.csq_replay.proofs.OneCall.{same_call, call_not_skipped, call_is_within}
 
 -- what is answered, and the script after it
@@ -250,21 +247,7 @@ module _ (l : Limits) where
       let one = does_one s c r r' v v' does (subst P (same_call line c' c is' is) does') in
       (ap (λ x. reply_text x ++ codes "\n") one.0, ap (λ x. Some x) one.1)
 
-  one_answer : (s : Script) (n : ℕ) (lines : List (List ℕ)) (t u : List ℕ) (e f : Ended) → AnswersCalls l s n lines t e → AnswersCalls l s n lines u f → (t ≡ u) × (e ≡ f)
-  one_answer s n lines t u e f (all_handled a m) (all_handled a' m') = (refl, refl)
-  one_answer s n lines t u e f (goes_on a more m line left text rest ended h answers) (goes_on a' more' m' line' left' text' rest' ended' h' answers') =
-      let same = one_line s n line text text' (Some more) (Some more') h h' in
-      let next : more' ≡ more = cc (sym same.1) in
-      let P : Script → Type 0 = λ x. AnswersCalls l x (n + 1) left rest' f in
-      let others = one_answer more (n + 1) left rest rest' e f answers (subst P next answers') in
-      (ap (λ x. x ++ rest) same.0 ∙ ap (λ x. text' ++ x) others.0, others.1)
-  one_answer s n lines t u e f (goes_on a more m line left text rest ended h answers) (stops a' m' line' left' text' h') = absurd (cc ((one_line s n line text u (Some more) None h h').1))
-  one_answer s n lines t u e f (stops a m line left text h) (goes_on a' more' m' line' left' text' rest' ended' h' answers') = absurd (cc ((one_line s n line t text' None (Some more') h h').1))
-  one_answer s n lines t u e f (stops a m line left text h) (stops a' m' line' left' text' h') = ((one_line s n line t u None None h h').0, refl)
-
   pub one_script_answer : (input : List ℕ) → HasOneScriptAnswer l input
-  one_script_answer input t u e f (too_long_input lt) (too_long_input lt') = (refl, refl)
-  one_script_answer input t u e f (too_long_input lt) (lines_answered text ended le answers) = absurd (omega (arith, lt, le))
-  one_script_answer input t u e f (lines_answered text ended le answers) (too_long_input lt) = absurd (omega (arith, lt, le))
-  one_script_answer input t u e f (lines_answered text ended le answers) (lines_answered text' ended' le' answers') =
-      one_answer (new_script l) 1 (lines_of input) t u e f answers answers'
+  one_script_answer input t u e f is other =
+      one_input_answer (AnswersCall l) (λ s text. text ≡ closing_lines l s) (λ s. Unit {0}) (λ s n line x y m k fits. one_line s n line x y m k) (λ s v n line text fits h. tt)
+      (λ s x y fits closed closed'. closed ∙ sym closed') (new_script l) tt input t u e f is other

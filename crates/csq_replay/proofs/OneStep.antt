@@ -8,7 +8,7 @@ use Rattle.irp_core.specs.Steps.{Irp, name_of}
 use Rattle.irp_core.specs.Texts.{pass_text}
 use Rattle.csq_replay.specs.Pieces.{IsShort}
 use Rattle.csq_replay.specs.StepLine.{verb_of, IsNameWord, AreNameWords, AreKindWords, IsStepLine}
-use Rattle.csq_replay.specs.Schedule.{IsSkipped, IsWithinLine}
+use Rattle.csq_replay.specs.Lines.{IsSkipped, IsWithinLine}
 use Rattle.csq_replay.proofs.NameWords.{number_by_text, same_name, short_number}
 use Rattle.csq_replay.proofs.StepText.{line_text}
 

@@ -11,7 +11,7 @@ use Rattle.irp_core.specs.Steps.{Irp, number, life_of, same_irp}
 use Rattle.irp_core.specs.Words.{bit, armed, found_by}
 use Rattle.irp_core.specs.Lives as life
 use Rattle.irp_core.specs.Inside.{inside, inside_after, follows}
-use Rattle.irp_core.specs.Owners.{owes, listed, dones}
+use Rattle.irp_core.specs.Owners.{listed, dones}
 use Rattle.irp_core.specs.Runs.{Size}
 use Rattle.irp_core.specs.MachineState.{MachineState, Agrees, size_of}
 use Rattle.irp_core.proofs.Names.{same_pass-refl}
@@ -27,8 +27,8 @@ use Rattle.csq_words.specs.Queue.{Queued, QueueState, Limits, current, listing_o
 use Rattle.csq_words.proofs.Lives.{ArePresent}
 use Rattle.csq_words.proofs.Named.{irp_eq, same_irp-is}
 use Rattle.csq_words.proofs.Listings.{is_listed-plain, listing-removed}
-use Rattle.csq_replay.specs.declared.call.Call.TheVariants.{Next, Remove}
-use Rattle.csq_replay.specs.declared.call.Reply.TheVariants.{Removed, NoIrp}
+use Rattle.csq_replay.specs.declared.script.call.Call.TheVariants.{Next, Remove}
+use Rattle.csq_replay.specs.declared.script.call.Reply.TheVariants.{Removed, NoIrp}
 use Rattle.csq_replay.specs.Calls.{Script, script_pass, script_size, present_of, IsNow, status_of, next_step, after_steps, doing, removal_steps, remove_steps, Calls}
 use Rattle.csq_replay.specs.Calls.Calls.{removes_next, removes, removes_none}
 use Rattle.csq_replay.specs.Drivers.{Keeping, Keeps, IsOfRun, AreMarked}
@@ -122,7 +122,6 @@ pub record Seeks (begin : ℕ) (k : Peek) (s : Script) (listing : Listing) (mach
   pub plainly : map plain rest ≡ rest_after after listing.entries
   pub steps : after_steps (removal_steps k rest) run ≡ after_steps (removal_steps k s.queue.entries) s.run
   pub first : first_unmarked k rest ≡ first_unmarked k s.queue.entries
-  pub owed : (j : Irp) → owes run script_pass j ≡ owes s.run script_pass j
   pub over : (j : Irp) → dones run j ≡ dones s.run j
 
 bit_set : (b : Bool) (v : ℕ) → v ≡ bit b → v ≡ 1 → b ≡ true
@@ -136,19 +135,18 @@ bit_clear false v is e = refl
 module _ (l : Limits) (kept : Keeping) (s : Script) (k : Keeps l kept s) where
   -- a script goes on by steps that claim, complete and renew nothing
   pub keeps_run : (machine : MachineState) (listing : Listing) (E : List Made) (q : QueueState) → Agrees machine E → size_of machine ≡ size_of kept.machine
-      → listing ≡ listing_of l q → IsOfRun l.first E q → inside E script_pass ≡ Nothing → ((j : Irp) → owes E script_pass j ≡ owes s.run script_pass j)
+      → listing ≡ listing_of l q → IsOfRun l.first E q → inside E script_pass ≡ Nothing
       → ((j : Irp) → dones E j ≡ dones s.run j) → ((n : IrpId) → q.lives n ≡ s.queue.lives n)
       → Keeps l (record kept { machine = machine; listing = listing }) (record s { run = E; queue = q })
-  keeps_run machine listing E q a same is queue outside owed over lives = record {
+  keeps_run machine listing E q a same is queue outside over lives = record {
     agrees = a;
     size = same ∙ k.size;
+    few = k.few;
     listing = is;
     queue = queue;
     outside = outside;
     told = λ i none. k.told i (sym (over i) ∙ none);
-    claims = λ n in_range. k.claims n in_range ∙ sym (owed (present_of s n)) ∙ ap (owes E script_pass) (sym (still n));
     statuses = λ n in_range. k.statuses n in_range ∙ ap (status_of s.completed) (sym (still n));
-    claims_size = k.claims_size;
     statuses_size = k.statuses_size;
   }
     where
@@ -192,7 +190,6 @@ module _ (l : Limits) (kept : Keeping) (s : Script) (k : Keeps l kept s) where
     plainly = sym entries_are;
     steps = refl;
     first = refl;
-    owed = λ j. refl;
     over = λ j. refl;
   }
 
@@ -252,7 +249,6 @@ module _ (l : Limits) (kept : Keeping) (s : Script) (k : Keeps l kept s) where
             steps = ap (λ j. after_steps (removal_steps peek here.later) (next_step h.run (Disarm j))) (sym name_is)
                 ∙ sym (ap (λ ks. after_steps ks h.run) (here.steps ∙ ap (λ b. Disarm here.entry.irp ∷ cond b (removal_steps peek here.later) []) marked)) ∙ h.steps;
             first = sym (here.first ∙ ap (λ b. cond b (first_unmarked peek here.later) (Some here.entry.irp)) marked) ∙ h.first;
-            owed = h.owed;
             over = h.over;
           }
 
@@ -278,7 +274,7 @@ module _ (l : Limits) (kept : Keeping) (s : Script) (k : Keeps l kept s) where
             subst KeepsAt steps (keeps_run new listing (next_step h.run (Disarm i)) q a same (without_i ∙ ap (removed n) k.listing ∙ listing-removed l s.queue i refl present)
                 (subst IsQueue (ap F (sym one_found)) (queue_hit h.run s.queue h.queue i))
                 ((went machine h.run h.at h.goes new (Disarm i) a (same ∙ sym size_now)).at ∙ ap (inside_after h.at (Disarm i)) one_found ∙ after_hit h.at i)
-                h.owed h.over (λ j. refl)),
+                h.over (λ j. refl)),
           )
 
     -- none is left
@@ -290,7 +286,7 @@ module _ (l : Limits) (kept : Keeping) (s : Script) (k : Keeps l kept s) where
         let KeepsAt : List Made → Type 0 = λ E. Keeps l (record kept { machine = new }) (record s { run = E }) in (
           doing (removal_steps peek s.queue.entries) (event.RemoveNext peek None) s,
           removes_next peek None (sym (sym h.first ∙ none.1)),
-          subst KeepsAt steps (keeps_run new kept.listing (next_step h.run End) s.queue a same k.listing (queue_end h.run s.queue h.queue) (rw same_pass-refl refl) h.owed h.over (λ j. refl)),
+          subst KeepsAt steps (keeps_run new kept.listing (next_step h.run End) s.queue a same k.listing (queue_end h.run s.queue h.queue) (rw same_pass-refl refl) h.over (λ j. refl)),
         )
 
   -- a removal of one IRP
@@ -311,18 +307,18 @@ module _ (l : Limits) (kept : Keeping) (s : Script) (k : Keeps l kept s) where
         removes i (omega (arith, known, ap (λ (n : Size). n.irps) k.size)) (sym unmarked),
         subst KeepsAt steps (keeps_run new listing (next_step s.run (Disarm i)) q a same (without_i ∙ ap (removed i.irp) k.listing ∙ listing-removed l s.queue i life present)
             (subst IsQueue (ap F (sym one_found)) (queue_hit s.run s.queue k.queue i))
-            ((went kept.machine s.run Nothing (starts l kept s k) new (Disarm i) a same).at ∙ ap (inside_after Nothing (Disarm i)) one_found) (λ j. refl) (λ j. refl) (λ j. refl)),
+            ((went kept.machine s.run Nothing (starts l kept s k) new (Disarm i) a same).at ∙ ap (inside_after Nothing (Disarm i)) one_found) (λ j. refl) (λ j. refl)),
       )
 
   none_removed : (i : Irp) → number i < (size_of kept.machine).irps → has_unmarked s.queue.entries i ≡ false → (E : List Made) → E ≡ after_steps (remove_steps i s.queue.entries) s.run
-      → (new : MachineState) → Agrees new E → size_of new ≡ size_of kept.machine → IsOfRun l.first E s.queue → inside E script_pass ≡ Nothing → ((j : Irp) → owes E script_pass j ≡ owes s.run script_pass j)
+      → (new : MachineState) → Agrees new E → size_of new ≡ size_of kept.machine → IsOfRun l.first E s.queue → inside E script_pass ≡ Nothing
       → ((j : Irp) → dones E j ≡ dones s.run j)
       → (t : Script) × Calls l s (Remove i) NoIrp t × Keeps l (record kept { machine = new }) t
-  none_removed i known marked E steps new a same queue outside owed over =
+  none_removed i known marked E steps new a same queue outside over =
       let KeepsAt : List Made → Type 0 = λ F. Keeps l (record kept { machine = new }) (record s { run = F }) in (
         doing (remove_steps i s.queue.entries) (event.Remove i false) s,
         removes_none i (omega (arith, known, ap (λ (n : Size). n.irps) k.size)) (sym marked),
-        subst KeepsAt steps (keeps_run new kept.listing E s.queue a same k.listing queue outside owed over (λ j. refl)),
+        subst KeepsAt steps (keeps_run new kept.listing E s.queue a same k.listing queue outside over (λ j. refl)),
       )
 
   -- of an IRP that is claimed
@@ -340,7 +336,7 @@ module _ (l : Limits) (kept : Keeping) (s : Script) (k : Keeps l kept s) where
       let IsQueue : List Made → Type 0 = λ E. IsOfRun l.first E s.queue in
       let queue : IsOfRun l.first (next_step s.run (Disarm i)) s.queue = subst IsQueue (ap F (sym zero_found)) (queue_miss s.run s.queue k.queue i gone) in
       none_removed i known unmarked (next_step (next_step s.run (Disarm i)) End) (rw (unmarked, marked) refl) new a same
-      (queue_end (next_step s.run (Disarm i)) s.queue queue) (rw same_pass-refl refl) (λ j. refl) (λ j. refl)
+      (queue_end (next_step s.run (Disarm i)) s.queue queue) (rw same_pass-refl refl) (λ j. refl)
 
   -- of one that isn't listed in this life
   pub unlisted_keeps : (i : Irp) → number i < (size_of kept.machine).irps → (same_irp (present_of s i.irp) i && is_listed kept.listing.entries i.irp) ≡ false → (new : MachineState)
@@ -351,7 +347,7 @@ module _ (l : Limits) (kept : Keeping) (s : Script) (k : Keeps l kept s) where
       let marks = marked_is s.run s.queue.entries k.queue.marks i in
       let unmarked : has_unmarked s.queue.entries i ≡ false = marks.0 ∙ rw nowhere refl in
       let marked : has_marked s.queue.entries i ≡ false = marks.1 ∙ rw nowhere refl in
-      none_removed i known unmarked (next_step s.run End) (rw (unmarked, marked) refl) new a same (queue_end s.run s.queue k.queue) (rw same_pass-refl refl) (λ j. refl) (λ j. refl)
+      none_removed i known unmarked (next_step s.run End) (rw (unmarked, marked) refl) new a same (queue_end s.run s.queue k.queue) (rw same_pass-refl refl) (λ j. refl)
     where
       no_entry : (b : Bool) → has_entry s.queue.entries i ≡ b → b ≡ false
       no_entry false e = refl

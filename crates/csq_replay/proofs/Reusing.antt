@@ -13,21 +13,21 @@ use Rattle.irp_core.specs.declared.step.Standing.{Standing}
 use Rattle.irp_core.specs.declared.step.Standing.TheVariants.{Home, Waiting, Owed, Held, Finished}
 use Rattle.irp_core.specs.Steps.{Irp, same_id}
 use Rattle.irp_core.specs.Words.{was_armed}
-use Rattle.irp_core.specs.Owners.{owes, listed, dones}
+use Rattle.irp_core.specs.Owners.{listed, dones}
 use Rattle.irp_core.specs.Lives.{last_life}
 use Rattle.irp_core.specs.MachineState.{MachineState, Agrees, size_of}
 use Rattle.irp_core.proofs.Names.{same_id-eq, same_id-ne, same_pass-refl}
 use Rattle.irp_core.proofs.Rows.{Row}
 use Rattle.irp_core.proofs.Owning.{stands, done_gone}
-use Rattle.irp_core.proofs.Lives.{away, unborn_home}
+use Rattle.irp_core.proofs.Lives.{unborn_home}
 use Rattle.csq_list.specs.Searches.{is_listed}
 use Rattle.csq_list.specs.Listing.{Listing, renewed}
 use Rattle.csq_words.specs.declared.views.Event.TheVariants as event
 use Rattle.csq_words.specs.Queue.{Limits}
 use Rattle.csq_words.proofs.Listings.{listing-renewed}
-use Rattle.csq_replay.specs.declared.call.Call.TheVariants.{Reuse}
-use Rattle.csq_replay.specs.declared.call.Refusal.TheVariants.{NotCompleted, LivesSpent}
-use Rattle.csq_replay.specs.declared.call.Reply.TheVariants.{Begun, Refused}
+use Rattle.csq_replay.specs.declared.script.call.Call.TheVariants.{Reuse}
+use Rattle.csq_replay.specs.declared.script.call.Refusal.TheVariants.{NotCompleted, LivesSpent}
+use Rattle.csq_replay.specs.declared.script.call.Reply.TheVariants.{Begun, Refused}
 use Rattle.csq_replay.specs.Calls.{Script, script_pass, script_size, present_of, life_after, status_of, next_step, after_reuse, Calls}
 use Rattle.csq_replay.specs.Calls.Calls.{reuses, not_completed, lives_spent}
 use Rattle.csq_replay.specs.Drivers.{Keeping, Keeps}
@@ -92,16 +92,10 @@ module _ (l : Limits) (kept : Keeping) (s : Script) (k : Keeps l kept s) (n : Ir
       abbrev next : Irp
       next = record { irp = n; life = life_after s n }
 
-      later : s.queue.lives n < (life_after s n).0
-      later = omega arith
-
       unborn : dones s.run next ≡ []
       unborn =
           let now = k.queue.lives n in
           (unborn_home (script_size l) s.run (run_for l kept s k) next (omega (arith, now))).dones_are
-
-      unowed : owes s.run script_pass next ≡ false
-      unowed = let now = k.queue.lives n in ((away (script_size l) s.run (run_for l kept s k) next (λ h. omega (arith, now, h))).owner script_pass).0
 
       -- each IRP's present life afterwards
       abbrev at_life : IrpId → ℕ → Irp
@@ -114,13 +108,6 @@ module _ (l : Limits) (kept : Keeping) (s : Script) (k : Keeps l kept s) (n : Ir
 
       there_now : (m : IrpId) → same_id n m ≡ false → present_of (after_reuse n s) m ≡ present_of s m
       there_now m e = ap (λ b. at_life m (cond b (s.queue.lives m + 1) (s.queue.lives m))) e
-
-      owed_now : (m : IrpId) (b : Bool) → same_id n m ≡ b → owes s.run script_pass (present_of s m) ≡ owes s.run script_pass (present_of (after_reuse n s) m)
-      owed_now m true e =
-          let same : n ≡ m = same_id-eq n m e in
-          ap (λ x. owes s.run script_pass (present_of s x)) (sym same) ∙ ((done_gone (script_size l) s.run (run_for l kept s k) (present_of s n) over).1 script_pass).0
-          ∙ sym (ap (owes s.run script_pass) (here_now m e) ∙ unowed)
-      owed_now m false e = ap (owes s.run script_pass) (sym (there_now m e))
 
       status_now : (m : IrpId) → m.0 < l.irps → (b : Bool) → same_id n m ≡ b → slice_index_or (slice_set kept.statuses n.0 None) m.0 None ≡ status_of s.completed (present_of (after_reuse n s) m)
       status_now m in_range true e =
@@ -138,13 +125,12 @@ module _ (l : Limits) (kept : Keeping) (s : Script) (k : Keeps l kept s) (n : Ir
         record {
           agrees = a;
           size = same ∙ k.size;
+          few = k.few;
           listing = is ∙ ap (renewed n) k.listing ∙ listing-renewed l s.queue n (sound_lives (script_size l) s.run (run_for l kept s k) s.queue k.queue);
           queue = queue_renew (script_size l) s.run (run_for l kept s k) s.queue k.queue n (life_after s n);
           outside = rw same_pass-refl refl;
           told = k.told;
-          claims = λ m in_range. k.claims m in_range ∙ owed_now m (same_id n m) refl;
           statuses = λ m in_range. ap (λ x. slice_index_or x m.0 None) told ∙ status_now m in_range (same_id n m) refl;
-          claims_size = k.claims_size;
           statuses_size = ap length told ∙ length-set kept.statuses n.0 None ∙ k.statuses_size;
         },
       )

@@ -8,8 +8,8 @@ use Rattle.irp_core.specs.Texts.{irp_text}
 use Rattle.csq_list.specs.declared.entry.Place.{Place}
 use Rattle.csq_list.specs.declared.entry.Place.TheVariants.{Back, Front}
 use Rattle.csq_list.specs.declared.entry.Peek.TheVariants.{Any, File}
-use Rattle.csq_replay.specs.declared.call.Call.{Call}
-use Rattle.csq_replay.specs.declared.call.Call.TheVariants.{Insert, Next, Remove, Mark, Routine, Cancel, Complete, Close, Cleanup, Flag, Status, Reuse}
+use Rattle.csq_replay.specs.declared.script.call.Call.{Call}
+use Rattle.csq_replay.specs.declared.script.call.Call.TheVariants.{Insert, Next, Remove, Mark, Routine, Cancel, Complete, Close, Cleanup, Flag, Status, Reuse}
 use Rattle.csq_replay.specs.Pieces.{words_of, IsShort}
 use Rattle.csq_replay.specs.StepLine.{IsNameWord}
 

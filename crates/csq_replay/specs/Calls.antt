@@ -27,12 +27,12 @@ use Rattle.csq_words.specs.declared.views.Event.{Event}
 use Rattle.csq_words.specs.declared.views.Event.TheVariants as event
 use Rattle.csq_words.specs.Queue.{Queued, QueueState, Limits, empty_queue, current, has_marked, has_unmarked, after_event}
 use Rattle.csq_words.specs.History.{MayCome}
-use Rattle.csq_replay.specs.declared.call.Call.{Call}
-use Rattle.csq_replay.specs.declared.call.Call.TheVariants.{Insert, Next, Remove, Mark, Routine, Cancel, Complete, Close, Cleanup, Flag, Status, Reuse}
-use Rattle.csq_replay.specs.declared.call.Refusal.TheVariants.{UnknownIrp, UnknownFile, NoClaim, NotHeld, StatusPending, Stale, NotCompleted, LivesSpent}
-use Rattle.csq_replay.specs.declared.call.Reply.{Reply}
-use Rattle.csq_replay.specs.declared.call.Reply.TheVariants.{Pending, Cancelled, InsertRefused, Removed, NoIrp, Claimed, Unclaimed, Completed, CancelAnswered, Closed, Cleaned, Unset, Begun, Refused}
-use Rattle.csq_replay.specs.declared.call.Reply.TheVariants as reply
+use Rattle.csq_replay.specs.declared.script.call.Call.{Call}
+use Rattle.csq_replay.specs.declared.script.call.Call.TheVariants.{Insert, Next, Remove, Mark, Routine, Cancel, Complete, Close, Cleanup, Flag, Status, Reuse}
+use Rattle.csq_replay.specs.declared.script.call.Refusal.TheVariants.{UnknownIrp, UnknownFile, NoClaim, NotHeld, StatusPending, Stale, NotCompleted, LivesSpent}
+use Rattle.csq_replay.specs.declared.script.call.Reply.{Reply}
+use Rattle.csq_replay.specs.declared.script.call.Reply.TheVariants.{Pending, Cancelled, InsertRefused, Removed, NoIrp, Claimed, Unclaimed, Completed, CancelAnswered, Closed, Cleaned, Unset, Begun, Refused}
+use Rattle.csq_replay.specs.declared.script.call.Reply.TheVariants as reply
 
 -- the one pass of a script
 abbrev pub script_pass : PassId
@@ -134,6 +134,10 @@ file_of _ = None
 abbrev pub after_mark : Irp → Script → Script
 after_mark i s = doing (step.Flag i ∷ step.Take i ∷ []) (event.FlagSeen i) s
 
+-- the script after the cancel routine of IRP n, and its completion
+abbrev pub after_routine : IrpId → Script → Script
+after_routine n s = completing (present_of s n) CANCELLED (doing (step.Out (present_of s n) ∷ []) (event.Out (present_of s n)) s)
+
 -- the script after a reuse
 abbrev pub after_reuse : IrpId → Script → Script
 after_reuse n s = doing (step.Renew (present_of s n) ∷ []) (event.Reuse n (life_after s n)) s
@@ -160,8 +164,7 @@ pub data Calls (l : Limits) (s : Script) : Call → Reply → Script → Type 0 
       → Calls l s (Mark i) Unclaimed (after_mark i s)
   is_stale : (c : Call) (i : Irp) → cancelled_life c ≡ Some i → number i < l.irps → ¬ IsNow s i → Calls l s c (Refused (Stale (life_now s i.irp))) s
   runs_routine : (n : IrpId) → n.0 < l.irps → owes s.run script_pass (present_of s n) ≡ true → MayCome l s.queue (event.Out (present_of s n))
-      → Calls l s (Routine n) (Completed CANCELLED)
-      (completing (present_of s n) CANCELLED (doing (step.Out (present_of s n) ∷ []) (event.Out (present_of s n)) s))
+      → Calls l s (Routine n) (Completed CANCELLED) (after_routine n s)
   has_no_claim : (n : IrpId) → n.0 < l.irps → owes s.run script_pass (present_of s n) ≡ false → Calls l s (Routine n) (Refused NoClaim) s
   completes : (n : IrpId) (status : NtStatus) → n.0 < l.irps → holds s.run script_pass (present_of s n) ≡ true → status ≢ PENDING
       → Calls l s (Complete n status) (Completed status) (completing (present_of s n) status s)

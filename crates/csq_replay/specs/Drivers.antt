@@ -1,5 +1,5 @@
 -- What a driver keeps of its script: the private side of its contracts.
-use Rattle.std.specs.Prelude.{◌≡◌, ℕ, ◌<◌, Bool, false, not, List, [], ◌∷◌, length, Option, Some, None, slice_index_or}
+use Rattle.std.specs.Prelude.{◌≡◌, ℕ, ◌<◌, ◌≤◌, true, not, List, [], ◌∷◌, length, Option, Some, None, slice_index_or}
 use Rattle.irp_core.specs.declared.ids.IrpId.{IrpId}
 use Rattle.irp_core.specs.declared.status.NtStatus.{NtStatus}
 use Rattle.irp_core.specs.declared.step.Made.{Made}
@@ -7,16 +7,14 @@ use Rattle.irp_core.specs.declared.step.Inside.TheVariants.{Nothing}
 use Rattle.irp_core.specs.Steps.{Irp}
 use Rattle.irp_core.specs.Words.{armed, flagged, was_armed}
 use Rattle.irp_core.specs.Inside.{inside}
-use Rattle.irp_core.specs.Owners.{owes, listed, dones}
+use Rattle.irp_core.specs.Owners.{owes, holds, listed, dones}
 use Rattle.irp_core.specs.Lives.{present_life}
 use Rattle.irp_core.specs.MachineState.{MachineState, Agrees, size_of}
 use Rattle.csq_list.specs.Listing.{Listing}
 use Rattle.csq_words.specs.Queue.{Queued, QueueState, Limits, listing_of, has_irp, has_entry}
-use Rattle.csq_replay.specs.declared.call.Call.{Call}
-use Rattle.csq_replay.specs.declared.call.Reply.{Reply}
-use Rattle.csq_replay.specs.declared.driver.Driver.{Driver}
-use Rattle.csq_replay.specs.declared.replay.Handling.{Handling}
-use Rattle.csq_replay.specs.declared.replay.Handling.TheVariants.{GoesOn, Stops}
+use Rattle.csq_replay.specs.declared.script.call.Call.{Call}
+use Rattle.csq_replay.specs.declared.script.call.Reply.{Reply}
+use Rattle.csq_replay.specs.declared.script.driver.Driver.{Driver}
 use Rattle.csq_replay.specs.Calls.{Script, script_pass, script_size, present_of, status_of, Calls, Does}
 
 -- each entry is marked where its routine is gone
@@ -32,34 +30,40 @@ pub record IsOfRun (first : ℕ) (E : List Made) (q : QueueState) : Type 0 where
   pub flags : (i : Irp) → has_irp q.flags i ≡ flagged E i
   pub marks : AreMarked E q.entries
 
--- what a driver keeps: its machine, what its list means, whether each IRP is owed in its present life, and its status in that life
+-- what a driver keeps: its machine, what its list means, and the status of each IRP in its present life
 pub record Keeping : Type 0 where
   pub machine : MachineState
   pub listing : Listing
-  pub claims : List Bool
   pub statuses : List (Option NtStatus)
 
 -- what a driver keeps, by what its list means
 abbrev pub keeping : {L A : Type 0} → (L → Listing) → Driver L A → Keeping
-keeping listing driver = record { machine = driver.machine; listing = listing driver.list; claims = driver.claims.items; statuses = driver.statuses.items }
+keeping listing driver = record { machine = driver.machine; listing = listing driver.list; statuses = driver.statuses.items }
 
 -- so it keeps the script s
 pub record Keeps (l : Limits) (kept : Keeping) (s : Script) : Type 0 where
   pub agrees : Agrees kept.machine s.run
   pub size : size_of kept.machine ≡ script_size l
+  pub few : l.irps ≤ 1024
   pub listing : kept.listing ≡ listing_of l s.queue
   pub queue : IsOfRun l.first s.run s.queue
   pub outside : inside s.run script_pass ≡ Nothing
   -- only what was completed has a status
   pub told : (i : Irp) → dones s.run i ≡ [] → status_of s.completed i ≡ None
-  pub claims : (n : IrpId) → n.0 < l.irps → slice_index_or kept.claims n.0 false ≡ owes s.run script_pass (present_of s n)
   pub statuses : (n : IrpId) → n.0 < l.irps → slice_index_or kept.statuses n.0 None ≡ status_of s.completed (present_of s n)
-  pub claims_size : length kept.claims ≡ l.irps
   pub statuses_size : length kept.statuses ≡ l.irps
 
 -- it keeps some script
 abbrev pub IsKeeping : Keeping → Type 0
 IsKeeping kept = (l : Limits) × (s : Script) × Keeps l kept s
+
+-- it keeps some script in which the pass owes IRP n
+abbrev pub IsOwing : Keeping → IrpId → Type 0
+IsOwing kept n = (l : Limits) × (s : Script) × Keeps l kept s × (n.0 < l.irps) × (owes s.run script_pass (present_of s n) ≡ true)
+
+-- it keeps some script in which the pass holds IRP n
+abbrev pub IsHolding : Keeping → IrpId → Type 0
+IsHolding kept n = (l : Limits) × (s : Script) × Keeps l kept s × (n.0 < l.irps) × (holds s.run script_pass (present_of s n) ≡ true)
 
 -- whatever script was kept, it went on by this call
 abbrev pub Called : Keeping → Call → Reply → Keeping → Type 0
@@ -68,9 +72,3 @@ Called old c r new = (l : Limits) (s : Script) → Keeps l old s → (t : Script
 -- the same, where the call may be made of others
 abbrev pub Did : Keeping → Call → Reply → Keeping → Type 0
 Did old c r new = (l : Limits) (s : Script) → Keeps l old s → (t : Script) × Does l s c r t × Keeps l new t
-
--- where a line's handling left the driver
-abbrev pub LeavesDriver : Limits → Handling → Keeping → Option Script → Type 0
-LeavesDriver l GoesOn kept (Some s) = Keeps l kept s
-LeavesDriver l Stops kept None = Unit {0}
-LeavesDriver l _ kept _ = ⊥

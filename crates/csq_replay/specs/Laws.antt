@@ -1,17 +1,18 @@
 -- What holds of every schedule, and of every script.
 use Rattle.std.specs.Prelude.{◌≡◌, ◌⊎◌, ℕ, Bool, List, [], ◌∷◌, ◌++◌, Some, IsTrue}
 use Rattle.irp_core.specs.Runs.{Size}
-use Rattle.csq_replay.specs.declared.answer.Ended.{Ended}
-use Rattle.csq_replay.specs.declared.answer.Ended.TheVariants.{AllHandled}
+use Rattle.csq_replay.specs.declared.lines.answer.Ended.{Ended}
+use Rattle.csq_replay.specs.declared.lines.answer.Ended.TheVariants.{AllHandled}
 use Rattle.csq_replay.specs.Pieces.{lines_of}
-use Rattle.csq_replay.specs.Schedule.{IsSkipped, IsScheduleAnswer}
+use Rattle.csq_replay.specs.Lines.{IsSkipped}
+use Rattle.csq_replay.specs.Schedule.{IsScheduleAnswer}
 use Rattle.csq_replay.specs.CallLine.{IsCallLine}
 use Rattle.irp_core.specs.declared.status.NtStatus.{NtStatus}
 use Rattle.irp_core.specs.Steps.{Irp}
 use Rattle.irp_core.specs.Owners.{holds}
 use Rattle.csq_words.specs.Queue.{Limits, has_irp, has_entry}
-use Rattle.csq_replay.specs.declared.call.Call.{Call}
-use Rattle.csq_replay.specs.declared.call.Reply.{Reply}
+use Rattle.csq_replay.specs.declared.script.call.Call.{Call}
+use Rattle.csq_replay.specs.declared.script.call.Reply.{Reply}
 use Rattle.csq_replay.specs.Calls.{Script, script_pass, new_script, status_of, Does}
 use Rattle.csq_replay.specs.ScriptAnswer.{IsScriptAnswer, closing_lines}
 

@@ -1,11 +1,13 @@
 pub mod Pieces
 pub mod StepLine
 pub mod Inputs
+pub mod Lines
 pub mod Schedule
 pub mod Replays
 pub mod Laws
 pub mod ReplyText
 pub mod CallLine
 pub mod Calls
+pub mod Replies
 pub mod ScriptAnswer
 pub mod Drivers

@@ -2,13 +2,11 @@
 use Rattle.std.specs.Prelude.{List, ℕ, ◌++◌, true, false, Option, Some, None, codes, decimal}
 use Rattle.irp_core.specs.declared.status.NtStatus.{NtStatus}
 use Rattle.irp_core.specs.Texts.{irp_text, life_text, status_text}
-use Rattle.csq_list.specs.declared.refusals.InsertStatus.{InsertStatus}
-use Rattle.csq_list.specs.declared.refusals.InsertStatus.TheVariants as insert
-use Rattle.csq_list.specs.Causes.{nt_of}
-use Rattle.csq_replay.specs.declared.call.Refusal.{Refusal}
-use Rattle.csq_replay.specs.declared.call.Refusal.TheVariants.{UnknownIrp, UnknownFile, NoClaim, NotHeld, StatusPending, Stale, NotCompleted, LivesSpent}
-use Rattle.csq_replay.specs.declared.call.Reply.{Reply}
-use Rattle.csq_replay.specs.declared.call.Reply.TheVariants.{Pending, Cancelled, InsertRefused, Removed, NoIrp, Claimed, Unclaimed, Completed, CancelAnswered, Closed, Cleaned, Flag, Unset, Status, Begun, Refused}
+use Rattle.csq_list.specs.Causes.{name_of, nt_of}
+use Rattle.csq_replay.specs.declared.script.call.Refusal.{Refusal}
+use Rattle.csq_replay.specs.declared.script.call.Refusal.TheVariants.{UnknownIrp, UnknownFile, NoClaim, NotHeld, StatusPending, Stale, NotCompleted, LivesSpent}
+use Rattle.csq_replay.specs.declared.script.call.Reply.{Reply}
+use Rattle.csq_replay.specs.declared.script.call.Reply.TheVariants.{Pending, Cancelled, InsertRefused, Removed, NoIrp, Claimed, Unclaimed, Completed, CancelAnswered, Closed, Cleaned, Flag, Unset, Status, Begun, Refused}
 
 -- the name of a refusal, with the present life where another one was named
 abbrev pub refusal_name : Refusal → List ℕ
@@ -21,13 +19,6 @@ refusal_name (Stale g) = codes "Stale " ++ life_text g
 refusal_name NotCompleted = codes "NotCompleted"
 refusal_name LivesSpent = codes "LivesSpent"
 
-abbrev pub insert_status_name : InsertStatus → List ℕ
-insert_status_name insert.UnknownIrp = codes "UnknownIrp"
-insert_status_name insert.UnknownFile = codes "UnknownFile"
-insert_status_name insert.NotHome = codes "NotHome"
-insert_status_name insert.FileClosed = codes "FileClosed"
-insert_status_name insert.Full = codes "Full"
-
 -- a space and the status, where a driver answers one
 abbrev pub nt_text : Option NtStatus → List ℕ
 nt_text None = codes ""
@@ -36,7 +27,7 @@ nt_text (Some status) = codes " " ++ status_text status
 abbrev pub reply_text : Reply → List ℕ
 reply_text Pending = codes "pending"
 reply_text Cancelled = codes "cancelled"
-reply_text (InsertRefused cause) = codes "refused " ++ (insert_status_name cause ++ nt_text (nt_of cause))
+reply_text (InsertRefused cause) = codes "refused " ++ (name_of cause ++ nt_text (nt_of cause))
 reply_text (Removed i) = codes "irp " ++ irp_text i
 reply_text NoIrp = codes "none"
 reply_text Claimed = codes "claimed"

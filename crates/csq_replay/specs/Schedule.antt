@@ -1,7 +1,6 @@
 -- What a schedule is answered.
 use Rattle.std.specs.Prelude.{◌≡◌, ℕ, zero, suc, ◌+◌, ◌<◌, ◌≤◌, ◌==◌, ◌⊎◌, Bool, false, List, [], ◌∷◌, ◌++◌, map, length, codes, decimal, Option, Some, None, if◌then◌else◌}
 use Rattle.std.specs.Option.{option_map_or}
-use Rattle.std.specs.Io.KnownBytes.{Appends}
 use Rattle.irp_core.specs.declared.step.Kind.{Kind}
 use Rattle.irp_core.specs.declared.step.Kind.TheVariants.{Disarm, Take}
 use Rattle.irp_core.specs.declared.step.Made.{Made}
@@ -17,10 +16,8 @@ use Rattle.irp_core.specs.Completion.{IsPlace}
 use Rattle.irp_core.specs.Runs.{Size, IsRun, IsAtRest}
 use Rattle.irp_core.specs.Refusals.{IsFirstCause}
 use Rattle.irp_core.specs.Texts.{name_text, pass_text, place_text, refusal_text}
-use Rattle.csq_replay.specs.declared.answer.Ended.{Ended}
-use Rattle.csq_replay.specs.declared.answer.Ended.TheVariants.{AllHandled, Stopped}
-use Rattle.csq_replay.specs.Inputs.{input_limit, ReadsInput}
-use Rattle.csq_replay.specs.Pieces.{lines_of}
+use Rattle.csq_replay.specs.declared.lines.answer.Ended.{Ended}
+use Rattle.csq_replay.specs.Lines.{IsWithinLine, IsSkipped, of_line, IsAnswer, RepliesTo}
 use Rattle.csq_replay.specs.StepLine.{IsStepLine}
 
 -- a step that was made, and the number of its line
@@ -31,19 +28,6 @@ pub record Numbered : Type 0 where
 -- the run of these steps
 abbrev pub run_of : List Numbered → List Made
 run_of W = map (λ w. w.step) W
-
--- what is said of the nth line
-abbrev pub of_line : ℕ → List ℕ → List ℕ
-of_line n text = codes "line " ++ (decimal n ++ (codes " " ++ text))
-
--- a line may have so many bytes
-abbrev pub IsWithinLine : List ℕ → Type 0
-IsWithinLine line = length line ≤ 64
-
--- an empty line, or one that begins with #
-abbrev pub IsSkipped : List ℕ → Type 0
-IsSkipped [] = Unit {0}
-IsSkipped (byte ∷ more) = byte ≡ 35
 
 -- after the steps W the nth line is answered this text, and W grows to the steps with which the handling goes on, if it does
 pub data AnswersLine (size : Size) (W : List Numbered) (n : ℕ) (line : List ℕ) : List ℕ → Option (List Numbered) → Type 0 where
@@ -101,22 +85,10 @@ abbrev pub IsClosing : Size → Bool → List Numbered → List ℕ → Type 0
 IsClosing size claims W text = (irps : List ℕ) × (rest : List ℕ) × AreIrpLines size.first (run_of W) size.irps irps × IsRestLine (run_of W) rest
     × (text ≡ irps ++ (rest ++ (if claims then claim_lines W else [])))
 
--- after the steps W these lines, from the nth on, are answered this text
-pub data AnswersLines (size : Size) (claims : Bool) : List Numbered → ℕ → List (List ℕ) → List ℕ → Ended → Type 0 where
-  all_handled : (W : List Numbered) (n : ℕ) (text : List ℕ) → IsClosing size claims W text → AnswersLines size claims W n [] text AllHandled
-  goes_on : (W more : List Numbered) (n : ℕ) (line : List ℕ) (lines : List (List ℕ)) (text rest : List ℕ) (ended : Ended)
-      → AnswersLine size W n line text (Some more) → AnswersLines size claims more (n + 1) lines rest ended
-      → AnswersLines size claims W n (line ∷ lines) (text ++ rest) ended
-  stops : (W : List Numbered) (n : ℕ) (line : List ℕ) (lines : List (List ℕ)) (text : List ℕ)
-      → AnswersLine size W n line text None → AnswersLines size claims W n (line ∷ lines) text Stopped
-
 -- a schedule is answered this text
-pub data IsScheduleAnswer (size : Size) (claims : Bool) (input : List ℕ) : List ℕ → Ended → Type 0 where
-  too_long_input : input_limit < length input → IsScheduleAnswer size claims input (codes "input too long\n") Stopped
-  answered : (text : List ℕ) (ended : Ended) → length input ≤ input_limit → AnswersLines size claims [] 1 (lines_of input) text ended
-      → IsScheduleAnswer size claims input text ended
+abbrev pub IsScheduleAnswer : Size → Bool → List ℕ → List ℕ → Ended → Type 0
+IsScheduleAnswer size claims = IsAnswer (AnswersLine size) (IsClosing size claims) []
 
 -- of a reader and a writer that tell their bytes: a schedule was read, and its answer was written
 abbrev pub RepliesToSchedule : Size → Bool → Option (List ℕ) → Option (List ℕ) → Option (List ℕ) → Option (List ℕ) → Ended → Type 0
-RepliesToSchedule size claims unread left held holds ended =
-    (input : List ℕ) × (text : List ℕ) × ReadsInput unread left input × IsScheduleAnswer size claims input text ended × Appends held holds text
+RepliesToSchedule size claims = RepliesTo (IsScheduleAnswer size claims)

@@ -1,18 +1,18 @@
 -- What a script is answered.
-use Rattle.std.specs.Prelude.{ℕ, zero, suc, ◌+◌, ◌<◌, ◌≤◌, List, [], ◌∷◌, ◌++◌, filter, map, length, codes, Option, Some, None}
-use Rattle.std.specs.Io.KnownBytes.{Appends}
+use Rattle.std.specs.Prelude.{◌≡◌, ℕ, zero, suc, Bool, ◌+◌, ◌<◌, ◌≤◌, List, [], ◌∷◌, ◌++◌, filter, map, length, codes, Option, Some, None}
 use Rattle.irp_core.specs.declared.ids.IrpId.{IrpId}
+use Rattle.irp_core.specs.declared.step.Made.{Made}
 use Rattle.irp_core.specs.Owners.{owes, holds}
 use Rattle.irp_core.specs.Runs.{IsRun}
+use Rattle.irp_core.specs.Steps.{Irp}
 use Rattle.irp_core.specs.Texts.{irp_text}
 use Rattle.csq_words.specs.Queue.{Queued, Limits}
-use Rattle.csq_replay.specs.declared.answer.Ended.{Ended}
-use Rattle.csq_replay.specs.declared.answer.Ended.TheVariants.{AllHandled, Stopped}
-use Rattle.csq_replay.specs.declared.call.Call.{Call}
-use Rattle.csq_replay.specs.declared.call.Reply.{Reply}
-use Rattle.csq_replay.specs.Inputs.{input_limit, ReadsInput}
-use Rattle.csq_replay.specs.Pieces.{lines_of}
-use Rattle.csq_replay.specs.Schedule.{of_line, IsWithinLine, IsSkipped}
+use Rattle.csq_replay.specs.declared.lines.answer.Ended.{Ended}
+use Rattle.csq_replay.specs.declared.script.call.Call.{Call}
+use Rattle.csq_replay.specs.declared.script.call.Reply.{Reply}
+use Rattle.csq_replay.specs.declared.script.remains.Kept.{Kept}
+use Rattle.csq_replay.specs.declared.script.remains.Kept.TheVariants.{Held, Owed}
+use Rattle.csq_replay.specs.Lines.{of_line, IsWithinLine, IsSkipped, IsAnswer, RepliesTo}
 use Rattle.csq_replay.specs.CallLine.{IsCallLine}
 use Rattle.csq_replay.specs.ReplyText.{reply_text}
 use Rattle.csq_replay.specs.Calls.{Script, script_pass, script_size, new_script, present_of, Does}
@@ -36,37 +36,36 @@ left_line [] = codes "left none\n"
 left_line (i ∷ is) = codes "left" ++ (numbers (i ∷ is) ++ codes "\n")
 
 -- a line of this name, where there are any
-abbrev pub kept_line : List ℕ → List IrpId → List ℕ
-kept_line name [] = []
-kept_line name (i ∷ is) = name ++ (numbers (i ∷ is) ++ codes "\n")
+abbrev pub named_line : List ℕ → List IrpId → List ℕ
+named_line name [] = []
+named_line name (i ∷ is) = name ++ (numbers (i ∷ is) ++ codes "\n")
 
 -- so many IRPs, by rising number
 abbrev pub irps_below : ℕ → List IrpId
 irps_below zero = []
 irps_below (suc n) = irps_below n ++ record { 0 = n } ∷ []
 
--- the closing lines after s: IRPs are told by their numbers, each in its present life
-abbrev pub closing_lines : Limits → Script → List ℕ
-closing_lines l s = left_line (map (λ (e : Queued). e.irp.irp) s.queue.entries)
-    ++ (kept_line (codes "held") (filter (λ n. holds s.run script_pass (present_of s n)) (irps_below l.irps))
-    ++ kept_line (codes "owed") (filter (λ n. owes s.run script_pass (present_of s n)) (irps_below l.irps)))
+-- the pass keeps the IRP so
+abbrev pub is_kept : Kept → List Made → Irp → Bool
+is_kept Held E i = holds E script_pass i
+is_kept Owed E i = owes E script_pass i
 
--- after s these lines, from the nth on, are answered this text
-pub data AnswersCalls (l : Limits) : Script → ℕ → List (List ℕ) → List ℕ → Ended → Type 0 where
-  all_handled : (s : Script) (n : ℕ) → AnswersCalls l s n [] (closing_lines l s) AllHandled
-  goes_on : (s t : Script) (n : ℕ) (line : List ℕ) (lines : List (List ℕ)) (text rest : List ℕ) (ended : Ended)
-      → AnswersCall l s n line text (Some t) → AnswersCalls l t (n + 1) lines rest ended
-      → AnswersCalls l s n (line ∷ lines) (text ++ rest) ended
-  stops : (s : Script) (n : ℕ) (line : List ℕ) (lines : List (List ℕ)) (text : List ℕ)
-      → AnswersCall l s n line text None → AnswersCalls l s n (line ∷ lines) text Stopped
+abbrev pub kept_name : Kept → List ℕ
+kept_name Held = codes "held"
+kept_name Owed = codes "owed"
+
+-- the line of what the pass keeps so after s: IRPs are told by their numbers, each in its present life
+abbrev pub kept_line : Limits → Script → Kept → List ℕ
+kept_line l s kept = named_line (kept_name kept) (filter (λ n. is_kept kept s.run (present_of s n)) (irps_below l.irps))
+
+-- the closing lines after s
+abbrev pub closing_lines : Limits → Script → List ℕ
+closing_lines l s = left_line (map (λ (e : Queued). e.irp.irp) s.queue.entries) ++ (kept_line l s Held ++ kept_line l s Owed)
 
 -- a script is answered this text
-pub data IsScriptAnswer (l : Limits) (input : List ℕ) : List ℕ → Ended → Type 0 where
-  too_long_input : input_limit < length input → IsScriptAnswer l input (codes "input too long\n") Stopped
-  answered : (text : List ℕ) (ended : Ended) → length input ≤ input_limit → AnswersCalls l (new_script l) 1 (lines_of input) text ended
-      → IsScriptAnswer l input text ended
+abbrev pub IsScriptAnswer : Limits → List ℕ → List ℕ → Ended → Type 0
+IsScriptAnswer l = IsAnswer (AnswersCall l) (λ s text. text ≡ closing_lines l s) (new_script l)
 
 -- of a reader and a writer that tell their bytes: a script was read, and its answer was written
 abbrev pub RepliesToScript : Limits → Option (List ℕ) → Option (List ℕ) → Option (List ℕ) → Option (List ℕ) → Ended → Type 0
-RepliesToScript l unread left held holds ended =
-    (input : List ℕ) × (text : List ℕ) × ReadsInput unread left input × IsScriptAnswer l input text ended × Appends held holds text
+RepliesToScript l = RepliesTo (IsScriptAnswer l)

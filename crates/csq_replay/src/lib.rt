@@ -2,23 +2,15 @@
 //! and answered.
 #![tactic(auto)]
 
-mod answer;
-mod call;
-mod call_line;
-mod closing;
-mod driver;
 mod laws;
-mod pieces;
-mod remains;
-mod replay;
+mod lines;
 mod schedule;
 mod script;
-mod step_line;
 
-pub use answer::{Ended, MAX_INPUT, SimFault, exit_status};
 pub use laws::{
     a_schedule_has_one_answer, a_script_has_one_answer, each_inserted_irp_is_accounted_for,
 };
+pub use lines::answer::{Ended, MAX_INPUT, SimFault, exit_status};
 pub use schedule::answer_schedule;
 pub use script::answer_script;
 

@@ -1,62 +1,19 @@
 //! Schedules: steps of passes, replayed line by line.
-ghost use Rattle.std.specs.Prelude.{◌≡◌, ◌≢◌, [], ℕ, List, string_bytes, IfOk, IfErr, OnOk};
+ghost use Rattle.std.specs.Prelude.{◌≢◌, string_bytes, IfOk, IfErr};
 ghost use Rattle.std.specs.Io.KnownBytes.{Keeps};
 ghost use Rattle.irp_core.specs.Runs.{IsInLimits};
-ghost use Rattle.irp_core.specs.MachineState.{size_of};
-ghost use Rattle.csq_replay.specs.Schedule.{Numbered, AnswersLines, IsClosing, IsScheduleAnswer, RepliesToSchedule};
-ghost use Rattle.csq_replay.specs.Replays.{Follows, GrewBy};
-ghost use Rattle.csq_replay.specs.Pieces.{lines_of};
+ghost use Rattle.csq_replay.specs.Schedule.{IsScheduleAnswer, RepliesToSchedule};
 
-use crate::answer::{Ended, MAX_INPUT, SimFault, read_input, write_answer};
-use crate::closing::{close_irps, close_rest};
-use crate::pieces::split_line;
-use crate::replay::{Handling, Replay};
+mod closing;
+mod replay;
+mod step_line;
+
+use crate::lines::answer::{Ended, MAX_INPUT, SimFault, read_input, write_answer};
+use crate::lines::answer_lines;
+use crate::schedule::replay::Replay;
 use irp_core::Machine;
 use std::alloc::{AllocError, Allocator};
 use std::io::{Read, Write};
-
-/// The closing lines.
-fn close<A: Allocator>(
-    replay: &Replay<A>,
-    claims: bool,
-    text: &mut String<A>,
-) -> Result<(), AllocError>
-    ensures { OnOk result ((added : List ℕ) × GrewBy (string_bytes text.old) (string_bytes text.new) added
-        × ((W : List Numbered) → Follows replay.now W → IsClosing (size_of replay.now.machine) claims W added)) }
-{
-    close_irps(&replay.machine, text)?;
-    close_rest(&replay.machine, text)?;
-    if claims {
-        text.push_str(replay.claims.as_str())?;
-    }
-    Ok(())
-}
-
-/// Answers each line, one after the other, and closes.
-fn answer_lines<A: Allocator>(
-    replay: &mut Replay<A>,
-    claims: bool,
-    input: &[u8],
-    text: &mut String<A>,
-) -> Result<Ended, AllocError>
-    ensures { Follows replay.old [] → IfOk result (λ ended.
-        (added : List ℕ) × GrewBy (string_bytes text.old) (string_bytes text.new) added
-        × AnswersLines (size_of replay.old.machine) claims [] 1 (lines_of input.now) added ended) }
-{
-    let mut rest = input;
-    let mut number = 1;
-    'lines: while !rest.is_empty() {
-        let (line, after) = split_line(rest);
-        match replay.answer_line(number, line, text)? {
-            Handling::Stops => return Ok(Ended::Stopped),
-            Handling::GoesOn => {}
-        }
-        rest = after;
-        number += 1;
-    }
-    close(replay, claims, text)?;
-    Ok(Ended::AllHandled)
-}
 
 /// The answer to the bytes of a schedule.
 fn answer_input<A: Allocator + Copy>(
@@ -81,8 +38,9 @@ fn answer_input<A: Allocator + Copy>(
     let mut replay = Replay {
         machine,
         claims: String::new(alloc),
+        asks: claims,
     };
-    let ended = answer_lines(&mut replay, claims, input, &mut text)?;
+    let ended = answer_lines(&mut replay, input, &mut text)?;
     Ok((text, ended))
 }
 

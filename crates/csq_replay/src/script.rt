@@ -1,97 +1,70 @@
 //! Scripts: calls of one pass over a machine and a list, answered line by line.
-ghost use Rattle.std.specs.Prelude.{◌≡◌, ◌≢◌, ◌≤◌, ◌++◌, ℕ, List, Option, string_bytes, IfOk, IfErr, OnOk};
+ghost use Rattle.std.specs.Prelude.{◌≢◌, ◌≤◌, string_bytes, IfOk, IfErr};
 ghost use Rattle.std.specs.Io.KnownBytes.{Keeps as KeepsBytes};
 ghost use Rattle.csq_list.specs.Listing.{IsFresh};
-ghost use Rattle.csq_words.specs.Queue.{Limits, limits_of};
-ghost use Rattle.csq_replay.specs.Pieces.{lines_of};
-ghost use Rattle.csq_replay.specs.Replays.{GrewBy};
-ghost use Rattle.csq_replay.specs.Calls.{Script, new_script};
-ghost use Rattle.csq_replay.specs.Drivers.{IsKeeping, Keeps, LeavesDriver, keeping};
-ghost use Rattle.csq_replay.specs.ScriptAnswer.{AnswersCall, AnswersCalls, IsScriptAnswer, RepliesToScript, closing_lines};
+ghost use Rattle.csq_words.specs.Queue.{limits_of};
+ghost use Rattle.csq_replay.specs.ScriptAnswer.{IsScriptAnswer, RepliesToScript};
 
-use crate::answer::{Ended, MAX_INPUT, SimFault, read_input, write_answer};
-use crate::call_line::parse_call;
-use crate::driver::Driver;
-use crate::pieces::split_line;
-use crate::remains::{close_kept, close_left, write_held, write_owed};
-use crate::replay::{Handling, MAX_LINE, is_skipped};
+pub(crate) mod call;
+mod call_line;
+mod driver;
+mod remains;
+mod replies;
+
+use crate::lines::answer::{Ended, MAX_INPUT, SimFault, read_input, write_answer};
+use crate::lines::{Answerer, Handling, MAX_LINE, answer_lines, is_skipped};
+use crate::script::call_line::parse_call;
+use crate::script::driver::Driver;
+use crate::script::remains::{Kept, close_kept, close_left};
 use csq_list::PendingList;
 use std::alloc::{AllocError, Allocator};
 use std::io::{Read, Write};
 
-/// Answers the line of this number: makes its call, if it names one.
-fn answer_line<L: PendingList, A: Allocator>(
-    driver: &mut Driver<L, A>,
-    number: usize,
-    line: &[u8],
-    text: &mut String<A>,
-) -> Result<Handling, AllocError>
-    requires { IsKeeping (keeping L.listing driver.old) }
-    ensures { (l : Limits) (s : Script) → Keeps l (keeping L.listing driver.old) s → IfOk result (λ handling.
-        (added : List ℕ) × GrewBy (string_bytes text.old) (string_bytes text.new) added
-        × ((more : Option Script) × AnswersCall l s number line.now added more × LeavesDriver l handling (keeping L.listing driver.new) more)) }
-{
-    if line.len() > MAX_LINE {
-        writeln!(text, "line {number} too long")?;
-        return Ok(Handling::Stops);
-    }
-    if is_skipped(line) {
-        return Ok(Handling::GoesOn);
-    }
-    let Some(call) = parse_call(line) else {
-        writeln!(text, "line {number} malformed")?;
-        return Ok(Handling::Stops);
-    };
-    let reply = driver.answer(call);
-    writeln!(text, "{reply}")?;
-    Ok(Handling::GoesOn)
-}
+impl<L: PendingList, A: Allocator + Copy> Answerer<A> for Driver<L, A> {
+    ghost use Rattle.std.specs.Prelude.{◌≡◌};
+    ghost use Rattle.csq_words.specs.Queue.{Limits};
+    ghost use Rattle.csq_replay.specs.Calls.{Script};
+    ghost use Rattle.csq_replay.specs.Drivers.{Keeps, keeping};
+    ghost use Rattle.csq_replay.specs.ScriptAnswer.{AnswersCall, closing_lines};
 
-/// The closing lines.
-fn close<L: PendingList, A: Allocator + Copy>(
-    alloc: A,
-    driver: &Driver<L, A>,
-    text: &mut String<A>,
-) -> Result<(), AllocError>
-    requires { IsKeeping (keeping L.listing driver.now) }
-    ensures { OnOk result ((l : Limits) (s : Script) → Keeps l (keeping L.listing driver.now) s
-        → GrewBy (string_bytes text.old) (string_bytes text.new) (closing_lines l s)) }
-{
-    close_left(&driver.list, text)?;
-    let mut held = String::new(alloc);
-    write_held(driver, &mut held)?;
-    close_kept("held", held.as_str(), text)?;
-    let mut owed = String::new(alloc);
-    write_owed(driver, &mut owed)?;
-    close_kept("owed", owed.as_str(), text)?;
-    Ok(())
-}
+    ghost Kind = { Limits };
 
-/// Answers each line, one after the other, and closes.
-fn answer_lines<L: PendingList, A: Allocator + Copy>(
-    alloc: A,
-    driver: &mut Driver<L, A>,
-    input: &[u8],
-    text: &mut String<A>,
-) -> Result<Ended, AllocError>
-    requires { IsKeeping (keeping L.listing driver.old) }
-    ensures { (l : Limits) → Keeps l (keeping L.listing driver.old) (new_script l) → IfOk result (λ ended.
-        (added : List ℕ) × GrewBy (string_bytes text.old) (string_bytes text.new) added
-        × AnswersCalls l (new_script l) 1 (lines_of input.now) added ended) }
-{
-    let mut rest = input;
-    let mut number = 1;
-    'lines: while !rest.is_empty() {
-        let (line, after) = split_line(rest);
-        match answer_line(driver, number, line, text)? {
-            Handling::Stops => return Ok(Ended::Stopped),
-            Handling::GoesOn => {}
+    ghost State = { Script };
+
+    ghost stands = { λ driver l s. Keeps l (keeping L.listing driver) s };
+
+    ghost answers = { λ l s. AnswersCall l s };
+
+    ghost closes = { λ l s text. text ≡ closing_lines l s };
+
+    fn answer_line(
+        &mut self,
+        number: usize,
+        line: &[u8],
+        text: &mut String<A>,
+    ) -> Result<Handling, AllocError> {
+        if line.len() > MAX_LINE {
+            writeln!(text, "line {number} too long")?;
+            return Ok(Handling::Stops);
         }
-        rest = after;
-        number += 1;
+        if is_skipped(line) {
+            return Ok(Handling::GoesOn);
+        }
+        let Some(call) = parse_call(line) else {
+            writeln!(text, "line {number} malformed")?;
+            return Ok(Handling::Stops);
+        };
+        let reply = self.answer(call);
+        writeln!(text, "{reply}")?;
+        Ok(Handling::GoesOn)
     }
-    close(alloc, driver, text)?;
-    Ok(Ended::AllHandled)
+
+    fn close(&self, text: &mut String<A>) -> Result<(), AllocError> {
+        close_left(&self.list, text)?;
+        close_kept(self, Kept::Held, text)?;
+        close_kept(self, Kept::Owed, text)?;
+        Ok(())
+    }
 }
 
 /// The answer to the bytes of a script.
@@ -110,7 +83,7 @@ fn answer_input<L: PendingList + Drop, A: Allocator + Copy>(
         return Ok((text, Ended::Stopped));
     }
     let mut driver = Driver::new(alloc, list)?;
-    let ended = answer_lines(alloc, &mut driver, input, &mut text)?;
+    let ended = answer_lines(&mut driver, input, &mut text)?;
     Ok((text, ended))
 }
 

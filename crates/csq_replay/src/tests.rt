@@ -1,7 +1,7 @@
 mod memory;
 mod scripts;
 
-use crate::answer::{Ended, MAX_INPUT, SimFault, exit_status};
+use crate::lines::answer::{Ended, MAX_INPUT, SimFault, exit_status};
 use crate::schedule::answer_schedule;
 use std::alloc::Global;
 use std::io;

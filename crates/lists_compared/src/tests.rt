@@ -1,6 +1,6 @@
 //! A list in one vector and a list in chains give the same answers.
 ghost use Rattle.std.specs.Prelude.{◌≡◌, true, false, IsTrue};
-ghost use Rattle.csq_list.specs.Searches.{IsPlaceIn, is_listed};
+ghost use Rattle.csq_list.specs.Searches.{IsStartIn, is_listed};
 
 use csq_list::{ChainList, Peek, PendingList, Place, VecList};
 use irp_core::{FileId, IrpId};
@@ -105,8 +105,8 @@ fn compare_from<L: PendingList, M: PendingList>(
     other: &M,
     after: Option<IrpId>,
 )
-    requires one { IsPlaceIn (L.listing one.now).entries after }
-    requires other { IsPlaceIn (M.listing other.now).entries after }
+    requires one { IsStartIn (L.listing one.now).entries after }
+    requires other { IsStartIn (M.listing other.now).entries after }
 {
     assert_eq!(rt;
         one.peek_next(after, Peek::Any),

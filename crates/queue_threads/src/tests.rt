@@ -1,9 +1,8 @@
 //! What no contract says: that threads which share a queue come to an end, and complete each life once
 //! between them, and which calls get on while another has the lock.
 mod between;
-mod counting_list;
 mod held;
 mod races;
 mod removals;
-mod slow_list;
+mod signals;
 mod threads;

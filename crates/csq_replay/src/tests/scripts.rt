@@ -1,4 +1,4 @@
-use crate::answer::{Ended, MAX_INPUT, SimFault};
+use crate::lines::answer::{Ended, MAX_INPUT, SimFault};
 use crate::script::answer_script;
 use crate::tests::{FailingReader, FailingWriter};
 use csq_list::{ChainList, VecList};

@@ -7,10 +7,8 @@ use std::process::Abort;
 use std::sync::Wait;
 use std::sync::atomic::{AtomicBool, AtomicU64, Ordering};
 use std::test::Fail;
-use std::thread::{Threads, yield_now};
-
-// How often a thread yields at most before it gives up.
-const PATIENCE: u32 = 1_000_000;
+use std::thread::Threads;
+use watched_list::wait_for;
 
 // Submitters, workers, cancellers and the cleanup.
 const THREADS: u64 = 3 + 3 + 4 + 1;
@@ -57,15 +55,9 @@ struct Counts {
 }
 
 impl Counts {
-    // Yields until so many were counted, or gives up.
+    // Waits until so many were counted, or gives up.
     fn wait_for(&self, counted: &AtomicU64, wanted: u64) {
-        for _ in 0..PATIENCE {
-            if counted.load(Ordering::SeqCst) >= wanted {
-                return;
-            }
-            yield_now();
-        }
-        self.gave_up.store(true, Ordering::SeqCst);
+        wait_for(counted, wanted, &self.gave_up);
     }
 
     // Waits at the first point of a thread for those of all others.

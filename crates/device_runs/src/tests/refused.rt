@@ -1,5 +1,4 @@
 //! A run in which a file object is cleaned up before most inserts, which are refused then.
-use super::closing_list::ClosingList;
 use super::runs::run;
 use csq_device::{Gate, Plan, Point};
 use csq_list::{ChainList, PendingList, VecList};
@@ -8,10 +7,8 @@ use std::process::Abort;
 use std::sync::Wait;
 use std::sync::atomic::{AtomicBool, AtomicU64, Ordering};
 use std::test::Fail;
-use std::thread::{Threads, yield_now};
-
-// How often a thread yields at most before it gives up.
-const PATIENCE: u32 = 1_000_000;
+use std::thread::Threads;
+use watched_list::{Moment, Watch, WatchedList, wait_for};
 
 // How many inserts two submitters make.
 const SUBMITTED: u64 = 14;
@@ -33,33 +30,24 @@ struct Told {
     removed: AtomicU64,
     removed_irps: AtomicU64,
     // The last file is closed.
-    closed: AtomicBool,
+    closed: AtomicU64,
     // Some wait came to its end unanswered.
     gave_up: AtomicBool,
 }
 
 impl Told {
-    // Yields until the point was told so often, or gives up. Where some wait gave up, none goes on.
+    // Waits until the point was told so often, or gives up.
     fn wait_for(&self, told: &AtomicU64, times: u64) {
-        for _ in 0..PATIENCE {
-            let enough = told.load(Ordering::SeqCst) >= times;
-            if enough || self.gave_up.load(Ordering::SeqCst) {
-                return;
-            }
-            yield_now();
-        }
-        self.gave_up.store(true, Ordering::SeqCst);
+        wait_for(told, times, &self.gave_up);
     }
+}
 
-    // Yields until the flag is set, or gives up likewise.
-    fn wait_until(&self, flag: &AtomicBool) {
-        for _ in 0..PATIENCE {
-            if flag.load(Ordering::SeqCst) || self.gave_up.load(Ordering::SeqCst) {
-                return;
-            }
-            yield_now();
+// The list tells that the last file is closed.
+impl Watch for Told {
+    fn at(&self, moment: Moment) {
+        if moment == Moment::Closed {
+            self.closed.fetch_add(1, Ordering::SeqCst);
         }
-        self.gave_up.store(true, Ordering::SeqCst);
     }
 }
 
@@ -75,7 +63,7 @@ impl<'a> Gate for Late<'a> {
             Point::Submitted(IrpId(irp)) => {
                 told.submitted.fetch_add(1, Ordering::SeqCst);
                 told.submitted_irps.fetch_or(bit(irp), Ordering::SeqCst);
-                told.wait_until(&told.closed);
+                told.wait_for(&told.closed, 1);
             }
             Point::Working(_) => told.wait_for(&told.cancelled, CANCELS),
             Point::Removed(IrpId(irp)) => {
@@ -98,7 +86,7 @@ fn untold() -> Told {
         cancelled: AtomicU64::new(0),
         removed: AtomicU64::new(0),
         removed_irps: AtomicU64::new(0),
-        closed: AtomicBool::new(false),
+        closed: AtomicU64::new(0),
         gave_up: AtomicBool::new(false),
     }
 }
@@ -112,11 +100,8 @@ where
 {
     let plan = Plan::new(20, 3, 2, 2, 1, 7).ok_or("a plan")?;
     let told = untold();
-    let closing = ClosingList {
-        list,
-        closed: &told.closed,
-    };
-    let totals = run(rt, plan, closing, Late(&told))?;
+    let watched = WatchedList { list, watch: &told };
+    let totals = run(rt, plan, watched, Late(&told))?;
     assert!(rt; !told.gave_up.load(Ordering::SeqCst));
     assert_eq!(rt; told.submitted.load(Ordering::SeqCst), SUBMITTED);
     assert_eq!(rt; told.submitted_irps.load(Ordering::SeqCst), 0x3FFF);

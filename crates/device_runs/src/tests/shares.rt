@@ -7,10 +7,8 @@ use std::process::Abort;
 use std::sync::Wait;
 use std::sync::atomic::{AtomicBool, AtomicU64, Ordering};
 use std::test::Fail;
-use std::thread::{Threads, yield_now};
-
-// How often a thread yields at most before it gives up.
-const PATIENCE: u32 = 1_000_000;
+use std::thread::Threads;
+use watched_list::wait_for;
 
 // How many IRPs there are.
 const IRPS: u32 = 12;
@@ -26,16 +24,9 @@ struct Told {
 }
 
 impl Told {
-    // Yields until as many were counted as there are IRPs, or gives up. Where some wait gave up, none goes on.
+    // Waits until as many were counted as there are IRPs, or gives up.
     fn wait_for_all(&self, counted: &AtomicU64) {
-        for _ in 0..PATIENCE {
-            let all = counted.load(Ordering::SeqCst) >= u64::from(IRPS);
-            if all || self.gave_up.load(Ordering::SeqCst) {
-                return;
-            }
-            yield_now();
-        }
-        self.gave_up.store(true, Ordering::SeqCst);
+        wait_for(counted, u64::from(IRPS), &self.gave_up);
     }
 }
 

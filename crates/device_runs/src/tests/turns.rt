@@ -7,10 +7,8 @@ use std::process::Abort;
 use std::sync::Wait;
 use std::sync::atomic::{AtomicBool, AtomicU64, Ordering};
 use std::test::Fail;
-use std::thread::{Threads, yield_now};
-
-// How often a thread yields at most before it gives up.
-const PATIENCE: u32 = 1_000_000;
+use std::thread::Threads;
+use watched_list::wait_for;
 
 // How many IRPs two submitters insert.
 const INSERTED: u64 = 14;
@@ -31,15 +29,9 @@ struct Told {
 }
 
 impl Told {
-    // Yields until the point was told so often, or gives up.
+    // Waits until the point was told so often, or gives up.
     fn wait_for(&self, told: &AtomicU64, times: u64) {
-        for _ in 0..PATIENCE {
-            if told.load(Ordering::SeqCst) >= times {
-                return;
-            }
-            yield_now();
-        }
-        self.gave_up.store(true, Ordering::SeqCst);
+        wait_for(told, times, &self.gave_up);
     }
 }
 

@@ -1,11 +1,16 @@
 //! Making queues.
+ghost use Rattle.std.specs.Prelude.{◌≡◌};
+
 use super::rows::{ZERO, follow_rows};
-use csq_list::{PendingList, Place, VecList};
-use csq_queue::{Blank, NewCause};
-use irp_core::FileId;
+use crate::insert_pending;
+use csq_list::{Peek, PendingList, Place, VecList};
+use csq_queue::{Blank, NewCause, QueueName};
+use irp_core::{FileId, FinalStatus, Life, NtStatus};
 use linked_list_allocator::LocalHeap;
 use std::alloc::{AllocError, Global};
 use std::marker::Brand;
+use std::process::Abort;
+use std::sync::Wait;
 use std::test::Fail;
 
 // What is left of a heap, in pieces.
@@ -58,6 +63,49 @@ fn a_list_that_is_not_fresh_comes_back(rt: HostRuntime) -> Result<(), Fail> {
     assert_eq!(rt; refused.cause.number(), 3);
     assert!(rt; refused.list.is_listed(ZERO));
     Ok(())
+}
+
+#[test]
+fn a_list_with_a_closed_file_comes_back(rt: HostRuntime) -> Result<(), Fail> {
+    let mut list = VecList::new(rt.alloc(), 4, 2, 4)?;
+    assert_eq!(rt; list.close_file(FileId(1)), Ok(()));
+    let Err(refused) = Blank::new(rt.alloc(), list, 4, 2) else {
+        return Err(Fail::from("a queue"));
+    };
+    assert_eq!(rt; refused.cause, NewCause::ListNotFresh);
+    Ok(())
+}
+
+// An IRP is led through a life. Of what is left of the heap nothing is taken.
+fn reuse_beside_room<'a, N: QueueName, R: Wait + Abort>(
+    rt: &R,
+    heap: &'a LocalHeap,
+    blank: Blank<VecList, &'a LocalHeap>,
+) -> Result<(), Fail>
+    requires { blank ≡ record { table = N.table; limits = N.limits; passes = N.passes } }
+{
+    let success = FinalStatus::new(NtStatus::SUCCESS).ok_or("a final status")?;
+    let (queue, mut rack) = blank.into_queue::<N>();
+    let mut one = rack.take().ok_or("a pass")?;
+    let used = heap.used();
+    insert_pending(rt, &queue, &mut one, ZERO, FileId(0)).ok_or("not pending")?;
+    let Some(token) = queue.remove_next(rt, &mut one, Peek::Any) else {
+        return Err(Fail::from("nothing listed"));
+    };
+    queue.complete(&mut one, token, success);
+    assert_eq!(rt; queue.reuse(rt, &mut one, ZERO), Ok(Life(1)));
+    assert_eq!(rt; heap.used(), used);
+    Ok(())
+}
+
+#[test]
+fn a_reuse_takes_no_memory(rt: HostRuntime) -> Result<(), Fail> {
+    let heap = LocalHeap::new(rt.alloc(), 1 << 16)?;
+    let list = VecList::new(rt.alloc(), 4, 2, 4)?;
+    let Ok(blank) = Blank::new(&heap, list, 4, 2) else {
+        return Err(Fail::from("no queue"));
+    };
+    reuse_beside_room::<Brand, _>(&rt, &heap, blank)
 }
 
 #[test]

@@ -1,17 +1,17 @@
 //! Inserts between two removals of a cleanup.
 ghost use Rattle.std.specs.Prelude.{◌≡◌};
 
-use super::counting_list::{CountingList, Counts};
-use super::slow_list::wait_for;
-use csq_list::{ChainList, PendingList, Place};
-use csq_queue::{Blank, Csq, Inserted, Pass, QueueName};
+use csq_list::{ChainList, PendingList};
+use csq_queue::{Blank, Csq, Pass, QueueName};
 use irp_core::{FileId, IrpId};
+use queue_calls::insert_pending;
 use std::marker::Brand;
 use std::process::Abort;
 use std::sync::Wait;
 use std::sync::atomic::{AtomicBool, AtomicU64, Ordering};
 use std::test::Fail;
 use std::thread::{Threads, join};
+use watched_list::{Moment, Watch, WatchedList, wait_for};
 
 // How many IRPs are cleaned up.
 const SHARE: u32 = 1000;
@@ -20,21 +20,37 @@ const SHARE: u32 = 1000;
 // again by each next removal; a lock that is kept for all of them lets no insert in between, ever.
 const ROUNDS: u32 = 20;
 
-// Inserts one IRP for a file. Answers whether it is pending.
-fn insert_one<L: PendingList + Drop, N: QueueName, R: Wait>(
-    rt: &R,
-    queue: &Csq<L, N>,
-    pass: &mut Pass<N>,
-    irp: IrpId,
-    file: FileId,
-) -> bool {
-    match queue.insert(rt, pass, irp, file, Place::Back) {
-        Ok(Inserted::Pending(_)) => true,
-        Ok(Inserted::Cancelled(token)) => {
-            queue.complete_cancelled(pass, token);
-            false
+// What a list and the threads of a test tell each other.
+#[derive(Drop)]
+struct Counts {
+    // How many IRPs are removed, or being removed.
+    removing: AtomicU64,
+    // How many inserts are about to be made.
+    inserting: AtomicU64,
+    // One found some of the IRPs removed, and not all.
+    between: AtomicBool,
+    // Some wait came to its end unanswered.
+    gave_up: AtomicBool,
+}
+
+// A list waits at its first removal for an insert to be about to be made. An insert for file 1 then tells
+// whether it came between two removals.
+impl Watch for Counts {
+    fn at(&self, moment: Moment) {
+        match moment {
+            Moment::Inserting(FileId(1)) => {
+                let removed = self.removing.load(Ordering::SeqCst);
+                if 0 < removed && removed < u64::from(SHARE) {
+                    self.between.store(true, Ordering::SeqCst);
+                }
+            }
+            Moment::Removing => {
+                if self.removing.fetch_add(1, Ordering::SeqCst) == 0 {
+                    wait_for(&self.inserting, 1, &self.gave_up);
+                }
+            }
+            Moment::Inserting(_) | Moment::Closing | Moment::Closed => {}
         }
-        Err(_) => false,
     }
 }
 
@@ -46,7 +62,7 @@ fn insert_share<L: PendingList + Drop, N: QueueName, R: Wait>(
 ) -> bool {
     let mut all = true;
     for number in 0..SHARE {
-        all &= insert_one(rt, queue, pass, IrpId(number), FileId(0));
+        all &= insert_pending(rt, queue, pass, IrpId(number), FileId(0)).is_some();
     }
     all
 }
@@ -54,7 +70,7 @@ fn insert_share<L: PendingList + Drop, N: QueueName, R: Wait>(
 // One thread cleans a file up, and another inserts for another file once the first IRP is being removed.
 fn clean_up_beside_an_insert<'a, N: QueueName + Send + Sync, R: Threads + Wait + Abort + Sync>(
     rt: &R,
-    blank: Blank<CountingList<'a, ChainList>>,
+    blank: Blank<WatchedList<'a, ChainList, Counts>>,
     counts: &'a Counts,
 ) -> Result<(), Fail>
     requires { blank ≡ record { table = N.table; limits = N.limits; passes = N.passes } }
@@ -67,9 +83,9 @@ fn clean_up_beside_an_insert<'a, N: QueueName + Send + Sync, R: Threads + Wait +
         rt,
         || queue.cleanup(rt, &mut one, FileId(0)),
         || {
-            wait_for(&counts.removing, &counts.gave_up);
-            counts.inserting.store(true, Ordering::SeqCst);
-            insert_one(rt, &queue, &mut two, IrpId(SHARE), FileId(1))
+            wait_for(&counts.removing, 1, &counts.gave_up);
+            counts.inserting.fetch_add(1, Ordering::SeqCst);
+            insert_pending(rt, &queue, &mut two, IrpId(SHARE), FileId(1)).is_some()
         },
     );
     assert_eq!(rt; cleaned, Ok(SHARE));
@@ -80,16 +96,14 @@ fn clean_up_beside_an_insert<'a, N: QueueName + Send + Sync, R: Threads + Wait +
 // Whether an insert came between two removals of a cleanup.
 fn comes_between<R: Threads + Wait + AllocGlobal + Abort + Sync>(rt: &R) -> Result<bool, Fail> {
     let counts = Counts {
-        share: u64::from(SHARE),
-        removed: AtomicU64::new(0),
-        removing: AtomicBool::new(false),
-        inserting: AtomicBool::new(false),
+        removing: AtomicU64::new(0),
+        inserting: AtomicU64::new(0),
         between: AtomicBool::new(false),
         gave_up: AtomicBool::new(false),
     };
-    let list = CountingList {
+    let list = WatchedList {
         list: ChainList::new(rt.alloc(), SHARE + 1, 2, SHARE + 1)?,
-        counts: &counts,
+        watch: &counts,
     };
     let Ok(blank) = Blank::new(rt.alloc(), list, SHARE + 1, 2) else {
         return Err(Fail::from("no queue"));

@@ -1,16 +1,18 @@
 //! Cancels while another call has the lock.
 ghost use Rattle.std.specs.Prelude.{◌≡◌};
 
-use super::slow_list::{Signals, SlowList, wait_for};
-use csq_list::{Peek, PendingList, Place, VecList};
-use csq_queue::{Blank, CancelRefused, Csq, Inserted, Pass, QueueName};
+use super::signals::Signals;
+use csq_list::{Peek, PendingList, VecList};
+use csq_queue::{Blank, CancelRefused, Csq, Pass, QueueName};
 use irp_core::{FileId, FinalStatus, IrpId, Life, NtStatus};
+use queue_calls::insert_pending;
 use std::marker::Brand;
 use std::process::Abort;
 use std::sync::Wait;
 use std::sync::atomic::{AtomicBool, Ordering};
 use std::test::Fail;
 use std::thread::{Threads, join, yield_now};
+use watched_list::WatchedList;
 
 // The life of each IRP.
 const LIFE: Life = Life(1);
@@ -38,19 +40,12 @@ fn insert_three<L: PendingList + Drop, N: QueueName, R: Wait>(
 ) -> bool {
     let mut all = true;
     for irp in [CANCELLED, TAKEN, LISTED] {
-        all &= match queue.insert(rt, pass, irp, FileId(0), Place::Back) {
-            Ok(Inserted::Pending(_)) => true,
-            Ok(Inserted::Cancelled(token)) => {
-                queue.complete_cancelled(pass, token);
-                false
-            }
-            Err(_) => false,
-        };
+        all &= insert_pending(rt, queue, pass, irp, FileId(0)).is_some();
     }
     all
 }
 
-// Makes cancels that find no routine, and tells whether each answered so.
+// Makes cancels that find no routine, and reads a status. Tells whether each answered so.
 fn cancel_in_vain<L: PendingList + Drop, N: QueueName, R: Wait>(
     rt: &R,
     queue: &Csq<L, N>,
@@ -61,11 +56,13 @@ fn cancel_in_vain<L: PendingList + Drop, N: QueueName, R: Wait>(
     let older = queue.cancel(rt, pass, LISTED, Life(0));
     let later = queue.cancel(rt, pass, LISTED, Life(2));
     let unknown = queue.cancel(rt, pass, IrpId(4), LIFE);
+    let status = queue.status(pass, TAKEN);
     home == Ok(false)
         && completed == Ok(false)
         && older == Err(CancelRefused::Stale(LIFE))
         && later == Err(CancelRefused::Stale(LIFE))
         && unknown == Err(CancelRefused::UnknownIrp)
+        && status == Ok((LIFE, Some(NtStatus::CANCELLED)))
 }
 
 // Yields until an IRP's Cancel flag is set, or gives up. Where some wait gave up, this one doesn't go on.
@@ -96,12 +93,12 @@ fn cancel_past<L: PendingList + Drop, N: QueueName, R: Wait>(
     match queue.mark_cancel(pass, TAKEN, LIFE) {
         Ok(Some(claim)) => {
             let token = queue.cancel_routine(rt, pass, claim);
-            signals.held.store(true, Ordering::SeqCst);
-            wait_for(&signals.inside, &signals.gave_up);
+            signals.give(&signals.held);
+            signals.wait_for(&signals.inside);
             queue.complete_cancelled(pass, token);
             let in_vain = cancel_in_vain(rt, queue, pass);
             wait_for_cancel(queue, pass, CANCELLED, &signals.gave_up);
-            signals.go_on.store(true, Ordering::SeqCst);
+            signals.give(&signals.go_on);
             in_vain
         }
         Ok(None) => false,
@@ -134,7 +131,7 @@ fn judge<L: PendingList + Drop, N: QueueName, R: Wait + Abort>(
 // One thread closes a file slowly, while two others cancel.
 fn cancel_at_the_lock<'a, N: QueueName + Send + Sync, R: Threads + Wait + Abort + Sync>(
     rt: &R,
-    blank: Blank<SlowList<'a, VecList>>,
+    blank: Blank<WatchedList<'a, VecList, Signals>>,
     signals: &'a Signals,
 ) -> Result<(), Fail>
     requires { blank ≡ record { table = N.table; limits = N.limits; passes = N.passes } }
@@ -147,7 +144,7 @@ fn cancel_at_the_lock<'a, N: QueueName + Send + Sync, R: Threads + Wait + Abort 
     let (closed, (in_vain, cancelled)) = join(
         rt,
         || {
-            wait_for(&signals.held, &signals.gave_up);
+            signals.wait_for(&signals.held);
             queue.close_file(rt, &mut one, FileId(0)).is_ok()
         },
         || {
@@ -155,7 +152,7 @@ fn cancel_at_the_lock<'a, N: QueueName + Send + Sync, R: Threads + Wait + Abort 
                 rt,
                 || cancel_past(rt, &queue, &mut two, signals),
                 || {
-                    wait_for(&signals.inside, &signals.gave_up);
+                    signals.wait_for(&signals.inside);
                     queue.cancel(rt, &mut three, CANCELLED, LIFE)
                 },
             )
@@ -169,15 +166,10 @@ fn cancel_at_the_lock<'a, N: QueueName + Send + Sync, R: Threads + Wait + Abort 
 
 #[test]
 fn cancels_begin_without_the_lock(rt: HostRuntime) -> Result<(), Fail> {
-    let signals = Signals {
-        held: AtomicBool::new(false),
-        inside: AtomicBool::new(false),
-        go_on: AtomicBool::new(false),
-        gave_up: AtomicBool::new(false),
-    };
-    let list = SlowList {
+    let signals = Signals::new();
+    let list = WatchedList {
         list: VecList::new(rt.alloc(), 4, 1, 4)?,
-        signals: &signals,
+        watch: &signals,
     };
     let Ok(blank) = Blank::new_at(rt.alloc(), list, 4, 3, LIFE) else {
         return Err(Fail::from("no queue"));

@@ -1,16 +1,17 @@
 //! Calls of several threads.
 ghost use Rattle.std.specs.Prelude.{◌≡◌};
 
-use super::slow_list::{Signals, SlowList, wait_for};
+use super::signals::Signals;
 use csq_list::{Peek, PendingList, Place, VecList};
 use csq_queue::{Blank, Csq, Inserted, Pass, QueueName};
 use irp_core::{FileId, FinalStatus, IrpId, Life, NtStatus};
 use std::marker::Brand;
 use std::process::Abort;
 use std::sync::Wait;
-use std::sync::atomic::{AtomicBool, Ordering};
+use std::sync::atomic::Ordering;
 use std::test::Fail;
 use std::thread::{Threads, join};
+use watched_list::WatchedList;
 
 // How many IRPs each of the four threads inserts.
 const SHARE: u32 = 16;
@@ -121,11 +122,11 @@ fn go_past<L: PendingList + Drop, N: QueueName, R: Wait>(
     let Some(token) = queue.remove_next(rt, pass, Peek::Any) else {
         return false;
     };
-    signals.held.store(true, Ordering::SeqCst);
-    wait_for(&signals.inside, &signals.gave_up);
+    signals.give(&signals.held);
+    signals.wait_for(&signals.inside);
     queue.complete(pass, token, success);
     let claim = queue.mark_cancel(pass, IrpId(1), Life(0));
-    signals.go_on.store(true, Ordering::SeqCst);
+    signals.give(&signals.go_on);
     match claim {
         Ok(Some(claim)) => {
             let token = queue.cancel_routine(rt, pass, claim);
@@ -140,7 +141,7 @@ fn go_past<L: PendingList + Drop, N: QueueName, R: Wait>(
 // One thread closes a file slowly, while another completes and cancels.
 fn pass_the_lock<'a, N: QueueName + Send + Sync, R: Threads + Wait + Abort + Sync>(
     rt: &R,
-    blank: Blank<SlowList<'a, VecList>>,
+    blank: Blank<WatchedList<'a, VecList, Signals>>,
     signals: &'a Signals,
 ) -> Result<(), Fail>
     requires { blank ≡ record { table = N.table; limits = N.limits; passes = N.passes } }
@@ -159,7 +160,7 @@ fn pass_the_lock<'a, N: QueueName + Send + Sync, R: Threads + Wait + Abort + Syn
     let (closed, claimed) = join(
         rt,
         || {
-            wait_for(&signals.held, &signals.gave_up);
+            signals.wait_for(&signals.held);
             queue.close_file(rt, &mut one, FileId(0)).is_ok()
         },
         || go_past(rt, &queue, &mut two, success, signals),
@@ -171,15 +172,10 @@ fn pass_the_lock<'a, N: QueueName + Send + Sync, R: Threads + Wait + Abort + Syn
 
 #[test]
 fn no_lock(rt: HostRuntime) -> Result<(), Fail> {
-    let signals = Signals {
-        held: AtomicBool::new(false),
-        inside: AtomicBool::new(false),
-        go_on: AtomicBool::new(false),
-        gave_up: AtomicBool::new(false),
-    };
-    let list = SlowList {
+    let signals = Signals::new();
+    let list = WatchedList {
         list: VecList::new(rt.alloc(), 2, 1, 2)?,
-        signals: &signals,
+        watch: &signals,
     };
     let Ok(blank) = Blank::new(rt.alloc(), list, 2, 2) else {
         return Err(Fail::from("no queue"));

@@ -1,9 +1,8 @@
-use Rattle.std.proofs.Common.{◌++◌, ◌∙◌, ℕ, List, [], ap, arith, subst, sym, codes}
+use Rattle.std.proofs.Common.{◌++◌, ◌∙◌, ℕ, List, [], refl, ap, arith, subst, sym, codes}
 use Rattle.irp_core.specs.Runs.{Size}
-use Rattle.csq_replay.specs.declared.answer.Ended.TheVariants.{Stopped}
-use Rattle.csq_replay.specs.Pieces.{lines_of}
-use Rattle.csq_replay.specs.Schedule.{AnswersLines, IsScheduleAnswer}
-use Rattle.csq_replay.specs.Schedule.IsScheduleAnswer.{too_long_input, answered}
+use Rattle.csq_replay.specs.declared.lines.answer.Ended.TheVariants.{Stopped}
+use Rattle.csq_replay.specs.Lines.IsAnswer.{too_long_input, answered}
+use Rattle.csq_replay.specs.Schedule.{IsScheduleAnswer}
 use Rattle.csq_replay.proofs.schedule.answer_input.Goals as goal
 
 pub returns-then-input-gt-MAX_INPUT : goal.returns-then-input-gt-MAX_INPUT
@@ -13,11 +12,15 @@ returns-then-input-gt-MAX_INPUT g c =
     let text = c.in_ok-writeln.ensures.bytes ∙ ap (λ t. t ++ codes "input too long\n") c.new-text.ensures.bytes in
     subst P (sym text) (too_long_input (omega arith))
 
+pub answer_lines-requires : goal.answer_lines-requires
+answer_lines-requires g c =
+    let size : Size = record { irps = c.args.irps; passes = c.args.passes; first = 0 } in
+    ((size, c.args.claims), [], (c.in-Ok.ensures.size, refl, (c.in-Ok.ensures.agrees, c.new-2.ensures.bytes)))
+
 pub returns : goal.returns
 returns g c =
     let size : Size = record { irps = c.args.irps; passes = c.args.passes; first = 0 } in
-    let (added, grown, answers) = c.in_ok-ended.ensures (c.in-Ok.ensures.agrees, c.new-2.ensures.bytes) in
+    let (added, grown, answers) = c.in_ok-ended.ensures (size, c.args.claims) [] (c.in-Ok.ensures.size, refl, (c.in-Ok.ensures.agrees, c.new-2.ensures.bytes)) in
     let P : List ℕ → Type 0 = λ t. IsScheduleAnswer size c.args.claims c.args.input.now t c.in_ok-ended.ended in
-    let Q : Size → Type 0 = λ k. AnswersLines k c.args.claims [] 1 (lines_of c.args.input.now) added c.in_ok-ended.ended in
     let text = grown ∙ ap (λ t. t ++ added) c.new-text.ensures.bytes in
-    subst P (sym text) (answered added c.in_ok-ended.ended (omega arith) (subst Q c.in-Ok.ensures.size answers))
+    subst P (sym text) (answered added c.in_ok-ended.ended (omega arith) answers)

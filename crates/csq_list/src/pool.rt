@@ -1,0 +1,112 @@
+//! What every list keeps beside its entries.
+ghost use Rattle.std.specs.Prelude.{◌≡◌, ◌≤◌, ◌<◌, ◌==◌, ◌↔◌, ◌&&◌, nat_lt, false, not, List, length, replicate, slice_index_or, IfOk, OnOk, IsOk};
+ghost use Rattle.std.specs.List.{list_all};
+ghost use Rattle.std.specs.Result.{result_err};
+ghost use Rattle.csq_list.specs.declared.entry.Entry.{Entry};
+ghost use Rattle.csq_list.specs.Causes.{first_cause};
+ghost use Rattle.csq_list.specs.Listing.{IsListSize};
+ghost use Rattle.csq_list.specs.VecParts.{listing_of};
+
+use crate::refusals::{InsertStatus, ListNew};
+use crate::size::is_list_size;
+use irp_core::{FileId, IrpId};
+use std::alloc::Allocator;
+
+/// Which IRPs are used, which file objects are closed, and how many IRPs may be listed.
+#[derive(Drop)]
+pub(crate) struct Pool<A: Allocator> {
+    pub(crate) used: Vec<bool, A>,
+    pub(crate) closed: Vec<bool, A>,
+    pub(crate) limit: u32,
+    ghost limit_within: { limit ≤ length used.items },
+    ghost irps_small: { length used.items ≤ 1024 },
+    ghost files_small: { length closed.items ≤ 256 },
+}
+
+fn are_clear(flags: &[bool]) -> bool
+    ensures { result ≡ list_all not flags.now }
+{
+    flags.iter().all(|flag| !*flag)
+}
+
+impl<A: Allocator> Pool<A> {
+    /// Unused IRPs and open file objects, numbered from 0, and a limit. BadSize where a list may not
+    /// be made so, and then want of memory.
+    pub(crate) fn new(alloc: &A, irps: u32, files: u32, limit: u32) -> Result<Pool<A>, ListNew>
+    where
+        A: Clone,
+        ensures used { IfOk result (λ pool. pool.used.items ≡ replicate irps false) }
+        ensures closed { IfOk result (λ pool. pool.closed.items ≡ replicate files false) }
+        ensures limit { IfOk result (λ pool. pool.limit ≡ limit) }
+        ensures size { IsOk result → IsListSize irps files limit }
+        ensures bad_size { (result ≡ Err ListNew.BadSize) ↔ ¬ IsListSize irps files limit }
+    {
+        if !is_list_size(irps, files, limit) {
+            return Err(ListNew::BadSize);
+        }
+        let used = vec![in alloc.clone()?; false; irps as usize]?;
+        let closed = vec![in alloc.clone()?; false; files as usize]?;
+        Ok(Pool {
+            used,
+            closed,
+            limit,
+        })
+    }
+
+    pub(crate) fn irps(&self) -> u32
+        ensures { result ≡ length self.now.used.items }
+    {
+        self.used.len() as u32
+    }
+
+    pub(crate) fn files(&self) -> u32
+        ensures { result ≡ length self.now.closed.items }
+    {
+        self.closed.len() as u32
+    }
+
+    /// Whether no IRP is used, and no file object closed.
+    pub(crate) fn is_clear(&self) -> bool
+        ensures { result ≡ (list_all not self.now.used.items && list_all not self.now.closed.items) }
+    {
+        are_clear(&self.used) && are_clear(&self.closed)
+    }
+
+    /// Whether the IRP is known and unused.
+    pub(crate) fn is_home(&self, irp: IrpId) -> bool
+        ensures { result ≡ (nat_lt irp.0 (length self.now.used.items) && not (slice_index_or self.now.used.items irp.0 false)) }
+    {
+        (irp.0 as usize) < self.used.len() && !self.used[irp.0 as usize]
+    }
+
+    /// Refuses an insert for the first cause that holds. Whether the list is full is for the caller to
+    /// say.
+    pub(crate) fn may_insert(
+        &self,
+        full: bool,
+        irp: IrpId,
+        file: FileId,
+    ) -> Result<(), InsertStatus>
+        ensures cause { (entries : List Entry) → full ≡ (length entries == self.now.limit) → result_err result ≡ first_cause (listing_of entries self.now.used.items self.now.closed.items self.now.limit) irp file }
+        ensures known { OnOk result ((irp.0 < length self.now.used.items) × (file.0 < length self.now.closed.items)) }
+        ensures home { OnOk result (slice_index_or self.now.used.items irp.0 false ≡ false) }
+        ensures room { OnOk result (full ≡ false) }
+    {
+        if irp.0 as usize >= self.used.len() {
+            return Err(InsertStatus::UnknownIrp);
+        }
+        if file.0 as usize >= self.closed.len() {
+            return Err(InsertStatus::UnknownFile);
+        }
+        if self.used[irp.0 as usize] {
+            return Err(InsertStatus::NotHome);
+        }
+        if self.closed[file.0 as usize] {
+            return Err(InsertStatus::FileClosed);
+        }
+        if full {
+            return Err(InsertStatus::Full);
+        }
+        Ok(())
+    }
+}

@@ -1,0 +1,17 @@
+use Rattle.std.proofs.Common.{◌≡◌, ◌++◌, map, length, string_bytes}
+use Rattle.csq_list.specs.declared.entry.Entry.{Entry}
+use Rattle.csq_list.specs.Searches.{rest_after, IsStartIn}
+use Rattle.csq_replay.specs.ScriptAnswer.{numbers}
+use Rattle.csq_replay.proofs.script.remains.write_listed.Given as goal
+
+-- the numbers so far and those of the rest are those of all
+abbrev pub invariant-loop-irp : goal.invariant-loop-irp
+invariant-loop-irp g l =
+    let entries = (g.L.PendingList.listing l.list).entries in
+    record {
+      told : string_bytes l.text ++ numbers (map (λ (e : Entry). e.irp) (rest_after l.after entries)) ≡ string_bytes l.fn.text ++ numbers (map (λ (e : Entry). e.irp) entries);
+      place : IsStartIn entries l.after;
+    }
+
+abbrev pub decreases-loop-irp : goal.decreases-loop-irp
+decreases-loop-irp g l = length (rest_after l.after (g.L.PendingList.listing l.list).entries)

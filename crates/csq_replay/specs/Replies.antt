@@ -1,0 +1,30 @@
+-- How what a call answers is told.
+use Rattle.std.specs.Prelude.{Bool, true, false, Option, Some, None, Result, Ok, Err}
+use Rattle.irp_core.specs.declared.ids.IrpId.{IrpId}
+use Rattle.csq_list.specs.declared.refusals.InsertStatus.{InsertStatus}
+use Rattle.csq_replay.specs.declared.script.call.Inserted.{Inserted}
+use Rattle.csq_replay.specs.declared.script.call.Inserted.TheVariants as insert
+use Rattle.csq_replay.specs.declared.script.call.Refusal.{Refusal}
+use Rattle.csq_replay.specs.declared.script.call.Reply.{Reply}
+use Rattle.csq_replay.specs.declared.script.call.Reply.TheVariants.{Pending, Cancelled, InsertRefused, Removed, NoIrp, Claimed, Unclaimed, Refused}
+
+-- a call's value is told so, and a refusal by its name
+abbrev pub told : {T : Type 0} → (T → Reply) → Result T Refusal → Reply
+told tell (Ok value) = tell value
+told tell (Err refusal) = Refused refusal
+
+-- of an insert
+abbrev pub insert_reply : Result Inserted InsertStatus → Reply
+insert_reply (Ok insert.Pending) = Pending
+insert_reply (Ok insert.Cancelled) = Cancelled
+insert_reply (Err cause) = InsertRefused cause
+
+-- of a removal that took this IRP, or none
+abbrev pub taken_reply : Option IrpId → Reply
+taken_reply (Some n) = Removed n
+taken_reply None = NoIrp
+
+-- of a mark that took the routine, or didn't
+abbrev pub mark_reply : Bool → Reply
+mark_reply true = Claimed
+mark_reply false = Unclaimed

@@ -1,0 +1,94 @@
+//! Steps, replayed line by line.
+ghost use Rattle.std.specs.Prelude.{◌≡◌, ◌++◌, string_bytes, OnOk};
+ghost use Rattle.irp_core.specs.Steps.{made};
+ghost use Rattle.csq_replay.specs.Schedule.{claim_line};
+
+use crate::lines::{Answerer, Handling, MAX_LINE, is_skipped};
+use crate::schedule::closing::{close_irps, close_rest};
+use crate::schedule::step_line::parse_line;
+use irp_core::{Kind, Machine, Step};
+use std::alloc::{AllocError, Allocator};
+
+/// A machine, a line for each claim that its steps made, and whether these lines are asked for.
+#[derive(Drop)]
+pub(crate) struct Replay<A: Allocator> {
+    pub(crate) machine: Machine<A>,
+    pub(crate) claims: String<A>,
+    pub(crate) asks: bool,
+}
+
+/// Notes the claim of a step, if it made one.
+#[tactic(auto, unfolding(irp_core::specs::Steps::same_irp))]
+fn note_claim<A: Allocator>(
+    claims: &mut String<A>,
+    number: usize,
+    step: Step,
+    found: u64,
+) -> Result<(), AllocError>
+    ensures { OnOk result (string_bytes claims.new
+        ≡ string_bytes claims.old ++ claim_line (record { line = number; step = made step found })) }
+{
+    match step.kind {
+        Kind::Disarm(name) | Kind::Take(name) if found == 1 => {
+            let pass = step.pass;
+            writeln!(claims, "claim {name} line {number} {pass}")
+        }
+        _ => Ok(()),
+    }
+}
+
+impl<A: Allocator> Answerer<A> for Replay<A> {
+    ghost use Rattle.std.specs.Prelude.{Bool, List};
+    ghost use Rattle.irp_core.specs.Runs.{Size};
+    ghost use Rattle.csq_replay.specs.Schedule.{Numbered, AnswersLine, IsClosing};
+    ghost use Rattle.csq_replay.specs.Replays.{StandsAfter};
+
+    ghost Kind = { Size × Bool };
+
+    ghost State = { List Numbered };
+
+    ghost stands = { λ replay c W. StandsAfter replay c W };
+
+    ghost answers = { λ c W. AnswersLine c.0 W };
+
+    ghost closes = { λ c W. IsClosing c.0 c.1 W };
+
+    fn answer_line(
+        &mut self,
+        number: usize,
+        line: &[u8],
+        text: &mut String<A>,
+    ) -> Result<Handling, AllocError> {
+        if line.len() > MAX_LINE {
+            writeln!(text, "line {number} too long")?;
+            return Ok(Handling::Stops);
+        }
+        if is_skipped(line) {
+            return Ok(Handling::GoesOn);
+        }
+        let Some((written, step)) = parse_line(line) else {
+            writeln!(text, "line {number} malformed")?;
+            return Ok(Handling::Stops);
+        };
+        match self.machine.step(step) {
+            Ok(found) => {
+                note_claim(&mut self.claims, number, step, found)?;
+                writeln!(text, "{written} found {found}")?;
+                Ok(Handling::GoesOn)
+            }
+            Err(cause) => {
+                writeln!(text, "line {number} refused {cause}")?;
+                Ok(Handling::Stops)
+            }
+        }
+    }
+
+    fn close(&self, text: &mut String<A>) -> Result<(), AllocError> {
+        close_irps(&self.machine, text)?;
+        close_rest(&self.machine, text)?;
+        if self.asks {
+            text.push_str(self.claims.as_str())?;
+        }
+        Ok(())
+    }
+}

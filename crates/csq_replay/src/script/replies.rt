@@ -1,0 +1,86 @@
+//! What is told of each call.
+ghost use Rattle.std.specs.Prelude.{◌≡◌};
+ghost use Rattle.csq_replay.specs.Calls.{status_reply};
+ghost use Rattle.csq_replay.specs.Drivers.{IsKeeping, Did, keeping};
+ghost use Rattle.csq_replay.specs.Replies.{told, insert_reply, taken_reply, mark_reply};
+
+use crate::script::call::{Call, Inserted, Refusal, Reply};
+use crate::script::driver::Driver;
+use csq_list::{InsertStatus, PendingList};
+use irp_core::{IrpId, NtStatus};
+use std::alloc::Allocator;
+
+fn insert_reply(answer: Result<Inserted, InsertStatus>) -> Reply
+    ensures { result ≡ insert_reply answer }
+{
+    match answer {
+        Ok(Inserted::Pending) => Reply::Pending,
+        Ok(Inserted::Cancelled) => Reply::Cancelled,
+        Err(cause) => Reply::InsertRefused(cause),
+    }
+}
+
+fn taken_reply(taken: Option<IrpId>) -> Reply
+    ensures { result ≡ taken_reply taken }
+{
+    match taken {
+        Some(irp) => Reply::Removed(irp),
+        None => Reply::NoIrp,
+    }
+}
+
+fn mark_reply(claimed: bool) -> Reply
+    ensures { result ≡ mark_reply claimed }
+{
+    if claimed {
+        Reply::Claimed
+    } else {
+        Reply::Unclaimed
+    }
+}
+
+fn status_reply(status: Option<NtStatus>) -> Reply
+    ensures { result ≡ status_reply status }
+{
+    match status {
+        Some(status) => Reply::Status(status),
+        None => Reply::Unset,
+    }
+}
+
+impl<L: PendingList, A: Allocator> Driver<L, A> {
+    /// Makes a call, and tells what it answers.
+    pub(crate) fn answer(&mut self, call: Call) -> Reply
+        requires { IsKeeping (keeping L.listing self.old) }
+        ensures { Did (keeping L.listing self.old) call result (keeping L.listing self.new) }
+    {
+        match self.tell(call) {
+            Ok(reply) => reply,
+            Err(refusal) => Reply::Refused(refusal),
+        }
+    }
+
+    /// Makes a call, and tells what it answers where it isn't refused.
+    fn tell(&mut self, call: Call) -> Result<Reply, Refusal>
+        requires { IsKeeping (keeping L.listing self.old) }
+        ensures { Did (keeping L.listing self.old) call (told (λ reply. reply) result) (keeping L.listing self.new) }
+    {
+        match call {
+            Call::Insert(irp, file, place) => Ok(insert_reply(self.insert(irp, file, place))),
+            Call::Next(peek) => Ok(taken_reply(self.next(peek))),
+            Call::Remove(name) => Ok(taken_reply(self.remove(name)?)),
+            Call::Mark(name) => Ok(mark_reply(self.mark(name)?)),
+            Call::Routine(irp) => Ok(Reply::Completed(self.routine(irp)?)),
+            Call::Cancel(name) => Ok(Reply::CancelAnswered(self.cancel(name)?)),
+            Call::Complete(irp, status) => Ok(Reply::Completed(self.complete(irp, status)?)),
+            Call::Close(file) => {
+                self.close(file)?;
+                Ok(Reply::Closed)
+            }
+            Call::Cleanup(file) => Ok(Reply::Cleaned(self.cleanup(file)?)),
+            Call::Flag(irp) => Ok(Reply::Flag(self.flag(irp)?)),
+            Call::Status(irp) => Ok(status_reply(self.status(irp)?)),
+            Call::Reuse(irp) => Ok(Reply::Begun(self.reuse(irp)?)),
+        }
+    }
+}
