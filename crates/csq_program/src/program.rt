@@ -1,5 +1,5 @@
 //! What each command of the program does, and its exit status.
-ghost use Rattle.std.specs.Prelude.{◌≤◌, IfOk};
+ghost use Rattle.std.specs.Prelude.{◌≡◌, ◌≤◌, IfOk, IfErr};
 ghost use Rattle.irp_core.specs.Runs.{IsInLimits};
 ghost use Rattle.csq_list.specs.Listing.{IsFresh};
 ghost use Rattle.csq_device.specs.Plans.{IsListFor};
@@ -30,6 +30,9 @@ pub enum ProgramFault {
 
 // The exit status where all went well.
 const DONE: u8 = 0;
+
+// The exit status of a fault.
+const FAULTY: u8 = 1;
 
 // The exit status of a refused command line, and of a list whose size is refused.
 const REFUSED: u8 = 2;
@@ -153,6 +156,17 @@ where
     }
 }
 
+/// The exit status of what the program did, or could not do.
+pub(crate) fn status_of(ended: &Result<u8, ProgramFault>) -> u8
+    ensures done { IfOk ended.now (λ status. result ≡ status) }
+    ensures faulty { IfErr ended.now (λ _. result ≡ 1) }
+{
+    match ended {
+        Ok(status) => *status,
+        Err(_) => FAULTY,
+    }
+}
+
 /// Does what the command line of this process asks for, and answers the exit status: 0 where all went
 /// well, 2 where a line ended the handling or the command line or the size of the list was refused, and 1
 /// with a line on standard error where there was a fault. Own rule.
@@ -160,11 +174,9 @@ pub fn run_program<R>(rt: &R) -> ExitCode
 where
     R: AllocGlobal + Print + Eprint + Input + std::rt::Env + Threads + Wait + Sync,
 {
-    match run_command_line(rt) {
-        Ok(status) => ExitCode::from(status),
-        Err(fault) => {
-            let _ = eprintln!(rt; "csqsim: {fault}");
-            ExitCode::FAILURE
-        }
+    let ended = run_command_line(rt);
+    if let Err(fault) = &ended {
+        let _ = eprintln!(rt; "csqsim: {fault}");
     }
+    ExitCode::from(status_of(&ended))
 }

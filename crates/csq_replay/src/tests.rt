@@ -299,17 +299,17 @@ fn a_failing_reader_is_told(rt: HostRuntime) -> Result<(), Fail> {
     Ok(())
 }
 
-/// Is interrupted once, and then gives its bytes.
+/// Is interrupted so many times, and then gives its bytes.
 #[derive(Drop)]
 struct InterruptedReader<'a> {
     bytes: &'a [u8],
-    interrupted: bool,
+    interruptions: u32,
 }
 
 impl Read for InterruptedReader<'_> {
     fn read(&mut self, buf: &mut [u8]) -> io::Result<usize> {
-        if !self.interrupted {
-            self.interrupted = true;
+        if self.interruptions > 0 {
+            self.interruptions -= 1;
             return Err(Error::from(ErrorKind::Interrupted));
         }
         self.bytes.read(buf)
@@ -318,15 +318,30 @@ impl Read for InterruptedReader<'_> {
 
 #[test]
 fn an_interrupted_read_is_tried_again(rt: HostRuntime) -> Result<(), Fail> {
-    let mut reader = InterruptedReader {
-        bytes: b"p1 end\n",
-        interrupted: false,
-    };
+    for interruptions in [0, 1, 2, 1000] {
+        let mut reader = InterruptedReader {
+            bytes: b"p1 end\n",
+            interruptions,
+        };
+        let mut text = Vec::new(rt.alloc());
+        let ended = answer_schedule(rt.alloc(), 8, 4, false, &mut reader, &mut text)?;
+        assert_eq!(rt; ended, Ended::AllHandled);
+        assert_eq!(rt; reader.interruptions, 0);
+        assert_eq!(rt; text.as_slice(), b"p1 end found 0\nrest yes\n".as_slice());
+    }
+    Ok(())
+}
+
+// The last IRP is cancelled by the last pass.
+#[test]
+fn schedules_are_as_large_as_they_may_be(rt: HostRuntime) -> Result<(), Fail> {
+    let mut input = b"p63 arm 1023\np63 test 1023\np64 flag 1023\np64 take 1023\n".as_slice();
+    let wanted =
+        "p63 arm 1023 found 0\np63 test 1023 found 0\np64 flag 1023 found 0\np64 take 1023 found 1\nirp 1023 listed cancel 1\nrest no\nclaim 1023 line 4 p64\n";
     let mut text = Vec::new(rt.alloc());
-    let ended = answer_schedule(rt.alloc(), 8, 4, false, &mut reader, &mut text)?;
+    let ended = answer_schedule(rt.alloc(), 1024, 64, true, &mut input, &mut text)?;
     assert_eq!(rt; ended, Ended::AllHandled);
-    assert!(rt; reader.interrupted);
-    assert_eq!(rt; text.as_slice(), b"p1 end found 0\nrest yes\n".as_slice());
+    assert_eq!(rt; text.as_slice(), wanted.as_bytes());
     Ok(())
 }
 

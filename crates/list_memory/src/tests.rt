@@ -81,6 +81,29 @@ fn a_chain_list_takes_no_memory_later(rt: HostRuntime) -> Result<(), Fail> {
     Err(Fail::from("no heap was large enough"))
 }
 
+// Where there is room, none of it is taken either.
+#[test]
+fn a_vec_list_leaves_room_alone(rt: HostRuntime) -> Result<(), Fail> {
+    let heap = LocalHeap::new(rt.alloc(), 1 << 16)?;
+    let mut list = VecList::new(&heap, IRPS, FILES, IRPS)?;
+    let used = heap.used();
+    assert!(rt; heap.free() > used);
+    fill_and_empty(&rt, &mut list);
+    assert_eq!(rt; heap.used(), used);
+    Ok(())
+}
+
+#[test]
+fn a_chain_list_leaves_room_alone(rt: HostRuntime) -> Result<(), Fail> {
+    let heap = LocalHeap::new(rt.alloc(), 1 << 16)?;
+    let mut list = ChainList::new(&heap, IRPS, FILES, IRPS)?;
+    let used = heap.used();
+    assert!(rt; heap.free() > used);
+    fill_and_empty(&rt, &mut list);
+    assert_eq!(rt; heap.used(), used);
+    Ok(())
+}
+
 // Each number of IRPs has its list, where there is memory.
 #[test]
 fn lists_are_made_of_each_size(rt: HostRuntime) -> Result<(), Fail> {

@@ -66,6 +66,46 @@ fn words_are_refused_for_want_of_memory(rt: HostRuntime) -> Result<(), Fail> {
     Err(Fail::from("no heap was large enough"))
 }
 
+// The next life of the last IRP.
+const NEXT: IrpLife = IrpLife {
+    irp: IrpId(IRPS - 1),
+    life: Life(1),
+};
+
+// A life that is cancelled past a removal, and one that is removed, with each kind of step and what it finds.
+const STEPS: [(u32, Kind, u64); 12] = [
+    (1, Kind::Arm(LAST), 0),
+    (1, Kind::Test(LAST), 0),
+    (2, Kind::Flag(LAST), 0),
+    (2, Kind::Take(LAST), 1),
+    (3, Kind::Disarm(LAST), 0),
+    (3, Kind::End, 0),
+    (2, Kind::Out(LAST), 0),
+    (2, Kind::Done(LAST), 0),
+    (1, Kind::Renew(LAST), 0),
+    (1, Kind::Arm(NEXT), 0),
+    (1, Kind::Test(NEXT), 0),
+    (3, Kind::Disarm(NEXT), 1),
+];
+
+// Where there is room, a machine takes none of it as it steps.
+#[test]
+fn a_machine_leaves_room_alone(rt: HostRuntime) -> Result<(), Fail> {
+    let heap = LocalHeap::new(rt.alloc(), 1 << 16)?;
+    let mut machine = Machine::new(&heap, IRPS, PASSES)?;
+    let used = heap.used();
+    assert!(rt; heap.free() > used);
+    for (pass, kind, found) in STEPS {
+        let step = Step {
+            pass: PassId(pass),
+            kind,
+        };
+        assert_eq!(rt; machine.step(step), Ok(found));
+        assert_eq!(rt; heap.used(), used);
+    }
+    Ok(())
+}
+
 // Each number of IRPs has its machine and its words, where there is memory.
 #[test]
 fn a_machine_and_words_are_made_of_each_size(rt: HostRuntime) -> Result<(), Fail> {

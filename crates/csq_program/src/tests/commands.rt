@@ -61,10 +61,20 @@ fn command_lines_of_scripts_are_read(rt: HostRuntime) -> Result<(), Fail> {
         "csqsim", "script", "--irps", "3", "--files", "1", "--limit", "2",
     ];
     let chained = ["csqsim", "script", "--chain"];
+    let both = ["csqsim", "script", "--chain", "--limit", "8"];
+    let most = [
+        "csqsim",
+        "script",
+        "--irps=1024",
+        "--files=256",
+        "--limit=1024",
+    ];
     let jobs = [
         (plain.as_slice(), 8, 4, None, false),
         (sized.as_slice(), 3, 1, Some(2), false),
         (chained.as_slice(), 8, 4, None, true),
+        (both.as_slice(), 8, 4, Some(8), true),
+        (most.as_slice(), 1024, 256, Some(1024), false),
     ];
     for (words, irps, files, limit, chain) in jobs {
         let job = read_command(rt.alloc(), words).ok();
@@ -77,7 +87,9 @@ fn command_lines_of_scripts_are_read(rt: HostRuntime) -> Result<(), Fail> {
         assert_eq!(rt; job, Some(wanted));
     }
     for option in [
+        "--irps=0",
         "--irps=1025",
+        "--files=0",
         "--files=257",
         "--limit=0",
         "--limit=1025",

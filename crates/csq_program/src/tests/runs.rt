@@ -3,9 +3,10 @@ ghost use Rattle.csq_device.specs.Plans.{IsListFor};
 
 use crate::command::{Job, read_command};
 use crate::device_run::{RunFault, answer_run};
-use crate::program::ProgramFault;
+use crate::program::{ProgramFault, status_of};
 use csq_device::{Free, Plan, RunRefused};
 use csq_list::{ChainList, PendingList, VecList};
+use csq_replay::SimFault;
 use std::alloc::AllocError;
 use std::io;
 use std::io::{Error, ErrorKind, Write};
@@ -89,8 +90,17 @@ fn command_lines_of_runs_are_read(rt: HostRuntime) -> Result<(), Fail> {
         "--turns=100000",
         "--chain",
     ];
+    let most = [
+        "csqsim",
+        "run",
+        "--irps=1024",
+        "--submitters=20",
+        "--workers=20",
+        "--turns=1",
+    ];
     let jobs = [
         (plain.as_slice(), [64, 4, 2, 2, 2, 64], false),
+        (most.as_slice(), [1024, 4, 20, 20, 2, 1], false),
         (sized.as_slice(), [1, 256, 3, 4, 20, 100_000], true),
     ];
     for (words, numbers, chain) in jobs {
@@ -105,11 +115,17 @@ fn command_lines_of_runs_are_read(rt: HostRuntime) -> Result<(), Fail> {
 #[test]
 fn other_command_lines_of_runs_are_refused(rt: HostRuntime) -> Result<(), Fail> {
     for option in [
+        "--irps=0",
         "--irps=1025",
         "--files=0",
+        "--files=257",
+        "--submitters=0",
         "--submitters=21",
         "--workers=0",
+        "--workers=21",
+        "--cancellers=0",
         "--cancellers=21",
+        "--turns=0",
         "--turns=100001",
         "--limit=1",
     ] {
@@ -132,6 +148,12 @@ fn faults_of_runs_have_numbers_and_texts(rt: HostRuntime) -> Result<(), Fail> {
         assert_eq!(rt; fault.number(), number);
         let told = format!(in rt.alloc(); "{}", ProgramFault::Run(fault))?;
         assert_eq!(rt; told.as_str(), text);
+        assert_eq!(rt; status_of(&Err(ProgramFault::Run(fault))), 1);
     }
+    for fault in [SimFault::Memory, SimFault::Read, SimFault::Write] {
+        assert_eq!(rt; status_of(&Err(ProgramFault::Replay(fault))), 1);
+    }
+    assert_eq!(rt; status_of(&Ok(0)), 0);
+    assert_eq!(rt; status_of(&Ok(2)), 2);
     Ok(())
 }

@@ -1,7 +1,11 @@
+//! Scripts, over both lists.
+ghost use Rattle.std.specs.Prelude.{◌≤◌};
+ghost use Rattle.csq_list.specs.Listing.{IsFresh};
+
 use crate::lines::answer::{Ended, MAX_INPUT, SimFault};
 use crate::script::answer_script;
 use crate::tests::{FailingReader, FailingWriter};
-use csq_list::{ChainList, VecList};
+use csq_list::{ChainList, PendingList, VecList};
 use std::alloc::Global;
 use std::process::Abort;
 use std::test::Fail;
@@ -138,6 +142,36 @@ fn a_list_has_a_limit(rt: HostRuntime) -> Result<(), Fail> {
     );
     assert_eq!(rt; text.as_slice(), output.as_bytes());
     Ok(())
+}
+
+// Whatever the list, the last IRP is inserted for the last file object.
+fn answer_the_last<L: PendingList + Drop>(
+    rt: &impl Abort,
+    alloc: Global,
+    list: L,
+) -> Result<(), Fail>
+    requires fresh { IsFresh (L.listing list) }
+    requires least { 1 ≤ (L.listing list).irps }
+    requires most { (L.listing list).irps ≤ 1024 }
+{
+    let mut input = b"insert 1023 255 back\nmark 1023\nflag 1023\n".as_slice();
+    let mut text = Vec::new(alloc);
+    assert_eq!(rt;
+        answer_script(alloc, list, &mut input, &mut text)?,
+        Ended::AllHandled
+    );
+    assert_eq!(rt;
+        text.as_slice(),
+        b"pending\nclaimed\n1\nleft 1023\nowed 1023\n".as_slice()
+    );
+    Ok(())
+}
+
+#[test]
+fn scripts_are_as_large_as_they_may_be(rt: HostRuntime) -> Result<(), Fail> {
+    let alloc = rt.alloc();
+    answer_the_last(&rt, alloc, VecList::new(alloc, 1024, 256, 1024)?)?;
+    answer_the_last(&rt, alloc, ChainList::new(alloc, 1024, 256, 1024)?)
 }
 
 #[test]

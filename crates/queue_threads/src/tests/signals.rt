@@ -7,6 +7,8 @@ use watched_list::{Moment, Watch, wait_for};
 pub(crate) struct Signals {
     /// An IRP is held.
     pub(crate) held: AtomicU64,
+    /// A pass is about to be given back.
+    pub(crate) giving: AtomicU64,
     /// A call is inside the lock.
     pub(crate) inside: AtomicU64,
     /// It may go on.
@@ -19,6 +21,7 @@ impl Signals {
     pub(crate) fn new() -> Signals {
         Signals {
             held: AtomicU64::new(0),
+            giving: AtomicU64::new(0),
             inside: AtomicU64::new(0),
             go_on: AtomicU64::new(0),
             gave_up: AtomicBool::new(false),
