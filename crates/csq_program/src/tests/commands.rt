@@ -61,20 +61,10 @@ fn command_lines_of_scripts_are_read(rt: HostRuntime) -> Result<(), Fail> {
         "csqsim", "script", "--irps", "3", "--files", "1", "--limit", "2",
     ];
     let chained = ["csqsim", "script", "--chain"];
-    let both = ["csqsim", "script", "--chain", "--limit", "8"];
-    let most = [
-        "csqsim",
-        "script",
-        "--irps=1024",
-        "--files=256",
-        "--limit=1024",
-    ];
     let jobs = [
         (plain.as_slice(), 8, 4, None, false),
         (sized.as_slice(), 3, 1, Some(2), false),
         (chained.as_slice(), 8, 4, None, true),
-        (both.as_slice(), 8, 4, Some(8), true),
-        (most.as_slice(), 1024, 256, Some(1024), false),
     ];
     for (words, irps, files, limit, chain) in jobs {
         let job = read_command(rt.alloc(), words).ok();
@@ -86,6 +76,49 @@ fn command_lines_of_scripts_are_read(rt: HostRuntime) -> Result<(), Fail> {
         };
         assert_eq!(rt; job, Some(wanted));
     }
+    Ok(())
+}
+
+#[test]
+fn a_script_has_a_limit_beside_chains(rt: HostRuntime) -> Result<(), Fail> {
+    let words = ["csqsim", "script", "--chain", "--limit", "8"];
+    let wanted = Job::Script {
+        irps: 8,
+        files: 4,
+        limit: Some(8),
+        chain: true,
+    };
+    assert_eq!(rt;
+        read_command(rt.alloc(), words.as_slice()).ok(),
+        Some(wanted)
+    );
+    Ok(())
+}
+
+#[test]
+fn a_script_is_as_large_as_it_may_be(rt: HostRuntime) -> Result<(), Fail> {
+    let words = [
+        "csqsim",
+        "script",
+        "--irps=1024",
+        "--files=256",
+        "--limit=1024",
+    ];
+    let wanted = Job::Script {
+        irps: 1024,
+        files: 256,
+        limit: Some(1024),
+        chain: false,
+    };
+    assert_eq!(rt;
+        read_command(rt.alloc(), words.as_slice()).ok(),
+        Some(wanted)
+    );
+    Ok(())
+}
+
+#[test]
+fn other_command_lines_of_scripts_are_refused(rt: HostRuntime) -> Result<(), Fail> {
     for option in [
         "--irps=0",
         "--irps=1025",
