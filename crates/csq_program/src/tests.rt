@@ -1,2 +1,4 @@
 mod commands;
+mod process;
 mod runs;
+mod shell;

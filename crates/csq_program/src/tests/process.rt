@@ -1,0 +1,129 @@
+//! A process of a test's own: its words and its input are given, and what it prints is kept.
+use std::alloc::{Allocator, Global};
+use std::env::FillError;
+use std::fmt::Display;
+use std::io;
+use std::io::{BufRead, Error, ErrorKind, Lines};
+use std::rt::Env;
+use std::sync::{Mutex, Wait};
+use std::thread::Threads;
+
+/// A process whose standard output takes so many bytes.
+#[derive(Drop)]
+pub(crate) struct Process<'a, R> {
+    rt: &'a R,
+    words: &'a [&'a str],
+    input: &'a [u8],
+    room: usize,
+    output: Mutex<String>,
+    errors: Mutex<String>,
+}
+
+impl<'a, R: AllocGlobal> Process<'a, R> {
+    pub(crate) fn new(
+        rt: &'a R,
+        words: &'a [&'a str],
+        input: &'a str,
+        room: usize,
+    ) -> Process<'a, R> {
+        Process {
+            rt,
+            words,
+            input: input.as_bytes(),
+            room,
+            output: Mutex::new(String::new(rt.alloc())),
+            errors: Mutex::new(String::new(rt.alloc())),
+        }
+    }
+
+    /// What was printed on standard output, and on standard error.
+    pub(crate) fn into_printed(self) -> (String, String) {
+        (self.output.into_inner(), self.errors.into_inner())
+    }
+}
+
+impl<R: AllocGlobal> Alloc for Process<'_, R> {
+    type A = Global;
+
+    fn alloc(&self) -> Global {
+        self.rt.alloc()
+    }
+}
+
+impl<R: Threads> Threads for Process<'_, R> {}
+
+impl<R: Wait> Wait for Process<'_, R> {}
+
+/// What has no room on standard output is a fault, and nothing of it is printed.
+impl<R: AllocGlobal + Wait> Print for Process<'_, R> {
+    fn print<D: Display + Drop>(&self, value: D) -> io::Result<()> {
+        let text = format!(in self.alloc(); "{value}")?;
+        self.write_all(text.as_bytes())
+    }
+
+    fn println<D: Display + Drop>(&self, value: D) -> io::Result<()> {
+        let text = format!(in self.alloc(); "{value}\n")?;
+        self.write_all(text.as_bytes())
+    }
+
+    fn write_all(&self, bytes: &[u8]) -> io::Result<()> {
+        let mut output = self.output.lock(self.rt);
+        let text = str::from_utf8(bytes).map_err(|_| Error::from(ErrorKind::InvalidData))?;
+        if self.room < output.len().saturating_add(text.len()) {
+            return Err(Error::from(ErrorKind::Other));
+        }
+        output.push_str(text)?;
+        Ok(())
+    }
+}
+
+impl<R: AllocGlobal + Wait> Eprint for Process<'_, R> {
+    fn eprint<D: Display + Drop>(&self, value: D) -> io::Result<()> {
+        let text = format!(in self.alloc(); "{value}")?;
+        self.errors.lock(self.rt).push_str(text.as_str())?;
+        Ok(())
+    }
+
+    fn eprintln<D: Display + Drop>(&self, value: D) -> io::Result<()> {
+        let text = format!(in self.alloc(); "{value}\n")?;
+        self.errors.lock(self.rt).push_str(text.as_str())?;
+        Ok(())
+    }
+}
+
+impl<'a, R> Input for Process<'a, R> {
+    type Reader = &'a [u8];
+
+    fn read_line<A: Allocator + Clone>(&self, buf: &mut String<A>) -> io::Result<usize> {
+        let mut reader = self.input;
+        reader.read_line(buf)
+    }
+
+    fn lines<A: Allocator>(&self, alloc: A) -> Lines<&'a [u8], A> {
+        self.input.lines(alloc)
+    }
+
+    fn reader(&self) -> &'a [u8] {
+        self.input
+    }
+}
+
+/// There are no variables.
+impl<R> Env for Process<'_, R> {
+    fn arg(&self, i: usize, buf: &mut [u8]) -> Result<usize, FillError> {
+        let word = self.words.get(i).ok_or(FillError::NotPresent)?.as_bytes();
+        if buf.len() < word.len() {
+            return Err(FillError::TooLong);
+        }
+        buf[..word.len()].copy_from_slice(word);
+        Ok(word.len())
+    }
+
+    fn var(&self, _name: &str, _buf: &mut [u8]) -> Result<usize, FillError> {
+        Err(FillError::NotPresent)
+    }
+
+    fn var_at(&self, _i: usize, _buf: &mut [u8]) -> Result<usize, FillError> {
+        Err(FillError::NotPresent)
+    }
+}
