@@ -60,10 +60,12 @@ fn command_lines_of_scripts_are_read(rt: HostRuntime) -> Result<(), Fail> {
     let sized = [
         "csqsim", "script", "--irps", "3", "--files", "1", "--limit", "2",
     ];
+    let least = ["csqsim", "script", "--irps=1", "--files=1", "--limit=1"];
     let chained = ["csqsim", "script", "--chain"];
     let jobs = [
         (plain.as_slice(), 8, 4, None, false),
         (sized.as_slice(), 3, 1, Some(2), false),
+        (least.as_slice(), 1, 1, Some(1), false),
         (chained.as_slice(), 8, 4, None, true),
     ];
     for (words, irps, files, limit, chain) in jobs {

@@ -7,7 +7,7 @@ use crate::program::{ProgramFault, status_of};
 use csq_device::{Free, Plan, RunRefused};
 use csq_list::{ChainList, PendingList, VecList};
 use csq_replay::SimFault;
-use std::alloc::AllocError;
+use std::alloc::{AllocError, Global};
 use std::io;
 use std::io::{Error, ErrorKind, Write};
 use std::process::Abort;
@@ -76,13 +76,41 @@ fn a_failing_writer_of_totals_is_told(rt: HostRuntime) -> Result<(), Fail> {
     Ok(())
 }
 
+// Reads a command line that asks for a run of these numbers.
+fn read_run(
+    rt: &impl Abort,
+    alloc: Global,
+    words: &[&str],
+    numbers: [u32; 6],
+    chain: bool,
+) -> Result<(), Fail> {
+    let [irps, files, submitters, workers, cancellers, turns] = numbers;
+    let plan = Plan::new(irps, files, submitters, workers, cancellers, turns).ok_or("a plan")?;
+    let wanted = Job::Run { plan, chain };
+    assert_eq!(rt; read_command(alloc, words).ok(), Some(wanted));
+    Ok(())
+}
+
 #[test]
 fn command_lines_of_runs_are_read(rt: HostRuntime) -> Result<(), Fail> {
     let plain = ["csqsim", "run"];
+    let most = [
+        "csqsim",
+        "run",
+        "--irps=1024",
+        "--submitters=20",
+        "--workers=20",
+    ];
+    read_run(&rt, rt.alloc(), &plain, [64, 4, 2, 2, 2, 64], false)?;
+    read_run(&rt, rt.alloc(), &most, [1024, 4, 20, 20, 2, 64], false)
+}
+
+#[test]
+fn each_number_of_a_run_is_read(rt: HostRuntime) -> Result<(), Fail> {
     let sized = [
         "csqsim",
         "run",
-        "--irps=1",
+        "--irps=2",
         "--files=256",
         "--submitters=3",
         "--workers=4",
@@ -90,26 +118,18 @@ fn command_lines_of_runs_are_read(rt: HostRuntime) -> Result<(), Fail> {
         "--turns=100000",
         "--chain",
     ];
-    let most = [
+    let least = [
         "csqsim",
         "run",
-        "--irps=1024",
-        "--submitters=20",
-        "--workers=20",
+        "--irps=1",
+        "--files=1",
+        "--submitters=1",
+        "--workers=1",
+        "--cancellers=1",
         "--turns=1",
     ];
-    let jobs = [
-        (plain.as_slice(), [64, 4, 2, 2, 2, 64], false),
-        (most.as_slice(), [1024, 4, 20, 20, 2, 1], false),
-        (sized.as_slice(), [1, 256, 3, 4, 20, 100_000], true),
-    ];
-    for (words, numbers, chain) in jobs {
-        let [irps, files, submitters, workers, cancellers, turns] = numbers;
-        let plan = Plan::new(irps, files, submitters, workers, cancellers, turns).ok_or("a plan")?;
-        let wanted = Job::Run { plan, chain };
-        assert_eq!(rt; read_command(rt.alloc(), words).ok(), Some(wanted));
-    }
-    Ok(())
+    read_run(&rt, rt.alloc(), &sized, [2, 256, 3, 4, 20, 100_000], true)?;
+    read_run(&rt, rt.alloc(), &least, [1, 1, 1, 1, 1, 1], false)
 }
 
 #[test]
