@@ -187,9 +187,9 @@ fn a_limit_above_the_irps_is_refused(rt: HostRuntime) {
 
 // Runs the program on a command line, and looks for a text on standard error, where it is refused, or on
 // standard output. On the other nothing is printed.
-fn look_for<R: AllocGlobal + Threads + Wait + Abort + Sync>(
-    rt: &R,
-    words: &[&str],
+fn look_for<'a, R: AllocGlobal + Threads + Wait + Abort + Sync>(
+    rt: &'a R,
+    words: &'a [&'a str],
     refused: bool,
     wanted: &str,
 ) {
@@ -244,6 +244,18 @@ fn help_is_told_on_standard_output(rt: HostRuntime) {
     }
 }
 
+// Runs the program where too little of its output is taken, which is told on standard error.
+fn fail_to_write<'a, R: AllocGlobal + Threads + Wait + Abort + Sync>(
+    rt: &'a R,
+    words: &'a [&'a str],
+) {
+    let process = Process::new(rt, words, "", 3);
+    assert_eq!(rt; run_program(&process), ExitCode::FAILURE, "at {words:?}");
+    let (printed, told) = process.into_printed();
+    assert_eq!(rt; printed.as_str(), "", "at {words:?}");
+    assert_eq!(rt; told.as_str(), "csqsim: write failed\n", "at {words:?}");
+}
+
 // What can't be written is a fault, whichever command writes it.
 #[test]
 fn a_failed_write_is_a_fault(rt: HostRuntime) {
@@ -254,10 +266,6 @@ fn a_failed_write_is_a_fault(rt: HostRuntime) {
         ["csqsim", "run", "--irps=1", "--turns=1"].as_slice(),
         ["csqsim", "--help"].as_slice(),
     ] {
-        let process = Process::new(&rt, words, "", 3);
-        assert_eq!(rt; run_program(&process), ExitCode::FAILURE, "at {words:?}");
-        let (printed, told) = process.into_printed();
-        assert_eq!(rt; printed.as_str(), "", "at {words:?}");
-        assert_eq!(rt; told.as_str(), "csqsim: write failed\n", "at {words:?}");
+        fail_to_write(&rt, words);
     }
 }
