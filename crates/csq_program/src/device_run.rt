@@ -1,8 +1,8 @@
 //! A device that the program runs.
 ghost use Rattle.std.specs.Prelude.{◌≡◌, ◌≢◌, ◌++◌, string_bytes, OnOk, IfErr};
-ghost use Rattle.std.specs.Io.KnownBytes.{Keeps};
+ghost use Rattle.std.specs.Io.KnownBytes.{Appends, Keeps};
 ghost use Rattle.csq_device.specs.Plans.{IsListFor};
-ghost use Rattle.csq_program.specs.Totals.{totals_text, WritesTotals};
+ghost use Rattle.csq_program.specs.Totals.{totals_text, run_text};
 ghost use Rattle.csq_program.specs.declared.device_run.RunFault.TheVariants.{Spawn, NotClosed};
 
 use csq_device::{Device, DeviceCause, Gate, Plan, RunRefused, Totals};
@@ -104,7 +104,7 @@ where
     R: AllocGlobal + Threads + Wait + Sync,
     W: Write,
     requires { IsListFor plan.irps plan.files (L.listing list) }
-    ensures written { OnOk result (WritesTotals plan.irps (W.contents writer.old) (W.contents writer.new)) }
+    ensures written { OnOk result (Appends (W.contents writer.old) (W.contents writer.new) (run_text plan.irps)) }
     ensures unwritten { IfErr result (λ fault. fault ≢ RunFault.Write
         → Keeps (W.contents writer.old) (W.contents writer.new)) }
 {

@@ -18,7 +18,7 @@ use Rattle.csq_words.specs.declared.views.InsertReply.TheVariants.{Pending, Canc
 use Rattle.csq_words.specs.History.{IsLegal, MayCome, end_of}
 use Rattle.csq_words.specs.Queue.{Queued, QueueState, Limits, current, has_irp, has_file, marking, without, first_unmarked, refusal, after_event, new_entry}
 use Rattle.csq_queue.proofs.Crowding.{accepted_so, pending_none}
-use Rattle.csq_queue.proofs.Marking.{none_head, none_both, none_marking}
+use Rattle.csq_words.proofs.Marking.{none_head, none_both, none_marking}
 
 -- the entries of a file
 abbrev pub of_file : FileId → List Queued → List Queued

@@ -75,7 +75,7 @@ fn answer_input<L: PendingList + Drop, A: Allocator + Copy>(
 ) -> Result<(String<A>, Ended), AllocError>
     requires fresh { IsFresh (L.listing list) }
     requires irps { (1 ≤ (L.listing list).irps) × ((L.listing list).irps ≤ 1024) }
-    ensures { IfOk result (λ answer. IsScriptAnswer (limits_of 0 (L.listing list)) input.now (string_bytes answer.0) answer.1) }
+    ensures { IfOk result (λ answer. IsScriptAnswer (limits_of 1 0 (L.listing list)) input.now (string_bytes answer.0) answer.1) }
 {
     let mut text = String::new(alloc);
     if input.len() > MAX_INPUT {
@@ -100,7 +100,7 @@ pub fn answer_script<L: PendingList + Drop, A: Allocator + Copy, R: Read, W: Wri
 ) -> Result<Ended, SimFault>
     requires fresh { IsFresh (L.listing list) }
     requires irps { (1 ≤ (L.listing list).irps) × ((L.listing list).irps ≤ 1024) }
-    ensures answered { IfOk result (RepliesToScript (limits_of 0 (L.listing list))
+    ensures answered { IfOk result (RepliesToScript (limits_of 1 0 (L.listing list))
         (R.remaining reader.old) (R.remaining reader.new) (W.contents writer.old) (W.contents writer.new)) }
     ensures unwritten { IfErr result (λ fault. fault ≢ SimFault.Write
         → KeepsBytes (W.contents writer.old) (W.contents writer.new)) }

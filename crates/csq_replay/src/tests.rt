@@ -136,6 +136,7 @@ fn a_malformed_line_ends_the_handling(rt: HostRuntime) -> Result<(), Fail> {
         ("p1 arm 0 \n", "line 1 malformed\n"),
         ("p1  arm 0\n", "line 1 malformed\n"),
         ("p1 arm 0\r\n", "line 1 malformed\n"),
+        ("p1 end\r", "line 1 malformed\n"),
         ("P1 arm 0\n", "line 1 malformed\n"),
         ("p1 end 0\n", "line 1 malformed\n"),
         ("p01 end\n", "line 1 malformed\n"),
@@ -239,11 +240,12 @@ fn lines_and_inputs_have_limits(rt: HostRuntime) -> Result<(), Fail> {
     Ok(())
 }
 
-/// Gives its bytes one at a time, is interrupted before each, and then fails.
+/// Gives its bytes one at a time, is interrupted before each, and then fails so.
 #[derive(Drop)]
 pub(crate) struct FailingReader<'a> {
     pub(crate) bytes: &'a [u8],
     pub(crate) interrupted: bool,
+    pub(crate) fault: ErrorKind,
 }
 
 impl Read for FailingReader<'_> {
@@ -253,7 +255,7 @@ impl Read for FailingReader<'_> {
             return Err(Error::from(ErrorKind::Interrupted));
         }
         let Some((first, rest)) = self.bytes.split_first() else {
-            return Err(Error::from(ErrorKind::Other));
+            return Err(Error::from(self.fault));
         };
         if buf.is_empty() {
             return Ok(0);
@@ -288,14 +290,24 @@ impl Write for FailingWriter {
 
 #[test]
 fn a_failing_reader_is_told(rt: HostRuntime) -> Result<(), Fail> {
-    let mut reader = FailingReader {
-        bytes: b"p1 arm 0\n",
-        interrupted: false,
-    };
-    let mut text = Vec::new(rt.alloc());
-    let fault = answer_schedule(rt.alloc(), 8, 4, false, &mut reader, &mut text);
-    assert_eq!(rt; fault, Err(SimFault::Read));
-    assert!(rt; text.is_empty());
+    for fault in [
+        ErrorKind::Other,
+        ErrorKind::UnexpectedEof,
+        ErrorKind::BrokenPipe,
+        ErrorKind::PermissionDenied,
+        ErrorKind::WouldBlock,
+        ErrorKind::TimedOut,
+    ] {
+        let mut reader = FailingReader {
+            bytes: b"p1 arm 0\n",
+            interrupted: false,
+            fault,
+        };
+        let mut text = Vec::new(rt.alloc());
+        let ended = answer_schedule(rt.alloc(), 8, 4, false, &mut reader, &mut text);
+        assert_eq!(rt; ended, Err(SimFault::Read));
+        assert!(rt; text.is_empty());
+    }
     Ok(())
 }
 
@@ -318,7 +330,7 @@ impl Read for InterruptedReader<'_> {
 
 #[test]
 fn an_interrupted_read_is_tried_again(rt: HostRuntime) -> Result<(), Fail> {
-    for interruptions in [0, 1, 2, 1000] {
+    for interruptions in [0, 1, 2, 100_000] {
         let mut reader = InterruptedReader {
             bytes: b"p1 end\n",
             interruptions,
@@ -342,6 +354,49 @@ fn schedules_are_as_large_as_they_may_be(rt: HostRuntime) -> Result<(), Fail> {
     let ended = answer_schedule(rt.alloc(), 1024, 64, true, &mut input, &mut text)?;
     assert_eq!(rt; ended, Ended::AllHandled);
     assert_eq!(rt; text.as_slice(), wanted.as_bytes());
+    Ok(())
+}
+
+/// Is interrupted before each byte, and takes one at a time.
+#[derive(Drop)]
+pub(crate) struct SlowWriter {
+    pub(crate) taken: Vec<u8>,
+    pub(crate) interrupted: bool,
+}
+
+impl Write for SlowWriter {
+    fn write(&mut self, buf: &[u8]) -> io::Result<usize> {
+        self.interrupted = !self.interrupted;
+        if self.interrupted {
+            return Err(Error::from(ErrorKind::Interrupted));
+        }
+        let Some(first) = buf.first() else {
+            return Ok(0);
+        };
+        match self.taken.push(*first) {
+            Ok(()) => Ok(1),
+            Err(_) => Err(Error::from(ErrorKind::Other)),
+        }
+    }
+
+    fn flush(&mut self) -> io::Result<()> {
+        Ok(())
+    }
+}
+
+#[test]
+fn a_slow_writer_gets_the_whole_answer(rt: HostRuntime) -> Result<(), Fail> {
+    let mut input = b"p1 end\n".as_slice();
+    let mut writer = SlowWriter {
+        taken: Vec::new(rt.alloc()),
+        interrupted: false,
+    };
+    let ended = answer_schedule(rt.alloc(), 8, 4, false, &mut input, &mut writer)?;
+    assert_eq!(rt; ended, Ended::AllHandled);
+    assert_eq!(rt;
+        writer.taken.as_slice(),
+        b"p1 end found 0\nrest yes\n".as_slice()
+    );
     Ok(())
 }
 

@@ -20,7 +20,7 @@ pub fn insert_pending<L: PendingList + Drop, N: QueueName, A: Allocator>(
     pass: &mut Pass<N>,
     irp: IrpId,
     file: FileId,
-) -> Option<InsertContext>
+) -> Option<InsertContext<N>>
     ensures { IfSome result (λ context. context.irp ≡ irp) }
 {
     match queue.insert(rt, pass, irp, file, Place::Back) {

@@ -1,5 +1,6 @@
 //! What no contract says: worked rows, that a queue can be made, and that passes which were given
 //! back are counted.
+mod alone;
 mod making;
 mod passes;
 mod rows;

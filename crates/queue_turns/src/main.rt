@@ -56,7 +56,7 @@ fn insert<L: PendingList + Drop, N: QueueName, R: Wait>(
     queue: &Csq<L, N>,
     pass: &mut Pass<N>,
     irp: IrpId,
-) -> Option<InsertContext> {
+) -> Option<InsertContext<N>> {
     match queue.insert(rt, pass, irp, FileId(0), Place::Back) {
         Err(_) => None,
         Ok(inserted) => match inserted {
@@ -90,7 +90,7 @@ fn reuse<L: PendingList + Drop, N: QueueName, R: Wait>(
     rt: &R,
     queue: &Csq<L, N>,
     pass: &mut Pass<N>,
-    context: Option<InsertContext>,
+    context: Option<InsertContext<N>>,
     success: FinalStatus,
 ) -> u32 {
     let Some(context) = context else {
@@ -139,7 +139,7 @@ fn turn<N: QueueName + Send + Sync, R: Clock + Threads + Wait + Sync>(
     success: FinalStatus,
     threads: u32,
 ) -> Result<Totals>
-    requires { blank ≡ record { table = N.table; limits = N.limits; passes = N.passes } }
+    requires { blank ≡ record { table = N.table; limits = N.limits } }
 {
     let (queue, mut rack) = blank.into_queue::<N>();
     let mut one = rack.take().context("a pass")?;

@@ -3,7 +3,7 @@ use std::alloc::{Allocator, Global};
 use std::env::FillError;
 use std::fmt::Display;
 use std::io;
-use std::io::{BufRead, Error, ErrorKind, Lines};
+use std::io::{BufRead, Error, ErrorKind, Lines, Read};
 use std::rt::Env;
 use std::sync::{Mutex, Wait};
 use std::thread::Threads;
@@ -13,7 +13,11 @@ use std::thread::Threads;
 pub(crate) struct Process<'a, R> {
     rt: &'a R,
     words: &'a [&'a str],
+    // A word after these, which needn't be text.
+    last: Option<&'a [u8]>,
     input: &'a [u8],
+    // Whether reading fails once it is given.
+    fails: bool,
     room: usize,
     output: Mutex<String>,
     errors: Mutex<String>,
@@ -29,10 +33,28 @@ impl<'a, R: AllocGlobal> Process<'a, R> {
         Process {
             rt,
             words,
+            last: None,
             input: input.as_bytes(),
+            fails: false,
             room,
             output: Mutex::new(String::new(rt.alloc())),
             errors: Mutex::new(String::new(rt.alloc())),
+        }
+    }
+
+    /// Has one word more, which needn't be text.
+    pub(crate) fn with_word(self, word: &'a [u8]) -> Process<'a, R> {
+        Process {
+            last: Some(word),
+            ..self
+        }
+    }
+
+    /// Cannot read on once its input is given.
+    pub(crate) fn with_failing_input(self) -> Process<'a, R> {
+        Process {
+            fails: true,
+            ..self
         }
     }
 
@@ -91,27 +113,59 @@ impl<R: AllocGlobal + Wait> Eprint for Process<'_, R> {
     }
 }
 
+/// Bytes that are given, and then their end or a fault.
+#[derive(Drop)]
+pub(crate) struct Given<'a> {
+    bytes: &'a [u8],
+    fails: bool,
+}
+
+impl Read for Given<'_> {
+    fn read(&mut self, buf: &mut [u8]) -> io::Result<usize> {
+        if self.fails && self.bytes.is_empty() {
+            return Err(Error::from(ErrorKind::Other));
+        }
+        self.bytes.read(buf)
+    }
+}
+
+impl BufRead for Given<'_> {
+    fn fill_buf(&mut self) -> io::Result<&[u8]> {
+        Ok(self.bytes)
+    }
+
+    fn consume(&mut self, amount: usize) {
+        self.bytes.consume(amount);
+    }
+}
+
 impl<'a, R> Input for Process<'a, R> {
-    type Reader = &'a [u8];
+    type Reader = Given<'a>;
 
     fn read_line<A: Allocator + Clone>(&self, buf: &mut String<A>) -> io::Result<usize> {
-        let mut reader = self.input;
-        reader.read_line(buf)
+        self.reader().read_line(buf)
     }
 
-    fn lines<A: Allocator>(&self, alloc: A) -> Lines<&'a [u8], A> {
-        self.input.lines(alloc)
+    fn lines<A: Allocator>(&self, alloc: A) -> Lines<Given<'a>, A> {
+        self.reader().lines(alloc)
     }
 
-    fn reader(&self) -> &'a [u8] {
-        self.input
+    fn reader(&self) -> Given<'a> {
+        Given {
+            bytes: self.input,
+            fails: self.fails,
+        }
     }
 }
 
 /// There are no variables.
 impl<R> Env for Process<'_, R> {
     fn arg(&self, i: usize, buf: &mut [u8]) -> Result<usize, FillError> {
-        let word = self.words.get(i).ok_or(FillError::NotPresent)?.as_bytes();
+        let word = match (self.words.get(i), self.last) {
+            (Some(word), _) => word.as_bytes(),
+            (None, Some(last)) if i == self.words.len() => last,
+            (None, _) => return Err(FillError::NotPresent),
+        };
         if buf.len() < word.len() {
             return Err(FillError::TooLong);
         }

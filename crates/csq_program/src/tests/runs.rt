@@ -4,7 +4,7 @@ ghost use Rattle.csq_device.specs.Plans.{IsListFor};
 use crate::command::{Job, read_command};
 use crate::device_run::{RunFault, answer_run};
 use crate::program::{ProgramFault, status_of};
-use csq_device::{Free, Plan, RunRefused};
+use csq_device::{Free, Gate, Plan, Point, RunRefused};
 use csq_list::{ChainList, PendingList, VecList};
 use csq_replay::SimFault;
 use std::alloc::{AllocError, Global};
@@ -12,6 +12,7 @@ use std::io;
 use std::io::{Error, ErrorKind, Write};
 use std::process::Abort;
 use std::sync::Wait;
+use std::sync::atomic::{AtomicU64, Ordering};
 use std::test::Fail;
 use std::thread::Threads;
 
@@ -37,6 +38,53 @@ fn ten_runs_of_each_list_are_accounted_for(rt: HostRuntime) -> Result<(), Fail> 
         compare(&rt, VecList::new(rt.alloc(), 64, 4, 64)?)?;
         compare(&rt, ChainList::new(rt.alloc(), 64, 4, 64)?)?;
     }
+    Ok(())
+}
+
+/// Counts what the threads of a device do.
+#[derive(Drop)]
+struct Counting<'a> {
+    inserts: &'a AtomicU64,
+    removals: &'a AtomicU64,
+    cancels: &'a AtomicU64,
+    cleanups: &'a AtomicU64,
+}
+
+impl Gate for Counting<'_> {
+    fn at(&self, point: Point) {
+        let counted = match point {
+            Point::Submitted(_) => self.inserts,
+            Point::Working(_) => self.removals,
+            Point::Cancelled(_) => self.cancels,
+            Point::Cleaning(_) => self.cleanups,
+            Point::Removed(_) | Point::Cancelling(_) => return,
+        };
+        counted.fetch_add(1, Ordering::SeqCst);
+    }
+}
+
+// What is told of a device was done by the threads of its plan, in as many turns.
+#[test]
+fn a_run_is_that_of_its_plan(rt: HostRuntime) -> Result<(), Fail> {
+    let inserts = AtomicU64::new(0);
+    let removals = AtomicU64::new(0);
+    let cancels = AtomicU64::new(0);
+    let cleanups = AtomicU64::new(0);
+    let counting = Counting {
+        inserts: &inserts,
+        removals: &removals,
+        cancels: &cancels,
+        cleanups: &cleanups,
+    };
+    let plan = Plan::new(64, 4, 2, 3, 4, 8).ok_or("a plan")?;
+    let list = VecList::new(rt.alloc(), 64, 4, 64)?;
+    let mut text = Vec::new(rt.alloc());
+    assert_eq!(rt; answer_run(&rt, plan, list, counting, &mut text), Ok(()));
+    assert_eq!(rt; text.as_slice(), USUAL.as_bytes());
+    assert_eq!(rt; inserts.load(Ordering::SeqCst), 2 * 8);
+    assert_eq!(rt; removals.load(Ordering::SeqCst), 3 * 8);
+    assert_eq!(rt; cancels.load(Ordering::SeqCst), 4 * 8);
+    assert_eq!(rt; cleanups.load(Ordering::SeqCst), 1);
     Ok(())
 }
 

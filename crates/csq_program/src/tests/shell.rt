@@ -68,6 +68,49 @@ fn options_reach_the_answer(rt: HostRuntime) {
 }
 
 #[test]
+fn the_largest_numbers_reach_the_answer(rt: HostRuntime) {
+    let schedule = Case {
+        words: &["csqsim", "schedule", "--irps=1024", "--passes=64"],
+        input: "p64 flag 1023\np65 flag 1023\n",
+        output: "p64 flag 1023 found 0\nline 2 refused UnknownPass\n",
+        errors: "",
+        status: 2,
+    };
+    compare(&rt, &schedule);
+    for words in [
+        ["csqsim", "script", "--irps=1024", "--files=256"].as_slice(),
+        ["csqsim", "script", "--irps=1024", "--files=256", "--chain"].as_slice(),
+    ] {
+        let script = Case {
+            words,
+            input: "insert 1023 255 back\ninsert 1022 256 back\n",
+            output: "pending\nrefused UnknownFile\nleft 1023\n",
+            errors: "",
+            status: 0,
+        };
+        compare(&rt, &script);
+    }
+}
+
+// Without a limit, all IRPs may be listed.
+#[test]
+fn a_list_has_room_for_all(rt: HostRuntime) {
+    for words in [
+        ["csqsim", "script", "--irps=2"].as_slice(),
+        ["csqsim", "script", "--irps=2", "--chain"].as_slice(),
+    ] {
+        let case = Case {
+            words,
+            input: "insert 0 0 back\ninsert 1 0 back\n",
+            output: "pending\npending\nleft 0 1\n",
+            errors: "",
+            status: 0,
+        };
+        compare(&rt, &case);
+    }
+}
+
+#[test]
 fn options_reach_the_replies(rt: HostRuntime) {
     let input = "insert 0 0 back\ninsert 1 1 front\ninsert 8 4 back\ninsert 9 0 back\n";
     let limited = "pending\npending\nrefused Full C000009A\nrefused UnknownIrp\nleft 1 0\n";
@@ -206,21 +249,21 @@ fn look_for<'a, R: AllocGlobal + Threads + Wait + Abort + Sync>(
     assert_eq!(rt; other.as_str(), "", "at {words:?}");
 }
 
+// A command and an option are written whole.
 #[test]
-fn command_lines_are_refused_on_standard_error(rt: HostRuntime) {
+fn unknown_words_are_refused_on_standard_error(rt: HostRuntime) {
     let rows = [
-        (["csqsim"].as_slice(), "Usage: csqsim <COMMAND>"),
         (
             ["csqsim", "walk"].as_slice(),
             "unrecognized subcommand 'walk'",
         ),
         (
-            ["csqsim", "run", "--limit=1"].as_slice(),
-            "unexpected argument '--limit'",
+            ["csqsim", "sched"].as_slice(),
+            "unrecognized subcommand 'sched'",
         ),
         (
-            ["csqsim", "schedule", "--irps=1025"].as_slice(),
-            "1025 is not in 1..=1024",
+            ["csqsim", "schedule", "--irp=1"].as_slice(),
+            "unexpected argument '--irp'",
         ),
     ];
     for (words, wanted) in rows {
@@ -229,9 +272,58 @@ fn command_lines_are_refused_on_standard_error(rt: HostRuntime) {
 }
 
 #[test]
+fn command_lines_are_refused_on_standard_error(rt: HostRuntime) {
+    let rows = [
+        (["csqsim"].as_slice(), "Usage: csqsim <COMMAND>"),
+        (["csqsim"].as_slice(), "Commands:"),
+        (
+            ["csqsim", "run", "--limit=1"].as_slice(),
+            "unexpected argument '--limit'",
+        ),
+        (
+            ["csqsim", "schedule", "--irps=1025"].as_slice(),
+            "1025 is not in 1..=1024",
+        ),
+        (
+            [
+                "csqsim",
+                "run",
+                "--irps=1",
+                "--files=1",
+                "--submitters=1",
+                "--workers=1",
+                "--cancellers=1",
+                "--turns=1",
+                "--chain",
+                "--passes=1",
+            ]
+            .as_slice(),
+            "unexpected argument '--passes'",
+        ),
+    ];
+    for (words, wanted) in rows {
+        look_for(&rt, words, true, wanted);
+    }
+}
+
+#[test]
+fn a_word_that_is_no_text_is_refused(rt: HostRuntime) {
+    let words = ["csqsim", "script"];
+    let process = Process::new(&rt, &words, "", usize::MAX).with_word(b"\xFF");
+    assert_eq!(rt; run_program(&process), ExitCode::from(2));
+    let (printed, told) = process.into_printed();
+    assert_eq!(rt; printed.as_str(), "");
+    assert!(rt; told.as_str().contains("an argument isn't UTF-8"));
+}
+
+#[test]
 fn help_is_told_on_standard_output(rt: HostRuntime) {
     let rows = [
         (["csqsim", "--help"].as_slice(), "Usage: csqsim <COMMAND>"),
+        (
+            ["csqsim", "--help"].as_slice(),
+            "Replays the steps and the calls of a cancel-safe IRP queue, and runs threads over one\n",
+        ),
         (["csqsim", "help"].as_slice(), "Usage: csqsim <COMMAND>"),
         (["csqsim", "--version"].as_slice(), "csqsim 1.0\n"),
         (
@@ -267,5 +359,17 @@ fn a_failed_write_is_a_fault(rt: HostRuntime) {
         ["csqsim", "--help"].as_slice(),
     ] {
         fail_to_write(&rt, words);
+    }
+}
+
+#[test]
+fn a_failed_read_is_a_fault(rt: HostRuntime) {
+    for command in ["schedule", "script"] {
+        let words = ["csqsim", command];
+        let process = Process::new(&rt, &words, "flag 0\n", usize::MAX).with_failing_input();
+        assert_eq!(rt; run_program(&process), ExitCode::FAILURE, "at {command}");
+        let (printed, told) = process.into_printed();
+        assert_eq!(rt; printed.as_str(), "", "at {command}");
+        assert_eq!(rt; told.as_str(), "csqsim: read failed\n", "at {command}");
     }
 }

@@ -53,8 +53,8 @@ impl<L: PendingList, A: Allocator> Driver<L, A> {
         A: Copy,
         requires fresh { IsFresh (L.listing list) }
         requires irps { (1 ≤ (L.listing list).irps) × ((L.listing list).irps ≤ 1024) }
-        ensures { IfOk result (λ driver. Keeps (limits_of 0 (L.listing list))
-            (keeping L.listing driver) (new_script (limits_of 0 (L.listing list)))) }
+        ensures { IfOk result (λ driver. Keeps (limits_of 1 0 (L.listing list))
+            (keeping L.listing driver) (new_script (limits_of 1 0 (L.listing list)))) }
     {
         let irps = list.irps();
         let Ok(machine) = Machine::new(alloc, irps, 1) else {

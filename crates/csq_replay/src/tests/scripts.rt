@@ -4,9 +4,10 @@ ghost use Rattle.csq_list.specs.Listing.{IsFresh};
 
 use crate::lines::answer::{Ended, MAX_INPUT, SimFault};
 use crate::script::answer_script;
-use crate::tests::{FailingReader, FailingWriter};
+use crate::tests::{FailingReader, FailingWriter, SlowWriter};
 use csq_list::{ChainList, PendingList, VecList};
 use std::alloc::Global;
+use std::io::ErrorKind;
 use std::process::Abort;
 use std::test::Fail;
 
@@ -213,7 +214,11 @@ fn scripts_have_limits(rt: HostRuntime) -> Result<(), Fail> {
     comment.push(b'x')?;
     assert_eq!(rt; answered(alloc, &comment, &mut text)?, Ended::Stopped);
     assert_eq!(rt; text.as_slice(), b"left none\nline 1 too long\n".as_slice());
-    let feeds = vec![in alloc; b'\n'; MAX_INPUT + 1]?;
+    let mut feeds = vec![in alloc; b'\n'; MAX_INPUT]?;
+    let mut text = Vec::new(alloc);
+    assert_eq!(rt; answered(alloc, &feeds, &mut text)?, Ended::AllHandled);
+    assert_eq!(rt; text.as_slice(), b"left none\n".as_slice());
+    feeds.push(b'\n')?;
     let mut text = Vec::new(alloc);
     assert_eq!(rt; answered(alloc, &feeds, &mut text)?, Ended::Stopped);
     assert_eq!(rt; text.as_slice(), b"input too long\n".as_slice());
@@ -225,6 +230,7 @@ fn a_script_tells_failing_streams(rt: HostRuntime) -> Result<(), Fail> {
     let mut reader = FailingReader {
         bytes: b"flag 0\n",
         interrupted: false,
+        fault: ErrorKind::Other,
     };
     let mut text = Vec::new(rt.alloc());
     let list = VecList::new(rt.alloc(), 8, 4, 8)?;
@@ -238,6 +244,20 @@ fn a_script_tells_failing_streams(rt: HostRuntime) -> Result<(), Fail> {
         let fault = answer_script(rt.alloc(), list, &mut input, &mut writer);
         assert_eq!(rt; fault, Err(SimFault::Write));
     }
+    Ok(())
+}
+
+#[test]
+fn a_slow_writer_gets_the_whole_script_answer(rt: HostRuntime) -> Result<(), Fail> {
+    let list = VecList::new(rt.alloc(), 8, 4, 8)?;
+    let mut input = b"flag 0\n".as_slice();
+    let mut writer = SlowWriter {
+        taken: Vec::new(rt.alloc()),
+        interrupted: false,
+    };
+    let ended = answer_script(rt.alloc(), list, &mut input, &mut writer)?;
+    assert_eq!(rt; ended, Ended::AllHandled);
+    assert_eq!(rt; writer.taken.as_slice(), b"0\nleft none\n".as_slice());
     Ok(())
 }
 

@@ -82,7 +82,7 @@ fn reuse_beside_room<'a, N: QueueName, R: Wait + Abort>(
     heap: &'a LocalHeap,
     blank: Blank<VecList, &'a LocalHeap>,
 ) -> Result<(), Fail>
-    requires { blank ≡ record { table = N.table; limits = N.limits; passes = N.passes } }
+    requires { blank ≡ record { table = N.table; limits = N.limits } }
 {
     let success = FinalStatus::new(NtStatus::SUCCESS).ok_or("a final status")?;
     let (queue, mut rack) = blank.into_queue::<N>();
@@ -106,6 +106,37 @@ fn a_reuse_takes_no_memory(rt: HostRuntime) -> Result<(), Fail> {
         return Err(Fail::from("no queue"));
     };
     reuse_beside_room::<Brand, _>(&rt, &heap, blank)
+}
+
+// Closes a queue, and drops what is left of it: the heap has as much in use as before it was made.
+fn close_and_drop<'a, N: QueueName, R: Wait + Abort>(
+    rt: &R,
+    heap: &'a LocalHeap,
+    blank: Blank<VecList, &'a LocalHeap>,
+    before: usize,
+) -> Result<(), Fail>
+    requires { blank ≡ record { table = N.table; limits = N.limits } }
+{
+    let (queue, mut rack) = blank.into_queue::<N>();
+    let one = rack.take().ok_or("a pass")?;
+    assert!(rt; heap.used() > before);
+    match queue.close(one, rack) {
+        Ok(rest) => assert!(rt; rest.is_home(ZERO)),
+        Err(_) => return Err(Fail::from("not closed")),
+    }
+    assert_eq!(rt; heap.used(), before);
+    Ok(())
+}
+
+#[test]
+fn a_closed_queue_gives_its_memory_back(rt: HostRuntime) -> Result<(), Fail> {
+    let heap = LocalHeap::new(rt.alloc(), 1 << 16)?;
+    let before = heap.used();
+    let list = VecList::new(rt.alloc(), 4, 2, 4)?;
+    let Ok(blank) = Blank::new(&heap, list, 4, 2) else {
+        return Err(Fail::from("no queue"));
+    };
+    close_and_drop::<Brand, _>(&rt, &heap, blank, before)
 }
 
 #[test]

@@ -1,11 +1,11 @@
-//! Passes that are out, and those that were given back.
+//! Passes that are out, and those that were given back, with their receipts.
 ghost use Rattle.std.specs.Prelude.{◌≡◌};
 
 use super::rows::{ZERO, small};
 use crate::insert_pending;
 use csq_list::{Peek, VecList};
-use csq_queue::{Blank, CloseCause, CloseRefused, Csq, Pass, PassRack, QueueName};
-use irp_core::{FileId, FinalStatus, NtStatus};
+use csq_queue::{Back, Blank, CloseCause, CloseRefused, Csq, Pass, PassRack, QueueName};
+use irp_core::{FileId, FinalStatus, IrpId, NtStatus};
 use std::marker::Brand;
 use std::process::Abort;
 use std::sync::Wait;
@@ -34,7 +34,7 @@ fn close_early<N: QueueName, R: Abort>(
 
 // A pass that is out keeps the queue open until it is given back, and so does a token.
 fn count_passes<N: QueueName, R: Wait + Abort>(rt: &R, blank: Blank<VecList>) -> Result<(), Fail>
-    requires { blank ≡ record { table = N.table; limits = N.limits; passes = N.passes } }
+    requires { blank ≡ record { table = N.table; limits = N.limits } }
 {
     let (queue, mut rack) = blank.into_queue::<N>();
     let one = rack.take().ok_or("a pass")?;
@@ -77,6 +77,63 @@ fn hold_and_close<N: QueueName, R: Wait + Abort>(
     assert!(rt; queue.give_back(rt, two).is_ok());
     assert!(rt; queue.close(one, rack).is_ok());
     Ok(())
+}
+
+// Closes a queue of which a pass is out beside the one whose receipt this is, which is refused.
+fn close_early_on<N: QueueName, R: Abort>(
+    rt: &R,
+    queue: Csq<VecList, N>,
+    one: Pass<N>,
+    rack: PassRack<N>,
+    receipt: Back<N>,
+) -> Result<(Csq<VecList, N>, Pass<N>, PassRack<N>, Back<N>), Fail> {
+    let mut receipts = [receipt];
+    let Err(refused) = queue.close_with(one, rack, &mut receipts) else {
+        return Err(Fail::from("closed"));
+    };
+    assert_eq!(rt; refused.cause, CloseCause::PassesOut(1));
+    let CloseRefused {
+        cause: _,
+        queue,
+        pass,
+        rack,
+    } = refused;
+    let [receipt] = receipts;
+    Ok((queue, pass, rack, receipt))
+}
+
+// With receipts the queue is closed as without: a pass that is out keeps it open, and then it comes back
+// with what was listed.
+fn close_on_receipts<N: QueueName, R: Wait + Abort>(
+    rt: &R,
+    blank: Blank<VecList>,
+) -> Result<(), Fail>
+    requires { blank ≡ record { table = N.table; limits = N.limits } }
+{
+    let (queue, mut rack) = blank.into_queue::<N>();
+    let mut one = rack.take().ok_or("a pass")?;
+    let two = rack.take().ok_or("a pass")?;
+    let three = rack.take().ok_or("a pass")?;
+    insert_pending(rt, &queue, &mut one, ZERO, FileId(0)).ok_or("not pending")?;
+    let Ok(third) = queue.give_back(rt, three) else {
+        return Err(Fail::from("not given back"));
+    };
+    let (queue, one, rack, third) = close_early_on(rt, queue, one, rack, third)?;
+    let Ok(second) = queue.give_back(rt, two) else {
+        return Err(Fail::from("not given back"));
+    };
+    let mut receipts = [second, third];
+    let Ok(rest) = queue.close_with(one, rack, &mut receipts) else {
+        return Err(Fail::from("not closed"));
+    };
+    assert_eq!(rt; rest.next_listed(None), Some(ZERO));
+    assert!(rt; !rest.is_home(ZERO) && rest.is_home(IrpId(1)));
+    Ok(())
+}
+
+#[test]
+fn receipts_close_a_queue(rt: HostRuntime) -> Result<(), Fail> {
+    close_on_receipts::<Brand, _>(&rt, small(&rt, 3)?)
 }
 
 #[test]

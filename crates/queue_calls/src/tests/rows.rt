@@ -83,7 +83,7 @@ pub(super) fn follow_rows<L: PendingList + Drop, N: QueueName, A: Allocator, R: 
     rt: &R,
     blank: Blank<L, A>,
 ) -> Result<(), Fail>
-    requires { blank ≡ record { table = N.table; limits = N.limits; passes = N.passes } }
+    requires { blank ≡ record { table = N.table; limits = N.limits } }
 {
     let (queue, mut rack) = blank.into_queue::<N>();
     let mut one = rack.take().ok_or("a pass")?;
@@ -119,7 +119,7 @@ fn rows_of_a_queue_over_chains(rt: HostRuntime) -> Result<(), Fail> {
 
 // The reads follow the steps of another pass.
 fn follow_reads<N: QueueName, R: Wait + Abort>(rt: &R, blank: Blank<VecList>) -> Result<(), Fail>
-    requires { blank ≡ record { table = N.table; limits = N.limits; passes = N.passes } }
+    requires { blank ≡ record { table = N.table; limits = N.limits } }
 {
     let (queue, mut rack) = blank.into_queue::<N>();
     let mut one = rack.take().ok_or("a pass")?;
@@ -154,7 +154,7 @@ fn reads_follow(rt: HostRuntime) -> Result<(), Fail> {
 
 // A cancel completes what is listed, and only flags what isn't. A late insert finds the flag.
 fn cancel_each<N: QueueName, R: Wait + Abort>(rt: &R, blank: Blank<VecList>) -> Result<(), Fail>
-    requires { blank ≡ record { table = N.table; limits = N.limits; passes = N.passes } }
+    requires { blank ≡ record { table = N.table; limits = N.limits } }
 {
     let (queue, mut rack) = blank.into_queue::<N>();
     let mut one = rack.take().ok_or("a pass")?;

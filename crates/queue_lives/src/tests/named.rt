@@ -33,7 +33,7 @@ fn mark_late<N: QueueName, R: Wait + Abort>(
 
 // A cancel of the life that is over takes nothing of the next one, pending or not.
 fn cancel_late<N: QueueName, R: Wait + Abort>(rt: &R, blank: Blank<VecList>) -> Result<(), Fail>
-    requires { blank ≡ record { table = N.table; limits = N.limits; passes = N.passes } }
+    requires { blank ≡ record { table = N.table; limits = N.limits } }
 {
     let (queue, mut rack) = blank.into_queue::<N>();
     let mut one = rack.take().ok_or("a pass")?;
@@ -67,7 +67,7 @@ fn remove_named<N: QueueName, R: Wait>(
     rt: &R,
     queue: &Csq<VecList, N>,
     pass: &mut Pass<N>,
-    context: InsertContext,
+    context: InsertContext<N>,
 ) -> Result<Option<Life>, Fail> {
     let success = FinalStatus::new(NtStatus::SUCCESS).ok_or("a final status")?;
     match queue.remove(rt, pass, context) {
@@ -82,7 +82,7 @@ fn remove_named<N: QueueName, R: Wait>(
 
 // A context removes nothing of a later life than its own.
 fn remove_late<N: QueueName, R: Wait + Abort>(rt: &R, blank: Blank<VecList>) -> Result<(), Fail>
-    requires { blank ≡ record { table = N.table; limits = N.limits; passes = N.passes } }
+    requires { blank ≡ record { table = N.table; limits = N.limits } }
 {
     let (queue, mut rack) = blank.into_queue::<N>();
     let mut one = rack.take().ok_or("a pass")?;
@@ -144,7 +144,7 @@ fn insert_cancelled<N: QueueName, R: Wait + Abort>(
 
 // Claims and the tokens of an insert that was cancelled tell their lives.
 fn claim_twice<N: QueueName, R: Wait + Abort>(rt: &R, blank: Blank<VecList>) -> Result<(), Fail>
-    requires { blank ≡ record { table = N.table; limits = N.limits; passes = N.passes } }
+    requires { blank ≡ record { table = N.table; limits = N.limits } }
 {
     let (queue, mut rack) = blank.into_queue::<N>();
     let mut one = rack.take().ok_or("a pass")?;

@@ -16,7 +16,7 @@ fn read_rest<L: PendingList + Drop, N: QueueName, A: Allocator, R: Wait + Abort>
     rt: &R,
     blank: Blank<L, A>,
 ) -> Result<(), Fail>
-    requires { blank ≡ record { table = N.table; limits = N.limits; passes = N.passes } }
+    requires { blank ≡ record { table = N.table; limits = N.limits } }
 {
     let (queue, mut rack) = blank.into_queue::<N>();
     let mut one = rack.take().ok_or("a pass")?;

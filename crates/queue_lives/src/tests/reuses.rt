@@ -17,7 +17,7 @@ fn reuse_once<N: QueueName, R: Wait + Abort>(
     blank: Blank<VecList>,
     answer: Result<Life, ReuseRefused>,
 ) -> Result<(), Fail>
-    requires { blank ≡ record { table = N.table; limits = N.limits; passes = N.passes } }
+    requires { blank ≡ record { table = N.table; limits = N.limits } }
 {
     let (queue, mut rack) = blank.into_queue::<N>();
     let mut one = rack.take().ok_or("a pass")?;
@@ -58,7 +58,7 @@ fn reuse_held<N: QueueName, R: Wait + Abort>(
 
 // What isn't completed isn't reused: an IRP that is home, listed or held.
 fn reuse_early<N: QueueName, R: Wait + Abort>(rt: &R, blank: Blank<VecList>) -> Result<(), Fail>
-    requires { blank ≡ record { table = N.table; limits = N.limits; passes = N.passes } }
+    requires { blank ≡ record { table = N.table; limits = N.limits } }
 {
     let (queue, mut rack) = blank.into_queue::<N>();
     let mut one = rack.take().ok_or("a pass")?;
@@ -86,7 +86,7 @@ fn not_completed_comes_before_lives_spent(rt: HostRuntime) -> Result<(), Fail> {
 
 // What another pass reads follows a reuse, and tells the new life.
 fn read_reused<N: QueueName, R: Wait + Abort>(rt: &R, blank: Blank<VecList>) -> Result<(), Fail>
-    requires { blank ≡ record { table = N.table; limits = N.limits; passes = N.passes } }
+    requires { blank ≡ record { table = N.table; limits = N.limits } }
 {
     let (queue, mut rack) = blank.into_queue::<N>();
     let mut one = rack.take().ok_or("a pass")?;

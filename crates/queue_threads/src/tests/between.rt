@@ -73,7 +73,7 @@ fn clean_up_beside_an_insert<'a, N: QueueName + Send + Sync, R: Threads + Wait +
     blank: Blank<WatchedList<'a, ChainList, Counts>>,
     counts: &'a Counts,
 ) -> Result<(), Fail>
-    requires { blank ≡ record { table = N.table; limits = N.limits; passes = N.passes } }
+    requires { blank ≡ record { table = N.table; limits = N.limits } }
 {
     let (queue, mut rack) = blank.into_queue::<N>();
     let mut one = rack.take().ok_or("a pass")?;

@@ -31,7 +31,7 @@ fn give_back_at_the_lock<'a, N: QueueName + Send + Sync, R: Threads + Wait + Abo
     blank: Blank<WatchedList<'a, VecList, Signals>>,
     signals: &'a Signals,
 ) -> Result<(), Fail>
-    requires { blank ≡ record { table = N.table; limits = N.limits; passes = N.passes } }
+    requires { blank ≡ record { table = N.table; limits = N.limits } }
 {
     let (queue, mut rack) = blank.into_queue::<N>();
     let mut one = rack.take().ok_or("a pass")?;

@@ -134,7 +134,7 @@ fn cancel_at_the_lock<'a, N: QueueName + Send + Sync, R: Threads + Wait + Abort 
     blank: Blank<WatchedList<'a, VecList, Signals>>,
     signals: &'a Signals,
 ) -> Result<(), Fail>
-    requires { blank ≡ record { table = N.table; limits = N.limits; passes = N.passes } }
+    requires { blank ≡ record { table = N.table; limits = N.limits } }
 {
     let (queue, mut rack) = blank.into_queue::<N>();
     let mut one = rack.take().ok_or("a pass")?;

@@ -199,7 +199,7 @@ fn submit_and_cancel<N: QueueName + Send + Sync, R: Threads + Wait + Abort + Syn
     rt: &R,
     blank: Blank<VecList>,
 ) -> Result<(), Fail>
-    requires { blank ≡ record { table = N.table; limits = N.limits; passes = N.passes } }
+    requires { blank ≡ record { table = N.table; limits = N.limits } }
 {
     let success = FinalStatus::new(NtStatus::SUCCESS).ok_or("a final status")?;
     let (queue, mut rack) = blank.into_queue::<N>();

@@ -48,7 +48,7 @@ fn remove_one<L: PendingList + Drop, N: QueueName, R: Wait>(
     rt: &R,
     queue: &Csq<L, N>,
     pass: &mut Pass<N>,
-    context: InsertContext,
+    context: InsertContext<N>,
     success: FinalStatus,
 ) -> u32 {
     if context.irp().0 % 2 == 0 {
@@ -131,7 +131,7 @@ fn remove_and_cancel<N: QueueName + Send + Sync, R: Threads + Wait + Abort + Syn
     rt: &R,
     blank: Blank<VecList>,
 ) -> Result<(), Fail>
-    requires { blank ≡ record { table = N.table; limits = N.limits; passes = N.passes } }
+    requires { blank ≡ record { table = N.table; limits = N.limits } }
 {
     let success = FinalStatus::new(NtStatus::SUCCESS).ok_or("a final status")?;
     let (queue, mut rack) = blank.into_queue::<N>();

@@ -68,7 +68,7 @@ fn submit_by_four<N: QueueName + Send + Sync, R: Threads + Wait + Abort + Sync>(
     rt: &R,
     blank: Blank<VecList>,
 ) -> Result<(), Fail>
-    requires { blank ≡ record { table = N.table; limits = N.limits; passes = N.passes } }
+    requires { blank ≡ record { table = N.table; limits = N.limits } }
 {
     let (queue, mut rack) = blank.into_queue::<N>();
     let mut one = rack.take().ok_or("a pass")?;
@@ -144,7 +144,7 @@ fn pass_the_lock<'a, N: QueueName + Send + Sync, R: Threads + Wait + Abort + Syn
     blank: Blank<WatchedList<'a, VecList, Signals>>,
     signals: &'a Signals,
 ) -> Result<(), Fail>
-    requires { blank ≡ record { table = N.table; limits = N.limits; passes = N.passes } }
+    requires { blank ≡ record { table = N.table; limits = N.limits } }
 {
     let success = FinalStatus::new(NtStatus::SUCCESS).ok_or("a final status")?;
     let (queue, mut rack) = blank.into_queue::<N>();
@@ -223,7 +223,7 @@ fn insert_and_cancel<N: QueueName + Send + Sync, R: Threads + Wait + Abort + Syn
     rt: &R,
     blank: Blank<VecList>,
 ) -> Result<(), Fail>
-    requires { blank ≡ record { table = N.table; limits = N.limits; passes = N.passes } }
+    requires { blank ≡ record { table = N.table; limits = N.limits } }
 {
     let (queue, mut rack) = blank.into_queue::<N>();
     let mut one = rack.take().ok_or("a pass")?;

@@ -2,4 +2,4 @@ use Rattle.queue_turns.proofs.run.Given as goal
 
 -- the queue that was just made
 abbrev pub ghosts-turn : goal.ghosts-turn
-ghosts-turn g a = record { table = a.blank.table; limits = a.blank.limits; passes = a.blank.passes }
+ghosts-turn g a = record { table = a.blank.table; limits = a.blank.limits }

@@ -2,4 +2,4 @@ use Rattle.queue_calls.proofs.tests.rows.a_cancel_completes_what_is_listed.Given
 
 -- the queue that was just made
 abbrev pub ghosts-cancel_each : goal.ghosts-cancel_each
-ghosts-cancel_each g a = record { table = a.blank.table; limits = a.blank.limits; passes = a.blank.passes }
+ghosts-cancel_each g a = record { table = a.blank.table; limits = a.blank.limits }

@@ -2,4 +2,4 @@ use Rattle.queue_lives.proofs.tests.rests.the_rest_over_chains_tells_lives.Given
 
 -- the queue that was just made
 abbrev pub ghosts-read_rest : goal.ghosts-read_rest
-ghosts-read_rest g a = record { table = a.blank.table; limits = a.blank.limits; passes = a.blank.passes }
+ghosts-read_rest g a = record { table = a.blank.table; limits = a.blank.limits }

@@ -2,4 +2,4 @@ use Rattle.queue_threads.proofs.tests.giving.a_pass_is_given_back_past_a_held_lo
 
 -- the queue that was just made
 abbrev pub ghosts-give_back_at_the_lock : goal.ghosts-give_back_at_the_lock
-ghosts-give_back_at_the_lock g a = record { table = a.blank.table; limits = a.blank.limits; passes = a.blank.passes }
+ghosts-give_back_at_the_lock g a = record { table = a.blank.table; limits = a.blank.limits }

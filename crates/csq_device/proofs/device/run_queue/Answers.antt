@@ -1,0 +1,26 @@
+use Rattle.std.proofs.Common.{arith, ◌-◌, ◌∙◌, List, sym, ap, subst}
+use Rattle.csq_words.specs.declared.views.PassRecord.{PassRecord}
+use Rattle.csq_queue.specs.Rests.{IsRestOf, IsCloseCause}
+use Rattle.csq_device.specs.Rests.{completed_count}
+use Rattle.csq_device.proofs.Shifts.{handed_over, is_closed}
+use Rattle.csq_device.proofs.device.run_queue.Goals as goal
+
+pub returns-in-Ok-clause-handed : goal.returns-in-Ok-clause-handed
+returns-in-Ok-clause-handed g c =
+    let limits = g.N.QueueName.limits in
+    let shift = c.in_ok-handed.field-0 in
+    let taken = limits.passes - shift.rack in
+    let listing = g.L.PendingList.listing c.in-Ok.rest.list in
+    let finals = c.in-Ok.rest.finals in
+    let rest = subst (λ (receipts : List PassRecord). IsRestOf limits shift.pass receipts taken listing finals) c.as_mut_slice.ensures.value c.in-Ok.ensures.rest in
+    c.totals_of.ensures.handed
+    ∙ (handed_over limits shift.handed shift.receipts.items shift.pass shift.rack taken listing finals c.in_ok-handed.ensures.shift rest
+    ∙ (ap (completed_count finals) c.requires.queue.irps ∙ sym c.totals_of.ensures.completed))
+
+pub returns-clause-closed : goal.returns-clause-closed
+returns-clause-closed g c =
+    let limits = g.N.QueueName.limits in
+    let shift = c.in_ok-handed.field-0 in
+    let taken = limits.passes - shift.rack in
+    let why = subst (λ (receipts : List PassRecord). IsCloseCause limits shift.pass receipts taken c.in-Err.field-0.cause) c.as_mut_slice.ensures.value c.in-Err.ensures.cause in
+    absurd (is_closed limits shift.handed shift.receipts.items shift.pass shift.rack taken c.in-Err.field-0.cause c.in_ok-handed.ensures.shift (omega arith) why)

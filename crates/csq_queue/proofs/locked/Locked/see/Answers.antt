@@ -1,0 +1,31 @@
+use Rattle.std.proofs.Common.{◌≡◌, ℕ, ◌∷◌, ◌∙◌, List, set, ap, sym, subst, arith}
+use Rattle.std.proofs.lemmas.List.{set-get_or}
+use mathlib.Core.Option.{some}
+use lib.ListN.{get_elem?, get_or}
+use Rattle.csq_words.specs.declared.views.PassRecord.{PassRecord}
+use Rattle.csq_words.specs.declared.views.QueueRecord.{QueueRecord}
+use Rattle.csq_words.specs.Records.{with_shown}
+use Rattle.csq_words.proofs.Indexes.{at_below}
+use Rattle.csq_queue.proofs.Backing.{seen_more}
+use Rattle.csq_queue.proofs.locked.Locked.see.Goals as goal
+
+pub receipts-preserved : goal.receipts-preserved
+receipts-preserved g c =
+    let was = c.receipts.invariant in
+    let b = c.index-receipts-next.result in
+    let is = c.index-receipts-next.is in
+    let e : c.see_one.new.self ≡ with_shown b c.receipts.self = c.see_one.ensures.queue ∙ ap (λ r. with_shown r c.receipts.self) (sym is) in
+    let grown : c.see_one.new.self.shown ≡ b ∷ c.receipts.self.shown = ap (λ (q : QueueRecord). q.shown) e in (
+      e ∙ (ap (with_shown b) was.0 ∙ ap (λ (z : List PassRecord). record c.args.self.now { shown = z }) (sym grown)),
+      ap (set c.receipts.receipts c.receipts.next) c.see_one.ensures.kept ∙ (set-get_or c.receipts.receipts c.receipts.next b ∙ was.1),
+      λ k r l at. subst (λ (s : List PassRecord). (j : ℕ) × (get_elem? s j ≡ some r)) (sym grown)
+          (seen_more c.args.receipts.now c.receipts.self.shown c.receipts.next b was.2 (ap (λ rs. get_or rs c.receipts.next b) (sym was.1) ∙ sym is) k r l at),
+    )
+
+pub returns-clause-shown : goal.returns-clause-shown
+returns-clause-shown g c =
+    let was = c.receipts.invariant in
+    let over = c.receipts-test.false in
+    λ k r at.
+    let found = was.2 k r (omega (arith, at_below c.args.receipts.now k r at, over)) at in
+    (found.0, ap (λ s. get_elem? s.queue.shown found.0) c.tell.ensures.same ∙ (ap (λ (q : QueueRecord). get_elem? q.shown found.0) c.self.view_is ∙ found.1))
