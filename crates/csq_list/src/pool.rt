@@ -1,23 +1,27 @@
 //! What every list keeps beside its entries.
-ghost use Rattle.std.specs.Prelude.{◌≡◌, ◌≤◌, ◌<◌, ◌==◌, ◌↔◌, ◌&&◌, nat_lt, false, not, List, length, replicate, slice_index_or, IfOk, OnOk, IsOk};
+ghost use Rattle.std.specs.Prelude.{◌≡◌, ◌≤◌, ◌<◌, ◌==◌, ◌↔◌, ◌&&◌, nat_lt, false, not, List, [], length, replicate, slice_index_or, IsTrue, IfOk, OnOk, IsOk};
 ghost use Rattle.std.specs.List.{list_all};
 ghost use Rattle.std.specs.Result.{result_err};
 ghost use Rattle.csq_list.specs.declared.entry.Entry.{Entry};
 ghost use Rattle.csq_list.specs.Causes.{first_cause};
-ghost use Rattle.csq_list.specs.Listing.{IsListSize};
-ghost use Rattle.csq_list.specs.VecParts.{listing_of};
+ghost use Rattle.csq_list.specs.Listing.{IsListSize, are_file_limits, fresh, is_file_full};
+ghost use Rattle.csq_list.specs.VecParts.{listing_of, HasFileLens};
 
+use crate::file_counts::FileCounts;
 use crate::refusals::{InsertStatus, ListNew};
-use crate::size::is_list_size;
+use crate::size::{are_file_limits, is_list_size};
 use irp_core::{FileId, IrpId};
-use std::alloc::Allocator;
+use std::alloc::{AllocError, Allocator};
 
-/// Which IRPs are used, which file objects are closed, and how many IRPs may be listed.
+/// Which IRPs are used, which file objects are closed, how many IRPs may be listed, and how many are
+/// and may be for each file object.
 #[derive(Drop)]
 pub(crate) struct Pool<A: Allocator> {
     pub(crate) used: Vec<bool, A>,
     pub(crate) closed: Vec<bool, A>,
     pub(crate) limit: u32,
+    pub(crate) counts: FileCounts<A>,
+    ghost files_counted: { length counts.limits.items ≡ length closed.items },
     ghost limit_within: { limit ≤ length used.items },
     ghost irps_small: { length used.items ≤ 1024 },
     ghost files_small: { length closed.items ≤ 256 },
@@ -30,26 +34,65 @@ fn are_clear(flags: &[bool]) -> bool
 }
 
 impl<A: Allocator> Pool<A> {
-    /// Unused IRPs and open file objects, numbered from 0, and a limit. BadSize where a list may not
-    /// be made so, and then want of memory.
+    /// Unused IRPs and open file objects, numbered from 0, and a limit; that of each file object is the
+    /// number of IRPs. BadSize where a list may not be made so, and then want of memory.
     pub(crate) fn new(alloc: &A, irps: u32, files: u32, limit: u32) -> Result<Pool<A>, ListNew>
     where
         A: Clone,
-        ensures used { IfOk result (λ pool. pool.used.items ≡ replicate irps false) }
-        ensures closed { IfOk result (λ pool. pool.closed.items ≡ replicate files false) }
-        ensures limit { IfOk result (λ pool. pool.limit ≡ limit) }
-        ensures size { IsOk result → IsListSize irps files limit }
+        ensures made { IfOk result (λ pool. listing_of [] pool.used.items pool.closed.items pool.limit pool.counts.limits.items ≡ fresh irps files limit (replicate files irps)) }
+        ensures none { IfOk result (λ pool. HasFileLens pool.counts.lens.items []) }
         ensures bad_size { (result ≡ Err ListNew.BadSize) ↔ ¬ IsListSize irps files limit }
     {
         if !is_list_size(irps, files, limit) {
             return Err(ListNew::BadSize);
         }
+        let counts = FileCounts::new(alloc, files, irps)?;
+        Ok(Pool::with_counts(alloc, irps, files, limit, counts)?)
+    }
+
+    /// What `new` makes, with a limit for each file object. BadSize also where these aren't such limits.
+    pub(crate) fn with_file_limits(
+        alloc: &A,
+        irps: u32,
+        files: u32,
+        limit: u32,
+        file_limits: &[u32],
+    ) -> Result<Pool<A>, ListNew>
+    where
+        A: Clone,
+        ensures made { IfOk result (λ pool. listing_of [] pool.used.items pool.closed.items pool.limit pool.counts.limits.items ≡ fresh irps files limit file_limits.now) }
+        ensures none { IfOk result (λ pool. HasFileLens pool.counts.lens.items []) }
+        ensures bad_size { (result ≡ Err ListNew.BadSize) ↔ ¬ (IsListSize irps files limit × IsTrue (are_file_limits irps files file_limits.now)) }
+    {
+        if !is_list_size(irps, files, limit) || !are_file_limits(irps, files, file_limits) {
+            return Err(ListNew::BadSize);
+        }
+        let counts = FileCounts::with_limits(alloc, file_limits)?;
+        Ok(Pool::with_counts(alloc, irps, files, limit, counts)?)
+    }
+
+    // Unused IRPs and open file objects, with these counts.
+    fn with_counts(
+        alloc: &A,
+        irps: u32,
+        files: u32,
+        limit: u32,
+        counts: FileCounts<A>,
+    ) -> Result<Pool<A>, AllocError>
+    where
+        A: Clone,
+        requires size { IsListSize irps files limit }
+        requires counted { length counts.limits.items ≡ files }
+        ensures made { IfOk result (λ pool. listing_of [] pool.used.items pool.closed.items pool.limit pool.counts.limits.items ≡ fresh irps files limit counts.limits.items) }
+        ensures counts { IfOk result (λ pool. pool.counts ≡ counts) }
+    {
         let used = vec![in alloc.clone()?; false; irps as usize]?;
         let closed = vec![in alloc.clone()?; false; files as usize]?;
         Ok(Pool {
             used,
             closed,
             limit,
+            counts,
         })
     }
 
@@ -79,17 +122,18 @@ impl<A: Allocator> Pool<A> {
         (irp.0 as usize) < self.used.len() && !self.used[irp.0 as usize]
     }
 
-    /// Refuses an insert for the first cause that holds. Whether the list is full is for the caller to
-    /// say.
+    /// Refuses an insert for the first cause that holds, where the counts are those of the entries.
+    /// Whether the list is full is for the caller to say.
     pub(crate) fn may_insert(
         &self,
         full: bool,
         irp: IrpId,
         file: FileId,
     ) -> Result<(), InsertStatus>
-        ensures cause { (entries : List Entry) → full ≡ (length entries == self.now.limit) → result_err result ≡ first_cause (listing_of entries self.now.used.items self.now.closed.items self.now.limit) irp file }
+        ensures cause { (entries : List Entry) → HasFileLens self.now.counts.lens.items entries → full ≡ (length entries == self.now.limit) → result_err result ≡ first_cause (listing_of entries self.now.used.items self.now.closed.items self.now.limit self.now.counts.limits.items) irp file }
         ensures known { OnOk result ((irp.0 < length self.now.used.items) × (file.0 < length self.now.closed.items)) }
         ensures home { OnOk result (slice_index_or self.now.used.items irp.0 false ≡ false) }
+        ensures file_room { (entries : List Entry) → HasFileLens self.now.counts.lens.items entries → OnOk result (is_file_full (listing_of entries self.now.used.items self.now.closed.items self.now.limit self.now.counts.limits.items) file ≡ false) }
         ensures room { OnOk result (full ≡ false) }
     {
         if irp.0 as usize >= self.used.len() {
@@ -103,6 +147,9 @@ impl<A: Allocator> Pool<A> {
         }
         if self.closed[file.0 as usize] {
             return Err(InsertStatus::FileClosed);
+        }
+        if self.counts.is_full(file) {
+            return Err(InsertStatus::FileFull);
         }
         if full {
             return Err(InsertStatus::Full);

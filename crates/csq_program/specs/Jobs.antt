@@ -15,13 +15,13 @@ use Rattle.csq_program.specs.declared.command.CommandFault.TheVariants.{Memory, 
 -- each number is in its range
 abbrev pub IsInRange : Job → Type 0
 IsInRange (Schedule irps passes claims) = IsInLimits (record { irps = irps; passes = passes; first = 0 })
-IsInRange (Script irps files limit chain) = ((1 ≤ irps) × (irps ≤ 1024)) × ((1 ≤ files) × (files ≤ 256)) × IfSome limit (λ n. (1 ≤ n) × (n ≤ 1024))
+IsInRange (Script irps files limit file_limit chain) = ((1 ≤ irps) × (irps ≤ 1024)) × ((1 ≤ files) × (files ≤ 256)) × IfSome limit (λ n. (1 ≤ n) × (n ≤ 1024)) × IfSome file_limit (λ n. (1 ≤ n) × (n ≤ 1024))
 IsInRange (Run plan chain) = IsPlan plan.irps plan.files plan.submitters plan.workers plan.cancellers plan.turns
 
 -- the command of this name, of which any but a script's and a run's is a schedule's
 abbrev pub IsJobOf : List ℕ → Job → Type 0
 IsJobOf name (Schedule irps passes claims) = (name ≢ codes "script") × (name ≢ codes "run")
-IsJobOf name (Script irps files limit chain) = name ≡ codes "script"
+IsJobOf name (Script irps files limit file_limit chain) = name ≡ codes "script"
 IsJobOf name (Run plan chain) = name ≡ codes "run"
 
 -- a flag of this name: whether the options have it set
@@ -33,7 +33,7 @@ pub record IsFlag (options : ArgMatches) (name : List ℕ) (flag : Bool) : Type 
 -- the job's flag is that of the options
 abbrev pub TellsFlag : ArgMatches → Job → Type 0
 TellsFlag options (Schedule irps passes claims) = IsFlag options (codes "claims") claims
-TellsFlag options (Script irps files limit chain) = IsFlag options (codes "chain") chain
+TellsFlag options (Script irps files limit file_limit chain) = IsFlag options (codes "chain") chain
 TellsFlag options (Run plan chain) = IsFlag options (codes "chain") chain
 
 -- an option of this name: the number that its text writes, where that is from 1 to `most`, and the default without a text
@@ -41,10 +41,10 @@ pub record IsNumber (options : ArgMatches) (name : List ℕ) (most default numbe
   pub given : (n : ℕ) → 1 ≤ n → n ≤ most → one_text (found_of options) name ≡ Some (decimal n) → number ≡ n
   pub absent : one_text (found_of options) name ≡ None → number ≡ default
 
--- the limit of a list: the number that its text writes, where that is from 1 to 1,024, and none without a text
-pub record IsLimit (options : ArgMatches) (limit : Option ℕ) : Type 0 where
-  pub given : (n : ℕ) → 1 ≤ n → n ≤ 1024 → one_text (found_of options) (codes "limit") ≡ Some (decimal n) → limit ≡ Some n
-  pub absent : one_text (found_of options) (codes "limit") ≡ None → limit ≡ None
+-- a limit of this name: the number that its text writes, where that is from 1 to 1,024, and none without a text
+pub record IsLimit (options : ArgMatches) (name : List ℕ) (limit : Option ℕ) : Type 0 where
+  pub given : (n : ℕ) → 1 ≤ n → n ≤ 1024 → one_text (found_of options) name ≡ Some (decimal n) → limit ≡ Some n
+  pub absent : one_text (found_of options) name ≡ None → limit ≡ None
 
 -- the numbers of a plan are those of the options
 pub record ArePlanned (options : ArgMatches) (plan : Plan) : Type 0 where
@@ -58,7 +58,7 @@ pub record ArePlanned (options : ArgMatches) (plan : Plan) : Type 0 where
 -- the job's numbers are those of the options
 abbrev pub TellsNumbers : ArgMatches → Job → Type 0
 TellsNumbers options (Schedule irps passes claims) = IsNumber options (codes "irps") 1024 8 irps × IsNumber options (codes "passes") 64 4 passes
-TellsNumbers options (Script irps files limit chain) = IsNumber options (codes "irps") 1024 8 irps × IsNumber options (codes "files") 256 4 files × IsLimit options limit
+TellsNumbers options (Script irps files limit file_limit chain) = IsNumber options (codes "irps") 1024 8 irps × IsNumber options (codes "files") 256 4 files × IsLimit options (codes "limit") limit × IsLimit options (codes "file-limit") file_limit
 TellsNumbers options (Run plan chain) = ArePlanned options plan
 
 -- the number of a fault

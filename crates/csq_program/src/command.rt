@@ -24,11 +24,13 @@ pub enum Job {
         claims: bool,
     },
     /// To make the calls of a script over this many IRPs and file objects, of which `limit` IRPs may
-    /// be listed at a time: all, where none is given. The list is in one vector, or in chains.
+    /// be listed at a time, and `file_limit` for each file object: all, where none is given. The list is
+    /// in one vector, or in chains.
     Script {
         irps: u32,
         files: u32,
         limit: Option<u32>,
+        file_limit: Option<u32>,
         chain: bool,
     },
     /// To run a device of this plan. The list is in one vector, or in chains.
@@ -108,6 +110,9 @@ fn script_command<'a>(alloc: Global) -> Result<Command<'a>, AllocError> {
     let files = number_option(alloc, "files", "File objects, 1 to 256", MAX_FILES);
     let help = "IRPs that may be listed at a time, 1 to the IRPs [default: the IRPs]";
     let limit = number_option(alloc, "limit", help, MAX_IRPS);
+    let help =
+        "IRPs that may be listed for one file object at a time, 1 to the IRPs [default: the IRPs]";
+    let file_limit = number_option(alloc, "file-limit", help, MAX_IRPS);
     let chain = Arg::new(alloc, "chain")
         .long("chain")
         .help("Keeps the list in linked chains; the answers are the same")
@@ -118,6 +123,7 @@ fn script_command<'a>(alloc: Global) -> Result<Command<'a>, AllocError> {
         .arg(irps.default_value("8"))?
         .arg(files.default_value("4"))?
         .arg(limit)?
+        .arg(file_limit)?
         .arg(chain)
 }
 
@@ -187,12 +193,12 @@ fn number_in(options: &ArgMatches<'_>, name: &str, most: u32, default: u32) -> u
     }
 }
 
-/// The limit of the list, if one is given.
-fn limit_in(options: &ArgMatches<'_>) -> Option<u32>
+/// The limit of this name, if one is given.
+fn limit_in(options: &ArgMatches<'_>, name: &str) -> Option<u32>
     ensures range { IfSome result (λ limit. (1 ≤ limit) × (limit ≤ 1024)) }
-    ensures limit { IsLimit options.now result }
+    ensures limit { IsLimit options.now name.now result }
 {
-    match options.get_one::<u32>("limit") {
+    match options.get_one::<u32>(name) {
         Some(limit) if 1 <= limit && limit <= MAX_IRPS => Some(limit),
         _ => None,
     }
@@ -220,7 +226,8 @@ fn script_job(options: &ArgMatches<'_>) -> Job
     Job::Script {
         irps: number_in(options, "irps", MAX_IRPS, 8),
         files: number_in(options, "files", MAX_FILES, 4),
-        limit: limit_in(options),
+        limit: limit_in(options, "limit"),
+        file_limit: limit_in(options, "file-limit"),
         chain: options.get_flag("chain"),
     }
 }

@@ -79,6 +79,7 @@ A call may be refused, and the script goes on: refused, and the first of these t
   UnknownIrp, UnknownFile  there is no such IRP, or no such file object
   NotHome                  an insert of an IRP that was inserted in its present life
   FileClosed C0000128      an insert for a file object that was closed
+  FileFull C000009A        an insert for a file object that has as many IRPs listed as its limit
   Full C000009A            an insert into a list that has as many IRPs as its limit
   Stale 1                  a mark or a cancel of an IRP that is in another life, this one
   NoClaim                  a routine of an IRP that no mark claimed
@@ -112,7 +113,7 @@ where no IRP is left for it. Once all threads have ended the queue is closed, an
   cancelled and listed N  how many are still listed though their Cancel flag is set
 The first two numbers are the same, and the third is 0.
 Exit status: 0 where the lines were written, 2 where the command line is refused, 1 for a fault of
-memory, of starting a thread, of closing the queue or of writing.
+memory, of starting a thread or of writing.
 
 Example:
   csqsim run --irps 8 --turns 8";

@@ -1,5 +1,5 @@
 //! What each command of the program does, and its exit status.
-ghost use Rattle.std.specs.Prelude.{◌≡◌, ◌≤◌, IfOk, IfErr};
+ghost use Rattle.std.specs.Prelude.{◌≡◌, ◌≤◌, IfOk, IfErr, replicate};
 ghost use Rattle.irp_core.specs.Runs.{IsInLimits};
 ghost use Rattle.csq_list.specs.Listing.{IsFresh};
 ghost use Rattle.csq_device.specs.Plans.{IsListFor};
@@ -10,6 +10,7 @@ use crate::device_run::{RunFault, answer_run};
 use csq_device::{Free, Plan};
 use csq_list::{ChainList, ListNew, PendingList, VecList};
 use csq_replay::{SimFault, answer_schedule, answer_script, exit_status};
+use std::alloc::{AllocError, Allocator};
 use std::io;
 use std::io::ErrorKind;
 use std::process::ExitCode;
@@ -82,14 +83,12 @@ where
             irps,
             files,
             limit,
+            file_limit,
             chain,
         } => {
             let limit = limit.unwrap_or(irps);
-            if chain {
-                run_script(rt, ChainList::new(rt.alloc(), irps, files, limit))
-            } else {
-                run_script(rt, VecList::new(rt.alloc(), irps, files, limit))
-            }
+            let file_limit = file_limit.unwrap_or(irps);
+            run_limited_script(rt, irps, files, limit, file_limit, chain)
         }
         Job::Run { plan, chain } => {
             let Plan { irps, files, .. } = plan;
@@ -115,6 +114,40 @@ fn run_schedule<R: AllocGlobal + Print + Input>(
     let mut writer = io::writer(rt);
     let ended = answer_schedule(rt.alloc(), irps, passes, claims, &mut reader, &mut writer)?;
     Ok(exit_status(ended))
+}
+
+/// The limit of each file object.
+fn file_limits_of<A: Allocator>(
+    alloc: A,
+    files: u32,
+    file_limit: u32,
+) -> Result<Vec<u32, A>, AllocError>
+    ensures { IfOk result (λ limits. limits.items ≡ replicate files file_limit) }
+{
+    vec![in alloc; file_limit; files as usize]
+}
+
+/// Runs a script over a list with these limits, the second one for each file object.
+fn run_limited_script<R: AllocGlobal + Print + Eprint + Input>(
+    rt: &R,
+    irps: u32,
+    files: u32,
+    limit: u32,
+    file_limit: u32,
+    chain: bool,
+) -> Result<u8, ProgramFault>
+    requires { (1 ≤ irps) × (irps ≤ 1024) }
+{
+    let Ok(file_limits) = file_limits_of(rt.alloc(), files, file_limit) else {
+        return Err(ProgramFault::Replay(SimFault::Memory));
+    };
+    if chain {
+        let list = ChainList::with_file_limits(rt.alloc(), irps, files, limit, &file_limits);
+        run_script(rt, list)
+    } else {
+        let list = VecList::with_file_limits(rt.alloc(), irps, files, limit, &file_limits);
+        run_script(rt, list)
+    }
 }
 
 /// Runs a script over a fresh list, if there is one.

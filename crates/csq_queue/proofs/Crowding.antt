@@ -9,9 +9,9 @@ use Rattle.irp_core.specs.declared.ids.IrpId.{IrpId}
 use Rattle.irp_core.proofs.Names.{same_irp-eq}
 use Rattle.csq_list.specs.declared.entry.Place.{Place}
 use Rattle.csq_list.specs.declared.refusals.InsertStatus.{InsertStatus}
-use Rattle.csq_list.specs.declared.refusals.InsertStatus.TheVariants.{UnknownIrp, UnknownFile, NotHome, FileClosed, Full}
+use Rattle.csq_list.specs.declared.refusals.InsertStatus.TheVariants.{UnknownIrp, UnknownFile, NotHome, FileClosed, FileFull, Full}
 use Rattle.csq_list.specs.Causes.{is_cause}
-use Rattle.csq_list.specs.Listing.{IsSound, inserted}
+use Rattle.csq_list.specs.Listing.{IsSound, inserted, is_file_full}
 use Rattle.csq_list.specs.Searches.{same_number, is_listed, is_distinct}
 use Rattle.csq_list.proofs.Keeping.{filter-none, unused-unlisted, sound-fresh, sound-inserted, sound-removed, sound-renewed}
 use Rattle.csq_list.proofs.Finding.{same_number-refl}
@@ -48,16 +48,18 @@ pub record IsAccepted (l : Limits) (u : QueueState) (n : IrpId) (f : FileId) : T
   pub file_known : f.0 < l.files
   pub unused : has_irp u.used (current u n) ≡ false
   pub not_closed : has_file u.closed f ≡ false
+  pub file_not_full : is_file_full (listing_of l u) f ≡ false
   pub not_full : (length (listing_of l u).entries == l.limit) ≡ false
 
 pub accepted_so : (l : Limits) (u : QueueState) (n : IrpId) (f : FileId) → refusal l u n f ≡ None → IsAccepted l u n f
 accepted_so l u n f h =
-    let one = find_none (is_cause (listing_of l u) n f) UnknownIrp (UnknownFile ∷ NotHome ∷ FileClosed ∷ Full ∷ []) h in
-    let two = find_none (is_cause (listing_of l u) n f) UnknownFile (NotHome ∷ FileClosed ∷ Full ∷ []) one.1 in
-    let three = find_none (is_cause (listing_of l u) n f) NotHome (FileClosed ∷ Full ∷ []) two.1 in
-    let four = find_none (is_cause (listing_of l u) n f) FileClosed (Full ∷ []) three.1 in
-    let five = find_none (is_cause (listing_of l u) n f) Full [] four.1 in
-    record { irp_known = leb-false l.irps n.0 one.0; file_known = leb-false l.files f.0 two.0; unused = three.0; not_closed = four.0; not_full = five.0 }
+    let one = find_none (is_cause (listing_of l u) n f) UnknownIrp (UnknownFile ∷ NotHome ∷ FileClosed ∷ FileFull ∷ Full ∷ []) h in
+    let two = find_none (is_cause (listing_of l u) n f) UnknownFile (NotHome ∷ FileClosed ∷ FileFull ∷ Full ∷ []) one.1 in
+    let three = find_none (is_cause (listing_of l u) n f) NotHome (FileClosed ∷ FileFull ∷ Full ∷ []) two.1 in
+    let four = find_none (is_cause (listing_of l u) n f) FileClosed (FileFull ∷ Full ∷ []) three.1 in
+    let five = find_none (is_cause (listing_of l u) n f) FileFull (Full ∷ []) four.1 in
+    let six = find_none (is_cause (listing_of l u) n f) Full [] five.1 in
+    record { irp_known = leb-false l.irps n.0 one.0; file_known = leb-false l.files f.0 two.0; unused = three.0; not_closed = four.0; file_not_full = five.0; not_full = six.0 }
 
 -- what is listed is of a present life
 listed_present : (lives : IrpId → ℕ) (i : Irp) (es : List Queued) → ArePresent lives es → has_entry es i ≡ true → life_of i ≡ lives i.irp
@@ -80,7 +82,7 @@ module _ (l : Limits) (u : QueueState) (lives : HasSoundLives u) (sound : IsSoun
   -- and as an IRP is listed
   module _ (n : IrpId) (f : FileId) (a : IsAccepted l u n f) (place : Place) where
     sound_listed : IsSound (inserted place (plain (new_entry (current u n) f)) (listing_of l u))
-    sound_listed = sound-inserted (listing_of l u) sound place (plain (new_entry (current u n) f)) a.irp_known a.file_known a.unused (less_than (length (listing_of l u).entries) l.limit sound.within_limit a.not_full)
+    sound_listed = sound-inserted (listing_of l u) sound place (plain (new_entry (current u n) f)) a.irp_known a.file_known a.unused (less_than (length (listing_of l u).entries) l.limit sound.within_limit a.not_full) a.file_not_full
 
     absent : has_entry u.entries (current u n) ≡ false
     absent = sym (is_listed-plain u.lives (current u n) refl u.entries lives.entries) ∙ unused-unlisted (listing_of l u) sound n a.unused
@@ -107,6 +109,7 @@ module _ (l : Limits) (u : QueueState) (lives : HasSoundLives u) (sound : IsSoun
     files_known = sound.files_known;
     closed_known = λ g h. at g (or_cases (f.0 == g.0) (has_file u.closed g) h);
     within_limit = sound.within_limit;
+    within_file_limits = sound.within_file_limits;
   }
     where
       at : (g : FileId) → ((f.0 == g.0) ≡ true) ⊎ (has_file u.closed g ≡ true) → g.0 < l.files
@@ -115,7 +118,7 @@ module _ (l : Limits) (u : QueueState) (lives : HasSoundLives u) (sound : IsSoun
   sound_event (Reuse n life) may = subst IsSound (listing-renewed l u n lives) (sound-renewed (listing_of l u) sound n (is_listed-plain u.lives (current u n) refl u.entries lives.entries ∙ may.1))
 
 sound_later : (l : Limits) (h : List Entry) → IsLegal l h → IsSound (listing_of l (end_of l.first h))
-sound_later l [] legal = sound-fresh l.irps l.files l.limit
+sound_later l [] legal = sound-fresh l.irps l.files l.limit l.file_limits
 sound_later l (e ∷ h) legal = sound_event l (end_of l.first h) (legal_lives l h legal.1) (sound_later l h legal.1) e.event legal.0
 
 -- the IRPs that are listed, each in its life

@@ -20,7 +20,7 @@ use Rattle.csq_list.specs.declared.entry.Place.TheVariants.{Back, Front}
 use Rattle.csq_list.specs.declared.entry.Peek.{Peek}
 use Rattle.csq_list.specs.declared.entry.Peek.TheVariants.{File}
 use Rattle.csq_list.specs.declared.refusals.InsertStatus.{InsertStatus}
-use Rattle.csq_list.specs.declared.refusals.InsertStatus.TheVariants.{UnknownIrp, UnknownFile, NotHome, FileClosed, Full}
+use Rattle.csq_list.specs.declared.refusals.InsertStatus.TheVariants.{UnknownIrp, UnknownFile, NotHome, FileClosed, FileFull, Full}
 use Rattle.csq_list.specs.Causes.{is_cause}
 use Rattle.csq_list.specs.Listing.{put_at}
 use Rattle.csq_words.specs.declared.views.InsertReply.{InsertReply}
@@ -44,6 +44,7 @@ use Rattle.csq_replay.specs.Laws.LeadTo.{at_end, by_nothing, by_call}
 use Rattle.csq_replay.specs.Drivers.{AreMarked}
 use Rattle.csq_replay.proofs.Queueing.{marks_stay, marks_without, marks_marking, marked_is, taken_routine, other_entry}
 use Rattle.csq_replay.proofs.Cleaning.{removal_holds}
+use Rattle.csq_replay.proofs.Inserting.{not_refused}
 
 -- listed, held or completed
 abbrev pub Accounted : Script → Irp → Type 0
@@ -95,13 +96,6 @@ done_accounts s j status a = record {
   used = a.used;
   each = λ i h. done_accounted s j status i (a.each i h);
 }
-
--- the queue refuses no IRP that isn't used
-accepted_unused : {X : Type 0} (a b c d e : Bool) (u v w x y : X) → None ≡ cond a (Some u) (cond b (Some v) (cond c (Some w) (cond d (Some x) (cond e (Some y) None)))) → c ≡ false
-accepted_unused true b c d e u v w x y h = absurd cc
-accepted_unused false true c d e u v w x y h = absurd cc
-accepted_unused false false true d e u v w x y h = absurd cc
-accepted_unused false false false d e u v w x y h = refl
 
 -- what isn't used isn't listed
 unused_unlisted : (s : Script) → Accounts s → (i : Irp) → has_irp s.queue.used i ≡ false → has_entry s.queue.entries i ≡ false
@@ -209,7 +203,7 @@ module _ (l : Limits) (s : Script) (a : Accounts s) (n : IrpId) (f : FileId) whe
 
   unused : None ≡ refusal l s.queue n f → has_irp s.queue.used i ≡ false
   unfolding causes
-  unused none = accepted_unused (causes UnknownIrp) (causes UnknownFile) (causes NotHome) (causes FileClosed) (causes Full) UnknownIrp UnknownFile NotHome FileClosed Full none
+  unused none = (not_refused (causes UnknownIrp) (causes UnknownFile) (causes NotHome) UnknownIrp UnknownFile NotHome (cond (causes FileClosed) (Some FileClosed) (cond (causes FileFull) (Some FileFull) (cond (causes Full) (Some Full) None))) none).1
 
   module _ (place : Place) (absent : has_entry s.queue.entries i ≡ false) where
     pub lists_accounts : Accounts (doing (Arm i ∷ Test i ∷ []) (event.Insert n f place insert.Pending) s)

@@ -14,7 +14,7 @@ use Rattle.irp_core.specs.MachineState.{MachineState, Agrees, size_of}
 use Rattle.irp_core.proofs.Names.{same_irp-refl, same_pass-refl}
 use Rattle.csq_list.specs.declared.entry.Place.{Place}
 use Rattle.csq_list.specs.declared.refusals.InsertStatus.{InsertStatus}
-use Rattle.csq_list.specs.declared.refusals.InsertStatus.TheVariants.{UnknownIrp, UnknownFile, NotHome, FileClosed, Full}
+use Rattle.csq_list.specs.declared.refusals.InsertStatus.TheVariants.{UnknownIrp, UnknownFile, NotHome, FileClosed, FileFull, Full}
 use Rattle.csq_list.specs.Searches.{is_of, is_listed}
 use Rattle.csq_list.specs.Causes.{is_cause, first_cause}
 use Rattle.csq_list.specs.Listing.{Listing, put_at, inserted, removed}
@@ -33,8 +33,8 @@ use Rattle.csq_replay.proofs.Going.{Goes, May, starts, run_for, now_present, wen
 use Rattle.csq_replay.proofs.Queueing.{queue_arm, queue_test, queue_hit, unlisted, sound_lives, found_then}
 use Rattle.csq_replay.proofs.Removing.{keeps_run}
 
--- no cause holds of what isn't refused
-not_refused : {X : Type 0} (a b c : Bool) (x y z : X) (r : Option X) → None ≡ cond a (Some x) (cond b (Some y) (cond c (Some z) r)) → (a ≡ false) × (c ≡ false)
+-- no cause holds of what isn't refused: its number is known, and it isn't used
+pub not_refused : {X : Type 0} (a b c : Bool) (x y z : X) (r : Option X) → None ≡ cond a (Some x) (cond b (Some y) (cond c (Some z) r)) → (a ≡ false) × (c ≡ false)
 not_refused true b c x y z r h = absurd cc
 not_refused false true c x y z r h = absurd cc
 not_refused false false true x y z r h = absurd cc
@@ -68,7 +68,7 @@ module _ (l : Limits) (kept : Keeping) (s : Script) (k : Keeps l kept s) (n : Ir
 
     tests : (nat_le kept.listing.irps n.0 ≡ false) × (kept.listing.used n ≡ false)
     unfolding causes
-    tests = not_refused (causes UnknownIrp) (causes UnknownFile) (causes NotHome) UnknownIrp UnknownFile NotHome (cond (causes FileClosed) (Some FileClosed) (cond (causes Full) (Some Full) None)) accepted
+    tests = not_refused (causes UnknownIrp) (causes UnknownFile) (causes NotHome) UnknownIrp UnknownFile NotHome (cond (causes FileClosed) (Some FileClosed) (cond (causes FileFull) (Some FileFull) (cond (causes Full) (Some Full) None))) accepted
 
     pub known : number i < (size_of kept.machine).irps
     known = omega (arith, leb-false kept.listing.irps n.0 tests.0, ap (λ (x : Listing). x.irps) k.listing, ap (λ (n : Size). n.irps) k.size)

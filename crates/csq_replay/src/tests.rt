@@ -1,8 +1,11 @@
+mod hostile;
 mod memory;
 mod scripts;
+mod streams;
 
 use crate::lines::answer::{Ended, MAX_INPUT, SimFault, exit_status};
 use crate::schedule::answer_schedule;
+use crate::tests::streams::{FailingWriter, SlowReader, SlowWriter};
 use std::alloc::Global;
 use std::io;
 use std::io::{Error, ErrorKind, Read, Write};
@@ -14,7 +17,7 @@ fn answered(alloc: Global, mut input: &[u8], text: &mut Vec<u8>) -> Result<Ended
     answer_schedule(alloc, 8, 4, false, &mut input, text)
 }
 
-/// Answers each input, and compares the text.
+/// Answers each input, at once and byte by byte, and compares the text.
 fn compare(
     rt: &impl Abort,
     alloc: Global,
@@ -25,6 +28,11 @@ fn compare(
         let mut text = Vec::new(alloc);
         assert_eq!(rt; answered(alloc, input.as_bytes(), &mut text)?, ended);
         assert_eq!(rt; text.as_slice(), output.as_bytes(), "at {input:?}");
+        let mut reader = SlowReader::new(input.as_bytes(), None);
+        let mut again = Vec::new(alloc);
+        let slowly = answer_schedule(alloc, 8, 4, false, &mut reader, &mut again)?;
+        assert_eq!(rt; slowly, ended);
+        assert_eq!(rt; again.as_slice(), output.as_bytes(), "slowly, at {input:?}");
     }
     Ok(())
 }
@@ -141,6 +149,7 @@ fn a_malformed_line_ends_the_handling(rt: HostRuntime) -> Result<(), Fail> {
         ("p1 end 0\n", "line 1 malformed\n"),
         ("p01 end\n", "line 1 malformed\n"),
         ("p1 arm 1000000000\n", "line 1 malformed\n"),
+        ("p1 arm -1\n", "line 1 malformed\n"),
         ("p1 arm 999999999\n", "line 1 refused UnknownIrp\n"),
     ];
     compare(&rt, rt.alloc(), Ended::Stopped, &cases)?;
@@ -240,54 +249,6 @@ fn lines_and_inputs_have_limits(rt: HostRuntime) -> Result<(), Fail> {
     Ok(())
 }
 
-/// Gives its bytes one at a time, is interrupted before each, and then fails so.
-#[derive(Drop)]
-pub(crate) struct FailingReader<'a> {
-    pub(crate) bytes: &'a [u8],
-    pub(crate) interrupted: bool,
-    pub(crate) fault: ErrorKind,
-}
-
-impl Read for FailingReader<'_> {
-    fn read(&mut self, buf: &mut [u8]) -> io::Result<usize> {
-        self.interrupted = !self.interrupted;
-        if self.interrupted {
-            return Err(Error::from(ErrorKind::Interrupted));
-        }
-        let Some((first, rest)) = self.bytes.split_first() else {
-            return Err(Error::from(self.fault));
-        };
-        if buf.is_empty() {
-            return Ok(0);
-        }
-        buf[0] = *first;
-        self.bytes = rest;
-        Ok(1)
-    }
-}
-
-/// Takes so many bytes, and then fails or takes nothing.
-#[derive(Drop)]
-pub(crate) struct FailingWriter {
-    pub(crate) room: usize,
-    pub(crate) fails: bool,
-}
-
-impl Write for FailingWriter {
-    fn write(&mut self, buf: &[u8]) -> io::Result<usize> {
-        if self.room == 0 && self.fails {
-            return Err(Error::from(ErrorKind::Other));
-        }
-        let taken = self.room.min(buf.len());
-        self.room -= taken;
-        Ok(taken)
-    }
-
-    fn flush(&mut self) -> io::Result<()> {
-        Ok(())
-    }
-}
-
 #[test]
 fn a_failing_reader_is_told(rt: HostRuntime) -> Result<(), Fail> {
     for fault in [
@@ -298,11 +259,7 @@ fn a_failing_reader_is_told(rt: HostRuntime) -> Result<(), Fail> {
         ErrorKind::WouldBlock,
         ErrorKind::TimedOut,
     ] {
-        let mut reader = FailingReader {
-            bytes: b"p1 arm 0\n",
-            interrupted: false,
-            fault,
-        };
+        let mut reader = SlowReader::new(b"p1 arm 0\n", Some(fault));
         let mut text = Vec::new(rt.alloc());
         let ended = answer_schedule(rt.alloc(), 8, 4, false, &mut reader, &mut text);
         assert_eq!(rt; ended, Err(SimFault::Read));
@@ -355,33 +312,6 @@ fn schedules_are_as_large_as_they_may_be(rt: HostRuntime) -> Result<(), Fail> {
     assert_eq!(rt; ended, Ended::AllHandled);
     assert_eq!(rt; text.as_slice(), wanted.as_bytes());
     Ok(())
-}
-
-/// Is interrupted before each byte, and takes one at a time.
-#[derive(Drop)]
-pub(crate) struct SlowWriter {
-    pub(crate) taken: Vec<u8>,
-    pub(crate) interrupted: bool,
-}
-
-impl Write for SlowWriter {
-    fn write(&mut self, buf: &[u8]) -> io::Result<usize> {
-        self.interrupted = !self.interrupted;
-        if self.interrupted {
-            return Err(Error::from(ErrorKind::Interrupted));
-        }
-        let Some(first) = buf.first() else {
-            return Ok(0);
-        };
-        match self.taken.push(*first) {
-            Ok(()) => Ok(1),
-            Err(_) => Err(Error::from(ErrorKind::Other)),
-        }
-    }
-
-    fn flush(&mut self) -> io::Result<()> {
-        Ok(())
-    }
 }
 
 #[test]

@@ -10,7 +10,7 @@ use Rattle.irp_core.specs.Runs.{Size}
 use Rattle.csq_words.specs.declared.views.PassRecord.{PassRecord}
 use Rattle.csq_words.specs.declared.views.QueueRecord.{QueueRecord}
 use Rattle.csq_words.specs.declared.views.View.{View}
-use Rattle.csq_words.specs.Records.{view_of, receipt_view, spent_view, newest, after_receipt, receipt_of, shown_receipt, with_shown, shown_by}
+use Rattle.csq_words.specs.Records.{view_of, receipt_view, spent_view, newest, without_pass, receipt_of, shown_receipt, with_shown, shown_by}
 use Rattle.csq_words.specs.Rule.{in_flight, IsOut, HasBack, Agrees, Fits, KeptBy, IsKept}
 use Rattle.csq_words.proofs.Laws.{off}
 use Rattle.csq_words.proofs.Indexes.{at_below}
@@ -100,17 +100,17 @@ shows size id other q r s h at ne there' =
 
 -- the same at views that are known
 receipt_as : (size : Size) (id : ℕ) (v : View) (q : QueueRecord) (r : PassRecord) (right : View → View) → v ≡ view_of q None → right (view_of q None) ≡ receipt_view r
-    → ((words : List ℕ) (run : List Made) → Agrees size words run q (in_flight None) → HasBack q r) → Splits (IsKept size) id v (after_receipt v) (right v)
+    → ((words : List ℕ) (run : List Made) → Agrees size words run q (in_flight None) → HasBack q r) → Splits (IsKept size) id v (without_pass v) (right v)
 receipt_as size id v q r right is cut back =
     let cuts : Splits (IsKept size) id (view_of q None) (view_of q None) (right (view_of q None)) = subst (λ (w : View). Splits (IsKept size) id (view_of q None) (view_of q None) w) (sym cut) (cuts_receipt size id q r back) in
-    subst (λ (u : View). Splits (IsKept size) id u (after_receipt u) (right u)) (sym is) cuts
+    subst (λ (u : View). Splits (IsKept size) id u (without_pass u) (right u)) (sym is) cuts
 
 -- the receipt of the pass that came back last
-pub last_receipt_as : (size : Size) (id : ℕ) (v : View) (q : QueueRecord) (r : PassRecord) → v ≡ view_of q None → newest q.back ≡ Some r → Splits (IsKept size) id v (after_receipt v) (receipt_of v)
+pub last_receipt_as : (size : Size) (id : ℕ) (v : View) (q : QueueRecord) (r : PassRecord) → v ≡ view_of q None → newest q.back ≡ Some r → Splits (IsKept size) id v (without_pass v) (receipt_of v)
 last_receipt_as size id v q r is last = receipt_as size id v q r receipt_of is (λ i. record { queue = None; pass = None; back = last i }) (λ words run a. (0, newest_at q.back r last))
 
 -- the receipt that has just shown its record
-pub shown_receipt_as : (size : Size) (id : ℕ) (v : View) (q : QueueRecord) (r : PassRecord) → v ≡ view_of q None → newest q.shown ≡ Some r → Splits (IsKept size) id v (after_receipt v) (shown_receipt v)
+pub shown_receipt_as : (size : Size) (id : ℕ) (v : View) (q : QueueRecord) (r : PassRecord) → v ≡ view_of q None → newest q.shown ≡ Some r → Splits (IsKept size) id v (without_pass v) (shown_receipt v)
 shown_receipt_as size id v q r is last = receipt_as size id v q r shown_receipt is (λ i. record { queue = None; pass = None; back = last i }) (λ words run a. a.shown 0 r (newest_at q.shown r last))
 
 pub shows_as : (size : Size) (id other : ℕ) (v w : View) (q : QueueRecord) (r : PassRecord) → v ≡ view_of q None → w ≡ receipt_view r → Joins (IsKept size) id v other w (shown_by v w) spent_view

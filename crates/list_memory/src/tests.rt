@@ -10,6 +10,9 @@ const IRPS: u32 = 64;
 
 const FILES: u32 = 32;
 
+// Just as many as are listed of each file.
+const FILE_LIMITS: [u32; 32] = [2; 32];
+
 // Fills a list from both ends, empties it again and renews what was used.
 fn fill_and_empty<L: PendingList>(rt: &impl Abort, list: &mut L) {
     for number in 0..IRPS {
@@ -69,6 +72,40 @@ fn a_chain_list_takes_no_memory_later(rt: HostRuntime) -> Result<(), Fail> {
     for blocks in 1..512 {
         let heap = LocalHeap::new(rt.alloc(), 16 * blocks)?;
         match ChainList::new(&heap, IRPS, FILES, IRPS) {
+            Err(refused) => assert_eq!(rt; refused, ListNew::Memory),
+            Ok(mut list) => {
+                assert_eq!(rt; heap.free(), 0);
+                fill_and_empty(&rt, &mut list);
+                assert_eq!(rt; heap.free(), 0);
+                return Ok(());
+            }
+        }
+    }
+    Err(Fail::from("no heap was large enough"))
+}
+
+#[test]
+fn a_vec_list_with_file_limits_takes_no_memory_later(rt: HostRuntime) -> Result<(), Fail> {
+    for blocks in 1..512 {
+        let heap = LocalHeap::new(rt.alloc(), 16 * blocks)?;
+        match VecList::with_file_limits(&heap, IRPS, FILES, IRPS, &FILE_LIMITS) {
+            Err(refused) => assert_eq!(rt; refused, ListNew::Memory),
+            Ok(mut list) => {
+                assert_eq!(rt; heap.free(), 0);
+                fill_and_empty(&rt, &mut list);
+                assert_eq!(rt; heap.free(), 0);
+                return Ok(());
+            }
+        }
+    }
+    Err(Fail::from("no heap was large enough"))
+}
+
+#[test]
+fn a_chain_list_with_file_limits_takes_no_memory_later(rt: HostRuntime) -> Result<(), Fail> {
+    for blocks in 1..512 {
+        let heap = LocalHeap::new(rt.alloc(), 16 * blocks)?;
+        match ChainList::with_file_limits(&heap, IRPS, FILES, IRPS, &FILE_LIMITS) {
             Err(refused) => assert_eq!(rt; refused, ListNew::Memory),
             Ok(mut list) => {
                 assert_eq!(rt; heap.free(), 0);

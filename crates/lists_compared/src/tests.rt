@@ -18,12 +18,14 @@ enum Call {
     Close(FileId),
 }
 
-// The numbers of IRPs and files, and the limit, of the lists that every sequence of calls is tried on.
+// The numbers of IRPs and files, and the limits, of the lists that every sequence of calls is tried on.
 const IRPS: u32 = 3;
 
 const FILES: u32 = 2;
 
 const LIMIT: u32 = 2;
+
+const FILE_LIMITS: [u32; 2] = [1, 3];
 
 impl Call {
     const COUNT: u32 = 23;
@@ -125,6 +127,13 @@ fn compare<L: PendingList, M: PendingList>(rt: &impl Abort, one: &L, other: &M) 
         (other.irps(), other.files(), other.limit())
     );
     assert_eq!(rt; one.is_fresh(), other.is_fresh());
+    for number in 0..=one.files() {
+        let file = FileId(number);
+        assert_eq!(rt;
+            (one.file_len(file), one.file_limit(file)),
+            (other.file_len(file), other.file_limit(file))
+        );
+    }
     for number in 0..=one.irps() {
         let irp = IrpId(number);
         assert_eq!(rt; one.is_home(irp), other.is_home(irp));
@@ -141,8 +150,8 @@ const CALLS: u32 = 4;
 #[test]
 fn every_short_sequence(rt: HostRuntime) -> Result<(), Fail> {
     for sequence in 0..Call::COUNT.pow(CALLS) {
-        let mut one = VecList::new(rt.alloc(), IRPS, FILES, LIMIT)?;
-        let mut other = ChainList::new(rt.alloc(), IRPS, FILES, LIMIT)?;
+        let mut one = VecList::with_file_limits(rt.alloc(), IRPS, FILES, LIMIT, &FILE_LIMITS)?;
+        let mut other = ChainList::with_file_limits(rt.alloc(), IRPS, FILES, LIMIT, &FILE_LIMITS)?;
         let mut left = sequence;
         for _ in 0..CALLS {
             follow(
@@ -158,12 +167,14 @@ fn every_short_sequence(rt: HostRuntime) -> Result<(), Fail> {
     Ok(())
 }
 
-// The numbers of IRPs and files, and the limit, of the lists that long sequences are tried on.
+// The numbers of IRPs and files, and the limits, of the lists that long sequences are tried on.
 const MANY_IRPS: u32 = 256;
 
 const MANY_FILES: u32 = 8;
 
 const HIGH_LIMIT: u32 = 96;
+
+const MANY_LIMITS: [u32; 8] = [1, 2, 4, 8, 16, 32, 64, 256];
 
 const MANY_CALLS: u32 = 2048;
 
@@ -173,8 +184,20 @@ const SEED: u64 = 0x5eed_0f11_57c0_9a1e;
 fn long_sequences(rt: HostRuntime) -> Result<(), Fail> {
     for stream in 0..16 {
         let mut rng = Pcg32::new(SEED, stream);
-        let mut one = VecList::new(rt.alloc(), MANY_IRPS, MANY_FILES, HIGH_LIMIT)?;
-        let mut other = ChainList::new(rt.alloc(), MANY_IRPS, MANY_FILES, HIGH_LIMIT)?;
+        let mut one = VecList::with_file_limits(
+            rt.alloc(),
+            MANY_IRPS,
+            MANY_FILES,
+            HIGH_LIMIT,
+            &MANY_LIMITS,
+        )?;
+        let mut other = ChainList::with_file_limits(
+            rt.alloc(),
+            MANY_IRPS,
+            MANY_FILES,
+            HIGH_LIMIT,
+            &MANY_LIMITS,
+        )?;
         for turn in 0..MANY_CALLS {
             follow(&rt, &mut one, &mut other, Call::drawn(&mut rng));
             if turn % 64 == 0 {

@@ -49,6 +49,14 @@ impl<'a, L: PendingList + Drop, W: Watch> PendingList for WatchedList<'a, L, W> 
         self.list.limit()
     }
 
+    fn file_len(&self, file: FileId) -> u32 {
+        self.list.file_len(file)
+    }
+
+    fn file_limit(&self, file: FileId) -> Option<u32> {
+        self.list.file_limit(file)
+    }
+
     fn len(&self) -> u32 {
         self.list.len()
     }

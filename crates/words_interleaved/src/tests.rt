@@ -1,9 +1,9 @@
-//! An insert and a cancel of one IRP, in each order of their steps.
+//! The steps of an insert and of a cancel, each compared with the machine's, and two threads that cancel one IRP.
 ghost use Rattle.std.specs.Prelude.{◌≡◌, ◌<◌, IfOk, Some, None, [], true, false};
 ghost use Rattle.irp_core.specs.Steps.{life_of};
 ghost use Rattle.irp_core.specs.declared.step.Inside.TheVariants.{Nothing, Armed, FlagSeen, Cancelling};
 ghost use Rattle.irp_core.specs.declared.status.TheConstants.NtStatus.{CANCELLED};
-ghost use Rattle.csq_words.specs.Own.{inside_of, owes_in};
+ghost use Rattle.csq_words.specs.Own.{inside_of, owes_in, holds_in};
 ghost use Rattle.csq_words.specs.Queue.{has_irp};
 ghost use Rattle.csq_words.specs.Records.{queue_of};
 ghost use Rattle.csq_words.specs.Seats.{joined_record, pass_record, IsHere, IsJoined};
@@ -19,6 +19,7 @@ use std::test::Fail;
 use std::thread::join;
 
 mod notes;
+mod orders;
 mod removals;
 mod reuses;
 mod statuses;
@@ -146,7 +147,7 @@ fn find_set(
     assert!(rt; found % 2 == 1);
 }
 
-// The pass exchanges the routine that it set, and its insert ends.
+// The pass exchanges the routine that it set, and its insert ends. It holds the IRP where it found it.
 fn take_back(
     rt: &impl Abort,
     machine: &mut Machine,
@@ -162,7 +163,11 @@ fn take_back(
     requires seen { inside_of (joined_record queue.old).steps ≡ FlagSeen name }
     ensures words { queue.new.table ≡ words.now.table }
     ensures alone { queue.new.joined ≡ None }
+    ensures present { IsPresent name queue.new.queue }
+    ensures idle { queue.new.queue.reusing ≡ Reusing.Nothing }
     ensures here { IsHere words.now.table pass.new }
+    ensures outside { inside_of (pass_record pass.new).steps ≡ Nothing }
+    ensures held { bit_in result ≡ 1 → holds_in (pass_record pass.new).steps name ≡ true }
 {
     let found = queue.disarm(words, INSERT, name);
     compare(rt, machine, 1, Kind::Disarm(name), found % 2);
@@ -270,68 +275,5 @@ fn one_of_two_threads_claims(rt: HostRuntime) -> Result<(), Fail> {
         { claim(&words, &mut three) },
     );
     assert_eq!(rt; a + b, 1);
-    Ok(())
-}
-
-#[test]
-fn a_cancel_comes_before_the_insert(rt: HostRuntime) -> Result<(), Fail> {
-    let mut machine = Machine::new(rt.alloc(), 1, 2)?;
-    let Begun {
-        words,
-        mut queue,
-        mut one,
-        mut two,
-        ..
-    } = begin(&rt, FIRST)?;
-    flag(&rt, &mut machine, &words, &mut two, FIRST);
-    assert_eq!(rt; take(&rt, &mut machine, &words, &mut two, FIRST), 0);
-    arm(&rt, &mut machine, &words, &mut queue, &mut one, FIRST);
-    find_set(&rt, &mut machine, &words, &mut queue, FIRST);
-    let found = take_back(&rt, &mut machine, &words, &mut queue, &mut one, FIRST);
-    assert_eq!(rt; found, 1);
-    Ok(())
-}
-
-#[test]
-fn a_cancel_comes_between_arm_and_test(rt: HostRuntime) -> Result<(), Fail> {
-    let mut machine = Machine::new(rt.alloc(), 1, 2)?;
-    let Begun {
-        words,
-        mut queue,
-        mut one,
-        mut two,
-        ..
-    } = begin(&rt, FIRST)?;
-    arm(&rt, &mut machine, &words, &mut queue, &mut one, FIRST);
-    flag(&rt, &mut machine, &words, &mut two, FIRST);
-    find_set(&rt, &mut machine, &words, &mut queue, FIRST);
-    assert_eq!(rt; take(&rt, &mut machine, &words, &mut two, FIRST), 1);
-    let found = take_back(&rt, &mut machine, &words, &mut queue, &mut one, FIRST);
-    assert_eq!(rt; found, 0);
-    Ok(())
-}
-
-#[test]
-fn a_cancel_comes_after_the_insert(rt: HostRuntime) -> Result<(), Fail> {
-    let mut machine = Machine::new(rt.alloc(), 1, 2)?;
-    let Begun {
-        words,
-        mut queue,
-        mut one,
-        mut two,
-        ..
-    } = begin(&rt, FIRST)?;
-    arm(&rt, &mut machine, &words, &mut queue, &mut one, FIRST);
-    find_clear(&rt, &mut machine, &words, &mut queue, &mut one, FIRST);
-    assert_eq!(rt; one.read_cancel(&words, ZERO), (Life(0), false));
-    flag(&rt, &mut machine, &words, &mut two, FIRST);
-    assert!(rt; take(&rt, &mut machine, &words, &mut two, FIRST) == 1);
-    assert_eq!(rt; one.read_cancel(&words, ZERO), (Life(0), true));
-    assert_eq!(rt; one.read_status(&words, ZERO), (Life(0), None));
-    finish(&rt, &mut machine, &words, &mut queue, &mut two, FIRST);
-    assert_eq!(rt;
-        one.read_status(&words, ZERO),
-        (Life(0), Some(NtStatus::CANCELLED))
-    );
     Ok(())
 }

@@ -60,20 +60,28 @@ fn command_lines_of_scripts_are_read(rt: HostRuntime) -> Result<(), Fail> {
     let sized = [
         "csqsim", "script", "--irps", "3", "--files", "1", "--limit", "2",
     ];
-    let least = ["csqsim", "script", "--irps=1", "--files=1", "--limit=1"];
+    let least = [
+        "csqsim",
+        "script",
+        "--irps=1",
+        "--files=1",
+        "--limit=1",
+        "--file-limit=1",
+    ];
     let chained = ["csqsim", "script", "--chain"];
     let jobs = [
-        (plain.as_slice(), 8, 4, None, false),
-        (sized.as_slice(), 3, 1, Some(2), false),
-        (least.as_slice(), 1, 1, Some(1), false),
-        (chained.as_slice(), 8, 4, None, true),
+        (plain.as_slice(), 8, 4, None, None, false),
+        (sized.as_slice(), 3, 1, Some(2), None, false),
+        (least.as_slice(), 1, 1, Some(1), Some(1), false),
+        (chained.as_slice(), 8, 4, None, None, true),
     ];
-    for (words, irps, files, limit, chain) in jobs {
+    for (words, irps, files, limit, file_limit, chain) in jobs {
         let job = read_command(rt.alloc(), words).ok();
         let wanted = Job::Script {
             irps,
             files,
             limit,
+            file_limit,
             chain,
         };
         assert_eq!(rt; job, Some(wanted));
@@ -82,12 +90,21 @@ fn command_lines_of_scripts_are_read(rt: HostRuntime) -> Result<(), Fail> {
 }
 
 #[test]
-fn a_script_has_a_limit_beside_chains(rt: HostRuntime) -> Result<(), Fail> {
-    let words = ["csqsim", "script", "--chain", "--limit", "8"];
+fn a_script_has_limits_beside_chains(rt: HostRuntime) -> Result<(), Fail> {
+    let words = [
+        "csqsim",
+        "script",
+        "--chain",
+        "--limit",
+        "8",
+        "--file-limit",
+        "3",
+    ];
     let wanted = Job::Script {
         irps: 8,
         files: 4,
         limit: Some(8),
+        file_limit: Some(3),
         chain: true,
     };
     assert_eq!(rt;
@@ -105,11 +122,13 @@ fn a_script_is_as_large_as_it_may_be(rt: HostRuntime) -> Result<(), Fail> {
         "--irps=1024",
         "--files=256",
         "--limit=1024",
+        "--file-limit=1024",
     ];
     let wanted = Job::Script {
         irps: 1024,
         files: 256,
         limit: Some(1024),
+        file_limit: Some(1024),
         chain: false,
     };
     assert_eq!(rt;
@@ -128,6 +147,8 @@ fn other_command_lines_of_scripts_are_refused(rt: HostRuntime) -> Result<(), Fai
         "--files=257",
         "--limit=0",
         "--limit=1025",
+        "--file-limit=0",
+        "--file-limit=1025",
         "--passes=1",
     ] {
         let words = ["csqsim", "script", option];

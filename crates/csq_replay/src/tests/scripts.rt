@@ -4,7 +4,7 @@ ghost use Rattle.csq_list.specs.Listing.{IsFresh};
 
 use crate::lines::answer::{Ended, MAX_INPUT, SimFault};
 use crate::script::answer_script;
-use crate::tests::{FailingReader, FailingWriter, SlowWriter};
+use crate::tests::streams::{FailingWriter, SlowReader, SlowWriter};
 use csq_list::{ChainList, PendingList, VecList};
 use std::alloc::Global;
 use std::io::ErrorKind;
@@ -23,7 +23,14 @@ fn answered_by_chains(alloc: Global, mut input: &[u8], text: &mut Vec<u8>) -> Re
     Ok(answer_script(alloc, list, &mut input, text)?)
 }
 
-/// Answers each input, and compares the text.
+/// Answers it byte by byte.
+fn answered_slowly(alloc: Global, input: &[u8], text: &mut Vec<u8>) -> Result<Ended, Fail> {
+    let list = VecList::new(alloc, 8, 4, 8)?;
+    let mut reader = SlowReader::new(input, None);
+    Ok(answer_script(alloc, list, &mut reader, text)?)
+}
+
+/// Answers each input, over both lists and byte by byte, and compares the text.
 fn compare(
     rt: &impl Abort,
     alloc: Global,
@@ -43,6 +50,16 @@ fn compare(
             again.as_slice(),
             output.as_bytes(),
             "in chains, at {input:?}"
+        );
+        let mut slowly = Vec::new(alloc);
+        assert_eq!(rt;
+            answered_slowly(alloc, input.as_bytes(), &mut slowly)?,
+            ended
+        );
+        assert_eq!(rt;
+            slowly.as_slice(),
+            output.as_bytes(),
+            "slowly, at {input:?}"
         );
     }
     Ok(())
@@ -189,12 +206,19 @@ fn other_lines_end_the_handling(rt: HostRuntime) -> Result<(), Fail> {
     let cases = [
         ("insert 0 0\n", "line 1 malformed\n"),
         ("insert 0 0 middle\n", "line 1 malformed\n"),
+        ("insert 0 0 Back\n", "line 1 malformed\n"),
+        (
+            "insert 0 0 back\ninsert 1 0\n",
+            "pending\nline 2 malformed\n",
+        ),
         ("insert 0 0 back \n", "line 1 malformed\n"),
         ("next\n", "line 1 malformed\n"),
         ("next **\n", "line 1 malformed\n"),
         ("remove 00\n", "line 1 malformed\n"),
         ("remove 0 0\n", "line 1 malformed\n"),
         ("complete 0 0\n", "line 1 malformed\n"),
+        ("complete 0 0000000\n", "line 1 malformed\n"),
+        ("complete 0 0000000G\n", "line 1 malformed\n"),
         ("complete 0 +0000000\n", "line 1 malformed\n"),
         ("complete 0 0000000g\n", "line 1 malformed\n"),
         ("complete 0 000000000\n", "line 1 malformed\n"),
@@ -227,11 +251,7 @@ fn scripts_have_limits(rt: HostRuntime) -> Result<(), Fail> {
 
 #[test]
 fn a_script_tells_failing_streams(rt: HostRuntime) -> Result<(), Fail> {
-    let mut reader = FailingReader {
-        bytes: b"flag 0\n",
-        interrupted: false,
-        fault: ErrorKind::Other,
-    };
+    let mut reader = SlowReader::new(b"flag 0\n", Some(ErrorKind::Other));
     let mut text = Vec::new(rt.alloc());
     let list = VecList::new(rt.alloc(), 8, 4, 8)?;
     let fault = answer_script(rt.alloc(), list, &mut reader, &mut text);

@@ -78,7 +78,7 @@ fn the_most_turns_are_taken(rt: HostRuntime) -> Result<(), Fail> {
     Ok(())
 }
 
-// A gate that yields the processor at each seventh of its calls.
+// A gate that yields the processor up to six times at each of its calls.
 #[derive(Drop)]
 struct Yielding {
     calls: AtomicU64,
@@ -87,7 +87,7 @@ struct Yielding {
 impl Gate for Yielding {
     fn at(&self, _point: Point) {
         let call = self.calls.fetch_add(1, Ordering::SeqCst);
-        if call % 7 == 0 {
+        for _ in 0..call % 7 {
             yield_now();
         }
     }
@@ -99,13 +99,88 @@ fn from_the_first() -> Yielding {
     }
 }
 
-#[test]
-fn each_irp_is_accounted_for_in_other_schedules(rt: HostRuntime) -> Result<(), Fail> {
-    for _ in 0..100 {
+// Fifty runs over a vector. Yields take long where other programs are busy, so the runs are four tests.
+fn account_over_vectors<R>(rt: &R) -> Result<(), Fail>
+where
+    R: Threads + Wait + AllocGlobal + Abort + Sync,
+{
+    for _ in 0..50 {
         let list = VecList::new(rt.alloc(), 64, 4, 64)?;
-        check(&rt, run(&rt, usual_plan()?, list, from_the_first())?, 64);
-        let chains = ChainList::new(rt.alloc(), 64, 4, 64)?;
-        check(&rt, run(&rt, usual_plan()?, chains, from_the_first())?, 64);
+        check(rt, run(rt, usual_plan()?, list, from_the_first())?, 64);
+    }
+    Ok(())
+}
+
+// Fifty runs over chains.
+fn account_over_chains<R>(rt: &R) -> Result<(), Fail>
+where
+    R: Threads + Wait + AllocGlobal + Abort + Sync,
+{
+    for _ in 0..50 {
+        let list = ChainList::new(rt.alloc(), 64, 4, 64)?;
+        check(rt, run(rt, usual_plan()?, list, from_the_first())?, 64);
+    }
+    Ok(())
+}
+
+#[test]
+fn each_irp_is_accounted_for_in_fifty_schedules(rt: HostRuntime) -> Result<(), Fail> {
+    account_over_vectors(&rt)
+}
+
+#[test]
+fn each_irp_is_accounted_for_in_a_hundred_schedules(rt: HostRuntime) -> Result<(), Fail> {
+    account_over_vectors(&rt)
+}
+
+#[test]
+fn each_irp_over_chains_is_accounted_for_in_fifty_schedules(rt: HostRuntime) -> Result<(), Fail> {
+    account_over_chains(&rt)
+}
+
+#[test]
+fn each_irp_over_chains_is_accounted_for_in_a_hundred_schedules(
+    rt: HostRuntime,
+) -> Result<(), Fail> {
+    account_over_chains(&rt)
+}
+
+// What a file object's limit refuses stays home.
+#[test]
+fn each_irp_is_accounted_for_under_file_limits(rt: HostRuntime) -> Result<(), Fail> {
+    let limits = [1, 2, 4, 64];
+    for _ in 0..20 {
+        let list = VecList::with_file_limits(rt.alloc(), 64, 4, 64, &limits)?;
+        check(&rt, run(&rt, usual_plan()?, list, Free)?, 64);
+        let chains = ChainList::with_file_limits(rt.alloc(), 64, 4, 64, &limits)?;
+        check(&rt, run(&rt, usual_plan()?, chains, Free)?, 64);
+    }
+    Ok(())
+}
+
+// A gate that counts its calls.
+#[derive(Clone, Copy)]
+struct Counting<'a>(&'a AtomicU64);
+
+impl<'a> Gate for Counting<'a> {
+    fn at(&self, _point: Point) {
+        self.0.fetch_add(1, Ordering::SeqCst);
+    }
+}
+
+// Every thread has ended once a run answers: the gate is called no more.
+#[test]
+fn no_thread_outlives_a_run(rt: HostRuntime) -> Result<(), Fail> {
+    for _ in 0..20 {
+        let calls = AtomicU64::new(0);
+        let list = VecList::new(rt.alloc(), 64, 4, 64)?;
+        check(&rt, run(&rt, usual_plan()?, list, Counting(&calls))?, 64);
+        let told = calls.load(Ordering::SeqCst);
+        assert!(rt; told > 0);
+        for _ in 0..1000 {
+            yield_now();
+        }
+        assert_eq!(rt; calls.load(Ordering::SeqCst), told);
     }
     Ok(())
 }

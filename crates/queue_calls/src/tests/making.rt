@@ -3,7 +3,7 @@ ghost use Rattle.std.specs.Prelude.{◌≡◌};
 
 use super::rows::{ZERO, follow_rows};
 use crate::insert_pending;
-use csq_list::{Peek, PendingList, Place, VecList};
+use csq_list::{ChainList, Peek, PendingList, Place, VecList};
 use csq_queue::{Blank, NewCause, QueueName};
 use irp_core::{FileId, FinalStatus, Life, NtStatus};
 use linked_list_allocator::LocalHeap;
@@ -46,6 +46,29 @@ fn a_queue_takes_no_memory_later(rt: HostRuntime) -> Result<(), Fail> {
                 let _rest = take_rest(&heap, rt.alloc())?;
                 assert_eq!(rt; heap.free(), 0);
                 return follow_rows::<VecList, Brand, _, _>(&rt, blank);
+            }
+        }
+    }
+    Err(Fail::from("no heap was large enough"))
+}
+
+#[test]
+fn a_queue_over_chains_takes_no_memory_later(rt: HostRuntime) -> Result<(), Fail> {
+    let mut refused = false;
+    for blocks in 1..64 {
+        let heap = LocalHeap::new(rt.alloc(), 16 * blocks)?;
+        let list = ChainList::new(rt.alloc(), 4, 2, 4)?;
+        match Blank::new(&heap, list, 4, 2) {
+            Err(back) => {
+                assert_eq!(rt; back.cause, NewCause::Memory);
+                assert!(rt; back.list.is_fresh());
+                refused = true;
+            }
+            Ok(blank) => {
+                assert!(rt; refused, "no heap was too small");
+                let _rest = take_rest(&heap, rt.alloc())?;
+                assert_eq!(rt; heap.free(), 0);
+                return follow_rows::<ChainList, Brand, _, _>(&rt, blank);
             }
         }
     }

@@ -14,7 +14,7 @@ use irp_core::{FinalStatus, IrpLife, Kind, Life, Machine, NtStatus};
 use std::process::Abort;
 use std::test::Fail;
 
-const REMOVE: Call = Call::Remove(FIRST);
+pub(crate) const REMOVE: Call = Call::Remove(FIRST);
 
 const REMOVE_NEXT: Call = Call::RemoveNext(Peek::Any);
 
@@ -51,7 +51,7 @@ fn expect_found(rt: &impl Abort, found: u64)
 }
 
 // A removal by pass 3 takes the routine of the IRP, and the pass then holds the IRP.
-fn remove(
+pub(crate) fn remove(
     rt: &impl Abort,
     machine: &mut Machine,
     words: &Words,
@@ -151,7 +151,7 @@ pub(crate) fn complete(
 }
 
 // Pass 3 finds that the routine was taken, and its removal ends with no IRP.
-fn find_taken(
+pub(crate) fn find_taken(
     rt: &impl Abort,
     machine: &mut Machine,
     words: &Words,
@@ -179,36 +179,6 @@ fn find_taken(
 }
 
 #[test]
-fn a_removal_gets_its_irp(rt: HostRuntime) -> Result<(), Fail> {
-    let mut machine = Machine::new(rt.alloc(), 1, 3)?;
-    let Begun {
-        words,
-        mut queue,
-        mut one,
-        mut two,
-        mut three,
-    } = begin(&rt, FIRST)?;
-    insert(&rt, &mut machine, &words, &mut queue, &mut one, FIRST);
-    remove(
-        &rt,
-        &mut machine,
-        &words,
-        &mut queue,
-        &mut three,
-        REMOVE,
-        FIRST,
-    );
-    flag(&rt, &mut machine, &words, &mut two, FIRST);
-    assert_eq!(rt; take(&rt, &mut machine, &words, &mut two, FIRST), 0);
-    complete(&rt, &mut machine, &words, &mut three, FIRST);
-    assert_eq!(rt;
-        two.read_status(&words, ZERO),
-        (Life(0), Some(NtStatus::SUCCESS))
-    );
-    Ok(())
-}
-
-#[test]
 fn a_removal_gets_the_next_irp(rt: HostRuntime) -> Result<(), Fail> {
     let mut machine = Machine::new(rt.alloc(), 1, 3)?;
     let Begun {
@@ -222,23 +192,5 @@ fn a_removal_gets_the_next_irp(rt: HostRuntime) -> Result<(), Fail> {
     remove_next(&rt, &mut machine, &words, &mut queue, &mut three, FIRST);
     assert_eq!(rt; two.read_cancel(&words, ZERO), (Life(0), false));
     assert_eq!(rt; two.read_status(&words, ZERO), (Life(0), None));
-    Ok(())
-}
-
-#[test]
-fn a_removal_leaves_an_irp_to_its_canceller(rt: HostRuntime) -> Result<(), Fail> {
-    let mut machine = Machine::new(rt.alloc(), 1, 3)?;
-    let Begun {
-        words,
-        mut queue,
-        mut one,
-        mut two,
-        mut three,
-    } = begin(&rt, FIRST)?;
-    insert(&rt, &mut machine, &words, &mut queue, &mut one, FIRST);
-    flag(&rt, &mut machine, &words, &mut two, FIRST);
-    assert!(rt; take(&rt, &mut machine, &words, &mut two, FIRST) == 1);
-    find_taken(&rt, &mut machine, &words, &mut queue, &mut three);
-    finish(&rt, &mut machine, &words, &mut queue, &mut two, FIRST);
     Ok(())
 }

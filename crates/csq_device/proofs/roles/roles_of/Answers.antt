@@ -6,7 +6,7 @@ use Rattle.csq_device.specs.declared.roles.Role.TheVariants.{Submitter, Worker, 
 use Rattle.csq_device.proofs.roles.roles_of.Goals as goal
 
 pub loop-first-preserved : goal.loop-first-preserved
-loop-first-preserved c =
+loop-first-preserved g c =
     let was = c.loop-first.invariant in
     let pushed = c.in_ok-push.ensures in
     let first = c.loop-first.first in
@@ -16,7 +16,7 @@ loop-first-preserved c =
     }
 
 pub loop-first-2-preserved : goal.loop-first-2-preserved
-loop-first-2-preserved c =
+loop-first-2-preserved g c =
     let was = c.loop-first-2.invariant in
     let pushed = c.in_ok-push-3.ensures in
     let first = c.loop-first-2.first in
