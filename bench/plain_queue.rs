@@ -1,7 +1,7 @@
 //! A plain queue of the same design, to time the proved one against: a mutex round a list of entries,
 //! the IRPs that were used, their lives and the files that were closed, and for each IRP a Cancel flag, a
 //! routine and a status in atomic words, each with the life that it stands for. It refuses what the
-//! proved one refuses.
+//! proved one refuses, but for a file object's own limit, of which it keeps no count.
 use std::collections::VecDeque;
 use std::sync::Mutex;
 use std::sync::atomic::{AtomicU64, Ordering::SeqCst};

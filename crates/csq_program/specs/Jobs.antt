@@ -8,19 +8,21 @@ use Rattle.irp_core.specs.Runs.{IsInLimits}
 use Rattle.csq_device.specs.Plans.{IsPlan}
 use Rattle.csq_device.specs.declared.plan.Plan.{Plan}
 use Rattle.csq_program.specs.declared.command.Job.{Job}
-use Rattle.csq_program.specs.declared.command.Job.TheVariants.{Schedule, Script, Run}
+use Rattle.csq_program.specs.declared.command.Job.TheVariants.{Schedule, Draw, Script, Run}
 use Rattle.csq_program.specs.declared.command.CommandFault.{CommandFault}
 use Rattle.csq_program.specs.declared.command.CommandFault.TheVariants.{Memory, Refused}
 
 -- each number is in its range
 abbrev pub IsInRange : Job → Type 0
 IsInRange (Schedule irps passes claims) = IsInLimits (record { irps = irps; passes = passes; first = 0 })
+IsInRange (Draw irps passes) = IsInLimits (record { irps = irps; passes = passes; first = 0 })
 IsInRange (Script irps files limit file_limit chain) = ((1 ≤ irps) × (irps ≤ 1024)) × ((1 ≤ files) × (files ≤ 256)) × IfSome limit (λ n. (1 ≤ n) × (n ≤ 1024)) × IfSome file_limit (λ n. (1 ≤ n) × (n ≤ 1024))
 IsInRange (Run plan chain) = IsPlan plan.irps plan.files plan.submitters plan.workers plan.cancellers plan.turns
 
--- the command of this name, of which any but a script's and a run's is a schedule's
+-- the command of this name, of which any but a picture's, a script's and a run's is a schedule's
 abbrev pub IsJobOf : List ℕ → Job → Type 0
-IsJobOf name (Schedule irps passes claims) = (name ≢ codes "script") × (name ≢ codes "run")
+IsJobOf name (Schedule irps passes claims) = (name ≢ codes "draw") × (name ≢ codes "script") × (name ≢ codes "run")
+IsJobOf name (Draw irps passes) = name ≡ codes "draw"
 IsJobOf name (Script irps files limit file_limit chain) = name ≡ codes "script"
 IsJobOf name (Run plan chain) = name ≡ codes "run"
 
@@ -30,9 +32,10 @@ pub record IsFlag (options : ArgMatches) (name : List ℕ) (flag : Bool) : Type 
   pub clear : one_text (found_of options) name ≡ Some (codes "false") → flag ≡ false
   pub absent : one_text (found_of options) name ≡ None → flag ≡ false
 
--- the job's flag is that of the options
+-- the job's flag, if it has one, is that of the options
 abbrev pub TellsFlag : ArgMatches → Job → Type 0
 TellsFlag options (Schedule irps passes claims) = IsFlag options (codes "claims") claims
+TellsFlag options (Draw irps passes) = Unit {0}
 TellsFlag options (Script irps files limit file_limit chain) = IsFlag options (codes "chain") chain
 TellsFlag options (Run plan chain) = IsFlag options (codes "chain") chain
 
@@ -58,6 +61,7 @@ pub record ArePlanned (options : ArgMatches) (plan : Plan) : Type 0 where
 -- the job's numbers are those of the options
 abbrev pub TellsNumbers : ArgMatches → Job → Type 0
 TellsNumbers options (Schedule irps passes claims) = IsNumber options (codes "irps") 1024 8 irps × IsNumber options (codes "passes") 64 4 passes
+TellsNumbers options (Draw irps passes) = IsNumber options (codes "irps") 1024 8 irps × IsNumber options (codes "passes") 64 4 passes
 TellsNumbers options (Script irps files limit file_limit chain) = IsNumber options (codes "irps") 1024 8 irps × IsNumber options (codes "files") 256 4 files × IsLimit options (codes "limit") limit × IsLimit options (codes "file-limit") file_limit
 TellsNumbers options (Run plan chain) = ArePlanned options plan
 

@@ -1,9 +1,11 @@
 //! The command line.
 ghost use Rattle.std.specs.Prelude.{◌≡◌, ◌≤◌, codes, IfOk, IfSome};
+ghost use Rattle.irp_core.specs.Runs.{IsInLimits};
 ghost use Rattle.csq_program.specs.Jobs.{IsInRange, IsJobOf, IsLimit, IsNumber, IsRefusalOf, TellsFlag, TellsNumbers, number_of};
 
 use crate::help::{
-    ABOUT, RUN_ABOUT, RUN_HELP, SCHEDULE_ABOUT, SCHEDULE_HELP, SCRIPT_ABOUT, SCRIPT_HELP, VERSION,
+    ABOUT, DRAW_ABOUT, DRAW_HELP, RUN_ABOUT, RUN_HELP, SCHEDULE_ABOUT, SCHEDULE_HELP, SCRIPT_ABOUT,
+    SCRIPT_HELP, VERSION,
 };
 use clap::error::ErrorKind;
 use clap::{Arg, ArgAction, ArgMatches, Command, value_parser};
@@ -22,6 +24,11 @@ pub enum Job {
         irps: u32,
         passes: u32,
         claims: bool,
+    },
+    /// To draw a schedule over this many IRPs and passes.
+    Draw {
+        irps: u32,
+        passes: u32,
     },
     /// To make the calls of a script over this many IRPs and file objects, of which `limit` IRPs may
     /// be listed at a time, and `file_limit` for each file object: all, where none is given. The list is
@@ -88,19 +95,37 @@ fn number_option<'a>(alloc: Global, name: &'a str, help: &'a str, most: u32) -> 
         .value_parser(value_parser!(u32).range(1..=i64::from(most)))
 }
 
-/// The command line of a schedule.
-fn schedule_command<'a>(alloc: Global) -> Result<Command<'a>, AllocError> {
+// The headings under which options are told: others are told as options.
+const SIZE: &str = "Size";
+
+const LIMITS: &str = "Limits";
+
+const THREADS: &str = "Threads";
+
+/// A command that is read over a machine, with how many IRPs and passes it has.
+fn machine_command<'a>(alloc: Global, name: &'a str) -> Result<Command<'a>, AllocError> {
     let irps = number_option(alloc, "irps", "IRPs, 1 to 1,024", MAX_IRPS);
     let passes = number_option(alloc, "passes", "Passes, 1 to 64", MAX_PASSES);
+    Command::new(alloc, name)
+        .arg(irps.help_heading(SIZE).default_value("8"))?
+        .arg(passes.help_heading(SIZE).default_value("4"))
+}
+
+/// The command line of a picture.
+fn draw_command<'a>(alloc: Global) -> Result<Command<'a>, AllocError> {
+    let command = machine_command(alloc, "draw")?;
+    Ok(command.about(DRAW_ABOUT).after_help(DRAW_HELP))
+}
+
+/// The command line of a schedule.
+fn schedule_command<'a>(alloc: Global) -> Result<Command<'a>, AllocError> {
     let claims = Arg::new(alloc, "claims")
         .long("claims")
         .help("Tells each claim: the IRP, the line and the pass")
         .action(ArgAction::SetTrue);
-    Command::new(alloc, "schedule")
+    machine_command(alloc, "schedule")?
         .about(SCHEDULE_ABOUT)
         .after_help(SCHEDULE_HELP)
-        .arg(irps.default_value("8"))?
-        .arg(passes.default_value("4"))?
         .arg(claims)
 }
 
@@ -120,10 +145,10 @@ fn script_command<'a>(alloc: Global) -> Result<Command<'a>, AllocError> {
     Command::new(alloc, "script")
         .about(SCRIPT_ABOUT)
         .after_help(SCRIPT_HELP)
-        .arg(irps.default_value("8"))?
-        .arg(files.default_value("4"))?
-        .arg(limit)?
-        .arg(file_limit)?
+        .arg(irps.help_heading(SIZE).default_value("8"))?
+        .arg(files.help_heading(SIZE).default_value("4"))?
+        .arg(limit.help_heading(LIMITS))?
+        .arg(file_limit.help_heading(LIMITS))?
         .arg(chain)
 }
 
@@ -157,12 +182,12 @@ fn run_command<'a>(alloc: Global) -> Result<Command<'a>, AllocError> {
     Command::new(alloc, "run")
         .about(RUN_ABOUT)
         .after_help(RUN_HELP)
-        .arg(irps.default_value("64"))?
-        .arg(files.default_value("4"))?
-        .arg(submitters.default_value("2"))?
-        .arg(workers.default_value("2"))?
-        .arg(cancellers.default_value("2"))?
-        .arg(turns.default_value("64"))?
+        .arg(irps.help_heading(SIZE).default_value("64"))?
+        .arg(files.help_heading(SIZE).default_value("4"))?
+        .arg(submitters.help_heading(THREADS).default_value("2"))?
+        .arg(workers.help_heading(THREADS).default_value("2"))?
+        .arg(cancellers.help_heading(THREADS).default_value("2"))?
+        .arg(turns.help_heading(THREADS).default_value("64"))?
         .arg(chain)
 }
 
@@ -175,6 +200,7 @@ fn program<'a>(alloc: Global) -> Result<Command<'a>, AllocError> {
         .subcommand_required(true)
         .arg_required_else_help(true)
         .subcommand(schedule_command(alloc)?)?
+        .subcommand(draw_command(alloc)?)?
         .subcommand(script_command(alloc)?)?
         .subcommand(run_command(alloc)?)
 }
@@ -204,17 +230,39 @@ fn limit_in(options: &ArgMatches<'_>, name: &str) -> Option<u32>
     }
 }
 
+/// How many IRPs and passes a machine has.
+fn machine_size(options: &ArgMatches<'_>) -> (u32, u32)
+    ensures range { IsInLimits (record { irps = result.0; passes = result.1; first = 0 }) }
+    ensures irps { IsNumber options.now (codes "irps") 1024 8 result.0 }
+    ensures passes { IsNumber options.now (codes "passes") 64 4 result.1 }
+{
+    let irps = number_in(options, "irps", MAX_IRPS, 8);
+    let passes = number_in(options, "passes", MAX_PASSES, 4);
+    (irps, passes)
+}
+
 fn schedule_job(options: &ArgMatches<'_>) -> Job
     ensures range { IsInRange result }
     ensures command { IsJobOf (codes "schedule") result }
     ensures flag { TellsFlag options.now result }
     ensures numbers { TellsNumbers options.now result }
 {
+    let (irps, passes) = machine_size(options);
     Job::Schedule {
-        irps: number_in(options, "irps", MAX_IRPS, 8),
-        passes: number_in(options, "passes", MAX_PASSES, 4),
+        irps,
+        passes,
         claims: options.get_flag("claims"),
     }
+}
+
+fn draw_job(options: &ArgMatches<'_>) -> Job
+    ensures range { IsInRange result }
+    ensures command { IsJobOf (codes "draw") result }
+    ensures flag { TellsFlag options.now result }
+    ensures numbers { TellsNumbers options.now result }
+{
+    let (irps, passes) = machine_size(options);
+    Job::Draw { irps, passes }
 }
 
 fn script_job(options: &ArgMatches<'_>) -> Job
@@ -261,6 +309,7 @@ fn job_of(name: &str, options: &ArgMatches<'_>) -> Job
     ensures numbers { TellsNumbers options.now result }
 {
     match name {
+        "draw" => draw_job(options),
         "script" => script_job(options),
         "run" => device_job(options),
         _ => schedule_job(options),

@@ -7,7 +7,7 @@ ghost use Rattle.csq_program.specs.declared.device_run.RunFault.TheVariants.{Spa
 
 use csq_device::{Device, DeviceCause, Gate, Plan, RunRefused, Totals};
 use csq_list::PendingList;
-use std::alloc::AllocError;
+use std::alloc::{AllocError, Allocator};
 use std::io::Write;
 use std::sync::Wait;
 use std::thread::Threads;
@@ -74,7 +74,7 @@ impl From<RunRefused> for RunFault {
 }
 
 /// The lines of a device's totals.
-fn write_totals(totals: &Totals, text: &mut String) -> Result<(), AllocError>
+fn write_totals<A: Allocator>(totals: &Totals, text: &mut String<A>) -> Result<(), AllocError>
     ensures { OnOk result (string_bytes text.new ≡ string_bytes text.old ++ totals_text totals.now) }
 {
     let irps = totals.irps;
@@ -87,12 +87,13 @@ fn write_totals(totals: &Totals, text: &mut String) -> Result<(), AllocError>
 
 /// Runs a device of this plan over a list that fits it, its threads held up by the gate, and writes how
 /// many IRPs there are, how many are home, listed or were completed by a thread's own count, and how many
-/// are cancelled and listed.
+/// are cancelled and listed. All memory is of `alloc`.
 ///
 /// Faults: 1 Memory, 2 Spawn where a thread could not be started, 3 NotClosed where the queue was not
 /// closed, after each of which nothing was written; 4 Write. Own rule.
-pub fn answer_run<L, G, R, W>(
+pub fn answer_run<L, G, R, A, W>(
     rt: &R,
+    alloc: A,
     plan: Plan,
     list: L,
     gate: G,
@@ -101,22 +102,23 @@ pub fn answer_run<L, G, R, W>(
 where
     L: PendingList + Drop + Send,
     G: Gate + Drop,
-    R: AllocGlobal + Threads + Wait + Sync,
+    R: Threads + Wait + Sync,
+    A: Allocator + Copy + Send + Sync,
     W: Write,
     requires { IsListFor plan.irps plan.files (L.listing list) }
     ensures written { OnOk result (Appends (W.contents writer.old) (W.contents writer.new) (run_text plan.irps)) }
     ensures unwritten { IfErr result (λ fault. fault ≢ RunFault.Write
         → Keeps (W.contents writer.old) (W.contents writer.new)) }
 {
-    let device = match Device::new(rt.alloc(), plan, list, gate) {
+    let device = match Device::new(alloc, plan, list, gate) {
         Ok(device) => device,
         Err(refused) => match refused.cause {
             DeviceCause::Memory => return Err(RunFault::Memory),
             DeviceCause::ListNotFresh => unreachable!(),
         },
     };
-    let totals = device.run(rt, rt.alloc())?;
-    let mut text = String::new(rt.alloc());
+    let totals = device.run(rt, alloc)?;
+    let mut text = String::new(alloc);
     write_totals(&totals, &mut text)?;
     match writer.write_all(text.as_bytes()) {
         Ok(()) => Ok(()),

@@ -4,7 +4,7 @@
 pub(crate) const VERSION: &str = "1.0";
 
 pub(crate) const ABOUT: &str =
-    "Replays the steps and the calls of a cancel-safe IRP queue, and runs threads over one";
+    "Replays and draws the steps of a cancel-safe IRP queue, makes its calls, and runs threads over one";
 
 pub(crate) const SCHEDULE_ABOUT: &str = "Replays a schedule from standard input, one step a line";
 
@@ -47,6 +47,29 @@ command line is refused, 1 for a fault of memory, reading or writing.
 
 Example:
   printf 'p1 arm 0\\np1 test 0\\np2 flag 0\\np2 take 0\\n' | csqsim schedule";
+
+pub(crate) const DRAW_ABOUT: &str =
+    "Draws a schedule from standard input as one SVG picture, on standard output";
+
+pub(crate) const DRAW_HELP: &str = "\
+A schedule is read as by csqsim schedule, whose help teaches its lines. The picture has a column for each
+pass that makes a step, and time runs downwards. A step is a mark on a row of its own, with the number of
+its line at the left: what the pass did, to which IRP, and the value that it found. Each IRP has one of
+eight colours, and its number stands in its marks.
+  bold         the step claims its IRP: an exchange that found the cancel routine
+  shaded       the pass has the lock
+  dashed line  the pass owes the IRP, from its claim until it takes the IRP out
+  solid line   the pass holds the IRP, until it completes it
+A browser tells each mark and each line in words where the pointer rests on it.
+A line that ends the schedule stands last, marked as refused, with its refusal and a sentence why.
+Otherwise it is told below where each IRP is in the end, and whether all is at rest.
+
+An input of more than 1,048,576 bytes is told as too long, and nothing is drawn.
+Exit status: 0 where all lines were drawn, 2 where one ended the schedule, the input is too long or the
+command line is refused, 1 for a fault of memory, reading or writing.
+
+Example:
+  printf 'p1 arm 0\\np2 flag 0\\np1 test 0\\np2 take 0\\n' | csqsim draw > race.svg";
 
 pub(crate) const SCRIPT_ABOUT: &str =
     "Makes the calls of a script from standard input, one call a line";

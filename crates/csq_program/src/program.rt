@@ -1,13 +1,16 @@
 //! What each command of the program does, and its exit status.
-ghost use Rattle.std.specs.Prelude.{◌≡◌, ◌≤◌, IfOk, IfErr, replicate};
+ghost use Rattle.std.specs.Prelude.{◌≡◌, ◌≤◌, Ok, Err, IfOk, IfErr, replicate};
 ghost use Rattle.irp_core.specs.Runs.{IsInLimits};
 ghost use Rattle.csq_list.specs.Listing.{IsFresh};
 ghost use Rattle.csq_device.specs.Plans.{IsListFor};
 ghost use Rattle.csq_program.specs.Jobs.{IsInRange};
+ghost use Rattle.csq_list.specs.declared.refusals.ListNew.TheVariants.{BadSize};
+ghost use Rattle.csq_program.specs.declared.program.ProgramFault.TheVariants.{Replay, Run};
 
 use crate::command::{CommandFault, Job, read_command, refuse_bytes};
 use crate::device_run::{RunFault, answer_run};
 use csq_device::{Free, Plan};
+use csq_draw::draw_schedule;
 use csq_list::{ChainList, ListNew, PendingList, VecList};
 use csq_replay::{SimFault, answer_schedule, answer_script, exit_status};
 use std::alloc::{AllocError, Allocator};
@@ -27,6 +30,18 @@ pub enum ProgramFault {
     /// A device's totals were not written.
     #[error(transparent)]
     Run(#[from] RunFault),
+}
+
+impl From<AllocError> for ProgramFault {
+    ghost use Rattle.std.specs.Prelude.{◌≡◌};
+    ghost use Rattle.csq_replay.specs.declared.lines.answer.SimFault.TheVariants.{Memory};
+    ghost use Rattle.csq_program.specs.declared.program.ProgramFault.TheVariants.{Replay};
+
+    ghost from_gives = { λ _ fault. fault ≡ Replay Memory };
+
+    fn from(_: AllocError) -> Self {
+        ProgramFault::Replay(SimFault::Memory)
+    }
 }
 
 // The exit status where all went well.
@@ -59,7 +74,7 @@ where
 {
     match read_job(rt) {
         Ok(job) => run_job(rt, job),
-        Err(CommandFault::Memory) => Err(ProgramFault::Replay(SimFault::Memory)),
+        Err(CommandFault::Memory) => Err(ProgramFault::from(AllocError)),
         Err(CommandFault::Refused(error)) => {
             error.print(rt).map_err(|_| SimFault::Write)?;
             Ok(error.exit_code() as u8)
@@ -79,6 +94,7 @@ where
             passes,
             claims,
         } => run_schedule(rt, irps, passes, claims),
+        Job::Draw { irps, passes } => run_drawing(rt, irps, passes),
         Job::Script {
             irps,
             files,
@@ -116,6 +132,20 @@ fn run_schedule<R: AllocGlobal + Print + Input>(
     Ok(exit_status(ended))
 }
 
+/// Draws a schedule.
+fn run_drawing<R: AllocGlobal + Print + Input>(
+    rt: &R,
+    irps: u32,
+    passes: u32,
+) -> Result<u8, ProgramFault>
+    requires { IsInLimits (record { irps = irps; passes = passes; first = 0 }) }
+{
+    let mut reader = rt.reader();
+    let mut writer = io::writer(rt);
+    let ended = draw_schedule(rt.alloc(), irps, passes, &mut reader, &mut writer)?;
+    Ok(exit_status(ended))
+}
+
 /// The limit of each file object.
 fn file_limits_of<A: Allocator>(
     alloc: A,
@@ -138,9 +168,7 @@ fn run_limited_script<R: AllocGlobal + Print + Eprint + Input>(
 ) -> Result<u8, ProgramFault>
     requires { (1 ≤ irps) × (irps ≤ 1024) }
 {
-    let Ok(file_limits) = file_limits_of(rt.alloc(), files, file_limit) else {
-        return Err(ProgramFault::Replay(SimFault::Memory));
-    };
+    let file_limits = file_limits_of(rt.alloc(), files, file_limit)?;
     if chain {
         let list = ChainList::with_file_limits(rt.alloc(), irps, files, limit, &file_limits);
         run_script(rt, list)
@@ -157,6 +185,8 @@ fn run_script<L: PendingList + Drop, R: AllocGlobal + Print + Eprint + Input>(
 ) -> Result<u8, ProgramFault>
     requires fresh { IfOk list (λ l. IsFresh (L.listing l)) }
     requires irps { IfOk list (λ l. (1 ≤ (L.listing l).irps) × ((L.listing l).irps ≤ 1024)) }
+    ensures memory { IfErr list (λ refused. refused ≡ ListNew.Memory → result ≡ Err (Replay SimFault.Memory)) }
+    ensures bad_size { IfErr list (λ refused. refused ≡ BadSize → result ≡ Ok 2) }
 {
     match list {
         Ok(list) => {
@@ -165,7 +195,7 @@ fn run_script<L: PendingList + Drop, R: AllocGlobal + Print + Eprint + Input>(
             let ended = answer_script(rt.alloc(), list, &mut reader, &mut writer)?;
             Ok(exit_status(ended))
         }
-        Err(ListNew::Memory) => Err(ProgramFault::Replay(SimFault::Memory)),
+        Err(ListNew::Memory) => Err(ProgramFault::from(AllocError)),
         Err(ListNew::BadSize) => {
             let _ = eprintln!(rt; "csqsim: bad size");
             Ok(REFUSED)
@@ -179,10 +209,11 @@ where
     L: PendingList + Drop + Send,
     R: AllocGlobal + Print + Threads + Wait + Sync,
     requires { IfOk list (λ l. IsListFor plan.irps plan.files (L.listing l)) }
+    ensures memory { IfErr list (λ _. result ≡ Err (Run RunFault.Memory)) }
 {
     match list {
         Ok(list) => {
-            answer_run(rt, plan, list, Free, &mut io::writer(rt))?;
+            answer_run(rt, rt.alloc(), plan, list, Free, &mut io::writer(rt))?;
             Ok(DONE)
         }
         Err(_) => Err(ProgramFault::Run(RunFault::Memory)),

@@ -1,5 +1,5 @@
 -- Answers, line after line.
-use Rattle.std.proofs.Common.{◌≡◌, ℕ, ◌+◌, List, [], ◌∷◌, ◌++◌, Option, Some, None, append_assoc, refl, ap, subst, sym, ◌∙◌, length, true, eqb-true, arith}
+use Rattle.std.proofs.Common.{◌≡◌, ℕ, ◌+◌, List, [], ◌∷◌, ◌++◌, Option, Some, None, Result, Ok, Err, IfOk, ◌≤◌, append_assoc, refl, ap, subst, sym, ◌∙◌, length, true, eqb-true, arith}
 use Rattle.std.proofs.lemmas.List.{nil_from_length}
 use Rattle.std.specs.Prelude.{◌==◌}
 use Rattle.csq_replay.specs.declared.lines.answer.Ended.{Ended}
@@ -7,7 +7,8 @@ use Rattle.csq_replay.specs.declared.lines.answer.Ended.TheVariants.{AllHandled,
 use Rattle.csq_replay.specs.declared.lines.Handling.{Handling}
 use Rattle.csq_replay.specs.declared.lines.Handling.TheVariants.{GoesOn, Stops}
 use Rattle.csq_replay.specs.Pieces.{lines_of}
-use Rattle.csq_replay.specs.Lines.{Leaves, AnswersAll, IsAnswer}
+use Rattle.csq_replay.specs.Inputs.{input_limit}
+use Rattle.csq_replay.specs.Lines.{GrewBy, Leaves, AnswersAll, IsAnswer}
 use Rattle.csq_replay.specs.Lines.AnswersAll.{all_handled, goes_on, stops}
 use Rattle.csq_replay.specs.Lines.IsAnswer.{too_long_input, answered}
 
@@ -58,6 +59,13 @@ module _ {S : Type 0} (answers : S → ℕ → List ℕ → List ℕ → Option 
   lines_end whole first s n rest added closing none complete closed =
       let C : List ℕ → Type 0 = λ bytes. Completes whole first s n (lines_of bytes) added in
       subst C (nil_from_length rest (eqb-true (length rest) 0 (sym none))) complete closing AllHandled (all_handled s n closing closed)
+
+  -- what each of its lines is answered answers an input that isn't too long
+  pub each_answer : {X : Type 0} (s : S) (input old new : List ℕ) (result : Result Ended X) → length input ≤ input_limit
+      → IfOk result (λ ended. (added : List ℕ) × GrewBy old new added × AnswersAll answers closes s 1 (lines_of input) added ended)
+      → IfOk result (λ ended. (added : List ℕ) × GrewBy old new added × IsAnswer answers closes s input added ended)
+  each_answer s input old new (Ok ended) le (added, grown, all) = (added, grown, answered added ended le all)
+  each_answer s input old new (Err e) le h = h
 
   -- two answers are one, where two answers to a line are, and two closings are, after every state that fits
   module _ (Fits : S → Type 0)

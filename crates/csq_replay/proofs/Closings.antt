@@ -1,5 +1,5 @@
 -- The closing lines.
-use Rattle.std.proofs.Common.{◌≡◌, ℕ, ◌+◌, Bool, true, false, cond, List, [], ◌++◌, ap, append_assoc, append-nil, ◌∙◌, sym, subst, add-one, refl, codes, decimal}
+use Rattle.std.proofs.Common.{◌≡◌, ℕ, ◌+◌, Bool, true, false, cond, List, [], ◌∷◌, ◌++◌, ap, append_assoc, append-nil, ◌∙◌, sym, subst, add-one, refl, codes, decimal}
 use mir.Val.{bool_byte}
 use Rattle.irp_core.specs.declared.step.Made.{Made}
 use Rattle.irp_core.specs.declared.step.IrpPlace.{IrpPlace}
@@ -13,7 +13,10 @@ use Rattle.irp_core.specs.declared.step.Step.{Step}
 use Rattle.irp_core.specs.declared.step.StepRefused.{StepRefused}
 use Rattle.irp_core.specs.Runs.{Size, IsRun}
 use Rattle.irp_core.specs.Refusals.{IsFirstCause}
-use Rattle.csq_replay.specs.Schedule.{Numbered, is_silent, irp_line, IsIrpLine, AreIrpLines, IsClosing}
+use Rattle.csq_replay.specs.declared.schedule.closing.IrpLine.{IrpLine}
+use Rattle.csq_replay.specs.declared.schedule.outcome.Outcome.{Outcome}
+use Rattle.csq_replay.specs.Outcomes.{ComesTo}
+use Rattle.csq_replay.specs.Schedule.{Numbered, is_silent, irp_line_text, irp_lines_text, unless_silent, IsToldOf, AreToldOf, IsClosing}
 use Rattle.csq_replay.specs.Lines.{GrewBy}
 
 -- a text that grew twice grew by both
@@ -27,25 +30,37 @@ pub byte_is_bit : (b : Bool) → bool_byte b ≡ bit b
 byte_is_bit true = refl
 byte_is_bit false = refl
 
--- the line that is written for an IRP that is told of
-pub told : (i : Irp) (place : IrpPlace) (flag : Bool) (n : ℕ) → is_silent place flag i ≡ false → n ≡ bit flag
-    → codes "irp " ++ (name_text i ++ (codes " " ++ (place_text place ++ (codes " cancel " ++ (decimal n ++ codes "\n"))))) ≡ irp_line i place flag
-told i place flag n shown value = rw (shown, value) refl
-
-pub silent : (i : Irp) (place : IrpPlace) (flag : Bool) → is_silent place flag i ≡ true → [] ≡ irp_line i place flag
-silent i place flag hidden = rw hidden refl
-
--- the line of an IRP, where its present life, its place and its flag are told
+-- an IRP is told of so, where its present life, its place and its flag are told
 pub irp_told : (first : ℕ) (E : List Made) (i : Irp) → life_of i ≡ present_life first E i.irp → (place : IrpPlace) → IsPlace E (present first E i.irp) place
-    → (flag : Bool) → flag ≡ flagged E (present first E i.irp) → (text : List ℕ) → text ≡ irp_line i place flag → IsIrpLine E (present first E i.irp) text
-irp_told first E i now place is flag set text e =
+    → (flag : Bool) → flag ≡ flagged E (present first E i.irp) → (told : List IrpLine) → told ≡ unless_silent (record { name = i; place = place; cancelled = flag })
+    → IsToldOf E (present first E i.irp) told
+irp_told first E i now place is flag set told e =
     let same : i ≡ present first E i.irp = named i (present first E i.irp) refl now in
-    (place, is, e ∙ ap (λ x. irp_line x place flag) same ∙ ap (irp_line (present first E i.irp) place) set)
+    let line : Irp → Bool → IrpLine = λ x f. record { name = x; place = place; cancelled = f } in
+    (place, is, e ∙ ap (λ x. unless_silent (line x flag)) same ∙ ap (λ f. unless_silent (line (present first E i.irp) f)) set)
 
--- the lines of one more IRP
-pub lines_more : (first : ℕ) (E : List Made) (n : ℕ) (before last : List ℕ) → AreIrpLines first E n before → IsIrpLine E (present first E (record { 0 = n })) last → AreIrpLines first E (n + 1) (before ++ last)
-lines_more first E n before last lines line =
-    let P : ℕ → Type 0 = λ k. AreIrpLines first E k (before ++ last) in
+pub told_none : (line : IrpLine) → is_silent line ≡ true → [] ≡ unless_silent line
+told_none line hidden = rw hidden refl
+
+pub told_one : (line : IrpLine) → is_silent line ≡ false → line ∷ [] ≡ unless_silent line
+told_one line shown = rw shown refl
+
+pub lines-append : (xs ys : List IrpLine) → irp_lines_text (xs ++ ys) ≡ irp_lines_text xs ++ irp_lines_text ys
+lines-append [] ys = refl
+lines-append (x ∷ xs) ys = ap (λ t. (irp_line_text x ++ codes "\n") ++ t) (lines-append xs ys) ∙ sym (append_assoc (irp_line_text x ++ codes "\n") (irp_lines_text xs) (irp_lines_text ys))
+
+-- a text that grew by these lines, and then by those, grew by all
+pub grew_lines : (old between new : List ℕ) (first second : List IrpLine) → GrewBy old between (irp_lines_text first) → GrewBy between new (irp_lines_text second) → GrewBy old new (irp_lines_text (first ++ second))
+grew_lines old between new first second a b = grew_more old between new (irp_lines_text first) (irp_lines_text second) a b ∙ ap (λ t. old ++ t) (sym (lines-append first second))
+
+-- a text that grew by a line
+pub grew_line : (old new : List ℕ) (line : IrpLine) → new ≡ old ++ (irp_line_text line ++ codes "\n") → GrewBy old new (irp_lines_text (line ∷ []))
+grew_line old new line e = e ∙ ap (λ t. old ++ t) (sym (append-nil (irp_line_text line ++ codes "\n")))
+
+-- one more IRP is told of
+pub told_more : (first : ℕ) (E : List Made) (n : ℕ) (before last : List IrpLine) → AreToldOf first E n before → IsToldOf E (present first E (record { 0 = n })) last → AreToldOf first E (n + 1) (before ++ last)
+told_more first E n before last lines line =
+    let P : ℕ → Type 0 = λ k. AreToldOf first E k (before ++ last) in
     subst P (sym (add-one n)) (before, last, lines, line, refl)
 
 -- the claims, where they are asked for
@@ -57,11 +72,8 @@ pub not_asked : (irps rest claims : List ℕ) (asks : Bool) → asks ≡ false �
 not_asked irps rest claims asks off = rw off (ap (λ t. irps ++ t) (sym (append-nil rest)))
 
 -- the same, of a machine whose size is known by another name
-pub run_of_size : (now size : Size) (E : List Made) → now ≡ size → IsRun now E → IsRun size E
-run_of_size now size E same r = let P : Size → Type 0 = λ n. IsRun n E in subst P same r
-
-pub cause_of_size : (now size : Size) (E : List Made) (s : Step) (cause : StepRefused) → now ≡ size → IsFirstCause now E s cause → IsFirstCause size E s cause
-cause_of_size now size E s cause same first = let P : Size → Type 0 = λ n. IsFirstCause n E s cause in subst P same first
+pub comes_of_size : (now size : Size) (E : List Made) (line : List ℕ) (comes : Outcome) → now ≡ size → ComesTo now E line comes → ComesTo size E line comes
+comes_of_size now size E line comes same is = let P : Size → Type 0 = λ n. ComesTo n E line comes in subst P same is
 
 pub closing_of_size : (now size : Size) → now ≡ size → (claims : Bool) (W : List Numbered) (text : List ℕ) → IsClosing now claims W text → IsClosing size claims W text
 closing_of_size now size same claims W text closes = let P : Size → Type 0 = λ n. IsClosing n claims W text in subst P same closes

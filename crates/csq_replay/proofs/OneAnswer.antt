@@ -17,7 +17,6 @@ use Rattle.irp_core.specs.Words.{flagged, was_armed, found_by}
 use Rattle.irp_core.specs.Runs.{Size, IsRun}
 use Rattle.irp_core.specs.Refusals.{number_of, IsCause, IsFirstCause}
 use Rattle.irp_core.specs.Owners.{holds}
-use Rattle.irp_core.specs.Texts.{refusal_text}
 use Rattle.std.specs.List.{list_any}
 use Rattle.irp_core.specs.Standings.{place_of, is_home, is_held_by}
 use Rattle.irp_core.specs.Completion.{IsPlace, completed_by, removed, status_due}
@@ -27,9 +26,12 @@ use Rattle.irp_core.proofs.Rows.{done_at, has_left, IsDue}
 use Rattle.irp_core.proofs.Stepping.{no_cause}
 use Rattle.irp_core.proofs.Owning.{stands}
 use Rattle.irp_core.proofs.Next.{lock_one}
-use Rattle.csq_replay.specs.Schedule.{Numbered, run_of, AnswersLine, IsIrpLine, AreIrpLines, IsRestLine, IsClosing, irp_line, claim_lines}
-use Rattle.csq_replay.specs.Lines.{of_line}
-use Rattle.csq_replay.specs.Schedule.AnswersLine.{too_long, skipped, malformed, accepted, refused}
+use Rattle.csq_replay.specs.declared.schedule.closing.IrpLine.{IrpLine}
+use Rattle.csq_replay.specs.declared.schedule.outcome.Outcome.{Outcome}
+use Rattle.csq_replay.specs.declared.schedule.outcome.Outcome.TheVariants.{Skipped, Accepted, Stopped}
+use Rattle.csq_replay.specs.declared.schedule.outcome.Stop.TheVariants.{TooLong, Malformed, Refused}
+use Rattle.csq_replay.specs.Outcomes.{step_of, ComesTo}
+use Rattle.csq_replay.specs.Schedule.{Numbered, run_of, grown, TellsLine, answer_text, AnswersLine, unless_silent, IsToldOf, AreToldOf, TellsRest, Closes, IsClosing, irp_lines_text, rest_text, claim_lines}
 use Rattle.csq_replay.specs.Laws.{HasOneAnswer}
 use Rattle.csq_replay.proofs.Answering.{one_input_answer}
 use Rattle.csq_replay.proofs.OneStep.{same_step, not_skipped, is_within}
@@ -81,24 +83,31 @@ one_place size E r i p q a b =
     let is = λ (x : IrpPlace) (e : IsPlace E i x). place_row _ _ _ _ _ s h.ever_is h.left_is h.holding_is h.done_is h.due x (places E i x e) in
     is p a ∙ sym (is q b)
 
-one_irp_line : (size : Size) (E : List Made) → IsRun size E → (i : Irp) (t u : List ℕ) → IsIrpLine E i t → IsIrpLine E i u → t ≡ u
-one_irp_line size E r i t u (p, a, e) (q, b, f) = e ∙ ap (λ x. irp_line i x (flagged E i)) (one_place size E r i p q a b) ∙ sym f
+one_told : (size : Size) (E : List Made) → IsRun size E → (i : Irp) (t u : List IrpLine) → IsToldOf E i t → IsToldOf E i u → t ≡ u
+one_told size E r i t u (p, a, e) (q, b, f) =
+    let line : IrpPlace → IrpLine = λ x. record { name = i; place = x; cancelled = flagged E i } in
+    e ∙ ap (λ x. unless_silent (line x)) (one_place size E r i p q a b) ∙ sym f
 
-one_lines : (size : Size) (E : List Made) → IsRun size E → (n : ℕ) (t u : List ℕ) → AreIrpLines size.first E n t → AreIrpLines size.first E n u → t ≡ u
-one_lines size E r zero t u a b = a ∙ sym b
-one_lines size E r (suc n) t u (before, last, lines, line, e) (before', last', lines', line', f) =
-    e ∙ ap (λ x. x ++ last) (one_lines size E r n before before' lines lines') ∙ ap (λ x. before' ++ x) (one_irp_line size E r _ last last' line line') ∙ sym f
+all_told : (size : Size) (E : List Made) → IsRun size E → (n : ℕ) (t u : List IrpLine) → AreToldOf size.first E n t → AreToldOf size.first E n u → t ≡ u
+all_told size E r zero t u a b = a ∙ sym b
+all_told size E r (suc n) t u (before, last, lines, line, e) (before', last', lines', line', f) =
+    e ∙ ap (λ x. x ++ last) (all_told size E r n before before' lines lines') ∙ ap (λ x. before' ++ x) (one_told size E r _ last last' line line') ∙ sym f
 
-one_rest : (E : List Made) (t u : List ℕ) → IsRestLine E t → IsRestLine E u → t ≡ u
-one_rest E t u (inl a) (inl b) = a.1 ∙ sym b.1
-one_rest E t u (inl a) (inr b) = absurd (b.0 a.0)
-one_rest E t u (inr a) (inl b) = absurd (a.0 b.0)
-one_rest E t u (inr a) (inr b) = a.1 ∙ sym b.1
+one_rest : (E : List Made) (b c : Bool) → TellsRest E b → TellsRest E c → b ≡ c
+one_rest E true true h g = refl
+one_rest E false false h g = refl
+one_rest E true false h g = absurd (cc (g.1 (h.0 refl)))
+one_rest E false true h g = absurd (cc (h.1 (g.0 refl)))
+
+-- what is told in the end is one
+pub one_close : (size : Size) (E : List Made) → IsRun size E → (told other : List IrpLine) (rest otherwise : Bool) → Closes size E told rest → Closes size E other otherwise → (told ≡ other) × (rest ≡ otherwise)
+one_close size E r told other rest otherwise a b = (all_told size E r size.irps told other a.irps b.irps, one_rest E rest otherwise a.rest b.rest)
 
 one_closing : (size : Size) (claims : Bool) (W : List Numbered) → IsRun size (run_of W) → (t u : List ℕ) → IsClosing size claims W t → IsClosing size claims W u → t ≡ u
-one_closing size claims W r t u (irps, rest, lines, line, e) (irps', rest', lines', line', f) =
-    e ∙ ap (λ x. x ++ (rest ++ cond claims (claim_lines W) [])) (one_lines size (run_of W) r size.irps irps irps' lines lines')
-    ∙ ap (λ x. irps' ++ (x ++ cond claims (claim_lines W) [])) (one_rest (run_of W) rest rest' line line') ∙ sym f
+one_closing size claims W r t u (told, rest, closes, e) (other, otherwise, closes', f) =
+    let same = one_close size (run_of W) r told other rest otherwise closes closes' in
+    let text : List IrpLine → Bool → List ℕ = λ lines b. irp_lines_text lines ++ ((rest_text b ++ codes "\n") ++ cond claims (claim_lines W) []) in
+    e ∙ ap (λ x. text x rest) same.0 ∙ ap (λ x. text other x) same.1 ∙ sym f
 
 same_life : (g h : Life) → g.0 ≡ h.0 → g ≡ h
 same_life g h e = let life : ℕ → Life = λ n. record { 0 = n } in ap life e
@@ -131,67 +140,69 @@ one_cause size E r s c d a b =
     let above : number_of d < number_of c → ⊥ = λ lt. a.first d lt b.holds in
     same_cause size E r s.pass s.kind c d (omega (arith, below, above)) a.holds b.holds
 
-module _ (size : Size) (W : List Numbered) (n : ℕ) (line : List ℕ) (r : IsRun size (run_of W)) where
-  abbrev Same : List ℕ → List ℕ → Option (List Numbered) → Option (List Numbered) → Type 0
-  Same t u m k = (t ≡ u) × (m ≡ k)
+module _ (size : Size) (E : List Made) (line : List ℕ) (r : IsRun size E) where
+  both_accepted : (m k : Made) → step_of m ≡ step_of k → IsRun size (m ∷ E) → IsRun size (k ∷ E) → m ≡ k
+  both_accepted m k same a b =
+      let value : m.found ≡ k.found = a.found.0 ∙ ap (λ (x : Step). found_by E x.kind) same ∙ sym b.found.0 in
+      ap (λ x. made x m.found) same ∙ ap (λ v. made (step_of k) v) value
 
-  abbrev found_text : Step → ℕ → List ℕ
-  found_text s v = line ++ (codes " found " ++ (decimal v ++ codes "\n"))
-
-  abbrev next : Step → ℕ → Option (List Numbered)
-  next s v = Some (record { line = n; step = made s v } ∷ W)
-
-  both_accepted : (s t : Step) (v w : ℕ) → s ≡ t → IsRun size (made s v ∷ run_of W) → IsRun size (made t w ∷ run_of W) → Same (found_text s v) (found_text t w) (next s v) (next t w)
-  both_accepted s t v w same a b =
-      let value : v ≡ w = a.found.0 ∙ ap (λ (x : Step). found_by (run_of W) x.kind) same ∙ sym b.found.0 in
-      (ap (found_text s) value, ap (λ x. next s x) value ∙ ap (λ (x : Step). next x w) same)
-
-  both_refused : (s t : Step) (c d : StepRefused) → s ≡ t → IsFirstCause size (run_of W) s c → IsFirstCause size (run_of W) t d → c ≡ d
+  both_refused : (s t : Step) (c d : StepRefused) → s ≡ t → IsFirstCause size E s c → IsFirstCause size E t d → c ≡ d
   both_refused s t c d same a b =
-      let P : Step → Type 0 = λ x. IsFirstCause size (run_of W) x c in
-      one_cause size (run_of W) r t c d (subst P same a) b
+      let P : Step → Type 0 = λ x. IsFirstCause size E x c in
+      one_cause size E r t c d (subst P same a) b
 
-  not_both : (s t : Step) (v : ℕ) (c : StepRefused) → s ≡ t → IsRun size (made s v ∷ run_of W) → IsFirstCause size (run_of W) t c → ⊥
-  not_both s t v c same a b =
-      let P : Step → Type 0 = λ x. IsRun size (made x v ∷ run_of W) in
-      no_cause size (run_of W) t.pass t.kind v c (run_last size (made t v) (run_of W) (subst P same a)) b.holds
+  not_both : (m : Made) (t : Step) (c : StepRefused) → step_of m ≡ t → IsRun size (m ∷ E) → IsFirstCause size E t c → ⊥
+  not_both m t c same a b =
+      let P : Step → Type 0 = λ x. IsRun size (made x m.found ∷ E) in
+      no_cause size E t.pass t.kind m.found c (run_last size (made t m.found) E (subst P same a)) b.holds
 
-  one_line : (t u : List ℕ) (m k : Option (List Numbered)) → AnswersLine size W n line t m → AnswersLine size W n line u k → Same t u m k
-  one_line t u m k (too_long lt) (too_long lt') = (refl, refl)
-  one_line t u m k (too_long lt) (skipped w c) = absurd (omega (arith, lt, w))
-  one_line t u m k (too_long lt) (malformed w c no_step) = absurd (omega (arith, lt, w))
-  one_line t u m k (too_long lt) (accepted s v l run) = absurd (omega (arith, lt, is_within line s l))
-  one_line t u m k (too_long lt) (refused s c l first) = absurd (omega (arith, lt, is_within line s l))
-  one_line t u m k (skipped w c) (too_long lt) = absurd (omega (arith, lt, w))
-  one_line t u m k (skipped w c) (skipped w' c') = (refl, refl)
-  one_line t u m k (skipped w c) (malformed w' c' no_step) = absurd (c' c)
-  one_line t u m k (skipped w c) (accepted s v l run) = absurd (not_skipped line s l c)
-  one_line t u m k (skipped w c) (refused s d l first) = absurd (not_skipped line s l c)
-  one_line t u m k (malformed w c no_step) (too_long lt) = absurd (omega (arith, lt, w))
-  one_line t u m k (malformed w c no_step) (skipped w' c') = absurd (c c')
-  one_line t u m k (malformed w c no_step) (malformed w' c' none') = (refl, refl)
-  one_line t u m k (malformed w c no_step) (accepted s v l run) = absurd (no_step s l)
-  one_line t u m k (malformed w c no_step) (refused s d l first) = absurd (no_step s l)
-  one_line t u m k (accepted s v l run) (too_long lt) = absurd (omega (arith, lt, is_within line s l))
-  one_line t u m k (accepted s v l run) (skipped w c) = absurd (not_skipped line s l c)
-  one_line t u m k (accepted s v l run) (malformed w c no_step) = absurd (no_step s l)
-  one_line t u m k (accepted s v l run) (accepted s' v' l' run') = both_accepted s s' v v' (same_step line s s' l l') run run'
-  one_line t u m k (accepted s v l run) (refused s' d l' first) = absurd (not_both s s' v d (same_step line s s' l l') run first)
-  one_line t u m k (refused s d l first) (too_long lt) = absurd (omega (arith, lt, is_within line s l))
-  one_line t u m k (refused s d l first) (skipped w c) = absurd (not_skipped line s l c)
-  one_line t u m k (refused s d l first) (malformed w c no_step) = absurd (no_step s l)
-  one_line t u m k (refused s d l first) (accepted s' v l' run) = absurd (not_both s' s v d (same_step line s' s l' l) run first)
-  one_line t u m k (refused s d l first) (refused s' d' l' first') =
-      (ap (λ c. of_line n (codes "refused " ++ (refusal_text c ++ codes "\n"))) (both_refused s s' d d' (same_step line s s' l l') first first'), refl)
+  -- what comes of a line is one
+  pub one_outcome : (o u : Outcome) → ComesTo size E line o → ComesTo size E line u → o ≡ u
+  one_outcome Skipped Skipped a b = refl
+  one_outcome Skipped (Accepted k) a b = absurd (not_skipped line (step_of k) b.0 a.1)
+  one_outcome Skipped (Stopped TooLong) a b = absurd (omega (arith, a.0, b))
+  one_outcome Skipped (Stopped Malformed) a b = absurd (b.1 a.1)
+  one_outcome Skipped (Stopped (Refused t d)) a b = absurd (not_skipped line t b.0 a.1)
+  one_outcome (Accepted m) Skipped a b = absurd (not_skipped line (step_of m) a.0 b.1)
+  one_outcome (Accepted m) (Accepted k) a b = ap Accepted (both_accepted m k (same_step line (step_of m) (step_of k) a.0 b.0) a.1 b.1)
+  one_outcome (Accepted m) (Stopped TooLong) a b = absurd (omega (arith, b, is_within line (step_of m) a.0))
+  one_outcome (Accepted m) (Stopped Malformed) a b = absurd (b.2 (step_of m) a.0)
+  one_outcome (Accepted m) (Stopped (Refused t d)) a b = absurd (not_both m t d (same_step line (step_of m) t a.0 b.0) a.1 b.1)
+  one_outcome (Stopped TooLong) Skipped a b = absurd (omega (arith, a, b.0))
+  one_outcome (Stopped TooLong) (Accepted k) a b = absurd (omega (arith, a, is_within line (step_of k) b.0))
+  one_outcome (Stopped TooLong) (Stopped TooLong) a b = refl
+  one_outcome (Stopped TooLong) (Stopped Malformed) a b = absurd (omega (arith, a, b.0))
+  one_outcome (Stopped TooLong) (Stopped (Refused t d)) a b = absurd (omega (arith, a, is_within line t b.0))
+  one_outcome (Stopped Malformed) Skipped a b = absurd (a.1 b.1)
+  one_outcome (Stopped Malformed) (Accepted k) a b = absurd (a.2 (step_of k) b.0)
+  one_outcome (Stopped Malformed) (Stopped TooLong) a b = absurd (omega (arith, b, a.0))
+  one_outcome (Stopped Malformed) (Stopped Malformed) a b = refl
+  one_outcome (Stopped Malformed) (Stopped (Refused t d)) a b = absurd (a.2 t b.0)
+  one_outcome (Stopped (Refused s c)) Skipped a b = absurd (not_skipped line s a.0 b.1)
+  one_outcome (Stopped (Refused s c)) (Accepted k) a b = absurd (not_both k s c (same_step line (step_of k) s b.0 a.0) b.1 a.1)
+  one_outcome (Stopped (Refused s c)) (Stopped TooLong) a b = absurd (omega (arith, b, is_within line s a.0))
+  one_outcome (Stopped (Refused s c)) (Stopped Malformed) a b = absurd (b.2 s a.0)
+  one_outcome (Stopped (Refused s c)) (Stopped (Refused t d)) a b =
+      let same = same_step line s t a.0 b.0 in
+      ap (λ x. Stopped (Refused x c)) same ∙ ap (λ x. Stopped (Refused t x)) (both_refused s t c d same a.1 b.1)
 
-  run_after : (t : List ℕ) (m : Option (List Numbered)) (V : List Numbered) → m ≡ Some V → AnswersLine size W n line t m → IsRun size (run_of V)
-  run_after t m V e (too_long lt) = absurd (cc e)
-  run_after t m V e (skipped w c) = let same : W ≡ V = cc e in let P : List Numbered → Type 0 = λ x. IsRun size (run_of x) in subst P same r
-  run_after t m V e (malformed w c no_step) = absurd (cc e)
-  run_after t m V e (accepted s v l run) = let same : record { line = n; step = made s v } ∷ W ≡ V = cc e in let P : List Numbered → Type 0 = λ x. IsRun size (run_of x) in subst P same run
-  run_after t m V e (refused s d l first) = absurd (cc e)
+-- what is told of a line is one, however it is told
+module _ (tell : List Numbered → ℕ → List ℕ → Outcome → List ℕ) (size : Size) where
+  pub one_line : (W : List Numbered) (n : ℕ) (line t u : List ℕ) (m k : Option (List Numbered)) → IsRun size (run_of W) → TellsLine tell size W n line t m → TellsLine tell size W n line u k → (t ≡ u) × (m ≡ k)
+  one_line W n line t u m k r (o, comes, e, f) (p, comes', g, h) =
+      let same = one_outcome size (run_of W) line r o p comes comes' in
+      (e ∙ ap (tell W n line) same ∙ sym g, f ∙ ap (grown W n) same ∙ sym h)
+
+  run_grown : (W V : List Numbered) (n : ℕ) (line : List ℕ) (o : Outcome) → IsRun size (run_of W) → ComesTo size (run_of W) line o → Some V ≡ grown W n o → IsRun size (run_of V)
+  run_grown W V n line Skipped r is e = let same : W ≡ V = cc e in let P : List Numbered → Type 0 = λ x. IsRun size (run_of x) in subst P same r
+  run_grown W V n line (Accepted m) r is e = let same : record { line = n; step = m } ∷ W ≡ V = cc e in let P : List Numbered → Type 0 = λ x. IsRun size (run_of x) in subst P same is.1
+  run_grown W V n line (Stopped stop) r is e = absurd (cc e)
+
+  -- the steps with which the handling goes on make a run
+  pub run_on : (W V : List Numbered) (n : ℕ) (line text : List ℕ) → IsRun size (run_of W) → TellsLine tell size W n line text (Some V) → IsRun size (run_of V)
+  run_on W V n line text r (o, comes, e, f) = run_grown W V n line o r comes f
 
 pub one_schedule_answer : (size : Size) (claims : Bool) (input : List ℕ) → HasOneAnswer size claims input
 one_schedule_answer size claims input t u e f is other =
-    one_input_answer (AnswersLine size) (IsClosing size claims) (λ W. IsRun size (run_of W)) (λ W n line x y m k r. one_line size W n line r x y m k) (λ W V n line text r h. run_after size W n line r text (Some V) V refl h)
+    one_input_answer (AnswersLine size) (IsClosing size claims) (λ W. IsRun size (run_of W)) (one_line answer_text size) (run_on answer_text size)
     (λ W x y r closed closed'. one_closing size claims W r x y closed closed') [] (run_none size) input t u e f is other

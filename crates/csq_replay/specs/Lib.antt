@@ -2,6 +2,7 @@ pub mod Pieces
 pub mod StepLine
 pub mod Inputs
 pub mod Lines
+pub mod Outcomes
 pub mod Schedule
 pub mod Replays
 pub mod Laws

@@ -1,24 +1,24 @@
 -- What a schedule is answered.
-use Rattle.std.specs.Prelude.{◌≡◌, ℕ, zero, suc, ◌+◌, ◌<◌, ◌≤◌, ◌==◌, ◌⊎◌, Bool, false, List, [], ◌∷◌, ◌++◌, map, length, codes, decimal, Option, Some, None, if◌then◌else◌}
+use Rattle.std.specs.Prelude.{◌≡◌, ◌↔◌, ℕ, zero, suc, ◌==◌, Bool, false, List, [], ◌∷◌, ◌++◌, map, codes, decimal, Option, Some, None, IsTrue, if◌then◌else◌}
 use Rattle.std.specs.Option.{option_map_or}
 use Rattle.irp_core.specs.declared.step.Kind.{Kind}
 use Rattle.irp_core.specs.declared.step.Kind.TheVariants.{Disarm, Take}
 use Rattle.irp_core.specs.declared.step.Made.{Made}
-use Rattle.irp_core.specs.declared.step.Step.{Step}
-use Rattle.irp_core.specs.declared.step.StepRefused.{StepRefused}
 use Rattle.irp_core.specs.declared.step.IrpPlace.{IrpPlace}
 use Rattle.irp_core.specs.declared.step.IrpPlace.TheVariants.{Home}
-use Rattle.irp_core.specs.Steps.{Irp, life_of, made}
+use Rattle.irp_core.specs.Steps.{Irp, life_of}
 use Rattle.irp_core.specs.Words.{bit, flagged}
 use Rattle.irp_core.specs.Owners.{is_claim}
 use Rattle.irp_core.specs.Lives.{present}
 use Rattle.irp_core.specs.Completion.{IsPlace}
-use Rattle.irp_core.specs.Runs.{Size, IsRun, IsAtRest}
-use Rattle.irp_core.specs.Refusals.{IsFirstCause}
-use Rattle.irp_core.specs.Texts.{name_text, pass_text, place_text, refusal_text}
+use Rattle.irp_core.specs.Runs.{Size, IsAtRest}
+use Rattle.irp_core.specs.Texts.{name_text, pass_text, place_text}
 use Rattle.csq_replay.specs.declared.lines.answer.Ended.{Ended}
-use Rattle.csq_replay.specs.Lines.{IsWithinLine, IsSkipped, of_line, IsAnswer, RepliesTo}
-use Rattle.csq_replay.specs.StepLine.{IsStepLine}
+use Rattle.csq_replay.specs.declared.schedule.closing.IrpLine.{IrpLine}
+use Rattle.csq_replay.specs.declared.schedule.outcome.Outcome.{Outcome}
+use Rattle.csq_replay.specs.declared.schedule.outcome.Outcome.TheVariants.{Skipped, Accepted, Stopped}
+use Rattle.csq_replay.specs.Lines.{of_line, IsAnswer, RepliesTo}
+use Rattle.csq_replay.specs.Outcomes.{ComesTo, stop_text}
 
 -- a step that was made, and the number of its line
 pub record Numbered : Type 0 where
@@ -29,39 +29,68 @@ pub record Numbered : Type 0 where
 abbrev pub run_of : List Numbered → List Made
 run_of W = map (λ w. w.step) W
 
--- after the steps W the nth line is answered this text, and W grows to the steps with which the handling goes on, if it does
-pub data AnswersLine (size : Size) (W : List Numbered) (n : ℕ) (line : List ℕ) : List ℕ → Option (List Numbered) → Type 0 where
-  too_long : 64 < length line → AnswersLine size W n line (of_line n (codes "too long\n")) None
-  skipped : IsWithinLine line → IsSkipped line → AnswersLine size W n line [] (Some W)
-  malformed : IsWithinLine line → ¬ IsSkipped line → ((s : Step) → ¬ IsStepLine line s) → AnswersLine size W n line (of_line n (codes "malformed\n")) None
-  accepted : (s : Step) (v : ℕ) → IsStepLine line s → IsRun size (made s v ∷ run_of W)
-      → AnswersLine size W n line (line ++ (codes " found " ++ (decimal v ++ codes "\n"))) (Some (record { line = n; step = made s v } ∷ W))
-  refused : (s : Step) (cause : StepRefused) → IsStepLine line s → IsFirstCause size (run_of W) s cause
-      → AnswersLine size W n line (of_line n (codes "refused " ++ (refusal_text cause ++ codes "\n"))) None
+-- the steps with which the handling goes on after the nth line, if it does
+abbrev pub grown : List Numbered → ℕ → Outcome → Option (List Numbered)
+grown W n Skipped = Some W
+grown W n (Accepted m) = Some (record { line = n; step = m } ∷ W)
+grown W n (Stopped stop) = None
 
--- an IRP that is home in life 0 with a clear Cancel flag isn't told of
-abbrev pub is_silent : IrpPlace → Bool → Irp → Bool
-is_silent Home false i = life_of i == 0
-is_silent _ _ i = false
+-- after the steps W the nth line is told so: by what comes of it, which W grows by
+abbrev pub TellsLine : (List Numbered → ℕ → List ℕ → Outcome → List ℕ) → Size → List Numbered → ℕ → List ℕ → List ℕ → Option (List Numbered) → Type 0
+TellsLine tell size W n line text more = (comes : Outcome) × ComesTo size (run_of W) line comes × (text ≡ tell W n line comes) × (more ≡ grown W n comes)
 
--- of an IRP in its present life, with this place and this Cancel flag
-abbrev pub irp_line : Irp → IrpPlace → Bool → List ℕ
-irp_line i place flag = if is_silent place flag i then []
-    else codes "irp " ++ (name_text i ++ (codes " " ++ (place_text place ++ (codes " cancel " ++ (decimal (bit flag) ++ codes "\n")))))
+-- the answer to the nth line, of which this came
+abbrev pub answer_text : List Numbered → ℕ → List ℕ → Outcome → List ℕ
+answer_text W n line Skipped = []
+answer_text W n line (Accepted m) = line ++ (codes " found " ++ (decimal m.found ++ codes "\n"))
+answer_text W n line (Stopped stop) = of_line n (stop_text stop ++ codes "\n")
 
--- the text is the line of i after E
-abbrev pub IsIrpLine : List Made → Irp → List ℕ → Type 0
-IsIrpLine E i text = (place : IrpPlace) × IsPlace E i place × (text ≡ irp_line i place (flagged E i))
+abbrev pub AnswersLine : Size → List Numbered → ℕ → List ℕ → List ℕ → Option (List Numbered) → Type 0
+AnswersLine = TellsLine answer_text
 
--- the text is the lines of the first IRPs in their present lives, by rising number
-abbrev pub AreIrpLines : ℕ → List Made → ℕ → List ℕ → Type 0
-AreIrpLines first E zero text = text ≡ []
-AreIrpLines first E (suc n) text = (before : List ℕ) × (last : List ℕ) × AreIrpLines first E n before × IsIrpLine E (present first E (record { 0 = n })) last
-    × (text ≡ before ++ last)
+-- whether i is home in life 0, with a clear Cancel flag
+abbrev pub is_untouched : IrpPlace → Bool → Irp → Bool
+is_untouched Home false i = life_of i == 0
+is_untouched _ _ i = false
 
--- the text says whether E is at rest
-abbrev pub IsRestLine : List Made → List ℕ → Type 0
-IsRestLine E text = (IsAtRest E × (text ≡ codes "rest yes\n")) ⊎ ((¬ IsAtRest E) × (text ≡ codes "rest no\n"))
+-- such an IRP isn't told of
+abbrev pub is_silent : IrpLine → Bool
+is_silent line = is_untouched line.place line.cancelled line.name
+
+-- an IRP in its present life, where it is, and its Cancel flag
+abbrev pub irp_line_text : IrpLine → List ℕ
+irp_line_text line = codes "irp " ++ (name_text line.name ++ (codes " " ++ (place_text line.place ++ (codes " cancel " ++ decimal (bit line.cancelled)))))
+
+abbrev pub irp_lines_text : List IrpLine → List ℕ
+irp_lines_text [] = []
+irp_lines_text (line ∷ lines) = (irp_line_text line ++ codes "\n") ++ irp_lines_text lines
+
+-- the line, unless it isn't told
+abbrev pub unless_silent : IrpLine → List IrpLine
+unless_silent line = if is_silent line then [] else line ∷ []
+
+-- what is told, if anything is
+abbrev pub told_of : Option IrpLine → List IrpLine
+told_of (Some line) = line ∷ []
+told_of None = []
+
+-- so i is told of after E
+abbrev pub IsToldOf : List Made → Irp → List IrpLine → Type 0
+IsToldOf E i told = (place : IrpPlace) × IsPlace E i place × (told ≡ unless_silent (record { name = i; place = place; cancelled = flagged E i }))
+
+-- so the first IRPs are told of in their present lives, by rising number
+abbrev pub AreToldOf : ℕ → List Made → ℕ → List IrpLine → Type 0
+AreToldOf first E zero told = told ≡ []
+AreToldOf first E (suc n) told = (before : List IrpLine) × (last : List IrpLine) × AreToldOf first E n before
+    × IsToldOf E (present first E (record { 0 = n })) last × (told ≡ before ++ last)
+
+-- whether all is at rest
+abbrev pub rest_text : Bool → List ℕ
+rest_text rest = if rest then codes "rest yes" else codes "rest no"
+
+-- it says whether E is at rest
+abbrev pub TellsRest : List Made → Bool → Type 0
+TellsRest E rest = (IsTrue rest) ↔ IsAtRest E
 
 -- the IRP whose routine a step of this kind takes out
 abbrev pub exchanged_irp : Kind → Option Irp
@@ -80,10 +109,15 @@ abbrev pub claim_lines : List Numbered → List ℕ
 claim_lines [] = []
 claim_lines (w ∷ W) = claim_lines W ++ claim_line w
 
+-- what is told in the end, after the run E
+pub record Closes (size : Size) (E : List Made) (told : List IrpLine) (at_rest : Bool) : Type 0 where
+  pub irps : AreToldOf size.first E size.irps told
+  pub rest : TellsRest E at_rest
+
 -- the closing lines after the steps W, with the claims where they are asked for
 abbrev pub IsClosing : Size → Bool → List Numbered → List ℕ → Type 0
-IsClosing size claims W text = (irps : List ℕ) × (rest : List ℕ) × AreIrpLines size.first (run_of W) size.irps irps × IsRestLine (run_of W) rest
-    × (text ≡ irps ++ (rest ++ (if claims then claim_lines W else [])))
+IsClosing size claims W text = (told : List IrpLine) × (rest : Bool) × Closes size (run_of W) told rest
+    × (text ≡ irp_lines_text told ++ ((rest_text rest ++ codes "\n") ++ (if claims then claim_lines W else [])))
 
 -- a schedule is answered this text
 abbrev pub IsScheduleAnswer : Size → Bool → List ℕ → List ℕ → Ended → Type 0

@@ -11,7 +11,10 @@ pub use laws::{
     a_schedule_has_one_answer, a_script_has_one_answer, each_inserted_irp_is_accounted_for,
 };
 pub use lines::answer::{Ended, MAX_INPUT, SimFault, exit_status};
+pub use lines::{Answerer, Handling, MAX_LINE, reply};
 pub use schedule::answer_schedule;
+pub use schedule::closing::{IrpLine, irp_line};
+pub use schedule::outcome::{Outcome, Stop, handle_line};
 pub use script::answer_script;
 
 #[cfg(test)]

@@ -1,23 +1,27 @@
 //! Lines, answered one after the other.
-ghost use Rattle.std.specs.Prelude.{◌≡◌, ◌↔◌, ℕ, List, Option, string_bytes, IfOk, OnOk, IsTrue};
+ghost use Rattle.std.specs.Prelude.{◌≡◌, ◌≢◌, ◌↔◌, ℕ, List, Option, string_bytes, IfOk, IfErr, OnOk, IsTrue};
+ghost use Rattle.std.specs.Io.KnownBytes.{Keeps};
 ghost use Rattle.csq_replay.specs.Pieces.{lines_of};
-ghost use Rattle.csq_replay.specs.Lines.{IsSkipped, GrewBy, Leaves, AnswersAll};
+ghost use Rattle.csq_replay.specs.Lines.{IsSkipped, GrewBy, Leaves, AnswersAll, IsAnswer, RepliesTo};
 
 pub(crate) mod answer;
 pub(crate) mod names;
 pub(crate) mod pieces;
 
-use crate::lines::answer::Ended;
+use crate::lines::answer::{Ended, MAX_INPUT, SimFault, read_input, write_answer};
 use crate::lines::pieces::split_line;
 use std::alloc::{AllocError, Allocator};
+use std::io::{Read, Write};
 
 /// The most bytes of a line, without its line feed. Own rule.
-pub(crate) const MAX_LINE: usize = 64;
+pub const MAX_LINE: usize = 64;
 
 /// Whether the handling goes on after a line.
 #[derive(Clone, Copy, Debug, PartialEq, Eq)]
-pub(crate) enum Handling {
+pub enum Handling {
+    /// With the next line, or with the closing lines.
     GoesOn,
+    /// It ends here.
     Stops,
 }
 
@@ -32,7 +36,7 @@ pub(crate) fn is_skipped(line: &[u8]) -> bool
 }
 
 /// What answers lines.
-pub(crate) trait Answerer<A: Allocator> {
+pub trait Answerer<A: Allocator> {
     /// What no line changes.
     ghost Kind: { Type 0 };
 
@@ -68,7 +72,7 @@ pub(crate) trait Answerer<A: Allocator> {
 }
 
 /// Answers each line, one after the other, and closes.
-pub(crate) fn answer_lines<X: Answerer<A>, A: Allocator>(
+fn answer_lines<X: Answerer<A>, A: Allocator>(
     answerer: &mut X,
     input: &[u8],
     text: &mut String<A>,
@@ -91,4 +95,43 @@ pub(crate) fn answer_lines<X: Answerer<A>, A: Allocator>(
     }
     answerer.close(text)?;
     Ok(Ended::AllHandled)
+}
+
+/// Answers an input: with `input too long`, or line after line.
+fn answer_input<X: Answerer<A>, A: Allocator>(
+    answerer: &mut X,
+    input: &[u8],
+    text: &mut String<A>,
+) -> Result<Ended, AllocError>
+    requires { (c : X.Kind) × (s : X.State) × X.stands answerer.old c s }
+    ensures { (c : X.Kind) (s : X.State) → X.stands answerer.old c s → IfOk result (λ ended.
+        (added : List ℕ) × GrewBy (string_bytes text.old) (string_bytes text.new) added
+        × IsAnswer (X.answers c) (X.closes c) s input.now added ended) }
+{
+    if input.len() > MAX_INPUT {
+        writeln!(text, "input too long")?;
+        return Ok(Ended::Stopped);
+    }
+    answer_lines(answerer, input, text)
+}
+
+/// Reads an input whole, up to 1,048,577 bytes, and writes what it is answered: line after line, and then
+/// the closing lines. Faults: 1 Memory and 2 Read, after which nothing was written; 3 Write. Own rule.
+pub fn reply<X: Answerer<A>, A: Allocator + Copy, R: Read, W: Write>(
+    alloc: A,
+    answerer: &mut X,
+    reader: &mut R,
+    writer: &mut W,
+) -> Result<Ended, SimFault>
+    requires { (c : X.Kind) × (s : X.State) × X.stands answerer.old c s }
+    ensures answered { (c : X.Kind) (s : X.State) → X.stands answerer.old c s → IfOk result (RepliesTo (IsAnswer (X.answers c) (X.closes c) s)
+        (R.remaining reader.old) (R.remaining reader.new) (W.contents writer.old) (W.contents writer.new)) }
+    ensures unwritten { IfErr result (λ fault. fault ≢ SimFault.Write
+        → Keeps (W.contents writer.old) (W.contents writer.new)) }
+{
+    let input = read_input(alloc, reader)?;
+    let mut text = String::new(alloc);
+    let ended = answer_input(answerer, &input, &mut text)?;
+    write_answer(writer, text.as_bytes())?;
+    Ok(ended)
 }

@@ -1,9 +1,9 @@
 //! Scripts: calls of one pass over a machine and a list, answered line by line.
-ghost use Rattle.std.specs.Prelude.{◌≢◌, ◌≤◌, string_bytes, IfOk, IfErr};
+ghost use Rattle.std.specs.Prelude.{◌≢◌, ◌≤◌, IfOk, IfErr};
 ghost use Rattle.std.specs.Io.KnownBytes.{Keeps as KeepsBytes};
 ghost use Rattle.csq_list.specs.Listing.{IsFresh};
 ghost use Rattle.csq_words.specs.Queue.{limits_of};
-ghost use Rattle.csq_replay.specs.ScriptAnswer.{IsScriptAnswer, RepliesToScript};
+ghost use Rattle.csq_replay.specs.ScriptAnswer.{RepliesToScript};
 
 pub(crate) mod call;
 mod call_line;
@@ -11,8 +11,8 @@ mod driver;
 mod remains;
 mod replies;
 
-use crate::lines::answer::{Ended, MAX_INPUT, SimFault, read_input, write_answer};
-use crate::lines::{Answerer, Handling, MAX_LINE, answer_lines, is_skipped};
+use crate::lines::answer::{Ended, SimFault};
+use crate::lines::{Answerer, Handling, MAX_LINE, is_skipped, reply};
 use crate::script::call_line::parse_call;
 use crate::script::driver::Driver;
 use crate::script::remains::{Kept, close_kept, close_left};
@@ -67,26 +67,6 @@ impl<L: PendingList, A: Allocator + Copy> Answerer<A> for Driver<L, A> {
     }
 }
 
-/// The answer to the bytes of a script.
-fn answer_input<L: PendingList + Drop, A: Allocator + Copy>(
-    alloc: A,
-    list: L,
-    input: &[u8],
-) -> Result<(String<A>, Ended), AllocError>
-    requires fresh { IsFresh (L.listing list) }
-    requires irps { (1 ≤ (L.listing list).irps) × ((L.listing list).irps ≤ 1024) }
-    ensures { IfOk result (λ answer. IsScriptAnswer (limits_of 1 0 (L.listing list)) input.now (string_bytes answer.0) answer.1) }
-{
-    let mut text = String::new(alloc);
-    if input.len() > MAX_INPUT {
-        writeln!(text, "input too long")?;
-        return Ok((text, Ended::Stopped));
-    }
-    let mut driver = Driver::new(alloc, list)?;
-    let ended = answer_lines(&mut driver, input, &mut text)?;
-    Ok((text, ended))
-}
-
 /// Reads a script, makes its calls as one pass over a machine and this list, and writes what each is
 /// answered, and then what is listed, held and owed.
 ///
@@ -105,8 +85,6 @@ pub fn answer_script<L: PendingList + Drop, A: Allocator + Copy, R: Read, W: Wri
     ensures unwritten { IfErr result (λ fault. fault ≢ SimFault.Write
         → KeepsBytes (W.contents writer.old) (W.contents writer.new)) }
 {
-    let input = read_input(alloc, reader)?;
-    let (text, ended) = answer_input(alloc, list, &input)?;
-    write_answer(writer, text.as_bytes())?;
-    Ok(ended)
+    let mut driver = Driver::new(alloc, list)?;
+    reply(alloc, &mut driver, reader, writer)
 }

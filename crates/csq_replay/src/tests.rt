@@ -37,6 +37,19 @@ fn compare(
     Ok(())
 }
 
+/// The answer to a schedule with its claims; byte by byte it is the same.
+fn answered_with_claims(rt: &impl Abort, alloc: Global, input: &str) -> Result<Vec<u8>, SimFault> {
+    let mut bytes = input.as_bytes();
+    let mut text = Vec::new(alloc);
+    let ended = answer_schedule(alloc, 8, 4, true, &mut bytes, &mut text)?;
+    let mut reader = SlowReader::new(input.as_bytes(), None);
+    let mut again = Vec::new(alloc);
+    let slowly = answer_schedule(alloc, 8, 4, true, &mut reader, &mut again)?;
+    assert_eq!(rt; slowly, ended);
+    assert_eq!(rt; again.as_slice(), text.as_slice(), "slowly, at {input:?}");
+    Ok(text)
+}
+
 #[test]
 fn cancels_are_replayed(rt: HostRuntime) -> Result<(), Fail> {
     let cases = [
@@ -173,9 +186,7 @@ fn claims_are_told_where_they_are_asked_for(rt: HostRuntime) -> Result<(), Fail>
         ),
     ];
     for (input, last) in cases {
-        let mut bytes = input.as_bytes();
-        let mut text = Vec::new(rt.alloc());
-        answer_schedule(rt.alloc(), 8, 4, true, &mut bytes, &mut text)?;
+        let text = answered_with_claims(&rt, rt.alloc(), input)?;
         assert!(rt; text.as_slice().ends_with(last.as_bytes()), "at {input:?}");
     }
     Ok(())
@@ -203,9 +214,7 @@ fn lives_are_replayed(rt: HostRuntime) -> Result<(), Fail> {
     for (last, end) in ends {
         let input = format!(in rt.alloc(); "{renewed}{last}")?;
         let output = format!(in rt.alloc(); "{found}{end}")?;
-        let mut bytes = input.as_bytes();
-        let mut text = Vec::new(rt.alloc());
-        answer_schedule(rt.alloc(), 8, 4, true, &mut bytes, &mut text)?;
+        let text = answered_with_claims(&rt, rt.alloc(), &input)?;
         assert_eq!(rt; text.as_slice(), output.as_bytes(), "at {input:?}");
     }
     Ok(())
@@ -224,26 +233,37 @@ fn a_step_is_answered_as_its_line_has_it(rt: HostRuntime) -> Result<(), Fail> {
 #[test]
 fn lines_and_inputs_have_limits(rt: HostRuntime) -> Result<(), Fail> {
     let alloc = rt.alloc();
-    let mut comment = vec![in alloc; b'#'; 64]?;
-    let mut text = Vec::new(alloc);
-    assert_eq!(rt; answered(alloc, &comment, &mut text)?, Ended::AllHandled);
-    assert_eq!(rt; text.as_slice(), b"rest yes\n".as_slice());
-    let mut text = Vec::new(alloc);
-    comment.push(b'x')?;
-    assert_eq!(rt; answered(alloc, &comment, &mut text)?, Ended::Stopped);
-    assert_eq!(rt; text.as_slice(), b"line 1 too long\n".as_slice());
+    for (filler, length, ended, output) in [
+        (b'#', 64, Ended::AllHandled, "rest yes\n"),
+        (b'#', 65, Ended::Stopped, "line 1 too long\n"),
+        (b'\n', MAX_INPUT, Ended::AllHandled, "rest yes\n"),
+        (b'\n', MAX_INPUT + 1, Ended::Stopped, "input too long\n"),
+    ] {
+        let input = vec![in alloc; filler; length]?;
+        let mut text = Vec::new(alloc);
+        assert_eq!(rt; answered(alloc, &input, &mut text)?, ended);
+        assert_eq!(rt; text.as_slice(), output.as_bytes(), "at {length} bytes");
+        let mut reader = SlowReader::new(&input, None);
+        let mut again = Vec::new(alloc);
+        let slowly = answer_schedule(alloc, 8, 4, false, &mut reader, &mut again)?;
+        assert_eq!(rt; slowly, ended);
+        assert_eq!(rt;
+            again.as_slice(),
+            output.as_bytes(),
+            "slowly, at {length} bytes"
+        );
+    }
+    Ok(())
+}
 
-    let mut feeds = vec![in alloc; b'\n'; MAX_INPUT]?;
-    let mut text = Vec::new(alloc);
-    assert_eq!(rt; answered(alloc, &feeds, &mut text)?, Ended::AllHandled);
-    assert_eq!(rt; text.as_slice(), b"rest yes\n".as_slice());
-    let mut text = Vec::new(alloc);
-    feeds.extend_from_slice(b"\n\n\n")?;
+// Of an input that is too long no more is read than tells so.
+#[test]
+fn an_input_that_is_too_long_is_left_unread(rt: HostRuntime) -> Result<(), Fail> {
+    let feeds = vec![in rt.alloc(); b'\n'; MAX_INPUT + 3]?;
     let mut rest = feeds.as_slice();
-    assert_eq!(rt;
-        answer_schedule(alloc, 8, 4, false, &mut rest, &mut text)?,
-        Ended::Stopped
-    );
+    let mut text = Vec::new(rt.alloc());
+    let ended = answer_schedule(rt.alloc(), 8, 4, false, &mut rest, &mut text)?;
+    assert_eq!(rt; ended, Ended::Stopped);
     assert_eq!(rt; text.as_slice(), b"input too long\n".as_slice());
     assert_eq!(rt; rest.len(), 2);
     Ok(())

@@ -49,14 +49,35 @@ fn renew_all<L: PendingList>(rt: &impl Abort, list: &mut L) {
     }
 }
 
+// Lists as many of a file object as its limit, and one more.
+fn fill_a_file<L: PendingList>(rt: &impl Abort, list: &mut L) {
+    let file = FileId(1);
+    assert_eq!(rt; list.file_limit(file), Some(2));
+    for number in 0..2 {
+        let answer = list.insert_ex(IrpId(number), file, Place::Back);
+        assert_eq!(rt; answer, Ok(()));
+    }
+    assert_eq!(rt; list.file_len(file), 2);
+    assert_eq!(rt;
+        list.insert_ex(IrpId(2), file, Place::Back),
+        Err(InsertStatus::FileFull)
+    );
+}
+
 // On a heap of each size: the list is refused for want of memory, until one is made that leaves none.
 #[test]
 fn a_vec_list_takes_no_memory_later(rt: HostRuntime) -> Result<(), Fail> {
+    let mut refused = false;
     for blocks in 1..512 {
         let heap = LocalHeap::new(rt.alloc(), 16 * blocks)?;
         match VecList::new(&heap, IRPS, FILES, IRPS) {
-            Err(refused) => assert_eq!(rt; refused, ListNew::Memory),
+            Err(cause) => {
+                assert_eq!(rt; cause, ListNew::Memory);
+                assert_eq!(rt; heap.used(), 0);
+                refused = true;
+            }
             Ok(mut list) => {
+                assert!(rt; refused, "no heap was too small");
                 assert_eq!(rt; heap.free(), 0);
                 fill_and_empty(&rt, &mut list);
                 assert_eq!(rt; heap.free(), 0);
@@ -69,11 +90,17 @@ fn a_vec_list_takes_no_memory_later(rt: HostRuntime) -> Result<(), Fail> {
 
 #[test]
 fn a_chain_list_takes_no_memory_later(rt: HostRuntime) -> Result<(), Fail> {
+    let mut refused = false;
     for blocks in 1..512 {
         let heap = LocalHeap::new(rt.alloc(), 16 * blocks)?;
         match ChainList::new(&heap, IRPS, FILES, IRPS) {
-            Err(refused) => assert_eq!(rt; refused, ListNew::Memory),
+            Err(cause) => {
+                assert_eq!(rt; cause, ListNew::Memory);
+                assert_eq!(rt; heap.used(), 0);
+                refused = true;
+            }
             Ok(mut list) => {
+                assert!(rt; refused, "no heap was too small");
                 assert_eq!(rt; heap.free(), 0);
                 fill_and_empty(&rt, &mut list);
                 assert_eq!(rt; heap.free(), 0);
@@ -86,13 +113,20 @@ fn a_chain_list_takes_no_memory_later(rt: HostRuntime) -> Result<(), Fail> {
 
 #[test]
 fn a_vec_list_with_file_limits_takes_no_memory_later(rt: HostRuntime) -> Result<(), Fail> {
+    let mut refused = false;
     for blocks in 1..512 {
         let heap = LocalHeap::new(rt.alloc(), 16 * blocks)?;
         match VecList::with_file_limits(&heap, IRPS, FILES, IRPS, &FILE_LIMITS) {
-            Err(refused) => assert_eq!(rt; refused, ListNew::Memory),
+            Err(cause) => {
+                assert_eq!(rt; cause, ListNew::Memory);
+                assert_eq!(rt; heap.used(), 0);
+                refused = true;
+            }
             Ok(mut list) => {
+                assert!(rt; refused, "no heap was too small");
                 assert_eq!(rt; heap.free(), 0);
                 fill_and_empty(&rt, &mut list);
+                fill_a_file(&rt, &mut list);
                 assert_eq!(rt; heap.free(), 0);
                 return Ok(());
             }
@@ -103,13 +137,20 @@ fn a_vec_list_with_file_limits_takes_no_memory_later(rt: HostRuntime) -> Result<
 
 #[test]
 fn a_chain_list_with_file_limits_takes_no_memory_later(rt: HostRuntime) -> Result<(), Fail> {
+    let mut refused = false;
     for blocks in 1..512 {
         let heap = LocalHeap::new(rt.alloc(), 16 * blocks)?;
         match ChainList::with_file_limits(&heap, IRPS, FILES, IRPS, &FILE_LIMITS) {
-            Err(refused) => assert_eq!(rt; refused, ListNew::Memory),
+            Err(cause) => {
+                assert_eq!(rt; cause, ListNew::Memory);
+                assert_eq!(rt; heap.used(), 0);
+                refused = true;
+            }
             Ok(mut list) => {
+                assert!(rt; refused, "no heap was too small");
                 assert_eq!(rt; heap.free(), 0);
                 fill_and_empty(&rt, &mut list);
+                fill_a_file(&rt, &mut list);
                 assert_eq!(rt; heap.free(), 0);
                 return Ok(());
             }
@@ -149,6 +190,32 @@ fn lists_are_made_of_each_size(rt: HostRuntime) -> Result<(), Fail> {
         assert!(rt; list.is_ok(), "{irps} IRPs");
         let chains = ChainList::new(rt.alloc(), irps, 1, irps);
         assert!(rt; chains.is_ok(), "chains of {irps} IRPs");
+    }
+    Ok(())
+}
+
+// Each number of file objects has its list, with limits of their own and without.
+#[test]
+fn lists_are_made_of_each_number_of_files(rt: HostRuntime) -> Result<(), Fail> {
+    let limits = [1; 256];
+    for files in 1..=256 {
+        let each = &limits[..files as usize];
+        assert!(rt;
+            VecList::new(rt.alloc(), 1, files, 1).is_ok(),
+            "{files} files"
+        );
+        assert!(rt;
+            ChainList::new(rt.alloc(), 1, files, 1).is_ok(),
+            "chains of {files} files"
+        );
+        assert!(rt;
+            VecList::with_file_limits(rt.alloc(), 1, files, 1, each).is_ok(),
+            "{files} files with limits"
+        );
+        assert!(rt;
+            ChainList::with_file_limits(rt.alloc(), 1, files, 1, each).is_ok(),
+            "chains of {files} files with limits"
+        );
     }
     Ok(())
 }

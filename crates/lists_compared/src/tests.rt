@@ -2,7 +2,7 @@
 ghost use Rattle.std.specs.Prelude.{◌≡◌, true, false, IsTrue};
 ghost use Rattle.csq_list.specs.Searches.{IsStartIn, is_listed};
 
-use csq_list::{ChainList, Peek, PendingList, Place, VecList};
+use csq_list::{ChainList, InsertStatus, Peek, PendingList, Place, VecList};
 use irp_core::{FileId, IrpId};
 use rand_core::Rng;
 use rand_pcg::Pcg32;
@@ -60,14 +60,19 @@ impl Call {
     }
 }
 
-// Makes one call at both lists.
-fn follow<L: PendingList, M: PendingList>(rt: &impl Abort, one: &mut L, other: &mut M, call: Call) {
+// Makes one call at both lists. Answers whether a file object was full.
+fn follow<L: PendingList, M: PendingList>(
+    rt: &impl Abort,
+    one: &mut L,
+    other: &mut M,
+    call: Call,
+) -> bool {
+    let mut full = false;
     match call {
         Call::Insert(irp, file, place) => {
-            assert_eq!(rt;
-                one.insert_ex(irp, file, place),
-                other.insert_ex(irp, file, place)
-            );
+            let answer = one.insert_ex(irp, file, place);
+            assert_eq!(rt; answer, other.insert_ex(irp, file, place));
+            full = answer == Err(InsertStatus::FileFull);
         }
         Call::Remove(irp) => {
             assert_eq!(rt; one.is_listed(irp), other.is_listed(irp));
@@ -81,6 +86,7 @@ fn follow<L: PendingList, M: PendingList>(rt: &impl Abort, one: &mut L, other: &
     }
     assert_eq!(rt; one.len(), other.len());
     compare_from(rt, one, other, None);
+    full
 }
 
 // Renews an IRP at both lists, where it was used and isn't listed.
@@ -120,8 +126,13 @@ fn compare_from<L: PendingList, M: PendingList>(
     }
 }
 
-// Compares all that can be asked.
-fn compare<L: PendingList, M: PendingList>(rt: &impl Abort, one: &L, other: &M) {
+// Compares all that can be asked, and each file object's limit with what it was made with.
+fn compare<L: PendingList, M: PendingList>(
+    rt: &impl Abort,
+    one: &L,
+    other: &M,
+    file_limits: &[u32],
+) {
     assert_eq!(rt;
         (one.irps(), one.files(), one.limit()),
         (other.irps(), other.files(), other.limit())
@@ -132,6 +143,10 @@ fn compare<L: PendingList, M: PendingList>(rt: &impl Abort, one: &L, other: &M) 
         assert_eq!(rt;
             (one.file_len(file), one.file_limit(file)),
             (other.file_len(file), other.file_limit(file))
+        );
+        assert_eq!(rt;
+            one.file_limit(file),
+            file_limits.get(number as usize).copied()
         );
     }
     for number in 0..=one.irps() {
@@ -149,21 +164,19 @@ const CALLS: u32 = 4;
 
 #[test]
 fn every_short_sequence(rt: HostRuntime) -> Result<(), Fail> {
+    let mut full = false;
     for sequence in 0..Call::COUNT.pow(CALLS) {
         let mut one = VecList::with_file_limits(rt.alloc(), IRPS, FILES, LIMIT, &FILE_LIMITS)?;
         let mut other = ChainList::with_file_limits(rt.alloc(), IRPS, FILES, LIMIT, &FILE_LIMITS)?;
         let mut left = sequence;
         for _ in 0..CALLS {
-            follow(
-                &rt,
-                &mut one,
-                &mut other,
-                Call::numbered(left % Call::COUNT),
-            );
+            let call = Call::numbered(left % Call::COUNT);
+            full |= follow(&rt, &mut one, &mut other, call);
             left /= Call::COUNT;
         }
-        compare(&rt, &one, &other);
+        compare(&rt, &one, &other, &FILE_LIMITS);
     }
+    assert!(rt; full, "no file object was full");
     Ok(())
 }
 
@@ -182,6 +195,7 @@ const SEED: u64 = 0x5eed_0f11_57c0_9a1e;
 
 #[test]
 fn long_sequences(rt: HostRuntime) -> Result<(), Fail> {
+    let mut full = false;
     for stream in 0..16 {
         let mut rng = Pcg32::new(SEED, stream);
         let mut one = VecList::with_file_limits(
@@ -199,12 +213,13 @@ fn long_sequences(rt: HostRuntime) -> Result<(), Fail> {
             &MANY_LIMITS,
         )?;
         for turn in 0..MANY_CALLS {
-            follow(&rt, &mut one, &mut other, Call::drawn(&mut rng));
+            full |= follow(&rt, &mut one, &mut other, Call::drawn(&mut rng));
             if turn % 64 == 0 {
-                compare(&rt, &one, &other);
+                compare(&rt, &one, &other, &MANY_LIMITS);
             }
         }
-        compare(&rt, &one, &other);
+        compare(&rt, &one, &other, &MANY_LIMITS);
     }
+    assert!(rt; full, "no file object was full");
     Ok(())
 }

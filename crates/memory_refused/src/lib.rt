@@ -1,4 +1,5 @@
-//! Tests of a machine and of words on heaps too small for them. There is no other code here.
+//! Tests of a machine, of words, of the lists and of a queue of which a call for memory is refused. There is
+//! no other code here.
 #![tactic(auto)]
 
 #[cfg(test)]

@@ -1,8 +1,11 @@
-//! On heaps of growing size: each that is too small is told and keeps no memory, and on the first that is
-//! large enough all memory is taken at once.
+//! Each call for memory is refused in turn: it is told, and no memory is kept.
+use csq_list::{ChainList, ListNew, PendingList, VecList};
+use csq_queue::{Blank, NewCause};
 use csq_words::{Words, WordsNew};
 use irp_core::{IrpId, IrpLife, Kind, Life, Machine, MachineNew, PassId, Step};
 use linked_list_allocator::LocalHeap;
+use refusing_heap::RefusingHeap;
+use std::process::Abort;
 use std::test::Fail;
 
 const IRPS: u32 = 64;
@@ -14,56 +17,174 @@ const LAST: IrpLife = IrpLife {
     life: Life(0),
 };
 
-#[test]
-fn a_machine_is_refused_for_want_of_memory(rt: HostRuntime) -> Result<(), Fail> {
-    let mut refused = false;
-    for blocks in 1..256 {
-        let heap = LocalHeap::new(rt.alloc(), 16 * blocks)?;
-        match Machine::new(&heap, IRPS, PASSES) {
-            Err(cause) => {
-                assert_eq!(rt; cause, MachineNew::Memory);
-                assert_eq!(rt; heap.used(), 0);
-                refused = true;
-            }
-            Ok(mut machine) => {
-                assert!(rt; refused, "no heap was too small");
-                assert_eq!(rt; heap.free(), 0);
-                let arm = Step {
-                    pass: PassId(1),
-                    kind: Kind::Arm(LAST),
-                };
-                assert_eq!(rt; machine.step(arm), Ok(0));
-                assert!(rt; !machine.at_rest());
-                return Ok(());
-            }
+// More than the memory of what is made here.
+const ROOM: usize = 1 << 16;
+
+// More than the calls for memory of what is made here.
+const CALLS: u64 = 64;
+
+// Refuses one call for memory of a machine. Answers whether it came to that call.
+fn is_machine_refused(rt: &(impl AllocGlobal + Abort), call: u64) -> Result<bool, Fail> {
+    let room = LocalHeap::new(rt.alloc(), ROOM)?;
+    let heap = RefusingHeap::new(&room, call);
+    match Machine::new(&heap, IRPS, PASSES) {
+        Err(cause) => {
+            assert_eq!(rt; cause, MachineNew::Memory, "at call {call}");
+            assert!(rt; heap.has_refused());
+            assert_eq!(rt; room.used(), 0);
+            Ok(true)
+        }
+        Ok(mut machine) => {
+            assert!(rt; !heap.has_refused());
+            let arm = Step {
+                pass: PassId(1),
+                kind: Kind::Arm(LAST),
+            };
+            assert_eq!(rt; machine.step(arm), Ok(0));
+            assert!(rt; !machine.at_rest());
+            Ok(false)
         }
     }
-    Err(Fail::from("no heap was large enough"))
+}
+
+#[test]
+fn a_machine_is_refused_for_want_of_memory(rt: HostRuntime) -> Result<(), Fail> {
+    for call in 0..CALLS {
+        if !is_machine_refused(&rt, call)? {
+            assert!(rt; call > 0, "no call was refused");
+            return Ok(());
+        }
+    }
+    Err(Fail::from("each call was refused"))
+}
+
+// The same of words.
+fn are_words_refused(rt: &(impl AllocGlobal + Abort), call: u64) -> Result<bool, Fail> {
+    let room = LocalHeap::new(rt.alloc(), ROOM)?;
+    let heap = RefusingHeap::new(&room, call);
+    match Words::new(&heap, IRPS, PASSES) {
+        Err(cause) => {
+            assert_eq!(rt; cause, WordsNew::Memory, "at call {call}");
+            assert!(rt; heap.has_refused());
+            assert_eq!(rt; room.used(), 0);
+            Ok(true)
+        }
+        Ok((words, _queue, mut seats)) => {
+            assert!(rt; !heap.has_refused());
+            let used = room.used();
+            let mut pass = seats.take().ok_or("a pass")?;
+            assert_eq!(rt; pass.flag(&words, LAST), 0);
+            assert_eq!(rt; pass.take(&words, LAST), 0);
+            assert_eq!(rt; room.used(), used);
+            Ok(false)
+        }
+    }
 }
 
 #[test]
 fn words_are_refused_for_want_of_memory(rt: HostRuntime) -> Result<(), Fail> {
-    let mut refused = false;
-    for blocks in 1..256 {
-        let heap = LocalHeap::new(rt.alloc(), 16 * blocks)?;
-        match Words::new(&heap, IRPS, PASSES) {
-            Err(cause) => {
-                assert_eq!(rt; cause, WordsNew::Memory);
-                assert_eq!(rt; heap.used(), 0);
-                refused = true;
-            }
-            Ok((words, _queue, mut seats)) => {
-                assert!(rt; refused, "no heap was too small");
-                let used = heap.used();
-                let mut pass = seats.take().ok_or("a pass")?;
-                assert_eq!(rt; pass.flag(&words, LAST), 0);
-                assert_eq!(rt; pass.take(&words, LAST), 0);
-                assert_eq!(rt; heap.used(), used);
-                return Ok(());
-            }
+    for call in 0..CALLS {
+        if !are_words_refused(&rt, call)? {
+            assert!(rt; call > 0, "no call was refused");
+            return Ok(());
         }
     }
-    Err(Fail::from("no heap was large enough"))
+    Err(Fail::from("each call was refused"))
+}
+
+// The same of a list in a vector.
+fn is_vector_refused(rt: &(impl AllocGlobal + Abort), call: u64) -> Result<bool, Fail> {
+    let room = LocalHeap::new(rt.alloc(), ROOM)?;
+    let heap = RefusingHeap::new(&room, call);
+    match VecList::with_file_limits(&heap, IRPS, 2, IRPS, &[IRPS, 1]) {
+        Err(cause) => {
+            assert_eq!(rt; cause, ListNew::Memory, "at call {call}");
+            assert!(rt; heap.has_refused());
+            assert_eq!(rt; room.used(), 0);
+            Ok(true)
+        }
+        Ok(list) => {
+            assert!(rt; !heap.has_refused() && list.is_fresh());
+            Ok(false)
+        }
+    }
+}
+
+// The same of a list in chains.
+fn are_chains_refused(rt: &(impl AllocGlobal + Abort), call: u64) -> Result<bool, Fail> {
+    let room = LocalHeap::new(rt.alloc(), ROOM)?;
+    let heap = RefusingHeap::new(&room, call);
+    match ChainList::with_file_limits(&heap, IRPS, 2, IRPS, &[IRPS, 1]) {
+        Err(cause) => {
+            assert_eq!(rt; cause, ListNew::Memory, "at call {call}");
+            assert!(rt; heap.has_refused());
+            assert_eq!(rt; room.used(), 0);
+            Ok(true)
+        }
+        Ok(list) => {
+            assert!(rt; !heap.has_refused() && list.is_fresh());
+            Ok(false)
+        }
+    }
+}
+
+#[test]
+fn a_list_in_a_vector_is_refused_for_want_of_memory(rt: HostRuntime) -> Result<(), Fail> {
+    for call in 0..CALLS {
+        if !is_vector_refused(&rt, call)? {
+            assert!(rt; call > 0, "no call was refused");
+            return Ok(());
+        }
+    }
+    Err(Fail::from("each call was refused"))
+}
+
+#[test]
+fn a_list_in_chains_is_refused_for_want_of_memory(rt: HostRuntime) -> Result<(), Fail> {
+    for call in 0..CALLS {
+        if !are_chains_refused(&rt, call)? {
+            assert!(rt; call > 0, "no call was refused");
+            return Ok(());
+        }
+    }
+    Err(Fail::from("each call was refused"))
+}
+
+// The same of a queue, whose list comes back fresh.
+fn is_queue_refused<L: PendingList + Drop>(
+    rt: &(impl AllocGlobal + Abort),
+    list: L,
+    call: u64,
+) -> Result<bool, Fail> {
+    let room = LocalHeap::new(rt.alloc(), ROOM)?;
+    let heap = RefusingHeap::new(&room, call);
+    match Blank::new(&heap, list, 4, 2) {
+        Err(back) => {
+            assert_eq!(rt; back.cause, NewCause::Memory, "at call {call}");
+            assert!(rt; back.list.is_fresh(), "at call {call}");
+            assert!(rt; heap.has_refused());
+            assert_eq!(rt; room.used(), 0);
+            Ok(true)
+        }
+        Ok(_) => {
+            assert!(rt; !heap.has_refused());
+            Ok(false)
+        }
+    }
+}
+
+#[test]
+fn a_queue_is_refused_for_want_of_memory(rt: HostRuntime) -> Result<(), Fail> {
+    for call in 0..CALLS {
+        let refused = is_queue_refused(&rt, VecList::new(rt.alloc(), 4, 2, 4)?, call)?;
+        let chains = ChainList::new(rt.alloc(), 4, 2, 4)?;
+        assert_eq!(rt; is_queue_refused(&rt, chains, call)?, refused);
+        if !refused {
+            assert!(rt; call > 0, "no call was refused");
+            return Ok(());
+        }
+    }
+    Err(Fail::from("each call was refused"))
 }
 
 // The next life of the last IRP.

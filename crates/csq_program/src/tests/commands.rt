@@ -55,6 +55,24 @@ fn other_command_lines_are_refused(rt: HostRuntime) -> Result<(), Fail> {
 }
 
 #[test]
+fn command_lines_of_pictures_are_read(rt: HostRuntime) -> Result<(), Fail> {
+    let plain = ["csqsim", "draw"];
+    let most = ["csqsim", "draw", "--irps=1024", "--passes=64"];
+    for (words, irps, passes) in [(plain.as_slice(), 8, 4), (most.as_slice(), 1024, 64)] {
+        let job = read_command(rt.alloc(), words).ok();
+        assert_eq!(rt; job, Some(Job::Draw { irps, passes }));
+    }
+    for option in ["--irps=1025", "--passes=0", "--passes=65", "--claims"] {
+        let words = ["csqsim", "draw", option];
+        assert!(rt;
+            read_command(rt.alloc(), words.as_slice()).is_err(),
+            "at {option}"
+        );
+    }
+    Ok(())
+}
+
+#[test]
 fn command_lines_of_scripts_are_read(rt: HostRuntime) -> Result<(), Fail> {
     let plain = ["csqsim", "script"];
     let sized = [

@@ -7,6 +7,7 @@ use crate::program::{ProgramFault, status_of};
 use csq_device::{Free, Gate, Plan, Point, RunRefused};
 use csq_list::{ChainList, PendingList, VecList};
 use csq_replay::SimFault;
+use refusing_heap::RefusingHeap;
 use std::alloc::{AllocError, Global};
 use std::io;
 use std::io::{Error, ErrorKind, Write};
@@ -27,7 +28,7 @@ where
 {
     let plan = Plan::new(64, 4, 2, 2, 2, 64).ok_or("a plan")?;
     let mut text = Vec::new(rt.alloc());
-    assert!(rt; answer_run(rt, plan, list, Free, &mut text).is_ok());
+    assert!(rt; answer_run(rt, rt.alloc(), plan, list, Free, &mut text).is_ok());
     assert_eq!(rt; text.as_slice(), USUAL.as_bytes());
     Ok(())
 }
@@ -39,6 +40,41 @@ fn ten_runs_of_each_list_are_accounted_for(rt: HostRuntime) -> Result<(), Fail> 
         compare(&rt, ChainList::new(rt.alloc(), 64, 4, 64)?)?;
     }
     Ok(())
+}
+
+// Refuses one call for memory of a run. Answers whether it came to that call: then nothing is written.
+fn is_run_refused<L, R>(rt: &R, list: L, call: u64) -> Result<bool, Fail>
+where
+    L: PendingList + Drop + Send,
+    R: AllocGlobal + Threads + Wait + Abort + Sync,
+    requires { IsListFor 64 4 (L.listing list) }
+{
+    let heap = RefusingHeap::new(rt.alloc(), call);
+    let plan = Plan::new(64, 4, 2, 2, 2, 64).ok_or("a plan")?;
+    let mut text = Vec::new(rt.alloc());
+    let answered = answer_run(rt, &heap, plan, list, Free, &mut text);
+    if heap.has_refused() {
+        assert_eq!(rt; answered, Err(RunFault::Memory), "at call {call}");
+        assert!(rt; text.is_empty(), "at call {call}");
+        return Ok(true);
+    }
+    assert_eq!(rt; answered, Ok(()));
+    assert_eq!(rt; text.as_slice(), USUAL.as_bytes());
+    Ok(false)
+}
+
+#[test]
+fn a_run_is_refused_for_want_of_memory(rt: HostRuntime) -> Result<(), Fail> {
+    for call in 0..100 {
+        let refused = is_run_refused(&rt, VecList::new(rt.alloc(), 64, 4, 64)?, call)?;
+        let chains = ChainList::new(rt.alloc(), 64, 4, 64)?;
+        assert_eq!(rt; is_run_refused(&rt, chains, call)?, refused);
+        if !refused {
+            assert!(rt; call > 0, "no call was refused");
+            return Ok(());
+        }
+    }
+    Err(Fail::from("each call was refused"))
 }
 
 /// Counts what the threads of a device do.
@@ -79,7 +115,10 @@ fn a_run_is_that_of_its_plan(rt: HostRuntime) -> Result<(), Fail> {
     let plan = Plan::new(64, 4, 2, 3, 4, 8).ok_or("a plan")?;
     let list = VecList::new(rt.alloc(), 64, 4, 64)?;
     let mut text = Vec::new(rt.alloc());
-    assert_eq!(rt; answer_run(&rt, plan, list, counting, &mut text), Ok(()));
+    assert_eq!(rt;
+        answer_run(&rt, rt.alloc(), plan, list, counting, &mut text),
+        Ok(())
+    );
     assert_eq!(rt; text.as_slice(), USUAL.as_bytes());
     assert_eq!(rt; inserts.load(Ordering::SeqCst), 2 * 8);
     assert_eq!(rt; removals.load(Ordering::SeqCst), 3 * 8);
@@ -117,7 +156,7 @@ fn a_failing_writer_of_totals_is_told(rt: HostRuntime) -> Result<(), Fail> {
         let list = VecList::new(rt.alloc(), 1, 1, 1)?;
         let mut writer = FailingWriter { room: 3, fails };
         assert_eq!(rt;
-            answer_run(&rt, plan, list, Free, &mut writer),
+            answer_run(&rt, rt.alloc(), plan, list, Free, &mut writer),
             Err(RunFault::Write)
         );
     }

@@ -9,16 +9,16 @@ use std::thread::Threads;
 
 // A command line and an input, and what the program makes of them.
 #[derive(Drop)]
-struct Case<'a> {
-    words: &'a [&'a str],
-    input: &'a str,
-    output: &'a str,
-    errors: &'a str,
-    status: u8,
+pub(super) struct Case<'a> {
+    pub(super) words: &'a [&'a str],
+    pub(super) input: &'a str,
+    pub(super) output: &'a str,
+    pub(super) errors: &'a str,
+    pub(super) status: u8,
 }
 
 // Runs the program on a case, with room for its whole output, and compares all that it tells.
-fn compare<R: AllocGlobal + Threads + Wait + Abort + Sync>(rt: &R, case: &Case<'_>) {
+pub(super) fn compare<R: AllocGlobal + Threads + Wait + Abort + Sync>(rt: &R, case: &Case<'_>) {
     let Case {
         words,
         input,
@@ -150,94 +150,6 @@ fn options_reach_the_replies(rt: HostRuntime) {
     }
 }
 
-// What a canceller claimed counts towards a file object's limit, until it takes it out.
-#[test]
-fn a_file_object_has_a_limit(rt: HostRuntime) {
-    for words in [
-        ["csqsim", "script", "--file-limit=1"].as_slice(),
-        ["csqsim", "script", "--file-limit=1", "--chain"].as_slice(),
-    ] {
-        let case = Case {
-            words,
-            input: "insert 0 0 back\ninsert 1 0 back\ninsert 2 1 back\nmark 0\ninsert 1 0 back\n\
-                routine 0\ninsert 1 0 back\n",
-            output: "pending\nrefused FileFull C000009A\npending\nclaimed\n\
-                refused FileFull C000009A\ncompleted C0000120\npending\nleft 2 1\n",
-            errors: "",
-            status: 0,
-        };
-        compare(&rt, &case);
-    }
-}
-
-// It is tested after a closed file object, and before a full list.
-#[test]
-fn a_full_file_object_is_told_in_its_order(rt: HostRuntime) {
-    let words = [
-        "csqsim",
-        "script",
-        "--irps=3",
-        "--limit=1",
-        "--file-limit=1",
-        "--chain",
-    ];
-    for words in [&words[..5], words.as_slice()] {
-        let case = Case {
-            words,
-            input: "insert 0 0 back\ninsert 1 0 back\ninsert 1 1 back\nclose 0\ninsert 1 0 back\n",
-            output: "pending\nrefused FileFull C000009A\nrefused Full C000009A\nclosed\n\
-                refused FileClosed C0000128\nleft 0\n",
-            errors: "",
-            status: 0,
-        };
-        compare(&rt, &case);
-    }
-}
-
-// Each file object has the limit, the last one too; without one it is the number of IRPs, whatever the limit
-// of the list is.
-#[test]
-fn each_file_object_has_its_limit(rt: HostRuntime) {
-    let rows: [(&[&str], &str, &str); 4] = [
-        (
-            &["csqsim", "script", "--files=3", "--file-limit=1"],
-            "insert 0 1 back\ninsert 1 1 back\ninsert 2 2 back\ninsert 3 2 back\n",
-            "pending\nrefused FileFull C000009A\npending\nrefused FileFull C000009A\nleft 0 2\n",
-        ),
-        (
-            &["csqsim", "script", "--irps=3", "--limit=1"],
-            "insert 0 0 back\ninsert 1 0 back\n",
-            "pending\nrefused Full C000009A\nleft 0\n",
-        ),
-        (
-            &["csqsim", "script", "--irps=3", "--limit=1", "--chain"],
-            "insert 0 0 back\ninsert 1 0 back\n",
-            "pending\nrefused Full C000009A\nleft 0\n",
-        ),
-        (
-            &[
-                "csqsim",
-                "script",
-                "--irps=2",
-                "--limit=1",
-                "--file-limit=2",
-            ],
-            "insert 0 0 back\ninsert 1 0 back\n",
-            "pending\nrefused Full C000009A\nleft 0\n",
-        ),
-    ];
-    for (words, input, output) in rows {
-        let case = Case {
-            words,
-            input,
-            output,
-            errors: "",
-            status: 0,
-        };
-        compare(&rt, &case);
-    }
-}
-
 const TOTALS: &str = "irps 3\naccounted 3\ncancelled and listed 0\n";
 
 #[test]
@@ -286,7 +198,7 @@ fn an_input_is_too_long(rt: HostRuntime) -> Result<(), Fail> {
     for _ in 0..=MAX_INPUT {
         input.push('\n')?;
     }
-    for command in ["schedule", "script"] {
+    for command in ["schedule", "draw", "script"] {
         let case = Case {
             words: &["csqsim", command],
             input: input.as_str(),
@@ -325,7 +237,7 @@ fn a_limit_above_the_irps_is_refused(rt: HostRuntime) {
 
 // Runs the program on a command line, and looks for a text on standard error, where it is refused, or on
 // standard output. On the other nothing is printed.
-fn look_for<'a, R: AllocGlobal + Threads + Wait + Abort + Sync>(
+pub(super) fn look_for<'a, R: AllocGlobal + Threads + Wait + Abort + Sync>(
     rt: &'a R,
     words: &'a [&'a str],
     refused: bool,
@@ -417,7 +329,7 @@ fn help_is_told_on_standard_output(rt: HostRuntime) {
         (["csqsim", "--help"].as_slice(), "Usage: csqsim <COMMAND>"),
         (
             ["csqsim", "--help"].as_slice(),
-            "Replays the steps and the calls of a cancel-safe IRP queue, and runs threads over one\n",
+            "Replays and draws the steps of a cancel-safe IRP queue, makes its calls, and runs threads over one\n",
         ),
         (["csqsim", "help"].as_slice(), "Usage: csqsim <COMMAND>"),
         (["csqsim", "--version"].as_slice(), "csqsim 1.0\n"),
@@ -425,6 +337,8 @@ fn help_is_told_on_standard_output(rt: HostRuntime) {
             ["csqsim", "run", "--help"].as_slice(),
             "Usage: csqsim run [OPTIONS]",
         ),
+        (["csqsim", "run", "--help"].as_slice(), "Threads:\n"),
+        (["csqsim", "draw", "--help"].as_slice(), "Size:\n"),
     ];
     for (words, wanted) in rows {
         look_for(&rt, words, false, wanted);
@@ -448,6 +362,7 @@ fn fail_to_write<'a, R: AllocGlobal + Threads + Wait + Abort + Sync>(
 fn a_failed_write_is_a_fault(rt: HostRuntime) {
     for words in [
         ["csqsim", "schedule"].as_slice(),
+        ["csqsim", "draw"].as_slice(),
         ["csqsim", "script"].as_slice(),
         ["csqsim", "script", "--chain"].as_slice(),
         ["csqsim", "run", "--irps=1", "--turns=1"].as_slice(),
@@ -459,7 +374,7 @@ fn a_failed_write_is_a_fault(rt: HostRuntime) {
 
 #[test]
 fn a_failed_read_is_a_fault(rt: HostRuntime) {
-    for command in ["schedule", "script"] {
+    for command in ["schedule", "draw", "script"] {
         let words = ["csqsim", command];
         let process = Process::new(&rt, &words, "flag 0\n", usize::MAX).with_failing_input();
         assert_eq!(rt; run_program(&process), ExitCode::FAILURE, "at {command}");

@@ -1,19 +1,61 @@
 //! The closing lines of a schedule.
-ghost use Rattle.std.specs.Prelude.{◌≡◌, ◌<◌, ◌++◌, List, ℕ, string_bytes, OnOk};
+ghost use Rattle.std.specs.Prelude.{◌≡◌, ◌<◌, ◌++◌, Bool, List, codes, string_bytes, OnOk};
 ghost use Rattle.irp_core.specs.declared.step.Made.{Made};
 ghost use Rattle.irp_core.specs.Lives.{present};
 ghost use Rattle.irp_core.specs.MachineState.{Agrees, size_of};
-ghost use Rattle.csq_replay.specs.Schedule.{is_silent, IsIrpLine, AreIrpLines, IsRestLine};
+ghost use Rattle.csq_replay.specs.declared.schedule.closing.IrpLine.{IrpLine as IrpLineOf};
+ghost use Rattle.csq_replay.specs.Schedule.{is_silent, told_of, irp_lines_text, rest_text, IsToldOf, AreToldOf, TellsRest};
 ghost use Rattle.csq_replay.specs.Lines.{GrewBy};
 
 use irp_core::{IrpId, IrpLife, IrpPlace, Machine};
 use std::alloc::{AllocError, Allocator};
+use std::fmt;
+
+/// What is told of an IRP in the end, in its present life.
+#[derive(Clone, Copy, Debug, PartialEq, Eq)]
+pub struct IrpLine {
+    pub name: IrpLife,
+    pub place: IrpPlace,
+    /// Whether its Cancel flag is set.
+    pub cancelled: bool,
+}
+
+/// As `irp 0 listed cancel 1`.
+impl fmt::Display for IrpLine {
+    ghost use Rattle.std.specs.Prelude.{Some};
+    ghost use Rattle.csq_replay.specs.Schedule.{irp_line_text};
+
+    ghost output = { λ line. Some (irp_line_text line) };
+
+    fn fmt<W: fmt::Write>(&self, f: &mut fmt::Formatter<W>) -> fmt::Result {
+        let (name, place, flag) = (self.name, self.place, u64::from(self.cancelled));
+        write!(f, "irp {name} {place} cancel {flag}")
+    }
+}
 
 /// Whether an IRP isn't told of: one that is home in life 0, and not cancelled.
-fn is_silent(place: IrpPlace, cancelled: bool, name: IrpLife) -> bool
-    ensures { result ≡ is_silent place cancelled name }
+fn is_silent(line: IrpLine) -> bool
+    ensures { result ≡ is_silent line }
 {
-    !cancelled && matches!(place, IrpPlace::Home) && name.life.0 == 0
+    !line.cancelled && matches!(line.place, IrpPlace::Home) && line.name.life.0 == 0
+}
+
+/// What is told of an IRP, if it is told of: an IRP that is home in life 0 with a clear Cancel flag isn't.
+/// Own rule.
+pub fn irp_line<A: Allocator>(machine: &Machine<A>, irp: IrpId) -> Option<IrpLine>
+    requires { irp.0 < (size_of machine.now).irps }
+    ensures { (E : List Made) → Agrees machine.now E → IsToldOf E (present (size_of machine.now).first E irp) (told_of result) }
+{
+    let life = machine.life(irp).unwrap();
+    let name = IrpLife { irp, life };
+    let place = machine.place(irp).unwrap();
+    let cancelled = machine.cancelled(irp);
+    let line = IrpLine {
+        name,
+        place,
+        cancelled,
+    };
+    if is_silent(line) { None } else { Some(line) }
 }
 
 /// The line of an IRP.
@@ -23,18 +65,13 @@ fn close_irp<A: Allocator>(
     text: &mut String<A>,
 ) -> Result<(), AllocError>
     requires { irp.0 < (size_of machine.now).irps }
-    ensures { OnOk result ((added : List ℕ) × GrewBy (string_bytes text.old) (string_bytes text.new) added
-        × ((E : List Made) → Agrees machine.now E → IsIrpLine E (present (size_of machine.now).first E irp) added)) }
+    ensures { OnOk result ((told : List IrpLineOf) × GrewBy (string_bytes text.old) (string_bytes text.new) (irp_lines_text told)
+        × ((E : List Made) → Agrees machine.now E → IsToldOf E (present (size_of machine.now).first E irp) told)) }
 {
-    let life = machine.life(irp).unwrap();
-    let name = IrpLife { irp, life };
-    let place = machine.place(irp).unwrap();
-    let cancelled = machine.cancelled(irp);
-    if is_silent(place, cancelled, name) {
+    let Some(line) = irp_line(machine, irp) else {
         return Ok(());
-    }
-    let flag = u64::from(cancelled);
-    writeln!(text, "irp {name} {place} cancel {flag}")?;
+    };
+    writeln!(text, "{line}")?;
     Ok(())
 }
 
@@ -43,8 +80,8 @@ pub(crate) fn close_irps<A: Allocator>(
     machine: &Machine<A>,
     text: &mut String<A>,
 ) -> Result<(), AllocError>
-    ensures { OnOk result ((added : List ℕ) × GrewBy (string_bytes text.old) (string_bytes text.new) added
-        × ((E : List Made) → Agrees machine.now E → AreIrpLines (size_of machine.now).first E (size_of machine.now).irps added)) }
+    ensures { OnOk result ((told : List IrpLineOf) × GrewBy (string_bytes text.old) (string_bytes text.new) (irp_lines_text told)
+        × ((E : List Made) → Agrees machine.now E → AreToldOf (size_of machine.now).first E (size_of machine.now).irps told)) }
 {
     for number in 0..machine.irps() {
         close_irp(machine, IrpId(number), text)?;
@@ -57,8 +94,8 @@ pub(crate) fn close_rest<A: Allocator>(
     machine: &Machine<A>,
     text: &mut String<A>,
 ) -> Result<(), AllocError>
-    ensures { OnOk result ((added : List ℕ) × GrewBy (string_bytes text.old) (string_bytes text.new) added
-        × ((E : List Made) → Agrees machine.now E → IsRestLine E added)) }
+    ensures { OnOk result ((rest : Bool) × GrewBy (string_bytes text.old) (string_bytes text.new) (rest_text rest ++ codes "\n")
+        × ((E : List Made) → Agrees machine.now E → TellsRest E rest)) }
 {
     if machine.at_rest() {
         writeln!(text, "rest yes")

@@ -1,13 +1,13 @@
 //! Steps, replayed line by line.
 ghost use Rattle.std.specs.Prelude.{◌≡◌, ◌++◌, string_bytes, OnOk};
-ghost use Rattle.irp_core.specs.Steps.{made};
 ghost use Rattle.csq_replay.specs.Schedule.{claim_line};
 
-use crate::lines::{Answerer, Handling, MAX_LINE, is_skipped};
+use crate::lines::{Answerer, Handling};
 use crate::schedule::closing::{close_irps, close_rest};
-use crate::schedule::step_line::parse_line;
-use irp_core::{Kind, Machine, Step};
+use crate::schedule::outcome::{Outcome, handle_line};
+use irp_core::{Kind, Machine, Made};
 use std::alloc::{AllocError, Allocator};
+use std::str;
 
 /// A machine, a line for each claim that its steps made, and whether these lines are asked for.
 #[derive(Drop)]
@@ -22,15 +22,14 @@ pub(crate) struct Replay<A: Allocator> {
 fn note_claim<A: Allocator>(
     claims: &mut String<A>,
     number: usize,
-    step: Step,
-    found: u64,
+    made: Made,
 ) -> Result<(), AllocError>
     ensures { OnOk result (string_bytes claims.new
-        ≡ string_bytes claims.old ++ claim_line (record { line = number; step = made step found })) }
+        ≡ string_bytes claims.old ++ claim_line (record { line = number; step = made })) }
 {
-    match step.kind {
-        Kind::Disarm(name) | Kind::Take(name) if found == 1 => {
-            let pass = step.pass;
+    match made.kind {
+        Kind::Disarm(name) | Kind::Take(name) if made.found == 1 => {
+            let pass = made.pass;
             writeln!(claims, "claim {name} line {number} {pass}")
         }
         _ => Ok(()),
@@ -59,25 +58,19 @@ impl<A: Allocator> Answerer<A> for Replay<A> {
         line: &[u8],
         text: &mut String<A>,
     ) -> Result<Handling, AllocError> {
-        if line.len() > MAX_LINE {
-            writeln!(text, "line {number} too long")?;
-            return Ok(Handling::Stops);
-        }
-        if is_skipped(line) {
-            return Ok(Handling::GoesOn);
-        }
-        let Some((written, step)) = parse_line(line) else {
-            writeln!(text, "line {number} malformed")?;
-            return Ok(Handling::Stops);
-        };
-        match self.machine.step(step) {
-            Ok(found) => {
-                note_claim(&mut self.claims, number, step, found)?;
+        match handle_line(&mut self.machine, line) {
+            Outcome::Skipped => Ok(Handling::GoesOn),
+            Outcome::Accepted(made) => {
+                let Ok(written) = str::from_utf8(line) else {
+                    unreachable!()
+                };
+                let found = made.found;
+                note_claim(&mut self.claims, number, made)?;
                 writeln!(text, "{written} found {found}")?;
                 Ok(Handling::GoesOn)
             }
-            Err(cause) => {
-                writeln!(text, "line {number} refused {cause}")?;
+            Outcome::Stopped(stop) => {
+                writeln!(text, "line {number} {stop}")?;
                 Ok(Handling::Stops)
             }
         }

@@ -10,7 +10,6 @@ ghost use Rattle.csq_replay.specs.StepLine.{verb_of, IsPassWord, AreKindWords, I
 use crate::lines::names::parse_name;
 use crate::lines::pieces::{parse_number, split_piece};
 use irp_core::{IrpLife, Kind, PassId, Step};
-use std::str;
 
 fn parse_pass(word: &[u8]) -> Option<PassId>
     ensures { MatchOption result ((p : PassId) → ¬ IsPassWord word.now p) (IsPassWord word.now) }
@@ -50,24 +49,12 @@ fn parse_kind(text: &[u8]) -> Option<Kind>
     }
 }
 
-fn parse_step(line: &[u8]) -> Option<Step>
+/// The step that a line names.
+pub(crate) fn parse_step(line: &[u8]) -> Option<Step>
     ensures { MatchOption result ((s : Step) → ¬ IsStepLine line.now s) (IsStepLine line.now) }
 {
     let (pass, rest) = split_piece(line, b' ');
     let pass = parse_pass(pass)?;
     let kind = parse_kind(rest?)?;
     Some(Step { pass, kind })
-}
-
-/// The line as text, and the step that it names.
-pub(crate) fn parse_line(line: &[u8]) -> Option<(&str, Step)>
-    ensures { MatchOption result
-        ((s : Step) → ¬ IsStepLine line.now s)
-        (λ found. (found.0.now ≡ line.now) × IsStepLine line.now found.1) }
-{
-    let step = parse_step(line)?;
-    let Ok(text) = str::from_utf8(line) else {
-        return None;
-    };
-    Some((text, step))
 }

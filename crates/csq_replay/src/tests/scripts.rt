@@ -7,7 +7,7 @@ use crate::script::answer_script;
 use crate::tests::streams::{FailingWriter, SlowReader, SlowWriter};
 use csq_list::{ChainList, PendingList, VecList};
 use std::alloc::Global;
-use std::io::ErrorKind;
+use std::io::{ErrorKind, Read};
 use std::process::Abort;
 use std::test::Fail;
 
@@ -147,19 +147,40 @@ fn refusals_are_answers(rt: HostRuntime) -> Result<(), Fail> {
     compare(&rt, rt.alloc(), Ended::AllHandled, &cases)
 }
 
-#[test]
-fn a_list_has_a_limit(rt: HostRuntime) -> Result<(), Fail> {
-    let list = VecList::new(rt.alloc(), 3, 1, 2)?;
-    let input = "insert 0 0 back\ninsert 1 0 back\ninsert 2 0 back\nnext *\ninsert 2 0 back\n";
+// A script that fills a list whose limit is 2.
+fn fill<L: PendingList + Drop>(
+    rt: &impl Abort,
+    alloc: Global,
+    list: L,
+    reader: &mut impl Read,
+) -> Result<(), Fail>
+    requires fresh { IsFresh (L.listing list) }
+    requires least { 1 ≤ (L.listing list).irps }
+    requires most { (L.listing list).irps ≤ 1024 }
+{
     let output = "pending\npending\nrefused Full C000009A\nirp 0\npending\nleft 1 2\nheld 0\n";
-    let mut bytes = input.as_bytes();
-    let mut text = Vec::new(rt.alloc());
+    let mut text = Vec::new(alloc);
     assert_eq!(rt;
-        answer_script(rt.alloc(), list, &mut bytes, &mut text)?,
+        answer_script(alloc, list, reader, &mut text)?,
         Ended::AllHandled
     );
     assert_eq!(rt; text.as_slice(), output.as_bytes());
     Ok(())
+}
+
+#[test]
+fn a_list_has_a_limit(rt: HostRuntime) -> Result<(), Fail> {
+    let alloc = rt.alloc();
+    let input =
+        "insert 0 0 back\ninsert 1 0 back\ninsert 2 0 back\nnext *\ninsert 2 0 back\n".as_bytes();
+    let mut bytes = input;
+    fill(&rt, alloc, VecList::new(alloc, 3, 1, 2)?, &mut bytes)?;
+    let mut reader = SlowReader::new(input, None);
+    fill(&rt, alloc, VecList::new(alloc, 3, 1, 2)?, &mut reader)?;
+    let mut bytes = input;
+    fill(&rt, alloc, ChainList::new(alloc, 3, 1, 2)?, &mut bytes)?;
+    let mut reader = SlowReader::new(input, None);
+    fill(&rt, alloc, ChainList::new(alloc, 3, 1, 2)?, &mut reader)
 }
 
 // Whatever the list, the last IRP is inserted for the last file object.

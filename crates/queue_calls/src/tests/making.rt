@@ -7,72 +7,44 @@ use csq_list::{ChainList, Peek, PendingList, Place, VecList};
 use csq_queue::{Blank, NewCause, QueueName};
 use irp_core::{FileId, FinalStatus, Life, NtStatus};
 use linked_list_allocator::LocalHeap;
-use std::alloc::{AllocError, Global};
+use refusing_heap::RefusingHeap;
+use std::alloc::Global;
 use std::marker::Brand;
 use std::process::Abort;
 use std::sync::Wait;
 use std::test::Fail;
 
-// What is left of a heap, in pieces.
-fn take_rest<'a>(
-    heap: &'a LocalHeap,
-    alloc: Global,
-) -> Result<Vec<Vec<u8, &'a LocalHeap>>, AllocError> {
-    let mut pieces = Vec::new(alloc);
-    for _ in 0..64 {
-        if let Ok(piece) = Vec::with_capacity(heap, 16) {
-            pieces.push(piece)?;
-        }
-    }
-    Ok(pieces)
+// A queue on this heap, as its list is. With all memory refused from then on, its calls answer as ever.
+fn follow_without_memory<'a, L: PendingList + Drop, N: QueueName, R: Wait + Abort>(
+    rt: &R,
+    heap: &'a RefusingHeap<Global>,
+    blank: Blank<L, &'a RefusingHeap<Global>>,
+) -> Result<(), Fail>
+    requires { blank ≡ record { table = N.table; limits = N.limits } }
+{
+    heap.refuse_all();
+    assert!(rt; Vec::<u8, _>::with_capacity(heap, 1).is_err());
+    follow_rows::<L, N, _, _>(rt, blank)
 }
 
-// On a heap of each size: the queue is refused for want of memory, with a fresh list, until one is
-// made. With nothing left of the heap, its calls answer as ever.
 #[test]
 fn a_queue_takes_no_memory_later(rt: HostRuntime) -> Result<(), Fail> {
-    let mut refused = false;
-    for blocks in 1..64 {
-        let heap = LocalHeap::new(rt.alloc(), 16 * blocks)?;
-        let list = VecList::new(rt.alloc(), 4, 2, 4)?;
-        match Blank::new(&heap, list, 4, 2) {
-            Err(back) => {
-                assert_eq!(rt; back.cause, NewCause::Memory);
-                assert!(rt; back.list.is_fresh());
-                refused = true;
-            }
-            Ok(blank) => {
-                assert!(rt; refused, "no heap was too small");
-                let _rest = take_rest(&heap, rt.alloc())?;
-                assert_eq!(rt; heap.free(), 0);
-                return follow_rows::<VecList, Brand, _, _>(&rt, blank);
-            }
-        }
-    }
-    Err(Fail::from("no heap was large enough"))
+    let heap = RefusingHeap::new(rt.alloc(), 1000);
+    let list = VecList::new(&heap, 4, 2, 4)?;
+    let Ok(blank) = Blank::new(&heap, list, 4, 2) else {
+        return Err(Fail::from("no queue"));
+    };
+    follow_without_memory::<_, Brand, _>(&rt, &heap, blank)
 }
 
 #[test]
 fn a_queue_over_chains_takes_no_memory_later(rt: HostRuntime) -> Result<(), Fail> {
-    let mut refused = false;
-    for blocks in 1..64 {
-        let heap = LocalHeap::new(rt.alloc(), 16 * blocks)?;
-        let list = ChainList::new(rt.alloc(), 4, 2, 4)?;
-        match Blank::new(&heap, list, 4, 2) {
-            Err(back) => {
-                assert_eq!(rt; back.cause, NewCause::Memory);
-                assert!(rt; back.list.is_fresh());
-                refused = true;
-            }
-            Ok(blank) => {
-                assert!(rt; refused, "no heap was too small");
-                let _rest = take_rest(&heap, rt.alloc())?;
-                assert_eq!(rt; heap.free(), 0);
-                return follow_rows::<ChainList, Brand, _, _>(&rt, blank);
-            }
-        }
-    }
-    Err(Fail::from("no heap was large enough"))
+    let heap = RefusingHeap::new(rt.alloc(), 1000);
+    let list = ChainList::new(&heap, 4, 2, 4)?;
+    let Ok(blank) = Blank::new(&heap, list, 4, 2) else {
+        return Err(Fail::from("no queue"));
+    };
+    follow_without_memory::<_, Brand, _>(&rt, &heap, blank)
 }
 
 #[test]

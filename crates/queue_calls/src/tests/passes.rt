@@ -3,7 +3,7 @@ ghost use Rattle.std.specs.Prelude.{◌≡◌};
 
 use super::rows::{ZERO, small};
 use crate::insert_pending;
-use csq_list::{Peek, VecList};
+use csq_list::{ChainList, Peek, PendingList};
 use csq_queue::{Back, Blank, CloseCause, CloseRefused, Csq, Pass, PassRack, QueueName};
 use irp_core::{FileId, FinalStatus, IrpId, NtStatus};
 use std::marker::Brand;
@@ -12,13 +12,13 @@ use std::sync::Wait;
 use std::test::Fail;
 
 // Closes a queue of which that many other passes are out, which is refused.
-fn close_early<N: QueueName, R: Abort>(
+fn close_early<L: PendingList + Drop, N: QueueName, R: Abort>(
     rt: &R,
-    queue: Csq<VecList, N>,
+    queue: Csq<L, N>,
     one: Pass<N>,
     rack: PassRack<N>,
     out: u32,
-) -> Result<(Csq<VecList, N>, Pass<N>, PassRack<N>), Fail> {
+) -> Result<(Csq<L, N>, Pass<N>, PassRack<N>), Fail> {
     let Err(refused) = queue.close(one, rack) else {
         return Err(Fail::from("closed"));
     };
@@ -33,7 +33,10 @@ fn close_early<N: QueueName, R: Abort>(
 }
 
 // A pass that is out keeps the queue open until it is given back, and so does a token.
-fn count_passes<N: QueueName, R: Wait + Abort>(rt: &R, blank: Blank<VecList>) -> Result<(), Fail>
+fn count_passes<L: PendingList + Drop, N: QueueName, R: Wait + Abort>(
+    rt: &R,
+    blank: Blank<L>,
+) -> Result<(), Fail>
     requires { blank ≡ record { table = N.table; limits = N.limits } }
 {
     let (queue, mut rack) = blank.into_queue::<N>();
@@ -48,9 +51,9 @@ fn count_passes<N: QueueName, R: Wait + Abort>(rt: &R, blank: Blank<VecList>) ->
 }
 
 // Removes an IRP. With its token unspent the pass isn't given back, nor the queue closed.
-fn hold_and_close<N: QueueName, R: Wait + Abort>(
+fn hold_and_close<L: PendingList + Drop, N: QueueName, R: Wait + Abort>(
     rt: &R,
-    queue: Csq<VecList, N>,
+    queue: Csq<L, N>,
     one: Pass<N>,
     mut two: Pass<N>,
     rack: PassRack<N>,
@@ -80,13 +83,13 @@ fn hold_and_close<N: QueueName, R: Wait + Abort>(
 }
 
 // Closes a queue of which a pass is out beside the one whose receipt this is, which is refused.
-fn close_early_on<N: QueueName, R: Abort>(
+fn close_early_on<L: PendingList + Drop, N: QueueName, R: Abort>(
     rt: &R,
-    queue: Csq<VecList, N>,
+    queue: Csq<L, N>,
     one: Pass<N>,
     rack: PassRack<N>,
     receipt: Back<N>,
-) -> Result<(Csq<VecList, N>, Pass<N>, PassRack<N>, Back<N>), Fail> {
+) -> Result<(Csq<L, N>, Pass<N>, PassRack<N>, Back<N>), Fail> {
     let mut receipts = [receipt];
     let Err(refused) = queue.close_with(one, rack, &mut receipts) else {
         return Err(Fail::from("closed"));
@@ -104,9 +107,9 @@ fn close_early_on<N: QueueName, R: Abort>(
 
 // With receipts the queue is closed as without: a pass that is out keeps it open, and then it comes back
 // with what was listed.
-fn close_on_receipts<N: QueueName, R: Wait + Abort>(
+fn close_on_receipts<L: PendingList + Drop, N: QueueName, R: Wait + Abort>(
     rt: &R,
-    blank: Blank<VecList>,
+    blank: Blank<L>,
 ) -> Result<(), Fail>
     requires { blank ≡ record { table = N.table; limits = N.limits } }
 {
@@ -131,12 +134,23 @@ fn close_on_receipts<N: QueueName, R: Wait + Abort>(
     Ok(())
 }
 
+// A queue over chains, of 4 IRPs, 2 files and 3 passes.
+fn small_over_chains(rt: &HostRuntime) -> Result<Blank<ChainList>, Fail> {
+    let list = ChainList::new(rt.alloc(), 4, 2, 4)?;
+    match Blank::new(rt.alloc(), list, 4, 3) {
+        Ok(blank) => Ok(blank),
+        Err(_) => Err(Fail::from("no queue")),
+    }
+}
+
 #[test]
 fn receipts_close_a_queue(rt: HostRuntime) -> Result<(), Fail> {
-    close_on_receipts::<Brand, _>(&rt, small(&rt, 3)?)
+    close_on_receipts::<_, Brand, _>(&rt, small(&rt, 3)?)?;
+    close_on_receipts::<_, Brand, _>(&rt, small_over_chains(&rt)?)
 }
 
 #[test]
 fn passes_that_are_out_are_counted(rt: HostRuntime) -> Result<(), Fail> {
-    count_passes::<Brand, _>(&rt, small(&rt, 3)?)
+    count_passes::<_, Brand, _>(&rt, small(&rt, 3)?)?;
+    count_passes::<_, Brand, _>(&rt, small_over_chains(&rt)?)
 }

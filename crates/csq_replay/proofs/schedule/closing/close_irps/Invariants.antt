@@ -1,11 +1,12 @@
-use Rattle.std.proofs.Common.{List, ℕ, string_bytes}
+use Rattle.std.proofs.Common.{List, string_bytes}
 use Rattle.irp_core.specs.declared.step.Made.{Made}
 use Rattle.irp_core.specs.MachineState.{Agrees, size_of}
-use Rattle.csq_replay.specs.Schedule.{AreIrpLines}
+use Rattle.csq_replay.specs.declared.schedule.closing.IrpLine.{IrpLine}
+use Rattle.csq_replay.specs.Schedule.{AreToldOf, irp_lines_text}
 use Rattle.csq_replay.specs.Lines.{GrewBy}
 use Rattle.csq_replay.proofs.schedule.closing.close_irps.Given as goal
 
 -- the lines of the IRPs so far were added
 abbrev pub invariant-loop-number : goal.invariant-loop-number
-invariant-loop-number g l = (added : List ℕ) × GrewBy (string_bytes l.fn.text) (string_bytes l.text) added
-    × ((E : List Made) → Agrees l.machine E → AreIrpLines (size_of l.machine).first E l.number added)
+invariant-loop-number g l = (told : List IrpLine) × GrewBy (string_bytes l.fn.text) (string_bytes l.text) (irp_lines_text told)
+    × ((E : List Made) → Agrees l.machine E → AreToldOf (size_of l.machine).first E l.number told)

@@ -1,0 +1,4 @@
+pub mod Tables
+pub mod Growing
+pub mod Showing
+pub mod PictureLaws

@@ -1,0 +1,317 @@
+-- The laws of pictures.
+use Rattle.std.proofs.Common.{◌≡◌, ◌||◌, inl, inr, ℕ, suc, ◌+◌, ◌<◌, ◌≤◌, Bool, true, false, cond, List, [], ◌∷◌, ◌++◌, length, get_or, take, count_by, Option, Some, None, refl, ap, sym, ◌∙◌, subst, arith, append_assoc, append-nil, length-append, codes}
+use Rattle.std.specs.List.{position, list_any}
+use Rattle.std.specs.Option.{option_map}
+use Rattle.std.proofs.lemmas.List.Quantifiers.{position-Some}
+use Rattle.irp_core.specs.declared.ids.PassId.{PassId}
+use Rattle.irp_core.specs.declared.step.Made.{Made}
+use Rattle.irp_core.specs.declared.step.Inside.{Inside}
+use Rattle.irp_core.specs.Steps.{same_pass, by}
+use Rattle.irp_core.specs.Inside.{inside, inside_after, has_lock}
+use Rattle.irp_core.specs.Lock.{HasLock, needs_lock}
+use Rattle.irp_core.specs.Runs.{Size, IsRun}
+use Rattle.irp_core.proofs.Names.{same_pass-eq}
+use Rattle.irp_core.proofs.Growing.{run_none, run_less, run_parted, HasLock-has_lock, has_lock-HasLock}
+use Rattle.irp_core.proofs.Next.{lock_one}
+use Rattle.csq_replay.specs.declared.schedule.closing.IrpLine.{IrpLine}
+use Rattle.csq_replay.specs.declared.schedule.outcome.Stop.{Stop}
+use Rattle.csq_replay.specs.Schedule.{Numbered, run_of}
+use Rattle.csq_replay.proofs.Answering.{one_input_answer}
+use Rattle.csq_replay.proofs.OneAnswer.{one_close, one_line, run_on}
+use Rattle.csq_draw.specs.declared.heading.Extent.{Extent}
+use Rattle.csq_draw.specs.declared.marks.Mark.{Mark}
+use Rattle.csq_draw.specs.declared.marks.Number.{Number}
+use Rattle.csq_draw.specs.declared.marks.Shade.{Shade}
+use Rattle.csq_draw.specs.declared.owners.Owner.{Owner}
+use Rattle.csq_draw.specs.declared.passes.PassNow.{PassNow}
+use Rattle.csq_draw.specs.declared.reasons.Reason.{Reason}
+use Rattle.csq_draw.specs.declared.rows.Row.{Row}
+use Rattle.csq_draw.specs.Elements.{Element, picture}
+use Rattle.csq_draw.specs.Owners.{owners}
+use Rattle.csq_draw.specs.Passes.{new_pass, pass_after, pass_now, lock_of, columns, column_of}
+use Rattle.csq_draw.specs.Pictures.{each, column_element, column_elements, shade_elements, span_elements, number_element, mark_element, row_elements, open_elements, extent, opening_elements, closing_elements, refused_elements, rest_element, shown_elements, closed_picture, drawn_text, DrawsLine, DrawsClosing}
+use Rattle.csq_draw.specs.Rows.{all_passes, row_of, rows_of}
+use Rattle.csq_draw.specs.Reasons.{reason_of}
+use Rattle.csq_draw.specs.Laws.{HasOnePicture, picked, added, Shows, mark_in, number_in, shade_in, shade_by, EachStepHasOneMark, EachLineHasItsNumber, EachShadeIsOfTheLock, EachPassHasItsColumn, HasItAt, TheShadedPassHasTheLock}
+use Rattle.csq_draw.proofs.Tables.{get-table, position-None, count-more}
+use Rattle.csq_draw.proofs.Showing.{length-passes}
+
+one_closing : (size : Size) (W : List Numbered) → IsRun size (run_of W) → (t u : List ℕ) → DrawsClosing size W t → DrawsClosing size W u → t ≡ u
+one_closing size W r t u (told, rest, closes, e) (other, otherwise, closes', f) =
+    let same = one_close size (run_of W) r told other rest otherwise closes closes' in
+    e ∙ ap (λ x. picture (closed_picture size W x rest)) same.0 ∙ ap (λ x. picture (closed_picture size W other x)) same.1 ∙ sym f
+
+pub one_picture : (size : Size) (input : List ℕ) → HasOnePicture size input
+one_picture size input t u e f is other =
+    one_input_answer (DrawsLine size) (DrawsClosing size) (λ W. IsRun size (run_of W)) (one_line (drawn_text size) size) (run_on (drawn_text size) size)
+    (λ W x y r closed closed'. one_closing size W r x y closed closed') [] (run_none size) input t u e f is other
+
+-- what is picked out of elements
+module _ {A : Type 0} (pick : Element → List A) where
+  picked-append : (xs ys : List Element) → picked pick (xs ++ ys) ≡ picked pick xs ++ picked pick ys
+  picked-append [] ys = refl
+  picked-append (x ∷ xs) ys = ap (λ t. pick x ++ t) (picked-append xs ys) ∙ sym (append_assoc (pick x) (picked pick xs) (picked pick ys))
+
+  -- and none of it is
+  none_picked : {B : Type 0} (f : ℕ → B → List Element) → ((n : ℕ) (x : B) → picked pick (f n x) ≡ []) → (n : ℕ) (xs : List B) → picked pick (each f n xs) ≡ []
+  none_picked f none n [] = refl
+  none_picked f none n (x ∷ xs) = picked-append (f n x) (each f (n + 1) xs) ∙ ap (λ t. t ++ picked pick (each f (n + 1) xs)) (none n x) ∙ none_picked f none (n + 1) xs
+
+  then_none : (xs ys : List Element) (zs : List A) → picked pick xs ≡ zs → picked pick ys ≡ [] → picked pick (xs ++ ys) ≡ zs
+  then_none xs ys zs a b = picked-append xs ys ∙ ap (λ t. picked pick xs ++ t) b ∙ append-nil (picked pick xs) ∙ a
+
+  none_then : (xs ys : List Element) (zs : List A) → picked pick xs ≡ [] → picked pick ys ≡ zs → picked pick (xs ++ ys) ≡ zs
+  none_then xs ys zs a b = picked-append xs ys ∙ ap (λ t. t ++ picked pick ys) a ∙ b
+
+-- of which elements something is picked: this of a row, this of the line that ended the handling after so many rows, and nothing else
+record Picks {A : Type 0} (pick : Element → List A) (of_row : List PassNow → Row → List A) (of_line : ℕ → ℕ → List A) : Type 0 where
+  opening : (e : Extent) → picked pick (opening_elements e) ≡ []
+  columns : (passes : List PassNow) (rows n : ℕ) (now : PassNow) → picked pick (column_elements passes rows n now) ≡ []
+  row : (passes : List PassNow) (n : ℕ) (row : Row) → picked pick (row_elements passes n row) ≡ of_row passes row
+  kept : (passes : List PassNow) (rows n : ℕ) (owner : Option Owner) → picked pick (open_elements passes rows n owner) ≡ []
+  closing : (rows n : ℕ) (line : IrpLine) → picked pick (closing_elements rows n line) ≡ []
+  rest : (rows n : ℕ) (at_rest : Bool) → pick (rest_element rows n at_rest) ≡ []
+  refused : (rows n : ℕ) (reason : Reason) → picked pick (refused_elements rows n reason) ≡ of_line rows n
+
+module _ {A : Type 0} (pick : Element → List A) (of_row : List PassNow → Row → List A) (of_line : ℕ → ℕ → List A) (is : Picks pick of_row of_line) where
+  rows_picked : (passes : List PassNow) (n : ℕ) (rows : List Row) (row : Row) → picked pick (each (row_elements passes) n (rows ++ row ∷ [])) ≡ picked pick (each (row_elements passes) n rows) ++ of_row passes row
+  rows_picked passes n [] row = ap (λ t. picked pick t) (append-nil (row_elements passes n row)) ∙ is.row passes n row
+  rows_picked passes n (r ∷ rows) row =
+      let first = row_elements passes n r in
+      picked-append pick first (each (row_elements passes) (n + 1) (rows ++ row ∷ []))
+      ∙ ap (λ t. picked pick first ++ t) (rows_picked passes (n + 1) rows row)
+      ∙ sym (append_assoc (picked pick first) (picked pick (each (row_elements passes) (n + 1) rows)) (of_row passes row))
+      ∙ ap (λ t. t ++ of_row passes row) (sym (picked-append pick first (each (row_elements passes) (n + 1) rows)))
+
+  -- of the steps W
+  module _ (size : Size) where
+    abbrev of_step : List PassNow → Numbered → List Numbered → List A
+    of_step passes w W = of_row passes (row_of size w W)
+
+    all_picked : (passes : List PassNow) (W : List Numbered) → picked pick (each (row_elements passes) 0 (rows_of size W)) ≡ added (of_step passes) W
+    all_picked passes [] = refl
+    all_picked passes (w ∷ W) = rows_picked passes 0 (rows_of size W) (row_of size w W) ∙ ap (λ t. t ++ of_step passes w W) (all_picked passes W)
+
+    module _ (W : List Numbered) where
+      abbrev passes : List PassNow
+      passes = all_passes size W
+
+      abbrev shown : ℕ → List Element
+      shown lines = shown_elements passes (rows_of size W) (owners size.irps (run_of W)) (length W) lines
+
+      shown_picked : (lines : ℕ) → picked pick (shown lines) ≡ added (of_step passes) W
+      shown_picked lines =
+          let named = each (column_elements passes (length W)) 0 passes in
+          let steps = each (row_elements passes) 0 (rows_of size W) in
+          let kept = each (open_elements passes (length W)) 0 (owners size.irps (run_of W)) in
+          none_then pick (opening_elements (extent (columns passes) (length W) lines)) (named ++ (steps ++ kept)) _ (is.opening _)
+          (none_then pick named (steps ++ kept) _ (none_picked pick (column_elements passes (length W)) (is.columns passes (length W)) 0 passes)
+          (then_none pick steps kept _ (all_picked passes W) (none_picked pick (open_elements passes (length W)) (is.kept passes (length W)) 0 (owners size.irps (run_of W)))))
+
+      all_shown : Shows size W pick (of_step passes) (of_line (length W))
+      all_shown = record {
+        stopped = λ n stop.
+            let reason = reason_of size passes stop in
+            picked-append pick (shown 3) (refused_elements (length W) n reason)
+            ∙ ap (λ t. t ++ picked pick (refused_elements (length W) n reason)) (shown_picked 3)
+            ∙ ap (λ t. added (of_step passes) W ++ t) (is.refused (length W) n reason);
+        closed = λ told at_rest.
+            let last = rest_element (length W) (length told) at_rest in
+            then_none pick (shown (length told + 1)) (each (closing_elements (length W)) 0 told ++ last ∷ []) _ (shown_picked (length told + 1))
+            (none_then pick (each (closing_elements (length W)) 0 told) (last ∷ []) [] (none_picked pick (closing_elements (length W)) (is.closing (length W)) 0 told)
+            (append-nil (pick last) ∙ is.rest (length W) (length told) at_rest));
+      }
+
+abbrev marked : List PassNow → Row → List Mark
+marked passes row = record { row = row.row; column = column_of passes row.made.pass; made = row.made } ∷ []
+
+abbrev numbered : List PassNow → Row → List Number
+numbered passes row = record { row = row.row; line = row.line } ∷ []
+
+abbrev shaded_on : List PassNow → Row → List Shade
+shaded_on passes row = shade_by passes row.row row.lock
+
+-- a row's elements, whoever has the lock and whosever time ends
+abbrev elements_with : List PassNow → Row → Option PassId → Option Owner → List Element
+elements_with passes row lock ended = number_element row ∷ (shade_elements passes row.row lock ++ (span_elements passes row.row ended ++ mark_element passes row ∷ []))
+
+marks : Picks mark_in marked (λ rows n. [])
+marks = record {
+  opening = λ e. refl;
+  columns = λ passes rows n now. column_marks passes rows n now.makes;
+  row = λ passes n row. row_marks passes row row.lock row.ended;
+  kept = kept_marks;
+  closing = λ rows n line. refl;
+  rest = λ rows n at_rest. refl;
+  refused = λ rows n reason. refl;
+}
+  where
+    column_marks : (passes : List PassNow) (rows n : ℕ) (b : Bool) → picked mark_in (cond b (column_element passes rows (record { 0 = n }) ∷ []) []) ≡ []
+    column_marks passes rows n true = refl
+    column_marks passes rows n false = refl
+
+    row_marks : (passes : List PassNow) (row : Row) (lock : Option PassId) (ended : Option Owner) → picked mark_in (elements_with passes row lock ended) ≡ marked passes row
+    row_marks passes row (Some p) (Some o) = refl
+    row_marks passes row (Some p) None = refl
+    row_marks passes row None (Some o) = refl
+    row_marks passes row None None = refl
+
+    kept_marks : (passes : List PassNow) (rows n : ℕ) (o : Option Owner) → picked mark_in (open_elements passes rows n o) ≡ []
+    kept_marks passes rows n (Some o) = refl
+    kept_marks passes rows n None = refl
+
+numbers : Picks number_in numbered (λ rows n. record { row = rows; line = n } ∷ [])
+numbers = record {
+  opening = λ e. refl;
+  columns = λ passes rows n now. column_numbers passes rows n now.makes;
+  row = λ passes n row. row_numbers passes row row.lock row.ended;
+  kept = kept_numbers;
+  closing = λ rows n line. refl;
+  rest = λ rows n at_rest. refl;
+  refused = λ rows n reason. refl;
+}
+  where
+    column_numbers : (passes : List PassNow) (rows n : ℕ) (b : Bool) → picked number_in (cond b (column_element passes rows (record { 0 = n }) ∷ []) []) ≡ []
+    column_numbers passes rows n true = refl
+    column_numbers passes rows n false = refl
+
+    row_numbers : (passes : List PassNow) (row : Row) (lock : Option PassId) (ended : Option Owner) → picked number_in (elements_with passes row lock ended) ≡ numbered passes row
+    row_numbers passes row (Some p) (Some o) = refl
+    row_numbers passes row (Some p) None = refl
+    row_numbers passes row None (Some o) = refl
+    row_numbers passes row None None = refl
+
+    kept_numbers : (passes : List PassNow) (rows n : ℕ) (o : Option Owner) → picked number_in (open_elements passes rows n o) ≡ []
+    kept_numbers passes rows n (Some o) = refl
+    kept_numbers passes rows n None = refl
+
+shades : Picks shade_in shaded_on (λ rows n. [])
+shades = record {
+  opening = λ e. refl;
+  columns = λ passes rows n now. column_shades passes rows n now.makes;
+  row = λ passes n row. row_shades passes row row.lock row.ended;
+  kept = kept_shades;
+  closing = λ rows n line. refl;
+  rest = λ rows n at_rest. refl;
+  refused = λ rows n reason. refl;
+}
+  where
+    column_shades : (passes : List PassNow) (rows n : ℕ) (b : Bool) → picked shade_in (cond b (column_element passes rows (record { 0 = n }) ∷ []) []) ≡ []
+    column_shades passes rows n true = refl
+    column_shades passes rows n false = refl
+
+    row_shades : (passes : List PassNow) (row : Row) (lock : Option PassId) (ended : Option Owner) → picked shade_in (elements_with passes row lock ended) ≡ shade_by passes row.row lock
+    row_shades passes row (Some p) (Some o) = refl
+    row_shades passes row (Some p) None = refl
+    row_shades passes row None (Some o) = refl
+    row_shades passes row None None = refl
+
+    kept_shades : (passes : List PassNow) (rows n : ℕ) (o : Option Owner) → picked shade_in (open_elements passes rows n o) ≡ []
+    kept_shades passes rows n (Some o) = refl
+    kept_shades passes rows n None = refl
+
+-- of the steps W
+module _ (size : Size) (W : List Numbered) where
+  pub each_mark : EachStepHasOneMark size W
+  each_mark = all_shown mark_in marked (λ rows n. []) marks size W
+
+  pub each_number : EachLineHasItsNumber size W
+  each_number = all_shown number_in numbered (λ rows n. record { row = rows; line = n } ∷ []) numbers size W
+
+  pub each_shade : EachShadeIsOfTheLock size W
+  each_shade = all_shown shade_in shaded_on (λ rows n. []) shades size W
+
+  -- what a drawing keeps of a pass is what that is inside of
+  inside_is : (p : PassId) (V : List Numbered) → (pass_now V p).inside ≡ inside (run_of V) p
+  inside_is p [] = refl
+  inside_is p (w ∷ V) = go (same_pass w.step.pass p) refl (inside_is p V)
+    where
+      go : (b : Bool) → same_pass w.step.pass p ≡ b → (pass_now V p).inside ≡ inside (run_of V) p → (pass_now (w ∷ V) p).inside ≡ inside (run_of (w ∷ V)) p
+      go true e h =
+          ap (λ x. (cond x (pass_after (pass_now V p) w) (pass_now V p)).inside) e
+          ∙ ap (λ s. inside_after s w.step.kind w.step.found) h
+          ∙ sym (ap (λ x. cond x (inside_after (inside (run_of V) p) w.step.kind w.step.found) (inside (run_of V) p)) e)
+      go false e h =
+          ap (λ x. (cond x (pass_after (pass_now V p) w) (pass_now V p)).inside) e
+          ∙ h
+          ∙ sym (ap (λ x. cond x (inside_after (inside (run_of V) p) w.step.kind w.step.found) (inside (run_of V) p)) e)
+
+  -- a pass that has the lock made a step
+  known : (E : List Made) → IsRun size E → (p : PassId) → has_lock (inside E p) ≡ true → p.0 ≤ size.passes
+  known [] r p h = absurd (cc h)
+  known (m ∷ E) r p h = go (same_pass m.pass p) refl (known E (run_less size m E r) p)
+    where
+      go : (b : Bool) → same_pass m.pass p ≡ b → (has_lock (inside E p) ≡ true → p.0 ≤ size.passes) → p.0 ≤ size.passes
+      go true e less = let same = same_pass-eq m.pass p e in let P : PassId → Type 0 = λ x. x.0 ≤ size.passes in subst P same r.known.0.to
+      go false e less = less (sym (ap (λ x. has_lock (cond x (inside_after (inside E p) m.kind m.found) (inside E p))) e) ∙ h)
+
+  abbrev locked : PassNow → Bool
+  locked now = has_lock now.inside
+
+  -- the pass at a place of the passes
+  at_place : (n : ℕ) → n < length (all_passes size W) → locked (get_or (all_passes size W) n new_pass) ≡ has_lock (inside (run_of W) (record { 0 = n }))
+  at_place n lt =
+      ap locked (get-table (λ p. pass_now W (record { 0 = p })) (size.passes + 1) n new_pass (omega (arith, lt, length-passes size W))) ∙ ap has_lock (inside_is (record { 0 = n }) W)
+
+  module _ (r : IsRun size (run_of W)) where
+    found : (o : Option ℕ) → position locked (all_passes size W) ≡ o → (p : PassId) → option_map (λ n. let q : PassId = record { 0 = n } in q) o ≡ Some p → HasLock (run_of W) p
+    found None e p h = absurd (cc h)
+    found (Some n) e p h =
+        let at = position-Some locked (all_passes size W) n new_pass e in
+        let has = sym (at_place n at.0) ∙ at.1 in
+        let q : PassId = record { 0 = n } in
+        let same : q ≡ p = cc h in
+        let P : PassId → Type 0 = λ x. HasLock (run_of W) x in
+        subst P same (has_lock-HasLock (run_of W) q (run_parted size (run_of W) r q) has)
+
+    pub shaded_has : (p : PassId) → lock_of (all_passes size W) ≡ Some p → HasLock (run_of W) p
+    shaded_has p h = found (position locked (all_passes size W)) refl p h
+
+    missed : (o : Option ℕ) → position locked (all_passes size W) ≡ o → (p : PassId) → HasLock (run_of W) p → option_map (λ n. let q : PassId = record { 0 = n } in q) o ≡ Some p
+    missed (Some n) e p lock =
+        let q : PassId = record { 0 = n } in
+        let mine = found (Some n) e q refl in
+        ap Some (lock_one size (run_of W) r p (HasLock-has_lock (run_of W) p lock) q (HasLock-has_lock (run_of W) q mine))
+    missed None e p lock =
+        let lt : p.0 < length (all_passes size W) = omega (arith, known (run_of W) r p (HasLock-has_lock (run_of W) p lock), length-passes size W) in
+        let free = position-None locked (all_passes size W) e p.0 new_pass lt in
+        absurd (cc (sym (at_place p.0 lt) ∙ free, HasLock-has_lock (run_of W) p lock))
+
+    pub has_is_shaded : (p : PassId) → HasLock (run_of W) p → lock_of (all_passes size W) ≡ Some p
+    has_is_shaded p lock = missed (position locked (all_passes size W)) refl p lock
+
+  -- a pass that made a step of the run makes one
+  makes_it : (p : PassId) (V : List Numbered) → list_any (by p) (run_of V) ≡ true → (pass_now V p).makes ≡ true
+  makes_it p [] h = absurd (cc h)
+  makes_it p (w ∷ V) h = go (by p w.step) refl (makes_it p V)
+    where
+      go : (b : Bool) → by p w.step ≡ b → (list_any (by p) (run_of V) ≡ true → (pass_now V p).makes ≡ true) → (pass_now (w ∷ V) p).makes ≡ true
+      go true e less = ap (λ x. (cond x (pass_after (pass_now V p) w) (pass_now V p)).makes) e
+      go false e less =
+          ap (λ x. (cond x (pass_after (pass_now V p) w) (pass_now V p)).makes) e
+          ∙ less (sym (ap (λ x. x || list_any (by p) (run_of V)) e) ∙ h)
+
+  pub own_column : EachPassHasItsColumn size W
+  own_column p q below among made =
+      let passes = all_passes size W in
+      let at : p.0 < length passes = omega (arith, among, length-passes size W) in
+      let is = ap (λ (now : PassNow). now.makes) (get-table (λ k. pass_now W (record { 0 = k })) (size.passes + 1) p.0 new_pass (omega (arith, among))) in
+      count-more (λ (now : PassNow). now.makes) passes p.0 q.0 new_pass at below (is ∙ makes_it p W made)
+
+-- who has the lock as a step is made
+module _ (size : Size) (W : List Numbered) (w : Numbered) (r : IsRun size (run_of (w ∷ W))) (p : PassId) where
+  abbrev before : Option PassId
+  before = lock_of (all_passes size W)
+
+  has_it : (b : Bool) → needs_lock w.step.kind ≡ b → cond b (Some w.step.pass) before ≡ Some p → HasItAt w.step (run_of W) p
+  has_it true e h = inl (e, cc h)
+  has_it false e h = inr (e, shaded_has size W (run_less size w.step (run_of W) r) p h)
+
+  shades_it : (b : Bool) → needs_lock w.step.kind ≡ b → HasItAt w.step (run_of W) p → cond b (Some w.step.pass) before ≡ Some p
+  shades_it true e (inl (needs, same)) = ap Some same
+  shades_it true e (inr (free, lock)) = absurd (cc (e, free))
+  shades_it false e (inl (needs, same)) = absurd (cc (e, needs))
+  shades_it false e (inr (free, lock)) = has_is_shaded size W (run_less size w.step (run_of W) r) p lock
+
+pub shaded : (size : Size) (W : List Numbered) → TheShadedPassHasTheLock size W
+shaded size W w r p = (has_it size W w r p (needs_lock w.step.kind) refl, shades_it size W w r p (needs_lock w.step.kind) refl)

@@ -1,0 +1,9 @@
+use Rattle.std.proofs.Common.{take, string_bytes}
+use Rattle.csq_replay.specs.Lines.{GrewBy}
+use Rattle.csq_draw.specs.Elements.{elements_text}
+use Rattle.csq_draw.specs.Pictures.{each, open_elements}
+use Rattle.csq_draw.proofs.picture.draw_owners.Given as goal
+
+-- the elements of those so far were added
+abbrev pub invariant-loop-owner : goal.invariant-loop-owner
+invariant-loop-owner g l = GrewBy (string_bytes l.fn.text) (string_bytes l.text) (elements_text (each (open_elements l.passes l.rows) 0 (take l.owner-index l.owners)))

@@ -1,0 +1,10 @@
+use Rattle.std.proofs.Common.{◌++◌}
+use Rattle.csq_draw.specs.Pictures.{shown_elements, refused_elements}
+use Rattle.csq_draw.proofs.Growing.{grew_elements, grew_picture}
+use Rattle.csq_draw.proofs.picture.draw_stopped.Goals as goal
+
+pub returns : goal.returns
+returns g c =
+    let shown = shown_elements c.args.passes.now c.args.rows.now c.args.owners.now c.args.count 3 in
+    let refused = refused_elements c.args.count c.args.line c.args.reason in
+    grew_picture _ _ _ (shown ++ refused) (grew_elements _ _ _ shown refused c.in_ok-draw_steps.ensures c.in_ok-draw_refused.ensures) c.in_ok-draw_foot.ensures

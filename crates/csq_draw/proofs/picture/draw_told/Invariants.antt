@@ -1,0 +1,9 @@
+use Rattle.std.proofs.Common.{take, string_bytes}
+use Rattle.csq_replay.specs.Lines.{GrewBy}
+use Rattle.csq_draw.specs.Elements.{elements_text}
+use Rattle.csq_draw.specs.Pictures.{each, closing_elements}
+use Rattle.csq_draw.proofs.picture.draw_told.Given as goal
+
+-- the elements of those so far were added
+abbrev pub invariant-loop-nth : goal.invariant-loop-nth
+invariant-loop-nth g l = GrewBy (string_bytes l.fn.text) (string_bytes l.text) (elements_text (each (closing_elements l.rows) 0 (take l.nth l.told)))

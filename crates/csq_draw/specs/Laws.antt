@@ -1,0 +1,96 @@
+-- What holds of every picture.
+use Rattle.std.specs.Prelude.{◌≡◌, ◌⊎◌, ◌↔◌, ℕ, ◌<◌, Bool, false, List, [], ◌∷◌, ◌++◌, length, Option, Some, None, IsTrue}
+use Rattle.std.specs.List.{list_any}
+use Rattle.irp_core.specs.declared.ids.PassId.{PassId}
+use Rattle.irp_core.specs.declared.step.Made.{Made}
+use Rattle.irp_core.specs.Lock.{HasLock, needs_lock}
+use Rattle.irp_core.specs.Runs.{Size, IsRun}
+use Rattle.irp_core.specs.Steps.{by}
+use Rattle.csq_replay.specs.declared.lines.answer.Ended.{Ended}
+use Rattle.csq_replay.specs.declared.schedule.closing.IrpLine.{IrpLine}
+use Rattle.csq_replay.specs.declared.schedule.outcome.Stop.{Stop}
+use Rattle.csq_replay.specs.Schedule.{Numbered, run_of}
+use Rattle.csq_draw.specs.declared.marks.Mark.{Mark}
+use Rattle.csq_draw.specs.declared.marks.Number.{Number}
+use Rattle.csq_draw.specs.declared.marks.Shade.{Shade}
+use Rattle.csq_draw.specs.declared.passes.PassNow.{PassNow}
+use Rattle.csq_draw.specs.Passes.{column_of}
+use Rattle.csq_draw.specs.Rows.{all_passes, row_of}
+use Rattle.csq_draw.specs.Elements.{Element}
+use Rattle.csq_draw.specs.Elements.Element.{mark, number, shade}
+use Rattle.csq_draw.specs.Pictures.{IsDrawing, stopped_picture, closed_picture}
+
+-- two pictures of one schedule are the same
+abbrev pub HasOnePicture : Size → List ℕ → Type 0
+HasOnePicture size input = (text other : List ℕ) (ended otherwise : Ended) → IsDrawing size input text ended → IsDrawing size input other otherwise → (text ≡ other) × (ended ≡ otherwise)
+
+-- what is picked out of these elements, in order
+abbrev pub picked : {A : Type 0} → (Element → List A) → List Element → List A
+picked pick [] = []
+picked pick (e ∷ es) = pick e ++ picked pick es
+
+-- what each of the steps W adds to what those before it did, in order
+abbrev pub added : {A : Type 0} → (Numbered → List Numbered → List A) → List Numbered → List A
+added of_step [] = []
+added of_step (w ∷ W) = added of_step W ++ of_step w W
+
+-- of the picture of the steps W, and of the nth line, which ended the handling: what is picked out of it is what each step adds, in order, and then this of that line; and of the one of the steps and of what is told in the end it is what each step adds
+pub record Shows {A : Type 0} (size : Size) (W : List Numbered) (pick : Element → List A) (of_step : Numbered → List Numbered → List A) (of_line : ℕ → List A) : Type 0 where
+  pub stopped : (n : ℕ) (stop : Stop) → picked pick (stopped_picture size W n stop) ≡ added of_step W ++ of_line n
+  pub closed : (told : List IrpLine) (at_rest : Bool) → picked pick (closed_picture size W told at_rest) ≡ added of_step W
+
+-- an element's mark, if it is one
+abbrev pub mark_in : Element → List Mark
+mark_in (mark m) = m ∷ []
+mark_in _ = []
+
+-- its number of a line, if it is one
+abbrev pub number_in : Element → List Number
+number_in (number n) = n ∷ []
+number_in _ = []
+
+-- its shade, if it is one
+abbrev pub shade_in : Element → List Shade
+shade_in (shade s) = s ∷ []
+shade_in _ = []
+
+-- the mark of a step after the steps W: on the row of its number, in the column of its pass, with the value that it found
+abbrev pub mark_of : List PassNow → Numbered → List Numbered → List Mark
+mark_of passes w W = record { row = length W; column = column_of passes w.step.pass; made = w.step } ∷ []
+
+-- the number of its line, on that row
+abbrev pub number_of : Numbered → List Numbered → List Number
+number_of w W = record { row = length W; line = w.line } ∷ []
+
+-- on this row, of the pass that has the lock: a shade in its column
+abbrev pub shade_by : List PassNow → ℕ → Option PassId → List Shade
+shade_by passes row (Some p) = record { row = row; column = column_of passes p } ∷ []
+shade_by passes row None = []
+
+-- the shade behind a step
+abbrev pub shade_of : Size → List PassNow → Numbered → List Numbered → List Shade
+shade_of size passes w W = shade_by passes (length W) (row_of size w W).lock
+
+-- each step has one mark, in order, and nothing else has one
+abbrev pub EachStepHasOneMark : Size → List Numbered → Type 0
+EachStepHasOneMark size W = Shows size W mark_in (mark_of (all_passes size W)) (λ n. [])
+
+-- each step has the number of its line, in order, and then the line that ended the handling has its own
+abbrev pub EachLineHasItsNumber : Size → List Numbered → Type 0
+EachLineHasItsNumber size W = Shows size W number_in number_of (λ n. record { row = length W; line = n } ∷ [])
+
+-- a shade stands where a pass has the lock as a step is made, and nowhere else
+abbrev pub EachShadeIsOfTheLock : Size → List Numbered → Type 0
+EachShadeIsOfTheLock size W = Shows size W shade_in (shade_of size (all_passes size W)) (λ n. [])
+
+-- passes that made a step of the run have columns of their own, in the order of their numbers
+abbrev pub EachPassHasItsColumn : Size → List Numbered → Type 0
+EachPassHasItsColumn size W = (p q : PassId) → p.0 < q.0 → p.0 < size.passes → IsTrue (list_any (by p) (run_of W)) → column_of (all_passes size W) p < column_of (all_passes size W) q
+
+-- as this step is made, p has the lock: it makes the step, and that needs the lock, or has it before a step that needs none
+abbrev pub HasItAt : Made → List Made → PassId → Type 0
+HasItAt m E p = (IsTrue (needs_lock m.kind) × (m.pass ≡ p)) ⊎ ((needs_lock m.kind ≡ false) × HasLock E p)
+
+-- of a step after the steps W, the pass whose column is shaded on its row is the one that has the lock as it is made
+abbrev pub TheShadedPassHasTheLock : Size → List Numbered → Type 0
+TheShadedPassHasTheLock size W = (w : Numbered) → IsRun size (run_of (w ∷ W)) → (p : PassId) → ((row_of size w W).lock ≡ Some p) ↔ HasItAt w.step (run_of W) p

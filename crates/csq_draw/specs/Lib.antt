@@ -1,0 +1,15 @@
+pub mod Tables
+pub mod Layout
+pub mod Sentences
+pub mod Owners
+pub mod Passes
+pub mod Rows
+pub mod Marks
+pub mod Spans
+pub mod Headings
+pub mod Reasons
+pub mod Endings
+pub mod Elements
+pub mod Pictures
+pub mod Drawings
+pub mod Laws

@@ -1,0 +1,126 @@
+-- The picture of a schedule: which elements it has.
+use Rattle.std.specs.Prelude.{◌≡◌, ℕ, ◌+◌, Bool, true, false, List, [], ◌∷◌, ◌++◌, length, Option, Some, None, if◌then◌else◌}
+use Rattle.irp_core.specs.declared.ids.PassId.{PassId}
+use Rattle.irp_core.specs.declared.step.Made.{Made}
+use Rattle.irp_core.specs.Runs.{Size}
+use Rattle.csq_replay.specs.declared.lines.answer.Ended.{Ended}
+use Rattle.csq_replay.specs.declared.schedule.closing.IrpLine.{IrpLine}
+use Rattle.csq_replay.specs.declared.schedule.outcome.Outcome.{Outcome}
+use Rattle.csq_replay.specs.declared.schedule.outcome.Outcome.TheVariants.{Skipped, Accepted, Stopped}
+use Rattle.csq_replay.specs.declared.schedule.outcome.Stop.{Stop}
+use Rattle.csq_replay.specs.Lines.{IsAnswer, RepliesTo}
+use Rattle.csq_replay.specs.Schedule.{Numbered, run_of, TellsLine, Closes}
+use Rattle.csq_draw.specs.declared.heading.Extent.{Extent}
+use Rattle.csq_draw.specs.declared.owners.Owner.{Owner}
+use Rattle.csq_draw.specs.declared.passes.PassNow.{PassNow}
+use Rattle.csq_draw.specs.declared.reasons.Reason.{Reason}
+use Rattle.csq_draw.specs.declared.rows.Row.{Row}
+use Rattle.csq_draw.specs.Owners.{owners}
+use Rattle.csq_draw.specs.Passes.{columns, column_of}
+use Rattle.csq_draw.specs.Rows.{all_passes, rows_of}
+use Rattle.csq_draw.specs.Reasons.{reason_of}
+use Rattle.csq_draw.specs.Elements.{Element, picture}
+use Rattle.csq_draw.specs.Elements.Element.{opening, title, shared, sheet, key, column, number, shade, span, mark, open_span, bar, refused, because, closing, rest}
+
+-- the elements of each, by its place, the first of which is n
+abbrev pub each : {A : Type 0} → (ℕ → A → List Element) → ℕ → List A → List Element
+each elements n [] = []
+each elements n (x ∷ xs) = elements n x ++ each elements (n + 1) xs
+
+-- the column of p, over so many rows
+abbrev pub column_element : List PassNow → ℕ → PassId → Element
+column_element passes rows p = column (record { column = column_of passes p; pass = p; rows = rows })
+
+-- of a pass that makes a step: its column
+abbrev pub column_elements : List PassNow → ℕ → ℕ → PassNow → List Element
+column_elements passes rows n now = if now.makes then column_element passes rows (record { 0 = n }) ∷ [] else []
+
+-- of the pass that has the lock on a row: a shade in its column
+abbrev pub shade_elements : List PassNow → ℕ → Option PassId → List Element
+shade_elements passes row (Some p) = shade (record { row = row; column = column_of passes p }) ∷ []
+shade_elements passes row None = []
+
+-- of the owner whose time with an IRP ends on a row: a line down its column
+abbrev pub span_elements : List PassNow → ℕ → Option Owner → List Element
+span_elements passes row (Some owner) = span (record { column = column_of passes owner.pass; owner = owner; to = row }) ∷ []
+span_elements passes row None = []
+
+-- the number of a row's line
+abbrev pub number_element : Row → Element
+number_element row = number (record { row = row.row; line = row.line })
+
+-- a row's step, in the column of its pass
+abbrev pub mark_element : List PassNow → Row → Element
+mark_element passes row = mark (record { row = row.row; column = column_of passes row.made.pass; made = row.made })
+
+-- of a step: the number of its line, who has the lock, whose time with its IRP it ends, and its mark
+abbrev pub row_elements : List PassNow → ℕ → Row → List Element
+row_elements passes n row = number_element row ∷ (shade_elements passes row.row row.lock ++ (span_elements passes row.row row.ended ++ mark_element passes row ∷ []))
+
+-- of an owner that has its IRP in the end: a line down its column
+abbrev pub open_elements : List PassNow → ℕ → ℕ → Option Owner → List Element
+open_elements passes rows n (Some owner) = open_span (record { column = column_of passes owner.pass; owner = owner; rows = rows }) ∷ []
+open_elements passes rows n None = []
+
+-- how much a picture shows
+abbrev pub extent : ℕ → ℕ → ℕ → Extent
+extent columns rows lines = record { columns = columns; rows = rows; lines = lines }
+
+-- what a picture of this extent begins with
+abbrev pub opening_elements : Extent → List Element
+opening_elements e = opening e ∷ (title e ∷ (shared ∷ (sheet e ∷ (key ∷ []))))
+
+-- of the line that ended the handling: its bar, its number, what is told of it, and why it ended it
+abbrev pub refused_elements : ℕ → ℕ → Reason → List Element
+refused_elements rows line reason = bar (record { rows = rows }) ∷ (number (record { row = rows; line = line })
+    ∷ (refused (record { rows = rows; stop = reason.stop }) ∷ (because (record { rows = rows; reason = reason }) ∷ [])))
+
+-- of an IRP that is told of in the end
+abbrev pub closing_elements : ℕ → ℕ → IrpLine → List Element
+closing_elements rows nth line = closing (record { rows = rows; nth = nth; line = line }) ∷ []
+
+-- whether all is at rest in the end
+abbrev pub rest_element : ℕ → ℕ → Bool → Element
+rest_element rows nth at_rest = rest (record { rows = rows; nth = nth; rest = at_rest })
+
+-- of these passes, rows and owners, as many rows as there are, with so many lines of text below them
+abbrev pub shown_elements : List PassNow → List Row → List (Option Owner) → ℕ → ℕ → List Element
+shown_elements passes rows owners count lines = opening_elements (extent (columns passes) count lines)
+    ++ (each (column_elements passes count) 0 passes ++ (each (row_elements passes) 0 rows ++ each (open_elements passes count) 0 owners))
+
+-- and then of the nth line, which ended the handling for this reason
+abbrev pub stopped_elements : List PassNow → List Row → List (Option Owner) → ℕ → ℕ → Reason → List Element
+stopped_elements passes rows owners count n reason = shown_elements passes rows owners count 3 ++ refused_elements count n reason
+
+-- and then of what is told in the end
+abbrev pub closed_elements : List PassNow → List Row → List (Option Owner) → ℕ → List IrpLine → Bool → List Element
+closed_elements passes rows owners count told at_rest = shown_elements passes rows owners count (length told + 1)
+    ++ (each (closing_elements count) 0 told ++ rest_element count (length told) at_rest ∷ [])
+
+-- the picture of the steps W, and of the nth line, which ended the handling
+abbrev pub stopped_picture : Size → List Numbered → ℕ → Stop → List Element
+stopped_picture size W n stop = stopped_elements (all_passes size W) (rows_of size W) (owners size.irps (run_of W)) (length W) n (reason_of size (all_passes size W) stop)
+
+-- the picture of the steps W, and of what is told in the end
+abbrev pub closed_picture : Size → List Numbered → List IrpLine → Bool → List Element
+closed_picture size W = closed_elements (all_passes size W) (rows_of size W) (owners size.irps (run_of W)) (length W)
+
+-- a line that ends the handling is answered the picture of the steps before it and of itself, and any other nothing
+abbrev pub drawn_text : Size → List Numbered → ℕ → List ℕ → Outcome → List ℕ
+drawn_text size W n line (Stopped stop) = picture (stopped_picture size W n stop)
+drawn_text size W n line _ = []
+
+abbrev pub DrawsLine : Size → List Numbered → ℕ → List ℕ → List ℕ → Option (List Numbered) → Type 0
+DrawsLine size = TellsLine (drawn_text size) size
+
+-- where all lines were handled, it is the picture of the steps W and of what is told in the end
+abbrev pub DrawsClosing : Size → List Numbered → List ℕ → Type 0
+DrawsClosing size W text = (told : List IrpLine) × (at_rest : Bool) × Closes size (run_of W) told at_rest × (text ≡ picture (closed_picture size W told at_rest))
+
+-- a schedule is drawn so: of the longest run that its lines make
+abbrev pub IsDrawing : Size → List ℕ → List ℕ → Ended → Type 0
+IsDrawing size = IsAnswer (DrawsLine size) (DrawsClosing size) []
+
+-- of a reader and a writer that tell their bytes: a schedule was read, and its picture was written
+abbrev pub DrawsSchedule : Size → Option (List ℕ) → Option (List ℕ) → Option (List ℕ) → Option (List ℕ) → Ended → Type 0
+DrawsSchedule size = RepliesTo (IsDrawing size)

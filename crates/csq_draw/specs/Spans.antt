@@ -1,0 +1,36 @@
+-- The lines that run down the column of a pass while it owes an IRP, or holds it.
+use Rattle.std.specs.Prelude.{ℕ, ◌+◌, ◌*◌, ◌%◌, List, ◌++◌, codes, decimal}
+use Rattle.irp_core.specs.Texts.{irp_text, pass_text}
+use Rattle.csq_draw.specs.declared.owners.Having.{Having}
+use Rattle.csq_draw.specs.declared.owners.Having.TheVariants.{Owes, Holds}
+use Rattle.csq_draw.specs.declared.owners.Owner.{Owner}
+use Rattle.csq_draw.specs.declared.spans.Span.{Span}
+use Rattle.csq_draw.specs.declared.spans.OpenSpan.{OpenSpan}
+use Rattle.csq_draw.specs.Layout.{left, top}
+
+abbrev pub having_text : Having → List ℕ
+having_text Owes = codes "owes"
+having_text Holds = codes "holds"
+
+-- a line begins at the right edge of the mark by which its owner came to have the IRP, and runs down a lane of the IRP's colour
+abbrev pub edge : ℕ → ℕ
+edge column = left column + 144
+
+abbrev pub lane : ℕ → Owner → ℕ
+lane column owner = left column + 150 + 5 * (owner.irp.0 % 8)
+
+abbrev pub span_start : ℕ → Owner → List ℕ
+span_start column owner = codes "<path class='k" ++ (decimal (owner.irp.0 % 8) ++ (codes " " ++ (having_text owner.having ++ (codes "' d='M" ++ (decimal (edge column) ++ (codes " " ++ (decimal (top owner.row + 16) ++ (codes "H" ++ (decimal (lane column owner) ++ codes "V")))))))))
+
+abbrev pub span_title : Owner → List ℕ
+span_title owner = codes "<title>" ++ (pass_text owner.pass ++ (codes " " ++ (having_text owner.having ++ (codes " IRP " ++ irp_text owner.irp))))
+
+-- until the row of the step that ends it
+abbrev pub span_text : Span → List ℕ
+span_text s = (span_start s.column s.owner ++ (decimal (top s.to + 16) ++ (codes "H" ++ (decimal (edge s.column) ++ codes "'>"))))
+    ++ (span_title s.owner ++ codes "</title></path>")
+
+-- until the end
+abbrev pub open_span_text : OpenSpan → List ℕ
+open_span_text s = (span_start s.column s.owner ++ (decimal (top s.rows) ++ codes "'>"))
+    ++ (span_title s.owner ++ codes " in the end</title></path>")

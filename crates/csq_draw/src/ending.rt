@@ -1,0 +1,129 @@
+//! What stands below the rows of a picture.
+use crate::layout::top;
+use crate::reasons::Reason;
+use csq_replay::{IrpLine, Stop};
+use std::fmt;
+
+/// The bar of the line that ended the handling, on the row below the last step.
+#[derive(Clone, Copy, Debug)]
+pub(crate) struct Bar {
+    pub(crate) rows: u32,
+}
+
+impl fmt::Display for Bar {
+    ghost use Rattle.std.specs.Prelude.{Some};
+    ghost use Rattle.csq_draw.specs.Endings.{bar_text};
+
+    ghost output = { λ bar. Some (bar_text bar) };
+
+    fn fmt<W: fmt::Write>(&self, f: &mut fmt::Formatter<W>) -> fmt::Result {
+        let y = top(self.rows) + 2;
+        write!(
+            f,
+            "<rect class='bad' x='72' y='{y}' width='624' height='28' rx='5'/>"
+        )
+    }
+}
+
+/// A line that ended the handling, as it is told: its step, if it names one, and why it ended it.
+#[derive(Clone, Copy, Debug)]
+struct Refusal(Stop);
+
+impl fmt::Display for Refusal {
+    ghost use Rattle.std.specs.Prelude.{Some};
+    ghost use Rattle.csq_draw.specs.Endings.{refusal_text};
+
+    ghost output = { λ refusal. Some (refusal_text refusal.0) };
+
+    #[tactic(auto, unfolding(crate::specs::Endings::refusal_text))]
+    fn fmt<W: fmt::Write>(&self, f: &mut fmt::Formatter<W>) -> fmt::Result {
+        let stop = self.0;
+        match stop {
+            Stop::Refused(step, _) => write!(f, "{step} {stop}"),
+            Stop::TooLong | Stop::Malformed => write!(f, "{stop}"),
+        }
+    }
+}
+
+/// What is told of the line that ended the handling, in its bar.
+#[derive(Clone, Copy, Debug)]
+pub(crate) struct Refused {
+    pub(crate) rows: u32,
+    pub(crate) stop: Stop,
+}
+
+impl fmt::Display for Refused {
+    ghost use Rattle.std.specs.Prelude.{Some};
+    ghost use Rattle.csq_draw.specs.Endings.{refused_text};
+
+    ghost output = { λ refused. Some (refused_text refused) };
+
+    fn fmt<W: fmt::Write>(&self, f: &mut fmt::Formatter<W>) -> fmt::Result {
+        let (y, refusal) = (top(self.rows) + 21, Refusal(self.stop));
+        write!(f, "<text x='88' y='{y}'>{refusal}</text>")
+    }
+}
+
+/// Why the line ended the handling, below its bar.
+#[derive(Clone, Copy, Debug)]
+pub(crate) struct Because {
+    pub(crate) rows: u32,
+    pub(crate) reason: Reason,
+}
+
+impl fmt::Display for Because {
+    ghost use Rattle.std.specs.Prelude.{Some};
+    ghost use Rattle.csq_draw.specs.Endings.{because_text};
+
+    ghost output = { λ because. Some (because_text because) };
+
+    fn fmt<W: fmt::Write>(&self, f: &mut fmt::Formatter<W>) -> fmt::Result {
+        let (y, reason) = (top(self.rows) + 50, self.reason);
+        write!(f, "<text x='88' y='{y}'>{reason}</text>")
+    }
+}
+
+/// Where an IRP is in the end, as the nth line below the rows.
+#[derive(Clone, Copy, Debug)]
+pub(crate) struct Closing {
+    pub(crate) rows: u32,
+    pub(crate) nth: u32,
+    pub(crate) line: IrpLine,
+}
+
+impl fmt::Display for Closing {
+    ghost use Rattle.std.specs.Prelude.{Some};
+    ghost use Rattle.csq_draw.specs.Endings.{closing_text};
+
+    ghost output = { λ closing. Some (closing_text closing) };
+
+    fn fmt<W: fmt::Write>(&self, f: &mut fmt::Formatter<W>) -> fmt::Result {
+        let y = top(self.rows) + 28 + 20 * u64::from(self.nth);
+        let line = self.line;
+        write!(f, "<text x='72' y='{y}'>{line}</text>")
+    }
+}
+
+/// Whether all is at rest in the end, as the nth line below the rows.
+#[derive(Clone, Copy, Debug)]
+pub(crate) struct Rest {
+    pub(crate) rows: u32,
+    pub(crate) nth: u32,
+    pub(crate) rest: bool,
+}
+
+impl fmt::Display for Rest {
+    ghost use Rattle.std.specs.Prelude.{Some};
+    ghost use Rattle.csq_draw.specs.Endings.{rest_line_text};
+
+    ghost output = { λ rest. Some (rest_line_text rest) };
+
+    fn fmt<W: fmt::Write>(&self, f: &mut fmt::Formatter<W>) -> fmt::Result {
+        let y = top(self.rows) + 28 + 20 * u64::from(self.nth);
+        if self.rest {
+            write!(f, "<text x='72' y='{y}'>rest yes</text>")
+        } else {
+            write!(f, "<text x='72' y='{y}'>rest no</text>")
+        }
+    }
+}

@@ -1,0 +1,39 @@
+//! What holds of every picture. Each function stands for a law: its contract is the law, and there is
+//! nothing to run.
+ghost use Rattle.std.specs.Prelude.{ℕ, List};
+ghost use Rattle.irp_core.specs.Runs.{Size};
+ghost use Rattle.csq_replay.specs.Schedule.{Numbered};
+ghost use Rattle.csq_draw.specs.Laws.{HasOnePicture, EachStepHasOneMark, EachLineHasItsNumber, EachShadeIsOfTheLock, EachPassHasItsColumn, TheShadedPassHasTheLock};
+
+/// A schedule has at most one picture, so the relation that `draw_schedule` meets names its bytes.
+pub fn a_schedule_has_one_picture()
+    ensures { (size : Size) (input : List ℕ) → HasOnePicture size input }
+{}
+
+/// The marks of a picture are one for each step of its run, in order, each on the row of its number and in
+/// the column of its pass, with the value that it found.
+pub fn each_step_has_one_mark()
+    ensures { (size : Size) (W : List Numbered) → EachStepHasOneMark size W }
+{}
+
+/// At the left of each step stands the number of its line, and of the line that ended the handling its own.
+pub fn each_line_has_its_number()
+    ensures { (size : Size) (W : List Numbered) → EachLineHasItsNumber size W }
+{}
+
+/// A shade stands behind a step where a pass has the lock as it is made, in the column of that pass, and
+/// nowhere else.
+pub fn each_shade_is_of_the_lock()
+    ensures { (size : Size) (W : List Numbered) → EachShadeIsOfTheLock size W }
+{}
+
+/// Passes that made a step of the run have columns of their own, in the order of their numbers.
+pub fn each_pass_has_its_column()
+    ensures { (size : Size) (W : List Numbered) → EachPassHasItsColumn size W }
+{}
+
+/// Of every run, the pass whose column is shaded behind a step is the one that has the lock as it is made:
+/// whoever makes it, if it needs the lock, and else whoever has the lock before it.
+pub fn the_shaded_pass_has_the_lock()
+    ensures { (size : Size) (W : List Numbered) → TheShadedPassHasTheLock size W }
+{}

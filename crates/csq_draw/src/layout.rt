@@ -1,0 +1,17 @@
+//! Where things stand in a picture, in pixels.
+ghost use Rattle.std.specs.Prelude.{◌≡◌};
+ghost use Rattle.csq_draw.specs.Layout.{left, top};
+
+/// The left edge of a column.
+pub(crate) fn left(column: u32) -> u64
+    ensures { result ≡ left column }
+{
+    72 + 208 * u64::from(column)
+}
+
+/// The upper edge of a row.
+pub(crate) fn top(row: u32) -> u64
+    ensures { result ≡ top row }
+{
+    64 + 32 * u64::from(row)
+}

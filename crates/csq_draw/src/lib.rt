@@ -1,0 +1,25 @@
+//! A schedule of the steps of a cancel-safe IRP queue, drawn: a column for each pass, a row for each step.
+#![tactic(auto)]
+
+mod drawing;
+mod ending;
+mod heading;
+mod laws;
+mod layout;
+mod marks;
+mod owners;
+mod passes;
+mod picture;
+mod reasons;
+mod rows;
+mod sentences;
+mod spans;
+
+pub use drawing::draw_schedule;
+pub use laws::{
+    a_schedule_has_one_picture, each_line_has_its_number, each_pass_has_its_column,
+    each_shade_is_of_the_lock, each_step_has_one_mark, the_shaded_pass_has_the_lock,
+};
+
+#[cfg(test)]
+mod tests;

@@ -1,0 +1,111 @@
+//! Who owes an IRP, or holds it.
+ghost use Rattle.std.specs.Prelude.{◌≡◌, ◌<◌, length, replicate, IfOk};
+ghost use Rattle.std.specs.Option.{option_map};
+ghost use Rattle.irp_core.specs.Runs.{OfIrp};
+ghost use Rattle.irp_core.specs.Steps.{number, name_of};
+ghost use Rattle.csq_draw.specs.Owners.{owner_after, ended_by};
+ghost use Rattle.csq_draw.specs.Drawings.{owner_in, with_owner};
+
+use irp_core::{IrpId, Kind, Made, PassId};
+use std::alloc::{AllocError, Allocator};
+
+/// How a pass has an IRP that it claimed.
+#[derive(Clone, Copy, Debug, PartialEq, Eq)]
+pub(crate) enum Having {
+    Owes,
+    Holds,
+}
+
+/// An IRP, the pass that owes or holds it, and the row of the step by which it came to.
+#[derive(Clone, Copy, Debug, PartialEq, Eq)]
+pub(crate) struct Owner {
+    pub(crate) irp: IrpId,
+    pub(crate) pass: PassId,
+    pub(crate) having: Having,
+    pub(crate) row: u32,
+}
+
+/// So many IRPs that nobody owes or holds.
+pub(crate) fn new_owners<A: Allocator>(
+    alloc: A,
+    count: usize,
+) -> Result<Vec<Option<Owner>, A>, AllocError>
+    ensures { IfOk result (λ owners. owners.items ≡ replicate count None) }
+{
+    vec![in alloc; None; count]
+}
+
+/// The IRP that a step of this kind names.
+fn irp_of(kind: Kind) -> Option<IrpId>
+    ensures { result ≡ option_map (λ i. i.irp) (name_of kind) }
+{
+    match kind {
+        Kind::Arm(name)
+        | Kind::Test(name)
+        | Kind::Disarm(name)
+        | Kind::Flag(name)
+        | Kind::Take(name)
+        | Kind::Out(name)
+        | Kind::Done(name)
+        | Kind::Renew(name) => Some(name.irp),
+        Kind::End => None,
+    }
+}
+
+/// Who has an IRP after a step of it on this row.
+fn owner_after(before: Option<Owner>, made: Made, row: u32) -> Option<Owner>
+    ensures { result ≡ owner_after before made row }
+{
+    let pass = made.pass;
+    match made.kind {
+        Kind::Take(name) if made.found == 1 => Some(Owner {
+            irp: name.irp,
+            pass,
+            having: Having::Owes,
+            row,
+        }),
+        Kind::Disarm(name) if made.found == 1 => Some(Owner {
+            irp: name.irp,
+            pass,
+            having: Having::Holds,
+            row,
+        }),
+        Kind::Out(name) => Some(Owner {
+            irp: name.irp,
+            pass,
+            having: Having::Holds,
+            row,
+        }),
+        Kind::Done(_) => None,
+        _ => before,
+    }
+}
+
+/// Whose time with an IRP a step of this kind ends, of the owner before it.
+pub(crate) fn ended_by(kind: Kind, before: Option<Owner>) -> Option<Owner>
+    ensures { result ≡ ended_by kind before }
+{
+    match kind {
+        Kind::Out(_) | Kind::Done(_) => before,
+        _ => None,
+    }
+}
+
+/// The owner of the IRP that a step of this kind names.
+pub(crate) fn owner_in(owners: &[Option<Owner>], kind: Kind) -> Option<Owner>
+    requires { OfIrp (λ i. number i < length owners.now) kind }
+    ensures { result ≡ owner_in owners.now kind }
+{
+    owners[irp_of(kind)?.0 as usize]
+}
+
+/// Notes the owner of an IRP after a step of it on this row.
+pub(crate) fn note_owner(owners: &mut [Option<Owner>], made: Made, row: u32)
+    requires { OfIrp (λ i. number i < length owners.old) made.kind }
+    ensures { owners.new ≡ with_owner owners.old made row }
+{
+    if let Some(irp) = irp_of(made.kind) {
+        let owner = &mut owners[irp.0 as usize];
+        *owner = owner_after(*owner, made, row);
+    }
+}

@@ -1,0 +1,14 @@
+//! The rows of a picture: one for each step.
+use crate::owners::Owner;
+use irp_core::{Made, PassId};
+
+/// A step that was made: its row, from 0 on, the number of its line, who had the lock then, and whose time
+/// with its IRP it ended.
+#[derive(Clone, Copy, Debug, PartialEq, Eq)]
+pub(crate) struct Row {
+    pub(crate) row: u32,
+    pub(crate) line: usize,
+    pub(crate) made: Made,
+    pub(crate) lock: Option<PassId>,
+    pub(crate) ended: Option<Owner>,
+}

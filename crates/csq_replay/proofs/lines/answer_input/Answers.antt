@@ -1,0 +1,12 @@
+use Rattle.std.proofs.Common.{arith}
+use Rattle.csq_replay.specs.declared.lines.answer.Ended.{Ended}
+use Rattle.csq_replay.specs.Lines.IsAnswer.{too_long_input, answered}
+use Rattle.csq_replay.proofs.Answering.{each_answer}
+use Rattle.csq_replay.proofs.lines.answer_input.Goals as goal
+
+pub returns-then-input-gt-MAX_INPUT : goal.returns-then-input-gt-MAX_INPUT
+returns-then-input-gt-MAX_INPUT g c = λ k s at. (_, c.in_ok-writeln.ensures.bytes, too_long_input (omega arith))
+
+pub returns : goal.returns
+returns g c = λ k s at.
+    each_answer (g.X.Answerer.answers k) (g.X.Answerer.closes k) s c.args.input.now _ _ c.answer_lines.result (omega arith) (c.answer_lines.ensures k s at)
