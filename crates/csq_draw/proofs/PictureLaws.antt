@@ -18,6 +18,7 @@ use Rattle.csq_replay.specs.declared.schedule.outcome.Stop.{Stop}
 use Rattle.csq_replay.specs.Schedule.{Numbered, run_of}
 use Rattle.csq_replay.proofs.Answering.{one_input_answer}
 use Rattle.csq_replay.proofs.OneAnswer.{one_close, one_line, run_on}
+use Rattle.csq_draw.specs.declared.heading.Column.{Column}
 use Rattle.csq_draw.specs.declared.heading.Extent.{Extent}
 use Rattle.csq_draw.specs.declared.marks.Mark.{Mark}
 use Rattle.csq_draw.specs.declared.marks.Number.{Number}
@@ -26,13 +27,15 @@ use Rattle.csq_draw.specs.declared.owners.Owner.{Owner}
 use Rattle.csq_draw.specs.declared.passes.PassNow.{PassNow}
 use Rattle.csq_draw.specs.declared.reasons.Reason.{Reason}
 use Rattle.csq_draw.specs.declared.rows.Row.{Row}
+use Rattle.csq_draw.specs.declared.spans.OpenSpan.{OpenSpan}
 use Rattle.csq_draw.specs.Elements.{Element, picture}
+use Rattle.csq_draw.specs.Elements.Element.{column, open_span}
 use Rattle.csq_draw.specs.Owners.{owners}
 use Rattle.csq_draw.specs.Passes.{new_pass, pass_after, pass_now, lock_of, columns, column_of}
 use Rattle.csq_draw.specs.Pictures.{each, column_element, column_elements, shade_elements, span_elements, number_element, mark_element, row_elements, open_elements, extent, opening_elements, closing_elements, refused_elements, rest_element, shown_elements, closed_picture, drawn_text, DrawsLine, DrawsClosing}
 use Rattle.csq_draw.specs.Rows.{all_passes, row_of, rows_of}
 use Rattle.csq_draw.specs.Reasons.{reason_of}
-use Rattle.csq_draw.specs.Laws.{HasOnePicture, picked, added, Shows, mark_in, number_in, shade_in, shade_by, EachStepHasOneMark, EachLineHasItsNumber, EachShadeIsOfTheLock, EachPassHasItsColumn, HasItAt, TheShadedPassHasTheLock}
+use Rattle.csq_draw.specs.Laws.{HasOnePicture, picked, added, AddsStepByStep, mark_in, number_in, shade_in, shade_by, EachStepHasOneMark, EachLineHasItsNumber, EachShadeIsOfTheLock, EachPassHasItsColumn, HasItAt, TheShadedPassHasTheLock}
 use Rattle.csq_draw.proofs.Tables.{get-table, position-None, count-more}
 use Rattle.csq_draw.proofs.Showing.{length-passes}
 
@@ -62,6 +65,18 @@ module _ {A : Type 0} (pick : Element → List A) where
 
   none_then : (xs ys : List Element) (zs : List A) → picked pick xs ≡ [] → picked pick ys ≡ zs → picked pick (xs ++ ys) ≡ zs
   none_then xs ys zs a b = picked-append xs ys ∙ ap (λ t. t ++ picked pick ys) a ∙ b
+
+  -- as of a column, or of a line that is kept to the end
+  no_column : ((c : Column) → pick (column c) ≡ []) → (passes : List PassNow) (rows n : ℕ) (now : PassNow) → picked pick (column_elements passes rows n now) ≡ []
+  no_column none passes rows n now = go now.makes
+    where
+      go : (b : Bool) → picked pick (cond b (column_element passes rows (record { 0 = n }) ∷ []) []) ≡ []
+      go true = append-nil (pick (column_element passes rows (record { 0 = n }))) ∙ none _
+      go false = refl
+
+  no_kept : ((o : OpenSpan) → pick (open_span o) ≡ []) → (passes : List PassNow) (rows n : ℕ) (owner : Option Owner) → picked pick (open_elements passes rows n owner) ≡ []
+  no_kept none passes rows n (Some o) = append-nil (pick (open_span (record { column = column_of passes o.pass; owner = o; rows = rows }))) ∙ none _
+  no_kept none passes rows n None = refl
 
 -- of which elements something is picked: this of a row, this of the line that ended the handling after so many rows, and nothing else
 record Picks {A : Type 0} (pick : Element → List A) (of_row : List PassNow → Row → List A) (of_line : ℕ → ℕ → List A) : Type 0 where
@@ -108,7 +123,7 @@ module _ {A : Type 0} (pick : Element → List A) (of_row : List PassNow → Row
           (none_then pick named (steps ++ kept) _ (none_picked pick (column_elements passes (length W)) (is.columns passes (length W)) 0 passes)
           (then_none pick steps kept _ (all_picked passes W) (none_picked pick (open_elements passes (length W)) (is.kept passes (length W)) 0 (owners size.irps (run_of W)))))
 
-      all_shown : Shows size W pick (of_step passes) (of_line (length W))
+      all_shown : AddsStepByStep size W pick (of_step passes) (of_line (length W))
       all_shown = record {
         stopped = λ n stop.
             let reason = reason_of size passes stop in
@@ -138,77 +153,53 @@ elements_with passes row lock ended = number_element row ∷ (shade_elements pas
 marks : Picks mark_in marked (λ rows n. [])
 marks = record {
   opening = λ e. refl;
-  columns = λ passes rows n now. column_marks passes rows n now.makes;
+  columns = no_column mark_in (λ c. refl);
   row = λ passes n row. row_marks passes row row.lock row.ended;
-  kept = kept_marks;
+  kept = no_kept mark_in (λ o. refl);
   closing = λ rows n line. refl;
   rest = λ rows n at_rest. refl;
   refused = λ rows n reason. refl;
 }
   where
-    column_marks : (passes : List PassNow) (rows n : ℕ) (b : Bool) → picked mark_in (cond b (column_element passes rows (record { 0 = n }) ∷ []) []) ≡ []
-    column_marks passes rows n true = refl
-    column_marks passes rows n false = refl
-
     row_marks : (passes : List PassNow) (row : Row) (lock : Option PassId) (ended : Option Owner) → picked mark_in (elements_with passes row lock ended) ≡ marked passes row
     row_marks passes row (Some p) (Some o) = refl
     row_marks passes row (Some p) None = refl
     row_marks passes row None (Some o) = refl
     row_marks passes row None None = refl
 
-    kept_marks : (passes : List PassNow) (rows n : ℕ) (o : Option Owner) → picked mark_in (open_elements passes rows n o) ≡ []
-    kept_marks passes rows n (Some o) = refl
-    kept_marks passes rows n None = refl
-
 numbers : Picks number_in numbered (λ rows n. record { row = rows; line = n } ∷ [])
 numbers = record {
   opening = λ e. refl;
-  columns = λ passes rows n now. column_numbers passes rows n now.makes;
+  columns = no_column number_in (λ c. refl);
   row = λ passes n row. row_numbers passes row row.lock row.ended;
-  kept = kept_numbers;
+  kept = no_kept number_in (λ o. refl);
   closing = λ rows n line. refl;
   rest = λ rows n at_rest. refl;
   refused = λ rows n reason. refl;
 }
   where
-    column_numbers : (passes : List PassNow) (rows n : ℕ) (b : Bool) → picked number_in (cond b (column_element passes rows (record { 0 = n }) ∷ []) []) ≡ []
-    column_numbers passes rows n true = refl
-    column_numbers passes rows n false = refl
-
     row_numbers : (passes : List PassNow) (row : Row) (lock : Option PassId) (ended : Option Owner) → picked number_in (elements_with passes row lock ended) ≡ numbered passes row
     row_numbers passes row (Some p) (Some o) = refl
     row_numbers passes row (Some p) None = refl
     row_numbers passes row None (Some o) = refl
     row_numbers passes row None None = refl
 
-    kept_numbers : (passes : List PassNow) (rows n : ℕ) (o : Option Owner) → picked number_in (open_elements passes rows n o) ≡ []
-    kept_numbers passes rows n (Some o) = refl
-    kept_numbers passes rows n None = refl
-
 shades : Picks shade_in shaded_on (λ rows n. [])
 shades = record {
   opening = λ e. refl;
-  columns = λ passes rows n now. column_shades passes rows n now.makes;
+  columns = no_column shade_in (λ c. refl);
   row = λ passes n row. row_shades passes row row.lock row.ended;
-  kept = kept_shades;
+  kept = no_kept shade_in (λ o. refl);
   closing = λ rows n line. refl;
   rest = λ rows n at_rest. refl;
   refused = λ rows n reason. refl;
 }
   where
-    column_shades : (passes : List PassNow) (rows n : ℕ) (b : Bool) → picked shade_in (cond b (column_element passes rows (record { 0 = n }) ∷ []) []) ≡ []
-    column_shades passes rows n true = refl
-    column_shades passes rows n false = refl
-
     row_shades : (passes : List PassNow) (row : Row) (lock : Option PassId) (ended : Option Owner) → picked shade_in (elements_with passes row lock ended) ≡ shade_by passes row.row lock
     row_shades passes row (Some p) (Some o) = refl
     row_shades passes row (Some p) None = refl
     row_shades passes row None (Some o) = refl
     row_shades passes row None None = refl
-
-    kept_shades : (passes : List PassNow) (rows n : ℕ) (o : Option Owner) → picked shade_in (open_elements passes rows n o) ≡ []
-    kept_shades passes rows n (Some o) = refl
-    kept_shades passes rows n None = refl
 
 -- of the steps W
 module _ (size : Size) (W : List Numbered) where

@@ -35,7 +35,7 @@ added of_step [] = []
 added of_step (w ∷ W) = added of_step W ++ of_step w W
 
 -- of the picture of the steps W, and of the nth line, which ended the handling: what is picked out of it is what each step adds, in order, and then this of that line; and of the one of the steps and of what is told in the end it is what each step adds
-pub record Shows {A : Type 0} (size : Size) (W : List Numbered) (pick : Element → List A) (of_step : Numbered → List Numbered → List A) (of_line : ℕ → List A) : Type 0 where
+pub record AddsStepByStep {A : Type 0} (size : Size) (W : List Numbered) (pick : Element → List A) (of_step : Numbered → List Numbered → List A) (of_line : ℕ → List A) : Type 0 where
   pub stopped : (n : ℕ) (stop : Stop) → picked pick (stopped_picture size W n stop) ≡ added of_step W ++ of_line n
   pub closed : (told : List IrpLine) (at_rest : Bool) → picked pick (closed_picture size W told at_rest) ≡ added of_step W
 
@@ -73,15 +73,15 @@ shade_of size passes w W = shade_by passes (length W) (row_of size w W).lock
 
 -- each step has one mark, in order, and nothing else has one
 abbrev pub EachStepHasOneMark : Size → List Numbered → Type 0
-EachStepHasOneMark size W = Shows size W mark_in (mark_of (all_passes size W)) (λ n. [])
+EachStepHasOneMark size W = AddsStepByStep size W mark_in (mark_of (all_passes size W)) (λ n. [])
 
 -- each step has the number of its line, in order, and then the line that ended the handling has its own
 abbrev pub EachLineHasItsNumber : Size → List Numbered → Type 0
-EachLineHasItsNumber size W = Shows size W number_in number_of (λ n. record { row = length W; line = n } ∷ [])
+EachLineHasItsNumber size W = AddsStepByStep size W number_in number_of (λ n. record { row = length W; line = n } ∷ [])
 
 -- a shade stands where a pass has the lock as a step is made, and nowhere else
 abbrev pub EachShadeIsOfTheLock : Size → List Numbered → Type 0
-EachShadeIsOfTheLock size W = Shows size W shade_in (shade_of size (all_passes size W)) (λ n. [])
+EachShadeIsOfTheLock size W = AddsStepByStep size W shade_in (shade_of size (all_passes size W)) (λ n. [])
 
 -- passes that made a step of the run have columns of their own, in the order of their numbers
 abbrev pub EachPassHasItsColumn : Size → List Numbered → Type 0
