@@ -1,0 +1,181 @@
+#include "plain_list.h"
+
+#include <stdlib.h>
+#include <string.h>
+
+static uint32_t *numbers(uint32_t count, uint32_t value) {
+    uint32_t *made = malloc(count * sizeof *made);
+    for (uint32_t at = 0; made && at < count; at++) {
+        made[at] = value;
+    }
+    return made;
+}
+
+static struct links *chains(uint32_t count) {
+    struct links *made = malloc(count * sizeof *made);
+    for (uint32_t at = 0; made && at < count; at++) {
+        made[at] = (struct links){ NOBODY, NOBODY };
+    }
+    return made;
+}
+
+static bool new_kind(struct plain_list *list) {
+    if (list->kind == CSQ_VECTOR) {
+        list->entries = numbers(list->limit, NOBODY);
+        list->positions = numbers(list->irps, NOBODY);
+        return list->entries && list->positions;
+    }
+    list->all = (struct links){ NOBODY, NOBODY };
+    list->file_ends = chains(list->files);
+    list->links = chains(list->irps);
+    list->file_links = chains(list->irps);
+    return list->file_ends && list->links && list->file_links;
+}
+
+bool plain_list_new(struct plain_list *list, const struct csq_size *size, const uint32_t *file_limits) {
+    memset(list, 0, sizeof *list);
+    list->irps = size->irps;
+    list->files = size->files;
+    list->limit = size->limit;
+    list->kind = size->list;
+    list->used = calloc(size->irps, sizeof *list->used);
+    list->closed = calloc(size->files, sizeof *list->closed);
+    list->file_lengths = numbers(size->files, 0);
+    list->file_limits = numbers(size->files, size->irps);
+    list->file_of = numbers(size->irps, NOBODY);
+    bool made = list->used && list->closed && list->file_lengths && list->file_limits && list->file_of;
+    if (!made || !new_kind(list)) {
+        plain_list_free(list);
+        return false;
+    }
+    if (file_limits) {
+        memcpy(list->file_limits, file_limits, size->files * sizeof *file_limits);
+    }
+    return true;
+}
+
+void plain_list_free(struct plain_list *list) {
+    free(list->used);
+    free(list->closed);
+    free(list->file_lengths);
+    free(list->file_limits);
+    free(list->file_of);
+    free(list->entries);
+    free(list->positions);
+    free(list->file_ends);
+    free(list->links);
+    free(list->file_links);
+    memset(list, 0, sizeof *list);
+}
+
+uint32_t plain_list_refusal(const struct plain_list *list, uint32_t irp, uint32_t file) {
+    if (irp >= list->irps) {
+        return CSQ_UNKNOWN_IRP;
+    }
+    if (file >= list->files) {
+        return CSQ_UNKNOWN_FILE;
+    }
+    if (list->used[irp]) {
+        return CSQ_NOT_HOME;
+    }
+    if (list->closed[file]) {
+        return CSQ_FILE_CLOSED;
+    }
+    if (list->file_lengths[file] == list->file_limits[file]) {
+        return CSQ_FILE_FULL;
+    }
+    return list->length == list->limit ? CSQ_FULL : CSQ_OK;
+}
+
+bool plain_list_has(const struct plain_list *list, uint32_t irp) {
+    return irp < list->irps && list->file_of[irp] != NOBODY;
+}
+
+/* ---- The vector ---- */
+
+static void write_positions(struct plain_list *list, uint32_t first, uint32_t end) {
+    for (uint32_t at = first; at < end; at++) {
+        list->positions[list->entries[at]] = at;
+    }
+}
+
+static void vector_insert(struct plain_list *list, uint32_t irp, bool front) {
+    uint32_t at = front ? 0 : list->length;
+    memmove(list->entries + at + 1, list->entries + at, (list->length - at) * sizeof *list->entries);
+    list->entries[at] = irp;
+    write_positions(list, at, list->length + 1);
+}
+
+static void vector_remove(struct plain_list *list, uint32_t irp) {
+    uint32_t at = list->positions[irp], end = list->length - 1;
+    memmove(list->entries + at, list->entries + at + 1, (end - at) * sizeof *list->entries);
+    write_positions(list, at, end);
+}
+
+static uint32_t vector_next(const struct plain_list *list, uint32_t after, uint32_t file) {
+    uint32_t at = after == NOBODY ? 0 : list->positions[after] + 1;
+    while (at < list->length) {
+        uint32_t irp = list->entries[at++];
+        if (file == CSQ_ANY || list->file_of[irp] == file) {
+            return irp;
+        }
+    }
+    return NOBODY;
+}
+
+/* ---- The chains ---- */
+
+static void chain_put(struct links *ends, struct links *links, uint32_t irp, bool front) {
+    uint32_t before = front ? NOBODY : ends->before, after = front ? ends->after : NOBODY;
+    links[irp] = (struct links){ before, after };
+    *(before == NOBODY ? &ends->after : &links[before].after) = irp;
+    *(after == NOBODY ? &ends->before : &links[after].before) = irp;
+}
+
+static void chain_take(struct links *ends, struct links *links, uint32_t irp) {
+    struct links here = links[irp];
+    *(here.before == NOBODY ? &ends->after : &links[here.before].after) = here.after;
+    *(here.after == NOBODY ? &ends->before : &links[here.after].before) = here.before;
+}
+
+static uint32_t chains_next(const struct plain_list *list, uint32_t after, uint32_t file) {
+    if (file == CSQ_ANY) {
+        return after == NOBODY ? list->all.after : list->links[after].after;
+    }
+    if (file >= list->files) {
+        return NOBODY;
+    }
+    return after == NOBODY ? list->file_ends[file].after : list->file_links[after].after;
+}
+
+/* ---- Either ---- */
+
+void plain_list_insert(struct plain_list *list, uint32_t irp, uint32_t file, bool front) {
+    if (list->kind == CSQ_VECTOR) {
+        vector_insert(list, irp, front);
+    } else {
+        chain_put(&list->all, list->links, irp, front);
+        chain_put(&list->file_ends[file], list->file_links, irp, front);
+    }
+    list->used[irp] = true;
+    list->file_of[irp] = file;
+    list->file_lengths[file]++;
+    list->length++;
+}
+
+uint32_t plain_list_next(const struct plain_list *list, uint32_t after, uint32_t file) {
+    return list->kind == CSQ_VECTOR ? vector_next(list, after, file) : chains_next(list, after, file);
+}
+
+void plain_list_remove(struct plain_list *list, uint32_t irp) {
+    uint32_t file = list->file_of[irp];
+    if (list->kind == CSQ_VECTOR) {
+        vector_remove(list, irp);
+    } else {
+        chain_take(&list->all, list->links, irp);
+        chain_take(&list->file_ends[file], list->file_links, irp);
+    }
+    list->file_of[irp] = NOBODY;
+    list->file_lengths[file]--;
+    list->length--;
+}

@@ -1,0 +1,498 @@
+/* A plain C queue of the same design as the proved one, and of the same header, but unproved: to time that one
+ * against, and to run the tests on. Each IRP has three atomic words, each with the life that it is of: the Cancel
+ * flag, the cancel routine and the status. */
+#include "plain_list.h"
+
+#include <stdatomic.h>
+#include <stdlib.h>
+
+typedef _Atomic uint64_t word;
+
+/* Which of an IRP's three words. */
+enum { FLAG, ROUTINE, STATUS, WORDS };
+
+/* A status word: the life, whether the status is set, and the status in 32 bits. */
+#define STATUS_SET ((uint64_t)1 << 32)
+#define STATUS_LIFE 33
+
+struct queue {
+    struct plain_list list;
+    word *words;
+    uint32_t *lives;
+    uint32_t irps;
+    uint32_t passes;
+    uint32_t handed_out;
+    uint32_t out;
+    bool closed;
+};
+
+/* How a pass has an IRP, and in which life. */
+enum { NOT_HERE, OWED, REMOVED, GOT_CANCELLED };
+struct slot {
+    uint32_t life;
+    uint32_t has;
+};
+
+struct pass {
+    word *words;
+    struct slot *slots;
+    uint32_t irps;
+    uint32_t held;
+    uint32_t owed;
+};
+
+static word *word_of(word *words, uint32_t irp, uint32_t which) {
+    return &words[WORDS * irp + which];
+}
+
+static uint64_t clear(uint32_t life) {
+    return 2 * (uint64_t)life;
+}
+
+static uint64_t unset(uint32_t life) {
+    return (uint64_t)life << STATUS_LIFE;
+}
+
+/* ---- A queue's beginning and end ---- */
+
+static bool is_size(const struct csq_size *size) {
+    return 1 <= size->irps && size->irps <= CSQ_MOST_IRPS && 1 <= size->files && size->files <= CSQ_MOST_FILES &&
+           1 <= size->limit && size->limit <= size->irps && 1 <= size->passes && size->passes <= CSQ_MOST_PASSES &&
+           size->first_life <= CSQ_LAST_LIFE && size->list <= CSQ_CHAINS;
+}
+
+static bool are_limits(const struct csq_size *size, const uint32_t *file_limits, size_t count) {
+    if (count != size->files) {
+        return false;
+    }
+    for (size_t at = 0; at < count; at++) {
+        if (file_limits[at] < 1 || file_limits[at] > size->irps) {
+            return false;
+        }
+    }
+    return true;
+}
+
+static void free_queue(struct queue *made) {
+    plain_list_free(&made->list);
+    free(made->words);
+    free(made->lives);
+    free(made);
+}
+
+static void begin_lives(struct queue *made, uint32_t first) {
+    for (uint32_t irp = 0; irp < made->irps; irp++) {
+        made->lives[irp] = first;
+        atomic_init(word_of(made->words, irp, FLAG), clear(first));
+        atomic_init(word_of(made->words, irp, ROUTINE), clear(first));
+        atomic_init(word_of(made->words, irp, STATUS), unset(first));
+    }
+}
+
+static uint32_t make(struct csq_queue *queue, const struct csq_size *size, const uint32_t *file_limits) {
+    struct queue *made = calloc(1, sizeof *made);
+    if (!made) {
+        return CSQ_NO_MEMORY;
+    }
+    made->irps = size->irps;
+    made->passes = size->passes;
+    made->words = malloc(WORDS * size->irps * sizeof *made->words);
+    made->lives = malloc(size->irps * sizeof *made->lives);
+    if (!made->words || !made->lives || !plain_list_new(&made->list, size, file_limits)) {
+        free_queue(made);
+        return CSQ_NO_MEMORY;
+    }
+    begin_lives(made, size->first_life);
+    queue->at = made;
+    return CSQ_OK;
+}
+
+uint32_t csq_new(struct csq_queue *queue, const struct csq_size *size) {
+    if (queue->at) {
+        return CSQ_NOT_EMPTY;
+    }
+    return is_size(size) ? make(queue, size, NULL) : CSQ_BAD_SIZE;
+}
+
+uint32_t csq_new_with_file_limits(struct csq_queue *queue, const struct csq_size *size, const uint32_t *file_limits,
+                                  size_t count) {
+    if (queue->at) {
+        return CSQ_NOT_EMPTY;
+    }
+    return is_size(size) && are_limits(size, file_limits, count) ? make(queue, size, file_limits) : CSQ_BAD_SIZE;
+}
+
+uint32_t csq_free(struct csq_queue *queue) {
+    struct queue *at = queue->at;
+    if (!at) {
+        return CSQ_EMPTY_HANDLE;
+    }
+    if (at->out > 0) {
+        return CSQ_PASSES_OUT;
+    }
+    free_queue(at);
+    queue->at = NULL;
+    return CSQ_OK;
+}
+
+static uint32_t open_queue(const struct queue *at) {
+    if (!at) {
+        return CSQ_EMPTY_HANDLE;
+    }
+    return at->closed ? CSQ_CLOSED : CSQ_OK;
+}
+
+uint32_t csq_passes_out(struct csq_queue *queue, uint32_t *out) {
+    const struct queue *at = queue->at;
+    uint32_t code = open_queue(at);
+    if (code != CSQ_OK) {
+        return code;
+    }
+    *out = at->out;
+    return CSQ_OK;
+}
+
+uint32_t csq_close(struct csq_queue *queue) {
+    struct queue *at = queue->at;
+    uint32_t code = open_queue(at);
+    if (code != CSQ_OK) {
+        return code;
+    }
+    if (at->out > 0) {
+        return CSQ_PASSES_OUT;
+    }
+    at->closed = true;
+    return CSQ_OK;
+}
+
+static uint32_t closed_queue(const struct queue *at) {
+    if (!at) {
+        return CSQ_EMPTY_HANDLE;
+    }
+    return at->closed ? CSQ_OK : CSQ_NOT_CLOSED;
+}
+
+uint32_t csq_next_listed(struct csq_queue *queue, uint32_t after, uint32_t *irp) {
+    const struct queue *at = queue->at;
+    uint32_t code = closed_queue(at);
+    if (code != CSQ_OK) {
+        return code;
+    }
+    if (after != CSQ_ANY && !plain_list_has(&at->list, after)) {
+        return CSQ_NOT_LISTED;
+    }
+    uint32_t next = plain_list_next(&at->list, after, CSQ_ANY);
+    if (next == NOBODY) {
+        return CSQ_NONE;
+    }
+    *irp = next;
+    return CSQ_OK;
+}
+
+uint32_t csq_left(struct csq_queue *queue, uint32_t irp, struct csq_left *left) {
+    const struct queue *at = queue->at;
+    uint32_t code = closed_queue(at);
+    if (code != CSQ_OK) {
+        return code;
+    }
+    if (irp >= at->irps) {
+        return CSQ_UNKNOWN_IRP;
+    }
+    uint64_t flag = atomic_load(word_of(at->words, irp, FLAG)), status = atomic_load(word_of(at->words, irp, STATUS));
+    *left = (struct csq_left){ at->lives[irp], flag % 2, (status & STATUS_SET) != 0, (uint32_t)status };
+    return CSQ_OK;
+}
+
+/* ---- Passes ---- */
+
+uint32_t csq_pass(struct csq_queue *queue, struct csq_pass *pass) {
+    struct queue *at = queue->at;
+    if (!at) {
+        return CSQ_EMPTY_HANDLE;
+    }
+    if (pass->at) {
+        return CSQ_NOT_EMPTY;
+    }
+    if (at->closed) {
+        return CSQ_CLOSED;
+    }
+    if (at->handed_out == at->passes) {
+        return CSQ_NO_PASS;
+    }
+    struct pass *made = malloc(sizeof *made);
+    struct slot *slots = calloc(at->irps, sizeof *slots);
+    if (!made || !slots) {
+        free(made);
+        free(slots);
+        return CSQ_NO_MEMORY;
+    }
+    *made = (struct pass){ .words = at->words, .slots = slots, .irps = at->irps };
+    at->handed_out++;
+    at->out++;
+    pass->at = made;
+    return CSQ_OK;
+}
+
+uint32_t csq_free_pass(struct csq_pass *pass) {
+    struct pass *by = pass->at;
+    if (!by) {
+        return CSQ_EMPTY_HANDLE;
+    }
+    if (by->held > 0 || by->owed > 0) {
+        return CSQ_HOLDING;
+    }
+    free(by->slots);
+    free(by);
+    pass->at = NULL;
+    return CSQ_OK;
+}
+
+/* Whether both handles are filled, and the queue is open. */
+static uint32_t may_call(const struct csq_queue *queue, const struct csq_pass *pass) {
+    return queue->at && pass->at ? open_queue(queue->at) : CSQ_EMPTY_HANDLE;
+}
+
+uint32_t csq_give_back(struct csq_queue *queue, struct csq_pass *pass) {
+    struct queue *at = queue->at;
+    uint32_t code = may_call(queue, pass);
+    if (code != CSQ_OK) {
+        return code;
+    }
+    code = csq_free_pass(pass);
+    at->out -= code == CSQ_OK;
+    return code;
+}
+
+uint32_t csq_holding(struct csq_pass *pass, uint32_t *held, uint32_t *owed) {
+    const struct pass *by = pass->at;
+    if (!by) {
+        return CSQ_EMPTY_HANDLE;
+    }
+    *held = by->held;
+    *owed = by->owed;
+    return CSQ_OK;
+}
+
+/* ---- Under the lock ---- */
+
+static void hold(struct pass *by, uint32_t irp, uint32_t life, uint32_t has) {
+    by->slots[irp] = (struct slot){ life, has };
+    by->held++;
+}
+
+/* Exchanges the routine of an IRP for none, and answers whether it was there. */
+static bool disarm(struct queue *at, uint32_t irp) {
+    return atomic_exchange(word_of(at->words, irp, ROUTINE), clear(at->lives[irp])) % 2;
+}
+
+uint32_t csq_insert(struct csq_queue *queue, struct csq_pass *pass, uint32_t irp, uint32_t file, uint32_t front,
+                    struct csq_irp *context) {
+    struct queue *at = queue->at;
+    uint32_t code = may_call(queue, pass);
+    if (code == CSQ_OK) {
+        code = plain_list_refusal(&at->list, irp, file);
+    }
+    if (code != CSQ_OK) {
+        return code;
+    }
+    uint32_t life = at->lives[irp];
+    plain_list_insert(&at->list, irp, file, front != 0);
+    atomic_exchange(word_of(at->words, irp, ROUTINE), clear(life) + 1);
+    if (atomic_load(word_of(at->words, irp, FLAG)) % 2 && disarm(at, irp)) {
+        plain_list_remove(&at->list, irp);
+        hold(pass->at, irp, life, GOT_CANCELLED);
+        code = CSQ_CANCELLED;
+    }
+    *context = (struct csq_irp){ irp, life };
+    return code;
+}
+
+static void take_removed(struct queue *at, struct pass *by, uint32_t irp) {
+    plain_list_remove(&at->list, irp);
+    hold(by, irp, at->lives[irp], REMOVED);
+}
+
+uint32_t csq_remove_next(struct csq_queue *queue, struct csq_pass *pass, uint32_t file, struct csq_irp *irp) {
+    struct queue *at = queue->at;
+    uint32_t code = may_call(queue, pass);
+    if (code != CSQ_OK) {
+        return code;
+    }
+    uint32_t next = plain_list_next(&at->list, NOBODY, file);
+    while (next != NOBODY && !disarm(at, next)) {
+        next = plain_list_next(&at->list, next, file);
+    }
+    if (next == NOBODY) {
+        return CSQ_NONE;
+    }
+    take_removed(at, pass->at, next);
+    *irp = (struct csq_irp){ next, at->lives[next] };
+    return CSQ_OK;
+}
+
+uint32_t csq_remove(struct csq_queue *queue, struct csq_pass *pass, struct csq_irp irp) {
+    struct queue *at = queue->at;
+    uint32_t code = may_call(queue, pass);
+    if (code != CSQ_OK) {
+        return code;
+    }
+    if (!plain_list_has(&at->list, irp.irp) || at->lives[irp.irp] != irp.life || !disarm(at, irp.irp)) {
+        return CSQ_NONE;
+    }
+    take_removed(at, pass->at, irp.irp);
+    return CSQ_OK;
+}
+
+uint32_t csq_cancel_routine(struct csq_queue *queue, struct csq_pass *pass, uint32_t irp) {
+    struct queue *at = queue->at;
+    struct pass *by = pass->at;
+    uint32_t code = may_call(queue, pass);
+    if (code != CSQ_OK) {
+        return code;
+    }
+    if (irp >= by->irps) {
+        return CSQ_UNKNOWN_IRP;
+    }
+    if (by->slots[irp].has != OWED) {
+        return CSQ_NOT_OWED;
+    }
+    plain_list_remove(&at->list, irp);
+    by->owed--;
+    hold(by, irp, by->slots[irp].life, GOT_CANCELLED);
+    return CSQ_OK;
+}
+
+uint32_t csq_close_file(struct csq_queue *queue, struct csq_pass *pass, uint32_t file) {
+    struct queue *at = queue->at;
+    uint32_t code = may_call(queue, pass);
+    if (code != CSQ_OK) {
+        return code;
+    }
+    if (file >= at->list.files) {
+        return CSQ_UNKNOWN_FILE;
+    }
+    at->list.closed[file] = true;
+    return CSQ_OK;
+}
+
+uint32_t csq_reuse(struct csq_queue *queue, struct csq_pass *pass, uint32_t irp, uint32_t *life) {
+    struct queue *at = queue->at;
+    uint32_t code = may_call(queue, pass);
+    if (code != CSQ_OK) {
+        return code;
+    }
+    if (irp >= at->irps) {
+        return CSQ_UNKNOWN_IRP;
+    }
+    uint64_t found = atomic_load(word_of(at->words, irp, STATUS));
+    if (!(found & STATUS_SET)) {
+        return CSQ_NOT_COMPLETED;
+    }
+    if (found >> STATUS_LIFE == CSQ_LAST_LIFE) {
+        return CSQ_LIVES_SPENT;
+    }
+    uint32_t next = at->lives[irp] + 1;
+    /* The flag comes last: with it the next life begins. */
+    atomic_exchange(word_of(at->words, irp, STATUS), unset(next));
+    atomic_exchange(word_of(at->words, irp, ROUTINE), clear(next));
+    atomic_exchange(word_of(at->words, irp, FLAG), clear(next));
+    at->list.used[irp] = false;
+    at->lives[irp] = next;
+    *life = next;
+    return CSQ_OK;
+}
+
+/* ---- Without the lock ---- */
+
+static uint32_t knows(const struct csq_pass *pass, uint32_t irp) {
+    const struct pass *by = pass->at;
+    if (!by) {
+        return CSQ_EMPTY_HANDLE;
+    }
+    return irp < by->irps ? CSQ_OK : CSQ_UNKNOWN_IRP;
+}
+
+uint32_t csq_mark_cancel(struct csq_pass *pass, struct csq_irp irp, uint32_t *found) {
+    struct pass *by = pass->at;
+    uint32_t code = knows(pass, irp.irp);
+    if (code != CSQ_OK) {
+        return code;
+    }
+    uint64_t none = clear(irp.life), flag = none, routine = none + 1;
+    bool set = atomic_compare_exchange_strong(word_of(by->words, irp.irp, FLAG), &flag, none + 1);
+    if (!set && flag / 2 != irp.life) {
+        return CSQ_STALE;
+    }
+    *found = atomic_compare_exchange_strong(word_of(by->words, irp.irp, ROUTINE), &routine, none);
+    if (*found) {
+        by->slots[irp.irp] = (struct slot){ irp.life, OWED };
+        by->owed++;
+    }
+    return CSQ_OK;
+}
+
+static void set_status(struct pass *by, uint32_t irp, uint32_t status) {
+    atomic_exchange(word_of(by->words, irp, STATUS), unset(by->slots[irp].life) + STATUS_SET + status);
+    by->slots[irp].has = NOT_HERE;
+    by->held--;
+}
+
+static uint32_t holds(const struct csq_pass *pass, uint32_t irp) {
+    const struct pass *by = pass->at;
+    uint32_t code = knows(pass, irp);
+    if (code != CSQ_OK) {
+        return code;
+    }
+    return by->slots[irp].has == REMOVED || by->slots[irp].has == GOT_CANCELLED ? CSQ_OK : CSQ_NOT_HELD;
+}
+
+uint32_t csq_complete(struct csq_pass *pass, uint32_t irp, uint32_t status) {
+    struct pass *by = pass->at;
+    uint32_t code = holds(pass, irp);
+    if (code != CSQ_OK) {
+        return code;
+    }
+    if (by->slots[irp].has != REMOVED) {
+        return CSQ_NOT_REMOVED;
+    }
+    if (status == CSQ_STATUS_PENDING) {
+        return CSQ_NOT_FINAL;
+    }
+    set_status(by, irp, status);
+    return CSQ_OK;
+}
+
+uint32_t csq_complete_cancelled(struct csq_pass *pass, uint32_t irp) {
+    uint32_t code = holds(pass, irp);
+    if (code == CSQ_OK) {
+        set_status(pass->at, irp, CSQ_STATUS_CANCELLED);
+    }
+    return code;
+}
+
+uint32_t csq_is_cancelled(struct csq_pass *pass, uint32_t irp, uint32_t *life, uint32_t *cancelled) {
+    const struct pass *by = pass->at;
+    uint32_t code = knows(pass, irp);
+    if (code != CSQ_OK) {
+        return code;
+    }
+    uint64_t found = atomic_load(word_of(by->words, irp, FLAG));
+    *life = (uint32_t)(found / 2);
+    *cancelled = found % 2;
+    return CSQ_OK;
+}
+
+uint32_t csq_status(struct csq_pass *pass, uint32_t irp, uint32_t *life, uint32_t *status) {
+    const struct pass *by = pass->at;
+    uint32_t code = knows(pass, irp);
+    if (code != CSQ_OK) {
+        return code;
+    }
+    uint64_t found = atomic_load(word_of(by->words, irp, STATUS));
+    *life = (uint32_t)(found >> STATUS_LIFE);
+    if (!(found & STATUS_SET)) {
+        return CSQ_NONE;
+    }
+    *status = (uint32_t)found;
+    return CSQ_OK;
+}

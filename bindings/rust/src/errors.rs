@@ -1,0 +1,167 @@
+//! Why a call is refused. A refusal changes nothing.
+
+use crate::pass::Pass;
+use crate::queue::Queue;
+use std::error::Error;
+use std::fmt;
+
+// An error without parts prints what its variant's text says.
+macro_rules! refusal {
+    ($name:ident { $($variant:ident => $text:literal),+ $(,)? }) => {
+        impl fmt::Display for $name {
+            fn fmt(&self, f: &mut fmt::Formatter<'_>) -> fmt::Result {
+                f.write_str(match self {
+                    $($name::$variant => $text),+
+                })
+            }
+        }
+
+        impl Error for $name {}
+    };
+}
+
+/// Why no queue is made, in the order in which the causes are tested.
+#[derive(Clone, Copy, Debug, PartialEq, Eq, Hash)]
+pub enum NewError {
+    /// A number is out of its range, or there aren't as many limits as file objects.
+    BadSize,
+    /// Memory was refused.
+    NoMemory,
+}
+
+refusal!(NewError {
+    BadSize => "a number is out of its range",
+    NoMemory => "memory was refused",
+});
+
+/// Why no pass is handed out, in the order in which the causes are tested.
+#[derive(Clone, Copy, Debug, PartialEq, Eq, Hash)]
+pub enum PassError {
+    /// All passes of the queue were handed out.
+    NoPass,
+    /// Memory was refused. The pass can be asked for again.
+    NoMemory,
+}
+
+refusal!(PassError {
+    NoPass => "all passes were handed out",
+    NoMemory => "memory was refused",
+});
+
+/// Why an insert is refused, in the order in which the causes are tested. The IRP stays with the caller.
+#[derive(Clone, Copy, Debug, PartialEq, Eq, Hash)]
+pub enum InsertError {
+    /// The IRP's number isn't below the queue's number of IRPs.
+    UnknownIrp,
+    /// The file object's number isn't below the queue's number of file objects.
+    UnknownFile,
+    /// An insert accepted the IRP in its present life already.
+    NotHome,
+    /// The file object was closed. A driver answers `STATUS_FILE_CLOSED`.
+    FileClosed,
+    /// As many IRPs are listed for the file object as its own limit allows. A driver answers
+    /// `STATUS_INSUFFICIENT_RESOURCES`.
+    FileFull,
+    /// As many IRPs are listed as the limit allows. A driver answers `STATUS_INSUFFICIENT_RESOURCES`.
+    Full,
+}
+
+refusal!(InsertError {
+    UnknownIrp => "there is no such IRP",
+    UnknownFile => "there is no such file object",
+    NotHome => "the IRP was inserted already",
+    FileClosed => "the file object was closed",
+    FileFull => "the file object has as many IRPs listed as it may",
+    Full => "the queue has as many IRPs listed as it may",
+});
+
+/// Why a cancel changed nothing, in the order in which the causes are tested.
+#[derive(Clone, Copy, Debug, PartialEq, Eq, Hash)]
+pub enum CancelError {
+    /// The IRP's number isn't below the queue's number of IRPs.
+    UnknownIrp,
+    /// The IRP is in another life than the one named.
+    Stale,
+}
+
+refusal!(CancelError {
+    UnknownIrp => "there is no such IRP",
+    Stale => "the IRP is in another life",
+});
+
+/// Why an IRP isn't given its next life, in the order in which the causes are tested.
+#[derive(Clone, Copy, Debug, PartialEq, Eq, Hash)]
+pub enum ReuseError {
+    /// The IRP's number isn't below the queue's number of IRPs.
+    UnknownIrp,
+    /// Its present life isn't completed.
+    NotCompleted,
+    /// Its present life is the last that there can be.
+    LivesSpent,
+}
+
+refusal!(ReuseError {
+    UnknownIrp => "there is no such IRP",
+    NotCompleted => "the IRP isn't completed",
+    LivesSpent => "the IRP is in its last life",
+});
+
+/// The IRP's number isn't below the queue's number of IRPs.
+#[derive(Clone, Copy, Debug, PartialEq, Eq, Hash)]
+pub struct UnknownIrp;
+
+impl fmt::Display for UnknownIrp {
+    fn fmt(&self, f: &mut fmt::Formatter<'_>) -> fmt::Result {
+        f.write_str("there is no such IRP")
+    }
+}
+
+impl Error for UnknownIrp {}
+
+/// The file object's number isn't below the queue's number of file objects.
+#[derive(Clone, Copy, Debug, PartialEq, Eq, Hash)]
+pub struct UnknownFile;
+
+impl fmt::Display for UnknownFile {
+    fn fmt(&self, f: &mut fmt::Formatter<'_>) -> fmt::Result {
+        f.write_str("there is no such file object")
+    }
+}
+
+impl Error for UnknownFile {}
+
+/// A pass that wasn't given back, since it holds or owes IRPs whose tokens were forgotten. It comes back.
+#[derive(Debug)]
+pub struct Holding {
+    /// The pass.
+    pub pass: Pass,
+    /// How many IRPs it holds.
+    pub held: u32,
+    /// How many IRPs it owes.
+    pub owed: u32,
+}
+
+impl fmt::Display for Holding {
+    fn fmt(&self, f: &mut fmt::Formatter<'_>) -> fmt::Result {
+        write!(f, "IRPs held: {}, owed: {}", self.held, self.owed)
+    }
+}
+
+impl Error for Holding {}
+
+/// A queue that wasn't closed, since passes are out. It comes back.
+#[derive(Debug)]
+pub struct PassesOut {
+    /// The queue.
+    pub queue: Queue,
+    /// How many passes are out.
+    pub out: u32,
+}
+
+impl fmt::Display for PassesOut {
+    fn fmt(&self, f: &mut fmt::Formatter<'_>) -> fmt::Result {
+        write!(f, "passes out: {}", self.out)
+    }
+}
+
+impl Error for PassesOut {}

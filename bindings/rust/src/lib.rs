@@ -1,0 +1,104 @@
+//! The cancel-safe IRP queue of Windows drivers, as Microsoft's WDK describes it (`IoCsqInsertIrpEx`,
+//! `IoCsqRemoveNextIrp`, `IoCsqRemoveIrp`, `IoSetCancelRoutine`, `IoCancelIrp`, `IRP_MJ_CLEANUP`): safe bindings of a C
+//! library that is proved in Rattle.
+//!
+//! A [`Queue`] hands out a [`Pass`] for each thread that inserts, removes, cancels or completes. What a pass has to
+//! complete is a token ([`Removed`], [`Cancelled`], [`Claim`]): it borrows its pass, and one that is dropped completes
+//! its IRP with `STATUS_CANCELLED`. So each IRP that an insert accepted is completed once, or is listed when the queue
+//! is closed.
+//!
+//! ```
+//! use csq::{FinalStatus, Inserted, Peek, Place, Queue, Size};
+//!
+//! # fn main() -> Result<(), Box<dyn std::error::Error>> {
+//! // A queue of 18 requests for 2 file objects, with 4 passes.
+//! let queue = Queue::new(&Size::new(18, 2, 4))?;
+//! let (reads, worker, caller) = (queue.pass()?, queue.pass()?, queue.pass()?);
+//! std::thread::scope(|scope| {
+//!     // A dispatch routine queues requests.
+//!     scope.spawn(move || {
+//!         for irp in 0..8 {
+//!             match reads.insert(irp, 0, Place::Back).expect("queued") {
+//!                 // The context could remove just this request later.
+//!                 Inserted::Pending(_context) => {}
+//!                 // The caller was faster.
+//!                 Inserted::Cancelled(token) => token.complete(),
+//!             }
+//!         }
+//!     });
+//!     // The worker takes the next request, and completes it.
+//!     scope.spawn(move || {
+//!         if let Some(token) = worker.remove_next(Peek::File(0)) {
+//!             token.complete(FinalStatus::SUCCESS);
+//!         }
+//!     });
+//!     // A caller cancels a request in its first life, queued or not.
+//!     scope.spawn(move || caller.cancel(csq::Irp { irp: 3, life: 0 }).expect("a request"));
+//! });
+//! // The last handle to a file object goes: what is queued for it is cancelled.
+//! queue.pass()?.cleanup(0)?;
+//! // All passes are back by now, so the queue can be closed.
+//! let closed = queue.close()?;
+//! assert_eq!(closed.listed().count(), 0);
+//! assert!((0..8).all(|irp| closed.irp(irp).is_some_and(|left| left.status.is_some())));
+//! # Ok(())
+//! # }
+//! ```
+//!
+//! What the C header asks of its caller is upheld here: each call on a queue is made under its lock, a pass has a share
+//! of its queue and is used with no other, and no thread uses a pass beside another one. What is left to the program:
+//! `malloc`, `realloc` and `free` are of one allocator, and no call is made in a signal handler or in the forked child
+//! of a process with threads.
+//!
+//! A pass can't be shared by threads,
+//!
+//! ```compile_fail,E0277
+//! # use csq::{Peek, Queue, Size};
+//! let queue = Queue::new(&Size::new(1, 1, 1)).unwrap();
+//! let pass = queue.pass().unwrap();
+//! std::thread::scope(|scope| {
+//!     scope.spawn(|| pass.holding());
+//! });
+//! ```
+//!
+//! nor be given back before its tokens are spent,
+//!
+//! ```compile_fail,E0505
+//! # use csq::{Peek, Queue, Size};
+//! let queue = Queue::new(&Size::new(1, 1, 1)).unwrap();
+//! let pass = queue.pass().unwrap();
+//! let token = pass.remove_next(Peek::Any);
+//! pass.give_back().unwrap();
+//! drop(token);
+//! ```
+//!
+//! and a token is spent once.
+//!
+//! ```compile_fail,E0382
+//! # use csq::{FinalStatus, Peek, Queue, Size};
+//! let queue = Queue::new(&Size::new(1, 1, 1)).unwrap();
+//! let pass = queue.pass().unwrap();
+//! let token = pass.remove_next(Peek::Any).unwrap();
+//! token.complete(FinalStatus::SUCCESS);
+//! token.complete(FinalStatus::SUCCESS);
+//! ```
+//!
+//! To link: the variable `CSQ_LIBRARY` of the environment names the library's archives, in the linker's order, with
+//! colons between them.
+#![deny(missing_docs, unsafe_op_in_unsafe_fn)]
+
+mod errors;
+mod pass;
+mod queue;
+mod raw;
+mod token;
+mod words;
+
+pub use errors::{
+    CancelError, Holding, InsertError, NewError, PassError, PassesOut, ReuseError, UnknownFile,
+    UnknownIrp,
+};
+pub use pass::Pass;
+pub use queue::{Closed, Listed, Queue};
+pub use token::{Cancelled, Claim, Inserted, Removed};
+pub use words::{FinalStatus, Irp, Left, List, Peek, Place, Size, LAST_LIFE};

@@ -1,0 +1,263 @@
+//! Passes, and the calls that are made through them.
+
+use crate::errors::{
+    CancelError, Holding, InsertError, PassError, ReuseError, UnknownFile, UnknownIrp,
+};
+use crate::queue::Shared;
+use crate::raw::{self, RawIrp, RawPass, RawQueue};
+use crate::token::{Cancelled, Claim, Inserted, Removed};
+use crate::words::{FinalStatus, Irp, Peek, Place};
+use std::cell::UnsafeCell;
+use std::fmt;
+use std::ptr;
+use std::sync::Arc;
+
+/// A pass of a queue, through which one thread at a time makes its calls. It has a share of its queue, so it can be
+/// used with no other.
+///
+/// A pass may be moved to another thread, but not be shared by two: its tokens borrow it, and a thread may have several
+/// of them. Dropped, it is given back, once what it still holds or owes was completed with `STATUS_CANCELLED` (which is
+/// nothing, unless a token was forgotten by [`std::mem::forget`]).
+pub struct Pass {
+    shared: Arc<Shared>,
+    handle: UnsafeCell<RawPass>,
+}
+
+// SAFETY: the library lets a pass go from one thread to another by an act that synchronises, as each move of a value to
+// another thread is.
+unsafe impl Send for Pass {}
+
+impl fmt::Debug for Pass {
+    fn fmt(&self, f: &mut fmt::Formatter<'_>) -> fmt::Result {
+        f.debug_struct("Pass").finish_non_exhaustive()
+    }
+}
+
+impl Pass {
+    pub(crate) fn of(shared: &Arc<Shared>) -> Result<Pass, PassError> {
+        let mut handle = RawPass {
+            at: ptr::null_mut(),
+        };
+        // SAFETY: the queue is locked, and the pass's handle is empty.
+        let code = unsafe { raw::csq_pass(&mut *shared.lock(), &mut handle) };
+        match code {
+            raw::OK => Ok(Pass {
+                shared: Arc::clone(shared),
+                handle: UnsafeCell::new(handle),
+            }),
+            raw::NO_PASS => Err(PassError::NoPass),
+            raw::NO_MEMORY => Err(PassError::NoMemory),
+            code => unreachable!("csq_pass answered {code}"),
+        }
+    }
+
+    // Makes a call under the lock.
+    fn locked(&self, call: impl FnOnce(*mut RawQueue, *mut RawPass) -> u32) -> u32 {
+        call(&mut *self.shared.lock(), self.handle.get())
+    }
+
+    /// Gives the pass back. Refused only where a token was forgotten; then the pass comes back.
+    pub fn give_back(self) -> Result<(), Holding> {
+        // SAFETY: the queue is locked, and this thread alone has the pass.
+        match self.locked(|queue, pass| unsafe { raw::csq_give_back(queue, pass) }) {
+            raw::HOLDING => {
+                let (held, owed) = self.holding();
+                Err(Holding {
+                    pass: self,
+                    held,
+                    owed,
+                })
+            }
+            _ => Ok(()),
+        }
+    }
+
+    /// How many IRPs the pass holds, and how many it owes.
+    pub fn holding(&self) -> (u32, u32) {
+        let (mut held, mut owed) = (0, 0);
+        // SAFETY: this thread alone has the pass.
+        let code = unsafe { raw::csq_holding(self.handle.get(), &mut held, &mut owed) };
+        debug_assert_eq!(code, raw::OK);
+        (held, owed)
+    }
+
+    /// Inserts an IRP for a file object (`IoCsqInsertIrpEx`). Takes the lock.
+    pub fn insert(&self, irp: u32, file: u32, place: Place) -> Result<Inserted<'_>, InsertError> {
+        let mut context = RawIrp::default();
+        let front = u32::from(place == Place::Front);
+        // SAFETY: the queue is locked, and this thread alone has the pass.
+        match self.locked(|queue, pass| unsafe {
+            raw::csq_insert(queue, pass, irp, file, front, &mut context)
+        }) {
+            raw::OK => Ok(Inserted::Pending(Irp::of(context))),
+            raw::CANCELLED => Ok(Inserted::Cancelled(Cancelled {
+                pass: self,
+                irp: Irp::of(context),
+            })),
+            raw::UNKNOWN_IRP => Err(InsertError::UnknownIrp),
+            raw::UNKNOWN_FILE => Err(InsertError::UnknownFile),
+            raw::NOT_HOME => Err(InsertError::NotHome),
+            raw::FILE_CLOSED => Err(InsertError::FileClosed),
+            raw::FILE_FULL => Err(InsertError::FileFull),
+            raw::FULL => Err(InsertError::Full),
+            code => unreachable!("csq_insert answered {code}"),
+        }
+    }
+
+    /// Removes the first listed match that no canceller has (`IoCsqRemoveNextIrp`). Takes the lock.
+    #[must_use = "a removed IRP has to be completed, and is completed as cancelled where it is dropped"]
+    pub fn remove_next(&self, peek: Peek) -> Option<Removed<'_>> {
+        let file = match peek {
+            Peek::Any => raw::ANY,
+            // In C this number stands for any; here it is an unknown file object.
+            Peek::File(raw::ANY) => return None,
+            Peek::File(file) => file,
+        };
+        let mut irp = RawIrp::default();
+        // SAFETY: the queue is locked, and this thread alone has the pass.
+        let code =
+            self.locked(|queue, pass| unsafe { raw::csq_remove_next(queue, pass, file, &mut irp) });
+        (code == raw::OK).then(|| Removed {
+            pass: self,
+            irp: Irp::of(irp),
+        })
+    }
+
+    /// Removes the IRP of a context (`IoCsqRemoveIrp`). None where it isn't listed in that life, or a canceller has it.
+    /// Takes the lock.
+    #[must_use = "a removed IRP has to be completed, and is completed as cancelled where it is dropped"]
+    pub fn remove(&self, irp: Irp) -> Option<Removed<'_>> {
+        // SAFETY: the queue is locked, and this thread alone has the pass.
+        let code = self.locked(|queue, pass| unsafe { raw::csq_remove(queue, pass, irp.raw()) });
+        // A token is made only where it is due, since it completes its IRP where it is dropped.
+        (code == raw::OK).then(|| Removed { pass: self, irp })
+    }
+
+    /// Closes a file object for good. Takes the lock.
+    pub fn close_file(&self, file: u32) -> Result<(), UnknownFile> {
+        // SAFETY: the queue is locked, and this thread alone has the pass.
+        match self.locked(|queue, pass| unsafe { raw::csq_close_file(queue, pass, file) }) {
+            raw::UNKNOWN_FILE => Err(UnknownFile),
+            _ => Ok(()),
+        }
+    }
+
+    /// Handles `IRP_MJ_CLEANUP` of a file object: closes it, then removes each IRP that is listed for it and completes
+    /// it with `STATUS_CANCELLED`. Answers how many. What a canceller has is left to that canceller. The lock is free
+    /// between two of them.
+    pub fn cleanup(&self, file: u32) -> Result<u32, UnknownFile> {
+        self.close_file(file)?;
+        let mut completed = 0;
+        while let Some(removed) = self.remove_next(Peek::File(file)) {
+            removed.complete(FinalStatus::CANCELLED);
+            completed += 1;
+        }
+        Ok(completed)
+    }
+
+    /// Begins the next life of a completed IRP (`IoReuseIrp`), and names it. Takes the lock.
+    pub fn reuse(&self, irp: u32) -> Result<Irp, ReuseError> {
+        let mut life = 0;
+        // SAFETY: the queue is locked, and this thread alone has the pass.
+        match self.locked(|queue, pass| unsafe { raw::csq_reuse(queue, pass, irp, &mut life) }) {
+            raw::OK => Ok(Irp { irp, life }),
+            raw::UNKNOWN_IRP => Err(ReuseError::UnknownIrp),
+            raw::NOT_COMPLETED => Err(ReuseError::NotCompleted),
+            raw::LIVES_SPENT => Err(ReuseError::LivesSpent),
+            code => unreachable!("csq_reuse answered {code}"),
+        }
+    }
+
+    /// Sets the Cancel flag of an IRP in the life named, and takes its cancel routine (the first half of
+    /// `IoCancelIrp`). None where the routine wasn't there: the IRP isn't listed, or someone else has it. Takes no
+    /// lock.
+    pub fn mark_cancel(&self, irp: Irp) -> Result<Option<Claim<'_>>, CancelError> {
+        let mut found = 0;
+        // SAFETY: this thread alone has the pass.
+        match unsafe { raw::csq_mark_cancel(self.handle.get(), irp.raw(), &mut found) } {
+            raw::OK => Ok((found == 1).then(|| Claim { pass: self, irp })),
+            raw::UNKNOWN_IRP => Err(CancelError::UnknownIrp),
+            raw::STALE => Err(CancelError::Stale),
+            code => unreachable!("csq_mark_cancel answered {code}"),
+        }
+    }
+
+    /// Cancels an IRP in the life named (`IoCancelIrp`): where its routine was there, runs it and completes the IRP.
+    /// Answers whether it did. Takes the lock only where the routine was there.
+    pub fn cancel(&self, irp: Irp) -> Result<bool, CancelError> {
+        match self.mark_cancel(irp)? {
+            None => Ok(false),
+            Some(claim) => {
+                claim.run().complete();
+                Ok(true)
+            }
+        }
+    }
+
+    /// The life that an IRP's Cancel flag stands for, and whether it is set there. Takes no lock.
+    pub fn is_cancelled(&self, irp: u32) -> Result<(u32, bool), UnknownIrp> {
+        let (mut life, mut cancelled) = (0, 0);
+        // SAFETY: this thread alone has the pass.
+        match unsafe { raw::csq_is_cancelled(self.handle.get(), irp, &mut life, &mut cancelled) } {
+            raw::OK => Ok((life, cancelled == 1)),
+            _ => Err(UnknownIrp),
+        }
+    }
+
+    /// The life that an IRP's status stands for, and what the IRP was completed with there, once it is. Takes no lock.
+    pub fn status(&self, irp: u32) -> Result<(u32, Option<FinalStatus>), UnknownIrp> {
+        let (mut life, mut status) = (0, 0);
+        // SAFETY: this thread alone has the pass.
+        match unsafe { raw::csq_status(self.handle.get(), irp, &mut life, &mut status) } {
+            raw::OK => Ok((life, Some(FinalStatus::of(status)))),
+            raw::NONE => Ok((life, None)),
+            _ => Err(UnknownIrp),
+        }
+    }
+
+    // The halves of tokens. None is refused, since a token is of what its pass holds or owes.
+
+    pub(crate) fn complete(&self, irp: Irp, status: FinalStatus) {
+        // SAFETY: this thread alone has the pass.
+        let code = unsafe { raw::csq_complete(self.handle.get(), irp.irp, status.number()) };
+        debug_assert_eq!(code, raw::OK);
+    }
+
+    pub(crate) fn complete_cancelled(&self, irp: Irp) {
+        // SAFETY: this thread alone has the pass.
+        let code = unsafe { raw::csq_complete_cancelled(self.handle.get(), irp.irp) };
+        debug_assert_eq!(code, raw::OK);
+    }
+
+    pub(crate) fn cancel_routine(&self, irp: Irp) {
+        // SAFETY: the queue is locked, and this thread alone has the pass.
+        let code =
+            self.locked(|queue, pass| unsafe { raw::csq_cancel_routine(queue, pass, irp.irp) });
+        debug_assert_eq!(code, raw::OK);
+    }
+
+    // Completes what forgotten tokens left.
+    fn settle(&self) {
+        for irp in 0..self.shared.irps {
+            self.locked(|queue, pass| {
+                // SAFETY: the queue is locked, and this thread alone has the pass. What isn't owed is refused.
+                unsafe { raw::csq_cancel_routine(queue, pass, irp) }
+            });
+            // SAFETY: this thread alone has the pass. What isn't held is refused.
+            unsafe { raw::csq_complete_cancelled(self.handle.get(), irp) };
+        }
+    }
+}
+
+impl Drop for Pass {
+    fn drop(&mut self) {
+        // SAFETY: the queue is locked, and this thread alone has the pass. One that was given back is empty.
+        let back = || self.locked(|queue, pass| unsafe { raw::csq_give_back(queue, pass) });
+        let mut code = back();
+        if code == raw::HOLDING {
+            self.settle();
+            code = back();
+        }
+        debug_assert!(code == raw::OK || code == raw::EMPTY_HANDLE);
+    }
+}

@@ -1,0 +1,167 @@
+//! A queue, open and closed.
+
+use crate::errors::{NewError, PassError, PassesOut};
+use crate::pass::Pass;
+use crate::raw::{self, RawLeft, RawQueue};
+use crate::words::{FinalStatus, Left, Size};
+use std::fmt;
+use std::ptr;
+use std::sync::{Arc, Mutex, MutexGuard, PoisonError};
+
+// SAFETY: the library lets a queue go from one thread to another; it keeps nothing of the thread.
+unsafe impl Send for RawQueue {}
+
+/// A queue's handle under its lock. It is freed with the last pass, or with the queue.
+pub(crate) struct Shared {
+    handle: Mutex<RawQueue>,
+    pub(crate) irps: u32,
+}
+
+impl Shared {
+    /// The handle, for one call. No code of the caller runs while it is locked.
+    pub(crate) fn lock(&self) -> MutexGuard<'_, RawQueue> {
+        self.handle.lock().unwrap_or_else(PoisonError::into_inner)
+    }
+}
+
+impl Drop for Shared {
+    fn drop(&mut self) {
+        let handle = self
+            .handle
+            .get_mut()
+            .unwrap_or_else(PoisonError::into_inner);
+        // SAFETY: nobody else has the handle, since each pass has a share of it.
+        let code = unsafe { raw::csq_free(handle) };
+        debug_assert_eq!(code, raw::OK);
+    }
+}
+
+/// A cancel-safe queue, with a lock of its own (a [`Mutex`]). It hands out passes, through which all calls are made.
+pub struct Queue {
+    shared: Arc<Shared>,
+}
+
+impl fmt::Debug for Queue {
+    fn fmt(&self, f: &mut fmt::Formatter<'_>) -> fmt::Result {
+        f.debug_struct("Queue").finish_non_exhaustive()
+    }
+}
+
+impl Queue {
+    /// A queue of this size.
+    pub fn new(size: &Size) -> Result<Queue, NewError> {
+        // SAFETY: the handle is empty, and both pointers are valid.
+        Queue::made(size, |queue| unsafe { raw::csq_new(queue, &size.raw()) })
+    }
+
+    /// A queue of this size, each file object with a limit of its own: how many IRPs may be listed for it at a time, 1
+    /// to `irps`.
+    pub fn with_file_limits(size: &Size, file_limits: &[u32]) -> Result<Queue, NewError> {
+        let (limits, count) = (file_limits.as_ptr(), file_limits.len());
+        // SAFETY: the handle is empty, the pointers are valid, and there are so many limits.
+        Queue::made(size, |queue| unsafe {
+            raw::csq_new_with_file_limits(queue, &size.raw(), limits, count)
+        })
+    }
+
+    fn made(size: &Size, make: impl FnOnce(&mut RawQueue) -> u32) -> Result<Queue, NewError> {
+        let mut handle = RawQueue {
+            at: ptr::null_mut(),
+        };
+        match make(&mut handle) {
+            raw::OK => Ok(Queue {
+                shared: Arc::new(Shared {
+                    handle: Mutex::new(handle),
+                    irps: size.irps,
+                }),
+            }),
+            raw::BAD_SIZE => Err(NewError::BadSize),
+            raw::NO_MEMORY => Err(NewError::NoMemory),
+            code => unreachable!("csq_new answered {code}"),
+        }
+    }
+
+    /// The next pass. One that was given back isn't handed out again.
+    pub fn pass(&self) -> Result<Pass, PassError> {
+        Pass::of(&self.shared)
+    }
+
+    /// How many passes are out.
+    pub fn passes_out(&self) -> u32 {
+        let mut out = 0;
+        // SAFETY: the handle is locked.
+        let code = unsafe { raw::csq_passes_out(&mut *self.shared.lock(), &mut out) };
+        debug_assert_eq!(code, raw::OK);
+        out
+    }
+
+    /// Closes the queue, once no pass is out.
+    pub fn close(self) -> Result<Closed, PassesOut> {
+        // SAFETY: the handle is locked.
+        let code = unsafe { raw::csq_close(&mut *self.shared.lock()) };
+        match code {
+            raw::OK => Ok(Closed {
+                shared: self.shared,
+            }),
+            raw::PASSES_OUT => {
+                let out = self.passes_out();
+                Err(PassesOut { queue: self, out })
+            }
+            code => unreachable!("csq_close answered {code}"),
+        }
+    }
+}
+
+/// A queue that was closed. It tells what is left.
+pub struct Closed {
+    shared: Arc<Shared>,
+}
+
+impl fmt::Debug for Closed {
+    fn fmt(&self, f: &mut fmt::Formatter<'_>) -> fmt::Result {
+        f.debug_struct("Closed").finish_non_exhaustive()
+    }
+}
+
+impl Closed {
+    /// The IRPs that are still listed, in the list's order.
+    pub fn listed(&self) -> Listed<'_> {
+        Listed {
+            queue: self,
+            after: Some(raw::ANY),
+        }
+    }
+
+    /// What is told of an IRP. None for an unknown one.
+    pub fn irp(&self, irp: u32) -> Option<Left> {
+        let mut left = RawLeft::default();
+        // SAFETY: the handle is locked.
+        let code = unsafe { raw::csq_left(&mut *self.shared.lock(), irp, &mut left) };
+        (code == raw::OK).then(|| Left {
+            life: left.life,
+            cancelled: left.cancelled == 1,
+            status: (left.completed == 1).then(|| FinalStatus::of(left.status)),
+        })
+    }
+}
+
+/// The IRPs that are listed in a closed queue, by their numbers.
+#[derive(Debug)]
+pub struct Listed<'queue> {
+    queue: &'queue Closed,
+    // None once the end was met.
+    after: Option<u32>,
+}
+
+impl Iterator for Listed<'_> {
+    type Item = u32;
+
+    fn next(&mut self) -> Option<u32> {
+        let mut irp = 0;
+        let after = self.after?;
+        // SAFETY: the handle is locked.
+        let code = unsafe { raw::csq_next_listed(&mut *self.queue.shared.lock(), after, &mut irp) };
+        self.after = (code == raw::OK).then_some(irp);
+        self.after
+    }
+}

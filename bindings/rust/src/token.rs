@@ -1,0 +1,111 @@
+//! What a pass has to complete.
+//!
+//! A token borrows its pass, so it is spent through that pass, before the pass is given back, and by its thread. Rust
+//! has no values that must be spent; so a token that is let go, at a `?` or in a panic, completes its IRP with
+//! `STATUS_CANCELLED`, which fits however the pass got it.
+
+use crate::pass::Pass;
+use crate::words::{FinalStatus, Irp};
+use std::fmt;
+use std::mem;
+
+// What the three kinds have in common.
+macro_rules! token {
+    ($name:ident) => {
+        impl $name<'_> {
+            /// The IRP, in its life.
+            pub fn irp(&self) -> Irp {
+                self.irp
+            }
+        }
+
+        impl fmt::Debug for $name<'_> {
+            fn fmt(&self, f: &mut fmt::Formatter<'_>) -> fmt::Result {
+                f.debug_tuple(stringify!($name)).field(&self.irp).finish()
+            }
+        }
+    };
+}
+
+/// An IRP that the pass got by a removal. Dropped, it is completed with `STATUS_CANCELLED`.
+#[must_use = "a removed IRP has to be completed, and is completed as cancelled where it is dropped"]
+pub struct Removed<'pass> {
+    pub(crate) pass: &'pass Pass,
+    pub(crate) irp: Irp,
+}
+
+token!(Removed);
+
+impl Removed<'_> {
+    /// Completes the IRP with this status (`IoCompleteRequest`).
+    pub fn complete(self, status: FinalStatus) {
+        self.pass.complete(self.irp, status);
+        mem::forget(self);
+    }
+}
+
+impl Drop for Removed<'_> {
+    fn drop(&mut self) {
+        self.pass.complete_cancelled(self.irp);
+    }
+}
+
+/// An IRP that the pass got cancelled: an insert found it cancelled, or the cancel routine took it out. Dropped, it is
+/// completed.
+#[must_use = "a cancelled IRP has to be completed, and is where it is dropped"]
+pub struct Cancelled<'pass> {
+    pub(crate) pass: &'pass Pass,
+    pub(crate) irp: Irp,
+}
+
+token!(Cancelled);
+
+impl Cancelled<'_> {
+    /// Completes the IRP with `STATUS_CANCELLED` (`IoCompleteRequest`).
+    pub fn complete(self) {
+        drop(self);
+    }
+}
+
+impl Drop for Cancelled<'_> {
+    fn drop(&mut self) {
+        self.pass.complete_cancelled(self.irp);
+    }
+}
+
+/// An IRP whose cancel routine this pass has taken, and which is still listed. Dropped, the cancel routine runs, and
+/// the IRP is completed with `STATUS_CANCELLED`.
+#[must_use = "the cancel routine of a claimed IRP has to run, and does where it is dropped"]
+pub struct Claim<'pass> {
+    pub(crate) pass: &'pass Pass,
+    pub(crate) irp: Irp,
+}
+
+token!(Claim);
+
+impl<'pass> Claim<'pass> {
+    /// Runs the cancel routine, which takes the IRP out of the list. Takes the queue's lock.
+    pub fn run(self) -> Cancelled<'pass> {
+        let (pass, irp) = (self.pass, self.irp);
+        mem::forget(self);
+        pass.cancel_routine(irp);
+        Cancelled { pass, irp }
+    }
+}
+
+impl Drop for Claim<'_> {
+    fn drop(&mut self) {
+        self.pass.cancel_routine(self.irp);
+        self.pass.complete_cancelled(self.irp);
+    }
+}
+
+/// What an accepted insert answers.
+#[must_use = "the IRP may have been cancelled before, and is completed then where this is dropped"]
+#[derive(Debug)]
+pub enum Inserted<'pass> {
+    /// The IRP is listed. The context can remove just it ([`Pass::remove`]), and names it to a cancel.
+    Pending(Irp),
+    /// The IRP had been cancelled before, and isn't listed: it has to be completed.
+    Cancelled(Cancelled<'pass>),
+}

@@ -1,0 +1,162 @@
+//! Names, places and statuses.
+
+use crate::raw::{self, RawIrp};
+use std::fmt;
+
+/// An IRP in one of its lives. From an insert it is the insert context (`IO_CSQ_IRP_CONTEXT`).
+#[derive(Clone, Copy, Debug, PartialEq, Eq, PartialOrd, Ord, Hash)]
+pub struct Irp {
+    /// Its number, from 0 on.
+    pub irp: u32,
+    /// Its life, from 0 to [`LAST_LIFE`].
+    pub life: u32,
+}
+
+/// The last life that an IRP can have.
+pub const LAST_LIFE: u32 = 0x3FFF_FFFF;
+
+/// The number, with the life after it where that isn't 0, as `3` or `3@1`.
+impl fmt::Display for Irp {
+    fn fmt(&self, f: &mut fmt::Formatter<'_>) -> fmt::Result {
+        match self.life {
+            0 => write!(f, "{}", self.irp),
+            life => write!(f, "{}@{life}", self.irp),
+        }
+    }
+}
+
+impl Irp {
+    pub(crate) fn of(raw: RawIrp) -> Irp {
+        Irp {
+            irp: raw.irp,
+            life: raw.life,
+        }
+    }
+
+    pub(crate) fn raw(self) -> RawIrp {
+        RawIrp {
+            irp: self.irp,
+            life: self.life,
+        }
+    }
+}
+
+/// Where an insert puts its IRP.
+#[derive(Clone, Copy, Debug, PartialEq, Eq, Hash)]
+pub enum Place {
+    /// After all that are listed.
+    Back,
+    /// Before all that are listed.
+    Front,
+}
+
+/// Which IRPs a removal takes (the peek context of `IoCsqRemoveNextIrp`).
+#[derive(Clone, Copy, Debug, PartialEq, Eq, Hash)]
+pub enum Peek {
+    /// Any IRP.
+    Any,
+    /// Those of this file object. Where there is no such file object, none.
+    File(u32),
+}
+
+/// How a queue keeps its list.
+#[derive(Clone, Copy, Debug, Default, PartialEq, Eq, Hash)]
+pub enum List {
+    /// In one vector.
+    #[default]
+    Vector,
+    /// In chains: one over all listed IRPs, and one for each file object.
+    Chains,
+}
+
+/// How large a queue is to be.
+#[derive(Clone, Copy, Debug, PartialEq, Eq, Hash)]
+pub struct Size {
+    /// The number of IRPs, 1 to 1,024.
+    pub irps: u32,
+    /// The number of file objects, 1 to 256.
+    pub files: u32,
+    /// How many IRPs may be listed at a time, 1 to `irps`.
+    pub limit: u32,
+    /// The number of passes, 1 to 64.
+    pub passes: u32,
+    /// The life in which all IRPs begin, 0 to [`LAST_LIFE`].
+    pub first_life: u32,
+    /// How the list is kept.
+    pub list: List,
+}
+
+impl Size {
+    /// A queue in which all IRPs may be listed and begin in life 0, with its list in one vector.
+    pub fn new(irps: u32, files: u32, passes: u32) -> Size {
+        Size {
+            irps,
+            files,
+            limit: irps,
+            passes,
+            first_life: 0,
+            list: List::Vector,
+        }
+    }
+
+    pub(crate) fn raw(&self) -> raw::RawSize {
+        raw::RawSize {
+            irps: self.irps,
+            files: self.files,
+            limit: self.limit,
+            passes: self.passes,
+            first_life: self.first_life,
+            list: match self.list {
+                List::Vector => 0,
+                List::Chains => 1,
+            },
+        }
+    }
+}
+
+/// A status with which an IRP may be completed: any but `STATUS_PENDING`.
+#[derive(Clone, Copy, Debug, PartialEq, Eq, Hash)]
+pub struct FinalStatus(u32);
+
+impl FinalStatus {
+    /// `STATUS_SUCCESS`.
+    pub const SUCCESS: FinalStatus = FinalStatus(0);
+
+    /// `STATUS_CANCELLED`.
+    pub const CANCELLED: FinalStatus = FinalStatus(0xC000_0120);
+
+    /// The status of this number, as Windows numbers them. None for `STATUS_PENDING`.
+    pub const fn new(number: u32) -> Option<FinalStatus> {
+        match number {
+            0x103 => None,
+            _ => Some(FinalStatus(number)),
+        }
+    }
+
+    /// Its number.
+    pub const fn number(self) -> u32 {
+        self.0
+    }
+
+    pub(crate) fn of(number: u32) -> FinalStatus {
+        FinalStatus(number)
+    }
+}
+
+/// Eight hexadecimal digits.
+impl fmt::Display for FinalStatus {
+    fn fmt(&self, f: &mut fmt::Formatter<'_>) -> fmt::Result {
+        write!(f, "{:08X}", self.0)
+    }
+}
+
+/// What a closed queue tells of an IRP in its present life.
+#[derive(Clone, Copy, Debug, PartialEq, Eq, Hash)]
+pub struct Left {
+    /// Its present life.
+    pub life: u32,
+    /// Whether its Cancel flag is set.
+    pub cancelled: bool,
+    /// What it was completed with. None where it wasn't.
+    pub status: Option<FinalStatus>,
+}

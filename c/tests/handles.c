@@ -1,0 +1,274 @@
+/* Empty, filled and closed handles in every call, and what a closed queue tells. */
+#include "check.h"
+
+/* What a call is handed: every call of the header takes some of these. */
+struct arguments {
+    struct csq_queue *queue;
+    struct csq_pass *pass;
+};
+
+static uint32_t first, second, third;
+static struct csq_irp named = { 0, 0 };
+static struct csq_left left;
+static const struct csq_size small = { 2, 1, 2, 2, 0, CSQ_CHAINS };
+static const uint32_t one_limit[] = { 1 };
+
+static uint32_t new_of(struct arguments a) { return csq_new(a.queue, &small); }
+static uint32_t limited_of(struct arguments a) { return csq_new_with_file_limits(a.queue, &small, one_limit, 1); }
+static uint32_t free_of(struct arguments a) { return csq_free(a.queue); }
+static uint32_t out_of(struct arguments a) { return csq_passes_out(a.queue, &first); }
+static uint32_t close_of(struct arguments a) { return csq_close(a.queue); }
+static uint32_t listed_of(struct arguments a) { return csq_next_listed(a.queue, CSQ_ANY, &first); }
+static uint32_t left_of(struct arguments a) { return csq_left(a.queue, 0, &left); }
+static uint32_t pass_of(struct arguments a) { return csq_pass(a.queue, a.pass); }
+static uint32_t back_of(struct arguments a) { return csq_give_back(a.queue, a.pass); }
+static uint32_t insert_of(struct arguments a) { return csq_insert(a.queue, a.pass, 9, 9, 0, &named); }
+static uint32_t next_of(struct arguments a) { return csq_remove_next(a.queue, a.pass, CSQ_ANY, &named); }
+static uint32_t remove_of(struct arguments a) { return csq_remove(a.queue, a.pass, named); }
+static uint32_t routine_of(struct arguments a) { return csq_cancel_routine(a.queue, a.pass, 9); }
+static uint32_t file_of(struct arguments a) { return csq_close_file(a.queue, a.pass, 9); }
+static uint32_t reuse_of(struct arguments a) { return csq_reuse(a.queue, a.pass, 9, &first); }
+static uint32_t drop_of(struct arguments a) { return csq_free_pass(a.pass); }
+static uint32_t holding_of(struct arguments a) { return csq_holding(a.pass, &first, &second); }
+static uint32_t mark_of(struct arguments a) { return csq_mark_cancel(a.pass, named, &first); }
+static uint32_t complete_of(struct arguments a) { return csq_complete(a.pass, 9, CSQ_STATUS_PENDING); }
+static uint32_t cancelled_of(struct arguments a) { return csq_complete_cancelled(a.pass, 9); }
+static uint32_t flag_of(struct arguments a) { return csq_is_cancelled(a.pass, 9, &first, &second); }
+static uint32_t status_of(struct arguments a) { return csq_status(a.pass, 9, &first, &third); }
+
+typedef uint32_t (*call)(struct arguments);
+
+/* The calls that take a queue alone, both, and a pass alone. csq_new and csq_pass, which fill one, stand apart. */
+static const call of_queue[] = { free_of, out_of, close_of, listed_of, left_of };
+static const call of_both[] = { back_of, insert_of, next_of, remove_of, routine_of, file_of, reuse_of };
+static const call of_pass[] = { drop_of, holding_of, mark_of, complete_of, cancelled_of, flag_of, status_of };
+
+#define EACH(calls) (size_t at = 0; at < sizeof(calls) / sizeof *(calls); at++)
+
+static void no_out_was_written(void) {
+    IS(first, UNWRITTEN);
+    IS(second, UNWRITTEN);
+    IS(third, UNWRITTEN);
+    IS(named.irp, 0);
+    IS(left.status, UNWRITTEN);
+}
+
+static void begin_outs(void) {
+    first = second = third = left.status = UNWRITTEN;
+    named.irp = named.life = 0;
+}
+
+static void every_call_refuses_an_empty_handle(void) {
+    struct csq_queue queue = CSQ_EMPTY, none = CSQ_EMPTY;
+    struct csq_pass pass = CSQ_EMPTY, nobody = CSQ_EMPTY;
+    struct arguments neither = { &none, &nobody }, no_pass = { &queue, &nobody }, no_queue = { &none, &pass };
+    IS(csq_new(&queue, &small), CSQ_OK);
+    IS(csq_pass(&queue, &pass), CSQ_OK);
+    begin_outs();
+    for EACH(of_queue) {
+        IS(of_queue[at](neither), CSQ_EMPTY_HANDLE);
+    }
+    for EACH(of_both) {
+        IS(of_both[at](neither), CSQ_EMPTY_HANDLE);
+        IS(of_both[at](no_pass), CSQ_EMPTY_HANDLE);
+        IS(of_both[at](no_queue), CSQ_EMPTY_HANDLE);
+    }
+    for EACH(of_pass) {
+        IS(of_pass[at](neither), CSQ_EMPTY_HANDLE);
+    }
+    IS(pass_of(neither), CSQ_EMPTY_HANDLE);
+    IS(pass_of(no_queue), CSQ_EMPTY_HANDLE);
+    no_out_was_written();
+    CHECK(none.at == NULL && nobody.at == NULL);
+    IS(csq_give_back(&queue, &pass), CSQ_OK);
+    IS(csq_free(&queue), CSQ_OK);
+}
+
+static void a_filled_handle_is_not_filled_again(void) {
+    struct csq_queue queue = CSQ_EMPTY;
+    struct csq_pass pass = CSQ_EMPTY, other = CSQ_EMPTY;
+    struct csq_size bad = { 0, 0, 0, 0, 0, 0 };
+    uint32_t out = UNWRITTEN;
+    struct arguments both = { &queue, &pass };
+    IS(csq_new(&queue, &small), CSQ_OK);
+    IS(csq_pass(&queue, &pass), CSQ_OK);
+    IS(new_of(both), CSQ_NOT_EMPTY);
+    IS(limited_of(both), CSQ_NOT_EMPTY);
+    IS(csq_new(&queue, &bad), CSQ_NOT_EMPTY);
+    IS(pass_of(both), CSQ_NOT_EMPTY);
+    IS(csq_passes_out(&queue, &out), CSQ_OK);
+    IS(out, 1);
+    IS(csq_pass(&queue, &other), CSQ_OK);
+    /* Also once there is no pass to hand out. */
+    IS(pass_of(both), CSQ_NOT_EMPTY);
+    IS(csq_give_back(&queue, &pass), CSQ_OK);
+    IS(csq_give_back(&queue, &other), CSQ_OK);
+    IS(csq_close(&queue), CSQ_OK);
+    IS(new_of(both), CSQ_NOT_EMPTY);
+    IS(csq_free(&queue), CSQ_OK);
+}
+
+static void what_was_freed_is_empty(void) {
+    struct csq_queue queue = CSQ_EMPTY;
+    struct csq_pass pass = CSQ_EMPTY;
+    struct arguments both = { &queue, &pass };
+    IS(csq_new(&queue, &small), CSQ_OK);
+    IS(csq_pass(&queue, &pass), CSQ_OK);
+    IS(csq_give_back(&queue, &pass), CSQ_OK);
+    IS(csq_give_back(&queue, &pass), CSQ_EMPTY_HANDLE);
+    IS(csq_free_pass(&pass), CSQ_EMPTY_HANDLE);
+    IS(csq_free(&queue), CSQ_OK);
+    IS(csq_free(&queue), CSQ_EMPTY_HANDLE);
+    IS(csq_close(&queue), CSQ_EMPTY_HANDLE);
+    for EACH(of_both) {
+        IS(of_both[at](both), CSQ_EMPTY_HANDLE);
+    }
+}
+
+/* A closed queue has no pass, so that of another stands for one: the queue is looked at first. */
+static void a_closed_queue_refuses_every_other_call(void) {
+    struct csq_queue queue = CSQ_EMPTY, other = CSQ_EMPTY;
+    struct csq_pass pass = CSQ_EMPTY, nobody = CSQ_EMPTY;
+    struct arguments both = { &queue, &pass }, no_pass = { &queue, &nobody };
+    IS(csq_new(&queue, &small), CSQ_OK);
+    IS(csq_new(&other, &small), CSQ_OK);
+    IS(csq_pass(&other, &pass), CSQ_OK);
+    IS(csq_close(&queue), CSQ_OK);
+    begin_outs();
+    for EACH(of_both) {
+        IS(of_both[at](both), CSQ_CLOSED);
+        IS(of_both[at](no_pass), CSQ_EMPTY_HANDLE);
+    }
+    IS(pass_of(both), CSQ_NOT_EMPTY);
+    IS(pass_of(no_pass), CSQ_CLOSED);
+    IS(out_of(both), CSQ_CLOSED);
+    IS(close_of(both), CSQ_CLOSED);
+    no_out_was_written();
+    CHECK(pass.at != NULL && nobody.at == NULL);
+    IS(csq_free(&queue), CSQ_OK);
+    IS(csq_free(&queue), CSQ_EMPTY_HANDLE);
+    IS(csq_give_back(&other, &pass), CSQ_OK);
+    IS(csq_free(&other), CSQ_OK);
+}
+
+static void no_lock(void *of) {
+    (void)of;
+}
+
+/* The mark of csq_cancel needs no queue, and its routine does. */
+static void a_cancel_without_its_queue_leaves_the_irp_owed(void) {
+    struct csq_queue queue = CSQ_EMPTY, none = CSQ_EMPTY;
+    struct csq_pass pass = CSQ_EMPTY;
+    struct csq_lock lock = { no_lock, no_lock, NULL };
+    struct csq_irp irp = { 0, 0 };
+    uint32_t completed = UNWRITTEN, held = UNWRITTEN, owed = UNWRITTEN;
+    IS(csq_new(&queue, &small), CSQ_OK);
+    IS(csq_pass(&queue, &pass), CSQ_OK);
+    IS(csq_cleanup(&none, &pass, 0, &lock, &completed), CSQ_EMPTY_HANDLE);
+    IS(csq_insert(&queue, &pass, 0, 0, 0, &irp), CSQ_OK);
+    IS(csq_cancel(&none, &pass, irp, &lock, &completed), CSQ_EMPTY_HANDLE);
+    IS(completed, UNWRITTEN);
+    IS(csq_holding(&pass, &held, &owed), CSQ_OK);
+    IS(held, 0);
+    IS(owed, 1);
+    IS(csq_cancel_routine(&queue, &pass, 0), CSQ_OK);
+    IS(csq_complete_cancelled(&pass, 0), CSQ_OK);
+    IS(csq_give_back(&queue, &pass), CSQ_OK);
+    IS(csq_free(&queue), CSQ_OK);
+}
+
+static void only_a_closed_queue_tells_what_is_left(void) {
+    struct csq_queue queue = CSQ_EMPTY;
+    struct arguments alone = { &queue, NULL };
+    IS(csq_new(&queue, &small), CSQ_OK);
+    begin_outs();
+    IS(listed_of(alone), CSQ_NOT_CLOSED);
+    IS(left_of(alone), CSQ_NOT_CLOSED);
+    IS(csq_left(&queue, 9, &left), CSQ_NOT_CLOSED);
+    no_out_was_written();
+    IS(csq_free(&queue), CSQ_OK);
+}
+
+static void left_is(struct csq_queue *queue, uint32_t irp, uint32_t life, uint32_t cancelled, uint32_t completed,
+                    uint32_t status) {
+    struct csq_left of = { UNWRITTEN, UNWRITTEN, UNWRITTEN, UNWRITTEN };
+    IS(csq_left(queue, irp, &of), CSQ_OK);
+    IS(of.life, life);
+    IS(of.cancelled, cancelled);
+    IS(of.completed, completed);
+    IS(of.status, status);
+}
+
+static void the_list_is(struct csq_queue *queue, const uint32_t *irps, size_t count) {
+    uint32_t after = CSQ_ANY, irp = UNWRITTEN;
+    for (size_t at = 0; at < count; at++) {
+        IS(csq_next_listed(queue, after, &irp), CSQ_OK);
+        IS(irp, irps[at]);
+        after = irp;
+    }
+    irp = UNWRITTEN;
+    IS(csq_next_listed(queue, after, &irp), CSQ_NONE);
+    IS(irp, UNWRITTEN);
+}
+
+/* IRP 0 is home and cancelled, 1 home, 2 completed, 3 completed as cancelled, 4 in its next life and home, 5 and 6
+ * listed, and 7 in its next life and listed first. */
+static struct device device_to_close(uint32_t list) {
+    struct csq_size size = size_of(8, 2, list);
+    size.first_life = 3;
+    struct device device = device_of(size);
+    struct csq_irp context = { 2, 3 };
+    uint32_t life = UNWRITTEN;
+    IS(mark(&device, 0, 0, 3), 0);
+    for (uint32_t irp = 2; irp < 7; irp++) {
+        IS(put(&device, 0, irp, irp % 2), CSQ_OK);
+    }
+    IS(csq_remove(&device.queue, &device.passes[3], context), CSQ_OK);
+    IS(csq_complete(&device.passes[3], 2, 0xC0000001), CSQ_OK);
+    IS(mark(&device, 1, 3, 3), 1);
+    IS(mark(&device, 2, 4, 3), 1);
+    IS(csq_cancel_routine(&device.queue, &device.passes[2], 4), CSQ_OK);
+    IS(csq_complete_cancelled(&device.passes[2], 4), CSQ_OK);
+    IS(csq_reuse(&device.queue, &device.passes[2], 4, &life), CSQ_OK);
+    IS(csq_insert(&device.queue, &device.passes[0], 7, 0, 1, &context), CSQ_OK);
+    IS(take(&device, 1, 0), 7);
+    IS(csq_complete(&device.passes[1], 7, 5), CSQ_OK);
+    IS(csq_reuse(&device.queue, &device.passes[2], 7, &life), CSQ_OK);
+    IS(csq_insert(&device.queue, &device.passes[0], 7, 0, 1, &context), CSQ_OK);
+    settle(&device);
+    return device;
+}
+
+static void a_closed_queue_tells_what_is_left(uint32_t list) {
+    static const uint32_t listed[] = { 7, 5, 6 };
+    struct device device = device_to_close(list);
+    uint32_t irp = UNWRITTEN;
+    IS(csq_close(&device.queue), CSQ_OK);
+    the_list_is(&device.queue, listed, 3);
+    IS(csq_next_listed(&device.queue, 2, &irp), CSQ_NOT_LISTED);
+    IS(csq_next_listed(&device.queue, 0, &irp), CSQ_NOT_LISTED);
+    IS(csq_next_listed(&device.queue, 8, &irp), CSQ_NOT_LISTED);
+    IS(irp, UNWRITTEN);
+    left_is(&device.queue, 0, 3, 1, 0, 0);
+    left_is(&device.queue, 1, 3, 0, 0, 0);
+    left_is(&device.queue, 2, 3, 0, 1, 0xC0000001);
+    left_is(&device.queue, 3, 3, 1, 1, CSQ_STATUS_CANCELLED);
+    left_is(&device.queue, 4, 4, 0, 0, 0);
+    left_is(&device.queue, 5, 3, 0, 0, 0);
+    left_is(&device.queue, 7, 4, 0, 0, 0);
+    begin_outs();
+    IS(csq_left(&device.queue, 8, &left), CSQ_UNKNOWN_IRP);
+    IS(left.status, UNWRITTEN);
+    IS(csq_free(&device.queue), CSQ_OK);
+}
+
+int main(void) {
+    RUN(every_call_refuses_an_empty_handle);
+    RUN(a_filled_handle_is_not_filled_again);
+    RUN(what_was_freed_is_empty);
+    RUN(a_closed_queue_refuses_every_other_call);
+    RUN(a_cancel_without_its_queue_leaves_the_irp_owed);
+    RUN(only_a_closed_queue_tells_what_is_left);
+    RUN_BOTH(a_closed_queue_tells_what_is_left);
+    return DONE();
+}

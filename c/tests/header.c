@@ -1,0 +1,91 @@
+/* The header alone: each name that it promises, as C and as C++. Compiled with all warnings as errors. */
+#include "csq.h"
+
+/* A second time does no harm. */
+#include "csq.h"
+
+#include <stdio.h>
+
+static struct csq_queue queue = CSQ_EMPTY;
+static struct csq_pass pass = CSQ_EMPTY;
+
+static void lock(void *of) {
+    ++*(int *)of;
+}
+
+static void unlock(void *of) {
+    --*(int *)of;
+}
+
+/* Every code has a case of its own, so no two are the same number. */
+static const char *name_of(uint32_t code) {
+    switch (code) {
+#define NAME(code) \
+    case code: \
+        return #code
+        NAME(CSQ_OK);
+        NAME(CSQ_UNKNOWN_IRP);
+        NAME(CSQ_UNKNOWN_FILE);
+        NAME(CSQ_NOT_HOME);
+        NAME(CSQ_FILE_CLOSED);
+        NAME(CSQ_FULL);
+        NAME(CSQ_FILE_FULL);
+        NAME(CSQ_CANCELLED);
+        NAME(CSQ_NONE);
+        NAME(CSQ_STALE);
+        NAME(CSQ_NOT_COMPLETED);
+        NAME(CSQ_LIVES_SPENT);
+        NAME(CSQ_NOT_HELD);
+        NAME(CSQ_NOT_OWED);
+        NAME(CSQ_NOT_REMOVED);
+        NAME(CSQ_NOT_FINAL);
+        NAME(CSQ_HOLDING);
+        NAME(CSQ_PASSES_OUT);
+        NAME(CSQ_NO_PASS);
+        NAME(CSQ_BAD_SIZE);
+        NAME(CSQ_NO_MEMORY);
+        NAME(CSQ_EMPTY_HANDLE);
+        NAME(CSQ_NOT_EMPTY);
+        NAME(CSQ_NOT_LISTED);
+        NAME(CSQ_CLOSED);
+        NAME(CSQ_NOT_CLOSED);
+    default:
+        return "";
+    }
+}
+
+/* A queue's whole way, so that every function is linked, also from C++. */
+static uint32_t way(void) {
+    struct csq_size size = { 2, 1, 2, 1, 0, CSQ_VECTOR };
+    uint32_t limits[] = { 2 }, number = 0, other = 0;
+    struct csq_irp irp = { 0, 0 };
+    struct csq_left left = { 0, 0, 0, 0 };
+    int held = 0;
+    struct csq_lock its_lock = { lock, unlock, &held };
+    uint32_t wrong = csq_new(&queue, &size) | csq_free(&queue);
+    wrong |= csq_new_with_file_limits(&queue, &size, limits, 1) | csq_pass(&queue, &pass);
+    wrong |= csq_insert(&queue, &pass, 0, 0, 1, &irp) | csq_remove(&queue, &pass, irp) | csq_complete(&pass, 0, 0);
+    wrong |= csq_reuse(&queue, &pass, 0, &number) | csq_insert(&queue, &pass, 0, 0, 0, &irp);
+    wrong |= csq_cancel(&queue, &pass, irp, &its_lock, &number) | csq_insert(&queue, &pass, 1, 0, 0, &irp);
+    wrong |= csq_mark_cancel(&pass, irp, &number) | csq_cancel_routine(&queue, &pass, 1);
+    wrong |= csq_complete_cancelled(&pass, 1) | csq_cleanup(&queue, &pass, 0, &its_lock, &number);
+    wrong |= csq_close_file(&queue, &pass, 0) | csq_is_cancelled(&pass, 0, &number, &other);
+    wrong |= csq_status(&pass, 0, &number, &other) | csq_holding(&pass, &number, &other);
+    wrong |= csq_passes_out(&queue, &number) | (csq_remove_next(&queue, &pass, CSQ_ANY, &irp) ^ CSQ_NONE);
+    wrong |= (csq_free_pass(&pass) | csq_free_pass(&pass)) ^ CSQ_EMPTY_HANDLE;
+    wrong |= (csq_close(&queue) ^ CSQ_PASSES_OUT) | (csq_next_listed(&queue, CSQ_ANY, &number) ^ CSQ_NOT_CLOSED);
+    wrong |= (csq_left(&queue, 0, &left) ^ CSQ_NOT_CLOSED) | (csq_give_back(&queue, &pass) ^ CSQ_EMPTY_HANDLE);
+    return wrong | (uint32_t)held;
+}
+
+int main(void) {
+    uint32_t named = 0;
+    while (*name_of(named)) {
+        named++;
+    }
+    int fits = named == CSQ_NOT_CLOSED + 1 && sizeof(struct csq_irp) == 8 && sizeof(struct csq_size) == 24 &&
+               sizeof(struct csq_left) == 16 && sizeof queue == sizeof(void *) && sizeof pass == sizeof(void *);
+    int passed = fits && way() == 0;
+    printf("%s the_header_names_what_is_there\n", passed ? "passed" : "FAILED");
+    return passed ? 0 : 1;
+}

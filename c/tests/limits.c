@@ -1,0 +1,106 @@
+/* The limit of a list and those of its file objects: met, and freed again by each way out of the list. */
+#include "check.h"
+
+static struct device limited(uint32_t list, uint32_t limit, const uint32_t *file_limits, uint32_t files) {
+    struct csq_size size = { 8, files, limit, CHECK_PASSES, 0, list };
+    struct device device = { CSQ_EMPTY, { CSQ_EMPTY, CSQ_EMPTY, CSQ_EMPTY, CSQ_EMPTY }, 8 };
+    IS(csq_new_with_file_limits(&device.queue, &size, file_limits, files), CSQ_OK);
+    hand_out(&device);
+    return device;
+}
+
+static void the_list_has_its_limit(uint32_t list) {
+    struct csq_size size = size_of(8, 2, list);
+    size.limit = 2;
+    struct device device = device_of(size);
+    IS(put(&device, 0, 0, 0), CSQ_OK);
+    IS(put(&device, 0, 1, 1), CSQ_OK);
+    IS(put(&device, 0, 2, 0), CSQ_FULL);
+    IS(take(&device, 0, 1), 1);
+    IS(put(&device, 0, 2, 0), CSQ_OK);
+    IS(put(&device, 0, 3, 0), CSQ_FULL);
+    end(&device);
+}
+
+static void a_file_object_has_its_limit(uint32_t list) {
+    static const uint32_t file_limits[] = { 1, 3 };
+    struct device device = limited(list, 8, file_limits, 2);
+    IS(put(&device, 0, 0, 0), CSQ_OK);
+    IS(put(&device, 0, 1, 0), CSQ_FILE_FULL);
+    IS(put(&device, 0, 1, 1), CSQ_OK);
+    IS(put(&device, 0, 2, 1), CSQ_OK);
+    IS(put(&device, 0, 3, 1), CSQ_OK);
+    IS(put(&device, 0, 4, 1), CSQ_FILE_FULL);
+    IS(take(&device, 0, 1), 1);
+    IS(put(&device, 0, 4, 0), CSQ_FILE_FULL);
+    IS(put(&device, 0, 4, 1), CSQ_OK);
+    end(&device);
+}
+
+/* An IRP that a canceller has counts as listed until its cancel routine has run. */
+static void a_cancel_frees_its_place_by_its_routine(uint32_t list) {
+    static const uint32_t file_limits[] = { 1 };
+    struct device device = limited(list, 8, file_limits, 1);
+    IS(put(&device, 0, 0, 0), CSQ_OK);
+    IS(mark(&device, 1, 0, 0), 1);
+    IS(put(&device, 0, 1, 0), CSQ_FILE_FULL);
+    IS(csq_cancel_routine(&device.queue, &device.passes[1], 0), CSQ_OK);
+    IS(put(&device, 0, 1, 0), CSQ_OK);
+    end(&device);
+}
+
+static void an_insert_that_finds_a_cancel_takes_no_place(uint32_t list) {
+    static const uint32_t file_limits[] = { 1 };
+    struct device device = limited(list, 1, file_limits, 1);
+    IS(mark(&device, 1, 0, 0), 0);
+    IS(put(&device, 0, 0, 0), CSQ_CANCELLED);
+    IS(put(&device, 0, 1, 0), CSQ_OK);
+    IS(mark(&device, 1, 2, 0), 0);
+    IS(put(&device, 0, 2, 0), CSQ_FILE_FULL);
+    IS(take(&device, 0, 0), 1);
+    IS(put(&device, 0, 2, 0), CSQ_CANCELLED);
+    end(&device);
+}
+
+static void the_largest_queue_is_filled_and_emptied(uint32_t list) {
+    struct device device = device_of(size_of(CSQ_MOST_IRPS, CSQ_MOST_FILES, list));
+    for (uint32_t irp = 0; irp < CSQ_MOST_IRPS; irp++) {
+        IS(put(&device, 0, irp, irp % CSQ_MOST_FILES), CSQ_OK);
+    }
+    for (uint32_t file = CSQ_MOST_FILES; file-- > 0;) {
+        for (uint32_t irp = file; irp < CSQ_MOST_IRPS; irp += CSQ_MOST_FILES) {
+            IS(take(&device, 1, file), irp);
+            IS(csq_complete(&device.passes[1], irp, 0), CSQ_OK);
+        }
+        IS(take(&device, 1, file), CSQ_ANY);
+    }
+    end(&device);
+}
+
+static void a_queue_hands_out_sixty_four_passes(void) {
+    struct csq_size size = { 1, 1, 1, CSQ_MOST_PASSES, 0, CSQ_VECTOR };
+    struct csq_queue queue = CSQ_EMPTY;
+    struct csq_pass passes[CSQ_MOST_PASSES + 1];
+    uint32_t out = UNWRITTEN;
+    IS(csq_new(&queue, &size), CSQ_OK);
+    for (uint32_t at = 0; at <= CSQ_MOST_PASSES; at++) {
+        passes[at].at = NULL;
+        IS(csq_pass(&queue, &passes[at]), at < CSQ_MOST_PASSES ? CSQ_OK : CSQ_NO_PASS);
+    }
+    for (uint32_t at = CSQ_MOST_PASSES; at-- > 0;) {
+        IS(csq_give_back(&queue, &passes[at]), CSQ_OK);
+        IS(csq_passes_out(&queue, &out), CSQ_OK);
+        IS(out, at);
+    }
+    IS(csq_free(&queue), CSQ_OK);
+}
+
+int main(void) {
+    RUN_BOTH(the_list_has_its_limit);
+    RUN_BOTH(a_file_object_has_its_limit);
+    RUN_BOTH(a_cancel_frees_its_place_by_its_routine);
+    RUN_BOTH(an_insert_that_finds_a_cancel_takes_no_place);
+    RUN_BOTH(the_largest_queue_is_filled_and_emptied);
+    RUN(a_queue_hands_out_sixty_four_passes);
+    return DONE();
+}

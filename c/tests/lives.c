@@ -1,0 +1,154 @@
+/* IRPs that are used again, and calls that name an older or a later life. */
+#include "check.h"
+
+static void reuse(struct device *device, uint32_t irp, uint32_t want) {
+    uint32_t life = UNWRITTEN;
+    IS(csq_reuse(&device->queue, &device->passes[3], irp, &life), CSQ_OK);
+    IS(life, want);
+}
+
+static void reads(struct device *device, uint32_t irp, uint32_t want_life, uint32_t want_cancelled) {
+    uint32_t life = UNWRITTEN, cancelled = UNWRITTEN, status = UNWRITTEN;
+    IS(csq_is_cancelled(&device->passes[2], irp, &life, &cancelled), CSQ_OK);
+    IS(life, want_life);
+    IS(cancelled, want_cancelled);
+    life = UNWRITTEN;
+    IS(csq_status(&device->passes[2], irp, &life, &status), CSQ_NONE);
+    IS(life, want_life);
+    IS(status, UNWRITTEN);
+}
+
+static void a_completed_irp_is_used_again(uint32_t list) {
+    struct device device = device_of(size_of(2, 1, list));
+    for (uint32_t life = 0; life < 100; life++) {
+        reads(&device, 1, life, 0);
+        IS(put(&device, 0, 1, 0), CSQ_OK);
+        if (life % 2) {
+            IS(mark(&device, 1, 1, life), 1);
+            reads(&device, 1, life, 1);
+            IS(csq_cancel_routine(&device.queue, &device.passes[1], 1), CSQ_OK);
+            IS(csq_complete_cancelled(&device.passes[1], 1), CSQ_OK);
+        } else {
+            IS(take(&device, 1, 0), 1);
+            IS(csq_complete(&device.passes[1], 1, life), CSQ_OK);
+        }
+        reuse(&device, 1, life + 1);
+    }
+    reads(&device, 0, 0, 0);
+    end(&device);
+}
+
+static void only_a_completed_irp_is_used_again(uint32_t list) {
+    struct device device = device_of(size_of(3, 1, list));
+    uint32_t life = UNWRITTEN;
+    struct csq_pass *by = &device.passes[0];
+    IS(csq_reuse(&device.queue, by, 0, &life), CSQ_NOT_COMPLETED);
+    put(&device, 0, 0, 0);
+    IS(csq_reuse(&device.queue, by, 0, &life), CSQ_NOT_COMPLETED);
+    IS(mark(&device, 0, 0, 0), 1);
+    IS(csq_reuse(&device.queue, by, 0, &life), CSQ_NOT_COMPLETED);
+    IS(csq_cancel_routine(&device.queue, by, 0), CSQ_OK);
+    IS(csq_reuse(&device.queue, by, 0, &life), CSQ_NOT_COMPLETED);
+    IS(csq_complete_cancelled(by, 0), CSQ_OK);
+    IS(csq_reuse(&device.queue, by, 3, &life), CSQ_UNKNOWN_IRP);
+    IS(life, UNWRITTEN);
+    reuse(&device, 0, 1);
+    IS(csq_reuse(&device.queue, by, 0, &life), CSQ_NOT_COMPLETED);
+    IS(life, UNWRITTEN);
+    end(&device);
+}
+
+static void a_late_cancel_takes_nothing_of_a_newer_life(uint32_t list) {
+    struct device device = device_of(size_of(1, 1, list));
+    struct csq_irp old = { 0, 0 }, later = { 0, 2 }, present = { 0, 1 };
+    uint32_t found = UNWRITTEN;
+    put(&device, 0, 0, 0);
+    take(&device, 0, 0);
+    IS(csq_complete(&device.passes[0], 0, 0), CSQ_OK);
+    /* Before the reuse the old life is the present one, and has no routine. */
+    IS(mark(&device, 1, 0, 0), 0);
+    reuse(&device, 0, 1);
+    IS(csq_mark_cancel(&device.passes[1], old, &found), CSQ_STALE);
+    IS(csq_mark_cancel(&device.passes[1], later, &found), CSQ_STALE);
+    IS(found, UNWRITTEN);
+    reads(&device, 0, 1, 0);
+    IS(put(&device, 0, 0, 0), CSQ_OK);
+    IS(csq_mark_cancel(&device.passes[1], old, &found), CSQ_STALE);
+    IS(csq_remove(&device.queue, &device.passes[1], old), CSQ_NONE);
+    IS(csq_remove(&device.queue, &device.passes[1], later), CSQ_NONE);
+    reads(&device, 0, 1, 0);
+    IS(csq_remove(&device.queue, &device.passes[1], present), CSQ_OK);
+    end(&device);
+}
+
+static void contexts_name_the_present_life(uint32_t list) {
+    struct csq_size size = size_of(2, 1, list);
+    size.first_life = 77;
+    struct device device = device_of(size);
+    struct csq_irp context = { UNWRITTEN, UNWRITTEN };
+    IS(csq_insert(&device.queue, &device.passes[0], 1, 0, 0, &context), CSQ_OK);
+    IS(context.irp, 1);
+    IS(context.life, 77);
+    context.life = UNWRITTEN;
+    IS(csq_remove_next(&device.queue, &device.passes[0], CSQ_ANY, &context), CSQ_OK);
+    IS(context.irp, 1);
+    IS(context.life, 77);
+    IS(csq_complete(&device.passes[0], 1, 0), CSQ_OK);
+    reuse(&device, 1, 78);
+    IS(mark(&device, 1, 1, 78), 0);
+    IS(csq_insert(&device.queue, &device.passes[0], 1, 0, 0, &context), CSQ_CANCELLED);
+    IS(context.life, 78);
+    end(&device);
+}
+
+static void the_last_life_is_the_end(uint32_t list) {
+    struct csq_size size = size_of(2, 1, list);
+    uint32_t life = UNWRITTEN, status = UNWRITTEN;
+    size.first_life = CSQ_LAST_LIFE - 1;
+    struct device device = device_of(size);
+    put(&device, 0, 0, 0);
+    take(&device, 0, 0);
+    IS(csq_complete(&device.passes[0], 0, UINT32_MAX), CSQ_OK);
+    reuse(&device, 0, CSQ_LAST_LIFE);
+    reads(&device, 0, CSQ_LAST_LIFE, 0);
+    put(&device, 0, 0, 0);
+    IS(mark(&device, 1, 0, CSQ_LAST_LIFE), 1);
+    IS(csq_cancel_routine(&device.queue, &device.passes[1], 0), CSQ_OK);
+    IS(csq_reuse(&device.queue, &device.passes[0], 0, &life), CSQ_NOT_COMPLETED);
+    IS(csq_complete_cancelled(&device.passes[1], 0), CSQ_OK);
+    IS(csq_reuse(&device.queue, &device.passes[0], 0, &life), CSQ_LIVES_SPENT);
+    IS(life, UNWRITTEN);
+    IS(csq_status(&device.passes[0], 0, &life, &status), CSQ_OK);
+    IS(life, CSQ_LAST_LIFE);
+    IS(status, CSQ_STATUS_CANCELLED);
+    IS(put(&device, 0, 0, 0), CSQ_NOT_HOME);
+    end(&device);
+}
+
+static void lives_of_irps_are_their_own(uint32_t list) {
+    struct device device = device_of(size_of(4, 1, list));
+    for (uint32_t turn = 0; turn < 24; turn++) {
+        for (uint32_t irp = 0; irp < 4; irp++) {
+            if (turn % (irp + 1) == 0) {
+                IS(put(&device, 0, irp, 0), CSQ_OK);
+                IS(take(&device, 1, 0), irp);
+                IS(csq_complete(&device.passes[1], irp, 0), CSQ_OK);
+                reuse(&device, irp, turn / (irp + 1) + 1);
+            }
+        }
+    }
+    for (uint32_t irp = 0; irp < 4; irp++) {
+        reads(&device, irp, 24 / (irp + 1), 0);
+    }
+    end(&device);
+}
+
+int main(void) {
+    RUN_BOTH(a_completed_irp_is_used_again);
+    RUN_BOTH(only_a_completed_irp_is_used_again);
+    RUN_BOTH(a_late_cancel_takes_nothing_of_a_newer_life);
+    RUN_BOTH(contexts_name_the_present_life);
+    RUN_BOTH(the_last_life_is_the_end);
+    RUN_BOTH(lives_of_irps_are_their_own);
+    return DONE();
+}

@@ -1,0 +1,237 @@
+/* Memory: each call for it refused, what is given back, and that no call takes any but those that make something.
+ * The linker leads all calls for memory here (--wrap). */
+#include "check.h"
+
+#include <errno.h>
+#include <stdbool.h>
+
+void *__real_malloc(size_t bytes);
+void *__real_calloc(size_t count, size_t bytes);
+void *__real_realloc(void *block, size_t bytes);
+void *__real_aligned_alloc(size_t alignment, size_t bytes);
+int __real_posix_memalign(void **block, size_t alignment, size_t bytes);
+void __real_free(void *block);
+void *__wrap_malloc(size_t bytes);
+void *__wrap_calloc(size_t count, size_t bytes);
+void *__wrap_realloc(void *block, size_t bytes);
+void *__wrap_aligned_alloc(size_t alignment, size_t bytes);
+int __wrap_posix_memalign(void **block, size_t alignment, size_t bytes);
+void __wrap_free(void *block);
+
+/* How often memory was asked for, and how many blocks are out. */
+static unsigned long asked, blocks;
+
+/* Which call is refused, 0 for none, and whether all after it are too. */
+static unsigned long refused;
+static bool and_later;
+
+static bool refuses(void) {
+    asked++;
+    return refused && (asked == refused || (and_later && asked > refused));
+}
+
+static void *counted(void *block) {
+    blocks += block != NULL;
+    return block;
+}
+
+void *__wrap_malloc(size_t bytes) {
+    return refuses() ? NULL : counted(__real_malloc(bytes));
+}
+
+void *__wrap_calloc(size_t count, size_t bytes) {
+    return refuses() ? NULL : counted(__real_calloc(count, bytes));
+}
+
+void *__wrap_realloc(void *block, size_t bytes) {
+    if (refuses()) {
+        return NULL;
+    }
+    return block ? __real_realloc(block, bytes) : counted(__real_realloc(NULL, bytes));
+}
+
+void *__wrap_aligned_alloc(size_t alignment, size_t bytes) {
+    return refuses() ? NULL : counted(__real_aligned_alloc(alignment, bytes));
+}
+
+int __wrap_posix_memalign(void **block, size_t alignment, size_t bytes) {
+    if (refuses()) {
+        return ENOMEM;
+    }
+    int code = __real_posix_memalign(block, alignment, bytes);
+    blocks += code == 0;
+    return code;
+}
+
+void __wrap_free(void *block) {
+    blocks -= block != NULL;
+    __real_free(block);
+}
+
+static void refuse(unsigned long which, bool later) {
+    asked = 0;
+    refused = which;
+    and_later = later;
+}
+
+static const uint32_t file_limits[] = { 2, 1 };
+
+static uint32_t make(struct csq_queue *queue, uint32_t list, bool limited) {
+    struct csq_size size = { 4, 2, 3, 1, 0, list };
+    return limited ? csq_new_with_file_limits(queue, &size, file_limits, 2) : csq_new(queue, &size);
+}
+
+/* Makes a queue while a call for memory is refused, and frees it; answers whether the refusal was met. One that is met
+ * alone may be made good. */
+static bool try_new(uint32_t list, bool limited, unsigned long which, bool later) {
+    struct csq_queue queue = CSQ_EMPTY;
+    unsigned long before = blocks;
+    refuse(which, later);
+    uint32_t code = make(&queue, list, limited);
+    bool met = asked >= which;
+    refuse(0, false);
+    if (code == CSQ_OK) {
+        CHECK(!met || !later);
+        IS(csq_free(&queue), CSQ_OK);
+    } else {
+        IS(code, CSQ_NO_MEMORY);
+        CHECK(queue.at == NULL);
+    }
+    IS(blocks, before);
+    return met;
+}
+
+/* Refuses each call for memory in turn, until none is met; answers how many there were. */
+static unsigned long refuse_each_of_new(uint32_t list, bool limited, bool later) {
+    unsigned long which = 1;
+    while (which < 100000 && try_new(list, limited, which, later)) {
+        which++;
+    }
+    return which - 1;
+}
+
+static void a_queue_that_finds_no_memory_keeps_none(uint32_t list) {
+    unsigned long met = refuse_each_of_new(list, false, true);
+    CHECK(met > 0);
+    CHECK(refuse_each_of_new(list, false, false) >= met);
+    CHECK(refuse_each_of_new(list, true, true) > 0);
+    CHECK(refuse_each_of_new(list, true, false) > 0);
+    snprintf(check_note, sizeof check_note, " (%lu calls for memory, each refused)", met);
+}
+
+/* The same of a queue's one pass, which is asked for again where it was refused. */
+static bool try_pass(uint32_t list, unsigned long which, bool later) {
+    struct csq_queue queue = CSQ_EMPTY;
+    struct csq_pass pass = CSQ_EMPTY;
+    uint32_t out = UNWRITTEN;
+    IS(make(&queue, list, false), CSQ_OK);
+    unsigned long before = blocks;
+    refuse(which, later);
+    uint32_t code = csq_pass(&queue, &pass);
+    bool met = asked >= which;
+    refuse(0, false);
+    if (code != CSQ_OK) {
+        IS(code, CSQ_NO_MEMORY);
+        CHECK(pass.at == NULL && blocks == before);
+        IS(csq_passes_out(&queue, &out), CSQ_OK);
+        IS(out, 0);
+        IS(csq_pass(&queue, &pass), CSQ_OK);
+    } else {
+        CHECK(!met || !later);
+    }
+    IS(csq_give_back(&queue, &pass), CSQ_OK);
+    IS(csq_pass(&queue, &pass), CSQ_NO_PASS);
+    IS(csq_free(&queue), CSQ_OK);
+    return met;
+}
+
+static void a_pass_that_finds_no_memory_can_be_asked_for_again(uint32_t list) {
+    unsigned long met = 0;
+    for (int later = 0; later < 2; later++) {
+        for (met = 0; met < 100000 && try_pass(list, met + 1, later); met++) {
+        }
+        CHECK(met > 0);
+    }
+    snprintf(check_note, sizeof check_note, " (%lu calls for memory, each refused)", met);
+}
+
+static void other_refusals_come_before_that_of_memory(uint32_t list) {
+    struct csq_queue queue = CSQ_EMPTY;
+    struct csq_pass pass = CSQ_EMPTY, other = CSQ_EMPTY;
+    struct csq_size bad = { 4, 2, 5, 1, 0, list };
+    IS(make(&queue, list, false), CSQ_OK);
+    IS(csq_pass(&queue, &pass), CSQ_OK);
+    refuse(1, true);
+    IS(make(&queue, list, false), CSQ_NOT_EMPTY);
+    IS(csq_pass(&queue, &pass), CSQ_NOT_EMPTY);
+    IS(csq_pass(&queue, &other), CSQ_NO_PASS);
+    IS(csq_give_back(&queue, &pass), CSQ_OK);
+    IS(csq_free(&queue), CSQ_OK);
+    IS(csq_new(&queue, &bad), CSQ_BAD_SIZE);
+    IS(csq_new_with_file_limits(&queue, &bad, file_limits, 1), CSQ_BAD_SIZE);
+    IS(asked, 0);
+    refuse(0, false);
+}
+
+/* One life of each IRP: by turns removed, removed by its context, cancelled before and after its insert. */
+static void lead_through_a_life(struct device *device, uint32_t irp, uint32_t life) {
+    struct csq_irp name = { irp, life };
+    uint32_t way = irp % 4, next = UNWRITTEN, found = UNWRITTEN, value = UNWRITTEN;
+    if (way == 3) {
+        IS(csq_mark_cancel(&device->passes[1], name, &found), CSQ_OK);
+    }
+    IS(csq_insert(&device->queue, &device->passes[0], irp, irp % 256, irp % 3, &name),
+       way == 3 ? CSQ_CANCELLED : CSQ_OK);
+    if (way == 0) {
+        IS(csq_remove_next(&device->queue, &device->passes[0], irp % 256, &name), CSQ_OK);
+    } else if (way == 1) {
+        IS(csq_remove(&device->queue, &device->passes[0], name), CSQ_OK);
+    } else if (way == 2) {
+        IS(csq_mark_cancel(&device->passes[0], name, &found), CSQ_OK);
+        IS(found, 1);
+        IS(csq_cancel_routine(&device->queue, &device->passes[0], irp), CSQ_OK);
+    }
+    IS(csq_complete(&device->passes[0], irp, 7), way < 2 ? CSQ_OK : CSQ_NOT_REMOVED);
+    IS(csq_complete_cancelled(&device->passes[0], irp), way < 2 ? CSQ_NOT_HELD : CSQ_OK);
+    IS(csq_status(&device->passes[2], irp, &next, &value), CSQ_OK);
+    IS(csq_is_cancelled(&device->passes[2], irp, &next, &value), CSQ_OK);
+    IS(csq_reuse(&device->queue, &device->passes[3], irp, &next), CSQ_OK);
+    IS(next, life + 1);
+}
+
+static void no_other_call_takes_memory(uint32_t list) {
+    unsigned long before = blocks;
+    struct device device = device_of(size_of(CSQ_MOST_IRPS, CSQ_MOST_FILES, list));
+    struct csq_left left;
+    uint32_t irp = UNWRITTEN;
+    refuse(1, true);
+    for (uint32_t turn = 0; turn < 2 * CSQ_MOST_IRPS; turn++) {
+        lead_through_a_life(&device, turn % CSQ_MOST_IRPS, turn / CSQ_MOST_IRPS);
+    }
+    for (uint32_t at = 0; at < CSQ_MOST_IRPS; at++) {
+        IS(put(&device, 0, at, at % CSQ_MOST_FILES), CSQ_OK);
+        IS(put(&device, 0, at, 0), CSQ_NOT_HOME);
+    }
+    for (uint32_t at = 0; at < CSQ_MOST_IRPS; at += 2) {
+        IS(mark(&device, 1, at, 2), 1);
+    }
+    IS(csq_close_file(&device.queue, &device.passes[0], 255), CSQ_OK);
+    while (take(&device, 2, 255) != CSQ_ANY) {
+    }
+    settle(&device);
+    IS(csq_close(&device.queue), CSQ_OK);
+    IS(csq_next_listed(&device.queue, CSQ_ANY, &irp), CSQ_OK);
+    IS(csq_left(&device.queue, irp, &left), CSQ_OK);
+    IS(csq_free(&device.queue), CSQ_OK);
+    IS(asked, 0);
+    refuse(0, false);
+    IS(blocks, before);
+}
+
+int main(void) {
+    RUN_BOTH(a_queue_that_finds_no_memory_keeps_none);
+    RUN_BOTH(a_pass_that_finds_no_memory_can_be_asked_for_again);
+    RUN_BOTH(other_refusals_come_before_that_of_memory);
+    RUN_BOTH(no_other_call_takes_memory);
+    return DONE();
+}

@@ -1,0 +1,255 @@
+/* Four threads over one queue, under one mutex, with cancels and completions outside of it: each IRP that was inserted
+ * is completed exactly once in each of its lives. The argument is the number of turns that each thread makes. */
+#include "check.h"
+
+#include <pthread.h>
+#include <stdatomic.h>
+
+enum { IRPS = 64, FILES = 4, THREADS = CHECK_PASSES };
+
+static struct device device;
+static pthread_mutex_t mutex = PTHREAD_MUTEX_INITIALIZER;
+static unsigned long turns = 400000;
+
+/* By IRP: how many of its lives were completed. The next one begins only after that. */
+static atomic_uint completed[IRPS];
+static atomic_ulong removed, claimed, found_cancelled, stale, missed, faults;
+
+static void lock(void *of) {
+    pthread_mutex_lock((pthread_mutex_t *)of);
+}
+
+static void unlock(void *of) {
+    pthread_mutex_unlock((pthread_mutex_t *)of);
+}
+
+static void fault_unless(int holds) {
+    if (!holds) {
+        faults++;
+    }
+}
+
+static uint32_t pick(uint64_t *state, uint32_t below) {
+    *state = *state * 6364136223846793005u + 1442695040888963407u;
+    return (uint32_t)(*state >> 33) % below;
+}
+
+/* Notes that this life of the IRP is about to be completed: all before it were, and it wasn't. */
+static void note(uint32_t irp, uint32_t life) {
+    fault_unless(atomic_fetch_add(&completed[irp], 1) == life);
+}
+
+/* What a removed IRP is completed with: the life and a bit, so never STATUS_PENDING. */
+static uint32_t status_in(uint32_t life) {
+    return UINT32_C(0x40000000) + life;
+}
+
+/* Begins the next life of an IRP, if its present one is completed. */
+static void renew(struct csq_pass *pass, uint32_t irp) {
+    uint32_t life = 0;
+    lock(&mutex);
+    uint32_t code = csq_reuse(&device.queue, pass, irp, &life);
+    unlock(&mutex);
+    fault_unless(code == CSQ_NOT_COMPLETED || (code == CSQ_OK && life > 0));
+}
+
+static void remove_one(struct csq_pass *pass, uint32_t file) {
+    struct csq_irp irp = { 0, 0 };
+    lock(&mutex);
+    uint32_t code = csq_remove_next(&device.queue, pass, file, &irp);
+    unlock(&mutex);
+    if (code == CSQ_OK) {
+        note(irp.irp, irp.life);
+        fault_unless(csq_complete(pass, irp.irp, status_in(irp.life)) == CSQ_OK);
+        removed++;
+    }
+}
+
+static void remove_this(struct csq_pass *pass, struct csq_irp irp) {
+    lock(&mutex);
+    uint32_t code = csq_remove(&device.queue, pass, irp);
+    unlock(&mutex);
+    if (code == CSQ_OK) {
+        note(irp.irp, irp.life);
+        fault_unless(csq_complete(pass, irp.irp, status_in(irp.life)) == CSQ_OK);
+        removed++;
+    }
+}
+
+static void insert_one(struct csq_pass *pass, uint32_t irp, uint64_t *state) {
+    struct csq_irp context = { 0, 0 };
+    lock(&mutex);
+    uint32_t code = csq_insert(&device.queue, pass, irp, irp % FILES, pick(state, 2), &context);
+    unlock(&mutex);
+    if (code == CSQ_CANCELLED) {
+        note(irp, context.life);
+        fault_unless(csq_complete_cancelled(pass, irp) == CSQ_OK);
+        found_cancelled++;
+    } else if (code == CSQ_OK && pick(state, 8) == 0) {
+        remove_this(pass, context);
+    }
+}
+
+/* Cancels an IRP in the life that it has or has just left. */
+static void cancel_one(struct csq_pass *pass, uint32_t irp, uint32_t back) {
+    uint32_t life = atomic_load(&completed[irp]), found = 0;
+    struct csq_irp name = { irp, life > back ? life - back : 0 };
+    uint32_t code = csq_mark_cancel(pass, name, &found);
+    if (code == CSQ_STALE) {
+        stale++;
+    } else if (!found) {
+        missed++;
+    } else {
+        lock(&mutex);
+        fault_unless(csq_cancel_routine(&device.queue, pass, irp) == CSQ_OK);
+        unlock(&mutex);
+        note(irp, name.life);
+        fault_unless(csq_complete_cancelled(pass, irp) == CSQ_OK);
+        claimed++;
+    }
+}
+
+/* What a pass reads of an IRP is never older than what it read of it before. */
+static void read_one(struct csq_pass *pass, uint32_t irp, uint32_t *lives) {
+    uint32_t life = 0, value = 0;
+    fault_unless(csq_is_cancelled(pass, irp, &life, &value) == CSQ_OK && life >= lives[irp] && value <= 1);
+    lives[irp] = life;
+    uint32_t code = csq_status(pass, irp, &life, &value);
+    fault_unless(life >= lives[irp] && (code == CSQ_NONE || value == status_in(life) || value == CSQ_STATUS_CANCELLED));
+}
+
+static void *serve(void *of) {
+    struct csq_pass *pass = (struct csq_pass *)of;
+    uint64_t state = 1 + (uint64_t)(pass - device.passes);
+    uint32_t lives[IRPS] = { 0 };
+    for (unsigned long turn = 0; turn < turns; turn++) {
+        insert_one(pass, pick(&state, IRPS), &state);
+        renew(pass, pick(&state, IRPS));
+        if (pick(&state, 2)) {
+            cancel_one(pass, pick(&state, IRPS), pick(&state, 8) == 0);
+        }
+        if (pick(&state, 4) == 0) {
+            remove_one(pass, pick(&state, 2) ? CSQ_ANY : pick(&state, FILES));
+        }
+        read_one(pass, pick(&state, IRPS), lives);
+    }
+    return NULL;
+}
+
+static void serve_all(void *(*routine)(void *)) {
+    pthread_t threads[THREADS];
+    for (int at = 0; at < THREADS; at++) {
+        IS(pthread_create(&threads[at], NULL, routine, &device.passes[at]), 0);
+    }
+    for (int at = 0; at < THREADS; at++) {
+        IS(pthread_join(threads[at], NULL), 0);
+    }
+}
+
+static void begin_counts(void) {
+    for (int irp = 0; irp < IRPS; irp++) {
+        completed[irp] = 0;
+    }
+    removed = claimed = found_cancelled = stale = missed = faults = 0;
+}
+
+/* At the end the passes are back with this thread, and each IRP is home or was completed in its present life. */
+static void end_of_lives(void) {
+    unsigned long sum = 0;
+    struct csq_left left = { 0, 0, 0, 0 };
+    uint32_t irp = 0;
+    for (int at = 0; at < IRPS; at++) {
+        remove_one(&device.passes[at % THREADS], CSQ_ANY);
+    }
+    settle(&device);
+    IS(csq_close(&device.queue), CSQ_OK);
+    IS(csq_next_listed(&device.queue, CSQ_ANY, &irp), CSQ_NONE);
+    for (irp = 0; irp < IRPS; irp++) {
+        IS(csq_left(&device.queue, irp, &left), CSQ_OK);
+        IS(completed[irp], left.life + left.completed);
+        sum += completed[irp];
+    }
+    IS(csq_free(&device.queue), CSQ_OK);
+    IS(faults, 0);
+    IS(sum, removed + claimed + found_cancelled);
+    snprintf(check_note, sizeof check_note,
+             " (%lu completions: %lu removed, %lu by a cancel, %lu found cancelled; %lu cancels came late, %lu for "
+             "another life)",
+             sum, removed, claimed, found_cancelled, missed, stale);
+}
+
+static void each_life_is_completed_once(uint32_t list) {
+    begin_counts();
+    device = device_of(size_of(IRPS, FILES, list));
+    serve_all(serve);
+    end_of_lives();
+}
+
+/* Inserts its share of the IRPs, cancels any, and cleans one file object up. */
+static void *serve_once(void *of) {
+    struct csq_pass *pass = (struct csq_pass *)of;
+    struct csq_lock the_lock = { lock, unlock, &mutex };
+    uint32_t me = (uint32_t)(pass - device.passes), count = 0, cleaned = 0;
+    uint64_t state = turns + me;
+    for (uint32_t irp = me; irp < IRPS; irp += THREADS) {
+        struct csq_irp context = { 0, 0 }, other = { pick(&state, IRPS), 0 };
+        lock(&mutex);
+        uint32_t code = csq_insert(&device.queue, pass, irp, pick(&state, FILES), 0, &context);
+        unlock(&mutex);
+        fault_unless(code == CSQ_OK || code == CSQ_CANCELLED || code == CSQ_FILE_CLOSED);
+        if (code == CSQ_CANCELLED) {
+            fault_unless(csq_complete_cancelled(pass, irp) == CSQ_OK);
+            completed[irp]++;
+        }
+        fault_unless(csq_cancel(&device.queue, pass, other, &the_lock, &count) == CSQ_OK);
+        completed[other.irp] += count;
+        claimed += count;
+    }
+    fault_unless(csq_cleanup(&device.queue, pass, me, &the_lock, &cleaned) == CSQ_OK);
+    removed += cleaned;
+    return NULL;
+}
+
+/* Each IRP was completed, or its insert was refused, since its file object was closed by then. */
+static unsigned long end_of_once(void) {
+    unsigned long sum = 0, left_home = 0;
+    struct csq_left left = { 0, 0, 0, 0 };
+    uint32_t irp = 0;
+    settle(&device);
+    IS(csq_close(&device.queue), CSQ_OK);
+    IS(csq_next_listed(&device.queue, CSQ_ANY, &irp), CSQ_NONE);
+    for (irp = 0; irp < IRPS; irp++) {
+        IS(csq_left(&device.queue, irp, &left), CSQ_OK);
+        CHECK(completed[irp] <= left.completed);
+        CHECK(!left.completed || left.status == CSQ_STATUS_CANCELLED);
+        sum += completed[irp];
+        left_home += !left.completed;
+    }
+    IS(csq_free(&device.queue), CSQ_OK);
+    IS(faults, 0);
+    IS(sum + removed + left_home, IRPS);
+    return left_home;
+}
+
+static void cancels_and_cleanups_complete_each_irp_once(uint32_t list) {
+    unsigned long queues = turns / 500 + 10, refused = 0, by_cancels = 0, by_cleanups = 0;
+    for (unsigned long at = 0; at < queues; at++) {
+        begin_counts();
+        device = device_of(size_of(IRPS, FILES, list));
+        serve_all(serve_once);
+        refused += end_of_once();
+        by_cancels += claimed;
+        by_cleanups += removed;
+    }
+    snprintf(check_note, sizeof check_note, " (%lu queues of %d IRPs: %lu by a cancel, %lu by a cleanup, %lu refused)",
+             queues, IRPS, by_cancels, by_cleanups, refused);
+}
+
+int main(int count, char **words) {
+    if (count > 1) {
+        turns = strtoul(words[1], NULL, 10);
+    }
+    RUN_BOTH(each_life_is_completed_once);
+    RUN_BOTH(cancels_and_cleanups_complete_each_irp_once);
+    return DONE();
+}

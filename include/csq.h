@@ -1,0 +1,344 @@
+/*
+ * csq.h: the cancel-safe IRP queue of Microsoft's WDK (IoCsqInsertIrpEx, IoCsqRemoveNextIrp, IoCsqRemoveIrp,
+ * IoSetCancelRoutine, IoCancelIrp, IRP_MJ_CLEANUP) for programs in C and C++ that bring a lock of their own.
+ *
+ * The words:
+ *
+ * - A queue is over the IRPs 0 to irps - 1 and the file objects 0 to files - 1. An IRP is home until an
+ *   insert accepts it. Then it is listed, until a removal or a cancel takes it out of the list, and whoever
+ *   took it out holds it until the completion. An IRP that an insert accepted is completed at most once, and
+ *   once no pass is out it is listed or was completed.
+ * - A completed IRP may be used again (csq_reuse): its next life begins, of which all this holds anew. A
+ *   caller names an IRP in one of its lives (struct csq_irp), so that what comes late for an old life takes
+ *   nothing of a newer one.
+ * - A pass is what calls are made through: one for each thread that inserts, removes, cancels or completes.
+ *   It knows which IRPs it holds (got by a removal, or got cancelled), and which ones it owes: their cancel
+ *   routine was taken through this pass and has yet to run.
+ *
+ * The lock: "Lock: held" says that the caller has the queue's lock round the call, which is any lock of the
+ * caller's, one for each queue. "Lock: not needed" says that the call may come at any time, also while another
+ * thread has the lock. No call here takes a lock, waits, starts a thread or ends the program. (csq_cancel and
+ * csq_cleanup, at the end, take the caller's lock through the caller's functions.)
+ *
+ * Memory: csq_new, csq_new_with_file_limits and csq_pass take memory. No other call does.
+ *
+ * The answer of a call is a code of the one table below. Where several would fit it is the first one tested:
+ * whether handles are filled or empty, in the order of the parameters; whether the queue is closed; then the
+ * causes in the order in which the call's comment names them. A refusal, which is any answer but CSQ_OK and
+ * csq_insert's CSQ_CANCELLED, changes nothing and writes nothing, but for the life that csq_status tells.
+ *
+ * What the caller must uphold, which nothing checks:
+ *
+ * - A pass is used with no other open queue than the one that handed it out.
+ * - A handle is filled by these calls alone. It is not copied, but may be moved while no call uses it; what
+ *   it points to is not read or written.
+ * - A handle is in one call at a time. For a queue that is the lock; a pass is used by one thread at a time,
+ *   and goes from one to another by an act that synchronises (a lock, the start or the join of a thread, a
+ *   sequentially consistent atomic).
+ * - Pointers are valid for what is read and written through them, and those of one call don't overlap.
+ * - malloc, realloc and free are of one allocator, and may be called by several threads at once.
+ * - No call is made in a signal handler, in the forked child of a process with threads, or with less than a
+ *   few kilobytes of the stack left.
+ */
+#ifndef CSQ_H
+#define CSQ_H
+
+#include <stddef.h>
+#include <stdint.h>
+
+#ifdef __cplusplus
+extern "C" {
+/* csq_pass and csq_left are calls and structs: these are named with the word struct, as in C. */
+#ifdef __GNUC__
+#pragma GCC diagnostic push
+#pragma GCC diagnostic ignored "-Wshadow"
+#endif
+#endif
+
+/* What a call answers. */
+enum {
+    CSQ_OK = 0,
+    /* The IRP's number isn't below the queue's number of IRPs. */
+    CSQ_UNKNOWN_IRP = 1,
+    /* The file object's number isn't below the queue's number of file objects. */
+    CSQ_UNKNOWN_FILE = 2,
+    /* An insert accepted the IRP in its present life already. */
+    CSQ_NOT_HOME = 3,
+    /* The file object was closed (STATUS_FILE_CLOSED in a driver). */
+    CSQ_FILE_CLOSED = 4,
+    /* As many IRPs are listed as the limit allows (STATUS_INSUFFICIENT_RESOURCES in a driver). */
+    CSQ_FULL = 5,
+    /* As many are listed for this file object as its own limit allows. */
+    CSQ_FILE_FULL = 6,
+    /* The insert found the IRP cancelled: the pass holds it, and completes it as cancelled. */
+    CSQ_CANCELLED = 7,
+    /* There is none: no IRP to remove, no status yet, no further listed IRP. */
+    CSQ_NONE = 8,
+    /* The IRP has left the life named, or isn't in it yet. */
+    CSQ_STALE = 9,
+    /* The IRP's present life isn't completed. */
+    CSQ_NOT_COMPLETED = 10,
+    /* The IRP's present life is the last that there can be. */
+    CSQ_LIVES_SPENT = 11,
+    /* The pass doesn't hold the IRP. */
+    CSQ_NOT_HELD = 12,
+    /* The pass doesn't owe the IRP. */
+    CSQ_NOT_OWED = 13,
+    /* The pass got the IRP cancelled, so it completes it by csq_complete_cancelled alone. */
+    CSQ_NOT_REMOVED = 14,
+    /* STATUS_PENDING is no status to complete with. */
+    CSQ_NOT_FINAL = 15,
+    /* The pass holds or owes IRPs. */
+    CSQ_HOLDING = 16,
+    /* Passes are out: handed out, and not given back. */
+    CSQ_PASSES_OUT = 17,
+    /* All passes of the queue were handed out. */
+    CSQ_NO_PASS = 18,
+    /* A number is out of its range. */
+    CSQ_BAD_SIZE = 19,
+    /* Memory was refused. */
+    CSQ_NO_MEMORY = 20,
+    /* A handle that has to be filled is empty. */
+    CSQ_EMPTY_HANDLE = 21,
+    /* A handle that is to be filled isn't empty. */
+    CSQ_NOT_EMPTY = 22,
+    /* The IRP isn't in the list of the closed queue. */
+    CSQ_NOT_LISTED = 23,
+    /* The queue is closed. */
+    CSQ_CLOSED = 24,
+    /* The queue isn't closed. */
+    CSQ_NOT_CLOSED = 25
+};
+
+/* How a queue keeps its list: in one vector, or in chains (one over all listed IRPs, one for each file object). */
+enum { CSQ_VECTOR = 0, CSQ_CHAINS = 1 };
+
+/* The most IRPs, file objects and passes of a queue, and an IRP's last life. */
+enum { CSQ_MOST_IRPS = 1024, CSQ_MOST_FILES = 256, CSQ_MOST_PASSES = 64, CSQ_LAST_LIFE = 0x3FFFFFFF };
+
+/* In the place of a file object: of whatever file object. In the place of a listed IRP: from the first on. */
+#define CSQ_ANY UINT32_MAX
+
+/* Statuses with the numbers that Windows gives them. */
+#define CSQ_STATUS_SUCCESS UINT32_C(0x00000000)
+#define CSQ_STATUS_PENDING UINT32_C(0x00000103)
+#define CSQ_STATUS_CANCELLED UINT32_C(0xC0000120)
+
+/* The handles, and what an empty one begins as: struct csq_queue queue = CSQ_EMPTY; */
+struct csq_queue {
+    void *at;
+};
+struct csq_pass {
+    void *at;
+};
+#define CSQ_EMPTY { 0 }
+
+/* An IRP in one of its lives. From an insert it is the insert context (IO_CSQ_IRP_CONTEXT). */
+struct csq_irp {
+    uint32_t irp;
+    uint32_t life;
+};
+
+/* How large a queue is to be. */
+struct csq_size {
+    uint32_t irps;       /* 1 to CSQ_MOST_IRPS */
+    uint32_t files;      /* 1 to CSQ_MOST_FILES */
+    uint32_t limit;      /* how many IRPs may be listed at a time: 1 to irps */
+    uint32_t passes;     /* 1 to CSQ_MOST_PASSES */
+    uint32_t first_life; /* the life in which all IRPs begin: 0 to CSQ_LAST_LIFE */
+    uint32_t list;       /* CSQ_VECTOR or CSQ_CHAINS */
+};
+
+/* What a closed queue tells of an IRP in its present life. */
+struct csq_left {
+    uint32_t life;
+    uint32_t cancelled; /* 1 where its Cancel flag is set, else 0 */
+    uint32_t completed; /* 1 where it was completed, else 0 */
+    uint32_t status;    /* what it was completed with; 0 where it wasn't */
+};
+
+/* ---- A queue's beginning and end ---- */
+
+/* Makes a queue, as IoCsqInitializeEx does: no IRP is used, and each file object is open.
+ * CSQ_NOT_EMPTY; CSQ_BAD_SIZE; CSQ_NO_MEMORY. Lock: not needed, for no other thread knows the queue yet. */
+uint32_t csq_new(struct csq_queue *queue, const struct csq_size *size);
+
+/* csq_new, with a limit for each file object: how many IRPs may be listed for it at a time, 1 to irps. There are
+ * `count` limits, as many as file objects. CSQ_NOT_EMPTY; CSQ_BAD_SIZE; CSQ_NO_MEMORY. Lock: not needed. */
+uint32_t csq_new_with_file_limits(struct csq_queue *queue, const struct csq_size *size, const uint32_t *file_limits,
+                                  size_t count);
+
+/* Frees a queue, closed or not and whatever is left in it, once no pass is out. The handle is empty then.
+ * CSQ_EMPTY_HANDLE; CSQ_PASSES_OUT. Lock: held, or no other thread uses the queue any more. */
+uint32_t csq_free(struct csq_queue *queue);
+
+/* How many passes are out. CSQ_EMPTY_HANDLE; CSQ_CLOSED. Lock: held. */
+uint32_t csq_passes_out(struct csq_queue *queue, uint32_t *out);
+
+/* Closes the queue, once no pass is out. The same handle is the closed queue then, which tells what is left
+ * (csq_next_listed, csq_left), is freed by csq_free, and answers CSQ_CLOSED to any other call.
+ * CSQ_EMPTY_HANDLE; CSQ_CLOSED; CSQ_PASSES_OUT. Lock: held, or no other thread uses the queue any more. */
+uint32_t csq_close(struct csq_queue *queue);
+
+/* The listed IRPs of a closed queue, in the list's order: the first for CSQ_ANY, or the one after `after`.
+ * CSQ_EMPTY_HANDLE; CSQ_NOT_CLOSED; CSQ_NOT_LISTED (`after` isn't listed); CSQ_NONE (none follows). Lock: held,
+ * or no other thread uses the queue any more. */
+uint32_t csq_next_listed(struct csq_queue *queue, uint32_t after, uint32_t *irp);
+
+/* What a closed queue tells of an IRP. CSQ_EMPTY_HANDLE; CSQ_NOT_CLOSED; CSQ_UNKNOWN_IRP. Lock: as for
+ * csq_next_listed. */
+uint32_t csq_left(struct csq_queue *queue, uint32_t irp, struct csq_left *left);
+
+/* ---- Passes ---- */
+
+/* Hands out the queue's next pass, which holds and owes nothing. One that was given back isn't handed out again.
+ * After CSQ_NO_MEMORY the same pass can be asked for again.
+ * CSQ_EMPTY_HANDLE; CSQ_NOT_EMPTY; CSQ_CLOSED; CSQ_NO_PASS; CSQ_NO_MEMORY. Lock: held. */
+uint32_t csq_pass(struct csq_queue *queue, struct csq_pass *pass);
+
+/* Gives a pass back, which then isn't out any more. The handle is empty then.
+ * CSQ_EMPTY_HANDLE; CSQ_CLOSED; CSQ_HOLDING. Lock: held. */
+uint32_t csq_give_back(struct csq_queue *queue, struct csq_pass *pass);
+
+/* Frees a pass without giving it back: for a pass whose queue lives as long as the program, since that queue
+ * counts the pass as out ever after and can neither be closed nor freed. The handle is empty then.
+ * CSQ_EMPTY_HANDLE; CSQ_HOLDING. Lock: not needed. */
+uint32_t csq_free_pass(struct csq_pass *pass);
+
+/* How many IRPs the pass holds, and how many it owes. CSQ_EMPTY_HANDLE. Lock: not needed. */
+uint32_t csq_holding(struct csq_pass *pass, uint32_t *held, uint32_t *owed);
+
+/* ---- Under the lock ---- */
+
+/* Inserts an IRP for a file object (IoCsqInsertIrpEx), at the list's end, or at its front where `front` isn't 0,
+ * and sets its cancel routine (IoSetCancelRoutine). CSQ_OK: it is pending. CSQ_CANCELLED: it was cancelled before,
+ * so it isn't listed, the pass holds it, and csq_complete_cancelled is due. In both cases *context names the IRP
+ * in its life.
+ * CSQ_EMPTY_HANDLE; CSQ_CLOSED; CSQ_UNKNOWN_IRP; CSQ_UNKNOWN_FILE; CSQ_NOT_HOME; CSQ_FILE_CLOSED; CSQ_FILE_FULL;
+ * CSQ_FULL. Lock: held. */
+uint32_t csq_insert(struct csq_queue *queue, struct csq_pass *pass, uint32_t irp, uint32_t file, uint32_t front,
+                    struct csq_irp *context);
+
+/* Removes the first listed IRP of a file object, or of any for CSQ_ANY, that no canceller has
+ * (IoCsqRemoveNextIrp). The pass holds it then. CSQ_NONE also for an unknown file object.
+ * CSQ_EMPTY_HANDLE; CSQ_CLOSED; CSQ_NONE. Lock: held. */
+uint32_t csq_remove_next(struct csq_queue *queue, struct csq_pass *pass, uint32_t file, struct csq_irp *irp);
+
+/* Removes the IRP of an insert context (IoCsqRemoveIrp). The pass holds it then. CSQ_NONE where the IRP isn't
+ * listed in that life, or a canceller has it.
+ * CSQ_EMPTY_HANDLE; CSQ_CLOSED; CSQ_NONE. Lock: held. */
+uint32_t csq_remove(struct csq_queue *queue, struct csq_pass *pass, struct csq_irp irp);
+
+/* The cancel routine of an IRP that the pass owes: takes it out of the list. The pass holds it then, and
+ * csq_complete_cancelled is due.
+ * CSQ_EMPTY_HANDLE; CSQ_CLOSED; CSQ_UNKNOWN_IRP; CSQ_NOT_OWED. Lock: held. */
+uint32_t csq_cancel_routine(struct csq_queue *queue, struct csq_pass *pass, uint32_t irp);
+
+/* Closes a file object for good: the first half of IRP_MJ_CLEANUP. The second is to remove each IRP that is listed
+ * for it (csq_remove_next) and to complete it as cancelled; csq_cleanup does both. Closing it again is no fault.
+ * CSQ_EMPTY_HANDLE; CSQ_CLOSED; CSQ_UNKNOWN_FILE. Lock: held. */
+uint32_t csq_close_file(struct csq_queue *queue, struct csq_pass *pass, uint32_t file);
+
+/* Begins the next life of a completed IRP (IoReuseIrp), which is home then, and tells that life.
+ * CSQ_EMPTY_HANDLE; CSQ_CLOSED; CSQ_UNKNOWN_IRP; CSQ_NOT_COMPLETED; CSQ_LIVES_SPENT. Lock: held. */
+uint32_t csq_reuse(struct csq_queue *queue, struct csq_pass *pass, uint32_t irp, uint32_t *life);
+
+/* ---- Without the lock ---- */
+
+/* What IoCancelIrp does first: sets the Cancel flag of an IRP in the life named, then exchanges its cancel routine
+ * for none. *found is 1 where the routine was there: the pass owes the IRP, and csq_cancel_routine is due. It is 0
+ * where the IRP isn't listed, or someone else has it; an insert that comes later finds the flag.
+ * CSQ_EMPTY_HANDLE; CSQ_UNKNOWN_IRP; CSQ_STALE. Lock: not needed. */
+uint32_t csq_mark_cancel(struct csq_pass *pass, struct csq_irp irp, uint32_t *found);
+
+/* Completes an IRP that the pass got by a removal (IoCompleteRequest), with any status but STATUS_PENDING.
+ * CSQ_EMPTY_HANDLE; CSQ_UNKNOWN_IRP; CSQ_NOT_HELD; CSQ_NOT_REMOVED; CSQ_NOT_FINAL. Lock: not needed. */
+uint32_t csq_complete(struct csq_pass *pass, uint32_t irp, uint32_t status);
+
+/* Completes an IRP that the pass holds, however it got it, with STATUS_CANCELLED (IoCompleteRequest).
+ * CSQ_EMPTY_HANDLE; CSQ_UNKNOWN_IRP; CSQ_NOT_HELD. Lock: not needed. */
+uint32_t csq_complete_cancelled(struct csq_pass *pass, uint32_t irp);
+
+/* Reads the Cancel flag of an IRP (Irp->Cancel): the life that it stands for, and 1 where it is set there, else 0.
+ * CSQ_EMPTY_HANDLE; CSQ_UNKNOWN_IRP. Lock: not needed. */
+uint32_t csq_is_cancelled(struct csq_pass *pass, uint32_t irp, uint32_t *life, uint32_t *cancelled);
+
+/* Reads the status of an IRP (Irp->IoStatus.Status): the life that it stands for, and what the IRP was completed
+ * with in that life. CSQ_NONE where it isn't completed there; then *life is written, and *status isn't.
+ * CSQ_EMPTY_HANDLE; CSQ_UNKNOWN_IRP; CSQ_NONE. Lock: not needed. */
+uint32_t csq_status(struct csq_pass *pass, uint32_t irp, uint32_t *life, uint32_t *status);
+
+/* ---- Calls made of others, which take the lock themselves ---- */
+
+/* The caller's lock of a queue, as CsqAcquireLock and CsqReleaseLock: two functions, and what they are called with. */
+struct csq_lock {
+    void (*lock)(void *of);
+    void (*unlock)(void *of);
+    void *of;
+};
+
+/* Cancels an IRP in the life named (IoCancelIrp): csq_mark_cancel, and where the routine was there the cancel routine
+ * under the lock and the completion. *completed is 1 where the IRP was completed here, else 0.
+ * Answers as csq_mark_cancel does. Lock: not held; it is taken only where the routine was there. */
+static inline uint32_t csq_cancel(struct csq_queue *queue, struct csq_pass *pass, struct csq_irp irp,
+                                  const struct csq_lock *lock, uint32_t *completed) {
+    uint32_t found = 0;
+    uint32_t code = csq_mark_cancel(pass, irp, &found);
+    if (code == CSQ_OK && found) {
+        lock->lock(lock->of);
+        /* Refused only where the queue isn't the pass's own: the pass still owes the IRP then. */
+        code = csq_cancel_routine(queue, pass, irp.irp);
+        lock->unlock(lock->of);
+        if (code == CSQ_OK) {
+            code = csq_complete_cancelled(pass, irp.irp);
+        }
+    }
+    if (code == CSQ_OK) {
+        *completed = found;
+    }
+    return code;
+}
+
+/* Handles IRP_MJ_CLEANUP of a file object: closes it, then removes each IRP that is listed for it and completes it
+ * as cancelled. *completed is how many. What a canceller has is left to that canceller.
+ * Answers as csq_close_file does. Lock: not held; it is taken for each call, and free between two of them. */
+static inline uint32_t csq_cleanup(struct csq_queue *queue, struct csq_pass *pass, uint32_t file,
+                                   const struct csq_lock *lock, uint32_t *completed) {
+    struct csq_irp irp = { 0, 0 };
+    uint32_t code, count = 0;
+    lock->lock(lock->of);
+    code = csq_close_file(queue, pass, file);
+    lock->unlock(lock->of);
+    if (code != CSQ_OK) {
+        return code;
+    }
+    for (;;) {
+        lock->lock(lock->of);
+        code = csq_remove_next(queue, pass, file, &irp);
+        lock->unlock(lock->of);
+        if (code == CSQ_OK) {
+            code = csq_complete_cancelled(pass, irp.irp);
+        }
+        if (code != CSQ_OK) {
+            break;
+        }
+        count++;
+    }
+    /* Any other end is a queue that was closed or freed meanwhile. */
+    if (code == CSQ_NONE) {
+        code = CSQ_OK;
+    }
+    if (code == CSQ_OK) {
+        *completed = count;
+    }
+    return code;
+}
+
+#ifdef __cplusplus
+#ifdef __GNUC__
+#pragma GCC diagnostic pop
+#endif
+}
+#endif
+
+#endif
