@@ -1,6 +1,6 @@
 //! The cancel-safe IRP queue of Windows drivers, as Microsoft's WDK describes it (`IoCsqInsertIrpEx`,
-//! `IoCsqRemoveNextIrp`, `IoCsqRemoveIrp`, `IoSetCancelRoutine`, `IoCancelIrp`, `IRP_MJ_CLEANUP`): safe bindings of a C
-//! library that is proved in Rattle.
+//! `IoCsqRemoveNextIrp`, `IoCsqRemoveIrp`, `IoSetCancelRoutine`, `IoCancelIrp`, `IRP_MJ_CLEANUP`): safe bindings of the C
+//! library that `include/csq.h` describes.
 //!
 //! A [`Queue`] hands out a [`Pass`] for each thread that inserts, removes, cancels or completes. What a pass has to
 //! complete is a token ([`Removed`], [`Cancelled`], [`Claim`]): it borrows its pass, and one that is dropped completes
