@@ -1,0 +1,163 @@
+-- The codes that calls answer, and which answer has which.
+use Rattle.std.specs.Prelude.{ℕ, Bool, Option, Some, None, Result, Ok, Err, if◌then◌else◌}
+use Rattle.irp_core.specs.Steps.{Irp}
+use Rattle.irp_core.specs.declared.ids.Life.{Life}
+use Rattle.irp_core.specs.declared.status.NtStatus.{NtStatus}
+use Rattle.csq_list.specs.declared.refusals.InsertStatus.{InsertStatus}
+use Rattle.csq_list.specs.declared.refusals.InsertStatus.TheVariants as insert
+use Rattle.csq_list.specs.declared.refusals.UnknownFile.{UnknownFile as NoFile}
+use Rattle.csq_queue.specs.declared.tokens.InsertAnswer.{InsertAnswer}
+use Rattle.csq_queue.specs.declared.tokens.InsertAnswer.TheVariants as inserted
+use Rattle.csq_queue.specs.declared.refusals.CancelRefused.{CancelRefused}
+use Rattle.csq_queue.specs.declared.refusals.CancelRefused.TheVariants as cancel
+use Rattle.csq_queue.specs.declared.refusals.ReuseRefused.{ReuseRefused}
+use Rattle.csq_queue.specs.declared.refusals.ReuseRefused.TheVariants as reuse
+use Rattle.csq_queue.specs.declared.refusals.UnknownIrp.{UnknownIrp as NoIrp}
+use Rattle.csq_checked.specs.declared.unlocked.CompleteRefused.{CompleteRefused}
+use Rattle.csq_checked.specs.declared.unlocked.CompleteRefused.TheVariants as complete
+use Rattle.csq_checked.specs.declared.unlocked.RoutineRefused.{RoutineRefused}
+use Rattle.csq_checked.specs.declared.unlocked.RoutineRefused.TheVariants as routine
+use Rattle.csq_checked.specs.declared.size.NewRefused.{NewRefused}
+use Rattle.csq_checked.specs.declared.size.NewRefused.TheVariants as new
+use Rattle.csq_checked.specs.declared.size.PassRefused.{PassRefused}
+use Rattle.csq_checked.specs.declared.size.PassRefused.TheVariants as pass
+use Rattle.csq_c.specs.declared.codes.Code.{Code}
+use Rattle.csq_c.specs.declared.codes.Code.TheVariants.{Done, UnknownIrp, UnknownFile, NotHome, FileClosed, Full, FileFull, Cancelled, Nothing, Stale, NotCompleted, LivesSpent, NotHeld, NotOwed, NotRemoved, NotFinal, Holding, PassesOut, NoPass, BadSize, NoMemory, Empty, NotEmpty, NotListed, Closed, NotClosed}
+
+-- the number of a code
+abbrev pub number_of : Code → ℕ
+number_of Done = 0
+number_of UnknownIrp = 1
+number_of UnknownFile = 2
+number_of NotHome = 3
+number_of FileClosed = 4
+number_of Full = 5
+number_of FileFull = 6
+number_of Cancelled = 7
+number_of Nothing = 8
+number_of Stale = 9
+number_of NotCompleted = 10
+number_of LivesSpent = 11
+number_of NotHeld = 12
+number_of NotOwed = 13
+number_of NotRemoved = 14
+number_of NotFinal = 15
+number_of Holding = 16
+number_of PassesOut = 17
+number_of NoPass = 18
+number_of BadSize = 19
+number_of NoMemory = 20
+number_of Empty = 21
+number_of NotEmpty = 22
+number_of NotListed = 23
+number_of Closed = 24
+number_of NotClosed = 25
+
+-- why no IRP was inserted
+abbrev pub refusal_code : InsertStatus → Code
+refusal_code insert.UnknownIrp = UnknownIrp
+refusal_code insert.UnknownFile = UnknownFile
+refusal_code insert.NotHome = NotHome
+refusal_code insert.FileClosed = FileClosed
+refusal_code insert.FileFull = FileFull
+refusal_code insert.Full = Full
+
+-- what an insert answered
+abbrev pub insert_code : Result (InsertAnswer Irp Irp) InsertStatus → Code
+insert_code (Ok (inserted.Pending context)) = Done
+insert_code (Ok (inserted.Cancelled token)) = Cancelled
+insert_code (Err cause) = refusal_code cause
+
+-- which IRP an insert told of
+abbrev pub inserted_irp : Result (InsertAnswer Irp Irp) InsertStatus → Option Irp
+inserted_irp (Ok (inserted.Pending context)) = Some context
+inserted_irp (Ok (inserted.Cancelled token)) = Some token
+inserted_irp (Err cause) = None
+
+-- whether a removal got an IRP
+abbrev pub removal_code : Option Irp → Code
+removal_code (Some i) = Done
+removal_code None = Nothing
+
+-- what a cancel routine answered
+abbrev pub routine_code : Result Irp RoutineRefused → Code
+routine_code (Ok i) = Done
+routine_code (Err routine.UnknownIrp) = UnknownIrp
+routine_code (Err routine.NotOwed) = NotOwed
+
+-- what a closing of a file object answered
+abbrev pub close_file_code : Result (Unit {0}) NoFile → Code
+close_file_code (Ok done) = Done
+close_file_code (Err refused) = UnknownFile
+
+-- what a reuse answered
+abbrev pub reuse_code : Result Life ReuseRefused → Code
+reuse_code (Ok life) = Done
+reuse_code (Err reuse.UnknownIrp) = UnknownIrp
+reuse_code (Err reuse.NotCompleted) = NotCompleted
+reuse_code (Err reuse.LivesSpent) = LivesSpent
+
+-- what a cancel answered
+abbrev pub mark_code : Result (Option Irp) CancelRefused → Code
+mark_code (Ok claim) = Done
+mark_code (Err cancel.UnknownIrp) = UnknownIrp
+mark_code (Err (cancel.Stale life)) = Stale
+
+-- what a completion answered
+abbrev pub complete_code : Result Irp CompleteRefused → Code
+complete_code (Ok i) = Done
+complete_code (Err complete.UnknownIrp) = UnknownIrp
+complete_code (Err complete.NotHeld) = NotHeld
+complete_code (Err complete.NotRemoved) = NotRemoved
+complete_code (Err complete.NotFinal) = NotFinal
+
+-- what a look at the Cancel flag answered
+abbrev pub flag_code : Result (Life × Bool) NoIrp → Code
+flag_code (Ok read) = Done
+flag_code (Err refused) = UnknownIrp
+
+-- what a look at the status answered
+abbrev pub status_code : Result (Life × Option NtStatus) NoIrp → Code
+status_code (Ok (life, Some status)) = Done
+status_code (Ok (life, None)) = Nothing
+status_code (Err refused) = UnknownIrp
+
+-- why there is no queue
+abbrev pub new_code : NewRefused → Code
+new_code new.BadSize = BadSize
+new_code new.Memory = NoMemory
+
+-- why there is no pass
+abbrev pub pass_code : PassRefused → Code
+pass_code pass.NoPass = NoPass
+pass_code pass.Memory = NoMemory
+
+-- the life that a reuse answered
+abbrev pub life_told : Result Life ReuseRefused → Option ℕ
+life_told (Ok life) = Some life.0
+life_told (Err refused) = None
+
+-- whether a cancel found the routine there: 1, or 0
+abbrev pub claim_told : Result (Option Irp) CancelRefused → Option ℕ
+claim_told (Ok (Some i)) = Some 1
+claim_told (Ok None) = Some 0
+claim_told (Err refused) = None
+
+-- the life that a look at the Cancel flag told, and 1 where the flag is set in it, or 0
+abbrev pub flag_life_told : Result (Life × Bool) NoIrp → Option ℕ
+flag_life_told (Ok read) = Some read.0.0
+flag_life_told (Err refused) = None
+
+abbrev pub flag_told : Result (Life × Bool) NoIrp → Option ℕ
+flag_told (Ok read) = Some (if read.1 then 1 else 0)
+flag_told (Err refused) = None
+
+-- the life that a look at the status told, and the status, where there is one
+abbrev pub status_life_told : Result (Life × Option NtStatus) NoIrp → Option ℕ
+status_life_told (Ok read) = Some read.0.0
+status_life_told (Err refused) = None
+
+abbrev pub status_told : Result (Life × Option NtStatus) NoIrp → Option ℕ
+status_told (Ok (life, Some status)) = Some status.0
+status_told (Ok (life, None)) = None
+status_told (Err refused) = None

@@ -1,0 +1,83 @@
+-- Passes that are handed out and come back, and queues that are closed and freed.
+use Rattle.std.specs.Prelude.{◌≡◌, ◌⊎◌, ℕ, ◌+◌, ◌-◌, ◌<◌, ◌↔◌, ◌==◌, nat_lt, ◌&&◌, Bool, true, Option, Some, None, IfSome, if◌then◌else◌}
+use Rattle.std.specs.Option.{is_some}
+use Rattle.csq_list.specs.Listing.{Listing}
+use Rattle.csq_words.specs.declared.views.PassRecord.{PassRecord}
+use Rattle.csq_words.specs.Records.{new_pass, with_back}
+use Rattle.csq_queue.specs.Counts.{held_count, owed_count}
+use Rattle.csq_queue.specs.Named.{pass_numbered, out_count}
+use Rattle.csq_queue.specs.Rests.{HoldsNothing, FirstAreBack, IsClosed}
+use Rattle.csq_checked.specs.Passes.{CheckedState, CheckedPassState, IsPassIn}
+use Rattle.csq_c.specs.Bodies.{QueueState, RestState, IsPassFor, open_of}
+use Rattle.csq_c.specs.declared.codes.Code.{Code}
+use Rattle.csq_c.specs.declared.codes.Code.TheVariants.{Done, Holding, PassesOut, NoPass, NoMemory, Empty, NotEmpty, Closed}
+
+-- how many passes of a queue are out
+abbrev pub out_of : CheckedState → ℕ
+out_of q = out_count 0 q.queue.queue.back (q.queue.limits.passes - q.left)
+
+-- how many are out, of a queue that is open
+abbrev pub out_of_open : Option CheckedState → Option ℕ
+out_of_open None = None
+out_of_open (Some q) = Some (out_of q)
+
+-- how many are out, of a queue that is open or closed
+abbrev pub out_left : Option CheckedState → ℕ
+out_left None = 0
+out_left (Some q) = out_of q
+
+-- the code of a call of an open queue that is never refused else
+abbrev pub open_code : Option QueueState → Code
+open_code None = Empty
+open_code (Some body) = if is_some body.queue then Done else Closed
+
+-- what freeing a queue answers
+abbrev pub free_code : Option QueueState → Code
+free_code None = Empty
+free_code (Some body) = if out_left body.queue == 0 then Done else PassesOut
+
+-- whether a pass holds and owes no IRP
+abbrev pub is_idle : CheckedPassState → Bool
+is_idle p = (held_count p.pass.steps == 0) && (owed_count p.pass.steps == 0)
+
+-- what freeing a pass answers
+abbrev pub free_pass_code : Option CheckedPassState → Code
+free_pass_code None = Empty
+free_pass_code (Some p) = if is_idle p then Done else Holding
+
+-- what giving a pass back answers
+abbrev pub give_back_code : QueueState → CheckedPassState → Code
+give_back_code body p = if is_some body.queue then (if is_idle p then Done else Holding) else Closed
+
+-- the queue once this pass is back
+abbrev pub with_pass_back : PassRecord → CheckedState → CheckedState
+with_pass_back pass q = record q { queue = record q.queue { queue = with_back pass q.queue.queue } }
+
+abbrev pub with_back_in : PassRecord → Option CheckedState → Option CheckedState
+with_back_in pass None = None
+with_back_in pass (Some q) = Some (with_pass_back pass q)
+
+-- what is left of a queue with this record that was closed
+pub record IsRestOf (q : CheckedState) (rest : RestState) : Type 0 where
+  pub listing : Listing
+  pub entries_are : rest.entries ≡ listing.entries
+  pub closed : IsClosed q.queue.limits (q.queue.limits.passes - q.left) q.queue.queue listing rest.finals
+  pub back : FirstAreBack (q.queue.limits.passes - q.left) q.queue.queue.back
+
+-- a queue's next pass, which has seen and done nothing
+pub record IsNextPass (q : CheckedState) (p : CheckedPassState) : Type 0 where
+  pub made_by : IsPassIn q.queue p
+  pub new : p.pass ≡ new_pass (pass_numbered (q.queue.limits.passes + 1 - q.left))
+
+-- one pass fewer is left
+pub record IsTaken (body body' : QueueState) (q : CheckedState) : Type 0 where
+  pub after : CheckedState
+  pub queue_is : body' ≡ record body { queue = Some after }
+  pub same : after.queue ≡ q.queue
+  pub left : after.left + 1 ≡ q.left
+
+-- why no pass is asked for
+abbrev pub take_cause : Option QueueState → Option CheckedPassState → Option Code
+take_cause None pass = Some Empty
+take_cause (Some body) (Some p) = Some NotEmpty
+take_cause (Some body) None = if is_some body.queue then None else Some Closed

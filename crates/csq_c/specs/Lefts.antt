@@ -1,0 +1,65 @@
+-- What is told of a closed queue.
+use Rattle.std.specs.Prelude.{◌≡◌, ℕ, ◌==◌, Bool, true, List, Option, Some, None, if◌then◌else◌}
+use Rattle.std.specs.Option.{is_some}
+use Rattle.irp_core.specs.declared.ids.IrpId.{IrpId}
+use Rattle.irp_core.specs.declared.ids.Life.{Life}
+use Rattle.irp_core.specs.declared.status.NtStatus.{NtStatus}
+use Rattle.csq_list.specs.declared.entry.Entry.{Entry}
+use Rattle.csq_list.specs.declared.entry.Peek.TheVariants.{Any}
+use Rattle.csq_list.specs.Searches.{is_listed, first_match, rest_after}
+use Rattle.csq_words.specs.Finals.{FinalWords, final_life, final_status, is_cancelled}
+use Rattle.csq_c.specs.Bodies.{QueueState, RestState}
+use Rattle.csq_c.specs.Shapes.{irp_numbered, flag_number}
+use Rattle.csq_c.specs.declared.codes.Code.{Code}
+use Rattle.csq_c.specs.declared.codes.Code.TheVariants.{Done, UnknownIrp, Nothing, Empty, NotListed, NotClosed}
+use Rattle.csq_c.specs.declared.shapes.CsqLeft.{CsqLeft}
+
+-- the IRP after which the next one is asked for: none by the largest number
+abbrev pub start_of : ℕ → Option IrpId
+start_of n = if n == 4294967295 then None else Some (irp_numbered n)
+
+-- whether the entries can be looked at from there
+abbrev pub is_start : List Entry → Option IrpId → Bool
+is_start es None = true
+is_start es (Some i) = is_listed es i
+
+-- the next entry
+abbrev pub next_after : List Entry → Option IrpId → Option IrpId
+next_after es after = if is_start es after then first_match Any (rest_after after es) else None
+
+-- a look at the next entry answers this code
+abbrev pub next_code : List Entry → Option IrpId → Code
+next_code es after = if is_start es after then (if is_some (first_match Any (rest_after after es)) then Done else Nothing) else NotListed
+
+-- its number, if there is one
+abbrev pub number_told : Option IrpId → Option ℕ
+number_told None = None
+number_told (Some i) = Some i.0
+
+-- 1 and the status where an IRP was completed, else 0 and 0
+abbrev pub completed_of : Option NtStatus → ℕ
+completed_of None = 0
+completed_of (Some status) = 1
+
+abbrev pub status_of : Option NtStatus → ℕ
+status_of None = 0
+status_of (Some status) = status.0
+
+-- what is left of an IRP whose present life is this
+abbrev pub left_in : FinalWords → IrpId → Option Life → Option CsqLeft
+left_in finals n None = None
+left_in finals n (Some life) = Some (record { life = life.0; cancelled = flag_number (is_cancelled finals n); completed = completed_of (final_status finals n); status = status_of (final_status finals n) })
+
+-- what is left of IRP n, if there is one
+abbrev pub left_of : FinalWords → IrpId → Option CsqLeft
+left_of finals n = left_in finals n (final_life finals n)
+
+-- what stands there once this is written, if it is there
+abbrev pub left_written : Option CsqLeft → CsqLeft → CsqLeft
+left_written None old = old
+left_written (Some left) old = left
+
+-- a look at what is left answers this code
+abbrev pub left_code : Option CsqLeft → Code
+left_code None = UnknownIrp
+left_code (Some left) = Done

@@ -1,0 +1,9 @@
+pub mod Holds
+pub mod Bodies
+pub mod Codes
+pub mod Shapes
+pub mod Exports
+pub mod Calls
+pub mod Sizes
+pub mod Ends
+pub mod Lefts

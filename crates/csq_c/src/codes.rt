@@ -1,0 +1,212 @@
+//! The codes that calls answer.
+ghost use Rattle.std.specs.Prelude.{◌≡◌};
+ghost use Rattle.csq_c.specs.Codes.{number_of, refusal_code, insert_code, inserted_irp, removal_code, routine_code, close_file_code, reuse_code, life_told, mark_code, claim_told, complete_code, flag_code, flag_life_told, flag_told, status_code, status_life_told, status_told, new_code, pass_code};
+
+use csq_checked::{CompleteRefused, NewRefused, PassRefused, RoutineRefused};
+use csq_list::{InsertStatus, UnknownFile};
+use csq_queue::{CancelRefused, InsertAnswer, OpenInserted, ReuseRefused, UnknownIrp};
+use irp_core::{IrpLife, Life, NtStatus};
+
+/// What a call answers. Each has its number and its name in `csq.h`. Own rule.
+#[derive(Clone, Copy, Debug, PartialEq, Eq)]
+pub(crate) enum Code {
+    Done,
+    UnknownIrp,
+    UnknownFile,
+    NotHome,
+    FileClosed,
+    Full,
+    FileFull,
+    Cancelled,
+    Nothing,
+    Stale,
+    NotCompleted,
+    LivesSpent,
+    NotHeld,
+    NotOwed,
+    NotRemoved,
+    NotFinal,
+    Holding,
+    PassesOut,
+    NoPass,
+    BadSize,
+    NoMemory,
+    Empty,
+    NotEmpty,
+    NotListed,
+    Closed,
+    NotClosed,
+}
+
+impl Code {
+    /// Its number.
+    pub(crate) fn number(self) -> u32
+        ensures { result ≡ number_of self }
+    {
+        match self {
+            Code::Done => 0,
+            Code::UnknownIrp => 1,
+            Code::UnknownFile => 2,
+            Code::NotHome => 3,
+            Code::FileClosed => 4,
+            Code::Full => 5,
+            Code::FileFull => 6,
+            Code::Cancelled => 7,
+            Code::Nothing => 8,
+            Code::Stale => 9,
+            Code::NotCompleted => 10,
+            Code::LivesSpent => 11,
+            Code::NotHeld => 12,
+            Code::NotOwed => 13,
+            Code::NotRemoved => 14,
+            Code::NotFinal => 15,
+            Code::Holding => 16,
+            Code::PassesOut => 17,
+            Code::NoPass => 18,
+            Code::BadSize => 19,
+            Code::NoMemory => 20,
+            Code::Empty => 21,
+            Code::NotEmpty => 22,
+            Code::NotListed => 23,
+            Code::Closed => 24,
+            Code::NotClosed => 25,
+        }
+    }
+}
+
+// Why no IRP was inserted.
+fn refusal(cause: InsertStatus) -> Code
+    ensures { result ≡ refusal_code cause }
+{
+    match cause {
+        InsertStatus::UnknownIrp => Code::UnknownIrp,
+        InsertStatus::UnknownFile => Code::UnknownFile,
+        InsertStatus::NotHome => Code::NotHome,
+        InsertStatus::FileClosed => Code::FileClosed,
+        InsertStatus::FileFull => Code::FileFull,
+        InsertStatus::Full => Code::Full,
+    }
+}
+
+/// What an insert answered, and the IRP that it told of.
+pub(crate) fn of_insert(answer: Result<OpenInserted, InsertStatus>) -> (Code, Option<IrpLife>)
+    ensures { result ≡ (insert_code answer, inserted_irp answer) }
+{
+    match answer {
+        Ok(InsertAnswer::Pending(context)) => (Code::Done, Some(context)),
+        Ok(InsertAnswer::Cancelled(token)) => (Code::Cancelled, Some(token)),
+        Err(cause) => (refusal(cause), None),
+    }
+}
+
+/// Whether a removal got an IRP.
+pub(crate) fn of_removal(taken: Option<IrpLife>) -> Code
+    ensures { result ≡ removal_code taken }
+{
+    match taken {
+        Some(_) => Code::Done,
+        None => Code::Nothing,
+    }
+}
+
+/// What a cancel routine answered.
+pub(crate) fn of_routine(answer: Result<IrpLife, RoutineRefused>) -> Code
+    ensures { result ≡ routine_code answer }
+{
+    match answer {
+        Ok(_) => Code::Done,
+        Err(RoutineRefused::UnknownIrp) => Code::UnknownIrp,
+        Err(RoutineRefused::NotOwed) => Code::NotOwed,
+    }
+}
+
+/// What the closing of a file object answered.
+pub(crate) fn of_close_file(answer: Result<(), UnknownFile>) -> Code
+    ensures { result ≡ close_file_code answer }
+{
+    match answer {
+        Ok(()) => Code::Done,
+        Err(UnknownFile) => Code::UnknownFile,
+    }
+}
+
+/// What a reuse answered, and the life that it told.
+pub(crate) fn of_reuse(answer: Result<Life, ReuseRefused>) -> (Code, Option<u32>)
+    ensures { result ≡ (reuse_code answer, life_told answer) }
+{
+    match answer {
+        Ok(life) => (Code::Done, Some(life.0)),
+        Err(ReuseRefused::UnknownIrp) => (Code::UnknownIrp, None),
+        Err(ReuseRefused::NotCompleted) => (Code::NotCompleted, None),
+        Err(ReuseRefused::LivesSpent) => (Code::LivesSpent, None),
+    }
+}
+
+/// What a cancel answered, and whether the routine was there.
+pub(crate) fn of_mark(answer: Result<Option<IrpLife>, CancelRefused>) -> (Code, Option<u32>)
+    ensures { result ≡ (mark_code answer, claim_told answer) }
+{
+    match answer {
+        Ok(Some(_)) => (Code::Done, Some(1)),
+        Ok(None) => (Code::Done, Some(0)),
+        Err(CancelRefused::UnknownIrp) => (Code::UnknownIrp, None),
+        Err(CancelRefused::Stale(_)) => (Code::Stale, None),
+    }
+}
+
+/// What a completion answered.
+pub(crate) fn of_complete(answer: Result<IrpLife, CompleteRefused>) -> Code
+    ensures { result ≡ complete_code answer }
+{
+    match answer {
+        Ok(_) => Code::Done,
+        Err(CompleteRefused::UnknownIrp) => Code::UnknownIrp,
+        Err(CompleteRefused::NotHeld) => Code::NotHeld,
+        Err(CompleteRefused::NotRemoved) => Code::NotRemoved,
+        Err(CompleteRefused::NotFinal) => Code::NotFinal,
+    }
+}
+
+/// What a look at the Cancel flag answered: a code, the life and whether the flag is set.
+pub(crate) fn of_flag(answer: Result<(Life, bool), UnknownIrp>) -> (Code, Option<u32>, Option<u32>)
+    ensures { result ≡ (flag_code answer, flag_life_told answer, flag_told answer) }
+{
+    match answer {
+        Ok((life, true)) => (Code::Done, Some(life.0), Some(1)),
+        Ok((life, false)) => (Code::Done, Some(life.0), Some(0)),
+        Err(UnknownIrp) => (Code::UnknownIrp, None, None),
+    }
+}
+
+/// What a look at the status answered: a code, the life and the status.
+pub(crate) fn of_status(
+    answer: Result<(Life, Option<NtStatus>), UnknownIrp>,
+) -> (Code, Option<u32>, Option<u32>)
+    ensures { result ≡ (status_code answer, status_life_told answer, status_told answer) }
+{
+    match answer {
+        Ok((life, Some(status))) => (Code::Done, Some(life.0), Some(status.0)),
+        Ok((life, None)) => (Code::Nothing, Some(life.0), None),
+        Err(UnknownIrp) => (Code::UnknownIrp, None, None),
+    }
+}
+
+/// Why there is no queue.
+pub(crate) fn of_new(refused: NewRefused) -> Code
+    ensures { result ≡ new_code refused }
+{
+    match refused {
+        NewRefused::BadSize => Code::BadSize,
+        NewRefused::Memory => Code::NoMemory,
+    }
+}
+
+/// Why there is no pass.
+pub(crate) fn of_pass(refused: PassRefused) -> Code
+    ensures { result ≡ pass_code refused }
+{
+    match refused {
+        PassRefused::NoPass => Code::NoPass,
+        PassRefused::Memory => Code::NoMemory,
+    }
+}

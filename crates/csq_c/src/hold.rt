@@ -1,0 +1,102 @@
+//! A box that a program in C holds by its address.
+ghost use Rattle.std.specs.Prelude.{◌≡◌, Option, Some, None, MatchOption, ◌↔◌, true};
+
+use std::alloc::Global;
+use std::marker::Model;
+use std::mem::replace;
+use std::ptr::null_mut;
+
+/// A box, or nothing. A contract sees it as its `body`.
+pub(crate) struct Hold<T> {
+    pub(crate) at: *mut T,
+    pub(crate) ghost body: { Option T },
+}
+
+impl<T> Model for Hold<T> {
+    ghost use Rattle.csq_c.specs.Holds.{held};
+
+    ghost also_owns = { λ h. held T.row h.at h.body };
+}
+
+impl<T> Hold<T> {
+    /// Nothing.
+    pub(crate) fn empty() -> Hold<T>
+        ensures { result.body ≡ None }
+    {
+        Hold { at: null_mut() }
+    }
+
+    /// The box, or nothing.
+    pub(crate) fn into_body(self, alloc: Global) -> Option<Box<T>>
+        ensures { MatchOption result (self.body ≡ None) (λ body. self.body ≡ Some body.value) }
+    {
+        let Hold { at } = self;
+        if at.is_null() {
+            return None;
+        }
+        Some(unsafe { Box::from_raw(alloc, at) })
+    }
+}
+
+impl<T: Drop> Hold<T> {
+    /// This box.
+    pub(crate) fn of(body: Box<T>) -> Hold<T>
+        ensures { result.body ≡ Some body.value }
+    {
+        Hold {
+            at: Box::into_raw(body),
+        }
+    }
+}
+
+/// A struct of C's whose one field is the address of a box, or null.
+pub(crate) trait Handle {
+    /// What is in the box.
+    type Body: Drop;
+
+    ghost held_in: { Self → Option Self.Body };
+
+    /// The handle of what is held.
+    fn of(hold: Hold<Self::Body>) -> Self
+        ensures { held_in result ≡ hold.body };
+
+    /// What the handle held.
+    fn into_hold(self) -> Hold<Self::Body>
+        ensures { result.body ≡ held_in self };
+}
+
+/// Takes the box out. None, and nothing is changed, where there was none.
+pub(crate) fn take<H: Handle>(handle: &mut H, alloc: Global) -> Option<Box<H::Body>>
+    ensures taken { MatchOption result (H.held_in handle.old ≡ None) (λ there. H.held_in handle.old ≡ Some there.value) }
+    ensures after { H.held_in handle.new ≡ None }
+{
+    let whole = replace(handle, H::of(Hold::empty()));
+    whole.into_hold().into_body(alloc)
+}
+
+/// Puts a box in, and answers what was there.
+pub(crate) fn put<H: Handle>(
+    handle: &mut H,
+    alloc: Global,
+    body: Box<H::Body>,
+) -> Option<Box<H::Body>>
+    ensures before { MatchOption result (H.held_in handle.old ≡ None) (λ there. H.held_in handle.old ≡ Some there.value) }
+    ensures after { H.held_in handle.new ≡ Some body.value }
+{
+    let whole = replace(handle, H::of(Hold::of(body)));
+    whole.into_hold().into_body(alloc)
+}
+
+/// Whether there is nothing.
+pub(crate) fn is_empty<H: Handle>(handle: &mut H, alloc: Global) -> bool
+    ensures answer { result ≡ true ↔ H.held_in handle.old ≡ None }
+    ensures unchanged { H.held_in handle.new ≡ H.held_in handle.old }
+{
+    match take(handle, alloc) {
+        None => true,
+        Some(body) => {
+            drop(put(handle, alloc, body));
+            false
+        }
+    }
+}

@@ -1,0 +1,99 @@
+//! What is told of a closed queue.
+ghost use Rattle.std.specs.Prelude.{◌≡◌, ℕ, Some, None, IfSome};
+ghost use Rattle.csq_c.specs.Codes.{number_of};
+ghost use Rattle.csq_c.specs.Lefts.{left_code, left_of, left_written, next_after, next_code, number_told, start_of};
+ghost use Rattle.csq_c.specs.Shapes.{irp_numbered, set_to};
+
+use crate::body::QueueBody;
+use crate::codes::Code;
+use crate::handles::CsqQueue;
+use crate::hold::{put, take};
+use crate::shapes::{CsqLeft, start, write};
+use csq_list::PendingList;
+use irp_core::IrpId;
+use std::alloc::Global;
+
+impl QueueBody {
+    /// The listed IRP after this one, or the first, where the queue is closed.
+    fn next_listed(&self, after: Option<IrpId>) -> (Code, Option<u32>)
+        ensures unclosed { self.now.rest ≡ None → result ≡ (Code.NotClosed, None) }
+        ensures next { IfSome self.now.rest (λ rest. result ≡ (next_code rest.entries after, number_told (next_after rest.entries after))) }
+    {
+        let Some(rest) = &self.rest else {
+            return (Code::NotClosed, None);
+        };
+        if let Some(irp) = after
+            && !rest.list.is_listed(irp)
+        {
+            return (Code::NotListed, None);
+        }
+        match rest.next_listed(after) {
+            Some(next) => (Code::Done, Some(next.0)),
+            None => (Code::Nothing, None),
+        }
+    }
+
+    /// What is left of an IRP, where the queue is closed.
+    fn left(&self, irp: IrpId) -> (Code, Option<CsqLeft>)
+        ensures unclosed { self.now.rest ≡ None → result ≡ (Code.NotClosed, None) }
+        ensures left { IfSome self.now.rest (λ rest. result ≡ (left_code (left_of rest.finals irp), left_of rest.finals irp)) }
+    {
+        let Some(rest) = &self.rest else {
+            return (Code::NotClosed, None);
+        };
+        let Some(life) = rest.life(irp) else {
+            return (Code::UnknownIrp, None);
+        };
+        let status = rest.status(irp);
+        let left = CsqLeft {
+            life: life.0,
+            cancelled: u32::from(rest.cancelled(irp)),
+            completed: u32::from(status.is_some()),
+            status: match status {
+                Some(status) => status.0,
+                None => 0,
+            },
+        };
+        (Code::Done, Some(left))
+    }
+}
+
+/// Writes the listed IRP after this one, or the first by the largest number, of a closed queue: 0, or 8
+/// after the last, else 21, 25, or 23 where that one isn't listed. Own rule.
+#[unsafe(no_mangle)]
+pub extern "C" fn csq_next_listed(
+    alloc: Global,
+    queue: &mut CsqQueue,
+    after: u32,
+    irp: &mut u32,
+) -> u32
+    ensures same { queue.new.body ≡ queue.old.body }
+    ensures empty { queue.old.body ≡ None → (result ≡ number_of Code.Empty) × (irp.new ≡ irp.old) }
+    ensures unclosed { IfSome queue.old.body (λ body. body.rest ≡ None → (result ≡ number_of Code.NotClosed) × (irp.new ≡ irp.old)) }
+    ensures next { IfSome queue.old.body (λ body. IfSome body.rest (λ rest. (result ≡ number_of (next_code rest.entries (start_of after))) × (irp.new ≡ set_to (number_told (next_after rest.entries (start_of after))) irp.old))) }
+{
+    let Some(body) = take(queue, alloc) else {
+        return Code::Empty.number();
+    };
+    let (code, next) = body.next_listed(start(after));
+    drop(put(queue, alloc, body));
+    write(irp, next);
+    code.number()
+}
+
+/// Writes what is left of an IRP of a closed queue: 0, else 21, 25 or 1. Own rule.
+#[unsafe(no_mangle)]
+pub extern "C" fn csq_left(alloc: Global, queue: &mut CsqQueue, irp: u32, left: &mut CsqLeft) -> u32
+    ensures same { queue.new.body ≡ queue.old.body }
+    ensures empty { queue.old.body ≡ None → (result ≡ number_of Code.Empty) × (left.new ≡ left.old) }
+    ensures unclosed { IfSome queue.old.body (λ body. body.rest ≡ None → (result ≡ number_of Code.NotClosed) × (left.new ≡ left.old)) }
+    ensures left { IfSome queue.old.body (λ body. IfSome body.rest (λ rest. (result ≡ number_of (left_code (left_of rest.finals (irp_numbered irp)))) × (left.new ≡ left_written (left_of rest.finals (irp_numbered irp)) left.old))) }
+{
+    let Some(body) = take(queue, alloc) else {
+        return Code::Empty.number();
+    };
+    let (code, told) = body.left(IrpId(irp));
+    drop(put(queue, alloc, body));
+    left.write(told);
+    code.number()
+}

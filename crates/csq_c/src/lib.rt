@@ -1,0 +1,15 @@
+//! The cancel-safe queue for programs in C, which bring a lock of their own.
+#![tactic(auto)]
+
+mod body;
+mod codes;
+mod ends;
+mod handles;
+mod hold;
+mod left;
+mod lent;
+mod locked;
+mod passes;
+mod queues;
+mod shapes;
+mod unlocked;

@@ -1,0 +1,83 @@
+//! How passes are handed out, given back and freed.
+ghost use Rattle.std.specs.Prelude.{◌≡◌, ◌⊎◌, ◌<◌, ◌↔◌, Some, None, IfSome};
+ghost use Rattle.csq_checked.specs.Passes.{CheckedState, CheckedPassState};
+ghost use Rattle.csq_c.specs.Bodies.{QueueState, ArePaired, open_of};
+ghost use Rattle.csq_c.specs.Codes.{number_of};
+ghost use Rattle.csq_c.specs.Ends.{IsNextPass, IsTaken, free_pass_code, give_back_code, take_cause, with_back_in};
+
+use crate::codes::Code;
+use crate::handles::{CsqPass, CsqQueue};
+use crate::hold::{is_empty, put, take};
+use crate::lent::{Lent, lend};
+use std::alloc::Global;
+
+/// Hands out the next pass, under the caller's lock: 0, else 21, 22, 24, 18 or 20. Own rule.
+#[unsafe(no_mangle)]
+pub extern "C" fn csq_pass(alloc: Global, queue: &mut CsqQueue, pass: &mut CsqPass) -> u32
+    ensures refused { IfSome (take_cause queue.old.body pass.old.body) (λ cause. result ≡ number_of cause) }
+    ensures none { IfSome (open_of queue.old.body) (λ q. pass.old.body ≡ None → ((result ≡ number_of Code.NoPass) ↔ (q.left ≡ 0))) }
+    ensures cause { IfSome (open_of queue.old.body) (λ q. pass.old.body ≡ None → (result ≡ number_of Code.Done) ⊎ ((result ≡ number_of Code.NoPass) ⊎ (result ≡ number_of Code.NoMemory))) }
+    ensures made { result ≡ number_of Code.Done → (body body' : QueueState) × (q : CheckedState) × (p : CheckedPassState) × (queue.old.body ≡ Some body) × (body.queue ≡ Some q) × (queue.new.body ≡ Some body') × (pass.new.body ≡ Some p) × IsNextPass q p × IsTaken body body' q }
+    ensures kept { 0 < result → (queue.new.body ≡ queue.old.body) × (pass.new.body ≡ pass.old.body) }
+{
+    let Some(mut body) = take(queue, alloc) else {
+        return Code::Empty.number();
+    };
+    if !is_empty(pass, alloc) {
+        drop(put(queue, alloc, body));
+        return Code::NotEmpty.number();
+    }
+    let taken = body.take_pass(alloc);
+    drop(put(queue, alloc, body));
+    match taken {
+        Err(code) => code.number(),
+        Ok(by) => {
+            drop(put(pass, alloc, by));
+            Code::Done.number()
+        }
+    }
+}
+
+/// Gives a pass back, under the caller's lock: 0, and its handle is empty, else 21, 24, or 16 where it
+/// holds or owes IRPs. Own rule.
+#[unsafe(no_mangle)]
+pub extern "C" fn csq_give_back(alloc: Global, queue: &mut CsqQueue, pass: &mut CsqPass) -> u32
+    requires { ArePaired queue.old.body pass.old.body }
+    ensures empty { (queue.old.body ≡ None) ⊎ (pass.old.body ≡ None) → result ≡ number_of Code.Empty }
+    ensures code { IfSome queue.old.body (λ body. IfSome pass.old.body (λ p. result ≡ number_of (give_back_code body p))) }
+    ensures back { result ≡ number_of Code.Done → IfSome queue.old.body (λ body. IfSome pass.old.body (λ p. (queue.new.body ≡ Some (record body { queue = with_back_in p.pass body.queue })) × (pass.new.body ≡ None))) }
+    ensures kept { 0 < result → (queue.new.body ≡ queue.old.body) × (pass.new.body ≡ pass.old.body) }
+{
+    let Lent { mut body, pass: by } = match lend(alloc, queue, pass) {
+        Ok(lent) => lent,
+        Err(code) => return code.number(),
+    };
+    let given = body.give_back(by);
+    drop(put(queue, alloc, body));
+    match given {
+        Ok(()) => Code::Done.number(),
+        Err((code, by)) => {
+            drop(put(pass, alloc, by));
+            code.number()
+        }
+    }
+}
+
+/// Frees a pass without giving it back, so that its queue is never closed: 0, and the handle is empty,
+/// else 21, or 16 where it holds or owes IRPs. Own rule.
+#[unsafe(no_mangle)]
+pub extern "C" fn csq_free_pass(alloc: Global, pass: &mut CsqPass) -> u32
+    ensures code { result ≡ number_of (free_pass_code pass.old.body) }
+    ensures freed { result ≡ number_of Code.Done → pass.new.body ≡ None }
+    ensures kept { 0 < result → pass.new.body ≡ pass.old.body }
+{
+    let Some(by) = take(pass, alloc) else {
+        return Code::Empty.number();
+    };
+    if by.tokens() > 0 || by.claims() > 0 {
+        drop(put(pass, alloc, by));
+        return Code::Holding.number();
+    }
+    drop(by);
+    Code::Done.number()
+}

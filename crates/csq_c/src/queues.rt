@@ -1,0 +1,146 @@
+//! How a queue is made, closed and freed.
+ghost use Rattle.std.specs.Prelude.{◌≡◌, ◌⊎◌, ◌<◌, ◌↔◌, Err, IsTrue, IfOk, IfSome, Some, None, replicate};
+ghost use Rattle.csq_list.specs.Listing.{are_file_limits};
+ghost use Rattle.csq_c.specs.Bodies.{QueueState, open_of};
+ghost use Rattle.csq_c.specs.Codes.{number_of};
+ghost use Rattle.csq_c.specs.Ends.{IsRestOf, free_code, open_code, out_of_open};
+ghost use Rattle.csq_c.specs.Shapes.{set_to};
+ghost use Rattle.csq_c.specs.Sizes.{IsGoodSize, IsNewQueue, new_state};
+
+use crate::body::QueueBody;
+use crate::codes::Code;
+use crate::handles::CsqQueue;
+use crate::hold::{is_empty, put, take};
+use crate::shapes::{CsqSize, write};
+use csq_checked::{CheckedQueue, NewRefused};
+use std::alloc::Global;
+
+// A queue of this size, whose file objects have no limit of their own.
+fn made(alloc: Global, size: &CsqSize) -> Result<CheckedQueue, NewRefused>
+    ensures made { IfOk result (λ queue. queue ≡ new_state size.now (replicate size.now.files size.now.irps) queue.queue.table) }
+    ensures bad_size { (result ≡ Err NewRefused.BadSize) ↔ ¬ IsGoodSize size.now }
+{
+    let Some(size) = size.given() else {
+        return Err(NewRefused::BadSize);
+    };
+    CheckedQueue::new(alloc, size)
+}
+
+// A queue of this size, each file object with a limit of its own.
+fn made_with(alloc: Global, size: &CsqSize, file_limits: &[u32]) -> Result<CheckedQueue, NewRefused>
+    ensures made { IfOk result (λ queue. queue ≡ new_state size.now file_limits.now queue.queue.table) }
+    ensures bad_size { (result ≡ Err NewRefused.BadSize) ↔ ¬ (IsGoodSize size.now × IsTrue (are_file_limits size.now.irps size.now.files file_limits.now)) }
+{
+    let Some(size) = size.given() else {
+        return Err(NewRefused::BadSize);
+    };
+    CheckedQueue::with_file_limits(alloc, size, file_limits)
+}
+
+/// Makes a queue of this size, whose file objects have no limit of their own: 0, else 22, 19 or 20. As
+/// `IoCsqInitializeEx`.
+#[unsafe(no_mangle)]
+pub extern "C" fn csq_new(alloc: Global, queue: &mut CsqQueue, size: &CsqSize) -> u32
+    ensures filled { (result ≡ number_of Code.NotEmpty) ↔ ¬ (queue.old.body ≡ None) }
+    ensures bad_size { queue.old.body ≡ None → ((result ≡ number_of Code.BadSize) ↔ ¬ IsGoodSize size.now) }
+    ensures made { result ≡ number_of Code.Done → IsNewQueue size.now (replicate size.now.files size.now.irps) queue.new.body }
+    ensures kept { 0 < result → queue.new.body ≡ queue.old.body }
+    ensures cause { queue.old.body ≡ None → (result ≡ number_of Code.Done) ⊎ ((result ≡ number_of Code.BadSize) ⊎ (result ≡ number_of Code.NoMemory)) }
+{
+    if !is_empty(queue, alloc) {
+        return Code::NotEmpty.number();
+    }
+    match QueueBody::opened(alloc, made(alloc, size)) {
+        Err(code) => code.number(),
+        Ok(body) => {
+            drop(put(queue, alloc, body));
+            Code::Done.number()
+        }
+    }
+}
+
+/// Makes a queue of this size, each file object with a limit of its own: as `csq_new`, and 19 also where
+/// the limits aren't one for each file object, each 1 to the number of IRPs.
+#[unsafe(no_mangle)]
+pub extern "C" fn csq_new_with_file_limits(
+    alloc: Global,
+    queue: &mut CsqQueue,
+    size: &CsqSize,
+    file_limits: &[u32],
+) -> u32
+    ensures filled { (result ≡ number_of Code.NotEmpty) ↔ ¬ (queue.old.body ≡ None) }
+    ensures bad_size { queue.old.body ≡ None → ((result ≡ number_of Code.BadSize) ↔ ¬ (IsGoodSize size.now × IsTrue (are_file_limits size.now.irps size.now.files file_limits.now))) }
+    ensures made { result ≡ number_of Code.Done → IsNewQueue size.now file_limits.now queue.new.body }
+    ensures kept { 0 < result → queue.new.body ≡ queue.old.body }
+    ensures cause { queue.old.body ≡ None → (result ≡ number_of Code.Done) ⊎ ((result ≡ number_of Code.BadSize) ⊎ (result ≡ number_of Code.NoMemory)) }
+{
+    if !is_empty(queue, alloc) {
+        return Code::NotEmpty.number();
+    }
+    match QueueBody::opened(alloc, made_with(alloc, size, file_limits)) {
+        Err(code) => code.number(),
+        Ok(body) => {
+            drop(put(queue, alloc, body));
+            Code::Done.number()
+        }
+    }
+}
+
+/// Frees a queue, open or closed: 0, and the handle is empty, else 21, or 17 where a pass is out. Own
+/// rule.
+#[unsafe(no_mangle)]
+pub extern "C" fn csq_free(alloc: Global, queue: &mut CsqQueue) -> u32
+    ensures code { result ≡ number_of (free_code queue.old.body) }
+    ensures freed { result ≡ number_of Code.Done → queue.new.body ≡ None }
+    ensures kept { 0 < result → queue.new.body ≡ queue.old.body }
+{
+    let Some(body) = take(queue, alloc) else {
+        return Code::Empty.number();
+    };
+    if body.out_left() > 0 {
+        drop(put(queue, alloc, body));
+        return Code::PassesOut.number();
+    }
+    drop(body);
+    Code::Done.number()
+}
+
+/// Closes a queue, of which `csq_next_listed` and `csq_left` then tell what is left: 0, else 21, 24, or 17
+/// where a pass is out. Own rule.
+#[unsafe(no_mangle)]
+pub extern "C" fn csq_close(alloc: Global, queue: &mut CsqQueue) -> u32
+    ensures empty { queue.old.body ≡ None → result ≡ number_of Code.Empty }
+    ensures closed { (body : QueueState) → queue.old.body ≡ Some body → body.queue ≡ None → result ≡ number_of Code.Closed }
+    ensures cause { IfSome (open_of queue.old.body) (λ q. (result ≡ number_of Code.Done) ⊎ (result ≡ number_of Code.PassesOut)) }
+    ensures rest { result ≡ number_of Code.Done → IfSome queue.new.body (λ body. (body.queue ≡ None) × IfSome (open_of queue.old.body) (λ q. IfSome body.rest (IsRestOf q))) }
+    ensures some { result ≡ number_of Code.Done → IfSome queue.new.body (λ body. ¬ (body.rest ≡ None)) }
+    ensures kept { 0 < result → queue.new.body ≡ queue.old.body }
+    ensures there { ¬ (queue.old.body ≡ None) → ¬ (queue.new.body ≡ None) }
+{
+    let Some(mut body) = take(queue, alloc) else {
+        return Code::Empty.number();
+    };
+    let code = body.close();
+    drop(put(queue, alloc, body));
+    code.number()
+}
+
+/// How many passes are out: 0, else 21 or 24. Own rule.
+#[unsafe(no_mangle)]
+pub extern "C" fn csq_passes_out(alloc: Global, queue: &mut CsqQueue, out: &mut u32) -> u32
+    ensures code { result ≡ number_of (open_code queue.old.body) }
+    ensures out { IfSome queue.old.body (λ body. out.new ≡ set_to (out_of_open body.queue) out.old) }
+    ensures empty { queue.old.body ≡ None → out.new ≡ out.old }
+    ensures same { queue.new.body ≡ queue.old.body }
+{
+    let Some(body) = take(queue, alloc) else {
+        return Code::Empty.number();
+    };
+    let told = body.passes_out();
+    drop(put(queue, alloc, body));
+    write(out, told);
+    match told {
+        Some(_) => Code::Done.number(),
+        None => Code::Closed.number(),
+    }
+}

@@ -1,0 +1,138 @@
+//! The calls of a pass that take no queue, and no lock.
+ghost use Rattle.std.specs.Prelude.{◌≡◌, ℕ, Bool, Option, Result};
+ghost use Rattle.irp_core.specs.Steps.{Irp};
+ghost use Rattle.irp_core.specs.declared.ids.Life.{Life};
+ghost use Rattle.irp_core.specs.declared.status.NtStatus.{NtStatus as Status};
+ghost use Rattle.csq_queue.specs.Counts.{held_count, owed_count};
+ghost use Rattle.csq_queue.specs.declared.refusals.CancelRefused.{CancelRefused};
+ghost use Rattle.csq_queue.specs.declared.refusals.UnknownIrp.{UnknownIrp};
+ghost use Rattle.csq_checked.specs.Calls.{Marks, Completes, CompletesCancelled, TellsFlag, TellsStatus};
+ghost use Rattle.csq_checked.specs.declared.unlocked.CompleteRefused.{CompleteRefused};
+ghost use Rattle.csq_c.specs.Codes.{mark_code, claim_told, complete_code, flag_code, flag_life_told, flag_told, status_code, status_life_told, status_told};
+ghost use Rattle.csq_c.specs.Exports.{OnPass};
+ghost use Rattle.csq_c.specs.Shapes.{irp_numbered, life_numbered, status_numbered, set_to};
+
+use crate::codes::{Code, of_complete, of_flag, of_mark, of_status};
+use crate::handles::CsqPass;
+use crate::hold::{put, take};
+use crate::shapes::{CsqIrp, write};
+use irp_core::{IrpId, Life, NtStatus};
+use std::alloc::Global;
+
+/// Sets the Cancel flag of an IRP in the life named and takes its cancel routine: 0, and in `found` 1
+/// where the routine was there, and the pass owes the IRP then, else 0. Else 1 or 9. As `IoCancelIrp`, up
+/// to the call of the routine.
+#[unsafe(no_mangle)]
+pub extern "C" fn csq_mark_cancel(
+    alloc: Global,
+    pass: &mut CsqPass,
+    irp: CsqIrp,
+    found: &mut u32,
+) -> u32
+    ensures { OnPass pass.old.body pass.new.body result (found.new ≡ found.old) (λ p p' code. (answer : Result (Option Irp) CancelRefused)
+        × Marks p (irp_numbered irp.irp) (life_numbered irp.life) answer p' × (code ≡ mark_code answer) × (found.new ≡ set_to (claim_told answer) found.old)) }
+{
+    let Some(mut by) = take(pass, alloc) else {
+        return Code::Empty.number();
+    };
+    let (code, told) = of_mark(by.mark_cancel(IrpId(irp.irp), Life(irp.life)));
+    drop(put(pass, alloc, by));
+    write(found, told);
+    code.number()
+}
+
+/// Completes an IRP that the pass got by a removal with this status: 0, else 1, 12, 14 or 15. As
+/// `IoCompleteRequest`.
+#[unsafe(no_mangle)]
+pub extern "C" fn csq_complete(alloc: Global, pass: &mut CsqPass, irp: u32, status: u32) -> u32
+    ensures { OnPass pass.old.body pass.new.body result (Unit {0}) (λ p p' code. (answer : Result Irp CompleteRefused)
+        × Completes p (irp_numbered irp) (status_numbered status) answer p' × (code ≡ complete_code answer)) }
+{
+    let Some(mut by) = take(pass, alloc) else {
+        return Code::Empty.number();
+    };
+    let code = of_complete(by.complete(IrpId(irp), NtStatus(status)));
+    drop(put(pass, alloc, by));
+    code.number()
+}
+
+/// Completes an IRP that the pass holds with STATUS_CANCELLED: 0, else 1 or 12. As `IoCompleteRequest`.
+#[unsafe(no_mangle)]
+pub extern "C" fn csq_complete_cancelled(alloc: Global, pass: &mut CsqPass, irp: u32) -> u32
+    ensures { OnPass pass.old.body pass.new.body result (Unit {0}) (λ p p' code. (answer : Result Irp CompleteRefused)
+        × CompletesCancelled p (irp_numbered irp) answer p' × (code ≡ complete_code answer)) }
+{
+    let Some(mut by) = take(pass, alloc) else {
+        return Code::Empty.number();
+    };
+    let code = of_complete(by.complete_cancelled(IrpId(irp)));
+    drop(put(pass, alloc, by));
+    code.number()
+}
+
+/// The life that an IRP's Cancel flag stands for, and whether it is set there: 0, or 1. As the field
+/// `Irp->Cancel`.
+#[unsafe(no_mangle)]
+pub extern "C" fn csq_is_cancelled(
+    alloc: Global,
+    pass: &mut CsqPass,
+    irp: u32,
+    life: &mut u32,
+    cancelled: &mut u32,
+) -> u32
+    ensures { OnPass pass.old.body pass.new.body result ((life.new ≡ life.old) × (cancelled.new ≡ cancelled.old)) (λ p p' code. (answer : Result (Life × Bool) UnknownIrp)
+        × TellsFlag p (irp_numbered irp) answer p' × (code ≡ flag_code answer) × (life.new ≡ set_to (flag_life_told answer) life.old) × (cancelled.new ≡ set_to (flag_told answer) cancelled.old)) }
+{
+    let Some(mut by) = take(pass, alloc) else {
+        return Code::Empty.number();
+    };
+    let (code, lived, flag) = of_flag(by.is_cancelled(IrpId(irp)));
+    drop(put(pass, alloc, by));
+    write(life, lived);
+    write(cancelled, flag);
+    code.number()
+}
+
+/// The life that an IRP's status stands for, and the status: 0, or 8 where it isn't completed in that
+/// life, or 1. As the field `Irp->IoStatus.Status`.
+#[unsafe(no_mangle)]
+pub extern "C" fn csq_status(
+    alloc: Global,
+    pass: &mut CsqPass,
+    irp: u32,
+    life: &mut u32,
+    status: &mut u32,
+) -> u32
+    ensures { OnPass pass.old.body pass.new.body result ((life.new ≡ life.old) × (status.new ≡ status.old)) (λ p p' code. (answer : Result (Life × Option Status) UnknownIrp)
+        × TellsStatus p (irp_numbered irp) answer p' × (code ≡ status_code answer) × (life.new ≡ set_to (status_life_told answer) life.old) × (status.new ≡ set_to (status_told answer) status.old)) }
+{
+    let Some(mut by) = take(pass, alloc) else {
+        return Code::Empty.number();
+    };
+    let (code, lived, told) = of_status(by.status(IrpId(irp)));
+    drop(put(pass, alloc, by));
+    write(life, lived);
+    write(status, told);
+    code.number()
+}
+
+/// How many IRPs the pass holds and owes: 0. Own rule.
+#[unsafe(no_mangle)]
+pub extern "C" fn csq_holding(
+    alloc: Global,
+    pass: &mut CsqPass,
+    held: &mut u32,
+    owed: &mut u32,
+) -> u32
+    ensures { OnPass pass.old.body pass.new.body result ((held.new ≡ held.old) × (owed.new ≡ owed.old)) (λ p p' code. (p' ≡ p) × (code ≡ Code.Done)
+        × (held.new ≡ held_count p.pass.steps) × (owed.new ≡ owed_count p.pass.steps)) }
+{
+    let Some(by) = take(pass, alloc) else {
+        return Code::Empty.number();
+    };
+    let (tokens, claims) = (by.tokens(), by.claims());
+    drop(put(pass, alloc, by));
+    *held = tokens;
+    *owed = claims;
+    Code::Done.number()
+}

@@ -1,0 +1,113 @@
+-- What the slots of a pass tell, from one record of the pass to the next.
+use Rattle.std.proofs.Common.{◌≡◌, ◌≢◌, ℕ, ◌<◌, ◌==◌, ◌||◌, not, cond, Bool, true, false, true≢false, List, [], ◌∷◌, length, Option, Some, None, refl, sym, ap, ◌∙◌, eqb-true, ne_eqb}
+use Rattle.std.specs.Prelude.{slice_set}
+use Rattle.std.proofs.lemmas.List.{get_or-set_same, get_or-set_other}
+use Rattle.irp_core.specs.Steps.{Irp, number, same_irp}
+use Rattle.irp_core.specs.declared.ids.Life.{Life}
+use Rattle.irp_core.specs.declared.step.Made.{Made}
+use Rattle.irp_core.proofs.Names.{same_irp-refl, same_irp-eq, named}
+use Rattle.csq_words.specs.Own.{holds_in, owes_in, removed_in, held_list, owed_list}
+use Rattle.csq_words.specs.Queue.{has_irp}
+use Rattle.csq_words.proofs.Held.{held_list-is, owed_list-is}
+use Rattle.csq_queue.specs.Counts.{has_life}
+use Rattle.csq_queue.proofs.Counting.{spent}
+use Rattle.csq_checked.specs.declared.slots.Held.{Held}
+use Rattle.csq_checked.specs.Slots.{KnowsItsOwn, slot_at, held_at, owed_at}
+
+-- a slot that is set, and the others
+module _ {T : Type 0} (slots : List (Option T)) (m : ℕ) (slot : Option T) (known : m < length slots) where
+  pub slot_set : (n : ℕ) → n ≡ m → slot_at (slice_set slots m slot) n ≡ slot
+  slot_set n e = ap (slot_at (slice_set slots m slot)) e ∙ get_or-set_same slots m slot None known
+
+  pub slot_kept : (n : ℕ) → n ≢ m → slot_at (slice_set slots m slot) n ≡ slot_at slots n
+  slot_kept n ne = get_or-set_other slots m n slot None ne
+
+-- of what isn't among these, nothing is told
+pub held_none : (steps : List Made) (is : List Irp) (i : Irp) → has_life is i.irp ≡ false → held_at steps is (number i) ≡ None
+held_none steps [] i h = refl
+held_none steps (j ∷ is) i h = at (number j == number i) refl h (held_none steps is i)
+  where
+    at : (b : Bool) → (number j == number i) ≡ b → (b || has_life is i.irp) ≡ false → (has_life is i.irp ≡ false → held_at steps is (number i) ≡ None) → cond b (Some (record { removed = removed_in steps j; life = j.life })) (held_at steps is (number i)) ≡ None
+    at true e h rest = absurd (true≢false h)
+    at false e h rest = rest h
+
+pub owed_none : (is : List Irp) (i : Irp) → has_life is i.irp ≡ false → owed_at is (number i) ≡ None
+owed_none [] i h = refl
+owed_none (j ∷ is) i h = at (number j == number i) refl h (owed_none is i)
+  where
+    at : (b : Bool) → (number j == number i) ≡ b → (b || has_life is i.irp) ≡ false → (has_life is i.irp ≡ false → owed_at is (number i) ≡ None) → cond b (Some j.life) (owed_at is (number i)) ≡ None
+    at true e h rest = absurd (true≢false h)
+    at false e h rest = rest h
+
+-- what is spent leaves what is told of the others
+module _ (i : Irp) (n : ℕ) (ne : n ≢ number i) where
+  other : (j : Irp) → same_irp i j ≡ true → (number j == n) ≡ false
+  other j e = ne_eqb (number j) n (λ s. ne (sym s ∙ ap number (sym (same_irp-eq i j e))))
+
+  pub held_spent : (steps : List Made) (is : List Irp) → held_at steps (spent i is) n ≡ held_at steps is n
+  held_spent steps [] = refl
+  held_spent steps (j ∷ is) = at (same_irp i j) refl (held_spent steps is)
+    where
+      here : Option Held
+      here = Some (record { removed = removed_in steps j; life = j.life })
+
+      at : (b : Bool) → same_irp i j ≡ b → held_at steps (spent i is) n ≡ held_at steps is n → held_at steps (cond (not b) (j ∷ spent i is) (spent i is)) n ≡ held_at steps (j ∷ is) n
+      at false e rest = ap (cond (number j == n) (Some (record { removed = removed_in steps j; life = j.life }))) rest
+      at true e rest = rest ∙ sym (ap (λ b. cond b (Some (record { removed = removed_in steps j; life = j.life })) (held_at steps is n)) (other j e))
+
+  pub owed_spent : (is : List Irp) → owed_at (spent i is) n ≡ owed_at is n
+  owed_spent [] = refl
+  owed_spent (j ∷ is) = at (same_irp i j) refl (owed_spent is)
+    where
+      at : (b : Bool) → same_irp i j ≡ b → owed_at (spent i is) n ≡ owed_at is n → owed_at (cond (not b) (j ∷ spent i is) (spent i is)) n ≡ owed_at (j ∷ is) n
+      at false e rest = ap (cond (number j == n) (Some j.life)) rest
+      at true e rest = rest ∙ sym (ap (λ b. cond b (Some j.life) (owed_at is n)) (other j e))
+
+-- what is told rests on which of these a removal got alone
+pub held_same : (steps steps' : List Made) (is : List Irp) (n : ℕ) → ((j : Irp) → number j ≡ n → removed_in steps' j ≡ removed_in steps j) → held_at steps' is n ≡ held_at steps is n
+held_same steps steps' [] n same = refl
+held_same steps steps' (j ∷ is) n same = at (number j == n) refl (held_same steps steps' is n same)
+  where
+    at : (b : Bool) → (number j == n) ≡ b → held_at steps' is n ≡ held_at steps is n
+        → cond b (Some (record { removed = removed_in steps' j; life = j.life })) (held_at steps' is n) ≡ cond b (Some (record { removed = removed_in steps j; life = j.life })) (held_at steps is n)
+    at true e rest = ap (λ (r : Bool). Some (record { removed = r; life = j.life })) (same j (eqb-true (number j) n e))
+    at false e rest = rest
+
+or_second : (a b : Bool) → b ≡ true → (a || b) ≡ true
+or_second true b e = refl
+or_second false b e = e
+
+-- an IRP that is told of is among these, and was got so
+pub held_found : (steps : List Made) (is : List Irp) (i : Irp) (held : Held) → held_at steps is (number i) ≡ Some held → i.life ≡ held.life → (has_irp is i ≡ true) × (removed_in steps i ≡ held.removed)
+held_found steps [] i held e l = absurd (cc)
+held_found steps (j ∷ is) i held e l = at (number j == number i) refl e (held_found steps is i held)
+  where
+    at : (b : Bool) → (number j == number i) ≡ b → cond b (Some (record { removed = removed_in steps j; life = j.life })) (held_at steps is (number i)) ≡ Some held
+        → (held_at steps is (number i) ≡ Some held → i.life ≡ held.life → (has_irp is i ≡ true) × (removed_in steps i ≡ held.removed)) → ((same_irp j i || has_irp is i) ≡ true) × (removed_in steps i ≡ held.removed)
+    at true same f rest =
+        let got : ◌≡◌ {A = Held} (record { removed = removed_in steps j; life = j.life }) held = cc in
+        let life_is : j.life ≡ i.life = ap (λ (h : Held). h.life) got ∙ sym l in
+        let is_it : j ≡ i = named j i (eqb-true (number j) (number i) same) (ap (λ (x : Life). x.0) life_is) in
+        (ap (λ (b : Bool). b || has_irp is i) (ap (λ (x : Irp). same_irp x i) is_it ∙ same_irp-refl i), ap (removed_in steps) (sym is_it) ∙ ap (λ (h : Held). h.removed) got)
+    at false unlike f rest = let r = rest f l in (or_second (same_irp j i) (has_irp is i) r.0, r.1)
+
+pub owed_found : (is : List Irp) (i : Irp) → owed_at is (number i) ≡ Some i.life → has_irp is i ≡ true
+owed_found [] i e = absurd (cc)
+owed_found (j ∷ is) i e = at (number j == number i) refl e (owed_found is i)
+  where
+    at : (b : Bool) → (number j == number i) ≡ b → cond b (Some j.life) (owed_at is (number i)) ≡ Some i.life → (owed_at is (number i) ≡ Some i.life → has_irp is i ≡ true) → (same_irp j i || has_irp is i) ≡ true
+    at true same f rest =
+        let life_is : j.life ≡ i.life = cc in
+        let is_it : j ≡ i = named j i (eqb-true (number j) (number i) same) (ap (λ (x : Life). x.0) life_is) in
+        ap (λ (b : Bool). b || has_irp is i) (ap (λ (x : Irp). same_irp x i) is_it ∙ same_irp-refl i)
+    at false unlike f rest = or_second (same_irp j i) (has_irp is i) (rest f)
+
+-- what a slot tells is so
+module _ (irps : ℕ) (steps : List Made) (held : List (Option Held)) (owed : List (Option Life)) (own : KnowsItsOwn irps steps held owed) (i : Irp) (known : number i < irps) where
+  pub holds_told : (slot : Held) → slot_at held (number i) ≡ Some slot → i.life ≡ slot.life → (holds_in steps i ≡ true) × (removed_in steps i ≡ slot.removed)
+  holds_told slot e life =
+      let found = held_found steps (held_list steps) i slot (sym (own.held_is (number i) known) ∙ e) life in
+      (sym (held_list-is steps i) ∙ found.0, found.1)
+
+  pub owes_told : slot_at owed (number i) ≡ Some i.life → owes_in steps i ≡ true
+  owes_told e = sym (owed_list-is steps i) ∙ owed_found (owed_list steps) i (sym (own.owed_is (number i) known) ∙ e)

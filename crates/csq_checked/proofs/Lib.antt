@@ -1,0 +1,3 @@
+pub mod Knowing
+pub mod Keeping
+pub mod Checking

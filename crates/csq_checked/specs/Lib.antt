@@ -1,0 +1,6 @@
+pub mod Lists
+pub mod Slots
+pub mod Passes
+pub mod Causes
+pub mod Sizes
+pub mod Calls

@@ -1,0 +1,19 @@
+//! A queue for callers that hold a lock of their own and keep no tokens: each pass knows which IRPs it
+//! holds and owes, and refuses to complete any other.
+#![tactic(auto)]
+
+mod calls;
+mod lists;
+mod pass;
+mod queue;
+mod size;
+mod slots;
+#[cfg(test)]
+mod tests;
+mod unlocked;
+
+pub use lists::{AnyList, ListKind};
+pub use pass::CheckedPass;
+pub use queue::CheckedQueue;
+pub use size::{NewRefused, PassRefused, Size};
+pub use unlocked::{CompleteRefused, RoutineRefused};

@@ -1,0 +1,53 @@
+//! How large a queue is to be, and why one is not made.
+ghost use Rattle.std.specs.Prelude.{◌↔◌, IsTrue};
+ghost use Rattle.irp_core.specs.Runs.{IsInLimits};
+ghost use Rattle.csq_checked.specs.Sizes.{size_in};
+
+use crate::lists::ListKind;
+use irp_core::Life;
+
+/// How large a queue is to be. Own rule.
+#[derive(Clone, Copy, Debug, PartialEq, Eq)]
+pub struct Size {
+    /// The number of IRPs, 1 to 1,024.
+    pub irps: u32,
+    /// The number of file objects, 1 to 256.
+    pub files: u32,
+    /// How many IRPs may be listed at a time, 1 to `irps`.
+    pub limit: u32,
+    /// The number of passes, 1 to 64.
+    pub passes: u32,
+    /// The life in which all IRPs begin, at most 2^30 - 1.
+    pub first: Life,
+    /// How the list is kept.
+    pub list: ListKind,
+}
+
+impl Size {
+    // Whether the numbers of the words are in their ranges.
+    pub(crate) fn is_in_limits(&self) -> bool
+        ensures { IsTrue result ↔ IsInLimits (size_in self.now) }
+    {
+        (1..=1024).contains(&self.irps)
+            && (1..=64).contains(&self.passes)
+            && self.first.0 <= Life::LAST.0
+    }
+}
+
+/// Why there is no queue, in the order in which the causes are tested. Own rule.
+#[derive(Clone, Copy, Debug, PartialEq, Eq)]
+pub enum NewRefused {
+    /// A number is out of its range.
+    BadSize,
+    /// Memory that the queue needs was refused.
+    Memory,
+}
+
+/// Why no pass is handed out, in the order in which the causes are tested. Own rule.
+#[derive(Clone, Copy, Debug, PartialEq, Eq)]
+pub enum PassRefused {
+    /// All passes were handed out.
+    NoPass,
+    /// Memory that the pass needs was refused. It can still be handed out.
+    Memory,
+}

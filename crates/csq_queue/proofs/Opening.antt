@@ -1,0 +1,86 @@
+-- A queue and its passes, seen by their own words, and by those that a call is handed.
+use Rattle.std.proofs.Common.{◌≡◌, ℕ, Bool, List, length, Option, Some, sym, ap, ◌∙◌, subst}
+use Rattle.atomic_table.specs.Seated.{TableId}
+use Rattle.irp_core.specs.Runs.{Size}
+use Rattle.csq_list.specs.Listing.{Listing}
+use Rattle.csq_words.specs.Queue.{Limits, limits_of}
+use Rattle.csq_words.specs.declared.views.PassRecord.{PassRecord}
+use Rattle.csq_words.specs.Records.{caught_up}
+use Rattle.csq_words.specs.Seats.{WordsState, QueueSeatState, PassSeatState, joined_record, pass_record}
+use Rattle.irp_core.specs.Steps.{Irp}
+use Rattle.csq_queue.specs.Named.{size_of, IsLockedOf, IsPassOf}
+use Rattle.csq_words.specs.declared.views.Event.{Event}
+use Rattle.csq_words.specs.Rule.{IsTold}
+use Rattle.csq_queue.specs.Told.{AddsEvents, GivesOut}
+use Rattle.csq_queue.specs.Adding.{Adds}
+use Rattle.csq_queue.proofs.Leaving.{left_adds, left_gives}
+use Rattle.csq_queue.specs.Opens.{OpenState, OpenPassState, seat_table, limits_on, IsQueueOn, IsPassOn}
+
+-- what a contract sees of a queue's parts
+abbrev pub seen_of : Listing → QueueSeatState → List Bool → OpenState
+seen_of s seat flags = record { table = seat.table; limits = limits_of (length flags) seat.queue.first s; queue = seat.queue }
+
+-- a queue's parts, seen by its own words
+abbrev pub IsOpen : Listing → List ℕ → QueueSeatState → List Bool → Type 0
+IsOpen s lives seat flags = IsLockedOf seat.table (limits_of (length flags) seat.queue.first s) s lives seat flags
+
+-- the same, by the words that a call is handed
+abbrev pub IsOpenOn : WordsState → Listing → Listing → List ℕ → QueueSeatState → List Bool → Type 0
+IsOpenOn w first s lives seat flags = IsLockedOf w.table (limits_on w first) s lives seat flags
+
+module _ (w : WordsState) (s : Listing) (seat : QueueSeatState) (flags : List Bool) (q : OpenState) (is : seen_of s seat flags ≡ q) (on : IsQueueOn w q) where
+  size_is : size_of (limits_of (length flags) seat.queue.first s) ≡ w.size
+  size_is = ap (λ (z : OpenState). size_of z.limits) is ∙ on.size
+
+  limits_at : limits_of (length flags) seat.queue.first s ≡ limits_on w s
+  limits_at = ap (λ (z : Size). limits_on (record { table = w.table; size = z }) s) size_is
+
+  -- the limits of its own words are those of the words that a call is handed
+  pub limits_are : limits_on w s ≡ q.limits
+  limits_are = sym limits_at ∙ ap (λ (z : OpenState). z.limits) is
+
+  pub table_is : seat.table ≡ w.table
+  table_is = ap (λ (z : OpenState). z.table) is ∙ on.table
+
+  pub on_words : (lives : List ℕ) → IsOpen s lives seat flags → IsOpenOn w s s lives seat flags
+  on_words lives h = subst (λ (z : TableId × Limits). IsLockedOf z.0 z.1 s lives seat flags) (λ k. (table_is k, limits_at k)) h
+
+  -- what a call gave out, by the limits of its own words
+  pub own_gives : (given : Option Irp) (by_removal : Bool) (r new : PassRecord) (entered seat' : QueueSeatState) → joined_record entered ≡ r → new ≡ caught_up seat'.queue.history (joined_record seat')
+      → GivesOut (limits_on w s) given by_removal (joined_record entered) (joined_record seat') → GivesOut q.limits given by_removal r new
+  own_gives given by_removal r new entered seat' r_is new_is h = subst (λ (l : Limits). GivesOut l given by_removal r new) limits_are (left_gives (limits_on w s) given by_removal r new entered seat' r_is new_is h)
+
+  -- and the events of a call, as its pass sees them once it has left
+  pub own_adds : (r new : PassRecord) (entered seat' : QueueSeatState) → entered ≡ record seat { joined = Some r } → IsTold w.size seat.queue r → new ≡ caught_up seat'.queue.history (joined_record seat')
+      → (events : List Event) (s' : Listing) (lives : List ℕ) → Adds (limits_on w s) entered events s' lives seat' → AddsEvents q.limits q.queue.history r new events
+  own_adds r new entered seat' e told new_is events s' lives a =
+      subst (λ (l : Limits). AddsEvents l q.queue.history r new events) limits_are
+      (left_adds (limits_on w s) q.queue r entered seat' (ap (λ (z : QueueSeatState). z.queue) e ∙ ap (λ (z : OpenState). z.queue) is) (ap joined_record e) events s' lives a
+      (sym (ap (λ (z : OpenState). z.queue.first) is) ∙ ap (λ (l : Limits). l.first) limits_at) (subst (λ (z : OpenState). IsTold w.size z.queue r) is told) new new_is)
+
+module _ (t : TableId) (l : Limits) (s : Listing) (lives : List ℕ) (seat : QueueSeatState) (flags : List Bool) (h : IsLockedOf t l s lives seat flags) where
+  own_limits : limits_of (length flags) seat.queue.first s ≡ l
+  own_limits = λ k. limits_of (h.flags_are.one_each k) (h.first_is k) (h.list_is.listing_is k)
+
+  -- what a contract sees of the parts of a queue of this table and these limits
+  pub seen_at : seen_of s seat flags ≡ record { table = t; limits = l; queue = seat.queue }
+  seen_at = λ k. record { table = h.here k; limits = own_limits k; queue = seat.queue }
+
+  -- its parts, seen by its own words
+  pub own_words : IsOpen s lives seat flags
+  own_words = subst (λ (z : TableId × Limits). IsLockedOf z.0 z.1 s lives seat flags) (λ k. (sym h.here k, sym own_limits k)) h
+
+module _ (seat : Option PassSeatState) (irps passes number tokens claims : ℕ) where
+  -- a pass, by the words that a call is handed
+  pub pass_on : (w : WordsState) (p : OpenPassState) → record { table = seat_table seat; irps = irps; passes = passes; pass = pass_record seat } ≡ p → IsPassOn w p
+      → IsPassOf (seat_table seat) irps passes seat number tokens claims → IsPassOf w.table w.size.irps w.size.passes seat number tokens claims
+  pass_on w p is on h =
+      subst (λ (z : TableId × ℕ × ℕ). IsPassOf z.0 z.1 z.2 seat number tokens claims)
+      (λ k. ((ap (λ (z : OpenPassState). z.table) is ∙ on.table) k, (ap (λ (z : OpenPassState). z.irps) is ∙ on.irps) k, (ap (λ (z : OpenPassState). z.passes) is ∙ on.passes) k)) h
+
+  -- and by its own words
+  pub own_pass : (w : WordsState) (p : OpenPassState) → (irps ≡ p.irps) × (passes ≡ p.passes) → IsPassOn w p
+      → IsPassOf w.table w.size.irps w.size.passes seat number tokens claims → IsPassOf (seat_table seat) irps passes seat number tokens claims
+  own_pass w p is on h =
+      subst (λ (z : TableId × ℕ × ℕ). IsPassOf z.0 z.1 z.2 seat number tokens claims)
+      (λ k. (sym (ap seat_table h.here) k, sym (is.0 ∙ on.irps) k, sym (is.1 ∙ on.passes) k)) h

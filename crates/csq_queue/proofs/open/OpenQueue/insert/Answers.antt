@@ -1,0 +1,70 @@
+use Rattle.std.proofs.Common.{◌≡◌, false, List, [], ◌∷◌, Result, IfOk, IfErr, Ok, Err, ap, subst, arith, rules}
+use Rattle.irp_core.specs.Steps.{Irp}
+use Rattle.csq_list.specs.declared.refusals.InsertStatus.{InsertStatus}
+use Rattle.csq_words.specs.declared.views.Event.{Event}
+use Rattle.csq_words.specs.declared.views.Event.TheVariants.{Insert}
+use Rattle.csq_words.specs.declared.views.InsertReply.TheVariants.{Refused}
+use Rattle.csq_words.specs.Queue.{QueueState, current}
+use Rattle.csq_words.specs.History.{end_of}
+use Rattle.csq_words.specs.Records.{queue_of}
+use Rattle.csq_words.specs.Seats.{joined_record, pass_record}
+use Rattle.csq_queue.specs.Told.{AddsEvents}
+use Rattle.csq_queue.specs.declared.tokens.InsertAnswer.{InsertAnswer}
+use Rattle.csq_queue.specs.Adding.{Adds}
+use Rattle.csq_queue.specs.Inserts.{IsInsert, given_in}
+use Rattle.csq_queue.specs.Opens.{limits_on}
+use Rattle.csq_queue.proofs.Leaving.{room_for}
+use Rattle.csq_queue.proofs.Opening.{on_words, own_adds, pass_on}
+use Rattle.csq_queue.proofs.open.OpenQueue.insert.Given.{Over}
+use Rattle.csq_queue.proofs.open.OpenQueue.insert.Goals as goal
+use Rattle.csq_queue.proofs.open.OpenQueue.insert.Goals.{After-leave}
+
+pub overflow_add-pass : goal.overflow_add-pass
+overflow_add-pass g c =
+    let w = c.args.words.now in
+    let s = g.L.PendingList.listing c.self.inside.list in
+    let p = pass_on c.pass.inside.seat c.pass.inside.irps c.pass.inside.passes c.pass.inside.number c.pass.inside.tokens c.pass.inside.claims w c.args.pass.now c.pass.view_is c.requires.pass c.pass.invariant.0 in
+    let most = (on_words w s c.self.inside.seat c.self.inside.back.items c.args.self.now c.self.view_is c.requires.queue c.self.inside.lives c.self.invariant).most in
+    let room = room_for (limits_on w s) (given_in c.list_irp-inserted.result) false c.enter.new.self c.list_irp-inserted.new.seat c.pass.inside.tokens c.count_cancelled.result c.count_cancelled.ensures c.list_irp-inserted.ensures.given
+    (pass_record c.pass.inside.seat) (ap joined_record c.enter.ensures.joined) p.tokens_are p.held_apart in
+    omega arith
+
+-- the events of an insert, as its pass sees them
+adds : (g : Over) (c : After-leave g) (events : List Event) → Adds (limits_on c.args.words.now (g.L.PendingList.listing c.self.inside.list)) c.enter.new.self events (g.L.PendingList.listing c.list_irp-inserted.new.list) c.self.inside.lives c.list_irp-inserted.new.seat
+    → AddsEvents c.args.self.now.limits c.args.self.now.queue.history c.args.pass.now.pass (pass_record c.leave.new.pass) events
+adds g c events a =
+    own_adds c.args.words.now (g.L.PendingList.listing c.self.inside.list) c.self.inside.seat c.self.inside.back.items c.args.self.now c.self.view_is c.requires.queue
+    c.args.pass.now.pass (pass_record c.leave.new.pass) c.enter.new.self c.list_irp-inserted.new.seat (search rules) (search rules) (search rules) events (g.L.PendingList.listing c.list_irp-inserted.new.list) c.self.inside.lives a
+
+-- what is told of an accepted insert, of the queue that it was made of
+abbrev Accepted : (g : Over) (c : After-leave g) → QueueState → Type 0
+Accepted g c u = IfOk c.list_irp-inserted.result (λ inserted. (events : List Event) × IsInsert (current u c.args.irp) c.args.file c.args.place inserted events
+    × Adds (limits_on c.args.words.now (g.L.PendingList.listing c.self.inside.list)) c.enter.new.self events (g.L.PendingList.listing c.list_irp-inserted.new.list) c.self.inside.lives c.list_irp-inserted.new.seat)
+
+pub returns-clause-accepted : goal.returns-clause-accepted
+returns-clause-accepted g c = go c.list_irp-inserted.result (subst (λ (u : QueueState). Accepted g c u) queue_is c.list_irp-inserted.ensures.accepted)
+  where
+    now : QueueState
+    now = end_of c.args.self.now.limits.first c.args.self.now.queue.history
+
+    queue_is : queue_of c.enter.new.self.queue ≡ now
+    queue_is = search rules
+
+    go : (answer : Result (InsertAnswer Irp Irp) InsertStatus)
+        → IfOk answer (λ inserted. (events : List Event) × IsInsert (current now c.args.irp) c.args.file c.args.place inserted events
+        × Adds (limits_on c.args.words.now (g.L.PendingList.listing c.self.inside.list)) c.enter.new.self events (g.L.PendingList.listing c.list_irp-inserted.new.list) c.self.inside.lives c.list_irp-inserted.new.seat)
+        → IfOk answer (λ inserted. (events : List Event) × IsInsert (current now c.args.irp) c.args.file c.args.place inserted events × AddsEvents c.args.self.now.limits c.args.self.now.queue.history c.args.pass.now.pass (pass_record c.leave.new.pass) events)
+    go (Ok inserted) h = (h.0, h.1, adds g c h.0 h.2)
+    go (Err cause) h = h
+
+pub returns-clause-refused : goal.returns-clause-refused
+returns-clause-refused g c = go c.list_irp-inserted.result c.list_irp-inserted.ensures.refused
+  where
+    went : InsertStatus → List Event
+    went cause = Insert c.args.irp c.args.file c.args.place (Refused cause) ∷ []
+
+    go : (answer : Result (InsertAnswer Irp Irp) InsertStatus)
+        → IfErr answer (λ cause. Adds (limits_on c.args.words.now (g.L.PendingList.listing c.self.inside.list)) c.enter.new.self (went cause) (g.L.PendingList.listing c.list_irp-inserted.new.list) c.self.inside.lives c.list_irp-inserted.new.seat)
+        → IfErr answer (λ cause. AddsEvents c.args.self.now.limits c.args.self.now.queue.history c.args.pass.now.pass (pass_record c.leave.new.pass) (went cause))
+    go (Ok inserted) h = h
+    go (Err cause) h = adds g c (went cause) h
