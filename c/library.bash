@@ -4,10 +4,6 @@
 # changed, and the kit's functions for the heap. Says why where there is none.
 csq_library() {
   local top=$1 rt kit
-  if [[ ! -d $top/crates/csq_c ]]; then
-    echo "the proved library isn't there: there is no crate csq_c yet (--plain takes the plain C queue)" >&2
-    return 1
-  fi
   if ! rt=$(command -v rt); then
     echo "the proved library can't be built: there is no rt (--plain takes the plain C queue)" >&2
     return 1
