@@ -1,7 +1,7 @@
 //! Passes that are handed out and come back, and what is left.
 use super::{FILE, ONE, ZERO, made, pending};
 use crate::{ListKind, PassRefused};
-use csq_list::{Peek, Place};
+use csq_list::{Peek, PendingList, Place};
 use irp_core::{Life, NtStatus};
 use std::test::Fail;
 
@@ -50,6 +50,7 @@ fn what_is_left_is_told(rt: HostRuntime) -> Result<(), Fail> {
         return Err(Fail::from("not closed"));
     };
     assert_eq!(rt; rest.next_listed(None), Some(ZERO));
+    assert!(rt; rest.list.is_listed(ZERO));
     assert_eq!(rt; rest.next_listed(Some(ZERO)), None);
     assert_eq!(rt;
         (rest.life(ZERO), rest.cancelled(ZERO), rest.status(ZERO)),
