@@ -25,17 +25,18 @@
  * The answer of a call is a code of the one table below. Where several would fit it is the first one tested:
  * whether handles are filled or empty, in the order of the parameters; whether the queue is closed; then the
  * causes in the order in which the call's comment names them. A refusal, which is any answer but CSQ_OK and
- * csq_insert's CSQ_CANCELLED, changes nothing and writes nothing, but for the life that csq_status tells.
+ * csq_insert's CSQ_CANCELLED, changes nothing and writes nothing, but for the life that csq_status tells. (csq_cancel
+ * and csq_cleanup are made of several calls: their comments say what holds after a refusal.)
  *
  * What the caller must uphold, which nothing checks:
  *
  * - A pass is used with no other open queue than the one that handed it out.
- * - A handle is filled by these calls alone. It is not copied, but may be moved while no call uses it; what
+ * - A handle begins as CSQ_EMPTY and is filled by these calls alone. It is not copied, but may be moved while no call uses it; what
  *   it points to is not read or written.
  * - A handle is in one call at a time. For a queue that is the lock; a pass is used by one thread at a time,
  *   and goes from one to another by an act that synchronises (a lock, the start or the join of a thread, a
  *   sequentially consistent atomic).
- * - Pointers are valid for what is read and written through them, and those of one call don't overlap.
+ * - Pointers are valid for what is read and written through them, none is null, and those of one call don't overlap.
  * - malloc, realloc and free are of one allocator, and may be called by several threads at once.
  * - No call is made in a signal handler, in the forked child of a process with threads, or with less than a
  *   few kilobytes of the stack left.
@@ -247,7 +248,7 @@ uint32_t csq_reuse(struct csq_queue *queue, struct csq_pass *pass, uint32_t irp,
 
 /* What IoCancelIrp does first: sets the Cancel flag of an IRP in the life named, then exchanges its cancel routine
  * for none. *found is 1 where the routine was there: the pass owes the IRP, and csq_cancel_routine is due. It is 0
- * where the IRP isn't listed, or someone else has it; an insert that comes later finds the flag.
+ * where the IRP isn't listed, or a pass, perhaps this one, has it; an insert that comes later finds the flag.
  * CSQ_EMPTY_HANDLE; CSQ_UNKNOWN_IRP; CSQ_STALE. Lock: not needed. */
 uint32_t csq_mark_cancel(struct csq_pass *pass, struct csq_irp irp, uint32_t *found);
 
@@ -270,7 +271,8 @@ uint32_t csq_status(struct csq_pass *pass, uint32_t irp, uint32_t *life, uint32_
 
 /* ---- Calls made of others, which take the lock themselves ---- */
 
-/* The caller's lock of a queue, as CsqAcquireLock and CsqReleaseLock: two functions, and what they are called with. */
+/* The caller's lock of a queue, as CsqAcquireLock and CsqReleaseLock: two functions, which return to their caller (by no
+ * exception and no longjmp), and what they are called with. */
 struct csq_lock {
     void (*lock)(void *of);
     void (*unlock)(void *of);
@@ -279,14 +281,16 @@ struct csq_lock {
 
 /* Cancels an IRP in the life named (IoCancelIrp): csq_mark_cancel, and where the routine was there the cancel routine
  * under the lock and the completion. *completed is 1 where the IRP was completed here, else 0.
- * Answers as csq_mark_cancel does. Lock: not held; it is taken only where the routine was there. */
+ * Answers as csq_mark_cancel does; such a refusal changes nothing. Where the routine was there, and the queue's handle
+ * is empty or its queue closed, CSQ_EMPTY_HANDLE or CSQ_CLOSED: the pass owes the IRP all the same, and
+ * csq_cancel_routine is due. Lock: not held; it is taken only where the routine was there. */
 static inline uint32_t csq_cancel(struct csq_queue *queue, struct csq_pass *pass, struct csq_irp irp,
                                   const struct csq_lock *lock, uint32_t *completed) {
     uint32_t found = 0;
     uint32_t code = csq_mark_cancel(pass, irp, &found);
     if (code == CSQ_OK && found) {
         lock->lock(lock->of);
-        /* Refused only where the queue isn't the pass's own: the pass still owes the IRP then. */
+        /* Refused only where the handle's queue isn't there or is closed: the pass still owes the IRP then. */
         code = csq_cancel_routine(queue, pass, irp.irp);
         lock->unlock(lock->of);
         if (code == CSQ_OK) {
@@ -324,7 +328,7 @@ static inline uint32_t csq_cleanup(struct csq_queue *queue, struct csq_pass *pas
         }
         count++;
     }
-    /* Any other end is a queue that was closed or freed meanwhile. */
+    /* A pass that is out keeps its queue open, so there is no other end. */
     if (code == CSQ_NONE) {
         code = CSQ_OK;
     }

@@ -25,8 +25,12 @@ static unsigned long asked, blocks;
 static unsigned long refused;
 static bool and_later;
 
-static bool refuses(void) {
+/* How many bytes were asked for. */
+static size_t wanted;
+
+static bool refuses(size_t bytes) {
     asked++;
+    wanted += bytes;
     return refused && (asked == refused || (and_later && asked > refused));
 }
 
@@ -36,26 +40,26 @@ static void *counted(void *block) {
 }
 
 void *__wrap_malloc(size_t bytes) {
-    return refuses() ? NULL : counted(__real_malloc(bytes));
+    return refuses(bytes) ? NULL : counted(__real_malloc(bytes));
 }
 
 void *__wrap_calloc(size_t count, size_t bytes) {
-    return refuses() ? NULL : counted(__real_calloc(count, bytes));
+    return refuses(count * bytes) ? NULL : counted(__real_calloc(count, bytes));
 }
 
 void *__wrap_realloc(void *block, size_t bytes) {
-    if (refuses()) {
+    if (refuses(bytes)) {
         return NULL;
     }
     return block ? __real_realloc(block, bytes) : counted(__real_realloc(NULL, bytes));
 }
 
 void *__wrap_aligned_alloc(size_t alignment, size_t bytes) {
-    return refuses() ? NULL : counted(__real_aligned_alloc(alignment, bytes));
+    return refuses(bytes) ? NULL : counted(__real_aligned_alloc(alignment, bytes));
 }
 
 int __wrap_posix_memalign(void **block, size_t alignment, size_t bytes) {
-    if (refuses()) {
+    if (refuses(bytes)) {
         return ENOMEM;
     }
     int code = __real_posix_memalign(block, alignment, bytes);
@@ -203,7 +207,7 @@ static void no_other_call_takes_memory(uint32_t list) {
     unsigned long before = blocks;
     struct device device = device_of(size_of(CSQ_MOST_IRPS, CSQ_MOST_FILES, list));
     struct csq_left left;
-    uint32_t irp = UNWRITTEN;
+    uint32_t irp = UNWRITTEN, held = UNWRITTEN, owed = UNWRITTEN;
     refuse(1, true);
     for (uint32_t turn = 0; turn < 2 * CSQ_MOST_IRPS; turn++) {
         lead_through_a_life(&device, turn % CSQ_MOST_IRPS, turn / CSQ_MOST_IRPS);
@@ -215,6 +219,8 @@ static void no_other_call_takes_memory(uint32_t list) {
     for (uint32_t at = 0; at < CSQ_MOST_IRPS; at += 2) {
         IS(mark(&device, 1, at, 2), 1);
     }
+    IS(csq_holding(&device.passes[1], &held, &owed), CSQ_OK);
+    IS(csq_passes_out(&device.queue, &irp), CSQ_OK);
     IS(csq_close_file(&device.queue, &device.passes[0], 255), CSQ_OK);
     while (take(&device, 2, 255) != CSQ_ANY) {
     }
@@ -228,10 +234,43 @@ static void no_other_call_takes_memory(uint32_t list) {
     IS(blocks, before);
 }
 
+/* Its queue is never freed, since the pass counts as out ever after. */
+static void a_pass_that_is_freed_keeps_no_memory(uint32_t list) {
+    static struct csq_queue queues[2];
+    struct csq_pass pass = CSQ_EMPTY;
+    IS(make(&queues[list], list, false), CSQ_OK);
+    unsigned long before = blocks;
+    IS(csq_pass(&queues[list], &pass), CSQ_OK);
+    CHECK(blocks > before);
+    refuse(1, true);
+    IS(csq_free_pass(&pass), CSQ_OK);
+    IS(asked, 0);
+    refuse(0, false);
+    IS(blocks, before);
+}
+
+/* How many bytes a queue takes. */
+static size_t bytes_of(uint32_t list, bool limited) {
+    struct csq_queue queue = CSQ_EMPTY;
+    wanted = 0;
+    IS(make(&queue, list, limited), CSQ_OK);
+    size_t bytes = wanted;
+    IS(csq_free(&queue), CSQ_OK);
+    return bytes;
+}
+
+/* The two kinds of list answer alike, but take different room. */
+static void a_queue_has_the_list_that_was_asked_for(void) {
+    CHECK(bytes_of(CSQ_VECTOR, false) < bytes_of(CSQ_CHAINS, false));
+    CHECK(bytes_of(CSQ_VECTOR, true) < bytes_of(CSQ_CHAINS, true));
+}
+
 int main(void) {
     RUN_BOTH(a_queue_that_finds_no_memory_keeps_none);
     RUN_BOTH(a_pass_that_finds_no_memory_can_be_asked_for_again);
     RUN_BOTH(other_refusals_come_before_that_of_memory);
     RUN_BOTH(no_other_call_takes_memory);
+    RUN_BOTH(a_pass_that_is_freed_keeps_no_memory);
+    RUN(a_queue_has_the_list_that_was_asked_for);
     return DONE();
 }

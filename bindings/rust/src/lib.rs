@@ -47,8 +47,9 @@
 //!
 //! What the C header asks of its caller is upheld here: each call on a queue is made under its lock, a pass has a share
 //! of its queue and is used with no other, and no thread uses a pass beside another one. What is left to the program:
-//! `malloc`, `realloc` and `free` are of one allocator, and no call is made in a signal handler or in the forked child
-//! of a process with threads.
+//! `malloc`, `realloc` and `free` are of one allocator and may be called by several threads at once, and no call is made
+//! in a signal handler, in the forked child of a process with threads, or with less than a few kilobytes of the stack
+//! left.
 //!
 //! A pass can't be shared by threads,
 //!

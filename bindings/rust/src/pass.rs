@@ -68,7 +68,8 @@ impl Pass {
                     owed,
                 })
             }
-            _ => Ok(()),
+            raw::OK => Ok(()),
+            code => unreachable!("csq_give_back answered {code}"),
         }
     }
 
@@ -137,8 +138,9 @@ impl Pass {
     pub fn close_file(&self, file: u32) -> Result<(), UnknownFile> {
         // SAFETY: the queue is locked, and this thread alone has the pass.
         match self.locked(|queue, pass| unsafe { raw::csq_close_file(queue, pass, file) }) {
+            raw::OK => Ok(()),
             raw::UNKNOWN_FILE => Err(UnknownFile),
-            _ => Ok(()),
+            code => unreachable!("csq_close_file answered {code}"),
         }
     }
 

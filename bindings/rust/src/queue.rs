@@ -88,28 +88,37 @@ impl Queue {
 
     /// How many passes are out.
     pub fn passes_out(&self) -> u32 {
-        let mut out = 0;
-        // SAFETY: the handle is locked.
-        let code = unsafe { raw::csq_passes_out(&mut *self.shared.lock(), &mut out) };
-        debug_assert_eq!(code, raw::OK);
-        out
+        passes_out(&mut self.shared.lock())
     }
 
     /// Closes the queue, once no pass is out.
     pub fn close(self) -> Result<Closed, PassesOut> {
+        let mut handle = self.shared.lock();
         // SAFETY: the handle is locked.
-        let code = unsafe { raw::csq_close(&mut *self.shared.lock()) };
-        match code {
-            raw::OK => Ok(Closed {
-                shared: self.shared,
-            }),
+        match unsafe { raw::csq_close(&mut *handle) } {
+            raw::OK => {
+                drop(handle);
+                Ok(Closed {
+                    shared: self.shared,
+                })
+            }
             raw::PASSES_OUT => {
-                let out = self.passes_out();
+                let out = passes_out(&mut handle);
+                drop(handle);
                 Err(PassesOut { queue: self, out })
             }
             code => unreachable!("csq_close answered {code}"),
         }
     }
+}
+
+// How many passes of an open queue are out.
+fn passes_out(handle: &mut RawQueue) -> u32 {
+    let mut out = 0;
+    // SAFETY: whoever has the handle so has it alone.
+    let code = unsafe { raw::csq_passes_out(handle, &mut out) };
+    debug_assert_eq!(code, raw::OK);
+    out
 }
 
 /// A queue that was closed. It tells what is left.

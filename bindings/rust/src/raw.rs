@@ -154,6 +154,16 @@ mod tests {
     }
 
     #[test]
+    fn the_kinds_of_list_are_those_of_the_header() {
+        let header = include_str!("../../../include/csq.h");
+        assert!(header.contains("enum { CSQ_VECTOR = 0, CSQ_CHAINS = 1 };"));
+        let size = crate::Size::new(1, 1, 1);
+        assert_eq!(size.raw().list, 0);
+        let list = crate::List::Chains;
+        assert_eq!(crate::Size { list, ..size }.raw().list, 1);
+    }
+
+    #[test]
     fn the_structs_are_as_large_as_in_c() {
         assert_eq!(std::mem::size_of::<RawIrp>(), 8);
         assert_eq!(std::mem::size_of::<RawSize>(), 24);

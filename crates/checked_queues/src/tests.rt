@@ -1,0 +1,3 @@
+//! What the tests of the calls, which stand beside those, leave out.
+mod kinds;
+mod threads;
