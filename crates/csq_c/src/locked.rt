@@ -1,4 +1,5 @@
-//! The calls that take an open queue, by a pass, under the caller's lock.
+//! The calls that take an open queue, by a pass, under the caller's lock. Before any other code each
+//! answers 21 where a handle is empty, then 24 of a closed queue.
 ghost use Rattle.std.specs.Prelude.{◌≡◌, ℕ, Option};
 ghost use Rattle.irp_core.specs.Steps.{Irp};
 ghost use Rattle.csq_c.specs.Bodies.{ArePaired};

@@ -1,4 +1,5 @@
-//! The calls of a pass that take no queue, and no lock.
+//! The calls of a pass that take no queue, and no lock. Before any other code each answers 21 where the
+//! pass's handle is empty.
 ghost use Rattle.std.specs.Prelude.{◌≡◌, ℕ, Bool, Option, Result};
 ghost use Rattle.irp_core.specs.Steps.{Irp};
 ghost use Rattle.irp_core.specs.declared.ids.Life.{Life};

@@ -21,7 +21,7 @@ use Rattle.csq_words.specs.declared.views.InsertReply.TheVariants.{Refused}
 use Rattle.csq_words.specs.Calls.{due_mark}
 use Rattle.csq_words.specs.Queue.{current, refusal}
 use Rattle.csq_words.specs.History.{end_of}
-use Rattle.csq_words.specs.Own.{owes_in, holds_in}
+use Rattle.csq_words.specs.Own.{owes_in, holds_in, removed_in, held_list, owed_list}
 use Rattle.csq_words.specs.Plays.{IsFlagOf, IsStatusOf, flag_read, status_read, shows_flagged, status_recorded}
 use Rattle.csq_words.specs.Records.{with_step, with_completion}
 use Rattle.csq_words.specs.Rule.{FindsUnset}
@@ -30,6 +30,7 @@ use Rattle.csq_queue.specs.declared.refusals.CancelRefused.{CancelRefused}
 use Rattle.csq_queue.specs.declared.refusals.ReuseRefused.{ReuseRefused}
 use Rattle.csq_queue.specs.declared.refusals.ReuseRefused.TheVariants as reuse
 use Rattle.csq_queue.specs.declared.refusals.UnknownIrp.{UnknownIrp}
+use Rattle.csq_queue.specs.Counts.{has_life}
 use Rattle.csq_queue.specs.Named.{named, size_of}
 use Rattle.csq_queue.specs.Told.{AddsEvents, KeepsRest, GivesOut, count_given}
 use Rattle.csq_queue.specs.Refusals.{reuse_events, IsReuseRefusal, IsCancelRefusal}
@@ -74,13 +75,15 @@ pub record Removes (q : CheckedState) (p : CheckedPassState) (i : Irp) (taken : 
   pub token : IfSome taken (HoldsRemoved q.queue.limits.irps p'.pass)
   pub after : IsAfter q p q' p'
 
--- a cancel routine: the pass owed the IRP and holds it then, or the first cause why not
+-- a cancel routine: the pass owed the IRP and holds it then as cancelled, and owes it in no life, or the first cause why not
 pub record RunsRoutine (q : CheckedState) (p : CheckedPassState) (irp : IrpId) (answer : Result Irp RoutineRefused) (q' : CheckedState) (p' : CheckedPassState) : Type 0 where
   pub cause : result_err answer ≡ routine_cause q.queue.limits.irps p.pass.steps irp
   pub owed : IfOk answer (λ i. (i.irp ≡ irp) × Owes p.pass i)
   pub call : IfOk answer (λ i. Adds q p p' (Out i ∷ due_mark i (end_of q.queue.limits.first q.queue.queue.history)))
   pub step : IfOk answer (λ i. p'.pass ≡ record (with_step (StepOut i) 0 p.pass) { seen = p'.pass.seen; mine = p'.pass.mine })
   pub token : IfOk answer (Holds q.queue.limits.irps p'.pass)
+  pub cancelled : IfOk answer (λ i. removed_in p'.pass.steps i ≡ false)
+  pub none_owed : IfOk answer (λ i. has_life (owed_list p'.pass.steps) i.irp ≡ false)
   pub after : OnOk answer (IsAfter q p q' p')
   pub kept : OnErr answer ((q' ≡ q) × (p' ≡ p))
 
@@ -110,11 +113,12 @@ pub record Marks (p : CheckedPassState) (irp : IrpId) (life : Life) (answer : Re
   pub refused : IfErr answer (IsCancelRefusal p.words.size (named irp life) p.pass p'.pass)
   pub words : p'.words ≡ p.words
 
--- the pass completed i with this status, and nobody had before
+-- the pass completed i with this status, which nobody had before, and holds the IRP in no life
 pub record IsCompletion (p : CheckedPassState) (irp : IrpId) (status : NtStatus) (i : Irp) (p' : CheckedPassState) : Type 0 where
   pub irp_is : i.irp ≡ irp
   pub step : p' ≡ record p { pass = with_completion i status (with_step (Done i) 0 p.pass) }
   pub unset : FindsUnset p.words.size i p'.pass
+  pub none_held : has_life (held_list p'.pass.steps) irp ≡ false
 
 -- a completion of an IRP that a removal got, or the first cause why not
 pub record Completes (p : CheckedPassState) (irp : IrpId) (status : NtStatus) (answer : Result Irp CompleteRefused) (p' : CheckedPassState) : Type 0 where

@@ -32,4 +32,4 @@ returns c =
     let slot : slot_at c.self.inside.held c.args.irp.0 ≡ Some c.in_ok-held.held = sym c.get.ensures ∙ c.in_ok-held.ensures.ok_part in
     let holds = slot_holds words c.self.inside.pass c.self.inside.held c.self.inside.owed c.self.invariant i known c.in_ok-held.held slot refl in
     let held : Holds c.args.self.now.words.size.irps c.args.self.now.pass i = subst (λ (p : CheckedPassState). Holds p.words.size.irps p.pass i) c.self.view_is holds in
-    record { call = record { cause = search rules; held = held; done = record { irp_is = refl; step = search rules; unset = search rules }; kept = tt } }
+    record { call = record { cause = search rules; held = held; done = record { irp_is = refl; step = search rules; unset = search rules; none_held = search rules }; kept = tt } }

@@ -32,4 +32,4 @@ returns c =
     let slot : slot_at c.by.inside.owed c.args.irp.0 ≡ Some c.in_ok-life.life = sym c.get.ensures ∙ c.in_ok-life.ensures.ok_part in
     let owes = slot_owes words c.by.inside.pass c.by.inside.held c.by.inside.owed c.by.invariant i known slot in
     let owed : Owes c.args.by.now.pass i = subst (λ (p : CheckedPassState). Owes p.pass i) c.by.view_is owes in
-    record { call = record { cause = search rules; owed = (refl, owed); call = search rules; step = search rules; token = search rules; after = search rules; kept = tt } }
+    record { call = record { cause = search rules; owed = (refl, owed); call = search rules; step = search rules; token = search rules; cancelled = search rules; none_owed = search rules; after = search rules; kept = tt } }
