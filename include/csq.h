@@ -177,7 +177,8 @@ uint32_t csq_free(struct csq_queue *queue);
 uint32_t csq_passes_out(struct csq_queue *queue, uint32_t *out);
 
 /* Closes the queue, once no pass is out. The same handle is the closed queue then, which tells what is left
- * (csq_next_listed, csq_left), is freed by csq_free, and answers CSQ_CLOSED to any other call.
+ * (csq_next_listed, csq_left), is freed by csq_free, and answers CSQ_CLOSED to any call that wants an open queue,
+ * once the call's other handles are as it wants them.
  * CSQ_EMPTY_HANDLE; CSQ_CLOSED; CSQ_PASSES_OUT. Lock: held, or no other thread uses the queue any more. */
 uint32_t csq_close(struct csq_queue *queue);
 
@@ -248,7 +249,8 @@ uint32_t csq_reuse(struct csq_queue *queue, struct csq_pass *pass, uint32_t irp,
 
 /* What IoCancelIrp does first: sets the Cancel flag of an IRP in the life named, then exchanges its cancel routine
  * for none. *found is 1 where the routine was there: the pass owes the IRP, and csq_cancel_routine is due. It is 0
- * where the IRP isn't listed, or a pass, perhaps this one, has it; an insert that comes later finds the flag.
+ * where the IRP isn't listed, or a pass, perhaps this one, has it. An insert that comes later finds the flag, and
+ * gives the IRP back unless another canceller has it by then.
  * CSQ_EMPTY_HANDLE; CSQ_UNKNOWN_IRP; CSQ_STALE. Lock: not needed. */
 uint32_t csq_mark_cancel(struct csq_pass *pass, struct csq_irp irp, uint32_t *found);
 

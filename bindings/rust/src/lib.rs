@@ -4,8 +4,8 @@
 //!
 //! A [`Queue`] hands out a [`Pass`] for each thread that inserts, removes, cancels or completes. What a pass has to
 //! complete is a token ([`Removed`], [`Cancelled`], [`Claim`]): it borrows its pass, and one that is dropped completes
-//! its IRP with `STATUS_CANCELLED`. So each IRP that an insert accepted is completed once, or is listed when the queue
-//! is closed.
+//! its IRP with `STATUS_CANCELLED`. So once a queue is closed, each IRP that an insert accepted was completed once or
+//! is listed.
 //!
 //! ```
 //! use csq::{FinalStatus, Inserted, Peek, Place, Queue, Size};

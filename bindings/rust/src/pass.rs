@@ -171,8 +171,8 @@ impl Pass {
     }
 
     /// Sets the Cancel flag of an IRP in the life named, and takes its cancel routine (the first half of
-    /// `IoCancelIrp`). None where the routine wasn't there: the IRP isn't listed, or someone else has it. Takes no
-    /// lock.
+    /// `IoCancelIrp`). None where the routine wasn't there: the IRP isn't listed, or a pass, perhaps this one, has it.
+    /// Takes no lock.
     pub fn mark_cancel(&self, irp: Irp) -> Result<Option<Claim<'_>>, CancelError> {
         let mut found = 0;
         // SAFETY: this thread alone has the pass.

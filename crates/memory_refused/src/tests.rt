@@ -187,6 +187,36 @@ fn a_queue_is_refused_for_want_of_memory(rt: HostRuntime) -> Result<(), Fail> {
     Err(Fail::from("each call was refused"))
 }
 
+// Want of memory is told before a list that is not fresh, at each call for memory.
+fn is_used_list_told_as_memory(rt: &(impl AllocGlobal + Abort), call: u64) -> Result<bool, Fail> {
+    let room = LocalHeap::new(rt.alloc(), ROOM)?;
+    let heap = RefusingHeap::new(&room, call);
+    let mut list = VecList::new(rt.alloc(), 4, 2, 4)?;
+    assert_eq!(rt; list.close_file(FileId(1)), Ok(()));
+    let Err(back) = Blank::new(&heap, list, 4, 2) else {
+        return Err(Fail::from("a queue"));
+    };
+    let refused = heap.has_refused();
+    let cause = if refused {
+        NewCause::Memory
+    } else {
+        NewCause::ListNotFresh
+    };
+    assert_eq!(rt; back.cause, cause, "at call {call}");
+    Ok(refused)
+}
+
+#[test]
+fn a_used_list_is_told_after_want_of_memory(rt: HostRuntime) -> Result<(), Fail> {
+    for call in 0..CALLS {
+        if !is_used_list_told_as_memory(&rt, call)? {
+            assert!(rt; call > 0, "no call was refused");
+            return Ok(());
+        }
+    }
+    Err(Fail::from("each call was refused"))
+}
+
 // The next life of the last IRP.
 const NEXT: IrpLife = IrpLife {
     irp: IrpId(IRPS - 1),
