@@ -2,7 +2,7 @@
 use csq_list::{ChainList, ListNew, PendingList, VecList};
 use csq_queue::{Blank, NewCause};
 use csq_words::{Words, WordsNew};
-use irp_core::{IrpId, IrpLife, Kind, Life, Machine, MachineNew, PassId, Step};
+use irp_core::{FileId, IrpId, IrpLife, Kind, Life, Machine, MachineNew, PassId, Step};
 use linked_list_allocator::LocalHeap;
 use refusing_heap::RefusingHeap;
 use std::process::Abort;
