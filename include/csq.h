@@ -6,8 +6,9 @@
  *
  * - A queue is over the IRPs 0 to irps - 1 and the file objects 0 to files - 1. An IRP is home until an
  *   insert accepts it. Then it is listed, until a removal or a cancel takes it out of the list, and whoever
- *   took it out holds it until the completion. An IRP that an insert accepted is completed at most once, and
- *   once no pass is out it is listed or was completed.
+ *   took it out holds it until the completion; one that was cancelled before is held by the insert's pass at
+ *   once. An IRP that an insert accepted is completed at most once, and once no pass is out it is listed or
+ *   was completed.
  * - A completed IRP may be used again (csq_reuse): its next life begins, of which all this holds anew. A
  *   caller names an IRP in one of its lives (struct csq_irp), so that what comes late for an old life takes
  *   nothing of a newer one.
@@ -17,8 +18,9 @@
  *
  * The lock: "Lock: held" says that the caller has the queue's lock round the call, which is any lock of the
  * caller's, one for each queue. "Lock: not needed" says that the call may come at any time, also while another
- * thread has the lock. No call here takes a lock, waits, starts a thread or ends the program. (csq_cancel and
- * csq_cleanup, at the end, take the caller's lock through the caller's functions.)
+ * thread has the lock. No call here takes a lock or waits (but for what malloc, realloc and free do), starts a
+ * thread or ends the program. (csq_cancel and csq_cleanup, at the end, take the caller's lock through the caller's
+ * functions.)
  *
  * Memory: csq_new, csq_new_with_file_limits and csq_pass take memory. No other call does.
  *
@@ -31,8 +33,8 @@
  * What the caller must uphold, which nothing checks:
  *
  * - A pass is used with no other open queue than the one that handed it out.
- * - A handle begins as CSQ_EMPTY and is filled by these calls alone. It is not copied, but may be moved while no call uses it; what
- *   it points to is not read or written.
+ * - A handle begins as CSQ_EMPTY and is filled by these calls alone. It is not copied, but may be moved while no
+ *   call uses it; what it points to is not read or written.
  * - A handle is in one call at a time. For a queue that is the lock; a pass is used by one thread at a time,
  *   and goes from one to another by an act that synchronises (a lock, the start or the join of a thread, a
  *   sequentially consistent atomic).
@@ -273,8 +275,8 @@ uint32_t csq_status(struct csq_pass *pass, uint32_t irp, uint32_t *life, uint32_
 
 /* ---- Calls made of others, which take the lock themselves ---- */
 
-/* The caller's lock of a queue, as CsqAcquireLock and CsqReleaseLock: two functions, which return to their caller (by no
- * exception and no longjmp), and what they are called with. */
+/* The caller's lock of a queue, as CsqAcquireLock and CsqReleaseLock: two functions, which return to their caller (by
+ * no exception and no longjmp), and what they are called with. */
 struct csq_lock {
     void (*lock)(void *of);
     void (*unlock)(void *of);
