@@ -6,9 +6,9 @@
  *
  * - A queue is over the IRPs 0 to irps - 1 and the file objects 0 to files - 1. An IRP is home until an
  *   insert accepts it. Then it is listed, until a removal or a cancel takes it out of the list, and whoever
- *   took it out holds it until the completion; one that was cancelled before is held by the insert's pass at
- *   once. An IRP that an insert accepted is completed at most once, and once no pass is out it is listed or
- *   was completed.
+ *   took it out holds it until the completion; one that its insert found cancelled (CSQ_CANCELLED) is held by
+ *   that pass at once. An IRP that an insert accepted is completed at most once, and once no pass is out it is
+ *   listed or was completed.
  * - A completed IRP may be used again (csq_reuse): its next life begins, of which all this holds anew. A
  *   caller names an IRP in one of its lives (struct csq_irp), so that what comes late for an old life takes
  *   nothing of a newer one.
