@@ -8,8 +8,6 @@ mod pass;
 mod queue;
 mod size;
 mod slots;
-#[cfg(test)]
-mod tests;
 mod unlocked;
 
 pub use lists::{AnyList, ListKind};

@@ -3,7 +3,7 @@ use Rattle.std.specs.Prelude.{ℕ, ◌+◌, ◌*◌, max, List, ◌++◌, codes,
 use Rattle.irp_core.specs.Texts.{pass_text}
 use Rattle.csq_draw.specs.declared.heading.Extent.{Extent}
 use Rattle.csq_draw.specs.declared.heading.Column.{Column}
-use Rattle.csq_draw.specs.declared.heading.TheConstants.{SHARED}
+use Rattle.csq_draw.specs.declared.heading.TheConstants.{PICTURE_HEAD}
 use Rattle.csq_draw.specs.Layout.{left, top}
 
 -- a picture's width, at least that of its longest line of text
@@ -28,7 +28,7 @@ title_text e = codes "<title>The steps of a schedule: " ++ (decimal e.rows ++ co
 
 -- what all pictures share: a description, and the look of what is drawn
 unfoldable pub shared_text : List ℕ
-shared_text = SHARED.now
+shared_text = PICTURE_HEAD.now
 
 -- the sheet of a picture
 abbrev pub sheet_text : Extent → List ℕ

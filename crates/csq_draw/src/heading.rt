@@ -4,7 +4,7 @@ use irp_core::PassId;
 use std::fmt;
 
 /// What a picture is, for who can't see it, and the look of all that is drawn, on a light page and on a dark one.
-pub(crate) const SHARED: &str = "\
+pub const PICTURE_HEAD: &str = "\
 <desc>Each column is a pass, and time runs downwards. A row is one atomic step: its line in the schedule, \
 and in the column of its pass what it did, to which IRP, and the value that it found.</desc>
 <style>
@@ -40,7 +40,7 @@ impl fmt::Display for Shared {
 
     #[tactic(auto, unfolding(crate::specs::Headings::shared_text))]
     fn fmt<W: fmt::Write>(&self, f: &mut fmt::Formatter<W>) -> fmt::Result {
-        f.write_str(SHARED)
+        f.write_str(PICTURE_HEAD)
     }
 }
 

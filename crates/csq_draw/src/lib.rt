@@ -16,10 +16,8 @@ mod sentences;
 mod spans;
 
 pub use drawing::draw_schedule;
+pub use heading::PICTURE_HEAD;
 pub use laws::{
     a_schedule_has_one_picture, each_line_has_its_number, each_pass_has_its_column,
     each_shade_is_of_the_lock, each_step_has_one_mark, the_shaded_pass_has_the_lock,
 };
-
-#[cfg(test)]
-mod tests;

@@ -8,7 +8,4 @@ mod program;
 
 pub use command::{CommandFault, Job, read_command, refuse_bytes};
 pub use device_run::{RunFault, answer_run};
-pub use program::{ProgramFault, run_program};
-
-#[cfg(test)]
-mod tests;
+pub use program::{ProgramFault, run_program, status_of};

@@ -221,7 +221,7 @@ where
 }
 
 /// The exit status of what the program did, or could not do.
-pub(crate) fn status_of(ended: &Result<u8, ProgramFault>) -> u8
+pub fn status_of(ended: &Result<u8, ProgramFault>) -> u8
     ensures done { IfOk ended.now (λ status. result ≡ status) }
     ensures faulty { IfErr ended.now (λ _. result ≡ 1) }
 {

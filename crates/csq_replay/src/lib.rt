@@ -16,6 +16,3 @@ pub use schedule::answer_schedule;
 pub use schedule::closing::{IrpLine, irp_line};
 pub use schedule::outcome::{Outcome, Stop, handle_line};
 pub use script::answer_script;
-
-#[cfg(test)]
-mod tests;

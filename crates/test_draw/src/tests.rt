@@ -1,0 +1,333 @@
+//! Pictures of schedules, byte by byte.
+use csq_draw::draw_schedule;
+use csq_draw::PICTURE_HEAD;
+use csq_replay::{Ended, MAX_INPUT, SimFault};
+use linked_list_allocator::LocalHeap;
+use refusing_heap::RefusingHeap;
+use std::io;
+use std::io::{Error, ErrorKind, Read, Write};
+use std::process::Abort;
+use std::test::Fail;
+
+/// A schedule, what is drawn of it before and behind what all pictures share, and how it ended.
+struct Row {
+    input: &'static str,
+    before: &'static str,
+    behind: &'static str,
+    ended: Ended,
+}
+
+const ROWS: [Row; 4] = [
+    Row {
+        input: "p1 arm 0\np2 flag 0\np1 test 0\np2 take 0\n",
+        before: "\
+<svg xmlns='http://www.w3.org/2000/svg' width='720' height='276' viewBox='0 0 720 276' font-family='ui-monospace,monospace' font-size='12'>
+<title>The steps of a schedule: 4</title>
+",
+        behind: "\
+<rect class='sheet' width='720' height='276'/>
+<text class='key' x='72' y='24'>shaded: has the lock; bold: claims the IRP; dashed line: owes it; solid line: holds it</text>
+<path class='g' d='M148 64V192'/><text class='p' x='148' y='54'>p1</text>
+<path class='g' d='M356 64V192'/><text class='p' x='356' y='54'>p2</text>
+<text class='n' x='56' y='85'>1</text>
+<rect class='l' x='72' y='64' width='192' height='32'/>
+<g class='k0'><title>p1 set the cancel routine of IRP 0</title><rect x='80' y='68' width='136' height='24' rx='5'/><text x='88' y='85'>arm 0</text><text class='v' x='208' y='85'>0</text></g>
+<text class='n' x='56' y='117'>2</text>
+<rect class='l' x='72' y='96' width='192' height='32'/>
+<g class='k0'><title>p2 set the Cancel flag of IRP 0</title><rect x='288' y='100' width='136' height='24' rx='5'/><text x='296' y='117'>flag 0</text><text class='v' x='416' y='117'>0</text></g>
+<text class='n' x='56' y='149'>3</text>
+<rect class='l' x='72' y='128' width='192' height='32'/>
+<g class='k0'><title>p1 found the Cancel flag of IRP 0 set</title><rect x='80' y='132' width='136' height='24' rx='5'/><text x='88' y='149'>test 0</text><text class='v' x='208' y='149'>1</text></g>
+<text class='n' x='56' y='181'>4</text>
+<rect class='l' x='72' y='160' width='192' height='32'/>
+<g class='c k0'><title>p2 took the cancel routine of IRP 0, and owes it now</title><rect x='288' y='164' width='136' height='24' rx='5'/><text x='296' y='181'>take 0</text><text class='v' x='416' y='181'>1</text></g>
+<path class='k0 owes' d='M424 176H430V192'><title>p2 owes IRP 0 in the end</title></path>
+<text x='72' y='220'>irp 0 listed cancel 1</text>
+<text x='72' y='240'>rest no</text>
+</svg>
+",
+        ended: Ended::AllHandled,
+    },
+    Row {
+        input: "# p3 is the faster one\np1 arm 0\np1 test 0\np3 disarm 0\np3 done 0\np3 done 0\np1 end\n",
+        before: "\
+<svg xmlns='http://www.w3.org/2000/svg' width='720' height='296' viewBox='0 0 720 296' font-family='ui-monospace,monospace' font-size='12'>
+<title>The steps of a schedule: 4</title>
+",
+        behind: "\
+<rect class='sheet' width='720' height='296'/>
+<text class='key' x='72' y='24'>shaded: has the lock; bold: claims the IRP; dashed line: owes it; solid line: holds it</text>
+<path class='g' d='M148 64V192'/><text class='p' x='148' y='54'>p1</text>
+<path class='g' d='M356 64V192'/><text class='p' x='356' y='54'>p3</text>
+<text class='n' x='56' y='85'>2</text>
+<rect class='l' x='72' y='64' width='192' height='32'/>
+<g class='k0'><title>p1 set the cancel routine of IRP 0</title><rect x='80' y='68' width='136' height='24' rx='5'/><text x='88' y='85'>arm 0</text><text class='v' x='208' y='85'>0</text></g>
+<text class='n' x='56' y='117'>3</text>
+<rect class='l' x='72' y='96' width='192' height='32'/>
+<g class='k0'><title>p1 found the Cancel flag of IRP 0 clear</title><rect x='80' y='100' width='136' height='24' rx='5'/><text x='88' y='117'>test 0</text><text class='v' x='208' y='117'>0</text></g>
+<text class='n' x='56' y='149'>4</text>
+<rect class='l' x='280' y='128' width='192' height='32'/>
+<g class='c k0'><title>p3 took the cancel routine of IRP 0, and holds it now</title><rect x='288' y='132' width='136' height='24' rx='5'/><text x='296' y='149'>disarm 0</text><text class='v' x='416' y='149'>1</text></g>
+<text class='n' x='56' y='181'>5</text>
+<path class='k0 holds' d='M424 144H430V176H424'><title>p3 holds IRP 0</title></path>
+<g class='k0'><title>p3 completed IRP 0</title><rect x='288' y='164' width='136' height='24' rx='5'/><text x='296' y='181'>done 0</text><text class='v' x='416' y='181'>0</text></g>
+<rect class='bad' x='72' y='194' width='624' height='28' rx='5'/>
+<text class='n' x='56' y='213'>6</text>
+<text x='88' y='213'>p3 done 0 refused NotHeld</text>
+<text x='88' y='242'>p3 doesn't hold the IRP in that life</text>
+</svg>
+",
+        ended: Ended::Stopped,
+    },
+    Row {
+        input: "",
+        before: "\
+<svg xmlns='http://www.w3.org/2000/svg' width='720' height='128' viewBox='0 0 720 128' font-family='ui-monospace,monospace' font-size='12'>
+<title>The steps of a schedule: 0</title>
+",
+        behind: "\
+<rect class='sheet' width='720' height='128'/>
+<text class='key' x='72' y='24'>shaded: has the lock; bold: claims the IRP; dashed line: owes it; solid line: holds it</text>
+<text x='72' y='92'>rest yes</text>
+</svg>
+",
+        ended: Ended::AllHandled,
+    },
+    Row {
+        input: "p1  end\n",
+        before: "\
+<svg xmlns='http://www.w3.org/2000/svg' width='720' height='168' viewBox='0 0 720 168' font-family='ui-monospace,monospace' font-size='12'>
+<title>The steps of a schedule: 0</title>
+",
+        behind: "\
+<rect class='sheet' width='720' height='168'/>
+<text class='key' x='72' y='24'>shaded: has the lock; bold: claims the IRP; dashed line: owes it; solid line: holds it</text>
+<rect class='bad' x='72' y='66' width='624' height='28' rx='5'/>
+<text class='n' x='56' y='85'>1</text>
+<text x='88' y='85'>malformed</text>
+<text x='88' y='114'>it is no step</text>
+</svg>
+",
+        ended: Ended::Stopped,
+    },
+];
+
+#[test]
+fn a_schedule_is_drawn(rt: HostRuntime) -> Result<(), Fail> {
+    for row in &ROWS {
+        let mut input = row.input.as_bytes();
+        let mut text = Vec::new(rt.alloc());
+        let ended = draw_schedule(rt.alloc(), 8, 4, &mut input, &mut text).ok();
+        let (before, behind) = (row.before, row.behind);
+        let wanted = format!(in rt.alloc(); "{before}{PICTURE_HEAD}\n{behind}")?;
+        assert_eq!(rt; ended, Some(row.ended), "at {}", row.input);
+        assert_eq!(rt; text.as_slice(), wanted.as_bytes(), "at {}", row.input);
+    }
+    Ok(())
+}
+
+// A life that is cancelled, and one that is begun after it and armed.
+const TWO_LIVES: &str = "\
+p1 arm 0
+p1 test 0
+p2 flag 0
+p2 take 0
+p2 out 0
+p2 done 0
+p3 end
+p1 renew 0
+p1 arm 0@1
+";
+
+// What a mark tells of each step of it, in order.
+const TOLD: [&str; 9] = [
+    "p1 set the cancel routine of IRP 0",
+    "p1 found the Cancel flag of IRP 0 clear",
+    "p2 set the Cancel flag of IRP 0",
+    "p2 took the cancel routine of IRP 0, and owes it now",
+    "p2 took IRP 0 out of the list, and holds it now",
+    "p2 completed IRP 0",
+    "p3 ended its removal without an IRP",
+    "p1 began the life that comes after IRP 0",
+    "p1 set the cancel routine of IRP 0@1",
+];
+
+#[test]
+fn each_kind_of_step_is_told(rt: HostRuntime) -> Result<(), Fail> {
+    let mut input = TWO_LIVES.as_bytes();
+    let mut text = Vec::new(rt.alloc());
+    assert_eq!(rt;
+        draw_schedule(rt.alloc(), 8, 4, &mut input, &mut text),
+        Ok(Ended::AllHandled)
+    );
+    let drawn = str::from_utf8(text.as_slice()).map_err(|_| "a text")?;
+    for told in TOLD {
+        let title = format!(in rt.alloc(); "<title>{told}</title>")?;
+        assert!(rt; drawn.contains(title.as_str()), "{told}");
+    }
+    assert!(rt; drawn.contains(">arm 0@1</text>"));
+    Ok(())
+}
+
+// A line that ends the handling, and why.
+const REASONS: [(&str, &str); 16] = [
+    (
+        "# c\n\np1 arm 0\n\np2 disarm 0\n",
+        "p1 has the lock since line 3",
+    ),
+    (
+        "p1 arm 0\np1 test 0\np2 flag 0\np2 take 0\np3 disarm 0\np1 arm 1\n",
+        "p3 has the lock since line 5",
+    ),
+    (
+        "p1 arm 0\np1 test 0\np2 flag 0\np2 take 0\np3 disarm 0\np3 arm 1\n",
+        "p3 is inside a removal since line 5, which goes on with a disarm or an end",
+    ),
+    (
+        "p1 arm 0\np1 end\n",
+        "p1 is inside an insert since line 1, whose next step is test 0",
+    ),
+    (
+        "p1 arm 0\np2 flag 0\np1 test 0\np1 end\n",
+        "p1 is inside an insert since line 1, whose next step is disarm 0",
+    ),
+    (
+        "p2 flag 0\np2 done 0\n",
+        "p2 is inside a cancel since line 1, whose next step is take 0",
+    ),
+    ("p1 test 0\n", "p1 is inside no program, and none begins so"),
+    ("p9 flag 8\n", "an IRP's number is below 8"),
+    ("p5 end\n", "a pass's number is 1 to 4"),
+    (
+        "p1 arm 0\np1 test 0\np2 arm 0\n",
+        "the IRP was armed before in that life",
+    ),
+    ("p1 disarm 0\n", "the IRP isn't listed in that life"),
+    (
+        "p1 arm 0\np1 test 0\np2 out 0\n",
+        "p2 doesn't owe the IRP in that life",
+    ),
+    (
+        "p1 arm 0\np1 test 0\np2 done 0\n",
+        "p2 doesn't hold the IRP in that life",
+    ),
+    ("p2 renew 0\n", "the IRP isn't completed in that life"),
+    ("p1 arm 00\n", "it is no step"),
+    (
+        "#################################################################\n",
+        "a line has at most 64 bytes",
+    ),
+];
+
+#[test]
+fn each_refusal_has_its_reason(rt: HostRuntime) -> Result<(), Fail> {
+    for (lines, reason) in REASONS {
+        let mut input = lines.as_bytes();
+        let mut text = Vec::new(rt.alloc());
+        let ended = draw_schedule(rt.alloc(), 8, 4, &mut input, &mut text);
+        assert_eq!(rt; ended, Ok(Ended::Stopped), "at {lines:?}");
+        let drawn = str::from_utf8(text.as_slice()).map_err(|_| "a text")?;
+        let last = format!(in rt.alloc(); ">{reason}</text>\n</svg>\n")?;
+        assert!(rt; drawn.ends_with(last.as_str()), "at {lines:?}");
+    }
+    Ok(())
+}
+
+#[test]
+fn an_older_life_is_told(rt: HostRuntime) -> Result<(), Fail> {
+    let lines = format!(in rt.alloc(); "{TWO_LIVES}p2 flag 0\n")?;
+    let mut input = lines.as_bytes();
+    let mut text = Vec::new(rt.alloc());
+    assert_eq!(rt;
+        draw_schedule(rt.alloc(), 8, 4, &mut input, &mut text),
+        Ok(Ended::Stopped)
+    );
+    let drawn = str::from_utf8(text.as_slice()).map_err(|_| "a text")?;
+    assert!(rt; drawn.ends_with(">the IRP is in its life 1</text>\n</svg>\n"));
+    Ok(())
+}
+
+/// Refuses one call for memory of a picture. Answers whether it came to that call: then nothing is
+/// written, and no memory is kept.
+fn is_picture_refused(rt: &(impl AllocGlobal + Abort), row: &Row, call: u64) -> Result<bool, Fail> {
+    let room = LocalHeap::new(rt.alloc(), 1 << 17)?;
+    let heap = RefusingHeap::new(&room, call);
+    let mut input = row.input.as_bytes();
+    let mut text = Vec::new(rt.alloc());
+    let drawn = draw_schedule(&heap, 8, 4, &mut input, &mut text);
+    assert_eq!(rt; room.used(), 0);
+    if heap.has_refused() {
+        assert_eq!(rt; drawn, Err(SimFault::Memory), "at call {call}");
+        assert!(rt; text.is_empty(), "at call {call}");
+        return Ok(true);
+    }
+    assert_eq!(rt; drawn, Ok(row.ended));
+    assert!(rt; text.as_slice().ends_with(row.behind.as_bytes()));
+    Ok(false)
+}
+
+// Each call for memory is refused in turn.
+fn refuse_picture(rt: &(impl AllocGlobal + Abort), row: &Row) -> Result<(), Fail> {
+    for call in 0..1000 {
+        if !is_picture_refused(rt, row, call)? {
+            assert!(rt; call > 0, "no call was refused");
+            return Ok(());
+        }
+    }
+    Err(Fail::from("each call was refused"))
+}
+
+#[test]
+fn a_picture_is_refused_for_want_of_memory(rt: HostRuntime) -> Result<(), Fail> {
+    for row in &ROWS {
+        refuse_picture(&rt, row)?;
+    }
+    Ok(())
+}
+
+#[test]
+fn an_input_that_is_too_long_is_not_drawn(rt: HostRuntime) -> Result<(), Fail> {
+    for (length, ended, drawn) in [
+        (MAX_INPUT, Ended::AllHandled, true),
+        (MAX_INPUT + 1, Ended::Stopped, false),
+    ] {
+        let feeds = vec![in rt.alloc(); b'\n'; length]?;
+        let mut input = feeds.as_slice();
+        let mut text = Vec::new(rt.alloc());
+        let answer = draw_schedule(rt.alloc(), 1, 1, &mut input, &mut text).ok();
+        assert_eq!(rt; answer, Some(ended));
+        assert_eq!(rt; text.as_slice() != b"input too long\n".as_slice(), drawn);
+    }
+    Ok(())
+}
+
+/// A reader that fails at once, and a writer that takes nothing.
+#[derive(Drop)]
+struct Closed;
+
+impl Read for Closed {
+    fn read(&mut self, _: &mut [u8]) -> io::Result<usize> {
+        Err(Error::from(ErrorKind::BrokenPipe))
+    }
+}
+
+impl Write for Closed {
+    fn write(&mut self, _: &[u8]) -> io::Result<usize> {
+        Ok(0)
+    }
+
+    fn flush(&mut self) -> io::Result<()> {
+        Ok(())
+    }
+}
+
+#[test]
+fn a_failed_read_or_write_is_told(rt: HostRuntime) {
+    let mut text = Vec::new(rt.alloc());
+    let read = draw_schedule(rt.alloc(), 8, 4, &mut Closed, &mut text);
+    assert_eq!(rt; read.err(), Some(SimFault::Read));
+    assert!(rt; text.is_empty());
+    let mut input = ROWS[0].input.as_bytes();
+    let written = draw_schedule(rt.alloc(), 8, 4, &mut input, &mut Closed);
+    assert_eq!(rt; written.err(), Some(SimFault::Write));
+}

@@ -1,0 +1,190 @@
+//! Command lines of schedules and scripts.
+use csq_program::{CommandFault, Job, read_command, refuse_bytes};
+use std::test::Fail;
+
+#[test]
+fn command_lines_are_read(rt: HostRuntime) -> Result<(), Fail> {
+    let alloc = rt.alloc();
+    let plain = ["csqsim", "schedule"];
+    let least = ["csqsim", "schedule", "--irps", "1", "--passes=1"];
+    let most = [
+        "csqsim",
+        "schedule",
+        "--irps=1024",
+        "--claims",
+        "--passes",
+        "64",
+    ];
+    let jobs = [
+        (plain.as_slice(), 8, 4, false),
+        (least.as_slice(), 1, 1, false),
+        (most.as_slice(), 1024, 64, true),
+    ];
+    for (words, irps, passes, claims) in jobs {
+        let job = read_command(alloc, words).ok();
+        let wanted = Job::Schedule {
+            irps,
+            passes,
+            claims,
+        };
+        assert_eq!(rt; job, Some(wanted));
+    }
+    Ok(())
+}
+
+#[test]
+fn other_command_lines_are_refused(rt: HostRuntime) -> Result<(), Fail> {
+    let alloc = rt.alloc();
+    let refused = [
+        ("csqsim", "walk", "--irps=1", 2),
+        ("csqsim", "schedule", "--irps=0", 2),
+        ("csqsim", "schedule", "--irps=1025", 2),
+        ("csqsim", "schedule", "--passes=0", 2),
+        ("csqsim", "schedule", "--passes=65", 2),
+        ("csqsim", "schedule", "--passes=x", 2),
+        ("csqsim", "schedule", "--help", 0),
+    ];
+    for (program, command, option, status) in refused {
+        let words = [program, command, option];
+        match read_command(alloc, words.as_slice()) {
+            Err(CommandFault::Refused(error)) => assert_eq!(rt; error.exit_code(), status),
+            Err(CommandFault::Memory) | Ok(_) => assert!(rt; false, "at {option}"),
+        }
+    }
+    Ok(())
+}
+
+#[test]
+fn command_lines_of_pictures_are_read(rt: HostRuntime) -> Result<(), Fail> {
+    let plain = ["csqsim", "draw"];
+    let most = ["csqsim", "draw", "--irps=1024", "--passes=64"];
+    for (words, irps, passes) in [(plain.as_slice(), 8, 4), (most.as_slice(), 1024, 64)] {
+        let job = read_command(rt.alloc(), words).ok();
+        assert_eq!(rt; job, Some(Job::Draw { irps, passes }));
+    }
+    for option in ["--irps=1025", "--passes=0", "--passes=65", "--claims"] {
+        let words = ["csqsim", "draw", option];
+        assert!(rt;
+            read_command(rt.alloc(), words.as_slice()).is_err(),
+            "at {option}"
+        );
+    }
+    Ok(())
+}
+
+#[test]
+fn command_lines_of_scripts_are_read(rt: HostRuntime) -> Result<(), Fail> {
+    let plain = ["csqsim", "script"];
+    let sized = [
+        "csqsim", "script", "--irps", "3", "--files", "1", "--limit", "2",
+    ];
+    let least = [
+        "csqsim",
+        "script",
+        "--irps=1",
+        "--files=1",
+        "--limit=1",
+        "--file-limit=1",
+    ];
+    let chained = ["csqsim", "script", "--chain"];
+    let jobs = [
+        (plain.as_slice(), 8, 4, None, None, false),
+        (sized.as_slice(), 3, 1, Some(2), None, false),
+        (least.as_slice(), 1, 1, Some(1), Some(1), false),
+        (chained.as_slice(), 8, 4, None, None, true),
+    ];
+    for (words, irps, files, limit, file_limit, chain) in jobs {
+        let job = read_command(rt.alloc(), words).ok();
+        let wanted = Job::Script {
+            irps,
+            files,
+            limit,
+            file_limit,
+            chain,
+        };
+        assert_eq!(rt; job, Some(wanted));
+    }
+    Ok(())
+}
+
+#[test]
+fn a_script_has_limits_beside_chains(rt: HostRuntime) -> Result<(), Fail> {
+    let words = [
+        "csqsim",
+        "script",
+        "--chain",
+        "--limit",
+        "8",
+        "--file-limit",
+        "3",
+    ];
+    let wanted = Job::Script {
+        irps: 8,
+        files: 4,
+        limit: Some(8),
+        file_limit: Some(3),
+        chain: true,
+    };
+    assert_eq!(rt;
+        read_command(rt.alloc(), words.as_slice()).ok(),
+        Some(wanted)
+    );
+    Ok(())
+}
+
+#[test]
+fn a_script_is_as_large_as_it_may_be(rt: HostRuntime) -> Result<(), Fail> {
+    let words = [
+        "csqsim",
+        "script",
+        "--irps=1024",
+        "--files=256",
+        "--limit=1024",
+        "--file-limit=1024",
+    ];
+    let wanted = Job::Script {
+        irps: 1024,
+        files: 256,
+        limit: Some(1024),
+        file_limit: Some(1024),
+        chain: false,
+    };
+    assert_eq!(rt;
+        read_command(rt.alloc(), words.as_slice()).ok(),
+        Some(wanted)
+    );
+    Ok(())
+}
+
+#[test]
+fn other_command_lines_of_scripts_are_refused(rt: HostRuntime) -> Result<(), Fail> {
+    for option in [
+        "--irps=0",
+        "--irps=1025",
+        "--files=0",
+        "--files=257",
+        "--limit=0",
+        "--limit=1025",
+        "--file-limit=0",
+        "--file-limit=1025",
+        "--passes=1",
+    ] {
+        let words = ["csqsim", "script", option];
+        assert!(rt; read_command(rt.alloc(), words.as_slice()).is_err());
+    }
+    Ok(())
+}
+
+#[test]
+fn a_command_line_that_is_no_text_is_refused(rt: HostRuntime) -> Result<(), Fail> {
+    match refuse_bytes(rt.alloc()) {
+        CommandFault::Refused(error) => {
+            assert_eq!(rt; error.exit_code(), 2);
+            let told = format!(in rt.alloc(); "{error}")?;
+            assert!(rt; told.as_str().contains("an argument isn't UTF-8"));
+        }
+        CommandFault::Memory => assert!(rt; false, "memory was refused"),
+    }
+    assert_eq!(rt; CommandFault::Memory.number(), 1);
+    Ok(())
+}

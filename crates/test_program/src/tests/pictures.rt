@@ -1,0 +1,79 @@
+//! Pictures that the program draws, and help that it tells in either way.
+use super::process::Process;
+use super::shell::look_for;
+use csq_program::run_program;
+use std::process::{Abort, ExitCode};
+use std::sync::Wait;
+use std::thread::Threads;
+
+// The word `help` before a command tells what `--help` behind it tells.
+#[test]
+fn help_of_a_command_is_told_either_way(rt: HostRuntime) {
+    for command in ["schedule", "draw", "script", "run"] {
+        let before = ["csqsim", "help", command];
+        let behind = ["csqsim", command, "--help"];
+        let process = Process::new(&rt, &before, "", usize::MAX);
+        assert_eq!(rt; run_program(&process), ExitCode::SUCCESS, "at {command}");
+        let (told, _) = process.into_printed();
+        look_for(&rt, &behind, false, told.as_str());
+        assert!(rt; told.as_str().contains("Options:"), "at {command}");
+    }
+}
+
+// Draws a schedule, and looks for a text in its picture.
+fn draw<'a, R: AllocGlobal + Threads + Wait + Abort + Sync>(
+    rt: &'a R,
+    words: &'a [&'a str],
+    input: &'a str,
+    wanted: &str,
+    status: u8,
+) {
+    let process = Process::new(rt, words, input, usize::MAX);
+    assert_eq!(rt;
+        run_program(&process),
+        ExitCode::from(status),
+        "at {words:?}"
+    );
+    let (printed, told) = process.into_printed();
+    assert!(rt; printed.as_str().contains(wanted), "at {words:?}");
+    assert_eq!(rt; told.as_str(), "", "at {words:?}");
+}
+
+// A schedule is drawn, with a refused step as its last one, whose status is 2.
+#[test]
+fn a_schedule_is_drawn(rt: HostRuntime) {
+    let input = "p1 arm 8\np5 flag 8\np1 arm 8\n";
+    draw(
+        &rt,
+        &["csqsim", "draw", "--irps=9", "--passes=5"],
+        input,
+        "p1 arm 8 refused NotNext",
+        2,
+    );
+    draw(
+        &rt,
+        &["csqsim", "draw", "--irps=9"],
+        input,
+        "a pass's number is 1 to 4",
+        2,
+    );
+    draw(
+        &rt,
+        &["csqsim", "draw", "--passes=5"],
+        input,
+        "an IRP's number is below 8",
+        2,
+    );
+}
+
+// A picture's numbers may be as large as those of a schedule.
+#[test]
+fn pictures_are_as_large_as_they_may_be(rt: HostRuntime) {
+    draw(
+        &rt,
+        &["csqsim", "draw", "--irps=1024", "--passes=64"],
+        "p64 flag 1023\n",
+        "irp 1023 home cancel 1",
+        0,
+    );
+}

@@ -1,0 +1,385 @@
+//! What the program reads, prints and ends with, on whole command lines.
+use super::process::Process;
+use csq_program::run_program;
+use csq_replay::MAX_INPUT;
+use std::process::{Abort, ExitCode};
+use std::sync::Wait;
+use std::test::Fail;
+use std::thread::Threads;
+
+// A command line and an input, and what the program makes of them.
+#[derive(Drop)]
+pub(super) struct Case<'a> {
+    pub(super) words: &'a [&'a str],
+    pub(super) input: &'a str,
+    pub(super) output: &'a str,
+    pub(super) errors: &'a str,
+    pub(super) status: u8,
+}
+
+// Runs the program on a case, with room for its whole output, and compares all that it tells.
+pub(super) fn compare<R: AllocGlobal + Threads + Wait + Abort + Sync>(rt: &R, case: &Case<'_>) {
+    let Case {
+        words,
+        input,
+        output,
+        errors,
+        status,
+    } = case;
+    let process = Process::new(rt, words, input, usize::MAX);
+    assert_eq!(rt;
+        run_program(&process),
+        ExitCode::from(*status),
+        "at {words:?}"
+    );
+    let (printed, told) = process.into_printed();
+    assert_eq!(rt; printed.as_str(), *output, "at {words:?}");
+    assert_eq!(rt; told.as_str(), *errors, "at {words:?}");
+}
+
+#[test]
+fn options_reach_the_answer(rt: HostRuntime) {
+    let cases = [
+        Case {
+            words: &["csqsim", "schedule", "--irps=9", "--passes=5"],
+            input: "p5 flag 8\n",
+            output: "p5 flag 8 found 0\nirp 8 home cancel 1\nrest no\n",
+            errors: "",
+            status: 0,
+        },
+        Case {
+            words: &["csqsim", "schedule"],
+            input: "p4 flag 7\np5 flag 7\n",
+            output: "p4 flag 7 found 0\nline 2 refused UnknownPass\n",
+            errors: "",
+            status: 2,
+        },
+        Case {
+            words: &["csqsim", "schedule", "--claims", "--irps=1"],
+            input: "p1 arm 0\np1 test 0\np2 flag 0\np2 take 0\n",
+            output: "p1 arm 0 found 0\np1 test 0 found 0\np2 flag 0 found 0\np2 take 0 found 1\nirp 0 listed cancel 1\nrest no\nclaim 0 line 4 p2\n",
+            errors: "",
+            status: 0,
+        },
+    ];
+    for case in &cases {
+        compare(&rt, case);
+    }
+}
+
+#[test]
+fn the_largest_numbers_reach_the_answer(rt: HostRuntime) {
+    let schedule = Case {
+        words: &["csqsim", "schedule", "--irps=1024", "--passes=64"],
+        input: "p64 flag 1023\np65 flag 1023\n",
+        output: "p64 flag 1023 found 0\nline 2 refused UnknownPass\n",
+        errors: "",
+        status: 2,
+    };
+    compare(&rt, &schedule);
+    for words in [
+        ["csqsim", "script", "--irps=1024", "--files=256"].as_slice(),
+        ["csqsim", "script", "--irps=1024", "--files=256", "--chain"].as_slice(),
+    ] {
+        let script = Case {
+            words,
+            input: "insert 1023 255 back\ninsert 1022 256 back\n",
+            output: "pending\nrefused UnknownFile\nleft 1023\n",
+            errors: "",
+            status: 0,
+        };
+        compare(&rt, &script);
+    }
+}
+
+// Without a limit, all IRPs may be listed.
+#[test]
+fn a_list_has_room_for_all(rt: HostRuntime) {
+    for words in [
+        ["csqsim", "script", "--irps=2"].as_slice(),
+        ["csqsim", "script", "--irps=2", "--chain"].as_slice(),
+    ] {
+        let case = Case {
+            words,
+            input: "insert 0 0 back\ninsert 1 0 back\n",
+            output: "pending\npending\nleft 0 1\n",
+            errors: "",
+            status: 0,
+        };
+        compare(&rt, &case);
+    }
+}
+
+#[test]
+fn options_reach_the_replies(rt: HostRuntime) {
+    let input = "insert 0 0 back\ninsert 1 1 front\ninsert 8 4 back\ninsert 9 0 back\n";
+    let limited = "pending\npending\nrefused Full C000009A\nrefused UnknownIrp\nleft 1 0\n";
+    let unlimited = "pending\npending\nrefused UnknownFile\nrefused UnknownIrp\nleft 1 0\n";
+    let rows = [
+        (
+            ["csqsim", "script", "--irps=9", "--files=5", "--limit=2"].as_slice(),
+            limited,
+        ),
+        (
+            [
+                "csqsim",
+                "script",
+                "--irps=9",
+                "--files=5",
+                "--limit=2",
+                "--chain",
+            ]
+            .as_slice(),
+            limited,
+        ),
+        (["csqsim", "script", "--irps=9"].as_slice(), unlimited),
+        (
+            ["csqsim", "script", "--irps=9", "--chain"].as_slice(),
+            unlimited,
+        ),
+    ];
+    for (words, output) in rows {
+        let case = Case {
+            words,
+            input,
+            output,
+            errors: "",
+            status: 0,
+        };
+        compare(&rt, &case);
+    }
+}
+
+const TOTALS: &str = "irps 3\naccounted 3\ncancelled and listed 0\n";
+
+#[test]
+fn a_device_runs_over_both_lists(rt: HostRuntime) {
+    for words in [
+        ["csqsim", "run", "--irps=3", "--turns=9"].as_slice(),
+        ["csqsim", "run", "--irps=3", "--turns=9", "--chain"].as_slice(),
+    ] {
+        let case = Case {
+            words,
+            input: "",
+            output: TOTALS,
+            errors: "",
+            status: 0,
+        };
+        compare(&rt, &case);
+    }
+}
+
+#[test]
+fn a_line_ends_the_handling(rt: HostRuntime) {
+    let cases = [
+        Case {
+            words: &["csqsim", "schedule"],
+            input: "p1 end\np1  end\n",
+            output: "p1 end found 0\nline 2 malformed\n",
+            errors: "",
+            status: 2,
+        },
+        Case {
+            words: &["csqsim", "script"],
+            input: "flag 0\nflag\nflag 0\n",
+            output: "0\nline 2 malformed\n",
+            errors: "",
+            status: 2,
+        },
+    ];
+    for case in &cases {
+        compare(&rt, case);
+    }
+}
+
+#[test]
+fn an_input_is_too_long(rt: HostRuntime) -> Result<(), Fail> {
+    let mut input = String::new(rt.alloc());
+    for _ in 0..=MAX_INPUT {
+        input.push('\n')?;
+    }
+    for command in ["schedule", "draw", "script"] {
+        let case = Case {
+            words: &["csqsim", command],
+            input: input.as_str(),
+            output: "input too long\n",
+            errors: "",
+            status: 2,
+        };
+        compare(&rt, &case);
+    }
+    Ok(())
+}
+
+// A size is refused before anything is read: a read would fail.
+fn refuse_size<'a, R: AllocGlobal + Threads + Wait + Abort + Sync>(
+    rt: &'a R,
+    words: &'a [&'a str],
+) {
+    let process = Process::new(rt, words, "", usize::MAX).with_failing_input();
+    assert_eq!(rt; run_program(&process), ExitCode::from(2), "at {words:?}");
+    let (printed, told) = process.into_printed();
+    assert_eq!(rt; printed.as_str(), "", "at {words:?}");
+    assert_eq!(rt; told.as_str(), "csqsim: bad size\n", "at {words:?}");
+}
+
+#[test]
+fn a_limit_above_the_irps_is_refused(rt: HostRuntime) {
+    for words in [
+        ["csqsim", "script", "--irps=3", "--limit=4"].as_slice(),
+        ["csqsim", "script", "--irps=3", "--limit=4", "--chain"].as_slice(),
+        ["csqsim", "script", "--irps=3", "--file-limit=4"].as_slice(),
+        ["csqsim", "script", "--irps=3", "--file-limit=4", "--chain"].as_slice(),
+    ] {
+        refuse_size(&rt, words);
+    }
+}
+
+// Runs the program on a command line, and looks for a text on standard error, where it is refused, or on
+// standard output. On the other nothing is printed.
+pub(super) fn look_for<'a, R: AllocGlobal + Threads + Wait + Abort + Sync>(
+    rt: &'a R,
+    words: &'a [&'a str],
+    refused: bool,
+    wanted: &str,
+) {
+    let process = Process::new(rt, words, "", usize::MAX);
+    let ended = run_program(&process);
+    let (printed, told) = process.into_printed();
+    let (text, other, status) = if refused {
+        (told, printed, 2)
+    } else {
+        (printed, told, 0)
+    };
+    assert_eq!(rt; ended, ExitCode::from(status), "at {words:?}");
+    assert!(rt; text.as_str().contains(wanted), "at {words:?}");
+    assert_eq!(rt; other.as_str(), "", "at {words:?}");
+}
+
+// A command and an option are written whole.
+#[test]
+fn unknown_words_are_refused_on_standard_error(rt: HostRuntime) {
+    let rows = [
+        (
+            ["csqsim", "walk"].as_slice(),
+            "unrecognized subcommand 'walk'",
+        ),
+        (
+            ["csqsim", "sched"].as_slice(),
+            "unrecognized subcommand 'sched'",
+        ),
+        (
+            ["csqsim", "schedule", "--irp=1"].as_slice(),
+            "unexpected argument '--irp'",
+        ),
+    ];
+    for (words, wanted) in rows {
+        look_for(&rt, words, true, wanted);
+    }
+}
+
+#[test]
+fn command_lines_are_refused_on_standard_error(rt: HostRuntime) {
+    let rows = [
+        (["csqsim"].as_slice(), "Usage: csqsim <COMMAND>"),
+        (["csqsim"].as_slice(), "Commands:"),
+        (
+            ["csqsim", "run", "--limit=1"].as_slice(),
+            "unexpected argument '--limit'",
+        ),
+        (
+            ["csqsim", "schedule", "--irps=1025"].as_slice(),
+            "1025 is not in 1..=1024",
+        ),
+        (
+            [
+                "csqsim",
+                "run",
+                "--irps=1",
+                "--files=1",
+                "--submitters=1",
+                "--workers=1",
+                "--cancellers=1",
+                "--turns=1",
+                "--chain",
+                "--passes=1",
+            ]
+            .as_slice(),
+            "unexpected argument '--passes'",
+        ),
+    ];
+    for (words, wanted) in rows {
+        look_for(&rt, words, true, wanted);
+    }
+}
+
+#[test]
+fn a_word_that_is_no_text_is_refused(rt: HostRuntime) {
+    let words = ["csqsim", "script"];
+    let process = Process::new(&rt, &words, "", usize::MAX).with_word(b"\xFF");
+    assert_eq!(rt; run_program(&process), ExitCode::from(2));
+    let (printed, told) = process.into_printed();
+    assert_eq!(rt; printed.as_str(), "");
+    assert!(rt; told.as_str().contains("an argument isn't UTF-8"));
+}
+
+#[test]
+fn help_is_told_on_standard_output(rt: HostRuntime) {
+    let rows = [
+        (["csqsim", "--help"].as_slice(), "Usage: csqsim <COMMAND>"),
+        (
+            ["csqsim", "--help"].as_slice(),
+            "Replays and draws the steps of a cancel-safe IRP queue, makes its calls, and runs threads over one\n",
+        ),
+        (["csqsim", "help"].as_slice(), "Usage: csqsim <COMMAND>"),
+        (["csqsim", "--version"].as_slice(), "csqsim 1.0\n"),
+        (
+            ["csqsim", "run", "--help"].as_slice(),
+            "Usage: csqsim run [OPTIONS]",
+        ),
+        (["csqsim", "run", "--help"].as_slice(), "Threads:\n"),
+        (["csqsim", "draw", "--help"].as_slice(), "Size:\n"),
+    ];
+    for (words, wanted) in rows {
+        look_for(&rt, words, false, wanted);
+    }
+}
+
+// Runs the program where too little of its output is taken, which is told on standard error.
+fn fail_to_write<'a, R: AllocGlobal + Threads + Wait + Abort + Sync>(
+    rt: &'a R,
+    words: &'a [&'a str],
+) {
+    let process = Process::new(rt, words, "", 3);
+    assert_eq!(rt; run_program(&process), ExitCode::FAILURE, "at {words:?}");
+    let (printed, told) = process.into_printed();
+    assert_eq!(rt; printed.as_str(), "", "at {words:?}");
+    assert_eq!(rt; told.as_str(), "csqsim: write failed\n", "at {words:?}");
+}
+
+// What can't be written is a fault, whichever command writes it.
+#[test]
+fn a_failed_write_is_a_fault(rt: HostRuntime) {
+    for words in [
+        ["csqsim", "schedule"].as_slice(),
+        ["csqsim", "draw"].as_slice(),
+        ["csqsim", "script"].as_slice(),
+        ["csqsim", "script", "--chain"].as_slice(),
+        ["csqsim", "run", "--irps=1", "--turns=1"].as_slice(),
+        ["csqsim", "--help"].as_slice(),
+    ] {
+        fail_to_write(&rt, words);
+    }
+}
+
+#[test]
+fn a_failed_read_is_a_fault(rt: HostRuntime) {
+    for command in ["schedule", "draw", "script"] {
+        let words = ["csqsim", command];
+        let process = Process::new(&rt, &words, "flag 0\n", usize::MAX).with_failing_input();
+        assert_eq!(rt; run_program(&process), ExitCode::FAILURE, "at {command}");
+        let (printed, told) = process.into_printed();
+        assert_eq!(rt; printed.as_str(), "", "at {command}");
+        assert_eq!(rt; told.as_str(), "csqsim: read failed\n", "at {command}");
+    }
+}
