@@ -1,6 +1,5 @@
 //! Pictures of schedules, byte by byte.
-use csq_draw::draw_schedule;
-use csq_draw::PICTURE_HEAD;
+use csq_draw::{PICTURE_HEAD, draw_schedule};
 use csq_replay::{Ended, MAX_INPUT, SimFault};
 use linked_list_allocator::LocalHeap;
 use refusing_heap::RefusingHeap;

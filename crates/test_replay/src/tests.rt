@@ -3,9 +3,8 @@ mod memory;
 mod scripts;
 mod streams;
 
-use csq_replay::{Ended, MAX_INPUT, SimFault, exit_status};
-use csq_replay::answer_schedule;
 use crate::tests::streams::{FailingWriter, SlowReader, SlowWriter};
+use csq_replay::{Ended, MAX_INPUT, SimFault, answer_schedule, exit_status};
 use std::alloc::Global;
 use std::io;
 use std::io::{Error, ErrorKind, Read, Write};

@@ -1,11 +1,9 @@
 //! Runs of a device, and their command lines.
 ghost use Rattle.csq_device.specs.Plans.{IsListFor};
 
-use csq_program::{Job, read_command};
-use csq_program::{RunFault, answer_run};
-use csq_program::{ProgramFault, status_of};
 use csq_device::{Free, Gate, Plan, Point, RunRefused};
 use csq_list::{ChainList, PendingList, VecList};
+use csq_program::{Job, ProgramFault, RunFault, answer_run, read_command, status_of};
 use csq_replay::SimFault;
 use refusing_heap::RefusingHeap;
 use std::alloc::{AllocError, Global};

@@ -1,9 +1,7 @@
 //! A reader that fails after each number of bytes, and a writer that does, or takes no more.
-use csq_replay::{Ended, SimFault};
-use csq_replay::answer_schedule;
-use csq_replay::answer_script;
 use crate::tests::streams::{FailingWriter, SlowReader};
 use csq_list::VecList;
+use csq_replay::{Ended, SimFault, answer_schedule, answer_script};
 use std::alloc::Global;
 use std::io::ErrorKind;
 use std::test::Fail;

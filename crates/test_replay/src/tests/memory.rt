@@ -2,10 +2,8 @@
 ghost use Rattle.std.specs.Prelude.{◌≤◌};
 ghost use Rattle.csq_list.specs.Listing.{IsFresh};
 
-use csq_replay::{Ended, SimFault};
-use csq_replay::answer_schedule;
-use csq_replay::answer_script;
 use csq_list::{ChainList, PendingList, VecList};
+use csq_replay::{Ended, SimFault, answer_schedule, answer_script};
 use linked_list_allocator::LocalHeap;
 use refusing_heap::RefusingHeap;
 use std::process::Abort;

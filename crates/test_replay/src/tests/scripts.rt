@@ -2,10 +2,9 @@
 ghost use Rattle.std.specs.Prelude.{◌≤◌};
 ghost use Rattle.csq_list.specs.Listing.{IsFresh};
 
-use csq_replay::{Ended, MAX_INPUT, SimFault};
-use csq_replay::answer_script;
 use crate::tests::streams::{FailingWriter, SlowReader, SlowWriter};
 use csq_list::{ChainList, PendingList, VecList};
+use csq_replay::{Ended, MAX_INPUT, SimFault, answer_script};
 use std::alloc::Global;
 use std::io::{ErrorKind, Read};
 use std::process::Abort;
