@@ -1,5 +1,6 @@
 mod commands;
 mod file_limits;
+mod helps;
 mod pictures;
 mod process;
 mod runs;

@@ -382,3 +382,25 @@ fn faults_and_ends_have_texts_and_statuses(rt: HostRuntime) -> Result<(), Fail> 
     assert_eq!(rt; exit_status(Ended::Stopped), 2);
     Ok(())
 }
+
+// Lives are told at the end without the claims too.
+#[test]
+fn a_later_life_is_told_at_the_end(rt: HostRuntime) -> Result<(), Fail> {
+    let cases = [(
+        "p1 arm 0\np1 test 0\np3 disarm 0\np2 flag 0\np3 done 0\np1 renew 0\np2 take 0\np1 arm 0@1\np1 test 0@1\n",
+        "p1 arm 0 found 0\np1 test 0 found 0\np3 disarm 0 found 1\np2 flag 0 found 0\np3 done 0 found 0\np1 renew 0 found 0\np2 take 0 found 0\np1 arm 0@1 found 0\np1 test 0@1 found 0\nirp 0@1 listed cancel 0\nrest yes\n",
+    )];
+    compare(&rt, rt.alloc(), Ended::AllHandled, &cases)?;
+    Ok(())
+}
+
+// With the claims, what stands before them is what is answered without.
+#[test]
+fn claims_follow_the_whole_answer(rt: HostRuntime) -> Result<(), Fail> {
+    let input = "p2 flag 0\np2 take 0\np1 arm 0\np1 test 0\np1 disarm 0\np1 done 0\n";
+    let wanted =
+        "p2 flag 0 found 0\np2 take 0 found 0\np1 arm 0 found 0\np1 test 0 found 1\np1 disarm 0 found 1\np1 done 0 found 0\nirp 0 completed C0000120 by p1 cancel 1\nrest yes\nclaim 0 line 5 p1\n";
+    let text = answered_with_claims(&rt, rt.alloc(), input)?;
+    assert_eq!(rt; text.as_slice(), wanted.as_bytes());
+    Ok(())
+}

@@ -383,3 +383,86 @@ fn a_failed_read_is_a_fault(rt: HostRuntime) {
         assert_eq!(rt; told.as_str(), "csqsim: read failed\n", "at {command}");
     }
 }
+
+// Each kind of call, over both lists: the answers are the same.
+#[test]
+fn a_script_is_answered_over_both_lists(rt: HostRuntime) {
+    let input = "\
+insert 0 0 back
+insert 1 1 back
+insert 2 0 front
+insert 3 1 front
+insert 4 2 back
+mark 0
+next 0
+next 0
+cancel 1
+remove 4
+cleanup 1
+insert 5 1 back
+complete 4 c000009A
+status 4
+status 3
+flag 0
+";
+    let output = "\
+pending
+pending
+pending
+pending
+pending
+claimed
+irp 2
+none
+true
+irp 4
+cleaned 1
+refused FileClosed C0000128
+completed C000009A
+C000009A
+C0000120
+1
+left 0
+held 2
+owed 0
+";
+    for words in [
+        ["csqsim", "script"].as_slice(),
+        ["csqsim", "script", "--chain"].as_slice(),
+    ] {
+        let case = Case {
+            words,
+            input,
+            output,
+            errors: "",
+            status: 0,
+        };
+        compare(&rt, &case);
+    }
+}
+
+// The smallest numbers, which leave each kind of thread one, over both lists.
+#[test]
+fn the_smallest_run_is_accounted_for(rt: HostRuntime) {
+    let words = [
+        "csqsim",
+        "run",
+        "--irps=1",
+        "--files=1",
+        "--submitters=1",
+        "--workers=1",
+        "--cancellers=1",
+        "--turns=1",
+        "--chain",
+    ];
+    for words in [&words[..8], words.as_slice()] {
+        let case = Case {
+            words,
+            input: "",
+            output: "irps 1\naccounted 1\ncancelled and listed 0\n",
+            errors: "",
+            status: 0,
+        };
+        compare(&rt, &case);
+    }
+}
