@@ -86,15 +86,6 @@ impl From<clap::Error> for CommandFault {
     }
 }
 
-/// An option that takes a number from 1 to a limit.
-fn number_option<'a>(alloc: Global, name: &'a str, help: &'a str, most: u32) -> Arg<'a> {
-    Arg::new(alloc, name)
-        .long(name)
-        .value_name("N")
-        .help(help)
-        .value_parser(value_parser!(u32).range(1..=i64::from(most)))
-}
-
 // The headings under which options are told: others are told as options.
 const SIZE: &str = "Size";
 
@@ -102,13 +93,113 @@ const LIMITS: &str = "Limits";
 
 const THREADS: &str = "Threads";
 
+/// An option that takes a number from 1 to a limit.
+#[derive(Clone, Copy)]
+struct NumberOption<'a> {
+    name: &'a str,
+    help: &'a str,
+    most: u32,
+    heading: &'a str,
+    default: Option<&'a str>,
+}
+
+impl<'a> NumberOption<'a> {
+    /// The option as `clap` has it.
+    fn arg(self, alloc: Global) -> Arg<'a> {
+        let arg = Arg::new(alloc, self.name)
+            .long(self.name)
+            .value_name("N")
+            .help(self.help)
+            .help_heading(self.heading)
+            .value_parser(value_parser!(u32).range(1..=i64::from(self.most)));
+        match self.default {
+            Some(number) => arg.default_value(number),
+            None => arg,
+        }
+    }
+}
+
+/// How many IRPs there are, which each command has to know.
+fn irps_option<'a>(default: &'a str) -> NumberOption<'a> {
+    NumberOption {
+        name: "irps",
+        help: "IRPs, 1 to 1,024",
+        most: MAX_IRPS,
+        heading: SIZE,
+        default: Some(default),
+    }
+}
+
+/// How many file objects there are.
+fn files_option<'a>() -> NumberOption<'a> {
+    NumberOption {
+        name: "files",
+        help: "File objects, 1 to 256",
+        most: MAX_FILES,
+        heading: SIZE,
+        default: Some("4"),
+    }
+}
+
+/// A limit of how many IRPs may be listed, which is their number where none is given.
+fn limit_option<'a>(name: &'a str, help: &'a str) -> NumberOption<'a> {
+    NumberOption {
+        name,
+        help,
+        most: MAX_IRPS,
+        heading: LIMITS,
+        default: None,
+    }
+}
+
+/// How many threads there are of one kind.
+fn threads_option<'a>(name: &'a str, help: &'a str) -> NumberOption<'a> {
+    NumberOption {
+        name,
+        help,
+        most: MAX_THREADS,
+        heading: THREADS,
+        default: Some("2"),
+    }
+}
+
+/// A command with options that take numbers, in this order.
+fn number_command<'a>(
+    alloc: Global,
+    name: &'a str,
+    numbers: &[NumberOption<'a>],
+) -> Result<Command<'a>, AllocError> {
+    let mut command = Command::new(alloc, name);
+    for number in numbers {
+        command = command.arg(number.arg(alloc))?;
+    }
+    Ok(command)
+}
+
+/// The command with a flag.
+fn with_flag<'a>(
+    alloc: Global,
+    command: Command<'a>,
+    name: &'a str,
+    help: &'a str,
+) -> Result<Command<'a>, AllocError> {
+    let flag = Arg::new(alloc, name)
+        .long(name)
+        .help(help)
+        .action(ArgAction::SetTrue);
+    command.arg(flag)
+}
+
 /// A command that is read over a machine, with how many IRPs and passes it has.
 fn machine_command<'a>(alloc: Global, name: &'a str) -> Result<Command<'a>, AllocError> {
-    let irps = number_option(alloc, "irps", "IRPs, 1 to 1,024", MAX_IRPS);
-    let passes = number_option(alloc, "passes", "Passes, 1 to 64", MAX_PASSES);
-    Command::new(alloc, name)
-        .arg(irps.help_heading(SIZE).default_value("8"))?
-        .arg(passes.help_heading(SIZE).default_value("4"))
+    let passes = NumberOption {
+        name: "passes",
+        help: "Passes, 1 to 64",
+        most: MAX_PASSES,
+        heading: SIZE,
+        default: Some("4"),
+    };
+    number_command(alloc, name, &[irps_option("8"), passes])
 }
 
 /// The command line of a picture.
@@ -119,90 +210,79 @@ fn draw_command<'a>(alloc: Global) -> Result<Command<'a>, AllocError> {
 
 /// The command line of a schedule.
 fn schedule_command<'a>(alloc: Global) -> Result<Command<'a>, AllocError> {
-    let claims = Arg::new(alloc, "claims")
-        .long("claims")
-        .help("Tells each claim: the IRP, the line and the pass")
-        .action(ArgAction::SetTrue);
-    machine_command(alloc, "schedule")?
+    let command = machine_command(alloc, "schedule")?
         .about(SCHEDULE_ABOUT)
-        .after_help(SCHEDULE_HELP)
-        .arg(claims)
+        .after_help(SCHEDULE_HELP);
+    with_flag(
+        alloc,
+        command,
+        "claims",
+        "Tells each claim: the IRP, the line and the pass",
+    )
 }
 
 /// The command line of a script.
 fn script_command<'a>(alloc: Global) -> Result<Command<'a>, AllocError> {
-    let irps = number_option(alloc, "irps", "IRPs, 1 to 1,024", MAX_IRPS);
-    let files = number_option(alloc, "files", "File objects, 1 to 256", MAX_FILES);
     let help = "IRPs that may be listed at a time, 1 to the IRPs [default: the IRPs]";
-    let limit = number_option(alloc, "limit", help, MAX_IRPS);
+    let limit = limit_option("limit", help);
     let help =
         "IRPs that may be listed for one file object at a time, 1 to the IRPs [default: the IRPs]";
-    let file_limit = number_option(alloc, "file-limit", help, MAX_IRPS);
-    let chain = Arg::new(alloc, "chain")
-        .long("chain")
-        .help("Keeps the list in linked chains; the answers are the same")
-        .action(ArgAction::SetTrue);
-    Command::new(alloc, "script")
+    let file_limit = limit_option("file-limit", help);
+    let numbers = [irps_option("8"), files_option(), limit, file_limit];
+    let command = number_command(alloc, "script", &numbers)?
         .about(SCRIPT_ABOUT)
-        .after_help(SCRIPT_HELP)
-        .arg(irps.help_heading(SIZE).default_value("8"))?
-        .arg(files.help_heading(SIZE).default_value("4"))?
-        .arg(limit.help_heading(LIMITS))?
-        .arg(file_limit.help_heading(LIMITS))?
-        .arg(chain)
+        .after_help(SCRIPT_HELP);
+    with_flag(
+        alloc,
+        command,
+        "chain",
+        "Keeps the list in linked chains; the answers are the same",
+    )
 }
 
 /// The command line of a run.
 fn run_command<'a>(alloc: Global) -> Result<Command<'a>, AllocError> {
-    let irps = number_option(alloc, "irps", "IRPs, 1 to 1,024", MAX_IRPS);
-    let files = number_option(alloc, "files", "File objects, 1 to 256", MAX_FILES);
-    let submitters = number_option(
-        alloc,
-        "submitters",
-        "Threads that insert, 1 to 20",
-        MAX_THREADS,
-    );
-    let workers = number_option(
-        alloc,
-        "workers",
-        "Threads that remove, 1 to 20",
-        MAX_THREADS,
-    );
-    let cancellers = number_option(
-        alloc,
-        "cancellers",
-        "Threads that cancel, 1 to 20",
-        MAX_THREADS,
-    );
-    let turns = number_option(alloc, "turns", "Turns of each, 1 to 100,000", MAX_TURNS);
-    let chain = Arg::new(alloc, "chain")
-        .long("chain")
-        .help("Keeps the list in linked chains")
-        .action(ArgAction::SetTrue);
-    Command::new(alloc, "run")
+    let turns = NumberOption {
+        name: "turns",
+        help: "Turns of each, 1 to 100,000",
+        most: MAX_TURNS,
+        heading: THREADS,
+        default: Some("64"),
+    };
+    let numbers = [
+        irps_option("64"),
+        files_option(),
+        threads_option("submitters", "Threads that insert, 1 to 20"),
+        threads_option("workers", "Threads that remove, 1 to 20"),
+        threads_option("cancellers", "Threads that cancel, 1 to 20"),
+        turns,
+    ];
+    let command = number_command(alloc, "run", &numbers)?
         .about(RUN_ABOUT)
-        .after_help(RUN_HELP)
-        .arg(irps.help_heading(SIZE).default_value("64"))?
-        .arg(files.help_heading(SIZE).default_value("4"))?
-        .arg(submitters.help_heading(THREADS).default_value("2"))?
-        .arg(workers.help_heading(THREADS).default_value("2"))?
-        .arg(cancellers.help_heading(THREADS).default_value("2"))?
-        .arg(turns.help_heading(THREADS).default_value("64"))?
-        .arg(chain)
+        .after_help(RUN_HELP);
+    with_flag(alloc, command, "chain", "Keeps the list in linked chains")
+}
+
+/// The command with one of its own, if there was memory for that.
+fn with_subcommand<'a>(
+    command: Command<'a>,
+    of: Result<Command<'a>, AllocError>,
+) -> Result<Command<'a>, AllocError> {
+    command.subcommand(of?)
 }
 
 /// The command line that the program takes.
 fn program<'a>(alloc: Global) -> Result<Command<'a>, AllocError> {
-    Command::new(alloc, "csqsim")
+    let command = Command::new(alloc, "csqsim")
         .bin_name("csqsim")?
         .about(ABOUT)
         .version(VERSION)
         .subcommand_required(true)
-        .arg_required_else_help(true)
-        .subcommand(schedule_command(alloc)?)?
-        .subcommand(draw_command(alloc)?)?
-        .subcommand(script_command(alloc)?)?
-        .subcommand(run_command(alloc)?)
+        .arg_required_else_help(true);
+    let command = with_subcommand(command, schedule_command(alloc))?;
+    let command = with_subcommand(command, draw_command(alloc))?;
+    let command = with_subcommand(command, script_command(alloc))?;
+    with_subcommand(command, run_command(alloc))
 }
 
 /// The number of an option, or the default where its text is no number from 1 to `most`.

@@ -189,18 +189,27 @@ fn run_script<L: PendingList + Drop, R: AllocGlobal + Print + Eprint + Input>(
     ensures bad_size { IfErr list (λ refused. refused ≡ BadSize → result ≡ Ok 2) }
 {
     match list {
-        Ok(list) => {
-            let mut reader = rt.reader();
-            let mut writer = io::writer(rt);
-            let ended = answer_script(rt.alloc(), list, &mut reader, &mut writer)?;
-            Ok(exit_status(ended))
-        }
+        Ok(list) => run_list(rt, list),
         Err(ListNew::Memory) => Err(ProgramFault::from(AllocError)),
         Err(ListNew::BadSize) => {
             let _ = eprintln!(rt; "csqsim: bad size");
             Ok(REFUSED)
         }
     }
+}
+
+/// Runs a script over a fresh list.
+fn run_list<L: PendingList + Drop, R: AllocGlobal + Print + Input>(
+    rt: &R,
+    list: L,
+) -> Result<u8, ProgramFault>
+    requires fresh { IsFresh (L.listing list) }
+    requires irps { (1 ≤ (L.listing list).irps) × ((L.listing list).irps ≤ 1024) }
+{
+    let mut reader = rt.reader();
+    let mut writer = io::writer(rt);
+    let ended = answer_script(rt.alloc(), list, &mut reader, &mut writer)?;
+    Ok(exit_status(ended))
 }
 
 /// Runs a device over a list that fits its plan, if there is memory for one.
