@@ -23,10 +23,11 @@ fn hold<L: PendingList + Drop, N: QueueName, A: Allocator, R: Wait + Abort>(
     queue: &Csq<L, N, A>,
     pass: Pass<N>,
 ) -> Holding<N> {
+    let mut contexts = [None; 1];
     let next = remove_next();
-    let (caller, answer) = make(rt, queue, Caller::Free(pass), &mut [], next);
+    let (caller, answer) = make(rt, queue, Caller::Free(pass), &mut contexts, next);
     assert!(rt; answer == got(ZERO));
-    let (caller, answer) = make(rt, queue, caller, &mut [], Call::GiveBack);
+    let (caller, answer) = make(rt, queue, caller, &mut contexts, Call::GiveBack);
     assert!(rt; answer == Answer::Holding(1, 0));
     match caller {
         Caller::Holding(holding) => holding,
