@@ -174,7 +174,10 @@ fn refuse_call(
     let outcome = make(rt, product, &heap)?;
     let refused = heap.has_refused();
     assert!(rt; outcome != Outcome::Wrong, "at call {call}");
-    assert!(rt; (outcome == Outcome::WantOfMemory) == refused, "at call {call}");
+    assert!(rt;
+        (outcome == Outcome::WantOfMemory) == refused,
+        "at call {call}"
+    );
     Ok(refused)
 }
 
