@@ -1,5 +1,0 @@
-//! Worked rows of reuses, in one thread.
-mod named;
-mod queues;
-mod rests;
-mod reuses;

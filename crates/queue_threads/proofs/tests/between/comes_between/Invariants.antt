@@ -1,5 +1,0 @@
-use Rattle.queue_threads.proofs.tests.between.comes_between.Given as goal
-
--- the queue that was just made
-abbrev pub ghosts-clean_up_beside_an_insert : goal.ghosts-clean_up_beside_an_insert
-ghosts-clean_up_beside_an_insert g a = record { table = a.blank.table; limits = a.blank.limits }

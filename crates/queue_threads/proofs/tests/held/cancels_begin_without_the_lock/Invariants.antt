@@ -1,5 +1,0 @@
-use Rattle.queue_threads.proofs.tests.held.cancels_begin_without_the_lock.Given as goal
-
--- the queue that was just made
-abbrev pub ghosts-cancel_at_the_lock : goal.ghosts-cancel_at_the_lock
-ghosts-cancel_at_the_lock g a = record { table = a.blank.table; limits = a.blank.limits }

@@ -1,5 +1,0 @@
-use Rattle.queue_threads.proofs.tests.removals.each_is_removed_or_cancelled.Given as goal
-
--- the queue that was just made
-abbrev pub ghosts-remove_and_cancel : goal.ghosts-remove_and_cancel
-ghosts-remove_and_cancel g a = record { table = a.blank.table; limits = a.blank.limits }

@@ -1,0 +1,5 @@
+use Rattle.test_queue_threads.proofs.tests.held_lock.a_completion_and_a_mark_take_no_lock.Given as goal
+
+-- the queue that was just made
+abbrev pub ghosts-complete_at_the_lock : goal.ghosts-complete_at_the_lock
+ghosts-complete_at_the_lock g a = record { table = a.blank.table; limits = a.blank.limits }

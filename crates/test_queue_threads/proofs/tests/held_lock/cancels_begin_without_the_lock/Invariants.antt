@@ -1,0 +1,5 @@
+use Rattle.test_queue_threads.proofs.tests.held_lock.cancels_begin_without_the_lock.Given as goal
+
+-- the queue that was just made
+abbrev pub ghosts-cancel_at_the_lock : goal.ghosts-cancel_at_the_lock
+ghosts-cancel_at_the_lock g a = record { table = a.blank.table; limits = a.blank.limits }

@@ -1,0 +1,5 @@
+//! Tests of the queue's calls from several threads. There is no other code here.
+#![tactic(auto)]
+
+#[cfg(test)]
+mod tests;

@@ -1,0 +1,80 @@
+//! A pass is given back while another call has the lock.
+ghost use Rattle.std.specs.Prelude.{◌≡◌};
+
+use super::queues::{blank, close, take};
+use super::signals::Signals;
+use csq_list::VecList;
+use csq_queue::{Blank, Csq, Pass, QueueName};
+use irp_core::FileId;
+use std::marker::Brand;
+use std::process::Abort;
+use std::sync::Wait;
+use std::sync::atomic::Ordering;
+use std::test::Fail;
+use std::thread::{Threads, join, yield_now};
+use watched_list::WatchedList;
+
+// How often a thread yields, so that another comes to the lock.
+const WHILE: u32 = 1000;
+
+// Lets a call that has the lock go on, a while after a pass is about to be given back.
+fn let_go_on(signals: &Signals) {
+    signals.wait_for(&signals.giving);
+    for _ in 0..WHILE {
+        yield_now();
+    }
+    signals.give(&signals.go_on);
+}
+
+// One thread closes a file slowly, while another gives its pass back.
+fn close_file_and_give_back<'a, N: QueueName + Send + Sync, R: Threads + Wait + Abort + Sync>(
+    rt: &R,
+    queue: &Csq<WatchedList<'a, VecList, Signals>, N>,
+    one: &mut Pass<N>,
+    two: Pass<N>,
+    signals: &'a Signals,
+) {
+    let (closed, (given, ())) = join(
+        rt,
+        || queue.close_file(rt, one, FileId(0)).is_ok(),
+        || {
+            join(
+                rt,
+                || {
+                    signals.wait_for(&signals.inside);
+                    signals.give(&signals.giving);
+                    queue.give_back(rt, two).is_ok()
+                },
+                || let_go_on(signals),
+            )
+        },
+    );
+    assert!(rt; closed && given);
+    assert!(rt; !signals.gave_up.load(Ordering::SeqCst));
+}
+
+// Once both threads are done no pass is out, and the queue is closed.
+fn give_back_at_the_lock<'a, N: QueueName + Send + Sync, R: Threads + Wait + Abort + Sync>(
+    rt: &R,
+    blank: Blank<WatchedList<'a, VecList, Signals>>,
+    signals: &'a Signals,
+)
+    requires { blank ≡ record { table = N.table; limits = N.limits } }
+{
+    let (queue, mut rack) = blank.into_queue::<N>();
+    let mut one = take(rt, &mut rack);
+    let two = take(rt, &mut rack);
+    close_file_and_give_back(rt, &queue, &mut one, two, signals);
+    close(rt, queue, one, rack);
+}
+
+#[test]
+fn a_pass_is_given_back_past_a_held_lock(rt: HostRuntime) -> Result<(), Fail> {
+    let signals = Signals::new();
+    let list = WatchedList {
+        list: VecList::new(rt.alloc(), 1, 1, 1)?,
+        watch: &signals,
+    };
+    give_back_at_the_lock::<Brand, _>(&rt, blank(&rt, list, 2), &signals);
+    Ok(())
+}
