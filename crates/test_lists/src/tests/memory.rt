@@ -1,5 +1,7 @@
 //! A list takes all its memory when it is made.
-use csq_list::{ChainList, InsertStatus, ListNew, Peek, PendingList, Place, VecList};
+
+use super::sizes::Size;
+use csq_list::{InsertStatus, ListNew, Peek, PendingList, Place};
 use irp_core::{FileId, IrpId};
 use linked_list_allocator::LocalHeap;
 use std::process::Abort;
@@ -49,7 +51,7 @@ fn renew_all<L: PendingList>(rt: &impl Abort, list: &mut L) {
     }
 }
 
-// Lists as many of a file object as its limit, and one more.
+// Lists as many of a file as its limit, and one more.
 fn fill_a_file<L: PendingList>(rt: &impl Abort, list: &mut L) {
     let file = FileId(1);
     assert_eq!(rt; list.file_limit(file), Some(2));
@@ -64,158 +66,119 @@ fn fill_a_file<L: PendingList>(rt: &impl Abort, list: &mut L) {
     );
 }
 
+// There was no memory, and none is kept.
+fn expect_none_kept(rt: &impl Abort, heap: &LocalHeap, cause: ListNew) {
+    assert_eq!(rt; cause, ListNew::Memory);
+    assert_eq!(rt; heap.used(), 0);
+}
+
+// The list has all of the heap, and its calls need no more.
+fn use_without_memory<L: PendingList>(rt: &impl Abort, heap: &LocalHeap, list: &mut L, size: Size) {
+    assert_eq!(rt; heap.free(), 0);
+    fill_and_empty(rt, list);
+    if size.file_limits.is_some() {
+        fill_a_file(rt, list);
+    }
+    assert_eq!(rt; heap.free(), 0);
+}
+
+// Whether a list in one vector can be made on the heap. It takes no memory later.
+fn is_room_for_a_vector(rt: &impl Abort, heap: &LocalHeap, size: Size) -> bool {
+    match size.try_vec_list(heap) {
+        Ok(mut list) => {
+            use_without_memory(rt, heap, &mut list, size);
+            true
+        }
+        Err(cause) => {
+            expect_none_kept(rt, heap, cause);
+            false
+        }
+    }
+}
+
+// And one in chains.
+fn is_room_for_chains(rt: &impl Abort, heap: &LocalHeap, size: Size) -> bool {
+    match size.try_chain_list(heap) {
+        Ok(mut list) => {
+            use_without_memory(rt, heap, &mut list, size);
+            true
+        }
+        Err(cause) => {
+            expect_none_kept(rt, heap, cause);
+            false
+        }
+    }
+}
+
 // On a heap of each size: the list is refused for want of memory, until one is made that leaves none.
-#[test]
-fn a_vec_list_takes_no_memory_later(rt: HostRuntime) -> Result<(), Fail> {
-    let mut refused = false;
+fn fill_heaps_by_a_vector<R: AllocGlobal + Abort>(rt: &R, size: Size) -> Result<(), Fail> {
     for blocks in 1..512 {
         let heap = LocalHeap::new(rt.alloc(), 16 * blocks)?;
-        match VecList::new(&heap, IRPS, FILES, IRPS) {
-            Err(cause) => {
-                assert_eq!(rt; cause, ListNew::Memory);
-                assert_eq!(rt; heap.used(), 0);
-                refused = true;
-            }
-            Ok(mut list) => {
-                assert!(rt; refused, "no heap was too small");
-                assert_eq!(rt; heap.free(), 0);
-                fill_and_empty(&rt, &mut list);
-                assert_eq!(rt; heap.free(), 0);
-                return Ok(());
-            }
+        if is_room_for_a_vector(rt, &heap, size) {
+            assert!(rt; blocks > 1, "no heap was too small");
+            return Ok(());
         }
     }
     Err(Fail::from("no heap was large enough"))
+}
+
+fn fill_heaps_by_chains<R: AllocGlobal + Abort>(rt: &R, size: Size) -> Result<(), Fail> {
+    for blocks in 1..512 {
+        let heap = LocalHeap::new(rt.alloc(), 16 * blocks)?;
+        if is_room_for_chains(rt, &heap, size) {
+            assert!(rt; blocks > 1, "no heap was too small");
+            return Ok(());
+        }
+    }
+    Err(Fail::from("no heap was large enough"))
+}
+
+#[test]
+fn a_vec_list_takes_no_memory_later(rt: HostRuntime) -> Result<(), Fail> {
+    let size = Size::new(IRPS, FILES, IRPS);
+    fill_heaps_by_a_vector(&rt, size)?;
+    fill_heaps_by_a_vector(&rt, size.with_file_limits(&FILE_LIMITS))
 }
 
 #[test]
 fn a_chain_list_takes_no_memory_later(rt: HostRuntime) -> Result<(), Fail> {
-    let mut refused = false;
-    for blocks in 1..512 {
-        let heap = LocalHeap::new(rt.alloc(), 16 * blocks)?;
-        match ChainList::new(&heap, IRPS, FILES, IRPS) {
-            Err(cause) => {
-                assert_eq!(rt; cause, ListNew::Memory);
-                assert_eq!(rt; heap.used(), 0);
-                refused = true;
-            }
-            Ok(mut list) => {
-                assert!(rt; refused, "no heap was too small");
-                assert_eq!(rt; heap.free(), 0);
-                fill_and_empty(&rt, &mut list);
-                assert_eq!(rt; heap.free(), 0);
-                return Ok(());
-            }
-        }
-    }
-    Err(Fail::from("no heap was large enough"))
-}
-
-#[test]
-fn a_vec_list_with_file_limits_takes_no_memory_later(rt: HostRuntime) -> Result<(), Fail> {
-    let mut refused = false;
-    for blocks in 1..512 {
-        let heap = LocalHeap::new(rt.alloc(), 16 * blocks)?;
-        match VecList::with_file_limits(&heap, IRPS, FILES, IRPS, &FILE_LIMITS) {
-            Err(cause) => {
-                assert_eq!(rt; cause, ListNew::Memory);
-                assert_eq!(rt; heap.used(), 0);
-                refused = true;
-            }
-            Ok(mut list) => {
-                assert!(rt; refused, "no heap was too small");
-                assert_eq!(rt; heap.free(), 0);
-                fill_and_empty(&rt, &mut list);
-                fill_a_file(&rt, &mut list);
-                assert_eq!(rt; heap.free(), 0);
-                return Ok(());
-            }
-        }
-    }
-    Err(Fail::from("no heap was large enough"))
-}
-
-#[test]
-fn a_chain_list_with_file_limits_takes_no_memory_later(rt: HostRuntime) -> Result<(), Fail> {
-    let mut refused = false;
-    for blocks in 1..512 {
-        let heap = LocalHeap::new(rt.alloc(), 16 * blocks)?;
-        match ChainList::with_file_limits(&heap, IRPS, FILES, IRPS, &FILE_LIMITS) {
-            Err(cause) => {
-                assert_eq!(rt; cause, ListNew::Memory);
-                assert_eq!(rt; heap.used(), 0);
-                refused = true;
-            }
-            Ok(mut list) => {
-                assert!(rt; refused, "no heap was too small");
-                assert_eq!(rt; heap.free(), 0);
-                fill_and_empty(&rt, &mut list);
-                fill_a_file(&rt, &mut list);
-                assert_eq!(rt; heap.free(), 0);
-                return Ok(());
-            }
-        }
-    }
-    Err(Fail::from("no heap was large enough"))
+    let size = Size::new(IRPS, FILES, IRPS);
+    fill_heaps_by_chains(&rt, size)?;
+    fill_heaps_by_chains(&rt, size.with_file_limits(&FILE_LIMITS))
 }
 
 // Where there is room, none of it is taken either.
+fn leave_room_alone<L: PendingList>(rt: &impl Abort, heap: &LocalHeap, list: &mut L) {
+    let used = heap.used();
+    assert!(rt; heap.free() > used);
+    fill_and_empty(rt, list);
+    assert_eq!(rt; heap.used(), used);
+}
+
+fn make_a_vector_in_a_large_heap(rt: &impl Abort, heap: &LocalHeap, size: Size) {
+    match size.try_vec_list(heap) {
+        Ok(mut list) => leave_room_alone(rt, heap, &mut list),
+        Err(_) => panic!(rt; "no list"),
+    }
+}
+
+fn make_chains_in_a_large_heap(rt: &impl Abort, heap: &LocalHeap, size: Size) {
+    match size.try_chain_list(heap) {
+        Ok(mut list) => leave_room_alone(rt, heap, &mut list),
+        Err(_) => panic!(rt; "no list"),
+    }
+}
+
 #[test]
 fn a_vec_list_leaves_room_alone(rt: HostRuntime) -> Result<(), Fail> {
     let heap = LocalHeap::new(rt.alloc(), 1 << 16)?;
-    let mut list = VecList::new(&heap, IRPS, FILES, IRPS)?;
-    let used = heap.used();
-    assert!(rt; heap.free() > used);
-    fill_and_empty(&rt, &mut list);
-    assert_eq!(rt; heap.used(), used);
+    make_a_vector_in_a_large_heap(&rt, &heap, Size::new(IRPS, FILES, IRPS));
     Ok(())
 }
 
 #[test]
 fn a_chain_list_leaves_room_alone(rt: HostRuntime) -> Result<(), Fail> {
     let heap = LocalHeap::new(rt.alloc(), 1 << 16)?;
-    let mut list = ChainList::new(&heap, IRPS, FILES, IRPS)?;
-    let used = heap.used();
-    assert!(rt; heap.free() > used);
-    fill_and_empty(&rt, &mut list);
-    assert_eq!(rt; heap.used(), used);
-    Ok(())
-}
-
-// Each number of IRPs has its list, where there is memory.
-#[test]
-fn lists_are_made_of_each_size(rt: HostRuntime) -> Result<(), Fail> {
-    for irps in 1..=1024 {
-        let list = VecList::new(rt.alloc(), irps, 1, irps);
-        assert!(rt; list.is_ok(), "{irps} IRPs");
-        let chains = ChainList::new(rt.alloc(), irps, 1, irps);
-        assert!(rt; chains.is_ok(), "chains of {irps} IRPs");
-    }
-    Ok(())
-}
-
-// Each number of file objects has its list, with limits of their own and without.
-#[test]
-fn lists_are_made_of_each_number_of_files(rt: HostRuntime) -> Result<(), Fail> {
-    let limits = [1; 256];
-    for files in 1..=256 {
-        let each = &limits[..files as usize];
-        assert!(rt;
-            VecList::new(rt.alloc(), 1, files, 1).is_ok(),
-            "{files} files"
-        );
-        assert!(rt;
-            ChainList::new(rt.alloc(), 1, files, 1).is_ok(),
-            "chains of {files} files"
-        );
-        assert!(rt;
-            VecList::with_file_limits(rt.alloc(), 1, files, 1, each).is_ok(),
-            "{files} files with limits"
-        );
-        assert!(rt;
-            ChainList::with_file_limits(rt.alloc(), 1, files, 1, each).is_ok(),
-            "chains of {files} files with limits"
-        );
-    }
+    make_chains_in_a_large_heap(&rt, &heap, Size::new(IRPS, FILES, IRPS));
     Ok(())
 }
