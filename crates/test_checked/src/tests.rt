@@ -1,13 +1,17 @@
-//! Each call of a checked queue, in one thread, over both lists.
+//! What no contract says: that each call can succeed, and what it answers, over both lists.
+ghost use Rattle.std.specs.Prelude.{◌≡◌};
+ghost use Rattle.csq_checked.specs.Passes.{IsPassIn};
+
 mod calls;
 mod ends;
+mod kinds;
+mod plays;
 mod sizes;
+mod threads;
 
-use crate::{CheckedQueue, ListKind, Size};
-use csq_list::InsertStatus;
-use csq_queue::{InsertAnswer, OpenInserted};
+use csq_checked::{CheckedPass, CheckedQueue, ListKind, Size};
 use irp_core::{FileId, IrpId, IrpLife, Life};
-use std::test::Fail;
+use std::process::Abort;
 
 const ZERO: IrpId = IrpId(0);
 
@@ -18,6 +22,9 @@ const UNKNOWN: IrpId = IrpId(3);
 const FILE: FileId = FileId(0);
 
 const OTHER: FileId = FileId(1);
+
+// How a queue may keep its list.
+const KINDS: [ListKind; 2] = [ListKind::Vector, ListKind::Chains];
 
 // An IRP in the life in which all begin.
 fn first(irp: IrpId) -> IrpLife {
@@ -36,30 +43,41 @@ fn sized(list: ListKind) -> Size {
     }
 }
 
-fn made(rt: &HostRuntime, list: ListKind) -> Result<CheckedQueue, Fail> {
-    Ok(CheckedQueue::new(rt.alloc(), sized(list))?)
-}
-
-// Which IRP an insert queued.
-fn pending(answer: OpenInserted) -> Option<IrpLife> {
-    match answer {
-        InsertAnswer::Pending(context) => Some(context),
-        InsertAnswer::Cancelled(_) => None,
+// Two IRPs for one file object, in the first of all lives.
+fn small(list: ListKind, passes: u32) -> Size {
+    Size {
+        irps: 2,
+        files: 1,
+        limit: 2,
+        passes,
+        first: Life(0),
+        list,
     }
 }
 
-// Which IRP it gave back to be completed.
-fn cancelled(answer: OpenInserted) -> Option<IrpLife> {
-    match answer {
-        InsertAnswer::Pending(_) => None,
-        InsertAnswer::Cancelled(token) => Some(token),
+// A queue of this size.
+fn made<R: AllocGlobal + Abort>(rt: &R, size: Size) -> CheckedQueue {
+    match CheckedQueue::new(rt.alloc(), size) {
+        Ok(queue) => queue,
+        Err(_) => panic!(rt; "no queue"),
     }
 }
 
-// Why an insert was refused.
-fn refusal(answer: Result<OpenInserted, InsertStatus>) -> Option<InsertStatus> {
-    match answer {
-        Ok(InsertAnswer::Pending(_) | InsertAnswer::Cancelled(_)) => None,
-        Err(cause) => Some(cause),
+// One whose file objects have limits of their own.
+fn made_with_limits<R: AllocGlobal + Abort>(rt: &R, size: Size, limits: &[u32]) -> CheckedQueue {
+    match CheckedQueue::with_file_limits(rt.alloc(), size, limits) {
+        Ok(queue) => queue,
+        Err(_) => panic!(rt; "no queue"),
+    }
+}
+
+// The next pass.
+fn take<R: AllocGlobal + Abort>(rt: &R, queue: &mut CheckedQueue) -> Box<CheckedPass>
+    ensures pass { IsPassIn queue.new.queue result.value }
+    ensures queue { queue.new.queue ≡ queue.old.queue }
+{
+    match queue.take_pass(rt.alloc()) {
+        Ok(pass) => pass,
+        Err(_) => panic!(rt; "no pass"),
     }
 }

@@ -1,54 +1,69 @@
 //! Passes that are handed out and come back, and what is left.
-use super::{FILE, ONE, ZERO, made, pending};
-use crate::{ListKind, PassRefused};
-use csq_list::{Peek, PendingList, Place};
+use super::plays::{Answer, Call, begin, close_early, end, give_back, give_back_early, put};
+use super::{FILE, KINDS, ONE, ZERO, first, made, sized, take};
+use csq_checked::{AnyList, CheckedQueue, ListKind, PassRefused};
+use csq_list::{Peek, PendingList};
+use csq_queue::Rest;
 use irp_core::{Life, NtStatus};
-use std::test::Fail;
+use std::process::Abort;
 
-#[test]
-fn passes_are_handed_out_once(rt: HostRuntime) -> Result<(), Fail> {
-    let mut queue = made(&rt, ListKind::Vector)?;
-    assert_eq!(rt; queue.passes_out(), 0);
-    let one = queue.take_pass(rt.alloc())?;
-    let _two = queue.take_pass(rt.alloc())?;
-    assert_eq!(rt; queue.passes_out(), 2);
-    assert_eq!(rt; queue.give_back(one).is_ok(), true);
-    assert_eq!(rt; queue.passes_out(), 1);
+// So many passes are out.
+fn find_out<R: Abort>(rt: &R, queue: &CheckedQueue, out: u32) {
+    assert_eq!(rt; queue.passes_out(), out);
+}
+
+// No pass is left.
+pub(super) fn find_none<R: AllocGlobal + Abort>(rt: &R, queue: &mut CheckedQueue) {
     assert_eq!(rt;
         queue.take_pass(rt.alloc()).err(),
         Some(PassRefused::NoPass)
     );
-    Ok(())
+}
+
+// Takes both passes of a queue, and gives one back.
+fn take_both<R: AllocGlobal + Abort>(rt: &R, list: ListKind) {
+    let mut queue = made(rt, sized(list));
+    find_out(rt, &queue, 0);
+    let one = take(rt, &mut queue);
+    let _two = take(rt, &mut queue);
+    find_out(rt, &queue, 2);
+    give_back(rt, &mut queue, one);
+    find_out(rt, &queue, 1);
+    find_none(rt, &mut queue);
 }
 
 #[test]
-fn a_pass_that_holds_an_irp_is_not_taken_back(rt: HostRuntime) -> Result<(), Fail> {
-    let mut queue = made(&rt, ListKind::Chains)?;
-    let mut pass = queue.take_pass(rt.alloc())?;
-    pending(queue.insert(&mut pass, ONE, FILE, Place::Back)?).ok_or("not pending")?;
-    queue
-        .remove_next(&mut pass, Peek::File(FILE))
-        .ok_or("nothing listed")?;
-    let Err(mut same) = queue.give_back(pass) else {
-        return Err(Fail::from("taken back"));
-    };
-    same.complete(ONE, NtStatus::SUCCESS)?;
-    assert_eq!(rt; queue.give_back(same).is_ok(), true);
-    Ok(())
+fn passes_are_handed_out_once(rt: HostRuntime) {
+    for list in KINDS {
+        take_both(&rt, list);
+    }
+}
+
+// Gives a pass back that holds an IRP, and again once it completed that.
+fn give_back_twice<R: AllocGlobal + Abort>(rt: &R, list: ListKind) {
+    let mut begun = begin(rt, made(rt, sized(list)));
+    let got = Answer::Got(first(ONE));
+    begun.play(
+        rt,
+        &[
+            (put(ONE, FILE), Answer::Pending(first(ONE))),
+            (Call::Next(Peek::File(FILE)), got),
+        ],
+    );
+    let mut begun = give_back_early(rt, begun);
+    begun.play(rt, &[(Call::Complete(ONE, NtStatus::SUCCESS), got)]);
+    let _rest = end(rt, begun);
 }
 
 #[test]
-fn what_is_left_is_told(rt: HostRuntime) -> Result<(), Fail> {
-    let mut queue = made(&rt, ListKind::Chains)?;
-    let mut pass = queue.take_pass(rt.alloc())?;
-    pending(queue.insert(&mut pass, ZERO, FILE, Place::Back)?).ok_or("not pending")?;
-    let Err(mut queue) = queue.close() else {
-        return Err(Fail::from("closed"));
-    };
-    assert_eq!(rt; queue.give_back(pass).is_ok(), true);
-    let Ok(rest) = queue.close() else {
-        return Err(Fail::from("not closed"));
-    };
+fn a_pass_that_holds_an_irp_is_not_taken_back(rt: HostRuntime) {
+    for list in KINDS {
+        give_back_twice(&rt, list);
+    }
+}
+
+// The first IRP is left alone in the list.
+fn find_left<R: Abort>(rt: &R, rest: &Rest<AnyList>) {
     assert_eq!(rt; rest.next_listed(None), Some(ZERO));
     assert!(rt; rest.list.is_listed(ZERO));
     assert_eq!(rt; rest.next_listed(Some(ZERO)), None);
@@ -57,5 +72,20 @@ fn what_is_left_is_told(rt: HostRuntime) -> Result<(), Fail> {
         (Some(Life(5)), false, None)
     );
     assert_eq!(rt; (rest.is_home(ZERO), rest.is_home(ONE)), (false, true));
-    Ok(())
+}
+
+// Closes a queue with an IRP in its list, once its pass is back.
+fn leave_one<R: AllocGlobal + Abort>(rt: &R, list: ListKind) {
+    let mut begun = begin(rt, made(rt, sized(list)));
+    begun.play(rt, &[(put(ZERO, FILE), Answer::Pending(first(ZERO)))]);
+    let begun = close_early(rt, begun);
+    let rest = end(rt, begun);
+    find_left(rt, &rest);
+}
+
+#[test]
+fn what_is_left_is_told(rt: HostRuntime) {
+    for list in KINDS {
+        leave_one(&rt, list);
+    }
 }

@@ -1,63 +1,102 @@
 //! How large a queue may be.
-use super::{FILE, ONE, OTHER, ZERO, pending, refusal, sized};
-use crate::{CheckedQueue, ListKind, NewRefused, Size};
-use csq_list::{InsertStatus, Place};
+use super::ends::find_none;
+use super::plays::{Answer, Row, begin, put};
+use super::{FILE, KINDS, ONE, OTHER, ZERO, first, made, made_with_limits, sized, take};
+use csq_checked::{CheckedQueue, ListKind, NewRefused, Size};
+use csq_list::InsertStatus;
 use irp_core::Life;
-use std::test::Fail;
+use std::process::Abort;
 
 // Why no queue of this size is made.
-fn refused(rt: &HostRuntime, size: Size) -> Option<NewRefused> {
+fn refused<R: AllocGlobal>(rt: &R, size: Size) -> Option<NewRefused> {
     CheckedQueue::new(rt.alloc(), size).err()
+}
+
+// Sizes of which one number is out of its range.
+fn bad_sizes(list: ListKind) -> [Size; 6] {
+    let size = sized(list);
+    [
+        Size { irps: 0, ..size },
+        Size { irps: 1025, ..size },
+        Size { files: 257, ..size },
+        Size { limit: 4, ..size },
+        Size { passes: 65, ..size },
+        Size {
+            first: Life(1_073_741_824),
+            ..size
+        },
+    ]
 }
 
 #[test]
 fn each_number_has_its_range(rt: HostRuntime) {
-    let size = sized(ListKind::Vector);
-    let bad = Some(NewRefused::BadSize);
-    assert_eq!(rt; refused(&rt, Size { irps: 0, ..size }), bad);
-    assert_eq!(rt; refused(&rt, Size { irps: 1025, ..size }), bad);
-    assert_eq!(rt; refused(&rt, Size { files: 257, ..size }), bad);
-    assert_eq!(rt; refused(&rt, Size { limit: 4, ..size }), bad);
-    assert_eq!(rt; refused(&rt, Size { passes: 65, ..size }), bad);
-    assert_eq!(rt;
-        refused(
-            &rt,
-            Size {
-                first: Life(1_073_741_824),
-                ..size
-            }
-        ),
-        bad
-    );
-    assert_eq!(rt;
-        refused(
-            &rt,
-            Size {
-                first: Life(1_073_741_823),
-                ..size
-            }
-        ),
-        None
-    );
+    for list in KINDS {
+        for size in bad_sizes(list) {
+            assert_eq!(rt; refused(&rt, size), Some(NewRefused::BadSize), "{size:?}");
+        }
+        let late = Size {
+            first: Life(1_073_741_823),
+            ..sized(list)
+        };
+        assert_eq!(rt; refused(&rt, late), None);
+    }
+}
+
+// The first file object takes one IRP, and the second another one.
+fn file_limits() -> [Row; 3] {
+    [
+        (put(ZERO, FILE), Answer::Pending(first(ZERO))),
+        (put(ONE, FILE), Answer::NotInserted(InsertStatus::FileFull)),
+        (put(ONE, OTHER), Answer::Pending(first(ONE))),
+    ]
 }
 
 #[test]
-fn a_file_object_has_its_limit(rt: HostRuntime) -> Result<(), Fail> {
-    let size = sized(ListKind::Chains);
-    let mut queue = CheckedQueue::with_file_limits(rt.alloc(), size, &[1, 2])?;
-    let mut pass = queue.take_pass(rt.alloc())?;
-    pending(queue.insert(&mut pass, ZERO, FILE, Place::Back)?).ok_or("not pending")?;
-    let full = refusal(queue.insert(&mut pass, ONE, FILE, Place::Back));
-    assert_eq!(rt; full, Some(InsertStatus::FileFull));
-    pending(queue.insert(&mut pass, ONE, OTHER, Place::Back)?).ok_or("not pending")?;
-    Ok(())
+fn a_file_object_has_its_limit(rt: HostRuntime) {
+    for list in KINDS {
+        let queue = made_with_limits(&rt, sized(list), &[1, 2]);
+        begin(&rt, queue).play(&rt, &file_limits());
+    }
+}
+
+// Why no queue with these limits is made.
+fn refused_with_limits<R: AllocGlobal>(
+    rt: &R,
+    list: ListKind,
+    limits: &[u32],
+) -> Option<NewRefused> {
+    CheckedQueue::with_file_limits(rt.alloc(), sized(list), limits).err()
 }
 
 #[test]
 fn a_limit_for_each_file_object_is_wanted(rt: HostRuntime) {
-    let size = sized(ListKind::Vector);
-    let one = CheckedQueue::with_file_limits(rt.alloc(), size, &[1]);
-    assert_eq!(rt; one.err(), Some(NewRefused::BadSize));
-    let none = CheckedQueue::with_file_limits(rt.alloc(), size, &[1, 0]);
-    assert_eq!(rt; none.err(), Some(NewRefused::BadSize));
+    let bad = Some(NewRefused::BadSize);
+    for list in KINDS {
+        assert_eq!(rt; refused_with_limits(&rt, list, &[1]), bad);
+        assert_eq!(rt; refused_with_limits(&rt, list, &[1, 0]), bad);
+    }
+}
+
+// Takes all passes of the largest queue.
+fn take_all<R: AllocGlobal + Abort>(rt: &R, queue: &mut CheckedQueue) {
+    for _ in 0..64 {
+        let _pass = take(rt, queue);
+    }
+    assert_eq!(rt; queue.passes_out(), 64);
+    find_none(rt, queue);
+}
+
+#[test]
+fn the_largest_queue_hands_out_all_its_passes(rt: HostRuntime) {
+    for list in KINDS {
+        let size = Size {
+            irps: 1024,
+            files: 256,
+            limit: 1024,
+            passes: 64,
+            first: Life(0),
+            list,
+        };
+        take_all(&rt, &mut made(&rt, size));
+    }
 }

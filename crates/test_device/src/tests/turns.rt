@@ -1,12 +1,11 @@
 //! A run in which each step waits for the one before, so that each total is known.
-use super::runs::run;
-use csq_device::{Gate, Plan, Point};
-use csq_list::{ChainList, PendingList, VecList};
+use super::{chains, plan_of, run, vector};
+use csq_device::{Gate, Point, Totals};
+use csq_list::PendingList;
 use irp_core::IrpId;
 use std::process::Abort;
 use std::sync::Wait;
 use std::sync::atomic::{AtomicBool, AtomicU64, Ordering};
-use std::test::Fail;
 use std::thread::Threads;
 use watched_list::wait_for;
 
@@ -67,39 +66,49 @@ impl<'a> Gate for InOrder<'a> {
     }
 }
 
-// Of 20 IRPs 0 to 13 are inserted; 0, 1 and 2 are cancelled, then 3 to 9 removed, then 11 is cleaned up.
-fn run_in_order<L, R>(rt: &R, list: L) -> Result<(), Fail>
-where
-    L: PendingList + Drop + Send,
-    R: Threads + Wait + AllocGlobal + Abort + Sync,
-{
-    let plan = Plan::new(20, 3, 2, 1, 1, 7).ok_or("a plan")?;
-    let told = Told {
+fn untold() -> Told {
+    Told {
         submitted: AtomicU64::new(0),
         removed: AtomicU64::new(0),
         cancelled: AtomicU64::new(0),
         gave_up: AtomicBool::new(false),
-    };
-    let totals = run(rt, plan, list, InOrder(&told))?;
+    }
+}
+
+// Of 20 IRPs 0 to 13 are inserted; 0, 1 and 2 are cancelled, then 3 to 9 removed, then 11 is cleaned up.
+fn run_in_order<L, R>(rt: &R, list: L)
+where
+    L: PendingList + Drop + Send,
+    R: Threads + Wait + AllocGlobal + Abort + Sync,
+{
+    let plan = plan_of(rt, [20, 3, 2, 1, 1, 7]);
+    let told = untold();
+    let totals = run(rt, plan, list, InOrder(&told));
+    find_totals(rt, &told, totals);
+}
+
+fn find_totals<R: Abort>(rt: &R, told: &Told, totals: Totals) {
     assert!(rt; !told.gave_up.load(Ordering::SeqCst));
-    assert_eq!(rt; totals.irps, 20);
-    assert_eq!(rt; totals.home, 6);
-    assert_eq!(rt; totals.listed, 3);
-    assert_eq!(rt; totals.flagged_listed, 0);
-    assert_eq!(rt; totals.completed, 11);
-    assert_eq!(rt; totals.succeeded, 7);
-    assert_eq!(rt; totals.cancelled, 4);
-    assert_eq!(rt; totals.handed, 11);
+    let wanted = Totals {
+        irps: 20,
+        home: 6,
+        listed: 3,
+        flagged_listed: 0,
+        completed: 11,
+        succeeded: 7,
+        cancelled: 4,
+        handed: 11,
+    };
+    assert_eq!(rt; totals, wanted);
     assert_eq!(rt; totals.accounted(), 20);
-    Ok(())
 }
 
 #[test]
-fn each_total_is_told_of_a_vector(rt: HostRuntime) -> Result<(), Fail> {
-    run_in_order(&rt, VecList::new(rt.alloc(), 20, 3, 20)?)
+fn each_total_is_told_of_a_vector(rt: HostRuntime) {
+    run_in_order(&rt, vector(&rt, 20, 3));
 }
 
 #[test]
-fn each_total_is_told_of_chains(rt: HostRuntime) -> Result<(), Fail> {
-    run_in_order(&rt, ChainList::new(rt.alloc(), 20, 3, 20)?)
+fn each_total_is_told_of_chains(rt: HostRuntime) {
+    run_in_order(&rt, chains(&rt, 20, 3));
 }

@@ -1,12 +1,11 @@
 //! Each turn of each thread, counted, of threads that all run at once.
-use super::runs::run;
-use csq_device::{Gate, Plan, Point};
-use csq_list::{ChainList, PendingList, VecList};
+use super::{chains, plan_of, run, vector};
+use csq_device::{Gate, Point, Totals};
+use csq_list::PendingList;
 use irp_core::{FileId, IrpId};
 use std::process::Abort;
 use std::sync::Wait;
 use std::sync::atomic::{AtomicBool, AtomicU64, Ordering};
-use std::test::Fail;
 use std::thread::Threads;
 use watched_list::wait_for;
 
@@ -118,14 +117,19 @@ fn uncounted_points() -> Counts {
 }
 
 // Of 300 IRPs the submitters insert 0 to 209, and the cancellers cancel 0 to 279.
-fn count_over<L, R>(rt: &R, list: L) -> Result<(), Fail>
+fn count_over<L, R>(rt: &R, list: L)
 where
     L: PendingList + Drop + Send,
     R: Threads + Wait + AllocGlobal + Abort + Sync,
 {
-    let plan = Plan::new(300, 5, 3, 3, 4, 70).ok_or("a plan")?;
+    let plan = plan_of(rt, [300, 5, 3, 3, 4, 70]);
     let counts = uncounted_points();
-    let totals = run(rt, plan, list, Counting(&counts))?;
+    let totals = run(rt, plan, list, Counting(&counts));
+    find_all_turns(rt, &counts, totals);
+}
+
+// All threads met, and each turn of each was told once.
+fn find_all_turns<R: Abort>(rt: &R, counts: &Counts, totals: Totals) {
     assert!(rt; !counts.gave_up.load(Ordering::SeqCst));
     assert_eq!(rt; counts.come.load(Ordering::SeqCst), THREADS);
     assert!(rt; counts.submitted.is(210, 21_945));
@@ -138,15 +142,14 @@ where
     assert_eq!(rt; totals.home, 90);
     assert_eq!(rt; totals.listed, 0);
     assert_eq!(rt; totals.accounted(), 300);
-    Ok(())
 }
 
 #[test]
-fn each_turn_is_taken_over_a_vector(rt: HostRuntime) -> Result<(), Fail> {
-    count_over(&rt, VecList::new(rt.alloc(), 300, 5, 300)?)
+fn each_turn_is_taken_over_a_vector(rt: HostRuntime) {
+    count_over(&rt, vector(&rt, 300, 5));
 }
 
 #[test]
-fn each_turn_is_taken_over_chains(rt: HostRuntime) -> Result<(), Fail> {
-    count_over(&rt, ChainList::new(rt.alloc(), 300, 5, 300)?)
+fn each_turn_is_taken_over_chains(rt: HostRuntime) {
+    count_over(&rt, chains(&rt, 300, 5));
 }

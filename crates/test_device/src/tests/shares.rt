@@ -1,12 +1,11 @@
 //! A run in which the workers alone complete, each its own share.
-use super::runs::run;
-use csq_device::{Gate, Plan, Point};
-use csq_list::{ChainList, PendingList, VecList};
+use super::{chains, plan_of, run, vector};
+use csq_device::{Gate, Point, Totals};
+use csq_list::PendingList;
 use irp_core::IrpId;
 use std::process::Abort;
 use std::sync::Wait;
 use std::sync::atomic::{AtomicBool, AtomicU64, Ordering};
-use std::test::Fail;
 use std::thread::Threads;
 use watched_list::wait_for;
 
@@ -55,20 +54,29 @@ impl<'a> Gate for Unequal<'a> {
     }
 }
 
-// What the threads completed by their own counts is what the three workers removed.
-fn share_over<L, R>(rt: &R, list: L) -> Result<(), Fail>
-where
-    L: PendingList + Drop + Send,
-    R: Threads + Wait + AllocGlobal + Abort + Sync,
-{
-    let plan = Plan::new(IRPS, 2, 3, 3, 1, 10).ok_or("a plan")?;
-    let told = Told {
+fn untold() -> Told {
+    Told {
         submitted: AtomicU64::new(0),
         removed: AtomicU64::new(0),
         sum: AtomicU64::new(0),
         gave_up: AtomicBool::new(false),
-    };
-    let totals = run(rt, plan, list, Unequal(&told))?;
+    }
+}
+
+// Three submitters insert all IRPs, and three workers complete them.
+fn share_over<L, R>(rt: &R, list: L)
+where
+    L: PendingList + Drop + Send,
+    R: Threads + Wait + AllocGlobal + Abort + Sync,
+{
+    let plan = plan_of(rt, [IRPS, 2, 3, 3, 1, 10]);
+    let told = untold();
+    let totals = run(rt, plan, list, Unequal(&told));
+    find_shares(rt, &told, totals);
+}
+
+// What the threads completed by their own counts is what the three workers removed.
+fn find_shares<R: Abort>(rt: &R, told: &Told, totals: Totals) {
     assert!(rt; !told.gave_up.load(Ordering::SeqCst));
     assert_eq!(rt; told.removed.load(Ordering::SeqCst), 12);
     assert_eq!(rt; told.sum.load(Ordering::SeqCst), 66);
@@ -78,15 +86,14 @@ where
     assert_eq!(rt; totals.succeeded, 12);
     assert_eq!(rt; totals.cancelled, 0);
     assert_eq!(rt; totals.handed, 12);
-    Ok(())
 }
 
 #[test]
-fn the_workers_shares_are_summed_over_a_vector(rt: HostRuntime) -> Result<(), Fail> {
-    share_over(&rt, VecList::new(rt.alloc(), IRPS, 2, IRPS)?)
+fn the_workers_shares_are_summed_over_a_vector(rt: HostRuntime) {
+    share_over(&rt, vector(&rt, IRPS, 2));
 }
 
 #[test]
-fn the_workers_shares_are_summed_over_chains(rt: HostRuntime) -> Result<(), Fail> {
-    share_over(&rt, ChainList::new(rt.alloc(), IRPS, 2, IRPS)?)
+fn the_workers_shares_are_summed_over_chains(rt: HostRuntime) {
+    share_over(&rt, chains(&rt, IRPS, 2));
 }

@@ -1,5 +1,5 @@
 use Rattle.std.proofs.Crossing.{frees}
-use Rattle.device_runs.proofs.tests.memory.is_run_refused.Goals as goal
+use Rattle.test_device.proofs.tests.memory.is_run_refused.Goals as goal
 
 -- a block goes back to the heap that the refusing one passes on
 pub run-requires-frees-M-Allocator : goal.run-requires-frees-M-Allocator

@@ -1,12 +1,11 @@
 //! A run in which a file object is cleaned up before most inserts, which are refused then.
-use super::runs::run;
-use csq_device::{Gate, Plan, Point};
-use csq_list::{ChainList, PendingList, VecList};
+use super::{chains, plan_of, run, vector};
+use csq_device::{Gate, Point, Totals};
+use csq_list::PendingList;
 use irp_core::IrpId;
 use std::process::Abort;
 use std::sync::Wait;
 use std::sync::atomic::{AtomicBool, AtomicU64, Ordering};
-use std::test::Fail;
 use std::thread::Threads;
 use watched_list::{Moment, Watch, WatchedList, wait_for};
 
@@ -93,20 +92,29 @@ fn untold() -> Told {
 
 // Of 20 IRPs 0 to 13 are submitted; 2, 5, 8 and 11 are refused, since their file is closed. 0 to 6 are
 // cancelled, of which 2 and 5 are home, and 7, 9, 10, 12 and 13 are removed.
-fn refuse_over<L, R>(rt: &R, list: L) -> Result<(), Fail>
+fn refuse_over<L, R>(rt: &R, list: L)
 where
     L: PendingList + Drop + Send,
     R: Threads + Wait + AllocGlobal + Abort + Sync,
 {
-    let plan = Plan::new(20, 3, 2, 2, 1, 7).ok_or("a plan")?;
+    let plan = plan_of(rt, [20, 3, 2, 2, 1, 7]);
     let told = untold();
     let watched = WatchedList { list, watch: &told };
-    let totals = run(rt, plan, watched, Late(&told))?;
+    let totals = run(rt, plan, watched, Late(&told));
+    find_told(rt, &told);
+    find_totals(rt, totals);
+}
+
+// All inserts were told, and which IRPs were removed.
+fn find_told<R: Abort>(rt: &R, told: &Told) {
     assert!(rt; !told.gave_up.load(Ordering::SeqCst));
     assert_eq!(rt; told.submitted.load(Ordering::SeqCst), SUBMITTED);
     assert_eq!(rt; told.submitted_irps.load(Ordering::SeqCst), 0x3FFF);
     assert_eq!(rt; told.removed.load(Ordering::SeqCst), 5);
     assert_eq!(rt; told.removed_irps.load(Ordering::SeqCst), 0x3680);
+}
+
+fn find_totals<R: Abort>(rt: &R, totals: Totals) {
     assert_eq!(rt; totals.home, 10);
     assert_eq!(rt; totals.listed, 0);
     assert_eq!(rt; totals.completed, 10);
@@ -114,15 +122,14 @@ where
     assert_eq!(rt; totals.cancelled, 5);
     assert_eq!(rt; totals.handed, 10);
     assert_eq!(rt; totals.accounted(), 20);
-    Ok(())
 }
 
 #[test]
-fn refused_inserts_are_told_over_a_vector(rt: HostRuntime) -> Result<(), Fail> {
-    refuse_over(&rt, VecList::new(rt.alloc(), 20, 3, 20)?)
+fn refused_inserts_are_told_over_a_vector(rt: HostRuntime) {
+    refuse_over(&rt, vector(&rt, 20, 3));
 }
 
 #[test]
-fn refused_inserts_are_told_over_chains(rt: HostRuntime) -> Result<(), Fail> {
-    refuse_over(&rt, ChainList::new(rt.alloc(), 20, 3, 20)?)
+fn refused_inserts_are_told_over_chains(rt: HostRuntime) {
+    refuse_over(&rt, chains(&rt, 20, 3));
 }

@@ -1,0 +1,177 @@
+//! Runs to the end, whatever the schedule.
+use super::{chains, plan_of, run, vector};
+use csq_device::{Free, Gate, Plan, Point, Totals};
+use csq_list::{ChainList, ListNew, PendingList, VecList};
+use std::process::Abort;
+use std::sync::Wait;
+use std::sync::atomic::{AtomicU64, Ordering};
+use std::thread::{Threads, yield_now};
+
+// The plan of the program's defaults.
+fn usual_plan<R: Abort>(rt: &R) -> Plan {
+    plan_of(rt, [64, 4, 2, 2, 2, 64])
+}
+
+// Each IRP is home, listed or was completed by one thread, with one of two statuses.
+fn check(rt: &impl Abort, totals: Totals, irps: u32) {
+    assert_eq!(rt; totals.irps, irps);
+    assert_eq!(rt; totals.accounted(), u64::from(irps));
+    assert_eq!(rt; totals.handed, u64::from(totals.completed));
+    assert_eq!(rt; totals.flagged_listed, 0);
+    assert_eq!(rt;
+        totals.succeeded.wrapping_add(totals.cancelled),
+        totals.completed
+    );
+}
+
+// Runs a device over this list, and finds each of its IRPs.
+fn account_for<L, G, R>(rt: &R, plan: Plan, list: L, gate: G)
+where
+    L: PendingList + Drop + Send,
+    G: Gate + Drop,
+    R: Threads + Wait + AllocGlobal + Abort + Sync,
+{
+    let totals = run(rt, plan, list, gate);
+    check(rt, totals, plan.irps);
+}
+
+#[test]
+fn each_irp_is_accounted_for(rt: HostRuntime) {
+    let plan = usual_plan(&rt);
+    for _ in 0..10 {
+        account_for(&rt, plan, vector(&rt, 64, 4), Free);
+        account_for(&rt, plan, chains(&rt, 64, 4), Free);
+    }
+}
+
+#[test]
+fn one_irp_is_accounted_for(rt: HostRuntime) {
+    let plan = plan_of(&rt, [1; 6]);
+    account_for(&rt, plan, vector(&rt, 1, 1), Free);
+    account_for(&rt, plan, chains(&rt, 1, 1), Free);
+}
+
+#[test]
+fn the_most_threads_run(rt: HostRuntime) {
+    let plan = plan_of(&rt, [1024, 256, 20, 20, 20, 100]);
+    account_for(&rt, plan, chains(&rt, 1024, 256), Free);
+}
+
+// The IRPs are few, so that most turns of a worker find none.
+#[test]
+fn the_most_turns_are_taken(rt: HostRuntime) {
+    let plan = plan_of(&rt, [8, 2, 2, 2, 2, 100_000]);
+    account_for(&rt, plan, vector(&rt, 8, 2), Free);
+    account_for(&rt, plan, chains(&rt, 8, 2), Free);
+}
+
+// A gate that yields the processor up to six times at each of its calls.
+#[derive(Drop)]
+struct Yielding {
+    calls: AtomicU64,
+}
+
+impl Gate for Yielding {
+    fn at(&self, _point: Point) {
+        let call = self.calls.fetch_add(1, Ordering::SeqCst);
+        for _ in 0..call % 7 {
+            yield_now();
+        }
+    }
+}
+
+fn from_the_first() -> Yielding {
+    Yielding {
+        calls: AtomicU64::new(0),
+    }
+}
+
+// Fifty runs over a vector. Yields take long where other programs are busy, so the runs are four tests.
+fn account_over_vectors<R: Threads + Wait + AllocGlobal + Abort + Sync>(rt: &R) {
+    let plan = usual_plan(rt);
+    for _ in 0..50 {
+        account_for(rt, plan, vector(rt, 64, 4), from_the_first());
+    }
+}
+
+// Fifty runs over chains.
+fn account_over_chains<R: Threads + Wait + AllocGlobal + Abort + Sync>(rt: &R) {
+    let plan = usual_plan(rt);
+    for _ in 0..50 {
+        account_for(rt, plan, chains(rt, 64, 4), from_the_first());
+    }
+}
+
+#[test]
+fn each_irp_is_accounted_for_in_fifty_schedules(rt: HostRuntime) {
+    account_over_vectors(&rt);
+}
+
+#[test]
+fn each_irp_is_accounted_for_in_fifty_more_schedules(rt: HostRuntime) {
+    account_over_vectors(&rt);
+}
+
+#[test]
+fn each_irp_over_chains_is_accounted_for_in_fifty_schedules(rt: HostRuntime) {
+    account_over_chains(&rt);
+}
+
+#[test]
+fn each_irp_over_chains_is_accounted_for_in_fifty_more_schedules(rt: HostRuntime) {
+    account_over_chains(&rt);
+}
+
+// How many IRPs of each of four file objects may be listed.
+const LIMITS: [u32; 4] = [1, 2, 4, 64];
+
+// A list that was made.
+fn expect_list<L: Drop, R: Abort>(rt: &R, list: Result<L, ListNew>) -> L {
+    match list {
+        Ok(list) => list,
+        Err(_) => panic!(rt; "no list"),
+    }
+}
+
+// What a file object's limit refuses stays home.
+#[test]
+fn each_irp_is_accounted_for_under_file_limits(rt: HostRuntime) {
+    let plan = usual_plan(&rt);
+    for _ in 0..20 {
+        let list = VecList::with_file_limits(rt.alloc(), 64, 4, 64, &LIMITS);
+        account_for(&rt, plan, expect_list(&rt, list), Free);
+        let list = ChainList::with_file_limits(rt.alloc(), 64, 4, 64, &LIMITS);
+        account_for(&rt, plan, expect_list(&rt, list), Free);
+    }
+}
+
+// A gate that counts its calls.
+#[derive(Clone, Copy)]
+struct Counting<'a>(&'a AtomicU64);
+
+impl<'a> Gate for Counting<'a> {
+    fn at(&self, _point: Point) {
+        self.0.fetch_add(1, Ordering::SeqCst);
+    }
+}
+
+// The gate of a run that has ended is called no more.
+fn find_still<R: Abort>(rt: &R, calls: &AtomicU64) {
+    let told = calls.load(Ordering::SeqCst);
+    assert!(rt; told > 0);
+    for _ in 0..1000 {
+        yield_now();
+    }
+    assert_eq!(rt; calls.load(Ordering::SeqCst), told);
+}
+
+// Every thread has ended once a run answers.
+#[test]
+fn no_thread_outlives_a_run(rt: HostRuntime) {
+    let plan = usual_plan(&rt);
+    for _ in 0..20 {
+        let calls = AtomicU64::new(0);
+        account_for(&rt, plan, vector(&rt, 64, 4), Counting(&calls));
+        find_still(&rt, &calls);
+    }
+}
