@@ -49,6 +49,9 @@
 #include <stddef.h>
 #include <stdint.h>
 
+/* The version of this interface. */
+#define CSQ_VERSION "1.0.0"
+
 #ifdef __cplusplus
 extern "C" {
 /* csq_pass and csq_left are calls and structs: these are named with the word struct, as in C. */

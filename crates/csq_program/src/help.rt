@@ -1,7 +1,7 @@
 //! What `--help` and `--version` tell.
 
 /// The version of the program.
-pub(crate) const VERSION: &str = "1.0";
+pub(crate) const VERSION: &str = "1.0.0";
 
 pub(crate) const ABOUT: &str =
     "Replays and draws the steps of a cancel-safe IRP queue, makes its calls, and runs threads over one";

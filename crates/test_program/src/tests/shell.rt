@@ -332,7 +332,7 @@ fn help_is_told_on_standard_output(rt: HostRuntime) {
             "Replays and draws the steps of a cancel-safe IRP queue, makes its calls, and runs threads over one\n",
         ),
         (["csqsim", "help"].as_slice(), "Usage: csqsim <COMMAND>"),
-        (["csqsim", "--version"].as_slice(), "csqsim 1.0\n"),
+        (["csqsim", "--version"].as_slice(), "csqsim 1.0.0\n"),
         (
             ["csqsim", "run", "--help"].as_slice(),
             "Usage: csqsim run [OPTIONS]",
