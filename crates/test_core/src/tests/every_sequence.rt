@@ -1,6 +1,6 @@
 //! The machine beside the definitions, over every sequence of a few steps.
 use super::definitions::{Size, is_at_rest, is_flagged, place, present, verdict};
-use irp_core::{IrpId, IrpLife, Kind, Life, Machine, Made, PassId, Step};
+use irp_core::{IrpId, IrpLife, IrpPlace, Kind, Life, Machine, Made, PassId, Step};
 use std::alloc::{AllocError, Global};
 use std::process::Abort;
 use std::test::Fail;
@@ -58,6 +58,27 @@ fn replay(rt: &impl Abort, alloc: Global, size: Size, run: &[Made]) -> Result<Ma
     Ok(machine)
 }
 
+/// What the definitions say of an IRP after the run: its present life, its place, whether it is flagged.
+fn defined(
+    alloc: Global,
+    size: Size,
+    run: &[Made],
+    irp: IrpId,
+) -> Result<(Option<Life>, Option<IrpPlace>, bool), AllocError> {
+    let now = present(run, size.first, irp);
+    let place = place(alloc, run, now)?;
+    Ok((Some(now.life), Some(place), is_flagged(run, now)))
+}
+
+/// What the machine shows of an IRP.
+fn shown(machine: &Machine, irp: IrpId) -> (Option<Life>, Option<IrpPlace>, bool) {
+    (
+        machine.life(irp),
+        machine.place(irp),
+        machine.cancelled(irp),
+    )
+}
+
 /// The machine shows what the definitions say of the run.
 fn compare_state(
     rt: &impl Abort,
@@ -65,20 +86,22 @@ fn compare_state(
     size: Size,
     machine: &Machine,
     run: &[Made],
-) -> Result<(), Fail> {
+) -> Result<(), AllocError> {
     for number in 0..size.irps {
         let irp = IrpId(number);
-        let now = present(run, size.first, irp);
-        assert_eq!(rt; machine.life(irp), Some(now.life), "{run:?}");
-        assert_eq!(rt;
-            machine.place(irp),
-            Some(place(alloc, run, now)?),
-            "{run:?}"
-        );
-        assert_eq!(rt; machine.cancelled(irp), is_flagged(run, now), "{run:?}");
+        let wanted = defined(alloc, size, run, irp)?;
+        assert!(rt; shown(machine, irp) == wanted, "{run:?}");
     }
-    assert_eq!(rt; machine.at_rest(), is_at_rest(alloc, size, run)?, "{run:?}");
+    let rests = is_at_rest(alloc, size, run)?;
+    assert!(rt; machine.at_rest() == rests, "{run:?}");
     Ok(())
+}
+
+/// The run, and then this step.
+fn with_step(alloc: Global, run: &[Made], made: Made) -> Result<Vec<Made>, AllocError> {
+    let mut longer = run.to_vec(alloc)?;
+    longer.push(made)?;
+    Ok(longer)
 }
 
 /// The machine accepts or refuses the step as the definitions say; the longer run, where it is accepted.
@@ -91,18 +114,15 @@ fn compare(
 ) -> Result<Option<Vec<Made>>, Fail> {
     let mut machine = replay(rt, alloc, size, run)?;
     let answer = machine.step(step);
-    assert_eq!(rt;
-        answer,
-        verdict(alloc, size, run, step)?,
-        "{run:?}, {step:?}"
-    );
+    let wanted = verdict(alloc, size, run, step)?;
+    assert!(rt; answer == wanted, "{run:?}, {step:?}");
     let Ok(found) = answer else { return Ok(None) };
-    let mut longer = run.to_vec(alloc)?;
-    longer.push(Made {
+    let made = Made {
         pass: step.pass,
         kind: step.kind,
         found,
-    })?;
+    };
+    let longer = with_step(alloc, run, made)?;
     compare_state(rt, alloc, size, &machine, longer.as_slice())?;
     Ok(Some(longer))
 }

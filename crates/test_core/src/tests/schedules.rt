@@ -76,7 +76,7 @@ fn make_all(rt: &impl Abort, machine: &mut Machine, rows: &[Row]) {
             pass: PassId(*pass),
             kind: *kind,
         };
-        assert_eq!(rt; machine.step(step), *answer, "pass {pass}, {kind:?}");
+        assert!(rt; machine.step(step) == *answer, "pass {pass}, {kind:?}");
     }
 }
 
@@ -84,9 +84,12 @@ fn make_all(rt: &impl Abort, machine: &mut Machine, rows: &[Row]) {
 fn look(rt: &impl Abort, machine: &Machine, shown: &[Shown]) {
     for (number, life, place, cancelled) in shown {
         let irp = IrpId(*number);
-        assert_eq!(rt; machine.life(irp), *life, "irp {number}");
-        assert_eq!(rt; machine.place(irp), *place, "irp {number}");
-        assert_eq!(rt; machine.cancelled(irp), *cancelled, "irp {number}");
+        let now = (
+            machine.life(irp),
+            machine.place(irp),
+            machine.cancelled(irp),
+        );
+        assert!(rt; now == (*life, *place, *cancelled), "irp {number}");
     }
 }
 
@@ -423,14 +426,15 @@ fn a_refused_allocation_answers_memory(rt: HostRuntime) {
 #[test]
 fn an_irp_is_not_completed_as_pending(rt: HostRuntime) {
     let status_of = |status| FinalStatus::new(NtStatus(status)).map(|ended| ended.status());
-    assert_eq!(rt; status_of(0x103), None);
-    assert_eq!(rt; status_of(0xC000_0120), Some(NtStatus::CANCELLED));
-    assert_eq!(rt;
-        FinalStatus::new(NtStatus(0xC000_0120)),
-        Some(FinalStatus::cancelled())
-    );
-    assert_eq!(rt; FinalStatus::cancelled().status(), NtStatus::CANCELLED);
-    assert_eq!(rt; FinalStatus::success().status(), NtStatus::SUCCESS);
-    assert!(rt; NtStatus(0x7FFF_FFFF).is_success());
-    assert!(rt; !NtStatus(0x8000_0000).is_success());
+    let cancelled = FinalStatus::new(NtStatus(0xC000_0120));
+    let statuses = [
+        status_of(0x103).is_none(),
+        status_of(0xC000_0120) == Some(NtStatus::CANCELLED),
+        cancelled == Some(FinalStatus::cancelled()),
+        FinalStatus::cancelled().status() == NtStatus::CANCELLED,
+        FinalStatus::success().status() == NtStatus::SUCCESS,
+        NtStatus(0x7FFF_FFFF).is_success(),
+        !NtStatus(0x8000_0000).is_success(),
+    ];
+    assert_eq!(rt; statuses, [true; 7]);
 }
