@@ -116,6 +116,17 @@ where
     assert_eq!(rt; queue.status(pass, ZERO), status);
 }
 
+fn claim_with<L, N, R>(rt: &R, queue: &Csq<L, N>, rack: &mut PassRack<N>)
+where
+    L: PendingList + Drop + Send,
+    N: QueueName + Send + Sync,
+    R: Threads + Wait + Abort + Sync,
+{
+    let mut pass = take(rt, rack);
+    let mut passes = take_eight(rt, rack);
+    claim_pending(rt, queue, &mut pass, &mut passes);
+}
+
 fn claim_once<L, N, R>(rt: &R, blank: Blank<L>)
 where
     L: PendingList + Drop + Send,
@@ -124,9 +135,7 @@ where
     requires { blank ≡ record { table = N.table; limits = N.limits } }
 {
     let (queue, mut rack) = blank.into_queue::<N>();
-    let mut pass = take(rt, &mut rack);
-    let mut passes = take_eight(rt, &mut rack);
-    claim_pending(rt, &queue, &mut pass, &mut passes);
+    claim_with(rt, &queue, &mut rack);
 }
 
 #[test]

@@ -69,12 +69,17 @@ fn insert_share<L: PendingList + Drop, N: QueueName, R: Wait>(
 }
 
 // One thread cleans a file up, and another inserts for another file once the first IRP is being removed.
-fn clean_up_and_insert<'a, N: QueueName + Send + Sync, R: Threads + Wait + Abort + Sync>(
+fn clean_up_and_insert<L, N, R>(
     rt: &R,
-    queue: &Csq<WatchedList<'a, ChainList, Counts>, N>,
+    queue: &Csq<L, N>,
     passes: &mut (Pass<N>, Pass<N>),
-    counts: &'a Counts,
-) {
+    counts: &Counts,
+)
+where
+    L: PendingList + Drop + Send,
+    N: QueueName + Send + Sync,
+    R: Threads + Wait + Abort + Sync,
+{
     let (one, two) = passes;
     assert!(rt; insert_share(rt, queue, one));
     let (cleaned, inserted) = join(
@@ -90,11 +95,11 @@ fn clean_up_and_insert<'a, N: QueueName + Send + Sync, R: Threads + Wait + Abort
     assert!(rt; inserted);
 }
 
-fn clean_up_beside_an_insert<'a, N: QueueName + Send + Sync, R: Threads + Wait + Abort + Sync>(
-    rt: &R,
-    blank: Blank<WatchedList<'a, ChainList, Counts>>,
-    counts: &'a Counts,
-)
+fn clean_up_beside_an_insert<L, N, R>(rt: &R, blank: Blank<L>, counts: &Counts)
+where
+    L: PendingList + Drop + Send,
+    N: QueueName + Send + Sync,
+    R: Threads + Wait + Abort + Sync,
     requires { blank ≡ record { table = N.table; limits = N.limits } }
 {
     let (queue, mut rack) = blank.into_queue::<N>();
@@ -114,7 +119,7 @@ fn comes_between<R: Threads + Wait + AllocGlobal + Abort + Sync>(rt: &R) -> Resu
         list: ChainList::new(rt.alloc(), SHARE + 1, 2, SHARE + 1)?,
         watch: &counts,
     };
-    clean_up_beside_an_insert::<Brand, _>(rt, blank(rt, list, 2), &counts);
+    clean_up_beside_an_insert::<_, Brand, _>(rt, blank(rt, list, 2), &counts);
     assert!(rt; !counts.gave_up.load(Ordering::SeqCst));
     Ok(counts.between.load(Ordering::SeqCst))
 }

@@ -3,7 +3,7 @@ ghost use Rattle.std.specs.Prelude.{◌≡◌};
 
 use super::queues::{blank, close, take};
 use super::signals::Signals;
-use csq_list::VecList;
+use csq_list::{PendingList, VecList};
 use csq_queue::{Blank, Csq, Pass, QueueName};
 use irp_core::FileId;
 use std::marker::Brand;
@@ -27,13 +27,18 @@ fn let_go_on(signals: &Signals) {
 }
 
 // One thread closes a file slowly, while another gives its pass back.
-fn close_file_and_give_back<'a, N: QueueName + Send + Sync, R: Threads + Wait + Abort + Sync>(
+fn close_file_and_give_back<L, N, R>(
     rt: &R,
-    queue: &Csq<WatchedList<'a, VecList, Signals>, N>,
+    queue: &Csq<L, N>,
     one: &mut Pass<N>,
     two: Pass<N>,
-    signals: &'a Signals,
-) {
+    signals: &Signals,
+)
+where
+    L: PendingList + Drop + Send,
+    N: QueueName + Send + Sync,
+    R: Threads + Wait + Abort + Sync,
+{
     let (closed, (given, ())) = join(
         rt,
         || queue.close_file(rt, one, FileId(0)).is_ok(),
@@ -54,11 +59,11 @@ fn close_file_and_give_back<'a, N: QueueName + Send + Sync, R: Threads + Wait + 
 }
 
 // Once both threads are done no pass is out, and the queue is closed.
-fn give_back_at_the_lock<'a, N: QueueName + Send + Sync, R: Threads + Wait + Abort + Sync>(
-    rt: &R,
-    blank: Blank<WatchedList<'a, VecList, Signals>>,
-    signals: &'a Signals,
-)
+fn give_back_at_the_lock<L, N, R>(rt: &R, blank: Blank<L>, signals: &Signals)
+where
+    L: PendingList + Drop + Send,
+    N: QueueName + Send + Sync,
+    R: Threads + Wait + Abort + Sync,
     requires { blank ≡ record { table = N.table; limits = N.limits } }
 {
     let (queue, mut rack) = blank.into_queue::<N>();
@@ -75,6 +80,6 @@ fn a_pass_is_given_back_past_a_held_lock(rt: HostRuntime) -> Result<(), Fail> {
         list: VecList::new(rt.alloc(), 1, 1, 1)?,
         watch: &signals,
     };
-    give_back_at_the_lock::<Brand, _>(&rt, blank(&rt, list, 2), &signals);
+    give_back_at_the_lock::<_, Brand, _>(&rt, blank(&rt, list, 2), &signals);
     Ok(())
 }

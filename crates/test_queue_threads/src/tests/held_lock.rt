@@ -123,13 +123,18 @@ fn judge<L: PendingList + Drop, N: QueueName, R: Wait + Abort>(
 }
 
 // One thread closes a file slowly, while two others cancel.
-fn close_file_and_cancel<'a, N: QueueName + Send + Sync, R: Threads + Wait + Abort + Sync>(
+fn close_file_and_cancel<L, N, R>(
     rt: &R,
-    queue: &Csq<WatchedList<'a, VecList, Signals>, N>,
+    queue: &Csq<L, N>,
     closer: &mut Pass<N>,
     cancellers: &mut (Pass<N>, Pass<N>),
-    signals: &'a Signals,
-) {
+    signals: &Signals,
+)
+where
+    L: PendingList + Drop + Send,
+    N: QueueName + Send + Sync,
+    R: Threads + Wait + Abort + Sync,
+{
     let (one, two) = cancellers;
     assert!(rt; insert_three(rt, queue, closer));
     let (closed, (in_vain, cancelled)) = join(
@@ -155,11 +160,11 @@ fn close_file_and_cancel<'a, N: QueueName + Send + Sync, R: Threads + Wait + Abo
     judge(rt, queue, one);
 }
 
-fn cancel_at_the_lock<'a, N: QueueName + Send + Sync, R: Threads + Wait + Abort + Sync>(
-    rt: &R,
-    blank: Blank<WatchedList<'a, VecList, Signals>>,
-    signals: &'a Signals,
-)
+fn cancel_at_the_lock<L, N, R>(rt: &R, blank: Blank<L>, signals: &Signals)
+where
+    L: PendingList + Drop + Send,
+    N: QueueName + Send + Sync,
+    R: Threads + Wait + Abort + Sync,
     requires { blank ≡ record { table = N.table; limits = N.limits } }
 {
     let (queue, mut rack) = blank.into_queue::<N>();
@@ -176,7 +181,7 @@ fn cancels_begin_without_the_lock(rt: HostRuntime) -> Result<(), Fail> {
         watch: &signals,
     };
     match Blank::new_at(rt.alloc(), list, 4, 3, LIFE) {
-        Ok(blank) => cancel_at_the_lock::<Brand, _>(&rt, blank, &signals),
+        Ok(blank) => cancel_at_the_lock::<_, Brand, _>(&rt, blank, &signals),
         Err(_) => panic!(rt; "no queue"),
     }
     Ok(())
@@ -210,12 +215,17 @@ fn complete_and_mark<L: PendingList + Drop, N: QueueName, R: Wait>(
 }
 
 // One thread closes a file slowly, while another completes and marks.
-fn close_file_and_complete<'a, N: QueueName + Send + Sync, R: Threads + Wait + Abort + Sync>(
+fn close_file_and_complete<L, N, R>(
     rt: &R,
-    queue: &Csq<WatchedList<'a, VecList, Signals>, N>,
+    queue: &Csq<L, N>,
     passes: &mut (Pass<N>, Pass<N>),
-    signals: &'a Signals,
-) {
+    signals: &Signals,
+)
+where
+    L: PendingList + Drop + Send,
+    N: QueueName + Send + Sync,
+    R: Threads + Wait + Abort + Sync,
+{
     let (one, two) = passes;
     for number in 0..2 {
         assert!(rt; insert_pending(rt, queue, one, IrpId(number), FileId(0)).is_some());
@@ -232,11 +242,11 @@ fn close_file_and_complete<'a, N: QueueName + Send + Sync, R: Threads + Wait + A
     assert!(rt; !signals.gave_up.load(Ordering::SeqCst));
 }
 
-fn complete_at_the_lock<'a, N: QueueName + Send + Sync, R: Threads + Wait + Abort + Sync>(
-    rt: &R,
-    blank: Blank<WatchedList<'a, VecList, Signals>>,
-    signals: &'a Signals,
-)
+fn complete_at_the_lock<L, N, R>(rt: &R, blank: Blank<L>, signals: &Signals)
+where
+    L: PendingList + Drop + Send,
+    N: QueueName + Send + Sync,
+    R: Threads + Wait + Abort + Sync,
     requires { blank ≡ record { table = N.table; limits = N.limits } }
 {
     let (queue, mut rack) = blank.into_queue::<N>();
@@ -251,6 +261,6 @@ fn a_completion_and_a_mark_take_no_lock(rt: HostRuntime) -> Result<(), Fail> {
         list: VecList::new(rt.alloc(), 2, 1, 2)?,
         watch: &signals,
     };
-    complete_at_the_lock::<Brand, _>(&rt, blank(&rt, list, 2), &signals);
+    complete_at_the_lock::<_, Brand, _>(&rt, blank(&rt, list, 2), &signals);
     Ok(())
 }

@@ -50,12 +50,17 @@ fn drain<L: PendingList + Drop, N: QueueName, R: Wait + Abort>(
 }
 
 // Two threads insert the share that begins here and the next one.
-fn submit_by_two<N: QueueName + Send + Sync, R: Threads + Wait + Sync>(
+fn submit_by_two<L, N, R>(
     rt: &R,
-    queue: &Csq<VecList, N>,
+    queue: &Csq<L, N>,
     passes: &mut (Pass<N>, Pass<N>),
     first: u32,
-) -> bool {
+) -> bool
+where
+    L: PendingList + Drop + Send,
+    N: QueueName + Send + Sync,
+    R: Threads + Wait + Sync,
+{
     let (one, two) = passes;
     let next = first.wrapping_add(SHARE);
     let (a, b) = join(
@@ -67,12 +72,17 @@ fn submit_by_two<N: QueueName + Send + Sync, R: Threads + Wait + Sync>(
 }
 
 // Four threads insert.
-fn submit_all<N: QueueName + Send + Sync, R: Threads + Wait + Abort + Sync>(
+fn submit_all<L, N, R>(
     rt: &R,
-    queue: &Csq<VecList, N>,
+    queue: &Csq<L, N>,
     passes: &mut (Pass<N>, Pass<N>),
     others: &mut (Pass<N>, Pass<N>),
-) {
+)
+where
+    L: PendingList + Drop + Send,
+    N: QueueName + Send + Sync,
+    R: Threads + Wait + Abort + Sync,
+{
     let (a, b) = join(
         rt,
         || submit_by_two(rt, queue, passes, 0),
@@ -82,9 +92,9 @@ fn submit_all<N: QueueName + Send + Sync, R: Threads + Wait + Abort + Sync>(
 }
 
 // Lets a pass see the history that two others have seen.
-fn meet_two<N: QueueName, R: Wait>(
+fn meet_two<L: PendingList + Drop, N: QueueName, R: Wait>(
     rt: &R,
-    queue: &Csq<VecList, N>,
+    queue: &Csq<L, N>,
     pass: &mut Pass<N>,
     passes: &mut (Pass<N>, Pass<N>),
 ) {
@@ -92,10 +102,11 @@ fn meet_two<N: QueueName, R: Wait>(
     queue.meet(rt, pass, &mut passes.1);
 }
 
-fn submit_and_drain<N: QueueName + Send + Sync, R: Threads + Wait + Abort + Sync>(
-    rt: &R,
-    blank: Blank<VecList>,
-)
+fn submit_and_drain<L, N, R>(rt: &R, blank: Blank<L>)
+where
+    L: PendingList + Drop + Send,
+    N: QueueName + Send + Sync,
+    R: Threads + Wait + Abort + Sync,
     requires { blank ≡ record { table = N.table; limits = N.limits } }
 {
     let (queue, mut rack) = blank.into_queue::<N>();
@@ -111,7 +122,7 @@ fn submit_and_drain<N: QueueName + Send + Sync, R: Threads + Wait + Abort + Sync
 #[test]
 fn inserts_of_four_threads_are_removed_in_order(rt: HostRuntime) -> Result<(), Fail> {
     let list = VecList::new(rt.alloc(), 64, 1, 64)?;
-    submit_and_drain::<Brand, _>(&rt, blank(&rt, list, 5));
+    submit_and_drain::<_, Brand, _>(&rt, blank(&rt, list, 5));
     Ok(())
 }
 
@@ -151,11 +162,12 @@ fn cancel_each<L: PendingList + Drop, N: QueueName, R: Wait>(
 }
 
 // Two threads insert and cancel the same IRPs, of which each is completed once.
-fn insert_beside_cancels<N: QueueName + Send + Sync, R: Threads + Wait + Abort + Sync>(
-    rt: &R,
-    queue: &Csq<VecList, N>,
-    passes: &mut (Pass<N>, Pass<N>),
-) {
+fn insert_beside_cancels<L, N, R>(rt: &R, queue: &Csq<L, N>, passes: &mut (Pass<N>, Pass<N>))
+where
+    L: PendingList + Drop + Send,
+    N: QueueName + Send + Sync,
+    R: Threads + Wait + Abort + Sync,
+{
     let (one, two) = passes;
     let (a, b) = join(
         rt,
@@ -171,10 +183,11 @@ fn insert_beside_cancels<N: QueueName + Send + Sync, R: Threads + Wait + Abort +
     }
 }
 
-fn insert_and_cancel<N: QueueName + Send + Sync, R: Threads + Wait + Abort + Sync>(
-    rt: &R,
-    blank: Blank<VecList>,
-)
+fn insert_and_cancel<L, N, R>(rt: &R, blank: Blank<L>)
+where
+    L: PendingList + Drop + Send,
+    N: QueueName + Send + Sync,
+    R: Threads + Wait + Abort + Sync,
     requires { blank ≡ record { table = N.table; limits = N.limits } }
 {
     let (queue, mut rack) = blank.into_queue::<N>();
@@ -187,7 +200,7 @@ fn insert_and_cancel<N: QueueName + Send + Sync, R: Threads + Wait + Abort + Syn
 fn an_insert_and_a_cancel_complete_each_irp_once(rt: HostRuntime) -> Result<(), Fail> {
     for _ in 0..20 {
         let list = VecList::new(rt.alloc(), 64, 1, 64)?;
-        insert_and_cancel::<Brand, _>(&rt, blank(&rt, list, 2));
+        insert_and_cancel::<_, Brand, _>(&rt, blank(&rt, list, 2));
     }
     Ok(())
 }

@@ -120,11 +120,12 @@ fn count<L: PendingList + Drop, N: QueueName>(
 
 // As many completions are counted as there are IRPs, and each IRP has the status of one of the two
 // threads.
-fn remove_beside_cancels<N: QueueName + Send + Sync, R: Threads + Wait + Abort + Sync>(
-    rt: &R,
-    queue: &Csq<VecList, N>,
-    passes: &mut (Pass<N>, Pass<N>),
-) {
+fn remove_beside_cancels<L, N, R>(rt: &R, queue: &Csq<L, N>, passes: &mut (Pass<N>, Pass<N>))
+where
+    L: PendingList + Drop + Send,
+    N: QueueName + Send + Sync,
+    R: Threads + Wait + Abort + Sync,
+{
     let (one, two) = passes;
     let start = Start {
         come: AtomicU64::new(0),
@@ -141,10 +142,11 @@ fn remove_beside_cancels<N: QueueName + Send + Sync, R: Threads + Wait + Abort +
     assert_eq!(rt; count(queue, one, NtStatus::CANCELLED), cancelled);
 }
 
-fn remove_and_cancel<N: QueueName + Send + Sync, R: Threads + Wait + Abort + Sync>(
-    rt: &R,
-    blank: Blank<VecList>,
-)
+fn remove_and_cancel<L, N, R>(rt: &R, blank: Blank<L>)
+where
+    L: PendingList + Drop + Send,
+    N: QueueName + Send + Sync,
+    R: Threads + Wait + Abort + Sync,
     requires { blank ≡ record { table = N.table; limits = N.limits } }
 {
     let (queue, mut rack) = blank.into_queue::<N>();
@@ -156,6 +158,6 @@ fn remove_and_cancel<N: QueueName + Send + Sync, R: Threads + Wait + Abort + Syn
 #[test]
 fn each_irp_is_removed_or_cancelled(rt: HostRuntime) -> Result<(), Fail> {
     let list = VecList::new(rt.alloc(), IRPS, 1, IRPS)?;
-    remove_and_cancel::<Brand, _>(&rt, blank(&rt, list, 2));
+    remove_and_cancel::<_, Brand, _>(&rt, blank(&rt, list, 2));
     Ok(())
 }

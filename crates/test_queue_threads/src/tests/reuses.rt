@@ -2,7 +2,7 @@
 ghost use Rattle.std.specs.Prelude.{◌≡◌};
 
 use super::queues::{blank, complete_next, take_two};
-use csq_list::{Peek, Place, VecList};
+use csq_list::{Peek, PendingList, Place, VecList};
 use csq_queue::{Blank, CancelRefused, Csq, Inserted, Pass, QueueName};
 use irp_core::{FileId, IrpId, Life};
 use std::marker::Brand;
@@ -47,9 +47,9 @@ impl Counts {
 }
 
 // Inserts a submitter's IRPs for its file. Each is accepted.
-fn insert_share<N: QueueName, R: Wait>(
+fn insert_share<L: PendingList + Drop, N: QueueName, R: Wait>(
     rt: &R,
-    queue: &Csq<VecList, N>,
+    queue: &Csq<L, N>,
     pass: &mut Pass<N>,
     file: FileId,
     counts: &mut Counts,
@@ -70,9 +70,9 @@ fn insert_share<N: QueueName, R: Wait>(
 }
 
 // Removes what is left of them and completes it.
-fn remove_share<N: QueueName, R: Wait>(
+fn remove_share<L: PendingList + Drop, N: QueueName, R: Wait>(
     rt: &R,
-    queue: &Csq<VecList, N>,
+    queue: &Csq<L, N>,
     pass: &mut Pass<N>,
     file: FileId,
     counts: &mut Counts,
@@ -85,9 +85,9 @@ fn remove_share<N: QueueName, R: Wait>(
 }
 
 // Waits until an IRP is completed in its present life.
-fn wait_for_status<N: QueueName, R: Wait>(
+fn wait_for_status<L: PendingList + Drop, N: QueueName, R: Wait>(
     rt: &R,
-    queue: &Csq<VecList, N>,
+    queue: &Csq<L, N>,
     pass: &mut Pass<N>,
     irp: IrpId,
 ) {
@@ -100,9 +100,9 @@ fn wait_for_status<N: QueueName, R: Wait>(
 }
 
 // Begins the next life of each, once it is completed, by its canceller perhaps.
-fn reuse_share<N: QueueName, R: Wait>(
+fn reuse_share<L: PendingList + Drop, N: QueueName, R: Wait>(
     rt: &R,
-    queue: &Csq<VecList, N>,
+    queue: &Csq<L, N>,
     pass: &mut Pass<N>,
     file: FileId,
     next: Life,
@@ -116,9 +116,9 @@ fn reuse_share<N: QueueName, R: Wait>(
 }
 
 // Leads a submitter's IRPs through their lives.
-fn submit<N: QueueName, R: Wait>(
+fn submit<L: PendingList + Drop, N: QueueName, R: Wait>(
     rt: &R,
-    queue: &Csq<VecList, N>,
+    queue: &Csq<L, N>,
     pass: &mut Pass<N>,
     file: FileId,
 ) -> Counts {
@@ -133,9 +133,9 @@ fn submit<N: QueueName, R: Wait>(
 }
 
 // Cancels an IRP in the life in which it was just now, or in one behind that, which must be stale.
-fn cancel_one<N: QueueName, R: Wait>(
+fn cancel_one<L: PendingList + Drop, N: QueueName, R: Wait>(
     rt: &R,
-    queue: &Csq<VecList, N>,
+    queue: &Csq<L, N>,
     pass: &mut Pass<N>,
     irp: IrpId,
     behind: u32,
@@ -159,9 +159,9 @@ fn cancel_one<N: QueueName, R: Wait>(
 
 // Cancels IRPs in a random order, in their present lives and in lives behind them, until it is told
 // to stop.
-fn cancel_at_random<N: QueueName, R: Wait>(
+fn cancel_at_random<L: PendingList + Drop, N: QueueName, R: Wait>(
     rt: &R,
-    queue: &Csq<VecList, N>,
+    queue: &Csq<L, N>,
     pass: &mut Pass<N>,
     done: &AtomicBool,
     seed: u32,
@@ -194,12 +194,17 @@ fn judge<R: Abort>(rt: &R, counts: [Counts; 4]) {
 }
 
 // Each submitter has a file object of its own. The cancellers go on until both submitters are done.
-fn submit_beside_cancels<N: QueueName + Send + Sync, R: Threads + Wait + Abort + Sync>(
+fn submit_beside_cancels<L, N, R>(
     rt: &R,
-    queue: &Csq<VecList, N>,
+    queue: &Csq<L, N>,
     submitters: &mut (Pass<N>, Pass<N>),
     cancellers: &mut (Pass<N>, Pass<N>),
-) {
+)
+where
+    L: PendingList + Drop + Send,
+    N: QueueName + Send + Sync,
+    R: Threads + Wait + Abort + Sync,
+{
     let ((one, two), (three, four)) = (submitters, cancellers);
     let done = AtomicBool::new(false);
     let ((a, b), (c, d)) = join(
@@ -224,10 +229,11 @@ fn submit_beside_cancels<N: QueueName + Send + Sync, R: Threads + Wait + Abort +
     judge(rt, [a, b, c, d]);
 }
 
-fn submit_and_cancel<N: QueueName + Send + Sync, R: Threads + Wait + Abort + Sync>(
-    rt: &R,
-    blank: Blank<VecList>,
-)
+fn submit_and_cancel<L, N, R>(rt: &R, blank: Blank<L>)
+where
+    L: PendingList + Drop + Send,
+    N: QueueName + Send + Sync,
+    R: Threads + Wait + Abort + Sync,
     requires { blank ≡ record { table = N.table; limits = N.limits } }
 {
     let (queue, mut rack) = blank.into_queue::<N>();
@@ -239,6 +245,6 @@ fn submit_and_cancel<N: QueueName + Send + Sync, R: Threads + Wait + Abort + Syn
 #[test]
 fn each_life_is_completed_once(rt: HostRuntime) -> Result<(), Fail> {
     let list = VecList::new(rt.alloc(), 2 * SHARE, 2, 2 * SHARE)?;
-    submit_and_cancel::<Brand, _>(&rt, blank(&rt, list, 4));
+    submit_and_cancel::<_, Brand, _>(&rt, blank(&rt, list, 4));
     Ok(())
 }
