@@ -1,0 +1,232 @@
+//! One IRP in the words, with the machine beside them: the queue's seat, and those of three passes, of
+//! which the first inserts and reuses, the second cancels and the third removes.
+ghost use Rattle.std.specs.Prelude.{◌≡◌, ◌∷◌, None};
+ghost use Rattle.csq_words.specs.Records.{new_queue};
+ghost use Rattle.csq_words.specs.Seats.{new_seats};
+
+use super::ZERO;
+use csq_words::{PassSeat, PassSeats, QueueSeat, Words};
+use irp_core::{Kind, Life, Machine, NtStatus, PassId, Step};
+use std::marker::Model;
+use std::process::Abort;
+
+// How far the calls under the lock are with the IRP. In each but the last it is in its present life.
+#[derive(Clone, Copy)]
+pub(super) enum Stage {
+    // It may be inserted.
+    Home,
+    // Pass 1 inserts it: its routine is set.
+    Armed,
+    // The flag was found set then.
+    FlagSeen,
+    // It is listed.
+    Listed,
+    // It was removed.
+    Removed,
+    // An exchange found its routine taken, or the inserting pass took it back.
+    Taken,
+    // Pass 1 reuses it: it looked at the status,
+    Looked,
+    // renewed it,
+    StatusRenewed,
+    // and renewed the routine.
+    RoutineRenewed,
+    // It is inserted no more.
+    Ended,
+}
+
+// What a pass does, or has to do, with the IRP in a life.
+#[derive(Clone, Copy)]
+pub(super) enum Doing {
+    Nothing,
+    // It flagged the IRP, and has to take the routine.
+    Cancelling(Life),
+    // It took the routine.
+    Owing(Life),
+    // It holds the IRP, which its insert took back.
+    Holding(Life),
+    // It holds the IRP, which it removed.
+    HoldingRemoved(Life),
+    Unknown,
+}
+
+// A pass's seat is away while the pass is under the lock.
+#[derive(Clone, Copy)]
+pub(super) enum Hand {
+    Away,
+    Here(Doing),
+}
+
+pub(super) const FREE: Hand = Hand::Here(Doing::Nothing);
+
+// The passes, by what they do.
+#[derive(Clone, Copy)]
+pub(super) enum By {
+    Inserter,
+    Canceller,
+    Remover,
+}
+
+impl By {
+    pub(super) fn number(self) -> u32 {
+        match self {
+            By::Inserter => 1,
+            By::Canceller => 2,
+            By::Remover => 3,
+        }
+    }
+}
+
+#[derive(Drop)]
+pub(super) struct Case {
+    pub(super) machine: Machine,
+    pub(super) words: Words,
+    pub(super) queue: QueueSeat,
+    pub(super) stage: Stage,
+    // The present life.
+    pub(super) life: Life,
+    pub(super) one: PassSeat,
+    pub(super) inserter: Hand,
+    pub(super) two: PassSeat,
+    pub(super) canceller: Hand,
+    pub(super) three: PassSeat,
+    pub(super) remover: Hand,
+}
+
+impl Model for Case {
+    ghost use Rattle.irp_core.specs.declared.ids.Life.{Life};
+    ghost use Rattle.test_words.specs.Stages.{IsCase, irp_in};
+
+    ghost Value = { Life };
+
+    ghost view = { λ c. c.life };
+
+    ghost invariant = { λ c. IsCase c.words c.stage (irp_in c.life) c.queue c.inserter c.one c.canceller c.two c.remover c.three };
+}
+
+// A step finds what the machine finds.
+pub(super) fn compare(rt: &impl Abort, machine: &mut Machine, pass: u32, kind: Kind, found: u64) {
+    let step = Step {
+        pass: PassId(pass),
+        kind,
+    };
+    assert_eq!(rt; machine.step(step), Ok(found));
+}
+
+fn new_machine<R: AllocGlobal + Abort>(rt: &R, life: Life) -> Machine {
+    match Machine::new_at(rt.alloc(), 1, 3, life) {
+        Ok(machine) => machine,
+        Err(_) => panic!(rt; "no machine"),
+    }
+}
+
+// Words of one IRP, which is in this life, and the seats.
+fn new_words<R: AllocGlobal + Abort>(rt: &R, life: Life) -> (Words, QueueSeat, PassSeats)
+    ensures size { result.0.size.irps ≡ 1 }
+    ensures queue { result.1 ≡ record { table = result.0.table; queue = new_queue life.0 3; joined = None } }
+    ensures seats { result.2 ≡ new_seats result.0.table 1 3 }
+{
+    match Words::new_at(rt.alloc(), 1, 3, life) {
+        Ok(made) => made,
+        Err(_) => panic!(rt; "no words"),
+    }
+}
+
+fn take_seat(rt: &impl Abort, seats: &mut PassSeats) -> PassSeat
+    ensures { seats.old ≡ result ∷ seats.new }
+{
+    match seats.take() {
+        Some(seat) => seat,
+        None => panic!(rt; "no seat"),
+    }
+}
+
+impl Case {
+    // The IRP is home, in this life.
+    pub(super) fn begin<R: AllocGlobal + Abort>(rt: &R, life: Life) -> Case {
+        let machine = new_machine(rt, life);
+        let (words, queue, mut seats) = new_words(rt, life);
+        let one = take_seat(rt, &mut seats);
+        let two = take_seat(rt, &mut seats);
+        let three = take_seat(rt, &mut seats);
+        Case {
+            machine,
+            words,
+            queue,
+            stage: Stage::Home,
+            life,
+            one,
+            inserter: FREE,
+            two,
+            canceller: FREE,
+            three,
+            remover: FREE,
+        }
+    }
+
+    // A pass reads this life and Cancel flag.
+    pub(super) fn find_cancel(&mut self, rt: &impl Abort, by: By, life: Life, set: bool) {
+        let found = self.read_cancel(rt, by);
+        assert_eq!(rt; found, (life, set));
+    }
+
+    // It reads this life and status.
+    pub(super) fn find_status(
+        &mut self,
+        rt: &impl Abort,
+        by: By,
+        life: Life,
+        status: Option<NtStatus>,
+    ) {
+        let found = self.read_status(rt, by);
+        assert_eq!(rt; found, (life, status));
+    }
+
+    // What a pass reads of the Cancel flag.
+    fn read_cancel(&mut self, rt: &impl Abort, by: By) -> (Life, bool) {
+        match by {
+            By::Inserter => {
+                let Hand::Here(_) = self.inserter else {
+                    panic!(rt; "pass 1 is under the lock");
+                };
+                self.one.read_cancel(&self.words, ZERO)
+            }
+            By::Canceller => {
+                let Hand::Here(_) = self.canceller else {
+                    panic!(rt; "pass 2 is under the lock");
+                };
+                self.two.read_cancel(&self.words, ZERO)
+            }
+            By::Remover => {
+                let Hand::Here(_) = self.remover else {
+                    panic!(rt; "pass 3 is under the lock");
+                };
+                self.three.read_cancel(&self.words, ZERO)
+            }
+        }
+    }
+
+    // What it reads of the status.
+    fn read_status(&mut self, rt: &impl Abort, by: By) -> (Life, Option<NtStatus>) {
+        match by {
+            By::Inserter => {
+                let Hand::Here(_) = self.inserter else {
+                    panic!(rt; "pass 1 is under the lock");
+                };
+                self.one.read_status(&self.words, ZERO)
+            }
+            By::Canceller => {
+                let Hand::Here(_) = self.canceller else {
+                    panic!(rt; "pass 2 is under the lock");
+                };
+                self.two.read_status(&self.words, ZERO)
+            }
+            By::Remover => {
+                let Hand::Here(_) = self.remover else {
+                    panic!(rt; "pass 3 is under the lock");
+                };
+                self.three.read_status(&self.words, ZERO)
+            }
+        }
+    }
+}

@@ -1,0 +1,242 @@
+//! Inserts by pass 1.
+ghost use Rattle.std.specs.Prelude.{◌≡◌, ◌<◌, None, true};
+ghost use Rattle.irp_core.specs.declared.step.Inside.TheVariants.{Nothing, Armed, FlagSeen};
+ghost use Rattle.csq_words.specs.Own.{inside_of, holds_in};
+ghost use Rattle.csq_words.specs.Seats.{joined_record, pass_record, IsHere, IsJoined};
+ghost use Rattle.csq_words.specs.declared.views.Reusing.TheVariants as Reusing;
+ghost use Rattle.csq_words.specs.Words.{bit_in};
+ghost use Rattle.test_words.specs.Listed.{IsHome, IsInserted, IsPresent, only_entry};
+
+use super::fixture::{Case, Doing, FREE, Hand, Stage, compare};
+use super::{INSERT, ZERO};
+use csq_list::InsertStatus;
+use csq_words::{Note, PassSeat, QueueSeat, Words};
+use irp_core::{IrpLife, Kind, Machine};
+use std::process::Abort;
+
+// The pass arms the IRP.
+fn arm(
+    rt: &impl Abort,
+    machine: &mut Machine,
+    words: &Words,
+    queue: &mut QueueSeat,
+    pass: &mut PassSeat,
+    name: IrpLife,
+)
+    requires words { queue.old.table ≡ words.now.table }
+    requires irp { name.irp.0 < words.now.size.irps }
+    requires alone { queue.old.joined ≡ None }
+    requires home { IsHome name queue.old.queue }
+    requires here { IsHere words.now.table pass.old }
+    requires outside { inside_of (pass_record pass.old).steps ≡ Nothing }
+    ensures words { queue.new.table ≡ words.now.table }
+    ensures joined { IsJoined queue.new }
+    ensures queue { queue.new.queue ≡ queue.old.queue }
+    ensures armed { inside_of (joined_record queue.new).steps ≡ Armed name }
+{
+    queue.enter(words, pass);
+    let found = queue.arm(words, INSERT, name);
+    compare(rt, machine, 1, Kind::Arm(name), found % 2);
+}
+
+// The pass tests the flag, and finds it clear. Its insert ends.
+fn find_clear(
+    rt: &impl Abort,
+    machine: &mut Machine,
+    words: &Words,
+    queue: &mut QueueSeat,
+    pass: &mut PassSeat,
+    name: IrpLife,
+)
+    requires words { queue.old.table ≡ words.now.table }
+    requires irp { name.irp.0 < words.now.size.irps }
+    requires joined { IsJoined queue.old }
+    requires home { IsHome name queue.old.queue }
+    requires armed { inside_of (joined_record queue.old).steps ≡ Armed name }
+    ensures words { queue.new.table ≡ words.now.table }
+    ensures alone { queue.new.joined ≡ None }
+    ensures inserted { IsInserted name (only_entry name) queue.new.queue }
+    ensures here { IsHere words.now.table pass.new }
+    ensures outside { inside_of (pass_record pass.new).steps ≡ Nothing }
+{
+    let found = queue.test(words, INSERT, ZERO);
+    compare(rt, machine, 1, Kind::Test(name), found % 2);
+    assert!(rt; found % 2 == 0);
+    queue.leave(words, pass);
+}
+
+// The pass tests the flag, and finds it set.
+fn find_set(
+    rt: &impl Abort,
+    machine: &mut Machine,
+    words: &Words,
+    queue: &mut QueueSeat,
+    name: IrpLife,
+)
+    requires words { queue.old.table ≡ words.now.table }
+    requires irp { name.irp.0 < words.now.size.irps }
+    requires joined { IsJoined queue.old }
+    requires home { IsHome name queue.old.queue }
+    requires armed { inside_of (joined_record queue.old).steps ≡ Armed name }
+    ensures words { queue.new.table ≡ words.now.table }
+    ensures joined { IsJoined queue.new }
+    ensures queue { queue.new.queue ≡ queue.old.queue }
+    ensures seen { inside_of (joined_record queue.new).steps ≡ FlagSeen name }
+{
+    let found = queue.test(words, INSERT, ZERO);
+    compare(rt, machine, 1, Kind::Test(name), found % 2);
+    assert!(rt; found % 2 == 1);
+}
+
+// The pass exchanges the routine that it set, and its insert ends. It holds the IRP where it found it.
+fn take_back(
+    rt: &impl Abort,
+    machine: &mut Machine,
+    words: &Words,
+    queue: &mut QueueSeat,
+    pass: &mut PassSeat,
+    name: IrpLife,
+) -> u64
+    requires words { queue.old.table ≡ words.now.table }
+    requires irp { name.irp.0 < words.now.size.irps }
+    requires joined { IsJoined queue.old }
+    requires home { IsHome name queue.old.queue }
+    requires seen { inside_of (joined_record queue.old).steps ≡ FlagSeen name }
+    ensures words { queue.new.table ≡ words.now.table }
+    ensures alone { queue.new.joined ≡ None }
+    ensures present { IsPresent name queue.new.queue }
+    ensures idle { queue.new.queue.reusing ≡ Reusing.Nothing }
+    ensures here { IsHere words.now.table pass.new }
+    ensures outside { inside_of (pass_record pass.new).steps ≡ Nothing }
+    ensures held { bit_in result ≡ 1 → holds_in (pass_record pass.new).steps name ≡ true }
+{
+    let found = queue.disarm(words, INSERT, name);
+    compare(rt, machine, 1, Kind::Disarm(name), found % 2);
+    queue.leave(words, pass);
+    found
+}
+
+// The list is full: the insert is refused, and the IRP may be inserted later.
+fn be_refused(words: &Words, queue: &mut QueueSeat, pass: &mut PassSeat, name: IrpLife)
+    requires words { queue.old.table ≡ words.now.table }
+    requires alone { queue.old.joined ≡ None }
+    requires home { IsHome name queue.old.queue }
+    requires here { IsHere words.now.table pass.old }
+    requires outside { inside_of (pass_record pass.old).steps ≡ Nothing }
+    ensures words { queue.new.table ≡ words.now.table }
+    ensures alone { queue.new.joined ≡ None }
+    ensures home { IsHome name queue.new.queue }
+    ensures here { IsHere words.now.table pass.new }
+    ensures outside { inside_of (pass_record pass.new).steps ≡ Nothing }
+{
+    queue.enter(words, pass);
+    queue.note(words, INSERT, Note::Refused(InsertStatus::Full));
+    queue.leave(words, pass);
+}
+
+impl Case {
+    // Pass 1 lists the IRP, and sets its routine.
+    pub(super) fn arm(&mut self, rt: &impl Abort) {
+        let Stage::Home = self.stage else {
+            panic!(rt; "the IRP isn't home");
+        };
+        let Hand::Here(Doing::Nothing) = self.inserter else {
+            panic!(rt; "pass 1 is busy");
+        };
+        let name = IrpLife {
+            irp: ZERO,
+            life: self.life,
+        };
+        arm(
+            rt,
+            &mut self.machine,
+            &self.words,
+            &mut self.queue,
+            &mut self.one,
+            name,
+        );
+        self.stage = Stage::Armed;
+        self.inserter = Hand::Away;
+    }
+
+    // It finds the flag clear, and the IRP is pending.
+    pub(super) fn find_clear(&mut self, rt: &impl Abort) {
+        let Stage::Armed = self.stage else {
+            panic!(rt; "the routine wasn't set");
+        };
+        let name = IrpLife {
+            irp: ZERO,
+            life: self.life,
+        };
+        find_clear(
+            rt,
+            &mut self.machine,
+            &self.words,
+            &mut self.queue,
+            &mut self.one,
+            name,
+        );
+        self.stage = Stage::Listed;
+        self.inserter = FREE;
+    }
+
+    // It finds the flag set.
+    pub(super) fn find_set(&mut self, rt: &impl Abort) {
+        let Stage::Armed = self.stage else {
+            panic!(rt; "the routine wasn't set");
+        };
+        let name = IrpLife {
+            irp: ZERO,
+            life: self.life,
+        };
+        find_set(rt, &mut self.machine, &self.words, &mut self.queue, name);
+        self.stage = Stage::FlagSeen;
+    }
+
+    // Its exchange of the routine then finds this word. Where the routine was there, it holds the IRP.
+    pub(super) fn take_back(&mut self, rt: &impl Abort, word: u64) {
+        let Stage::FlagSeen = self.stage else {
+            panic!(rt; "the flag wasn't found set");
+        };
+        let name = IrpLife {
+            irp: ZERO,
+            life: self.life,
+        };
+        let found = take_back(
+            rt,
+            &mut self.machine,
+            &self.words,
+            &mut self.queue,
+            &mut self.one,
+            name,
+        );
+        assert_eq!(rt; found, word);
+        self.stage = Stage::Taken;
+        if found % 2 == 1 {
+            self.inserter = Hand::Here(Doing::Holding(self.life));
+        } else {
+            self.inserter = FREE;
+        }
+    }
+
+    // A whole insert, of which the IRP is pending.
+    pub(super) fn insert(&mut self, rt: &impl Abort) {
+        self.arm(rt);
+        self.find_clear(rt);
+    }
+
+    // An insert is refused.
+    pub(super) fn be_refused(&mut self, rt: &impl Abort) {
+        let Stage::Home = self.stage else {
+            panic!(rt; "the IRP isn't home");
+        };
+        let Hand::Here(Doing::Nothing) = self.inserter else {
+            panic!(rt; "pass 1 is busy");
+        };
+        let name = IrpLife {
+            irp: ZERO,
+            life: self.life,
+        };
+        be_refused(&self.words, &mut self.queue, &mut self.one, name);
+    }
+}

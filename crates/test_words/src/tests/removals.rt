@@ -1,0 +1,358 @@
+//! Removals by pass 3, calls that find nothing, and completions.
+ghost use Rattle.std.specs.Prelude.{◌≡◌, ◌<◌, None, [], true};
+ghost use Rattle.irp_core.specs.declared.step.Inside.TheVariants.{Nothing};
+ghost use Rattle.csq_words.specs.Own.{inside_of, holds_in, removed_in};
+ghost use Rattle.csq_words.specs.Seats.{pass_record, IsHere};
+ghost use Rattle.csq_words.specs.declared.views.Reusing.TheVariants as Reusing;
+ghost use Rattle.csq_words.specs.Words.{bit_in};
+ghost use Rattle.test_words.specs.Listed.{IsHome, IsInserted, IsPresent, Removes, only_entry};
+
+use super::ZERO;
+use super::fixture::{Case, Doing, FREE, Hand, Stage, compare};
+use csq_list::Peek;
+use csq_words::{Call, Note, PassSeat, QueueSeat, Words};
+use irp_core::{FileId, FinalStatus, IrpLife, Kind, Machine, NtStatus};
+use std::process::Abort;
+
+// An exchange found the routine.
+fn expect_found(rt: &impl Abort, found: u64)
+    ensures { bit_in found ≡ 1 }
+{
+    assert!(rt; found % 2 == 1);
+}
+
+// A removal by pass 3 takes the routine of the IRP, and the pass then holds the IRP.
+fn remove(
+    rt: &impl Abort,
+    machine: &mut Machine,
+    words: &Words,
+    queue: &mut QueueSeat,
+    pass: &mut PassSeat,
+    call: Call,
+    name: IrpLife,
+)
+    requires words { queue.old.table ≡ words.now.table }
+    requires irp { name.irp.0 < words.now.size.irps }
+    requires alone { queue.old.joined ≡ None }
+    requires inserted { IsInserted name (only_entry name) queue.old.queue }
+    requires removal { Removes call name }
+    requires here { IsHere words.now.table pass.old }
+    requires outside { inside_of (pass_record pass.old).steps ≡ Nothing }
+    ensures words { queue.new.table ≡ words.now.table }
+    ensures alone { queue.new.joined ≡ None }
+    ensures inserted { IsInserted name [] queue.new.queue }
+    ensures here { IsHere words.now.table pass.new }
+    ensures outside { inside_of (pass_record pass.new).steps ≡ Nothing }
+    ensures held { holds_in (pass_record pass.new).steps name ≡ true }
+    ensures removed { removed_in (pass_record pass.new).steps name ≡ true }
+{
+    queue.enter(words, pass);
+    let found = queue.disarm(words, call, name);
+    compare(rt, machine, 3, Kind::Disarm(name), found % 2);
+    expect_found(rt, found);
+    queue.leave(words, pass);
+}
+
+// Pass 3 completes what it has removed, with this status.
+fn complete(
+    rt: &impl Abort,
+    machine: &mut Machine,
+    words: &Words,
+    pass: &mut PassSeat,
+    name: IrpLife,
+    status: NtStatus,
+)
+    requires irp { name.irp.0 < words.now.size.irps }
+    requires here { IsHere words.now.table pass.old }
+    requires outside { inside_of (pass_record pass.old).steps ≡ Nothing }
+    requires held { holds_in (pass_record pass.old).steps name ≡ true }
+    requires removed { removed_in (pass_record pass.old).steps name ≡ true }
+    ensures here { IsHere words.now.table pass.new }
+    ensures outside { inside_of (pass_record pass.new).steps ≡ Nothing }
+{
+    let Some(status) = FinalStatus::new(status) else {
+        panic!(rt; "no final status");
+    };
+    pass.done(words, name, status);
+    compare(rt, machine, 3, Kind::Done(name), 0);
+}
+
+// Pass 3 finds that the routine was taken, and its removal ends with no IRP.
+fn find_taken(
+    rt: &impl Abort,
+    machine: &mut Machine,
+    words: &Words,
+    queue: &mut QueueSeat,
+    pass: &mut PassSeat,
+    name: IrpLife,
+)
+    requires words { queue.old.table ≡ words.now.table }
+    requires irp { name.irp.0 < words.now.size.irps }
+    requires alone { queue.old.joined ≡ None }
+    requires inserted { IsInserted name (only_entry name) queue.old.queue }
+    requires here { IsHere words.now.table pass.old }
+    requires outside { inside_of (pass_record pass.old).steps ≡ Nothing }
+    ensures words { queue.new.table ≡ words.now.table }
+    ensures alone { queue.new.joined ≡ None }
+    ensures present { IsPresent name queue.new.queue }
+    ensures idle { queue.new.queue.reusing ≡ Reusing.Nothing }
+{
+    queue.enter(words, pass);
+    let call = Call::Remove(name);
+    let found = queue.disarm(words, call, name);
+    compare(rt, machine, 3, Kind::Disarm(name), found % 2);
+    assert!(rt; found % 2 == 0);
+    queue.note(words, call, Note::Event);
+    compare(rt, machine, 3, Kind::End, 0);
+    queue.leave(words, pass);
+}
+
+// The file object is closed.
+fn close_file(words: &Words, queue: &mut QueueSeat, pass: &mut PassSeat, name: IrpLife)
+    requires words { queue.old.table ≡ words.now.table }
+    requires alone { queue.old.joined ≡ None }
+    requires home { IsHome name queue.old.queue }
+    requires here { IsHere words.now.table pass.old }
+    requires outside { inside_of (pass_record pass.old).steps ≡ Nothing }
+    ensures words { queue.new.table ≡ words.now.table }
+    ensures alone { queue.new.joined ≡ None }
+    ensures home { IsHome name queue.new.queue }
+    ensures here { IsHere words.now.table pass.new }
+    ensures outside { inside_of (pass_record pass.new).steps ≡ Nothing }
+{
+    queue.enter(words, pass);
+    queue.note(words, Call::CloseFile(FileId(0)), Note::Event);
+    queue.leave(words, pass);
+}
+
+// A removal finds no IRP.
+fn find_no_next(
+    rt: &impl Abort,
+    machine: &mut Machine,
+    words: &Words,
+    queue: &mut QueueSeat,
+    pass: &mut PassSeat,
+    name: IrpLife,
+)
+    requires words { queue.old.table ≡ words.now.table }
+    requires alone { queue.old.joined ≡ None }
+    requires home { IsHome name queue.old.queue }
+    requires here { IsHere words.now.table pass.old }
+    requires outside { inside_of (pass_record pass.old).steps ≡ Nothing }
+    ensures words { queue.new.table ≡ words.now.table }
+    ensures alone { queue.new.joined ≡ None }
+    ensures home { IsHome name queue.new.queue }
+    ensures here { IsHere words.now.table pass.new }
+    ensures outside { inside_of (pass_record pass.new).steps ≡ Nothing }
+{
+    queue.enter(words, pass);
+    queue.note(words, Call::RemoveNext(Peek::Any), Note::Event);
+    compare(rt, machine, 1, Kind::End, 0);
+    queue.leave(words, pass);
+}
+
+// A removal of the IRP finds that it isn't listed.
+fn find_unlisted(
+    rt: &impl Abort,
+    machine: &mut Machine,
+    words: &Words,
+    queue: &mut QueueSeat,
+    pass: &mut PassSeat,
+    name: IrpLife,
+)
+    requires words { queue.old.table ≡ words.now.table }
+    requires alone { queue.old.joined ≡ None }
+    requires home { IsHome name queue.old.queue }
+    requires here { IsHere words.now.table pass.old }
+    requires outside { inside_of (pass_record pass.old).steps ≡ Nothing }
+    ensures words { queue.new.table ≡ words.now.table }
+    ensures here { IsHere words.now.table pass.new }
+{
+    queue.enter(words, pass);
+    queue.note(words, Call::Remove(name), Note::Event);
+    compare(rt, machine, 1, Kind::End, 0);
+    queue.leave(words, pass);
+}
+
+// The inserting pass completes what it took back.
+fn complete_own(
+    rt: &impl Abort,
+    machine: &mut Machine,
+    words: &Words,
+    pass: &mut PassSeat,
+    name: IrpLife,
+)
+    requires irp { name.irp.0 < words.now.size.irps }
+    requires here { IsHere words.now.table pass.old }
+    requires outside { inside_of (pass_record pass.old).steps ≡ Nothing }
+    requires held { holds_in (pass_record pass.old).steps name ≡ true }
+    ensures here { IsHere words.now.table pass.new }
+    ensures outside { inside_of (pass_record pass.new).steps ≡ Nothing }
+{
+    pass.done(words, name, FinalStatus::cancelled());
+    compare(rt, machine, 1, Kind::Done(name), 0);
+}
+
+impl Case {
+    // Pass 3 removes the IRP.
+    pub(super) fn remove(&mut self, rt: &impl Abort) {
+        let Stage::Listed = self.stage else {
+            panic!(rt; "the IRP isn't listed");
+        };
+        let Hand::Here(Doing::Nothing) = self.remover else {
+            panic!(rt; "pass 3 is busy");
+        };
+        let name = IrpLife {
+            irp: ZERO,
+            life: self.life,
+        };
+        remove(
+            rt,
+            &mut self.machine,
+            &self.words,
+            &mut self.queue,
+            &mut self.three,
+            Call::Remove(name),
+            name,
+        );
+        self.stage = Stage::Removed;
+        self.remover = Hand::Here(Doing::HoldingRemoved(self.life));
+    }
+
+    // It removes the next IRP, which is this one.
+    pub(super) fn remove_next(&mut self, rt: &impl Abort) {
+        let Stage::Listed = self.stage else {
+            panic!(rt; "the IRP isn't listed");
+        };
+        let Hand::Here(Doing::Nothing) = self.remover else {
+            panic!(rt; "pass 3 is busy");
+        };
+        let name = IrpLife {
+            irp: ZERO,
+            life: self.life,
+        };
+        remove(
+            rt,
+            &mut self.machine,
+            &self.words,
+            &mut self.queue,
+            &mut self.three,
+            Call::RemoveNext(Peek::Any),
+            name,
+        );
+        self.stage = Stage::Removed;
+        self.remover = Hand::Here(Doing::HoldingRemoved(self.life));
+    }
+
+    // Its removal finds that the routine was taken.
+    pub(super) fn find_taken(&mut self, rt: &impl Abort) {
+        let Stage::Listed = self.stage else {
+            panic!(rt; "the IRP isn't listed");
+        };
+        let Hand::Here(Doing::Nothing) = self.remover else {
+            panic!(rt; "pass 3 is busy");
+        };
+        let name = IrpLife {
+            irp: ZERO,
+            life: self.life,
+        };
+        find_taken(
+            rt,
+            &mut self.machine,
+            &self.words,
+            &mut self.queue,
+            &mut self.three,
+            name,
+        );
+        self.stage = Stage::Taken;
+        self.remover = Hand::Away;
+    }
+
+    // It completes what it removed.
+    pub(super) fn complete(&mut self, rt: &impl Abort, status: NtStatus) {
+        let Hand::Here(Doing::HoldingRemoved(life)) = self.remover else {
+            panic!(rt; "pass 3 holds nothing");
+        };
+        let name = IrpLife { irp: ZERO, life };
+        complete(
+            rt,
+            &mut self.machine,
+            &self.words,
+            &mut self.three,
+            name,
+            status,
+        );
+        self.remover = FREE;
+    }
+
+    // Pass 1 completes what its insert took back.
+    pub(super) fn complete_own(&mut self, rt: &impl Abort) {
+        let Hand::Here(Doing::Holding(life)) = self.inserter else {
+            panic!(rt; "pass 1 holds nothing");
+        };
+        let name = IrpLife { irp: ZERO, life };
+        complete_own(rt, &mut self.machine, &self.words, &mut self.one, name);
+        self.inserter = FREE;
+    }
+
+    // Pass 1 closes the file object.
+    pub(super) fn close_file(&mut self, rt: &impl Abort) {
+        let Stage::Home = self.stage else {
+            panic!(rt; "the IRP isn't home");
+        };
+        let Hand::Here(Doing::Nothing) = self.inserter else {
+            panic!(rt; "pass 1 is busy");
+        };
+        let name = IrpLife {
+            irp: ZERO,
+            life: self.life,
+        };
+        close_file(&self.words, &mut self.queue, &mut self.one, name);
+    }
+
+    // A removal by pass 1 finds no IRP.
+    pub(super) fn find_no_next(&mut self, rt: &impl Abort) {
+        let Stage::Home = self.stage else {
+            panic!(rt; "the IRP isn't home");
+        };
+        let Hand::Here(Doing::Nothing) = self.inserter else {
+            panic!(rt; "pass 1 is busy");
+        };
+        let name = IrpLife {
+            irp: ZERO,
+            life: self.life,
+        };
+        find_no_next(
+            rt,
+            &mut self.machine,
+            &self.words,
+            &mut self.queue,
+            &mut self.one,
+            name,
+        );
+    }
+
+    // One of this IRP finds that it isn't listed.
+    pub(super) fn find_unlisted(&mut self, rt: &impl Abort) {
+        let Stage::Home = self.stage else {
+            panic!(rt; "the IRP isn't home");
+        };
+        let Hand::Here(Doing::Nothing) = self.inserter else {
+            panic!(rt; "pass 1 is busy");
+        };
+        let name = IrpLife {
+            irp: ZERO,
+            life: self.life,
+        };
+        find_unlisted(
+            rt,
+            &mut self.machine,
+            &self.words,
+            &mut self.queue,
+            &mut self.one,
+            name,
+        );
+        self.stage = Stage::Ended;
+        self.inserter = Hand::Here(Doing::Unknown);
+    }
+}

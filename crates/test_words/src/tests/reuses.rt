@@ -1,0 +1,238 @@
+//! Reuses by pass 1, step by step.
+ghost use Rattle.std.specs.Prelude.{◌≡◌, ◌<◌, None, []};
+ghost use Rattle.irp_core.specs.Lives.{last_life};
+ghost use Rattle.irp_core.specs.Steps.{life_of};
+ghost use Rattle.irp_core.specs.declared.step.Inside.TheVariants.{Nothing};
+ghost use Rattle.csq_words.specs.Own.{inside_of};
+ghost use Rattle.csq_words.specs.Records.{with_reusing};
+ghost use Rattle.csq_words.specs.Rule.{next_life};
+ghost use Rattle.csq_words.specs.Seats.{joined_record, pass_record, IsHere, IsJoined};
+ghost use Rattle.csq_words.specs.declared.views.Reusing.TheVariants as Reusing;
+ghost use Rattle.test_words.specs.Listed.{IsHome, IsInserted};
+
+use super::ZERO;
+use super::fixture::{Case, Doing, FREE, Hand, Stage, compare};
+use csq_words::{Call, PassSeat, QueueSeat, Words, flag_read, status_read};
+use irp_core::{IrpLife, Kind, Life, Machine, NtStatus, PassId, Step, StepRefused};
+use std::process::Abort;
+
+const REUSE: Call = Call::Reuse(ZERO);
+
+// Pass 1 begins a reuse: it looks at the status of the IRP, which is the one of its completion.
+fn look(
+    rt: &impl Abort,
+    words: &Words,
+    queue: &mut QueueSeat,
+    pass: &mut PassSeat,
+    name: IrpLife,
+    due: NtStatus,
+)
+    requires words { queue.old.table ≡ words.now.table }
+    requires irp { name.irp.0 < words.now.size.irps }
+    requires alone { queue.old.joined ≡ None }
+    requires inserted { IsInserted name [] queue.old.queue }
+    requires few { life_of name < last_life }
+    requires here { IsHere words.now.table pass.old }
+    requires outside { inside_of (pass_record pass.old).steps ≡ Nothing }
+    ensures words { queue.new.table ≡ words.now.table }
+    ensures joined { IsJoined queue.new }
+    ensures queue { queue.new.queue ≡ with_reusing (Reusing.Looked name) queue.old.queue }
+    ensures outside { inside_of (joined_record queue.new).steps ≡ Nothing }
+{
+    queue.enter(words, pass);
+    let (life, status) = status_read(queue.look(words, REUSE, ZERO));
+    assert_eq!(rt; life, name.life);
+    assert!(rt; status.is_some());
+    assert_eq!(rt; status, Some(due));
+}
+
+// It renews the status.
+fn renew_status(rt: &impl Abort, words: &Words, queue: &mut QueueSeat, name: IrpLife, due: NtStatus)
+    requires words { queue.old.table ≡ words.now.table }
+    requires irp { name.irp.0 < words.now.size.irps }
+    requires named { name.irp ≡ ZERO }
+    requires joined { IsJoined queue.old }
+    requires looked { queue.old.queue.reusing ≡ Reusing.Looked name }
+    ensures { queue.new ≡ record queue.old { queue = with_reusing (Reusing.StatusRenewed name) queue.old.queue } }
+{
+    let found = queue.renew_status(words, REUSE, name);
+    assert_eq!(rt; status_read(found), (name.life, Some(due)));
+}
+
+// It renews the routine.
+fn renew_routine(rt: &impl Abort, words: &Words, queue: &mut QueueSeat, name: IrpLife)
+    requires words { queue.old.table ≡ words.now.table }
+    requires irp { name.irp.0 < words.now.size.irps }
+    requires named { name.irp ≡ ZERO }
+    requires joined { IsJoined queue.old }
+    requires renewed { queue.old.queue.reusing ≡ Reusing.StatusRenewed name }
+    ensures { queue.new ≡ record queue.old { queue = with_reusing (Reusing.RoutineRenewed name) queue.old.queue } }
+{
+    let found = queue.renew_routine(words, REUSE, name);
+    assert_eq!(rt; found, 2 * u64::from(name.life.0));
+}
+
+// It renews the Cancel flag, which begins the next life. The reuse ends.
+fn renew_cancel(
+    rt: &impl Abort,
+    machine: &mut Machine,
+    words: &Words,
+    queue: &mut QueueSeat,
+    pass: &mut PassSeat,
+    name: IrpLife,
+) -> (Life, bool)
+    requires words { queue.old.table ≡ words.now.table }
+    requires irp { name.irp.0 < words.now.size.irps }
+    requires joined { IsJoined queue.old }
+    requires inserted { IsInserted name [] (with_reusing Reusing.Nothing queue.old.queue) }
+    requires few { life_of name < last_life }
+    requires renewed { queue.old.queue.reusing ≡ Reusing.RoutineRenewed name }
+    requires outside { inside_of (joined_record queue.old).steps ≡ Nothing }
+    ensures words { queue.new.table ≡ words.now.table }
+    ensures alone { queue.new.joined ≡ None }
+    ensures home { IsHome (next_life name) queue.new.queue }
+    ensures here { IsHere words.now.table pass.new }
+    ensures outside { inside_of (pass_record pass.new).steps ≡ Nothing }
+{
+    let found = queue.renew_cancel(words, REUSE, name);
+    compare(rt, machine, 1, Kind::Renew(name), 0);
+    queue.leave(words, pass);
+    flag_read(found)
+}
+
+// A look by pass 1 that begins no reuse.
+fn look_alone(
+    words: &Words,
+    queue: &mut QueueSeat,
+    pass: &mut PassSeat,
+    name: IrpLife,
+) -> (Life, Option<NtStatus>)
+    requires words { queue.old.table ≡ words.now.table }
+    requires irp { name.irp.0 < words.now.size.irps }
+    requires last { life_of name ≡ last_life }
+    requires alone { queue.old.joined ≡ None }
+    requires inserted { IsInserted name [] queue.old.queue }
+    requires here { IsHere words.now.table pass.old }
+    requires outside { inside_of (pass_record pass.old).steps ≡ Nothing }
+    ensures words { queue.new.table ≡ words.now.table }
+    ensures alone { queue.new.joined ≡ None }
+    ensures inserted { IsInserted name [] queue.new.queue }
+    ensures here { IsHere words.now.table pass.new }
+    ensures outside { inside_of (pass_record pass.new).steps ≡ Nothing }
+{
+    queue.enter(words, pass);
+    let found = queue.look(words, REUSE, ZERO);
+    queue.leave(words, pass);
+    status_read(found)
+}
+
+impl Case {
+    // Pass 1 finds this status, and begins a reuse.
+    pub(super) fn look(&mut self, rt: &impl Abort, due: NtStatus) {
+        let Stage::Removed = self.stage else {
+            panic!(rt; "the IRP wasn't removed");
+        };
+        let Hand::Here(Doing::Nothing) = self.inserter else {
+            panic!(rt; "pass 1 is busy");
+        };
+        if self.life.0 >= Life::LAST.0 {
+            panic!(rt; "the life is the last");
+        }
+        let name = IrpLife {
+            irp: ZERO,
+            life: self.life,
+        };
+        look(rt, &self.words, &mut self.queue, &mut self.one, name, due);
+        self.stage = Stage::Looked;
+        self.inserter = Hand::Away;
+    }
+
+    // It renews the status.
+    pub(super) fn renew_status(&mut self, rt: &impl Abort, due: NtStatus) {
+        let Stage::Looked = self.stage else {
+            panic!(rt; "no reuse has begun");
+        };
+        let name = IrpLife {
+            irp: ZERO,
+            life: self.life,
+        };
+        renew_status(rt, &self.words, &mut self.queue, name, due);
+        self.stage = Stage::StatusRenewed;
+    }
+
+    // It renews the routine.
+    pub(super) fn renew_routine(&mut self, rt: &impl Abort) {
+        let Stage::StatusRenewed = self.stage else {
+            panic!(rt; "the status wasn't renewed");
+        };
+        let name = IrpLife {
+            irp: ZERO,
+            life: self.life,
+        };
+        renew_routine(rt, &self.words, &mut self.queue, name);
+        self.stage = Stage::RoutineRenewed;
+    }
+
+    // It renews the Cancel flag, which it finds so. The next life begins.
+    pub(super) fn renew_cancel(&mut self, rt: &impl Abort, set: bool) {
+        let Stage::RoutineRenewed = self.stage else {
+            panic!(rt; "the routine wasn't renewed");
+        };
+        let name = IrpLife {
+            irp: ZERO,
+            life: self.life,
+        };
+        let found = renew_cancel(
+            rt,
+            &mut self.machine,
+            &self.words,
+            &mut self.queue,
+            &mut self.one,
+            name,
+        );
+        assert_eq!(rt; found, (self.life, set));
+        self.stage = Stage::Home;
+        self.life = Life(self.life.0 + 1);
+        self.inserter = FREE;
+    }
+
+    // A whole reuse of an IRP that was completed with success and not cancelled.
+    pub(super) fn reuse(&mut self, rt: &impl Abort, set: bool) {
+        self.look(rt, NtStatus::SUCCESS);
+        self.renew_status(rt, NtStatus::SUCCESS);
+        self.renew_routine(rt);
+        self.renew_cancel(rt, set);
+    }
+
+    // It finds this status in the last life, and begins no reuse.
+    pub(super) fn look_alone(&mut self, rt: &impl Abort, due: Option<NtStatus>) {
+        let Stage::Removed = self.stage else {
+            panic!(rt; "the IRP wasn't removed");
+        };
+        let Hand::Here(Doing::Nothing) = self.inserter else {
+            panic!(rt; "pass 1 is busy");
+        };
+        if self.life.0 != Life::LAST.0 {
+            panic!(rt; "the life isn't the last");
+        }
+        let name = IrpLife {
+            irp: ZERO,
+            life: self.life,
+        };
+        let found = look_alone(&self.words, &mut self.queue, &mut self.one, name);
+        assert_eq!(rt; found, (self.life, due));
+    }
+
+    // The machine refuses to end the present life.
+    pub(super) fn refuse_renewal(&mut self, rt: &impl Abort, cause: StepRefused) {
+        let name = IrpLife {
+            irp: ZERO,
+            life: self.life,
+        };
+        let step = Step {
+            pass: PassId(1),
+            kind: Kind::Renew(name),
+        };
+        assert_eq!(rt; self.machine.step(step), Err(cause));
+    }
+}
