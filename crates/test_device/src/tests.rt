@@ -10,7 +10,7 @@ mod shares;
 mod turns;
 
 use csq_device::{Device, Gate, Plan, Totals};
-use csq_list::{ChainList, PendingList, VecList};
+use csq_list::{ChainList, ListNew, PendingList, VecList};
 use std::process::Abort;
 use std::sync::Wait;
 use std::thread::Threads;
@@ -24,20 +24,22 @@ fn plan_of<R: Abort>(rt: &R, numbers: [u32; 6]) -> Plan {
     }
 }
 
-// A list in a vector, for a plan of so many IRPs and file objects.
-fn vector<R: AllocGlobal + Abort>(rt: &R, irps: u32, files: u32) -> VecList {
-    match VecList::new(rt.alloc(), irps, files, irps) {
+// A list that was made.
+fn expect_list<L: Drop, R: Abort>(rt: &R, list: Result<L, ListNew>) -> L {
+    match list {
         Ok(list) => list,
         Err(_) => panic!(rt; "no list"),
     }
 }
 
+// A list in a vector, for a plan of so many IRPs and file objects.
+fn vector<R: AllocGlobal + Abort>(rt: &R, irps: u32, files: u32) -> VecList {
+    expect_list(rt, VecList::new(rt.alloc(), irps, files, irps))
+}
+
 // One in chains.
 fn chains<R: AllocGlobal + Abort>(rt: &R, irps: u32, files: u32) -> ChainList {
-    match ChainList::new(rt.alloc(), irps, files, irps) {
-        Ok(list) => list,
-        Err(_) => panic!(rt; "no list"),
-    }
+    expect_list(rt, ChainList::new(rt.alloc(), irps, files, irps))
 }
 
 // A device over this list.

@@ -1,5 +1,5 @@
 //! What the calls of a pass answer.
-use super::plays::{Answer, Call, Row, begin, put};
+use super::plays::{Answer, Call, Row, play_over, put};
 use super::{FILE, KINDS, ONE, OTHER, UNKNOWN, ZERO, first, made, sized};
 use csq_checked::{CompleteRefused, RoutineRefused};
 use csq_list::{InsertStatus, Peek, Place};
@@ -18,8 +18,7 @@ const UNKNOWN_IRP: Answer = Answer::NotCompleted(CompleteRefused::UnknownIrp);
 // Plays the rows over a new queue with either list.
 fn play_over_both<R: AllocGlobal + Abort>(rt: &R, rows: &[Row]) {
     for list in KINDS {
-        let queue = made(rt, sized(list));
-        begin(rt, queue).play(rt, rows);
+        play_over(rt, made(rt, sized(list)), rows);
     }
 }
 
@@ -51,9 +50,11 @@ fn a_removed_irp_is_completed_once(rt: HostRuntime) {
     play_over_both(&rt, &removal());
 }
 
-// A pass claims an IRP that is listed, in its life alone, and it can't be removed then.
-fn claim() -> [Row; 6] {
+// A pass claims an IRP that is listed, in its life alone, and it can't be removed then. The pass takes it
+// out, and completes it as cancelled, once.
+fn claim() -> [Row; 15] {
     let stale = Answer::NotMarked(CancelRefused::Stale(Life(5)));
+    let unknown = Answer::NotRun(RoutineRefused::UnknownIrp);
     [
         (
             Call::Insert(ZERO, FILE, Place::Front),
@@ -64,13 +65,6 @@ fn claim() -> [Row; 6] {
         (Call::Mark(ZERO, Life(5)), Answer::Got(first(ZERO))),
         (Call::Count, Answer::Counted(0, 1)),
         (Call::Remove(first(ZERO)), Answer::Nothing),
-    ]
-}
-
-// The pass takes out what it claimed, and completes it as cancelled, once.
-fn routine() -> [Row; 9] {
-    let unknown = Answer::NotRun(RoutineRefused::UnknownIrp);
-    [
         (Call::CompleteCancelled(ZERO), NOT_HELD),
         (Call::Routine(UNKNOWN), unknown),
         (Call::Routine(ZERO), Answer::Got(first(ZERO))),
@@ -85,11 +79,7 @@ fn routine() -> [Row; 9] {
 
 #[test]
 fn a_claimed_irp_is_completed_as_cancelled(rt: HostRuntime) {
-    for list in KINDS {
-        let mut begun = begin(&rt, made(&rt, sized(list)));
-        begun.play(&rt, &claim());
-        begun.play(&rt, &routine());
-    }
+    play_over_both(&rt, &claim());
 }
 
 // An insert that finds its IRP cancelled gives it back to be completed, as cancelled alone.

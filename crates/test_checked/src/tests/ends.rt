@@ -8,7 +8,7 @@ use irp_core::{Life, NtStatus};
 use std::process::Abort;
 
 // So many passes are out.
-fn find_out<R: Abort>(rt: &R, queue: &CheckedQueue, out: u32) {
+pub(super) fn find_out<R: Abort>(rt: &R, queue: &CheckedQueue, out: u32) {
     assert_eq!(rt; queue.passes_out(), out);
 }
 
@@ -63,15 +63,18 @@ fn a_pass_that_holds_an_irp_is_not_taken_back(rt: HostRuntime) {
 }
 
 // The first IRP is left alone in the list.
-fn find_left<R: Abort>(rt: &R, rest: &Rest<AnyList>) {
+fn find_listed<R: Abort>(rt: &R, rest: &Rest<AnyList>) {
     assert_eq!(rt; rest.next_listed(None), Some(ZERO));
-    assert!(rt; rest.list.is_listed(ZERO));
     assert_eq!(rt; rest.next_listed(Some(ZERO)), None);
-    assert_eq!(rt;
-        (rest.life(ZERO), rest.cancelled(ZERO), rest.status(ZERO)),
-        (Some(Life(5)), false, None)
-    );
-    assert_eq!(rt; (rest.is_home(ZERO), rest.is_home(ONE)), (false, true));
+    assert!(rt; rest.list.is_listed(ZERO));
+    assert!(rt; !rest.is_home(ZERO) && rest.is_home(ONE));
+}
+
+// It is neither cancelled nor completed.
+fn find_untouched<R: Abort>(rt: &R, rest: &Rest<AnyList>) {
+    assert_eq!(rt; rest.life(ZERO), Some(Life(5)));
+    assert_eq!(rt; rest.status(ZERO), None);
+    assert!(rt; !rest.cancelled(ZERO));
 }
 
 // Closes a queue with an IRP in its list, once its pass is back.
@@ -80,7 +83,8 @@ fn leave_one<R: AllocGlobal + Abort>(rt: &R, list: ListKind) {
     begun.play(rt, &[(put(ZERO, FILE), Answer::Pending(first(ZERO)))]);
     let begun = close_early(rt, begun);
     let rest = end(rt, begun);
-    find_left(rt, &rest);
+    find_listed(rt, &rest);
+    find_untouched(rt, &rest);
 }
 
 #[test]

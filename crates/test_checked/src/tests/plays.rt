@@ -174,6 +174,12 @@ pub(super) fn begin<R: AllocGlobal + Abort>(rt: &R, mut queue: CheckedQueue) -> 
     Begun { queue, pass }
 }
 
+// Plays the rows over a queue with its first pass.
+pub(super) fn play_over<R: AllocGlobal + Abort>(rt: &R, queue: CheckedQueue, rows: &[Row]) {
+    let mut begun = begin(rt, queue);
+    begun.play(rt, rows);
+}
+
 // Gives a pass back that holds and owes nothing.
 pub(super) fn give_back<R: Abort>(rt: &R, queue: &mut CheckedQueue, pass: Box<CheckedPass>)
     requires { IsPassIn queue.old.queue pass.value }
@@ -202,7 +208,7 @@ pub(super) fn close_early<R: Abort>(rt: &R, begun: Begun) -> Begun {
 }
 
 // Closes a queue of which no pass is out.
-fn close<R: Abort>(rt: &R, queue: CheckedQueue) -> Rest<AnyList> {
+pub(super) fn close<R: Abort>(rt: &R, queue: CheckedQueue) -> Rest<AnyList> {
     match queue.close() {
         Ok(rest) => rest,
         Err(_) => panic!(rt; "not closed"),

@@ -1,6 +1,6 @@
 //! How large a queue may be.
-use super::ends::find_none;
-use super::plays::{Answer, Row, begin, put};
+use super::ends::{find_none, find_out};
+use super::plays::{Answer, Row, play_over, put};
 use super::{FILE, KINDS, ONE, OTHER, ZERO, first, made, made_with_limits, sized, take};
 use csq_checked::{CheckedQueue, ListKind, NewRefused, Size};
 use csq_list::InsertStatus;
@@ -51,11 +51,15 @@ fn file_limits() -> [Row; 3] {
     ]
 }
 
+fn fill_both<R: AllocGlobal + Abort>(rt: &R, list: ListKind) {
+    let queue = made_with_limits(rt, sized(list), &[1, 2]);
+    play_over(rt, queue, &file_limits());
+}
+
 #[test]
 fn a_file_object_has_its_limit(rt: HostRuntime) {
     for list in KINDS {
-        let queue = made_with_limits(&rt, sized(list), &[1, 2]);
-        begin(&rt, queue).play(&rt, &file_limits());
+        fill_both(&rt, list);
     }
 }
 
@@ -77,26 +81,35 @@ fn a_limit_for_each_file_object_is_wanted(rt: HostRuntime) {
     }
 }
 
-// Takes all passes of the largest queue.
+// The largest queue.
+fn largest(list: ListKind) -> Size {
+    Size {
+        irps: 1024,
+        files: 256,
+        limit: 1024,
+        passes: 64,
+        first: Life(0),
+        list,
+    }
+}
+
+// Takes all of 64 passes.
 fn take_all<R: AllocGlobal + Abort>(rt: &R, queue: &mut CheckedQueue) {
     for _ in 0..64 {
         let _pass = take(rt, queue);
     }
-    assert_eq!(rt; queue.passes_out(), 64);
+    find_out(rt, queue, 64);
     find_none(rt, queue);
+}
+
+fn use_largest<R: AllocGlobal + Abort>(rt: &R, list: ListKind) {
+    let mut queue = made(rt, largest(list));
+    take_all(rt, &mut queue);
 }
 
 #[test]
 fn the_largest_queue_hands_out_all_its_passes(rt: HostRuntime) {
     for list in KINDS {
-        let size = Size {
-            irps: 1024,
-            files: 256,
-            limit: 1024,
-            passes: 64,
-            first: Life(0),
-            list,
-        };
-        take_all(&rt, &mut made(&rt, size));
+        use_largest(&rt, list);
     }
 }

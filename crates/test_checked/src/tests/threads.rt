@@ -19,7 +19,7 @@ fn claims(pass: &mut CheckedPass, irp: IrpId) -> Result<bool, CancelRefused> {
 
 // Whether one of two cancels found the routine, and the other one found none.
 fn is_one(one: Result<bool, CancelRefused>, two: Result<bool, CancelRefused>) -> bool {
-    matches!((one, two), (Ok(true), Ok(false)) | (Ok(false), Ok(true)))
+    (one == Ok(true) && two == Ok(false)) || (one == Ok(false) && two == Ok(true))
 }
 
 // Cancels two IRPs by each of two passes, in two threads.

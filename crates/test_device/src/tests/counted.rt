@@ -15,6 +15,15 @@ const THREADS: u64 = 3 + 3 + 4 + 1;
 // How many IRPs three submitters insert in 70 turns each.
 const INSERTED: u64 = 210;
 
+// What each kind of turn is to tell: how often, and the sum of the numbers.
+const TURNS: [(u64, u64); 5] = [
+    (210, 21_945),
+    (210, 7_245),
+    (280, 39_060),
+    (280, 39_060),
+    (1, 4),
+];
+
 // How often a point was told, and the sum of the numbers that it was told with.
 #[derive(Drop)]
 struct Count {
@@ -35,8 +44,10 @@ impl Count {
         self.sum.fetch_add(u64::from(number), Ordering::SeqCst);
     }
 
-    fn is(&self, times: u64, sum: u64) -> bool {
-        self.times.load(Ordering::SeqCst) == times && self.sum.load(Ordering::SeqCst) == sum
+    // The times and the sum.
+    fn told(&self) -> (u64, u64) {
+        let times = self.times.load(Ordering::SeqCst);
+        (times, self.sum.load(Ordering::SeqCst))
     }
 }
 
@@ -57,6 +68,17 @@ impl Counts {
     // Waits until so many were counted, or gives up.
     fn wait_for(&self, counted: &AtomicU64, wanted: u64) {
         wait_for(counted, wanted, &self.gave_up);
+    }
+
+    // What was told of inserts, removals, cancels that begin and that are answered, and the cleanup.
+    fn of_turns(&self) -> [(u64, u64); 5] {
+        [
+            self.submitted.told(),
+            self.working.told(),
+            self.cancelling.told(),
+            self.cancelled.told(),
+            self.cleaning.told(),
+        ]
     }
 
     // Waits at the first point of a thread for those of all others.
@@ -132,16 +154,11 @@ where
 fn find_all_turns<R: Abort>(rt: &R, counts: &Counts, totals: Totals) {
     assert!(rt; !counts.gave_up.load(Ordering::SeqCst));
     assert_eq!(rt; counts.come.load(Ordering::SeqCst), THREADS);
-    assert!(rt; counts.submitted.is(210, 21_945));
-    assert!(rt; counts.working.is(210, 7_245));
-    assert!(rt; counts.cancelling.is(280, 39_060));
-    assert!(rt; counts.cancelled.is(280, 39_060));
-    assert!(rt; counts.cleaning.is(1, 4));
-    let removed = counts.removed.times.load(Ordering::SeqCst);
-    assert_eq!(rt; removed, u64::from(totals.succeeded));
-    assert_eq!(rt; totals.home, 90);
-    assert_eq!(rt; totals.listed, 0);
-    assert_eq!(rt; totals.accounted(), 300);
+    assert_eq!(rt; counts.of_turns(), TURNS);
+    let (removed, _) = counts.removed.told();
+    let succeeded = u64::from(totals.succeeded);
+    let found = (removed, totals.home, totals.listed, totals.accounted());
+    assert_eq!(rt; found, (succeeded, 90, 0, 300));
 }
 
 #[test]

@@ -1,11 +1,10 @@
 //! Plans and devices, and what they refuse.
-use super::{chains, plan_of, vector};
+use super::{chains, expect_list, plan_of, vector};
 use csq_device::{Device, DeviceCause, DeviceNew, Free, Gate, Plan, Point};
 use csq_list::{ChainList, PendingList, Place, VecList};
 use irp_core::{FileId, IrpId};
 use linked_list_allocator::LocalHeap;
 use std::process::Abort;
-use std::test::Fail;
 
 // The most that each number may be.
 const MOST: [u32; 6] = [1024, 256, 20, 20, 20, 100_000];
@@ -48,7 +47,13 @@ fn find_cause<R: Abort>(rt: &R, cause: DeviceCause, wanted: DeviceCause, number:
     assert_eq!(rt; cause.number(), number);
 }
 
-// A list has so many IRPs and file objects, and this limit and length.
+// A device is refused this list, which comes back with so many IRPs and file objects, this limit and
+// this length.
+fn find_back<L: PendingList + Drop, R: AllocGlobal + Abort>(rt: &R, list: L, sizes: [u32; 4]) {
+    let back = refused(rt, list);
+    find_sizes(rt, &back, sizes);
+}
+
 fn find_sizes<R: Abort>(rt: &R, list: &impl PendingList, sizes: [u32; 4]) {
     assert_eq!(rt;
         [list.irps(), list.files(), list.limit(), list.len()],
@@ -56,33 +61,37 @@ fn find_sizes<R: Abort>(rt: &R, list: &impl PendingList, sizes: [u32; 4]) {
     );
 }
 
-#[test]
-fn a_list_with_another_limit_comes_back(rt: HostRuntime) -> Result<(), Fail> {
-    let short = refused(&rt, VecList::new(rt.alloc(), 4, 2, 3)?);
-    find_sizes(&rt, &short, [4, 2, 3, 0]);
-    Ok(())
+// Lists with another limit, other IRPs and other file objects.
+fn find_other_sizes<R: AllocGlobal + Abort>(rt: &R) {
+    let short = expect_list(rt, VecList::new(rt.alloc(), 4, 2, 3));
+    find_back(rt, short, [4, 2, 3, 0]);
+    let wide = expect_list(rt, ChainList::new(rt.alloc(), 5, 2, 4));
+    find_back(rt, wide, [5, 2, 4, 0]);
+    let other = expect_list(rt, ChainList::new(rt.alloc(), 4, 3, 4));
+    find_back(rt, other, [4, 3, 4, 0]);
 }
 
 #[test]
-fn a_list_of_other_sizes_comes_back(rt: HostRuntime) -> Result<(), Fail> {
-    let wide = refused(&rt, ChainList::new(rt.alloc(), 5, 2, 4)?);
-    find_sizes(&rt, &wide, [5, 2, 4, 0]);
-    let other = refused(&rt, ChainList::new(rt.alloc(), 4, 3, 4)?);
-    find_sizes(&rt, &other, [4, 3, 4, 0]);
-    Ok(())
+fn a_list_that_does_not_fit_comes_back(rt: HostRuntime) {
+    find_other_sizes(&rt);
 }
 
-// Inserts an IRP into a list.
-fn use_list<R: Abort>(rt: &R, list: &mut impl PendingList) {
-    assert!(rt; list.insert_ex(IrpId(1), FileId(0), Place::Back).is_ok());
+// A list with an IRP.
+fn used<L: PendingList + Drop, R: Abort>(rt: &R, mut list: L) -> L {
+    if list.insert_ex(IrpId(1), FileId(0), Place::Back).is_err() {
+        panic!(rt; "not inserted");
+    }
+    list
+}
+
+fn find_used<R: AllocGlobal + Abort>(rt: &R) {
+    find_back(rt, used(rt, vector(rt, 4, 2)), [4, 2, 4, 1]);
+    find_back(rt, used(rt, chains(rt, 4, 2)), [4, 2, 4, 1]);
 }
 
 #[test]
 fn a_used_list_comes_back(rt: HostRuntime) {
-    let mut used = vector(&rt, 4, 2);
-    use_list(&rt, &mut used);
-    let used = refused(&rt, used);
-    find_sizes(&rt, &used, [4, 2, 4, 1]);
+    find_used(&rt);
 }
 
 // A gate that is known again.
@@ -148,8 +157,12 @@ fn find_no_memory<L: PendingList + Drop, R: AllocGlobal + Abort>(rt: &R, list: L
     panic!(rt; "no heap was large enough");
 }
 
+fn find_no_memory_of_both<R: AllocGlobal + Abort>(rt: &R) {
+    find_no_memory(rt, vector(rt, 4, 2));
+    find_no_memory(rt, chains(rt, 4, 2));
+}
+
 #[test]
 fn a_device_is_refused_for_want_of_memory(rt: HostRuntime) {
-    find_no_memory(&rt, vector(&rt, 4, 2));
-    find_no_memory(&rt, chains(&rt, 4, 2));
+    find_no_memory_of_both(&rt);
 }

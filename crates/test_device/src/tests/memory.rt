@@ -45,18 +45,17 @@ fn find_told<R: Abort>(
     told: u64,
     call: u64,
 ) {
-    match answer {
-        Ok(totals) => {
-            assert!(rt; !is_refused, "at call {call}");
-            assert_eq!(rt; totals.accounted(), 8);
-            assert!(rt; told > 0);
-        }
-        Err(refused) => {
-            assert!(rt; is_refused, "at call {call}");
-            assert_eq!(rt; refused, RunRefused::Memory, "at call {call}");
-            assert_eq!(rt; told, 0, "at call {call}");
-        }
-    }
+    let answered = match answer {
+        Ok(totals) => Ok(totals.accounted()),
+        Err(refused) => Err(refused),
+    };
+    let wanted = if is_refused {
+        Err(RunRefused::Memory)
+    } else {
+        Ok(8)
+    };
+    assert_eq!(rt; answered, wanted, "at call {call}");
+    assert_eq!(rt; told == 0, is_refused, "at call {call}");
 }
 
 #[test]

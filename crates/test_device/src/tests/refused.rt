@@ -108,19 +108,26 @@ where
 // All inserts were told, and which IRPs were removed.
 fn find_told<R: Abort>(rt: &R, told: &Told) {
     assert!(rt; !told.gave_up.load(Ordering::SeqCst));
-    assert_eq!(rt; told.submitted.load(Ordering::SeqCst), SUBMITTED);
-    assert_eq!(rt; told.submitted_irps.load(Ordering::SeqCst), 0x3FFF);
-    assert_eq!(rt; told.removed.load(Ordering::SeqCst), 5);
-    assert_eq!(rt; told.removed_irps.load(Ordering::SeqCst), 0x3680);
+    let submitted = told.submitted.load(Ordering::SeqCst);
+    let submitted_irps = told.submitted_irps.load(Ordering::SeqCst);
+    assert_eq!(rt; (submitted, submitted_irps), (SUBMITTED, 0x3FFF));
+    let removed = told.removed.load(Ordering::SeqCst);
+    let removed_irps = told.removed_irps.load(Ordering::SeqCst);
+    assert_eq!(rt; (removed, removed_irps), (5, 0x3680));
 }
 
 fn find_totals<R: Abort>(rt: &R, totals: Totals) {
-    assert_eq!(rt; totals.home, 10);
-    assert_eq!(rt; totals.listed, 0);
-    assert_eq!(rt; totals.completed, 10);
-    assert_eq!(rt; totals.succeeded, 5);
-    assert_eq!(rt; totals.cancelled, 5);
-    assert_eq!(rt; totals.handed, 10);
+    let wanted = Totals {
+        irps: 20,
+        home: 10,
+        listed: 0,
+        flagged_listed: 0,
+        completed: 10,
+        succeeded: 5,
+        cancelled: 5,
+        handed: 10,
+    };
+    assert_eq!(rt; totals, wanted);
     assert_eq!(rt; totals.accounted(), 20);
 }
 

@@ -1,7 +1,7 @@
 //! Runs to the end, whatever the schedule.
-use super::{chains, plan_of, run, vector};
+use super::{chains, expect_list, plan_of, run, vector};
 use csq_device::{Free, Gate, Plan, Point, Totals};
-use csq_list::{ChainList, ListNew, PendingList, VecList};
+use csq_list::{ChainList, PendingList, VecList};
 use std::process::Abort;
 use std::sync::Wait;
 use std::sync::atomic::{AtomicU64, Ordering};
@@ -14,14 +14,17 @@ fn usual_plan<R: Abort>(rt: &R) -> Plan {
 
 // Each IRP is home, listed or was completed by one thread, with one of two statuses.
 fn check(rt: &impl Abort, totals: Totals, irps: u32) {
-    assert_eq!(rt; totals.irps, irps);
-    assert_eq!(rt; totals.accounted(), u64::from(irps));
-    assert_eq!(rt; totals.handed, u64::from(totals.completed));
-    assert_eq!(rt; totals.flagged_listed, 0);
-    assert_eq!(rt;
-        totals.succeeded.wrapping_add(totals.cancelled),
-        totals.completed
-    );
+    let irps = u64::from(irps);
+    let completed = u64::from(totals.completed);
+    let statuses = totals.succeeded.wrapping_add(totals.cancelled);
+    let found = [
+        u64::from(totals.irps),
+        totals.accounted(),
+        totals.handed,
+        u64::from(statuses),
+        u64::from(totals.flagged_listed),
+    ];
+    assert_eq!(rt; found, [irps, irps, completed, completed, 0]);
 }
 
 // Runs a device over this list, and finds each of its IRPs.
@@ -35,34 +38,37 @@ where
     check(rt, totals, plan.irps);
 }
 
+// Runs devices of this plan over both lists.
+fn account_over_both<R>(rt: &R, plan: Plan)
+where
+    R: Threads + Wait + AllocGlobal + Abort + Sync,
+{
+    account_for(rt, plan, vector(rt, plan.irps, plan.files), Free);
+    account_for(rt, plan, chains(rt, plan.irps, plan.files), Free);
+}
+
 #[test]
 fn each_irp_is_accounted_for(rt: HostRuntime) {
     let plan = usual_plan(&rt);
     for _ in 0..10 {
-        account_for(&rt, plan, vector(&rt, 64, 4), Free);
-        account_for(&rt, plan, chains(&rt, 64, 4), Free);
+        account_over_both(&rt, plan);
     }
 }
 
 #[test]
 fn one_irp_is_accounted_for(rt: HostRuntime) {
-    let plan = plan_of(&rt, [1; 6]);
-    account_for(&rt, plan, vector(&rt, 1, 1), Free);
-    account_for(&rt, plan, chains(&rt, 1, 1), Free);
+    account_over_both(&rt, plan_of(&rt, [1; 6]));
 }
 
 #[test]
 fn the_most_threads_run(rt: HostRuntime) {
-    let plan = plan_of(&rt, [1024, 256, 20, 20, 20, 100]);
-    account_for(&rt, plan, chains(&rt, 1024, 256), Free);
+    account_over_both(&rt, plan_of(&rt, [1024, 256, 20, 20, 20, 100]));
 }
 
 // The IRPs are few, so that most turns of a worker find none.
 #[test]
 fn the_most_turns_are_taken(rt: HostRuntime) {
-    let plan = plan_of(&rt, [8, 2, 2, 2, 2, 100_000]);
-    account_for(&rt, plan, vector(&rt, 8, 2), Free);
-    account_for(&rt, plan, chains(&rt, 8, 2), Free);
+    account_over_both(&rt, plan_of(&rt, [8, 2, 2, 2, 2, 100_000]));
 }
 
 // A gate that yields the processor up to six times at each of its calls.
@@ -125,12 +131,15 @@ fn each_irp_over_chains_is_accounted_for_in_fifty_more_schedules(rt: HostRuntime
 // How many IRPs of each of four file objects may be listed.
 const LIMITS: [u32; 4] = [1, 2, 4, 64];
 
-// A list that was made.
-fn expect_list<L: Drop, R: Abort>(rt: &R, list: Result<L, ListNew>) -> L {
-    match list {
-        Ok(list) => list,
-        Err(_) => panic!(rt; "no list"),
-    }
+// Runs devices over both lists with these limits.
+fn account_under_limits<R>(rt: &R, plan: Plan)
+where
+    R: Threads + Wait + AllocGlobal + Abort + Sync,
+{
+    let list = VecList::with_file_limits(rt.alloc(), 64, 4, 64, &LIMITS);
+    account_for(rt, plan, expect_list(rt, list), Free);
+    let list = ChainList::with_file_limits(rt.alloc(), 64, 4, 64, &LIMITS);
+    account_for(rt, plan, expect_list(rt, list), Free);
 }
 
 // What a file object's limit refuses stays home.
@@ -138,10 +147,7 @@ fn expect_list<L: Drop, R: Abort>(rt: &R, list: Result<L, ListNew>) -> L {
 fn each_irp_is_accounted_for_under_file_limits(rt: HostRuntime) {
     let plan = usual_plan(&rt);
     for _ in 0..20 {
-        let list = VecList::with_file_limits(rt.alloc(), 64, 4, 64, &LIMITS);
-        account_for(&rt, plan, expect_list(&rt, list), Free);
-        let list = ChainList::with_file_limits(rt.alloc(), 64, 4, 64, &LIMITS);
-        account_for(&rt, plan, expect_list(&rt, list), Free);
+        account_under_limits(&rt, plan);
     }
 }
 
@@ -166,12 +172,19 @@ fn find_still<R: Abort>(rt: &R, calls: &AtomicU64) {
 }
 
 // Every thread has ended once a run answers.
+fn outlive_a_run<R>(rt: &R, plan: Plan)
+where
+    R: Threads + Wait + AllocGlobal + Abort + Sync,
+{
+    let calls = AtomicU64::new(0);
+    account_for(rt, plan, vector(rt, 64, 4), Counting(&calls));
+    find_still(rt, &calls);
+}
+
 #[test]
 fn no_thread_outlives_a_run(rt: HostRuntime) {
     let plan = usual_plan(&rt);
     for _ in 0..20 {
-        let calls = AtomicU64::new(0);
-        account_for(&rt, plan, vector(&rt, 64, 4), Counting(&calls));
-        find_still(&rt, &calls);
+        outlive_a_run(&rt, plan);
     }
 }

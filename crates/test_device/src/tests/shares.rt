@@ -78,14 +78,20 @@ where
 // What the threads completed by their own counts is what the three workers removed.
 fn find_shares<R: Abort>(rt: &R, told: &Told, totals: Totals) {
     assert!(rt; !told.gave_up.load(Ordering::SeqCst));
-    assert_eq!(rt; told.removed.load(Ordering::SeqCst), 12);
-    assert_eq!(rt; told.sum.load(Ordering::SeqCst), 66);
-    assert_eq!(rt; totals.home, 0);
-    assert_eq!(rt; totals.listed, 0);
-    assert_eq!(rt; totals.completed, 12);
-    assert_eq!(rt; totals.succeeded, 12);
-    assert_eq!(rt; totals.cancelled, 0);
-    assert_eq!(rt; totals.handed, 12);
+    let removed = told.removed.load(Ordering::SeqCst);
+    let sum = told.sum.load(Ordering::SeqCst);
+    assert_eq!(rt; (removed, sum), (12, 66));
+    let wanted = Totals {
+        irps: 12,
+        home: 0,
+        listed: 0,
+        flagged_listed: 0,
+        completed: 12,
+        succeeded: 12,
+        cancelled: 0,
+        handed: 12,
+    };
+    assert_eq!(rt; totals, wanted);
 }
 
 #[test]
