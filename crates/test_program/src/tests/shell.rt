@@ -384,10 +384,8 @@ fn a_failed_read_is_a_fault(rt: HostRuntime) {
     }
 }
 
-// Each kind of call, over both lists: the answers are the same.
-#[test]
-fn a_script_is_answered_over_both_lists(rt: HostRuntime) {
-    let input = "\
+// A script with each kind of call.
+const EVERY_CALL: &str = "\
 insert 0 0 back
 insert 1 1 back
 insert 2 0 front
@@ -405,7 +403,8 @@ status 4
 status 3
 flag 0
 ";
-    let output = "\
+
+const EVERY_REPLY: &str = "\
 pending
 pending
 pending
@@ -426,14 +425,18 @@ left 0
 held 2
 owed 0
 ";
+
+// Each kind of call, over both lists: the answers are the same.
+#[test]
+fn a_script_is_answered_over_both_lists(rt: HostRuntime) {
     for words in [
         ["csqsim", "script"].as_slice(),
         ["csqsim", "script", "--chain"].as_slice(),
     ] {
         let case = Case {
             words,
-            input,
-            output,
+            input: EVERY_CALL,
+            output: EVERY_REPLY,
             errors: "",
             status: 0,
         };
