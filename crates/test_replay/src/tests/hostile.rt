@@ -1,5 +1,6 @@
 //! A reader that fails after each number of bytes, and a writer that does, or takes no more.
-use crate::tests::streams::{FailingWriter, SlowReader};
+use super::answers::{USUAL, answer_in_vector, answer_reader};
+use super::streams::{FailingWriter, SlowReader};
 use csq_list::VecList;
 use csq_replay::{Ended, SimFault, answer_schedule, answer_script};
 use std::alloc::Global;
@@ -50,28 +51,21 @@ fn beginning(text: &str, len: usize) -> &[u8] {
 }
 
 #[test]
-fn a_schedule_is_read_whole_or_not_answered(rt: HostRuntime) -> Result<(), Fail> {
+fn a_schedule_is_read_whole_or_not_answered(rt: HostRuntime) {
     for len in 0..=SCHEDULE.len() {
         let mut reader = SlowReader::new(beginning(SCHEDULE, len), Some(ErrorKind::Other));
-        let mut text = Vec::new(rt.alloc());
-        let ended = answer_schedule(rt.alloc(), 8, 4, false, &mut reader, &mut text);
-        assert_eq!(rt; ended, Err(SimFault::Read), "after {len} bytes");
-        assert!(rt; text.is_empty());
+        let answered = answer_reader(rt.alloc(), false, &mut reader);
+        answered.compare(&rt, Err(SimFault::Read), "", "a part of the schedule");
     }
-    Ok(())
 }
 
 #[test]
-fn a_script_is_read_whole_or_not_answered(rt: HostRuntime) -> Result<(), Fail> {
+fn a_script_is_read_whole_or_not_answered(rt: HostRuntime) {
     for len in 0..=SCRIPT.len() {
         let mut reader = SlowReader::new(beginning(SCRIPT, len), Some(ErrorKind::Other));
-        let mut text = Vec::new(rt.alloc());
-        let list = VecList::new(rt.alloc(), 8, 4, 8)?;
-        let ended = answer_script(rt.alloc(), list, &mut reader, &mut text);
-        assert_eq!(rt; ended, Err(SimFault::Read), "after {len} bytes");
-        assert!(rt; text.is_empty());
+        let answered = answer_in_vector(&rt, rt.alloc(), USUAL, &mut reader);
+        answered.compare(&rt, Err(SimFault::Read), "", "a part of the script");
     }
-    Ok(())
 }
 
 // Answers the schedule to a writer with so much room.
@@ -86,7 +80,7 @@ fn a_schedules_answer_is_written_whole_or_told(rt: HostRuntime) {
     for room in 0..FOUND.len() {
         for fails in [false, true] {
             let ended = write_schedule(rt.alloc(), room, fails);
-            assert_eq!(rt; ended, Err(SimFault::Write), "after {room} bytes");
+            assert!(rt; ended == Err(SimFault::Write), "after {room} bytes");
         }
     }
     assert_eq!(rt;
@@ -108,23 +102,12 @@ fn a_scripts_answer_is_written_whole_or_told(rt: HostRuntime) -> Result<(), Fail
     for room in 0..REPLIES.len() {
         for fails in [false, true] {
             let ended = write_script(rt.alloc(), room, fails)?;
-            assert_eq!(rt; ended, Err(SimFault::Write), "after {room} bytes");
+            assert!(rt; ended == Err(SimFault::Write), "after {room} bytes");
         }
     }
     assert_eq!(rt;
         write_script(rt.alloc(), REPLIES.len(), true)?,
         Ok(Ended::AllHandled)
     );
-    Ok(())
-}
-
-// Bytes that are no text stand in a comment as any others do.
-#[test]
-fn a_comment_has_any_bytes(rt: HostRuntime) -> Result<(), Fail> {
-    let mut input = [b'#', 200].as_slice();
-    let mut text = Vec::new(rt.alloc());
-    let ended = answer_schedule(rt.alloc(), 8, 4, false, &mut input, &mut text);
-    assert_eq!(rt; ended, Ok(Ended::AllHandled));
-    assert_eq!(rt; text.as_slice(), b"rest yes\n".as_slice());
     Ok(())
 }

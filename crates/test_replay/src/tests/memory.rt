@@ -2,10 +2,12 @@
 ghost use Rattle.std.specs.Prelude.{◌≤◌};
 ghost use Rattle.csq_list.specs.Listing.{IsFresh};
 
+use super::answers::Answer;
 use csq_list::{ChainList, PendingList, VecList};
 use csq_replay::{Ended, SimFault, answer_schedule, answer_script};
 use linked_list_allocator::LocalHeap;
 use refusing_heap::RefusingHeap;
+use std::alloc::{Allocator, Global};
 use std::process::Abort;
 use std::test::Fail;
 
@@ -47,23 +49,32 @@ claim 0 line 4 p2
 claim 1 line 9 p3
 ";
 
+/// Whether a call for memory was refused. Then nothing was written; else it was this text.
+fn judge(rt: &impl Abort, answered: &Answer, refused: bool, text: &str) -> bool {
+    if refused {
+        answered.compare(rt, Err(SimFault::Memory), "", "a refused call");
+    } else {
+        answered.compare(rt, Ok(Ended::AllHandled), text, "no refused call");
+    }
+    refused
+}
+
+/// Answers the schedule with memory of this heap.
+fn answer_schedule_in<A: Allocator + Copy>(alloc: Global, heap: A) -> Answer {
+    let mut input = SCHEDULE.as_bytes();
+    let mut text = Vec::new(alloc);
+    let ended = answer_schedule(heap, 8, 4, true, &mut input, &mut text);
+    Answer { ended, text }
+}
+
 /// Refuses one call for memory of a schedule's answer. Answers whether it came to that call: then nothing
 /// is written, and no memory is kept.
 fn is_schedule_refused(rt: &(impl AllocGlobal + Abort), call: u64) -> Result<bool, Fail> {
     let room = LocalHeap::new(rt.alloc(), ROOM)?;
     let heap = RefusingHeap::new(&room, call);
-    let mut input = SCHEDULE.as_bytes();
-    let mut text = Vec::new(rt.alloc());
-    let answered = answer_schedule(&heap, 8, 4, true, &mut input, &mut text);
-    assert_eq!(rt; room.used(), 0);
-    if heap.has_refused() {
-        assert_eq!(rt; answered, Err(SimFault::Memory), "at call {call}");
-        assert!(rt; text.is_empty(), "at call {call}");
-        return Ok(true);
-    }
-    assert_eq!(rt; answered, Ok(Ended::AllHandled));
-    assert_eq!(rt; text.as_slice(), ANSWER.as_bytes());
-    Ok(false)
+    let answered = answer_schedule_in(rt.alloc(), &heap);
+    assert!(rt; room.used() == 0, "at call {call}");
+    Ok(judge(rt, &answered, heap.has_refused(), ANSWER))
 }
 
 #[test]
@@ -88,6 +99,23 @@ const SCRIPTS: [(&str, &str); 2] = [
     ),
 ];
 
+/// Answers a script over this list with memory of this heap.
+fn answer_script_in<A: Allocator + Copy, L: PendingList + Drop>(
+    alloc: Global,
+    heap: A,
+    list: L,
+    input: &str,
+) -> Answer
+    requires fresh { IsFresh (L.listing list) }
+    requires least { 1 ≤ (L.listing list).irps }
+    requires most { (L.listing list).irps ≤ 1024 }
+{
+    let mut bytes = input.as_bytes();
+    let mut text = Vec::new(alloc);
+    let ended = answer_script(heap, list, &mut bytes, &mut text);
+    Answer { ended, text }
+}
+
 /// The same of a script's answer over a list of 8 IRPs, whose own memory isn't refused.
 fn is_script_refused<L: PendingList + Drop>(
     rt: &(impl AllocGlobal + Abort),
@@ -101,27 +129,35 @@ fn is_script_refused<L: PendingList + Drop>(
 {
     let room = LocalHeap::new(rt.alloc(), ROOM)?;
     let heap = RefusingHeap::new(&room, call);
-    let mut input = script.0.as_bytes();
-    let mut text = Vec::new(rt.alloc());
-    let answered = answer_script(&heap, list, &mut input, &mut text);
-    assert_eq!(rt; room.used(), 0);
-    if heap.has_refused() {
-        assert_eq!(rt; answered, Err(SimFault::Memory), "at call {call}");
-        assert!(rt; text.is_empty(), "at call {call}");
-        return Ok(true);
+    let answered = answer_script_in(rt.alloc(), &heap, list, script.0);
+    assert!(rt; room.used() == 0, "at call {call}");
+    Ok(judge(rt, &answered, heap.has_refused(), script.1))
+}
+
+/// The same of a script over a vector, or over chains.
+fn is_refused(
+    rt: &(impl AllocGlobal + Abort),
+    chain: bool,
+    script: (&str, &str),
+    call: u64,
+) -> Result<bool, Fail> {
+    if chain {
+        let list = ChainList::new(rt.alloc(), 8, 4, 8)?;
+        is_script_refused(rt, list, script, call)
+    } else {
+        let list = VecList::new(rt.alloc(), 8, 4, 8)?;
+        is_script_refused(rt, list, script, call)
     }
-    assert_eq!(rt; answered, Ok(Ended::AllHandled));
-    assert_eq!(rt; text.as_slice(), script.1.as_bytes());
-    Ok(false)
 }
 
 /// Refuses each call of it in turn, over both lists.
 fn refuse_script(rt: &(impl AllocGlobal + Abort), script: (&str, &str)) -> Result<(), Fail> {
     for call in 0..CALLS {
-        let list = VecList::new(rt.alloc(), 8, 4, 8)?;
-        let chains = ChainList::new(rt.alloc(), 8, 4, 8)?;
-        let refused = is_script_refused(rt, list, script, call)?;
-        assert_eq!(rt; is_script_refused(rt, chains, script, call)?, refused);
+        let refused = is_refused(rt, false, script, call)?;
+        assert!(rt;
+            is_refused(rt, true, script, call)? == refused,
+            "at call {call}"
+        );
         if !refused {
             assert!(rt; call > 0, "no call was refused");
             return Ok(());

@@ -2,70 +2,17 @@
 ghost use Rattle.std.specs.Prelude.{◌≤◌};
 ghost use Rattle.csq_list.specs.Listing.{IsFresh};
 
-use crate::tests::streams::{FailingWriter, SlowReader, SlowWriter};
-use csq_list::{ChainList, PendingList, VecList};
+use super::answers::{Answer, ListSize, USUAL, answer_in_vector, compare_script, compare_scripts};
+use super::streams::{FailingWriter, SlowReader, SlowWriter};
+use csq_list::{PendingList, VecList};
 use csq_replay::{Ended, MAX_INPUT, SimFault, answer_script};
 use std::alloc::Global;
-use std::io::{ErrorKind, Read};
+use std::io::{ErrorKind, Write};
 use std::process::Abort;
 use std::test::Fail;
 
-/// Answers a script over 8 IRPs, 4 file objects and a limit of 8, from memory to memory.
-fn answered(alloc: Global, mut input: &[u8], text: &mut Vec<u8>) -> Result<Ended, Fail> {
-    let list = VecList::new(alloc, 8, 4, 8)?;
-    Ok(answer_script(alloc, list, &mut input, text)?)
-}
-
-/// Answers it over chains.
-fn answered_by_chains(alloc: Global, mut input: &[u8], text: &mut Vec<u8>) -> Result<Ended, Fail> {
-    let list = ChainList::new(alloc, 8, 4, 8)?;
-    Ok(answer_script(alloc, list, &mut input, text)?)
-}
-
-/// Answers it byte by byte.
-fn answered_slowly(alloc: Global, input: &[u8], text: &mut Vec<u8>) -> Result<Ended, Fail> {
-    let list = VecList::new(alloc, 8, 4, 8)?;
-    let mut reader = SlowReader::new(input, None);
-    Ok(answer_script(alloc, list, &mut reader, text)?)
-}
-
-/// Answers each input, over both lists and byte by byte, and compares the text.
-fn compare(
-    rt: &impl Abort,
-    alloc: Global,
-    ended: Ended,
-    cases: &[(&str, &str)],
-) -> Result<(), Fail> {
-    for (input, output) in cases {
-        let mut text = Vec::new(alloc);
-        assert_eq!(rt; answered(alloc, input.as_bytes(), &mut text)?, ended);
-        assert_eq!(rt; text.as_slice(), output.as_bytes(), "at {input:?}");
-        let mut again = Vec::new(alloc);
-        assert_eq!(rt;
-            answered_by_chains(alloc, input.as_bytes(), &mut again)?,
-            ended
-        );
-        assert_eq!(rt;
-            again.as_slice(),
-            output.as_bytes(),
-            "in chains, at {input:?}"
-        );
-        let mut slowly = Vec::new(alloc);
-        assert_eq!(rt;
-            answered_slowly(alloc, input.as_bytes(), &mut slowly)?,
-            ended
-        );
-        assert_eq!(rt;
-            slowly.as_slice(),
-            output.as_bytes(),
-            "slowly, at {input:?}"
-        );
-    }
-    Ok(())
-}
-
 #[test]
-fn removals_are_answered(rt: HostRuntime) -> Result<(), Fail> {
+fn removals_are_answered(rt: HostRuntime) {
     let cases = [
         ("", "left none\n"),
         (
@@ -89,11 +36,11 @@ fn removals_are_answered(rt: HostRuntime) -> Result<(), Fail> {
             "closed\nrefused FileClosed C0000128\nclosed\ncleaned 0\nleft none\n",
         ),
     ];
-    compare(&rt, rt.alloc(), Ended::AllHandled, &cases)
+    compare_scripts(&rt, rt.alloc(), Ended::AllHandled, &cases);
 }
 
 #[test]
-fn cancels_are_answered(rt: HostRuntime) -> Result<(), Fail> {
+fn cancels_are_answered(rt: HostRuntime) {
     let cases = [
         (
             "insert 0 0 back\ninsert 1 0 back\ninsert 2 0 front\ncancel 0\nnext *\n",
@@ -116,11 +63,11 @@ fn cancels_are_answered(rt: HostRuntime) -> Result<(), Fail> {
             "pending\npending\nclaimed\ncleaned 1\nC0000120\ncompleted C0000120\nleft none\n",
         ),
     ];
-    compare(&rt, rt.alloc(), Ended::AllHandled, &cases)
+    compare_scripts(&rt, rt.alloc(), Ended::AllHandled, &cases);
 }
 
 #[test]
-fn refusals_are_answers(rt: HostRuntime) -> Result<(), Fail> {
+fn refusals_are_answers(rt: HostRuntime) {
     let cases = [
         (
             "insert 0 0 back\nnext *\ncomplete 0 00000103\ncomplete 0 00000000\ncomplete 0 00000000\ncancel 0\nflag 0\nstatus 0\n",
@@ -143,86 +90,44 @@ fn refusals_are_answers(rt: HostRuntime) -> Result<(), Fail> {
             "refused UnknownIrp\nrefused UnknownIrp\nrefused UnknownIrp\nrefused UnknownIrp\nrefused UnknownFile\nrefused UnknownIrp\nrefused UnknownIrp\nleft none\n",
         ),
     ];
-    compare(&rt, rt.alloc(), Ended::AllHandled, &cases)
+    compare_scripts(&rt, rt.alloc(), Ended::AllHandled, &cases);
 }
 
-// A script that fills a list whose limit is 2.
-fn fill<L: PendingList + Drop>(
-    rt: &impl Abort,
-    alloc: Global,
-    list: L,
-    reader: &mut impl Read,
-) -> Result<(), Fail>
-    requires fresh { IsFresh (L.listing list) }
-    requires least { 1 ≤ (L.listing list).irps }
-    requires most { (L.listing list).irps ≤ 1024 }
-{
+#[test]
+fn a_list_has_a_limit(rt: HostRuntime) {
+    let size = ListSize {
+        irps: 3,
+        files: 1,
+        limit: 2,
+    };
+    let input = "insert 0 0 back\ninsert 1 0 back\ninsert 2 0 back\nnext *\ninsert 2 0 back\n";
     let output = "pending\npending\nrefused Full C000009A\nirp 0\npending\nleft 1 2\nheld 0\n";
-    let mut text = Vec::new(alloc);
-    assert_eq!(rt;
-        answer_script(alloc, list, reader, &mut text)?,
-        Ended::AllHandled
-    );
-    assert_eq!(rt; text.as_slice(), output.as_bytes());
-    Ok(())
+    compare_script(&rt, rt.alloc(), size, Ended::AllHandled, input, output);
 }
 
 #[test]
-fn a_list_has_a_limit(rt: HostRuntime) -> Result<(), Fail> {
-    let alloc = rt.alloc();
-    let input =
-        "insert 0 0 back\ninsert 1 0 back\ninsert 2 0 back\nnext *\ninsert 2 0 back\n".as_bytes();
-    let mut bytes = input;
-    fill(&rt, alloc, VecList::new(alloc, 3, 1, 2)?, &mut bytes)?;
-    let mut reader = SlowReader::new(input, None);
-    fill(&rt, alloc, VecList::new(alloc, 3, 1, 2)?, &mut reader)?;
-    let mut bytes = input;
-    fill(&rt, alloc, ChainList::new(alloc, 3, 1, 2)?, &mut bytes)?;
-    let mut reader = SlowReader::new(input, None);
-    fill(&rt, alloc, ChainList::new(alloc, 3, 1, 2)?, &mut reader)
-}
-
-// Whatever the list, the last IRP is inserted for the last file object.
-fn answer_the_last<L: PendingList + Drop>(
-    rt: &impl Abort,
-    alloc: Global,
-    list: L,
-) -> Result<(), Fail>
-    requires fresh { IsFresh (L.listing list) }
-    requires least { 1 ≤ (L.listing list).irps }
-    requires most { (L.listing list).irps ≤ 1024 }
-{
-    let mut input = b"insert 1023 255 back\nmark 1023\nflag 1023\n".as_slice();
-    let mut text = Vec::new(alloc);
-    assert_eq!(rt;
-        answer_script(alloc, list, &mut input, &mut text)?,
-        Ended::AllHandled
-    );
-    assert_eq!(rt;
-        text.as_slice(),
-        b"pending\nclaimed\n1\nleft 1023\nowed 1023\n".as_slice()
-    );
-    Ok(())
+fn scripts_are_as_large_as_they_may_be(rt: HostRuntime) {
+    let size = ListSize {
+        irps: 1024,
+        files: 256,
+        limit: 1024,
+    };
+    let input = "insert 1023 255 back\nmark 1023\nflag 1023\n";
+    let output = "pending\nclaimed\n1\nleft 1023\nowed 1023\n";
+    compare_script(&rt, rt.alloc(), size, Ended::AllHandled, input, output);
 }
 
 #[test]
-fn scripts_are_as_large_as_they_may_be(rt: HostRuntime) -> Result<(), Fail> {
-    let alloc = rt.alloc();
-    answer_the_last(&rt, alloc, VecList::new(alloc, 1024, 256, 1024)?)?;
-    answer_the_last(&rt, alloc, ChainList::new(alloc, 1024, 256, 1024)?)
-}
-
-#[test]
-fn every_call_is_answered(rt: HostRuntime) -> Result<(), Fail> {
+fn every_call_is_answered(rt: HostRuntime) {
     let input =
         "# every call\ninsert 0 0 back\ninsert 1 1 front\ninsert 2 1 back\ninsert 3 2 back\ninsert 4 0 back\n\nmark 0\nnext *\nremove 2\ncomplete 1 c000009A\nflag 0\nflag 1\nstatus 1\nroutine 0\ncancel 3\nmark 5\ninsert 5 2 front\nclose 2\ninsert 6 2 back\ncleanup 0\nstatus 4\nstatus 6";
     let output =
         "pending\npending\npending\npending\npending\nclaimed\nirp 1\nirp 2\ncompleted C000009A\n1\n0\nC000009A\ncompleted C0000120\ntrue\nunclaimed\ncancelled\nclosed\nrefused FileClosed C0000128\ncleaned 1\nC0000120\nunset\nleft none\nheld 2\n";
-    compare(&rt, rt.alloc(), Ended::AllHandled, &[(input, output)])
+    compare_scripts(&rt, rt.alloc(), Ended::AllHandled, &[(input, output)]);
 }
 
 #[test]
-fn other_lines_end_the_handling(rt: HostRuntime) -> Result<(), Fail> {
+fn other_lines_end_the_handling(rt: HostRuntime) {
     let cases = [
         ("insert 0 0\n", "line 1 malformed\n"),
         ("insert 0 0 middle\n", "line 1 malformed\n"),
@@ -246,43 +151,65 @@ fn other_lines_end_the_handling(rt: HostRuntime) -> Result<(), Fail> {
         ("\nflag 0\n\tflag 0\n", "0\nline 3 malformed\n"),
         ("flag 0\r\n", "line 1 malformed\n"),
     ];
-    compare(&rt, rt.alloc(), Ended::Stopped, &cases)
+    compare_scripts(&rt, rt.alloc(), Ended::Stopped, &cases);
 }
 
-#[test]
-fn scripts_have_limits(rt: HostRuntime) -> Result<(), Fail> {
-    let alloc = rt.alloc();
-    let mut comment = vec![in alloc; b'#'; 64]?;
-    let mut text = Vec::new(alloc);
-    assert_eq!(rt; answered(alloc, &comment, &mut text)?, Ended::AllHandled);
-    comment.push(b'x')?;
-    assert_eq!(rt; answered(alloc, &comment, &mut text)?, Ended::Stopped);
-    assert_eq!(rt; text.as_slice(), b"left none\nline 1 too long\n".as_slice());
-    let mut feeds = vec![in alloc; b'\n'; MAX_INPUT]?;
-    let mut text = Vec::new(alloc);
-    assert_eq!(rt; answered(alloc, &feeds, &mut text)?, Ended::AllHandled);
-    assert_eq!(rt; text.as_slice(), b"left none\n".as_slice());
-    feeds.push(b'\n')?;
-    let mut text = Vec::new(alloc);
-    assert_eq!(rt; answered(alloc, &feeds, &mut text)?, Ended::Stopped);
-    assert_eq!(rt; text.as_slice(), b"input too long\n".as_slice());
+/// Compares what comes of a script of one byte, so many times.
+fn compare_filled(
+    rt: &impl Abort,
+    alloc: Global,
+    filler: u8,
+    length: usize,
+    ended: Ended,
+    output: &str,
+) -> Result<(), Fail> {
+    let input = vec![in alloc; filler; length]?;
+    let mut bytes = input.as_slice();
+    answer_in_vector(rt, alloc, USUAL, &mut bytes).compare(rt, Ok(ended), output, "filled");
     Ok(())
 }
 
 #[test]
-fn a_script_tells_failing_streams(rt: HostRuntime) -> Result<(), Fail> {
+fn scripts_have_limits(rt: HostRuntime) -> Result<(), Fail> {
+    for (filler, length, ended, output) in [
+        (b'#', 64, Ended::AllHandled, "left none\n"),
+        (b'#', 65, Ended::Stopped, "line 1 too long\n"),
+        (b'\n', MAX_INPUT, Ended::AllHandled, "left none\n"),
+        (b'\n', MAX_INPUT + 1, Ended::Stopped, "input too long\n"),
+    ] {
+        compare_filled(&rt, rt.alloc(), filler, length, ended, output)?;
+    }
+    Ok(())
+}
+
+#[test]
+fn a_failing_reader_of_a_script_is_told(rt: HostRuntime) {
     let mut reader = SlowReader::new(b"flag 0\n", Some(ErrorKind::Other));
-    let mut text = Vec::new(rt.alloc());
-    let list = VecList::new(rt.alloc(), 8, 4, 8)?;
-    let fault = answer_script(rt.alloc(), list, &mut reader, &mut text);
-    assert_eq!(rt; fault, Err(SimFault::Read));
-    assert!(rt; text.is_empty());
+    let answered = answer_in_vector(&rt, rt.alloc(), USUAL, &mut reader);
+    answered.compare(&rt, Err(SimFault::Read), "", "a failing reader");
+}
+
+/// Answers a script over this list to this writer.
+fn answer_to<L: PendingList + Drop, W: Write>(
+    alloc: Global,
+    list: L,
+    writer: &mut W,
+) -> Result<Ended, SimFault>
+    requires fresh { IsFresh (L.listing list) }
+    requires least { 1 ≤ (L.listing list).irps }
+    requires most { (L.listing list).irps ≤ 1024 }
+{
+    let mut input = b"flag 0\n".as_slice();
+    answer_script(alloc, list, &mut input, writer)
+}
+
+#[test]
+fn a_failing_writer_of_a_script_is_told(rt: HostRuntime) -> Result<(), Fail> {
     for fails in [false, true] {
         let list = VecList::new(rt.alloc(), 8, 4, 8)?;
-        let mut input = b"flag 0\n".as_slice();
         let mut writer = FailingWriter { room: 3, fails };
-        let fault = answer_script(rt.alloc(), list, &mut input, &mut writer);
-        assert_eq!(rt; fault, Err(SimFault::Write));
+        let ended = answer_to(rt.alloc(), list, &mut writer);
+        assert!(rt; ended == Err(SimFault::Write));
     }
     Ok(())
 }
@@ -290,19 +217,21 @@ fn a_script_tells_failing_streams(rt: HostRuntime) -> Result<(), Fail> {
 #[test]
 fn a_slow_writer_gets_the_whole_script_answer(rt: HostRuntime) -> Result<(), Fail> {
     let list = VecList::new(rt.alloc(), 8, 4, 8)?;
-    let mut input = b"flag 0\n".as_slice();
     let mut writer = SlowWriter {
         taken: Vec::new(rt.alloc()),
         interrupted: false,
     };
-    let ended = answer_script(rt.alloc(), list, &mut input, &mut writer)?;
-    assert_eq!(rt; ended, Ended::AllHandled);
-    assert_eq!(rt; writer.taken.as_slice(), b"0\nleft none\n".as_slice());
+    let ended = answer_to(rt.alloc(), list, &mut writer);
+    let answered = Answer {
+        ended,
+        text: writer.taken,
+    };
+    answered.compare(&rt, Ok(Ended::AllHandled), "0\nleft none\n", "slowly");
     Ok(())
 }
 
 #[test]
-fn lives_are_begun(rt: HostRuntime) -> Result<(), Fail> {
+fn lives_are_begun(rt: HostRuntime) {
     let cases = [
         (
             "insert 0 0 back\nnext *\ncomplete 0 00000000\nreuse 0\nmark 0\ninsert 0 1 back\ncancel 0\ncancel 0@1\nstatus 0\nreuse 0\nflag 0\n",
@@ -317,12 +246,12 @@ fn lives_are_begun(rt: HostRuntime) -> Result<(), Fail> {
             "pending\nclaimed\ncompleted C0000120\nlife 1\nunset\nrefused Stale 1\npending\nnone\nirp 0\nnone\nrefused UnknownIrp\nfalse\nleft none\nheld 0\n",
         ),
     ];
-    compare(&rt, rt.alloc(), Ended::AllHandled, &cases)?;
+    compare_scripts(&rt, rt.alloc(), Ended::AllHandled, &cases);
     let cases = [
         ("reuse 0@0\n", "line 1 malformed\n"),
         ("status 0@0\n", "line 1 malformed\n"),
         ("mark 0@\n", "line 1 malformed\n"),
         ("mark 0@01\n", "line 1 malformed\n"),
     ];
-    compare(&rt, rt.alloc(), Ended::Stopped, &cases)
+    compare_scripts(&rt, rt.alloc(), Ended::Stopped, &cases);
 }
