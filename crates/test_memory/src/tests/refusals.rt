@@ -60,7 +60,7 @@ fn arm_last<A: Allocator>(rt: &impl Abort, machine: &mut Machine<A>) {
     assert!(rt; !machine.at_rest());
 }
 
-fn make_machine(rt: &impl Abort, heap: &RefusingHeap<&LocalHeap>) -> Outcome {
+fn make_machine<A: Allocator + Copy>(rt: &impl Abort, heap: A) -> Outcome {
     match Machine::new(heap, IRPS, PASSES) {
         Ok(mut machine) => {
             arm_last(rt, &mut machine);
@@ -83,12 +83,13 @@ fn flag_and_take<A: Allocator>(rt: &impl Abort, words: &Words<A>, seats: &mut Pa
     assert_eq!(rt; pass.take(words, LAST), 0);
 }
 
-fn make_words(rt: &impl Abort, heap: &RefusingHeap<&LocalHeap>) -> Outcome {
+// Words take nothing of the room that is left.
+fn make_words<A: Allocator + Copy>(rt: &impl Abort, heap: A, room: &LocalHeap) -> Outcome {
     match Words::new(heap, IRPS, PASSES) {
         Ok((words, _queue, mut seats)) => {
-            let used = heap.inner.used();
+            let used = room.used();
             flag_and_take(rt, &words, &mut seats);
-            assert_eq!(rt; heap.inner.used(), used);
+            assert_eq!(rt; room.used(), used);
             Outcome::Done
         }
         Err(WordsNew::Memory) => Outcome::WantOfMemory,
@@ -100,7 +101,7 @@ fn done_if(right: bool) -> Outcome {
     if right { Outcome::Done } else { Outcome::Wrong }
 }
 
-fn make_vector(heap: &RefusingHeap<&LocalHeap>) -> Outcome {
+fn make_vector<A: Allocator + Copy>(heap: A) -> Outcome {
     match VecList::with_file_limits(heap, IRPS, 2, IRPS, &[IRPS, 1]) {
         Ok(list) => done_if(list.is_fresh()),
         Err(ListNew::Memory) => Outcome::WantOfMemory,
@@ -108,7 +109,7 @@ fn make_vector(heap: &RefusingHeap<&LocalHeap>) -> Outcome {
     }
 }
 
-fn make_chains(heap: &RefusingHeap<&LocalHeap>) -> Outcome {
+fn make_chains<A: Allocator + Copy>(heap: A) -> Outcome {
     match ChainList::with_file_limits(heap, IRPS, 2, IRPS, &[IRPS, 1]) {
         Ok(list) => done_if(list.is_fresh()),
         Err(ListNew::Memory) => Outcome::WantOfMemory,
@@ -116,7 +117,7 @@ fn make_chains(heap: &RefusingHeap<&LocalHeap>) -> Outcome {
     }
 }
 
-fn make_queue<L: PendingList + Drop>(heap: &RefusingHeap<&LocalHeap>, list: L) -> Outcome {
+fn make_queue<L: PendingList + Drop, A: Allocator + Copy>(heap: A, list: L) -> Outcome {
     match Blank::new(heap, list, 4, 2) {
         Ok(_) => Outcome::Done,
         Err(refused) => {
@@ -129,12 +130,13 @@ fn make_queue<L: PendingList + Drop>(heap: &RefusingHeap<&LocalHeap>, list: L) -
     }
 }
 
-fn make_over_used<L: PendingList + Drop>(
+fn make_over_used<L: PendingList + Drop, A: Allocator + Copy>(
     rt: &impl Abort,
-    heap: &RefusingHeap<&LocalHeap>,
+    heap: A,
     mut list: L,
 ) -> Outcome {
-    assert_eq!(rt; list.close_file(FileId(1)), Ok(()));
+    let closed = list.close_file(FileId(1));
+    assert_eq!(rt; closed, Ok(()));
     match Blank::new(heap, list, 4, 2) {
         Ok(_) => Outcome::Wrong,
         Err(refused) => match refused.cause {
@@ -145,15 +147,17 @@ fn make_over_used<L: PendingList + Drop>(
     }
 }
 
-// Makes something on a heap that refuses one call for memory. The list of a queue is on another heap.
-fn make(
+// Makes something on a heap that refuses one call for memory of this room. The list of a queue is on
+// another heap.
+fn make<A: Allocator + Copy>(
     rt: &(impl AllocGlobal + Abort),
     product: Product,
-    heap: &RefusingHeap<&LocalHeap>,
+    heap: A,
+    room: &LocalHeap,
 ) -> Result<Outcome, Fail> {
     Ok(match product {
         Product::Machine => make_machine(rt, heap),
-        Product::Words => make_words(rt, heap),
+        Product::Words => make_words(rt, heap, room),
         Product::Vector => make_vector(heap),
         Product::Chains => make_chains(heap),
         Product::Queue => make_queue(heap, VecList::new(rt.alloc(), 4, 2, 4)?),
@@ -171,7 +175,7 @@ fn refuse_call(
     call: u64,
 ) -> Result<bool, Fail> {
     let heap = RefusingHeap::new(room, call);
-    let outcome = make(rt, product, &heap)?;
+    let outcome = make(rt, product, &heap, room)?;
     let refused = heap.has_refused();
     assert!(rt; outcome != Outcome::Wrong, "at call {call}");
     assert!(rt;

@@ -2,6 +2,7 @@
 use csq_words::Words;
 use irp_core::{IrpId, IrpLife, Kind, Life, Machine, PassId, Step};
 use linked_list_allocator::LocalHeap;
+use std::alloc::Allocator;
 use std::process::Abort;
 use std::test::Fail;
 
@@ -37,7 +38,7 @@ const STEPS: [(u32, Kind, u64); 12] = [
 ];
 
 // Makes these steps. The heap of the machine has as much in use after each as before.
-fn step_in_room(rt: &impl Abort, heap: &LocalHeap, machine: &mut Machine<&LocalHeap>) {
+fn step_in_room<A: Allocator>(rt: &impl Abort, heap: &LocalHeap, machine: &mut Machine<A>) {
     let used = heap.used();
     assert!(rt; heap.free() > used);
     for (pass, kind, found) in STEPS {

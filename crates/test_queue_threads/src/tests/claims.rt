@@ -1,7 +1,7 @@
 //! Eight threads cancel one IRP.
 ghost use Rattle.std.specs.Prelude.{◌≡◌};
 
-use super::queues::{blank, take, take_two};
+use super::queues::{blank, close, give_back_two, take, take_two};
 use csq_list::{ChainList, PendingList, VecList};
 use csq_queue::{Blank, Csq, Pass, PassRack, QueueName};
 use irp_core::{FileId, IrpId, Life, NtStatus};
@@ -82,6 +82,23 @@ fn take_eight<N: QueueName, R: Abort>(rt: &R, rack: &mut PassRack<N>) -> Eight<N
     }
 }
 
+fn give_back_eight<L: PendingList + Drop, N: QueueName, R: Wait + Abort>(
+    rt: &R,
+    queue: &Csq<L, N>,
+    passes: Eight<N>,
+) {
+    let Eight {
+        one,
+        two,
+        three,
+        four,
+    } = passes;
+    give_back_two(rt, queue, one);
+    give_back_two(rt, queue, two);
+    give_back_two(rt, queue, three);
+    give_back_two(rt, queue, four);
+}
+
 // All of them. Answers how many claims they got.
 fn claim_by_eight<L, N, R>(rt: &R, queue: &Csq<L, N>, passes: &mut Eight<N>) -> u32
 where
@@ -111,20 +128,9 @@ where
     R: Threads + Wait + Abort + Sync,
 {
     assert!(rt; insert_pending(rt, queue, pass, ZERO, FileId(0)).is_some());
-    assert_eq!(rt; claim_by_eight(rt, queue, passes), 1);
-    let status = Ok((Life(0), Some(NtStatus::CANCELLED)));
-    assert_eq!(rt; queue.status(pass, ZERO), status);
-}
-
-fn claim_with<L, N, R>(rt: &R, queue: &Csq<L, N>, rack: &mut PassRack<N>)
-where
-    L: PendingList + Drop + Send,
-    N: QueueName + Send + Sync,
-    R: Threads + Wait + Abort + Sync,
-{
-    let mut pass = take(rt, rack);
-    let mut passes = take_eight(rt, rack);
-    claim_pending(rt, queue, &mut pass, &mut passes);
+    assert!(rt; claim_by_eight(rt, queue, passes) == 1);
+    let status = queue.status(pass, ZERO);
+    assert!(rt; status == Ok((Life(0), Some(NtStatus::CANCELLED))));
 }
 
 fn claim_once<L, N, R>(rt: &R, blank: Blank<L>)
@@ -135,14 +141,26 @@ where
     requires { blank ≡ record { table = N.table; limits = N.limits } }
 {
     let (queue, mut rack) = blank.into_queue::<N>();
-    claim_with(rt, &queue, &mut rack);
+    let mut pass = take(rt, &mut rack);
+    let mut passes = take_eight(rt, &mut rack);
+    claim_pending(rt, &queue, &mut pass, &mut passes);
+    give_back_eight(rt, &queue, passes);
+    close(rt, queue, pass, rack);
+}
+
+fn claim_once_over<L, R>(rt: &R, list: L)
+where
+    L: PendingList + Drop + Send,
+    R: Threads + Wait + AllocGlobal + Abort + Sync,
+{
+    claim_once::<L, Brand, R>(rt, blank(rt, list, 9));
 }
 
 #[test]
 fn one_of_eight_cancels_gets_the_claim(rt: HostRuntime) -> Result<(), Fail> {
     for _ in 0..20 {
         let list = VecList::new(rt.alloc(), 1, 1, 1)?;
-        claim_once::<VecList, Brand, _>(&rt, blank(&rt, list, 9));
+        claim_once_over(&rt, list);
     }
     Ok(())
 }
@@ -151,7 +169,7 @@ fn one_of_eight_cancels_gets_the_claim(rt: HostRuntime) -> Result<(), Fail> {
 fn one_of_eight_cancels_gets_the_claim_over_chains(rt: HostRuntime) -> Result<(), Fail> {
     for _ in 0..20 {
         let list = ChainList::new(rt.alloc(), 1, 1, 1)?;
-        claim_once::<ChainList, Brand, _>(&rt, blank(&rt, list, 9));
+        claim_once_over(&rt, list);
     }
     Ok(())
 }

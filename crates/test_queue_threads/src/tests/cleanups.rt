@@ -1,7 +1,7 @@
 //! Inserts between two removals of a cleanup.
 ghost use Rattle.std.specs.Prelude.{◌≡◌};
 
-use super::queues::{blank, take_two};
+use super::queues::{blank, give_back_and_close, take_two};
 use csq_list::{ChainList, PendingList};
 use csq_queue::{Blank, Csq, Pass, QueueName};
 use irp_core::{FileId, IrpId};
@@ -91,7 +91,7 @@ where
             insert_pending(rt, queue, two, IrpId(SHARE), FileId(1)).is_some()
         },
     );
-    assert_eq!(rt; cleaned, Ok(SHARE));
+    assert!(rt; cleaned == Ok(SHARE));
     assert!(rt; inserted);
 }
 
@@ -105,6 +105,16 @@ where
     let (queue, mut rack) = blank.into_queue::<N>();
     let mut passes = take_two(rt, &mut rack);
     clean_up_and_insert(rt, &queue, &mut passes, counts);
+    give_back_and_close(rt, queue, passes, rack);
+}
+
+// The same with a new queue over this list.
+fn clean_up_over<L, R>(rt: &R, list: L, counts: &Counts)
+where
+    L: PendingList + Drop + Send,
+    R: Threads + Wait + AllocGlobal + Abort + Sync,
+{
+    clean_up_beside_an_insert::<L, Brand, R>(rt, blank(rt, list, 2), counts);
 }
 
 // Whether an insert came between two removals of a cleanup.
@@ -119,7 +129,7 @@ fn comes_between<R: Threads + Wait + AllocGlobal + Abort + Sync>(rt: &R) -> Resu
         list: ChainList::new(rt.alloc(), SHARE + 1, 2, SHARE + 1)?,
         watch: &counts,
     };
-    clean_up_beside_an_insert::<_, Brand, _>(rt, blank(rt, list, 2), &counts);
+    clean_up_over(rt, list, &counts);
     assert!(rt; !counts.gave_up.load(Ordering::SeqCst));
     Ok(counts.between.load(Ordering::SeqCst))
 }

@@ -73,6 +73,14 @@ where
     close(rt, queue, one, rack);
 }
 
+fn give_back_over<L, R>(rt: &R, list: L, signals: &Signals)
+where
+    L: PendingList + Drop + Send,
+    R: Threads + Wait + AllocGlobal + Abort + Sync,
+{
+    give_back_at_the_lock::<L, Brand, R>(rt, blank(rt, list, 2), signals);
+}
+
 #[test]
 fn a_pass_is_given_back_past_a_held_lock(rt: HostRuntime) -> Result<(), Fail> {
     let signals = Signals::new();
@@ -80,6 +88,6 @@ fn a_pass_is_given_back_past_a_held_lock(rt: HostRuntime) -> Result<(), Fail> {
         list: VecList::new(rt.alloc(), 1, 1, 1)?,
         watch: &signals,
     };
-    give_back_at_the_lock::<_, Brand, _>(&rt, blank(&rt, list, 2), &signals);
+    give_back_over(&rt, list, &signals);
     Ok(())
 }

@@ -1,7 +1,9 @@
 //! Cancels and completions while another call has the lock.
 ghost use Rattle.std.specs.Prelude.{◌≡◌};
 
-use super::queues::{blank, complete_next, take, take_two};
+use super::queues::{
+    blank, close, complete_next, give_back_and_close, give_back_two, take, take_two,
+};
 use super::signals::Signals;
 use csq_list::{Peek, PendingList, VecList};
 use csq_queue::{Blank, CancelRefused, Csq, Pass, QueueName};
@@ -114,12 +116,12 @@ fn judge<L: PendingList + Drop, N: QueueName, R: Wait + Abort>(
     queue: &Csq<L, N>,
     pass: &mut Pass<N>,
 ) {
-    let cancelled = Some(NtStatus::CANCELLED);
-    assert_eq!(rt; queue.status(pass, CANCELLED), Ok((LIFE, cancelled)));
-    assert_eq!(rt; queue.status(pass, TAKEN), Ok((LIFE, cancelled)));
-    assert_eq!(rt; queue.is_cancelled(pass, LISTED), Ok((LIFE, false)));
-    assert_eq!(rt; queue.is_cancelled(pass, HOME), Ok((LIFE, true)));
-    assert_eq!(rt; complete_next(rt, queue, pass, Peek::Any), Some(LISTED));
+    let completed = Ok((LIFE, Some(NtStatus::CANCELLED)));
+    assert!(rt; queue.status(pass, CANCELLED) == completed);
+    assert!(rt; queue.status(pass, TAKEN) == completed);
+    assert!(rt; queue.is_cancelled(pass, LISTED) == Ok((LIFE, false)));
+    assert!(rt; queue.is_cancelled(pass, HOME) == Ok((LIFE, true)));
+    assert!(rt; complete_next(rt, queue, pass, Peek::Any) == Some(LISTED));
 }
 
 // One thread closes a file slowly, while two others cancel.
@@ -155,7 +157,7 @@ where
         },
     );
     assert!(rt; closed && in_vain);
-    assert_eq!(rt; cancelled, Ok(true));
+    assert!(rt; cancelled == Ok(true));
     assert!(rt; !signals.gave_up.load(Ordering::SeqCst));
     judge(rt, queue, one);
 }
@@ -171,6 +173,19 @@ where
     let mut closer = take(rt, &mut rack);
     let mut cancellers = take_two(rt, &mut rack);
     close_file_and_cancel(rt, &queue, &mut closer, &mut cancellers, signals);
+    give_back_two(rt, &queue, cancellers);
+    close(rt, queue, closer, rack);
+}
+
+fn cancel_over<L, R>(rt: &R, list: L, signals: &Signals)
+where
+    L: PendingList + Drop + Send,
+    R: Threads + Wait + AllocGlobal + Abort + Sync,
+{
+    match Blank::new_at(rt.alloc(), list, 4, 3, LIFE) {
+        Ok(blank) => cancel_at_the_lock::<L, Brand, R>(rt, blank, signals),
+        Err(_) => panic!(rt; "no queue"),
+    }
 }
 
 #[test]
@@ -180,10 +195,7 @@ fn cancels_begin_without_the_lock(rt: HostRuntime) -> Result<(), Fail> {
         list: VecList::new(rt.alloc(), 4, 1, 4)?,
         watch: &signals,
     };
-    match Blank::new_at(rt.alloc(), list, 4, 3, LIFE) {
-        Ok(blank) => cancel_at_the_lock::<_, Brand, _>(&rt, blank, &signals),
-        Err(_) => panic!(rt; "no queue"),
-    }
+    cancel_over(&rt, list, &signals);
     Ok(())
 }
 
@@ -252,6 +264,15 @@ where
     let (queue, mut rack) = blank.into_queue::<N>();
     let mut passes = take_two(rt, &mut rack);
     close_file_and_complete(rt, &queue, &mut passes, signals);
+    give_back_and_close(rt, queue, passes, rack);
+}
+
+fn complete_over<L, R>(rt: &R, list: L, signals: &Signals)
+where
+    L: PendingList + Drop + Send,
+    R: Threads + Wait + AllocGlobal + Abort + Sync,
+{
+    complete_at_the_lock::<L, Brand, R>(rt, blank(rt, list, 2), signals);
 }
 
 #[test]
@@ -261,6 +282,6 @@ fn a_completion_and_a_mark_take_no_lock(rt: HostRuntime) -> Result<(), Fail> {
         list: VecList::new(rt.alloc(), 2, 1, 2)?,
         watch: &signals,
     };
-    complete_at_the_lock::<_, Brand, _>(&rt, blank(&rt, list, 2), &signals);
+    complete_over(&rt, list, &signals);
     Ok(())
 }

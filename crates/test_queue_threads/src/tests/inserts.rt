@@ -1,7 +1,9 @@
 //! Threads that insert, side by side and beside a thread that cancels.
 ghost use Rattle.std.specs.Prelude.{◌≡◌};
 
-use super::queues::{blank, complete_next, give_back_and_close, take, take_two};
+use super::queues::{
+    blank, close, complete_next, give_back_and_close, give_back_two, take, take_two,
+};
 use csq_list::{Peek, PendingList, Place, VecList};
 use csq_queue::{Blank, Csq, Inserted, Pass, QueueName};
 use irp_core::{FileId, IrpId, Life, NtStatus};
@@ -43,10 +45,13 @@ fn drain<L: PendingList + Drop, N: QueueName, R: Wait + Abort>(
         };
         let thread = (irp.0 / SHARE) as usize;
         assert!(rt; thread < 4);
-        assert_eq!(rt; irp.0, next[thread]);
+        assert!(rt;
+            irp.0 == next[thread],
+            "irp {irp} comes too early or too late"
+        );
         next[thread] = next[thread].wrapping_add(1);
     }
-    assert_eq!(rt; complete_next(rt, queue, pass, Peek::Any), None);
+    assert!(rt; complete_next(rt, queue, pass, Peek::Any).is_none());
 }
 
 // Two threads insert the share that begins here and the next one.
@@ -117,12 +122,23 @@ where
     meet_two(rt, &queue, &mut last, &mut passes);
     meet_two(rt, &queue, &mut last, &mut others);
     drain(rt, &queue, &mut last);
+    give_back_two(rt, &queue, passes);
+    give_back_two(rt, &queue, others);
+    close(rt, queue, last, rack);
+}
+
+fn submit_and_drain_over<L, R>(rt: &R, list: L)
+where
+    L: PendingList + Drop + Send,
+    R: Threads + Wait + AllocGlobal + Abort + Sync,
+{
+    submit_and_drain::<L, Brand, R>(rt, blank(rt, list, 5));
 }
 
 #[test]
 fn inserts_of_four_threads_are_removed_in_order(rt: HostRuntime) -> Result<(), Fail> {
     let list = VecList::new(rt.alloc(), 64, 1, 64)?;
-    submit_and_drain::<_, Brand, _>(&rt, blank(&rt, list, 5));
+    submit_and_drain_over(&rt, list);
     Ok(())
 }
 
@@ -174,12 +190,10 @@ where
         || insert_each(rt, queue, one),
         || cancel_each(rt, queue, two),
     );
-    assert_eq!(rt; a.wrapping_add(b), 64);
+    assert!(rt; a.wrapping_add(b) == 64);
     for number in 0..64 {
-        assert_eq!(rt;
-            queue.status(one, IrpId(number)),
-            Ok((Life(0), Some(NtStatus::CANCELLED)))
-        );
+        let status = queue.status(one, IrpId(number));
+        assert!(rt; status == Ok((Life(0), Some(NtStatus::CANCELLED))));
     }
 }
 
@@ -196,11 +210,19 @@ where
     give_back_and_close(rt, queue, passes, rack);
 }
 
+fn insert_and_cancel_over<L, R>(rt: &R, list: L)
+where
+    L: PendingList + Drop + Send,
+    R: Threads + Wait + AllocGlobal + Abort + Sync,
+{
+    insert_and_cancel::<L, Brand, R>(rt, blank(rt, list, 2));
+}
+
 #[test]
 fn an_insert_and_a_cancel_complete_each_irp_once(rt: HostRuntime) -> Result<(), Fail> {
     for _ in 0..20 {
         let list = VecList::new(rt.alloc(), 64, 1, 64)?;
-        insert_and_cancel::<_, Brand, _>(&rt, blank(&rt, list, 2));
+        insert_and_cancel_over(&rt, list);
     }
     Ok(())
 }

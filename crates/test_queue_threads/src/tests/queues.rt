@@ -52,6 +52,28 @@ pub(super) fn complete_next<L: PendingList + Drop, N: QueueName, R: Wait>(
     }
 }
 
+// Gives a pass back that holds and owes nothing.
+fn give_back<L: PendingList + Drop, N: QueueName, R: Wait + Abort>(
+    rt: &R,
+    queue: &Csq<L, N>,
+    pass: Pass<N>,
+) {
+    if queue.give_back(rt, pass).is_err() {
+        panic!(rt; "not given back");
+    }
+}
+
+// Gives two passes back.
+pub(super) fn give_back_two<L: PendingList + Drop, N: QueueName, R: Wait + Abort>(
+    rt: &R,
+    queue: &Csq<L, N>,
+    passes: (Pass<N>, Pass<N>),
+) {
+    let (one, two) = passes;
+    give_back(rt, queue, one);
+    give_back(rt, queue, two);
+}
+
 // Closes a queue with its last pass.
 pub(super) fn close<L: PendingList + Drop, N: QueueName, R: Abort>(
     rt: &R,
@@ -72,8 +94,6 @@ pub(super) fn give_back_and_close<L: PendingList + Drop, N: QueueName, R: Wait +
     rack: PassRack<N>,
 ) {
     let (one, two) = passes;
-    if queue.give_back(rt, two).is_err() {
-        panic!(rt; "not given back");
-    }
+    give_back(rt, &queue, two);
     close(rt, queue, one, rack);
 }

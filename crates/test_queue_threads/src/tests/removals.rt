@@ -155,9 +155,17 @@ where
     give_back_and_close(rt, queue, passes, rack);
 }
 
+fn remove_and_cancel_over<L, R>(rt: &R, list: L)
+where
+    L: PendingList + Drop + Send,
+    R: Threads + Wait + AllocGlobal + Abort + Sync,
+{
+    remove_and_cancel::<L, Brand, R>(rt, blank(rt, list, 2));
+}
+
 #[test]
 fn each_irp_is_removed_or_cancelled(rt: HostRuntime) -> Result<(), Fail> {
     let list = VecList::new(rt.alloc(), IRPS, 1, IRPS)?;
-    remove_and_cancel::<_, Brand, _>(&rt, blank(&rt, list, 2));
+    remove_and_cancel_over(&rt, list);
     Ok(())
 }

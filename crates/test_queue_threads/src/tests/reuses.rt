@@ -1,7 +1,7 @@
 //! Two threads lead IRPs through their lives, and two others cancel them.
 ghost use Rattle.std.specs.Prelude.{◌≡◌};
 
-use super::queues::{blank, complete_next, take_two};
+use super::queues::{blank, complete_next, give_back_and_close, give_back_two, take_two};
 use csq_list::{Peek, PendingList, Place, VecList};
 use csq_queue::{Blank, CancelRefused, Csq, Inserted, Pass, QueueName};
 use irp_core::{FileId, IrpId, Life};
@@ -19,7 +19,7 @@ const SHARE: u32 = 8;
 const LIVES: u32 = 10_000;
 
 // How often a thread completed each IRP, and how many answers it got that must not come.
-#[derive(Clone, Copy, Debug)]
+#[derive(Clone, Copy)]
 struct Counts {
     completed: [u32; 16],
     wrong: u32,
@@ -240,11 +240,21 @@ where
     let mut submitters = take_two(rt, &mut rack);
     let mut cancellers = take_two(rt, &mut rack);
     submit_beside_cancels(rt, &queue, &mut submitters, &mut cancellers);
+    give_back_two(rt, &queue, cancellers);
+    give_back_and_close(rt, queue, submitters, rack);
+}
+
+fn submit_and_cancel_over<L, R>(rt: &R, list: L)
+where
+    L: PendingList + Drop + Send,
+    R: Threads + Wait + AllocGlobal + Abort + Sync,
+{
+    submit_and_cancel::<L, Brand, R>(rt, blank(rt, list, 4));
 }
 
 #[test]
 fn each_life_is_completed_once(rt: HostRuntime) -> Result<(), Fail> {
     let list = VecList::new(rt.alloc(), 2 * SHARE, 2, 2 * SHARE)?;
-    submit_and_cancel::<_, Brand, _>(&rt, blank(&rt, list, 4));
+    submit_and_cancel_over(&rt, list);
     Ok(())
 }

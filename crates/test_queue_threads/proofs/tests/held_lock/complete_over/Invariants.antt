@@ -1,4 +1,4 @@
-use Rattle.test_queue_threads.proofs.tests.held_lock.a_completion_and_a_mark_take_no_lock.Given as goal
+use Rattle.test_queue_threads.proofs.tests.held_lock.complete_over.Given as goal
 
 -- the queue that was just made
 abbrev pub ghosts-complete_at_the_lock : goal.ghosts-complete_at_the_lock

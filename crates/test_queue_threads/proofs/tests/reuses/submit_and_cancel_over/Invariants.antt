@@ -1,4 +1,4 @@
-use Rattle.test_queue_threads.proofs.tests.reuses.each_life_is_completed_once.Given as goal
+use Rattle.test_queue_threads.proofs.tests.reuses.submit_and_cancel_over.Given as goal
 
 -- the queue that was just made
 abbrev pub ghosts-submit_and_cancel : goal.ghosts-submit_and_cancel

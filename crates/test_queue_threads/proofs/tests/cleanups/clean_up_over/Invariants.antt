@@ -1,4 +1,4 @@
-use Rattle.test_queue_threads.proofs.tests.cleanups.comes_between.Given as goal
+use Rattle.test_queue_threads.proofs.tests.cleanups.clean_up_over.Given as goal
 
 -- the queue that was just made
 abbrev pub ghosts-clean_up_beside_an_insert : goal.ghosts-clean_up_beside_an_insert

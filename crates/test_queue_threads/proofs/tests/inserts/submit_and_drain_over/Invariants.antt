@@ -1,4 +1,4 @@
-use Rattle.test_queue_threads.proofs.tests.inserts.inserts_of_four_threads_are_removed_in_order.Given as goal
+use Rattle.test_queue_threads.proofs.tests.inserts.submit_and_drain_over.Given as goal
 
 -- the queue that was just made
 abbrev pub ghosts-submit_and_drain : goal.ghosts-submit_and_drain

@@ -1,4 +1,4 @@
-use Rattle.test_queue_threads.proofs.tests.held_lock.cancels_begin_without_the_lock.Given as goal
+use Rattle.test_queue_threads.proofs.tests.held_lock.cancel_over.Given as goal
 
 -- the queue that was just made
 abbrev pub ghosts-cancel_at_the_lock : goal.ghosts-cancel_at_the_lock

@@ -1,4 +1,4 @@
-use Rattle.test_queue_threads.proofs.tests.claims.one_of_eight_cancels_gets_the_claim_over_chains.Given as goal
+use Rattle.test_queue_threads.proofs.tests.claims.claim_once_over.Given as goal
 
 -- the queue that was just made
 abbrev pub ghosts-claim_once : goal.ghosts-claim_once

@@ -1,4 +1,4 @@
-use Rattle.test_queue_threads.proofs.tests.removals.each_irp_is_removed_or_cancelled.Given as goal
+use Rattle.test_queue_threads.proofs.tests.removals.remove_and_cancel_over.Given as goal
 
 -- the queue that was just made
 abbrev pub ghosts-remove_and_cancel : goal.ghosts-remove_and_cancel

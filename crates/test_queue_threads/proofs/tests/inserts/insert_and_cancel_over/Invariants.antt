@@ -1,4 +1,4 @@
-use Rattle.test_queue_threads.proofs.tests.inserts.an_insert_and_a_cancel_complete_each_irp_once.Given as goal
+use Rattle.test_queue_threads.proofs.tests.inserts.insert_and_cancel_over.Given as goal
 
 -- the queue that was just made
 abbrev pub ghosts-insert_and_cancel : goal.ghosts-insert_and_cancel
