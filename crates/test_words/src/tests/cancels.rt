@@ -14,19 +14,6 @@ use csq_words::{Call, Note, PassSeat, QueueSeat, Words, flag_read};
 use irp_core::{FinalStatus, IrpLife, Kind, Life, Machine, PassId, Step, StepRefused};
 use std::process::Abort;
 
-// Another pass flags the IRP.
-fn flag(rt: &impl Abort, machine: &mut Machine, words: &Words, pass: &mut PassSeat, name: IrpLife)
-    requires irp { name.irp.0 < words.now.size.irps }
-    requires here { IsHere words.now.table pass.old }
-    requires outside { inside_of (pass_record pass.old).steps ≡ Nothing }
-    ensures here { IsHere words.now.table pass.new }
-    ensures flagged { inside_of (pass_record pass.new).steps ≡ Cancelling name }
-{
-    let found = pass.flag(words, name);
-    assert!(rt; found / 2 == u64::from(name.life.0));
-    compare(rt, machine, 2, Kind::Flag(name), found % 2);
-}
-
 // It takes the routine, and answers the word found.
 fn take(
     rt: &impl Abort,
@@ -118,7 +105,9 @@ impl Case {
             irp: ZERO,
             life: self.life,
         };
-        flag(rt, &mut self.machine, &self.words, &mut self.two, name);
+        let found = self.two.flag(&self.words, name);
+        assert!(rt; found / 2 == u64::from(name.life.0));
+        compare(rt, &mut self.machine, 2, Kind::Flag(name), found % 2);
         self.canceller = Hand::Here(Doing::Cancelling(self.life));
     }
 

@@ -18,60 +18,6 @@ use std::process::Abort;
 
 const REUSE: Call = Call::Reuse(ZERO);
 
-// Pass 1 begins a reuse: it looks at the status of the IRP, which is the one of its completion.
-fn look(
-    rt: &impl Abort,
-    words: &Words,
-    queue: &mut QueueSeat,
-    pass: &mut PassSeat,
-    name: IrpLife,
-    due: NtStatus,
-)
-    requires words { queue.old.table ≡ words.now.table }
-    requires irp { name.irp.0 < words.now.size.irps }
-    requires alone { queue.old.joined ≡ None }
-    requires inserted { IsInserted name [] queue.old.queue }
-    requires few { life_of name < last_life }
-    requires here { IsHere words.now.table pass.old }
-    requires outside { inside_of (pass_record pass.old).steps ≡ Nothing }
-    ensures words { queue.new.table ≡ words.now.table }
-    ensures joined { IsJoined queue.new }
-    ensures queue { queue.new.queue ≡ with_reusing (Reusing.Looked name) queue.old.queue }
-    ensures outside { inside_of (joined_record queue.new).steps ≡ Nothing }
-{
-    queue.enter(words, pass);
-    let (life, status) = status_read(queue.look(words, REUSE, ZERO));
-    assert_eq!(rt; life, name.life);
-    assert!(rt; status.is_some());
-    assert_eq!(rt; status, Some(due));
-}
-
-// It renews the status.
-fn renew_status(rt: &impl Abort, words: &Words, queue: &mut QueueSeat, name: IrpLife, due: NtStatus)
-    requires words { queue.old.table ≡ words.now.table }
-    requires irp { name.irp.0 < words.now.size.irps }
-    requires named { name.irp ≡ ZERO }
-    requires joined { IsJoined queue.old }
-    requires looked { queue.old.queue.reusing ≡ Reusing.Looked name }
-    ensures { queue.new ≡ record queue.old { queue = with_reusing (Reusing.StatusRenewed name) queue.old.queue } }
-{
-    let found = queue.renew_status(words, REUSE, name);
-    assert_eq!(rt; status_read(found), (name.life, Some(due)));
-}
-
-// It renews the routine.
-fn renew_routine(rt: &impl Abort, words: &Words, queue: &mut QueueSeat, name: IrpLife)
-    requires words { queue.old.table ≡ words.now.table }
-    requires irp { name.irp.0 < words.now.size.irps }
-    requires named { name.irp ≡ ZERO }
-    requires joined { IsJoined queue.old }
-    requires renewed { queue.old.queue.reusing ≡ Reusing.StatusRenewed name }
-    ensures { queue.new ≡ record queue.old { queue = with_reusing (Reusing.RoutineRenewed name) queue.old.queue } }
-{
-    let found = queue.renew_routine(words, REUSE, name);
-    assert_eq!(rt; found, 2 * u64::from(name.life.0));
-}
-
 // It renews the Cancel flag, which begins the next life. The reuse ends.
 fn renew_cancel(
     rt: &impl Abort,
@@ -142,7 +88,11 @@ impl Case {
             irp: ZERO,
             life: self.life,
         };
-        look(rt, &self.words, &mut self.queue, &mut self.one, name, due);
+        self.queue.enter(&self.words, &mut self.one);
+        let (life, status) = status_read(self.queue.look(&self.words, REUSE, ZERO));
+        assert_eq!(rt; life, name.life);
+        assert!(rt; status.is_some());
+        assert_eq!(rt; status, Some(due));
         self.stage = Stage::Looked;
         self.inserter = Hand::Away;
     }
@@ -156,7 +106,8 @@ impl Case {
             irp: ZERO,
             life: self.life,
         };
-        renew_status(rt, &self.words, &mut self.queue, name, due);
+        let found = self.queue.renew_status(&self.words, REUSE, name);
+        assert_eq!(rt; status_read(found), (name.life, Some(due)));
         self.stage = Stage::StatusRenewed;
     }
 
@@ -169,7 +120,8 @@ impl Case {
             irp: ZERO,
             life: self.life,
         };
-        renew_routine(rt, &self.words, &mut self.queue, name);
+        let found = self.queue.renew_routine(&self.words, REUSE, name);
+        assert_eq!(rt; found, 2 * u64::from(name.life.0));
         self.stage = Stage::RoutineRenewed;
     }
 
