@@ -9,7 +9,8 @@ ghost use Rattle.csq_words.specs.Words.{bit_word};
 ghost use Rattle.test_words.specs.Listed.{IsPresent};
 
 use super::ZERO;
-use super::fixture::{By, Case, Doing, FREE, Hand, Stage, compare};
+use super::fixture::{By, Case, FREE, compare};
+use crate::states::{Doing, Hand, Stage};
 use csq_words::{Call, Note, PassSeat, QueueSeat, Words, flag_read};
 use irp_core::{FinalStatus, IrpLife, Kind, Life, Machine, PassId, Step, StepRefused};
 use std::process::Abort;
@@ -101,10 +102,8 @@ impl Case {
         let Hand::Here(Doing::Nothing) = self.canceller else {
             panic!(rt; "pass 2 is busy");
         };
-        let name = IrpLife {
-            irp: ZERO,
-            life: self.life,
-        };
+        let life = self.life;
+        let name = IrpLife { irp: ZERO, life };
         let found = self.two.flag(&self.words, name);
         assert!(rt; found / 2 == u64::from(name.life.0));
         compare(rt, &mut self.machine, 2, Kind::Flag(name), found % 2);

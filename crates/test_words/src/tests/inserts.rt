@@ -7,8 +7,9 @@ ghost use Rattle.csq_words.specs.declared.views.Reusing.TheVariants as Reusing;
 ghost use Rattle.csq_words.specs.Words.{bit_in};
 ghost use Rattle.test_words.specs.Listed.{IsHome, IsInserted, IsPresent, only_entry};
 
-use super::fixture::{Case, Doing, FREE, Hand, Stage, compare};
+use super::fixture::{Case, FREE, compare};
 use super::{INSERT, ZERO};
+use crate::states::{Doing, Hand, Stage};
 use csq_list::InsertStatus;
 use csq_words::{Note, PassSeat, QueueSeat, Words};
 use irp_core::{IrpLife, Kind, Machine};
@@ -77,10 +78,8 @@ impl Case {
         let Hand::Here(Doing::Nothing) = self.inserter else {
             panic!(rt; "pass 1 is busy");
         };
-        let name = IrpLife {
-            irp: ZERO,
-            life: self.life,
-        };
+        let life = self.life;
+        let name = IrpLife { irp: ZERO, life };
         self.queue.enter(&self.words, &mut self.one);
         let found = self.queue.arm(&self.words, INSERT, name);
         compare(rt, &mut self.machine, 1, Kind::Arm(name), found % 2);
@@ -93,10 +92,8 @@ impl Case {
         let Stage::Armed = self.stage else {
             panic!(rt; "the routine wasn't set");
         };
-        let name = IrpLife {
-            irp: ZERO,
-            life: self.life,
-        };
+        let life = self.life;
+        let name = IrpLife { irp: ZERO, life };
         find_clear(
             rt,
             &mut self.machine,
@@ -114,10 +111,8 @@ impl Case {
         let Stage::Armed = self.stage else {
             panic!(rt; "the routine wasn't set");
         };
-        let name = IrpLife {
-            irp: ZERO,
-            life: self.life,
-        };
+        let life = self.life;
+        let name = IrpLife { irp: ZERO, life };
         let found = self.queue.test(&self.words, INSERT, ZERO);
         compare(rt, &mut self.machine, 1, Kind::Test(name), found % 2);
         assert!(rt; found % 2 == 1);
@@ -129,10 +124,8 @@ impl Case {
         let Stage::FlagSeen = self.stage else {
             panic!(rt; "the flag wasn't found set");
         };
-        let name = IrpLife {
-            irp: ZERO,
-            life: self.life,
-        };
+        let life = self.life;
+        let name = IrpLife { irp: ZERO, life };
         let found = take_back(
             rt,
             &mut self.machine,

@@ -5,10 +5,11 @@ ghost use Rattle.csq_words.specs.Own.{inside_of, holds_in, removed_in};
 ghost use Rattle.csq_words.specs.Seats.{pass_record, IsHere};
 ghost use Rattle.csq_words.specs.declared.views.Reusing.TheVariants as Reusing;
 ghost use Rattle.csq_words.specs.Words.{bit_in};
-ghost use Rattle.test_words.specs.Listed.{IsHome, IsInserted, IsPresent, Removes, only_entry};
+ghost use Rattle.test_words.specs.Listed.{IsInserted, IsPresent, Removes, only_entry};
 
 use super::ZERO;
-use super::fixture::{Case, Doing, FREE, Hand, Stage, compare};
+use super::fixture::{Case, FREE, compare};
+use crate::states::{Doing, Hand, Stage};
 use csq_list::Peek;
 use csq_words::{Call, Note, PassSeat, QueueSeat, Words};
 use irp_core::{FileId, FinalStatus, IrpLife, Kind, Machine, NtStatus};
@@ -92,10 +93,8 @@ impl Case {
         let Hand::Here(Doing::Nothing) = self.remover else {
             panic!(rt; "pass 3 is busy");
         };
-        let name = IrpLife {
-            irp: ZERO,
-            life: self.life,
-        };
+        let life = self.life;
+        let name = IrpLife { irp: ZERO, life };
         remove(
             rt,
             &mut self.machine,
@@ -117,10 +116,8 @@ impl Case {
         let Hand::Here(Doing::Nothing) = self.remover else {
             panic!(rt; "pass 3 is busy");
         };
-        let name = IrpLife {
-            irp: ZERO,
-            life: self.life,
-        };
+        let life = self.life;
+        let name = IrpLife { irp: ZERO, life };
         remove(
             rt,
             &mut self.machine,
@@ -142,10 +139,8 @@ impl Case {
         let Hand::Here(Doing::Nothing) = self.remover else {
             panic!(rt; "pass 3 is busy");
         };
-        let name = IrpLife {
-            irp: ZERO,
-            life: self.life,
-        };
+        let life = self.life;
+        let name = IrpLife { irp: ZERO, life };
         find_taken(
             rt,
             &mut self.machine,
@@ -220,10 +215,8 @@ impl Case {
         let Hand::Here(Doing::Nothing) = self.inserter else {
             panic!(rt; "pass 1 is busy");
         };
-        let name = IrpLife {
-            irp: ZERO,
-            life: self.life,
-        };
+        let life = self.life;
+        let name = IrpLife { irp: ZERO, life };
         self.queue.enter(&self.words, &mut self.one);
         self.queue
             .note(&self.words, Call::Remove(name), Note::Event);

@@ -11,7 +11,8 @@ ghost use Rattle.csq_words.specs.declared.views.Reusing.TheVariants as Reusing;
 ghost use Rattle.test_words.specs.Listed.{IsHome, IsInserted};
 
 use super::ZERO;
-use super::fixture::{Case, Doing, FREE, Hand, Stage, compare};
+use super::fixture::{Case, FREE, compare};
+use crate::states::{Doing, Hand, Stage};
 use csq_words::{Call, PassSeat, QueueSeat, Words, flag_read, status_read};
 use irp_core::{IrpLife, Kind, Life, Machine, NtStatus, PassId, Step, StepRefused};
 use std::process::Abort;
@@ -84,10 +85,8 @@ impl Case {
         if self.life.0 >= Life::LAST.0 {
             panic!(rt; "the life is the last");
         }
-        let name = IrpLife {
-            irp: ZERO,
-            life: self.life,
-        };
+        let life = self.life;
+        let name = IrpLife { irp: ZERO, life };
         self.queue.enter(&self.words, &mut self.one);
         let (life, status) = status_read(self.queue.look(&self.words, REUSE, ZERO));
         assert_eq!(rt; life, name.life);
@@ -102,10 +101,8 @@ impl Case {
         let Stage::Looked = self.stage else {
             panic!(rt; "no reuse has begun");
         };
-        let name = IrpLife {
-            irp: ZERO,
-            life: self.life,
-        };
+        let life = self.life;
+        let name = IrpLife { irp: ZERO, life };
         let found = self.queue.renew_status(&self.words, REUSE, name);
         assert_eq!(rt; status_read(found), (name.life, Some(due)));
         self.stage = Stage::StatusRenewed;
@@ -116,10 +113,8 @@ impl Case {
         let Stage::StatusRenewed = self.stage else {
             panic!(rt; "the status wasn't renewed");
         };
-        let name = IrpLife {
-            irp: ZERO,
-            life: self.life,
-        };
+        let life = self.life;
+        let name = IrpLife { irp: ZERO, life };
         let found = self.queue.renew_routine(&self.words, REUSE, name);
         assert_eq!(rt; found, 2 * u64::from(name.life.0));
         self.stage = Stage::RoutineRenewed;
@@ -130,10 +125,8 @@ impl Case {
         let Stage::RoutineRenewed = self.stage else {
             panic!(rt; "the routine wasn't renewed");
         };
-        let name = IrpLife {
-            irp: ZERO,
-            life: self.life,
-        };
+        let life = self.life;
+        let name = IrpLife { irp: ZERO, life };
         let found = renew_cancel(
             rt,
             &mut self.machine,
@@ -167,20 +160,16 @@ impl Case {
         if self.life.0 != Life::LAST.0 {
             panic!(rt; "the life isn't the last");
         }
-        let name = IrpLife {
-            irp: ZERO,
-            life: self.life,
-        };
+        let life = self.life;
+        let name = IrpLife { irp: ZERO, life };
         let found = look_alone(&self.words, &mut self.queue, &mut self.one, name);
         assert_eq!(rt; found, (self.life, due));
     }
 
     // The machine refuses to end the present life.
     pub(super) fn refuse_renewal(&mut self, rt: &impl Abort, cause: StepRefused) {
-        let name = IrpLife {
-            irp: ZERO,
-            life: self.life,
-        };
+        let life = self.life;
+        let name = IrpLife { irp: ZERO, life };
         let step = Step {
             pass: PassId(1),
             kind: Kind::Renew(name),
