@@ -11,12 +11,12 @@ use Rattle.csq_words.specs.Seats.{WordsState, QueueSeatState, PassSeatState, joi
 use Rattle.csq_words.specs.declared.views.Reusing.{Reusing}
 use Rattle.csq_words.specs.declared.views.Reusing.TheVariants as reusing
 use Rattle.test_words.specs.Listed.{IsHome, IsInserted, IsPresent, only_entry}
-use Rattle.test_words.specs.declared.tests.fixture.Stage.{Stage}
-use Rattle.test_words.specs.declared.tests.fixture.Stage.TheVariants.{Home, Armed, FlagSeen, Listed, Removed, Taken, Looked, StatusRenewed, RoutineRenewed, Ended}
-use Rattle.test_words.specs.declared.tests.fixture.Doing.{Doing}
-use Rattle.test_words.specs.declared.tests.fixture.Doing.TheVariants.{Nothing, Cancelling, Owing, Holding, HoldingRemoved, Unknown}
-use Rattle.test_words.specs.declared.tests.fixture.Hand.{Hand}
-use Rattle.test_words.specs.declared.tests.fixture.Hand.TheVariants.{Away, Here}
+use Rattle.test_words.specs.declared.states.Stage.{Stage}
+use Rattle.test_words.specs.declared.states.Stage.TheVariants.{Home, Armed, FlagSeen, Listed, Removed, Taken, Looked, StatusRenewed, RoutineRenewed, Ended}
+use Rattle.test_words.specs.declared.states.Doing.{Doing}
+use Rattle.test_words.specs.declared.states.Doing.TheVariants.{Nothing, Cancelling, Owing, Holding, HoldingRemoved, Unknown}
+use Rattle.test_words.specs.declared.states.Hand.{Hand}
+use Rattle.test_words.specs.declared.states.Hand.TheVariants.{Away, Here}
 
 -- IRP 0 in this life
 abbrev pub irp_in : Life → Irp

@@ -1,5 +1,6 @@
 //! A list takes all its memory when it is made.
 
+use super::calls::{Answer, Call, Row, play};
 use super::sizes::Size;
 use csq_list::{InsertStatus, ListNew, Peek, PendingList, Place};
 use irp_core::{FileId, IrpId};
@@ -15,8 +16,8 @@ const FILES: u32 = 32;
 // Just as many as are listed of each file.
 const FILE_LIMITS: [u32; 32] = [2; 32];
 
-// Fills a list from both ends, empties it again and renews what was used.
-fn fill_and_empty<L: PendingList>(rt: &impl Abort, list: &mut L) {
+// Fills a list from both ends.
+fn fill<L: PendingList>(rt: &impl Abort, list: &mut L) {
     for number in 0..IRPS {
         let place = if number % 2 == 0 {
             Place::Back
@@ -26,18 +27,32 @@ fn fill_and_empty<L: PendingList>(rt: &impl Abort, list: &mut L) {
         let answer = list.insert_ex(IrpId(number), FileId(number % FILES), place);
         assert_eq!(rt; answer, Ok(()));
     }
-    assert_eq!(rt; list.len(), IRPS);
-    assert_eq!(rt; list.close_file(FileId(0)), Ok(()));
-    assert_eq!(rt;
-        list.insert_ex(IrpId(0), FileId(0), Place::Back),
-        Err(InsertStatus::NotHome)
-    );
+}
+
+// Takes out what is listed.
+fn empty<L: PendingList>(list: &mut L) {
     for _ in 0..IRPS {
         if let Some(irp) = list.peek_next(None, Peek::Any) {
             list.remove(irp);
         }
     }
-    assert_eq!(rt; list.len(), 0);
+}
+
+// Fills a list, empties it again and renews what was used.
+fn fill_and_empty<L: PendingList>(rt: &impl Abort, list: &mut L) {
+    let insert = Call::Insert(IrpId(0), FileId(0), Place::Back);
+    fill(rt, list);
+    play(
+        rt,
+        list,
+        &[
+            Row::new(Call::Len, Answer::Count(IRPS as usize)),
+            Row::new(Call::CloseFile(FileId(0)), Answer::Made),
+            Row::new(insert, Answer::Refused(InsertStatus::NotHome)),
+        ],
+    );
+    empty(list);
+    play(rt, list, &[Row::new(Call::Len, Answer::Count(0))]);
     renew_all(rt, list);
 }
 
@@ -54,16 +69,15 @@ fn renew_all<L: PendingList>(rt: &impl Abort, list: &mut L) {
 // Lists as many of a file as its limit, and one more.
 fn fill_a_file<L: PendingList>(rt: &impl Abort, list: &mut L) {
     let file = FileId(1);
-    assert_eq!(rt; list.file_limit(file), Some(2));
-    for number in 0..2 {
-        let answer = list.insert_ex(IrpId(number), file, Place::Back);
-        assert_eq!(rt; answer, Ok(()));
-    }
-    assert_eq!(rt; list.file_len(file), 2);
-    assert_eq!(rt;
-        list.insert_ex(IrpId(2), file, Place::Back),
-        Err(InsertStatus::FileFull)
-    );
+    let [zero, one, two] = [0, 1, 2].map(|irp| Call::Insert(IrpId(irp), file, Place::Back));
+    let rows = [
+        Row::new(Call::FileLimit(file), Answer::FileLimit(Some(2))),
+        Row::new(zero, Answer::Made),
+        Row::new(one, Answer::Made),
+        Row::new(Call::FileLen(file), Answer::Count(2)),
+        Row::new(two, Answer::Refused(InsertStatus::FileFull)),
+    ];
+    play(rt, list, &rows);
 }
 
 // There was no memory, and none is kept.

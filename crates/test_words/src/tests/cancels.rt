@@ -9,23 +9,11 @@ ghost use Rattle.csq_words.specs.Words.{bit_word};
 ghost use Rattle.test_words.specs.Listed.{IsPresent};
 
 use super::ZERO;
-use super::fixture::{By, Case, Doing, FREE, Hand, Stage, compare};
+use super::fixture::{By, Case, FREE, compare};
+use crate::states::{Doing, Hand, Stage};
 use csq_words::{Call, Note, PassSeat, QueueSeat, Words, flag_read};
 use irp_core::{FinalStatus, IrpLife, Kind, Life, Machine, PassId, Step, StepRefused};
 use std::process::Abort;
-
-// Another pass flags the IRP.
-fn flag(rt: &impl Abort, machine: &mut Machine, words: &Words, pass: &mut PassSeat, name: IrpLife)
-    requires irp { name.irp.0 < words.now.size.irps }
-    requires here { IsHere words.now.table pass.old }
-    requires outside { inside_of (pass_record pass.old).steps ≡ Nothing }
-    ensures here { IsHere words.now.table pass.new }
-    ensures flagged { inside_of (pass_record pass.new).steps ≡ Cancelling name }
-{
-    let found = pass.flag(words, name);
-    assert!(rt; found / 2 == u64::from(name.life.0));
-    compare(rt, machine, 2, Kind::Flag(name), found % 2);
-}
 
 // It takes the routine, and answers the word found.
 fn take(
@@ -114,11 +102,11 @@ impl Case {
         let Hand::Here(Doing::Nothing) = self.canceller else {
             panic!(rt; "pass 2 is busy");
         };
-        let name = IrpLife {
-            irp: ZERO,
-            life: self.life,
-        };
-        flag(rt, &mut self.machine, &self.words, &mut self.two, name);
+        let life = self.life;
+        let name = IrpLife { irp: ZERO, life };
+        let found = self.two.flag(&self.words, name);
+        assert!(rt; found / 2 == u64::from(name.life.0));
+        compare(rt, &mut self.machine, 2, Kind::Flag(name), found % 2);
         self.canceller = Hand::Here(Doing::Cancelling(self.life));
     }
 

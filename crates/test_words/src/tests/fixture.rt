@@ -5,57 +5,11 @@ ghost use Rattle.csq_words.specs.Records.{new_queue};
 ghost use Rattle.csq_words.specs.Seats.{new_seats};
 
 use super::ZERO;
+use crate::states::{Doing, Hand, Stage};
 use csq_words::{PassSeat, PassSeats, QueueSeat, Words};
 use irp_core::{Kind, Life, Machine, NtStatus, PassId, Step};
 use std::marker::Model;
 use std::process::Abort;
-
-// How far the calls under the lock are with the IRP. In each but the last it is in its present life.
-#[derive(Clone, Copy)]
-pub(super) enum Stage {
-    // It may be inserted.
-    Home,
-    // Pass 1 inserts it: its routine is set.
-    Armed,
-    // The flag was found set then.
-    FlagSeen,
-    // It is listed.
-    Listed,
-    // It was removed.
-    Removed,
-    // An exchange found its routine taken, or the inserting pass took it back.
-    Taken,
-    // Pass 1 reuses it: it looked at the status,
-    Looked,
-    // renewed it,
-    StatusRenewed,
-    // and renewed the routine.
-    RoutineRenewed,
-    // It is inserted no more.
-    Ended,
-}
-
-// What a pass does, or has to do, with the IRP in a life.
-#[derive(Clone, Copy)]
-pub(super) enum Doing {
-    Nothing,
-    // It flagged the IRP, and has to take the routine.
-    Cancelling(Life),
-    // It took the routine.
-    Owing(Life),
-    // It holds the IRP, which its insert took back.
-    Holding(Life),
-    // It holds the IRP, which it removed.
-    HoldingRemoved(Life),
-    Unknown,
-}
-
-// A pass's seat is away while the pass is under the lock.
-#[derive(Clone, Copy)]
-pub(super) enum Hand {
-    Away,
-    Here(Doing),
-}
 
 pub(super) const FREE: Hand = Hand::Here(Doing::Nothing);
 

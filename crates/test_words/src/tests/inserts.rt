@@ -7,37 +7,13 @@ ghost use Rattle.csq_words.specs.declared.views.Reusing.TheVariants as Reusing;
 ghost use Rattle.csq_words.specs.Words.{bit_in};
 ghost use Rattle.test_words.specs.Listed.{IsHome, IsInserted, IsPresent, only_entry};
 
-use super::fixture::{Case, Doing, FREE, Hand, Stage, compare};
+use super::fixture::{Case, FREE, compare};
 use super::{INSERT, ZERO};
+use crate::states::{Doing, Hand, Stage};
 use csq_list::InsertStatus;
 use csq_words::{Note, PassSeat, QueueSeat, Words};
 use irp_core::{IrpLife, Kind, Machine};
 use std::process::Abort;
-
-// The pass arms the IRP.
-fn arm(
-    rt: &impl Abort,
-    machine: &mut Machine,
-    words: &Words,
-    queue: &mut QueueSeat,
-    pass: &mut PassSeat,
-    name: IrpLife,
-)
-    requires words { queue.old.table ≡ words.now.table }
-    requires irp { name.irp.0 < words.now.size.irps }
-    requires alone { queue.old.joined ≡ None }
-    requires home { IsHome name queue.old.queue }
-    requires here { IsHere words.now.table pass.old }
-    requires outside { inside_of (pass_record pass.old).steps ≡ Nothing }
-    ensures words { queue.new.table ≡ words.now.table }
-    ensures joined { IsJoined queue.new }
-    ensures queue { queue.new.queue ≡ queue.old.queue }
-    ensures armed { inside_of (joined_record queue.new).steps ≡ Armed name }
-{
-    queue.enter(words, pass);
-    let found = queue.arm(words, INSERT, name);
-    compare(rt, machine, 1, Kind::Arm(name), found % 2);
-}
 
 // The pass tests the flag, and finds it clear. Its insert ends.
 fn find_clear(
@@ -63,29 +39,6 @@ fn find_clear(
     compare(rt, machine, 1, Kind::Test(name), found % 2);
     assert!(rt; found % 2 == 0);
     queue.leave(words, pass);
-}
-
-// The pass tests the flag, and finds it set.
-fn find_set(
-    rt: &impl Abort,
-    machine: &mut Machine,
-    words: &Words,
-    queue: &mut QueueSeat,
-    name: IrpLife,
-)
-    requires words { queue.old.table ≡ words.now.table }
-    requires irp { name.irp.0 < words.now.size.irps }
-    requires joined { IsJoined queue.old }
-    requires home { IsHome name queue.old.queue }
-    requires armed { inside_of (joined_record queue.old).steps ≡ Armed name }
-    ensures words { queue.new.table ≡ words.now.table }
-    ensures joined { IsJoined queue.new }
-    ensures queue { queue.new.queue ≡ queue.old.queue }
-    ensures seen { inside_of (joined_record queue.new).steps ≡ FlagSeen name }
-{
-    let found = queue.test(words, INSERT, ZERO);
-    compare(rt, machine, 1, Kind::Test(name), found % 2);
-    assert!(rt; found % 2 == 1);
 }
 
 // The pass exchanges the routine that it set, and its insert ends. It holds the IRP where it found it.
@@ -116,24 +69,6 @@ fn take_back(
     found
 }
 
-// The list is full: the insert is refused, and the IRP may be inserted later.
-fn be_refused(words: &Words, queue: &mut QueueSeat, pass: &mut PassSeat, name: IrpLife)
-    requires words { queue.old.table ≡ words.now.table }
-    requires alone { queue.old.joined ≡ None }
-    requires home { IsHome name queue.old.queue }
-    requires here { IsHere words.now.table pass.old }
-    requires outside { inside_of (pass_record pass.old).steps ≡ Nothing }
-    ensures words { queue.new.table ≡ words.now.table }
-    ensures alone { queue.new.joined ≡ None }
-    ensures home { IsHome name queue.new.queue }
-    ensures here { IsHere words.now.table pass.new }
-    ensures outside { inside_of (pass_record pass.new).steps ≡ Nothing }
-{
-    queue.enter(words, pass);
-    queue.note(words, INSERT, Note::Refused(InsertStatus::Full));
-    queue.leave(words, pass);
-}
-
 impl Case {
     // Pass 1 lists the IRP, and sets its routine.
     pub(super) fn arm(&mut self, rt: &impl Abort) {
@@ -143,18 +78,11 @@ impl Case {
         let Hand::Here(Doing::Nothing) = self.inserter else {
             panic!(rt; "pass 1 is busy");
         };
-        let name = IrpLife {
-            irp: ZERO,
-            life: self.life,
-        };
-        arm(
-            rt,
-            &mut self.machine,
-            &self.words,
-            &mut self.queue,
-            &mut self.one,
-            name,
-        );
+        let life = self.life;
+        let name = IrpLife { irp: ZERO, life };
+        self.queue.enter(&self.words, &mut self.one);
+        let found = self.queue.arm(&self.words, INSERT, name);
+        compare(rt, &mut self.machine, 1, Kind::Arm(name), found % 2);
         self.stage = Stage::Armed;
         self.inserter = Hand::Away;
     }
@@ -164,10 +92,8 @@ impl Case {
         let Stage::Armed = self.stage else {
             panic!(rt; "the routine wasn't set");
         };
-        let name = IrpLife {
-            irp: ZERO,
-            life: self.life,
-        };
+        let life = self.life;
+        let name = IrpLife { irp: ZERO, life };
         find_clear(
             rt,
             &mut self.machine,
@@ -185,11 +111,11 @@ impl Case {
         let Stage::Armed = self.stage else {
             panic!(rt; "the routine wasn't set");
         };
-        let name = IrpLife {
-            irp: ZERO,
-            life: self.life,
-        };
-        find_set(rt, &mut self.machine, &self.words, &mut self.queue, name);
+        let life = self.life;
+        let name = IrpLife { irp: ZERO, life };
+        let found = self.queue.test(&self.words, INSERT, ZERO);
+        compare(rt, &mut self.machine, 1, Kind::Test(name), found % 2);
+        assert!(rt; found % 2 == 1);
         self.stage = Stage::FlagSeen;
     }
 
@@ -198,10 +124,8 @@ impl Case {
         let Stage::FlagSeen = self.stage else {
             panic!(rt; "the flag wasn't found set");
         };
-        let name = IrpLife {
-            irp: ZERO,
-            life: self.life,
-        };
+        let life = self.life;
+        let name = IrpLife { irp: ZERO, life };
         let found = take_back(
             rt,
             &mut self.machine,
@@ -233,10 +157,9 @@ impl Case {
         let Hand::Here(Doing::Nothing) = self.inserter else {
             panic!(rt; "pass 1 is busy");
         };
-        let name = IrpLife {
-            irp: ZERO,
-            life: self.life,
-        };
-        be_refused(&self.words, &mut self.queue, &mut self.one, name);
+        self.queue.enter(&self.words, &mut self.one);
+        self.queue
+            .note(&self.words, INSERT, Note::Refused(InsertStatus::Full));
+        self.queue.leave(&self.words, &mut self.one);
     }
 }

@@ -5,10 +5,11 @@ ghost use Rattle.csq_words.specs.Own.{inside_of, holds_in, removed_in};
 ghost use Rattle.csq_words.specs.Seats.{pass_record, IsHere};
 ghost use Rattle.csq_words.specs.declared.views.Reusing.TheVariants as Reusing;
 ghost use Rattle.csq_words.specs.Words.{bit_in};
-ghost use Rattle.test_words.specs.Listed.{IsHome, IsInserted, IsPresent, Removes, only_entry};
+ghost use Rattle.test_words.specs.Listed.{IsInserted, IsPresent, Removes, only_entry};
 
 use super::ZERO;
-use super::fixture::{Case, Doing, FREE, Hand, Stage, compare};
+use super::fixture::{Case, FREE, compare};
+use crate::states::{Doing, Hand, Stage};
 use csq_list::Peek;
 use csq_words::{Call, Note, PassSeat, QueueSeat, Words};
 use irp_core::{FileId, FinalStatus, IrpLife, Kind, Machine, NtStatus};
@@ -53,30 +54,6 @@ fn remove(
     queue.leave(words, pass);
 }
 
-// Pass 3 completes what it has removed, with this status.
-fn complete(
-    rt: &impl Abort,
-    machine: &mut Machine,
-    words: &Words,
-    pass: &mut PassSeat,
-    name: IrpLife,
-    status: NtStatus,
-)
-    requires irp { name.irp.0 < words.now.size.irps }
-    requires here { IsHere words.now.table pass.old }
-    requires outside { inside_of (pass_record pass.old).steps ≡ Nothing }
-    requires held { holds_in (pass_record pass.old).steps name ≡ true }
-    requires removed { removed_in (pass_record pass.old).steps name ≡ true }
-    ensures here { IsHere words.now.table pass.new }
-    ensures outside { inside_of (pass_record pass.new).steps ≡ Nothing }
-{
-    let Some(status) = FinalStatus::new(status) else {
-        panic!(rt; "no final status");
-    };
-    pass.done(words, name, status);
-    compare(rt, machine, 3, Kind::Done(name), 0);
-}
-
 // Pass 3 finds that the routine was taken, and its removal ends with no IRP.
 fn find_taken(
     rt: &impl Abort,
@@ -107,92 +84,6 @@ fn find_taken(
     queue.leave(words, pass);
 }
 
-// The file object is closed.
-fn close_file(words: &Words, queue: &mut QueueSeat, pass: &mut PassSeat, name: IrpLife)
-    requires words { queue.old.table ≡ words.now.table }
-    requires alone { queue.old.joined ≡ None }
-    requires home { IsHome name queue.old.queue }
-    requires here { IsHere words.now.table pass.old }
-    requires outside { inside_of (pass_record pass.old).steps ≡ Nothing }
-    ensures words { queue.new.table ≡ words.now.table }
-    ensures alone { queue.new.joined ≡ None }
-    ensures home { IsHome name queue.new.queue }
-    ensures here { IsHere words.now.table pass.new }
-    ensures outside { inside_of (pass_record pass.new).steps ≡ Nothing }
-{
-    queue.enter(words, pass);
-    queue.note(words, Call::CloseFile(FileId(0)), Note::Event);
-    queue.leave(words, pass);
-}
-
-// A removal finds no IRP.
-fn find_no_next(
-    rt: &impl Abort,
-    machine: &mut Machine,
-    words: &Words,
-    queue: &mut QueueSeat,
-    pass: &mut PassSeat,
-    name: IrpLife,
-)
-    requires words { queue.old.table ≡ words.now.table }
-    requires alone { queue.old.joined ≡ None }
-    requires home { IsHome name queue.old.queue }
-    requires here { IsHere words.now.table pass.old }
-    requires outside { inside_of (pass_record pass.old).steps ≡ Nothing }
-    ensures words { queue.new.table ≡ words.now.table }
-    ensures alone { queue.new.joined ≡ None }
-    ensures home { IsHome name queue.new.queue }
-    ensures here { IsHere words.now.table pass.new }
-    ensures outside { inside_of (pass_record pass.new).steps ≡ Nothing }
-{
-    queue.enter(words, pass);
-    queue.note(words, Call::RemoveNext(Peek::Any), Note::Event);
-    compare(rt, machine, 1, Kind::End, 0);
-    queue.leave(words, pass);
-}
-
-// A removal of the IRP finds that it isn't listed.
-fn find_unlisted(
-    rt: &impl Abort,
-    machine: &mut Machine,
-    words: &Words,
-    queue: &mut QueueSeat,
-    pass: &mut PassSeat,
-    name: IrpLife,
-)
-    requires words { queue.old.table ≡ words.now.table }
-    requires alone { queue.old.joined ≡ None }
-    requires home { IsHome name queue.old.queue }
-    requires here { IsHere words.now.table pass.old }
-    requires outside { inside_of (pass_record pass.old).steps ≡ Nothing }
-    ensures words { queue.new.table ≡ words.now.table }
-    ensures here { IsHere words.now.table pass.new }
-{
-    queue.enter(words, pass);
-    queue.note(words, Call::Remove(name), Note::Event);
-    compare(rt, machine, 1, Kind::End, 0);
-    queue.leave(words, pass);
-}
-
-// The inserting pass completes what it took back.
-fn complete_own(
-    rt: &impl Abort,
-    machine: &mut Machine,
-    words: &Words,
-    pass: &mut PassSeat,
-    name: IrpLife,
-)
-    requires irp { name.irp.0 < words.now.size.irps }
-    requires here { IsHere words.now.table pass.old }
-    requires outside { inside_of (pass_record pass.old).steps ≡ Nothing }
-    requires held { holds_in (pass_record pass.old).steps name ≡ true }
-    ensures here { IsHere words.now.table pass.new }
-    ensures outside { inside_of (pass_record pass.new).steps ≡ Nothing }
-{
-    pass.done(words, name, FinalStatus::cancelled());
-    compare(rt, machine, 1, Kind::Done(name), 0);
-}
-
 impl Case {
     // Pass 3 removes the IRP.
     pub(super) fn remove(&mut self, rt: &impl Abort) {
@@ -202,10 +93,8 @@ impl Case {
         let Hand::Here(Doing::Nothing) = self.remover else {
             panic!(rt; "pass 3 is busy");
         };
-        let name = IrpLife {
-            irp: ZERO,
-            life: self.life,
-        };
+        let life = self.life;
+        let name = IrpLife { irp: ZERO, life };
         remove(
             rt,
             &mut self.machine,
@@ -227,10 +116,8 @@ impl Case {
         let Hand::Here(Doing::Nothing) = self.remover else {
             panic!(rt; "pass 3 is busy");
         };
-        let name = IrpLife {
-            irp: ZERO,
-            life: self.life,
-        };
+        let life = self.life;
+        let name = IrpLife { irp: ZERO, life };
         remove(
             rt,
             &mut self.machine,
@@ -252,10 +139,8 @@ impl Case {
         let Hand::Here(Doing::Nothing) = self.remover else {
             panic!(rt; "pass 3 is busy");
         };
-        let name = IrpLife {
-            irp: ZERO,
-            life: self.life,
-        };
+        let life = self.life;
+        let name = IrpLife { irp: ZERO, life };
         find_taken(
             rt,
             &mut self.machine,
@@ -274,14 +159,11 @@ impl Case {
             panic!(rt; "pass 3 holds nothing");
         };
         let name = IrpLife { irp: ZERO, life };
-        complete(
-            rt,
-            &mut self.machine,
-            &self.words,
-            &mut self.three,
-            name,
-            status,
-        );
+        let Some(status) = FinalStatus::new(status) else {
+            panic!(rt; "no final status");
+        };
+        self.three.done(&self.words, name, status);
+        compare(rt, &mut self.machine, 3, Kind::Done(name), 0);
         self.remover = FREE;
     }
 
@@ -291,7 +173,8 @@ impl Case {
             panic!(rt; "pass 1 holds nothing");
         };
         let name = IrpLife { irp: ZERO, life };
-        complete_own(rt, &mut self.machine, &self.words, &mut self.one, name);
+        self.one.done(&self.words, name, FinalStatus::cancelled());
+        compare(rt, &mut self.machine, 1, Kind::Done(name), 0);
         self.inserter = FREE;
     }
 
@@ -303,11 +186,10 @@ impl Case {
         let Hand::Here(Doing::Nothing) = self.inserter else {
             panic!(rt; "pass 1 is busy");
         };
-        let name = IrpLife {
-            irp: ZERO,
-            life: self.life,
-        };
-        close_file(&self.words, &mut self.queue, &mut self.one, name);
+        self.queue.enter(&self.words, &mut self.one);
+        self.queue
+            .note(&self.words, Call::CloseFile(FileId(0)), Note::Event);
+        self.queue.leave(&self.words, &mut self.one);
     }
 
     // A removal by pass 1 finds no IRP.
@@ -318,18 +200,11 @@ impl Case {
         let Hand::Here(Doing::Nothing) = self.inserter else {
             panic!(rt; "pass 1 is busy");
         };
-        let name = IrpLife {
-            irp: ZERO,
-            life: self.life,
-        };
-        find_no_next(
-            rt,
-            &mut self.machine,
-            &self.words,
-            &mut self.queue,
-            &mut self.one,
-            name,
-        );
+        self.queue.enter(&self.words, &mut self.one);
+        self.queue
+            .note(&self.words, Call::RemoveNext(Peek::Any), Note::Event);
+        compare(rt, &mut self.machine, 1, Kind::End, 0);
+        self.queue.leave(&self.words, &mut self.one);
     }
 
     // One of this IRP finds that it isn't listed.
@@ -340,18 +215,13 @@ impl Case {
         let Hand::Here(Doing::Nothing) = self.inserter else {
             panic!(rt; "pass 1 is busy");
         };
-        let name = IrpLife {
-            irp: ZERO,
-            life: self.life,
-        };
-        find_unlisted(
-            rt,
-            &mut self.machine,
-            &self.words,
-            &mut self.queue,
-            &mut self.one,
-            name,
-        );
+        let life = self.life;
+        let name = IrpLife { irp: ZERO, life };
+        self.queue.enter(&self.words, &mut self.one);
+        self.queue
+            .note(&self.words, Call::Remove(name), Note::Event);
+        compare(rt, &mut self.machine, 1, Kind::End, 0);
+        self.queue.leave(&self.words, &mut self.one);
         self.stage = Stage::Ended;
         self.inserter = Hand::Here(Doing::Unknown);
     }

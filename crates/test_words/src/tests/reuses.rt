@@ -11,66 +11,13 @@ ghost use Rattle.csq_words.specs.declared.views.Reusing.TheVariants as Reusing;
 ghost use Rattle.test_words.specs.Listed.{IsHome, IsInserted};
 
 use super::ZERO;
-use super::fixture::{Case, Doing, FREE, Hand, Stage, compare};
+use super::fixture::{Case, FREE, compare};
+use crate::states::{Doing, Hand, Stage};
 use csq_words::{Call, PassSeat, QueueSeat, Words, flag_read, status_read};
 use irp_core::{IrpLife, Kind, Life, Machine, NtStatus, PassId, Step, StepRefused};
 use std::process::Abort;
 
 const REUSE: Call = Call::Reuse(ZERO);
-
-// Pass 1 begins a reuse: it looks at the status of the IRP, which is the one of its completion.
-fn look(
-    rt: &impl Abort,
-    words: &Words,
-    queue: &mut QueueSeat,
-    pass: &mut PassSeat,
-    name: IrpLife,
-    due: NtStatus,
-)
-    requires words { queue.old.table ≡ words.now.table }
-    requires irp { name.irp.0 < words.now.size.irps }
-    requires alone { queue.old.joined ≡ None }
-    requires inserted { IsInserted name [] queue.old.queue }
-    requires few { life_of name < last_life }
-    requires here { IsHere words.now.table pass.old }
-    requires outside { inside_of (pass_record pass.old).steps ≡ Nothing }
-    ensures words { queue.new.table ≡ words.now.table }
-    ensures joined { IsJoined queue.new }
-    ensures queue { queue.new.queue ≡ with_reusing (Reusing.Looked name) queue.old.queue }
-    ensures outside { inside_of (joined_record queue.new).steps ≡ Nothing }
-{
-    queue.enter(words, pass);
-    let (life, status) = status_read(queue.look(words, REUSE, ZERO));
-    assert_eq!(rt; life, name.life);
-    assert!(rt; status.is_some());
-    assert_eq!(rt; status, Some(due));
-}
-
-// It renews the status.
-fn renew_status(rt: &impl Abort, words: &Words, queue: &mut QueueSeat, name: IrpLife, due: NtStatus)
-    requires words { queue.old.table ≡ words.now.table }
-    requires irp { name.irp.0 < words.now.size.irps }
-    requires named { name.irp ≡ ZERO }
-    requires joined { IsJoined queue.old }
-    requires looked { queue.old.queue.reusing ≡ Reusing.Looked name }
-    ensures { queue.new ≡ record queue.old { queue = with_reusing (Reusing.StatusRenewed name) queue.old.queue } }
-{
-    let found = queue.renew_status(words, REUSE, name);
-    assert_eq!(rt; status_read(found), (name.life, Some(due)));
-}
-
-// It renews the routine.
-fn renew_routine(rt: &impl Abort, words: &Words, queue: &mut QueueSeat, name: IrpLife)
-    requires words { queue.old.table ≡ words.now.table }
-    requires irp { name.irp.0 < words.now.size.irps }
-    requires named { name.irp ≡ ZERO }
-    requires joined { IsJoined queue.old }
-    requires renewed { queue.old.queue.reusing ≡ Reusing.StatusRenewed name }
-    ensures { queue.new ≡ record queue.old { queue = with_reusing (Reusing.RoutineRenewed name) queue.old.queue } }
-{
-    let found = queue.renew_routine(words, REUSE, name);
-    assert_eq!(rt; found, 2 * u64::from(name.life.0));
-}
 
 // It renews the Cancel flag, which begins the next life. The reuse ends.
 fn renew_cancel(
@@ -138,11 +85,13 @@ impl Case {
         if self.life.0 >= Life::LAST.0 {
             panic!(rt; "the life is the last");
         }
-        let name = IrpLife {
-            irp: ZERO,
-            life: self.life,
-        };
-        look(rt, &self.words, &mut self.queue, &mut self.one, name, due);
+        let life = self.life;
+        let name = IrpLife { irp: ZERO, life };
+        self.queue.enter(&self.words, &mut self.one);
+        let (life, status) = status_read(self.queue.look(&self.words, REUSE, ZERO));
+        assert_eq!(rt; life, name.life);
+        assert!(rt; status.is_some());
+        assert_eq!(rt; status, Some(due));
         self.stage = Stage::Looked;
         self.inserter = Hand::Away;
     }
@@ -152,11 +101,10 @@ impl Case {
         let Stage::Looked = self.stage else {
             panic!(rt; "no reuse has begun");
         };
-        let name = IrpLife {
-            irp: ZERO,
-            life: self.life,
-        };
-        renew_status(rt, &self.words, &mut self.queue, name, due);
+        let life = self.life;
+        let name = IrpLife { irp: ZERO, life };
+        let found = self.queue.renew_status(&self.words, REUSE, name);
+        assert_eq!(rt; status_read(found), (name.life, Some(due)));
         self.stage = Stage::StatusRenewed;
     }
 
@@ -165,11 +113,10 @@ impl Case {
         let Stage::StatusRenewed = self.stage else {
             panic!(rt; "the status wasn't renewed");
         };
-        let name = IrpLife {
-            irp: ZERO,
-            life: self.life,
-        };
-        renew_routine(rt, &self.words, &mut self.queue, name);
+        let life = self.life;
+        let name = IrpLife { irp: ZERO, life };
+        let found = self.queue.renew_routine(&self.words, REUSE, name);
+        assert_eq!(rt; found, 2 * u64::from(name.life.0));
         self.stage = Stage::RoutineRenewed;
     }
 
@@ -178,10 +125,8 @@ impl Case {
         let Stage::RoutineRenewed = self.stage else {
             panic!(rt; "the routine wasn't renewed");
         };
-        let name = IrpLife {
-            irp: ZERO,
-            life: self.life,
-        };
+        let life = self.life;
+        let name = IrpLife { irp: ZERO, life };
         let found = renew_cancel(
             rt,
             &mut self.machine,
@@ -215,20 +160,16 @@ impl Case {
         if self.life.0 != Life::LAST.0 {
             panic!(rt; "the life isn't the last");
         }
-        let name = IrpLife {
-            irp: ZERO,
-            life: self.life,
-        };
+        let life = self.life;
+        let name = IrpLife { irp: ZERO, life };
         let found = look_alone(&self.words, &mut self.queue, &mut self.one, name);
         assert_eq!(rt; found, (self.life, due));
     }
 
     // The machine refuses to end the present life.
     pub(super) fn refuse_renewal(&mut self, rt: &impl Abort, cause: StepRefused) {
-        let name = IrpLife {
-            irp: ZERO,
-            life: self.life,
-        };
+        let life = self.life;
+        let name = IrpLife { irp: ZERO, life };
         let step = Step {
             pass: PassId(1),
             kind: Kind::Renew(name),

@@ -4,8 +4,9 @@ ghost use Rattle.irp_core.specs.declared.step.Inside.TheVariants.{Nothing};
 ghost use Rattle.csq_words.specs.Own.{inside_of};
 ghost use Rattle.csq_words.specs.Seats.{pass_record, IsHere};
 
-use super::fixture::{Case, Doing, Hand};
+use super::fixture::Case;
 use super::{FIRST, ZERO};
+use crate::states::{Doing, Hand};
 use csq_words::{PassSeat, Words};
 use irp_core::IrpLife;
 use std::process::Abort;
