@@ -39,14 +39,19 @@ fn inserted(irp: IrpId) -> Row {
     (put(irp, FILE), Answer::Pending(context))
 }
 
-// Queues two IRPs, which two threads then cancel.
-fn claim_both<R: Threads + AllocGlobal + Abort>(rt: &R, list: ListKind) {
+// A queue with two IRPs in its list.
+fn with_two_irps<R: AllocGlobal + Abort>(rt: &R, list: ListKind) -> Begun {
     let mut begun = begin(rt, made(rt, small(list, 2)));
     begun.play(rt, &[inserted(ZERO), inserted(ONE)]);
+    begun
+}
+
+// Two threads cancel both, each with a pass of its own.
+fn claim_both<R: Threads + AllocGlobal + Abort>(rt: &R, list: ListKind) {
     let Begun {
         mut queue,
         pass: mut one,
-    } = begun;
+    } = with_two_irps(rt, list);
     let mut two = take(rt, &mut queue);
     claim_in_threads(rt, &mut one, &mut two);
 }

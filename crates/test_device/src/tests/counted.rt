@@ -147,15 +147,20 @@ where
     let plan = plan_of(rt, [300, 5, 3, 3, 4, 70]);
     let counts = uncounted_points();
     let totals = run(rt, plan, list, Counting(&counts));
-    find_all_turns(rt, &counts, totals);
+    find_all_turns(rt, &counts);
+    find_totals(rt, &counts.removed, totals);
 }
 
 // All threads met, and each turn of each was told once.
-fn find_all_turns<R: Abort>(rt: &R, counts: &Counts, totals: Totals) {
+fn find_all_turns<R: Abort>(rt: &R, counts: &Counts) {
     assert!(rt; !counts.gave_up.load(Ordering::SeqCst));
     assert_eq!(rt; counts.come.load(Ordering::SeqCst), THREADS);
     assert_eq!(rt; counts.of_turns(), TURNS);
-    let (removed, _) = counts.removed.told();
+}
+
+// What was removed has succeeded, and what was not inserted is home.
+fn find_totals<R: Abort>(rt: &R, removed: &Count, totals: Totals) {
+    let (removed, _) = removed.told();
     let succeeded = u64::from(totals.succeeded);
     let found = (removed, totals.home, totals.listed, totals.accounted());
     assert_eq!(rt; found, (succeeded, 90, 0, 300));

@@ -43,8 +43,7 @@ fn refused<L: PendingList + Drop, R: AllocGlobal + Abort>(rt: &R, list: L) -> L 
 
 // The cause of a refusal, and its number.
 fn find_cause<R: Abort>(rt: &R, cause: DeviceCause, wanted: DeviceCause, number: u8) {
-    assert_eq!(rt; cause, wanted);
-    assert_eq!(rt; cause.number(), number);
+    assert_eq!(rt; (cause, cause.number()), (wanted, number));
 }
 
 // A device is refused this list, which comes back with so many IRPs and file objects, this limit and
@@ -76,22 +75,24 @@ fn a_list_that_does_not_fit_comes_back(rt: HostRuntime) {
     find_other_sizes(&rt);
 }
 
-// A list with an IRP.
-fn used<L: PendingList + Drop, R: Abort>(rt: &R, mut list: L) -> L {
-    if list.insert_ex(IrpId(1), FileId(0), Place::Back).is_err() {
-        panic!(rt; "not inserted");
-    }
-    list
+// So is one with a list that has an IRP.
+fn find_used_back<L: PendingList + Drop, R: AllocGlobal + Abort>(rt: &R, mut list: L) {
+    use_list(rt, &mut list);
+    find_back(rt, list, [4, 2, 4, 1]);
 }
 
-fn find_used<R: AllocGlobal + Abort>(rt: &R) {
-    find_back(rt, used(rt, vector(rt, 4, 2)), [4, 2, 4, 1]);
-    find_back(rt, used(rt, chains(rt, 4, 2)), [4, 2, 4, 1]);
+fn use_list<R: Abort>(rt: &R, list: &mut impl PendingList) {
+    assert!(rt; list.insert_ex(IrpId(1), FileId(0), Place::Back).is_ok());
+}
+
+fn find_both_used<R: AllocGlobal + Abort>(rt: &R) {
+    find_used_back(rt, vector(rt, 4, 2));
+    find_used_back(rt, chains(rt, 4, 2));
 }
 
 #[test]
 fn a_used_list_comes_back(rt: HostRuntime) {
-    find_used(&rt);
+    find_both_used(&rt);
 }
 
 // A gate that is known again.
@@ -111,9 +112,8 @@ fn find_refused<L: PendingList, R: Abort>(
     used: usize,
 ) {
     find_cause(rt, back.cause, DeviceCause::Memory, 1);
-    assert_eq!(rt; back.gate.0, mark);
     assert!(rt; back.list.is_fresh());
-    assert_eq!(rt; used, 0);
+    assert_eq!(rt; (back.gate.0, used), (mark, 0));
 }
 
 // A heap of so many blocks.

@@ -54,8 +54,7 @@ fn find_told<R: Abort>(
     } else {
         Ok(8)
     };
-    assert_eq!(rt; answered, wanted, "at call {call}");
-    assert_eq!(rt; told == 0, is_refused, "at call {call}");
+    assert_eq!(rt; (call, answered, told == 0), (call, wanted, is_refused));
 }
 
 #[test]

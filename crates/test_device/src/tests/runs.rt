@@ -1,7 +1,7 @@
 //! Runs to the end, whatever the schedule.
 use super::{chains, expect_list, plan_of, run, vector};
 use csq_device::{Free, Gate, Plan, Point, Totals};
-use csq_list::{ChainList, PendingList, VecList};
+use csq_list::{ChainList, ListNew, PendingList, VecList};
 use std::process::Abort;
 use std::sync::Wait;
 use std::sync::atomic::{AtomicU64, Ordering};
@@ -131,15 +131,24 @@ fn each_irp_over_chains_is_accounted_for_in_fifty_more_schedules(rt: HostRuntime
 // How many IRPs of each of four file objects may be listed.
 const LIMITS: [u32; 4] = [1, 2, 4, 64];
 
+// Runs a device over this list, once it was made.
+fn account_for_made<L, R>(rt: &R, plan: Plan, list: Result<L, ListNew>)
+where
+    L: PendingList + Drop + Send,
+    R: Threads + Wait + AllocGlobal + Abort + Sync,
+{
+    account_for(rt, plan, expect_list(rt, list), Free);
+}
+
 // Runs devices over both lists with these limits.
 fn account_under_limits<R>(rt: &R, plan: Plan)
 where
     R: Threads + Wait + AllocGlobal + Abort + Sync,
 {
     let list = VecList::with_file_limits(rt.alloc(), 64, 4, 64, &LIMITS);
-    account_for(rt, plan, expect_list(rt, list), Free);
+    account_for_made(rt, plan, list);
     let list = ChainList::with_file_limits(rt.alloc(), 64, 4, 64, &LIMITS);
-    account_for(rt, plan, expect_list(rt, list), Free);
+    account_for_made(rt, plan, list);
 }
 
 // What a file object's limit refuses stays home.
