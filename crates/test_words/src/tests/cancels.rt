@@ -81,8 +81,7 @@ fn flag_stale(
     ensures here { IsHere words.now.table pass.new }
     ensures outside { inside_of (pass_record pass.new).steps ≡ Nothing }
 {
-    let cancel = pass.read_cancel(words, ZERO);
-    let status = pass.read_status(words, ZERO);
+    let before = (pass.read_cancel(words, ZERO), pass.read_status(words, ZERO));
     let found = pass.flag(words, name);
     assert!(rt; found / 2 == u64::from(present.life.0));
     let (_, set) = flag_read(found);
@@ -91,8 +90,8 @@ fn flag_stale(
         kind: Kind::Flag(name),
     };
     assert_eq!(rt; machine.step(step), Err(StepRefused::Stale(present.life)));
-    assert_eq!(rt; pass.read_cancel(words, ZERO), cancel);
-    assert_eq!(rt; pass.read_status(words, ZERO), status);
+    let after = (pass.read_cancel(words, ZERO), pass.read_status(words, ZERO));
+    assert_eq!(rt; after, before);
     set
 }
 

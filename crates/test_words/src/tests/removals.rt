@@ -79,6 +79,7 @@ fn find_taken(
     let found = queue.disarm(words, call, name);
     compare(rt, machine, 3, Kind::Disarm(name), found % 2);
     assert!(rt; found % 2 == 0);
+    assert_eq!(rt; found, 2 * u64::from(name.life.0));
     queue.note(words, call, Note::Event);
     compare(rt, machine, 3, Kind::End, 0);
     queue.leave(words, pass);

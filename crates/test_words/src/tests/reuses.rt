@@ -88,10 +88,9 @@ impl Case {
         let life = self.life;
         let name = IrpLife { irp: ZERO, life };
         self.queue.enter(&self.words, &mut self.one);
-        let (life, status) = status_read(self.queue.look(&self.words, REUSE, ZERO));
-        assert_eq!(rt; life, name.life);
+        let (read, status) = status_read(self.queue.look(&self.words, REUSE, ZERO));
         assert!(rt; status.is_some());
-        assert_eq!(rt; status, Some(due));
+        assert_eq!(rt; (read, status), (life, Some(due)));
         self.stage = Stage::Looked;
         self.inserter = Hand::Away;
     }
