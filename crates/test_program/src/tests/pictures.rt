@@ -1,8 +1,7 @@
 //! Pictures that the program draws, and help that it tells in either way.
-use super::process::Process;
+use super::process::{Process, run};
 use super::shell::look_for;
-use csq_program::run_program;
-use std::process::{Abort, ExitCode};
+use std::process::Abort;
 use std::sync::Wait;
 use std::thread::Threads;
 
@@ -12,11 +11,9 @@ fn help_of_a_command_is_told_either_way(rt: HostRuntime) {
     for command in ["schedule", "draw", "script", "run"] {
         let before = ["csqsim", "help", command];
         let behind = ["csqsim", command, "--help"];
-        let process = Process::new(&rt, &before, "", usize::MAX);
-        assert_eq!(rt; run_program(&process), ExitCode::SUCCESS, "at {command}");
-        let (told, _) = process.into_printed();
-        look_for(&rt, &behind, false, told.as_str());
-        assert!(rt; told.as_str().contains("Options:"), "at {command}");
+        let ended = run(Process::new(&rt, &before, "", usize::MAX));
+        ended.look_for(&rt, 0, "Options:", &before);
+        look_for(&rt, &behind, false, ended.printed.as_str());
     }
 }
 
@@ -28,15 +25,8 @@ fn draw<'a, R: AllocGlobal + Threads + Wait + Abort + Sync>(
     wanted: &str,
     status: u8,
 ) {
-    let process = Process::new(rt, words, input, usize::MAX);
-    assert_eq!(rt;
-        run_program(&process),
-        ExitCode::from(status),
-        "at {words:?}"
-    );
-    let (printed, told) = process.into_printed();
-    assert!(rt; printed.as_str().contains(wanted), "at {words:?}");
-    assert_eq!(rt; told.as_str(), "", "at {words:?}");
+    let ended = run(Process::new(rt, words, input, usize::MAX));
+    ended.look_for(rt, status, wanted, words);
 }
 
 // A schedule is drawn, with a refused step as its last one, whose status is 2.

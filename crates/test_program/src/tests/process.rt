@@ -1,9 +1,11 @@
 //! A process of a test's own: its words and its input are given, and what it prints is kept.
+use csq_program::run_program;
 use std::alloc::{Allocator, Global};
 use std::env::FillError;
 use std::fmt::Display;
 use std::io;
 use std::io::{BufRead, Error, ErrorKind, Lines, Read};
+use std::process::{Abort, ExitCode};
 use std::rt::Env;
 use std::sync::{Mutex, Wait};
 use std::thread::Threads;
@@ -59,8 +61,57 @@ impl<'a, R: AllocGlobal> Process<'a, R> {
     }
 
     /// What was printed on standard output, and on standard error.
-    pub(crate) fn into_printed(self) -> (String, String) {
+    fn into_printed(self) -> (String, String) {
         (self.output.into_inner(), self.errors.into_inner())
+    }
+}
+
+/// How a process ended, and what it printed on standard output and on standard error.
+#[derive(Drop)]
+pub(crate) struct Ended {
+    pub(crate) status: ExitCode,
+    pub(crate) printed: String,
+    pub(crate) told: String,
+}
+
+impl Ended {
+    /// Compares it with what is wanted.
+    pub(crate) fn compare(
+        &self,
+        rt: &impl Abort,
+        status: u8,
+        printed: &str,
+        told: &str,
+        at: &[&str],
+    ) {
+        assert!(rt; self.status == ExitCode::from(status), "at {at:?}");
+        assert!(rt; self.printed.as_str() == printed, "at {at:?}");
+        assert!(rt; self.told.as_str() == told, "at {at:?}");
+    }
+
+    /// Looks for a text on standard output. Nothing is told on standard error.
+    pub(crate) fn look_for(&self, rt: &impl Abort, status: u8, wanted: &str, at: &[&str]) {
+        assert!(rt; self.status == ExitCode::from(status), "at {at:?}");
+        assert!(rt; self.printed.as_str().contains(wanted), "at {at:?}");
+        assert!(rt; self.told.as_str() == "", "at {at:?}");
+    }
+
+    /// Looks for a text on standard error. Nothing is printed, and the command line is refused.
+    pub(crate) fn look_for_refusal(&self, rt: &impl Abort, wanted: &str, at: &[&str]) {
+        assert!(rt; self.status == ExitCode::from(2), "at {at:?}");
+        assert!(rt; self.told.as_str().contains(wanted), "at {at:?}");
+        assert!(rt; self.printed.as_str() == "", "at {at:?}");
+    }
+}
+
+/// Runs the program in a process.
+pub(crate) fn run<R: AllocGlobal + Threads + Wait + Sync>(process: Process<'_, R>) -> Ended {
+    let status = run_program(&process);
+    let (printed, told) = process.into_printed();
+    Ended {
+        status,
+        printed,
+        told,
     }
 }
 

@@ -1,8 +1,7 @@
 //! What the program reads, prints and ends with, on whole command lines.
-use super::process::Process;
-use csq_program::run_program;
+use super::process::{Process, run};
 use csq_replay::MAX_INPUT;
-use std::process::{Abort, ExitCode};
+use std::process::Abort;
 use std::sync::Wait;
 use std::test::Fail;
 use std::thread::Threads;
@@ -26,15 +25,8 @@ pub(super) fn compare<R: AllocGlobal + Threads + Wait + Abort + Sync>(rt: &R, ca
         errors,
         status,
     } = case;
-    let process = Process::new(rt, words, input, usize::MAX);
-    assert_eq!(rt;
-        run_program(&process),
-        ExitCode::from(*status),
-        "at {words:?}"
-    );
-    let (printed, told) = process.into_printed();
-    assert_eq!(rt; printed.as_str(), *output, "at {words:?}");
-    assert_eq!(rt; told.as_str(), *errors, "at {words:?}");
+    let ended = run(Process::new(rt, words, input, usize::MAX));
+    ended.compare(rt, *status, output, errors, words);
 }
 
 #[test]
@@ -217,10 +209,7 @@ fn refuse_size<'a, R: AllocGlobal + Threads + Wait + Abort + Sync>(
     words: &'a [&'a str],
 ) {
     let process = Process::new(rt, words, "", usize::MAX).with_failing_input();
-    assert_eq!(rt; run_program(&process), ExitCode::from(2), "at {words:?}");
-    let (printed, told) = process.into_printed();
-    assert_eq!(rt; printed.as_str(), "", "at {words:?}");
-    assert_eq!(rt; told.as_str(), "csqsim: bad size\n", "at {words:?}");
+    run(process).compare(rt, 2, "", "csqsim: bad size\n", words);
 }
 
 #[test]
@@ -243,17 +232,12 @@ pub(super) fn look_for<'a, R: AllocGlobal + Threads + Wait + Abort + Sync>(
     refused: bool,
     wanted: &str,
 ) {
-    let process = Process::new(rt, words, "", usize::MAX);
-    let ended = run_program(&process);
-    let (printed, told) = process.into_printed();
-    let (text, other, status) = if refused {
-        (told, printed, 2)
+    let ended = run(Process::new(rt, words, "", usize::MAX));
+    if refused {
+        ended.look_for_refusal(rt, wanted, words);
     } else {
-        (printed, told, 0)
-    };
-    assert_eq!(rt; ended, ExitCode::from(status), "at {words:?}");
-    assert!(rt; text.as_str().contains(wanted), "at {words:?}");
-    assert_eq!(rt; other.as_str(), "", "at {words:?}");
+        ended.look_for(rt, 0, wanted, words);
+    }
 }
 
 // A command and an option are written whole.
@@ -317,10 +301,7 @@ fn command_lines_are_refused_on_standard_error(rt: HostRuntime) {
 fn a_word_that_is_no_text_is_refused(rt: HostRuntime) {
     let words = ["csqsim", "script"];
     let process = Process::new(&rt, &words, "", usize::MAX).with_word(b"\xFF");
-    assert_eq!(rt; run_program(&process), ExitCode::from(2));
-    let (printed, told) = process.into_printed();
-    assert_eq!(rt; printed.as_str(), "");
-    assert!(rt; told.as_str().contains("an argument isn't UTF-8"));
+    run(process).look_for_refusal(&rt, "an argument isn't UTF-8", &words);
 }
 
 #[test]
@@ -350,11 +331,8 @@ fn fail_to_write<'a, R: AllocGlobal + Threads + Wait + Abort + Sync>(
     rt: &'a R,
     words: &'a [&'a str],
 ) {
-    let process = Process::new(rt, words, "", 3);
-    assert_eq!(rt; run_program(&process), ExitCode::FAILURE, "at {words:?}");
-    let (printed, told) = process.into_printed();
-    assert_eq!(rt; printed.as_str(), "", "at {words:?}");
-    assert_eq!(rt; told.as_str(), "csqsim: write failed\n", "at {words:?}");
+    let ended = run(Process::new(rt, words, "", 3));
+    ended.compare(rt, 1, "", "csqsim: write failed\n", words);
 }
 
 // What can't be written is a fault, whichever command writes it.
@@ -377,10 +355,7 @@ fn a_failed_read_is_a_fault(rt: HostRuntime) {
     for command in ["schedule", "draw", "script"] {
         let words = ["csqsim", command];
         let process = Process::new(&rt, &words, "flag 0\n", usize::MAX).with_failing_input();
-        assert_eq!(rt; run_program(&process), ExitCode::FAILURE, "at {command}");
-        let (printed, told) = process.into_printed();
-        assert_eq!(rt; printed.as_str(), "", "at {command}");
-        assert_eq!(rt; told.as_str(), "csqsim: read failed\n", "at {command}");
+        run(process).compare(&rt, 1, "", "csqsim: read failed\n", &words);
     }
 }
 
