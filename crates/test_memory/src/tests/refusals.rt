@@ -56,7 +56,7 @@ fn arm_last<A: Allocator>(rt: &impl Abort, machine: &mut Machine<A>) {
         pass: PassId(1),
         kind: Kind::Arm(LAST),
     };
-    assert_eq!(rt; machine.step(arm), Ok(0));
+    assert!(rt; machine.step(arm) == Ok(0));
     assert!(rt; !machine.at_rest());
 }
 
@@ -79,8 +79,8 @@ fn flag_and_take<A: Allocator>(rt: &impl Abort, words: &Words<A>, seats: &mut Pa
     let Some(mut pass) = seats.take() else {
         panic!(rt; "no pass");
     };
-    assert_eq!(rt; pass.flag(words, LAST), 0);
-    assert_eq!(rt; pass.take(words, LAST), 0);
+    assert!(rt; pass.flag(words, LAST) == 0);
+    assert!(rt; pass.take(words, LAST) == 0);
 }
 
 // Words take nothing of the room that is left.
@@ -89,7 +89,7 @@ fn make_words<A: Allocator + Copy>(rt: &impl Abort, heap: A, room: &LocalHeap) -
         Ok((words, _queue, mut seats)) => {
             let used = room.used();
             flag_and_take(rt, &words, &mut seats);
-            assert_eq!(rt; room.used(), used);
+            assert!(rt; room.used() == used);
             Outcome::Done
         }
         Err(WordsNew::Memory) => Outcome::WantOfMemory,
@@ -136,7 +136,7 @@ fn make_over_used<L: PendingList + Drop, A: Allocator + Copy>(
     mut list: L,
 ) -> Outcome {
     let closed = list.close_file(FileId(1));
-    assert_eq!(rt; closed, Ok(()));
+    assert!(rt; closed == Ok(()));
     match Blank::new(heap, list, 4, 2) {
         Ok(_) => Outcome::Wrong,
         Err(refused) => match refused.cause {
@@ -177,11 +177,8 @@ fn refuse_call(
     let heap = RefusingHeap::new(room, call);
     let outcome = make(rt, product, &heap, room)?;
     let refused = heap.has_refused();
-    assert!(rt; outcome != Outcome::Wrong, "at call {call}");
-    assert!(rt;
-        (outcome == Outcome::WantOfMemory) == refused,
-        "at call {call}"
-    );
+    let right = outcome != Outcome::Wrong && (outcome == Outcome::WantOfMemory) == refused;
+    assert!(rt; right, "at call {call}");
     Ok(refused)
 }
 
@@ -193,7 +190,7 @@ fn refuse_and_give_back(
 ) -> Result<bool, Fail> {
     let room = LocalHeap::new(rt.alloc(), ROOM)?;
     let refused = refuse_call(rt, product, &room, call)?;
-    assert_eq!(rt; room.used(), 0, "at call {call}");
+    assert!(rt; room.used() == 0, "at call {call}");
     Ok(refused)
 }
 

@@ -46,8 +46,8 @@ fn step_in_room<A: Allocator>(rt: &impl Abort, heap: &LocalHeap, machine: &mut M
             pass: PassId(pass),
             kind,
         };
-        assert_eq!(rt; machine.step(step), Ok(found));
-        assert_eq!(rt; heap.used(), used);
+        assert!(rt; machine.step(step) == Ok(found));
+        assert!(rt; heap.used() == used);
     }
 }
 

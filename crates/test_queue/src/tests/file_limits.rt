@@ -4,8 +4,11 @@ use super::calls::{
 };
 use super::irp_state::{IrpState, cancelled, listed, succeeded};
 use super::scenario::{Row, blank, by_one, by_two, run};
-use csq_list::{ChainList, InsertStatus, Peek, Place, VecList};
+use csq_list::{ChainList, InsertStatus, Peek, PendingList, Place, VecList};
 use irp_core::FileId;
+use std::alloc::Allocator;
+use std::process::Abort;
+use std::sync::Wait;
 use std::test::Fail;
 
 // How many IRPs each of the two file objects may have listed.
@@ -41,20 +44,27 @@ fn left_by_limits_met_and_freed() -> [IrpState; 4] {
     ]
 }
 
+// Makes these calls over a list with limits.
+fn run_with_limits<L: PendingList + Drop, A: Allocator + Copy, R: Wait + Abort>(
+    rt: &R,
+    alloc: A,
+    list: L,
+) {
+    let blank = blank(rt, alloc, list, 2);
+    let left = left_by_limits_met_and_freed();
+    run(rt, blank, &limits_met_and_freed(), &left, Some(THREE));
+}
+
 #[test]
 fn a_file_limit_is_met_and_freed(rt: HostRuntime) -> Result<(), Fail> {
     let list = VecList::with_file_limits(rt.alloc(), 4, 2, 4, &LIMITS)?;
-    let blank = blank(&rt, rt.alloc(), list, 2);
-    let left = left_by_limits_met_and_freed();
-    run(&rt, blank, &limits_met_and_freed(), &left, Some(THREE));
+    run_with_limits(&rt, rt.alloc(), list);
     Ok(())
 }
 
 #[test]
 fn a_file_limit_over_chains_is_met_and_freed(rt: HostRuntime) -> Result<(), Fail> {
     let list = ChainList::with_file_limits(rt.alloc(), 4, 2, 4, &LIMITS)?;
-    let blank = blank(&rt, rt.alloc(), list, 2);
-    let left = left_by_limits_met_and_freed();
-    run(&rt, blank, &limits_met_and_freed(), &left, Some(THREE));
+    run_with_limits(&rt, rt.alloc(), list);
     Ok(())
 }

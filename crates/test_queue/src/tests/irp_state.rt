@@ -94,5 +94,8 @@ pub(super) fn check_rest<L: PendingList + Drop, A: Allocator, R: Abort>(
         irp = IrpId(irp.0.wrapping_add(1));
     }
     assert!(rt; rest.life(irp).is_none());
-    assert_eq!(rt; rest.next_listed(None), listed);
+    assert!(rt;
+        rest.next_listed(None) == listed,
+        "another IRP is listed first"
+    );
 }

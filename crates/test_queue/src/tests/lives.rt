@@ -6,6 +6,7 @@ use super::scenario::{Row, by_one, by_two, run};
 use csq_list::{ChainList, PendingList, VecList};
 use csq_queue::{Blank, CancelRefused, NewCause, ReuseRefused};
 use irp_core::{Life, NtStatus};
+use std::alloc::Allocator;
 use std::process::Abort;
 use std::sync::Wait;
 use std::test::Fail;
@@ -38,19 +39,23 @@ fn run_from<R: Wait + AllocGlobal + Abort>(
     Ok(())
 }
 
-// Why no queue begins in this life.
-fn cause_in(rt: &HostRuntime, first: Life) -> Result<Option<NewCause>, Fail> {
-    let list = VecList::new(rt.alloc(), 2, 1, 2)?;
-    match Blank::new_at(rt.alloc(), list, 2, 2, first) {
-        Ok(_) => Ok(None),
-        Err(refused) => Ok(Some(refused.cause)),
+// Why no queue over this list begins in this life.
+fn cause_at<L: PendingList + Drop, A: Allocator + Copy>(
+    alloc: A,
+    list: L,
+    first: Life,
+) -> Option<NewCause> {
+    match Blank::new_at(alloc, list, 2, 2, first) {
+        Ok(_) => None,
+        Err(refused) => Some(refused.cause),
     }
 }
 
 #[test]
 fn no_queue_begins_after_the_last_life(rt: HostRuntime) -> Result<(), Fail> {
-    let after = cause_in(&rt, Life(1_073_741_824))?;
-    assert_eq!(rt; after, Some(NewCause::BadSize));
+    let list = VecList::new(rt.alloc(), 2, 1, 2)?;
+    let cause = cause_at(rt.alloc(), list, Life(1_073_741_824));
+    assert_eq!(rt; cause, Some(NewCause::BadSize));
     Ok(())
 }
 

@@ -2,7 +2,7 @@
 ghost use Rattle.std.specs.Prelude.{◌≡◌};
 
 use super::calls::{Answer, Call, PENDING, ZERO, complete, got, insert, remove_next};
-use super::irp_state::{IrpState, check_rest, home};
+use super::irp_state::{IrpState, home};
 use super::scenario::{Row, begin, blank, by_one, end, go_on, run};
 use super::two_callers::{left_by_removal_and_cleanup, removal_and_cleanup};
 use csq_list::{ChainList, PendingList, VecList};
@@ -10,7 +10,7 @@ use csq_queue::{Blank, QueueName};
 use irp_core::Life;
 use linked_list_allocator::LocalHeap;
 use refusing_heap::RefusingHeap;
-use std::alloc::Global;
+use std::alloc::{Allocator, Global};
 use std::marker::Brand;
 use std::process::Abort;
 use std::sync::Wait;
@@ -59,42 +59,40 @@ fn all_home(first: Life) -> [IrpState; 4] {
 }
 
 // The heap of a queue has as much in use after these calls as before.
-fn reuse_on<'a, N: QueueName, R: Wait + Abort>(
+fn reuse_on<L: PendingList + Drop, N: QueueName, A: Allocator, R: Wait + Abort>(
     rt: &R,
-    heap: &'a LocalHeap,
-    blank: Blank<VecList, &'a LocalHeap>,
+    heap: &LocalHeap,
+    blank: Blank<L, A>,
 )
     requires { blank ≡ record { table = N.table; limits = N.limits } }
 {
-    let fixture = begin::<VecList, N, _, R>(rt, blank);
+    let fixture = begin::<L, N, A, R>(rt, blank);
     let used = heap.used();
     let fixture = go_on(rt, fixture, &one_life());
     assert_eq!(rt; heap.used(), used);
-    let rest = end(rt, fixture);
-    check_rest(rt, &rest, &all_home(Life(1)), None);
+    end(rt, fixture, &all_home(Life(1)), None);
 }
 
 #[test]
 fn a_reuse_takes_no_memory(rt: HostRuntime) -> Result<(), Fail> {
     let heap = LocalHeap::new(rt.alloc(), 1 << 16)?;
     let list = VecList::new(rt.alloc(), 4, 2, 4)?;
-    reuse_on::<Brand, _>(&rt, &heap, blank(&rt, &heap, list, 2));
+    reuse_on::<VecList, Brand, _, _>(&rt, &heap, blank(&rt, &heap, list, 2));
     Ok(())
 }
 
 // Closes a queue that has taken memory of this heap, and drops what is left of it.
-fn close_and_drop<'a, N: QueueName, R: Wait + Abort>(
+fn close_and_drop<L: PendingList + Drop, N: QueueName, A: Allocator, R: Wait + Abort>(
     rt: &R,
-    heap: &'a LocalHeap,
-    blank: Blank<VecList, &'a LocalHeap>,
+    heap: &LocalHeap,
+    blank: Blank<L, A>,
     before: usize,
 )
     requires { blank ≡ record { table = N.table; limits = N.limits } }
 {
-    let fixture = begin::<VecList, N, _, R>(rt, blank);
+    let fixture = begin::<L, N, A, R>(rt, blank);
     assert!(rt; heap.used() > before);
-    let rest = end(rt, fixture);
-    check_rest(rt, &rest, &all_home(Life(0)), None);
+    end(rt, fixture, &all_home(Life(0)), None);
 }
 
 #[test]
@@ -102,7 +100,7 @@ fn a_closed_queue_gives_its_memory_back(rt: HostRuntime) -> Result<(), Fail> {
     let heap = LocalHeap::new(rt.alloc(), 1 << 16)?;
     let before = heap.used();
     let list = VecList::new(rt.alloc(), 4, 2, 4)?;
-    close_and_drop::<Brand, _>(&rt, &heap, blank(&rt, &heap, list, 2), before);
+    close_and_drop::<VecList, Brand, _, _>(&rt, &heap, blank(&rt, &heap, list, 2), before);
     assert_eq!(rt; heap.used(), before);
     Ok(())
 }

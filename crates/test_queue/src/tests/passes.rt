@@ -2,14 +2,15 @@
 ghost use Rattle.std.specs.Prelude.{◌≡◌};
 
 use super::caller::{Caller, Holding, make};
-use super::calls::{Answer, Call, ONE, PENDING, ZERO, got, insert, remove_next};
+use super::calls::{Answer, Call, FIRST, PENDING, ZERO, got, insert, remove_next};
+use super::irp_state::{check_rest, home, listed};
 use super::scenario::{
     Fixture, begin, by_one, by_two, close, close_early, close_refused, give_back, go_on, small,
     small_chains, take,
 };
 use crate::insert_pending;
 use csq_list::{ChainList, PendingList, VecList};
-use csq_queue::{Back, Blank, CloseCause, CloseRefused, Csq, Pass, PassRack, QueueName, Rest};
+use csq_queue::{Back, Blank, CloseCause, CloseRefused, Csq, Pass, PassRack, QueueName};
 use irp_core::{FileId, FinalStatus};
 use std::alloc::Allocator;
 use std::marker::Brand;
@@ -118,7 +119,7 @@ fn close_early_with<L: PendingList + Drop, N: QueueName, A: Allocator, R: Abort>
         Err(refused) => refused,
         Ok(_) => panic!(rt; "closed"),
     };
-    assert_eq!(rt; refused.cause, CloseCause::PassesOut(1));
+    assert!(rt; refused.cause == CloseCause::PassesOut(1));
     let CloseRefused {
         cause: _,
         queue,
@@ -131,12 +132,6 @@ fn close_early_with<L: PendingList + Drop, N: QueueName, A: Allocator, R: Abort>
         two,
         rack,
     }
-}
-
-// What is left of a queue that was closed with an IRP listed.
-fn check_listed<L: PendingList + Drop, A: Allocator, R: Abort>(rt: &R, rest: &Rest<L, A>) {
-    assert_eq!(rt; rest.next_listed(None), Some(ZERO));
-    assert!(rt; !rest.is_home(ZERO) && rest.is_home(ONE));
 }
 
 // Closes a queue with the receipts of both other passes.
@@ -153,8 +148,9 @@ fn close_with_both<L: PendingList + Drop, N: QueueName, A: Allocator, R: Wait + 
     } = fixture;
     let second = receipt(rt, &queue, two);
     let mut receipts = [second, third];
+    let left = [listed(FIRST), home(FIRST), home(FIRST), home(FIRST)];
     match queue.close_with(one, rack, &mut receipts) {
-        Ok(rest) => check_listed(rt, &rest),
+        Ok(rest) => check_rest(rt, &rest, &left, Some(ZERO)),
         Err(_) => panic!(rt; "not closed"),
     }
 }

@@ -5,9 +5,7 @@ use super::caller::{Caller, make};
 use super::calls::{Answer, Call};
 use super::irp_state::{IrpState, check_rest};
 use csq_list::{ChainList, PendingList, VecList};
-use csq_queue::{
-    Blank, CloseCause, CloseRefused, Csq, InsertContext, Pass, PassRack, QueueName, Rest,
-};
+use csq_queue::{Blank, CloseCause, CloseRefused, Csq, InsertContext, Pass, PassRack, QueueName};
 use irp_core::IrpId;
 use std::alloc::Allocator;
 use std::marker::Brand;
@@ -163,10 +161,9 @@ pub(super) fn close<L: PendingList + Drop, N: QueueName, A: Allocator, R: Abort>
     queue: Csq<L, N, A>,
     pass: Pass<N>,
     rack: PassRack<N>,
-) -> Rest<L, A> {
-    match queue.close(pass, rack) {
-        Ok(rest) => rest,
-        Err(_) => panic!(rt; "not closed"),
+) {
+    if queue.close(pass, rack).is_err() {
+        panic!(rt; "not closed");
     }
 }
 
@@ -184,7 +181,7 @@ pub(super) fn close_refused<L: PendingList + Drop, N: QueueName, A: Allocator, R
         Err(refused) => refused,
         Ok(_) => panic!(rt; "closed"),
     };
-    assert_eq!(rt; refused.cause, cause);
+    assert!(rt; refused.cause == cause);
     let CloseRefused {
         cause: _,
         queue,
@@ -215,11 +212,14 @@ pub(super) fn close_early<L: PendingList + Drop, N: QueueName, A: Allocator, R: 
     }
 }
 
-// Gives the second pass back, and closes the queue with the first.
+// Gives the second pass back, closes the queue with the first, and compares what is left of each IRP and
+// which one is listed first.
 pub(super) fn end<L: PendingList + Drop, N: QueueName, A: Allocator, R: Wait + Abort>(
     rt: &R,
     fixture: Fixture<L, N, A>,
-) -> Rest<L, A> {
+    left: &[IrpState],
+    listed: Option<IrpId>,
+) {
     let Fixture {
         queue,
         one,
@@ -227,7 +227,10 @@ pub(super) fn end<L: PendingList + Drop, N: QueueName, A: Allocator, R: Wait + A
         rack,
     } = fixture;
     give_back(rt, &queue, two);
-    close(rt, queue, one, rack)
+    match queue.close(one, rack) {
+        Ok(rest) => check_rest(rt, &rest, left, listed),
+        Err(_) => panic!(rt; "not closed"),
+    }
 }
 
 fn run_named<L: PendingList + Drop, N: QueueName, A: Allocator, R: Wait + Abort>(
@@ -241,12 +244,10 @@ fn run_named<L: PendingList + Drop, N: QueueName, A: Allocator, R: Wait + Abort>
 {
     let fixture = begin::<L, N, A, R>(rt, blank);
     let fixture = go_on(rt, fixture, rows);
-    let rest = end(rt, fixture);
-    check_rest(rt, &rest, left, listed);
+    end(rt, fixture, left, listed);
 }
 
-// Makes the calls of a table over a new queue, closes it, and compares what is left of each IRP and which
-// one is listed first.
+// Makes the calls of a table over a new queue, closes it, and compares what is left.
 pub(super) fn run<L: PendingList + Drop, A: Allocator, R: Wait + Abort>(
     rt: &R,
     blank: Blank<L, A>,

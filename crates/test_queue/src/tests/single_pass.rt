@@ -11,7 +11,7 @@ use super::scenario::close;
 use csq_list::{InsertStatus, PendingList, Place, VecList};
 use csq_queue::{Blank, Csq, Inserted, Pass, QueueName};
 use irp_core::{FileId, IrpId};
-use std::alloc::{Allocator, Global};
+use std::alloc::Allocator;
 use std::marker::Brand;
 use std::process::Abort;
 use std::sync::Wait;
@@ -35,7 +35,11 @@ fn insert_alone<L: PendingList + Drop, N: QueueName, A: Allocator>(
 }
 
 // Sets the Cancel flag of an IRP, and finds it by an insert.
-fn find_flag<N: QueueName, R: Wait + Abort>(rt: &R, queue: &Csq<VecList, N>, pass: &mut Pass<N>)
+fn find_flag<L: PendingList + Drop, N: QueueName, A: Allocator, R: Wait + Abort>(
+    rt: &R,
+    queue: &Csq<L, N, A>,
+    pass: &mut Pass<N>,
+)
     requires one { N.limits.passes ≡ 1 }
     requires first { pass.old.pass ≡ pass_numbered 1 }
 {
@@ -47,7 +51,10 @@ fn find_flag<N: QueueName, R: Wait + Abort>(rt: &R, queue: &Csq<VecList, N>, pas
     }
 }
 
-fn find_flag_alone<N: QueueName, R: Wait + Abort>(rt: &R, blank: Blank<VecList, Global>)
+fn find_flag_alone<L: PendingList + Drop, N: QueueName, A: Allocator, R: Wait + Abort>(
+    rt: &R,
+    blank: Blank<L, A>,
+)
     requires named { blank ≡ record { table = N.table; limits = N.limits } }
     requires one { N.limits.passes ≡ 1 }
 {
@@ -63,7 +70,7 @@ fn find_flag_alone<N: QueueName, R: Wait + Abort>(rt: &R, blank: Blank<VecList, 
 fn a_lone_pass_finds_its_own_flag(rt: HostRuntime) -> Result<(), Fail> {
     let list = VecList::new(rt.alloc(), 4, 2, 4)?;
     match Blank::new(rt.alloc(), list, 4, 1) {
-        Ok(blank) => find_flag_alone::<Brand, _>(&rt, blank),
+        Ok(blank) => find_flag_alone::<VecList, Brand, _, _>(&rt, blank),
         Err(_) => panic!(rt; "no queue"),
     }
     Ok(())

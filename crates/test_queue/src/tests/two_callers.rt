@@ -4,13 +4,14 @@ ghost use Rattle.std.specs.Prelude.{◌≡◌};
 use super::calls::{
     Answer, Call, FIRST, FOUND_CANCELLED, ONE, PENDING, TWO, ZERO, complete, got, insert,
 };
-use super::irp_state::{IrpState, cancelled, check_rest, cleaned_up, home, succeeded};
+use super::irp_state::{IrpState, cancelled, cleaned_up, home, succeeded};
 use super::scenario::{
     Row, begin, by_one, by_two, end, go_on, run_in_chains, run_in_vector, small,
 };
-use csq_list::{InsertStatus, Place, VecList};
+use csq_list::{InsertStatus, PendingList, Place, VecList};
 use csq_queue::{Blank, CancelRefused, QueueName};
 use irp_core::{FileId, IrpId, NtStatus};
+use std::alloc::Allocator;
 use std::marker::Brand;
 use std::process::Abort;
 use std::sync::Wait;
@@ -73,20 +74,22 @@ fn reads() -> [Row; 9] {
 }
 
 // Makes these calls, and then lets both passes see the same history.
-fn read_and_meet<N: QueueName, R: Wait + Abort>(rt: &R, blank: Blank<VecList>)
+fn read_and_meet<L: PendingList + Drop, N: QueueName, A: Allocator, R: Wait + Abort>(
+    rt: &R,
+    blank: Blank<L, A>,
+)
     requires { blank ≡ record { table = N.table; limits = N.limits } }
 {
-    let fixture = begin::<VecList, N, _, R>(rt, blank);
+    let fixture = begin::<L, N, A, R>(rt, blank);
     let mut fixture = go_on(rt, fixture, &reads());
     fixture.queue.meet(rt, &mut fixture.one, &mut fixture.two);
-    let rest = end(rt, fixture);
     let left = [cancelled(FIRST), home(FIRST), home(FIRST), home(FIRST)];
-    check_rest(rt, &rest, &left, None);
+    end(rt, fixture, &left, None);
 }
 
 #[test]
 fn a_pass_reads_what_another_did(rt: HostRuntime) -> Result<(), Fail> {
-    read_and_meet::<Brand, _>(&rt, small(&rt, 2)?);
+    read_and_meet::<VecList, Brand, _, _>(&rt, small(&rt, 2)?);
     Ok(())
 }
 

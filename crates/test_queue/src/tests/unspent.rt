@@ -3,7 +3,7 @@
 ghost use Rattle.std.specs.Prelude.{◌≡◌};
 
 use super::calls::{Answer, Call, FIRST, ONE, PENDING, ZERO, complete, got, insert, remove_next};
-use super::irp_state::{IrpState, cancelled, check_rest, cleaned_up, home, listed, succeeded};
+use super::irp_state::{IrpState, cancelled, cleaned_up, home, listed, succeeded};
 use super::scenario::{
     Row, begin, by_one, by_two, close_early, end, go_on, run_in_chains, run_in_vector, small,
     small_chains,
@@ -54,7 +54,7 @@ fn calls_after_a_refused_close() -> [Row; 4] {
     ]
 }
 
-// Is refused a close while the second pass is out, and goes on with the queue that comes back.
+// Asks for the close while the second pass is out, and goes on with the queue that comes back.
 fn go_on_unclosed<L: PendingList + Drop, N: QueueName, A: Allocator, R: Wait + Abort>(
     rt: &R,
     blank: Blank<L, A>,
@@ -64,9 +64,8 @@ fn go_on_unclosed<L: PendingList + Drop, N: QueueName, A: Allocator, R: Wait + A
     let fixture = begin::<L, N, A, R>(rt, blank);
     let fixture = close_early(rt, fixture, 1);
     let fixture = go_on(rt, fixture, &calls_after_a_refused_close());
-    let rest = end(rt, fixture);
     let left = [succeeded(FIRST), listed(FIRST), home(FIRST), home(FIRST)];
-    check_rest(rt, &rest, &left, Some(ONE));
+    end(rt, fixture, &left, Some(ONE));
 }
 
 #[test]
