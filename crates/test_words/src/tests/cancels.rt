@@ -157,61 +157,56 @@ impl Case {
         self.canceller = Hand::Away;
     }
 
+    // Pass 1 flags another life than the present one, and answers the flag found.
+    fn flag_stale_by_one(&mut self, rt: &impl Abort, name: IrpLife, present: IrpLife) -> bool
+        requires irp { name.irp.0 ≡ 0 }
+        requires other { (life_of name ≡ life_of present) → ⊥ }
+    {
+        let Hand::Here(Doing::Nothing) = self.inserter else {
+            panic!(rt; "pass 1 is busy");
+        };
+        let (machine, words) = (&mut self.machine, &self.words);
+        flag_stale(rt, machine, words, &mut self.one, 1, name, present)
+    }
+
+    // Pass 2 flags another life than the present one, and answers the flag found.
+    fn flag_stale_by_two(&mut self, rt: &impl Abort, name: IrpLife, present: IrpLife) -> bool
+        requires irp { name.irp.0 ≡ 0 }
+        requires other { (life_of name ≡ life_of present) → ⊥ }
+    {
+        let Hand::Here(Doing::Nothing) = self.canceller else {
+            panic!(rt; "pass 2 is busy");
+        };
+        let (machine, words) = (&mut self.machine, &self.words);
+        flag_stale(rt, machine, words, &mut self.two, 2, name, present)
+    }
+
+    // Pass 3 flags another life than the present one, and answers the flag found.
+    fn flag_stale_by_three(&mut self, rt: &impl Abort, name: IrpLife, present: IrpLife) -> bool
+        requires irp { name.irp.0 ≡ 0 }
+        requires other { (life_of name ≡ life_of present) → ⊥ }
+    {
+        let Hand::Here(Doing::Nothing) = self.remover else {
+            panic!(rt; "pass 3 is busy");
+        };
+        let (machine, words) = (&mut self.machine, &self.words);
+        flag_stale(rt, machine, words, &mut self.three, 3, name, present)
+    }
+
     // A pass flags another life than the present one, and finds the flag of the present life so.
     pub(super) fn flag_stale(&mut self, rt: &impl Abort, by: By, life: Life, wanted: bool) {
-        let (name, present) = (
-            IrpLife { irp: ZERO, life },
-            IrpLife {
-                irp: ZERO,
-                life: self.life,
-            },
-        );
+        let name = IrpLife { irp: ZERO, life };
+        let present = IrpLife {
+            irp: ZERO,
+            life: self.life,
+        };
         if life.0 == self.life.0 {
             panic!(rt; "the life is the present one");
         }
         let found = match by {
-            By::Inserter => {
-                let Hand::Here(Doing::Nothing) = self.inserter else {
-                    panic!(rt; "pass 1 is busy");
-                };
-                flag_stale(
-                    rt,
-                    &mut self.machine,
-                    &self.words,
-                    &mut self.one,
-                    1,
-                    name,
-                    present,
-                )
-            }
-            By::Canceller => {
-                let Hand::Here(Doing::Nothing) = self.canceller else {
-                    panic!(rt; "pass 2 is busy");
-                };
-                flag_stale(
-                    rt,
-                    &mut self.machine,
-                    &self.words,
-                    &mut self.two,
-                    2,
-                    name,
-                    present,
-                )
-            }
-            By::Remover => {
-                let Hand::Here(Doing::Nothing) = self.remover else {
-                    panic!(rt; "pass 3 is busy");
-                };
-                flag_stale(
-                    rt,
-                    &mut self.machine,
-                    &self.words,
-                    &mut self.three,
-                    3,
-                    name,
-                    present,
-                )
-            }
+            By::Inserter => self.flag_stale_by_one(rt, name, present),
+            By::Canceller => self.flag_stale_by_two(rt, name, present),
+            By::Remover => self.flag_stale_by_three(rt, name, present),
         };
         assert_eq!(rt; found, wanted);
     }
