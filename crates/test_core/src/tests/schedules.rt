@@ -386,8 +386,24 @@ fn size_of<R: AllocGlobal>(
     Machine::new_at(rt.alloc(), irps, passes, Life(first)).map(|made| (made.irps(), made.passes()))
 }
 
+/// The same of a machine whose IRPs begin in life 0.
+fn size_of_new<R: AllocGlobal>(rt: &R, irps: u32, passes: u32) -> Result<(u32, u32), MachineNew> {
+    Machine::new(rt.alloc(), irps, passes).map(|made| (made.irps(), made.passes()))
+}
+
 #[test]
 fn sizes_have_limits(rt: HostRuntime) {
+    for (irps, passes) in &[(1, 1), (1024, 64)] {
+        assert_eq!(rt; size_of_new(&rt, *irps, *passes), Ok((*irps, *passes)));
+    }
+    for (irps, passes) in &[(0, 1), (1025, 1), (1, 0), (1, 65)] {
+        assert_eq!(rt; size_of_new(&rt, *irps, *passes), Err(MachineNew::BadSize));
+    }
+    assert_eq!(rt; MachineNew::BadSize.number(), 1);
+}
+
+#[test]
+fn sizes_and_first_lives_have_limits(rt: HostRuntime) {
     for (irps, passes, first) in &[
         (1, 1, 0),
         (1024, 64, 0),
@@ -408,9 +424,8 @@ fn sizes_have_limits(rt: HostRuntime) {
             Err(MachineNew::BadSize)
         );
     }
-    let made = Machine::new(rt.alloc(), 1024, 64).map(|made| (made.irps(), made.life(IrpId(0))));
-    assert_eq!(rt; made, Ok((1024, Some(Life(0)))));
-    assert_eq!(rt; MachineNew::BadSize.number(), 1);
+    let made = Machine::new(rt.alloc(), 1024, 64).map(|made| made.life(IrpId(0)));
+    assert_eq!(rt; made, Ok(Some(Life(0))));
 }
 
 /// Run it with allocations that are refused in turn.

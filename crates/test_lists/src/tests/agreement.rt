@@ -247,6 +247,7 @@ fn both_lists_answer_long_sequences_alike(rt: HostRuntime) {
         let (mut one, mut other) = (vec_list(&rt, size), chain_list(&rt, size));
         full |= play_stream(&rt, &mut one, &mut other, size, stream);
         expect_file_limits(&rt, &mut one, size, &MANY_LIMITS);
+        expect_file_limits(&rt, &mut other, size, &MANY_LIMITS);
     }
     assert!(rt; full, "no file was full");
 }

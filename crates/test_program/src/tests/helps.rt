@@ -1,4 +1,4 @@
-//! What each command's `--help` prints, whole: its words are compared with nothing else.
+//! What each command's `--help` prints, whole. Nothing else compares all words of a help text.
 use super::shell::{Case, compare};
 
 const SCHEDULE: &str = "\

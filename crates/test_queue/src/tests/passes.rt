@@ -217,3 +217,24 @@ fn a_pass_that_is_let_go_stays_out(rt: HostRuntime) -> Result<(), Fail> {
     close_without_a_pass::<ChainList, Brand, _>(&rt, small_chains(&rt, 3)?);
     Ok(())
 }
+
+// Gives all passes back, the last one too. The queue is let go then.
+fn give_all_back<L: PendingList + Drop, N: QueueName, R: Wait + Abort>(rt: &R, blank: Blank<L>)
+    requires { blank ≡ record { table = N.table; limits = N.limits } }
+{
+    let Fixture {
+        queue,
+        one,
+        two,
+        rack: _rack,
+    } = begin::<L, N, _, R>(rt, blank);
+    give_back(rt, &queue, two);
+    give_back(rt, &queue, one);
+}
+
+#[test]
+fn the_last_pass_may_be_given_back(rt: HostRuntime) -> Result<(), Fail> {
+    give_all_back::<VecList, Brand, _>(&rt, small(&rt, 2)?);
+    give_all_back::<ChainList, Brand, _>(&rt, small_chains(&rt, 2)?);
+    Ok(())
+}

@@ -123,18 +123,24 @@ fn a_malformed_line_ends_the_handling(rt: HostRuntime) {
     compare_schedules(&rt, rt.alloc(), false, Ended::Stopped, &cases);
 }
 
+/// Both answers are the same, and end so.
+fn compare_ends(rt: &impl Abort, quick: &Answer, slow: &Answer, last: &str, at: &str) {
+    assert!(rt;
+        quick.ended.is_ok() && slow.ended == quick.ended,
+        "at {at:?}"
+    );
+    assert!(rt;
+        quick.text.as_slice().ends_with(last.as_bytes()),
+        "at {at:?}"
+    );
+    assert!(rt; slow.text.as_slice() == quick.text.as_slice(), "at {at:?}");
+}
+
 /// Answers a schedule with its claims, at once and byte by byte, and looks for the end of what is written.
 fn look_for_claims(rt: &impl Abort, alloc: Global, input: &str, last: &str) {
-    for answered in [
-        answer_at_once(alloc, true, input.as_bytes()),
-        answer_slowly(alloc, true, input.as_bytes()),
-    ] {
-        assert!(rt; answered.ended.is_ok(), "at {input:?}");
-        assert!(rt;
-            answered.text.as_slice().ends_with(last.as_bytes()),
-            "at {input:?}"
-        );
-    }
+    let quick = answer_at_once(alloc, true, input.as_bytes());
+    let slow = answer_slowly(alloc, true, input.as_bytes());
+    compare_ends(rt, &quick, &slow, last, input);
 }
 
 #[test]

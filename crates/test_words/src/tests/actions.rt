@@ -32,9 +32,9 @@ pub(super) enum Action {
     // It renews the status, which is this one.
     RenewStatus(NtStatus),
     RenewRoutine,
-    // It renews the Cancel flag, and finds it so. The next life begins.
+    // It renews the Cancel flag, which is set or clear before. The next life begins.
     RenewCancel(bool),
-    // A whole reuse after a success, which finds the Cancel flag so.
+    // A whole reuse after a success, whose Cancel flag is set or clear before.
     Reuse(bool),
     // It looks for a reuse in the last life, finds this status, and begins none.
     LookAlone(Option<NtStatus>),
@@ -52,7 +52,7 @@ pub(super) enum Action {
     FindTaken,
     // It completes what it removed, with this status.
     Complete(NtStatus),
-    // A pass flags a life that isn't the present one, and finds the flag so.
+    // A pass flags a life that isn't the present one; the flag of the present life is set or clear.
     FlagStale(By, Life, bool),
     // It reads this life and Cancel flag.
     ReadCancel(By, Life, bool),

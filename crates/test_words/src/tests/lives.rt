@@ -55,7 +55,7 @@ fn cancels_come_between_the_renewals(rt: HostRuntime) {
         take_new,
         flag_next,
         Action::RenewCancel(true),
-        // And so is the flag, which is clear.
+        // Now the flag is of the next life too, and clear.
         flag_in_vain(FIFTH),
         Action::ReadCancel(By::Canceller, SIXTH, false),
         Action::Insert,

@@ -140,7 +140,7 @@ impl Case {
         self.inserter = FREE;
     }
 
-    // A whole reuse of an IRP that was completed with success and not cancelled.
+    // A whole reuse of an IRP that was completed with success, whose Cancel flag was set or clear.
     pub(super) fn reuse(&mut self, rt: &impl Abort, set: bool) {
         self.look(rt, NtStatus::SUCCESS);
         self.renew_status(rt, NtStatus::SUCCESS);
