@@ -1,0 +1,27 @@
+-- What happened to each IRP of a queue.
+use Rattle.std.specs.Prelude.{ℕ, List}
+use Rattle.irp_core.specs.Steps.{Irp}
+use Rattle.irp_core.specs.Lives.{HasBegun}
+use Rattle.csq_list.specs.Listing.{Listing}
+use Rattle.csq_words.specs.declared.views.PassRecord.{PassRecord}
+use Rattle.csq_words.specs.declared.views.QueueRecord.{QueueRecord}
+use Rattle.csq_words.specs.Queue.{Limits}
+use Rattle.csq_words.specs.Finals.{FinalWords}
+use Rattle.csq_words.specs.Stories.{Story, IsGivenOnce}
+use Rattle.csq_queue.specs.Named.{size_of}
+use Rattle.csq_queue.specs.Told.{queue_with, SeesARun}
+use Rattle.csq_queue.specs.Rests.{IsClosed, IsRestOf}
+
+-- in what is left of a closed queue, each IRP has a story in each life that has begun
+abbrev pub EachIrpLeftHasAStory : Type 0
+EachIrpLeftHasAStory = (limits : Limits) (pass : PassRecord) (receipts : List PassRecord) (taken : ℕ) (listing : Listing) (finals : FinalWords)
+    → (rest : IsRestOf limits pass receipts taken listing finals) → (i : Irp) → HasBegun limits.first rest.last.run i → Story finals rest.queue rest.last.run i
+
+-- so it has in what is left of an open queue
+abbrev pub EachIrpOfAnOpenQueueHasAStory : Type 0
+EachIrpOfAnOpenQueueHasAStory = (limits : Limits) (taken : ℕ) (old : QueueRecord) (listing : Listing) (finals : FinalWords)
+    → (closed : IsClosed limits taken old listing finals) → (i : Irp) → HasBegun limits.first closed.last.run i → Story finals closed.queue closed.last.run i
+
+-- in what a pass has seen, each life of each IRP was given out at most once
+abbrev pub EachIrpSeenIsGivenOnce : Type 0
+EachIrpSeenIsGivenOnce = (limits : Limits) (r : PassRecord) (sees : SeesARun (size_of limits) r) (i : Irp) → IsGivenOnce (queue_with limits.first r.seen) sees.run i

@@ -1,0 +1,24 @@
+//! What happened to each IRP of a queue. Each function stands for a law: its contract is the law, and there
+//! is nothing to run.
+ghost use Rattle.csq_queue.specs.Stories.{EachIrpSeenIsGivenOnce, EachIrpLeftHasAStory, EachIrpOfAnOpenQueueHasAStory};
+
+/// What a pass has seen, after any of its calls: an IRP, in each of its lives, was inserted by at most one
+/// pass and given to at most one. In a run of all passes that agrees, this one made the one exchange that took
+/// its routine, and none but this one completes it.
+pub fn each_irp_seen_is_given_once()
+    ensures { EachIrpSeenIsGivenOnce }
+{}
+
+/// Where `Csq::close` or `Csq::close_with` answers `Ok`, there is a history of all calls and a run of all
+/// passes with one story of each IRP in each life that has begun. It was never inserted. Or one pass inserted
+/// it, and it is listed. Or one pass inserted it, and one pass was given it, by a removal, by a cancel or by its
+/// own insert: that pass made the one exchange that took its routine and the one completion, with the status
+/// that is left.
+pub fn each_irp_left_has_a_story()
+    ensures { EachIrpLeftHasAStory }
+{}
+
+/// The same where `OpenQueue::close` answers, of the history that the queue had.
+pub fn each_irp_of_an_open_queue_has_a_story()
+    ensures { EachIrpOfAnOpenQueueHasAStory }
+{}

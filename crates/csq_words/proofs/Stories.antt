@@ -1,0 +1,389 @@
+-- Where every pass is back, each life that has begun has a story.
+use Rattle.std.proofs.Common.{◌≡◌, ◌⊎◌, ℕ, ◌<◌, ◌≤◌, Bool, true, false, cond, not, ◌&&◌, ◌||◌, List, [], ◌∷◌, map, length, Some, None, inl, inr, ⊎_elim, refl, sym, ap, ◌∙◌, subst, arith}
+use Rattle.std.specs.Prelude.{slice_index}
+use Rattle.std.specs.List.{list_any, find}
+use Rattle.std.specs.Option.{option_map}
+use Rattle.std.proofs.lemmas.Bool.{cases_lt, false_from_ne_true, or_right}
+use Rattle.irp_core.specs.declared.ids.FileId.{FileId}
+use Rattle.irp_core.specs.declared.ids.IrpId.{IrpId}
+use Rattle.irp_core.specs.declared.ids.PassId.{PassId}
+use Rattle.irp_core.specs.declared.status.NtStatus.{NtStatus}
+use Rattle.irp_core.specs.declared.status.TheConstants.NtStatus.{CANCELLED}
+use Rattle.irp_core.specs.declared.step.Kind.TheVariants.{Done}
+use Rattle.irp_core.specs.declared.step.Made.{Made}
+use Rattle.irp_core.specs.declared.step.Standing.{Standing}
+use Rattle.irp_core.specs.declared.step.Standing.TheVariants.{Home, Waiting, Owed, Held, Finished}
+use Rattle.irp_core.specs.Steps.{Irp, number, life_of, same_irp, is, by, own}
+use Rattle.irp_core.specs.Words.{flagged, was_armed}
+use Rattle.irp_core.specs.Owners.{claims, dones, listed}
+use Rattle.irp_core.specs.Lives.{present_life, IsPresent, HasBegun}
+use Rattle.irp_core.specs.Runs.{Size, IsRun}
+use Rattle.irp_core.proofs.Names.{same_irp-refl, same_irp-eq, same_pass-refl, same_some}
+use Rattle.irp_core.proofs.Rows.{Row}
+use Rattle.irp_core.proofs.Owning.{stands, rest_flagged}
+use Rattle.irp_core.proofs.Resting.{unknown_stands}
+use Rattle.irp_core.proofs.Next.{inserted_listed}
+use Rattle.irp_core.proofs.Next as growing
+use Rattle.irp_core.specs.Inside.{inside}
+use Rattle.irp_core.specs.declared.step.Inside.{Inside}
+use Rattle.irp_core.specs.declared.step.Inside.TheVariants.{Nothing, Armed, FlagSeen, Removing, Cancelling}
+use Rattle.irp_core.specs.Completion.{removed}
+use Rattle.csq_list.specs.declared.entry.Place.{Place}
+use Rattle.csq_list.specs.declared.entry.Peek.{Peek}
+use Rattle.csq_list.specs.Listing.{put_at}
+use Rattle.csq_list.specs.Searches.{matches}
+use Rattle.csq_words.specs.declared.views.InsertReply.TheVariants.{Pending, Cancelled, Refused}
+use Rattle.csq_words.specs.declared.views.Event.{Event}
+use Rattle.csq_words.specs.declared.views.Event.TheVariants as event
+use Rattle.csq_words.specs.declared.views.Event.TheVariants.{FlagSeen, Mark, Insert, RemoveNext, Remove, CloseFile, Reuse}
+use Rattle.csq_words.specs.declared.views.Entry.{Entry}
+use Rattle.csq_words.specs.declared.views.Completion.{Completion}
+use Rattle.csq_words.specs.declared.views.PassRecord.{PassRecord}
+use Rattle.csq_words.specs.declared.views.QueueRecord.{QueueRecord}
+use Rattle.csq_words.specs.Queue.{Queued, QueueState, current, has_irp, has_entry, first_unmarked, without, new_entry, after_event}
+use Rattle.csq_words.specs.History.{end_of, MayStand, IsOrderly}
+use Rattle.csq_words.specs.Records.{queue_of}
+use Rattle.csq_words.specs.Own.{inside_of}
+use Rattle.csq_words.specs.Rule.{is_done, SaysStatus, IsTrueOf, AreTrueOf, inserts, IsTold}
+use Rattle.csq_words.specs.Plays.{SaysStatusOf}
+use Rattle.csq_words.specs.Words.{status_at, status_life_in, status_in}
+use Rattle.csq_words.specs.Finals.{FinalWords, final_status, IsRecordedBack, AllBack, IsFinal, InLife, shows_cancelled}
+use Rattle.csq_words.specs.Stories.{accepts, gives, inserted_by, given_to, IsOneOf, HasRecorded, Story, IsGivenOnce}
+use Rattle.csq_words.proofs.Laws.{off, dones_some, done_over}
+use Rattle.csq_words.proofs.Named.{irp_eq}
+use Rattle.csq_words.proofs.Own.{any_filtered, inside_of-own}
+use Rattle.csq_words.proofs.Truths.{left}
+use Rattle.csq_words.proofs.Renewing.{life_seen, recorded_stored}
+use Rattle.csq_words.proofs.Closing.{no_zero, cancelled_is, set_status, status_is, keeps_records}
+use Rattle.csq_words.proofs.Entries.{has_entry-marking, has_entry-placed, has_entry-without}
+use Rattle.csq_words.proofs.Claiming.{removed_claims, disarmed_claims, one_claim, out_claim, done_own, completed_has, has_status}
+
+-- what is listed with a mark, or without one, is listed
+any_less : (f g : Queued → Bool) (es : List Queued) → list_any (λ e. f e && g e) es ≡ true → list_any f es ≡ true
+any_less f g [] h = h
+any_less f g (e ∷ es) h = go (f e) (g e) (any_less f g es) h
+  where
+    go : (a b : Bool) → (list_any (λ e. f e && g e) es ≡ true → list_any f es ≡ true) → ((a && b) || list_any (λ e. f e && g e) es) ≡ true → (a || list_any f es) ≡ true
+    go true b rest h = refl
+    go false b rest h = rest h
+
+-- the first unmarked match is listed
+first_listed : (k : Peek) (es : List Queued) (j : Irp) → Some j ≡ first_unmarked k es → has_entry es j ≡ true
+first_listed k [] j h = absurd cc
+first_listed k (e ∷ es) j h = go (not e.marked && matches k e.file) (first_listed k es j) h
+  where
+    go : (b : Bool) → (Some j ≡ first_unmarked k es → has_entry es j ≡ true) → Some j ≡ option_map (λ (x : Queued). x.irp) (cond b (Some e) (find (λ (x : Queued). not x.marked && matches k x.file) es)) → (same_irp e.irp j || has_entry es j) ≡ true
+    go true rest h = let same : j ≡ e.irp = cc in rw (sym same, same_irp-refl) refl
+    go false rest h = or_right (same_irp e.irp j) (has_entry es j) (rest h)
+
+-- no insert accepted it yet
+record Unused (used entry : Bool) (inserted given : List PassId) : Type 0 where
+  unused : used ≡ false
+  unlisted : entry ≡ false
+  none : inserted ≡ []
+  to_none : given ≡ []
+
+-- an insert of one pass accepted it, and it is listed
+record Waits (run : List Made) (i : Irp) (used entry : Bool) (inserted given : List PassId) : Type 0 where
+  used_is : used ≡ true
+  listed_is : entry ≡ true
+  inserter : PassId
+  one : inserted ≡ inserter ∷ []
+  armed : was_armed (own inserter run) i ≡ true
+  to_none : given ≡ []
+
+-- it was given to one pass, which claimed it
+record IsGiven (run : List Made) (i : Irp) (used entry : Bool) (inserted given : List PassId) : Type 0 where
+  used_is : used ≡ true
+  unlisted : entry ≡ false
+  inserter : PassId
+  one : inserted ≡ inserter ∷ []
+  armed : was_armed (own inserter run) i ≡ true
+  owner : PassId
+  to_one : given ≡ owner ∷ []
+  claimed : IsOneOf owner (claims run i)
+
+-- how far the story of i is
+abbrev SoFar : List Made → Irp → Bool → Bool → List PassId → List PassId → Type 0
+SoFar run i used entry inserted given = Unused used entry inserted given ⊎ Waits run i used entry inserted given ⊎ IsGiven run i used entry inserted given
+
+module _ (run : List Made) (i : Irp) (used entry : Bool) (inserted given : List PassId) where
+  only_unused : SoFar run i used entry inserted given → used ≡ false → Unused used entry inserted given
+  only_unused (inl h) e = h
+  only_unused (inr (inl h)) e = off (sym e ∙ h.used_is)
+  only_unused (inr (inr h)) e = off (sym e ∙ h.used_is)
+
+  only_waiting : SoFar run i used entry inserted given → entry ≡ true → Waits run i used entry inserted given
+  only_waiting (inl h) e = off (sym h.unlisted ∙ e)
+  only_waiting (inr (inl h)) e = h
+  only_waiting (inr (inr h)) e = off (sym h.unlisted ∙ e)
+
+  only_given : SoFar run i used entry inserted given → used ≡ true → entry ≡ false → IsGiven run i used entry inserted given
+  only_given (inl h) e f = off (sym h.unused ∙ e)
+  only_given (inr (inl h)) e f = off (sym f ∙ h.listed_is)
+  only_given (inr (inr h)) e f = h
+
+module _ (size : Size) (run : List Made) (r : IsRun size run) (i : Irp) (u : QueueState) (inserted given : List PassId) (s : SoFar run i (has_irp u.used i) (has_entry u.entries i) inserted given) where
+  -- after an event of p
+  abbrev Next : PassId → Event → Type 0
+  Next p e = SoFar run i (has_irp (after_event u e).used i) (has_entry (after_event u e).entries i) (cond (accepts u i e) (p ∷ inserted) inserted) (cond (gives u i e) (p ∷ given) given)
+
+  pending : (p : PassId) (n : IrpId) (f : FileId) (place : Place) → has_irp u.used (current u n) ≡ false → was_armed (own p run) (current u n) ≡ true → Next p (Insert n f place Pending)
+  pending p n f place fresh armed = go (same_irp (current u n) i) refl
+    where
+      go : (b : Bool) → same_irp (current u n) i ≡ b → SoFar run i (b || has_irp u.used i) (has_entry (put_at place (new_entry (current u n) f) u.entries) i) (cond b (p ∷ inserted) inserted) given
+      go false e = subst (λ x. SoFar run i (has_irp u.used i) x inserted given) (sym (has_entry-placed place (new_entry (current u n) f) u.entries i ∙ ap (λ b. b || has_entry u.entries i) e)) s
+      go true e =
+          let same = same_irp-eq (current u n) i e in
+          let h = only_unused run i _ _ _ _ s (ap (has_irp u.used) (sym same) ∙ fresh) in inr (inl record {
+            used_is = refl;
+            listed_is = has_entry-placed place (new_entry (current u n) f) u.entries i ∙ ap (λ b. b || has_entry u.entries i) e;
+            inserter = p;
+            one = ap (λ l. p ∷ l) h.none;
+            armed = ap (was_armed (own p run)) (sym same) ∙ armed;
+            to_none = h.to_none;
+          })
+
+  took_back : (p : PassId) (n : IrpId) (f : FileId) (place : Place) → has_irp u.used (current u n) ≡ false → was_armed (own p run) (current u n) ≡ true → IsOneOf p (claims run (current u n)) → Next p (Insert n f place Cancelled)
+  took_back p n f place fresh armed claim = go (same_irp (current u n) i) refl
+    where
+      go : (b : Bool) → same_irp (current u n) i ≡ b → SoFar run i (b || has_irp u.used i) (has_entry u.entries i) (cond b (p ∷ inserted) inserted) (cond b (p ∷ given) given)
+      go false e = s
+      go true e =
+          let same = same_irp-eq (current u n) i e in
+          let h = only_unused run i _ _ _ _ s (ap (has_irp u.used) (sym same) ∙ fresh) in inr (inr record {
+            used_is = refl;
+            unlisted = h.unlisted;
+            inserter = p;
+            one = ap (λ l. p ∷ l) h.none;
+            armed = ap (was_armed (own p run)) (sym same) ∙ armed;
+            owner = p;
+            to_one = ap (λ l. p ∷ l) h.to_none;
+            claimed = subst (λ x. IsOneOf p (claims run x)) same claim;
+          })
+
+  leaves : (p : PassId) (j : Irp) → has_entry u.entries j ≡ true → IsOneOf p (claims run j) → SoFar run i (has_irp u.used i) (has_entry (without j u.entries) i) inserted (cond (same_irp j i) (p ∷ given) given)
+  leaves p j there claim = go (same_irp j i) refl
+    where
+      go : (b : Bool) → same_irp j i ≡ b → SoFar run i (has_irp u.used i) (has_entry (without j u.entries) i) inserted (cond b (p ∷ given) given)
+      go false e = subst (λ x. SoFar run i (has_irp u.used i) x inserted given) (sym (has_entry-without j u.entries i ∙ ap (λ b. not b && has_entry u.entries i) e)) s
+      go true e =
+          let same = same_irp-eq j i e in
+          let h = only_waiting run i _ _ _ _ s (ap (has_entry u.entries) (sym same) ∙ there) in inr (inr record {
+            used_is = h.used_is;
+            unlisted = has_entry-without j u.entries i ∙ ap (λ b. not b && has_entry u.entries i) e;
+            inserter = h.inserter;
+            one = h.one;
+            armed = h.armed;
+            owner = p;
+            to_one = ap (λ l. p ∷ l) h.to_none;
+            claimed = subst (λ x. IsOneOf p (claims run x)) same claim;
+          })
+
+  next : (p : PassId) (e : Event) → MayStand u e → IsTrueOf run u p e → Next p e
+  next p (FlagSeen j) may t = s
+  next p (Mark j) may t = subst (λ x. SoFar run i (has_irp u.used i) x inserted given) (sym (has_entry-marking j u.entries i)) s
+  next p (Insert n f place Pending) may t = pending p n f place may t
+  next p (Insert n f place Cancelled) may t = took_back p n f place may.0 t.arm (one_claim size run r p (current u n) (disarmed_claims (own p run) (current u n) t.disarm))
+  next p (Insert n f place (Refused cause)) may t = s
+  next p (RemoveNext k None) may t = s
+  next p (RemoveNext k (Some j)) may t = leaves p j (first_listed k u.entries j may) (one_claim size run r p j (removed_claims (own p run) j t))
+  next p (Remove j false) may t = s
+  next p (Remove j true) may t = leaves p j (any_less _ (λ (e : Queued). not e.marked) u.entries (sym may)) (one_claim size run r p j (removed_claims (own p run) j t))
+  next p (event.Out j) may t = leaves p j (any_less _ (λ (e : Queued). e.marked) u.entries may) (out_claim size run r p j t.out)
+  next p (CloseFile f) may t = s
+  next p (Reuse n life) may t = s
+
+-- how far the story of i is at the end of a history
+so_far : (size : Size) (run : List Made) → IsRun size run → (i : Irp) (first : ℕ) (history : List Entry) → IsOrderly first history → AreTrueOf first run history
+    → SoFar run i (has_irp (end_of first history).used i) (has_entry (end_of first history).entries i) (inserted_by first i history) (given_to first i history)
+so_far size run r i first [] o t = inl record { unused = refl; unlisted = refl; none = refl; to_none = refl }
+so_far size run r i first (e ∷ history) o t = next size run r i (end_of first history) (inserted_by first i history) (given_to first i history) (so_far size run r i first history o.1 t.1) e.pass e.event o.0 t.0
+
+-- what was claimed and completed once, by one pass
+record Over (claimed completed : List Made) : Type 0 where
+  owner : PassId
+  one_claim' : IsOneOf owner claimed
+  one_done : IsOneOf owner completed
+
+module _ (ever set : Bool) (cl : List Made) (ow ho dn : PassId → Bool) (ends : List Made) (left byr : Bool) (i : Irp) where
+  -- an IRP that nobody owes or holds
+  row_story : (s : Standing) → Row ever set cl ow ho dn ends left byr i s → ((p : PassId) → ow p ≡ false) → ((p : PassId) → ho p ≡ false)
+      → ((ever ≡ false) × (cl ≡ []) × (ends ≡ [])) ⊎ (((ever ≡ true) × (left ≡ false) × (cl ≡ []) × (ends ≡ [])) ⊎ ((ever ≡ true) × (left ≡ true) × Over cl ends))
+  row_story Home h o g = inl (h.ever_is, h.claims_are, h.dones_are)
+  row_story Waiting h o g = inr (inl (h.ever_is, h.left_is, h.claims_are, h.dones_are))
+  row_story (Finished status p) h o g = inr (inr (h.ever_is, h.left_is, record { owner = p; one_claim' = h.claims_are; one_done = h.dones_are }))
+  row_story (Owed p) h o g = off (sym (o p) ∙ (h.owing_is p ∙ same_pass-refl p))
+  row_story (Held p status) h o g = off (sym (g p) ∙ (h.holding_is p ∙ same_pass-refl p))
+
+module _ (size : Size) (words : List ℕ) (q : QueueRecord) (f : IsFinal size words q) (all : AllBack q) (i : Irp) (begun : HasBegun size.first f.run i) where
+  is_run : IsRun size f.run
+  is_run = f.agrees.history_is.is_run
+
+  abbrev w : ℕ
+  w = slice_index words (status_at i.irp)
+
+  abbrev finally : FinalWords
+  finally = record { irps = size.irps; words = words }
+
+  told : SoFar f.run i (has_irp (queue_of q).used i) (has_entry (queue_of q).entries i) (inserted_by q.first i q.history) (given_to q.first i q.history)
+  told = so_far size f.run is_run i q.first q.history f.agrees.history_is.orderly f.agrees.history_is.true_of
+
+  -- the status of i that p recorded
+  record HasStatus (p : PassId) : Type 0 where
+    status : NtStatus
+    recorded : HasRecorded q p i status
+    said : SaysStatusOf i status w
+    final : InLife finally i (final_status finally i.irp ≡ Some status)
+
+  -- a life that was not completed is the present one
+  now_present : dones f.run i ≡ [] → IsPresent q.first f.run i
+  now_present none = subst (λ n. IsPresent n f.run i) (sym f.agrees.history_is.first_is) (⊎_elim
+      (λ (lt : life_of i < present_life size.first f.run i.irp). let one = f.over i begun.0 lt in let zero' : length (dones f.run i) ≡ 0 = ap length none in absurd (omega (arith, one, zero')))
+      (λ (le : present_life size.first f.run i.irp ≤ life_of i). let to = begun.1 in omega (arith, le, to))
+      (cases_lt (life_of i) (present_life size.first f.run i.irp)))
+
+  -- a pass with steps is back
+  is_back : (p : PassId) → is_done (own p f.run) i ≡ true → IsRecordedBack q p
+  is_back p d = all p (⊎_elim (λ (l : p.0 < 1). nobody (no_zero size f.run is_run p (omega arith))) (λ x. x) (cases_lt p.0 1)) (⊎_elim (λ (l : q.made < p.0). nobody (f.agrees.nobody p (inr l)).0) (λ x. x) (cases_lt q.made p.0))
+    where
+      nobody : {P : Type 0} → own p f.run ≡ [] → P
+      nobody none = off (sym (ap (λ t. is_done t i) none) ∙ d)
+
+  -- the pass that completed i has recorded a status of it, which is final
+  the_status : (p : PassId) → is_done (own p f.run) i ≡ true → number i < size.irps → HasStatus p
+  the_status p d known =
+      let (k, r, at, same) = is_back p d in
+      let b = (f.agrees.backs k r at).is_record in
+      let has : has_irp (map (λ (c : Completion). c.irp) r.completed) i ≡ true = ap (λ l. has_irp l i) b.of_pass.completed_is ∙ completed_has r.steps i (ap (λ t. is_done t i) b.of_pass.steps_is ∙ (ap (λ (x : PassId). is_done (own x f.run) i) same ∙ d)) in
+      let s = has_status r.completed i has in
+      record { status = s.0; recorded = (k, r, at, same, s.1); said = recorded_stored words i s.0 r.completed b.stored s.1; final = (keeps_records size words q f).statuses k r at i s.0 known s.1 }
+
+  -- in the present life it is STATUS_CANCELLED where the history says so
+  was_cancelled : (status : NtStatus) → SaysStatusOf i status w → is_done f.run i ≡ true → number i < size.irps → IsPresent q.first f.run i → shows_cancelled q.first i q.history ≡ true → status ≡ CANCELLED
+  was_cancelled status said d known now shown = ⊎_elim
+      (λ (x : (status_life_in w ≡ life_of i) × (status_in w ≡ Some status)). same_some status CANCELLED (sym x.1 ∙ (set_status w (life_of i) _ _ d says).1 (cancelled_is q.first f.run i q.history f.agrees.history_is.true_of shown).not_removed))
+      (λ (lt : life_of i < status_life_in w). let life = life_seen w (life_of i) _ _ says in absurd (omega (arith, life, lt)))
+      said
+    where
+      same : current (queue_of q) i.irp ≡ i
+      same = irp_eq (current (queue_of q) i.irp) i refl (f.agrees.history_is.lives_are i.irp ∙ (ap (λ n. present_life n f.run i.irp) (sym f.agrees.history_is.first_is) ∙ sym now))
+
+      says : SaysStatus w (life_of i) (is_done f.run i) (removed f.run i)
+      says = subst (λ (j : Irp). SaysStatus w (life_of j) (is_done f.run j) (removed f.run j)) same (status_is size words q f i.irp known)
+
+  -- what was completed is an IRP that there is
+  done_known : is_done f.run i ≡ true → number i < size.irps
+  done_known d = ⊎_elim (λ x. x) (λ (le : size.irps ≤ number i). absurd (dones_some f.run i d (unknown_stands size i le f.run is_run).dones_are)) (cases_lt (number i) size.irps)
+
+  pub a_story : Story finally q f.run i
+  a_story = let s = stands size f.run is_run i in go (row_story _ _ _ _ _ _ _ _ _ i s.0 s.1 (λ p. f.rests.owed p i) (λ p. f.rests.held p i))
+    where
+      go : ((was_armed f.run i ≡ false) × (claims f.run i ≡ []) × (dones f.run i ≡ []))
+          ⊎ (((was_armed f.run i ≡ true) × (left f.run i ≡ false) × (claims f.run i ≡ []) × (dones f.run i ≡ [])) ⊎ ((was_armed f.run i ≡ true) × (left f.run i ≡ true) × Over (claims f.run i) (dones f.run i)))
+          → Story finally q f.run i
+      go (inl h) =
+          let u = only_unused f.run i _ _ _ _ told (f.agrees.history_is.used_is i ∙ h.0) in
+          inl (record { is_present = now_present h.2; inserted = u.none; given = u.to_none; claimed = h.1; completed = h.2 })
+      go (inr (inl h)) =
+          let there : listed f.run i ≡ true = rw (h.0, h.1) refl in
+          let u = only_waiting f.run i _ _ _ _ told (f.agrees.history_is.listed_is i ∙ there) in
+          inr (inl record {
+            is_present = now_present h.3;
+            listed = u.listed_is;
+            clear = false_from_ne_true (flagged f.run i) (λ e. rest_flagged size f.run is_run f.rests i (e, there));
+            inserter = u.inserter;
+            inserted = u.one;
+            armed = u.armed;
+            given = u.to_none;
+            claimed = h.2;
+            completed = h.3;
+          })
+      go (inr (inr h)) =
+          let gone : listed f.run i ≡ false = rw (h.0, h.1) refl in
+          let u = only_given f.run i _ _ _ _ told (f.agrees.history_is.used_is i ∙ h.0) (f.agrees.history_is.listed_is i ∙ gone) in
+          let same_claim : u.claimed.0 ≡ h.2.one_claim'.0 = cc (u.claimed.1, h.2.one_claim'.1) in
+          let owner : h.2.owner ≡ u.owner = sym h.2.one_claim'.2 ∙ (ap (λ (m : Made). m.pass) (sym same_claim) ∙ u.claimed.2) in
+          let done : IsOneOf u.owner (dones f.run i) = subst (λ p. IsOneOf p (dones f.run i)) owner h.2.one_done in
+          let d : is_done (own u.owner f.run) i ≡ true = ap (λ (p : PassId). is_done (own p f.run) i) (sym done.2) ∙ done_own f.run done.0 i done.1 in
+          let d' : is_done f.run i ≡ true = any_filtered (is (Done i)) (by u.owner) f.run d in
+          let s = the_status u.owner d (done_known d') in
+          inr (inr record {
+            unlisted = f.agrees.history_is.listed_is i ∙ gone;
+            inserter = u.inserter;
+            inserted = u.one;
+            armed = u.armed;
+            owner = u.owner;
+            given = u.to_one;
+            claimed = u.claimed;
+            completed = done;
+            status = s.status;
+            recorded = s.recorded;
+            final = s.final;
+            cancelled = was_cancelled s.status s.said d' (done_known d');
+          })
+
+-- what is in an insert is listed
+in_insert_listed : (s : Inside) (i : Irp) → inserts s i ≡ true → growing.inserts i s ≡ true
+in_insert_listed (Armed j) i h = h
+in_insert_listed (FlagSeen j) i h = h
+in_insert_listed Nothing i h = off h
+in_insert_listed Removing i h = off h
+in_insert_listed (Cancelling j) i h = off h
+
+module _ (ever set : Bool) (cl : List Made) (ow ho dn : PassId → Bool) (ends : List Made) (left byr : Bool) (i : Irp) where
+  -- who completed an IRP made its one claim
+  row_done_claim : (s : Standing) → Row ever set cl ow ho dn ends left byr i s → (p : PassId) → IsOneOf p ends → IsOneOf p cl
+  row_done_claim (Finished status o) h p d =
+      let same : d.0 ≡ h.dones_are.0 = cc (d.1, h.dones_are.1) in
+      (h.claims_are.0, h.claims_are.1, h.claims_are.2 ∙ (sym h.dones_are.2 ∙ (ap (λ (m : Made). m.pass) (sym same) ∙ d.2)))
+  row_done_claim Home h p d = absurd (cc (d.1, h.dones_are))
+  row_done_claim Waiting h p d = absurd (cc (d.1, h.dones_are))
+  row_done_claim (Owed o) h p d = absurd (cc (d.1, h.dones_are))
+  row_done_claim (Held o status) h p d = absurd (cc (d.1, h.dones_are))
+
+module _ (run : List Made) (i : Irp) (used entry : Bool) (inserted given : List PassId) where
+  inserted_once : SoFar run i used entry inserted given → length inserted ≤ 1
+  inserted_once (inl h) = rw h.none (omega arith)
+  inserted_once (inr (inl h)) = rw h.one (omega arith)
+  inserted_once (inr (inr h)) = rw h.one (omega arith)
+
+  given_once : SoFar run i used entry inserted given → length given ≤ 1
+  given_once (inl h) = rw h.to_none (omega arith)
+  given_once (inr (inl h)) = rw h.to_none (omega arith)
+  given_once (inr (inr h)) = rw h.to_one (omega arith)
+
+  given_claimed : SoFar run i used entry inserted given → (p : PassId) → given ≡ p ∷ [] → IsOneOf p (claims run i)
+  given_claimed (inl h) p e = absurd (cc (e, h.to_none))
+  given_claimed (inr (inl h)) p e = absurd (cc (e, h.to_none))
+  given_claimed (inr (inr h)) p e = let same : h.owner ≡ p = cc (e, h.to_one) in subst (λ x. IsOneOf x (claims run i)) same h.claimed
+
+module _ (size : Size) (q : QueueRecord) (r : PassRecord) (told : IsTold size q r) (i : Irp) where
+  is_run' : IsRun size told.run
+  is_run' = told.history_is.is_run
+
+  far : SoFar told.run i (has_irp (queue_of q).used i) (has_entry (queue_of q).entries i) (inserted_by q.first i q.history) (given_to q.first i q.history)
+  far = so_far size told.run is_run' i q.first q.history told.history_is.orderly told.history_is.true_of
+
+  -- what was completed is in no insert
+  no_insert : listed told.run i ≡ false → inserts (inside_of r.steps) i ≡ false
+  no_insert gone = false_from_ne_true _ (λ h. off (sym gone ∙ inserted_listed size told.run is_run' r.pass i (in_insert_listed (inside told.run r.pass) i (ap (λ s. inserts s i) (sym (inside_of-own r.pass told.run)) ∙ (ap (λ t. inserts (inside_of t) i) (sym told.pass_is.steps_is) ∙ h)))))
+
+  done_given : (p : PassId) → IsOneOf p (dones told.run i) → given_to q.first i q.history ≡ p ∷ []
+  done_given p d =
+      let s = stands size told.run is_run' i in
+      let claim = row_done_claim _ _ _ _ _ _ _ _ _ i s.0 s.1 p d in
+      let over = done_over size told.run is_run' i (any_filtered (is (Done i)) (by d.0.pass) told.run (done_own told.run d.0 i d.1)) in
+      let out = no_insert over.2 in
+      let u = only_given told.run i _ _ _ _ far (told.history_is.used_is i ∙ rw (out, over.0) refl) (told.history_is.listed_is i ∙ rw (out, over.2) refl) in
+      let same : u.claimed.0 ≡ claim.0 = cc (u.claimed.1, claim.1) in
+      let owner : u.owner ≡ p = sym u.claimed.2 ∙ (ap (λ (m : Made). m.pass) same ∙ claim.2) in
+      u.to_one ∙ ap (λ (x : PassId). x ∷ []) owner
+
+  pub is_given_once : IsGivenOnce q told.run i
+  is_given_once = record {
+    inserted = inserted_once told.run i _ _ _ _ far;
+    given = given_once told.run i _ _ _ _ far;
+    claimed = given_claimed told.run i _ _ _ _ far;
+    completed = done_given;
+  }

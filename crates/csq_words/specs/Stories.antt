@@ -1,0 +1,111 @@
+-- The story of an IRP in one of its lives: who inserted it, who was given it, who claimed it, and who completed it.
+use Rattle.std.specs.Prelude.{◌≡◌, ◌≤◌, ◌⊎◌, ℕ, Bool, true, false, List, [], ◌∷◌, length, Some, if◌then◌else◌}
+use mathlib.Core.Option.{some}
+use lib.ListN.{get_elem?}
+use Rattle.irp_core.specs.Steps.{Irp, same_irp, own}
+use Rattle.irp_core.specs.Words.{flagged, was_armed}
+use Rattle.irp_core.specs.Owners.{claims, dones}
+use Rattle.irp_core.specs.Lives.{IsPresent, HasBegun}
+use Rattle.irp_core.specs.Runs.{Size}
+use Rattle.irp_core.specs.declared.ids.PassId.{PassId}
+use Rattle.irp_core.specs.declared.status.NtStatus.{NtStatus}
+use Rattle.irp_core.specs.declared.status.TheConstants.NtStatus.{CANCELLED}
+use Rattle.irp_core.specs.declared.step.Made.{Made}
+use Rattle.csq_words.specs.declared.views.InsertReply.TheVariants.{Pending, Cancelled}
+use Rattle.csq_words.specs.declared.views.Event.{Event}
+use Rattle.csq_words.specs.declared.views.Event.TheVariants.{Insert, RemoveNext, Remove, Out}
+use Rattle.csq_words.specs.declared.views.Entry.{Entry}
+use Rattle.csq_words.specs.declared.views.PassRecord.{PassRecord}
+use Rattle.csq_words.specs.declared.views.QueueRecord.{QueueRecord}
+use Rattle.csq_words.specs.Queue.{QueueState, current, has_entry}
+use Rattle.csq_words.specs.History.{end_of}
+use Rattle.csq_words.specs.Records.{queue_of}
+use Rattle.csq_words.specs.Rule.{IsTold}
+use Rattle.csq_words.specs.Plays.{status_recorded}
+use Rattle.csq_words.specs.Finals.{FinalWords, final_status, AllBack, IsFinal, InLife, shows_cancelled}
+
+-- the event, which finds the queue so, is an insert that accepted i
+abbrev pub accepts : QueueState → Irp → Event → Bool
+accepts u i (Insert n f place Pending) = same_irp (current u n) i
+accepts u i (Insert n f place Cancelled) = same_irp (current u n) i
+accepts u i _ = false
+
+-- it gave i to its pass: by a removal, by a cancel routine, or by an insert that found it cancelled
+abbrev pub gives : QueueState → Irp → Event → Bool
+gives u i (Insert n f place Cancelled) = same_irp (current u n) i
+gives u i (RemoveNext k (Some j)) = same_irp j i
+gives u i (Remove j true) = same_irp j i
+gives u i (Out j) = same_irp j i
+gives u i _ = false
+
+-- the passes whose inserts accepted i, the newest first
+abbrev pub inserted_by : ℕ → Irp → List Entry → List PassId
+inserted_by first i [] = []
+inserted_by first i (e ∷ history) = if accepts (end_of first history) i e.event then e.pass ∷ inserted_by first i history else inserted_by first i history
+
+-- the passes that i was given to
+abbrev pub given_to : ℕ → Irp → List Entry → List PassId
+given_to first i [] = []
+given_to first i (e ∷ history) = if gives (end_of first history) i e.event then e.pass ∷ given_to first i history else given_to first i history
+
+-- the steps are one, of p
+abbrev pub IsOneOf : PassId → List Made → Type 0
+IsOneOf p steps = (m : Made) × (steps ≡ m ∷ []) × (m.pass ≡ p)
+
+-- p came back, with a record that it completed i with this status
+abbrev pub HasRecorded : QueueRecord → PassId → Irp → NtStatus → Type 0
+HasRecorded q p i status = (k : ℕ) × (r : PassRecord) × (get_elem? q.back k ≡ some r) × (r.pass ≡ p) × (status_recorded i r.completed ≡ Some status)
+
+-- i, in its present life, was never inserted: it was given to none, and none claimed or completed it
+pub record NeverInserted (q : QueueRecord) (run : List Made) (i : Irp) : Type 0 where
+  pub is_present : IsPresent q.first run i
+  pub inserted : inserted_by q.first i q.history ≡ []
+  pub given : given_to q.first i q.history ≡ []
+  pub claimed : claims run i ≡ []
+  pub completed : dones run i ≡ []
+
+-- i, in its present life, was inserted by one pass, and is listed with its flag clear: it was given to none, and none claimed or completed it
+pub record StillListed (q : QueueRecord) (run : List Made) (i : Irp) : Type 0 where
+  pub is_present : IsPresent q.first run i
+  pub listed : has_entry (queue_of q).entries i ≡ true
+  pub clear : flagged run i ≡ false
+  pub inserter : PassId
+  pub inserted : inserted_by q.first i q.history ≡ inserter ∷ []
+  pub armed : was_armed (own inserter run) i ≡ true
+  pub given : given_to q.first i q.history ≡ []
+  pub claimed : claims run i ≡ []
+  pub completed : dones run i ≡ []
+
+-- i was inserted by one pass and given to one, which made its one claim and its one completion, with the status that it recorded. In the present life this is the final status, and STATUS_CANCELLED where the history says that i was cancelled
+pub record HasEnded (finals : FinalWords) (q : QueueRecord) (run : List Made) (i : Irp) : Type 0 where
+  pub unlisted : has_entry (queue_of q).entries i ≡ false
+  pub inserter : PassId
+  pub inserted : inserted_by q.first i q.history ≡ inserter ∷ []
+  pub armed : was_armed (own inserter run) i ≡ true
+  pub owner : PassId
+  pub given : given_to q.first i q.history ≡ owner ∷ []
+  pub claimed : IsOneOf owner (claims run i)
+  pub completed : IsOneOf owner (dones run i)
+  pub status : NtStatus
+  pub recorded : HasRecorded q owner i status
+  pub final : InLife finals i (final_status finals i.irp ≡ Some status)
+  pub cancelled : IsPresent q.first run i → shows_cancelled q.first i q.history ≡ true → status ≡ CANCELLED
+
+-- what happened to i
+abbrev pub Story : FinalWords → QueueRecord → List Made → Irp → Type 0
+Story finals q run i = NeverInserted q run i ⊎ StillListed q run i ⊎ HasEnded finals q run i
+
+-- every life that has begun has a story
+abbrev pub EachIrpHasAStory : Type 0
+EachIrpHasAStory = (size : Size) (words : List ℕ) (q : QueueRecord) (last : IsFinal size words q) → AllBack q → (i : Irp) → HasBegun size.first last.run i → Story (record { irps = size.irps; words = words }) q last.run i
+
+-- of a history with which a run agrees: at most one pass inserted i, and at most one was given i. This one made the one claim of i, and who completed i was given it
+pub record IsGivenOnce (q : QueueRecord) (run : List Made) (i : Irp) : Type 0 where
+  pub inserted : length (inserted_by q.first i q.history) ≤ 1
+  pub given : length (given_to q.first i q.history) ≤ 1
+  pub claimed : (p : PassId) → given_to q.first i q.history ≡ p ∷ [] → IsOneOf p (claims run i)
+  pub completed : (p : PassId) → IsOneOf p (dones run i) → given_to q.first i q.history ≡ p ∷ []
+
+-- at every step, each life of each IRP is given out at most once
+abbrev pub EachIrpIsGivenOnce : Type 0
+EachIrpIsGivenOnce = (size : Size) (q : QueueRecord) (r : PassRecord) (told : IsTold size q r) (i : Irp) → IsGivenOnce q told.run i
