@@ -4,6 +4,7 @@ use Rattle.std.proofs.lemmas.Bool.{or_right}
 use Rattle.std.specs.List.{list_any}
 use Rattle.irp_core.specs.declared.ids.PassId.{PassId}
 use Rattle.irp_core.specs.declared.status.NtStatus.{NtStatus}
+use Rattle.irp_core.specs.declared.status.TheConstants.NtStatus.{CANCELLED}
 use Rattle.irp_core.specs.declared.step.Kind.{Kind}
 use Rattle.irp_core.specs.declared.step.Kind.TheVariants.{Arm, Test, Disarm, End, Flag, Take, Out, Done, Renew}
 use Rattle.irp_core.specs.declared.step.Made.{Made}
@@ -11,16 +12,17 @@ use Rattle.irp_core.specs.Steps.{Irp, same_irp, same_kind, is, found_one, by, ow
 use Rattle.irp_core.specs.Inside.{in_insert}
 use Rattle.irp_core.specs.Owners.{is_claim, claims, owes, dones}
 use Rattle.irp_core.specs.Runs.{Size, MayTouch, IsRun}
-use Rattle.irp_core.proofs.Names.{same_irp-eq, same_pass-eq}
+use Rattle.irp_core.proofs.Names.{same_irp-eq, same_pass-eq, same_some}
 use Rattle.irp_core.proofs.Growing.{run_less, run_last}
 use Rattle.irp_core.proofs.Owning.{claims_one, owner_claims}
 use Rattle.csq_words.specs.Own.{inside_of, disarmed_in, out_in, removed_in}
 use Rattle.csq_words.specs.declared.views.Completion.{Completion}
 use Rattle.csq_words.specs.Queue.{has_irp}
-use Rattle.csq_words.specs.Rule.{is_done, with_done, completed_in}
+use Rattle.csq_words.specs.Rule.{is_done, with_done, completed_in, AreDue}
 use Rattle.csq_words.specs.Plays.{status_recorded}
 use Rattle.csq_words.specs.Stories.{IsOneOf}
 use Rattle.csq_words.proofs.Laws.{off}
+use Rattle.csq_words.proofs.Keeping.{none_is}
 use Rattle.csq_words.proofs.Own.{own_made}
 use Rattle.csq_words.proofs.Truths.{own_any}
 
@@ -137,3 +139,12 @@ has_status (c ∷ cs) i h = go (same_irp c.irp i) (has_status cs i) h
         → (status : NtStatus) × (cond b (Some c.status) (status_recorded i cs) ≡ Some status)
     go true rest h = (c.status, refl)
     go false rest h = rest h
+
+-- the status that was recorded was due
+pub recorded_due : (steps : List Made) (cs : List Completion) (i : Irp) (status : NtStatus) → AreDue steps cs → status_recorded i cs ≡ Some status → removed_in steps i ≡ false → status ≡ CANCELLED
+recorded_due steps [] i status h e n = none_is status e
+recorded_due steps (c ∷ cs) i status h e n = go (recorded_due steps cs i status h.1) (same_irp c.irp i) refl e
+  where
+    go : (status_recorded i cs ≡ Some status → removed_in steps i ≡ false → status ≡ CANCELLED) → (b : Bool) → same_irp c.irp i ≡ b → cond b (Some c.status) (status_recorded i cs) ≡ Some status → status ≡ CANCELLED
+    go rest true x e = sym (same_some c.status status e) ∙ h.0 (ap (removed_in steps) (same_irp-eq c.irp i x) ∙ n)
+    go rest false x e = rest e n

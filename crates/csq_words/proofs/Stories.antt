@@ -1,6 +1,5 @@
 -- Where every pass is back, each life that has begun has a story.
 use Rattle.std.proofs.Common.{◌≡◌, ◌⊎◌, ℕ, ◌<◌, ◌≤◌, Bool, true, false, cond, not, ◌&&◌, ◌||◌, List, [], ◌∷◌, map, length, Some, None, inl, inr, ⊎_elim, refl, sym, ap, ◌∙◌, subst, arith}
-use Rattle.std.specs.Prelude.{slice_index}
 use Rattle.std.specs.List.{list_any, find}
 use Rattle.std.specs.Option.{option_map}
 use Rattle.std.proofs.lemmas.Bool.{cases_lt, false_from_ne_true, or_right}
@@ -18,7 +17,7 @@ use Rattle.irp_core.specs.Words.{flagged, was_armed}
 use Rattle.irp_core.specs.Owners.{claims, dones, listed}
 use Rattle.irp_core.specs.Lives.{present_life, IsPresent, HasBegun}
 use Rattle.irp_core.specs.Runs.{Size, IsRun}
-use Rattle.irp_core.proofs.Names.{same_irp-refl, same_irp-eq, same_pass-refl, same_some}
+use Rattle.irp_core.proofs.Names.{same_irp-refl, same_irp-eq, same_pass-refl}
 use Rattle.irp_core.proofs.Rows.{Row}
 use Rattle.irp_core.proofs.Owning.{stands, rest_flagged}
 use Rattle.irp_core.proofs.Resting.{unknown_stands}
@@ -43,20 +42,16 @@ use Rattle.csq_words.specs.declared.views.QueueRecord.{QueueRecord}
 use Rattle.csq_words.specs.Queue.{Queued, QueueState, current, has_irp, has_entry, first_unmarked, without, new_entry, after_event}
 use Rattle.csq_words.specs.History.{end_of, MayStand, IsOrderly}
 use Rattle.csq_words.specs.Records.{queue_of}
-use Rattle.csq_words.specs.Own.{inside_of}
-use Rattle.csq_words.specs.Rule.{is_done, SaysStatus, IsTrueOf, AreTrueOf, inserts, IsTold}
-use Rattle.csq_words.specs.Plays.{SaysStatusOf}
-use Rattle.csq_words.specs.Words.{status_at, status_life_in, status_in}
-use Rattle.csq_words.specs.Finals.{FinalWords, final_status, IsRecordedBack, AllBack, IsFinal, InLife, shows_cancelled}
+use Rattle.csq_words.specs.Own.{inside_of, removed_in}
+use Rattle.csq_words.specs.Rule.{is_done, IsTrueOf, AreTrueOf, inserts, IsTold}
+use Rattle.csq_words.specs.Finals.{FinalWords, final_status, IsRecordedBack, AllBack, IsFinal, InLife}
 use Rattle.csq_words.specs.Stories.{accepts, gives, inserted_by, given_to, IsOneOf, HasRecorded, Story, IsGivenOnce}
 use Rattle.csq_words.proofs.Laws.{off, dones_some, done_over}
-use Rattle.csq_words.proofs.Named.{irp_eq}
-use Rattle.csq_words.proofs.Own.{any_filtered, inside_of-own}
+use Rattle.csq_words.proofs.Own.{any_filtered, inside_of-own, removed_in-own}
 use Rattle.csq_words.proofs.Truths.{left}
-use Rattle.csq_words.proofs.Renewing.{life_seen, recorded_stored}
-use Rattle.csq_words.proofs.Closing.{no_zero, cancelled_is, set_status, status_is, keeps_records}
+use Rattle.csq_words.proofs.Closing.{no_zero, cancelled_is, keeps_records}
 use Rattle.csq_words.proofs.Entries.{has_entry-marking, has_entry-placed, has_entry-without}
-use Rattle.csq_words.proofs.Claiming.{removed_claims, disarmed_claims, one_claim, out_claim, done_own, completed_has, has_status}
+use Rattle.csq_words.proofs.Claiming.{removed_claims, disarmed_claims, one_claim, out_claim, done_own, completed_has, has_status, recorded_due}
 
 -- what is listed with a mark, or without one, is listed
 any_less : (f g : Queued → Bool) (es : List Queued) → list_any (λ e. f e && g e) es ≡ true → list_any f es ≡ true
@@ -220,9 +215,6 @@ module _ (size : Size) (words : List ℕ) (q : QueueRecord) (f : IsFinal size wo
   is_run : IsRun size f.run
   is_run = f.agrees.history_is.is_run
 
-  abbrev w : ℕ
-  w = slice_index words (status_at i.irp)
-
   abbrev finally : FinalWords
   finally = record { irps = size.irps; words = words }
 
@@ -233,7 +225,7 @@ module _ (size : Size) (words : List ℕ) (q : QueueRecord) (f : IsFinal size wo
   record HasStatus (p : PassId) : Type 0 where
     status : NtStatus
     recorded : HasRecorded q p i status
-    said : SaysStatusOf i status w
+    due : removed f.run i ≡ false → status ≡ CANCELLED
     final : InLife finally i (final_status finally i.irp ≡ Some status)
 
   -- a life that was not completed is the present one
@@ -257,20 +249,7 @@ module _ (size : Size) (words : List ℕ) (q : QueueRecord) (f : IsFinal size wo
       let b = (f.agrees.backs k r at).is_record in
       let has : has_irp (map (λ (c : Completion). c.irp) r.completed) i ≡ true = ap (λ l. has_irp l i) b.of_pass.completed_is ∙ completed_has r.steps i (ap (λ t. is_done t i) b.of_pass.steps_is ∙ (ap (λ (x : PassId). is_done (own x f.run) i) same ∙ d)) in
       let s = has_status r.completed i has in
-      record { status = s.0; recorded = (k, r, at, same, s.1); said = recorded_stored words i s.0 r.completed b.stored s.1; final = (keeps_records size words q f).statuses k r at i s.0 known s.1 }
-
-  -- in the present life it is STATUS_CANCELLED where the history says so
-  was_cancelled : (status : NtStatus) → SaysStatusOf i status w → is_done f.run i ≡ true → number i < size.irps → IsPresent q.first f.run i → shows_cancelled q.first i q.history ≡ true → status ≡ CANCELLED
-  was_cancelled status said d known now shown = ⊎_elim
-      (λ (x : (status_life_in w ≡ life_of i) × (status_in w ≡ Some status)). same_some status CANCELLED (sym x.1 ∙ (set_status w (life_of i) _ _ d says).1 (cancelled_is q.first f.run i q.history f.agrees.history_is.true_of shown).not_removed))
-      (λ (lt : life_of i < status_life_in w). let life = life_seen w (life_of i) _ _ says in absurd (omega (arith, life, lt)))
-      said
-    where
-      same : current (queue_of q) i.irp ≡ i
-      same = irp_eq (current (queue_of q) i.irp) i refl (f.agrees.history_is.lives_are i.irp ∙ (ap (λ n. present_life n f.run i.irp) (sym f.agrees.history_is.first_is) ∙ sym now))
-
-      says : SaysStatus w (life_of i) (is_done f.run i) (removed f.run i)
-      says = subst (λ (j : Irp). SaysStatus w (life_of j) (is_done f.run j) (removed f.run j)) same (status_is size words q f i.irp known)
+      record { status = s.0; recorded = (k, r, at, same, s.1); due = λ e. recorded_due r.steps r.completed i s.0 b.due s.1 (false_from_ne_true (removed_in r.steps i) (λ x. off (sym e ∙ removed_in-own r.pass i f.run (subst (λ t. removed_in t i ≡ true) b.of_pass.steps_is x)))); final = (keeps_records size words q f).statuses k r at i s.0 known s.1 }
 
   -- what was completed is an IRP that there is
   done_known : is_done f.run i ≡ true → number i < size.irps
@@ -319,8 +298,8 @@ module _ (size : Size) (words : List ℕ) (q : QueueRecord) (f : IsFinal size wo
             completed = done;
             status = s.status;
             recorded = s.recorded;
+            cancelled = λ shown. s.due (cancelled_is q.first f.run i q.history f.agrees.history_is.true_of shown).not_removed;
             final = s.final;
-            cancelled = was_cancelled s.status s.said d' (done_known d');
           })
 
 -- what is in an insert is listed

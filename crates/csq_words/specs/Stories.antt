@@ -76,7 +76,7 @@ pub record StillListed (q : QueueRecord) (run : List Made) (i : Irp) : Type 0 wh
   pub claimed : claims run i ≡ []
   pub completed : dones run i ≡ []
 
--- i was inserted by one pass and given to one, which made its one claim and its one completion, with the status that it recorded. In the present life this is the final status, and STATUS_CANCELLED where the history says that i was cancelled
+-- i was inserted by one pass and given to one, which made its one claim and its one completion, with the status that it recorded: STATUS_CANCELLED where the history says that i was cancelled. In the present life this is the final status
 pub record HasEnded (finals : FinalWords) (q : QueueRecord) (run : List Made) (i : Irp) : Type 0 where
   pub unlisted : has_entry (queue_of q).entries i ≡ false
   pub inserter : PassId
@@ -88,8 +88,8 @@ pub record HasEnded (finals : FinalWords) (q : QueueRecord) (run : List Made) (i
   pub completed : IsOneOf owner (dones run i)
   pub status : NtStatus
   pub recorded : HasRecorded q owner i status
+  pub cancelled : shows_cancelled q.first i q.history ≡ true → status ≡ CANCELLED
   pub final : InLife finals i (final_status finals i.irp ≡ Some status)
-  pub cancelled : IsPresent q.first run i → shows_cancelled q.first i q.history ≡ true → status ≡ CANCELLED
 
 -- what happened to i
 abbrev pub Story : FinalWords → QueueRecord → List Made → Irp → Type 0
