@@ -80,7 +80,7 @@ pub record RunsRoutine (q : CheckedState) (p : CheckedPassState) (irp : IrpId) (
   pub cause : result_err answer ≡ routine_cause q.queue.limits.irps p.pass.steps irp
   pub owed : IfOk answer (λ i. (i.irp ≡ irp) × Owes p.pass i)
   pub call : IfOk answer (λ i. Adds q p p' (Out i ∷ due_mark i (end_of q.queue.limits.first q.queue.queue.history)))
-  pub step : IfOk answer (λ i. p'.pass ≡ record (with_step (StepOut i) 0 p.pass) { seen = p'.pass.seen; mine = p'.pass.mine })
+  pub step : IfOk answer (λ i. p'.pass ≡ record (with_step (StepOut i) 0 p.pass) { seen = p'.pass.seen; mine = p'.pass.mine; run = p'.pass.run })
   pub token : IfOk answer (Holds q.queue.limits.irps p'.pass)
   pub cancelled : IfOk answer (λ i. removed_in p'.pass.steps i ≡ false)
   pub none_owed : IfOk answer (λ i. has_life (owed_list p'.pass.steps) i.irp ≡ false)

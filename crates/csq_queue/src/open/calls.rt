@@ -10,7 +10,8 @@ ghost use Rattle.csq_words.specs.Own.{removed_in, owed_list};
 ghost use Rattle.csq_words.specs.Calls.{due_mark};
 ghost use Rattle.csq_words.specs.Queue.{current, refusal};
 ghost use Rattle.csq_words.specs.History.{IsLegal, Begins, calls_of, end_of};
-ghost use Rattle.csq_words.specs.Records.{caught_up, with_step};
+ghost use Rattle.csq_words.specs.Rule.{Follows};
+ghost use Rattle.csq_words.specs.Records.{caught_up, looked, with_step};
 ghost use Rattle.csq_queue.specs.Counts.{has_life};
 ghost use Rattle.csq_queue.specs.Named.{size_of};
 ghost use Rattle.csq_queue.specs.Opens.{IsQueueOn, IsPassOn};
@@ -37,7 +38,8 @@ impl<L: PendingList + Drop, A: Allocator> OpenQueue<L, A> {
         ensures same { self.new ≡ self.old }
         ensures legal { IsLegal self.old.limits self.old.queue.history }
         ensures run { SeesARun (size_of self.old.limits) pass.new.pass }
-        ensures shown { pass.new ≡ record pass.old { pass = caught_up self.old.queue.history pass.old.pass } }
+        ensures shown { pass.new ≡ record pass.old { pass = looked pass.new.pass.run (caught_up self.old.queue.history pass.old.pass) } }
+        ensures follows { Follows pass.old.pass.run pass.new.pass.run }
         ensures begins { Begins pass.old.pass.seen self.old.queue.history }
         ensures mine { pass.old.pass.mine ≡ calls_of pass.old.pass.pass self.old.queue.history }
     {
@@ -152,7 +154,7 @@ impl<L: PendingList + Drop, A: Allocator> OpenQueue<L, A> {
         requires pass { IsPassOn words.now pass.old }
         requires owed { Owes pass.old.pass irp }
         ensures call { AddsEvents self.old.limits self.old.queue.history pass.old.pass pass.new.pass (Out irp ∷ due_mark irp (end_of self.old.limits.first self.old.queue.history)) }
-        ensures step { pass.new.pass ≡ record (with_step (StepOut irp) 0 pass.old.pass) { seen = pass.new.pass.seen; mine = pass.new.pass.mine } }
+        ensures step { pass.new.pass ≡ record (with_step (StepOut irp) 0 pass.old.pass) { seen = pass.new.pass.seen; mine = pass.new.pass.mine; run = pass.new.pass.run } }
         ensures token { Holds self.old.limits.irps pass.new.pass irp }
         ensures cancelled { removed_in pass.new.pass.steps irp ≡ false }
         ensures none_owed { has_life (owed_list pass.new.pass.steps) irp.irp ≡ false }

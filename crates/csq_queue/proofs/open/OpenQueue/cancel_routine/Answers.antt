@@ -1,16 +1,21 @@
-use Rattle.std.proofs.Common.{◌≡◌, ◌+◌, ◌-◌, ◌<◌, true, false, ap, subst, sym, ◌∙◌, arith, rules}
+use Rattle.std.proofs.Common.{◌≡◌, ◌+◌, ◌-◌, ◌<◌, ◌∷◌, true, false, ap, subst, sym, ◌∙◌, arith, rules}
 use Rattle.irp_core.specs.Runs.{Size}
 use Rattle.irp_core.specs.Steps.{number}
 use Rattle.irp_core.specs.declared.step.Kind.TheVariants.{Out as StepOut}
+use Rattle.csq_words.specs.declared.views.Event.TheVariants.{Out}
+use Rattle.csq_words.specs.Calls.{due_mark}
+use Rattle.csq_words.specs.Queue.{QueueState}
+use Rattle.csq_words.specs.History.{end_of}
+use Rattle.csq_queue.specs.Told.{AddsEvents}
 use Rattle.csq_words.specs.Own.{owes_in, removed_in, held_list, owed_list}
-use Rattle.csq_words.specs.Records.{with_step}
+use Rattle.csq_words.specs.Records.{queue_of, with_step}
 use Rattle.csq_words.specs.Seats.{joined_record, pass_record}
 use Rattle.csq_queue.specs.Counts.{has_life, AreApart, held_count, owed_count}
 use Rattle.csq_queue.proofs.Counting.{out_owed, out_none_owed, out_held_apart, out_owed_apart, out_room}
 use Rattle.csq_queue.proofs.Spending.{out_holds}
 use Rattle.csq_queue.proofs.Owning.{owed_no_other, owed_not_removed}
 use Rattle.csq_queue.specs.Named.{IsPassOf}
-use Rattle.csq_queue.proofs.Opening.{on_words, own_pass, pass_on}
+use Rattle.csq_queue.proofs.Opening.{on_words, own_adds, own_pass, pass_on}
 use Rattle.csq_queue.proofs.open.OpenQueue.cancel_routine.Goals as goal
 
 pub overflow_sub-pass : goal.overflow_sub-pass
@@ -82,3 +87,12 @@ returns-clause-none_owed g c =
     let new : has_life (held_list r.steps) c.args.irp.irp ≡ false = owed_no_other _ _ r c.args.irp c.enter.ensures.told owed in
     let steps : (pass_record c.leave.new.pass).steps ≡ (with_step (StepOut c.args.irp) 0 r).steps = ap (λ p. (pass_record p).steps) c.leave.ensures.pass ∙ (c.take_owed.ensures.steps ∙ ap (λ s. (with_step (StepOut c.args.irp) 0 (joined_record s)).steps) c.enter.ensures.joined) in
     ap (λ m. has_life (owed_list m) c.args.irp.irp) steps ∙ out_none_owed c.args.words.now.size.irps r.pass c.args.irp r.steps c.take_owed.ensures.known owed new p.held_apart p.owed_apart
+
+pub returns-clause-call : goal.returns-clause-call
+returns-clause-call g c =
+    subst (λ (u : QueueState). AddsEvents c.args.self.now.limits c.args.self.now.queue.history c.args.pass.now.pass (pass_record c.leave.new.pass) (Out c.args.irp ∷ due_mark c.args.irp u)) queue_is
+    (own_adds c.args.words.now (g.L.PendingList.listing c.self.inside.list) c.self.inside.seat c.self.inside.back.items c.args.self.now c.self.view_is c.requires.queue
+    c.args.pass.now.pass (pass_record c.leave.new.pass) c.enter.new.self c.take_owed.new.seat (search rules) (search rules) (search rules) c.leave.ensures.run _ _ _ c.take_owed.ensures.adds)
+  where
+    queue_is : queue_of c.enter.new.self.queue ≡ end_of c.args.self.now.limits.first c.args.self.now.queue.history
+    queue_is = search rules

@@ -34,7 +34,7 @@ adds : (g : Over) (c : After-leave g) (events : List Event) → Adds (limits_on 
     → AddsEvents c.args.self.now.limits c.args.self.now.queue.history c.args.pass.now.pass (pass_record c.leave.new.pass) events
 adds g c events a =
     own_adds c.args.words.now (g.L.PendingList.listing c.self.inside.list) c.self.inside.seat c.self.inside.back.items c.args.self.now c.self.view_is c.requires.queue
-    c.args.pass.now.pass (pass_record c.leave.new.pass) c.enter.new.self c.list_irp-inserted.new.seat (search rules) (search rules) (search rules) events (g.L.PendingList.listing c.list_irp-inserted.new.list) c.self.inside.lives a
+    c.args.pass.now.pass (pass_record c.leave.new.pass) c.enter.new.self c.list_irp-inserted.new.seat (search rules) (search rules) (search rules) c.leave.ensures.run events (g.L.PendingList.listing c.list_irp-inserted.new.list) c.self.inside.lives a
 
 -- what is told of an accepted insert, of the queue that it was made of
 abbrev Accepted : (g : Over) (c : After-leave g) → QueueState → Type 0
