@@ -5,12 +5,12 @@ use Rattle.irp_core.specs.Runs.{Size}
 use Rattle.csq_list.specs.Listing.{Listing}
 use Rattle.csq_words.specs.Queue.{Limits, limits_of}
 use Rattle.csq_words.specs.declared.views.PassRecord.{PassRecord}
-use Rattle.csq_words.specs.Records.{caught_up, looked}
+use Rattle.csq_words.specs.Records.{with_run, caught_up}
 use Rattle.csq_words.specs.Seats.{WordsState, QueueSeatState, PassSeatState, joined_record, pass_record}
 use Rattle.irp_core.specs.Steps.{Irp}
 use Rattle.csq_queue.specs.Named.{size_of, IsLockedOf, IsPassOf}
 use Rattle.csq_words.specs.declared.views.Event.{Event}
-use Rattle.csq_words.specs.Rule.{IsTold, HasLooked}
+use Rattle.csq_words.specs.Rule.{AreOfRun, IsTold}
 use Rattle.csq_queue.specs.Told.{AddsEvents, GivesOut}
 use Rattle.csq_queue.specs.Adding.{Adds}
 use Rattle.csq_queue.proofs.Leaving.{left_adds, left_gives}
@@ -46,13 +46,13 @@ module _ (w : WordsState) (s : Listing) (seat : QueueSeatState) (flags : List Bo
   on_words lives h = subst (λ (z : TableId × Limits). IsLockedOf z.0 z.1 s lives seat flags) (λ k. (table_is k, limits_at k)) h
 
   -- what a call gave out, by the limits of its own words
-  pub own_gives : (given : Option Irp) (by_removal : Bool) (r new : PassRecord) (entered seat' : QueueSeatState) → joined_record entered ≡ r → new ≡ looked new.run (caught_up seat'.queue.history (joined_record seat'))
+  pub own_gives : (given : Option Irp) (by_removal : Bool) (r new : PassRecord) (entered seat' : QueueSeatState) → joined_record entered ≡ r → new ≡ caught_up (with_run new.run seat'.queue) (joined_record seat')
       → GivesOut (limits_on w s) given by_removal (joined_record entered) (joined_record seat') → GivesOut q.limits given by_removal r new
   own_gives given by_removal r new entered seat' r_is new_is h = subst (λ (l : Limits). GivesOut l given by_removal r new) limits_are (left_gives (limits_on w s) given by_removal r new entered seat' r_is new_is h)
 
   -- and the events of a call, as its pass sees them once it has left
-  pub own_adds : (r new : PassRecord) (entered seat' : QueueSeatState) → entered ≡ record seat { joined = Some r } → IsTold w.size seat.queue r → new ≡ looked new.run (caught_up seat'.queue.history (joined_record seat'))
-      → HasLooked w.size seat'.queue (joined_record seat') (looked new.run (joined_record seat'))
+  pub own_adds : (r new : PassRecord) (entered seat' : QueueSeatState) → entered ≡ record seat { joined = Some r } → IsTold w.size seat.queue r → new ≡ caught_up (with_run new.run seat'.queue) (joined_record seat')
+      → AreOfRun w.size new.run (with_run new.run seat'.queue) (joined_record seat')
       → (events : List Event) (s' : Listing) (lives : List ℕ) → Adds (limits_on w s) entered events s' lives seat' → AddsEvents q.limits q.queue.history r new events
   own_adds r new entered seat' e told new_is look events s' lives a =
       subst (λ (l : Limits). AddsEvents l q.queue.history r new events) limits_are

@@ -9,7 +9,7 @@ use Rattle.csq_words.specs.Queue.{Limits}
 use Rattle.csq_words.specs.Finals.{FinalWords}
 use Rattle.csq_words.specs.Stories.{Story, IsGivenOnce}
 use Rattle.csq_queue.specs.Named.{size_of}
-use Rattle.csq_queue.specs.Told.{queue_with, SeesARun}
+use Rattle.csq_queue.specs.Told.{queue_with, SeesRun}
 use Rattle.csq_queue.specs.Rests.{IsClosed, IsRestOf}
 
 -- in what is left of a closed queue, each IRP has a story in each life that has begun
@@ -24,4 +24,4 @@ EachIrpOfAnOpenQueueHasAStory = (limits : Limits) (taken : ℕ) (old : QueueReco
 
 -- in what a pass has seen, each life of each IRP was given out at most once
 abbrev pub EachIrpSeenIsGivenOnce : Type 0
-EachIrpSeenIsGivenOnce = (limits : Limits) (r : PassRecord) (sees : SeesARun (size_of limits) r) (i : Irp) → IsGivenOnce (queue_with limits.first r.seen) sees.run i
+EachIrpSeenIsGivenOnce = (limits : Limits) (r : PassRecord) → SeesRun (size_of limits) r → (i : Irp) → IsGivenOnce (queue_with limits.first r.seen) r.run i

@@ -71,6 +71,7 @@ shows size id other q r s h at ne there' =
           shown = each_shown q.shown back a.shown;
           few = a.few;
           nobody = a.nobody;
+          seen = a.seen;
         };
         queue_is = set_else both other id spent_view (λ e. ne (sym e)) ∙ set_here s.views id (view_of q' None) (at_below s.views id (view_of q None) at);
         lock = k.lock;

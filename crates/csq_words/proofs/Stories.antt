@@ -43,7 +43,7 @@ use Rattle.csq_words.specs.Queue.{Queued, QueueState, current, has_irp, has_entr
 use Rattle.csq_words.specs.History.{end_of, MayStand, IsOrderly}
 use Rattle.csq_words.specs.Records.{queue_of}
 use Rattle.csq_words.specs.Own.{inside_of, removed_in}
-use Rattle.csq_words.specs.Rule.{is_done, IsTrueOf, AreTrueOf, inserts, IsTold}
+use Rattle.csq_words.specs.Rule.{is_done, IsTrueOf, AreTrueOf, inserts, AreOfRun}
 use Rattle.csq_words.specs.Finals.{FinalWords, final_status, IsRecordedBack, AllBack, IsFinal, InLife}
 use Rattle.csq_words.specs.Stories.{accepts, gives, inserted_by, given_to, IsOneOf, HasRecorded, Story, IsGivenOnce}
 use Rattle.csq_words.proofs.Laws.{off, dones_some, done_over}
@@ -337,32 +337,32 @@ module _ (run : List Made) (i : Irp) (used entry : Bool) (inserted given : List 
   given_claimed (inr (inl h)) p e = absurd (cc (e, h.to_none))
   given_claimed (inr (inr h)) p e = let same : h.owner ≡ p = cc (e, h.to_one) in subst (λ x. IsOneOf x (claims run i)) same h.claimed
 
-module _ (size : Size) (q : QueueRecord) (r : PassRecord) (told : IsTold size q r) (i : Irp) where
-  is_run' : IsRun size told.run
+module _ (size : Size) (q : QueueRecord) (r : PassRecord) (run : List Made) (told : AreOfRun size run q r) (i : Irp) where
+  is_run' : IsRun size run
   is_run' = told.history_is.is_run
 
-  far : SoFar told.run i (has_irp (queue_of q).used i) (has_entry (queue_of q).entries i) (inserted_by q.first i q.history) (given_to q.first i q.history)
-  far = so_far size told.run is_run' i q.first q.history told.history_is.orderly told.history_is.true_of
+  far : SoFar run i (has_irp (queue_of q).used i) (has_entry (queue_of q).entries i) (inserted_by q.first i q.history) (given_to q.first i q.history)
+  far = so_far size run is_run' i q.first q.history told.history_is.orderly told.history_is.true_of
 
   -- what was completed is in no insert
-  no_insert : listed told.run i ≡ false → inserts (inside_of r.steps) i ≡ false
-  no_insert gone = false_from_ne_true _ (λ h. off (sym gone ∙ inserted_listed size told.run is_run' r.pass i (in_insert_listed (inside told.run r.pass) i (ap (λ s. inserts s i) (sym (inside_of-own r.pass told.run)) ∙ (ap (λ t. inserts (inside_of t) i) (sym told.pass_is.steps_is) ∙ h)))))
+  no_insert : listed run i ≡ false → inserts (inside_of r.steps) i ≡ false
+  no_insert gone = false_from_ne_true _ (λ h. off (sym gone ∙ inserted_listed size run is_run' r.pass i (in_insert_listed (inside run r.pass) i (ap (λ s. inserts s i) (sym (inside_of-own r.pass run)) ∙ (ap (λ t. inserts (inside_of t) i) (sym told.pass_is.steps_is) ∙ h)))))
 
-  done_given : (p : PassId) → IsOneOf p (dones told.run i) → given_to q.first i q.history ≡ p ∷ []
+  done_given : (p : PassId) → IsOneOf p (dones run i) → given_to q.first i q.history ≡ p ∷ []
   done_given p d =
-      let s = stands size told.run is_run' i in
+      let s = stands size run is_run' i in
       let claim = row_done_claim _ _ _ _ _ _ _ _ _ i s.0 s.1 p d in
-      let over = done_over size told.run is_run' i (any_filtered (is (Done i)) (by d.0.pass) told.run (done_own told.run d.0 i d.1)) in
+      let over = done_over size run is_run' i (any_filtered (is (Done i)) (by d.0.pass) run (done_own run d.0 i d.1)) in
       let out = no_insert over.2 in
-      let u = only_given told.run i _ _ _ _ far (told.history_is.used_is i ∙ rw (out, over.0) refl) (told.history_is.listed_is i ∙ rw (out, over.2) refl) in
+      let u = only_given run i _ _ _ _ far (told.history_is.used_is i ∙ rw (out, over.0) refl) (told.history_is.listed_is i ∙ rw (out, over.2) refl) in
       let same : u.claimed.0 ≡ claim.0 = cc (u.claimed.1, claim.1) in
       let owner : u.owner ≡ p = sym u.claimed.2 ∙ (ap (λ (m : Made). m.pass) same ∙ claim.2) in
       u.to_one ∙ ap (λ (x : PassId). x ∷ []) owner
 
-  pub is_given_once : IsGivenOnce q told.run i
+  pub is_given_once : IsGivenOnce q run i
   is_given_once = record {
-    inserted = inserted_once told.run i _ _ _ _ far;
-    given = given_once told.run i _ _ _ _ far;
-    claimed = given_claimed told.run i _ _ _ _ far;
+    inserted = inserted_once run i _ _ _ _ far;
+    given = given_once run i _ _ _ _ far;
+    claimed = given_claimed run i _ _ _ _ far;
     completed = done_given;
   }

@@ -20,7 +20,7 @@ use Rattle.csq_words.specs.declared.views.QueueRecord.{QueueRecord}
 use Rattle.csq_words.specs.Queue.{QueueState, current, has_entry}
 use Rattle.csq_words.specs.History.{end_of}
 use Rattle.csq_words.specs.Records.{queue_of}
-use Rattle.csq_words.specs.Rule.{IsTold}
+use Rattle.csq_words.specs.Rule.{AreOfRun}
 use Rattle.csq_words.specs.Plays.{status_recorded}
 use Rattle.csq_words.specs.Finals.{FinalWords, final_status, AllBack, IsFinal, InLife, shows_cancelled}
 
@@ -108,4 +108,4 @@ pub record IsGivenOnce (q : QueueRecord) (run : List Made) (i : Irp) : Type 0 wh
 
 -- at every step, each life of each IRP is given out at most once
 abbrev pub EachIrpIsGivenOnce : Type 0
-EachIrpIsGivenOnce = (size : Size) (q : QueueRecord) (r : PassRecord) (told : IsTold size q r) (i : Irp) → IsGivenOnce q told.run i
+EachIrpIsGivenOnce = (size : Size) (q : QueueRecord) (r : PassRecord) (run : List Made) → AreOfRun size run q r → (i : Irp) → IsGivenOnce q run i

@@ -11,17 +11,17 @@ ghost use Rattle.csq_words.specs.Calls.{due_mark};
 ghost use Rattle.csq_words.specs.Queue.{current, refusal};
 ghost use Rattle.csq_words.specs.History.{IsLegal, Begins, calls_of, end_of};
 ghost use Rattle.csq_words.specs.Rule.{Follows};
-ghost use Rattle.csq_words.specs.Records.{caught_up, looked, with_step};
+ghost use Rattle.csq_words.specs.Records.{caught_up, with_run, with_step};
 ghost use Rattle.csq_queue.specs.Counts.{has_life};
 ghost use Rattle.csq_queue.specs.Named.{size_of};
 ghost use Rattle.csq_queue.specs.Opens.{IsQueueOn, IsPassOn};
-ghost use Rattle.csq_queue.specs.Told.{SeesARun, AddsEvents, KeepsRest, GivesOut, count_given};
+ghost use Rattle.csq_queue.specs.Told.{SeesRun, AddsEvents, KeepsRest, GivesOut, count_given};
 ghost use Rattle.csq_queue.specs.Refusals.{reuse_events, IsReuseRefusal};
 ghost use Rattle.csq_queue.specs.Searches.{marked};
 ghost use Rattle.csq_queue.specs.Owned.{Holds, HoldsRemoved, Owes};
 ghost use Rattle.csq_queue.specs.Inserts.{IsInsert, given_by, given_in};
 
-use crate::joined::{list_irp, renew_irp, take_match, take_one, take_owed};
+use crate::joined::{leave, list_irp, renew_irp, take_match, take_one, take_owed};
 use crate::open::{OpenInserted, OpenPass, OpenQueue};
 use crate::refusals::ReuseRefused;
 use crate::tokens::InsertAnswer;
@@ -31,20 +31,21 @@ use irp_core::{FileId, IrpId, IrpLife, Life};
 use std::alloc::Allocator;
 
 impl<L: PendingList + Drop, A: Allocator> OpenQueue<L, A> {
-    /// Lets a pass see the whole history.
+    /// Lets a pass see the whole history, and the execution so far.
     pub(crate) fn show(&mut self, words: &Words<A>, pass: &mut OpenPass)
         requires queue { IsQueueOn words.now self.old }
         requires pass { IsPassOn words.now pass.old }
-        ensures same { self.new ≡ self.old }
+        ensures queue { self.new ≡ record self.old { queue = with_run pass.new.pass.run self.old.queue } }
         ensures legal { IsLegal self.old.limits self.old.queue.history }
-        ensures run { SeesARun (size_of self.old.limits) pass.new.pass }
-        ensures shown { pass.new ≡ record pass.old { pass = looked pass.new.pass.run (caught_up self.old.queue.history pass.old.pass) } }
+        ensures sees { SeesRun (size_of self.old.limits) pass.new.pass }
+        ensures shown { pass.new ≡ record pass.old { pass = caught_up self.new.queue pass.old.pass } }
         ensures follows { Follows pass.old.pass.run pass.new.pass.run }
+        ensures since { Follows self.old.queue.run pass.new.pass.run }
         ensures begins { Begins pass.old.pass.seen self.old.queue.history }
         ensures mine { pass.old.pass.mine ≡ calls_of pass.old.pass.pass self.old.queue.history }
     {
         self.seat.enter(words, &mut pass.seat);
-        self.seat.leave(words, &mut pass.seat);
+        leave(&mut self.seat, words, &mut pass.seat);
     }
 
     /// Closes a file object for good, as `Csq::close_file` does.
@@ -59,14 +60,14 @@ impl<L: PendingList + Drop, A: Allocator> OpenQueue<L, A> {
         ensures known { IsOk result ↔ (file.0 < self.old.limits.files) }
         ensures call { OnOk result (AddsEvents self.old.limits self.old.queue.history pass.old.pass pass.new.pass (CloseFile file ∷ [])) }
         ensures rest { OnOk result (KeepsRest pass.old.pass pass.new.pass) }
-        ensures seen { OnOk result (self.new ≡ record self.old { queue = record self.old.queue { history = pass.new.pass.seen } }) }
+        ensures seen { OnOk result (self.new ≡ record self.old { queue = record self.old.queue { history = pass.new.pass.seen; run = pass.new.pass.run } }) }
         ensures place { OnOk result (pass.new ≡ record pass.old { pass = pass.new.pass }) }
         ensures unknown { OnErr result ((self.new ≡ self.old) × (pass.new ≡ pass.old)) }
     {
         self.list.close_file(file)?;
         self.seat.enter(words, &mut pass.seat);
         self.seat.note(words, Call::CloseFile(file), Note::Event);
-        self.seat.leave(words, &mut pass.seat);
+        leave(&mut self.seat, words, &mut pass.seat);
         Ok(())
     }
 
@@ -89,7 +90,7 @@ impl<L: PendingList + Drop, A: Allocator> OpenQueue<L, A> {
         ensures token { IfOk result (λ inserted. IfSome (given_by inserted) (Holds self.old.limits.irps pass.new.pass)) }
         ensures refused { IfErr result (λ cause. AddsEvents self.old.limits self.old.queue.history pass.old.pass pass.new.pass (Insert irp file place (Refused cause) ∷ [])) }
         ensures cause { IfErr result (λ cause. refusal self.old.limits (end_of self.old.limits.first self.old.queue.history) irp file ≡ Some cause) }
-        ensures seen { self.new ≡ record self.old { queue = record self.old.queue { history = pass.new.pass.seen } } }
+        ensures seen { self.new ≡ record self.old { queue = record self.old.queue { history = pass.new.pass.seen; run = pass.new.pass.run } } }
         ensures place { pass.new ≡ record pass.old { pass = pass.new.pass } }
     {
         self.seat.enter(words, &mut pass.seat);
@@ -103,7 +104,7 @@ impl<L: PendingList + Drop, A: Allocator> OpenQueue<L, A> {
             place,
         );
         pass.tokens += count_cancelled(&inserted);
-        self.seat.leave(words, &mut pass.seat);
+        leave(&mut self.seat, words, &mut pass.seat);
         inserted
     }
 
@@ -119,13 +120,13 @@ impl<L: PendingList + Drop, A: Allocator> OpenQueue<L, A> {
         ensures call { (marks : List Irp) × AddsEvents self.old.limits self.old.queue.history pass.old.pass pass.new.pass (RemoveNext peek result ∷ marked marks) }
         ensures given { GivesOut self.old.limits result true pass.old.pass pass.new.pass }
         ensures token { IfSome result (HoldsRemoved self.old.limits.irps pass.new.pass) }
-        ensures seen { self.new ≡ record self.old { queue = record self.old.queue { history = pass.new.pass.seen } } }
+        ensures seen { self.new ≡ record self.old { queue = record self.old.queue { history = pass.new.pass.seen; run = pass.new.pass.run } } }
         ensures place { pass.new ≡ record pass.old { pass = pass.new.pass } }
     {
         self.seat.enter(words, &mut pass.seat);
         let taken = take_match::<L, A>(&mut self.list, &mut self.seat, &self.lives, words, peek);
         pass.tokens += count(taken);
-        self.seat.leave(words, &mut pass.seat);
+        leave(&mut self.seat, words, &mut pass.seat);
         taken
     }
 
@@ -138,13 +139,13 @@ impl<L: PendingList + Drop, A: Allocator> OpenQueue<L, A> {
         ensures call { (marks : List Irp) × AddsEvents self.old.limits self.old.queue.history pass.old.pass pass.new.pass (Remove irp (is_some result) ∷ marked marks) }
         ensures given { GivesOut self.old.limits result true pass.old.pass pass.new.pass }
         ensures token { IfSome result (HoldsRemoved self.old.limits.irps pass.new.pass) }
-        ensures seen { self.new ≡ record self.old { queue = record self.old.queue { history = pass.new.pass.seen } } }
+        ensures seen { self.new ≡ record self.old { queue = record self.old.queue { history = pass.new.pass.seen; run = pass.new.pass.run } } }
         ensures place { pass.new ≡ record pass.old { pass = pass.new.pass } }
     {
         self.seat.enter(words, &mut pass.seat);
         let taken = take_one::<L, A>(&mut self.list, &mut self.seat, &self.lives, words, irp);
         pass.tokens += count(taken);
-        self.seat.leave(words, &mut pass.seat);
+        leave(&mut self.seat, words, &mut pass.seat);
         taken
     }
 
@@ -158,14 +159,14 @@ impl<L: PendingList + Drop, A: Allocator> OpenQueue<L, A> {
         ensures token { Holds self.old.limits.irps pass.new.pass irp }
         ensures cancelled { removed_in pass.new.pass.steps irp ≡ false }
         ensures none_owed { has_life (owed_list pass.new.pass.steps) irp.irp ≡ false }
-        ensures seen { self.new ≡ record self.old { queue = record self.old.queue { history = pass.new.pass.seen } } }
+        ensures seen { self.new ≡ record self.old { queue = record self.old.queue { history = pass.new.pass.seen; run = pass.new.pass.run } } }
         ensures place { pass.new ≡ record pass.old { pass = pass.new.pass } }
     {
         self.seat.enter(words, &mut pass.seat);
         take_owed::<L, A>(&mut self.list, &mut self.seat, &self.lives, words, irp);
         pass.claims -= 1;
         pass.tokens += 1;
-        self.seat.leave(words, &mut pass.seat);
+        leave(&mut self.seat, words, &mut pass.seat);
     }
 
     /// Begins the next life of an IRP, where its present one was completed and isn't the last, as
@@ -182,8 +183,8 @@ impl<L: PendingList + Drop, A: Allocator> OpenQueue<L, A> {
         ensures unknown { result ≡ Err ReuseRefused.UnknownIrp → (self.new ≡ self.old) × (pass.new ≡ pass.old) }
         ensures call { irp.0 < self.old.limits.irps → AddsEvents self.old.limits self.old.queue.history pass.old.pass pass.new.pass (reuse_events irp result) }
         ensures given { GivesOut self.old.limits None false pass.old.pass pass.new.pass }
-        ensures refused { irp.0 < self.old.limits.irps → IfErr result (IsReuseRefusal (size_of self.old.limits) irp pass.old.pass (end_of self.old.limits.first pass.new.pass.seen)) }
-        ensures seen { irp.0 < self.old.limits.irps → self.new ≡ record self.old { queue = record self.old.queue { history = pass.new.pass.seen } } }
+        ensures refused { irp.0 < self.old.limits.irps → IfErr result (IsReuseRefusal (current (end_of self.old.limits.first pass.new.pass.seen) irp) pass.old.pass pass.new.pass) }
+        ensures seen { irp.0 < self.old.limits.irps → self.new ≡ record self.old { queue = record self.old.queue { history = pass.new.pass.seen; run = pass.new.pass.run } } }
         ensures place { pass.new ≡ record pass.old { pass = pass.new.pass } }
     {
         if irp.0 >= pass.irps {
@@ -191,7 +192,7 @@ impl<L: PendingList + Drop, A: Allocator> OpenQueue<L, A> {
         }
         self.seat.enter(words, &mut pass.seat);
         let life = renew_irp::<L, A>(&mut self.list, &mut self.seat, &mut self.lives, words, irp);
-        self.seat.leave(words, &mut pass.seat);
+        leave(&mut self.seat, words, &mut pass.seat);
         life
     }
 }

@@ -7,13 +7,13 @@ ghost use Rattle.irp_core.specs.declared.status.TheConstants.NtStatus.{CANCELLED
 ghost use Rattle.irp_core.specs.declared.step.Kind.TheVariants.{Flag, Take, Done};
 ghost use Rattle.csq_words.specs.Own.{owes_in, holds_in, held_list};
 ghost use Rattle.csq_words.specs.Plays.{IsFlagOf, IsStatusOf, flag_read, status_read, shows_flagged, status_recorded};
-ghost use Rattle.csq_words.specs.Records.{with_step, with_completion};
+ghost use Rattle.csq_words.specs.Records.{saw, with_step, with_completion};
 ghost use Rattle.csq_words.specs.Rule.{FindsUnset};
 ghost use Rattle.csq_queue.specs.Counts.{held_count, owed_count, has_life};
 ghost use Rattle.csq_queue.specs.Named.{named};
 ghost use Rattle.csq_queue.specs.Opens.{IsPassOn};
 ghost use Rattle.csq_queue.specs.Told.{count_given};
-ghost use Rattle.csq_queue.specs.Owned.{Holds, HoldsRemoved, Owes, MissedTheRoutine};
+ghost use Rattle.csq_queue.specs.Owned.{Holds, HoldsRemoved, Owes, EndsWithTake, MissedTheRoutine};
 ghost use Rattle.csq_queue.specs.Refusals.{IsCancelRefusal};
 
 use crate::open::OpenPass;
@@ -56,9 +56,10 @@ impl OpenPass {
     ) -> Result<Option<IrpLife>, CancelRefused>
         requires { IsPassOn words.now self.old }
         ensures known { IsOk result → irp.0 < self.old.irps }
-        ensures step { IfOk result (λ claim. (flag : ℕ) × (self.new.pass ≡ with_step (Take (named irp life)) (count_given claim) (with_step (Flag (named irp life)) flag self.old.pass))) }
+        ensures step { IfOk result (λ claim. (flag : ℕ) × (self.new.pass ≡ saw self.new.pass.run (with_step (Take (named irp life)) (count_given claim) (with_step (Flag (named irp life)) flag self.old.pass)))
+            × EndsWithTake words.now.size (named irp life) flag (count_given claim) self.old.pass self.new.pass) }
         ensures claimed { IfOk result (λ claim. IfSome claim (λ i. (i ≡ named irp life) × Owes self.new.pass i)) }
-        ensures missed { IfOk result (λ claim. claim ≡ None → MissedTheRoutine words.now.size (named irp life) self.new.pass) }
+        ensures missed { IfOk result (λ claim. claim ≡ None → MissedTheRoutine (named irp life) self.new.pass) }
         ensures refused { IfErr result (IsCancelRefusal words.now.size (named irp life) self.old.pass self.new.pass) }
         ensures place { self.new ≡ record self.old { pass = self.new.pass } }
     {
@@ -83,8 +84,8 @@ impl OpenPass {
     pub fn complete<A: Allocator>(&mut self, words: &Words<A>, irp: IrpLife, status: FinalStatus)
         requires pass { IsPassOn words.now self.old }
         requires held { HoldsRemoved self.old.irps self.old.pass irp }
-        ensures step { self.new ≡ record self.old { pass = with_completion irp status (with_step (Done irp) 0 self.old.pass) } }
-        ensures unset { FindsUnset words.now.size irp self.new.pass }
+        ensures step { self.new ≡ record self.old { pass = saw self.new.pass.run (with_completion irp status (with_step (Done irp) 0 self.old.pass)) } }
+        ensures unset { FindsUnset words.now.size irp self.old.pass self.new.pass }
         ensures none_held { has_life (held_list self.new.pass.steps) irp.irp ≡ false }
     {
         self.seat.done(words, irp, status);
@@ -96,8 +97,8 @@ impl OpenPass {
     pub fn complete_cancelled<A: Allocator>(&mut self, words: &Words<A>, irp: IrpLife)
         requires pass { IsPassOn words.now self.old }
         requires held { Holds self.old.irps self.old.pass irp }
-        ensures step { self.new ≡ record self.old { pass = with_completion irp CANCELLED (with_step (Done irp) 0 self.old.pass) } }
-        ensures unset { FindsUnset words.now.size irp self.new.pass }
+        ensures step { self.new ≡ record self.old { pass = saw self.new.pass.run (with_completion irp CANCELLED (with_step (Done irp) 0 self.old.pass)) } }
+        ensures unset { FindsUnset words.now.size irp self.old.pass self.new.pass }
         ensures none_held { has_life (held_list self.new.pass.steps) irp.irp ≡ false }
     {
         self.seat.done(words, irp, FinalStatus::cancelled());
@@ -113,8 +114,8 @@ impl OpenPass {
     ) -> Result<(Life, bool), UnknownIrp>
         requires { IsPassOn words.now self.old }
         ensures known { IsOk result ↔ (irp.0 < self.old.irps) }
-        ensures same { self.new ≡ self.old }
-        ensures found { IfOk result (λ read. (w : ℕ) × (read ≡ flag_read w) × IsFlagOf words.now.size irp self.old.pass w) }
+        ensures same { self.new ≡ record self.old { pass = saw self.new.pass.run self.old.pass } }
+        ensures found { IfOk result (λ read. (w : ℕ) × (read ≡ flag_read w) × IsFlagOf words.now.size irp self.old.pass self.new.pass w) }
         ensures mine { IfOk result (λ read. (i : Irp) → i.irp ≡ irp → flagged self.old.pass.steps i ≡ true → (read ≡ (i.life, true)) ⊎ (life_of i < read.0.0)) }
         ensures seen { IfOk result (λ read. (i : Irp) → i.irp ≡ irp → shows_flagged i self.old.pass.seen ≡ true → (read ≡ (i.life, true)) ⊎ (life_of i < read.0.0)) }
     {
@@ -133,8 +134,8 @@ impl OpenPass {
     ) -> Result<(Life, Option<NtStatus>), UnknownIrp>
         requires { IsPassOn words.now self.old }
         ensures known { IsOk result ↔ (irp.0 < self.old.irps) }
-        ensures same { self.new ≡ self.old }
-        ensures found { IfOk result (λ read. (w : ℕ) × (read ≡ status_read w) × IsStatusOf words.now.size irp self.old.pass w) }
+        ensures same { self.new ≡ record self.old { pass = saw self.new.pass.run self.old.pass } }
+        ensures found { IfOk result (λ read. (w : ℕ) × (read ≡ status_read w) × IsStatusOf words.now.size irp self.old.pass self.new.pass w) }
         ensures mine { IfOk result (λ read. (i : Irp) (status : Status) → i.irp ≡ irp → status_recorded i self.old.pass.completed ≡ Some status → (read ≡ (i.life, Some status)) ⊎ (life_of i < read.0.0)) }
         ensures owed { IfOk result (λ read. (i : Irp) → i.irp ≡ irp → owes_in self.old.pass.steps i ≡ true → read ≡ (i.life, None)) }
         ensures held { IfOk result (λ read. (i : Irp) → i.irp ≡ irp → holds_in self.old.pass.steps i ≡ true → read ≡ (i.life, None)) }
