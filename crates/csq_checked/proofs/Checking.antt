@@ -7,7 +7,7 @@ use Rattle.irp_core.specs.declared.ids.Life.{Life}
 use Rattle.irp_core.specs.declared.status.NtStatus.{NtStatus}
 use Rattle.irp_core.specs.declared.step.Kind.TheVariants.{Out, Done}
 use Rattle.csq_words.specs.Own.{removed_in, held_list, owed_list}
-use Rattle.csq_words.specs.Records.{with_step, with_completion}
+use Rattle.csq_words.specs.Records.{saw, with_step, with_completion}
 use Rattle.csq_words.specs.Seats.{WordsState}
 use Rattle.csq_queue.specs.Counts.{has_life}
 use Rattle.csq_queue.specs.Opens.{OpenState, OpenPassState, IsQueueOn, IsPassOn}
@@ -40,7 +40,7 @@ module _ (words : WordsState) (pass : OpenPassState) (held : List (Option Held))
     slot_owes e = owes_told words.size.irps pass.pass.steps held owed was.own i known e
 
     -- it completed i
-    pub completion_keeps : (status : NtStatus) (pass' : OpenPassState) (held' : List (Option Held)) → pass' ≡ record pass { pass = with_completion i status (with_step (Done i) 0 pass.pass) }
+    pub completion_keeps : (status : NtStatus) (pass' : OpenPassState) (held' : List (Option Held)) → pass' ≡ record pass { pass = saw pass'.pass.run (with_completion i status (with_step (Done i) 0 pass.pass)) }
         → has_life (held_list pass'.pass.steps) i.irp ≡ false → held' ≡ slice_set held (number i) None → IsCheckedPass words pass' held' owed
     completion_keeps status pass' held' step gone slots =
         let steps' = (with_step (Done i) 0 pass.pass).steps in

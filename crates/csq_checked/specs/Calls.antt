@@ -23,7 +23,7 @@ use Rattle.csq_words.specs.Queue.{current, refusal}
 use Rattle.csq_words.specs.History.{end_of}
 use Rattle.csq_words.specs.Own.{owes_in, holds_in, removed_in, held_list, owed_list}
 use Rattle.csq_words.specs.Plays.{IsFlagOf, IsStatusOf, flag_read, status_read, shows_flagged, status_recorded}
-use Rattle.csq_words.specs.Records.{with_step, with_completion}
+use Rattle.csq_words.specs.Records.{saw, with_step, with_completion}
 use Rattle.csq_words.specs.Rule.{FindsUnset}
 use Rattle.csq_queue.specs.declared.tokens.InsertAnswer.{InsertAnswer}
 use Rattle.csq_queue.specs.declared.refusals.CancelRefused.{CancelRefused}
@@ -35,7 +35,7 @@ use Rattle.csq_queue.specs.Named.{named, size_of}
 use Rattle.csq_queue.specs.Told.{AddsEvents, KeepsRest, GivesOut, count_given}
 use Rattle.csq_queue.specs.Refusals.{reuse_events, IsReuseRefusal, IsCancelRefusal}
 use Rattle.csq_queue.specs.Searches.{marked}
-use Rattle.csq_queue.specs.Owned.{Holds, HoldsRemoved, Owes, MissedTheRoutine}
+use Rattle.csq_queue.specs.Owned.{Holds, HoldsRemoved, Owes, EndsWithTake, MissedTheRoutine}
 use Rattle.csq_queue.specs.Inserts.{IsInsert, given_by, given_in}
 use Rattle.csq_checked.specs.declared.unlocked.CompleteRefused.{CompleteRefused}
 use Rattle.csq_checked.specs.declared.unlocked.RoutineRefused.{RoutineRefused}
@@ -101,23 +101,24 @@ pub record Reuses (q : CheckedState) (p : CheckedPassState) (irp : IrpId) (answe
   pub unknown : answer ≡ Err reuse.UnknownIrp → (q' ≡ q) × (p' ≡ p)
   pub call : irp.0 < q.queue.limits.irps → Adds q p p' (reuse_events irp answer)
   pub given : GivesOut q.queue.limits None false p.pass p'.pass
-  pub refused : irp.0 < q.queue.limits.irps → IfErr answer (IsReuseRefusal (size_of q.queue.limits) irp p.pass (end_of q.queue.limits.first p'.pass.seen))
+  pub refused : irp.0 < q.queue.limits.irps → IfErr answer (IsReuseRefusal (current (end_of q.queue.limits.first p'.pass.seen) irp) p.pass p'.pass)
   pub after : irp.0 < q.queue.limits.irps → IsAfter q p q' p'
 
 -- a cancel without the lock: the flag is set in the life named, and where the routine was there, the pass owes the IRP
 pub record Marks (p : CheckedPassState) (irp : IrpId) (life : Life) (answer : Result (Option Irp) CancelRefused) (p' : CheckedPassState) : Type 0 where
   pub known : IsOk answer → irp.0 < p.words.size.irps
-  pub step : IfOk answer (λ claim. (flag : ℕ) × (p'.pass ≡ with_step (Take (named irp life)) (count_given claim) (with_step (Flag (named irp life)) flag p.pass)))
+  pub step : IfOk answer (λ claim. (flag : ℕ) × (p'.pass ≡ saw p'.pass.run (with_step (Take (named irp life)) (count_given claim) (with_step (Flag (named irp life)) flag p.pass)))
+    × EndsWithTake p.words.size (named irp life) flag (count_given claim) p.pass p'.pass)
   pub claimed : IfOk answer (λ claim. IfSome claim (λ i. (i ≡ named irp life) × Owes p'.pass i))
-  pub missed : IfOk answer (λ claim. claim ≡ None → MissedTheRoutine p.words.size (named irp life) p'.pass)
+  pub missed : IfOk answer (λ claim. claim ≡ None → MissedTheRoutine (named irp life) p'.pass)
   pub refused : IfErr answer (IsCancelRefusal p.words.size (named irp life) p.pass p'.pass)
   pub words : p'.words ≡ p.words
 
 -- the pass completed i with this status, which nobody had before, and holds the IRP in no life
 pub record IsCompletion (p : CheckedPassState) (irp : IrpId) (status : NtStatus) (i : Irp) (p' : CheckedPassState) : Type 0 where
   pub irp_is : i.irp ≡ irp
-  pub step : p' ≡ record p { pass = with_completion i status (with_step (Done i) 0 p.pass) }
-  pub unset : FindsUnset p.words.size i p'.pass
+  pub step : p' ≡ record p { pass = saw p'.pass.run (with_completion i status (with_step (Done i) 0 p.pass)) }
+  pub unset : FindsUnset p.words.size i p.pass p'.pass
   pub none_held : has_life (held_list p'.pass.steps) irp ≡ false
 
 -- a completion of an IRP that a removal got, or the first cause why not
@@ -137,16 +138,16 @@ pub record CompletesCancelled (p : CheckedPassState) (irp : IrpId) (answer : Res
 -- a look at an IRP's Cancel flag, and the life that it stands for
 pub record TellsFlag (p : CheckedPassState) (irp : IrpId) (answer : Result (Life × Bool) UnknownIrp) (p' : CheckedPassState) : Type 0 where
   pub known : IsOk answer ↔ (irp.0 < p.words.size.irps)
-  pub same : p' ≡ p
-  pub found : IfOk answer (λ read. (w : ℕ) × (read ≡ flag_read w) × IsFlagOf p.words.size irp p.pass w)
+  pub same : p' ≡ record p { pass = saw p'.pass.run p.pass }
+  pub found : IfOk answer (λ read. (w : ℕ) × (read ≡ flag_read w) × IsFlagOf p.words.size irp p.pass p'.pass w)
   pub mine : IfOk answer (λ read. (i : Irp) → i.irp ≡ irp → flagged p.pass.steps i ≡ true → (read ≡ (i.life, true)) ⊎ (life_of i < read.0.0))
   pub seen : IfOk answer (λ read. (i : Irp) → i.irp ≡ irp → shows_flagged i p.pass.seen ≡ true → (read ≡ (i.life, true)) ⊎ (life_of i < read.0.0))
 
 -- a look at its status
 pub record TellsStatus (p : CheckedPassState) (irp : IrpId) (answer : Result (Life × Option NtStatus) UnknownIrp) (p' : CheckedPassState) : Type 0 where
   pub known : IsOk answer ↔ (irp.0 < p.words.size.irps)
-  pub same : p' ≡ p
-  pub found : IfOk answer (λ read. (w : ℕ) × (read ≡ status_read w) × IsStatusOf p.words.size irp p.pass w)
+  pub same : p' ≡ record p { pass = saw p'.pass.run p.pass }
+  pub found : IfOk answer (λ read. (w : ℕ) × (read ≡ status_read w) × IsStatusOf p.words.size irp p.pass p'.pass w)
   pub mine : IfOk answer (λ read. (i : Irp) (status : NtStatus) → i.irp ≡ irp → status_recorded i p.pass.completed ≡ Some status → (read ≡ (i.life, Some status)) ⊎ (life_of i < read.0.0))
   pub owed : IfOk answer (λ read. (i : Irp) → i.irp ≡ irp → owes_in p.pass.steps i ≡ true → read ≡ (i.life, None))
   pub held : IfOk answer (λ read. (i : Irp) → i.irp ≡ irp → holds_in p.pass.steps i ≡ true → read ≡ (i.life, None))

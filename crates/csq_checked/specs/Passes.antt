@@ -34,4 +34,4 @@ IsPassIn queue pass = IsQueueOn pass.words queue
 
 -- the queue after a call of this pass, which has then seen the whole history
 abbrev pub after_call : PassRecord → CheckedState → CheckedState
-after_call pass q = record q { queue = record q.queue { queue = record q.queue.queue { history = pass.seen } } }
+after_call pass q = record q { queue = record q.queue { queue = record q.queue.queue { history = pass.seen; run = pass.run } } }

@@ -10,7 +10,8 @@ ghost use Rattle.csq_words.specs.Own.{removed_in, owed_list};
 ghost use Rattle.csq_words.specs.Calls.{due_mark};
 ghost use Rattle.csq_words.specs.Queue.{current, refusal};
 ghost use Rattle.csq_words.specs.History.{IsLegal, Begins, calls_of, end_of};
-ghost use Rattle.csq_words.specs.Rule.{Follows};
+ghost use Rattle.csq_words.specs.Rule.{Follows, IsHistoryOf};
+ghost use Rattle.irp_core.specs.Steps.{own};
 ghost use Rattle.csq_words.specs.Records.{caught_up, with_run, with_step};
 ghost use Rattle.csq_queue.specs.Counts.{has_life};
 ghost use Rattle.csq_queue.specs.Named.{size_of};
@@ -37,6 +38,7 @@ impl<L: PendingList + Drop, A: Allocator> OpenQueue<L, A> {
         requires pass { IsPassOn words.now pass.old }
         ensures queue { self.new ≡ record self.old { queue = with_run pass.new.pass.run self.old.queue } }
         ensures legal { IsLegal self.old.limits self.old.queue.history }
+        ensures agrees { IsHistoryOf (size_of self.old.limits) self.new.queue.run self.new.queue (λ i. false) }
         ensures sees { SeesRun (size_of self.old.limits) pass.new.pass }
         ensures shown { pass.new ≡ record pass.old { pass = caught_up self.new.queue pass.old.pass } }
         ensures follows { Follows pass.old.pass.run pass.new.pass.run }
@@ -46,6 +48,21 @@ impl<L: PendingList + Drop, A: Allocator> OpenQueue<L, A> {
     {
         self.seat.enter(words, &mut pass.seat);
         leave(&mut self.seat, words, &mut pass.seat);
+    }
+
+    /// Lets a pass see what was shown last, where it took no step since it saw the execution before.
+    pub(crate) fn catch_up(&mut self, words: &Words<A>, pass: &mut OpenPass)
+        requires queue { IsQueueOn words.now self.old }
+        requires pass { IsPassOn words.now pass.old }
+        requires steps { pass.old.pass.steps ≡ own pass.old.pass.pass pass.old.pass.run }
+        requires since { Follows pass.old.pass.run self.old.queue.run }
+        requires agrees { IsHistoryOf (size_of self.old.limits) self.old.queue.run self.old.queue (λ i. false) }
+        ensures same { self.new ≡ self.old }
+        ensures shown { pass.new ≡ record pass.old { pass = caught_up self.old.queue pass.old.pass } }
+        ensures sees { SeesRun (size_of self.old.limits) pass.new.pass }
+    {
+        self.seat.enter(words, &mut pass.seat);
+        self.seat.leave(words, &mut pass.seat);
     }
 
     /// Closes a file object for good, as `Csq::close_file` does.

@@ -1,0 +1,59 @@
+-- Two passes that see the same execution.
+use Rattle.std.proofs.Common.{◌≡◌, ℕ, ◌+◌, cond, Bool, true, false, List, [], ◌∷◌, ◌++◌, length, Some, refl, sym, ap, ◌∙◌, subst, arith}
+use Rattle.std.proofs.lemmas.List.{append-nil, length-append}
+use Rattle.irp_core.specs.declared.ids.PassId.{PassId}
+use Rattle.irp_core.specs.declared.step.Made.{Made}
+use Rattle.irp_core.specs.declared.step.Inside.TheVariants.{Nothing}
+use Rattle.irp_core.specs.Runs.{Size}
+use Rattle.irp_core.specs.Steps.{Irp, own, by}
+use Rattle.csq_words.specs.declared.views.PassRecord.{PassRecord}
+use Rattle.csq_words.specs.declared.views.QueueRecord.{QueueRecord}
+use Rattle.csq_words.specs.Own.{inside_of}
+use Rattle.csq_words.specs.Records.{caught_up}
+use Rattle.csq_words.specs.Rule.{inserts, in_flight, Follows, IsHistoryOf, AreOfRun, IsTold}
+use Rattle.csq_words.proofs.Keeping.{same_flight}
+use Rattle.csq_queue.specs.Told.{SeesRun}
+use Rattle.csq_queue.proofs.Presence.{sees_run}
+
+-- a pass's steps in a run that goes on
+own-append : (p : PassId) (newer run : List Made) → own p (newer ++ run) ≡ own p newer ++ own p run
+own-append p [] run = refl
+own-append p (m ∷ newer) run = go (by p m) refl (own-append p newer run)
+  where
+    go : (b : Bool) → by p m ≡ b → own p (newer ++ run) ≡ own p newer ++ own p run → own p ((m ∷ newer) ++ run) ≡ own p (m ∷ newer) ++ own p run
+    go true e rest = rw e (ap (λ l. m ∷ l) rest)
+    go false e rest = rw e rest
+
+-- nothing was added to a list that is as long as it was
+none_added : {A : Type 0} (newer old : List A) → length (newer ++ old) ≡ length old → newer ≡ []
+none_added [] old e = refl
+none_added (x ∷ newer) old e = let l = length-append newer old in absurd (omega (arith, e, l))
+
+-- between two times at which the pass had the same steps, it had them too
+pub own_between : (p : PassId) (first then last : List Made) → Follows first then → Follows then last → own p first ≡ own p last → own p then ≡ own p first
+own_between p first then last one two same =
+    let there : own p then ≡ own p one.0 ++ own p first = ap (own p) one.1 ∙ own-append p one.0 first in
+    let here : own p last ≡ own p two.0 ++ own p then = ap (own p) two.1 ∙ own-append p two.0 then in
+    let longer : length (own p two.0 ++ own p then) ≡ length (own p first) = ap length (sym here ∙ sym same) in
+    let more : length (own p one.0 ++ own p first) ≡ length (own p then) = ap length (sym there) in
+    let a = length-append (own p two.0) (own p then) in
+    let b = length-append (own p one.0) (own p first) in
+    let none' = none_added (own p one.0) (own p first) (omega (arith, longer, more, a, b)) in
+    there ∙ ap (λ l. l ++ own p first) none'
+
+-- a pass that took no step since an earlier time sees what was observed since
+pub caught_up_sees : (size : Size) (q : QueueRecord) (r : PassRecord) → inside_of r.steps ≡ Nothing → r.steps ≡ own r.pass r.run → Follows r.run q.run → IsHistoryOf size q.run q (λ i. false) → IsTold size q r
+    → SeesRun size (caught_up q r)
+caught_up_sees size q r outside steps since history told =
+    let mine = told.1.pass_is in
+    let between = own_between r.pass r.run q.run told.0 since told.1.seen (sym steps ∙ mine.steps_is) in
+    sees_run size q.run q r record {
+      history_is = same_flight size q.run q (λ i. false) (in_flight (Some r)) (λ i. sym (ap (λ s. inserts s i) outside)) history;
+      pass_is = record { seen_is = mine.seen_is; mine_is = mine.mine_is; steps_is = steps ∙ sym between; completed_is = mine.completed_is; run_is = since };
+      callers = told.1.callers;
+      seen = ([], refl);
+    }
+
+-- what a pass that is inside no program has observed agrees with the history
+pub observed_history : (size : Size) (run : List Made) (q : QueueRecord) (r : PassRecord) → inside_of r.steps ≡ Nothing → AreOfRun size run q r → IsHistoryOf size run q (λ i. false)
+observed_history size run q r outside told = same_flight size run q (in_flight (Some r)) (λ i. false) (λ i. ap (λ s. inserts s i) outside) told.history_is
