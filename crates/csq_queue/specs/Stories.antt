@@ -1,5 +1,5 @@
--- What happened to each IRP of a queue.
-use Rattle.std.specs.Prelude.{ℕ, List}
+-- What happened to each IRP of a queue, and what its passes have seen.
+use Rattle.std.specs.Prelude.{ℕ, List, ◌∷◌}
 use Rattle.irp_core.specs.Steps.{Irp}
 use Rattle.irp_core.specs.Lives.{HasBegun}
 use Rattle.csq_list.specs.Listing.{Listing}
@@ -7,7 +7,7 @@ use Rattle.csq_words.specs.declared.views.PassRecord.{PassRecord}
 use Rattle.csq_words.specs.declared.views.QueueRecord.{QueueRecord}
 use Rattle.csq_words.specs.Queue.{Limits}
 use Rattle.csq_words.specs.Finals.{FinalWords}
-use Rattle.csq_words.specs.Stories.{Story, IsGivenOnce}
+use Rattle.csq_words.specs.Stories.{Story, IsGivenOnce, SeeOneHistory}
 use Rattle.csq_queue.specs.Named.{size_of}
 use Rattle.csq_queue.specs.Told.{queue_with, SeesRun}
 use Rattle.csq_queue.specs.Rests.{IsClosed, IsRestOf}
@@ -15,13 +15,22 @@ use Rattle.csq_queue.specs.Rests.{IsClosed, IsRestOf}
 -- in what is left of a closed queue, each IRP has a story in each life that has begun
 abbrev pub EachIrpLeftHasAStory : Type 0
 EachIrpLeftHasAStory = (limits : Limits) (pass : PassRecord) (receipts : List PassRecord) (taken : ℕ) (listing : Listing) (finals : FinalWords)
-    → (rest : IsRestOf limits pass receipts taken listing finals) → (i : Irp) → HasBegun limits.first rest.last.run i → Story finals rest.queue rest.last.run i
+    → (rest : IsRestOf limits pass receipts taken listing finals) → (i : Irp) → HasBegun limits.first rest.last.run i → Story finals finals.queue rest.last.run i
 
 -- so it has in what is left of an open queue
 abbrev pub EachIrpOfAnOpenQueueHasAStory : Type 0
 EachIrpOfAnOpenQueueHasAStory = (limits : Limits) (taken : ℕ) (old : QueueRecord) (listing : Listing) (finals : FinalWords)
-    → (closed : IsClosed limits taken old listing finals) → (i : Irp) → HasBegun limits.first closed.last.run i → Story finals closed.queue closed.last.run i
+    → (closed : IsClosed limits taken old listing finals) → (i : Irp) → HasBegun limits.first closed.last.run i → Story finals finals.queue closed.last.run i
 
 -- in what a pass has seen, each life of each IRP was given out at most once
 abbrev pub EachIrpSeenIsGivenOnce : Type 0
 EachIrpSeenIsGivenOnce = (limits : Limits) (r : PassRecord) → SeesRun (size_of limits) r → (i : Irp) → IsGivenOnce (queue_with limits.first r.seen) r.run i
+
+-- the closing pass and those of the receipts have seen one history, that of the queue that is left
+abbrev pub ClosingPassesSeeOneHistory : Type 0
+ClosingPassesSeeOneHistory = (limits : Limits) (pass : PassRecord) (receipts : List PassRecord) (taken : ℕ) (listing : Listing) (finals : FinalWords)
+    → IsRestOf limits pass receipts taken listing finals → SeeOneHistory finals.queue.history (pass ∷ receipts)
+
+-- the passes of an open queue that came back have seen one history, that of the queue
+abbrev pub PassesOfAnOpenQueueSeeOneHistory : Type 0
+PassesOfAnOpenQueueSeeOneHistory = (limits : Limits) (taken : ℕ) (old : QueueRecord) (listing : Listing) (finals : FinalWords) → IsClosed limits taken old listing finals → SeeOneHistory old.history old.back

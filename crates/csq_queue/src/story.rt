@@ -1,6 +1,6 @@
-//! What happened to each IRP of a queue. Each function stands for a law: its contract is the law, and there
-//! is nothing to run.
-ghost use Rattle.csq_queue.specs.Stories.{EachIrpSeenIsGivenOnce, EachIrpLeftHasAStory, EachIrpOfAnOpenQueueHasAStory};
+//! What happened to each IRP of a queue, and what its passes have seen. Each function stands for a law: its
+//! contract is the law, and there is nothing to run.
+ghost use Rattle.csq_queue.specs.Stories.{EachIrpSeenIsGivenOnce, EachIrpLeftHasAStory, EachIrpOfAnOpenQueueHasAStory, ClosingPassesSeeOneHistory, PassesOfAnOpenQueueSeeOneHistory};
 
 /// What a pass has seen, after any of its calls: an IRP, in each of its lives, was inserted by at most one
 /// pass and given to at most one. In a run of all passes that agrees, this one made the one exchange that took
@@ -21,4 +21,16 @@ pub fn each_irp_left_has_a_story()
 /// The same where `OpenQueue::close` answers, of the history that the queue had.
 pub fn each_irp_of_an_open_queue_has_a_story()
     ensures { EachIrpOfAnOpenQueueHasAStory }
+{}
+
+/// Where `Csq::close` or `Csq::close_with` answers `Ok`, the closing pass and those of the receipts have seen
+/// one history: it begins with what each has seen, and its calls of each pass are the calls that the pass made,
+/// in the order in which it made them. So of what two of them have seen, one begins with the other.
+pub fn closing_passes_see_one_history()
+    ensures { ClosingPassesSeeOneHistory }
+{}
+
+/// The same where `OpenQueue::close` answers, of all passes that came back, and the history that the queue had.
+pub fn passes_of_an_open_queue_see_one_history()
+    ensures { PassesOfAnOpenQueueSeeOneHistory }
 {}

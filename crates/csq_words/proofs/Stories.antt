@@ -45,7 +45,7 @@ use Rattle.csq_words.specs.Records.{queue_of}
 use Rattle.csq_words.specs.Own.{inside_of, removed_in}
 use Rattle.csq_words.specs.Rule.{is_done, IsTrueOf, AreTrueOf, inserts, AreOfRun}
 use Rattle.csq_words.specs.Finals.{FinalWords, final_status, IsRecordedBack, AllBack, IsFinal, InLife}
-use Rattle.csq_words.specs.Stories.{accepts, gives, inserted_by, given_to, IsOneOf, HasRecorded, Story, IsGivenOnce}
+use Rattle.csq_words.specs.Stories.{accepts, gives, inserted_by, given_to, IsOneOf, HasRecorded, Story, IsGivenOnce, NoIrpHasTwoStories}
 use Rattle.csq_words.proofs.Laws.{off, dones_some, done_over}
 use Rattle.csq_words.proofs.Own.{any_filtered, inside_of-own, removed_in-own}
 use Rattle.csq_words.proofs.Truths.{left}
@@ -216,7 +216,7 @@ module _ (size : Size) (words : List ℕ) (q : QueueRecord) (f : IsFinal size wo
   is_run = f.agrees.history_is.is_run
 
   abbrev finally : FinalWords
-  finally = record { irps = size.irps; words = words }
+  finally = record { irps = size.irps; words = words; queue = q }
 
   told : SoFar f.run i (has_irp (queue_of q).used i) (has_entry (queue_of q).entries i) (inserted_by q.first i q.history) (given_to q.first i q.history)
   told = so_far size f.run is_run i q.first q.history f.agrees.history_is.orderly f.agrees.history_is.true_of
@@ -366,3 +366,11 @@ module _ (size : Size) (q : QueueRecord) (r : PassRecord) (run : List Made) (tol
     claimed = given_claimed run i _ _ _ _ far;
     completed = done_given;
   }
+
+-- of the three stories of an IRP no two hold
+pub no_two_stories : NoIrpHasTwoStories
+no_two_stories finals q run i = (
+  λ never listed. absurd (cc (never.inserted, listed.inserted)),
+  λ never ended. absurd (cc (never.inserted, ended.inserted)),
+  λ listed ended. absurd (cc (listed.given, ended.given)),
+)

@@ -1,4 +1,4 @@
--- The story of an IRP in one of its lives: who inserted it, who was given it, who claimed it, and who completed it.
+-- The story of an IRP in one of its lives: who inserted it, who was given it, who claimed it, and who completed it. And the one history that all passes have seen.
 use Rattle.std.specs.Prelude.{◌≡◌, ◌≤◌, ◌⊎◌, ℕ, Bool, true, false, List, [], ◌∷◌, length, Some, if◌then◌else◌}
 use mathlib.Core.Option.{some}
 use lib.ListN.{get_elem?}
@@ -18,9 +18,9 @@ use Rattle.csq_words.specs.declared.views.Entry.{Entry}
 use Rattle.csq_words.specs.declared.views.PassRecord.{PassRecord}
 use Rattle.csq_words.specs.declared.views.QueueRecord.{QueueRecord}
 use Rattle.csq_words.specs.Queue.{QueueState, current, has_entry}
-use Rattle.csq_words.specs.History.{end_of}
+use Rattle.csq_words.specs.History.{end_of, calls_of, Begins}
 use Rattle.csq_words.specs.Records.{queue_of}
-use Rattle.csq_words.specs.Rule.{AreOfRun}
+use Rattle.csq_words.specs.Rule.{AreOfRun, IsTold, IsQueueTold}
 use Rattle.csq_words.specs.Plays.{status_recorded}
 use Rattle.csq_words.specs.Finals.{FinalWords, final_status, AllBack, IsFinal, InLife, shows_cancelled}
 
@@ -97,7 +97,7 @@ Story finals q run i = NeverInserted q run i ⊎ StillListed q run i ⊎ HasEnde
 
 -- every life that has begun has a story
 abbrev pub EachIrpHasAStory : Type 0
-EachIrpHasAStory = (size : Size) (words : List ℕ) (q : QueueRecord) (last : IsFinal size words q) → AllBack q → (i : Irp) → HasBegun size.first last.run i → Story (record { irps = size.irps; words = words }) q last.run i
+EachIrpHasAStory = (size : Size) (words : List ℕ) (q : QueueRecord) (last : IsFinal size words q) → AllBack q → (i : Irp) → HasBegun size.first last.run i → Story (record { irps = size.irps; words = words; queue = q }) q last.run i
 
 -- of a history with which a run agrees: at most one pass inserted i, and at most one was given i. This one made the one claim of i, and who completed i was given it
 pub record IsGivenOnce (q : QueueRecord) (run : List Made) (i : Irp) : Type 0 where
@@ -109,3 +109,33 @@ pub record IsGivenOnce (q : QueueRecord) (run : List Made) (i : Irp) : Type 0 wh
 -- at every step, each life of each IRP is given out at most once
 abbrev pub EachIrpIsGivenOnce : Type 0
 EachIrpIsGivenOnce = (size : Size) (q : QueueRecord) (r : PassRecord) (run : List Made) → AreOfRun size run q r → (i : Irp) → IsGivenOnce q run i
+
+-- no two of these hold
+abbrev pub AtMostOne : Type 0 → Type 0 → Type 0 → Type 0
+AtMostOne A B C = (A → B → ⊥) × (A → C → ⊥) × (B → C → ⊥)
+
+-- of the three stories of an IRP no two hold
+abbrev pub NoIrpHasTwoStories : Type 0
+NoIrpHasTwoStories = (finals : FinalWords) (q : QueueRecord) (run : List Made) (i : Irp) → AtMostOne (NeverInserted q run i) (StillListed q run i) (HasEnded finals q run i)
+
+-- one of these histories begins with the other
+abbrev pub AreComparable : List Entry → List Entry → Type 0
+AreComparable h g = Begins h g ⊎ Begins g h
+
+-- these passes have seen one history: it begins with what each of them has seen, and the calls of each are its calls there, in that order. So what one of them has seen begins with what another has, or the other way round
+pub record SeeOneHistory (history : List Entry) (passes : List PassRecord) : Type 0 where
+  pub seen : (k : ℕ) (r : PassRecord) → get_elem? passes k ≡ some r → Begins r.seen history
+  pub calls : (k : ℕ) (r : PassRecord) → get_elem? passes k ≡ some r → r.mine ≡ calls_of r.pass history
+  pub comparable : (j k : ℕ) (r s : PassRecord) → get_elem? passes j ≡ some r → get_elem? passes k ≡ some s → AreComparable r.seen s.seen
+
+-- passes that were joined with a queue's record have seen its history
+abbrev pub JoinedPassesSeeOneHistory : Type 0
+JoinedPassesSeeOneHistory = (size : Size) (q : QueueRecord) (r s : PassRecord) → IsTold size q r → IsTold size q s → SeeOneHistory q.history (r ∷ s ∷ [])
+
+-- the passes that are back have seen it
+abbrev pub PassesBackSeeOneHistory : Type 0
+PassesBackSeeOneHistory = (size : Size) (q : QueueRecord) → IsQueueTold size q → SeeOneHistory q.history q.back
+
+-- those of a closed queue have seen it
+abbrev pub PassesAtTheEndSeeOneHistory : Type 0
+PassesAtTheEndSeeOneHistory = (size : Size) (words : List ℕ) (q : QueueRecord) → IsFinal size words q → SeeOneHistory q.history q.back

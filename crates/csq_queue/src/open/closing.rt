@@ -4,7 +4,7 @@ ghost use Rattle.irp_core.specs.declared.ids.IrpId.{IrpId as IrpNumber};
 ghost use Rattle.csq_words.specs.Queue.{listing_of};
 ghost use Rattle.csq_words.specs.History.{IsLegal, Begins};
 ghost use Rattle.csq_words.specs.Records.{queue_of, new_pass, with_back, with_shown};
-ghost use Rattle.csq_words.specs.Rule.{IsQueueTold};
+ghost use Rattle.csq_words.specs.Rule.{IsQueueToldWith};
 ghost use Rattle.csq_words.specs.Seats.{pass_at, pass_record, IsHere};
 ghost use Rattle.csq_words.specs.Finals.{AllBack, IsFinal, IsLeft, KeepsRecords};
 ghost use Rattle.csq_queue.specs.Named.{size_of, pass_numbered, out_count};
@@ -97,14 +97,16 @@ impl<L: PendingList + Drop, A: Allocator> OpenQueue<L, A> {
         self.seat.show(words, receipt);
     }
 
-    /// Tells what is known of the queue by its passes that are back.
-    pub(crate) fn tell(&mut self, words: &Words<A>)
-        requires { IsQueueOn words.now self.old }
+    /// Tells what is known of the queue by its passes that are back and by this one, which stays as it is.
+    pub(crate) fn tell(&mut self, words: &Words<A>, pass: &mut OpenPass)
+        requires queue { IsQueueOn words.now self.old }
+        requires pass { IsPassOn words.now pass.old }
         ensures same { self.new ≡ self.old }
-        ensures told { IsQueueTold (size_of self.old.limits) self.old.queue }
+        ensures kept { pass.new ≡ pass.old }
+        ensures told { IsQueueToldWith words.now.size self.old.queue pass.old.pass }
         ensures made { self.old.queue.made ≡ self.old.limits.passes }
     {
-        self.seat.tell(words);
+        self.seat.tell_with(words, &mut pass.seat);
     }
 
     /// How many of the first passes, so many of which were taken, are not back, beside this one. Own rule.
@@ -158,13 +160,14 @@ impl<L: PendingList + Drop, A: Allocator> OpenQueue<L, A> {
         requires queue { IsQueueOn words self }
         requires back { AllBack self.queue }
         ensures irps { result.finals.irps ≡ self.limits.irps }
-        ensures last { IsFinal (size_of self.limits) result.finals.words self.queue }
-        ensures left { (n : IrpNumber) → n.0 < self.limits.irps → IsLeft result.finals.words self.queue n }
-        ensures records { KeepsRecords result.finals self.queue }
-        ensures list { L.listing result.list ≡ listing_of self.limits (queue_of self.queue) }
-        ensures legal { IsLegal self.limits self.queue.history }
-        ensures first { self.queue.first ≡ self.limits.first }
-        ensures made { self.queue.made ≡ self.limits.passes }
+        ensures queue { result.finals.queue ≡ self.queue }
+        ensures last { IsFinal (size_of self.limits) result.finals.words result.finals.queue }
+        ensures left { (n : IrpNumber) → n.0 < self.limits.irps → IsLeft result.finals.words result.finals.queue n }
+        ensures records { KeepsRecords result.finals }
+        ensures list { L.listing result.list ≡ listing_of self.limits (queue_of result.finals.queue) }
+        ensures legal { IsLegal self.limits result.finals.queue.history }
+        ensures first { result.finals.queue.first ≡ self.limits.first }
+        ensures made { result.finals.queue.made ≡ self.limits.passes }
     {
         let OpenQueue { list, seat, .. } = self;
         Rest {

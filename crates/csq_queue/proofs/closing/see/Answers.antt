@@ -29,5 +29,4 @@ returns-clause-shown g c =
     let was = c.receipts.invariant in
     let over = c.receipts-test.false in
     λ k r at.
-    let found = was.2 k r (omega (arith, at_below c.args.receipts.now k r at, over)) at in
-    (found.0, ap (λ (z : OpenState). get_elem? z.queue.shown found.0) c.tell.ensures.same ∙ found.1)
+    was.2 k r (omega (arith, at_below c.args.receipts.now k r at, over)) at
