@@ -12,7 +12,7 @@ use Rattle.csq_words.specs.Seats.{WordsState}
 use Rattle.csq_queue.specs.Counts.{has_life}
 use Rattle.csq_queue.specs.Opens.{OpenState, OpenPassState, IsQueueOn, IsPassOn}
 use Rattle.csq_queue.specs.Owned.{Holds, HoldsRemoved, Owes}
-use Rattle.csq_queue.specs.Told.{GivesOut}
+use Rattle.csq_queue.proofs.Giving.{GivesOut}
 use Rattle.csq_checked.specs.declared.slots.Held.{Held}
 use Rattle.csq_checked.specs.Slots.{KnowsItsOwn, slot_at, with_held}
 use Rattle.csq_checked.specs.Passes.{IsCheckedPass}

@@ -11,7 +11,7 @@ use Rattle.csq_words.specs.declared.views.PassRecord.{PassRecord}
 use Rattle.csq_words.specs.Own.{removed_in, held_list, owed_list}
 use Rattle.csq_words.specs.Queue.{Limits}
 use Rattle.csq_queue.specs.Counts.{has_life}
-use Rattle.csq_queue.specs.Told.{GivesOut}
+use Rattle.csq_queue.proofs.Giving.{GivesOut}
 use Rattle.csq_queue.proofs.Counting.{by_number, spent}
 use Rattle.csq_checked.specs.declared.slots.Held.{Held}
 use Rattle.csq_checked.specs.Slots.{KnowsItsOwn, slot_at, held_at, owed_at, with_held}

@@ -32,7 +32,8 @@ use Rattle.csq_queue.specs.declared.refusals.ReuseRefused.TheVariants as reuse
 use Rattle.csq_queue.specs.declared.refusals.UnknownIrp.{UnknownIrp}
 use Rattle.csq_queue.specs.Counts.{has_life}
 use Rattle.csq_queue.specs.Named.{named, size_of}
-use Rattle.csq_queue.specs.Told.{AddsEvents, KeepsRest, GivesOut, count_given}
+use Rattle.csq_queue.specs.Steps.{MakesSteps, insert_steps, remove_next_steps, remove_steps, reuse_steps}
+use Rattle.csq_queue.specs.Told.{AddsEvents, IsNew, count_given}
 use Rattle.csq_queue.specs.Refusals.{reuse_events, IsReuseRefusal, IsCancelRefusal}
 use Rattle.csq_queue.specs.Searches.{marked}
 use Rattle.csq_queue.specs.Owned.{Holds, HoldsRemoved, Owes, EndsWithTake, MissedTheRoutine}
@@ -54,7 +55,8 @@ pub record IsAfter (q : CheckedState) (p : CheckedPassState) (q' : CheckedState)
 -- an insert: it queued the IRP, or found it cancelled and gave it back, which the pass holds then, or refused it for the first cause
 pub record Inserts (q : CheckedState) (p : CheckedPassState) (irp : IrpId) (file : FileId) (place : Place) (answer : Result (InsertAnswer Irp Irp) InsertStatus) (q' : CheckedState) (p' : CheckedPassState) : Type 0 where
   pub accepted : IfOk answer (λ inserted. (events : List Event) × IsInsert (current (end_of q.queue.limits.first q.queue.queue.history) irp) file place inserted events × Adds q p p' events)
-  pub given : GivesOut q.queue.limits (given_in answer) false p.pass p'.pass
+  pub steps : MakesSteps (insert_steps answer (end_of q.queue.limits.first p'.pass.seen)) p.pass p'.pass
+  pub new : IfSome (given_in answer) (IsNew q.queue.limits p.pass)
   pub token : IfOk answer (λ inserted. IfSome (given_by inserted) (Holds q.queue.limits.irps p'.pass))
   pub refused : IfErr answer (λ cause. Adds q p p' (Insert irp file place (Refused cause) ∷ []))
   pub cause : IfErr answer (λ cause. refusal q.queue.limits (end_of q.queue.limits.first q.queue.queue.history) irp file ≡ Some cause)
@@ -63,7 +65,8 @@ pub record Inserts (q : CheckedState) (p : CheckedPassState) (irp : IrpId) (file
 -- a removal of the first match that no canceller has: the pass holds it then
 pub record RemovesNext (q : CheckedState) (p : CheckedPassState) (peek : Peek) (taken : Option Irp) (q' : CheckedState) (p' : CheckedPassState) : Type 0 where
   pub call : (marks : List Irp) × Adds q p p' (RemoveNext peek taken ∷ marked marks)
-  pub given : GivesOut q.queue.limits taken true p.pass p'.pass
+  pub steps : MakesSteps (remove_next_steps peek taken (end_of q.queue.limits.first q.queue.queue.history)) p.pass p'.pass
+  pub new : IfSome taken (IsNew q.queue.limits p.pass)
   pub token : IfSome taken (HoldsRemoved q.queue.limits.irps p'.pass)
   pub after : IsAfter q p q' p'
 
@@ -71,7 +74,8 @@ pub record RemovesNext (q : CheckedState) (p : CheckedPassState) (peek : Peek) (
 pub record Removes (q : CheckedState) (p : CheckedPassState) (i : Irp) (taken : Option Irp) (q' : CheckedState) (p' : CheckedPassState) : Type 0 where
   pub irp : IfSome taken (λ got. got ≡ i)
   pub call : (marks : List Irp) × Adds q p p' (Remove i (is_some taken) ∷ marked marks)
-  pub given : GivesOut q.queue.limits taken true p.pass p'.pass
+  pub steps : MakesSteps (remove_steps i taken (end_of q.queue.limits.first q.queue.queue.history)) p.pass p'.pass
+  pub new : IfSome taken (IsNew q.queue.limits p.pass)
   pub token : IfSome taken (HoldsRemoved q.queue.limits.irps p'.pass)
   pub after : IsAfter q p q' p'
 
@@ -91,7 +95,7 @@ pub record RunsRoutine (q : CheckedState) (p : CheckedPassState) (irp : IrpId) (
 pub record ClosesFile (q : CheckedState) (p : CheckedPassState) (file : FileId) (answer : Result (Unit {0}) UnknownFile) (q' : CheckedState) (p' : CheckedPassState) : Type 0 where
   pub known : IsOk answer ↔ (file.0 < q.queue.limits.files)
   pub call : OnOk answer (Adds q p p' (CloseFile file ∷ []))
-  pub rest : OnOk answer (KeepsRest p.pass p'.pass)
+  pub steps : OnOk answer (MakesSteps [] p.pass p'.pass)
   pub after : OnOk answer (IsAfter q p q' p')
   pub unknown : OnErr answer ((q' ≡ q) × (p' ≡ p))
 
@@ -100,7 +104,7 @@ pub record Reuses (q : CheckedState) (p : CheckedPassState) (irp : IrpId) (answe
   pub known : (answer ≡ Err reuse.UnknownIrp) ↔ ¬ (irp.0 < q.queue.limits.irps)
   pub unknown : answer ≡ Err reuse.UnknownIrp → (q' ≡ q) × (p' ≡ p)
   pub call : irp.0 < q.queue.limits.irps → Adds q p p' (reuse_events irp answer)
-  pub given : GivesOut q.queue.limits None false p.pass p'.pass
+  pub steps : MakesSteps (reuse_steps irp answer) p.pass p'.pass
   pub refused : irp.0 < q.queue.limits.irps → IfErr answer (IsReuseRefusal (current (end_of q.queue.limits.first p'.pass.seen) irp) p.pass p'.pass)
   pub after : irp.0 < q.queue.limits.irps → IsAfter q p q' p'
 

@@ -1,6 +1,6 @@
 -- What the threads of a device hand back, and the queue that is closed with it.
-use Rattle.std.proofs.Common.{◌≡◌, ◌≢◌, ℕ, zero, suc, ◌+◌, ◌<◌, ◌≤◌, ◌==◌, ◌||◌, ◌&&◌, not, Bool, true, false, eq-eqb, List, [], ◌∷◌, ◌++◌, length, refl, sym, ap, ◌∙◌, subst, ⊎_elim, arith}
-use mathlib.Core.Option.{some, some-injective, some-ne-none}
+use Rattle.std.proofs.Common.{◌≡◌, ◌≢◌, ℕ, zero, suc, ◌+◌, ◌<◌, ◌≤◌, ◌||◌, true, false, List, [], ◌∷◌, ◌++◌, length, refl, sym, ap, ◌∙◌, subst, ⊎_elim, arith}
+use mathlib.Core.Option.{some}
 use lib.ListN.{get_elem?}
 use Rattle.csq_list.specs.Listing.{Listing}
 use Rattle.csq_words.specs.declared.views.PassRecord.{PassRecord}
@@ -13,11 +13,10 @@ use Rattle.std.proofs.lemmas.Bool.{cases_lt, or_right}
 use Rattle.irp_core.specs.Steps.{same_pass}
 use Rattle.irp_core.specs.declared.ids.PassId.{PassId}
 use Rattle.csq_words.proofs.Named.{same_pass-is}
-use Rattle.csq_queue.specs.Named.{pass_numbered, size_of, is_back, out_count}
-use Rattle.csq_queue.specs.Rests.{IsRestOf, AreOut, IsCloseCause}
-use Rattle.csq_queue.specs.declared.rest.CloseCause.{CloseCause}
-use Rattle.csq_queue.specs.declared.rest.CloseCause.TheVariants.{Holding, PassesOut}
-use Rattle.csq_queue.proofs.Counting.{by_number, tally_same, tally_zero}
+use Rattle.csq_queue.specs.Named.{pass_numbered, size_of, is_back}
+use Rattle.csq_queue.specs.Rests.{FirstAreBack, IsRestOf}
+use Rattle.csq_queue.proofs.Backing.{found_back}
+use Rattle.csq_queue.proofs.Counting.{by_number}
 use Rattle.csq_device.specs.Rests.{completed_count}
 use Rattle.csq_device.specs.Served.{has_reuse, HasServed, AreServed, AreReceipts, completed_by, IsShift}
 use Rattle.csq_device.proofs.Handing.{handed_is_completed}
@@ -54,7 +53,7 @@ pub handed_over : (limits : Limits) (handed : ℕ) (receipts : List PassRecord) 
 handed_over limits handed receipts pass rack taken listing finals shift rest =
     shift.handed_is
     ∙ (sym (completed_by-push receipts pass)
-    ∙ (sym (handed_is_completed (size_of limits) finals rest.queue rest.irps rest.back.made rest.last (receipts ++ pass ∷ []) all served)
+    ∙ (sym (handed_is_completed (size_of limits) finals finals.queue rest.irps rest.back.made rest.last (receipts ++ pass ∷ []) all served)
     ∙ ap (completed_count finals) rest.irps))
   where
     all : length (receipts ++ pass ∷ []) ≡ limits.passes
@@ -64,24 +63,18 @@ handed_over limits handed receipts pass rack taken listing finals shift rest =
         length-push [] = refl
         length-push (r ∷ rs) = ap suc (length-push rs)
 
-    served : AreServed rest.queue 1 (receipts ++ pass ∷ [])
-    served = each_served rest.queue 1 (receipts ++ pass ∷ []) (λ k r at. ⊎_elim
+    served : AreServed finals.queue 1 (receipts ++ pass ∷ [])
+    served = each_served finals.queue 1 (receipts ++ pass ∷ []) (λ k r at. ⊎_elim
         (λ old. let given = shift.given k r old in let one : suc k ≡ 1 + k = omega arith in (given.0 ∙ ap pass_numbered one, rest.back.given k r old, given.1))
         (λ new.
         let all' = shift.all in
         let at' = new.0 in
         let last : limits.passes ≡ 1 + k = omega arith in (
           ap (λ (x : PassRecord). x.pass) (sym new.1) ∙ (shift.last.0 ∙ ap pass_numbered last),
-          subst (HasBack rest.queue) new.1 rest.back.closing,
+          subst (HasBack finals.queue) new.1 rest.back.closing,
           ap (λ (x : PassRecord). has_reuse x.mine) (sym new.1) ∙ shift.last.1,
         ))
         (at_push receipts pass r k at))
-
--- the queue is then closed: the closing pass holds and owes nothing, and no other is out
-found_back : (back : List PassRecord) (k : ℕ) (r : PassRecord) (p : PassId) → get_elem? back k ≡ some r → r.pass ≡ p → is_back p back ≡ true
-found_back [] k r p e is = absurd (some-ne-none r (sym e))
-found_back (o ∷ back) zero r p e is = let same : o ≡ r = some-injective o r e in ap (λ b. b || is_back p back) (same_pass-is o.pass p (ap (λ (x : PassRecord). x.pass) same ∙ is))
-found_back (o ∷ back) (suc k) r p e is = or_right (same_pass o.pass p) (is_back p back) (found_back back k r p e is)
 
 here_at : (rs : List PassRecord) (k : ℕ) → k < length rs → (r : PassRecord) × (get_elem? rs k ≡ some r)
 here_at [] k l = absurd (none k l)
@@ -91,40 +84,18 @@ here_at [] k l = absurd (none k l)
 here_at (r ∷ rs) zero l = (r, refl)
 here_at (r ∷ rs) (suc k) l = here_at rs k (omega arith)
 
-none_out : (limits : Limits) (handed : ℕ) (receipts : List PassRecord) (pass : PassRecord) (rack taken out : ℕ) → IsShift limits handed receipts pass rack → taken ≤ limits.passes → AreOut limits pass receipts taken out → ⊥
-none_out limits handed receipts pass rack taken out shift few are =
-    let none : out_count pass.pass.0 are.queue.back taken ≡ 0 = tally_same out_of (λ k. false) taken each ∙ tally_zero (λ k. false) taken (λ k. refl) in
-    let count = are.count in
-    let some_out = are.some_out in
-    omega arith
+-- each pass that was taken is the closing one, or has its receipt
+pub all_back : (limits : Limits) (handed : ℕ) (receipts : List PassRecord) (pass : PassRecord) (rack taken : ℕ) → IsShift limits handed receipts pass rack → taken ≤ limits.passes → FirstAreBack taken (pass ∷ receipts)
+all_back limits handed receipts pass rack taken shift few zero low high = absurd (none low)
   where
-    out_of : ℕ → Bool
-    out_of k = not (suc k == pass.pass.0) && not (is_back (pass_numbered (suc k)) are.queue.back)
+    none : 1 ≤ 0 → ⊥
+    none l = omega arith
+all_back limits handed receipts pass rack taken shift few (suc k) low high = by_number (is_back p (pass ∷ receipts) ≡ true) (suc k) limits.passes
+    (λ e. ap (λ b. b || is_back p receipts) (same_pass-is pass.pass p (shift.last.0 ∙ ap pass_numbered (sym e))))
+    (λ ne. let at = here_at receipts k (inside ne) in or_right (same_pass pass.pass p) (is_back p receipts) (found_back receipts k at.0 p at.1 (shift.given k at.0 at.1).0))
+  where
+    p : PassId
+    p = pass_numbered (suc k)
 
-    closing : (k : ℕ) → suc k ≡ pass.pass.0 → out_of k ≡ false
-    closing k e = ap (λ b. not b && not (is_back (pass_numbered (suc k)) are.queue.back)) (eq-eqb (suc k) pass.pass.0 e)
-
-    back_too : (a b : Bool) → b ≡ true → (not a && not b) ≡ false
-    back_too true b h = refl
-    back_too false b h = ap not h
-
-    other : (k : ℕ) → k < taken → suc k ≢ pass.pass.0 → out_of k ≡ false
-    other k l ne =
-        let own : pass.pass.0 ≡ limits.passes = ap (λ (p : PassId). p.0) shift.last.0 in
-        let at = here_at receipts k (inside k l (λ e. ne (e ∙ sym own))) in
-        let back = are.given k at.0 at.1 in
-        back_too (suc k == pass.pass.0) (is_back (pass_numbered (suc k)) are.queue.back) (found_back are.queue.back back.0 at.0 (pass_numbered (suc k)) back.1 (shift.given k at.0 at.1).0)
-      where
-        inside : (k : ℕ) → k < taken → suc k ≢ limits.passes → k < length receipts
-        inside k l ne = let all = shift.all in ⊎_elim (λ (less : suc k < limits.passes). omega arith) (λ (more : limits.passes ≤ suc k). absurd (ne (omega arith))) (cases_lt (suc k) limits.passes)
-
-    each : (k : ℕ) → k < taken → out_of k ≡ false
-    each k l = by_number (out_of k ≡ false) (suc k) pass.pass.0 (closing k) (other k l)
-
-pub is_closed : (limits : Limits) (handed : ℕ) (receipts : List PassRecord) (pass : PassRecord) (rack taken : ℕ) (cause : CloseCause) → IsShift limits handed receipts pass rack → taken ≤ limits.passes → IsCloseCause limits pass receipts taken cause → ⊥
-is_closed limits handed receipts pass rack taken (Holding tokens claims) shift few why =
-    let some = why.2 in
-    let t = why.0 ∙ shift.rests.0 in
-    let c = why.1 ∙ shift.rests.1 in
-    omega arith
-is_closed limits handed receipts pass rack taken (PassesOut out) shift few why = none_out limits handed receipts pass rack taken out shift few why.1
+    inside : suc k ≢ limits.passes → k < length receipts
+    inside ne = let all = shift.all in ⊎_elim (λ (less : suc k < limits.passes). omega arith) (λ (more : limits.passes ≤ suc k). absurd (ne (omega arith))) (cases_lt (suc k) limits.passes)

@@ -1,5 +1,5 @@
 -- A queue and its passes, seen by their own words, and by those that a call is handed.
-use Rattle.std.proofs.Common.{◌≡◌, ℕ, Bool, List, length, Option, Some, sym, ap, ◌∙◌, subst}
+use Rattle.std.proofs.Common.{◌≡◌, ℕ, Bool, List, length, Option, Some, IfSome, sym, ap, ◌∙◌, subst}
 use Rattle.atomic_table.specs.Seated.{TableId}
 use Rattle.irp_core.specs.Runs.{Size}
 use Rattle.csq_list.specs.Listing.{Listing}
@@ -11,9 +11,9 @@ use Rattle.irp_core.specs.Steps.{Irp}
 use Rattle.csq_queue.specs.Named.{size_of, IsLockedOf, IsPassOf}
 use Rattle.csq_words.specs.declared.views.Event.{Event}
 use Rattle.csq_words.specs.Rule.{AreOfRun, IsTold}
-use Rattle.csq_queue.specs.Told.{AddsEvents, GivesOut}
+use Rattle.csq_queue.specs.Told.{AddsEvents, IsNew}
 use Rattle.csq_queue.specs.Adding.{Adds}
-use Rattle.csq_queue.proofs.Leaving.{left_adds, left_gives}
+use Rattle.csq_queue.proofs.Leaving.{left_adds}
 use Rattle.csq_queue.specs.Opens.{OpenState, OpenPassState, seat_table, limits_on, IsQueueOn, IsPassOn}
 
 -- what a contract sees of a queue's parts
@@ -45,10 +45,9 @@ module _ (w : WordsState) (s : Listing) (seat : QueueSeatState) (flags : List Bo
   pub on_words : (lives : List ℕ) → IsOpen s lives seat flags → IsOpenOn w s s lives seat flags
   on_words lives h = subst (λ (z : TableId × Limits). IsLockedOf z.0 z.1 s lives seat flags) (λ k. (table_is k, limits_at k)) h
 
-  -- what a call gave out, by the limits of its own words
-  pub own_gives : (given : Option Irp) (by_removal : Bool) (r new : PassRecord) (entered seat' : QueueSeatState) → joined_record entered ≡ r → new ≡ caught_up (with_run new.run seat'.queue) (joined_record seat')
-      → GivesOut (limits_on w s) given by_removal (joined_record entered) (joined_record seat') → GivesOut q.limits given by_removal r new
-  own_gives given by_removal r new entered seat' r_is new_is h = subst (λ (l : Limits). GivesOut l given by_removal r new) limits_are (left_gives (limits_on w s) given by_removal r new entered seat' r_is new_is h)
+  -- what a call gave out is new to the pass, by the limits of its own words
+  pub own_new : (given : Option Irp) (r : PassRecord) (entered : QueueSeatState) → joined_record entered ≡ r → IfSome given (IsNew (limits_on w s) (joined_record entered)) → IfSome given (IsNew q.limits r)
+  own_new given r entered r_is h = subst (λ (z : Limits × PassRecord). IfSome given (IsNew z.0 z.1)) (λ k. (limits_are k, r_is k)) h
 
   -- and the events of a call, as its pass sees them once it has left
   pub own_adds : (r new : PassRecord) (entered seat' : QueueSeatState) → entered ≡ record seat { joined = Some r } → IsTold w.size seat.queue r → new ≡ caught_up (with_run new.run seat'.queue) (joined_record seat')

@@ -16,7 +16,8 @@ ghost use Rattle.csq_words.specs.Records.{caught_up, with_run, with_step};
 ghost use Rattle.csq_queue.specs.Counts.{has_life};
 ghost use Rattle.csq_queue.specs.Named.{size_of};
 ghost use Rattle.csq_queue.specs.Opens.{IsQueueOn, IsPassOn};
-ghost use Rattle.csq_queue.specs.Told.{SeesRun, AddsEvents, KeepsRest, GivesOut, count_given};
+ghost use Rattle.csq_queue.specs.Told.{SeesRun, AddsEvents, IsNew, count_given};
+ghost use Rattle.csq_queue.specs.Steps.{MakesSteps, insert_steps, remove_next_steps, remove_steps, reuse_steps};
 ghost use Rattle.csq_queue.specs.Refusals.{reuse_events, IsReuseRefusal};
 ghost use Rattle.csq_queue.specs.Searches.{marked};
 ghost use Rattle.csq_queue.specs.Owned.{Holds, HoldsRemoved, Owes};
@@ -76,7 +77,7 @@ impl<L: PendingList + Drop, A: Allocator> OpenQueue<L, A> {
         requires pass { IsPassOn words.now pass.old }
         ensures known { IsOk result ↔ (file.0 < self.old.limits.files) }
         ensures call { OnOk result (AddsEvents self.old.limits self.old.queue.history pass.old.pass pass.new.pass (CloseFile file ∷ [])) }
-        ensures rest { OnOk result (KeepsRest pass.old.pass pass.new.pass) }
+        ensures steps { OnOk result (MakesSteps [] pass.old.pass pass.new.pass) }
         ensures seen { OnOk result (self.new ≡ record self.old { queue = record self.old.queue { history = pass.new.pass.seen; run = pass.new.pass.run } }) }
         ensures place { OnOk result (pass.new ≡ record pass.old { pass = pass.new.pass }) }
         ensures unknown { OnErr result ((self.new ≡ self.old) × (pass.new ≡ pass.old)) }
@@ -103,7 +104,8 @@ impl<L: PendingList + Drop, A: Allocator> OpenQueue<L, A> {
         requires pass { IsPassOn words.now pass.old }
         ensures accepted { IfOk result (λ inserted. (events : List Event) × IsInsert (current (end_of self.old.limits.first self.old.queue.history) irp) file place inserted events
             × AddsEvents self.old.limits self.old.queue.history pass.old.pass pass.new.pass events) }
-        ensures given { GivesOut self.old.limits (given_in result) false pass.old.pass pass.new.pass }
+        ensures steps { MakesSteps (insert_steps result (end_of self.old.limits.first pass.new.pass.seen)) pass.old.pass pass.new.pass }
+        ensures new { IfSome (given_in result) (IsNew self.old.limits pass.old.pass) }
         ensures token { IfOk result (λ inserted. IfSome (given_by inserted) (Holds self.old.limits.irps pass.new.pass)) }
         ensures refused { IfErr result (λ cause. AddsEvents self.old.limits self.old.queue.history pass.old.pass pass.new.pass (Insert irp file place (Refused cause) ∷ [])) }
         ensures cause { IfErr result (λ cause. refusal self.old.limits (end_of self.old.limits.first self.old.queue.history) irp file ≡ Some cause) }
@@ -135,7 +137,8 @@ impl<L: PendingList + Drop, A: Allocator> OpenQueue<L, A> {
         requires queue { IsQueueOn words.now self.old }
         requires pass { IsPassOn words.now pass.old }
         ensures call { (marks : List Irp) × AddsEvents self.old.limits self.old.queue.history pass.old.pass pass.new.pass (RemoveNext peek result ∷ marked marks) }
-        ensures given { GivesOut self.old.limits result true pass.old.pass pass.new.pass }
+        ensures steps { MakesSteps (remove_next_steps peek result (end_of self.old.limits.first self.old.queue.history)) pass.old.pass pass.new.pass }
+        ensures new { IfSome result (IsNew self.old.limits pass.old.pass) }
         ensures token { IfSome result (HoldsRemoved self.old.limits.irps pass.new.pass) }
         ensures seen { self.new ≡ record self.old { queue = record self.old.queue { history = pass.new.pass.seen; run = pass.new.pass.run } } }
         ensures place { pass.new ≡ record pass.old { pass = pass.new.pass } }
@@ -154,7 +157,8 @@ impl<L: PendingList + Drop, A: Allocator> OpenQueue<L, A> {
         requires pass { IsPassOn words.now pass.old }
         ensures irp { IfSome result (λ taken. taken ≡ irp) }
         ensures call { (marks : List Irp) × AddsEvents self.old.limits self.old.queue.history pass.old.pass pass.new.pass (Remove irp (is_some result) ∷ marked marks) }
-        ensures given { GivesOut self.old.limits result true pass.old.pass pass.new.pass }
+        ensures steps { MakesSteps (remove_steps irp result (end_of self.old.limits.first self.old.queue.history)) pass.old.pass pass.new.pass }
+        ensures new { IfSome result (IsNew self.old.limits pass.old.pass) }
         ensures token { IfSome result (HoldsRemoved self.old.limits.irps pass.new.pass) }
         ensures seen { self.new ≡ record self.old { queue = record self.old.queue { history = pass.new.pass.seen; run = pass.new.pass.run } } }
         ensures place { pass.new ≡ record pass.old { pass = pass.new.pass } }
@@ -199,7 +203,7 @@ impl<L: PendingList + Drop, A: Allocator> OpenQueue<L, A> {
         ensures known { (result ≡ Err ReuseRefused.UnknownIrp) ↔ ¬ (irp.0 < self.old.limits.irps) }
         ensures unknown { result ≡ Err ReuseRefused.UnknownIrp → (self.new ≡ self.old) × (pass.new ≡ pass.old) }
         ensures call { irp.0 < self.old.limits.irps → AddsEvents self.old.limits self.old.queue.history pass.old.pass pass.new.pass (reuse_events irp result) }
-        ensures given { GivesOut self.old.limits None false pass.old.pass pass.new.pass }
+        ensures steps { MakesSteps (reuse_steps irp result) pass.old.pass pass.new.pass }
         ensures refused { irp.0 < self.old.limits.irps → IfErr result (IsReuseRefusal (current (end_of self.old.limits.first pass.new.pass.seen) irp) pass.old.pass pass.new.pass) }
         ensures seen { irp.0 < self.old.limits.irps → self.new ≡ record self.old { queue = record self.old.queue { history = pass.new.pass.seen; run = pass.new.pass.run } } }
         ensures place { pass.new ≡ record pass.old { pass = pass.new.pass } }

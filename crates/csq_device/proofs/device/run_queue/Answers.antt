@@ -1,8 +1,8 @@
-use Rattle.std.proofs.Common.{arith, ◌-◌, ◌∙◌, List, sym, ap, subst}
+use Rattle.std.proofs.Common.{◌≡◌, arith, ◌-◌, ◌∷◌, ◌∙◌, true, false, true≢false, List, sym, ap, subst}
 use Rattle.csq_words.specs.declared.views.PassRecord.{PassRecord}
-use Rattle.csq_queue.specs.Rests.{IsRestOf, IsCloseCause}
+use Rattle.csq_queue.specs.Rests.{IsRestOf, HoldsNothing, FirstAreBack}
 use Rattle.csq_device.specs.Rests.{completed_count}
-use Rattle.csq_device.proofs.Shifts.{handed_over, is_closed}
+use Rattle.csq_device.proofs.Shifts.{handed_over, all_back}
 use Rattle.csq_device.proofs.device.run_queue.Goals as goal
 
 pub returns-in-Ok-clause-handed : goal.returns-in-Ok-clause-handed
@@ -22,5 +22,6 @@ returns-clause-closed g c =
     let limits = g.N.QueueName.limits in
     let shift = c.in_ok-handed.field-0 in
     let taken = limits.passes - shift.rack in
-    let why = subst (λ (receipts : List PassRecord). IsCloseCause limits shift.pass receipts taken c.in-Err.field-0.cause) c.as_mut_slice.ensures.value c.in-Err.ensures.cause in
-    absurd (is_closed limits shift.handed shift.receipts.items shift.pass shift.rack taken c.in-Err.field-0.cause c.in_ok-handed.ensures.shift (omega arith) why)
+    let closes = subst (λ (receipts : List PassRecord). HoldsNothing shift.pass → FirstAreBack taken (shift.pass ∷ receipts) → false ≡ true) c.as_mut_slice.ensures.value c.in-Err.ensures.closes in
+    let handed = c.in_ok-handed.ensures.shift in
+    absurd (true≢false (sym (closes handed.rests (all_back limits shift.handed shift.receipts.items shift.pass shift.rack taken handed (omega arith)))))

@@ -1,6 +1,8 @@
 use Rattle.std.proofs.Common.{true, rules}
 use Rattle.std.specs.Arc.{arc_value}
+use Rattle.csq_words.specs.History.{end_of}
 use Rattle.csq_queue.specs.Opens.{IsQueueOn}
+use Rattle.csq_queue.proofs.Giving.{remove_gives}
 use Rattle.csq_checked.proofs.Checking.{giving_keeps}
 use Rattle.csq_checked.proofs.queue.CheckedQueue.remove.Goals as goal
 
@@ -8,4 +10,7 @@ pub invariant_of-by : goal.invariant_of-by
 invariant_of-by c =
     let words = arc_value c.by.inside.words in
     let on : IsQueueOn words c.self.inside.queue = search rules in
-    giving_keeps words c.by.inside.pass c.by.inside.held c.by.inside.owed c.by.invariant c.self.inside.queue on _ true _ _ c.remove-taken.ensures.given c.remove-taken.ensures.place c.note_removed.ensures
+    let q = c.self.inside.queue in
+    let told = c.remove-taken.ensures in
+    let gives = remove_gives q.limits c.args.irp c.remove-taken.result (end_of q.limits.first q.queue.history) c.by.inside.pass.pass c.remove-taken.new.pass.pass told.steps told.new in
+    giving_keeps words c.by.inside.pass c.by.inside.held c.by.inside.owed c.by.invariant c.self.inside.queue on _ true _ _ gives told.place c.note_removed.ensures

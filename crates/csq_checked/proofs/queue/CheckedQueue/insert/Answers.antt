@@ -1,0 +1,19 @@
+use Rattle.std.proofs.Common.{None, Ok, false, refl, subst, rules}
+use Rattle.std.specs.Arc.{arc_value}
+use Rattle.irp_core.specs.Steps.{Irp}
+use Rattle.csq_words.specs.History.{end_of}
+use Rattle.csq_queue.specs.declared.tokens.InsertAnswer.{InsertAnswer}
+use Rattle.csq_queue.specs.Inserts.{given_by}
+use Rattle.csq_queue.specs.Opens.{IsQueueOn}
+use Rattle.csq_queue.proofs.Giving.{GivesOut, insert_gives}
+use Rattle.csq_checked.proofs.Checking.{giving_keeps}
+use Rattle.csq_checked.proofs.queue.CheckedQueue.insert.Goals as goal
+
+pub invariant_of-by-in_default : goal.invariant_of-by-in_default
+invariant_of-by-in_default c =
+    let words = arc_value c.by.inside.words in
+    let on : IsQueueOn words c.self.inside.queue = search rules in
+    let q = c.self.inside.queue in
+    let told = c.in_ok-inserted.ensures in
+    let gives = insert_gives q.limits (Ok c.in_ok-inserted.inserted) (end_of q.limits.first c.insert.new.pass.pass.seen) c.by.inside.pass.pass c.insert.new.pass.pass told.steps told.new in
+    giving_keeps words c.by.inside.pass c.by.inside.held c.by.inside.owed c.by.invariant q on None false _ _ (subst (λ (a : InsertAnswer Irp Irp). GivesOut q.limits (given_by a) false c.by.inside.pass.pass c.insert.new.pass.pass) c.in_default.is gives) told.place refl

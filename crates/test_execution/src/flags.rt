@@ -1,0 +1,29 @@
+//! A cancel that came before its insert.
+ghost use Rattle.std.specs.Prelude.{◌≡◌, Ok, true};
+ghost use Rattle.irp_core.specs.Steps.{Irp};
+ghost use Rattle.irp_core.specs.Owners.{taken};
+ghost use Rattle.irp_core.specs.Words.{flagged};
+ghost use Rattle.csq_queue.specs.declared.tokens.InsertAnswer.TheVariants.{Pending};
+
+use csq_list::{InsertStatus, PendingList, Place};
+use csq_queue::{Csq, Inserted, Pass, QueueName};
+use irp_core::{FileId, IrpId};
+use std::alloc::Allocator;
+use std::sync::Wait;
+
+/// Lets a canceller and an inserter meet, and inserts an IRP then. Where the canceller had flagged the IRP
+/// and the insert leaves it pending, some canceller has its routine: it isn't listed with nobody in charge.
+pub fn insert_after_flag<L: PendingList + Drop, N: QueueName, A: Allocator>(
+    queue: &Csq<L, N, A>,
+    rt: &impl Wait,
+    canceller: &mut Pass<N>,
+    inserter: &mut Pass<N>,
+    irp: IrpId,
+    file: FileId,
+    place: Place,
+) -> Result<Inserted<N>, InsertStatus>
+    ensures claimed { (i : Irp) → result ≡ Ok (Pending i) → flagged canceller.old.steps i ≡ true → taken inserter.new.run i ≡ true }
+{
+    queue.meet(rt, canceller, inserter);
+    queue.insert(rt, inserter, irp, file, place)
+}
