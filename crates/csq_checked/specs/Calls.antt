@@ -143,6 +143,7 @@ pub record CompletesCancelled (p : CheckedPassState) (irp : IrpId) (answer : Res
 pub record TellsFlag (p : CheckedPassState) (irp : IrpId) (answer : Result (Life × Bool) UnknownIrp) (p' : CheckedPassState) : Type 0 where
   pub known : IsOk answer ↔ (irp.0 < p.words.size.irps)
   pub same : p' ≡ record p { pass = saw p'.pass.run p.pass }
+  pub unknown : OnErr answer (p' ≡ p)
   pub found : IfOk answer (λ read. (w : ℕ) × (read ≡ flag_read w) × IsFlagOf p.words.size irp p.pass p'.pass w)
   pub mine : IfOk answer (λ read. (i : Irp) → i.irp ≡ irp → flagged p.pass.steps i ≡ true → (read ≡ (i.life, true)) ⊎ (life_of i < read.0.0))
   pub seen : IfOk answer (λ read. (i : Irp) → i.irp ≡ irp → shows_flagged i p.pass.seen ≡ true → (read ≡ (i.life, true)) ⊎ (life_of i < read.0.0))
@@ -151,6 +152,7 @@ pub record TellsFlag (p : CheckedPassState) (irp : IrpId) (answer : Result (Life
 pub record TellsStatus (p : CheckedPassState) (irp : IrpId) (answer : Result (Life × Option NtStatus) UnknownIrp) (p' : CheckedPassState) : Type 0 where
   pub known : IsOk answer ↔ (irp.0 < p.words.size.irps)
   pub same : p' ≡ record p { pass = saw p'.pass.run p.pass }
+  pub unknown : OnErr answer (p' ≡ p)
   pub found : IfOk answer (λ read. (w : ℕ) × (read ≡ status_read w) × IsStatusOf p.words.size irp p.pass p'.pass w)
   pub mine : IfOk answer (λ read. (i : Irp) (status : NtStatus) → i.irp ≡ irp → status_recorded i p.pass.completed ≡ Some status → (read ≡ (i.life, Some status)) ⊎ (life_of i < read.0.0))
   pub owed : IfOk answer (λ read. (i : Irp) → i.irp ≡ irp → owes_in p.pass.steps i ≡ true → read ≡ (i.life, None))

@@ -16,7 +16,7 @@ use Rattle.csq_queue.specs.Told.{SeesRun}
 use Rattle.csq_queue.proofs.Presence.{sees_run}
 
 -- a pass's steps in a run that goes on
-own-append : (p : PassId) (newer run : List Made) → own p (newer ++ run) ≡ own p newer ++ own p run
+pub own-append : (p : PassId) (newer run : List Made) → own p (newer ++ run) ≡ own p newer ++ own p run
 own-append p [] run = refl
 own-append p (m ∷ newer) run = go (by p m) refl (own-append p newer run)
   where

@@ -1,5 +1,5 @@
 //! Two reads, one after the other, and calls that go on from one another.
-ghost use Rattle.std.specs.Prelude.{◌≡◌, ◌×◌, is_some, IfOk};
+ghost use Rattle.std.specs.Prelude.{◌≡◌, is_some, IfOk};
 ghost use Rattle.csq_words.specs.Rule.{Follows};
 ghost use Rattle.test_execution.specs.Conclusions.{StaysSet};
 

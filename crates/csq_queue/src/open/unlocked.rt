@@ -1,5 +1,5 @@
 //! The calls of a pass that take no queue.
-ghost use Rattle.std.specs.Prelude.{◌≡◌, ◌⊎◌, ℕ, ◌<◌, ◌↔◌, true, false, Some, None, IsOk, IfOk, IfErr, IfSome};
+ghost use Rattle.std.specs.Prelude.{◌≡◌, ◌⊎◌, ℕ, ◌<◌, ◌↔◌, true, false, Some, None, IsOk, OnErr, IfOk, IfErr, IfSome};
 ghost use Rattle.irp_core.specs.Steps.{Irp, life_of};
 ghost use Rattle.irp_core.specs.Words.{flagged};
 ghost use Rattle.irp_core.specs.declared.status.NtStatus.{NtStatus as Status};
@@ -115,6 +115,7 @@ impl OpenPass {
         requires { IsPassOn words.now self.old }
         ensures known { IsOk result ↔ (irp.0 < self.old.irps) }
         ensures same { self.new ≡ record self.old { pass = saw self.new.pass.run self.old.pass } }
+        ensures unknown { OnErr result (self.new ≡ self.old) }
         ensures found { IfOk result (λ read. (w : ℕ) × (read ≡ flag_read w) × IsFlagOf words.now.size irp self.old.pass self.new.pass w) }
         ensures mine { IfOk result (λ read. (i : Irp) → i.irp ≡ irp → flagged self.old.pass.steps i ≡ true → (read ≡ (i.life, true)) ⊎ (life_of i < read.0.0)) }
         ensures seen { IfOk result (λ read. (i : Irp) → i.irp ≡ irp → shows_flagged i self.old.pass.seen ≡ true → (read ≡ (i.life, true)) ⊎ (life_of i < read.0.0)) }
@@ -135,6 +136,7 @@ impl OpenPass {
         requires { IsPassOn words.now self.old }
         ensures known { IsOk result ↔ (irp.0 < self.old.irps) }
         ensures same { self.new ≡ record self.old { pass = saw self.new.pass.run self.old.pass } }
+        ensures unknown { OnErr result (self.new ≡ self.old) }
         ensures found { IfOk result (λ read. (w : ℕ) × (read ≡ status_read w) × IsStatusOf words.now.size irp self.old.pass self.new.pass w) }
         ensures mine { IfOk result (λ read. (i : Irp) (status : Status) → i.irp ≡ irp → status_recorded i self.old.pass.completed ≡ Some status → (read ≡ (i.life, Some status)) ⊎ (life_of i < read.0.0)) }
         ensures owed { IfOk result (λ read. (i : Irp) → i.irp ≡ irp → owes_in self.old.pass.steps i ≡ true → read ≡ (i.life, None)) }

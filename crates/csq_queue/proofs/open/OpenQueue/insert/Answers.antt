@@ -8,7 +8,7 @@ use Rattle.csq_words.specs.declared.views.InsertReply.TheVariants.{Refused}
 use Rattle.csq_words.specs.Queue.{QueueState, current}
 use Rattle.csq_words.specs.History.{end_of}
 use Rattle.csq_words.specs.declared.views.PassRecord.{PassRecord}
-use Rattle.csq_words.specs.Records.{queue_of, caught_up}
+use Rattle.csq_words.specs.Records.{queue_of, caught_up, with_run}
 use Rattle.csq_words.specs.Seats.{joined_record, pass_record}
 use Rattle.csq_queue.specs.Told.{AddsEvents, IsNew}
 use Rattle.csq_queue.specs.declared.tokens.InsertAnswer.{InsertAnswer}
@@ -87,7 +87,7 @@ made g c = subst (λ (u : QueueState). MakesSteps (insert_steps c.list_irp-inser
     first_is : c.args.words.now.size.first ≡ c.args.self.now.limits.first
     first_is = sym (ap (λ (z : Size). z.first) c.requires.queue.size)
 
-    new_is : pass_record c.leave.new.pass ≡ caught_up c.list_irp-inserted.new.seat.queue.history (joined_record c.list_irp-inserted.new.seat)
+    new_is : pass_record c.leave.new.pass ≡ caught_up (with_run (pass_record c.leave.new.pass).run c.list_irp-inserted.new.seat.queue) (joined_record c.list_irp-inserted.new.seat)
     new_is = search rules
 
     seen_is : c.list_irp-inserted.new.seat.queue.history ≡ (pass_record c.leave.new.pass).seen

@@ -1,0 +1,4 @@
+pub mod Owning
+pub mod Flagging
+pub mod Completing
+pub mod Rereading
