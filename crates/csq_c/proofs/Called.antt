@@ -1,11 +1,11 @@
 -- A call of an open queue is a call of what its handle holds.
 use Rattle.std.proofs.Common.{◌≡◌, Some, None, refl, sym, ◌∙◌, subst}
 use Rattle.csq_checked.specs.Passes.{CheckedState, CheckedPassState}
-use Rattle.csq_c.specs.Bodies.{QueueState}
+use Rattle.csq_c.specs.Bodies.{QueueBodyState}
 use Rattle.csq_c.specs.declared.codes.Code.{Code}
 use Rattle.csq_c.specs.Exports.{OnQueue}
 
-pub on_open : (body : QueueState) (q q' : CheckedState) (p p' : CheckedPassState) (code : Code) (kept : Type 0) (told : CheckedState → CheckedState → Type 0) → body.queue ≡ Some q → told q q' → OnQueue body (record body { queue = Some q' }) p p' code kept told
+pub on_open : (body : QueueBodyState) (q q' : CheckedState) (p p' : CheckedPassState) (code : Code) (kept : Type 0) (told : CheckedState → CheckedState → Type 0) → body.queue ≡ Some q → told q q' → OnQueue body (record body { queue = Some q' }) p p' code kept told
 on_open body q q' p p' code kept told is call = record {
   closed = λ none. absurd (no_queue none);
   called = λ other here. (q', refl, subst (λ (z : CheckedState). told z q') (same other here) call);

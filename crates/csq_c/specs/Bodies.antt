@@ -14,7 +14,7 @@ pub record RestState : Type 0 where
   pub finals : FinalWords
 
 -- an open queue, or what is left of one that was closed
-pub record QueueState : Type 0 where
+pub record QueueBodyState : Type 0 where
   pub queue : Option CheckedState
   pub rest : Option RestState
 
@@ -24,14 +24,14 @@ rest_of listing None = None
 rest_of listing (Some rest) = Some (record { entries = (listing rest.list).entries; finals = rest.finals })
 
 -- the open queue of a handle, if it has one
-abbrev pub open_of : Option QueueState → Option CheckedState
+abbrev pub open_of : Option QueueBodyState → Option CheckedState
 open_of None = None
 open_of (Some body) = body.queue
 
 -- the pass was made by the queue, where there is an open one
-abbrev pub IsPassFor : QueueState → CheckedPassState → Type 0
+abbrev pub IsPassFor : QueueBodyState → CheckedPassState → Type 0
 IsPassFor body p = IfSome body.queue (λ q. IsPassIn q.queue p)
 
 -- the pass was made by the queue, where the handles have an open queue and a pass
-abbrev pub ArePaired : Option QueueState → Option CheckedPassState → Type 0
+abbrev pub ArePaired : Option QueueBodyState → Option CheckedPassState → Type 0
 ArePaired queue pass = IfSome queue (λ body. IfSome pass (IsPassFor body))

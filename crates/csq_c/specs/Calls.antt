@@ -13,37 +13,37 @@ use Rattle.csq_queue.specs.declared.refusals.ReuseRefused.{ReuseRefused}
 use Rattle.csq_checked.specs.Calls.{Inserts, RemovesNext, Removes, RunsRoutine, ClosesFile, Reuses}
 use Rattle.csq_checked.specs.Passes.{CheckedPassState}
 use Rattle.csq_checked.specs.declared.unlocked.RoutineRefused.{RoutineRefused}
-use Rattle.csq_c.specs.Bodies.{QueueState}
+use Rattle.csq_c.specs.Bodies.{QueueBodyState}
 use Rattle.csq_c.specs.Codes.{insert_code, inserted_irp, removal_code, routine_code, close_file_code, reuse_code, life_told}
 use Rattle.csq_c.specs.Exports.{OnQueue}
 use Rattle.csq_c.specs.declared.codes.Code.{Code}
 
 -- an insert answers this code, and tells of this IRP
-abbrev pub InsertsInto : IrpId → FileId → Place → QueueState → QueueState → CheckedPassState → CheckedPassState → Code → Option Irp → Type 0
+abbrev pub InsertsInto : IrpId → FileId → Place → QueueBodyState → QueueBodyState → CheckedPassState → CheckedPassState → Code → Option Irp → Type 0
 InsertsInto irp file place body body' p p' code told = OnQueue body body' p p' code (told ≡ None)
     (λ q q'. (answer : Result (InsertAnswer Irp Irp) InsertStatus) × Inserts q p irp file place answer q' p' × (code ≡ insert_code answer) × (told ≡ inserted_irp answer))
 
 -- so does a removal of the next match
-abbrev pub RemovesNextFrom : Peek → QueueState → QueueState → CheckedPassState → CheckedPassState → Code → Option Irp → Type 0
+abbrev pub RemovesNextFrom : Peek → QueueBodyState → QueueBodyState → CheckedPassState → CheckedPassState → Code → Option Irp → Type 0
 RemovesNextFrom peek body body' p p' code told = OnQueue body body' p p' code (told ≡ None)
     (λ q q'. RemovesNext q p peek told q' p' × (code ≡ removal_code told))
 
 -- and a removal of the IRP named
-abbrev pub RemovesFrom : Irp → QueueState → QueueState → CheckedPassState → CheckedPassState → Code → Type 0
+abbrev pub RemovesFrom : Irp → QueueBodyState → QueueBodyState → CheckedPassState → CheckedPassState → Code → Type 0
 RemovesFrom i body body' p p' code = OnQueue body body' p p' code (Unit {0})
     (λ q q'. (taken : Option Irp) × Removes q p i taken q' p' × (code ≡ removal_code taken))
 
 -- a cancel routine answers this code
-abbrev pub RunsRoutineOn : IrpId → QueueState → QueueState → CheckedPassState → CheckedPassState → Code → Type 0
+abbrev pub RunsRoutineOn : IrpId → QueueBodyState → QueueBodyState → CheckedPassState → CheckedPassState → Code → Type 0
 RunsRoutineOn irp body body' p p' code = OnQueue body body' p p' code (Unit {0})
     (λ q q'. (answer : Result Irp RoutineRefused) × RunsRoutine q p irp answer q' p' × (code ≡ routine_code answer))
 
 -- so does the closing of a file object
-abbrev pub ClosesFileOf : FileId → QueueState → QueueState → CheckedPassState → CheckedPassState → Code → Type 0
+abbrev pub ClosesFileOf : FileId → QueueBodyState → QueueBodyState → CheckedPassState → CheckedPassState → Code → Type 0
 ClosesFileOf file body body' p p' code = OnQueue body body' p p' code (Unit {0})
     (λ q q'. (answer : Result (Unit {0}) UnknownFile) × ClosesFile q p file answer q' p' × (code ≡ close_file_code answer))
 
 -- a reuse answers this code, and tells of this life
-abbrev pub ReusesOf : IrpId → QueueState → QueueState → CheckedPassState → CheckedPassState → Code → Option ℕ → Type 0
+abbrev pub ReusesOf : IrpId → QueueBodyState → QueueBodyState → CheckedPassState → CheckedPassState → Code → Option ℕ → Type 0
 ReusesOf irp body body' p p' code told = OnQueue body body' p p' code (told ≡ None)
     (λ q q'. (answer : Result Life ReuseRefused) × Reuses q p irp answer q' p' × (code ≡ reuse_code answer) × (told ≡ life_told answer))

@@ -8,7 +8,7 @@ use Rattle.csq_queue.specs.Counts.{held_count, owed_count}
 use Rattle.csq_queue.specs.Named.{pass_numbered, out_count}
 use Rattle.csq_queue.specs.Rests.{HoldsNothing, FirstAreBack, IsClosed}
 use Rattle.csq_checked.specs.Passes.{CheckedState, CheckedPassState, IsPassIn}
-use Rattle.csq_c.specs.Bodies.{QueueState, RestState, IsPassFor, open_of}
+use Rattle.csq_c.specs.Bodies.{QueueBodyState, RestState, IsPassFor, open_of}
 use Rattle.csq_c.specs.declared.codes.Code.{Code}
 use Rattle.csq_c.specs.declared.codes.Code.TheVariants.{Done, Holding, PassesOut, NoPass, NoMemory, Empty, NotEmpty, Closed}
 
@@ -27,12 +27,12 @@ out_left None = 0
 out_left (Some q) = out_of q
 
 -- the code of a call of an open queue that is never refused else
-abbrev pub open_code : Option QueueState → Code
+abbrev pub open_code : Option QueueBodyState → Code
 open_code None = Empty
 open_code (Some body) = if is_some body.queue then Done else Closed
 
 -- what freeing a queue answers
-abbrev pub free_code : Option QueueState → Code
+abbrev pub free_code : Option QueueBodyState → Code
 free_code None = Empty
 free_code (Some body) = if out_left body.queue == 0 then Done else PassesOut
 
@@ -46,7 +46,7 @@ free_pass_code None = Empty
 free_pass_code (Some p) = if is_idle p then Done else Holding
 
 -- what giving a pass back answers
-abbrev pub give_back_code : QueueState → CheckedPassState → Code
+abbrev pub give_back_code : QueueBodyState → CheckedPassState → Code
 give_back_code body p = if is_some body.queue then (if is_idle p then Done else Holding) else Closed
 
 -- the queue once this pass is back
@@ -58,7 +58,7 @@ with_back_in pass None = None
 with_back_in pass (Some q) = Some (with_pass_back pass q)
 
 -- what is left of a queue with this record that was closed
-pub record IsRestOf (q : CheckedState) (rest : RestState) : Type 0 where
+pub record IsLeftOf (q : CheckedState) (rest : RestState) : Type 0 where
   pub listing : Listing
   pub entries_are : rest.entries ≡ listing.entries
   pub closed : IsClosed q.queue.limits (q.queue.limits.passes - q.left) q.queue.queue listing rest.finals
@@ -70,14 +70,14 @@ pub record IsNextPass (q : CheckedState) (p : CheckedPassState) : Type 0 where
   pub new : p.pass ≡ new_pass (pass_numbered (q.queue.limits.passes + 1 - q.left))
 
 -- one pass fewer is left
-pub record IsTaken (body body' : QueueState) (q : CheckedState) : Type 0 where
+pub record IsTaken (body body' : QueueBodyState) (q : CheckedState) : Type 0 where
   pub after : CheckedState
   pub queue_is : body' ≡ record body { queue = Some after }
   pub same : after.queue ≡ q.queue
   pub left : after.left + 1 ≡ q.left
 
 -- why no pass is asked for
-abbrev pub take_cause : Option QueueState → Option CheckedPassState → Option Code
+abbrev pub take_cause : Option QueueBodyState → Option CheckedPassState → Option Code
 take_cause None pass = Some Empty
 take_cause (Some body) (Some p) = Some NotEmpty
 take_cause (Some body) None = if is_some body.queue then None else Some Closed

@@ -8,7 +8,7 @@ use Rattle.csq_list.specs.declared.entry.Entry.{Entry}
 use Rattle.csq_list.specs.declared.entry.Peek.TheVariants.{Any}
 use Rattle.csq_list.specs.Searches.{is_listed, first_match, rest_after}
 use Rattle.csq_words.specs.Finals.{FinalWords, final_life, final_status, is_cancelled}
-use Rattle.csq_c.specs.Bodies.{QueueState, RestState}
+use Rattle.csq_c.specs.Bodies.{QueueBodyState, RestState}
 use Rattle.csq_c.specs.Shapes.{irp_numbered, flag_number}
 use Rattle.csq_c.specs.declared.codes.Code.{Code}
 use Rattle.csq_c.specs.declared.codes.Code.TheVariants.{Done, UnknownIrp, Nothing, Empty, NotListed, NotClosed}

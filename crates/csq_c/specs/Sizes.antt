@@ -9,7 +9,7 @@ use Rattle.csq_checked.specs.Passes.{CheckedState}
 use Rattle.csq_checked.specs.declared.size.Size.{Size as Given}
 use Rattle.csq_checked.specs.declared.lists.ListKind.{ListKind}
 use Rattle.csq_checked.specs.declared.lists.ListKind.TheVariants as kinds
-use Rattle.csq_c.specs.Bodies.{QueueState}
+use Rattle.csq_c.specs.Bodies.{QueueBodyState}
 use Rattle.csq_c.specs.declared.shapes.CsqSize.{CsqSize}
 
 -- the list's kind with this number
@@ -39,5 +39,5 @@ new_state c limits table = record {
 }
 
 -- the handle has such a queue, which is open
-abbrev pub IsNewQueue : CsqSize → List ℕ → Option QueueState → Type 0
+abbrev pub IsNewQueue : CsqSize → List ℕ → Option QueueBodyState → Type 0
 IsNewQueue c limits body = (table : TableId) × (body ≡ Some (record { queue = Some (new_state c limits table); rest = None }))

@@ -19,9 +19,9 @@ pub(crate) struct QueueBody {
 }
 
 impl Model for QueueBody {
-    ghost use Rattle.csq_c.specs.Bodies.{QueueState, rest_of};
+    ghost use Rattle.csq_c.specs.Bodies.{QueueBodyState, rest_of};
 
-    ghost Value = { QueueState };
+    ghost Value = { QueueBodyState };
 
     ghost view = { λ b. record { queue = b.queue; rest = rest_of ⟦<AnyList as PendingList>⟧.listing b.rest } };
 }

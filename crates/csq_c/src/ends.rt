@@ -2,7 +2,7 @@
 ghost use Rattle.std.specs.Prelude.{◌≡◌, ◌⊎◌, ◌↔◌, Ok, Err, Some, None, IsOk, IfOk, IfErr, OnOk, OnErr, IfSome};
 ghost use Rattle.csq_c.specs.Bodies.{IsPassFor};
 ghost use Rattle.csq_c.specs.Codes.{new_code};
-ghost use Rattle.csq_c.specs.Ends.{IsNextPass, IsRestOf, IsTaken, give_back_code, out_left, out_of_open, with_back_in};
+ghost use Rattle.csq_c.specs.Ends.{IsNextPass, IsLeftOf, IsTaken, give_back_code, out_left, out_of_open, with_back_in};
 
 use crate::body::QueueBody;
 use crate::codes::{Code, of_new, of_pass};
@@ -95,7 +95,7 @@ impl QueueBody {
     pub(crate) fn close(&mut self) -> Code
         ensures closed { self.old.queue ≡ None → (result ≡ Code.Closed) × (self.new ≡ self.old) }
         ensures cause { IfSome self.old.queue (λ q. (result ≡ Code.Done) ⊎ ((result ≡ Code.PassesOut) × (self.new ≡ self.old))) }
-        ensures rest { result ≡ Code.Done → (self.new.queue ≡ None) × IfSome self.old.queue (λ q. IfSome self.new.rest (IsRestOf q)) }
+        ensures rest { result ≡ Code.Done → (self.new.queue ≡ None) × IfSome self.old.queue (λ q. IfSome self.new.rest (IsLeftOf q)) }
         ensures some { result ≡ Code.Done → ¬ (self.new.rest ≡ None) }
     {
         let Some(queue) = self.queue.take() else {

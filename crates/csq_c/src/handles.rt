@@ -1,7 +1,7 @@
 //! The handles that C keeps.
 ghost use Rattle.std.specs.Prelude.{◌≡◌, Option};
 ghost use Rattle.csq_checked.specs.Passes.{CheckedPassState};
-ghost use Rattle.csq_c.specs.Bodies.{QueueState};
+ghost use Rattle.csq_c.specs.Bodies.{QueueBodyState};
 
 use crate::body::QueueBody;
 use crate::hold::{Handle, Hold};
@@ -12,7 +12,7 @@ use std::marker::Model;
 #[repr(C)]
 pub struct CsqQueue {
     at: *mut u8,
-    pub ghost body: { Option QueueState },
+    pub ghost body: { Option QueueBodyState },
 }
 
 impl Model for CsqQueue {

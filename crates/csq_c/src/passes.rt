@@ -1,7 +1,7 @@
 //! How passes are handed out, given back and freed.
 ghost use Rattle.std.specs.Prelude.{◌≡◌, ◌⊎◌, ◌<◌, ◌↔◌, Some, None, IfSome};
 ghost use Rattle.csq_checked.specs.Passes.{CheckedState, CheckedPassState};
-ghost use Rattle.csq_c.specs.Bodies.{QueueState, ArePaired, open_of};
+ghost use Rattle.csq_c.specs.Bodies.{QueueBodyState, ArePaired, open_of};
 ghost use Rattle.csq_c.specs.Codes.{number_of};
 ghost use Rattle.csq_c.specs.Ends.{IsNextPass, IsTaken, free_pass_code, give_back_code, take_cause, with_back_in};
 
@@ -17,7 +17,7 @@ pub extern "C" fn csq_pass(alloc: Global, queue: &mut CsqQueue, pass: &mut CsqPa
     ensures refused { IfSome (take_cause queue.old.body pass.old.body) (λ cause. result ≡ number_of cause) }
     ensures none { IfSome (open_of queue.old.body) (λ q. pass.old.body ≡ None → ((result ≡ number_of Code.NoPass) ↔ (q.left ≡ 0))) }
     ensures cause { IfSome (open_of queue.old.body) (λ q. pass.old.body ≡ None → (result ≡ number_of Code.Done) ⊎ ((result ≡ number_of Code.NoPass) ⊎ (result ≡ number_of Code.NoMemory))) }
-    ensures made { result ≡ number_of Code.Done → (body body' : QueueState) × (q : CheckedState) × (p : CheckedPassState) × (queue.old.body ≡ Some body) × (body.queue ≡ Some q) × (queue.new.body ≡ Some body') × (pass.new.body ≡ Some p) × IsNextPass q p × IsTaken body body' q }
+    ensures made { result ≡ number_of Code.Done → (body body' : QueueBodyState) × (q : CheckedState) × (p : CheckedPassState) × (queue.old.body ≡ Some body) × (body.queue ≡ Some q) × (queue.new.body ≡ Some body') × (pass.new.body ≡ Some p) × IsNextPass q p × IsTaken body body' q }
     ensures kept { 0 < result → (queue.new.body ≡ queue.old.body) × (pass.new.body ≡ pass.old.body) }
 {
     let Some(mut body) = take(queue, alloc) else {

@@ -1,9 +1,9 @@
 //! How a queue is made, closed and freed.
 ghost use Rattle.std.specs.Prelude.{◌≡◌, ◌⊎◌, ◌<◌, ◌↔◌, Err, IsTrue, IfOk, IfSome, Some, None, replicate};
 ghost use Rattle.csq_list.specs.Listing.{are_file_limits};
-ghost use Rattle.csq_c.specs.Bodies.{QueueState, open_of};
+ghost use Rattle.csq_c.specs.Bodies.{QueueBodyState, open_of};
 ghost use Rattle.csq_c.specs.Codes.{number_of};
-ghost use Rattle.csq_c.specs.Ends.{IsRestOf, free_code, open_code, out_of_open};
+ghost use Rattle.csq_c.specs.Ends.{IsLeftOf, free_code, open_code, out_of_open};
 ghost use Rattle.csq_c.specs.Shapes.{set_to};
 ghost use Rattle.csq_c.specs.Sizes.{IsGoodSize, IsNewQueue, new_state};
 
@@ -110,9 +110,9 @@ pub extern "C" fn csq_free(alloc: Global, queue: &mut CsqQueue) -> u32
 #[unsafe(no_mangle)]
 pub extern "C" fn csq_close(alloc: Global, queue: &mut CsqQueue) -> u32
     ensures empty { queue.old.body ≡ None → result ≡ number_of Code.Empty }
-    ensures closed { (body : QueueState) → queue.old.body ≡ Some body → body.queue ≡ None → result ≡ number_of Code.Closed }
+    ensures closed { (body : QueueBodyState) → queue.old.body ≡ Some body → body.queue ≡ None → result ≡ number_of Code.Closed }
     ensures cause { IfSome (open_of queue.old.body) (λ q. (result ≡ number_of Code.Done) ⊎ (result ≡ number_of Code.PassesOut)) }
-    ensures rest { result ≡ number_of Code.Done → IfSome queue.new.body (λ body. (body.queue ≡ None) × IfSome (open_of queue.old.body) (λ q. IfSome body.rest (IsRestOf q))) }
+    ensures rest { result ≡ number_of Code.Done → IfSome queue.new.body (λ body. (body.queue ≡ None) × IfSome (open_of queue.old.body) (λ q. IfSome body.rest (IsLeftOf q))) }
     ensures some { result ≡ number_of Code.Done → IfSome queue.new.body (λ body. ¬ (body.rest ≡ None)) }
     ensures kept { 0 < result → queue.new.body ≡ queue.old.body }
     ensures there { ¬ (queue.old.body ≡ None) → ¬ (queue.new.body ≡ None) }

@@ -31,7 +31,7 @@ use Rattle.csq_queue.specs.declared.refusals.ReuseRefused.{ReuseRefused}
 use Rattle.csq_queue.specs.declared.refusals.ReuseRefused.TheVariants as reuse
 use Rattle.csq_queue.specs.declared.refusals.UnknownIrp.{UnknownIrp}
 use Rattle.csq_queue.specs.Counts.{has_life}
-use Rattle.csq_queue.specs.Named.{named, size_of}
+use Rattle.csq_queue.specs.Named.{named, queue_size}
 use Rattle.csq_queue.specs.Steps.{MakesSteps, insert_steps, remove_next_steps, remove_steps, reuse_steps}
 use Rattle.csq_queue.specs.Told.{AddsEvents, IsNew, count_given}
 use Rattle.csq_queue.specs.Refusals.{reuse_events, IsReuseRefusal, IsCancelRefusal}

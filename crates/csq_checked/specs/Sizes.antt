@@ -10,8 +10,8 @@ abbrev pub size_in : Given → Size
 size_in g = record { irps = g.irps; passes = g.passes; first = g.first.0 }
 
 -- its limits, with these of its file objects
-abbrev pub limits_in : Given → List ℕ → Limits
-limits_in g file_limits = limits_of g.passes g.first.0 (fresh g.irps g.files g.limit file_limits)
+abbrev pub limits_given : Given → List ℕ → Limits
+limits_given g file_limits = limits_of g.passes g.first.0 (fresh g.irps g.files g.limit file_limits)
 
 -- the list is fresh, and of this size
 abbrev pub IsFreshOf : Given → Listing → Type 0

@@ -7,7 +7,7 @@ ghost use Rattle.csq_words.specs.Records.{new_pass, new_queue, with_back};
 ghost use Rattle.csq_queue.specs.Named.{pass_numbered, out_count};
 ghost use Rattle.csq_queue.specs.Rests.{HoldsNothing, FirstAreBack, IsClosed};
 ghost use Rattle.csq_checked.specs.Passes.{IsPassIn};
-ghost use Rattle.csq_checked.specs.Sizes.{IsFreshOf, size_in, limits_in};
+ghost use Rattle.csq_checked.specs.Sizes.{IsFreshOf, size_in, limits_given};
 
 use crate::lists::AnyList;
 use crate::pass::CheckedPass;
@@ -46,7 +46,7 @@ impl CheckedQueue {
     /// A queue of this size, whose file objects have no limit of their own. `BadSize` comes exactly where a
     /// number is out of its range, then `Memory`.
     pub fn new(alloc: Global, size: Size) -> Result<CheckedQueue, NewRefused>
-        ensures made { IfOk result (λ q. q ≡ record { queue = record { table = q.queue.table; limits = limits_in size (replicate size.files size.irps); queue = new_queue size.first.0 size.passes }; left = size.passes }) }
+        ensures made { IfOk result (λ q. q ≡ record { queue = record { table = q.queue.table; limits = limits_given size (replicate size.files size.irps); queue = new_queue size.first.0 size.passes }; left = size.passes }) }
         ensures bad_size { (result ≡ Err NewRefused.BadSize) ↔ ¬ (IsInLimits (size_in size) × IsListSize size.irps size.files size.limit) }
     {
         if !size.is_in_limits() {
@@ -63,7 +63,7 @@ impl CheckedQueue {
         size: Size,
         file_limits: &[u32],
     ) -> Result<CheckedQueue, NewRefused>
-        ensures made { IfOk result (λ q. q ≡ record { queue = record { table = q.queue.table; limits = limits_in size file_limits.now; queue = new_queue size.first.0 size.passes }; left = size.passes }) }
+        ensures made { IfOk result (λ q. q ≡ record { queue = record { table = q.queue.table; limits = limits_given size file_limits.now; queue = new_queue size.first.0 size.passes }; left = size.passes }) }
         ensures bad_size { (result ≡ Err NewRefused.BadSize) ↔ ¬ (IsInLimits (size_in size) × IsListSize size.irps size.files size.limit × IsTrue (are_file_limits size.irps size.files file_limits.now)) }
     {
         if !size.is_in_limits() {

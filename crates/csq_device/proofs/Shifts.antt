@@ -13,7 +13,7 @@ use Rattle.std.proofs.lemmas.Bool.{cases_lt, or_right}
 use Rattle.irp_core.specs.Steps.{same_pass}
 use Rattle.irp_core.specs.declared.ids.PassId.{PassId}
 use Rattle.csq_words.proofs.Named.{same_pass-is}
-use Rattle.csq_queue.specs.Named.{pass_numbered, size_of, is_back}
+use Rattle.csq_queue.specs.Named.{pass_numbered, queue_size, is_back}
 use Rattle.csq_queue.specs.Rests.{FirstAreBack, IsRestOf}
 use Rattle.csq_queue.proofs.Backing.{found_back}
 use Rattle.csq_queue.proofs.Counting.{by_number}
@@ -53,7 +53,7 @@ pub handed_over : (limits : Limits) (handed : ℕ) (receipts : List PassRecord) 
 handed_over limits handed receipts pass rack taken listing finals shift rest =
     shift.handed_is
     ∙ (sym (completed_by-push receipts pass)
-    ∙ (sym (handed_is_completed (size_of limits) finals finals.queue rest.irps rest.back.made rest.last (receipts ++ pass ∷ []) all served)
+    ∙ (sym (handed_is_completed (queue_size limits) finals finals.queue rest.irps rest.back.made rest.last (receipts ++ pass ∷ []) all served)
     ∙ ap (completed_count finals) rest.irps))
   where
     all : length (receipts ++ pass ∷ []) ≡ limits.passes

@@ -8,32 +8,32 @@ use Rattle.csq_words.specs.declared.views.Entry.{Entry}
 use Rattle.csq_words.specs.declared.views.Event.{Event}
 use Rattle.csq_words.specs.declared.views.PassRecord.{PassRecord}
 use Rattle.csq_words.specs.Queue.{Limits}
-use Rattle.csq_words.specs.History.{Begins}
+use Rattle.csq_words.specs.History.{IsExtendedBy}
 use Rattle.csq_words.specs.Records.{entries_of, saw, with_step, with_calls}
-use Rattle.csq_words.specs.Rule.{Follows, FindsUnset}
-use Rattle.csq_words.proofs.Laws.{follows_more, follows_on}
+use Rattle.csq_words.specs.Rule.{FindsUnset}
+use Rattle.csq_words.proofs.Laws.{extended_more, extended_on}
 use Rattle.csq_queue.specs.Told.{AddsEvents}
 use Rattle.csq_queue.specs.Owned.{EndsWithTake}
 
 -- the steps of a cancel go on from what its pass had seen
-pub marked_follows : (size : Size) (i : Irp) (flag found : ℕ) (old new : PassRecord) → EndsWithTake size i flag found old new → Follows old.run new.run
+pub marked_follows : (size : Size) (i : Irp) (flag found : ℕ) (old new : PassRecord) → EndsWithTake size i flag found old new → IsExtendedBy old.run new.run
 marked_follows size i flag found old new e =
-    let flagged = follows_more (record { pass = new.pass; kind = Flag i; found = flag }) old.run e.earlier e.flags in
-    let taken = follows_more (record { pass = new.pass; kind = Take i; found = found }) old.run e.before (follows_on _ _ _ flagged e.takes) in
-    subst (Follows old.run) (sym e.run_is) taken
+    let flagged = extended_more (record { pass = new.pass; kind = Flag i; found = flag }) old.run e.earlier e.flags in
+    let taken = extended_more (record { pass = new.pass; kind = Take i; found = found }) old.run e.before (extended_on _ _ _ flagged e.takes) in
+    subst (IsExtendedBy old.run) (sym e.run_is) taken
 
 -- so does a completion
-pub completed_follows : (size : Size) (i : Irp) (old new : PassRecord) → FindsUnset size i old new → Follows old.run new.run
-completed_follows size i old new f = subst (Follows old.run) (sym f.last.run_is) (follows_more _ old.run f.last.before f.last.follows)
+pub completed_follows : (size : Size) (i : Irp) (old new : PassRecord) → FindsUnset size i old new → IsExtendedBy old.run new.run
+completed_follows size i old new f = subst (IsExtendedBy old.run) (sym f.last.run_is) (extended_more _ old.run f.last.before f.last.follows)
 
 -- what a cancel routine adds to what its pass saw it adds to what the pass had seen before it marked the IRP
 pub adds_before : (l : Limits) (history : List Entry) (old mid out : PassRecord) (es : List Event) (i : Irp) (flag found : ℕ) → mid ≡ saw mid.run (with_step (Take i) found (with_step (Flag i) flag old))
-    → Follows old.run mid.run → AddsEvents l history mid out es → AddsEvents l history old out es
+    → IsExtendedBy old.run mid.run → AddsEvents l history mid out es → AddsEvents l history old out es
 adds_before l history old mid out es i flag found e follows a = record {
   legal = a.legal;
   sees = a.sees;
-  follows = follows_on _ _ _ follows a.follows;
-  begins = subst (λ (seen : List Entry). Begins seen out.seen) (ap (λ (r : PassRecord). r.seen) e) a.begins;
+  follows = extended_on _ _ _ follows a.follows;
+  begins = subst (λ (seen : List Entry). IsExtendedBy seen out.seen) (ap (λ (r : PassRecord). r.seen) e) a.begins;
   calls = a.calls ∙ ap (λ (r : PassRecord). (with_calls es r).mine) e;
   once = a.once;
   ends = a.ends ∙ ap (λ (r : PassRecord). entries_of r.pass es ++ history) e;

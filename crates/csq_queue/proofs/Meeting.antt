@@ -1,4 +1,5 @@
 -- Two passes that see the same execution.
+use Rattle.csq_words.specs.History.{IsExtendedBy}
 use Rattle.std.proofs.Common.{◌≡◌, ℕ, ◌+◌, cond, Bool, true, false, List, [], ◌∷◌, ◌++◌, length, Some, refl, sym, ap, ◌∙◌, subst, arith}
 use Rattle.std.proofs.lemmas.List.{append-nil, length-append}
 use Rattle.irp_core.specs.declared.ids.PassId.{PassId}
@@ -10,7 +11,7 @@ use Rattle.csq_words.specs.declared.views.PassRecord.{PassRecord}
 use Rattle.csq_words.specs.declared.views.QueueRecord.{QueueRecord}
 use Rattle.csq_words.specs.Own.{inside_of}
 use Rattle.csq_words.specs.Records.{caught_up}
-use Rattle.csq_words.specs.Rule.{inserts, in_flight, Follows, IsHistoryOf, AreOfRun, IsTold}
+use Rattle.csq_words.specs.Rule.{inserts, in_flight, IsHistoryOf, RecordsAgree, SomeRunAgrees}
 use Rattle.csq_words.proofs.Keeping.{same_flight}
 use Rattle.csq_queue.specs.Told.{SeesRun}
 use Rattle.csq_queue.proofs.Presence.{sees_run}
@@ -30,7 +31,7 @@ none_added [] old e = refl
 none_added (x ∷ newer) old e = let l = length-append newer old in absurd (omega (arith, e, l))
 
 -- between two times at which the pass had the same steps, it had them too
-pub own_between : (p : PassId) (first then last : List Made) → Follows first then → Follows then last → own p first ≡ own p last → own p then ≡ own p first
+pub own_between : (p : PassId) (first then last : List Made) → IsExtendedBy first then → IsExtendedBy then last → own p first ≡ own p last → own p then ≡ own p first
 own_between p first then last one two same =
     let there : own p then ≡ own p one.0 ++ own p first = ap (own p) one.1 ∙ own-append p one.0 first in
     let here : own p last ≡ own p two.0 ++ own p then = ap (own p) two.1 ∙ own-append p two.0 then in
@@ -42,7 +43,7 @@ own_between p first then last one two same =
     there ∙ ap (λ l. l ++ own p first) none'
 
 -- a pass that took no step since an earlier time sees what was observed since
-pub caught_up_sees : (size : Size) (q : QueueRecord) (r : PassRecord) → inside_of r.steps ≡ Nothing → r.steps ≡ own r.pass r.run → Follows r.run q.run → IsHistoryOf size q.run q (λ i. false) → IsTold size q r
+pub caught_up_sees : (size : Size) (q : QueueRecord) (r : PassRecord) → inside_of r.steps ≡ Nothing → r.steps ≡ own r.pass r.run → IsExtendedBy r.run q.run → IsHistoryOf size q.run q (λ i. false) → SomeRunAgrees size q r
     → SeesRun size (caught_up q r)
 caught_up_sees size q r outside steps since history told =
     let mine = told.1.pass_is in
@@ -55,5 +56,5 @@ caught_up_sees size q r outside steps since history told =
     }
 
 -- what a pass that is inside no program has observed agrees with the history
-pub observed_history : (size : Size) (run : List Made) (q : QueueRecord) (r : PassRecord) → inside_of r.steps ≡ Nothing → AreOfRun size run q r → IsHistoryOf size run q (λ i. false)
+pub observed_history : (size : Size) (run : List Made) (q : QueueRecord) (r : PassRecord) → inside_of r.steps ≡ Nothing → RecordsAgree size run q r → IsHistoryOf size run q (λ i. false)
 observed_history size run q r outside told = same_flight size run q (in_flight (Some r)) (λ i. false) (λ i. ap (λ s. inserts s i) outside) told.history_is

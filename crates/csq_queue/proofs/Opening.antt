@@ -8,9 +8,9 @@ use Rattle.csq_words.specs.declared.views.PassRecord.{PassRecord}
 use Rattle.csq_words.specs.Records.{with_run, caught_up}
 use Rattle.csq_words.specs.Seats.{WordsState, QueueSeatState, PassSeatState, joined_record, pass_record}
 use Rattle.irp_core.specs.Steps.{Irp}
-use Rattle.csq_queue.specs.Named.{size_of, IsLockedOf, IsPassOf}
+use Rattle.csq_queue.specs.Named.{queue_size, IsLockedOf, IsPassSeatOf}
 use Rattle.csq_words.specs.declared.views.Event.{Event}
-use Rattle.csq_words.specs.Rule.{AreOfRun, IsTold}
+use Rattle.csq_words.specs.Rule.{RecordsAgree, SomeRunAgrees}
 use Rattle.csq_queue.specs.Told.{AddsEvents, IsNew}
 use Rattle.csq_queue.specs.Adding.{Adds}
 use Rattle.csq_queue.proofs.Leaving.{left_adds}
@@ -29,8 +29,8 @@ abbrev pub IsOpenOn : WordsState → Listing → Listing → List ℕ → QueueS
 IsOpenOn w first s lives seat flags = IsLockedOf w.table (limits_on w first) s lives seat flags
 
 module _ (w : WordsState) (s : Listing) (seat : QueueSeatState) (flags : List Bool) (q : OpenState) (is : seen_of s seat flags ≡ q) (on : IsQueueOn w q) where
-  size_is : size_of (limits_of (length flags) seat.queue.first s) ≡ w.size
-  size_is = ap (λ (z : OpenState). size_of z.limits) is ∙ on.size
+  size_is : queue_size (limits_of (length flags) seat.queue.first s) ≡ w.size
+  size_is = ap (λ (z : OpenState). queue_size z.limits) is ∙ on.size
 
   limits_at : limits_of (length flags) seat.queue.first s ≡ limits_on w s
   limits_at = ap (λ (z : Size). limits_on (record { table = w.table; size = z }) s) size_is
@@ -50,13 +50,13 @@ module _ (w : WordsState) (s : Listing) (seat : QueueSeatState) (flags : List Bo
   own_new given r entered r_is h = subst (λ (z : Limits × PassRecord). IfSome given (IsNew z.0 z.1)) (λ k. (limits_are k, r_is k)) h
 
   -- and the events of a call, as its pass sees them once it has left
-  pub own_adds : (r new : PassRecord) (entered seat' : QueueSeatState) → entered ≡ record seat { joined = Some r } → IsTold w.size seat.queue r → new ≡ caught_up (with_run new.run seat'.queue) (joined_record seat')
-      → AreOfRun w.size new.run (with_run new.run seat'.queue) (joined_record seat')
+  pub own_adds : (r new : PassRecord) (entered seat' : QueueSeatState) → entered ≡ record seat { joined = Some r } → SomeRunAgrees w.size seat.queue r → new ≡ caught_up (with_run new.run seat'.queue) (joined_record seat')
+      → RecordsAgree w.size new.run (with_run new.run seat'.queue) (joined_record seat')
       → (events : List Event) (s' : Listing) (lives : List ℕ) → Adds (limits_on w s) entered events s' lives seat' → AddsEvents q.limits q.queue.history r new events
   own_adds r new entered seat' e told new_is look events s' lives a =
       subst (λ (l : Limits). AddsEvents l q.queue.history r new events) limits_are
       (left_adds (limits_on w s) q.queue r entered seat' (ap (λ (z : QueueSeatState). z.queue) e ∙ ap (λ (z : OpenState). z.queue) is) (ap joined_record e) events s' lives a
-      (sym (ap (λ (z : OpenState). z.queue.first) is) ∙ ap (λ (l : Limits). l.first) limits_at) (subst (λ (z : OpenState). IsTold w.size z.queue r) is told) new new_is look)
+      (sym (ap (λ (z : OpenState). z.queue.first) is) ∙ ap (λ (l : Limits). l.first) limits_at) (subst (λ (z : OpenState). SomeRunAgrees w.size z.queue r) is told) new new_is look)
 
 module _ (t : TableId) (l : Limits) (s : Listing) (lives : List ℕ) (seat : QueueSeatState) (flags : List Bool) (h : IsLockedOf t l s lives seat flags) where
   own_limits : limits_of (length flags) seat.queue.first s ≡ l
@@ -73,14 +73,14 @@ module _ (t : TableId) (l : Limits) (s : Listing) (lives : List ℕ) (seat : Que
 module _ (seat : Option PassSeatState) (irps passes number tokens claims : ℕ) where
   -- a pass, by the words that a call is handed
   pub pass_on : (w : WordsState) (p : OpenPassState) → record { table = seat_table seat; irps = irps; passes = passes; pass = pass_record seat } ≡ p → IsPassOn w p
-      → IsPassOf (seat_table seat) irps passes seat number tokens claims → IsPassOf w.table w.size.irps w.size.passes seat number tokens claims
+      → IsPassSeatOf (seat_table seat) irps passes seat number tokens claims → IsPassSeatOf w.table w.size.irps w.size.passes seat number tokens claims
   pass_on w p is on h =
-      subst (λ (z : TableId × ℕ × ℕ). IsPassOf z.0 z.1 z.2 seat number tokens claims)
+      subst (λ (z : TableId × ℕ × ℕ). IsPassSeatOf z.0 z.1 z.2 seat number tokens claims)
       (λ k. ((ap (λ (z : OpenPassState). z.table) is ∙ on.table) k, (ap (λ (z : OpenPassState). z.irps) is ∙ on.irps) k, (ap (λ (z : OpenPassState). z.passes) is ∙ on.passes) k)) h
 
   -- and by its own words
   pub own_pass : (w : WordsState) (p : OpenPassState) → (irps ≡ p.irps) × (passes ≡ p.passes) → IsPassOn w p
-      → IsPassOf w.table w.size.irps w.size.passes seat number tokens claims → IsPassOf (seat_table seat) irps passes seat number tokens claims
+      → IsPassSeatOf w.table w.size.irps w.size.passes seat number tokens claims → IsPassSeatOf (seat_table seat) irps passes seat number tokens claims
   own_pass w p is on h =
-      subst (λ (z : TableId × ℕ × ℕ). IsPassOf z.0 z.1 z.2 seat number tokens claims)
+      subst (λ (z : TableId × ℕ × ℕ). IsPassSeatOf z.0 z.1 z.2 seat number tokens claims)
       (λ k. (sym (ap seat_table h.here) k, sym (is.0 ∙ on.irps) k, sym (is.1 ∙ on.passes) k)) h

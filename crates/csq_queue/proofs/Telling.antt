@@ -14,17 +14,17 @@ use Rattle.csq_words.specs.Finals.{FinalWords, AllBack, IsFinal}
 use Rattle.csq_words.specs.Stories.{Story, SeeOneHistory}
 use Rattle.csq_words.proofs.Stories.{a_story}
 use Rattle.csq_words.proofs.Seen.{recorded_see}
-use Rattle.csq_queue.specs.Named.{size_of}
+use Rattle.csq_queue.specs.Named.{queue_size}
 use Rattle.csq_queue.specs.Rests.{IsRestOf, IsClosed}
 use Rattle.csq_queue.proofs.Backing.{still_at}
 
 -- the words are of as many IRPs as the limits say
-pub story_left : (limits : Limits) (finals : FinalWords) → finals.irps ≡ limits.irps → (last : IsFinal (size_of limits) finals.words finals.queue) → AllBack finals.queue → (i : Irp) → HasBegun limits.first last.run i → Story finals finals.queue last.run i
-story_left limits finals irps last all i begun = subst (λ (f : FinalWords). Story f finals.queue last.run i) (λ k. record { irps = sym irps k; words = finals.words; queue = finals.queue }) (a_story (size_of limits) finals.words finals.queue last all i begun)
+pub story_left : (limits : Limits) (finals : FinalWords) → finals.irps ≡ limits.irps → (last : IsFinal (queue_size limits) finals.words finals.queue) → AllBack finals.queue → (i : Irp) → HasBegun limits.first last.run i → Story finals finals.queue last.run i
+story_left limits finals irps last all i begun = subst (λ (f : FinalWords). Story f finals.queue last.run i) (λ k. record { irps = sym irps k; words = finals.words; queue = finals.queue }) (a_story (queue_size limits) finals.words finals.queue last all i begun)
 
 pub closing_see : (limits : Limits) (pass : PassRecord) (receipts : List PassRecord) (taken : ℕ) (listing : Listing) (finals : FinalWords)
     → IsRestOf limits pass receipts taken listing finals → SeeOneHistory finals.queue.history (pass ∷ receipts)
-closing_see limits pass receipts taken listing finals rest = recorded_see (size_of limits) finals.words finals.queue rest.last (pass ∷ receipts) back
+closing_see limits pass receipts taken listing finals rest = recorded_see (queue_size limits) finals.words finals.queue rest.last (pass ∷ receipts) back
   where
     back : (k : ℕ) (r : PassRecord) → get_elem? (pass ∷ receipts) k ≡ some r → HasBack finals.queue r
     back zero r at = subst (HasBack finals.queue) (some-injective pass r at) rest.back.closing
@@ -34,5 +34,5 @@ pub open_see : (limits : Limits) (taken : ℕ) (old : QueueRecord) (listing : Li
 open_see limits taken old listing finals closed =
     let given = closed.given in
     subst (λ (history : List Entry). SeeOneHistory history old.back) given.history
-    (recorded_see (size_of limits) finals.words finals.queue closed.last old.back
+    (recorded_see (queue_size limits) finals.words finals.queue closed.last old.back
     (λ k r at. let there = still_at given.newer old.back r (k, at) in (there.0, ap (λ (back : List PassRecord). get_elem? back there.0) given.kept ∙ there.1)))

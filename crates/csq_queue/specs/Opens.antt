@@ -6,7 +6,7 @@ use Rattle.csq_words.specs.declared.views.PassRecord.{PassRecord}
 use Rattle.csq_words.specs.declared.views.QueueRecord.{QueueRecord}
 use Rattle.csq_words.specs.Queue.{Limits}
 use Rattle.csq_words.specs.Seats.{WordsState, PassSeatState, new_seats}
-use Rattle.csq_queue.specs.Named.{no_table, size_of}
+use Rattle.csq_queue.specs.Named.{no_table, queue_size}
 
 -- the table of its words, the limits of its list, and what its seat knows
 pub record OpenState : Type 0 where
@@ -52,7 +52,7 @@ limits_on words s = record { irps = words.size.irps; files = s.files; passes = w
 -- the queue is of these words
 pub record IsQueueOn (words : WordsState) (q : OpenState) : Type 0 where
   pub table : q.table ≡ words.table
-  pub size : size_of q.limits ≡ words.size
+  pub size : queue_size q.limits ≡ words.size
 
 -- the pass is of these words
 pub record IsPassOn (words : WordsState) (p : OpenPassState) : Type 0 where

@@ -8,7 +8,7 @@ use Rattle.csq_words.specs.declared.views.QueueRecord.{QueueRecord}
 use Rattle.csq_words.specs.Queue.{Limits}
 use Rattle.csq_words.specs.Finals.{FinalWords}
 use Rattle.csq_words.specs.Stories.{Story, IsGivenOnce, SeeOneHistory}
-use Rattle.csq_queue.specs.Named.{size_of}
+use Rattle.csq_queue.specs.Named.{queue_size}
 use Rattle.csq_queue.specs.Told.{queue_with, SeesRun}
 use Rattle.csq_queue.specs.Rests.{IsClosed, IsRestOf}
 
@@ -24,7 +24,7 @@ EachIrpOfAnOpenQueueHasAStory = (limits : Limits) (taken : ℕ) (old : QueueReco
 
 -- in what a pass has seen, each life of each IRP was given out at most once
 abbrev pub EachIrpSeenIsGivenOnce : Type 0
-EachIrpSeenIsGivenOnce = (limits : Limits) (r : PassRecord) → SeesRun (size_of limits) r → (i : Irp) → IsGivenOnce (queue_with limits.first r.seen) r.run i
+EachIrpSeenIsGivenOnce = (limits : Limits) (r : PassRecord) → SeesRun (queue_size limits) r → (i : Irp) → IsGivenOnce (queue_with limits.first r.seen) r.run i
 
 -- the closing pass and those of the receipts have seen one history, that of the queue that is left
 abbrev pub ClosingPassesSeeOneHistory : Type 0

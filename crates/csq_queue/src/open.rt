@@ -58,13 +58,13 @@ impl Model for OpenPass {
     ghost use Rattle.std.specs.Prelude.{◌≤◌};
     ghost use Rattle.csq_words.specs.Seats.{pass_record};
     ghost use Rattle.csq_queue.specs.Opens.{OpenPassState, seat_table};
-    ghost use Rattle.csq_queue.specs.Named.{IsPassOf};
+    ghost use Rattle.csq_queue.specs.Named.{IsPassSeatOf};
 
     ghost Value = { OpenPassState };
 
     ghost view = { λ p. record { table = seat_table p.seat; irps = p.irps; passes = p.passes; pass = pass_record p.seat } };
 
-    ghost invariant = { λ p. IsPassOf (seat_table p.seat) p.irps p.passes p.seat p.number p.tokens p.claims × (p.irps ≤ 1024) };
+    ghost invariant = { λ p. IsPassSeatOf (seat_table p.seat) p.irps p.passes p.seat p.number p.tokens p.claims × (p.irps ≤ 1024) };
 }
 
 /// What an accepted insert answers where no token is handed out: the IRP in its life, which is pending, or

@@ -25,7 +25,7 @@ use Rattle.irp_core.specs.Runs.{Size, IsRun}
 use Rattle.irp_core.specs.MachineState.{MachineState, Agrees, size_of}
 use Rattle.irp_core.proofs.Names.{same_irp-refl, same_irp-eq, same_irp-ne, same_pass-refl, same_pass-eq}
 use Rattle.csq_list.specs.Searches.{is_listed}
-use Rattle.csq_list.specs.Listing.{Listing, with_closed, removed}
+use Rattle.csq_list.specs.Listing.{Listing, with_closed, without_irp}
 use Rattle.csq_words.specs.declared.views.Completion.{Completion}
 use Rattle.csq_words.specs.declared.views.Event.TheVariants as event
 use Rattle.csq_words.specs.Queue.{Limits, after_event, has_entry, has_marked, has_unmarked}
@@ -195,13 +195,13 @@ module _ (l : Limits) (kept : Keeping) (s : Script) (k : Keeps l kept s) where
 
   -- the cancel routine takes out what is owed
   pub out_keeps : (n : IrpId) (machine : MachineState)
-      → Agrees machine (next_step s.run (Out (present_of s n))) → size_of machine ≡ size_of kept.machine → (new : Listing) → new ≡ removed n kept.listing
+      → Agrees machine (next_step s.run (Out (present_of s n))) → size_of machine ≡ size_of kept.machine → (new : Listing) → new ≡ without_irp n kept.listing
       → Keeps l (record kept { machine = machine; listing = new }) (doing (Out (present_of s n) ∷ []) (event.Out (present_of s n)) s)
   out_keeps n machine a same new without_n = record {
     agrees = a;
     size = same ∙ k.size;
     few = k.few;
-    listing = without_n ∙ ap (removed n) k.listing ∙ listing-removed l s.queue (present_of s n) refl (sound_lives (script_size l) s.run (run_for l kept s k) s.queue k.queue).entries;
+    listing = without_n ∙ ap (without_irp n) k.listing ∙ listing-removed l s.queue (present_of s n) refl (sound_lives (script_size l) s.run (run_for l kept s k) s.queue k.queue).entries;
     queue = queue_out s.run s.queue k.queue (present_of s n) 0;
     outside = rw same_pass-refl refl;
     told = k.told;

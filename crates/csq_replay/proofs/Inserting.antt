@@ -17,7 +17,7 @@ use Rattle.csq_list.specs.declared.refusals.InsertStatus.{InsertStatus}
 use Rattle.csq_list.specs.declared.refusals.InsertStatus.TheVariants.{UnknownIrp, UnknownFile, NotHome, FileClosed, FileFull, Full}
 use Rattle.csq_list.specs.Searches.{is_of, is_listed}
 use Rattle.csq_list.specs.Causes.{is_cause, first_cause}
-use Rattle.csq_list.specs.Listing.{Listing, put_at, inserted, removed}
+use Rattle.csq_list.specs.Listing.{Listing, put_at, inserted, without_irp}
 use Rattle.csq_list.proofs.Keeping.{filter-put_at, list_any-put_at}
 use Rattle.csq_list.proofs.Finding.{same_number-refl}
 use Rattle.csq_words.specs.declared.views.InsertReply.TheVariants as reply
@@ -145,7 +145,7 @@ module _ (l : Limits) (kept : Keeping) (s : Script) (k : Keeps l kept s) (n : Ir
           one_found = rw same_irp-refl refl
 
           module _ (m3 : MachineState) (a3 : Agrees m3 (next_step (next_step (next_step s.run (Arm i)) (Test i)) (Disarm i))) (same3 : size_of m3 ≡ size_of m2)
-              (last : Listing) (without_i : last ≡ removed n listing) where
+              (last : Listing) (without_i : last ≡ without_irp n listing) where
             at3 : inside (next_step (next_step (next_step s.run (Arm i)) (Test i)) (Disarm i)) script_pass ≡ Nothing
             at3 = (went m2 (next_step (next_step s.run (Arm i)) (Test i)) _ goes2 m3 (Disarm i) a3 same3).at
                 ∙ ap (λ x. inside_after x (Disarm i) (found_by (next_step (next_step s.run (Arm i)) (Test i)) (Disarm i))) at2
@@ -171,7 +171,7 @@ module _ (l : Limits) (kept : Keeping) (s : Script) (k : Keeps l kept s) (n : Ir
                 subst IsQueue (ap F (sym one_found)) (subst OfEntries entries_back (queue_hit (next_step (next_step s.run (Arm i)) (Test i)) (after_event s.queue (event.Insert n f place reply.Pending)) queue2 i))
 
             last_is : last ≡ listing_of l (after_event s.queue (event.Insert n f place reply.Cancelled))
-            last_is = without_i ∙ ap (removed n) (is ∙ ap (inserted place (record { irp = n; file = f })) k.listing)
+            last_is = without_i ∙ ap (without_irp n) (is ∙ ap (inserted place (record { irp = n; file = f })) k.listing)
                 ∙ listing-taken_back l s.queue n f place (sound_lives (script_size l) s.run (run_for l kept s k) s.queue k.queue).entries
                 (unlisted (script_size l) s.run (run_for l kept s k) s.queue k.queue i home)
 

@@ -20,7 +20,7 @@ use Rattle.csq_list.specs.declared.entry.Entry.{Entry}
 use Rattle.csq_list.specs.declared.entry.Peek.{Peek}
 use Rattle.csq_list.specs.Searches.{matches, is_listed, is_distinct, rest_after}
 use Rattle.csq_list.specs.Searches as plainly
-use Rattle.csq_list.specs.Listing.{Listing, IsSound, removed}
+use Rattle.csq_list.specs.Listing.{Listing, IsSound, without_irp}
 use Rattle.csq_list.proofs.Finding.{rest_after-ends, rest_after-among}
 use Rattle.csq_words.specs.declared.views.Event.TheVariants as event
 use Rattle.csq_words.specs.Queue.{Queued, QueueState, Limits, current, listing_of, first_unmarked, has_entry, has_marked, has_unmarked, after_event, plain}
@@ -254,7 +254,7 @@ module _ (l : Limits) (kept : Keeping) (s : Script) (k : Keeps l kept s) where
 
       -- it was not: the removal has it
       pub seeks_hit : size_of machine ≡ size_of kept.machine → (new : MachineState) (v : ℕ) → Agrees new (next_step h.run (Disarm i)) → size_of new ≡ size_of kept.machine → v ≡ found_by h.run (Disarm i) → v ≡ 1
-          → (listing : Listing) → listing ≡ removed n kept.listing
+          → (listing : Listing) → listing ≡ without_irp n kept.listing
           → (t : Script) × Calls l s (Next peek) (Removed n) t × Keeps l (record kept { machine = new; listing = listing }) t
       seeks_hit size_now new v a same value hit listing without_i =
           let set : armed h.run i ≡ true = bit_set (armed h.run i) v value hit in
@@ -271,7 +271,7 @@ module _ (l : Limits) (kept : Keeping) (s : Script) (k : Keeps l kept s) where
           sym (sym h.first ∙ here.first ∙ ap (λ b. cond b (first_unmarked peek here.later) (Some here.entry.irp)) unmarked ∙ ap (λ j. Some j) name_is) in (
             doing (removal_steps peek s.queue.entries) (event.RemoveNext peek (Some i)) s,
             removes_next peek (Some i) reply,
-            subst KeepsAt steps (keeps_run new listing (next_step h.run (Disarm i)) q a same (without_i ∙ ap (removed n) k.listing ∙ listing-removed l s.queue i refl present)
+            subst KeepsAt steps (keeps_run new listing (next_step h.run (Disarm i)) q a same (without_i ∙ ap (without_irp n) k.listing ∙ listing-removed l s.queue i refl present)
                 (subst IsQueue (ap F (sym one_found)) (queue_hit h.run s.queue h.queue i))
                 ((went machine h.run h.at h.goes new (Disarm i) a (same ∙ sym size_now)).at ∙ ap (inside_after h.at (Disarm i)) one_found ∙ after_hit h.at i)
                 h.over (λ j. refl)),
@@ -291,7 +291,7 @@ module _ (l : Limits) (kept : Keeping) (s : Script) (k : Keeps l kept s) where
 
   -- a removal of one IRP
   pub removed_keeps : (i : Irp) → number i < (size_of kept.machine).irps → IsNow s i → is_listed kept.listing.entries i.irp ≡ true → (new : MachineState) (v : ℕ) → Agrees new (next_step s.run (Disarm i))
-      → size_of new ≡ size_of kept.machine → v ≡ found_by s.run (Disarm i) → v ≡ 1 → (listing : Listing) → listing ≡ removed i.irp kept.listing
+      → size_of new ≡ size_of kept.machine → v ≡ found_by s.run (Disarm i) → v ≡ 1 → (listing : Listing) → listing ≡ without_irp i.irp kept.listing
       → (t : Script) × Calls l s (Remove i) (Removed i.irp) t × Keeps l (record kept { machine = new; listing = listing }) t
   removed_keeps i known now there new v a same value hit listing without_i =
       let life : life_of i ≡ s.queue.lives i.irp = sym (ap life_of now) in
@@ -305,7 +305,7 @@ module _ (l : Limits) (kept : Keeping) (s : Script) (k : Keeps l kept s) where
       let KeepsAt : List Made → Type 0 = λ E. Keeps l (record kept { machine = new; listing = listing }) (record s { run = E; queue = q }) in (
         doing (remove_steps i s.queue.entries) (event.Remove i true) s,
         removes i (omega (arith, known, ap (λ (n : Size). n.irps) k.size)) (sym unmarked),
-        subst KeepsAt steps (keeps_run new listing (next_step s.run (Disarm i)) q a same (without_i ∙ ap (removed i.irp) k.listing ∙ listing-removed l s.queue i life present)
+        subst KeepsAt steps (keeps_run new listing (next_step s.run (Disarm i)) q a same (without_i ∙ ap (without_irp i.irp) k.listing ∙ listing-removed l s.queue i life present)
             (subst IsQueue (ap F (sym one_found)) (queue_hit s.run s.queue k.queue i))
             ((went kept.machine s.run Nothing (starts l kept s k) new (Disarm i) a same).at ∙ ap (inside_after Nothing (Disarm i)) one_found) (λ j. refl) (λ j. refl)),
       )

@@ -11,7 +11,7 @@ use Rattle.csq_words.specs.declared.views.PassRecord.{PassRecord}
 use Rattle.csq_words.specs.declared.views.QueueRecord.{QueueRecord}
 use Rattle.csq_words.specs.declared.views.View.{View}
 use Rattle.csq_words.specs.Records.{view_of, receipt_view, spent_view, newest, without_pass, receipt_of, shown_receipt, with_shown, shown_by}
-use Rattle.csq_words.specs.Rule.{in_flight, IsOut, HasBack, Agrees, Fits, KeptBy, IsKept}
+use Rattle.csq_words.specs.Rule.{in_flight, IsOut, HasBack, WordsAgree, Fits, RuleHoldsBy, RuleHolds}
 use Rattle.csq_words.proofs.Laws.{off}
 use Rattle.csq_words.proofs.Indexes.{at_below}
 use Rattle.csq_words.proofs.Keeping.{none_is, all_set, all_push, present_else, present_more, apart, at_queue}
@@ -27,11 +27,11 @@ some_newest [] h = off h
 some_newest (r ∷ rs) h = (r, refl)
 
 -- a receipt of a pass that is back is cut off
-cuts_receipt : (size : Size) (id : ℕ) (q : QueueRecord) (r : PassRecord) → ((words : List ℕ) (run : List Made) → Agrees size words run q (in_flight None) → HasBack q r) → Splits (IsKept size) id (view_of q None) (view_of q None) (receipt_view r)
+cuts_receipt : (size : Size) (id : ℕ) (q : QueueRecord) (r : PassRecord) → ((words : List ℕ) (run : List Made) → WordsAgree size words run q (in_flight None) → HasBack q r) → Splits (RuleHolds size) id (view_of q None) (view_of q None) (receipt_view r)
 cuts_receipt size id q r back s h at =
     let (run, seat, k) = at_queue size s id q None h at in
     let fits : ℕ → View → Type 0 = Fits s.words run q id seat in
-    let longer : KeptBy size s.words (s.views ++ receipt_view r ∷ []) run id q None seat = record {
+    let longer : RuleHoldsBy size s.words (s.views ++ receipt_view r ∷ []) run id q None seat = record {
       agrees = k.agrees;
       queue_is = at_longer s.views (receipt_view r ∷ []) id (view_of q None) k.queue_is;
       lock = k.lock;
@@ -43,10 +43,10 @@ cuts_receipt size id q r back s h at =
       };
       present = λ p out. present_more s.views (receipt_view r) (seat p) p (k.present p out);
     } in
-    (run, id, q, None, seat, subst (λ (views : List View). KeptBy size s.words (views ++ receipt_view r ∷ []) run id q None seat) (sym (set_again s.views id (view_of q None) at)) longer)
+    (run, id, q, None, seat, subst (λ (views : List View). RuleHoldsBy size s.words (views ++ receipt_view r ∷ []) run id q None seat) (sym (set_again s.views id (view_of q None) at)) longer)
 
 -- a receipt shows the record of a pass that is back
-shows : (size : Size) (id other : ℕ) (q : QueueRecord) (r : PassRecord) → Joins (IsKept size) id (view_of q None) other (receipt_view r) (view_of (with_shown r q) None) spent_view
+shows : (size : Size) (id other : ℕ) (q : QueueRecord) (r : PassRecord) → Joins (RuleHolds size) id (view_of q None) other (receipt_view r) (view_of (with_shown r q) None) spent_view
 shows size id other q r s h at ne there' =
     let (run, seat, k) = at_queue size s id q None h at in
     let q' = with_shown r q in
@@ -101,18 +101,18 @@ shows size id other q r s h at ne there' =
 
 -- the same at views that are known
 receipt_as : (size : Size) (id : ℕ) (v : View) (q : QueueRecord) (r : PassRecord) (right : View → View) → v ≡ view_of q None → right (view_of q None) ≡ receipt_view r
-    → ((words : List ℕ) (run : List Made) → Agrees size words run q (in_flight None) → HasBack q r) → Splits (IsKept size) id v (without_pass v) (right v)
+    → ((words : List ℕ) (run : List Made) → WordsAgree size words run q (in_flight None) → HasBack q r) → Splits (RuleHolds size) id v (without_pass v) (right v)
 receipt_as size id v q r right is cut back =
-    let cuts : Splits (IsKept size) id (view_of q None) (view_of q None) (right (view_of q None)) = subst (λ (w : View). Splits (IsKept size) id (view_of q None) (view_of q None) w) (sym cut) (cuts_receipt size id q r back) in
-    subst (λ (u : View). Splits (IsKept size) id u (without_pass u) (right u)) (sym is) cuts
+    let cuts : Splits (RuleHolds size) id (view_of q None) (view_of q None) (right (view_of q None)) = subst (λ (w : View). Splits (RuleHolds size) id (view_of q None) (view_of q None) w) (sym cut) (cuts_receipt size id q r back) in
+    subst (λ (u : View). Splits (RuleHolds size) id u (without_pass u) (right u)) (sym is) cuts
 
 -- the receipt of the pass that came back last
-pub last_receipt_as : (size : Size) (id : ℕ) (v : View) (q : QueueRecord) (r : PassRecord) → v ≡ view_of q None → newest q.back ≡ Some r → Splits (IsKept size) id v (without_pass v) (receipt_of v)
+pub last_receipt_as : (size : Size) (id : ℕ) (v : View) (q : QueueRecord) (r : PassRecord) → v ≡ view_of q None → newest q.back ≡ Some r → Splits (RuleHolds size) id v (without_pass v) (receipt_of v)
 last_receipt_as size id v q r is last = receipt_as size id v q r receipt_of is (λ i. record { queue = None; pass = None; back = last i }) (λ words run a. (0, newest_at q.back r last))
 
 -- the receipt that has just shown its record
-pub shown_receipt_as : (size : Size) (id : ℕ) (v : View) (q : QueueRecord) (r : PassRecord) → v ≡ view_of q None → newest q.shown ≡ Some r → Splits (IsKept size) id v (without_pass v) (shown_receipt v)
+pub shown_receipt_as : (size : Size) (id : ℕ) (v : View) (q : QueueRecord) (r : PassRecord) → v ≡ view_of q None → newest q.shown ≡ Some r → Splits (RuleHolds size) id v (without_pass v) (shown_receipt v)
 shown_receipt_as size id v q r is last = receipt_as size id v q r shown_receipt is (λ i. record { queue = None; pass = None; back = last i }) (λ words run a. a.shown 0 r (newest_at q.shown r last))
 
-pub shows_as : (size : Size) (id other : ℕ) (v w : View) (q : QueueRecord) (r : PassRecord) → v ≡ view_of q None → w ≡ receipt_view r → Joins (IsKept size) id v other w (shown_by v w) spent_view
-shows_as size id other v w q r is is' = subst (λ (u : View × View). Joins (IsKept size) id u.0 other u.1 (shown_by u.0 u.1) spent_view) (λ i. (sym is i, sym is' i)) (shows size id other q r)
+pub shows_as : (size : Size) (id other : ℕ) (v w : View) (q : QueueRecord) (r : PassRecord) → v ≡ view_of q None → w ≡ receipt_view r → Joins (RuleHolds size) id v other w (shown_by v w) spent_view
+shows_as size id other v w q r is is' = subst (λ (u : View × View). Joins (RuleHolds size) id u.0 other u.1 (shown_by u.0 u.1) spent_view) (λ i. (sym is i, sym is' i)) (shows size id other q r)

@@ -7,8 +7,8 @@ use Rattle.irp_core.specs.Runs.{Size}
 use Rattle.csq_words.specs.declared.views.Entry.{Entry}
 use Rattle.csq_words.specs.declared.views.PassRecord.{PassRecord}
 use Rattle.csq_words.specs.declared.views.QueueRecord.{QueueRecord}
-use Rattle.csq_words.specs.History.{calls_of, Begins}
-use Rattle.csq_words.specs.Rule.{IsPassOf, HasBack, IsTold, IsQueueTold}
+use Rattle.csq_words.specs.History.{calls_of, IsExtendedBy}
+use Rattle.csq_words.specs.Rule.{IsPassOf, HasBack, SomeRunAgrees, QueueHasRun}
 use Rattle.csq_words.specs.Finals.{IsFinal}
 use Rattle.csq_words.specs.Stories.{AreComparable, SeeOneHistory}
 
@@ -20,7 +20,7 @@ one_begins (x ∷ a) (y ∷ b) h g e = let rest : a ++ h ≡ b ++ g = cc in one_
 
 -- the pass has seen a beginning of the history, in which stand its calls
 abbrev Sees : List Entry → PassRecord → Type 0
-Sees history r = Begins r.seen history × (r.mine ≡ calls_of r.pass history)
+Sees history r = IsExtendedBy r.seen history × (r.mine ≡ calls_of r.pass history)
 
 see_one_history : (history : List Entry) (passes : List PassRecord) → ((k : ℕ) (r : PassRecord) → get_elem? passes k ≡ some r → Sees history r) → SeeOneHistory history passes
 see_one_history history passes each = record {
@@ -33,7 +33,7 @@ see_one_history history passes each = record {
 sees : (run : List Made) (history : List Entry) (r : PassRecord) → IsPassOf run history r → Sees history r
 sees run history r h = (h.seen_is, h.mine_is)
 
-pub joined_see : (size : Size) (q : QueueRecord) (r s : PassRecord) → IsTold size q r → IsTold size q s → SeeOneHistory q.history (r ∷ s ∷ [])
+pub joined_see : (size : Size) (q : QueueRecord) (r s : PassRecord) → SomeRunAgrees size q r → SomeRunAgrees size q s → SeeOneHistory q.history (r ∷ s ∷ [])
 joined_see size q r s h g = see_one_history q.history (r ∷ s ∷ []) each
   where
     each : (k : ℕ) (o : PassRecord) → get_elem? (r ∷ s ∷ []) k ≡ some o → Sees q.history o
@@ -41,7 +41,7 @@ joined_see size q r s h g = see_one_history q.history (r ∷ s ∷ []) each
     each (suc zero) o at = subst (Sees q.history) (some-injective s o at) (sees g.0 q.history s g.1.pass_is)
     each (suc (suc k)) o at = absurd (some-ne-none o (sym at))
 
-pub back_see : (size : Size) (q : QueueRecord) → IsQueueTold size q → SeeOneHistory q.history q.back
+pub back_see : (size : Size) (q : QueueRecord) → QueueHasRun size q → SeeOneHistory q.history q.back
 back_see size q h = see_one_history q.history q.back (λ k r at. sees h.run q.history r (h.backs k r at).0)
 
 -- passes with records among those that are back at the end

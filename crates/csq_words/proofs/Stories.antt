@@ -43,7 +43,7 @@ use Rattle.csq_words.specs.Queue.{Queued, QueueState, current, has_irp, has_entr
 use Rattle.csq_words.specs.History.{end_of, MayStand, IsOrderly}
 use Rattle.csq_words.specs.Records.{queue_of}
 use Rattle.csq_words.specs.Own.{inside_of, removed_in}
-use Rattle.csq_words.specs.Rule.{is_done, IsTrueOf, AreTrueOf, inserts, AreOfRun}
+use Rattle.csq_words.specs.Rule.{is_done, IsTrueOf, AreTrueOf, inserts, RecordsAgree}
 use Rattle.csq_words.specs.Finals.{FinalWords, final_status, IsRecordedBack, AllBack, IsFinal, InLife}
 use Rattle.csq_words.specs.Stories.{accepts, gives, inserted_by, given_to, IsOneOf, HasRecorded, Story, IsGivenOnce, NoIrpHasTwoStories}
 use Rattle.csq_words.proofs.Laws.{off, dones_some, done_over}
@@ -337,7 +337,7 @@ module _ (run : List Made) (i : Irp) (used entry : Bool) (inserted given : List 
   given_claimed (inr (inl h)) p e = absurd (cc (e, h.to_none))
   given_claimed (inr (inr h)) p e = let same : h.owner ≡ p = cc (e, h.to_one) in subst (λ x. IsOneOf x (claims run i)) same h.claimed
 
-module _ (size : Size) (q : QueueRecord) (r : PassRecord) (run : List Made) (told : AreOfRun size run q r) (i : Irp) where
+module _ (size : Size) (q : QueueRecord) (r : PassRecord) (run : List Made) (told : RecordsAgree size run q r) (i : Irp) where
   is_run' : IsRun size run
   is_run' = told.history_is.is_run
 

@@ -18,9 +18,9 @@ use Rattle.csq_words.specs.declared.views.Entry.{Entry}
 use Rattle.csq_words.specs.declared.views.PassRecord.{PassRecord}
 use Rattle.csq_words.specs.declared.views.QueueRecord.{QueueRecord}
 use Rattle.csq_words.specs.Queue.{QueueState, current, has_entry}
-use Rattle.csq_words.specs.History.{end_of, calls_of, Begins}
+use Rattle.csq_words.specs.History.{end_of, calls_of, IsExtendedBy}
 use Rattle.csq_words.specs.Records.{queue_of}
-use Rattle.csq_words.specs.Rule.{AreOfRun, IsTold, IsQueueTold}
+use Rattle.csq_words.specs.Rule.{RecordsAgree, SomeRunAgrees, QueueHasRun}
 use Rattle.csq_words.specs.Plays.{status_recorded}
 use Rattle.csq_words.specs.Finals.{FinalWords, final_status, AllBack, IsFinal, InLife, shows_cancelled}
 
@@ -108,7 +108,7 @@ pub record IsGivenOnce (q : QueueRecord) (run : List Made) (i : Irp) : Type 0 wh
 
 -- at every step, each life of each IRP is given out at most once
 abbrev pub EachIrpIsGivenOnce : Type 0
-EachIrpIsGivenOnce = (size : Size) (q : QueueRecord) (r : PassRecord) (run : List Made) → AreOfRun size run q r → (i : Irp) → IsGivenOnce q run i
+EachIrpIsGivenOnce = (size : Size) (q : QueueRecord) (r : PassRecord) (run : List Made) → RecordsAgree size run q r → (i : Irp) → IsGivenOnce q run i
 
 -- no two of these hold
 abbrev pub AtMostOne : Type 0 → Type 0 → Type 0 → Type 0
@@ -120,21 +120,21 @@ NoIrpHasTwoStories = (finals : FinalWords) (q : QueueRecord) (run : List Made) (
 
 -- one of these histories begins with the other
 abbrev pub AreComparable : List Entry → List Entry → Type 0
-AreComparable h g = Begins h g ⊎ Begins g h
+AreComparable h g = IsExtendedBy h g ⊎ IsExtendedBy g h
 
 -- these passes have seen one history: it begins with what each of them has seen, and the calls of each are its calls there, in that order. So what one of them has seen begins with what another has, or the other way round
 pub record SeeOneHistory (history : List Entry) (passes : List PassRecord) : Type 0 where
-  pub seen : (k : ℕ) (r : PassRecord) → get_elem? passes k ≡ some r → Begins r.seen history
+  pub seen : (k : ℕ) (r : PassRecord) → get_elem? passes k ≡ some r → IsExtendedBy r.seen history
   pub calls : (k : ℕ) (r : PassRecord) → get_elem? passes k ≡ some r → r.mine ≡ calls_of r.pass history
   pub comparable : (j k : ℕ) (r s : PassRecord) → get_elem? passes j ≡ some r → get_elem? passes k ≡ some s → AreComparable r.seen s.seen
 
 -- passes that were joined with a queue's record have seen its history
 abbrev pub JoinedPassesSeeOneHistory : Type 0
-JoinedPassesSeeOneHistory = (size : Size) (q : QueueRecord) (r s : PassRecord) → IsTold size q r → IsTold size q s → SeeOneHistory q.history (r ∷ s ∷ [])
+JoinedPassesSeeOneHistory = (size : Size) (q : QueueRecord) (r s : PassRecord) → SomeRunAgrees size q r → SomeRunAgrees size q s → SeeOneHistory q.history (r ∷ s ∷ [])
 
 -- the passes that are back have seen it
 abbrev pub PassesBackSeeOneHistory : Type 0
-PassesBackSeeOneHistory = (size : Size) (q : QueueRecord) → IsQueueTold size q → SeeOneHistory q.history q.back
+PassesBackSeeOneHistory = (size : Size) (q : QueueRecord) → QueueHasRun size q → SeeOneHistory q.history q.back
 
 -- those of a closed queue have seen it
 abbrev pub PassesAtTheEndSeeOneHistory : Type 0

@@ -15,9 +15,9 @@ use Rattle.irp_core.proofs.Names.{same_irp-refl}
 use Rattle.irp_core.proofs.Lives.{used_begun}
 use Rattle.csq_words.specs.declared.views.PassRecord.{PassRecord}
 use Rattle.csq_words.specs.Queue.{current}
-use Rattle.csq_words.specs.History.{end_of}
+use Rattle.csq_words.specs.History.{end_of, IsExtendedBy}
 use Rattle.csq_words.specs.Plays.{IsStatusOf, status_read}
-use Rattle.csq_words.specs.Rule.{Follows, FindsUnset, is_done, SaysStatus, stands_for}
+use Rattle.csq_words.specs.Rule.{FindsUnset, is_done, SaysStatus, stands_for}
 use Rattle.csq_words.specs.Words.{unset_word, status_life_in, status_in}
 use Rattle.csq_words.proofs.Decoding.{status_in-unset}
 use Rattle.csq_words.proofs.Keeping.{none_is}
@@ -31,7 +31,7 @@ use Rattle.csq_queue.specs.declared.refusals.ReuseRefused.TheVariants.{UnknownIr
 use Rattle.test_execution.specs.Conclusions.{IsLater}
 
 -- a life that the pass has seen completed isn't the one of which a reuse says that it isn't
-pub reuse_later : (size : Size) (i : Irp) (old new : PassRecord) (answer : Result Life ReuseRefused) → is_done old.run i ≡ true → Follows old.run new.run → SeesRun size new
+pub reuse_later : (size : Size) (i : Irp) (old new : PassRecord) (answer : Result Life ReuseRefused) → is_done old.run i ≡ true → IsExtendedBy old.run new.run → SeesRun size new
     → IfErr answer (IsReuseRefusal (current (end_of size.first new.seen) i.irp) old new) → IsLater size.first i new answer
 reuse_later size i old new answer done follows sees refused e = go answer e refused
   where
@@ -78,6 +78,6 @@ completed_now size i old new f = ap (λ (run : List Made). is_done run i) f.last
 
 -- a read goes on from what the pass had seen
 pub read_follows : (size : Size) (n : IrpId) (old new : PassRecord) (answer : Result (Life × Option NtStatus) UnknownIrpError)
-    → IfOk answer (λ read. (w : ℕ) × (read ≡ status_read w) × IsStatusOf size n old new w) → OnErr answer (new ≡ old) → Follows old.run new.run
+    → IfOk answer (λ read. (w : ℕ) × (read ≡ status_read w) × IsStatusOf size n old new w) → OnErr answer (new ≡ old) → IsExtendedBy old.run new.run
 read_follows size n old new (Ok read) h e = h.2.sees.follows
 read_follows size n old new (Err cause) h e = ([], ap (λ (r : PassRecord). r.run) e)

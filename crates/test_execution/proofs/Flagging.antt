@@ -14,8 +14,7 @@ use Rattle.irp_core.proofs.Names.{same_irp-eq, same_irp-refl}
 use Rattle.irp_core.proofs.Growing.{run_less, run_last}
 use Rattle.csq_words.specs.declared.views.PassRecord.{PassRecord}
 use Rattle.csq_words.specs.Queue.{has_marked}
-use Rattle.csq_words.specs.History.{end_of}
-use Rattle.csq_words.specs.Rule.{Follows}
+use Rattle.csq_words.specs.History.{end_of, IsExtendedBy}
 use Rattle.csq_words.proofs.Laws.{off}
 use Rattle.csq_words.proofs.Marks.{marked_taken}
 use Rattle.csq_words.proofs.Own.{any_filtered}
@@ -25,7 +24,7 @@ use Rattle.csq_queue.specs.declared.tokens.InsertAnswer.TheVariants.{Pending}
 use Rattle.csq_queue.proofs.Meeting.{own-append}
 
 -- a flag stays set
-pub flag_stays : (i : Irp) (shorter longer : List Made) → Follows shorter longer → flagged shorter i ≡ true → flagged longer i ≡ true
+pub flag_stays : (i : Irp) (shorter longer : List Made) → IsExtendedBy shorter longer → flagged shorter i ≡ true → flagged longer i ≡ true
 flag_stays i shorter longer h set = ap (λ (l : List Made). flagged l i) h.1 ∙ go h.0
   where
     go : (newer : List Made) → flagged (newer ++ shorter) i ≡ true
@@ -61,7 +60,7 @@ none_clear size i older (m ∷ newer) set r =
     head (Renew j) n e on = refl
 
 -- an insert that leaves a flagged IRP pending was made where a canceller has its routine
-pub pending_taken : (size : Size) (i : Irp) (old new : PassRecord) → new.pass ≡ old.pass → flagged old.run i ≡ true → Follows old.run new.run → old.steps ≡ own old.pass old.run → SeesRun size new
+pub pending_taken : (size : Size) (i : Irp) (old new : PassRecord) → new.pass ≡ old.pass → flagged old.run i ≡ true → IsExtendedBy old.run new.run → old.steps ≡ own old.pass old.run → SeesRun size new
     → new.steps ≡ made_by old.pass (insert_steps (Ok (Pending i)) (end_of size.first new.seen)) ++ old.steps → taken new.run i ≡ true
 pending_taken size i old new same set follows steps sees made = go (has_marked (end_of size.first new.seen).entries i) refl
   where

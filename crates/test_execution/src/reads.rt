@@ -1,6 +1,6 @@
 //! Two reads, one after the other, and calls that go on from one another.
+ghost use Rattle.csq_words.specs.History.{IsExtendedBy};
 ghost use Rattle.std.specs.Prelude.{◌≡◌, is_some, IfOk};
-ghost use Rattle.csq_words.specs.Rule.{Follows};
 ghost use Rattle.test_execution.specs.Conclusions.{StaysSet};
 
 use csq_list::{Peek, PendingList};
@@ -50,7 +50,7 @@ pub fn serve_next<L: PendingList + Drop, N: QueueName, A: Allocator>(
     pass: &mut Pass<N>,
     status: FinalStatus,
 ) -> Option<IrpId>
-    ensures follows { Follows pass.old.run pass.new.run }
+    ensures follows { IsExtendedBy pass.old.run pass.new.run }
 {
     let token = queue.remove_next(rt, pass, Peek::Any)?;
     let irp = token.irp();

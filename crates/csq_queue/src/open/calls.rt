@@ -9,12 +9,12 @@ ghost use Rattle.csq_words.specs.declared.views.InsertReply.TheVariants.{Refused
 ghost use Rattle.csq_words.specs.Own.{removed_in, owed_list};
 ghost use Rattle.csq_words.specs.Calls.{due_mark};
 ghost use Rattle.csq_words.specs.Queue.{current, refusal};
-ghost use Rattle.csq_words.specs.History.{IsLegal, Begins, calls_of, end_of};
-ghost use Rattle.csq_words.specs.Rule.{Follows, IsHistoryOf};
+ghost use Rattle.csq_words.specs.History.{IsLegal, IsExtendedBy, calls_of, end_of};
+ghost use Rattle.csq_words.specs.Rule.{IsHistoryOf};
 ghost use Rattle.irp_core.specs.Steps.{own};
 ghost use Rattle.csq_words.specs.Records.{caught_up, with_run, with_step};
 ghost use Rattle.csq_queue.specs.Counts.{has_life};
-ghost use Rattle.csq_queue.specs.Named.{size_of};
+ghost use Rattle.csq_queue.specs.Named.{queue_size};
 ghost use Rattle.csq_queue.specs.Opens.{IsQueueOn, IsPassOn};
 ghost use Rattle.csq_queue.specs.Told.{SeesRun, AddsEvents, IsNew, count_given};
 ghost use Rattle.csq_queue.specs.Steps.{MakesSteps, insert_steps, remove_next_steps, remove_steps, reuse_steps};
@@ -39,12 +39,12 @@ impl<L: PendingList + Drop, A: Allocator> OpenQueue<L, A> {
         requires pass { IsPassOn words.now pass.old }
         ensures queue { self.new ≡ record self.old { queue = with_run pass.new.pass.run self.old.queue } }
         ensures legal { IsLegal self.old.limits self.old.queue.history }
-        ensures agrees { IsHistoryOf (size_of self.old.limits) self.new.queue.run self.new.queue (λ i. false) }
-        ensures sees { SeesRun (size_of self.old.limits) pass.new.pass }
+        ensures agrees { IsHistoryOf (queue_size self.old.limits) self.new.queue.run self.new.queue (λ i. false) }
+        ensures sees { SeesRun (queue_size self.old.limits) pass.new.pass }
         ensures shown { pass.new ≡ record pass.old { pass = caught_up self.new.queue pass.old.pass } }
-        ensures follows { Follows pass.old.pass.run pass.new.pass.run }
-        ensures since { Follows self.old.queue.run pass.new.pass.run }
-        ensures begins { Begins pass.old.pass.seen self.old.queue.history }
+        ensures follows { IsExtendedBy pass.old.pass.run pass.new.pass.run }
+        ensures since { IsExtendedBy self.old.queue.run pass.new.pass.run }
+        ensures begins { IsExtendedBy pass.old.pass.seen self.old.queue.history }
         ensures mine { pass.old.pass.mine ≡ calls_of pass.old.pass.pass self.old.queue.history }
     {
         self.seat.enter(words, &mut pass.seat);
@@ -56,11 +56,11 @@ impl<L: PendingList + Drop, A: Allocator> OpenQueue<L, A> {
         requires queue { IsQueueOn words.now self.old }
         requires pass { IsPassOn words.now pass.old }
         requires steps { pass.old.pass.steps ≡ own pass.old.pass.pass pass.old.pass.run }
-        requires since { Follows pass.old.pass.run self.old.queue.run }
-        requires agrees { IsHistoryOf (size_of self.old.limits) self.old.queue.run self.old.queue (λ i. false) }
+        requires since { IsExtendedBy pass.old.pass.run self.old.queue.run }
+        requires agrees { IsHistoryOf (queue_size self.old.limits) self.old.queue.run self.old.queue (λ i. false) }
         ensures same { self.new ≡ self.old }
         ensures shown { pass.new ≡ record pass.old { pass = caught_up self.old.queue pass.old.pass } }
-        ensures sees { SeesRun (size_of self.old.limits) pass.new.pass }
+        ensures sees { SeesRun (queue_size self.old.limits) pass.new.pass }
     {
         self.seat.enter(words, &mut pass.seat);
         self.seat.leave(words, &mut pass.seat);
@@ -190,7 +190,7 @@ impl<L: PendingList + Drop, A: Allocator> OpenQueue<L, A> {
         leave(&mut self.seat, words, &mut pass.seat);
     }
 
-    /// Begins the next life of an IRP, where its present one was completed and isn't the last, as
+    /// IsExtendedBy the next life of an IRP, where its present one was completed and isn't the last, as
     /// `Csq::reuse` does.
     pub fn reuse(
         &mut self,

@@ -2,12 +2,12 @@
 ghost use Rattle.std.specs.Prelude.{◌≡◌, ◌+◌, ◌-◌, ◌<◌, ◌≤◌, ◌↔◌, IfSome, IsNone};
 ghost use Rattle.irp_core.specs.declared.ids.IrpId.{IrpId as IrpNumber};
 ghost use Rattle.csq_words.specs.Queue.{listing_of};
-ghost use Rattle.csq_words.specs.History.{IsLegal, Begins};
+ghost use Rattle.csq_words.specs.History.{IsLegal, IsExtendedBy};
 ghost use Rattle.csq_words.specs.Records.{queue_of, new_pass, with_back, with_shown};
-ghost use Rattle.csq_words.specs.Rule.{IsQueueToldWith};
+ghost use Rattle.csq_words.specs.Rule.{QueueAndPassHaveRun};
 ghost use Rattle.csq_words.specs.Seats.{pass_at, pass_record, IsHere};
 ghost use Rattle.csq_words.specs.Finals.{AllBack, IsFinal, IsLeft, KeepsRecords};
-ghost use Rattle.csq_queue.specs.Named.{size_of, pass_numbered, out_count};
+ghost use Rattle.csq_queue.specs.Named.{queue_size, pass_numbered, out_count};
 ghost use Rattle.csq_queue.specs.Opens.{IsQueueOn, IsPassOn, IsRackOn};
 ghost use Rattle.csq_queue.specs.Rests.{HoldsNothing, FirstAreBack, GivenBack, IsClosed};
 
@@ -78,7 +78,7 @@ impl<L: PendingList + Drop, A: Allocator> OpenQueue<L, A> {
         requires pass { IsPassOn words.now pass }
         requires nothing { HoldsNothing pass.pass }
         ensures back { self.new ≡ record self.old { queue = with_back pass.pass self.old.queue } }
-        ensures begins { Begins pass.pass.seen self.old.queue.history }
+        ensures begins { IsExtendedBy pass.pass.seen self.old.queue.history }
         ensures receipt { result ≡ pass_at words.now.table pass.pass }
     {
         self.seat.enter(words, &mut pass.seat);
@@ -103,7 +103,7 @@ impl<L: PendingList + Drop, A: Allocator> OpenQueue<L, A> {
         requires pass { IsPassOn words.now pass.old }
         ensures same { self.new ≡ self.old }
         ensures kept { pass.new ≡ pass.old }
-        ensures told { IsQueueToldWith words.now.size self.old.queue pass.old.pass }
+        ensures told { QueueAndPassHaveRun words.now.size self.old.queue pass.old.pass }
         ensures made { self.old.queue.made ≡ self.old.limits.passes }
     {
         self.seat.tell_with(words, &mut pass.seat);
@@ -161,7 +161,7 @@ impl<L: PendingList + Drop, A: Allocator> OpenQueue<L, A> {
         requires back { AllBack self.queue }
         ensures irps { result.finals.irps ≡ self.limits.irps }
         ensures queue { result.finals.queue ≡ self.queue }
-        ensures last { IsFinal (size_of self.limits) result.finals.words result.finals.queue }
+        ensures last { IsFinal (queue_size self.limits) result.finals.words result.finals.queue }
         ensures left { (n : IrpNumber) → n.0 < self.limits.irps → IsLeft result.finals.words result.finals.queue n }
         ensures records { KeepsRecords result.finals }
         ensures list { L.listing result.list ≡ listing_of self.limits (queue_of result.finals.queue) }

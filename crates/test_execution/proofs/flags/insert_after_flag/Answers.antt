@@ -9,7 +9,7 @@ use Rattle.csq_words.specs.declared.views.PassRecord.{PassRecord}
 use Rattle.csq_words.specs.Queue.{current}
 use Rattle.csq_words.specs.History.{end_of}
 use Rattle.csq_words.proofs.Own.{flagged_own}
-use Rattle.csq_queue.specs.Named.{size_of}
+use Rattle.csq_queue.specs.Named.{queue_size}
 use Rattle.csq_queue.specs.Inserts.{IsInsert}
 use Rattle.csq_queue.specs.Steps.{MakesSteps, insert_steps}
 use Rattle.csq_queue.specs.Told.{AddsEvents}
@@ -33,5 +33,5 @@ returns g c = record {
       let steps = ap (λ (r : PassRecord). r.steps) met.one_kept in
       let own' = met.one_sees.pass_is.steps_is in
       let seen : flagged c.meet.new.one.run i ≡ true = flagged_own c.meet.new.one.pass c.meet.new.one.run i (ap (λ s. flagged s i) (sym own' ∙ steps) ∙ was) in
-      pending_taken (size_of l) i old new made.pass (ap (λ run. flagged run i) (sym met.run) ∙ seen) told.3.follows met.other_sees.pass_is.steps_is told.3.sees made.steps;
+      pending_taken (queue_size l) i old new made.pass (ap (λ run. flagged run i) (sym met.run) ∙ seen) told.3.follows met.other_sees.pass_is.steps_is told.3.sees made.steps;
 }

@@ -1,15 +1,15 @@
+use Rattle.csq_words.specs.History.{IsExtendedBy}
 use Rattle.std.proofs.Common.{◌≡◌, ap, subst}
-use Rattle.csq_words.specs.Rule.{Follows}
-use Rattle.csq_words.proofs.Laws.{follows_on}
-use Rattle.csq_queue.specs.Named.{size_of}
+use Rattle.csq_words.proofs.Laws.{extended_on}
+use Rattle.csq_queue.specs.Named.{queue_size}
 use Rattle.csq_queue.proofs.Cancelling.{completed_follows}
 use Rattle.test_execution.proofs.Completing.{read_follows}
 use Rattle.test_execution.proofs.reads.serve_next.Goals as goal
 
 pub returns : goal.returns
 returns g c =
-    let size = size_of g.N.QueueName.limits in
+    let size = queue_size g.N.QueueName.limits in
     let removed = c.in_ok-token.ensures.call.2.follows in
     let completed = completed_follows size c.in_ok-token.token c.remove_next.new.pass c.complete.new.pass c.complete.ensures.unset in
     let read = read_follows size c.irp-irp.result c.complete.new.pass c.status.new.pass c.status.result c.status.ensures.found c.status.ensures.unknown in
-    record { follows = follows_on _ _ _ removed (follows_on _ _ _ completed read) }
+    record { follows = extended_on _ _ _ removed (extended_on _ _ _ completed read) }

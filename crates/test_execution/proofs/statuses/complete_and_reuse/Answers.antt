@@ -6,7 +6,7 @@ use Rattle.csq_words.specs.Queue.{current}
 use Rattle.csq_words.specs.History.{end_of}
 use Rattle.csq_words.specs.Rule.{is_done}
 use Rattle.csq_words.proofs.Laws.{done_stays}
-use Rattle.csq_queue.specs.Named.{size_of}
+use Rattle.csq_queue.specs.Named.{queue_size}
 use Rattle.csq_queue.specs.Refusals.{IsReuseRefusal}
 use Rattle.test_execution.proofs.Completing.{completed_now, reuse_later}
 use Rattle.test_execution.proofs.statuses.complete_and_reuse.Goals as goal
@@ -19,6 +19,6 @@ returns g c =
     let irp : c.irp-irp.result ≡ i.irp = c.irp-irp.ensures in
     let known : c.irp-irp.result.0 < l.irps = subst (λ (n : IrpId). n.0 < l.irps) (sym irp) c.requires.token.known in
     let call = c.reuse.ensures.call known in
-    let done : is_done c.meet.new.other.run i ≡ true = ap (λ run. is_done run i) (sym met.run) ∙ done_stays i c.complete.new.pass.run c.meet.new.one.run met.one_follows (completed_now (size_of l) i c.args.one.now c.complete.new.pass c.complete.ensures.unset) in
+    let done : is_done c.meet.new.other.run i ≡ true = ap (λ run. is_done run i) (sym met.run) ∙ done_stays i c.complete.new.pass.run c.meet.new.one.run met.one_follows (completed_now (queue_size l) i c.args.one.now c.complete.new.pass c.complete.ensures.unset) in
     let refused = subst (λ (n : IrpId). IfErr c.reuse.result (IsReuseRefusal (current (end_of l.first c.reuse.new.pass.seen) n) c.meet.new.other c.reuse.new.pass)) irp (c.reuse.ensures.refused known) in
-    record { later = reuse_later (size_of l) i c.meet.new.other c.reuse.new.pass c.reuse.result done call.1.follows call.1.sees refused }
+    record { later = reuse_later (queue_size l) i c.meet.new.other c.reuse.new.pass c.reuse.result done call.1.follows call.1.sees refused }

@@ -14,7 +14,7 @@ use Rattle.csq_queue.specs.Counts.{has_life, AreApart, held_count, owed_count}
 use Rattle.csq_queue.proofs.Counting.{out_owed, out_none_owed, out_held_apart, out_owed_apart, out_room}
 use Rattle.csq_queue.proofs.Spending.{out_holds}
 use Rattle.csq_queue.proofs.Owning.{owed_no_other, owed_not_removed}
-use Rattle.csq_queue.specs.Named.{IsPassOf}
+use Rattle.csq_queue.specs.Named.{IsPassSeatOf}
 use Rattle.csq_queue.proofs.Opening.{on_words, own_adds, own_pass, pass_on}
 use Rattle.csq_queue.proofs.open.OpenQueue.cancel_routine.Goals as goal
 
@@ -52,7 +52,7 @@ invariant_of-pass g c =
     let claims = p.claims_are in
     let held_now = ap held_count steps in
     let owed_now = ap owed_count steps in
-    let left : IsPassOf c.args.words.now.table n c.args.words.now.size.passes c.leave.new.pass c.pass.inside.number (c.pass.inside.tokens + 1) (c.pass.inside.claims - 1) = record {
+    let left : IsPassSeatOf c.args.words.now.table n c.args.words.now.size.passes c.leave.new.pass c.pass.inside.number (c.pass.inside.tokens + 1) (c.pass.inside.claims - 1) = record {
       here = search rules;
       outside = search rules;
       pass_is = search rules;

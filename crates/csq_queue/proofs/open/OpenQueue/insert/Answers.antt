@@ -14,7 +14,7 @@ use Rattle.csq_queue.specs.Told.{AddsEvents, IsNew}
 use Rattle.csq_queue.specs.declared.tokens.InsertAnswer.{InsertAnswer}
 use Rattle.csq_queue.specs.Adding.{Adds}
 use Rattle.csq_queue.specs.Inserts.{IsInsert, given_in}
-use Rattle.csq_words.specs.Rule.{IsTold}
+use Rattle.csq_words.specs.Rule.{SomeRunAgrees}
 use Rattle.csq_queue.specs.Opens.{OpenPassState, limits_on}
 use Rattle.csq_queue.proofs.Leaving.{room_for, left_makes}
 use Rattle.csq_queue.proofs.Opening.{on_words, own_adds, pass_on, own_new}
@@ -42,7 +42,7 @@ adds : (g : Over) (c : After-leave g) (events : List Event) → Adds (limits_on 
 adds g c events a =
     own_adds c.args.words.now (g.L.PendingList.listing c.self.inside.list) c.self.inside.seat c.self.inside.back.items c.args.self.now c.self.view_is c.requires.queue
     c.args.pass.now.pass (pass_record c.leave.new.pass) c.enter.new.self c.list_irp-inserted.new.seat (search rules)
-    (subst (λ (z : OpenPassState). IsTold c.args.words.now.size c.self.inside.seat.queue z.pass) c.pass.view_is c.enter.ensures.told) (search rules) c.leave.ensures.run events (g.L.PendingList.listing c.list_irp-inserted.new.list) c.self.inside.lives a
+    (subst (λ (z : OpenPassState). SomeRunAgrees c.args.words.now.size c.self.inside.seat.queue z.pass) c.pass.view_is c.enter.ensures.told) (search rules) c.leave.ensures.run events (g.L.PendingList.listing c.list_irp-inserted.new.list) c.self.inside.lives a
 
 -- what is told of an accepted insert, of the queue that it was made of
 abbrev Accepted : (g : Over) (c : After-leave g) → QueueState → Type 0

@@ -1,9 +1,9 @@
+use Rattle.csq_words.specs.History.{IsExtendedBy}
 use Rattle.std.proofs.Common.{◌≡◌, ◌∷◌, rules}
 use Rattle.irp_core.specs.declared.status.TheConstants.NtStatus.{CANCELLED}
 use Rattle.irp_core.specs.declared.step.Kind.TheVariants.{Flag, Take}
 use Rattle.csq_words.specs.Records.{saw, with_step}
-use Rattle.csq_words.specs.Rule.{Follows}
-use Rattle.csq_queue.specs.Named.{named, size_of}
+use Rattle.csq_queue.specs.Named.{named, queue_size}
 use Rattle.csq_queue.specs.Owned.{EndsWithTake}
 use Rattle.csq_queue.proofs.Cancelling.{marked_follows, adds_before}
 use Rattle.csq_queue.proofs.queue.Csq.cancel.Goals as goal
@@ -14,7 +14,7 @@ returns-in-Some-clause-call g c = λ _.
     let i = named c.args.irp c.args.life in
     let marked = c.in_ok-mark_cancel.ensures.step in
     let claim : c.in-Some.claim ≡ i = search rules in
-    let follows : Follows c.args.pass.now.run c.mark_cancel.new.pass.run = marked_follows (size_of l) i marked.0 _ c.args.pass.now c.mark_cancel.new.pass marked.2 in
+    let follows : IsExtendedBy c.args.pass.now.run c.mark_cancel.new.pass.run = marked_follows (queue_size l) i marked.0 _ c.args.pass.now c.mark_cancel.new.pass marked.2 in
     let call = c.cancel_routine-token.ensures.call in (
       call.0,
       c.cancel_routine-token.new.pass,

@@ -1,6 +1,6 @@
 use Rattle.std.proofs.Common.{◌≡◌, ◌∙◌, None, refl, ap, sym, arith}
 use Rattle.csq_words.specs.Records.{view_of, with_shown, shown_by}
-use Rattle.csq_words.specs.Rule.{size_of}
+use Rattle.csq_words.specs.Rule.{table_size}
 use Rattle.csq_words.specs.Seats.{pass_record}
 use Rattle.csq_words.proofs.Receipts.{shows_as, shown_receipt_as}
 use Rattle.csq_words.proofs.Values.{receipt_here, alone}
@@ -16,7 +16,7 @@ join_seat-requires g c =
       receipt.0 ∙ sym table,
       receipt.1,
       omega (arith, c.words.invariant.0, c.words.invariant.2),
-      shows_as (size_of words.table.shared.key) c.self.inside.seat.id c.in-Some.seat.id c.self.inside.seat.me.0 c.in-Some.seat.me.0 _ _ queue receipt.2,
+      shows_as (table_size words.table.shared.key) c.self.inside.seat.id c.in-Some.seat.id c.self.inside.seat.me.0 c.in-Some.seat.me.0 _ _ queue receipt.2,
     )
 
 pub split_seat-requires : goal.split_seat-requires
@@ -31,5 +31,5 @@ split_seat-requires g c =
     let both : c.join_seat.new.seat.me.0 ≡ view_of q None = ap (λ m. m.0) joined.2 ∙ (λ k. shown_by (queue k) (receipt.2 k)) in (
       joined.0 ∙ (ap (λ z. z.table) c.self.view_is ∙ (c.requires.words ∙ sym table)),
       omega (arith, c.words.invariant.0, c.words.invariant.2),
-      shown_receipt_as (size_of words.table.shared.key) c.join_seat.new.seat.id c.join_seat.new.seat.me.0 q r both refl,
+      shown_receipt_as (table_size words.table.shared.key) c.join_seat.new.seat.id c.join_seat.new.seat.me.0 q r both refl,
     )

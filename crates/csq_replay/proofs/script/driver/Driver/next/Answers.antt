@@ -1,7 +1,7 @@
 use Rattle.std.proofs.Common.{◌≡◌, true, Some, None, refl, ap, ◌∙◌, subst, arith}
 use Rattle.irp_core.specs.Runs.{Size}
 use Rattle.irp_core.specs.declared.step.Kind.TheVariants.{Disarm}
-use Rattle.csq_list.specs.Listing.{Listing, removed}
+use Rattle.csq_list.specs.Listing.{Listing, without_irp}
 use Rattle.csq_list.specs.Searches.{is_listed, rest_after}
 use Rattle.csq_list.specs.Searches as plainly
 use Rattle.csq_replay.specs.Calls.{present_of}
@@ -40,7 +40,7 @@ returns-then-make-eq1 g c = λ l s k.
     let found = subst (λ (x : Listing). Some c.in-Some.irp ≡ plainly.first_match c.args.peek (rest_after c.loop-irp.after x.entries)) same c.in-Some.ensures.found in
     let e = c.current-name.ensures h.run h.goes.agrees ∙ seeks_name l _ s k c.args.peek _ c.loop-irp.after h i.size c.in-Some.irp in
     let made = made_as _ _ h.run Disarm _ (present_of s c.in-Some.irp) e (c.make.ensures.made h.run h.goes.agrees) in
-    let hit = seeks_hit l _ s k c.args.peek _ c.loop-irp.after h c.in-Some.irp found i.size _ _ made.0 (c.make.ensures.size ∙ i.size) made.1 c.if-make-eq1.true _ (c.remove.ensures ∙ ap (removed c.in-Some.irp) same) in
+    let hit = seeks_hit l _ s k c.args.peek _ c.loop-irp.after h c.in-Some.irp found i.size _ _ made.0 (c.make.ensures.size ∙ i.size) made.1 c.if-make-eq1.true _ (c.remove.ensures ∙ ap (without_irp c.in-Some.irp) same) in
     (hit.0, hit.1, keeps_as l _ _ hit.0 hit.2 refl refl (ap (λ v. v.items) i.statuses))
 
 pub loop-irp-preserved : goal.loop-irp-preserved
