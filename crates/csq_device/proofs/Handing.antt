@@ -32,7 +32,7 @@ use Rattle.csq_words.specs.History.{end_of, is_call, calls_of}
 use Rattle.csq_words.specs.Records.{queue_of}
 use Rattle.csq_words.specs.Rule.{is_done, SaysStatus, completed_in, with_done}
 use Rattle.csq_words.specs.Finals.{FinalWords, IsFinal, final_status}
-use Rattle.csq_words.proofs.Laws.{open_now, open_undone}
+use Rattle.csq_words.proofs.Facts.{open_now, open_undone}
 use Rattle.csq_words.proofs.Named.{irp_eq, same_id-not, same_pass-is, same_pass-not}
 use Rattle.csq_words.proofs.Decoding.{status_in-unset}
 use Rattle.csq_words.proofs.Closing.{status_is}

@@ -11,7 +11,7 @@ use Rattle.csq_words.specs.Queue.{Limits}
 use Rattle.csq_words.specs.History.{IsExtendedBy}
 use Rattle.csq_words.specs.Records.{entries_of, saw, with_step, with_calls}
 use Rattle.csq_words.specs.Rule.{FindsUnset}
-use Rattle.csq_words.proofs.Laws.{extended_more, extended_on}
+use Rattle.csq_words.proofs.Facts.{extended_more, extended_on}
 use Rattle.csq_queue.specs.Told.{AddsEvents}
 use Rattle.csq_queue.specs.Owned.{EndsWithTake}
 

@@ -30,7 +30,7 @@ use Rattle.csq_list.specs.Searches.{matches}
 use Rattle.csq_words.specs.declared.views.Completion.{Completion}
 use Rattle.csq_words.specs.Queue.{Queued, Limits, listing_of, refusal, reply_to_insert, first_unmarked, has_irp, has_entry, has_unmarked, has_marked, marking, without, new_entry}
 use Rattle.csq_words.proofs.Entries.{has_entry-marking, has_entry-placed, has_entry-without}
-use Rattle.csq_words.proofs.Laws.{bit_false}
+use Rattle.csq_words.proofs.Facts.{bit_false}
 use Rattle.csq_replay.specs.declared.script.call.Call.{Call}
 use Rattle.csq_replay.specs.declared.script.call.Call.TheVariants.{Next, Mark, Routine, Complete, Close}
 use Rattle.csq_replay.specs.declared.script.call.Reply.{Reply}

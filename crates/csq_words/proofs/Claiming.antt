@@ -21,7 +21,7 @@ use Rattle.csq_words.specs.Queue.{has_irp}
 use Rattle.csq_words.specs.Rule.{is_done, with_done, completed_in, AreDue}
 use Rattle.csq_words.specs.Plays.{status_recorded}
 use Rattle.csq_words.specs.Stories.{IsOneOf}
-use Rattle.csq_words.proofs.Laws.{off}
+use Rattle.csq_words.proofs.Facts.{off}
 use Rattle.csq_words.proofs.Keeping.{none_is}
 use Rattle.csq_words.proofs.Own.{own_made}
 use Rattle.csq_words.proofs.Truths.{own_any}

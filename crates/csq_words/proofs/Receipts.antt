@@ -12,7 +12,7 @@ use Rattle.csq_words.specs.declared.views.QueueRecord.{QueueRecord}
 use Rattle.csq_words.specs.declared.views.View.{View}
 use Rattle.csq_words.specs.Records.{view_of, receipt_view, spent_view, newest, without_pass, receipt_of, shown_receipt, with_shown, shown_by}
 use Rattle.csq_words.specs.Rule.{in_flight, IsOut, HasBack, WordsAgree, Fits, RuleHoldsBy, RuleHolds}
-use Rattle.csq_words.proofs.Laws.{off}
+use Rattle.csq_words.proofs.Facts.{off}
 use Rattle.csq_words.proofs.Indexes.{at_below}
 use Rattle.csq_words.proofs.Keeping.{none_is, all_set, all_push, present_else, present_more, apart, at_queue}
 

@@ -46,7 +46,7 @@ use Rattle.csq_words.specs.Own.{inside_of, removed_in}
 use Rattle.csq_words.specs.Rule.{is_done, IsTrueOf, AreTrueOf, inserts, RecordsAgree}
 use Rattle.csq_words.specs.Finals.{FinalWords, final_status, IsRecordedBack, AllBack, IsFinal, InLife}
 use Rattle.csq_words.specs.Stories.{accepts, gives, inserted_by, given_to, IsOneOf, HasRecorded, Story, IsGivenOnce, NoIrpHasTwoStories}
-use Rattle.csq_words.proofs.Laws.{off, dones_some, done_over}
+use Rattle.csq_words.proofs.Facts.{off, dones_some, done_over}
 use Rattle.csq_words.proofs.Own.{any_filtered, inside_of-own, removed_in-own}
 use Rattle.csq_words.proofs.Truths.{left}
 use Rattle.csq_words.proofs.Closing.{no_zero, cancelled_is, keeps_records}

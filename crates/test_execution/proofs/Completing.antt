@@ -21,7 +21,7 @@ use Rattle.csq_words.specs.Rule.{FindsUnset, is_done, SaysStatus, stands_for}
 use Rattle.csq_words.specs.Words.{unset_word, status_life_in, status_in}
 use Rattle.csq_words.proofs.Decoding.{status_in-unset}
 use Rattle.csq_words.proofs.Keeping.{none_is}
-use Rattle.csq_words.proofs.Laws.{off, done_stays, done_over}
+use Rattle.csq_words.proofs.Facts.{off, done_stays, done_over}
 use Rattle.csq_words.proofs.Named.{irp_eq}
 use Rattle.csq_queue.specs.Told.{SeesRun}
 use Rattle.csq_queue.specs.Refusals.{IsReuseRefusal}

@@ -15,7 +15,7 @@ use Rattle.irp_core.proofs.Growing.{run_less, run_last}
 use Rattle.csq_words.specs.declared.views.PassRecord.{PassRecord}
 use Rattle.csq_words.specs.Queue.{has_marked}
 use Rattle.csq_words.specs.History.{end_of, IsExtendedBy}
-use Rattle.csq_words.proofs.Laws.{off}
+use Rattle.csq_words.proofs.Facts.{off}
 use Rattle.csq_words.proofs.Marks.{marked_taken}
 use Rattle.csq_words.proofs.Own.{any_filtered}
 use Rattle.csq_queue.specs.Steps.{made_by, insert_steps}

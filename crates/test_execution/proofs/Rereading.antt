@@ -15,7 +15,7 @@ use Rattle.csq_words.specs.Rule.{is_done, SaysStatus, stands_for}
 use Rattle.csq_words.specs.Words.{life_in, bit_in, bit_word, unset_word, status_life_in, status_in}
 use Rattle.csq_words.proofs.Decoding.{life_in-put, bit_in-put, status_life_in-unset}
 use Rattle.csq_words.proofs.Keeping.{none_is}
-use Rattle.csq_words.proofs.Laws.{off, bit_bound, bit_true, done_stays}
+use Rattle.csq_words.proofs.Facts.{off, bit_bound, bit_true, done_stays}
 use Rattle.csq_words.proofs.Named.{irp_eq}
 use Rattle.test_execution.specs.Conclusions.{StaysSet}
 use Rattle.test_execution.proofs.Flagging.{flag_stays}

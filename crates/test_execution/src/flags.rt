@@ -13,7 +13,7 @@ use std::sync::Wait;
 
 /// Lets a canceller and an inserter meet, and inserts an IRP then. Where the canceller had flagged the IRP
 /// and the insert leaves it pending, some canceller has its routine: it isn't listed with nobody in charge.
-pub fn insert_after_flag<L: PendingList + Drop, N: QueueName, A: Allocator>(
+pub(crate) fn insert_after_flag<L: PendingList + Drop, N: QueueName, A: Allocator>(
     queue: &Csq<L, N, A>,
     rt: &impl Wait,
     canceller: &mut Pass<N>,

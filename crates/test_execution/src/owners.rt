@@ -9,7 +9,7 @@ use std::alloc::Allocator;
 use std::sync::Wait;
 
 /// Lets two passes meet. What one of them owes or holds then, the other neither owes nor holds.
-pub fn meet<L: PendingList + Drop, N: QueueName, A: Allocator>(
+pub(crate) fn meet<L: PendingList + Drop, N: QueueName, A: Allocator>(
     queue: &Csq<L, N, A>,
     rt: &impl Wait,
     one: &mut Pass<N>,

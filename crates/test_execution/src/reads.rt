@@ -13,7 +13,7 @@ use std::sync::Wait;
 pub type Flags = (Result<(Life, bool), UnknownIrp>, Result<(Life, bool), UnknownIrp>);
 
 /// Reads a Cancel flag twice. A flag that is set stays set in its life.
-pub fn read_flags<L: PendingList + Drop, N: QueueName, A: Allocator>(
+pub(crate) fn read_flags<L: PendingList + Drop, N: QueueName, A: Allocator>(
     queue: &Csq<L, N, A>,
     pass: &mut Pass<N>,
     irp: IrpId,
@@ -31,7 +31,7 @@ pub type Statuses = (
 );
 
 /// Reads a status twice. A status that is set stays set in its life.
-pub fn read_statuses<L: PendingList + Drop, N: QueueName, A: Allocator>(
+pub(crate) fn read_statuses<L: PendingList + Drop, N: QueueName, A: Allocator>(
     queue: &Csq<L, N, A>,
     pass: &mut Pass<N>,
     irp: IrpId,
@@ -44,7 +44,7 @@ pub fn read_statuses<L: PendingList + Drop, N: QueueName, A: Allocator>(
 
 /// Takes the next IRP, completes it and reads its status. What the pass has then seen of the execution goes
 /// on from what it had seen.
-pub fn serve_next<L: PendingList + Drop, N: QueueName, A: Allocator>(
+pub(crate) fn serve_next<L: PendingList + Drop, N: QueueName, A: Allocator>(
     queue: &Csq<L, N, A>,
     rt: &impl Wait,
     pass: &mut Pass<N>,

@@ -20,7 +20,7 @@ pub type ReadAndReuse = (
 );
 
 /// Reads a status, and reuses the IRP. Where the status was set, `NotCompleted` is of a later life.
-pub fn read_and_reuse<L: PendingList + Drop, N: QueueName, A: Allocator>(
+pub(crate) fn read_and_reuse<L: PendingList + Drop, N: QueueName, A: Allocator>(
     queue: &Csq<L, N, A>,
     rt: &impl Wait,
     pass: &mut Pass<N>,
@@ -34,7 +34,7 @@ pub fn read_and_reuse<L: PendingList + Drop, N: QueueName, A: Allocator>(
 
 /// Completes a removed IRP by one pass, lets it meet another, and reuses the IRP by that one. `NotCompleted`
 /// is of a later life.
-pub fn complete_and_reuse<L: PendingList + Drop, N: QueueName, A: Allocator>(
+pub(crate) fn complete_and_reuse<L: PendingList + Drop, N: QueueName, A: Allocator>(
     queue: &Csq<L, N, A>,
     rt: &impl Wait,
     one: &mut Pass<N>,

@@ -1,6 +1,6 @@
 use Rattle.csq_words.specs.History.{IsExtendedBy}
 use Rattle.std.proofs.Common.{◌≡◌, ap, subst}
-use Rattle.csq_words.proofs.Laws.{extended_on}
+use Rattle.csq_words.proofs.Facts.{extended_on}
 use Rattle.csq_queue.specs.Named.{queue_size}
 use Rattle.csq_queue.proofs.Cancelling.{completed_follows}
 use Rattle.test_execution.proofs.Completing.{read_follows}

@@ -5,7 +5,7 @@ use Rattle.irp_core.specs.declared.ids.IrpId.{IrpId}
 use Rattle.csq_words.specs.Queue.{current}
 use Rattle.csq_words.specs.History.{end_of}
 use Rattle.csq_words.specs.Rule.{is_done}
-use Rattle.csq_words.proofs.Laws.{done_stays}
+use Rattle.csq_words.proofs.Facts.{done_stays}
 use Rattle.csq_queue.specs.Named.{queue_size}
 use Rattle.csq_queue.specs.Refusals.{IsReuseRefusal}
 use Rattle.test_execution.proofs.Completing.{completed_now, reuse_later}

@@ -2,7 +2,7 @@ use Rattle.csq_words.specs.History.{IsExtendedBy}
 use Rattle.std.proofs.Common.{◌≡◌, false, List, ap, sym, subst, ◌∙◌, rules}
 use Rattle.irp_core.specs.declared.step.Made.{Made}
 use Rattle.csq_words.specs.Rule.{IsHistoryOf}
-use Rattle.csq_words.proofs.Laws.{extended_on}
+use Rattle.csq_words.proofs.Facts.{extended_on}
 use Rattle.csq_queue.specs.Named.{queue_size}
 use Rattle.csq_queue.specs.Opens.{OpenState, OpenPassState}
 use Rattle.csq_queue.proofs.queue.Csq.meet.Goals as goal

@@ -1,5 +1,0 @@
-use Rattle.csq_queue.proofs.Telling.{story_left}
-use Rattle.csq_queue.proofs.story.each_irp_of_an_open_queue_has_a_story.Goals as goal
-
-pub returns : goal.returns
-returns c = λ limits taken old listing finals closed i begun. story_left limits finals closed.irps closed.last closed.all i begun

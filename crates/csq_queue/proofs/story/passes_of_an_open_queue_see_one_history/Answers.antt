@@ -1,5 +1,0 @@
-use Rattle.csq_queue.proofs.Telling.{open_see}
-use Rattle.csq_queue.proofs.story.passes_of_an_open_queue_see_one_history.Goals as goal
-
-pub returns : goal.returns
-returns c = open_see

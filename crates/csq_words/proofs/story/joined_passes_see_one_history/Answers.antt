@@ -1,5 +1,0 @@
-use Rattle.csq_words.proofs.Seen.{joined_see}
-use Rattle.csq_words.proofs.story.joined_passes_see_one_history.Goals as goal
-
-pub returns : goal.returns
-returns c = joined_see

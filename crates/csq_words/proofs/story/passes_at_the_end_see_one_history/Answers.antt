@@ -1,5 +1,0 @@
-use Rattle.csq_words.proofs.Seen.{final_see}
-use Rattle.csq_words.proofs.story.passes_at_the_end_see_one_history.Goals as goal
-
-pub returns : goal.returns
-returns c = final_see
