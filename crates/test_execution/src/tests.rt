@@ -51,20 +51,11 @@ fn insert<L: PendingList + Drop, N: QueueName, R: Wait + Abort>(
         Err(_) => panic!(rt; "refused"),
         Ok(inserted) => match inserted {
             Inserted::Pending(_) => {}
-            Inserted::Cancelled(_) => panic!(rt; "cancelled"),
+            Inserted::Cancelled(token) => {
+                queue.complete_cancelled(pass, token);
+                panic!(rt; "cancelled");
+            }
         },
-    }
-}
-
-// Flags the IRP, which isn't listed.
-fn flag<L: PendingList + Drop, N: QueueName, R: Abort>(
-    rt: &R,
-    queue: &Csq<L, N>,
-    pass: &mut Pass<N>,
-) {
-    match queue.mark_cancel(pass, IRP, Life(0)) {
-        Ok(None) => {}
-        Ok(Some(_)) | Err(_) => panic!(rt; "claimed or refused"),
     }
 }
 
@@ -78,7 +69,7 @@ fn insert_flagged<L: PendingList + Drop, N: QueueName, R: Wait + Abort>(
     requires apart { one.old.pass ≢ two.old.pass }
 {
     owners::meet(queue, rt, one, two);
-    flag(rt, queue, one);
+    assert!(rt; queue.cancel(rt, one, IRP, Life(0)) == Ok(false));
     match flags::insert_after_flag(queue, rt, one, two, IRP, FILE, Place::Back) {
         Err(_) => panic!(rt; "refused"),
         Ok(inserted) => match inserted {
