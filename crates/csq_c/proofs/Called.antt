@@ -1,5 +1,5 @@
 -- A call of an open queue is a call of what its handle holds.
-use Rattle.std.proofs.Common.{◌≡◌, Some, None, refl, sym, ◌∙◌, subst}
+use Rattle.std.proofs.Common.{◌≡◌, Some, None, refl, subst}
 use Rattle.csq_checked.specs.Passes.{CheckedState, CheckedPassState}
 use Rattle.csq_c.specs.Bodies.{QueueBodyState}
 use Rattle.csq_c.specs.declared.codes.Code.{Code}

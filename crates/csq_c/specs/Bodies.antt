@@ -1,5 +1,5 @@
 -- What the handles stand for.
-use Rattle.std.specs.Prelude.{◌≡◌, List, Option, Some, None, IfSome}
+use Rattle.std.specs.Prelude.{List, Option, Some, None, IfSome}
 use Rattle.std.specs.Global.{Global}
 use Rattle.csq_list.specs.Listing.{Listing}
 use Rattle.csq_list.specs.declared.entry.Entry.{Entry}

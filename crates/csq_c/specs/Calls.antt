@@ -1,5 +1,5 @@
 -- What the calls of an open queue by a pass answer to C.
-use Rattle.std.specs.Prelude.{◌≡◌, ℕ, Option, Some, None, Result}
+use Rattle.std.specs.Prelude.{◌≡◌, ℕ, Option, None, Result}
 use Rattle.irp_core.specs.Steps.{Irp}
 use Rattle.irp_core.specs.declared.ids.IrpId.{IrpId}
 use Rattle.irp_core.specs.declared.ids.FileId.{FileId}

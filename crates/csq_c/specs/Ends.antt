@@ -1,16 +1,16 @@
 -- Passes that are handed out and come back, and queues that are closed and freed.
-use Rattle.std.specs.Prelude.{◌≡◌, ◌⊎◌, ℕ, ◌+◌, ◌-◌, ◌<◌, ◌↔◌, ◌==◌, nat_lt, ◌&&◌, Bool, true, Option, Some, None, IfSome, if◌then◌else◌}
+use Rattle.std.specs.Prelude.{◌≡◌, ℕ, ◌+◌, ◌-◌, ◌==◌, ◌&&◌, Bool, Option, Some, None, if◌then◌else◌}
 use Rattle.std.specs.Option.{is_some}
 use Rattle.csq_list.specs.Listing.{Listing}
 use Rattle.csq_words.specs.declared.views.PassRecord.{PassRecord}
 use Rattle.csq_words.specs.Records.{new_pass, with_back}
 use Rattle.csq_queue.specs.Counts.{held_count, owed_count}
 use Rattle.csq_queue.specs.Named.{pass_numbered, out_count}
-use Rattle.csq_queue.specs.Rests.{HoldsNothing, FirstAreBack, IsClosed}
+use Rattle.csq_queue.specs.Rests.{FirstAreBack, IsClosed}
 use Rattle.csq_checked.specs.Passes.{CheckedState, CheckedPassState, IsPassIn}
-use Rattle.csq_c.specs.Bodies.{QueueBodyState, RestState, IsPassFor, open_of}
+use Rattle.csq_c.specs.Bodies.{QueueBodyState, RestState}
 use Rattle.csq_c.specs.declared.codes.Code.{Code}
-use Rattle.csq_c.specs.declared.codes.Code.TheVariants.{Done, Holding, PassesOut, NoPass, NoMemory, Empty, NotEmpty, Closed}
+use Rattle.csq_c.specs.declared.codes.Code.TheVariants.{Done, Holding, PassesOut, Empty, NotEmpty, Closed}
 
 -- how many passes of a queue are out
 abbrev pub out_of : CheckedState → ℕ

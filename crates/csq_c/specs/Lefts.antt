@@ -1,5 +1,5 @@
 -- What is told of a closed queue.
-use Rattle.std.specs.Prelude.{◌≡◌, ℕ, ◌==◌, Bool, true, List, Option, Some, None, if◌then◌else◌}
+use Rattle.std.specs.Prelude.{ℕ, ◌==◌, Bool, true, List, Option, Some, None, if◌then◌else◌}
 use Rattle.std.specs.Option.{is_some}
 use Rattle.irp_core.specs.declared.ids.IrpId.{IrpId}
 use Rattle.irp_core.specs.declared.ids.Life.{Life}
@@ -8,10 +8,9 @@ use Rattle.csq_list.specs.declared.entry.Entry.{Entry}
 use Rattle.csq_list.specs.declared.entry.Peek.TheVariants.{Any}
 use Rattle.csq_list.specs.Searches.{is_listed, first_match, rest_after}
 use Rattle.csq_words.specs.Finals.{FinalWords, final_life, final_status, is_cancelled}
-use Rattle.csq_c.specs.Bodies.{QueueBodyState, RestState}
 use Rattle.csq_c.specs.Shapes.{irp_numbered, flag_number}
 use Rattle.csq_c.specs.declared.codes.Code.{Code}
-use Rattle.csq_c.specs.declared.codes.Code.TheVariants.{Done, UnknownIrp, Nothing, Empty, NotListed, NotClosed}
+use Rattle.csq_c.specs.declared.codes.Code.TheVariants.{Done, UnknownIrp, Nothing, NotListed}
 use Rattle.csq_c.specs.declared.shapes.CsqLeft.{CsqLeft}
 
 -- the IRP after which the next one is asked for: none by the largest number

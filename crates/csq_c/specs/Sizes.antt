@@ -1,6 +1,6 @@
 -- How large a queue C wants, and the queue that it gets.
-use Rattle.std.specs.Prelude.{◌≡◌, ℕ, ◌==◌, Bool, true, ◌||◌, List, Option, Some, None, if◌then◌else◌}
-use Rattle.irp_core.specs.Runs.{Size, IsInLimits}
+use Rattle.std.specs.Prelude.{◌≡◌, ℕ, ◌==◌, true, ◌||◌, List, Option, Some, None, if◌then◌else◌}
+use Rattle.irp_core.specs.Runs.{IsInLimits}
 use Rattle.csq_list.specs.Listing.{IsListSize, fresh}
 use Rattle.atomic_table.specs.Seated.{TableId}
 use Rattle.csq_words.specs.Queue.{limits_of}

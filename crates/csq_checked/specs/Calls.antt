@@ -31,7 +31,7 @@ use Rattle.csq_queue.specs.declared.refusals.ReuseRefused.{ReuseRefused}
 use Rattle.csq_queue.specs.declared.refusals.ReuseRefused.TheVariants as reuse
 use Rattle.csq_queue.specs.declared.refusals.UnknownIrp.{UnknownIrp}
 use Rattle.csq_queue.specs.Counts.{has_life}
-use Rattle.csq_queue.specs.Named.{named, queue_size}
+use Rattle.csq_queue.specs.Named.{named}
 use Rattle.csq_queue.specs.Steps.{MakesSteps, insert_steps, remove_next_steps, remove_steps, reuse_steps}
 use Rattle.csq_queue.specs.Told.{AddsEvents, IsNew, count_given}
 use Rattle.csq_queue.specs.Refusals.{reuse_events, IsReuseRefusal, IsCancelRefusal}
@@ -112,7 +112,7 @@ pub record Reuses (q : CheckedState) (p : CheckedPassState) (irp : IrpId) (answe
 pub record Marks (p : CheckedPassState) (irp : IrpId) (life : Life) (answer : Result (Option Irp) CancelRefused) (p' : CheckedPassState) : Type 0 where
   pub known : IsOk answer → irp.0 < p.words.size.irps
   pub step : IfOk answer (λ claim. (flag : ℕ) × (p'.pass ≡ saw p'.pass.run (with_step (Take (named irp life)) (count_given claim) (with_step (Flag (named irp life)) flag p.pass)))
-    × EndsWithTake p.words.size (named irp life) flag (count_given claim) p.pass p'.pass)
+      × EndsWithTake p.words.size (named irp life) flag (count_given claim) p.pass p'.pass)
   pub claimed : IfOk answer (λ claim. IfSome claim (λ i. (i ≡ named irp life) × Owes p'.pass i))
   pub missed : IfOk answer (λ claim. claim ≡ None → MissedTheRoutine (named irp life) p'.pass)
   pub refused : IfErr answer (IsCancelRefusal p.words.size (named irp life) p.pass p'.pass)

@@ -1,8 +1,7 @@
 -- A cancel, whose pass sees the execution at each of its steps.
-use Rattle.std.proofs.Common.{◌≡◌, ℕ, List, ◌∷◌, ◌++◌, ap, sym, subst, ◌∙◌}
+use Rattle.std.proofs.Common.{◌≡◌, ℕ, List, ◌++◌, ap, sym, subst, ◌∙◌}
 use Rattle.irp_core.specs.Steps.{Irp}
 use Rattle.irp_core.specs.Runs.{Size}
-use Rattle.irp_core.specs.declared.step.Made.{Made}
 use Rattle.irp_core.specs.declared.step.Kind.TheVariants.{Flag, Take}
 use Rattle.csq_words.specs.declared.views.Entry.{Entry}
 use Rattle.csq_words.specs.declared.views.Event.{Event}

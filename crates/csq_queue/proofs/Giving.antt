@@ -10,7 +10,7 @@ use Rattle.irp_core.specs.declared.ids.PassId.{PassId}
 use Rattle.irp_core.specs.declared.step.Inside.{Inside}
 use Rattle.irp_core.specs.declared.step.Inside.TheVariants.{Nothing, Removing}
 use Rattle.irp_core.specs.declared.step.Kind.{Kind}
-use Rattle.irp_core.specs.declared.step.Kind.TheVariants.{Arm, Test, Disarm, End, Renew}
+use Rattle.irp_core.specs.declared.step.Kind.TheVariants.{Arm, Test, Disarm, End}
 use Rattle.irp_core.specs.declared.step.Made.{Made}
 use Rattle.irp_core.proofs.Names.{same_some}
 use Rattle.csq_list.specs.declared.entry.Peek.{Peek}

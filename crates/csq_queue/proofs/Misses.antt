@@ -1,5 +1,5 @@
 -- The matches that a removal passes over.
-use Rattle.std.proofs.Common.{◌≡◌, ℕ, not, ◌&&◌, ◌||◌, cond, Bool, true, false, true≢false, List, [], ◌∷◌, ◌++◌, map, Option, Some, None, refl, sym, ap, ◌∙◌, append_assoc, append-nil}
+use Rattle.std.proofs.Common.{◌≡◌, ℕ, not, ◌&&◌, cond, Bool, true, false, true≢false, List, [], ◌∷◌, ◌++◌, map, Option, Some, None, refl, sym, ap, ◌∙◌, append_assoc, append-nil}
 use Rattle.std.proofs.lemmas.Bool.{false_from_ne_true, or_parts}
 use Rattle.irp_core.specs.Steps.{Irp, same_irp}
 use Rattle.irp_core.specs.declared.ids.PassId.{PassId}

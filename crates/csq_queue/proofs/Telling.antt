@@ -19,20 +19,20 @@ use Rattle.csq_queue.specs.Rests.{IsRestOf, IsClosed}
 use Rattle.csq_queue.proofs.Backing.{still_at}
 
 -- the words are of as many IRPs as the limits say
-pub story_left : (limits : Limits) (finals : FinalWords) → finals.irps ≡ limits.irps → (last : IsFinal (queue_size limits) finals.words finals.queue) → AllBack finals.queue → (i : Irp) → HasBegun limits.first last.run i → Story finals finals.queue last.run i
-story_left limits finals irps last all i begun = subst (λ (f : FinalWords). Story f finals.queue last.run i) (λ k. record { irps = sym irps k; words = finals.words; queue = finals.queue }) (a_story (queue_size limits) finals.words finals.queue last all i begun)
+pub story_left : (limits : Limits) (finals : FinalWords) → finals.irps ≡ limits.irps → IsFinal (queue_size limits) finals.words finals.queue → AllBack finals.queue → (i : Irp) → HasBegun limits.first finals.queue.run i → Story finals i
+story_left limits finals irps last all i begun = subst (λ (f : FinalWords). Story f i) (λ k. record { irps = sym irps k; words = finals.words; queue = finals.queue }) (a_story (queue_size limits) finals.words finals.queue last all i begun)
 
 pub closing_see : (limits : Limits) (pass : PassRecord) (receipts : List PassRecord) (taken : ℕ) (listing : Listing) (finals : FinalWords)
-    → IsRestOf limits pass receipts taken listing finals → SeeOneHistory finals.queue.history (pass ∷ receipts)
+    → IsRestOf limits pass receipts taken listing finals → SeeOneHistory finals.queue.history finals.queue.run (pass ∷ receipts)
 closing_see limits pass receipts taken listing finals rest = recorded_see (queue_size limits) finals.words finals.queue rest.last (pass ∷ receipts) back
   where
     back : (k : ℕ) (r : PassRecord) → get_elem? (pass ∷ receipts) k ≡ some r → HasBack finals.queue r
     back zero r at = subst (HasBack finals.queue) (some-injective pass r at) rest.back.closing
     back (suc k) r at = rest.back.given k r at
 
-pub open_see : (limits : Limits) (taken : ℕ) (old : QueueRecord) (listing : Listing) (finals : FinalWords) → IsClosed limits taken old listing finals → SeeOneHistory old.history old.back
+pub open_see : (limits : Limits) (taken : ℕ) (old : QueueRecord) (listing : Listing) (finals : FinalWords) → IsClosed limits taken old listing finals → SeeOneHistory old.history finals.queue.run old.back
 open_see limits taken old listing finals closed =
     let given = closed.given in
-    subst (λ (history : List Entry). SeeOneHistory history old.back) given.history
+    subst (λ (history : List Entry). SeeOneHistory history finals.queue.run old.back) given.history
     (recorded_see (queue_size limits) finals.words finals.queue closed.last old.back
     (λ k r at. let there = still_at given.newer old.back r (k, at) in (there.0, ap (λ (back : List PassRecord). get_elem? back there.0) given.kept ∙ there.1)))

@@ -1,5 +1,5 @@
 -- The steps that each call makes, the newest first.
-use Rattle.std.specs.Prelude.{◌≡◌, ℕ, ◌-◌, Bool, false, List, [], ◌∷◌, ◌++◌, map, Option, Some, None, Result, Ok, Err, if◌then◌else◌}
+use Rattle.std.specs.Prelude.{◌≡◌, ◌-◌, Bool, false, List, [], ◌∷◌, ◌++◌, map, Option, Some, None, Result, Ok, Err, if◌then◌else◌}
 use Rattle.irp_core.specs.Steps.{Irp, same_irp}
 use Rattle.irp_core.specs.Programs.{Act}
 use Rattle.irp_core.specs.declared.ids.IrpId.{IrpId}

@@ -15,22 +15,22 @@ use Rattle.csq_queue.specs.Rests.{IsClosed, IsRestOf}
 -- in what is left of a closed queue, each IRP has a story in each life that has begun
 abbrev pub EachIrpLeftHasAStory : Type 0
 EachIrpLeftHasAStory = (limits : Limits) (pass : PassRecord) (receipts : List PassRecord) (taken : ℕ) (listing : Listing) (finals : FinalWords)
-    → (rest : IsRestOf limits pass receipts taken listing finals) → (i : Irp) → HasBegun limits.first rest.last.run i → Story finals finals.queue rest.last.run i
+    → IsRestOf limits pass receipts taken listing finals → (i : Irp) → HasBegun limits.first finals.queue.run i → Story finals i
 
 -- so it has in what is left of an open queue
 abbrev pub EachIrpOfAnOpenQueueHasAStory : Type 0
 EachIrpOfAnOpenQueueHasAStory = (limits : Limits) (taken : ℕ) (old : QueueRecord) (listing : Listing) (finals : FinalWords)
-    → (closed : IsClosed limits taken old listing finals) → (i : Irp) → HasBegun limits.first closed.last.run i → Story finals finals.queue closed.last.run i
+    → IsClosed limits taken old listing finals → (i : Irp) → HasBegun limits.first finals.queue.run i → Story finals i
 
 -- in what a pass has seen, each life of each IRP was given out at most once
 abbrev pub EachIrpSeenIsGivenOnce : Type 0
 EachIrpSeenIsGivenOnce = (limits : Limits) (r : PassRecord) → SeesRun (queue_size limits) r → (i : Irp) → IsGivenOnce (queue_with limits.first r.seen) r.run i
 
--- the closing pass and those of the receipts have seen one history, that of the queue that is left
+-- the closing pass and those of the receipts have seen one history and one execution, those of the queue that is left
 abbrev pub ClosingPassesSeeOneHistory : Type 0
 ClosingPassesSeeOneHistory = (limits : Limits) (pass : PassRecord) (receipts : List PassRecord) (taken : ℕ) (listing : Listing) (finals : FinalWords)
-    → IsRestOf limits pass receipts taken listing finals → SeeOneHistory finals.queue.history (pass ∷ receipts)
+    → IsRestOf limits pass receipts taken listing finals → SeeOneHistory finals.queue.history finals.queue.run (pass ∷ receipts)
 
--- the passes of an open queue that came back have seen one history, that of the queue
+-- the passes of an open queue that came back have seen one history, that of the queue, and one execution
 abbrev pub PassesOfAnOpenQueueSeeOneHistory : Type 0
-PassesOfAnOpenQueueSeeOneHistory = (limits : Limits) (taken : ℕ) (old : QueueRecord) (listing : Listing) (finals : FinalWords) → IsClosed limits taken old listing finals → SeeOneHistory old.history old.back
+PassesOfAnOpenQueueSeeOneHistory = (limits : Limits) (taken : ℕ) (old : QueueRecord) (listing : Listing) (finals : FinalWords) → IsClosed limits taken old listing finals → SeeOneHistory old.history finals.queue.run old.back

@@ -9,8 +9,8 @@ pub fn each_irp_seen_is_given_once()
     ensures { EachIrpSeenIsGivenOnce }
 {}
 
-/// Where `Csq::close` or `Csq::close_with` answers `Ok`, there is a history of all calls and a run of all
-/// passes with one story of each IRP in each life that has begun. It was never inserted. Or one pass inserted
+/// Where `Csq::close` or `Csq::close_with` answers `Ok`, the history of all calls and the execution of all
+/// passes, which are left, tell one story of each IRP in each life that has begun. It was never inserted. Or one pass inserted
 /// it, and it is listed. Or one pass inserted it, and one pass was given it, by a removal, by a cancel or by its
 /// own insert: that pass made the one exchange that took its routine and the one completion, with the status
 /// that is left.
@@ -24,8 +24,9 @@ pub fn each_irp_of_an_open_queue_has_a_story()
 {}
 
 /// Where `Csq::close` or `Csq::close_with` answers `Ok`, the closing pass and those of the receipts have seen
-/// one history: it begins with what each has seen, and its calls of each pass are the calls that the pass made,
-/// in the order in which it made them. So of what two of them have seen, one begins with the other.
+/// one history and one execution: these begin with what each has seen, and have of each pass the calls and the
+/// steps that it made, in the order in which it made them. So of what two of them have seen, one begins with the
+/// other.
 pub fn closing_passes_see_one_history()
     ensures { ClosingPassesSeeOneHistory }
 {}

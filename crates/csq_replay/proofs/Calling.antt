@@ -1,8 +1,7 @@
 -- What a driver keeps after a call.
-use Rattle.std.proofs.Common.{◌≡◌, ◌≢◌, ℕ, ◌<◌, Bool, true, false, cond, not, ◌&&◌, ◌||◌, ◌==◌, List, [], ◌∷◌, length, Option, Some, None, refl, ap, sym, ◌∙◌, subst, arith}
+use Rattle.std.proofs.Common.{◌≡◌, ℕ, ◌<◌, Bool, true, false, cond, not, ◌==◌, List, [], ◌∷◌, length, Option, Some, None, refl, ap, sym, ◌∙◌, subst, arith}
 use Rattle.std.specs.Prelude.{slice_index_or, slice_set}
 use Rattle.std.proofs.lemmas.List.{get_or-set_same, get_or-set_other, length-set}
-use Rattle.std.proofs.Math.Bool.{and-true}
 use Rattle.std.specs.Option.{option_map}
 use Rattle.std.specs.List.{find}
 use Rattle.irp_core.specs.declared.ids.FileId.{FileId}
@@ -34,7 +33,7 @@ use Rattle.csq_words.proofs.Listings.{is_listed-plain, listing-removed, listing-
 use Rattle.csq_replay.specs.declared.script.call.Call.{Call}
 use Rattle.csq_replay.specs.declared.script.call.Call.TheVariants.{Mark, Routine, Complete, Close, Flag, Status}
 use Rattle.csq_replay.specs.declared.script.call.Refusal.TheVariants.{UnknownIrp, UnknownFile, NoClaim, NotHeld, StatusPending, Stale}
-use Rattle.csq_replay.specs.declared.script.call.Reply.TheVariants.{Claimed, Unclaimed, Completed, Closed, Refused}
+use Rattle.csq_replay.specs.declared.script.call.Reply.TheVariants.{Claimed, Unclaimed, Closed, Refused}
 use Rattle.csq_replay.specs.declared.script.call.Reply.TheVariants as reply
 use Rattle.csq_replay.specs.Calls.{Script, script_pass, script_size, present_of, IsNow, next_step, doing, completing, after_mark, status_reply, irp_of, cancelled_life, file_of, Calls}
 use Rattle.csq_replay.specs.Calls.Calls.{has_no_claim, completes, holds_none, refuses_pending, closes, tells_flag, tells_status, knows_no_irp, knows_no_file, claims_none, is_stale}

@@ -3,7 +3,7 @@ use Rattle.std.proofs.Common.{nat_le, ◌≡◌, ℕ, ◌<◌, Bool, true, false
 use borrow.Author.Tests.{leb-false}
 use Rattle.irp_core.specs.declared.ids.FileId.{FileId}
 use Rattle.irp_core.specs.declared.ids.IrpId.{IrpId}
-use Rattle.irp_core.specs.declared.step.Kind.TheVariants.{Arm, Test, Disarm, Done}
+use Rattle.irp_core.specs.declared.step.Kind.TheVariants.{Arm, Test, Disarm}
 use Rattle.irp_core.specs.declared.step.Made.{Made}
 use Rattle.irp_core.specs.declared.step.Inside.TheVariants.{Nothing, Armed, FlagSeen}
 use Rattle.irp_core.specs.Steps.{Irp, number, same_irp}
@@ -11,7 +11,7 @@ use Rattle.irp_core.specs.Words.{bit, flagged, was_armed, found_by}
 use Rattle.irp_core.specs.Inside.{inside, inside_after}
 use Rattle.irp_core.specs.Runs.{Size}
 use Rattle.irp_core.specs.MachineState.{MachineState, Agrees, size_of}
-use Rattle.irp_core.proofs.Names.{same_irp-refl, same_pass-refl}
+use Rattle.irp_core.proofs.Names.{same_irp-refl}
 use Rattle.csq_list.specs.declared.entry.Place.{Place}
 use Rattle.csq_list.specs.declared.refusals.InsertStatus.{InsertStatus}
 use Rattle.csq_list.specs.declared.refusals.InsertStatus.TheVariants.{UnknownIrp, UnknownFile, NotHome, FileClosed, FileFull, Full}
@@ -29,7 +29,7 @@ use Rattle.csq_replay.specs.declared.script.call.Reply.TheVariants.{Pending, Ins
 use Rattle.csq_replay.specs.Calls.{Script, script_pass, script_size, present_of, next_step, doing, Calls}
 use Rattle.csq_replay.specs.Calls.Calls.{refuses_insert, lists}
 use Rattle.csq_replay.specs.Drivers.{Keeping, Keeps, IsOfRun}
-use Rattle.csq_replay.proofs.Going.{Goes, May, starts, run_for, now_present, went, may_arm, may_test, may_disarm, may_done}
+use Rattle.csq_replay.proofs.Going.{Goes, May, starts, run_for, now_present, went, may_arm, may_test, may_disarm}
 use Rattle.csq_replay.proofs.Queueing.{queue_arm, queue_test, queue_hit, unlisted, sound_lives, found_then}
 use Rattle.csq_replay.proofs.Removing.{keeps_run}
 

@@ -1,16 +1,22 @@
--- A joined pass that observes the execution keeps the rule.
-use Rattle.std.proofs.Common.{◌≡◌, ℕ, List, [], Some, refl, sym, subst, set}
+-- The queue's seat observes the execution: this keeps the rule, which tells of the records then.
+use Rattle.std.proofs.Common.{◌≡◌, ℕ, false, List, [], Some, None, refl, sym, subst, set}
 use Rattle.std.proofs.lemmas.List.{set-get_or}
 use mathlib.Core.Option.{none}
 use Rattle.atomic_table.specs.Table.{Allows, step, keeps}
+use Rattle.atomic_table.proofs.Lists.{set_here}
+use Rattle.irp_core.specs.Inside.{has_lock}
+use Rattle.irp_core.specs.declared.ids.PassId.{PassId}
+use Rattle.irp_core.specs.declared.step.Made.{Made}
 use Rattle.irp_core.specs.Runs.{Size}
 use Rattle.csq_words.specs.declared.views.PassRecord.{PassRecord}
 use Rattle.csq_words.specs.declared.views.QueueRecord.{QueueRecord}
 use Rattle.csq_words.specs.declared.views.View.{View}
 use Rattle.csq_words.specs.Records.{view_of, with_run}
-use Rattle.csq_words.specs.Rule.{RuleHoldsBy, RuleHolds}
-use Rattle.csq_words.specs.Plays.{SeatView, Observes}
-use Rattle.csq_words.proofs.Keeping.{at_queue}
+use Rattle.csq_words.specs.Own.{inside_of}
+use Rattle.csq_words.specs.Rule.{in_flight, IsOut, WordsAgree, Fits, RuleHoldsBy, RuleHolds, QueueHasRun}
+use Rattle.csq_words.specs.Plays.{SeatView, Observes, TellsQueue, TellsBoth}
+use Rattle.csq_words.proofs.Indexes.{at_below}
+use Rattle.csq_words.proofs.Keeping.{none_is, all_set, present_else, apart, at_queue, nobody_in, agrees_same, inserts_none, are_back}
 use Rattle.csq_words.proofs.Renewing.{renewal_kept}
 
 -- the queue's record has the execution so far
@@ -29,3 +35,76 @@ observes size slots id q r held s h _ at _ =
 -- the same at a view that is known
 pub observes_as : (size : Size) (slots id : ℕ) (m : SeatView) (q : QueueRecord) (r : PassRecord) → m.0 ≡ view_of q (Some r) → (other : Size) → other ≡ size → Allows (RuleHolds size) slots id m 0 (λ n. n) (Observes other (step slots 0 0 0 none) m)
 observes_as size slots id m q r is other sized = subst (λ (z : View × Size). Allows (RuleHolds size) slots id (z.0, m.1) 0 (λ n. n) (Observes z.1 (step slots 0 0 0 none) (z.0, m.1))) (λ k. (sym is k, sym sized k)) (observes size slots id q r m.1)
+
+-- the queue's record, joined with no pass, has the execution so far
+alone_kept : (size : Size) (words : List ℕ) (views : List View) (run : List Made) (id : ℕ) (q : QueueRecord) (seat : PassId → ℕ) → RuleHoldsBy size words views run id q None seat
+    → RuleHoldsBy size words (set views id (view_of (with_run run q) None)) run id (with_run run q) None seat
+alone_kept size words views run id q seat k =
+    let q' = with_run run q in
+    let at = k.queue_is in
+    let fits : ℕ → View → Type 0 = Fits words run q' id seat in
+    let a = k.agrees in
+    let told = a.history_is in record {
+      agrees = record {
+        wide = a.wide;
+        words_are = a.words_are;
+        history_is = record { is_run = told.is_run; first_is = told.first_is; listed_is = told.listed_is; used_is = told.used_is; lives_are = told.lives_are; true_of = told.true_of; orderly = told.orderly };
+        reuse_is = a.reuse_is;
+        backs = λ i o e. let b = a.backs i o e in record { is_record = b.is_record; rests = b.rests; made = b.made };
+        shown = a.shown;
+        few = a.few;
+        nobody = a.nobody;
+        seen = ([], refl);
+      };
+      queue_is = set_here views id (view_of q' None) (at_below views id (view_of q None) at);
+      lock = k.lock;
+      idle = k.idle;
+      each_view = all_set fits views id (view_of q' None)
+          (λ j v away e. let f = k.each_view j v e in record { queue_here = f.queue_here; pass_here = λ o is. let g = f.pass_here o is in (g.0, outside g.1, g.2); back_here = f.back_here })
+          record { queue_here = λ _. refl; pass_here = λ o is. none_is o is; back_here = λ o is. none_is o is };
+      present = λ p out. let was = k.present p (outside' out) in present_else views id (view_of q' None) (seat p) p (apart views id (view_of q None) (seat p) p at refl was) was;
+    }
+  where
+    outside : {p : PassId} → IsOut q p → IsOut (with_run run q) p
+    outside o = record { from = o.from; to = o.to; not_back = o.not_back }
+
+    outside' : {p : PassId} → IsOut (with_run run q) p → IsOut q p
+    outside' o = record { from = o.from; to = o.to; not_back = o.not_back }
+
+-- what the rule tells of the record then, where no insert is in flight
+told_of : (size : Size) (words : List ℕ) (q : QueueRecord) → WordsAgree size words q.run q (λ i. false) → QueueHasRun size q
+told_of size words q a = record { history_is = a.history_is; callers = λ p s. (a.nobody p (nobody_in q.made size.passes p a.few s)).1; backs = are_back size words q.run q (λ i. false) a; shown = a.shown }
+
+tells_queue : (size : Size) (slots id : ℕ) (q : QueueRecord) (held : List (ℕ × Unit {0})) → Allows (RuleHolds size) slots id (view_of q None, held) 0 (λ n. n) (TellsQueue size (step slots 0 0 0 none) (view_of q None, held))
+tells_queue size slots id q held s h _ at _ =
+    let (run, seat, k) = at_queue size s id q None h at in
+    let q' = with_run run q in
+    let kept = alone_kept size s.words s.views run id q seat k in
+    let views = set s.views id (view_of q' None) in (
+      view_of q' None,
+      keeps,
+      tt,
+      (run, id, q', None, seat, subst (λ ws. RuleHoldsBy size ws views run id q' None seat) (sym (set-get_or s.words 0 0)) kept),
+      (refl, told_of size s.words q' kept.agrees, (record { words = s.words; homes = s.homes; views = views }, (run, id, q', None, seat, kept), (id, kept.queue_is)), k.agrees.seen),
+    )
+
+tells_both : (size : Size) (slots id : ℕ) (q : QueueRecord) (r : PassRecord) (held : List (ℕ × Unit {0})) → has_lock (inside_of r.steps) ≡ false
+    → Allows (RuleHolds size) slots id (view_of q (Some r), held) 0 (λ n. n) (TellsBoth size (step slots 0 0 0 none) (view_of q (Some r), held))
+tells_both size slots id q r held done s h _ at _ =
+    let (run, seat, k) = at_queue size s id q (Some r) h at in
+    let q' = with_run run q in
+    let kept = renewal_kept size s.words s.words s.views run run id q r seat q.reusing ([], refl) k refl k.agrees.words_are k.agrees.reuse_is (λ cs h. h) in
+    let free = agrees_same size s.words run q' (in_flight (Some r)) (λ i. false) (λ i. inserts_none (inside_of r.steps) i done) kept.0.agrees in (
+      view_of q' (Some r),
+      keeps,
+      tt,
+      (run, id, q', Some r, seat, subst (λ ws. RuleHoldsBy size ws (set s.views id (view_of q' (Some r))) run id q' (Some r) seat) (sym (set-get_or s.words 0 0)) kept.0),
+      (refl, record { told = told_of size s.words q' free; pass_is = kept.1.pass_is }, k.agrees.seen),
+    )
+
+-- the same at views that are known
+pub tells_queue_as : (size : Size) (slots id : ℕ) (m : SeatView) (q : QueueRecord) → m.0 ≡ view_of q None → (other : Size) → other ≡ size → Allows (RuleHolds size) slots id m 0 (λ n. n) (TellsQueue other (step slots 0 0 0 none) m)
+tells_queue_as size slots id m q is other sized = subst (λ (z : View × Size). Allows (RuleHolds size) slots id (z.0, m.1) 0 (λ n. n) (TellsQueue z.1 (step slots 0 0 0 none) (z.0, m.1))) (λ k. (sym is k, sym sized k)) (tells_queue size slots id q m.1)
+
+pub tells_both_as : (size : Size) (slots id : ℕ) (m : SeatView) (q : QueueRecord) (r : PassRecord) → m.0 ≡ view_of q (Some r) → has_lock (inside_of r.steps) ≡ false → (other : Size) → other ≡ size → Allows (RuleHolds size) slots id m 0 (λ n. n) (TellsBoth other (step slots 0 0 0 none) m)
+tells_both_as size slots id m q r is done other sized = subst (λ (z : View × Size). Allows (RuleHolds size) slots id (z.0, m.1) 0 (λ n. n) (TellsBoth z.1 (step slots 0 0 0 none) (z.0, m.1))) (λ k. (sym is k, sym sized k)) (tells_both size slots id q r m.1 done)

@@ -211,66 +211,66 @@ module _ (ever set : Bool) (cl : List Made) (ow ho dn : PassId → Bool) (ends :
   row_story (Owed p) h o g = off (sym (o p) ∙ (h.owing_is p ∙ same_pass-refl p))
   row_story (Held p status) h o g = off (sym (g p) ∙ (h.holding_is p ∙ same_pass-refl p))
 
-module _ (size : Size) (words : List ℕ) (q : QueueRecord) (f : IsFinal size words q) (all : AllBack q) (i : Irp) (begun : HasBegun size.first f.run i) where
-  is_run : IsRun size f.run
+module _ (size : Size) (words : List ℕ) (q : QueueRecord) (f : IsFinal size words q) (all : AllBack q) (i : Irp) (begun : HasBegun size.first q.run i) where
+  is_run : IsRun size q.run
   is_run = f.agrees.history_is.is_run
 
   abbrev finally : FinalWords
   finally = record { irps = size.irps; words = words; queue = q }
 
-  told : SoFar f.run i (has_irp (queue_of q).used i) (has_entry (queue_of q).entries i) (inserted_by q.first i q.history) (given_to q.first i q.history)
-  told = so_far size f.run is_run i q.first q.history f.agrees.history_is.orderly f.agrees.history_is.true_of
+  told : SoFar q.run i (has_irp (queue_of q).used i) (has_entry (queue_of q).entries i) (inserted_by q.first i q.history) (given_to q.first i q.history)
+  told = so_far size q.run is_run i q.first q.history f.agrees.history_is.orderly f.agrees.history_is.true_of
 
   -- the status of i that p recorded
   record HasStatus (p : PassId) : Type 0 where
     status : NtStatus
     recorded : HasRecorded q p i status
-    due : removed f.run i ≡ false → status ≡ CANCELLED
+    due : removed q.run i ≡ false → status ≡ CANCELLED
     final : InLife finally i (final_status finally i.irp ≡ Some status)
 
   -- a life that was not completed is the present one
-  now_present : dones f.run i ≡ [] → IsPresent q.first f.run i
-  now_present none = subst (λ n. IsPresent n f.run i) (sym f.agrees.history_is.first_is) (⊎_elim
-      (λ (lt : life_of i < present_life size.first f.run i.irp). let one = f.over i begun.0 lt in let zero' : length (dones f.run i) ≡ 0 = ap length none in absurd (omega (arith, one, zero')))
-      (λ (le : present_life size.first f.run i.irp ≤ life_of i). let to = begun.1 in omega (arith, le, to))
-      (cases_lt (life_of i) (present_life size.first f.run i.irp)))
+  now_present : dones q.run i ≡ [] → IsPresent q.first q.run i
+  now_present none = subst (λ n. IsPresent n q.run i) (sym f.agrees.history_is.first_is) (⊎_elim
+      (λ (lt : life_of i < present_life size.first q.run i.irp). let one = f.over i begun.0 lt in let zero' : length (dones q.run i) ≡ 0 = ap length none in absurd (omega (arith, one, zero')))
+      (λ (le : present_life size.first q.run i.irp ≤ life_of i). let to = begun.1 in omega (arith, le, to))
+      (cases_lt (life_of i) (present_life size.first q.run i.irp)))
 
   -- a pass with steps is back
-  is_back : (p : PassId) → is_done (own p f.run) i ≡ true → IsRecordedBack q p
-  is_back p d = all p (⊎_elim (λ (l : p.0 < 1). nobody (no_zero size f.run is_run p (omega arith))) (λ x. x) (cases_lt p.0 1)) (⊎_elim (λ (l : q.made < p.0). nobody (f.agrees.nobody p (inr l)).0) (λ x. x) (cases_lt q.made p.0))
+  is_back : (p : PassId) → is_done (own p q.run) i ≡ true → IsRecordedBack q p
+  is_back p d = all p (⊎_elim (λ (l : p.0 < 1). nobody (no_zero size q.run is_run p (omega arith))) (λ x. x) (cases_lt p.0 1)) (⊎_elim (λ (l : q.made < p.0). nobody (f.agrees.nobody p (inr l)).0) (λ x. x) (cases_lt q.made p.0))
     where
-      nobody : {P : Type 0} → own p f.run ≡ [] → P
+      nobody : {P : Type 0} → own p q.run ≡ [] → P
       nobody none = off (sym (ap (λ t. is_done t i) none) ∙ d)
 
   -- the pass that completed i has recorded a status of it, which is final
-  the_status : (p : PassId) → is_done (own p f.run) i ≡ true → number i < size.irps → HasStatus p
+  the_status : (p : PassId) → is_done (own p q.run) i ≡ true → number i < size.irps → HasStatus p
   the_status p d known =
       let (k, r, at, same) = is_back p d in
       let b = (f.agrees.backs k r at).is_record in
-      let has : has_irp (map (λ (c : Completion). c.irp) r.completed) i ≡ true = ap (λ l. has_irp l i) b.of_pass.completed_is ∙ completed_has r.steps i (ap (λ t. is_done t i) b.of_pass.steps_is ∙ (ap (λ (x : PassId). is_done (own x f.run) i) same ∙ d)) in
+      let has : has_irp (map (λ (c : Completion). c.irp) r.completed) i ≡ true = ap (λ l. has_irp l i) b.of_pass.completed_is ∙ completed_has r.steps i (ap (λ t. is_done t i) b.of_pass.steps_is ∙ (ap (λ (x : PassId). is_done (own x q.run) i) same ∙ d)) in
       let s = has_status r.completed i has in
-      record { status = s.0; recorded = (k, r, at, same, s.1); due = λ e. recorded_due r.steps r.completed i s.0 b.due s.1 (false_from_ne_true (removed_in r.steps i) (λ x. off (sym e ∙ removed_in-own r.pass i f.run (subst (λ t. removed_in t i ≡ true) b.of_pass.steps_is x)))); final = (keeps_records size words q f).statuses k r at i s.0 known s.1 }
+      record { status = s.0; recorded = (k, r, at, same, s.1); due = λ e. recorded_due r.steps r.completed i s.0 b.due s.1 (false_from_ne_true (removed_in r.steps i) (λ x. off (sym e ∙ removed_in-own r.pass i q.run (subst (λ t. removed_in t i ≡ true) b.of_pass.steps_is x)))); final = (keeps_records size words q f).statuses k r at i s.0 known s.1 }
 
   -- what was completed is an IRP that there is
-  done_known : is_done f.run i ≡ true → number i < size.irps
-  done_known d = ⊎_elim (λ x. x) (λ (le : size.irps ≤ number i). absurd (dones_some f.run i d (unknown_stands size i le f.run is_run).dones_are)) (cases_lt (number i) size.irps)
+  done_known : is_done q.run i ≡ true → number i < size.irps
+  done_known d = ⊎_elim (λ x. x) (λ (le : size.irps ≤ number i). absurd (dones_some q.run i d (unknown_stands size i le q.run is_run).dones_are)) (cases_lt (number i) size.irps)
 
-  pub a_story : Story finally q f.run i
-  a_story = let s = stands size f.run is_run i in go (row_story _ _ _ _ _ _ _ _ _ i s.0 s.1 (λ p. f.rests.owed p i) (λ p. f.rests.held p i))
+  pub a_story : Story finally i
+  a_story = let s = stands size q.run is_run i in go (row_story _ _ _ _ _ _ _ _ _ i s.0 s.1 (λ p. f.rests.owed p i) (λ p. f.rests.held p i))
     where
-      go : ((was_armed f.run i ≡ false) × (claims f.run i ≡ []) × (dones f.run i ≡ []))
-          ⊎ (((was_armed f.run i ≡ true) × (left f.run i ≡ false) × (claims f.run i ≡ []) × (dones f.run i ≡ [])) ⊎ ((was_armed f.run i ≡ true) × (left f.run i ≡ true) × Over (claims f.run i) (dones f.run i)))
-          → Story finally q f.run i
+      go : ((was_armed q.run i ≡ false) × (claims q.run i ≡ []) × (dones q.run i ≡ []))
+          ⊎ (((was_armed q.run i ≡ true) × (left q.run i ≡ false) × (claims q.run i ≡ []) × (dones q.run i ≡ [])) ⊎ ((was_armed q.run i ≡ true) × (left q.run i ≡ true) × Over (claims q.run i) (dones q.run i)))
+          → Story finally i
       go (inl h) =
-          let u = only_unused f.run i _ _ _ _ told (f.agrees.history_is.used_is i ∙ h.0) in
+          let u = only_unused q.run i _ _ _ _ told (f.agrees.history_is.used_is i ∙ h.0) in
           inl (record { is_present = now_present h.2; inserted = u.none; given = u.to_none; claimed = h.1; completed = h.2 })
       go (inr (inl h)) =
-          let there : listed f.run i ≡ true = rw (h.0, h.1) refl in
-          let u = only_waiting f.run i _ _ _ _ told (f.agrees.history_is.listed_is i ∙ there) in
+          let there : listed q.run i ≡ true = rw (h.0, h.1) refl in
+          let u = only_waiting q.run i _ _ _ _ told (f.agrees.history_is.listed_is i ∙ there) in
           inr (inl record {
             is_present = now_present h.3;
             listed = u.listed_is;
-            clear = false_from_ne_true (flagged f.run i) (λ e. rest_flagged size f.run is_run f.rests i (e, there));
+            clear = false_from_ne_true (flagged q.run i) (λ e. rest_flagged size q.run is_run f.rests i (e, there));
             inserter = u.inserter;
             inserted = u.one;
             armed = u.armed;
@@ -279,13 +279,13 @@ module _ (size : Size) (words : List ℕ) (q : QueueRecord) (f : IsFinal size wo
             completed = h.3;
           })
       go (inr (inr h)) =
-          let gone : listed f.run i ≡ false = rw (h.0, h.1) refl in
-          let u = only_given f.run i _ _ _ _ told (f.agrees.history_is.used_is i ∙ h.0) (f.agrees.history_is.listed_is i ∙ gone) in
+          let gone : listed q.run i ≡ false = rw (h.0, h.1) refl in
+          let u = only_given q.run i _ _ _ _ told (f.agrees.history_is.used_is i ∙ h.0) (f.agrees.history_is.listed_is i ∙ gone) in
           let same_claim : u.claimed.0 ≡ h.2.one_claim'.0 = cc (u.claimed.1, h.2.one_claim'.1) in
           let owner : h.2.owner ≡ u.owner = sym h.2.one_claim'.2 ∙ (ap (λ (m : Made). m.pass) (sym same_claim) ∙ u.claimed.2) in
-          let done : IsOneOf u.owner (dones f.run i) = subst (λ p. IsOneOf p (dones f.run i)) owner h.2.one_done in
-          let d : is_done (own u.owner f.run) i ≡ true = ap (λ (p : PassId). is_done (own p f.run) i) (sym done.2) ∙ done_own f.run done.0 i done.1 in
-          let d' : is_done f.run i ≡ true = any_filtered (is (Done i)) (by u.owner) f.run d in
+          let done : IsOneOf u.owner (dones q.run i) = subst (λ p. IsOneOf p (dones q.run i)) owner h.2.one_done in
+          let d : is_done (own u.owner q.run) i ≡ true = ap (λ (p : PassId). is_done (own p q.run) i) (sym done.2) ∙ done_own q.run done.0 i done.1 in
+          let d' : is_done q.run i ≡ true = any_filtered (is (Done i)) (by u.owner) q.run d in
           let s = the_status u.owner d (done_known d') in
           inr (inr record {
             unlisted = f.agrees.history_is.listed_is i ∙ gone;
@@ -298,7 +298,7 @@ module _ (size : Size) (words : List ℕ) (q : QueueRecord) (f : IsFinal size wo
             completed = done;
             status = s.status;
             recorded = s.recorded;
-            cancelled = λ shown. s.due (cancelled_is q.first f.run i q.history f.agrees.history_is.true_of shown).not_removed;
+            cancelled = λ shown. s.due (cancelled_is q.first q.run i q.history f.agrees.history_is.true_of shown).not_removed;
             final = s.final;
           })
 
@@ -369,7 +369,7 @@ module _ (size : Size) (q : QueueRecord) (r : PassRecord) (run : List Made) (tol
 
 -- of the three stories of an IRP no two hold
 pub no_two_stories : NoIrpHasTwoStories
-no_two_stories finals q run i = (
+no_two_stories finals q i = (
   λ never listed. absurd (cc (never.inserted, listed.inserted)),
   λ never ended. absurd (cc (never.inserted, ended.inserted)),
   λ listed ended. absurd (cc (listed.given, ended.given)),

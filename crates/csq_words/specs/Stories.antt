@@ -1,4 +1,4 @@
--- The story of an IRP in one of its lives: who inserted it, who was given it, who claimed it, and who completed it. And the one history that all passes have seen.
+-- The story of an IRP in one of its lives: who inserted it, who was given it, who claimed it, and who completed it. And the one history and execution that all passes have seen.
 use Rattle.std.specs.Prelude.{◌≡◌, ◌≤◌, ◌⊎◌, ℕ, Bool, true, false, List, [], ◌∷◌, length, Some, if◌then◌else◌}
 use mathlib.Core.Option.{some}
 use lib.ListN.{get_elem?}
@@ -20,7 +20,7 @@ use Rattle.csq_words.specs.declared.views.QueueRecord.{QueueRecord}
 use Rattle.csq_words.specs.Queue.{QueueState, current, has_entry}
 use Rattle.csq_words.specs.History.{end_of, calls_of, IsExtendedBy}
 use Rattle.csq_words.specs.Records.{queue_of}
-use Rattle.csq_words.specs.Rule.{RecordsAgree, SomeRunAgrees, QueueHasRun}
+use Rattle.csq_words.specs.Rule.{RecordsAgree, QueueHasRun}
 use Rattle.csq_words.specs.Plays.{status_recorded}
 use Rattle.csq_words.specs.Finals.{FinalWords, final_status, AllBack, IsFinal, InLife, shows_cancelled}
 
@@ -57,47 +57,47 @@ abbrev pub HasRecorded : QueueRecord → PassId → Irp → NtStatus → Type 0
 HasRecorded q p i status = (k : ℕ) × (r : PassRecord) × (get_elem? q.back k ≡ some r) × (r.pass ≡ p) × (status_recorded i r.completed ≡ Some status)
 
 -- i, in its present life, was never inserted: it was given to none, and none claimed or completed it
-pub record NeverInserted (q : QueueRecord) (run : List Made) (i : Irp) : Type 0 where
-  pub is_present : IsPresent q.first run i
+pub record NeverInserted (q : QueueRecord) (i : Irp) : Type 0 where
+  pub is_present : IsPresent q.first q.run i
   pub inserted : inserted_by q.first i q.history ≡ []
   pub given : given_to q.first i q.history ≡ []
-  pub claimed : claims run i ≡ []
-  pub completed : dones run i ≡ []
+  pub claimed : claims q.run i ≡ []
+  pub completed : dones q.run i ≡ []
 
 -- i, in its present life, was inserted by one pass, and is listed with its flag clear: it was given to none, and none claimed or completed it
-pub record StillListed (q : QueueRecord) (run : List Made) (i : Irp) : Type 0 where
-  pub is_present : IsPresent q.first run i
+pub record StillListed (q : QueueRecord) (i : Irp) : Type 0 where
+  pub is_present : IsPresent q.first q.run i
   pub listed : has_entry (queue_of q).entries i ≡ true
-  pub clear : flagged run i ≡ false
+  pub clear : flagged q.run i ≡ false
   pub inserter : PassId
   pub inserted : inserted_by q.first i q.history ≡ inserter ∷ []
-  pub armed : was_armed (own inserter run) i ≡ true
+  pub armed : was_armed (own inserter q.run) i ≡ true
   pub given : given_to q.first i q.history ≡ []
-  pub claimed : claims run i ≡ []
-  pub completed : dones run i ≡ []
+  pub claimed : claims q.run i ≡ []
+  pub completed : dones q.run i ≡ []
 
 -- i was inserted by one pass and given to one, which made its one claim and its one completion, with the status that it recorded: STATUS_CANCELLED where the history says that i was cancelled. In the present life this is the final status
-pub record HasEnded (finals : FinalWords) (q : QueueRecord) (run : List Made) (i : Irp) : Type 0 where
+pub record HasEnded (finals : FinalWords) (q : QueueRecord) (i : Irp) : Type 0 where
   pub unlisted : has_entry (queue_of q).entries i ≡ false
   pub inserter : PassId
   pub inserted : inserted_by q.first i q.history ≡ inserter ∷ []
-  pub armed : was_armed (own inserter run) i ≡ true
+  pub armed : was_armed (own inserter q.run) i ≡ true
   pub owner : PassId
   pub given : given_to q.first i q.history ≡ owner ∷ []
-  pub claimed : IsOneOf owner (claims run i)
-  pub completed : IsOneOf owner (dones run i)
+  pub claimed : IsOneOf owner (claims q.run i)
+  pub completed : IsOneOf owner (dones q.run i)
   pub status : NtStatus
   pub recorded : HasRecorded q owner i status
   pub cancelled : shows_cancelled q.first i q.history ≡ true → status ≡ CANCELLED
   pub final : InLife finals i (final_status finals i.irp ≡ Some status)
 
 -- what happened to i
-abbrev pub Story : FinalWords → QueueRecord → List Made → Irp → Type 0
-Story finals q run i = NeverInserted q run i ⊎ StillListed q run i ⊎ HasEnded finals q run i
+abbrev pub Story : FinalWords → Irp → Type 0
+Story finals i = NeverInserted finals.queue i ⊎ StillListed finals.queue i ⊎ HasEnded finals finals.queue i
 
 -- every life that has begun has a story
 abbrev pub EachIrpHasAStory : Type 0
-EachIrpHasAStory = (size : Size) (words : List ℕ) (q : QueueRecord) (last : IsFinal size words q) → AllBack q → (i : Irp) → HasBegun size.first last.run i → Story (record { irps = size.irps; words = words; queue = q }) q last.run i
+EachIrpHasAStory = (size : Size) (words : List ℕ) (q : QueueRecord) → IsFinal size words q → AllBack q → (i : Irp) → HasBegun size.first q.run i → Story (record { irps = size.irps; words = words; queue = q }) i
 
 -- of a history with which a run agrees: at most one pass inserted i, and at most one was given i. This one made the one claim of i, and who completed i was given it
 pub record IsGivenOnce (q : QueueRecord) (run : List Made) (i : Irp) : Type 0 where
@@ -116,26 +116,30 @@ AtMostOne A B C = (A → B → ⊥) × (A → C → ⊥) × (B → C → ⊥)
 
 -- of the three stories of an IRP no two hold
 abbrev pub NoIrpHasTwoStories : Type 0
-NoIrpHasTwoStories = (finals : FinalWords) (q : QueueRecord) (run : List Made) (i : Irp) → AtMostOne (NeverInserted q run i) (StillListed q run i) (HasEnded finals q run i)
+NoIrpHasTwoStories = (finals : FinalWords) (q : QueueRecord) (i : Irp) → AtMostOne (NeverInserted q i) (StillListed q i) (HasEnded finals q i)
 
--- one of these histories begins with the other
-abbrev pub AreComparable : List Entry → List Entry → Type 0
-AreComparable h g = IsExtendedBy h g ⊎ IsExtendedBy g h
+module _ {A : Type 0} where
+  -- one of these histories, or executions, goes on from the other
+  abbrev pub AreComparable : List A → List A → Type 0
+  AreComparable h g = IsExtendedBy h g ⊎ IsExtendedBy g h
 
--- these passes have seen one history: it begins with what each of them has seen, and the calls of each are its calls there, in that order. So what one of them has seen begins with what another has, or the other way round
-pub record SeeOneHistory (history : List Entry) (passes : List PassRecord) : Type 0 where
+-- these passes have seen one history and one execution. It begins with what each of them has seen, and the calls and the steps of each are its calls and its steps there, in that order. So what one of them has seen begins with what another has, or the other way round
+pub record SeeOneHistory (history : List Entry) (run : List Made) (passes : List PassRecord) : Type 0 where
   pub seen : (k : ℕ) (r : PassRecord) → get_elem? passes k ≡ some r → IsExtendedBy r.seen history
   pub calls : (k : ℕ) (r : PassRecord) → get_elem? passes k ≡ some r → r.mine ≡ calls_of r.pass history
-  pub comparable : (j k : ℕ) (r s : PassRecord) → get_elem? passes j ≡ some r → get_elem? passes k ≡ some s → AreComparable r.seen s.seen
+  pub runs : (k : ℕ) (r : PassRecord) → get_elem? passes k ≡ some r → IsExtendedBy r.run run
+  pub steps : (k : ℕ) (r : PassRecord) → get_elem? passes k ≡ some r → r.steps ≡ own r.pass run
+  pub one_history : (j k : ℕ) (r s : PassRecord) → get_elem? passes j ≡ some r → get_elem? passes k ≡ some s → AreComparable r.seen s.seen
+  pub one_execution : (j k : ℕ) (r s : PassRecord) → get_elem? passes j ≡ some r → get_elem? passes k ≡ some s → AreComparable r.run s.run
 
--- passes that were joined with a queue's record have seen its history
+-- passes that were joined with a queue's record have seen its history and an execution that both agree with
 abbrev pub JoinedPassesSeeOneHistory : Type 0
-JoinedPassesSeeOneHistory = (size : Size) (q : QueueRecord) (r s : PassRecord) → SomeRunAgrees size q r → SomeRunAgrees size q s → SeeOneHistory q.history (r ∷ s ∷ [])
+JoinedPassesSeeOneHistory = (size : Size) (run : List Made) (q : QueueRecord) (r s : PassRecord) → RecordsAgree size run q r → RecordsAgree size run q s → SeeOneHistory q.history run (r ∷ s ∷ [])
 
--- the passes that are back have seen it
+-- the passes that are back have seen the queue's history and execution
 abbrev pub PassesBackSeeOneHistory : Type 0
-PassesBackSeeOneHistory = (size : Size) (q : QueueRecord) → QueueHasRun size q → SeeOneHistory q.history q.back
+PassesBackSeeOneHistory = (size : Size) (q : QueueRecord) → QueueHasRun size q → SeeOneHistory q.history q.run q.back
 
--- those of a closed queue have seen it
+-- those of a closed queue have seen them
 abbrev pub PassesAtTheEndSeeOneHistory : Type 0
-PassesAtTheEndSeeOneHistory = (size : Size) (words : List ℕ) (q : QueueRecord) → IsFinal size words q → SeeOneHistory q.history q.back
+PassesAtTheEndSeeOneHistory = (size : Size) (words : List ℕ) (q : QueueRecord) → IsFinal size words q → SeeOneHistory q.history q.run q.back

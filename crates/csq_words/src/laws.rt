@@ -20,8 +20,8 @@ pub fn no_irp_has_two_stories()
     ensures { NoIrpHasTwoStories }
 {}
 
-/// Passes that were joined with the record of a queue have seen one history, that of the record: it begins with
-/// what each has seen, and its calls of each pass are the calls that the pass made, in the order in which it made
+/// Passes that were joined with the record of a queue have seen one history and one execution: these begin with
+/// what each has seen, and have of each pass the calls and the steps that it made, in the order in which it made
 /// them. So of what two passes have seen, one begins with the other.
 pub fn joined_passes_see_one_history()
     ensures { JoinedPassesSeeOneHistory }

@@ -39,26 +39,29 @@ pub(crate) fn observe_as<S: Named, A: Allocator>(queue: &mut QueueSeat, words: &
     words.table.shared.load::<Observe<S>>(&mut queue.seat, 0);
 }
 
-// Tells of the queue's record alone, by a load of the first word.
+// Observes the execution and tells of the queue's record alone, by a load of the first word.
 pub(crate) fn tell_queue_as<S: Named, A: Allocator>(queue: &mut QueueSeat, words: &Words<A>)
     requires named { S.size ≡ words.now.size }
     requires words { queue.old.table ≡ words.now.table }
     requires alone { queue.old.joined ≡ None }
-    ensures same { queue.new ≡ queue.old }
-    ensures told { QueueHasRun words.now.size queue.old.queue }
-    ensures rule { RuleHoldsWith words.now.size queue.old.queue }
+    ensures step { queue.new ≡ record queue.old { queue = with_run queue.new.queue.run queue.old.queue } }
+    ensures told { QueueHasRun words.now.size queue.new.queue }
+    ensures rule { RuleHoldsWith words.now.size queue.new.queue }
+    ensures follows { IsExtendedBy queue.old.queue.run queue.new.queue.run }
 {
     words.table.shared.load::<TellQueue<S>>(&mut queue.seat, 0);
 }
 
-// Tells of the queue's record and of that of the joined pass, by a load of the first word.
+// Observes the execution and tells of the queue's record and of that of the joined pass, by a load of the
+// first word.
 pub(crate) fn tell_both_as<S: Named, A: Allocator>(queue: &mut QueueSeat, words: &Words<A>)
     requires named { S.size ≡ words.now.size }
     requires words { queue.old.table ≡ words.now.table }
     requires joined { IsJoined queue.old }
     requires ended { has_lock (inside_of (joined_record queue.old).steps) ≡ false }
-    ensures same { queue.new ≡ queue.old }
-    ensures told { QueueAndPassHaveRun words.now.size queue.old.queue (joined_record queue.old) }
+    ensures step { queue.new ≡ record queue.old { queue = with_run queue.new.queue.run queue.old.queue } }
+    ensures told { QueueAndPassHaveRun words.now.size queue.new.queue (joined_record queue.old) }
+    ensures follows { IsExtendedBy queue.old.queue.run queue.new.queue.run }
 {
     words.table.shared.load::<TellBoth<S>>(&mut queue.seat, 0);
 }

@@ -1,11 +1,11 @@
 -- A reuse of an IRP that is known to be completed.
-use Rattle.std.proofs.Common.{◌≡◌, ◌≢◌, ℕ, ◌+◌, ◌<◌, ◌≤◌, ◌||◌, Bool, true, false, List, [], Some, None, Ok, Err, Result, Option, refl, sym, ap, ◌∙◌, subst, arith}
+use Rattle.std.proofs.Common.{◌≡◌, ◌≢◌, ℕ, ◌<◌, ◌≤◌, ◌||◌, Bool, true, false, List, [], Some, Ok, Err, Result, Option, refl, sym, ap, ◌∙◌, arith}
 use Rattle.std.specs.Prelude.{IfOk, IfErr, OnErr}
 use Rattle.std.proofs.lemmas.Bool.{or_right}
 use Rattle.irp_core.specs.Steps.{Irp, life_of}
 use Rattle.irp_core.specs.Completion.{removed}
 use Rattle.irp_core.specs.Words.{flagged, was_armed}
-use Rattle.irp_core.specs.Lives.{present_life, present}
+use Rattle.irp_core.specs.Lives.{present}
 use Rattle.irp_core.specs.Runs.{Size}
 use Rattle.irp_core.specs.declared.ids.IrpId.{IrpId}
 use Rattle.irp_core.specs.declared.ids.Life.{Life}
@@ -18,7 +18,7 @@ use Rattle.csq_words.specs.Queue.{current}
 use Rattle.csq_words.specs.History.{end_of, IsExtendedBy}
 use Rattle.csq_words.specs.Plays.{IsStatusOf, status_read}
 use Rattle.csq_words.specs.Rule.{FindsUnset, is_done, SaysStatus, stands_for}
-use Rattle.csq_words.specs.Words.{unset_word, status_life_in, status_in}
+use Rattle.csq_words.specs.Words.{status_life_in, status_in}
 use Rattle.csq_words.proofs.Decoding.{status_in-unset}
 use Rattle.csq_words.proofs.Keeping.{none_is}
 use Rattle.csq_words.proofs.Facts.{off, done_stays, done_over}
@@ -49,7 +49,7 @@ reuse_later size i old new answer done follows sees refused e = go answer e refu
     go : (answer : Result Life ReuseRefused) → answer ≡ Err NotCompleted → IfErr answer (IsReuseRefusal here old new) → life_of i < (end_of size.first new.seen).lives i.irp
     go (Err NotCompleted) e h =
         let apart : life_of i ≢ life_of here = λ same. let is : i ≡ here = irp_eq i here refl same in
-            off (sym h.undone ∙ (ap (is_done h.then) (sym is) ∙ done_stays i old.run h.then h.after done)) in
+        off (sym h.undone ∙ (ap (is_done h.then) (sym is) ∙ done_stays i old.run h.then h.after done)) in
         let b = begun in
         omega (arith, b, apart)
     go (Err UnknownIrp) e h = absurd h

@@ -1,10 +1,10 @@
 -- An insert of an IRP that was flagged before.
-use Rattle.std.proofs.Common.{◌≡◌, ℕ, zero, suc, ◌==◌, ◌&&◌, ◌||◌, Bool, true, false, true≢false, List, [], ◌∷◌, ◌++◌, cond, Ok, refl, sym, ap, ◌∙◌, subst}
-use Rattle.std.proofs.lemmas.Bool.{or_right, and_parts, eqb-true}
+use Rattle.std.proofs.Common.{◌≡◌, ℕ, ◌==◌, ◌&&◌, ◌||◌, Bool, true, false, true≢false, List, [], ◌∷◌, ◌++◌, Ok, refl, sym, ap, ◌∙◌, subst}
+use Rattle.std.proofs.lemmas.Bool.{or_right}
 use Rattle.std.proofs.lemmas.List.{append_cancel_right}
 use Rattle.std.specs.List.{list_any}
 use Rattle.irp_core.specs.Steps.{Irp, is, by, own, same_irp}
-use Rattle.irp_core.specs.Words.{bit, cancel, flagged, found_by}
+use Rattle.irp_core.specs.Words.{bit, flagged, found_by}
 use Rattle.irp_core.specs.Owners.{taken}
 use Rattle.irp_core.specs.Runs.{Size, IsRun}
 use Rattle.irp_core.specs.declared.step.Kind.{Kind}
@@ -15,7 +15,6 @@ use Rattle.irp_core.proofs.Growing.{run_less, run_last}
 use Rattle.csq_words.specs.declared.views.PassRecord.{PassRecord}
 use Rattle.csq_words.specs.Queue.{has_marked}
 use Rattle.csq_words.specs.History.{end_of, IsExtendedBy}
-use Rattle.csq_words.proofs.Facts.{off}
 use Rattle.csq_words.proofs.Marks.{marked_taken}
 use Rattle.csq_words.proofs.Own.{any_filtered}
 use Rattle.csq_queue.specs.Steps.{made_by, insert_steps}

@@ -1,5 +1,5 @@
 -- Two passes that have seen one execution.
-use Rattle.std.proofs.Common.{◌≡◌, ◌≢◌, ◌||◌, Bool, true, false, refl, sym, ap, ◌∙◌, subst}
+use Rattle.std.proofs.Common.{◌≡◌, ◌≢◌, ◌||◌, true, false, sym, ap, ◌∙◌}
 use Rattle.std.proofs.lemmas.Bool.{false_from_ne_true}
 use Rattle.irp_core.specs.Steps.{Irp}
 use Rattle.irp_core.specs.Owners.{owes, holds}

@@ -1,10 +1,10 @@
 -- Two reads, one after the other.
-use Rattle.std.proofs.Common.{◌≡◌, ℕ, ◌==◌, Bool, true, false, Some, None, Option, refl, sym, ap, ◌∙◌, subst, arith, eqb-true, eq-eqb}
+use Rattle.std.proofs.Common.{◌≡◌, ℕ, Bool, true, false, Some, None, Option, refl, sym, ap, ◌∙◌, arith, eqb-true, eq-eqb}
 use Rattle.std.specs.Prelude.{is_some}
 use Rattle.irp_core.specs.Steps.{Irp, life_of}
 use Rattle.irp_core.specs.Completion.{removed}
-use Rattle.irp_core.specs.Words.{bit, cancel, flagged}
-use Rattle.irp_core.specs.Lives.{present_life, present}
+use Rattle.irp_core.specs.Words.{bit, flagged}
+use Rattle.irp_core.specs.Lives.{present}
 use Rattle.irp_core.specs.Runs.{Size}
 use Rattle.irp_core.specs.declared.ids.IrpId.{IrpId}
 use Rattle.irp_core.specs.declared.ids.Life.{Life}
@@ -12,9 +12,8 @@ use Rattle.irp_core.specs.declared.status.NtStatus.{NtStatus}
 use Rattle.csq_words.specs.declared.views.PassRecord.{PassRecord}
 use Rattle.csq_words.specs.Plays.{IsFlagOf, IsStatusOf, flag_read, status_read}
 use Rattle.csq_words.specs.Rule.{is_done, SaysStatus, stands_for}
-use Rattle.csq_words.specs.Words.{life_in, bit_in, bit_word, unset_word, status_life_in, status_in}
+use Rattle.csq_words.specs.Words.{life_in, bit_in, status_life_in, status_in}
 use Rattle.csq_words.proofs.Decoding.{life_in-put, bit_in-put, status_life_in-unset}
-use Rattle.csq_words.proofs.Keeping.{none_is}
 use Rattle.csq_words.proofs.Facts.{off, bit_bound, bit_true, done_stays}
 use Rattle.csq_words.proofs.Named.{irp_eq}
 use Rattle.test_execution.specs.Conclusions.{StaysSet}

@@ -6,6 +6,5 @@ pub mod flags;
 pub mod owners;
 pub mod reads;
 pub mod statuses;
-
 #[cfg(test)]
 mod tests;

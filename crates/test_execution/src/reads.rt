@@ -10,7 +10,10 @@ use std::alloc::Allocator;
 use std::sync::Wait;
 
 /// Two reads of a Cancel flag.
-pub type Flags = (Result<(Life, bool), UnknownIrp>, Result<(Life, bool), UnknownIrp>);
+pub type Flags = (
+    Result<(Life, bool), UnknownIrp>,
+    Result<(Life, bool), UnknownIrp>,
+);
 
 /// Reads a Cancel flag twice. A flag that is set stays set in its life.
 pub(crate) fn read_flags<L: PendingList + Drop, N: QueueName, A: Allocator>(

@@ -14,6 +14,7 @@ use std::sync::Wait;
 use std::test::Fail;
 
 const IRP: IrpId = IrpId(0);
+
 const FILE: FileId = FileId(0);
 
 // The next pass.

@@ -3,7 +3,7 @@ ghost use Rattle.std.specs.Prelude.{◌≡◌, ◌+◌, ◌-◌, ◌<◌, ◌≤
 ghost use Rattle.irp_core.specs.declared.ids.IrpId.{IrpId as IrpNumber};
 ghost use Rattle.csq_words.specs.Queue.{listing_of};
 ghost use Rattle.csq_words.specs.History.{IsLegal, IsExtendedBy};
-ghost use Rattle.csq_words.specs.Records.{queue_of, new_pass, with_back, with_shown};
+ghost use Rattle.csq_words.specs.Records.{queue_of, new_pass, with_run, with_back, with_shown};
 ghost use Rattle.csq_words.specs.Rule.{QueueAndPassHaveRun};
 ghost use Rattle.csq_words.specs.Seats.{pass_at, pass_record, IsHere};
 ghost use Rattle.csq_words.specs.Finals.{AllBack, IsFinal, IsLeft, KeepsRecords};
@@ -97,14 +97,15 @@ impl<L: PendingList + Drop, A: Allocator> OpenQueue<L, A> {
         self.seat.show(words, receipt);
     }
 
-    /// Tells what is known of the queue by its passes that are back and by this one, which stays as it is.
+    /// Observes the execution, and tells what is known of the queue by its passes that are back and by this
+    /// one, which stays as it is.
     pub(crate) fn tell(&mut self, words: &Words<A>, pass: &mut OpenPass)
         requires queue { IsQueueOn words.now self.old }
         requires pass { IsPassOn words.now pass.old }
-        ensures same { self.new ≡ self.old }
+        ensures step { self.new ≡ record self.old { queue = with_run self.new.queue.run self.old.queue } }
         ensures kept { pass.new ≡ pass.old }
-        ensures told { QueueAndPassHaveRun words.now.size self.old.queue pass.old.pass }
-        ensures made { self.old.queue.made ≡ self.old.limits.passes }
+        ensures told { QueueAndPassHaveRun words.now.size self.new.queue pass.old.pass }
+        ensures made { self.new.queue.made ≡ self.new.limits.passes }
     {
         self.seat.tell_with(words, &mut pass.seat);
     }
@@ -160,7 +161,8 @@ impl<L: PendingList + Drop, A: Allocator> OpenQueue<L, A> {
         requires queue { IsQueueOn words self }
         requires back { AllBack self.queue }
         ensures irps { result.finals.irps ≡ self.limits.irps }
-        ensures queue { result.finals.queue ≡ self.queue }
+        ensures queue { result.finals.queue ≡ with_run result.finals.queue.run self.queue }
+        ensures follows { IsExtendedBy self.queue.run result.finals.queue.run }
         ensures last { IsFinal (queue_size self.limits) result.finals.words result.finals.queue }
         ensures left { (n : IrpNumber) → n.0 < self.limits.irps → IsLeft result.finals.words result.finals.queue n }
         ensures records { KeepsRecords result.finals }

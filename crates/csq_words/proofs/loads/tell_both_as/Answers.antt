@@ -1,6 +1,6 @@
 use Rattle.std.proofs.Common.{◌∙◌, ap, sym, arith}
 use Rattle.csq_words.specs.Rule.{table_size}
-use Rattle.csq_words.proofs.Keeping.{tells_both_as}
+use Rattle.csq_words.proofs.Observing.{tells_both_as}
 use Rattle.csq_words.proofs.Values.{joined}
 use Rattle.csq_words.proofs.loads.tell_both_as.Goals as goal
 

@@ -1,8 +1,9 @@
 use Rattle.std.proofs.Common.{◌∙◌, ap, sym, subst, arith}
 use Rattle.irp_core.specs.Runs.{Size}
 use Rattle.csq_words.specs.declared.views.QueueRecord.{QueueRecord}
+use Rattle.csq_words.specs.Records.{queue_in}
 use Rattle.csq_words.specs.Rule.{table_size, RuleHoldsWith}
-use Rattle.csq_words.proofs.Keeping.{tells_queue_as}
+use Rattle.csq_words.proofs.Observing.{tells_queue_as}
 use Rattle.csq_words.proofs.Values.{alone}
 use Rattle.csq_words.proofs.loads.tell_queue_as.Goals as goal
 
@@ -16,4 +17,4 @@ load-requires g c =
     )
 
 pub returns-clause-rule : goal.returns-clause-rule
-returns-clause-rule g c = subst (λ (z : Size × QueueRecord). RuleHoldsWith z.0 z.1) (λ k. (c.requires.named k, (ap (λ z. z.queue) c.queue.view_is) k)) c.load.ensures.2.2
+returns-clause-rule g c = subst (λ (z : Size × QueueRecord). RuleHoldsWith z.0 z.1) (λ k. (c.requires.named k, sym (ap (λ m. queue_in m.0) c.load.ensures.2.0) k)) c.load.ensures.2.2

@@ -1,5 +1,3 @@
-use Rattle.csq_words.specs.History.{IsExtendedBy}
-use Rattle.std.proofs.Common.{◌≡◌, ap, subst}
 use Rattle.csq_words.proofs.Facts.{extended_on}
 use Rattle.csq_queue.specs.Named.{queue_size}
 use Rattle.csq_queue.proofs.Cancelling.{completed_follows}

@@ -2,7 +2,7 @@ use Rattle.std.proofs.Common.{◌-◌, sym, subst}
 use Rattle.csq_words.specs.Queue.{Limits}
 use Rattle.csq_words.specs.Finals.{AllBack}
 use Rattle.csq_queue.specs.Rests.{GivenBack, IsClosed}
-use Rattle.csq_queue.proofs.Leftovers.{left_so}
+use Rattle.csq_queue.proofs.Leftovers.{left_so, given_run}
 use Rattle.csq_queue.proofs.Presence.{lives_at}
 use Rattle.csq_queue.proofs.open.OpenQueue.close.Goals as goal
 
@@ -15,7 +15,7 @@ returns g c =
     let e = c.into_rest.ensures in
     record {
       rest = subst (λ (l : Limits). IsClosed l taken c.args.self.queue s f) c.give_rest.ensures.place.1 (record {
-        given = subst (λ (l : Limits). GivenBack taken l.passes c.args.self.queue q) (sym c.give_rest.ensures.place.1) (subst (GivenBack taken c.args.self.limits.passes c.args.self.queue) (sym e.queue) c.give_rest.ensures.given);
+        given = subst (λ (l : Limits). GivenBack taken l.passes c.args.self.queue q) (sym c.give_rest.ensures.place.1) (given_run taken c.args.self.limits.passes c.args.self.queue c.give_rest.new.self.queue q e.queue e.follows c.give_rest.ensures.given);
         made = e.made;
         all = subst AllBack (sym e.queue) c.give_rest.ensures.all;
         first_is = e.first;

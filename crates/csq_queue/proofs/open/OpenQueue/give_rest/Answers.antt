@@ -2,6 +2,7 @@ use Rattle.std.proofs.Common.{◌≡◌, ◌-◌, ◌+◌, ◌≤◌, ◌∙◌,
 use Rattle.csq_words.specs.declared.views.PassRecord.{PassRecord}
 use Rattle.csq_words.specs.declared.views.QueueRecord.{QueueRecord}
 use Rattle.csq_words.specs.Records.{new_pass}
+use Rattle.csq_words.specs.History.{IsExtendedBy}
 use Rattle.csq_queue.specs.Named.{pass_numbered}
 use Rattle.csq_queue.specs.Opens.{OpenState, OpenPassState}
 use Rattle.csq_queue.specs.Rests.{FirstAreBack}
@@ -31,6 +32,7 @@ rest-preserved g c =
         first_is = ap (λ (q : QueueRecord). q.first) queue ∙ given.first_is;
         made = ap (λ (q : QueueRecord). q.made) queue ∙ given.made;
         history = ap (λ (q : QueueRecord). q.history) queue ∙ given.history;
+        run = subst (IsExtendedBy c.args.self.now.queue.run) (sym (ap (λ (q : QueueRecord). q.run) queue)) given.run;
         shown = ap (λ (q : QueueRecord). q.shown) queue ∙ given.shown;
         newer = r ∷ given.newer;
         kept = ap (λ (q : QueueRecord). q.back) queue ∙ ap (λ (t : List PassRecord). r ∷ t) given.kept;

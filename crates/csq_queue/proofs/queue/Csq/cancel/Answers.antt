@@ -1,10 +1,6 @@
 use Rattle.csq_words.specs.History.{IsExtendedBy}
-use Rattle.std.proofs.Common.{◌≡◌, ◌∷◌, rules}
-use Rattle.irp_core.specs.declared.status.TheConstants.NtStatus.{CANCELLED}
-use Rattle.irp_core.specs.declared.step.Kind.TheVariants.{Flag, Take}
-use Rattle.csq_words.specs.Records.{saw, with_step}
+use Rattle.std.proofs.Common.{◌≡◌, rules}
 use Rattle.csq_queue.specs.Named.{named, queue_size}
-use Rattle.csq_queue.specs.Owned.{EndsWithTake}
 use Rattle.csq_queue.proofs.Cancelling.{marked_follows, adds_before}
 use Rattle.csq_queue.proofs.queue.Csq.cancel.Goals as goal
 

@@ -1,10 +1,9 @@
 use Rattle.csq_words.specs.History.{IsExtendedBy}
-use Rattle.std.proofs.Common.{◌≡◌, false, List, ap, sym, subst, ◌∙◌, rules}
-use Rattle.irp_core.specs.declared.step.Made.{Made}
+use Rattle.std.proofs.Common.{◌≡◌, false, sym, subst, ◌∙◌, rules}
 use Rattle.csq_words.specs.Rule.{IsHistoryOf}
 use Rattle.csq_words.proofs.Facts.{extended_on}
 use Rattle.csq_queue.specs.Named.{queue_size}
-use Rattle.csq_queue.specs.Opens.{OpenState, OpenPassState}
+use Rattle.csq_queue.specs.Opens.{OpenState}
 use Rattle.csq_queue.proofs.queue.Csq.meet.Goals as goal
 
 pub catch_up-requires-clause-agrees : goal.catch_up-requires-clause-agrees
