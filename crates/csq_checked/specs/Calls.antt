@@ -47,7 +47,7 @@ use Rattle.csq_checked.specs.Passes.{CheckedPassState, CheckedState, after_call}
 abbrev pub Adds : CheckedState → CheckedPassState → CheckedPassState → List Event → Type 0
 Adds q p p' events = AddsEvents q.queue.limits q.queue.queue.history p.pass p'.pass events
 
--- the pass is of the same words, and has seen the queue's history, which alone is new of the queue
+-- the pass is of the same words, and has seen the queue's history and the execution, which alone are new of the queue
 pub record IsAfter (q : CheckedState) (p : CheckedPassState) (q' : CheckedState) (p' : CheckedPassState) : Type 0 where
   pub seen : q' ≡ after_call p'.pass q
   pub words : p'.words ≡ p.words

@@ -22,7 +22,7 @@ use Rattle.csq_queue.specs.declared.tokens.InsertAnswer.TheVariants.{Pending, Ca
 abbrev pub made_by : PassId → List Act → List Made
 made_by p acts = map (λ (a : Act). record { pass = p; kind = a.0; found = a.1 }) acts
 
--- a pass that was inside of no program made these steps, and completed nothing
+-- a pass that was inside of no program made these steps, and recorded no completion and no other life
 pub record MakesSteps (acts : List Act) (old new : PassRecord) : Type 0 where
   pub outside : inside_of old.steps ≡ Nothing
   pub pass : new.pass ≡ old.pass
@@ -30,7 +30,7 @@ pub record MakesSteps (acts : List Act) (old new : PassRecord) : Type 0 where
   pub completed : new.completed ≡ old.completed
   pub found : new.lives ≡ old.lives
 
--- an insert that answered so and left this queue: it arms the IRP and tests its flag. Where that was set it disarms the IRP, which a canceller has if it is marked
+-- an insert that answered so and left this queue: it arms the IRP and tests its flag. Where that is set it disarms the IRP, and takes it back or leaves it, marked, to a canceller
 abbrev pub insert_steps : Result (InsertAnswer Irp Irp) InsertStatus → QueueState → List Act
 insert_steps (Err cause) u = []
 insert_steps (Ok (Cancelled i)) u = (Disarm i, 1) ∷ (Test i, 1) ∷ (Arm i, 0) ∷ []
@@ -46,7 +46,7 @@ abbrev pub passed_over : Peek → Option Irp → List Queued → List Irp
 passed_over k given [] = []
 passed_over k given (e ∷ es) = if matches k e.file then (if gave given e.irp then [] else passed_over k given es ++ e.irp ∷ []) else passed_over k given es
 
--- a Disarm of each, which a canceller has
+-- a Disarm of each, which found no routine
 abbrev pub misses : List Irp → List Act
 misses is = map (λ (i : Irp). (Disarm i, 0)) is
 

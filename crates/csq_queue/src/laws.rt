@@ -2,18 +2,18 @@
 //! contract is the law, and there is nothing to run.
 ghost use Rattle.csq_queue.specs.Stories.{EachIrpSeenIsGivenOnce, EachIrpLeftHasAStory, EachIrpOfAnOpenQueueHasAStory, ClosingPassesSeeOneHistory, PassesOfAnOpenQueueSeeOneHistory};
 
-/// What a pass has seen, after any of its calls: an IRP, in each of its lives, was inserted by at most one
-/// pass and given to at most one. In a run of all passes that agrees, this one made the one exchange that took
-/// its routine, and none but this one completes it.
+/// Where the history and the run that a pass has seen agree, as after each of its calls under the lock: an IRP,
+/// in each of its lives, was inserted by at most one pass and given to at most one. By that run this one made
+/// the one exchange that took its routine, and none but this one completed it.
 pub fn each_irp_seen_is_given_once()
     ensures { EachIrpSeenIsGivenOnce }
 {}
 
 /// Where `Csq::close` or `Csq::close_with` answers `Ok`, the history of all calls and the execution of all
-/// passes, which are left, tell one story of each IRP in each life that has begun. It was never inserted. Or one pass inserted
-/// it, and it is listed. Or one pass inserted it, and one pass was given it, by a removal, by a cancel or by its
-/// own insert: that pass made the one exchange that took its routine and the one completion, with the status
-/// that is left.
+/// passes, which are left, tell one story of each IRP in each life that has begun. It was never inserted. Or
+/// one pass inserted it, and it is listed. Or one pass inserted it, and one pass was given it, by a removal, by
+/// a cancel or by its own insert: that pass made the one exchange that took its routine and the one completion,
+/// with the status that it recorded. In the present life that is the status that is left.
 pub fn each_irp_left_has_a_story()
     ensures { EachIrpLeftHasAStory }
 {}
