@@ -20,6 +20,7 @@ use Rattle.test_execution.proofs.flags.insert_after_flag.Goals as goal
 
 pub returns : goal.returns
 returns g c = record {
+  token = c.insert.ensures.token;
   claimed = λ i answer was.
       let l = g.N.QueueName.limits in
       let met = c.meet.ensures in
