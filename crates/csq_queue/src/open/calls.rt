@@ -190,7 +190,7 @@ impl<L: PendingList + Drop, A: Allocator> OpenQueue<L, A> {
         leave(&mut self.seat, words, &mut pass.seat);
     }
 
-    /// IsExtendedBy the next life of an IRP, where its present one was completed and isn't the last, as
+    /// Begins the next life of an IRP, where its present one was completed and isn't the last, as
     /// `Csq::reuse` does.
     pub fn reuse(
         &mut self,
