@@ -29,7 +29,7 @@ observes size slots id q r held s h _ at _ =
       keeps,
       tt,
       (run, id, q', Some r, seat, subst (λ ws. RuleHoldsBy size ws (set s.views id (view_of q' (Some r))) run id q' (Some r) seat) (sym (set-get_or s.words 0 0)) kept.0),
-      (refl, kept.1, k.agrees.seen),
+      (refl, record { told = kept.1; follows = k.agrees.seen }),
     )
 
 -- the same at a view that is known

@@ -5,9 +5,9 @@ ghost use Rattle.std.specs.Prelude.{◌≡◌, None, false};
 ghost use Rattle.csq_words.specs.Own.{inside_of};
 ghost use Rattle.irp_core.specs.Inside.{has_lock};
 ghost use Rattle.csq_words.specs.Records.{with_run};
-ghost use Rattle.csq_words.specs.Rule.{RecordsAgree, SomeRunAgrees, QueueHasRun, QueueAndPassHaveRun, RuleHoldsWith};
+ghost use Rattle.csq_words.specs.Rule.{HasObserved, SomeRunAgrees, QueueHasRun, QueueAndPassHaveRun, RuleHoldsWith};
 ghost use Rattle.csq_words.specs.Calls.{MayNote, after_note};
-ghost use Rattle.csq_words.specs.Plays.{AgreesAfter};
+ghost use Rattle.csq_words.specs.Plays.{ObservesNote};
 ghost use Rattle.csq_words.specs.Seats.{joined_record, IsJoined, with_view};
 
 use crate::calls::{Call, Note};
@@ -33,8 +33,7 @@ pub(crate) fn observe_as<S: Named, A: Allocator>(queue: &mut QueueSeat, words: &
     requires words { queue.old.table ≡ words.now.table }
     requires joined { IsJoined queue.old }
     ensures step { queue.new ≡ record queue.old { queue = with_run queue.new.queue.run queue.old.queue } }
-    ensures told { RecordsAgree words.now.size queue.new.queue.run queue.new.queue (joined_record queue.new) }
-    ensures follows { IsExtendedBy queue.old.queue.run queue.new.queue.run }
+    ensures told { HasObserved words.now.size queue.old.queue queue.new.queue (joined_record queue.new) }
 {
     words.table.shared.load::<Observe<S>>(&mut queue.seat, 0);
 }
@@ -78,8 +77,8 @@ pub(crate) fn note_as<N: CallNote, A: Allocator>(
     requires words { queue.old.table ≡ words.now.table }
     requires joined { IsJoined queue.old }
     requires may { MayNote words.now.size.irps N.call N.note queue.old.queue (joined_record queue.old) }
-    ensures noted { queue.new ≡ with_view (after_note N.call N.note queue.old.queue (joined_record queue.old)) queue.old }
-    ensures told { AgreesAfter words.now.size N.call queue.new.queue (joined_record queue.new) }
+    ensures noted { queue.new ≡ with_view (after_note N.call N.note (with_run queue.new.queue.run queue.old.queue) (joined_record queue.old)) queue.old }
+    ensures told { ObservesNote words.now.size N.call queue.old.queue queue.new.queue (joined_record queue.new) }
 {
     words.table.shared.load::<Record<N>>(&mut queue.seat, 0);
 }
