@@ -48,6 +48,7 @@ impl<L: PendingList + Drop, A: Allocator> OpenQueue<L, A> {
         ensures mine { pass.old.pass.mine ≡ calls_of pass.old.pass.pass self.old.queue.history }
     {
         self.seat.enter(words, &mut pass.seat);
+        // A load that serves the proof alone, since no step of a call observes the execution here.
         self.seat.observe(words);
         leave(&mut self.seat, words, &mut pass.seat);
     }

@@ -67,14 +67,19 @@ impl OpenPass {
             return Err(CancelRefused::UnknownIrp);
         }
         let named = IrpLife { irp, life };
+        // The flag before the routine: an insert that arms too late for the take then finds the flag.
         let (found, _) = flag_read(self.seat.flag(words, named));
         if found.0 != life.0 {
+            // The flag of another life was left alone, and so is its routine.
             return Err(CancelRefused::Stale(found));
         }
         let set = 2 * u64::from(life.0) + 1;
+        // The exchange that decides. Where it finds no routine, some other exchange has found it, or no
+        // insert has armed the IRP in this life yet, and one that does will find the flag.
         if self.seat.take(words, named) != set {
             return Ok(None);
         }
+        // The IRP is still listed, and nobody but this pass may take it out, under the lock.
         self.claims += 1;
         Ok(Some(named))
     }
@@ -88,6 +93,7 @@ impl OpenPass {
         ensures unset { FindsUnset words.now.size irp self.old.pass self.new.pass }
         ensures none_held { has_life (held_list self.new.pass.steps) irp.irp ≡ false }
     {
+        // No lock is needed: the IRP has left the list, and this pass alone holds it.
         self.seat.done(words, irp, status);
         self.tokens -= 1;
     }
@@ -101,6 +107,7 @@ impl OpenPass {
         ensures unset { FindsUnset words.now.size irp self.old.pass self.new.pass }
         ensures none_held { has_life (held_list self.new.pass.steps) irp.irp ≡ false }
     {
+        // No lock is needed: the cancel routine or the insert has taken the IRP out of the list.
         self.seat.done(words, irp, FinalStatus::cancelled());
         self.tokens -= 1;
     }
