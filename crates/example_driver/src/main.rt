@@ -6,8 +6,8 @@ ghost use Rattle.std.specs.Prelude.{◌≡◌};
 
 use anyhow::{Context, Result, bail};
 use csq_list::{InsertStatus, Peek, Place, VecList};
-use csq_queue::{Blank, Csq, Inserted, Pass, PassRack, QueueName};
-use irp_core::{FileId, FinalStatus, IrpId, Life, NtStatus};
+use csq_queue::{Blank, CancelRefused, Csq, Inserted, Pass, PassRack, QueueName, Rest};
+use irp_core::{FileId, FinalStatus, IrpId, Life};
 use std::marker::Brand;
 use std::sync::Wait;
 use std::thread::{Threads, join};
@@ -25,6 +25,24 @@ const LATE: IrpId = IrpId(16);
 const TOO_LATE: IrpId = IrpId(17);
 
 const IRPS: u32 = 18;
+
+// A pass for each of the four threads.
+#[derive(Drop)]
+struct Passes<N: QueueName> {
+    reads: Pass<N>,
+    writes: Pass<N>,
+    worker: Pass<N>,
+    caller: Pass<N>,
+}
+
+// What the driver keeps of its device (the device extension): the queue, the passes of its threads, and
+// the rack that they were taken from.
+#[derive(Drop)]
+struct Device<N: QueueName> {
+    queue: Csq<VecList, N>,
+    passes: Passes<N>,
+    rack: PassRack<N>,
+}
 
 // Makes a request pending (`IoMarkIrpPending`) and queues it (`IoCsqInsertIrpEx`).
 fn queue_one<N: QueueName>(
@@ -59,38 +77,59 @@ fn dispatch<N: QueueName>(
 
 // The worker takes what is queued for reading (`IoCsqRemoveNextIrp`), and completes it
 // (`IoCompleteRequest`). What it takes nobody can cancel any more.
-fn work<N: QueueName>(
-    rt: &impl Wait,
-    queue: &Csq<VecList, N>,
-    pass: &mut Pass<N>,
-    success: FinalStatus,
-) {
+fn work<N: QueueName>(rt: &impl Wait, queue: &Csq<VecList, N>, pass: &mut Pass<N>) {
     for _ in 0..SHARE {
         if let Some(token) = queue.remove_next(rt, pass, Peek::File(READS)) {
-            queue.complete(pass, token, success);
+            queue.complete(pass, token, FinalStatus::success());
         }
     }
 }
 
 // A caller cancels two requests, queued or not (`IoCancelIrp`).
-fn cancel<N: QueueName>(rt: &impl Wait, queue: &Csq<VecList, N>, pass: &mut Pass<N>) -> Result<()> {
+fn cancel<N: QueueName>(
+    rt: &impl Wait,
+    queue: &Csq<VecList, N>,
+    pass: &mut Pass<N>,
+) -> Result<(), CancelRefused> {
     for irp in [IrpId(3), IrpId(11)] {
         // Whether the cancel completed it: else its dispatch routine or the worker does.
-        let Ok(_completed) = queue.cancel(rt, pass, irp, Life(0)) else {
-            bail!("no such request");
-        };
+        let _completed = queue.cancel(rt, pass, irp, Life(0))?;
+    }
+    Ok(())
+}
+
+// The two dispatch routines, the worker and the caller, each in a thread of its own, with a pass of its own.
+fn serve<N: QueueName + Send + Sync, R: Threads + Wait + Sync>(
+    rt: &R,
+    queue: &Csq<VecList, N>,
+    passes: &mut Passes<N>,
+) -> Result<()> {
+    let Passes {
+        reads,
+        writes,
+        worker,
+        caller,
+    } = passes;
+    let ((read, written), ((), cancelled)) = join(
+        rt,
+        || {
+            join(
+                rt,
+                || dispatch(rt, queue, reads, READS),
+                || dispatch(rt, queue, writes, WRITES),
+            )
+        },
+        || { join(rt, || work(rt, queue, worker), || cancel(rt, queue, caller)) },
+    );
+    if read.is_err() || written.is_err() || cancelled.is_err() {
+        bail!("a thread was refused");
     }
     Ok(())
 }
 
 // The four threads are through. The rest is done by this one.
-fn finish<N: QueueName>(
-    rt: &impl Wait,
-    queue: &Csq<VecList, N>,
-    pass: &mut Pass<N>,
-    success: FinalStatus,
-) -> Result<()> {
-    work(rt, queue, pass, success);
+fn finish<N: QueueName>(rt: &impl Wait, queue: &Csq<VecList, N>, pass: &mut Pass<N>) -> Result<()> {
+    work(rt, queue, pass);
     // The last handle to the file object goes: what is queued for it is cancelled (`IRP_MJ_CLEANUP`).
     if queue.cleanup(rt, pass, WRITES).is_err() {
         bail!("no such file object");
@@ -107,41 +146,69 @@ fn finish<N: QueueName>(
     }
 }
 
-// The two dispatch routines, the worker and the caller, each in a thread of its own, with a pass of its own.
-fn serve<N: QueueName + Send + Sync, R: Threads + Wait + Sync>(
+// Serves the device, and finishes what its threads left.
+fn run<N: QueueName + Send + Sync, R: Threads + Wait + Sync>(
     rt: &R,
-    queue: &Csq<VecList, N>,
-    reads: &mut Pass<N>,
-    writes: &mut Pass<N>,
-    worker: &mut Pass<N>,
-    caller: &mut Pass<N>,
-    success: FinalStatus,
+    device: &mut Device<N>,
 ) -> Result<()> {
-    let ((read, written), ((), cancelled)) = join(
-        rt,
-        || {
-            join(
-                rt,
-                || dispatch(rt, queue, reads, READS),
-                || dispatch(rt, queue, writes, WRITES),
-            )
-        },
-        || {
-            join(
-                rt,
-                || work(rt, queue, worker, success),
-                || cancel(rt, queue, caller),
-            )
-        },
-    );
-    if read.is_err() || written.is_err() || cancelled.is_err() {
-        bail!("a thread was refused");
+    let Device { queue, passes, .. } = device;
+    serve(rt, queue, passes)?;
+    finish(rt, queue, &mut passes.reads)
+}
+
+// The next two passes.
+fn take_two<N: QueueName>(rack: &mut PassRack<N>) -> Option<(Pass<N>, Pass<N>)> {
+    let one = rack.take()?;
+    let two = rack.take()?;
+    Some((one, two))
+}
+
+fn take_passes<N: QueueName>(rack: &mut PassRack<N>) -> Option<Passes<N>> {
+    let (reads, writes) = take_two(rack)?;
+    let (worker, caller) = take_two(rack)?;
+    Some(Passes {
+        reads,
+        writes,
+        worker,
+        caller,
+    })
+}
+
+// Starts the device: its queue has a name from here on, and its threads have their passes.
+fn start<N: QueueName>(blank: Blank<VecList>) -> Result<Device<N>>
+    requires { blank ≡ record { table = N.table; limits = N.limits } }
+{
+    let (queue, mut rack) = blank.into_queue::<N>();
+    let passes = take_passes(&mut rack).context("a pass")?;
+    Ok(Device {
+        queue,
+        passes,
+        rack,
+    })
+}
+
+// Each pass that spent what it took comes back, and then the queue can be closed.
+fn give_back<N: QueueName>(
+    rt: &impl Wait,
+    queue: &Csq<VecList, N>,
+    passes: [Pass<N>; 3],
+) -> Result<()> {
+    for pass in passes {
+        if queue.give_back(rt, pass).is_err() {
+            bail!("a request was not completed");
+        }
     }
     Ok(())
 }
 
-// Ends the queue. Answers how many requests were completed, and which one is left.
-fn end<N: QueueName>(
+// How many requests were completed, and which one is left.
+fn tell(rest: &Rest<VecList>) -> (u32, Option<IrpId>) {
+    let completed = (0..IRPS).filter(|irp| rest.status(IrpId(*irp)).is_some());
+    (completed.count() as u32, rest.next_listed(None))
+}
+
+// Closes the queue, and tells what is left of it.
+fn close<N: QueueName>(
     queue: Csq<VecList, N>,
     pass: Pass<N>,
     rack: PassRack<N>,
@@ -149,49 +216,53 @@ fn end<N: QueueName>(
     let Ok(rest) = queue.close(pass, rack) else {
         bail!("not closed");
     };
-    let completed = (0..IRPS).filter(|irp| rest.status(IrpId(*irp)).is_some());
-    Ok((completed.count() as u32, rest.next_listed(None)))
+    Ok(tell(&rest))
 }
 
-// Runs the driver, and answers what is left of its queue.
+// Ends the device, and tells what is left of its queue. What was refused first is what is reported.
+fn end<N: QueueName>(rt: &impl Wait, device: Device<N>) -> Result<(u32, Option<IrpId>)> {
+    let Device {
+        queue,
+        passes,
+        rack,
+    } = device;
+    let Passes {
+        reads,
+        writes,
+        worker,
+        caller,
+    } = passes;
+    let given_back = give_back(rt, &queue, [writes, worker, caller]);
+    let left = close(queue, reads, rack);
+    given_back.and(left)
+}
+
+// Runs the driver, and answers what is left of its queue. Its device is ended in any case.
 fn drive<N: QueueName + Send + Sync, R: Threads + Wait + Sync>(
     rt: &R,
     blank: Blank<VecList>,
 ) -> Result<(u32, Option<IrpId>)>
     requires { blank ≡ record { table = N.table; limits = N.limits } }
 {
-    let success = FinalStatus::new(NtStatus::SUCCESS).context("a final status")?;
-    let (queue, mut rack) = blank.into_queue::<N>();
-    let mut reads = rack.take().context("a pass")?;
-    let mut writes = rack.take().context("a pass")?;
-    let mut worker = rack.take().context("a pass")?;
-    let mut caller = rack.take().context("a pass")?;
-    serve(
-        rt,
-        &queue,
-        &mut reads,
-        &mut writes,
-        &mut worker,
-        &mut caller,
-        success,
-    )?;
-    finish(rt, &queue, &mut reads, success)?;
-    // Each pass that spent what it took comes back, and then the queue can be closed.
-    for pass in [writes, worker, caller] {
-        if queue.give_back(rt, pass).is_err() {
-            bail!("a request was not completed");
-        }
-    }
-    end(queue, reads, rack)
+    let mut device = start::<N>(blank)?;
+    let served = run(rt, &mut device);
+    let left = end(rt, device);
+    served.and(left)
 }
 
-fn main(rt: HostRuntime) -> Result<()> {
+// A queue without a name: a list of the requests for two file objects, and four passes.
+fn new_queue(rt: &impl AllocGlobal) -> Result<Blank<VecList>> {
     let Ok(list) = VecList::new(rt.alloc(), IRPS, 2, IRPS) else {
         bail!("out of memory");
     };
     let Ok(blank) = Blank::new(rt.alloc(), list, IRPS, 4) else {
         bail!("out of memory");
     };
+    Ok(blank)
+}
+
+fn main(rt: HostRuntime) -> Result<()> {
+    let blank = new_queue(&rt)?;
     let (completed, left) = drive::<Brand, _>(&rt, blank)?;
     println!(rt; "{completed} requests were completed")?;
     match left {

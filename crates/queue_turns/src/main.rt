@@ -6,8 +6,8 @@ ghost use Rattle.std.specs.Prelude.{◌≡◌};
 
 use anyhow::{Context, Result, bail};
 use csq_list::{Peek, PendingList, Place, VecList};
-use csq_queue::{Blank, Csq, InsertContext, Inserted, Pass, QueueName};
-use irp_core::{FileId, FinalStatus, IrpId, Life, NtStatus};
+use csq_queue::{Blank, Csq, InsertContext, Inserted, Pass, PassRack, QueueName};
+use irp_core::{FileId, FinalStatus, IrpId, Life};
 use std::env;
 use std::marker::Brand;
 use std::rt::{Clock, Env};
@@ -22,7 +22,7 @@ const INSERTS: u32 = 1024;
 const REUSED_IRPS: u32 = 64;
 
 // What ends an inserted IRP.
-#[derive(Clone, Copy, Debug, PartialEq, Eq)]
+#[derive(Clone, Copy)]
 enum End {
     // It is removed and completed.
     Remove,
@@ -43,11 +43,22 @@ impl End {
 }
 
 // What the turns did: how many IRPs were completed, how many weren't, and the time it took.
-#[derive(Clone, Copy, Debug, Default)]
+#[derive(Clone, Copy, Default)]
 struct Totals {
     completed: u32,
     left: u32,
     nanoseconds: u64,
+}
+
+impl Totals {
+    // These and those of one more turn.
+    fn plus(self, turn: Totals) -> Totals {
+        Totals {
+            completed: self.completed.saturating_add(turn.completed),
+            left: self.left.saturating_add(turn.left),
+            nanoseconds: self.nanoseconds.saturating_add(turn.nanoseconds),
+        }
+    }
 }
 
 // Inserts an IRP at the back. Answers its context, where it is pending.
@@ -131,7 +142,97 @@ fn share<L: PendingList + Drop, N: QueueName, R: Wait>(
     completed
 }
 
-// One turn of one thread, or of four.
+// The passes of four threads. One thread alone has the first.
+#[derive(Drop)]
+struct Passes<N: QueueName> {
+    one: Pass<N>,
+    two: Pass<N>,
+    three: Pass<N>,
+    four: Pass<N>,
+}
+
+// The next two passes.
+fn take_two<N: QueueName>(rack: &mut PassRack<N>) -> Option<(Pass<N>, Pass<N>)> {
+    let one = rack.take()?;
+    let two = rack.take()?;
+    Some((one, two))
+}
+
+fn take_four<N: QueueName>(rack: &mut PassRack<N>) -> Option<Passes<N>> {
+    let (one, two) = take_two(rack)?;
+    let (three, four) = take_two(rack)?;
+    Some(Passes {
+        one,
+        two,
+        three,
+        four,
+    })
+}
+
+// The shares of two of four threads, of which the first has this number.
+fn share_by_two<N: QueueName + Send + Sync, R: Threads + Wait + Sync>(
+    rt: &R,
+    queue: &Csq<VecList, N>,
+    one: &mut Pass<N>,
+    two: &mut Pass<N>,
+    end: End,
+    success: FinalStatus,
+    first: u32,
+) -> u32 {
+    let (a, b) = join(
+        rt,
+        || share(rt, queue, one, end, success, first, 4),
+        || share(rt, queue, two, end, success, first.wrapping_add(1), 4),
+    );
+    a.wrapping_add(b)
+}
+
+// The shares of four threads.
+fn share_by_four<N: QueueName + Send + Sync, R: Threads + Wait + Sync>(
+    rt: &R,
+    queue: &Csq<VecList, N>,
+    passes: &mut Passes<N>,
+    end: End,
+    success: FinalStatus,
+) -> u32 {
+    let Passes {
+        one,
+        two,
+        three,
+        four,
+    } = passes;
+    let (a, b) = join(
+        rt,
+        || share_by_two(rt, queue, one, two, end, success, 0),
+        || share_by_two(rt, queue, three, four, end, success, 2),
+    );
+    a.wrapping_add(b)
+}
+
+// Times the shares of one thread, or of four.
+fn time<N: QueueName + Send + Sync, R: Clock + Threads + Wait + Sync>(
+    rt: &R,
+    queue: &Csq<VecList, N>,
+    passes: &mut Passes<N>,
+    end: End,
+    success: FinalStatus,
+    threads: u32,
+) -> Result<Totals> {
+    let start = Instant::now(rt)?;
+    let completed = if threads == 1 {
+        share(rt, queue, &mut passes.one, end, success, 0, 1)
+    } else {
+        share_by_four(rt, queue, passes, end, success)
+    };
+    let nanoseconds = u64::try_from(start.elapsed(rt)?.as_nanos()).unwrap_or(u64::MAX);
+    Ok(Totals {
+        completed,
+        left: INSERTS.wrapping_sub(completed),
+        nanoseconds,
+    })
+}
+
+// One turn of one thread, or of four, over a new queue.
 fn turn<N: QueueName + Send + Sync, R: Clock + Threads + Wait + Sync>(
     rt: &R,
     blank: Blank<VecList>,
@@ -142,81 +243,74 @@ fn turn<N: QueueName + Send + Sync, R: Clock + Threads + Wait + Sync>(
     requires { blank ≡ record { table = N.table; limits = N.limits } }
 {
     let (queue, mut rack) = blank.into_queue::<N>();
-    let mut one = rack.take().context("a pass")?;
-    let mut two = rack.take().context("a pass")?;
-    let mut three = rack.take().context("a pass")?;
-    let mut four = rack.take().context("a pass")?;
-    let start = Instant::now(rt)?;
-    let completed = if threads == 1 {
-        share(rt, &queue, &mut one, end, success, 0, 1)
-    } else {
-        let ((a, b), (c, d)) = join(
-            rt,
-            || {
-                join(
-                    rt,
-                    || share(rt, &queue, &mut one, end, success, 0, 4),
-                    || share(rt, &queue, &mut two, end, success, 1, 4),
-                )
-            },
-            || {
-                join(
-                    rt,
-                    || share(rt, &queue, &mut three, end, success, 2, 4),
-                    || share(rt, &queue, &mut four, end, success, 3, 4),
-                )
-            },
-        );
-        a.wrapping_add(b).wrapping_add(c).wrapping_add(d)
-    };
-    let nanoseconds = u64::try_from(start.elapsed(rt)?.as_nanos()).unwrap_or(u64::MAX);
-    Ok(Totals {
-        completed,
-        left: INSERTS.wrapping_sub(completed),
-        nanoseconds,
-    })
+    let mut passes = take_four(&mut rack).context("a pass")?;
+    let totals = time(rt, &queue, &mut passes, end, success, threads);
+    // By a call, since the drops that the compiler adds at the end of a scope are dear to prove.
+    drop((passes, rack, queue));
+    totals
 }
 
-fn run<R: Clock + Threads + Wait + AllocGlobal + Sync>(
-    rt: &R,
-    end: End,
-    threads: u32,
-    turns: u32,
-) -> Result<Totals> {
-    let success = FinalStatus::new(NtStatus::SUCCESS).context("a final status")?;
-    let irps = end.irps();
+// A queue without a name, over a new list of so many IRPs.
+fn new_queue(rt: &impl AllocGlobal, irps: u32) -> Result<Blank<VecList>> {
+    let Ok(list) = VecList::new(rt.alloc(), irps, 1, irps) else {
+        bail!("out of memory");
+    };
+    let Ok(blank) = Blank::new(rt.alloc(), list, irps, 4) else {
+        bail!("out of memory");
+    };
+    Ok(blank)
+}
+
+fn run<R: Clock + Threads + Wait + AllocGlobal + Sync>(rt: &R, asked: Asked) -> Result<Totals> {
+    let Asked {
+        end,
+        threads,
+        turns,
+    } = asked;
     let mut totals = Totals::default();
     for _ in 0..turns {
-        let Ok(list) = VecList::new(rt.alloc(), irps, 1, irps) else {
-            bail!("out of memory");
-        };
-        let Ok(blank) = Blank::new(rt.alloc(), list, irps, 4) else {
-            bail!("out of memory");
-        };
-        let done = turn::<Brand, _>(rt, blank, end, success, threads)?;
-        totals = Totals {
-            completed: totals.completed.saturating_add(done.completed),
-            left: totals.left.saturating_add(done.left),
-            nanoseconds: totals.nanoseconds.saturating_add(done.nanoseconds),
-        };
+        let blank = new_queue(rt, end.irps())?;
+        let done = turn::<Brand, _>(rt, blank, end, FinalStatus::success(), threads)?;
+        totals = totals.plus(done);
     }
     Ok(totals)
 }
 
 const USAGE: &str = "usage: queue_turns remove|cancel|reuse 1|4 TURNS";
 
-fn main(rt: HostRuntime) -> Result<()> {
-    let mut args = env::args(&rt)?.skip(1);
-    let kind = args.next().context(USAGE)?;
-    let end = match kind.as_str() {
-        "remove" => End::Remove,
-        "cancel" => End::Cancel,
-        "reuse" => End::Reuse,
+// What the command line asks for.
+#[derive(Clone, Copy)]
+struct Asked {
+    end: End,
+    threads: u32,
+    turns: u32,
+}
+
+// What ends an inserted IRP, from its word.
+fn read_end(word: Option<String>) -> Result<End> {
+    match word.context(USAGE)?.as_str() {
+        "remove" => Ok(End::Remove),
+        "cancel" => Ok(End::Cancel),
+        "reuse" => Ok(End::Reuse),
         _ => bail!(USAGE),
-    };
-    let threads = args.next().context(USAGE)?.as_str().parse::<u32>()?;
-    let turns = args.next().context(USAGE)?.as_str().parse::<u32>()?;
-    let totals = run(&rt, end, threads, turns)?;
+    }
+}
+
+fn read_number(word: Option<String>) -> Result<u32> {
+    Ok(word.context(USAGE)?.as_str().parse::<u32>()?)
+}
+
+fn read_arguments(rt: &(impl Env + AllocGlobal)) -> Result<Asked> {
+    let mut args = env::args(rt)?.skip(1);
+    Ok(Asked {
+        end: read_end(args.next())?,
+        threads: read_number(args.next())?,
+        turns: read_number(args.next())?,
+    })
+}
+
+fn main(rt: HostRuntime) -> Result<()> {
+    let totals = run(&rt, read_arguments(&rt)?)?;
     println!(rt; "completed {}, left {}", totals.completed, totals.left)?;
     eprintln!(rt; "{} ns", totals.nanoseconds)?;
     Ok(())
