@@ -19,7 +19,8 @@ use Rattle.csq_words.specs.declared.views.InsertReply.TheVariants.{Pending}
 use Rattle.csq_words.specs.declared.views.QueueRecord.{QueueRecord}
 use Rattle.csq_words.specs.declared.views.Reusing.TheVariants.{Nothing}
 use Rattle.csq_words.specs.Queue.{Queued, current, new_entry, has_irp, has_entry, without}
-use Rattle.csq_words.specs.Records.{queue_of, queue_in, with_events, with_reusing}
+use Rattle.irp_core.specs.declared.step.Made.{Made}
+use Rattle.csq_words.specs.Records.{queue_of, queue_in, with_events, with_run, with_reusing}
 use Rattle.csq_words.specs.Rule.{next_life}
 use Rattle.test_words.specs.Listed.{IsHome, IsInserted, Removes, only_entry}
 
@@ -45,6 +46,13 @@ after_pending i q p h =
 -- what is left of the only entry without its IRP
 pub none_left : (i : Irp) (es : List Queued) → es ≡ only_entry i → without i es ≡ []
 none_left i es e = ap (without i) e ∙ (rw same_irp-refl refl)
+
+-- what is home, or alone inserted, is so whatever the record has of the execution
+pub home_in : (i : Irp) (q : QueueRecord) (run : List Made) → IsHome i q → IsHome i (with_run run q)
+home_in i q run h = record { idle = h.idle; present = h.present; empty = h.empty; unused = h.unused }
+
+pub inserted_in : (i : Irp) (entries : List Queued) (q : QueueRecord) (run : List Made) → IsInserted i entries q → IsInserted i entries (with_run run q)
+inserted_in i entries q run h = record { idle = h.idle; present = h.present; entries_are = h.entries_are; unused = h.unused }
 
 -- the disarm of a removal may come where its IRP alone is listed
 pub may_disarm : (call : Call) (i : Irp) (q : QueueRecord) (r : PassRecord) → Removes call i → IsInserted i (only_entry i) q → inside_of r.steps ≡ inner.Nothing → MayMake call (Disarm i) q r

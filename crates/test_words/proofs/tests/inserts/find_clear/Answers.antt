@@ -4,11 +4,11 @@ use Rattle.csq_list.specs.declared.entry.Place.TheVariants.{Back}
 use Rattle.csq_words.specs.declared.calls.Call.TheVariants.{Insert}
 use Rattle.csq_words.specs.Calls.{after_step}
 use Rattle.csq_words.specs.Queue.{current}
-use Rattle.csq_words.specs.Records.{queue_of, queue_in}
+use Rattle.csq_words.specs.Records.{queue_of, queue_in, with_run}
 use Rattle.csq_words.specs.Seats.{QueueSeatState, joined_record}
 use Rattle.csq_words.specs.Words.{bit_in}
 use Rattle.test_words.specs.Listed.{IsInserted, only_entry}
-use Rattle.test_words.proofs.Turns.{after_pending}
+use Rattle.test_words.proofs.Turns.{after_pending, home_in}
 use Rattle.test_words.proofs.tests.inserts.find_clear.Goals as goal
 
 -- the insert is pending
@@ -16,8 +16,9 @@ pub returns-clause-inserted : goal.returns-clause-inserted
 returns-clause-inserted g c =
     let i = c.args.name in
     let s = c.args.queue.now in
+    let run = c.test-found.new.self.queue.run in
     let clear : bit_in c.test-found.result ≡ 0 = search rules in
     subst (λ (q : QueueSeatState). IsInserted i (only_entry i) q.queue) (sym c.leave.ensures.queue)
     (subst (λ (q : QueueSeatState). IsInserted i (only_entry i) q.queue) (sym c.test-found.ensures.step)
-    (subst (λ (n : ℕ). IsInserted i (only_entry i) (queue_in (after_step (Insert record { 0 = 0 } record { 0 = 0 } Back) (Test (current (queue_of s.queue) record { 0 = 0 })) n s.queue (joined_record s)))) (sym clear)
-    (after_pending i s.queue (joined_record s).pass c.requires.home)))
+    (subst (λ (n : ℕ). IsInserted i (only_entry i) (queue_in (after_step (Insert record { 0 = 0 } record { 0 = 0 } Back) (Test (current (queue_of s.queue) record { 0 = 0 })) n (with_run run s.queue) (joined_record s)))) (sym clear)
+    (after_pending i (with_run run s.queue) (joined_record s).pass (home_in i s.queue run c.requires.home))))

@@ -5,9 +5,10 @@ use Rattle.irp_core.specs.declared.step.Inside.TheVariants.{Nothing}
 use Rattle.irp_core.proofs.Names.{same_irp-refl}
 use Rattle.csq_words.specs.Own.{inside_of, holds_in, removed_in}
 use Rattle.csq_words.specs.Calls.{MayMake}
+use Rattle.csq_words.specs.Records.{with_run}
 use Rattle.csq_words.specs.Seats.{QueueSeatState, PassSeatState, pass_record, joined_record}
 use Rattle.test_words.specs.Listed.{IsInserted, only_entry}
-use Rattle.test_words.proofs.Turns.{may_disarm, after_removal}
+use Rattle.test_words.proofs.Turns.{may_disarm, inserted_in, after_removal}
 use Rattle.test_words.proofs.tests.removals.remove.Goals as goal
 
 -- the IRP alone is listed
@@ -32,7 +33,8 @@ returns-clause-removed g c =
 pub returns-clause-inserted : goal.returns-clause-inserted
 returns-clause-inserted g c =
     let i = c.args.name in
+    let run = c.disarm-found.new.self.queue.run in
     let inserted = subst (λ (q : QueueSeatState). IsInserted i (only_entry i) q.queue) (sym c.enter.ensures.joined) c.requires.inserted in
     subst (λ (q : QueueSeatState). IsInserted i [] q.queue) (sym c.leave.ensures.queue)
     (subst (λ (q : QueueSeatState). IsInserted i [] q.queue) (sym c.disarm-found.ensures.step)
-    (after_removal c.args.call i c.enter.new.self.queue (joined_record c.enter.new.self) _ c.expect_found.ensures c.requires.removal inserted))
+    (after_removal c.args.call i (with_run run c.enter.new.self.queue) (joined_record c.enter.new.self) _ c.expect_found.ensures c.requires.removal (inserted_in i (only_entry i) c.enter.new.self.queue run inserted)))

@@ -1,8 +1,10 @@
-use Rattle.std.proofs.Common.{sym, subst, arith}
+use Rattle.std.proofs.Common.{[], sym, subst, arith}
+use Rattle.csq_words.specs.declared.views.Reusing.TheVariants.{Nothing}
+use Rattle.csq_words.specs.Records.{with_run, with_reusing}
 use Rattle.csq_words.specs.Rule.{next_life}
 use Rattle.csq_words.specs.Seats.{QueueSeatState, joined_record}
 use Rattle.test_words.specs.Listed.{IsHome}
-use Rattle.test_words.proofs.Turns.{after_reuse}
+use Rattle.test_words.proofs.Turns.{after_reuse, inserted_in}
 use Rattle.test_words.proofs.tests.reuses.renew_cancel.Goals as goal
 
 -- the word found is of the life named
@@ -14,6 +16,7 @@ pub returns-clause-home : goal.returns-clause-home
 returns-clause-home g c =
     let i = c.args.name in
     let s = c.args.queue.now in
+    let run = c.renew_cancel-found.new.self.queue.run in
     subst (λ (q : QueueSeatState). IsHome (next_life i) q.queue) (sym c.leave.ensures.queue)
     (subst (λ (q : QueueSeatState). IsHome (next_life i) q.queue) (sym c.renew_cancel-found.ensures.step)
-    (after_reuse i s.queue (joined_record s).pass c.requires.inserted))
+    (after_reuse i (with_run run s.queue) (joined_record s).pass (inserted_in i [] (with_reusing Nothing s.queue) run c.requires.inserted)))
