@@ -49,7 +49,7 @@ reuse_later size i old new answer done follows sees refused e = go answer e refu
     go : (answer : Result Life ReuseRefused) → answer ≡ Err NotCompleted → IfErr answer (IsReuseRefusal here old new) → life_of i < (end_of size.first new.seen).lives i.irp
     go (Err NotCompleted) e h =
         let apart : life_of i ≢ life_of here = λ same. let is : i ≡ here = irp_eq i here refl same in
-        off (sym h.undone ∙ (ap (is_done h.then) (sym is) ∙ done_stays i old.run h.then h.after done)) in
+        off (sym h.0 ∙ (ap (is_done new.run) (sym is) ∙ done_stays i old.run new.run follows done)) in
         let b = begun in
         omega (arith, b, apart)
     go (Err UnknownIrp) e h = absurd h

@@ -107,7 +107,7 @@ impl OpenPass {
         ensures unset { FindsUnset words.now.size irp self.old.pass self.new.pass }
         ensures none_held { has_life (held_list self.new.pass.steps) irp.irp ≡ false }
     {
-        // No lock is needed: the cancel routine or the insert has taken the IRP out of the list.
+        // No lock is needed: the IRP has left the list, and this pass alone holds it.
         self.seat.done(words, irp, FinalStatus::cancelled());
         self.tokens -= 1;
     }
