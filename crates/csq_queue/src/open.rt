@@ -32,9 +32,17 @@ impl<L: PendingList + Drop, A: Allocator> Model for OpenQueue<L, A> {
 
     ghost Value = { OpenState };
 
-    ghost view = { λ q. record { table = q.seat.table; limits = limits_of (length q.back.items) q.seat.queue.first (L.listing q.list); queue = q.seat.queue } };
+    ghost view = { λ q. record {
+      table = q.seat.table;
+      limits
+          = limits_of (length q.back.items) q.seat.queue.first (L.listing q.list);
+      queue
+          = q.seat.queue;
+    } };
 
-    ghost invariant = { λ q. IsLockedOf q.seat.table (limits_of (length q.back.items) q.seat.queue.first (L.listing q.list)) (L.listing q.list) q.lives q.seat q.back.items };
+    ghost invariant = { λ q. IsLockedOf q.seat.table
+        (limits_of (length q.back.items) q.seat.queue.first (L.listing q.list)) (L.listing q.list)
+        q.lives q.seat q.back.items };
 }
 
 /// A pass of a queue without a name, through which one thread at a time makes its calls. A contract sees
@@ -62,9 +70,16 @@ impl Model for OpenPass {
 
     ghost Value = { OpenPassState };
 
-    ghost view = { λ p. record { table = seat_table p.seat; irps = p.irps; passes = p.passes; pass = pass_record p.seat } };
+    ghost view = { λ p. record {
+      table = seat_table p.seat;
+      irps = p.irps;
+      passes = p.passes;
+      pass
+          = pass_record p.seat;
+    } };
 
-    ghost invariant = { λ p. IsPassSeatOf (seat_table p.seat) p.irps p.passes p.seat p.number p.tokens p.claims × (p.irps ≤ 1024) };
+    ghost invariant = { λ p. IsPassSeatOf (seat_table p.seat) p.irps p.passes p.seat p.number
+        p.tokens p.claims × (p.irps ≤ 1024) };
 }
 
 /// What an accepted insert answers where no token is handed out: the IRP in its life, which is pending, or
@@ -88,7 +103,13 @@ impl Model for OpenRack {
 
     ghost Value = { OpenRackState };
 
-    ghost view = { λ r. record { table = rack_table r.seats; irps = r.irps; passes = r.next + r.left - 1; left = r.left } };
+    ghost view = { λ r. record {
+      table = rack_table r.seats;
+      irps = r.irps;
+      passes
+          = r.next + r.left - 1;
+      left = r.left;
+    } };
 
     ghost invariant = { λ r. IsRack r.seats r.irps r.next r.left };
 }

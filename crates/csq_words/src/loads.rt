@@ -32,8 +32,10 @@ pub(crate) fn observe_as<S: Named, A: Allocator>(queue: &mut QueueSeat, words: &
     requires named { S.size ≡ words.now.size }
     requires words { queue.old.table ≡ words.now.table }
     requires joined { IsJoined queue.old }
-    ensures step { queue.new ≡ record queue.old { queue = with_run queue.new.queue.run queue.old.queue } }
-    ensures told { HasObserved words.now.size queue.old.queue queue.new.queue (joined_record queue.new) }
+    ensures step { queue.new ≡ record queue.old
+        { queue = with_run queue.new.queue.run queue.old.queue } }
+    ensures told { HasObserved words.now.size queue.old.queue queue.new.queue
+        (joined_record queue.new) }
 {
     words.table.shared.load::<Observe<S>>(&mut queue.seat, 0);
 }
@@ -43,7 +45,8 @@ pub(crate) fn tell_queue_as<S: Named, A: Allocator>(queue: &mut QueueSeat, words
     requires named { S.size ≡ words.now.size }
     requires words { queue.old.table ≡ words.now.table }
     requires alone { queue.old.joined ≡ None }
-    ensures step { queue.new ≡ record queue.old { queue = with_run queue.new.queue.run queue.old.queue } }
+    ensures step { queue.new ≡ record queue.old
+        { queue = with_run queue.new.queue.run queue.old.queue } }
     ensures told { QueueHasRun words.now.size queue.new.queue }
     ensures rule { RuleHoldsWith words.now.size queue.new.queue }
     ensures follows { IsExtendedBy queue.old.queue.run queue.new.queue.run }
@@ -58,7 +61,8 @@ pub(crate) fn tell_both_as<S: Named, A: Allocator>(queue: &mut QueueSeat, words:
     requires words { queue.old.table ≡ words.now.table }
     requires joined { IsJoined queue.old }
     requires ended { has_lock (inside_of (joined_record queue.old).steps) ≡ false }
-    ensures step { queue.new ≡ record queue.old { queue = with_run queue.new.queue.run queue.old.queue } }
+    ensures step { queue.new ≡ record queue.old
+        { queue = with_run queue.new.queue.run queue.old.queue } }
     ensures told { QueueAndPassHaveRun words.now.size queue.new.queue (joined_record queue.old) }
     ensures follows { IsExtendedBy queue.old.queue.run queue.new.queue.run }
 {
@@ -76,9 +80,13 @@ pub(crate) fn note_as<N: CallNote, A: Allocator>(
     requires named { N.size ≡ words.now.size }
     requires words { queue.old.table ≡ words.now.table }
     requires joined { IsJoined queue.old }
-    requires may { MayNote words.now.size.irps N.call N.note queue.old.queue (joined_record queue.old) }
-    ensures noted { queue.new ≡ with_view (after_note N.call N.note (with_run queue.new.queue.run queue.old.queue) (joined_record queue.old)) queue.old }
-    ensures told { ObservesNote words.now.size N.call queue.old.queue queue.new.queue (joined_record queue.new) }
+    requires may { MayNote words.now.size.irps N.call N.note queue.old.queue
+        (joined_record queue.old) }
+    ensures noted { queue.new
+        ≡ with_view (after_note N.call N.note (with_run queue.new.queue.run queue.old.queue)
+        (joined_record queue.old)) queue.old }
+    ensures told { ObservesNote words.now.size N.call queue.old.queue queue.new.queue
+        (joined_record queue.new) }
 {
     words.table.shared.load::<Record<N>>(&mut queue.seat, 0);
 }

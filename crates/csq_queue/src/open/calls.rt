@@ -37,11 +37,14 @@ impl<L: PendingList + Drop, A: Allocator> OpenQueue<L, A> {
     pub(crate) fn show(&mut self, words: &Words<A>, pass: &mut OpenPass)
         requires queue { IsQueueOn words.now self.old }
         requires pass { IsPassOn words.now pass.old }
-        ensures queue { self.new ≡ record self.old { queue = with_run pass.new.pass.run self.old.queue } }
+        ensures queue { self.new ≡ record self.old
+            { queue = with_run pass.new.pass.run self.old.queue } }
         ensures legal { IsLegal self.old.limits self.old.queue.history }
-        ensures agrees { IsHistoryOf (queue_size self.old.limits) self.new.queue.run self.new.queue (λ i. false) }
+        ensures agrees { IsHistoryOf (queue_size self.old.limits) self.new.queue.run self.new.queue
+            (λ i. false) }
         ensures sees { SeesRun (queue_size self.old.limits) pass.new.pass }
-        ensures shown { pass.new ≡ record pass.old { pass = caught_up self.new.queue pass.old.pass } }
+        ensures shown { pass.new ≡ record pass.old
+            { pass = caught_up self.new.queue pass.old.pass } }
         ensures follows { IsExtendedBy pass.old.pass.run pass.new.pass.run }
         ensures since { IsExtendedBy self.old.queue.run pass.new.pass.run }
         ensures begins { IsExtendedBy pass.old.pass.seen self.old.queue.history }
@@ -59,9 +62,11 @@ impl<L: PendingList + Drop, A: Allocator> OpenQueue<L, A> {
         requires pass { IsPassOn words.now pass.old }
         requires steps { pass.old.pass.steps ≡ own pass.old.pass.pass pass.old.pass.run }
         requires since { IsExtendedBy pass.old.pass.run self.old.queue.run }
-        requires agrees { IsHistoryOf (queue_size self.old.limits) self.old.queue.run self.old.queue (λ i. false) }
+        requires agrees { IsHistoryOf (queue_size self.old.limits) self.old.queue.run self.old.queue
+            (λ i. false) }
         ensures same { self.new ≡ self.old }
-        ensures shown { pass.new ≡ record pass.old { pass = caught_up self.old.queue pass.old.pass } }
+        ensures shown { pass.new ≡ record pass.old
+            { pass = caught_up self.old.queue pass.old.pass } }
         ensures sees { SeesRun (queue_size self.old.limits) pass.new.pass }
     {
         self.seat.enter(words, &mut pass.seat);
@@ -78,9 +83,17 @@ impl<L: PendingList + Drop, A: Allocator> OpenQueue<L, A> {
         requires queue { IsQueueOn words.now self.old }
         requires pass { IsPassOn words.now pass.old }
         ensures known { IsOk result ↔ (file.0 < self.old.limits.files) }
-        ensures call { OnOk result (AddsEvents self.old.limits self.old.queue.history pass.old.pass pass.new.pass (CloseFile file ∷ [])) }
+        ensures call { OnOk result (AddsEvents self.old.limits self.old.queue.history pass.old.pass
+            pass.new.pass (CloseFile file ∷ [])) }
         ensures steps { OnOk result (MakesSteps [] pass.old.pass pass.new.pass) }
-        ensures seen { OnOk result (self.new ≡ record self.old { queue = record self.old.queue { history = pass.new.pass.seen; run = pass.new.pass.run } }) }
+        ensures seen { OnOk result (self.new
+            ≡ record self.old {
+              queue = record self.old.queue {
+                history = pass.new.pass.seen;
+                run
+                    = pass.new.pass.run;
+              };
+            }) }
         ensures place { OnOk result (pass.new ≡ record pass.old { pass = pass.new.pass }) }
         ensures unknown { OnErr result ((self.new ≡ self.old) × (pass.new ≡ pass.old)) }
     {
@@ -104,14 +117,27 @@ impl<L: PendingList + Drop, A: Allocator> OpenQueue<L, A> {
     ) -> Result<OpenInserted, InsertStatus>
         requires queue { IsQueueOn words.now self.old }
         requires pass { IsPassOn words.now pass.old }
-        ensures accepted { IfOk result (λ inserted. (events : List Event) × IsInsert (current (end_of self.old.limits.first self.old.queue.history) irp) file place inserted events
-            × AddsEvents self.old.limits self.old.queue.history pass.old.pass pass.new.pass events) }
-        ensures steps { MakesSteps (insert_steps result (end_of self.old.limits.first pass.new.pass.seen)) pass.old.pass pass.new.pass }
+        ensures accepted { IfOk result (λ inserted. (events : List Event)
+            × IsInsert (current (end_of self.old.limits.first self.old.queue.history) irp) file
+            place inserted events
+            × AddsEvents self.old.limits self.old.queue.history pass.old.pass pass.new.pass
+            events) }
+        ensures steps { MakesSteps (insert_steps result
+            (end_of self.old.limits.first pass.new.pass.seen)) pass.old.pass pass.new.pass }
         ensures new { IfSome (given_in result) (IsNew self.old.limits pass.old.pass) }
-        ensures token { IfOk result (λ inserted. IfSome (given_by inserted) (Holds self.old.limits.irps pass.new.pass)) }
-        ensures refused { IfErr result (λ cause. AddsEvents self.old.limits self.old.queue.history pass.old.pass pass.new.pass (Insert irp file place (Refused cause) ∷ [])) }
-        ensures cause { IfErr result (λ cause. refusal self.old.limits (end_of self.old.limits.first self.old.queue.history) irp file ≡ Some cause) }
-        ensures seen { self.new ≡ record self.old { queue = record self.old.queue { history = pass.new.pass.seen; run = pass.new.pass.run } } }
+        ensures token { IfOk result (λ inserted. IfSome (given_by inserted)
+            (Holds self.old.limits.irps pass.new.pass)) }
+        ensures refused { IfErr result (λ cause. AddsEvents self.old.limits self.old.queue.history
+            pass.old.pass pass.new.pass (Insert irp file place (Refused cause) ∷ [])) }
+        ensures cause { IfErr result (λ cause. refusal self.old.limits
+            (end_of self.old.limits.first self.old.queue.history) irp file ≡ Some cause) }
+        ensures seen { self.new ≡ record self.old {
+          queue = record self.old.queue {
+            history = pass.new.pass.seen;
+            run
+                = pass.new.pass.run;
+          };
+        } }
         ensures place { pass.new ≡ record pass.old { pass = pass.new.pass } }
     {
         self.seat.enter(words, &mut pass.seat);
@@ -138,11 +164,20 @@ impl<L: PendingList + Drop, A: Allocator> OpenQueue<L, A> {
     ) -> Option<IrpLife>
         requires queue { IsQueueOn words.now self.old }
         requires pass { IsPassOn words.now pass.old }
-        ensures call { (marks : List Irp) × AddsEvents self.old.limits self.old.queue.history pass.old.pass pass.new.pass (RemoveNext peek result ∷ marked marks) }
-        ensures steps { MakesSteps (remove_next_steps peek result (end_of self.old.limits.first self.old.queue.history)) pass.old.pass pass.new.pass }
+        ensures call { (marks : List Irp)
+            × AddsEvents self.old.limits self.old.queue.history pass.old.pass pass.new.pass
+            (RemoveNext peek result ∷ marked marks) }
+        ensures steps { MakesSteps (remove_next_steps peek result
+            (end_of self.old.limits.first self.old.queue.history)) pass.old.pass pass.new.pass }
         ensures new { IfSome result (IsNew self.old.limits pass.old.pass) }
         ensures token { IfSome result (HoldsRemoved self.old.limits.irps pass.new.pass) }
-        ensures seen { self.new ≡ record self.old { queue = record self.old.queue { history = pass.new.pass.seen; run = pass.new.pass.run } } }
+        ensures seen { self.new ≡ record self.old {
+          queue = record self.old.queue {
+            history = pass.new.pass.seen;
+            run
+                = pass.new.pass.run;
+          };
+        } }
         ensures place { pass.new ≡ record pass.old { pass = pass.new.pass } }
     {
         self.seat.enter(words, &mut pass.seat);
@@ -158,11 +193,20 @@ impl<L: PendingList + Drop, A: Allocator> OpenQueue<L, A> {
         requires queue { IsQueueOn words.now self.old }
         requires pass { IsPassOn words.now pass.old }
         ensures irp { IfSome result (λ taken. taken ≡ irp) }
-        ensures call { (marks : List Irp) × AddsEvents self.old.limits self.old.queue.history pass.old.pass pass.new.pass (Remove irp (is_some result) ∷ marked marks) }
-        ensures steps { MakesSteps (remove_steps irp result (end_of self.old.limits.first self.old.queue.history)) pass.old.pass pass.new.pass }
+        ensures call { (marks : List Irp)
+            × AddsEvents self.old.limits self.old.queue.history pass.old.pass pass.new.pass
+            (Remove irp (is_some result) ∷ marked marks) }
+        ensures steps { MakesSteps (remove_steps irp result
+            (end_of self.old.limits.first self.old.queue.history)) pass.old.pass pass.new.pass }
         ensures new { IfSome result (IsNew self.old.limits pass.old.pass) }
         ensures token { IfSome result (HoldsRemoved self.old.limits.irps pass.new.pass) }
-        ensures seen { self.new ≡ record self.old { queue = record self.old.queue { history = pass.new.pass.seen; run = pass.new.pass.run } } }
+        ensures seen { self.new ≡ record self.old {
+          queue = record self.old.queue {
+            history = pass.new.pass.seen;
+            run
+                = pass.new.pass.run;
+          };
+        } }
         ensures place { pass.new ≡ record pass.old { pass = pass.new.pass } }
     {
         self.seat.enter(words, &mut pass.seat);
@@ -177,12 +221,24 @@ impl<L: PendingList + Drop, A: Allocator> OpenQueue<L, A> {
         requires queue { IsQueueOn words.now self.old }
         requires pass { IsPassOn words.now pass.old }
         requires owed { Owes pass.old.pass irp }
-        ensures call { AddsEvents self.old.limits self.old.queue.history pass.old.pass pass.new.pass (Out irp ∷ due_mark irp (end_of self.old.limits.first self.old.queue.history)) }
-        ensures step { pass.new.pass ≡ record (with_step (StepOut irp) 0 pass.old.pass) { seen = pass.new.pass.seen; mine = pass.new.pass.mine; run = pass.new.pass.run } }
+        ensures call { AddsEvents self.old.limits self.old.queue.history pass.old.pass pass.new.pass
+            (Out irp ∷ due_mark irp (end_of self.old.limits.first self.old.queue.history)) }
+        ensures step { pass.new.pass ≡ record (with_step (StepOut irp) 0 pass.old.pass) {
+          seen
+              = pass.new.pass.seen;
+          mine = pass.new.pass.mine;
+          run = pass.new.pass.run;
+        } }
         ensures token { Holds self.old.limits.irps pass.new.pass irp }
         ensures cancelled { removed_in pass.new.pass.steps irp ≡ false }
         ensures none_owed { has_life (owed_list pass.new.pass.steps) irp.irp ≡ false }
-        ensures seen { self.new ≡ record self.old { queue = record self.old.queue { history = pass.new.pass.seen; run = pass.new.pass.run } } }
+        ensures seen { self.new ≡ record self.old {
+          queue = record self.old.queue {
+            history = pass.new.pass.seen;
+            run
+                = pass.new.pass.run;
+          };
+        } }
         ensures place { pass.new ≡ record pass.old { pass = pass.new.pass } }
     {
         self.seat.enter(words, &mut pass.seat);
@@ -203,11 +259,20 @@ impl<L: PendingList + Drop, A: Allocator> OpenQueue<L, A> {
         requires queue { IsQueueOn words.now self.old }
         requires pass { IsPassOn words.now pass.old }
         ensures known { (result ≡ Err ReuseRefused.UnknownIrp) ↔ ¬ (irp.0 < self.old.limits.irps) }
-        ensures unknown { result ≡ Err ReuseRefused.UnknownIrp → (self.new ≡ self.old) × (pass.new ≡ pass.old) }
-        ensures call { irp.0 < self.old.limits.irps → AddsEvents self.old.limits self.old.queue.history pass.old.pass pass.new.pass (reuse_events irp result) }
+        ensures unknown { result ≡ Err ReuseRefused.UnknownIrp → (self.new ≡ self.old)
+            × (pass.new ≡ pass.old) }
+        ensures call { irp.0 < self.old.limits.irps
+            → AddsEvents self.old.limits self.old.queue.history pass.old.pass pass.new.pass
+            (reuse_events irp result) }
         ensures steps { MakesSteps (reuse_steps irp result) pass.old.pass pass.new.pass }
-        ensures refused { irp.0 < self.old.limits.irps → IfErr result (IsReuseRefusal (current (end_of self.old.limits.first pass.new.pass.seen) irp) pass.old.pass pass.new.pass) }
-        ensures seen { irp.0 < self.old.limits.irps → self.new ≡ record self.old { queue = record self.old.queue { history = pass.new.pass.seen; run = pass.new.pass.run } } }
+        ensures refused { irp.0 < self.old.limits.irps
+            → IfErr result (IsReuseRefusal (current
+            (end_of self.old.limits.first pass.new.pass.seen) irp) pass.old.pass pass.new.pass) }
+        ensures seen { irp.0 < self.old.limits.irps
+            → self.new ≡ record self.old {
+              queue
+                  = record self.old.queue { history = pass.new.pass.seen; run = pass.new.pass.run };
+            } }
         ensures place { pass.new ≡ record pass.old { pass = pass.new.pass } }
     {
         if irp.0 >= pass.irps {

@@ -37,7 +37,14 @@ impl OpenRack {
     pub fn take(&mut self) -> Option<OpenPass>
         ensures none { IsNone result ↔ (self.old.left ≡ 0) }
         ensures kept { IsNone result → self.new ≡ self.old }
-        ensures new { IfSome result (λ pass. pass ≡ record { table = self.old.table; irps = self.old.irps; passes = self.old.passes; pass = new_pass (pass_numbered (self.old.passes + 1 - self.old.left)) }) }
+        ensures new { IfSome result (λ pass. pass
+            ≡ record {
+              table = self.old.table;
+              irps = self.old.irps;
+              passes = self.old.passes;
+              pass
+                  = new_pass (pass_numbered (self.old.passes + 1 - self.old.left));
+            }) }
         ensures left { IfSome result (λ pass. self.new.left + 1 ≡ self.old.left) }
         ensures same { (self.new.irps ≡ self.old.irps) × (self.new.passes ≡ self.old.passes) }
         ensures table { 0 < self.new.left → self.new.table ≡ self.old.table }
@@ -91,7 +98,8 @@ impl<L: PendingList + Drop, A: Allocator> OpenQueue<L, A> {
     pub(crate) fn see(&mut self, words: &Words<A>, receipt: &mut Receipt)
         requires queue { IsQueueOn words.now self.old }
         requires receipt { IsHere words.now.table receipt.old }
-        ensures shown { self.new ≡ record self.old { queue = with_shown (pass_record receipt.old) self.old.queue } }
+        ensures shown { self.new ≡ record self.old
+            { queue = with_shown (pass_record receipt.old) self.old.queue } }
         ensures kept { receipt.new ≡ receipt.old }
     {
         self.seat.show(words, receipt);
@@ -102,7 +110,8 @@ impl<L: PendingList + Drop, A: Allocator> OpenQueue<L, A> {
     pub(crate) fn tell(&mut self, words: &Words<A>, pass: &mut OpenPass)
         requires queue { IsQueueOn words.now self.old }
         requires pass { IsPassOn words.now pass.old }
-        ensures step { self.new ≡ record self.old { queue = with_run self.new.queue.run self.old.queue } }
+        ensures step { self.new ≡ record self.old
+            { queue = with_run self.new.queue.run self.old.queue } }
         ensures kept { pass.new ≡ pass.old }
         ensures told { QueueAndPassHaveRun words.now.size self.new.queue pass.old.pass }
         ensures made { self.new.queue.made ≡ self.new.limits.passes }
@@ -131,7 +140,8 @@ impl<L: PendingList + Drop, A: Allocator> OpenQueue<L, A> {
         requires queue { IsQueueOn words self }
         requires rack { IsRackOn words rack }
         requires back { FirstAreBack (self.limits.passes - rack.left) self.queue.back }
-        ensures rest { IsClosed self.limits (self.limits.passes - rack.left) self.queue (L.listing result.list) result.finals }
+        ensures rest { IsClosed self.limits (self.limits.passes - rack.left) self.queue
+            (L.listing result.list) result.finals }
     {
         let _ = &self.list;
         self.give_rest(&words, rack);
@@ -144,7 +154,8 @@ impl<L: PendingList + Drop, A: Allocator> OpenQueue<L, A> {
         requires rack { IsRackOn words.now rack }
         requires back { FirstAreBack (self.old.limits.passes - rack.left) self.old.queue.back }
         requires made { self.old.queue.made ≡ self.old.limits.passes }
-        ensures given { GivenBack (self.old.limits.passes - rack.left) self.old.limits.passes self.old.queue self.new.queue }
+        ensures given { GivenBack (self.old.limits.passes - rack.left) self.old.limits.passes
+            self.old.queue self.new.queue }
         ensures all { AllBack self.new.queue }
         ensures place { (self.new.table ≡ self.old.table) × (self.new.limits ≡ self.old.limits) }
     {
@@ -164,9 +175,11 @@ impl<L: PendingList + Drop, A: Allocator> OpenQueue<L, A> {
         ensures queue { result.finals.queue ≡ with_run result.finals.queue.run self.queue }
         ensures follows { IsExtendedBy self.queue.run result.finals.queue.run }
         ensures last { IsFinal (queue_size self.limits) result.finals.words result.finals.queue }
-        ensures left { (n : IrpNumber) → n.0 < self.limits.irps → IsLeft result.finals.words result.finals.queue n }
+        ensures left { (n : IrpNumber) → n.0 < self.limits.irps
+            → IsLeft result.finals.words result.finals.queue n }
         ensures records { KeepsRecords result.finals }
-        ensures list { L.listing result.list ≡ listing_of self.limits (queue_of result.finals.queue) }
+        ensures list { L.listing result.list
+            ≡ listing_of self.limits (queue_of result.finals.queue) }
         ensures legal { IsLegal self.limits result.finals.queue.history }
         ensures first { result.finals.queue.first ≡ self.limits.first }
         ensures made { result.finals.queue.made ≡ self.limits.passes }

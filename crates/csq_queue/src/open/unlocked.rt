@@ -56,11 +56,18 @@ impl OpenPass {
     ) -> Result<Option<IrpLife>, CancelRefused>
         requires { IsPassOn words.now self.old }
         ensures known { IsOk result → irp.0 < self.old.irps }
-        ensures step { IfOk result (λ claim. (flag : ℕ) × (self.new.pass ≡ saw self.new.pass.run (with_step (Take (named irp life)) (count_given claim) (with_step (Flag (named irp life)) flag self.old.pass)))
-            × EndsWithTake words.now.size (named irp life) flag (count_given claim) self.old.pass self.new.pass) }
-        ensures claimed { IfOk result (λ claim. IfSome claim (λ i. (i ≡ named irp life) × Owes self.new.pass i)) }
-        ensures missed { IfOk result (λ claim. claim ≡ None → MissedTheRoutine (named irp life) self.new.pass) }
-        ensures refused { IfErr result (IsCancelRefusal words.now.size (named irp life) self.old.pass self.new.pass) }
+        ensures step { IfOk result (λ claim. (flag : ℕ)
+            × (self.new.pass ≡ saw self.new.pass.run
+            (with_step (Take (named irp life)) (count_given claim)
+            (with_step (Flag (named irp life)) flag self.old.pass)))
+            × EndsWithTake words.now.size (named irp life) flag (count_given claim) self.old.pass
+            self.new.pass) }
+        ensures claimed { IfOk result (λ claim. IfSome claim
+            (λ i. (i ≡ named irp life) × Owes self.new.pass i)) }
+        ensures missed { IfOk result (λ claim. claim ≡ None
+            → MissedTheRoutine (named irp life) self.new.pass) }
+        ensures refused { IfErr result (IsCancelRefusal words.now.size (named irp life)
+            self.old.pass self.new.pass) }
         ensures place { self.new ≡ record self.old { pass = self.new.pass } }
     {
         if irp.0 >= self.irps {
@@ -89,7 +96,10 @@ impl OpenPass {
     pub fn complete<A: Allocator>(&mut self, words: &Words<A>, irp: IrpLife, status: FinalStatus)
         requires pass { IsPassOn words.now self.old }
         requires held { HoldsRemoved self.old.irps self.old.pass irp }
-        ensures step { self.new ≡ record self.old { pass = saw self.new.pass.run (with_completion irp status (with_step (Done irp) 0 self.old.pass)) } }
+        ensures step { self.new ≡ record self.old {
+          pass = saw self.new.pass.run (with_completion irp status
+              (with_step (Done irp) 0 self.old.pass));
+        } }
         ensures unset { FindsUnset words.now.size irp self.old.pass self.new.pass }
         ensures none_held { has_life (held_list self.new.pass.steps) irp.irp ≡ false }
     {
@@ -103,7 +113,10 @@ impl OpenPass {
     pub fn complete_cancelled<A: Allocator>(&mut self, words: &Words<A>, irp: IrpLife)
         requires pass { IsPassOn words.now self.old }
         requires held { Holds self.old.irps self.old.pass irp }
-        ensures step { self.new ≡ record self.old { pass = saw self.new.pass.run (with_completion irp CANCELLED (with_step (Done irp) 0 self.old.pass)) } }
+        ensures step { self.new ≡ record self.old {
+          pass = saw self.new.pass.run (with_completion irp CANCELLED
+              (with_step (Done irp) 0 self.old.pass));
+        } }
         ensures unset { FindsUnset words.now.size irp self.old.pass self.new.pass }
         ensures none_held { has_life (held_list self.new.pass.steps) irp.irp ≡ false }
     {
@@ -123,9 +136,13 @@ impl OpenPass {
         ensures known { IsOk result ↔ (irp.0 < self.old.irps) }
         ensures same { self.new ≡ record self.old { pass = saw self.new.pass.run self.old.pass } }
         ensures unknown { OnErr result (self.new ≡ self.old) }
-        ensures found { IfOk result (λ read. (w : ℕ) × (read ≡ flag_read w) × IsFlagOf words.now.size irp self.old.pass self.new.pass w) }
-        ensures mine { IfOk result (λ read. (i : Irp) → i.irp ≡ irp → flagged self.old.pass.steps i ≡ true → (read ≡ (i.life, true)) ⊎ (life_of i < read.0.0)) }
-        ensures seen { IfOk result (λ read. (i : Irp) → i.irp ≡ irp → shows_flagged i self.old.pass.seen ≡ true → (read ≡ (i.life, true)) ⊎ (life_of i < read.0.0)) }
+        ensures found { IfOk result (λ read. (w : ℕ) × (read ≡ flag_read w)
+            × IsFlagOf words.now.size irp self.old.pass self.new.pass w) }
+        ensures mine { IfOk result (λ read. (i : Irp) → i.irp ≡ irp → flagged self.old.pass.steps i
+            ≡ true → (read ≡ (i.life, true)) ⊎ (life_of i < read.0.0)) }
+        ensures seen { IfOk result (λ read. (i : Irp) → i.irp ≡ irp
+            → shows_flagged i self.old.pass.seen ≡ true → (read ≡ (i.life, true))
+            ⊎ (life_of i < read.0.0)) }
     {
         if irp.0 >= self.irps {
             return Err(UnknownIrp);
@@ -144,10 +161,15 @@ impl OpenPass {
         ensures known { IsOk result ↔ (irp.0 < self.old.irps) }
         ensures same { self.new ≡ record self.old { pass = saw self.new.pass.run self.old.pass } }
         ensures unknown { OnErr result (self.new ≡ self.old) }
-        ensures found { IfOk result (λ read. (w : ℕ) × (read ≡ status_read w) × IsStatusOf words.now.size irp self.old.pass self.new.pass w) }
-        ensures mine { IfOk result (λ read. (i : Irp) (status : Status) → i.irp ≡ irp → status_recorded i self.old.pass.completed ≡ Some status → (read ≡ (i.life, Some status)) ⊎ (life_of i < read.0.0)) }
-        ensures owed { IfOk result (λ read. (i : Irp) → i.irp ≡ irp → owes_in self.old.pass.steps i ≡ true → read ≡ (i.life, None)) }
-        ensures held { IfOk result (λ read. (i : Irp) → i.irp ≡ irp → holds_in self.old.pass.steps i ≡ true → read ≡ (i.life, None)) }
+        ensures found { IfOk result (λ read. (w : ℕ) × (read ≡ status_read w)
+            × IsStatusOf words.now.size irp self.old.pass self.new.pass w) }
+        ensures mine { IfOk result (λ read. (i : Irp) (status : Status) → i.irp ≡ irp
+            → status_recorded i self.old.pass.completed ≡ Some status
+            → (read ≡ (i.life, Some status)) ⊎ (life_of i < read.0.0)) }
+        ensures owed { IfOk result (λ read. (i : Irp) → i.irp ≡ irp → owes_in self.old.pass.steps i
+            ≡ true → read ≡ (i.life, None)) }
+        ensures held { IfOk result (λ read. (i : Irp) → i.irp ≡ irp → holds_in self.old.pass.steps i
+            ≡ true → read ≡ (i.life, None)) }
     {
         if irp.0 >= self.irps {
             return Err(UnknownIrp);
