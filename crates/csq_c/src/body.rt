@@ -23,7 +23,11 @@ impl Model for QueueBody {
 
     ghost Value = { QueueBodyState };
 
-    ghost view = { λ b. record { queue = b.queue; rest = rest_of ⟦<AnyList as PendingList>⟧.listing b.rest } };
+    ghost view = { λ b. record {
+      queue = b.queue;
+      rest
+          = rest_of ⟦<AnyList as PendingList>⟧.listing b.rest;
+    } };
 }
 
 impl QueueBody {

@@ -15,7 +15,8 @@ impl QueueBody {
         alloc: Global,
         made: Result<CheckedQueue, NewRefused>,
     ) -> Result<Box<QueueBody>, Code>
-        ensures opened { IfOk result (λ body. IfOk made (λ queue. body.value ≡ record { queue = Some queue; rest = None })) }
+        ensures opened { IfOk result (λ body. IfOk made
+            (λ queue. body.value ≡ record { queue = Some queue; rest = None })) }
         ensures made { IsOk result → IsOk made }
         ensures bad_size { (result ≡ Err Code.BadSize) ↔ (made ≡ Err NewRefused.BadSize) }
         ensures cause { IfErr result (λ code. (code ≡ Code.BadSize) ⊎ (code ≡ Code.NoMemory)) }
@@ -38,8 +39,10 @@ impl QueueBody {
     pub(crate) fn take_pass(&mut self, alloc: Global) -> Result<Box<CheckedPass>, Code>
         ensures closed { self.old.queue ≡ None → result ≡ Err Code.Closed }
         ensures none { IfSome self.old.queue (λ q. (result ≡ Err Code.NoPass) ↔ (q.left ≡ 0)) }
-        ensures cause { IfSome self.old.queue (λ q. IfErr result (λ code. (code ≡ Code.NoPass) ⊎ (code ≡ Code.NoMemory))) }
-        ensures pass { IfOk result (λ pass. IfSome self.old.queue (λ q. IsNextPass q pass.value × IsTaken self.old self.new q)) }
+        ensures cause { IfSome self.old.queue
+            (λ q. IfErr result (λ code. (code ≡ Code.NoPass) ⊎ (code ≡ Code.NoMemory))) }
+        ensures pass { IfOk result (λ pass. IfSome self.old.queue
+            (λ q. IsNextPass q pass.value × IsTaken self.old self.new q)) }
         ensures kept { OnErr result (self.new ≡ self.old) }
     {
         let Some(queue) = &mut self.queue else {
@@ -58,9 +61,11 @@ impl QueueBody {
     ) -> Result<(), (Code, Box<CheckedPass>)>
         requires { IsPassFor self.old pass.value }
         ensures done { OnOk result (give_back_code self.old pass.value ≡ Code.Done) }
-        ensures back { OnOk result (self.new ≡ record self.old { queue = with_back_in pass.value.pass self.old.queue }) }
+        ensures back { OnOk result (self.new
+            ≡ record self.old { queue = with_back_in pass.value.pass self.old.queue }) }
         ensures cause { IfErr result (λ kept. (kept.0 ≡ Code.Closed) ⊎ (kept.0 ≡ Code.Holding)) }
-        ensures refused { IfErr result (λ kept. (kept.0 ≡ give_back_code self.old pass.value) × (kept.1 ≡ pass) × (self.new ≡ self.old)) }
+        ensures refused { IfErr result (λ kept. (kept.0 ≡ give_back_code self.old pass.value)
+            × (kept.1 ≡ pass) × (self.new ≡ self.old)) }
     {
         let Some(queue) = &mut self.queue else {
             return Err((Code::Closed, pass));
@@ -94,8 +99,10 @@ impl QueueBody {
     /// Closes the queue, where it is open and no pass is out.
     pub(crate) fn close(&mut self) -> Code
         ensures closed { self.old.queue ≡ None → (result ≡ Code.Closed) × (self.new ≡ self.old) }
-        ensures cause { IfSome self.old.queue (λ q. (result ≡ Code.Done) ⊎ ((result ≡ Code.PassesOut) × (self.new ≡ self.old))) }
-        ensures rest { result ≡ Code.Done → (self.new.queue ≡ None) × IfSome self.old.queue (λ q. IfSome self.new.rest (IsLeftOf q)) }
+        ensures cause { IfSome self.old.queue
+            (λ q. (result ≡ Code.Done) ⊎ ((result ≡ Code.PassesOut) × (self.new ≡ self.old))) }
+        ensures rest { result ≡ Code.Done → (self.new.queue ≡ None)
+            × IfSome self.old.queue (λ q. IfSome self.new.rest (IsLeftOf q)) }
         ensures some { result ≡ Code.Done → ¬ (self.new.rest ≡ None) }
     {
         let Some(queue) = self.queue.take() else {

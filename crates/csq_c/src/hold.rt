@@ -67,7 +67,8 @@ pub(crate) trait Handle {
 
 /// Takes the box out. None, and nothing is changed, where there was none.
 pub(crate) fn take<H: Handle>(handle: &mut H, alloc: Global) -> Option<Box<H::Body>>
-    ensures taken { MatchOption result (H.held_in handle.old ≡ None) (λ there. H.held_in handle.old ≡ Some there.value) }
+    ensures taken { MatchOption result (H.held_in handle.old ≡ None)
+        (λ there. H.held_in handle.old ≡ Some there.value) }
     ensures after { H.held_in handle.new ≡ None }
 {
     let whole = replace(handle, H::of(Hold::empty()));
@@ -80,7 +81,8 @@ pub(crate) fn put<H: Handle>(
     alloc: Global,
     body: Box<H::Body>,
 ) -> Option<Box<H::Body>>
-    ensures before { MatchOption result (H.held_in handle.old ≡ None) (λ there. H.held_in handle.old ≡ Some there.value) }
+    ensures before { MatchOption result (H.held_in handle.old ≡ None)
+        (λ there. H.held_in handle.old ≡ Some there.value) }
     ensures after { H.held_in handle.new ≡ Some body.value }
 {
     let whole = replace(handle, H::of(Hold::of(body)));

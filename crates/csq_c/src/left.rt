@@ -17,7 +17,8 @@ impl QueueBody {
     /// The listed IRP after this one, or the first, where the queue is closed.
     fn next_listed(&self, after: Option<IrpId>) -> (Code, Option<u32>)
         ensures unclosed { self.now.rest ≡ None → result ≡ (Code.NotClosed, None) }
-        ensures next { IfSome self.now.rest (λ rest. result ≡ (next_code rest.entries after, number_told (next_after rest.entries after))) }
+        ensures next { IfSome self.now.rest (λ rest. result
+            ≡ (next_code rest.entries after, number_told (next_after rest.entries after))) }
     {
         let Some(rest) = &self.rest else {
             return (Code::NotClosed, None);
@@ -36,7 +37,8 @@ impl QueueBody {
     /// What is left of an IRP, where the queue is closed.
     fn left(&self, irp: IrpId) -> (Code, Option<CsqLeft>)
         ensures unclosed { self.now.rest ≡ None → result ≡ (Code.NotClosed, None) }
-        ensures left { IfSome self.now.rest (λ rest. result ≡ (left_code (left_of rest.finals irp), left_of rest.finals irp)) }
+        ensures left { IfSome self.now.rest (λ rest. result
+            ≡ (left_code (left_of rest.finals irp), left_of rest.finals irp)) }
     {
         let Some(rest) = &self.rest else {
             return (Code::NotClosed, None);
@@ -69,8 +71,11 @@ pub extern "C" fn csq_next_listed(
 ) -> u32
     ensures same { queue.new.body ≡ queue.old.body }
     ensures empty { queue.old.body ≡ None → (result ≡ number_of Code.Empty) × (irp.new ≡ irp.old) }
-    ensures unclosed { IfSome queue.old.body (λ body. body.rest ≡ None → (result ≡ number_of Code.NotClosed) × (irp.new ≡ irp.old)) }
-    ensures next { IfSome queue.old.body (λ body. IfSome body.rest (λ rest. (result ≡ number_of (next_code rest.entries (start_of after))) × (irp.new ≡ set_to (number_told (next_after rest.entries (start_of after))) irp.old))) }
+    ensures unclosed { IfSome queue.old.body (λ body. body.rest ≡ None
+        → (result ≡ number_of Code.NotClosed) × (irp.new ≡ irp.old)) }
+    ensures next { IfSome queue.old.body (λ body. IfSome body.rest
+        (λ rest. (result ≡ number_of (next_code rest.entries (start_of after)))
+        × (irp.new ≡ set_to (number_told (next_after rest.entries (start_of after))) irp.old))) }
 {
     let Some(body) = take(queue, alloc) else {
         return Code::Empty.number();
@@ -85,9 +90,13 @@ pub extern "C" fn csq_next_listed(
 #[unsafe(no_mangle)]
 pub extern "C" fn csq_left(alloc: Global, queue: &mut CsqQueue, irp: u32, left: &mut CsqLeft) -> u32
     ensures same { queue.new.body ≡ queue.old.body }
-    ensures empty { queue.old.body ≡ None → (result ≡ number_of Code.Empty) × (left.new ≡ left.old) }
-    ensures unclosed { IfSome queue.old.body (λ body. body.rest ≡ None → (result ≡ number_of Code.NotClosed) × (left.new ≡ left.old)) }
-    ensures left { IfSome queue.old.body (λ body. IfSome body.rest (λ rest. (result ≡ number_of (left_code (left_of rest.finals (irp_numbered irp)))) × (left.new ≡ left_written (left_of rest.finals (irp_numbered irp)) left.old))) }
+    ensures empty { queue.old.body ≡ None → (result ≡ number_of Code.Empty)
+        × (left.new ≡ left.old) }
+    ensures unclosed { IfSome queue.old.body (λ body. body.rest ≡ None
+        → (result ≡ number_of Code.NotClosed) × (left.new ≡ left.old)) }
+    ensures left { IfSome queue.old.body (λ body. IfSome body.rest
+        (λ rest. (result ≡ number_of (left_code (left_of rest.finals (irp_numbered irp))))
+        × (left.new ≡ left_written (left_of rest.finals (irp_numbered irp)) left.old))) }
 {
     let Some(body) = take(queue, alloc) else {
         return Code::Empty.number();

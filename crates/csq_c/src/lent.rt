@@ -17,9 +17,12 @@ pub(crate) struct Lent {
 
 /// Takes both out of their handles. Where one is empty, `Empty`, and nothing is changed.
 pub(crate) fn lend(alloc: Global, queue: &mut CsqQueue, pass: &mut CsqPass) -> Result<Lent, Code>
-    ensures lent { IfOk result (λ lent. (queue.old.body ≡ Some lent.body.value) × (pass.old.body ≡ Some lent.pass.value)) }
+    ensures lent { IfOk result (λ lent. (queue.old.body ≡ Some lent.body.value)
+        × (pass.old.body ≡ Some lent.pass.value)) }
     ensures taken { OnOk result ((queue.new.body ≡ None) × (pass.new.body ≡ None)) }
-    ensures empty { IfErr result (λ code. (code ≡ Code.Empty) × ((queue.old.body ≡ None) ⊎ (pass.old.body ≡ None)) × (queue.new.body ≡ queue.old.body) × (pass.new.body ≡ pass.old.body)) }
+    ensures empty { IfErr result (λ code. (code ≡ Code.Empty)
+        × ((queue.old.body ≡ None) ⊎ (pass.old.body ≡ None)) × (queue.new.body ≡ queue.old.body)
+        × (pass.new.body ≡ pass.old.body)) }
 {
     let Some(at) = take(queue, alloc) else {
         return Err(Code::Empty);

@@ -27,7 +27,8 @@ pub extern "C" fn csq_insert(
     context: &mut CsqIrp,
 ) -> u32
     requires { ArePaired queue.old.body pass.old.body }
-    ensures { OnHandles queue.old.body queue.new.body pass.old.body pass.new.body result (context.new ≡ context.old)
+    ensures { OnHandles queue.old.body queue.new.body pass.old.body pass.new.body result
+        (context.new ≡ context.old)
         (λ body body' p p' code. (told : Option Irp) × InsertsInto (irp_numbered irp) (file_numbered file) (place_of front) body body' p p' code told × (context.new ≡ written told context.old)) }
 {
     let mut lent = match lend(alloc, queue, pass) {
@@ -53,7 +54,8 @@ pub extern "C" fn csq_remove_next(
     irp: &mut CsqIrp,
 ) -> u32
     requires { ArePaired queue.old.body pass.old.body }
-    ensures { OnHandles queue.old.body queue.new.body pass.old.body pass.new.body result (irp.new ≡ irp.old)
+    ensures { OnHandles queue.old.body queue.new.body pass.old.body pass.new.body result
+        (irp.new ≡ irp.old)
         (λ body body' p p' code. (told : Option Irp) × RemovesNextFrom (peek_of file) body body' p p' code told × (irp.new ≡ written told irp.old)) }
 {
     let mut lent = match lend(alloc, queue, pass) {
@@ -141,7 +143,8 @@ pub extern "C" fn csq_reuse(
     life: &mut u32,
 ) -> u32
     requires { ArePaired queue.old.body pass.old.body }
-    ensures { OnHandles queue.old.body queue.new.body pass.old.body pass.new.body result (life.new ≡ life.old)
+    ensures { OnHandles queue.old.body queue.new.body pass.old.body pass.new.body result
+        (life.new ≡ life.old)
         (λ body body' p p' code. (told : Option ℕ) × ReusesOf (irp_numbered irp) body body' p p' code told × (life.new ≡ set_to told life.old)) }
 {
     let mut lent = match lend(alloc, queue, pass) {

@@ -14,11 +14,19 @@ use std::alloc::Global;
 /// Hands out the next pass, under the caller's lock: 0, else 21, 22, 24, 18 or 20. Own rule.
 #[unsafe(no_mangle)]
 pub extern "C" fn csq_pass(alloc: Global, queue: &mut CsqQueue, pass: &mut CsqPass) -> u32
-    ensures refused { IfSome (take_cause queue.old.body pass.old.body) (λ cause. result ≡ number_of cause) }
-    ensures none { IfSome (open_of queue.old.body) (λ q. pass.old.body ≡ None → ((result ≡ number_of Code.NoPass) ↔ (q.left ≡ 0))) }
-    ensures cause { IfSome (open_of queue.old.body) (λ q. pass.old.body ≡ None → (result ≡ number_of Code.Done) ⊎ ((result ≡ number_of Code.NoPass) ⊎ (result ≡ number_of Code.NoMemory))) }
-    ensures made { result ≡ number_of Code.Done → (body body' : QueueBodyState) × (q : CheckedState) × (p : CheckedPassState) × (queue.old.body ≡ Some body) × (body.queue ≡ Some q) × (queue.new.body ≡ Some body') × (pass.new.body ≡ Some p) × IsNextPass q p × IsTaken body body' q }
-    ensures kept { 0 < result → (queue.new.body ≡ queue.old.body) × (pass.new.body ≡ pass.old.body) }
+    ensures refused { IfSome (take_cause queue.old.body pass.old.body)
+        (λ cause. result ≡ number_of cause) }
+    ensures none { IfSome (open_of queue.old.body)
+        (λ q. pass.old.body ≡ None → ((result ≡ number_of Code.NoPass) ↔ (q.left ≡ 0))) }
+    ensures cause { IfSome (open_of queue.old.body)
+        (λ q. pass.old.body ≡ None → (result ≡ number_of Code.Done)
+        ⊎ ((result ≡ number_of Code.NoPass) ⊎ (result ≡ number_of Code.NoMemory))) }
+    ensures made { result ≡ number_of Code.Done → (body body' : QueueBodyState) × (q : CheckedState)
+        × (p : CheckedPassState) × (queue.old.body ≡ Some body) × (body.queue ≡ Some q)
+        × (queue.new.body ≡ Some body') × (pass.new.body ≡ Some p) × IsNextPass q p
+        × IsTaken body body' q }
+    ensures kept { 0 < result → (queue.new.body ≡ queue.old.body)
+        × (pass.new.body ≡ pass.old.body) }
 {
     let Some(mut body) = take(queue, alloc) else {
         return Code::Empty.number();
@@ -43,10 +51,16 @@ pub extern "C" fn csq_pass(alloc: Global, queue: &mut CsqQueue, pass: &mut CsqPa
 #[unsafe(no_mangle)]
 pub extern "C" fn csq_give_back(alloc: Global, queue: &mut CsqQueue, pass: &mut CsqPass) -> u32
     requires { ArePaired queue.old.body pass.old.body }
-    ensures empty { (queue.old.body ≡ None) ⊎ (pass.old.body ≡ None) → result ≡ number_of Code.Empty }
-    ensures code { IfSome queue.old.body (λ body. IfSome pass.old.body (λ p. result ≡ number_of (give_back_code body p))) }
-    ensures back { result ≡ number_of Code.Done → IfSome queue.old.body (λ body. IfSome pass.old.body (λ p. (queue.new.body ≡ Some (record body { queue = with_back_in p.pass body.queue })) × (pass.new.body ≡ None))) }
-    ensures kept { 0 < result → (queue.new.body ≡ queue.old.body) × (pass.new.body ≡ pass.old.body) }
+    ensures empty { (queue.old.body ≡ None) ⊎ (pass.old.body ≡ None)
+        → result ≡ number_of Code.Empty }
+    ensures code { IfSome queue.old.body (λ body. IfSome pass.old.body
+        (λ p. result ≡ number_of (give_back_code body p))) }
+    ensures back { result ≡ number_of Code.Done
+        → IfSome queue.old.body (λ body. IfSome pass.old.body
+        (λ p. (queue.new.body ≡ Some (record body { queue = with_back_in p.pass body.queue }))
+        × (pass.new.body ≡ None))) }
+    ensures kept { 0 < result → (queue.new.body ≡ queue.old.body)
+        × (pass.new.body ≡ pass.old.body) }
 {
     let Lent { mut body, pass: by } = match lend(alloc, queue, pass) {
         Ok(lent) => lent,

@@ -17,7 +17,8 @@ use std::alloc::Global;
 
 // A queue of this size, whose file objects have no limit of their own.
 fn made(alloc: Global, size: &CsqSize) -> Result<CheckedQueue, NewRefused>
-    ensures made { IfOk result (λ queue. queue ≡ new_state size.now (replicate size.now.files size.now.irps) queue.queue.table) }
+    ensures made { IfOk result (λ queue. queue
+        ≡ new_state size.now (replicate size.now.files size.now.irps) queue.queue.table) }
     ensures bad_size { (result ≡ Err NewRefused.BadSize) ↔ ¬ IsGoodSize size.now }
 {
     let Some(size) = size.given() else {
@@ -28,8 +29,11 @@ fn made(alloc: Global, size: &CsqSize) -> Result<CheckedQueue, NewRefused>
 
 // A queue of this size, each file object with a limit of its own.
 fn made_with(alloc: Global, size: &CsqSize, file_limits: &[u32]) -> Result<CheckedQueue, NewRefused>
-    ensures made { IfOk result (λ queue. queue ≡ new_state size.now file_limits.now queue.queue.table) }
-    ensures bad_size { (result ≡ Err NewRefused.BadSize) ↔ ¬ (IsGoodSize size.now × IsTrue (are_file_limits size.now.irps size.now.files file_limits.now)) }
+    ensures made { IfOk result (λ queue. queue
+        ≡ new_state size.now file_limits.now queue.queue.table) }
+    ensures bad_size { (result ≡ Err NewRefused.BadSize)
+        ↔ ¬ (IsGoodSize size.now
+        × IsTrue (are_file_limits size.now.irps size.now.files file_limits.now)) }
 {
     let Some(size) = size.given() else {
         return Err(NewRefused::BadSize);
@@ -42,10 +46,13 @@ fn made_with(alloc: Global, size: &CsqSize, file_limits: &[u32]) -> Result<Check
 #[unsafe(no_mangle)]
 pub extern "C" fn csq_new(alloc: Global, queue: &mut CsqQueue, size: &CsqSize) -> u32
     ensures filled { (result ≡ number_of Code.NotEmpty) ↔ ¬ (queue.old.body ≡ None) }
-    ensures bad_size { queue.old.body ≡ None → ((result ≡ number_of Code.BadSize) ↔ ¬ IsGoodSize size.now) }
-    ensures made { result ≡ number_of Code.Done → IsNewQueue size.now (replicate size.now.files size.now.irps) queue.new.body }
+    ensures bad_size { queue.old.body ≡ None → ((result ≡ number_of Code.BadSize)
+        ↔ ¬ IsGoodSize size.now) }
+    ensures made { result ≡ number_of Code.Done
+        → IsNewQueue size.now (replicate size.now.files size.now.irps) queue.new.body }
     ensures kept { 0 < result → queue.new.body ≡ queue.old.body }
-    ensures cause { queue.old.body ≡ None → (result ≡ number_of Code.Done) ⊎ ((result ≡ number_of Code.BadSize) ⊎ (result ≡ number_of Code.NoMemory)) }
+    ensures cause { queue.old.body ≡ None → (result ≡ number_of Code.Done)
+        ⊎ ((result ≡ number_of Code.BadSize) ⊎ (result ≡ number_of Code.NoMemory)) }
 {
     if !is_empty(queue, alloc) {
         return Code::NotEmpty.number();
@@ -69,10 +76,14 @@ pub extern "C" fn csq_new_with_file_limits(
     file_limits: &[u32],
 ) -> u32
     ensures filled { (result ≡ number_of Code.NotEmpty) ↔ ¬ (queue.old.body ≡ None) }
-    ensures bad_size { queue.old.body ≡ None → ((result ≡ number_of Code.BadSize) ↔ ¬ (IsGoodSize size.now × IsTrue (are_file_limits size.now.irps size.now.files file_limits.now))) }
-    ensures made { result ≡ number_of Code.Done → IsNewQueue size.now file_limits.now queue.new.body }
+    ensures bad_size { queue.old.body ≡ None → ((result ≡ number_of Code.BadSize)
+        ↔ ¬ (IsGoodSize size.now
+        × IsTrue (are_file_limits size.now.irps size.now.files file_limits.now))) }
+    ensures made { result ≡ number_of Code.Done
+        → IsNewQueue size.now file_limits.now queue.new.body }
     ensures kept { 0 < result → queue.new.body ≡ queue.old.body }
-    ensures cause { queue.old.body ≡ None → (result ≡ number_of Code.Done) ⊎ ((result ≡ number_of Code.BadSize) ⊎ (result ≡ number_of Code.NoMemory)) }
+    ensures cause { queue.old.body ≡ None → (result ≡ number_of Code.Done)
+        ⊎ ((result ≡ number_of Code.BadSize) ⊎ (result ≡ number_of Code.NoMemory)) }
 {
     if !is_empty(queue, alloc) {
         return Code::NotEmpty.number();
@@ -110,10 +121,15 @@ pub extern "C" fn csq_free(alloc: Global, queue: &mut CsqQueue) -> u32
 #[unsafe(no_mangle)]
 pub extern "C" fn csq_close(alloc: Global, queue: &mut CsqQueue) -> u32
     ensures empty { queue.old.body ≡ None → result ≡ number_of Code.Empty }
-    ensures closed { (body : QueueBodyState) → queue.old.body ≡ Some body → body.queue ≡ None → result ≡ number_of Code.Closed }
-    ensures cause { IfSome (open_of queue.old.body) (λ q. (result ≡ number_of Code.Done) ⊎ (result ≡ number_of Code.PassesOut)) }
-    ensures rest { result ≡ number_of Code.Done → IfSome queue.new.body (λ body. (body.queue ≡ None) × IfSome (open_of queue.old.body) (λ q. IfSome body.rest (IsLeftOf q))) }
-    ensures some { result ≡ number_of Code.Done → IfSome queue.new.body (λ body. ¬ (body.rest ≡ None)) }
+    ensures closed { (body : QueueBodyState) → queue.old.body ≡ Some body → body.queue ≡ None
+        → result ≡ number_of Code.Closed }
+    ensures cause { IfSome (open_of queue.old.body)
+        (λ q. (result ≡ number_of Code.Done) ⊎ (result ≡ number_of Code.PassesOut)) }
+    ensures rest { result ≡ number_of Code.Done
+        → IfSome queue.new.body (λ body. (body.queue ≡ None)
+        × IfSome (open_of queue.old.body) (λ q. IfSome body.rest (IsLeftOf q))) }
+    ensures some { result ≡ number_of Code.Done
+        → IfSome queue.new.body (λ body. ¬ (body.rest ≡ None)) }
     ensures kept { 0 < result → queue.new.body ≡ queue.old.body }
     ensures there { ¬ (queue.old.body ≡ None) → ¬ (queue.new.body ≡ None) }
 {
@@ -129,7 +145,8 @@ pub extern "C" fn csq_close(alloc: Global, queue: &mut CsqQueue) -> u32
 #[unsafe(no_mangle)]
 pub extern "C" fn csq_passes_out(alloc: Global, queue: &mut CsqQueue, out: &mut u32) -> u32
     ensures code { result ≡ number_of (open_code queue.old.body) }
-    ensures out { IfSome queue.old.body (λ body. out.new ≡ set_to (out_of_open body.queue) out.old) }
+    ensures out { IfSome queue.old.body (λ body. out.new
+        ≡ set_to (out_of_open body.queue) out.old) }
     ensures empty { queue.old.body ≡ None → out.new ≡ out.old }
     ensures same { queue.new.body ≡ queue.old.body }
 {

@@ -91,7 +91,16 @@ impl CsqSize {
     /// The size, where its list is of a kind that there is.
     pub(crate) fn given(&self) -> Option<Size>
         ensures given { result ≡ given_size self.now }
-        ensures numbers { IfSome result (λ size. size ≡ record { irps = self.now.irps; files = self.now.files; limit = self.now.limit; passes = self.now.passes; first = record { 0 = self.now.first_life }; list = size.list }) }
+        ensures numbers { IfSome result (λ size. size
+            ≡ record {
+              irps = self.now.irps;
+              files = self.now.files;
+              limit = self.now.limit;
+              passes
+                  = self.now.passes;
+              first = record { 0 = self.now.first_life };
+              list = size.list;
+            }) }
     {
         let list = match self.list {
             0 => ListKind::Vector,

@@ -30,8 +30,10 @@ pub extern "C" fn csq_mark_cancel(
     irp: CsqIrp,
     found: &mut u32,
 ) -> u32
-    ensures { OnPass pass.old.body pass.new.body result (found.new ≡ found.old) (λ p p' code. (answer : Result (Option Irp) CancelRefused)
-        × Marks p (irp_numbered irp.irp) (life_numbered irp.life) answer p' × (code ≡ mark_code answer) × (found.new ≡ set_to (claim_told answer) found.old)) }
+    ensures { OnPass pass.old.body pass.new.body result (found.new ≡ found.old)
+        (λ p p' code. (answer : Result (Option Irp) CancelRefused)
+        × Marks p (irp_numbered irp.irp) (life_numbered irp.life) answer p'
+        × (code ≡ mark_code answer) × (found.new ≡ set_to (claim_told answer) found.old)) }
 {
     let Some(mut by) = take(pass, alloc) else {
         return Code::Empty.number();
@@ -46,8 +48,10 @@ pub extern "C" fn csq_mark_cancel(
 /// `IoCompleteRequest`.
 #[unsafe(no_mangle)]
 pub extern "C" fn csq_complete(alloc: Global, pass: &mut CsqPass, irp: u32, status: u32) -> u32
-    ensures { OnPass pass.old.body pass.new.body result (Unit {0}) (λ p p' code. (answer : Result Irp CompleteRefused)
-        × Completes p (irp_numbered irp) (status_numbered status) answer p' × (code ≡ complete_code answer)) }
+    ensures { OnPass pass.old.body pass.new.body result (Unit {0})
+        (λ p p' code. (answer : Result Irp CompleteRefused)
+        × Completes p (irp_numbered irp) (status_numbered status) answer p'
+        × (code ≡ complete_code answer)) }
 {
     let Some(mut by) = take(pass, alloc) else {
         return Code::Empty.number();
@@ -60,7 +64,8 @@ pub extern "C" fn csq_complete(alloc: Global, pass: &mut CsqPass, irp: u32, stat
 /// Completes an IRP that the pass holds with STATUS_CANCELLED: 0, else 1 or 12. As `IoCompleteRequest`.
 #[unsafe(no_mangle)]
 pub extern "C" fn csq_complete_cancelled(alloc: Global, pass: &mut CsqPass, irp: u32) -> u32
-    ensures { OnPass pass.old.body pass.new.body result (Unit {0}) (λ p p' code. (answer : Result Irp CompleteRefused)
+    ensures { OnPass pass.old.body pass.new.body result (Unit {0})
+        (λ p p' code. (answer : Result Irp CompleteRefused)
         × CompletesCancelled p (irp_numbered irp) answer p' × (code ≡ complete_code answer)) }
 {
     let Some(mut by) = take(pass, alloc) else {
@@ -81,8 +86,12 @@ pub extern "C" fn csq_is_cancelled(
     life: &mut u32,
     cancelled: &mut u32,
 ) -> u32
-    ensures { OnPass pass.old.body pass.new.body result ((life.new ≡ life.old) × (cancelled.new ≡ cancelled.old)) (λ p p' code. (answer : Result (Life × Bool) UnknownIrp)
-        × TellsFlag p (irp_numbered irp) answer p' × (code ≡ flag_code answer) × (life.new ≡ set_to (flag_life_told answer) life.old) × (cancelled.new ≡ set_to (flag_told answer) cancelled.old)) }
+    ensures { OnPass pass.old.body pass.new.body result
+        ((life.new ≡ life.old) × (cancelled.new ≡ cancelled.old))
+        (λ p p' code. (answer : Result (Life × Bool) UnknownIrp)
+        × TellsFlag p (irp_numbered irp) answer p' × (code ≡ flag_code answer)
+        × (life.new ≡ set_to (flag_life_told answer) life.old)
+        × (cancelled.new ≡ set_to (flag_told answer) cancelled.old)) }
 {
     let Some(mut by) = take(pass, alloc) else {
         return Code::Empty.number();
@@ -104,8 +113,12 @@ pub extern "C" fn csq_status(
     life: &mut u32,
     status: &mut u32,
 ) -> u32
-    ensures { OnPass pass.old.body pass.new.body result ((life.new ≡ life.old) × (status.new ≡ status.old)) (λ p p' code. (answer : Result (Life × Option Status) UnknownIrp)
-        × TellsStatus p (irp_numbered irp) answer p' × (code ≡ status_code answer) × (life.new ≡ set_to (status_life_told answer) life.old) × (status.new ≡ set_to (status_told answer) status.old)) }
+    ensures { OnPass pass.old.body pass.new.body result
+        ((life.new ≡ life.old) × (status.new ≡ status.old))
+        (λ p p' code. (answer : Result (Life × Option Status) UnknownIrp)
+        × TellsStatus p (irp_numbered irp) answer p' × (code ≡ status_code answer)
+        × (life.new ≡ set_to (status_life_told answer) life.old)
+        × (status.new ≡ set_to (status_told answer) status.old)) }
 {
     let Some(mut by) = take(pass, alloc) else {
         return Code::Empty.number();
@@ -125,7 +138,8 @@ pub extern "C" fn csq_holding(
     held: &mut u32,
     owed: &mut u32,
 ) -> u32
-    ensures { OnPass pass.old.body pass.new.body result ((held.new ≡ held.old) × (owed.new ≡ owed.old)) (λ p p' code. (p' ≡ p) × (code ≡ Code.Done)
+    ensures { OnPass pass.old.body pass.new.body result
+        ((held.new ≡ held.old) × (owed.new ≡ owed.old)) (λ p p' code. (p' ≡ p) × (code ≡ Code.Done)
         × (held.new ≡ held_count p.pass.steps) × (owed.new ≡ owed_count p.pass.steps)) }
 {
     let Some(by) = take(pass, alloc) else {

@@ -33,7 +33,8 @@ impl AnyList {
         files: u32,
         limit: u32,
     ) -> Result<AnyList, ListNew>
-        ensures made { IfOk result (λ list. ⟦<AnyList as PendingList>⟧.listing list ≡ fresh irps files limit (replicate files irps)) }
+        ensures made { IfOk result (λ list. ⟦<AnyList as PendingList>⟧.listing list
+            ≡ fresh irps files limit (replicate files irps)) }
         ensures kind { IfOk result (λ list. kind_of list ≡ kind) }
         ensures bad_size { (result ≡ Err ListNew.BadSize) ↔ ¬ IsListSize irps files limit }
     {
@@ -54,9 +55,12 @@ impl AnyList {
         limit: u32,
         file_limits: &[u32],
     ) -> Result<AnyList, ListNew>
-        ensures made { IfOk result (λ list. ⟦<AnyList as PendingList>⟧.listing list ≡ fresh irps files limit file_limits.now) }
+        ensures made { IfOk result (λ list. ⟦<AnyList as PendingList>⟧.listing list
+            ≡ fresh irps files limit file_limits.now) }
         ensures kind { IfOk result (λ list. kind_of list ≡ kind) }
-        ensures bad_size { (result ≡ Err ListNew.BadSize) ↔ ¬ (IsListSize irps files limit × IsTrue (are_file_limits irps files file_limits.now)) }
+        ensures bad_size { (result ≡ Err ListNew.BadSize)
+            ↔ ¬ (IsListSize irps files limit
+            × IsTrue (are_file_limits irps files file_limits.now)) }
     {
         match kind {
             ListKind::Vector => Ok(AnyList::Vector(VecList::with_file_limits(
@@ -78,9 +82,11 @@ impl AnyList {
 }
 
 impl PendingList for AnyList {
-    ghost listing = { any_listing ⟦<VecList as PendingList>⟧.listing ⟦<ChainList as PendingList>⟧.listing };
+    ghost listing = { any_listing ⟦<VecList as PendingList>⟧.listing
+        ⟦<ChainList as PendingList>⟧.listing };
 
-    ghost sound = { any_sound ⟦<VecList as PendingList>⟧.listing ⟦<ChainList as PendingList>⟧.listing (λ list. list.sound) (λ list. list.sound) };
+    ghost sound = { any_sound ⟦<VecList as PendingList>⟧.listing
+        ⟦<ChainList as PendingList>⟧.listing (λ list. list.sound) (λ list. list.sound) };
 
     fn irps(&self) -> u32 {
         match self {

@@ -46,8 +46,19 @@ impl CheckedQueue {
     /// A queue of this size, whose file objects have no limit of their own. `BadSize` comes exactly where a
     /// number is out of its range, then `Memory`.
     pub fn new(alloc: Global, size: Size) -> Result<CheckedQueue, NewRefused>
-        ensures made { IfOk result (λ q. q ≡ record { queue = record { table = q.queue.table; limits = limits_given size (replicate size.files size.irps); queue = new_queue size.first.0 size.passes }; left = size.passes }) }
-        ensures bad_size { (result ≡ Err NewRefused.BadSize) ↔ ¬ (IsInLimits (size_in size) × IsListSize size.irps size.files size.limit) }
+        ensures made { IfOk result (λ q. q
+            ≡ record {
+              queue = record {
+                table = q.queue.table;
+                limits
+                    = limits_given size (replicate size.files size.irps);
+                queue
+                    = new_queue size.first.0 size.passes;
+              };
+              left = size.passes;
+            }) }
+        ensures bad_size { (result ≡ Err NewRefused.BadSize)
+            ↔ ¬ (IsInLimits (size_in size) × IsListSize size.irps size.files size.limit) }
     {
         if !size.is_in_limits() {
             return Err(NewRefused::BadSize);
@@ -63,8 +74,20 @@ impl CheckedQueue {
         size: Size,
         file_limits: &[u32],
     ) -> Result<CheckedQueue, NewRefused>
-        ensures made { IfOk result (λ q. q ≡ record { queue = record { table = q.queue.table; limits = limits_given size file_limits.now; queue = new_queue size.first.0 size.passes }; left = size.passes }) }
-        ensures bad_size { (result ≡ Err NewRefused.BadSize) ↔ ¬ (IsInLimits (size_in size) × IsListSize size.irps size.files size.limit × IsTrue (are_file_limits size.irps size.files file_limits.now)) }
+        ensures made { IfOk result (λ q. q
+            ≡ record {
+              queue = record {
+                table = q.queue.table;
+                limits
+                    = limits_given size file_limits.now;
+                queue = new_queue size.first.0 size.passes;
+              };
+              left
+                  = size.passes;
+            }) }
+        ensures bad_size { (result ≡ Err NewRefused.BadSize)
+            ↔ ¬ (IsInLimits (size_in size) × IsListSize size.irps size.files size.limit
+            × IsTrue (are_file_limits size.irps size.files file_limits.now)) }
     {
         if !size.is_in_limits() {
             return Err(NewRefused::BadSize);
@@ -87,8 +110,19 @@ impl CheckedQueue {
         list: Result<AnyList, ListNew>,
     ) -> Result<CheckedQueue, NewRefused>
         requires size { IsInLimits (size_in size) }
-        requires fresh { IfOk list (λ list. IsFreshOf size (⟦<AnyList as PendingList>⟧.listing list)) }
-        ensures made { IfOk result (λ q. IfOk list (λ list. q ≡ record { queue = record { table = q.queue.table; limits = limits_of size.passes size.first.0 (⟦<AnyList as PendingList>⟧.listing list); queue = new_queue size.first.0 size.passes }; left = size.passes })) }
+        requires fresh { IfOk list (λ list. IsFreshOf size
+            (⟦<AnyList as PendingList>⟧.listing list)) }
+        ensures made { IfOk result (λ q. IfOk list
+            (λ list. q ≡ record {
+              queue = record {
+                table = q.queue.table;
+                limits
+                    = limits_of size.passes size.first.0 (⟦<AnyList as PendingList>⟧.listing list);
+                queue
+                    = new_queue size.first.0 size.passes;
+              };
+              left = size.passes;
+            })) }
         ensures bad_size { (result ≡ Err NewRefused.BadSize) ↔ (list ≡ Err ListNew.BadSize) }
         ensures ok { IsOk result → IsOk list }
     {
@@ -115,7 +149,9 @@ impl CheckedQueue {
     /// The next pass: 1, 2, and so on. It has seen and done nothing.
     pub fn take_pass(&mut self, alloc: Global) -> Result<Box<CheckedPass>, PassRefused>
         ensures none { (result ≡ Err PassRefused.NoPass) ↔ (self.old.left ≡ 0) }
-        ensures pass { IfOk result (λ pass. IsPassIn self.old.queue pass.value × (pass.value.pass ≡ new_pass (pass_numbered (self.old.queue.limits.passes + 1 - self.old.left)))) }
+        ensures pass { IfOk result (λ pass. IsPassIn self.old.queue pass.value
+            × (pass.value.pass ≡ new_pass (pass_numbered
+            (self.old.queue.limits.passes + 1 - self.old.left)))) }
         ensures left { OnOk result (self.new.left + 1 ≡ self.old.left) }
         ensures queue { self.new.queue ≡ self.old.queue }
         ensures kept { OnErr result (self.new ≡ self.old) }
@@ -150,8 +186,10 @@ impl CheckedQueue {
 
     /// How many passes were handed out and aren't back. Own rule.
     pub fn passes_out(&self) -> u32
-        ensures all { result ≡ 0 → FirstAreBack (self.now.queue.limits.passes - self.now.left) self.now.queue.queue.back }
-        ensures count { result ≡ out_count 0 self.now.queue.queue.back (self.now.queue.limits.passes - self.now.left) }
+        ensures all { result ≡ 0 → FirstAreBack (self.now.queue.limits.passes - self.now.left)
+            self.now.queue.queue.back }
+        ensures count { result ≡ out_count 0 self.now.queue.queue.back
+            (self.now.queue.limits.passes - self.now.left) }
     {
         self.queue.out(self.rack.taken(), 0)
     }
@@ -160,7 +198,13 @@ impl CheckedQueue {
     /// where it holds or owes IRPs.
     pub fn give_back(&mut self, pass: Box<CheckedPass>) -> Result<(), Box<CheckedPass>>
         requires { IsPassIn self.old.queue pass.value }
-        ensures back { OnOk result (self.new ≡ record self.old { queue = record self.old.queue { queue = with_back pass.value.pass self.old.queue.queue } }) }
+        ensures back { OnOk result (self.new
+            ≡ record self.old {
+              queue = record self.old.queue {
+                queue
+                    = with_back pass.value.pass self.old.queue.queue;
+              };
+            }) }
         ensures nothing { OnOk result (HoldsNothing pass.value.pass) }
         ensures holding { OnErr result (¬ HoldsNothing pass.value.pass) }
         ensures kept { IfErr result (λ same. (same ≡ pass) × (self.new ≡ self.old)) }
@@ -176,8 +220,11 @@ impl CheckedQueue {
     /// Ends the queue once all passes that were handed out are back, and tells what is left. The queue comes
     /// back where one isn't.
     pub fn close(self) -> Result<Rest<AnyList>, CheckedQueue>
-        ensures rest { IfOk result (λ rest. IsClosed self.queue.limits (self.queue.limits.passes - self.left) self.queue.queue (⟦<AnyList as PendingList>⟧.listing rest.list) rest.finals) }
-        ensures all { OnOk result (FirstAreBack (self.queue.limits.passes - self.left) self.queue.queue.back) }
+        ensures rest { IfOk result (λ rest. IsClosed self.queue.limits
+            (self.queue.limits.passes - self.left) self.queue.queue
+            (⟦<AnyList as PendingList>⟧.listing rest.list) rest.finals) }
+        ensures all { OnOk result (FirstAreBack (self.queue.limits.passes - self.left)
+            self.queue.queue.back) }
         ensures kept { IfErr result (λ same. same ≡ self) }
     {
         if self.passes_out() > 0 {
