@@ -5,7 +5,7 @@ use Rattle.csq_list.specs.Listing.{Listing}
 use Rattle.csq_list.specs.declared.entry.Entry.{Entry}
 use Rattle.csq_words.specs.Finals.{FinalWords}
 use Rattle.csq_checked.specs.Passes.{CheckedState, CheckedPassState, IsPassIn}
-use Rattle.csq_checked.specs.declared.lists.AnyList.{AnyList}
+use Rattle.csq_list.specs.declared.any_list.AnyList.{AnyList}
 use Rattle.csq_queue.specs.declared.rest.Rest.{Rest}
 
 -- what is left of a closed queue: the entries of its list, and its words

@@ -1,6 +1,6 @@
 -- What the calls of an open queue by a pass answer to C.
 use Rattle.std.specs.Prelude.{◌≡◌, ℕ, Option, None, Result}
-use Rattle.irp_core.specs.Steps.{Irp}
+use Rattle.irp_core.specs.declared.ids.IrpLife.{IrpLife}
 use Rattle.irp_core.specs.declared.ids.IrpId.{IrpId}
 use Rattle.irp_core.specs.declared.ids.FileId.{FileId}
 use Rattle.irp_core.specs.declared.ids.Life.{Life}
@@ -10,7 +10,8 @@ use Rattle.csq_list.specs.declared.refusals.InsertStatus.{InsertStatus}
 use Rattle.csq_list.specs.declared.refusals.UnknownFile.{UnknownFile}
 use Rattle.csq_queue.specs.declared.tokens.InsertAnswer.{InsertAnswer}
 use Rattle.csq_queue.specs.declared.refusals.ReuseRefused.{ReuseRefused}
-use Rattle.csq_checked.specs.Calls.{Inserts, RemovesNext, Removes, RunsRoutine, ClosesFile, Reuses}
+use Rattle.csq_queue.specs.Calls.{Inserts, RemovesNext, RemovesOne}
+use Rattle.csq_checked.specs.Calls.{MakesCall, RunsOwedRoutine, ClosesKnownFile, ReusesKnownIrp}
 use Rattle.csq_checked.specs.Passes.{CheckedPassState}
 use Rattle.csq_checked.specs.declared.unlocked.RoutineRefused.{RoutineRefused}
 use Rattle.csq_c.specs.Bodies.{QueueBodyState}
@@ -19,31 +20,31 @@ use Rattle.csq_c.specs.Exports.{OnQueue}
 use Rattle.csq_c.specs.declared.codes.Code.{Code}
 
 -- an insert answers this code, and tells of this IRP
-abbrev pub InsertsInto : IrpId → FileId → Place → QueueBodyState → QueueBodyState → CheckedPassState → CheckedPassState → Code → Option Irp → Type 0
+abbrev pub InsertsInto : IrpId → FileId → Place → QueueBodyState → QueueBodyState → CheckedPassState → CheckedPassState → Code → Option IrpLife → Type 0
 InsertsInto irp file place body body' p p' code told = OnQueue body body' p p' code (told ≡ None)
-    (λ q q'. (answer : Result (InsertAnswer Irp Irp) InsertStatus) × Inserts q p irp file place answer q' p' × (code ≡ insert_code answer) × (told ≡ inserted_irp answer))
+    (λ q q'. (answer : Result (InsertAnswer IrpLife IrpLife) InsertStatus) × MakesCall (Inserts irp file place answer) q p q' p' × (code ≡ insert_code answer) × (told ≡ inserted_irp answer))
 
 -- so does a removal of the next match
-abbrev pub RemovesNextFrom : Peek → QueueBodyState → QueueBodyState → CheckedPassState → CheckedPassState → Code → Option Irp → Type 0
+abbrev pub RemovesNextFrom : Peek → QueueBodyState → QueueBodyState → CheckedPassState → CheckedPassState → Code → Option IrpLife → Type 0
 RemovesNextFrom peek body body' p p' code told = OnQueue body body' p p' code (told ≡ None)
-    (λ q q'. RemovesNext q p peek told q' p' × (code ≡ removal_code told))
+    (λ q q'. MakesCall (RemovesNext peek told) q p q' p' × (code ≡ removal_code told))
 
 -- and a removal of the IRP named
-abbrev pub RemovesFrom : Irp → QueueBodyState → QueueBodyState → CheckedPassState → CheckedPassState → Code → Type 0
+abbrev pub RemovesFrom : IrpLife → QueueBodyState → QueueBodyState → CheckedPassState → CheckedPassState → Code → Type 0
 RemovesFrom i body body' p p' code = OnQueue body body' p p' code (Unit {0})
-    (λ q q'. (taken : Option Irp) × Removes q p i taken q' p' × (code ≡ removal_code taken))
+    (λ q q'. (taken : Option IrpLife) × MakesCall (RemovesOne i taken) q p q' p' × (code ≡ removal_code taken))
 
 -- a cancel routine answers this code
 abbrev pub RunsRoutineOn : IrpId → QueueBodyState → QueueBodyState → CheckedPassState → CheckedPassState → Code → Type 0
 RunsRoutineOn irp body body' p p' code = OnQueue body body' p p' code (Unit {0})
-    (λ q q'. (answer : Result Irp RoutineRefused) × RunsRoutine q p irp answer q' p' × (code ≡ routine_code answer))
+    (λ q q'. (answer : Result IrpLife RoutineRefused) × RunsOwedRoutine irp answer q p q' p' × (code ≡ routine_code answer))
 
 -- so does the closing of a file object
 abbrev pub ClosesFileOf : FileId → QueueBodyState → QueueBodyState → CheckedPassState → CheckedPassState → Code → Type 0
 ClosesFileOf file body body' p p' code = OnQueue body body' p p' code (Unit {0})
-    (λ q q'. (answer : Result (Unit {0}) UnknownFile) × ClosesFile q p file answer q' p' × (code ≡ close_file_code answer))
+    (λ q q'. (answer : Result (Unit {0}) UnknownFile) × ClosesKnownFile file answer q p q' p' × (code ≡ close_file_code answer))
 
 -- a reuse answers this code, and tells of this life
 abbrev pub ReusesOf : IrpId → QueueBodyState → QueueBodyState → CheckedPassState → CheckedPassState → Code → Option ℕ → Type 0
 ReusesOf irp body body' p p' code told = OnQueue body body' p p' code (told ≡ None)
-    (λ q q'. (answer : Result Life ReuseRefused) × Reuses q p irp answer q' p' × (code ≡ reuse_code answer) × (told ≡ life_told answer))
+    (λ q q'. (answer : Result Life ReuseRefused) × ReusesKnownIrp irp answer q p q' p' × (code ≡ reuse_code answer) × (told ≡ life_told answer))

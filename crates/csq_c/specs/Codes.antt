@@ -1,6 +1,6 @@
 -- The codes that calls answer, and which answer has which.
 use Rattle.std.specs.Prelude.{ℕ, Bool, Option, Some, None, Result, Ok, Err, if◌then◌else◌}
-use Rattle.irp_core.specs.Steps.{Irp}
+use Rattle.irp_core.specs.declared.ids.IrpLife.{IrpLife}
 use Rattle.irp_core.specs.declared.ids.Life.{Life}
 use Rattle.irp_core.specs.declared.status.NtStatus.{NtStatus}
 use Rattle.csq_list.specs.declared.refusals.InsertStatus.{InsertStatus}
@@ -63,24 +63,24 @@ refusal_code insert.FileFull = FileFull
 refusal_code insert.Full = Full
 
 -- what an insert answered
-abbrev pub insert_code : Result (InsertAnswer Irp Irp) InsertStatus → Code
+abbrev pub insert_code : Result (InsertAnswer IrpLife IrpLife) InsertStatus → Code
 insert_code (Ok (inserted.Pending context)) = Done
 insert_code (Ok (inserted.Cancelled token)) = Cancelled
 insert_code (Err cause) = refusal_code cause
 
 -- which IRP an insert told of
-abbrev pub inserted_irp : Result (InsertAnswer Irp Irp) InsertStatus → Option Irp
+abbrev pub inserted_irp : Result (InsertAnswer IrpLife IrpLife) InsertStatus → Option IrpLife
 inserted_irp (Ok (inserted.Pending context)) = Some context
 inserted_irp (Ok (inserted.Cancelled token)) = Some token
 inserted_irp (Err cause) = None
 
 -- whether a removal got an IRP
-abbrev pub removal_code : Option Irp → Code
+abbrev pub removal_code : Option IrpLife → Code
 removal_code (Some i) = Done
 removal_code None = Nothing
 
 -- what a cancel routine answered
-abbrev pub routine_code : Result Irp RoutineRefused → Code
+abbrev pub routine_code : Result IrpLife RoutineRefused → Code
 routine_code (Ok i) = Done
 routine_code (Err routine.UnknownIrp) = UnknownIrp
 routine_code (Err routine.NotOwed) = NotOwed
@@ -98,13 +98,13 @@ reuse_code (Err reuse.NotCompleted) = NotCompleted
 reuse_code (Err reuse.LivesSpent) = LivesSpent
 
 -- what a cancel answered
-abbrev pub mark_code : Result (Option Irp) CancelRefused → Code
+abbrev pub mark_code : Result (Option IrpLife) CancelRefused → Code
 mark_code (Ok claim) = Done
 mark_code (Err cancel.UnknownIrp) = UnknownIrp
 mark_code (Err (cancel.Stale life)) = Stale
 
 -- what a completion answered
-abbrev pub complete_code : Result Irp CompleteRefused → Code
+abbrev pub complete_code : Result IrpLife CompleteRefused → Code
 complete_code (Ok i) = Done
 complete_code (Err complete.UnknownIrp) = UnknownIrp
 complete_code (Err complete.NotHeld) = NotHeld
@@ -138,7 +138,7 @@ life_told (Ok life) = Some life.0
 life_told (Err refused) = None
 
 -- whether a cancel found the routine there: 1, or 0
-abbrev pub claim_told : Result (Option Irp) CancelRefused → Option ℕ
+abbrev pub claim_told : Result (Option IrpLife) CancelRefused → Option ℕ
 claim_told (Ok (Some i)) = Some 1
 claim_told (Ok None) = Some 0
 claim_told (Err refused) = None

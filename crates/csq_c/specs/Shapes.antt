@@ -1,6 +1,6 @@
 -- What C reads and writes beside the handles.
-use Rattle.std.specs.Prelude.{◌≡◌, ℕ, ◌==◌, Bool, true, false, if◌then◌else◌, Option, Some, None}
-use Rattle.irp_core.specs.Steps.{Irp}
+use Rattle.std.specs.Prelude.{ℕ, ◌==◌, Bool, true, false, if◌then◌else◌, Option, Some, None}
+use Rattle.irp_core.specs.declared.ids.IrpLife.{IrpLife}
 use Rattle.irp_core.specs.declared.ids.IrpId.{IrpId}
 use Rattle.irp_core.specs.declared.ids.FileId.{FileId}
 use Rattle.irp_core.specs.declared.ids.Life.{Life}
@@ -25,19 +25,19 @@ abbrev pub status_numbered : ℕ → NtStatus
 status_numbered n = record { 0 = n }
 
 -- the IRP that C names, in its life
-abbrev pub irp_named : CsqIrp → Irp
+abbrev pub irp_named : CsqIrp → IrpLife
 irp_named c = record { irp = irp_numbered c.irp; life = life_numbered c.life }
 
 -- at the front where the number isn't 0
-abbrev pub place_of : ℕ → Place
-place_of n = if n == 0 then Back else Front
+abbrev pub place_numbered : ℕ → Place
+place_numbered n = if n == 0 then Back else Front
 
 -- any IRP by the largest number, else those of a file object
 abbrev pub peek_of : ℕ → Peek
 peek_of n = if n == 4294967295 then peek.Any else peek.File (file_numbered n)
 
 -- what stands there once this IRP is written, if there is one
-abbrev pub written : Option Irp → CsqIrp → CsqIrp
+abbrev pub written : Option IrpLife → CsqIrp → CsqIrp
 written None old = old
 written (Some i) old = record { irp = i.irp.0; life = i.life.0 }
 

@@ -7,8 +7,8 @@ use Rattle.csq_words.specs.Queue.{limits_of}
 use Rattle.csq_words.specs.Records.{new_queue}
 use Rattle.csq_checked.specs.Passes.{CheckedState}
 use Rattle.csq_checked.specs.declared.size.Size.{Size as Given}
-use Rattle.csq_checked.specs.declared.lists.ListKind.{ListKind}
-use Rattle.csq_checked.specs.declared.lists.ListKind.TheVariants as kinds
+use Rattle.csq_list.specs.declared.any_list.ListKind.{ListKind}
+use Rattle.csq_list.specs.declared.any_list.ListKind.TheVariants as kinds
 use Rattle.csq_c.specs.Bodies.{QueueBodyState}
 use Rattle.csq_c.specs.declared.shapes.CsqSize.{CsqSize}
 
@@ -32,12 +32,12 @@ pub record IsGoodSize (c : CsqSize) : Type 0 where
   pub listing : IsListSize c.irps c.files c.limit
 
 -- a new queue of this size, whose file objects have these limits, and whose words are this table's
-abbrev pub new_state : CsqSize → List ℕ → TableId → CheckedState
-new_state c limits table = record {
+abbrev pub new_checked_state : CsqSize → List ℕ → TableId → CheckedState
+new_checked_state c limits table = record {
   queue = record { table = table; limits = limits_of c.passes c.first_life (fresh c.irps c.files c.limit limits); queue = new_queue c.first_life c.passes };
   left = c.passes;
 }
 
 -- the handle has such a queue, which is open
 abbrev pub IsNewQueue : CsqSize → List ℕ → Option QueueBodyState → Type 0
-IsNewQueue c limits body = (table : TableId) × (body ≡ Some (record { queue = Some (new_state c limits table); rest = None }))
+IsNewQueue c limits body = (table : TableId) × (body ≡ Some (record { queue = Some (new_checked_state c limits table); rest = None }))

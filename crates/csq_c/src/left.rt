@@ -60,8 +60,9 @@ impl QueueBody {
     }
 }
 
-/// Writes the listed IRP after this one, or the first by the largest number, of a closed queue: 0, or 8
-/// after the last, else 21, 25, or 23 where that one isn't listed. Own rule.
+/// Writes the listed IRP after this one, or the first by the largest number, of a closed queue:
+/// CSQ_OK, or CSQ_NONE after the last, else CSQ_EMPTY_HANDLE, CSQ_NOT_CLOSED, or CSQ_NOT_LISTED
+/// where that one isn't listed. Own rule.
 #[unsafe(no_mangle)]
 pub extern "C" fn csq_next_listed(
     alloc: Global,
@@ -86,7 +87,8 @@ pub extern "C" fn csq_next_listed(
     code.number()
 }
 
-/// Writes what is left of an IRP of a closed queue: 0, else 21, 25 or 1. Own rule.
+/// Writes what is left of an IRP of a closed queue: CSQ_OK, else CSQ_EMPTY_HANDLE, CSQ_NOT_CLOSED
+/// or CSQ_UNKNOWN_IRP. Own rule.
 #[unsafe(no_mangle)]
 pub extern "C" fn csq_left(alloc: Global, queue: &mut CsqQueue, irp: u32, left: &mut CsqLeft) -> u32
     ensures same { queue.new.body ≡ queue.old.body }

@@ -1,11 +1,12 @@
 //! The calls that take an open queue, by a pass, under the caller's lock. Before any other code each
-//! answers 21 where a handle is empty, then 24 of a closed queue.
+//! answers CSQ_EMPTY_HANDLE where a handle is empty, then CSQ_CLOSED of a closed queue. (`alloc` is
+//! malloc, realloc and free. It has no size, so C hands in nothing for it.)
 ghost use Rattle.std.specs.Prelude.{◌≡◌, ℕ, Option};
-ghost use Rattle.irp_core.specs.Steps.{Irp};
+ghost use Rattle.irp_core.specs.declared.ids.IrpLife.{IrpLife};
 ghost use Rattle.csq_c.specs.Bodies.{ArePaired};
 ghost use Rattle.csq_c.specs.Calls.{InsertsInto, RemovesNextFrom, RemovesFrom, RunsRoutineOn, ClosesFileOf, ReusesOf};
 ghost use Rattle.csq_c.specs.Exports.{OnHandles};
-ghost use Rattle.csq_c.specs.Shapes.{irp_numbered, file_numbered, irp_named, place_of, peek_of, written, set_to};
+ghost use Rattle.csq_c.specs.Shapes.{irp_numbered, file_numbered, irp_named, place_numbered, peek_of, written, set_to};
 
 use crate::handles::{CsqPass, CsqQueue};
 use crate::lent::lend;
@@ -13,9 +14,10 @@ use crate::shapes::{CsqIrp, peek, place, write};
 use irp_core::{FileId, IrpId};
 use std::alloc::Global;
 
-/// Inserts an IRP for a file object, first unless `front` is 0, and writes its insert context: 0 where it
-/// is pending, 7 where it was found cancelled, and the pass holds it then. Else 1 to 6, the first cause
-/// why it isn't taken. As `IoCsqInsertIrpEx`.
+/// Inserts an IRP for a file object, first unless `front` is 0, and writes its insert context:
+/// CSQ_OK where it is pending, CSQ_CANCELLED where it was found cancelled, and the pass holds it
+/// then. Else CSQ_UNKNOWN_IRP to CSQ_FILE_FULL, the first cause why it isn't taken. As
+/// `IoCsqInsertIrpEx`.
 #[unsafe(no_mangle)]
 pub extern "C" fn csq_insert(
     alloc: Global,
@@ -29,7 +31,7 @@ pub extern "C" fn csq_insert(
     requires { ArePaired queue.old.body pass.old.body }
     ensures { OnHandles queue.old.body queue.new.body pass.old.body pass.new.body result
         (context.new ≡ context.old)
-        (λ body body' p p' code. (told : Option Irp) × InsertsInto (irp_numbered irp) (file_numbered file) (place_of front) body body' p p' code told × (context.new ≡ written told context.old)) }
+        (λ body body' p p' code. (told : Option IrpLife) × InsertsInto (irp_numbered irp) (file_numbered file) (place_numbered front) body body' p p' code told × (context.new ≡ written told context.old)) }
 {
     let mut lent = match lend(alloc, queue, pass) {
         Ok(lent) => lent,
@@ -43,8 +45,9 @@ pub extern "C" fn csq_insert(
     code.number()
 }
 
-/// Removes the first match that no canceller has, of a file object or of all by the largest number, and
-/// writes it: 0 where there is one, and the pass holds it then, else 8. As `IoCsqRemoveNextIrp`.
+/// Removes the first match that no canceller has, of a file object or of all by the largest number,
+/// and writes it: CSQ_OK where there is one, and the pass holds it then, else CSQ_NONE. As
+/// `IoCsqRemoveNextIrp`.
 #[unsafe(no_mangle)]
 pub extern "C" fn csq_remove_next(
     alloc: Global,
@@ -56,7 +59,7 @@ pub extern "C" fn csq_remove_next(
     requires { ArePaired queue.old.body pass.old.body }
     ensures { OnHandles queue.old.body queue.new.body pass.old.body pass.new.body result
         (irp.new ≡ irp.old)
-        (λ body body' p p' code. (told : Option Irp) × RemovesNextFrom (peek_of file) body body' p p' code told × (irp.new ≡ written told irp.old)) }
+        (λ body body' p p' code. (told : Option IrpLife) × RemovesNextFrom (peek_of file) body body' p p' code told × (irp.new ≡ written told irp.old)) }
 {
     let mut lent = match lend(alloc, queue, pass) {
         Ok(lent) => lent,
@@ -68,8 +71,8 @@ pub extern "C" fn csq_remove_next(
     code.number()
 }
 
-/// Removes this IRP: 0, and the pass holds it then, or 8 where it isn't listed in the life named or a
-/// canceller has it. As `IoCsqRemoveIrp`.
+/// Removes this IRP: CSQ_OK, and the pass holds it then, or CSQ_NONE where it isn't listed in the
+/// life named or a canceller has it. As `IoCsqRemoveIrp`.
 #[unsafe(no_mangle)]
 pub extern "C" fn csq_remove(
     alloc: Global,
@@ -90,8 +93,9 @@ pub extern "C" fn csq_remove(
     code.number()
 }
 
-/// Runs the cancel routine of an IRP that the pass owes: 0, and the pass holds it then. Else 1 or 13. As
-/// the cancel routine that the WDK's queue sets, which takes the IRP out under the lock.
+/// Runs the cancel routine of an IRP that the pass owes: CSQ_OK, and the pass holds it then. Else
+/// CSQ_UNKNOWN_IRP or CSQ_NOT_OWED. As the cancel routine that the WDK's queue sets, which takes
+/// the IRP out under the lock.
 #[unsafe(no_mangle)]
 pub extern "C" fn csq_cancel_routine(
     alloc: Global,
@@ -112,7 +116,8 @@ pub extern "C" fn csq_cancel_routine(
     code.number()
 }
 
-/// Closes a file object for good: 0, or 2 where there is none. The first step of `IRP_MJ_CLEANUP`.
+/// Closes a file object for good: CSQ_OK, or CSQ_UNKNOWN_FILE where there is none. The first step
+/// of `IRP_MJ_CLEANUP`.
 #[unsafe(no_mangle)]
 pub extern "C" fn csq_close_file(
     alloc: Global,
@@ -133,7 +138,8 @@ pub extern "C" fn csq_close_file(
     code.number()
 }
 
-/// Begins the next life of a completed IRP and writes it: 0, else 1, 10 or 11. As `IoReuseIrp`.
+/// Begins the next life of a completed IRP and writes it: CSQ_OK, else CSQ_UNKNOWN_IRP,
+/// CSQ_NOT_COMPLETED or CSQ_LIVES_SPENT. As `IoReuseIrp`.
 #[unsafe(no_mangle)]
 pub extern "C" fn csq_reuse(
     alloc: Global,

@@ -11,7 +11,8 @@ use crate::hold::{is_empty, put, take};
 use crate::lent::{Lent, lend};
 use std::alloc::Global;
 
-/// Hands out the next pass, under the caller's lock: 0, else 21, 22, 24, 18 or 20. Own rule.
+/// Hands out the next pass, under the caller's lock: CSQ_OK, else CSQ_EMPTY_HANDLE, CSQ_NOT_EMPTY,
+/// CSQ_CLOSED, CSQ_NO_PASS or CSQ_NO_MEMORY. Own rule.
 #[unsafe(no_mangle)]
 pub extern "C" fn csq_pass(alloc: Global, queue: &mut CsqQueue, pass: &mut CsqPass) -> u32
     ensures refused { IfSome (take_cause queue.old.body pass.old.body)
@@ -46,8 +47,8 @@ pub extern "C" fn csq_pass(alloc: Global, queue: &mut CsqQueue, pass: &mut CsqPa
     }
 }
 
-/// Gives a pass back, under the caller's lock: 0, and its handle is empty, else 21, 24, or 16 where it
-/// holds or owes IRPs. Own rule.
+/// Gives a pass back, under the caller's lock: CSQ_OK, and its handle is empty, else
+/// CSQ_EMPTY_HANDLE, CSQ_CLOSED, or CSQ_HOLDING where it holds or owes IRPs. Own rule.
 #[unsafe(no_mangle)]
 pub extern "C" fn csq_give_back(alloc: Global, queue: &mut CsqQueue, pass: &mut CsqPass) -> u32
     requires { ArePaired queue.old.body pass.old.body }
@@ -77,8 +78,8 @@ pub extern "C" fn csq_give_back(alloc: Global, queue: &mut CsqQueue, pass: &mut 
     }
 }
 
-/// Frees a pass without giving it back, so that its queue is never closed: 0, and the handle is empty,
-/// else 21, or 16 where it holds or owes IRPs. Own rule.
+/// Frees a pass without giving it back, so that its queue is never closed: CSQ_OK, and the handle
+/// is empty, else CSQ_EMPTY_HANDLE, or CSQ_HOLDING where it holds or owes IRPs. Own rule.
 #[unsafe(no_mangle)]
 pub extern "C" fn csq_free_pass(alloc: Global, pass: &mut CsqPass) -> u32
     ensures code { result ≡ number_of (free_pass_code pass.old.body) }

@@ -5,7 +5,7 @@ ghost use Rattle.csq_c.specs.Bodies.{QueueBodyState, open_of};
 ghost use Rattle.csq_c.specs.Codes.{number_of};
 ghost use Rattle.csq_c.specs.Ends.{IsLeftOf, free_code, open_code, out_of_open};
 ghost use Rattle.csq_c.specs.Shapes.{set_to};
-ghost use Rattle.csq_c.specs.Sizes.{IsGoodSize, IsNewQueue, new_state};
+ghost use Rattle.csq_c.specs.Sizes.{IsGoodSize, IsNewQueue, new_checked_state};
 
 use crate::body::QueueBody;
 use crate::codes::Code;
@@ -18,7 +18,7 @@ use std::alloc::Global;
 // A queue of this size, whose file objects have no limit of their own.
 fn made(alloc: Global, size: &CsqSize) -> Result<CheckedQueue, NewRefused>
     ensures made { IfOk result (λ queue. queue
-        ≡ new_state size.now (replicate size.now.files size.now.irps) queue.queue.table) }
+        ≡ new_checked_state size.now (replicate size.now.files size.now.irps) queue.queue.table) }
     ensures bad_size { (result ≡ Err NewRefused.BadSize) ↔ ¬ IsGoodSize size.now }
 {
     let Some(size) = size.given() else {
@@ -30,7 +30,7 @@ fn made(alloc: Global, size: &CsqSize) -> Result<CheckedQueue, NewRefused>
 // A queue of this size, each file object with a limit of its own.
 fn made_with(alloc: Global, size: &CsqSize, file_limits: &[u32]) -> Result<CheckedQueue, NewRefused>
     ensures made { IfOk result (λ queue. queue
-        ≡ new_state size.now file_limits.now queue.queue.table) }
+        ≡ new_checked_state size.now file_limits.now queue.queue.table) }
     ensures bad_size { (result ≡ Err NewRefused.BadSize)
         ↔ ¬ (IsGoodSize size.now
         × IsTrue (are_file_limits size.now.irps size.now.files file_limits.now)) }
@@ -41,8 +41,8 @@ fn made_with(alloc: Global, size: &CsqSize, file_limits: &[u32]) -> Result<Check
     CheckedQueue::with_file_limits(alloc, size, file_limits)
 }
 
-/// Makes a queue of this size, whose file objects have no limit of their own: 0, else 22, 19 or 20. As
-/// `IoCsqInitializeEx`.
+/// Makes a queue of this size, whose file objects have no limit of their own: CSQ_OK, else
+/// CSQ_NOT_EMPTY, CSQ_BAD_SIZE or CSQ_NO_MEMORY. As `IoCsqInitializeEx`.
 #[unsafe(no_mangle)]
 pub extern "C" fn csq_new(alloc: Global, queue: &mut CsqQueue, size: &CsqSize) -> u32
     ensures filled { (result ≡ number_of Code.NotEmpty) ↔ ¬ (queue.old.body ≡ None) }
@@ -97,8 +97,8 @@ pub extern "C" fn csq_new_with_file_limits(
     }
 }
 
-/// Frees a queue, open or closed: 0, and the handle is empty, else 21, or 17 where a pass is out. Own
-/// rule.
+/// Frees a queue, open or closed: CSQ_OK, and the handle is empty, else CSQ_EMPTY_HANDLE, or
+/// CSQ_PASSES_OUT where a pass is out. Own rule.
 #[unsafe(no_mangle)]
 pub extern "C" fn csq_free(alloc: Global, queue: &mut CsqQueue) -> u32
     ensures code { result ≡ number_of (free_code queue.old.body) }
@@ -116,8 +116,8 @@ pub extern "C" fn csq_free(alloc: Global, queue: &mut CsqQueue) -> u32
     Code::Done.number()
 }
 
-/// Closes a queue, of which `csq_next_listed` and `csq_left` then tell what is left: 0, else 21, 24, or 17
-/// where a pass is out. Own rule.
+/// Closes a queue, of which `csq_next_listed` and `csq_left` then tell what is left: CSQ_OK, else
+/// CSQ_EMPTY_HANDLE, CSQ_CLOSED, or CSQ_PASSES_OUT where a pass is out. Own rule.
 #[unsafe(no_mangle)]
 pub extern "C" fn csq_close(alloc: Global, queue: &mut CsqQueue) -> u32
     ensures empty { queue.old.body ≡ None → result ≡ number_of Code.Empty }
@@ -141,7 +141,7 @@ pub extern "C" fn csq_close(alloc: Global, queue: &mut CsqQueue) -> u32
     code.number()
 }
 
-/// How many passes are out: 0, else 21 or 24. Own rule.
+/// How many passes are out: CSQ_OK, else CSQ_EMPTY_HANDLE or CSQ_CLOSED. Own rule.
 #[unsafe(no_mangle)]
 pub extern "C" fn csq_passes_out(alloc: Global, queue: &mut CsqQueue, out: &mut u32) -> u32
     ensures code { result ≡ number_of (open_code queue.old.body) }

@@ -2,7 +2,7 @@
 ghost use Rattle.std.specs.Prelude.{◌≡◌, ℕ, IfSome};
 ghost use Rattle.csq_c.specs.Sizes.{given_size};
 ghost use Rattle.csq_c.specs.Lefts.{start_of, left_written};
-ghost use Rattle.csq_c.specs.Shapes.{irp_named, place_of, peek_of, written, set_to};
+ghost use Rattle.csq_c.specs.Shapes.{irp_named, place_numbered, peek_of, written, set_to};
 
 use csq_checked::{ListKind, Size};
 use csq_list::{Peek, Place};
@@ -49,7 +49,7 @@ pub(crate) fn write(to: &mut u32, number: Option<u32>)
 
 /// Where an insert puts its IRP: first unless the number is 0.
 pub(crate) fn place(front: u32) -> Place
-    ensures { result ≡ place_of front }
+    ensures { result ≡ place_numbered front }
 {
     if front == 0 {
         Place::Back

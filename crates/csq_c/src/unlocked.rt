@@ -1,13 +1,14 @@
-//! The calls of a pass that take no queue, and no lock. Before any other code each answers 21 where the
-//! pass's handle is empty.
+//! The calls of a pass that take no queue, and no lock. Before any other code each answers
+//! CSQ_EMPTY_HANDLE where the pass's handle is empty.
 ghost use Rattle.std.specs.Prelude.{◌≡◌, ℕ, Bool, Option, Result};
-ghost use Rattle.irp_core.specs.Steps.{Irp};
+ghost use Rattle.irp_core.specs.declared.ids.IrpLife.{IrpLife};
 ghost use Rattle.irp_core.specs.declared.ids.Life.{Life};
 ghost use Rattle.irp_core.specs.declared.status.NtStatus.{NtStatus as Status};
 ghost use Rattle.csq_queue.specs.Counts.{held_count, owed_count};
 ghost use Rattle.csq_queue.specs.declared.refusals.CancelRefused.{CancelRefused};
 ghost use Rattle.csq_queue.specs.declared.refusals.UnknownIrp.{UnknownIrp};
-ghost use Rattle.csq_checked.specs.Calls.{Marks, Completes, CompletesCancelled, TellsFlag, TellsStatus};
+ghost use Rattle.csq_queue.specs.Calls.{MarksCancel, ReadsFlag, ReadsStatus};
+ghost use Rattle.csq_checked.specs.Calls.{MakesOwnCall, CompletesRemoved, CompletesHeld};
 ghost use Rattle.csq_checked.specs.declared.unlocked.CompleteRefused.{CompleteRefused};
 ghost use Rattle.csq_c.specs.Codes.{mark_code, claim_told, complete_code, flag_code, flag_life_told, flag_told, status_code, status_life_told, status_told};
 ghost use Rattle.csq_c.specs.Exports.{OnPass};
@@ -20,9 +21,9 @@ use crate::shapes::{CsqIrp, write};
 use irp_core::{IrpId, Life, NtStatus};
 use std::alloc::Global;
 
-/// Sets the Cancel flag of an IRP in the life named and takes its cancel routine: 0, and in `found` 1
-/// where the routine was there, and the pass owes the IRP then, else 0. Else 1 or 9. As `IoCancelIrp`, up
-/// to the call of the routine.
+/// Sets the Cancel flag of an IRP in the life named and takes its cancel routine: CSQ_OK, and in
+/// `found` 1 where the routine was there, and the pass owes the IRP then, else 0. Refused with
+/// CSQ_UNKNOWN_IRP or CSQ_STALE. As `IoCancelIrp`, up to the call of the routine.
 #[unsafe(no_mangle)]
 pub extern "C" fn csq_mark_cancel(
     alloc: Global,
@@ -31,8 +32,8 @@ pub extern "C" fn csq_mark_cancel(
     found: &mut u32,
 ) -> u32
     ensures { OnPass pass.old.body pass.new.body result (found.new ≡ found.old)
-        (λ p p' code. (answer : Result (Option Irp) CancelRefused)
-        × Marks p (irp_numbered irp.irp) (life_numbered irp.life) answer p'
+        (λ p p' code. (answer : Result (Option IrpLife) CancelRefused)
+        × MakesOwnCall (MarksCancel (irp_numbered irp.irp) (life_numbered irp.life) answer) p p'
         × (code ≡ mark_code answer) × (found.new ≡ set_to (claim_told answer) found.old)) }
 {
     let Some(mut by) = take(pass, alloc) else {
@@ -44,13 +45,13 @@ pub extern "C" fn csq_mark_cancel(
     code.number()
 }
 
-/// Completes an IRP that the pass got by a removal with this status: 0, else 1, 12, 14 or 15. As
-/// `IoCompleteRequest`.
+/// Completes an IRP that the pass got by a removal with this status: CSQ_OK, else CSQ_UNKNOWN_IRP,
+/// CSQ_NOT_HELD, CSQ_NOT_REMOVED or CSQ_NOT_FINAL. As `IoCompleteRequest`.
 #[unsafe(no_mangle)]
 pub extern "C" fn csq_complete(alloc: Global, pass: &mut CsqPass, irp: u32, status: u32) -> u32
     ensures { OnPass pass.old.body pass.new.body result (Unit {0})
-        (λ p p' code. (answer : Result Irp CompleteRefused)
-        × Completes p (irp_numbered irp) (status_numbered status) answer p'
+        (λ p p' code. (answer : Result IrpLife CompleteRefused)
+        × CompletesRemoved (irp_numbered irp) (status_numbered status) answer p p'
         × (code ≡ complete_code answer)) }
 {
     let Some(mut by) = take(pass, alloc) else {
@@ -61,12 +62,13 @@ pub extern "C" fn csq_complete(alloc: Global, pass: &mut CsqPass, irp: u32, stat
     code.number()
 }
 
-/// Completes an IRP that the pass holds with STATUS_CANCELLED: 0, else 1 or 12. As `IoCompleteRequest`.
+/// Completes an IRP that the pass holds with STATUS_CANCELLED: CSQ_OK, else CSQ_UNKNOWN_IRP or
+/// CSQ_NOT_HELD. As `IoCompleteRequest`.
 #[unsafe(no_mangle)]
 pub extern "C" fn csq_complete_cancelled(alloc: Global, pass: &mut CsqPass, irp: u32) -> u32
     ensures { OnPass pass.old.body pass.new.body result (Unit {0})
-        (λ p p' code. (answer : Result Irp CompleteRefused)
-        × CompletesCancelled p (irp_numbered irp) answer p' × (code ≡ complete_code answer)) }
+        (λ p p' code. (answer : Result IrpLife CompleteRefused)
+        × CompletesHeld (irp_numbered irp) answer p p' × (code ≡ complete_code answer)) }
 {
     let Some(mut by) = take(pass, alloc) else {
         return Code::Empty.number();
@@ -76,8 +78,8 @@ pub extern "C" fn csq_complete_cancelled(alloc: Global, pass: &mut CsqPass, irp:
     code.number()
 }
 
-/// The life that an IRP's Cancel flag stands for, and whether it is set there: 0, or 1. As the field
-/// `Irp->Cancel`.
+/// The life that an IRP's Cancel flag stands for, and whether it is set there: CSQ_OK, or
+/// CSQ_UNKNOWN_IRP. As the field `Irp->Cancel`.
 #[unsafe(no_mangle)]
 pub extern "C" fn csq_is_cancelled(
     alloc: Global,
@@ -89,7 +91,7 @@ pub extern "C" fn csq_is_cancelled(
     ensures { OnPass pass.old.body pass.new.body result
         ((life.new ≡ life.old) × (cancelled.new ≡ cancelled.old))
         (λ p p' code. (answer : Result (Life × Bool) UnknownIrp)
-        × TellsFlag p (irp_numbered irp) answer p' × (code ≡ flag_code answer)
+        × MakesOwnCall (ReadsFlag (irp_numbered irp) answer) p p' × (code ≡ flag_code answer)
         × (life.new ≡ set_to (flag_life_told answer) life.old)
         × (cancelled.new ≡ set_to (flag_told answer) cancelled.old)) }
 {
@@ -103,8 +105,8 @@ pub extern "C" fn csq_is_cancelled(
     code.number()
 }
 
-/// The life that an IRP's status stands for, and the status: 0, or 8 where it isn't completed in that
-/// life, or 1. As the field `Irp->IoStatus.Status`.
+/// The life that an IRP's status stands for, and the status: CSQ_OK, or CSQ_NONE where it isn't
+/// completed in that life, or CSQ_UNKNOWN_IRP. As the field `Irp->IoStatus.Status`.
 #[unsafe(no_mangle)]
 pub extern "C" fn csq_status(
     alloc: Global,
@@ -116,7 +118,7 @@ pub extern "C" fn csq_status(
     ensures { OnPass pass.old.body pass.new.body result
         ((life.new ≡ life.old) × (status.new ≡ status.old))
         (λ p p' code. (answer : Result (Life × Option Status) UnknownIrp)
-        × TellsStatus p (irp_numbered irp) answer p' × (code ≡ status_code answer)
+        × MakesOwnCall (ReadsStatus (irp_numbered irp) answer) p p' × (code ≡ status_code answer)
         × (life.new ≡ set_to (status_life_told answer) life.old)
         × (status.new ≡ set_to (status_told answer) status.old)) }
 {
@@ -130,7 +132,7 @@ pub extern "C" fn csq_status(
     code.number()
 }
 
-/// How many IRPs the pass holds and owes: 0. Own rule.
+/// How many IRPs the pass holds and owes: CSQ_OK. Own rule.
 #[unsafe(no_mangle)]
 pub extern "C" fn csq_holding(
     alloc: Global,

@@ -2,11 +2,12 @@
 use Rattle.std.proofs.Common.{◌≡◌, ◌<◌, Bool, true, false, List, Option, Some, None, IfSome, refl, sym, ap, ◌∙◌, subst}
 use Rattle.std.specs.Prelude.{slice_set}
 use Rattle.irp_core.specs.Runs.{Size}
-use Rattle.irp_core.specs.Steps.{Irp, number}
+use Rattle.irp_core.specs.Steps.{number}
+use Rattle.irp_core.specs.declared.ids.IrpLife.{IrpLife}
 use Rattle.irp_core.specs.declared.ids.Life.{Life}
 use Rattle.irp_core.specs.declared.status.NtStatus.{NtStatus}
 use Rattle.irp_core.specs.declared.step.Kind.TheVariants.{Out, Done}
-use Rattle.csq_words.specs.Own.{removed_in, held_list, owed_list}
+use Rattle.irp_core.specs.Own.{removed_in, held_list, owed_list}
 use Rattle.csq_words.specs.Records.{saw, with_step, with_completion}
 use Rattle.csq_words.specs.Seats.{WordsState}
 use Rattle.csq_queue.specs.Counts.{has_life}
@@ -24,7 +25,7 @@ module _ (words : WordsState) (pass : OpenPassState) (held : List (Option Held))
   moved : (pass' : OpenPassState) → pass' ≡ record pass { pass = pass'.pass } → IsPassOn words pass'
   moved pass' place = subst (λ (p : OpenPassState). IsPassOn words p) (sym place) (record { table = was.on.table; irps = was.on.irps; passes = was.on.passes })
 
-  module _ (i : Irp) (known : number i < words.size.irps) where
+  module _ (i : IrpLife) (known : number i < words.size.irps) where
     pub slot_holds : (slot : Held) → slot_at held (number i) ≡ Some slot → i.life ≡ slot.life → Holds words.size.irps pass.pass i
     slot_holds slot e life = record {
       known = known;
@@ -65,13 +66,13 @@ module _ (words : WordsState) (pass : OpenPassState) (held : List (Option Held))
         }
 
   -- a call gave this out, or nothing
-  pub giving_keeps : (queue : OpenState) → IsQueueOn words queue → (given : Option Irp) (by_removal : Bool) (pass' : OpenPassState) (held' : List (Option Held)) → GivesOut queue.limits given by_removal pass.pass pass'.pass
+  pub giving_keeps : (queue : OpenState) → IsQueueOn words queue → (given : Option IrpLife) (by_removal : Bool) (pass' : OpenPassState) (held' : List (Option Held)) → GivesOut queue.limits given by_removal pass.pass pass'.pass
       → pass' ≡ record pass { pass = pass'.pass } → held' ≡ with_held by_removal given held → IsCheckedPass words pass' held' owed
   giving_keeps queue on given by_removal pass' held' gives place holds =
       let inside = given_known given gives in
       let kept = kept_given words.size.irps queue.limits given by_removal pass.pass pass'.pass held owed gives inside was.own in
       record { on = moved pass' place; own = subst (λ hs. KnowsItsOwn words.size.irps pass'.pass.steps hs owed) (sym holds) kept }
     where
-      given_known : (given : Option Irp) → GivesOut queue.limits given by_removal pass.pass pass'.pass → IfSome given (λ i. number i < words.size.irps)
+      given_known : (given : Option IrpLife) → GivesOut queue.limits given by_removal pass.pass pass'.pass → IfSome given (λ i. number i < words.size.irps)
       given_known None g = tt
       given_known (Some i) g = subst (λ n. number i < n) (ap (λ (s : Size). s.irps) on.size) (g.new_to_it i refl).known

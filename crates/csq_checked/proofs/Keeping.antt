@@ -3,12 +3,13 @@ use Rattle.std.proofs.Common.{◌≡◌, ◌≢◌, ℕ, ◌<◌, ◌==◌, ◌|
 use Rattle.std.proofs.lemmas.Bool.{false_from_ne_true}
 use Rattle.std.specs.Prelude.{IfSome, slice_set}
 use Rattle.std.proofs.Math.ListN.{length-set}
-use Rattle.irp_core.specs.Steps.{Irp, number, same_irp}
+use Rattle.irp_core.specs.Steps.{number, same_irp}
+use Rattle.irp_core.specs.declared.ids.IrpLife.{IrpLife}
 use Rattle.irp_core.specs.declared.ids.Life.{Life}
 use Rattle.irp_core.specs.declared.step.Made.{Made}
 use Rattle.irp_core.proofs.Names.{same_irp-refl, same_irp-eq}
 use Rattle.csq_words.specs.declared.views.PassRecord.{PassRecord}
-use Rattle.csq_words.specs.Own.{removed_in, held_list, owed_list}
+use Rattle.irp_core.specs.Own.{removed_in, held_list, owed_list}
 use Rattle.csq_words.specs.Queue.{Limits}
 use Rattle.csq_queue.specs.Counts.{has_life}
 use Rattle.csq_queue.proofs.Giving.{GivesOut}
@@ -17,14 +18,14 @@ use Rattle.csq_checked.specs.declared.slots.Held.{Held}
 use Rattle.csq_checked.specs.Slots.{KnowsItsOwn, slot_at, held_at, owed_at, with_held}
 use Rattle.csq_checked.proofs.Knowing.{slot_set, slot_kept, held_none, owed_none, held_spent, owed_spent, held_same}
 
-module _ (irps : ℕ) (steps steps' : List Made) (held : List (Option Held)) (owed : List (Option Life)) (was : KnowsItsOwn irps steps held owed) (i : Irp) (known : number i < irps) where
+module _ (irps : ℕ) (steps steps' : List Made) (held : List (Option Held)) (owed : List (Option Life)) (was : KnowsItsOwn irps steps held owed) (i : IrpLife) (known : number i < irps) where
   in_held : number i < length held
   in_held = subst (λ (n : ℕ). number i < n) (sym was.held_for) known
 
   in_owed : number i < length owed
   in_owed = subst (λ (n : ℕ). number i < n) (sym was.owed_for) known
 
-  module _ (same : (j : Irp) → removed_in steps' j ≡ removed_in steps j) where
+  module _ (same : (j : IrpLife) → removed_in steps' j ≡ removed_in steps j) where
     -- the pass completed i
     pub kept_done : held_list steps' ≡ spent i (held_list steps) → owed_list steps' ≡ owed_list steps → has_life (held_list steps') i.irp ≡ false → KnowsItsOwn irps steps' (slice_set held (number i) None) owed
     kept_done now owing gone = record {
@@ -59,7 +60,7 @@ and_true true = refl
 and_true false = refl
 
 -- a call gave this out, or nothing
-pub kept_given : (irps : ℕ) (l : Limits) (given : Option Irp) (by_removal : Bool) (old new : PassRecord) (held : List (Option Held)) (owed : List (Option Life)) → GivesOut l given by_removal old new → IfSome given (λ i. number i < irps)
+pub kept_given : (irps : ℕ) (l : Limits) (given : Option IrpLife) (by_removal : Bool) (old new : PassRecord) (held : List (Option Held)) (owed : List (Option Life)) → GivesOut l given by_removal old new → IfSome given (λ i. number i < irps)
     → KnowsItsOwn irps old.steps held owed → KnowsItsOwn irps new.steps (with_held by_removal given held) owed
 kept_given irps l None by_removal old new held owed g known was = record {
   held_for = was.held_for;
@@ -95,5 +96,5 @@ kept_given irps l (Some i) by_removal old new held owed g known was = record {
     got : removed_in new.steps i ≡ by_removal
     got = g.removed i ∙ ((λ k. (by_removal && same_irp-refl i k) || (g.new_to_it i refl).not_removed k) ∙ ends by_removal)
 
-    others : (n : ℕ) → n ≢ number i → (j : Irp) → number j ≡ n → removed_in new.steps j ≡ removed_in old.steps j
+    others : (n : ℕ) → n ≢ number i → (j : IrpLife) → number j ≡ n → removed_in new.steps j ≡ removed_in old.steps j
     others n ne j e = g.removed j ∙ ap (λ b. b || removed_in old.steps j) (ap (λ b. by_removal && b) (false_from_ne_true (same_irp i j) (λ s. ne (sym e ∙ ap number (sym (same_irp-eq i j s))))) ∙ and_false by_removal)

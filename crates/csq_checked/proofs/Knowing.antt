@@ -2,11 +2,12 @@
 use Rattle.std.proofs.Common.{◌≡◌, ◌≢◌, ℕ, ◌<◌, ◌==◌, ◌||◌, not, cond, Bool, true, false, true≢false, List, [], ◌∷◌, length, Option, Some, None, refl, sym, ap, ◌∙◌, eqb-true, ne_eqb}
 use Rattle.std.specs.Prelude.{slice_set}
 use Rattle.std.proofs.lemmas.List.{get_or-set_same, get_or-set_other}
-use Rattle.irp_core.specs.Steps.{Irp, number, same_irp}
+use Rattle.irp_core.specs.Steps.{number, same_id, same_irp}
+use Rattle.irp_core.specs.declared.ids.IrpLife.{IrpLife}
 use Rattle.irp_core.specs.declared.ids.Life.{Life}
 use Rattle.irp_core.specs.declared.step.Made.{Made}
 use Rattle.irp_core.proofs.Names.{same_irp-refl, same_irp-eq, named}
-use Rattle.csq_words.specs.Own.{holds_in, owes_in, removed_in, held_list, owed_list}
+use Rattle.irp_core.specs.Own.{holds_in, owes_in, removed_in, held_list, owed_list}
 use Rattle.csq_words.specs.Queue.{has_irp}
 use Rattle.csq_words.proofs.Held.{held_list-is, owed_list-is}
 use Rattle.csq_queue.specs.Counts.{has_life}
@@ -23,7 +24,8 @@ module _ {T : Type 0} (slots : List (Option T)) (m : ℕ) (slot : Option T) (kno
   slot_kept n ne = get_or-set_other slots m n slot None ne
 
 -- of what isn't among these, nothing is told
-pub held_none : (steps : List Made) (is : List Irp) (i : Irp) → has_life is i.irp ≡ false → held_at steps is (number i) ≡ None
+pub held_none : (steps : List Made) (is : List IrpLife) (i : IrpLife) → has_life is i.irp ≡ false → held_at steps is (number i) ≡ None
+unfolding same_id
 held_none steps [] i h = refl
 held_none steps (j ∷ is) i h = at (number j == number i) refl h (held_none steps is i)
   where
@@ -31,7 +33,8 @@ held_none steps (j ∷ is) i h = at (number j == number i) refl h (held_none ste
     at true e h rest = absurd (true≢false h)
     at false e h rest = rest h
 
-pub owed_none : (is : List Irp) (i : Irp) → has_life is i.irp ≡ false → owed_at is (number i) ≡ None
+pub owed_none : (is : List IrpLife) (i : IrpLife) → has_life is i.irp ≡ false → owed_at is (number i) ≡ None
+unfolding same_id
 owed_none [] i h = refl
 owed_none (j ∷ is) i h = at (number j == number i) refl h (owed_none is i)
   where
@@ -40,11 +43,11 @@ owed_none (j ∷ is) i h = at (number j == number i) refl h (owed_none is i)
     at false e h rest = rest h
 
 -- what is spent leaves what is told of the others
-module _ (i : Irp) (n : ℕ) (ne : n ≢ number i) where
-  other : (j : Irp) → same_irp i j ≡ true → (number j == n) ≡ false
+module _ (i : IrpLife) (n : ℕ) (ne : n ≢ number i) where
+  other : (j : IrpLife) → same_irp i j ≡ true → (number j == n) ≡ false
   other j e = ne_eqb (number j) n (λ s. ne (sym s ∙ ap number (sym (same_irp-eq i j e))))
 
-  pub held_spent : (steps : List Made) (is : List Irp) → held_at steps (spent i is) n ≡ held_at steps is n
+  pub held_spent : (steps : List Made) (is : List IrpLife) → held_at steps (spent i is) n ≡ held_at steps is n
   held_spent steps [] = refl
   held_spent steps (j ∷ is) = at (same_irp i j) refl (held_spent steps is)
     where
@@ -55,7 +58,7 @@ module _ (i : Irp) (n : ℕ) (ne : n ≢ number i) where
       at false e rest = ap (cond (number j == n) (Some (record { removed = removed_in steps j; life = j.life }))) rest
       at true e rest = rest ∙ sym (ap (λ b. cond b (Some (record { removed = removed_in steps j; life = j.life })) (held_at steps is n)) (other j e))
 
-  pub owed_spent : (is : List Irp) → owed_at (spent i is) n ≡ owed_at is n
+  pub owed_spent : (is : List IrpLife) → owed_at (spent i is) n ≡ owed_at is n
   owed_spent [] = refl
   owed_spent (j ∷ is) = at (same_irp i j) refl (owed_spent is)
     where
@@ -64,7 +67,7 @@ module _ (i : Irp) (n : ℕ) (ne : n ≢ number i) where
       at true e rest = rest ∙ sym (ap (λ b. cond b (Some j.life) (owed_at is n)) (other j e))
 
 -- what is told rests on which of these a removal got alone
-pub held_same : (steps steps' : List Made) (is : List Irp) (n : ℕ) → ((j : Irp) → number j ≡ n → removed_in steps' j ≡ removed_in steps j) → held_at steps' is n ≡ held_at steps is n
+pub held_same : (steps steps' : List Made) (is : List IrpLife) (n : ℕ) → ((j : IrpLife) → number j ≡ n → removed_in steps' j ≡ removed_in steps j) → held_at steps' is n ≡ held_at steps is n
 held_same steps steps' [] n same = refl
 held_same steps steps' (j ∷ is) n same = at (number j == n) refl (held_same steps steps' is n same)
   where
@@ -78,7 +81,7 @@ or_second true b e = refl
 or_second false b e = e
 
 -- an IRP that is told of is among these, and was got so
-pub held_found : (steps : List Made) (is : List Irp) (i : Irp) (held : Held) → held_at steps is (number i) ≡ Some held → i.life ≡ held.life → (has_irp is i ≡ true) × (removed_in steps i ≡ held.removed)
+pub held_found : (steps : List Made) (is : List IrpLife) (i : IrpLife) (held : Held) → held_at steps is (number i) ≡ Some held → i.life ≡ held.life → (has_irp is i ≡ true) × (removed_in steps i ≡ held.removed)
 held_found steps [] i held e l = absurd (cc)
 held_found steps (j ∷ is) i held e l = at (number j == number i) refl e (held_found steps is i held)
   where
@@ -88,10 +91,10 @@ held_found steps (j ∷ is) i held e l = at (number j == number i) refl e (held_
         let got : ◌≡◌ {A = Held} (record { removed = removed_in steps j; life = j.life }) held = cc in
         let life_is : j.life ≡ i.life = ap (λ (h : Held). h.life) got ∙ sym l in
         let is_it : j ≡ i = named j i (eqb-true (number j) (number i) same) (ap (λ (x : Life). x.0) life_is) in
-        (ap (λ (b : Bool). b || has_irp is i) (ap (λ (x : Irp). same_irp x i) is_it ∙ same_irp-refl i), ap (removed_in steps) (sym is_it) ∙ ap (λ (h : Held). h.removed) got)
+        (ap (λ (b : Bool). b || has_irp is i) (ap (λ (x : IrpLife). same_irp x i) is_it ∙ same_irp-refl i), ap (removed_in steps) (sym is_it) ∙ ap (λ (h : Held). h.removed) got)
     at false unlike f rest = let r = rest f l in (or_second (same_irp j i) (has_irp is i) r.0, r.1)
 
-pub owed_found : (is : List Irp) (i : Irp) → owed_at is (number i) ≡ Some i.life → has_irp is i ≡ true
+pub owed_found : (is : List IrpLife) (i : IrpLife) → owed_at is (number i) ≡ Some i.life → has_irp is i ≡ true
 owed_found [] i e = absurd (cc)
 owed_found (j ∷ is) i e = at (number j == number i) refl e (owed_found is i)
   where
@@ -99,11 +102,11 @@ owed_found (j ∷ is) i e = at (number j == number i) refl e (owed_found is i)
     at true same f rest =
         let life_is : j.life ≡ i.life = cc in
         let is_it : j ≡ i = named j i (eqb-true (number j) (number i) same) (ap (λ (x : Life). x.0) life_is) in
-        ap (λ (b : Bool). b || has_irp is i) (ap (λ (x : Irp). same_irp x i) is_it ∙ same_irp-refl i)
+        ap (λ (b : Bool). b || has_irp is i) (ap (λ (x : IrpLife). same_irp x i) is_it ∙ same_irp-refl i)
     at false unlike f rest = or_second (same_irp j i) (has_irp is i) (rest f)
 
 -- what a slot tells is so
-module _ (irps : ℕ) (steps : List Made) (held : List (Option Held)) (owed : List (Option Life)) (own : KnowsItsOwn irps steps held owed) (i : Irp) (known : number i < irps) where
+module _ (irps : ℕ) (steps : List Made) (held : List (Option Held)) (owed : List (Option Life)) (own : KnowsItsOwn irps steps held owed) (i : IrpLife) (known : number i < irps) where
   pub holds_told : (slot : Held) → slot_at held (number i) ≡ Some slot → i.life ≡ slot.life → (holds_in steps i ≡ true) × (removed_in steps i ≡ slot.removed)
   holds_told slot e life =
       let found = held_found steps (held_list steps) i slot (sym (own.held_is (number i) known) ∙ e) life in

@@ -5,7 +5,7 @@ use Rattle.irp_core.specs.declared.ids.Life.{Life}
 use Rattle.irp_core.specs.declared.status.NtStatus.{NtStatus}
 use Rattle.irp_core.specs.declared.status.TheConstants.NtStatus.{PENDING}
 use Rattle.irp_core.specs.declared.step.Made.{Made}
-use Rattle.csq_words.specs.Own.{held_list, owed_list}
+use Rattle.irp_core.specs.Own.{held_list, owed_list}
 use Rattle.csq_checked.specs.declared.slots.Held.{Held}
 use Rattle.csq_checked.specs.declared.unlocked.CompleteRefused.{CompleteRefused}
 use Rattle.csq_checked.specs.declared.unlocked.CompleteRefused.TheVariants.{UnknownIrp, NotHeld, NotRemoved, NotFinal}

@@ -1,4 +1,3 @@
-pub mod Lists
 pub mod Slots
 pub mod Passes
 pub mod Causes

@@ -1,5 +1,5 @@
 -- A pass that knows what it holds and owes, and a queue with its words.
-use Rattle.std.specs.Prelude.{◌≡◌, ℕ, List, Option}
+use Rattle.std.specs.Prelude.{ℕ, List, Option}
 use Rattle.irp_core.specs.declared.ids.Life.{Life}
 use Rattle.csq_words.specs.declared.views.PassRecord.{PassRecord}
 use Rattle.csq_words.specs.Seats.{WordsState}
@@ -22,16 +22,11 @@ pub record CheckedState : Type 0 where
   pub queue : OpenState
   pub left : ℕ
 
--- the queue and the passes that are left are of these words, of so many IRPs
-pub record IsCheckedQueue (words : WordsState) (queue : OpenState) (rack : OpenRackState) (irps : ℕ) : Type 0 where
+-- the queue and the passes that are left are of these words
+pub record IsCheckedQueue (words : WordsState) (queue : OpenState) (rack : OpenRackState) : Type 0 where
   pub on : IsQueueOn words queue
   pub rest : IsRackOn words rack
-  pub irps_are : irps ≡ words.size.irps
 
 -- the pass is one of the queue's
 abbrev pub IsPassIn : OpenState → CheckedPassState → Type 0
 IsPassIn queue pass = IsQueueOn pass.words queue
-
--- the queue after a call of this pass, which has then seen the whole history
-abbrev pub after_call : PassRecord → CheckedState → CheckedState
-after_call pass q = record q { queue = record q.queue { queue = record q.queue.queue { history = pass.seen; run = pass.run } } }

@@ -1,9 +1,10 @@
 -- What a pass knows of the IRPs that it holds and owes.
 use Rattle.std.specs.Prelude.{◌≡◌, ℕ, ◌<◌, ◌==◌, if◌then◌else◌, List, [], ◌∷◌, length, Bool, Option, Some, None, slice_index_or, slice_set}
-use Rattle.irp_core.specs.Steps.{Irp, number}
+use Rattle.irp_core.specs.Steps.{number}
+use Rattle.irp_core.specs.declared.ids.IrpLife.{IrpLife}
 use Rattle.irp_core.specs.declared.ids.Life.{Life}
 use Rattle.irp_core.specs.declared.step.Made.{Made}
-use Rattle.csq_words.specs.Own.{removed_in, held_list, owed_list}
+use Rattle.irp_core.specs.Own.{removed_in, held_list, owed_list}
 use Rattle.csq_checked.specs.declared.slots.Held.{Held}
 
 -- the slot of IRP n, which is empty where there is none
@@ -11,12 +12,12 @@ abbrev pub slot_at : {T : Type 0} → List (Option T) → ℕ → Option T
 slot_at slots n = slice_index_or slots n None
 
 -- how one of these IRPs is IRP n: in which life, and whether a removal got it
-abbrev pub held_at : List Made → List Irp → ℕ → Option Held
+abbrev pub held_at : List Made → List IrpLife → ℕ → Option Held
 held_at steps [] n = None
 held_at steps (i ∷ is) n = if number i == n then Some (record { removed = removed_in steps i; life = i.life }) else held_at steps is n
 
 -- in which life one of these IRPs is IRP n
-abbrev pub owed_at : List Irp → ℕ → Option Life
+abbrev pub owed_at : List IrpLife → ℕ → Option Life
 owed_at [] n = None
 owed_at (i ∷ is) n = if number i == n then Some i.life else owed_at is n
 
@@ -28,6 +29,6 @@ pub record KnowsItsOwn (irps : ℕ) (steps : List Made) (held : List (Option Hel
   pub owed_is : (n : ℕ) → n < irps → slot_at owed n ≡ owed_at (owed_list steps) n
 
 -- the slots once the pass got this IRP by a removal or not, if it got one
-abbrev pub with_held : Bool → Option Irp → List (Option Held) → List (Option Held)
+abbrev pub with_held : Bool → Option IrpLife → List (Option Held) → List (Option Held)
 with_held by_removal None held = held
 with_held by_removal (Some i) held = slice_set held (number i) (Some (record { removed = by_removal; life = i.life }))

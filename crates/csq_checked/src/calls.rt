@@ -1,6 +1,7 @@
 //! The calls that take the queue.
 ghost use Rattle.std.specs.Prelude.{◌≡◌, ◌<◌, length, IfSome, true};
-ghost use Rattle.csq_checked.specs.Calls.{Inserts, RemovesNext, Removes, RunsRoutine, ClosesFile, Reuses};
+ghost use Rattle.csq_queue.specs.Calls.{Inserts, RemovesNext, RemovesOne};
+ghost use Rattle.csq_checked.specs.Calls.{MakesCall, RunsOwedRoutine, ClosesKnownFile, ReusesKnownIrp};
 ghost use Rattle.csq_checked.specs.Passes.{IsPassIn};
 ghost use Rattle.csq_checked.specs.Slots.{with_held};
 
@@ -23,7 +24,7 @@ impl CheckedQueue {
         place: Place,
     ) -> Result<OpenInserted, InsertStatus>
         requires { IsPassIn self.old.queue by.old }
-        ensures call { Inserts self.old by.old irp file place result self.new by.new }
+        ensures call { MakesCall (Inserts irp file place result) self.old by.old self.new by.new }
     {
         let inserted = self
             .queue
@@ -43,7 +44,7 @@ impl CheckedQueue {
     /// Removes the first match that no canceller has, as `Csq::remove_next` does. The pass holds it then.
     pub fn remove_next(&mut self, by: &mut CheckedPass, peek: Peek) -> Option<IrpLife>
         requires { IsPassIn self.old.queue by.old }
-        ensures call { RemovesNext self.old by.old peek result self.new by.new }
+        ensures call { MakesCall (RemovesNext peek result) self.old by.old self.new by.new }
     {
         let taken = self.queue.remove_next(&by.words, &mut by.pass, peek);
         note_removed(&mut by.held, taken);
@@ -54,7 +55,7 @@ impl CheckedQueue {
     /// does. The pass holds it then.
     pub fn remove(&mut self, by: &mut CheckedPass, irp: IrpLife) -> Option<IrpLife>
         requires { IsPassIn self.old.queue by.old }
-        ensures call { Removes self.old by.old irp result self.new by.new }
+        ensures call { MakesCall (RemovesOne irp result) self.old by.old self.new by.new }
     {
         let taken = self.queue.remove(&by.words, &mut by.pass, irp);
         note_removed(&mut by.held, taken);
@@ -69,7 +70,7 @@ impl CheckedQueue {
         irp: IrpId,
     ) -> Result<IrpLife, RoutineRefused>
         requires { IsPassIn self.old.queue by.old }
-        ensures call { RunsRoutine self.old by.old irp result self.new by.new }
+        ensures call { RunsOwedRoutine irp result self.old by.old self.new by.new }
     {
         if !by.owed.knows(irp) {
             return Err(RoutineRefused::UnknownIrp);
@@ -91,7 +92,7 @@ impl CheckedQueue {
     /// Closes a file object for good, as `Csq::close_file` does.
     pub fn close_file(&mut self, by: &mut CheckedPass, file: FileId) -> Result<(), UnknownFile>
         requires { IsPassIn self.old.queue by.old }
-        ensures call { ClosesFile self.old by.old file result self.new by.new }
+        ensures call { ClosesKnownFile file result self.old by.old self.new by.new }
     {
         self.queue.close_file(&by.words, &mut by.pass, file)
     }
@@ -99,7 +100,7 @@ impl CheckedQueue {
     /// Begins the next life of a completed IRP, as `Csq::reuse` does.
     pub fn reuse(&mut self, by: &mut CheckedPass, irp: IrpId) -> Result<Life, ReuseRefused>
         requires { IsPassIn self.old.queue by.old }
-        ensures call { Reuses self.old by.old irp result self.new by.new }
+        ensures call { ReusesKnownIrp irp result self.old by.old self.new by.new }
     {
         self.queue.reuse(&by.words, &mut by.pass, irp)
     }

@@ -3,14 +3,13 @@
 #![tactic(auto)]
 
 mod calls;
-mod lists;
 mod pass;
 mod queue;
 mod size;
 mod slots;
 mod unlocked;
 
-pub use lists::{AnyList, ListKind};
+pub use csq_list::{AnyList, ListKind};
 pub use pass::CheckedPass;
 pub use queue::CheckedQueue;
 pub use size::{NewRefused, PassRefused, Size};

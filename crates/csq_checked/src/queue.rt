@@ -9,11 +9,10 @@ ghost use Rattle.csq_queue.specs.Rests.{HoldsNothing, FirstAreBack, IsClosed};
 ghost use Rattle.csq_checked.specs.Passes.{IsPassIn};
 ghost use Rattle.csq_checked.specs.Sizes.{IsFreshOf, size_in, limits_given};
 
-use crate::lists::AnyList;
 use crate::pass::CheckedPass;
 use crate::size::{NewRefused, PassRefused, Size};
 use crate::slots::Slots;
-use csq_list::{ListNew, PendingList};
+use csq_list::{AnyList, ListNew, PendingList};
 use csq_queue::{Blank, OpenQueue, OpenRack, Rest};
 use csq_words::Words;
 use std::alloc::Global;
@@ -27,8 +26,6 @@ pub struct CheckedQueue {
     pub(crate) words: Arc<Words>,
     pub(crate) queue: OpenQueue<AnyList>,
     pub(crate) rack: OpenRack,
-    // How many IRPs it has.
-    pub(crate) irps: u32,
 }
 
 impl Model for CheckedQueue {
@@ -39,7 +36,7 @@ impl Model for CheckedQueue {
 
     ghost view = { λ q. record { queue = q.queue; left = q.rack.left } };
 
-    ghost invariant = { λ q. IsCheckedQueue (arc_value q.words) q.queue q.rack q.irps };
+    ghost invariant = { λ q. IsCheckedQueue (arc_value q.words) q.queue q.rack };
 }
 
 impl CheckedQueue {
@@ -138,12 +135,7 @@ impl CheckedQueue {
         let Ok(words) = Arc::new(alloc, words) else {
             return Err(NewRefused::Memory);
         };
-        Ok(CheckedQueue {
-            words,
-            queue,
-            rack,
-            irps: size.irps,
-        })
+        Ok(CheckedQueue { words, queue, rack })
     }
 
     /// The next pass: 1, 2, and so on. It has seen and done nothing.
@@ -161,8 +153,8 @@ impl CheckedQueue {
         }
         let (Ok(words), Ok(held), Ok(owed)) = (
             Arc::try_clone(&self.words),
-            Slots::new(alloc, self.irps),
-            Slots::new(alloc, self.irps),
+            Slots::new(alloc, self.words.irps()),
+            Slots::new(alloc, self.words.irps()),
         ) else {
             return Err(PassRefused::Memory);
         };
@@ -230,20 +222,10 @@ impl CheckedQueue {
         if self.passes_out() > 0 {
             return Err(self);
         }
-        let CheckedQueue {
-            words,
-            queue,
-            rack,
-            irps,
-        } = self;
+        let CheckedQueue { words, queue, rack } = self;
         match Arc::try_unwrap(words) {
             Ok(words) => Ok(queue.close(words, rack)),
-            Err(words) => Err(CheckedQueue {
-                words,
-                queue,
-                rack,
-                irps,
-            }),
+            Err(words) => Err(CheckedQueue { words, queue, rack }),
         }
     }
 }

@@ -3,7 +3,7 @@ ghost use Rattle.std.specs.Prelude.{◌↔◌, IsTrue};
 ghost use Rattle.irp_core.specs.Runs.{IsInLimits};
 ghost use Rattle.csq_checked.specs.Sizes.{size_in};
 
-use crate::lists::ListKind;
+use csq_list::ListKind;
 use irp_core::Life;
 
 /// How large a queue is to be. Own rule.

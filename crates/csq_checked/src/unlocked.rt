@@ -1,7 +1,8 @@
 //! The calls of a pass that take no queue.
 ghost use Rattle.std.specs.Prelude.{◌≡◌};
 ghost use Rattle.csq_queue.specs.Counts.{held_count, owed_count};
-ghost use Rattle.csq_checked.specs.Calls.{Marks, Completes, CompletesCancelled, TellsFlag, TellsStatus};
+ghost use Rattle.csq_queue.specs.Calls.{MarksCancel, ReadsFlag, ReadsStatus};
+ghost use Rattle.csq_checked.specs.Calls.{MakesOwnCall, CompletesRemoved, CompletesHeld};
 
 use crate::pass::CheckedPass;
 use csq_queue::{CancelRefused, UnknownIrp};
@@ -47,7 +48,7 @@ impl CheckedPass {
     /// Sets the Cancel flag of an IRP in the life named and takes its cancel routine, as
     /// `Csq::mark_cancel` does. Where the routine was there, the pass owes the IRP, which is answered.
     pub fn mark_cancel(&mut self, irp: IrpId, life: Life) -> Result<Option<IrpLife>, CancelRefused>
-        ensures call { Marks self.old irp life result self.new }
+        ensures call { MakesOwnCall (MarksCancel irp life result) self.old self.new }
     {
         let claim = self.pass.mark_cancel(&self.words, irp, life)?;
         if claim.is_some() {
@@ -59,7 +60,7 @@ impl CheckedPass {
     /// Completes an IRP that the pass got by a removal with this status (`IoCompleteRequest`): nobody
     /// completed it before. It answers the IRP in its life. A refusal is the first cause that holds.
     pub fn complete(&mut self, irp: IrpId, status: NtStatus) -> Result<IrpLife, CompleteRefused>
-        ensures call { Completes self.old irp status result self.new }
+        ensures call { CompletesRemoved irp status result self.old self.new }
     {
         if !self.held.knows(irp) {
             return Err(CompleteRefused::UnknownIrp);
@@ -81,7 +82,7 @@ impl CheckedPass {
     /// Completes an IRP that the pass holds with STATUS_CANCELLED: nobody completed it before. It answers
     /// the IRP in its life. Refused with `UnknownIrp` or `NotHeld`.
     pub fn complete_cancelled(&mut self, irp: IrpId) -> Result<IrpLife, CompleteRefused>
-        ensures call { CompletesCancelled self.old irp result self.new }
+        ensures call { CompletesHeld irp result self.old self.new }
     {
         if !self.held.knows(irp) {
             return Err(CompleteRefused::UnknownIrp);
@@ -99,7 +100,7 @@ impl CheckedPass {
     /// The life that an IRP's Cancel flag stands for, and whether it is set there, as `Csq::is_cancelled`
     /// reads it.
     pub fn is_cancelled(&mut self, irp: IrpId) -> Result<(Life, bool), UnknownIrp>
-        ensures call { TellsFlag self.old irp result self.new }
+        ensures call { MakesOwnCall (ReadsFlag irp result) self.old self.new }
     {
         self.pass.is_cancelled(&self.words, irp)
     }
@@ -107,7 +108,7 @@ impl CheckedPass {
     /// The life that an IRP's status stands for, and the status, once it is completed there, as
     /// `Csq::status` reads it.
     pub fn status(&mut self, irp: IrpId) -> Result<(Life, Option<NtStatus>), UnknownIrp>
-        ensures call { TellsStatus self.old irp result self.new }
+        ensures call { MakesOwnCall (ReadsStatus irp result) self.old self.new }
     {
         self.pass.status(&self.words, irp)
     }

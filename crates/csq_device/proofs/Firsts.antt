@@ -2,7 +2,7 @@
 use Rattle.std.proofs.Common.{◌≡◌, ℕ, zero, suc, ◌+◌, ◌*◌, ◌||◌, false, List, [], ◌∷◌, ◌++◌, length, refl, sym, ap, ◌∙◌, ⊎_elim}
 use Rattle.std.proofs.lemmas.Bool.{or_parts}
 use Rattle.std.proofs.lemmas.List.{append-nil, length-map}
-use Rattle.irp_core.specs.Steps.{Irp}
+use Rattle.irp_core.specs.declared.ids.IrpLife.{IrpLife}
 use Rattle.irp_core.specs.Runs.{Size}
 use Rattle.irp_core.specs.declared.ids.FileId.{FileId}
 use Rattle.irp_core.specs.declared.ids.PassId.{PassId}
@@ -53,15 +53,15 @@ none_in_removals p (e ∷ events) h = ap (λ b. b || has_reuse (entries_of p eve
     removal_none (CloseFile f) h = refl
     removal_none e h = absurd h
 
-none_in_cleanup : (p : PassId) (f : FileId) (taken : List Irp) → has_reuse (entries_of p (cleanup_calls f taken)) ≡ false
+none_in_cleanup : (p : PassId) (f : FileId) (taken : List IrpLife) → has_reuse (entries_of p (cleanup_calls f taken)) ≡ false
 none_in_cleanup p f taken = each taken
   where
-    each : (is : List Irp) → has_reuse (entries_of p (removals f is ++ CloseFile f ∷ [])) ≡ false
+    each : (is : List IrpLife) → has_reuse (entries_of p (removals f is ++ CloseFile f ∷ [])) ≡ false
     each [] = refl
     each (i ∷ is) = each is
 
 -- a cancel is no reuse
-cancel_none : (size : Size) (i : Irp) (count : ℕ) (old new : PassRecord) → CancelsOne size i count old new → has_reuse old.mine ≡ false → has_reuse new.mine ≡ false
+cancel_none : (size : Size) (i : IrpLife) (count : ℕ) (old new : PassRecord) → CancelsOne size i count old new → has_reuse old.mine ≡ false → has_reuse new.mine ≡ false
 cancel_none size i count old new h g = ⊎_elim
     (λ took. ap (λ (r : PassRecord). has_reuse r.mine) took.1.1 ∙ g)
     (λ rest. ⊎_elim
@@ -81,7 +81,7 @@ plays_none size plan Worker old new h g = ap has_reuse h.calls.mine ∙ more_cal
 plays_none size plan (Canceller first) old new h g = cancels_none size first plan.cancellers h.count old new h.cancels g
 
 -- a thread has one pass
-cancel_pass : (size : Size) (i : Irp) (count : ℕ) (old new : PassRecord) → CancelsOne size i count old new → new.pass ≡ old.pass
+cancel_pass : (size : Size) (i : IrpLife) (count : ℕ) (old new : PassRecord) → CancelsOne size i count old new → new.pass ≡ old.pass
 cancel_pass size i count old new h = ⊎_elim
     (λ took. ap (λ (r : PassRecord). r.pass) took.1.1)
     (λ rest. ⊎_elim (λ missed. ap (λ (r : PassRecord). r.pass) missed.1.1) (λ other. ap (λ (r : PassRecord). r.pass) other.1.1) rest)
@@ -99,7 +99,7 @@ plays_pass size plan (Canceller first) old new h = cancels_pass size first plan.
 -- how many a pass completed that had completed none
 completed_count_is : (status : NtStatus) (count : ℕ) (old new : PassRecord) → HasCompleted status count old new → old.completed ≡ [] → count ≡ length new.completed
 completed_count_is status count old new h none =
-    h.count_is ∙ (sym (length-map h.irps (λ (i : Irp). record { irp = i; status = status }))
+    h.count_is ∙ (sym (length-map h.irps (λ (i : IrpLife). record { irp = i; status = status }))
     ∙ ap length (sym (h.completed ∙ (ap (λ cs. completions status h.irps ++ cs) none ∙ append-nil (completions status h.irps)))))
 
 -- what a thread of a role hands back

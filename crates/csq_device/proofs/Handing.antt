@@ -5,7 +5,8 @@ use Rattle.std.proofs.lemmas.Bool.{cases_lt, lt-ltb, or_parts, or_right, and_fro
 use Rattle.std.proofs.lemmas.List.{length-map}
 use mathlib.Core.Option.{some}
 use lib.ListN.{get_elem?}
-use Rattle.irp_core.specs.Steps.{Irp, number, same_irp, same_pass, own, Each}
+use Rattle.irp_core.specs.Steps.{number, same_irp, same_pass, own, Each}
+use Rattle.irp_core.specs.declared.ids.IrpLife.{IrpLife}
 use Rattle.irp_core.specs.Lives.{present_life}
 use Rattle.irp_core.specs.Owners.{owes, holds}
 use Rattle.irp_core.specs.Runs.{Size, IsRun, IsKnown}
@@ -33,17 +34,18 @@ use Rattle.csq_words.specs.Records.{queue_of}
 use Rattle.csq_words.specs.Rule.{is_done, SaysStatus, completed_in, with_done}
 use Rattle.csq_words.specs.Finals.{FinalWords, IsFinal, final_status}
 use Rattle.csq_words.proofs.Facts.{open_now, open_undone}
-use Rattle.csq_words.proofs.Named.{irp_eq, same_id-not, same_pass-is, same_pass-not}
+use Rattle.irp_core.proofs.Names.{same_pass-is, same_pass-not}
+use Rattle.csq_words.proofs.Named.{irp_eq, same_id-not}
 use Rattle.csq_words.proofs.Decoding.{status_in-unset}
 use Rattle.csq_words.proofs.Closing.{status_is}
 use Rattle.csq_queue.specs.Counts.{tally}
 use Rattle.csq_queue.specs.Named.{pass_numbered}
 use Rattle.csq_queue.proofs.Counting.{by_number, tally_same, tally_more, tally_zero}
 use Rattle.csq_device.specs.Rests.{irp_at, completed_count}
-use Rattle.csq_device.specs.Served.{is_reuse, has_reuse, AreServed, completed_by}
+use Rattle.csq_device.specs.Served.{is_reuse, has_reuse, AreServed, completions_of}
 
 -- IRP n in the first life
-abbrev in_first : ℕ → ℕ → Irp
+abbrev in_first : ℕ → ℕ → IrpLife
 in_first first n = record { irp = irp_at n; life = record { 0 = first } }
 
 -- no life has ended
@@ -123,7 +125,7 @@ pass_other p k ne = same_pass-not p (pass_numbered k) (λ e. ne (ap (λ (x : Pas
 
 -- a step that completes nothing adds nothing, whosever it is
 kept : (b : Bool) (p : PassId) (k : Kind) (v : ℕ) (xs : List Made) → with_done k (completed_in xs) ≡ completed_in xs → done_steps xs ≡ done_steps (cond b (step_of p k v ∷ xs) xs)
-kept true p k v xs e = ap (λ (is : List Irp). length is) (sym e)
+kept true p k v xs e = ap (λ (is : List IrpLife). length is) (sym e)
 kept false p k v xs e = refl
 
 -- the completions of each pass of a run
@@ -211,12 +213,12 @@ module _ (size : Size) (finals : FinalWords) (q : QueueRecord) (irps : finals.ir
     record_count : length r.completed ≡ done_steps (own r.pass q.run)
     record_count =
         let back = (f.agrees.backs k r at).is_record.of_pass in
-        sym (length-map r.completed (λ (c : Completion). c.irp)) ∙ (ap (λ (is : List Irp). length is) back.completed_is ∙ ap (λ (xs : List Made). done_steps xs) back.steps_is)
+        sym (length-map r.completed (λ (c : Completion). c.irp)) ∙ (ap (λ (is : List IrpLife). length is) back.completed_is ∙ ap (λ (xs : List Made). done_steps xs) back.steps_is)
 
     record_calls : has_reuse r.mine ≡ false → has_reuse (calls_of r.pass q.history) ≡ false
     record_calls h = ap has_reuse (sym (f.agrees.backs k r at).is_record.of_pass.mine_is) ∙ h
 
-  served_sum : (from : ℕ) (rs : List PassRecord) → AreServed q from rs → completed_by rs ≡ sum_from (by_pass_of q.run) from (length rs)
+  served_sum : (from : ℕ) (rs : List PassRecord) → AreServed q from rs → completions_of rs ≡ sum_from (by_pass_of q.run) from (length rs)
   served_sum from [] h = refl
   served_sum from (r ∷ rs) h = λ k. (record_count h.1.0 r h.1.1 ∙ ap (λ (p : PassId). done_steps (own p q.run)) h.0) k + served_sum (suc from) rs h.3 k
 
@@ -253,7 +255,7 @@ module _ (size : Size) (finals : FinalWords) (q : QueueRecord) (irps : finals.ir
     still_first n = lives_stay q.first q.history none_reused n ∙ f.agrees.history_is.first_is
 
     -- as many IRPs are completed at the end as the passes completed
-    pub handed_is_completed : completed_count finals finals.irps ≡ completed_by rs
+    pub handed_is_completed : completed_count finals finals.irps ≡ completions_of rs
     handed_is_completed =
         tally_same (λ n. is_some (final_status finals (irp_at n))) (λ n. is_done q.run (in_first size.first n)) finals.irps said
         ∙ (ap (λ (m : ℕ). tally (λ n. is_done q.run (in_first size.first n)) m) irps
@@ -264,7 +266,7 @@ module _ (size : Size) (finals : FinalWords) (q : QueueRecord) (irps : finals.ir
         said : (n : ℕ) → n < finals.irps → is_some (final_status finals (irp_at n)) ≡ is_done q.run (in_first size.first n)
         said n l =
             let inside : n < size.irps = subst (λ (m : ℕ). n < m) irps l in
-            let i : Irp = record { irp = irp_at n; life = record { 0 = (queue_of q).lives (irp_at n) } } in
+            let i : IrpLife = record { irp = irp_at n; life = record { 0 = (queue_of q).lives (irp_at n) } } in
             ap (λ b. is_some (cond b (status_in (slice_index finals.words (status_at (irp_at n)))) None)) (lt-ltb n finals.irps l)
             ∙ (status_done _ _ _ _ (status_is size finals.words q f (irp_at n) inside)
             ∙ ap (is_done q.run) (irp_eq i (in_first size.first n) refl (still_first (irp_at n))))

@@ -12,17 +12,17 @@ use Rattle.csq_words.proofs.Indexes.{at_push}
 use Rattle.std.proofs.lemmas.Bool.{cases_lt, or_right}
 use Rattle.irp_core.specs.Steps.{same_pass}
 use Rattle.irp_core.specs.declared.ids.PassId.{PassId}
-use Rattle.csq_words.proofs.Named.{same_pass-is}
+use Rattle.irp_core.proofs.Names.{same_pass-is}
 use Rattle.csq_queue.specs.Named.{pass_numbered, queue_size, is_back}
 use Rattle.csq_queue.specs.Rests.{FirstAreBack, IsRestOf}
 use Rattle.csq_queue.proofs.Backing.{found_back}
 use Rattle.csq_queue.proofs.Counting.{by_number}
 use Rattle.csq_device.specs.Rests.{completed_count}
-use Rattle.csq_device.specs.Served.{has_reuse, HasServed, AreServed, AreReceipts, completed_by, IsShift}
+use Rattle.csq_device.specs.Served.{has_reuse, HasServed, AreServed, AreReceipts, completions_of, IsShift}
 use Rattle.csq_device.proofs.Handing.{handed_is_completed}
 
 -- one thread more has ended
-pub completed_by-push : (rs : List PassRecord) (r : PassRecord) → completed_by (rs ++ r ∷ []) ≡ completed_by rs + length r.completed
+pub completed_by-push : (rs : List PassRecord) (r : PassRecord) → completions_of (rs ++ r ∷ []) ≡ completions_of rs + length r.completed
 completed_by-push [] r = omega arith
 completed_by-push (o ∷ rs) r = let rest = completed_by-push rs r in omega arith
 

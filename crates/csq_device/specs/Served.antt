@@ -30,9 +30,9 @@ pub record HasServed (number count : ℕ) (r : PassRecord) : Type 0 where
   pub rests : HoldsNothing r
 
 -- how many IRPs the passes with these records completed
-abbrev pub completed_by : List PassRecord → ℕ
-completed_by [] = 0
-completed_by (r ∷ rs) = length r.completed + completed_by rs
+abbrev pub completions_of : List PassRecord → ℕ
+completions_of [] = 0
+completions_of (r ∷ rs) = length r.completed + completions_of rs
 
 -- these are the records of the passes from this number on, with which they are back, and none of them reused an IRP
 abbrev pub AreServed : QueueRecord → ℕ → List PassRecord → Type 0
@@ -45,7 +45,7 @@ AreReceipts rs = (k : ℕ) (r : PassRecord) → get_elem? rs k ≡ some r → (r
 
 -- the threads completed so many IRPs, which are those of their passes: of all but the last these are the receipts, the last is the pass, and none is in the rack
 pub record IsShift (limits : Limits) (handed : ℕ) (receipts : List PassRecord) (pass : PassRecord) (rack : ℕ) : Type 0 where
-  pub handed_is : handed ≡ completed_by receipts + length pass.completed
+  pub handed_is : handed ≡ completions_of receipts + length pass.completed
   pub few : handed < 2 ^ 48
   pub given : AreReceipts receipts
   pub last : (pass.pass ≡ pass_numbered limits.passes) × (has_reuse pass.mine ≡ false)

@@ -2,3 +2,4 @@ pub mod Tables
 pub mod Growing
 pub mod Showing
 pub mod PictureLaws
+pub mod OwnerLaws

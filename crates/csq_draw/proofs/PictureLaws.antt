@@ -1,11 +1,10 @@
 -- The laws of pictures.
-use Rattle.std.proofs.Common.{◌≡◌, ◌||◌, inl, inr, ℕ, suc, ◌+◌, ◌<◌, ◌≤◌, Bool, true, false, cond, List, [], ◌∷◌, ◌++◌, length, get_or, take, count_by, Option, Some, None, refl, ap, sym, ◌∙◌, subst, arith, append_assoc, append-nil, length-append, codes}
+use Rattle.std.proofs.Common.{◌≡◌, ◌||◌, inl, inr, ℕ, ◌+◌, ◌<◌, ◌≤◌, Bool, true, false, cond, List, [], ◌∷◌, ◌++◌, length, get_or, Option, Some, None, refl, ap, sym, ◌∙◌, subst, arith, append_assoc, append-nil}
 use Rattle.std.specs.List.{position, list_any}
 use Rattle.std.specs.Option.{option_map}
 use Rattle.std.proofs.lemmas.List.Quantifiers.{position-Some}
 use Rattle.irp_core.specs.declared.ids.PassId.{PassId}
 use Rattle.irp_core.specs.declared.step.Made.{Made}
-use Rattle.irp_core.specs.declared.step.Inside.{Inside}
 use Rattle.irp_core.specs.Steps.{same_pass, by}
 use Rattle.irp_core.specs.Inside.{inside, inside_after, has_lock}
 use Rattle.irp_core.specs.Lock.{HasLock, needs_lock}
@@ -14,7 +13,6 @@ use Rattle.irp_core.proofs.Names.{same_pass-eq}
 use Rattle.irp_core.proofs.Growing.{run_none, run_less, run_parted, HasLock-has_lock, has_lock-HasLock}
 use Rattle.irp_core.proofs.Next.{lock_one}
 use Rattle.csq_replay.specs.declared.schedule.closing.IrpLine.{IrpLine}
-use Rattle.csq_replay.specs.declared.schedule.outcome.Stop.{Stop}
 use Rattle.csq_replay.specs.Schedule.{Numbered, run_of}
 use Rattle.csq_replay.proofs.Answering.{one_input_answer}
 use Rattle.csq_replay.proofs.OneAnswer.{one_close, one_line, run_on}
@@ -28,10 +26,11 @@ use Rattle.csq_draw.specs.declared.passes.PassNow.{PassNow}
 use Rattle.csq_draw.specs.declared.reasons.Reason.{Reason}
 use Rattle.csq_draw.specs.declared.rows.Row.{Row}
 use Rattle.csq_draw.specs.declared.spans.OpenSpan.{OpenSpan}
-use Rattle.csq_draw.specs.Elements.{Element, picture}
-use Rattle.csq_draw.specs.Elements.Element.{column, open_span}
+use Rattle.csq_draw.specs.declared.element.Element.{Element}
+use Rattle.csq_draw.specs.Elements.{picture}
+use Rattle.csq_draw.specs.declared.element.Element.TheVariants as element
 use Rattle.csq_draw.specs.Owners.{owners}
-use Rattle.csq_draw.specs.Passes.{new_pass, pass_after, pass_now, lock_of, columns, column_of}
+use Rattle.csq_draw.specs.Passes.{new_pass_now, pass_after, pass_now, lock_of, columns, column_of}
 use Rattle.csq_draw.specs.Pictures.{each, column_element, column_elements, shade_elements, span_elements, number_element, mark_element, row_elements, open_elements, extent, opening_elements, closing_elements, refused_elements, rest_element, shown_elements, closed_picture, drawn_text, DrawsLine, DrawsClosing}
 use Rattle.csq_draw.specs.Rows.{all_passes, row_of, rows_of}
 use Rattle.csq_draw.specs.Reasons.{reason_of}
@@ -67,15 +66,15 @@ module _ {A : Type 0} (pick : Element → List A) where
   none_then xs ys zs a b = picked-append xs ys ∙ ap (λ t. t ++ picked pick ys) a ∙ b
 
   -- as of a column, or of a line that is kept to the end
-  no_column : ((c : Column) → pick (column c) ≡ []) → (passes : List PassNow) (rows n : ℕ) (now : PassNow) → picked pick (column_elements passes rows n now) ≡ []
+  no_column : ((c : Column) → pick (element.Column c) ≡ []) → (passes : List PassNow) (rows n : ℕ) (now : PassNow) → picked pick (column_elements passes rows n now) ≡ []
   no_column none passes rows n now = go now.makes
     where
       go : (b : Bool) → picked pick (cond b (column_element passes rows (record { 0 = n }) ∷ []) []) ≡ []
       go true = append-nil (pick (column_element passes rows (record { 0 = n }))) ∙ none _
       go false = refl
 
-  no_kept : ((o : OpenSpan) → pick (open_span o) ≡ []) → (passes : List PassNow) (rows n : ℕ) (owner : Option Owner) → picked pick (open_elements passes rows n owner) ≡ []
-  no_kept none passes rows n (Some o) = append-nil (pick (open_span (record { column = column_of passes o.pass; owner = o; rows = rows }))) ∙ none _
+  no_kept : ((o : OpenSpan) → pick (element.OpenSpan o) ≡ []) → (passes : List PassNow) (rows n : ℕ) (owner : Option Owner) → picked pick (open_elements passes rows n owner) ≡ []
+  no_kept none passes rows n (Some o) = append-nil (pick (element.OpenSpan (record { column = column_of passes o.pass; owner = o; rows = rows }))) ∙ none _
   no_kept none passes rows n None = refl
 
 -- of which elements something is picked: this of a row, this of the line that ended the handling after so many rows, and nothing else
@@ -240,15 +239,15 @@ module _ (size : Size) (W : List Numbered) where
   locked now = has_lock now.inside
 
   -- the pass at a place of the passes
-  at_place : (n : ℕ) → n < length (all_passes size W) → locked (get_or (all_passes size W) n new_pass) ≡ has_lock (inside (run_of W) (record { 0 = n }))
+  at_place : (n : ℕ) → n < length (all_passes size W) → locked (get_or (all_passes size W) n new_pass_now) ≡ has_lock (inside (run_of W) (record { 0 = n }))
   at_place n lt =
-      ap locked (get-table (λ p. pass_now W (record { 0 = p })) (size.passes + 1) n new_pass (omega (arith, lt, length-passes size W))) ∙ ap has_lock (inside_is (record { 0 = n }) W)
+      ap locked (get-table (λ p. pass_now W (record { 0 = p })) (size.passes + 1) n new_pass_now (omega (arith, lt, length-passes size W))) ∙ ap has_lock (inside_is (record { 0 = n }) W)
 
   module _ (r : IsRun size (run_of W)) where
     found : (o : Option ℕ) → position locked (all_passes size W) ≡ o → (p : PassId) → option_map (λ n. let q : PassId = record { 0 = n } in q) o ≡ Some p → HasLock (run_of W) p
     found None e p h = absurd (cc h)
     found (Some n) e p h =
-        let at = position-Some locked (all_passes size W) n new_pass e in
+        let at = position-Some locked (all_passes size W) n new_pass_now e in
         let has = sym (at_place n at.0) ∙ at.1 in
         let q : PassId = record { 0 = n } in
         let same : q ≡ p = cc h in
@@ -265,7 +264,7 @@ module _ (size : Size) (W : List Numbered) where
         ap Some (lock_one size (run_of W) r p (HasLock-has_lock (run_of W) p lock) q (HasLock-has_lock (run_of W) q mine))
     missed None e p lock =
         let lt : p.0 < length (all_passes size W) = omega (arith, known (run_of W) r p (HasLock-has_lock (run_of W) p lock), length-passes size W) in
-        let free = position-None locked (all_passes size W) e p.0 new_pass lt in
+        let free = position-None locked (all_passes size W) e p.0 new_pass_now lt in
         absurd (cc (sym (at_place p.0 lt) ∙ free, HasLock-has_lock (run_of W) p lock))
 
     pub has_is_shaded : (p : PassId) → HasLock (run_of W) p → lock_of (all_passes size W) ≡ Some p
@@ -286,8 +285,8 @@ module _ (size : Size) (W : List Numbered) where
   own_column p q below among made =
       let passes = all_passes size W in
       let at : p.0 < length passes = omega (arith, among, length-passes size W) in
-      let is = ap (λ (now : PassNow). now.makes) (get-table (λ k. pass_now W (record { 0 = k })) (size.passes + 1) p.0 new_pass (omega (arith, among))) in
-      count-more (λ (now : PassNow). now.makes) passes p.0 q.0 new_pass at below (is ∙ makes_it p W made)
+      let is = ap (λ (now : PassNow). now.makes) (get-table (λ k. pass_now W (record { 0 = k })) (size.passes + 1) p.0 new_pass_now (omega (arith, among))) in
+      count-more (λ (now : PassNow). now.makes) passes p.0 q.0 new_pass_now at below (is ∙ makes_it p W made)
 
 -- who has the lock as a step is made
 module _ (size : Size) (W : List Numbered) (w : Numbered) (r : IsRun size (run_of (w ∷ W))) (p : PassId) where

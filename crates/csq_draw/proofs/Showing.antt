@@ -1,12 +1,13 @@
 -- A drawing shows the run that it was noted of.
-use Rattle.std.proofs.Common.{◌≡◌, ℕ, suc, ◌+◌, ◌<◌, ◌≤◌, Bool, true, false, cond, List, [], ◌∷◌, ◌++◌, map, length, get_or, set, replicate, Option, Some, None, refl, ap, sym, ◌∙◌, subst, arith, length-append, add-one}
+use Rattle.std.proofs.Common.{◌≡◌, ℕ, suc, ◌+◌, ◌<◌, ◌≤◌, Bool, true, false, cond, List, [], ◌∷◌, ◌++◌, length, get_or, set, replicate, Option, Some, None, refl, ap, sym, ◌∙◌, arith, length-append, add-one}
 use Rattle.std.specs.Option.{option_map_or}
 use Rattle.irp_core.specs.declared.ids.IrpId.{IrpId}
 use Rattle.irp_core.specs.declared.ids.PassId.{PassId}
 use Rattle.irp_core.specs.declared.step.Kind.{Kind}
 use Rattle.irp_core.specs.declared.step.Kind.TheVariants.{Arm, Test, Disarm, End, Flag, Take, Out, Done, Renew}
 use Rattle.irp_core.specs.declared.step.Made.{Made}
-use Rattle.irp_core.specs.Steps.{Irp, number, same_id, same_pass, by, name_of}
+use Rattle.irp_core.specs.Steps.{number, same_id, same_pass, by, name_of}
+use Rattle.irp_core.specs.declared.ids.IrpLife.{IrpLife}
 use Rattle.irp_core.specs.Runs.{Size, OfIrp}
 use Rattle.irp_core.proofs.Names.{same_id-refl, same_id-eq, same_pass-refl, same_pass-eq}
 use Rattle.csq_replay.specs.Schedule.{Numbered, run_of}
@@ -20,10 +21,10 @@ use Rattle.csq_draw.specs.Reasons.{reason_of}
 use Rattle.csq_draw.specs.declared.owners.Owner.{Owner}
 use Rattle.csq_draw.specs.declared.passes.PassNow.{PassNow}
 use Rattle.csq_draw.specs.declared.rows.Row.{Row}
-use Rattle.csq_draw.specs.Owners.{is_of, owner, owner_after, owner_named, ended_by, owners}
-use Rattle.csq_draw.specs.Passes.{new_pass, pass_after, pass_now, passes_now, lock_before}
+use Rattle.csq_draw.specs.Owners.{is_of_irp, owner, owner_after, owner_named, ended_by, owners}
+use Rattle.csq_draw.specs.Passes.{new_pass_now, pass_after, pass_now, passes_now, lock_before}
 use Rattle.csq_draw.specs.Rows.{all_passes, row_of, rows_of}
-use Rattle.csq_draw.specs.Drawings.{owner_in, with_owner, Shows, Notes}
+use Rattle.csq_draw.specs.Drawings.{owner_in, with_owner, Shows, NotesStep}
 use Rattle.csq_draw.proofs.Tables.{length-table, table-same, table-replicate, get-table, set-table}
 
 pub length-rows : (size : Size) (W : List Numbered) → length (rows_of size W) ≡ length W
@@ -56,39 +57,39 @@ other_id n m ne = go (same_id n m) refl
     go true e = absurd (ne (ap (λ (x : IrpId). x.0) (sym (same_id-eq n m e))))
 
 -- before the first step
-pub shows_none : (size : Size) (passes : List PassNow) (os : List (Option Owner)) → passes ≡ replicate (size.passes + 1) new_pass → os ≡ replicate size.irps None → Shows size [] passes os []
+pub shows_none : (size : Size) (passes : List PassNow) (os : List (Option Owner)) → passes ≡ replicate (size.passes + 1) new_pass_now → os ≡ replicate size.irps None → Shows size [] passes os []
 shows_none size passes os a b = record {
   shown_rows = refl;
-  shown_passes = a ∙ sym (table-replicate (λ p. pass_now [] (record { 0 = p })) new_pass (size.passes + 1) (λ k. refl));
+  shown_passes = a ∙ sym (table-replicate (λ p. pass_now [] (record { 0 = p })) new_pass_now (size.passes + 1) (λ k. refl));
   shown_owners = b ∙ sym (table-replicate (λ k. owner [] (record { 0 = k })) None size.irps (λ k. refl));
 }
 
 -- the passes after a step of p
 module _ (w : Numbered) (W : List Numbered) (n : ℕ) (known : w.step.pass.0 < n) where
-  passes_more : set (passes_now n W) w.step.pass.0 (pass_after (get_or (passes_now n W) w.step.pass.0 new_pass) w) ≡ passes_now n (w ∷ W)
+  passes_more : set (passes_now n W) w.step.pass.0 (pass_after (get_or (passes_now n W) w.step.pass.0 new_pass_now) w) ≡ passes_now n (w ∷ W)
   passes_more =
       let before : ℕ → PassNow = λ p. pass_now W (record { 0 = p }) in
       let after : ℕ → PassNow = λ p. pass_now (w ∷ W) (record { 0 = p }) in
       let own : cond (by w.step.pass w.step) (pass_after (pass_now W w.step.pass) w) (pass_now W w.step.pass) ≡ pass_after (pass_now W w.step.pass) w =
       ap (λ b. cond b (pass_after (pass_now W w.step.pass) w) (pass_now W w.step.pass)) (same_pass-refl w.step.pass) in
-      set-table before after n w.step.pass.0 (pass_after (get_or (passes_now n W) w.step.pass.0 new_pass) w) known
-      (ap (λ x. pass_after x w) (get-table before n w.step.pass.0 new_pass known) ∙ sym own)
+      set-table before after n w.step.pass.0 (pass_after (get_or (passes_now n W) w.step.pass.0 new_pass_now) w) known
+      (ap (λ x. pass_after x w) (get-table before n w.step.pass.0 new_pass_now known) ∙ sym own)
       (λ j ne. sym (ap (λ b. cond b (pass_after (before j) w) (before j)) (other_pass w.step.pass (record { 0 = j }) ne)))
 
 -- the owners after a step, whose row is the number of steps before it
 module _ (m : Made) (E : List Made) (n : ℕ) where
-  owner_if : (k : ℕ) (b : Bool) → is_of (record { 0 = k }) m.kind ≡ b → owner (m ∷ E) (record { 0 = k }) ≡ cond b (owner_after (owner E (record { 0 = k })) m (length E)) (owner E (record { 0 = k }))
+  owner_if : (k : ℕ) (b : Bool) → is_of_irp (record { 0 = k }) m.kind ≡ b → owner (m ∷ E) (record { 0 = k }) ≡ cond b (owner_after (owner E (record { 0 = k })) m (length E)) (owner E (record { 0 = k }))
   owner_if k b is = ap (λ x. cond x (owner_after (owner E (record { 0 = k })) m (length E)) (owner E (record { 0 = k }))) is
 
-  named_by : (o : Option Irp) → name_of m.kind ≡ o → (k : ℕ) → is_of (record { 0 = k }) m.kind ≡ option_map_or (λ i. same_id i.irp (record { 0 = k })) o false
-  named_by o e k = ap (λ (x : Option Irp). option_map_or (λ i. same_id i.irp (record { 0 = k })) x false) e
+  named_by : (o : Option IrpLife) → name_of m.kind ≡ o → (k : ℕ) → is_of_irp (record { 0 = k }) m.kind ≡ option_map_or (λ i. same_id i.irp (record { 0 = k })) o false
+  named_by o e k = ap (λ (x : Option IrpLife). option_map_or (λ i. same_id i.irp (record { 0 = k })) x false) e
 
   -- a step that names no IRP
   owners_same : name_of m.kind ≡ None → owners n E ≡ owners n (m ∷ E)
   owners_same none = table-same (λ k. owner E (record { 0 = k })) (λ k. owner (m ∷ E) (record { 0 = k })) n (λ k lt. sym (owner_if k false (named_by None none k)))
 
   -- a step of i
-  owners_set : (i : Irp) → name_of m.kind ≡ Some i → number i < n
+  owners_set : (i : IrpLife) → name_of m.kind ≡ Some i → number i < n
       → set (owners n E) (number i) (owner_after (get_or (owners n E) (number i) None) m (length E)) ≡ owners n (m ∷ E)
   owners_set i some lt =
       let before : ℕ → Option Owner = λ k. owner E (record { 0 = k }) in
@@ -98,7 +99,7 @@ module _ (m : Made) (E : List Made) (n : ℕ) where
       (λ j ne. sym (owner_if j false (named_by (Some i) some j ∙ other_id i.irp (record { 0 = j }) ne)))
 
   -- the IRP that a step names, where it names one, is known
-  abbrev IsNamed : Option Irp → Type 0
+  abbrev IsNamed : Option IrpLife → Type 0
   IsNamed None = Unit {0}
   IsNamed (Some i) = number i < n
 
@@ -116,23 +117,23 @@ module _ (m : Made) (E : List Made) (n : ℕ) where
   owners_more : OfIrp (λ i. number i < n) m.kind → with_owner (owners n E) m (length E) ≡ owners n (m ∷ E)
   owners_more h = go (name_of m.kind) refl (named_known m.kind h)
     where
-      go : (o : Option Irp) → name_of m.kind ≡ o → IsNamed o → with_owner (owners n E) m (length E) ≡ owners n (m ∷ E)
-      go None e known = ap (λ (x : Option Irp). option_map_or (λ i. set (owners n E) (number i) (owner_after (get_or (owners n E) (number i) None) m (length E))) x (owners n E)) e ∙ owners_same e
+      go : (o : Option IrpLife) → name_of m.kind ≡ o → IsNamed o → with_owner (owners n E) m (length E) ≡ owners n (m ∷ E)
+      go None e known = ap (λ (x : Option IrpLife). option_map_or (λ i. set (owners n E) (number i) (owner_after (get_or (owners n E) (number i) None) m (length E))) x (owners n E)) e ∙ owners_same e
       go (Some i) e known =
-          ap (λ (x : Option Irp). option_map_or (λ i. set (owners n E) (number i) (owner_after (get_or (owners n E) (number i) None) m (length E))) x (owners n E)) e ∙ owners_set i e known
+          ap (λ (x : Option IrpLife). option_map_or (λ i. set (owners n E) (number i) (owner_after (get_or (owners n E) (number i) None) m (length E))) x (owners n E)) e ∙ owners_set i e known
 
   -- of these owners, that of the IRP that a step names
   owner_is : OfIrp (λ i. number i < n) m.kind → owner_in (owners n E) m.kind ≡ owner_named E m.kind
   owner_is h = go (name_of m.kind) refl (named_known m.kind h)
     where
-      go : (o : Option Irp) → name_of m.kind ≡ o → IsNamed o → owner_in (owners n E) m.kind ≡ owner_named E m.kind
+      go : (o : Option IrpLife) → name_of m.kind ≡ o → IsNamed o → owner_in (owners n E) m.kind ≡ owner_named E m.kind
       go None e known =
-          ap (λ (x : Option Irp). option_map_or (λ i. get_or (owners n E) (number i) None) x None) e
-          ∙ sym (ap (λ (x : Option Irp). option_map_or (λ i. owner E i.irp) x None) e)
+          ap (λ (x : Option IrpLife). option_map_or (λ i. get_or (owners n E) (number i) None) x None) e
+          ∙ sym (ap (λ (x : Option IrpLife). option_map_or (λ i. owner E i.irp) x None) e)
       go (Some i) e known =
-          ap (λ (x : Option Irp). option_map_or (λ i. get_or (owners n E) (number i) None) x None) e
+          ap (λ (x : Option IrpLife). option_map_or (λ i. get_or (owners n E) (number i) None) x None) e
           ∙ get-table (λ k. owner E (record { 0 = k })) n (number i) None known
-          ∙ sym (ap (λ (x : Option Irp). option_map_or (λ i. owner E i.irp) x None) e)
+          ∙ sym (ap (λ (x : Option IrpLife). option_map_or (λ i. owner E i.irp) x None) e)
 
 -- one more step was noted
 module _ (size : Size) (rows : List Row) (passes : List PassNow) (os : List (Option Owner)) (w : Numbered) (W : List Numbered) (h : Shows size rows passes os W) where
@@ -144,11 +145,11 @@ module _ (size : Size) (rows : List Row) (passes : List PassNow) (os : List (Opt
       ∙ ap (λ ps. row (length W) ps (owner_in os w.step.kind)) h.shown_passes
       ∙ ap (λ o. row (length W) (all_passes size W) o) (ap (λ x. owner_in x w.step.kind) h.shown_owners ∙ owner_is w.step (run_of W) size.irps known)
 
-  pub shows_more : (rows' : List Row) (passes' : List PassNow) (os' : List (Option Owner)) → Notes rows passes os w rows' passes' os' → w.step.pass.0 ≤ size.passes → OfIrp (λ i. number i < size.irps) w.step.kind
+  pub shows_more : (rows' : List Row) (passes' : List PassNow) (os' : List (Option Owner)) → NotesStep rows passes os w rows' passes' os' → w.step.pass.0 ≤ size.passes → OfIrp (λ i. number i < size.irps) w.step.kind
       → Shows size rows' passes' os' (w ∷ W)
   shows_more rows' passes' os' noted from known = record {
     shown_rows = noted.noted_rows ∙ ap (λ r. rows ++ r ∷ []) (row_is known) ∙ ap (λ rs. rs ++ row_of size w W ∷ []) h.shown_rows;
-    shown_passes = noted.noted_passes ∙ ap (λ ps. set ps w.step.pass.0 (pass_after (get_or ps w.step.pass.0 new_pass) w)) h.shown_passes ∙ passes_more w W (size.passes + 1) (omega (arith, from));
+    shown_passes = noted.noted_passes ∙ ap (λ ps. set ps w.step.pass.0 (pass_after (get_or ps w.step.pass.0 new_pass_now) w)) h.shown_passes ∙ passes_more w W (size.passes + 1) (omega (arith, from));
     shown_owners = noted.noted_owners ∙ ap (λ x. with_owner x w.step (length rows)) h.shown_owners ∙ ap (λ n. with_owner (owners size.irps (run_of W)) w.step n) (ap length h.shown_rows ∙ length-rows size W ∙ sym (length-run W)) ∙ owners_more w.step (run_of W) size.irps known;
   }
 

@@ -1,10 +1,8 @@
 -- What a drawing keeps: the private side of its contract.
-use Rattle.std.specs.Prelude.{◌≡◌, ℕ, List, [], ◌∷◌, ◌++◌, length, Option, Some, None, slice_index_or, slice_set, if◌then◌else◌}
+use Rattle.std.specs.Prelude.{◌≡◌, ℕ, List, [], ◌∷◌, ◌++◌, length, Option, None, slice_index_or, slice_set}
 use Rattle.std.specs.Option.{option_map_or}
-use Rattle.irp_core.specs.declared.ids.PassId.{PassId}
 use Rattle.irp_core.specs.declared.step.Kind.{Kind}
 use Rattle.irp_core.specs.declared.step.Made.{Made}
-use Rattle.irp_core.specs.Lock.{needs_lock}
 use Rattle.irp_core.specs.MachineState.{Agrees, size_of}
 use Rattle.irp_core.specs.Runs.{Size, IsInLimits}
 use Rattle.irp_core.specs.Steps.{number, name_of}
@@ -14,7 +12,7 @@ use Rattle.csq_draw.specs.declared.owners.Owner.{Owner}
 use Rattle.csq_draw.specs.declared.passes.PassNow.{PassNow}
 use Rattle.csq_draw.specs.declared.rows.Row.{Row}
 use Rattle.csq_draw.specs.Owners.{owner_after, ended_by, owners}
-use Rattle.csq_draw.specs.Passes.{new_pass, pass_after, lock_before}
+use Rattle.csq_draw.specs.Passes.{new_pass_now, pass_after, lock_before}
 use Rattle.csq_draw.specs.Rows.{all_passes, rows_of}
 
 -- of these owners the one of the IRP that a step of this kind names
@@ -32,7 +30,7 @@ pub record Shows (size : Size) (rows : List Row) (passes : List PassNow) (os : L
   pub shown_owners : os ≡ owners size.irps (run_of W)
 
 -- a step that its line names was noted
-pub record Notes (rows : List Row) (passes : List PassNow) (os : List (Option Owner)) (w : Numbered) (new_rows : List Row) (new_passes : List PassNow) (new_owners : List (Option Owner)) : Type 0 where
+pub record NotesStep (rows : List Row) (passes : List PassNow) (os : List (Option Owner)) (w : Numbered) (new_rows : List Row) (new_passes : List PassNow) (new_owners : List (Option Owner)) : Type 0 where
   pub noted_rows : new_rows ≡ rows ++ record {
     row = length rows;
     line = w.line;
@@ -40,11 +38,11 @@ pub record Notes (rows : List Row) (passes : List PassNow) (os : List (Option Ow
     lock = lock_before passes w.step;
     ended = ended_by w.step.kind (owner_in os w.step.kind);
   } ∷ []
-  pub noted_passes : new_passes ≡ slice_set passes w.step.pass.0 (pass_after (slice_index_or passes w.step.pass.0 new_pass) w)
+  pub noted_passes : new_passes ≡ slice_set passes w.step.pass.0 (pass_after (slice_index_or passes w.step.pass.0 new_pass_now) w)
   pub noted_owners : new_owners ≡ with_owner os w.step (length rows)
 
 -- a drawing stands after the steps W, of a machine of this size
-pub record StandsAfter {A : Type 0} (drawing : Drawing A) (size : Size) (W : List Numbered) : Type 0 where
+pub record DrawingStandsAfter {A : Type 0} (drawing : Drawing A) (size : Size) (W : List Numbered) : Type 0 where
   pub same : size_of drawing.machine ≡ size
   pub limits : IsInLimits size
   pub agrees : Agrees drawing.machine (run_of W)

@@ -18,14 +18,14 @@ abbrev pub bar_text : Bar → List ℕ
 bar_text b = codes "<rect class='bad' x='72' y='" ++ (decimal (top b.rows + 2) ++ codes "' width='624' height='28' rx='5'/>")
 
 -- a line that ended the handling, as it is told: its step, if it names one, and why it ended it
-unfoldable pub refusal_text : Stop → List ℕ
-refusal_text (RefusedStep s cause) = step_text s ++ (codes " " ++ stop_text (RefusedStep s cause))
-refusal_text TooLong = stop_text TooLong
-refusal_text Malformed = stop_text Malformed
+unfoldable pub ended_line_text : Stop → List ℕ
+ended_line_text (RefusedStep s cause) = step_text s ++ (codes " " ++ stop_text (RefusedStep s cause))
+ended_line_text TooLong = stop_text TooLong
+ended_line_text Malformed = stop_text Malformed
 
 -- what is told of it, in its bar
 abbrev pub refused_text : Refused → List ℕ
-refused_text r = codes "<text x='88' y='" ++ (decimal (top r.rows + 21) ++ (codes "'>" ++ (refusal_text r.stop ++ codes "</text>")))
+refused_text r = codes "<text x='88' y='" ++ (decimal (top r.rows + 21) ++ (codes "'>" ++ (ended_line_text r.stop ++ codes "</text>")))
 
 -- why it ended the handling, below its bar
 abbrev pub because_text : Because → List ℕ

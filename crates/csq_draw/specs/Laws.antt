@@ -1,9 +1,12 @@
 -- What holds of every picture.
 use Rattle.std.specs.Prelude.{◌≡◌, ◌⊎◌, ◌↔◌, ℕ, ◌<◌, Bool, false, List, [], ◌∷◌, ◌++◌, length, Option, Some, None, IsTrue}
 use Rattle.std.specs.List.{list_any}
+use Rattle.irp_core.specs.declared.ids.IrpId.{IrpId}
 use Rattle.irp_core.specs.declared.ids.PassId.{PassId}
 use Rattle.irp_core.specs.declared.step.Made.{Made}
+use Rattle.irp_core.specs.Lives.{present}
 use Rattle.irp_core.specs.Lock.{HasLock, needs_lock}
+use Rattle.irp_core.specs.Owners.{owes, holds}
 use Rattle.irp_core.specs.Runs.{Size, IsRun}
 use Rattle.irp_core.specs.Steps.{by}
 use Rattle.csq_replay.specs.declared.lines.answer.Ended.{Ended}
@@ -13,11 +16,14 @@ use Rattle.csq_replay.specs.Schedule.{Numbered, run_of}
 use Rattle.csq_draw.specs.declared.marks.Mark.{Mark}
 use Rattle.csq_draw.specs.declared.marks.Number.{Number}
 use Rattle.csq_draw.specs.declared.marks.Shade.{Shade}
+use Rattle.csq_draw.specs.declared.owners.Having.{Having}
+use Rattle.csq_draw.specs.declared.owners.Having.TheVariants.{Owes, Holds}
 use Rattle.csq_draw.specs.declared.passes.PassNow.{PassNow}
+use Rattle.csq_draw.specs.Owners.{owner}
 use Rattle.csq_draw.specs.Passes.{column_of}
 use Rattle.csq_draw.specs.Rows.{all_passes, row_of}
-use Rattle.csq_draw.specs.Elements.{Element}
-use Rattle.csq_draw.specs.Elements.Element.{mark, number, shade}
+use Rattle.csq_draw.specs.declared.element.Element.{Element}
+use Rattle.csq_draw.specs.declared.element.Element.TheVariants as element
 use Rattle.csq_draw.specs.Pictures.{IsDrawing, stopped_picture, closed_picture}
 
 -- two pictures of one schedule are the same
@@ -41,17 +47,17 @@ pub record AddsStepByStep {A : Type 0} (size : Size) (W : List Numbered) (pick :
 
 -- an element's mark, if it is one
 abbrev pub mark_in : Element → List Mark
-mark_in (mark m) = m ∷ []
+mark_in (element.Mark m) = m ∷ []
 mark_in _ = []
 
 -- its number of a line, if it is one
 abbrev pub number_in : Element → List Number
-number_in (number n) = n ∷ []
+number_in (element.Number n) = n ∷ []
 number_in _ = []
 
 -- its shade, if it is one
 abbrev pub shade_in : Element → List Shade
-shade_in (shade s) = s ∷ []
+shade_in (element.Shade s) = s ∷ []
 shade_in _ = []
 
 -- the mark of a step after the steps W: on the row of its number, in the column of its pass, with the value that it found
@@ -59,8 +65,8 @@ abbrev pub mark_of : List PassNow → Numbered → List Numbered → List Mark
 mark_of passes w W = record { row = length W; column = column_of passes w.step.pass; made = w.step } ∷ []
 
 -- the number of its line, on that row
-abbrev pub number_of : Numbered → List Numbered → List Number
-number_of w W = record { row = length W; line = w.line } ∷ []
+abbrev pub line_number : Numbered → List Numbered → List Number
+line_number w W = record { row = length W; line = w.line } ∷ []
 
 -- on this row, of the pass that has the lock: a shade in its column
 abbrev pub shade_by : List PassNow → ℕ → Option PassId → List Shade
@@ -77,7 +83,7 @@ EachStepHasOneMark size W = AddsStepByStep size W mark_in (mark_of (all_passes s
 
 -- each step has the number of its line, in order, and then the line that ended the handling has its own
 abbrev pub EachLineHasItsNumber : Size → List Numbered → Type 0
-EachLineHasItsNumber size W = AddsStepByStep size W number_in number_of (λ n. record { row = length W; line = n } ∷ [])
+EachLineHasItsNumber size W = AddsStepByStep size W number_in line_number (λ n. record { row = length W; line = n } ∷ [])
 
 -- a shade stands where a pass has the lock as a step is made, and nowhere else
 abbrev pub EachShadeIsOfTheLock : Size → List Numbered → Type 0
@@ -94,3 +100,12 @@ HasItAt m E p = (IsTrue (needs_lock m.kind) × (m.pass ≡ p)) ⊎ ((needs_lock 
 -- of a step after the steps W, the pass whose column is shaded on its row is the one that has the lock as it is made
 abbrev pub TheShadedPassHasTheLock : Size → List Numbered → Type 0
 TheShadedPassHasTheLock size W = (w : Numbered) → IsRun size (run_of (w ∷ W)) → (p : PassId) → ((row_of size w W).lock ≡ Some p) ↔ HasItAt w.step (run_of W) p
+
+-- after the run E, p is drawn as the owner of IRP n, since some row
+abbrev pub IsDrawnAs : List Made → IrpId → PassId → Having → Type 0
+IsDrawnAs E n p having = (row : ℕ) × (owner E n ≡ Some (record { irp = n; pass = p; having = having; row = row }))
+
+-- of every run, who is drawn as an IRP's owner is its owner by the run, in its present life, and so the other way round
+pub record EachDrawnOwnerOwesOrHolds (first : ℕ) (E : List Made) : Type 0 where
+  pub owed : (n : IrpId) (p : PassId) → (IsDrawnAs E n p Owes) ↔ IsTrue (owes E p (present first E n))
+  pub held : (n : IrpId) (p : PassId) → (IsDrawnAs E n p Holds) ↔ IsTrue (holds E p (present first E n))

@@ -2,7 +2,8 @@
 use Rattle.std.specs.Prelude.{ℕ, ◌+◌, ◌%◌, ◌==◌, List, ◌++◌, codes, decimal, if◌then◌else◌}
 use Rattle.irp_core.specs.declared.step.Kind.{Kind}
 use Rattle.irp_core.specs.declared.step.Kind.TheVariants.{Arm, Test, Disarm, End, Flag, Take, Out, Done, Renew}
-use Rattle.irp_core.specs.Steps.{Irp, number}
+use Rattle.irp_core.specs.Steps.{number}
+use Rattle.irp_core.specs.declared.ids.IrpLife.{IrpLife}
 use Rattle.irp_core.specs.Texts.{kind_text}
 use Rattle.csq_draw.specs.declared.marks.Number.{Number}
 use Rattle.csq_draw.specs.declared.marks.Shade.{Shade}
@@ -19,11 +20,11 @@ abbrev pub shade_text : Shade → List ℕ
 shade_text s = codes "<rect class='l' x='" ++ (decimal (left s.column) ++ (codes "' y='" ++ (decimal (top s.row) ++ codes "' width='192' height='32'/>")))
 
 -- one of eight colours for each IRP
-abbrev pub colour_text : Irp → List ℕ
+abbrev pub colour_text : IrpLife → List ℕ
 colour_text i = codes "k" ++ decimal (number i % 8)
 
 -- a step that claims its IRP is bold
-abbrev pub exchange_look : Irp → ℕ → List ℕ
+abbrev pub exchange_look : IrpLife → ℕ → List ℕ
 exchange_look i found = if found == 1 then codes "c k" ++ decimal (number i % 8) else colour_text i
 
 -- how a step looks

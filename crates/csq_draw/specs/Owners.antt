@@ -7,14 +7,13 @@ use Rattle.irp_core.specs.declared.step.Kind.{Kind}
 use Rattle.irp_core.specs.declared.step.Kind.TheVariants.{Disarm, Take, Out, Done}
 use Rattle.irp_core.specs.declared.step.Made.{Made}
 use Rattle.irp_core.specs.Steps.{same_id, name_of}
-use Rattle.csq_draw.specs.declared.owners.Having.{Having}
 use Rattle.csq_draw.specs.declared.owners.Having.TheVariants.{Owes, Holds}
 use Rattle.csq_draw.specs.declared.owners.Owner.{Owner}
 use Rattle.csq_draw.specs.Tables.{table}
 
 -- whether a step of this kind is of IRP n, in any of its lives
-abbrev pub is_of : IrpId → Kind → Bool
-is_of n k = option_map_or (λ i. same_id i.irp n) (name_of k) false
+abbrev pub is_of_irp : IrpId → Kind → Bool
+is_of_irp n k = option_map_or (λ i. same_id i.irp n) (name_of k) false
 
 -- who has an IRP after this kind of step of it, by p on this row: who claimed it or took it out, and nobody once it is completed
 abbrev pub owner_by : Kind → ℕ → PassId → ℕ → Option Owner → Option Owner
@@ -30,7 +29,7 @@ owner_after before m row = owner_by m.kind m.found m.pass row before
 -- who has IRP n after E, where each step has a row, from 0 on
 abbrev pub owner : List Made → IrpId → Option Owner
 owner [] n = None
-owner (m ∷ E) n = if is_of n m.kind then owner_after (owner E n) m (length E) else owner E n
+owner (m ∷ E) n = if is_of_irp n m.kind then owner_after (owner E n) m (length E) else owner E n
 
 -- whose time with an IRP a step of this kind ends
 abbrev pub ended_by : Kind → Option Owner → Option Owner

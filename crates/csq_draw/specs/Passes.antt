@@ -1,8 +1,8 @@
 -- What each pass is inside of, and since which line.
-use Rattle.std.specs.Prelude.{ℕ, Bool, true, false, List, [], ◌∷◌, take, count_by, position, Option, Some, None, if◌then◌else◌}
+use Rattle.std.specs.Prelude.{ℕ, true, false, List, [], ◌∷◌, take, count_by, position, Option, Some, if◌then◌else◌}
 use Rattle.std.specs.Option.{option_map}
 use Rattle.irp_core.specs.declared.ids.PassId.{PassId}
-use Rattle.irp_core.specs.declared.step.Inside.TheVariants.{Nothing}
+use Rattle.irp_core.specs.declared.inside.Inside.TheVariants.{Nothing}
 use Rattle.irp_core.specs.declared.step.Made.{Made}
 use Rattle.irp_core.specs.Lock.{needs_lock}
 use Rattle.irp_core.specs.Steps.{by}
@@ -19,12 +19,12 @@ pass_after before w = record {
   makes = true;
 }
 
-abbrev pub new_pass : PassNow
-new_pass = record { inside = Nothing; line = 0; makes = false }
+abbrev pub new_pass_now : PassNow
+new_pass_now = record { inside = Nothing; line = 0; makes = false }
 
 -- p after the steps W
 abbrev pub pass_now : List Numbered → PassId → PassNow
-pass_now [] p = new_pass
+pass_now [] p = new_pass_now
 pass_now (w ∷ W) p = if by p w.step then pass_after (pass_now W p) w else pass_now W p
 
 -- the first passes, from 0 on, after the steps W

@@ -1,12 +1,11 @@
 -- The picture of a schedule: which elements it has.
-use Rattle.std.specs.Prelude.{◌≡◌, ℕ, ◌+◌, Bool, true, false, List, [], ◌∷◌, ◌++◌, length, Option, Some, None, if◌then◌else◌}
+use Rattle.std.specs.Prelude.{◌≡◌, ℕ, ◌+◌, Bool, List, [], ◌∷◌, ◌++◌, length, Option, Some, None, if◌then◌else◌}
 use Rattle.irp_core.specs.declared.ids.PassId.{PassId}
-use Rattle.irp_core.specs.declared.step.Made.{Made}
 use Rattle.irp_core.specs.Runs.{Size}
 use Rattle.csq_replay.specs.declared.lines.answer.Ended.{Ended}
 use Rattle.csq_replay.specs.declared.schedule.closing.IrpLine.{IrpLine}
 use Rattle.csq_replay.specs.declared.schedule.outcome.Outcome.{Outcome}
-use Rattle.csq_replay.specs.declared.schedule.outcome.Outcome.TheVariants.{Skipped, Accepted, Stopped}
+use Rattle.csq_replay.specs.declared.schedule.outcome.Outcome.TheVariants.{Stopped}
 use Rattle.csq_replay.specs.declared.schedule.outcome.Stop.{Stop}
 use Rattle.csq_replay.specs.Lines.{IsAnswer, RepliesTo}
 use Rattle.csq_replay.specs.Schedule.{Numbered, run_of, TellsLine, Closes}
@@ -19,8 +18,9 @@ use Rattle.csq_draw.specs.Owners.{owners}
 use Rattle.csq_draw.specs.Passes.{columns, column_of}
 use Rattle.csq_draw.specs.Rows.{all_passes, rows_of}
 use Rattle.csq_draw.specs.Reasons.{reason_of}
-use Rattle.csq_draw.specs.Elements.{Element, picture}
-use Rattle.csq_draw.specs.Elements.Element.{opening, title, shared, sheet, key, column, number, shade, span, mark, open_span, bar, refused, because, closing, rest}
+use Rattle.csq_draw.specs.declared.element.Element.{Element}
+use Rattle.csq_draw.specs.Elements.{picture}
+use Rattle.csq_draw.specs.declared.element.Element.TheVariants as element
 
 -- the elements of each, by its place, the first of which is n
 abbrev pub each : {A : Type 0} → (ℕ → A → List Element) → ℕ → List A → List Element
@@ -29,7 +29,7 @@ each elements n (x ∷ xs) = elements n x ++ each elements (n + 1) xs
 
 -- the column of p, over so many rows
 abbrev pub column_element : List PassNow → ℕ → PassId → Element
-column_element passes rows p = column (record { column = column_of passes p; pass = p; rows = rows })
+column_element passes rows p = element.Column (record { column = column_of passes p; pass = p; rows = rows })
 
 -- of a pass that makes a step: its column
 abbrev pub column_elements : List PassNow → ℕ → ℕ → PassNow → List Element
@@ -37,21 +37,21 @@ column_elements passes rows n now = if now.makes then column_element passes rows
 
 -- of the pass that has the lock on a row: a shade in its column
 abbrev pub shade_elements : List PassNow → ℕ → Option PassId → List Element
-shade_elements passes row (Some p) = shade (record { row = row; column = column_of passes p }) ∷ []
+shade_elements passes row (Some p) = element.Shade (record { row = row; column = column_of passes p }) ∷ []
 shade_elements passes row None = []
 
 -- of the owner whose time with an IRP ends on a row: a line down its column
 abbrev pub span_elements : List PassNow → ℕ → Option Owner → List Element
-span_elements passes row (Some owner) = span (record { column = column_of passes owner.pass; owner = owner; to = row }) ∷ []
+span_elements passes row (Some owner) = element.Span (record { column = column_of passes owner.pass; owner = owner; to = row }) ∷ []
 span_elements passes row None = []
 
 -- the number of a row's line
 abbrev pub number_element : Row → Element
-number_element row = number (record { row = row.row; line = row.line })
+number_element row = element.Number (record { row = row.row; line = row.line })
 
 -- a row's step, in the column of its pass
 abbrev pub mark_element : List PassNow → Row → Element
-mark_element passes row = mark (record { row = row.row; column = column_of passes row.made.pass; made = row.made })
+mark_element passes row = element.Mark (record { row = row.row; column = column_of passes row.made.pass; made = row.made })
 
 -- of a step: the number of its line, who has the lock, whose time with its IRP it ends, and its mark
 abbrev pub row_elements : List PassNow → ℕ → Row → List Element
@@ -59,7 +59,7 @@ row_elements passes n row = number_element row ∷ (shade_elements passes row.ro
 
 -- of an owner that has its IRP in the end: a line down its column
 abbrev pub open_elements : List PassNow → ℕ → ℕ → Option Owner → List Element
-open_elements passes rows n (Some owner) = open_span (record { column = column_of passes owner.pass; owner = owner; rows = rows }) ∷ []
+open_elements passes rows n (Some owner) = element.OpenSpan (record { column = column_of passes owner.pass; owner = owner; rows = rows }) ∷ []
 open_elements passes rows n None = []
 
 -- how much a picture shows
@@ -68,20 +68,20 @@ extent columns rows lines = record { columns = columns; rows = rows; lines = lin
 
 -- what a picture of this extent begins with
 abbrev pub opening_elements : Extent → List Element
-opening_elements e = opening e ∷ (title e ∷ (shared ∷ (sheet e ∷ (key ∷ []))))
+opening_elements e = element.Opening e ∷ (element.Title e ∷ (element.Shared ∷ (element.Sheet e ∷ (element.Key ∷ []))))
 
 -- of the line that ended the handling: its bar, its number, what is told of it, and why it ended it
 abbrev pub refused_elements : ℕ → ℕ → Reason → List Element
-refused_elements rows line reason = bar (record { rows = rows }) ∷ (number (record { row = rows; line = line })
-    ∷ (refused (record { rows = rows; stop = reason.stop }) ∷ (because (record { rows = rows; reason = reason }) ∷ [])))
+refused_elements rows line reason = element.Bar (record { rows = rows }) ∷ (element.Number (record { row = rows; line = line })
+    ∷ (element.Refused (record { rows = rows; stop = reason.stop }) ∷ (element.Because (record { rows = rows; reason = reason }) ∷ [])))
 
 -- of an IRP that is told of in the end
 abbrev pub closing_elements : ℕ → ℕ → IrpLine → List Element
-closing_elements rows nth line = closing (record { rows = rows; nth = nth; line = line }) ∷ []
+closing_elements rows nth line = element.Closing (record { rows = rows; nth = nth; line = line }) ∷ []
 
 -- whether all is at rest in the end
 abbrev pub rest_element : ℕ → ℕ → Bool → Element
-rest_element rows nth at_rest = rest (record { rows = rows; nth = nth; rest = at_rest })
+rest_element rows nth at_rest = element.Rest (record { rows = rows; nth = nth; rest = at_rest })
 
 -- of these passes, rows and owners, as many rows as there are, with so many lines of text below them
 abbrev pub shown_elements : List PassNow → List Row → List (Option Owner) → ℕ → ℕ → List Element

@@ -1,10 +1,10 @@
 -- Why a line ends a schedule, in a sentence.
 use Rattle.std.specs.Prelude.{ℕ, List, ◌++◌, codes, decimal, slice_index_or}
 use Rattle.irp_core.specs.declared.ids.PassId.{PassId}
-use Rattle.irp_core.specs.declared.step.Inside.{Inside}
-use Rattle.irp_core.specs.declared.step.Inside.TheVariants.{Nothing, Armed, FlagSeen, Removing, Cancelling}
-use Rattle.irp_core.specs.declared.step.StepRefused.{StepRefused}
-use Rattle.irp_core.specs.declared.step.StepRefused.TheVariants.{UnknownIrp, UnknownPass, LockHeld, NotNext, NotHome, NotListed, NotOwed, NotHeld, Stale, NotCompleted, LivesSpent}
+use Rattle.irp_core.specs.declared.inside.Inside.{Inside}
+use Rattle.irp_core.specs.declared.inside.Inside.TheVariants.{Nothing, Armed, FlagSeen, Removing, Cancelling}
+use Rattle.irp_core.specs.declared.refusals.StepRefused.{StepRefused}
+use Rattle.irp_core.specs.declared.refusals.StepRefused.TheVariants.{UnknownIrp, UnknownPass, LockHeld, NotNext, NotHome, NotListed, NotOwed, NotHeld, Stale, NotCompleted, LivesSpent}
 use Rattle.irp_core.specs.Runs.{Size}
 use Rattle.irp_core.specs.Texts.{name_text, pass_text, life_text}
 use Rattle.csq_replay.specs.declared.schedule.outcome.Stop.{Stop}
@@ -13,7 +13,7 @@ use Rattle.csq_draw.specs.declared.passes.PassNow.{PassNow}
 use Rattle.csq_draw.specs.declared.reasons.Reason.{Reason}
 use Rattle.csq_draw.specs.declared.reasons.Refusal.{Refusal}
 use Rattle.csq_replay.specs.declared.lines.TheConstants.{MAX_LINE}
-use Rattle.csq_draw.specs.Passes.{new_pass}
+use Rattle.csq_draw.specs.Passes.{new_pass_now}
 
 -- the pass that a line's end is a matter of: who has the lock, or else who would make the step
 abbrev pub pass_asked : Stop → PassId
@@ -47,8 +47,8 @@ cause_text irps passes now p (Stale g) = codes "the IRP is in its life " ++ life
 cause_text irps passes now p NotCompleted = codes "the IRP isn't completed in that life"
 cause_text irps passes now p LivesSpent = codes "the IRP is in its last life"
 
-abbrev pub refusal_text : Refusal → List ℕ
-refusal_text r = cause_text r.irps r.passes r.now r.pass r.cause
+abbrev pub refusal_reason : Refusal → List ℕ
+refusal_reason r = cause_text r.irps r.passes r.now r.pass r.cause
 
 -- why a line ends the handling
 abbrev pub stop_reason : ℕ → ℕ → PassNow → Stop → List ℕ
@@ -65,5 +65,5 @@ reason_of size passes stop = record {
   stop = stop;
   irps = size.irps;
   passes = size.passes;
-  now = slice_index_or passes (pass_asked stop).0 new_pass;
+  now = slice_index_or passes (pass_asked stop).0 new_pass_now;
 }

@@ -1,5 +1,5 @@
 -- The rows of a picture: one for each step, in order.
-use Rattle.std.specs.Prelude.{ℕ, ◌+◌, List, [], ◌∷◌, ◌++◌, length}
+use Rattle.std.specs.Prelude.{◌+◌, List, [], ◌∷◌, ◌++◌, length}
 use Rattle.irp_core.specs.Runs.{Size}
 use Rattle.csq_replay.specs.Schedule.{Numbered, run_of}
 use Rattle.csq_draw.specs.declared.passes.PassNow.{PassNow}

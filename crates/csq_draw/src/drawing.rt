@@ -10,7 +10,7 @@ ghost use Rattle.csq_replay.specs.declared.schedule.closing.IrpLine.{IrpLine as 
 ghost use Rattle.csq_replay.specs.Schedule.{Numbered, AreToldOf, IsToldOf};
 ghost use Rattle.csq_draw.specs.Reasons.{reason_of};
 ghost use Rattle.csq_draw.specs.Pictures.{DrawsSchedule};
-ghost use Rattle.csq_draw.specs.Drawings.{StandsAfter, Notes};
+ghost use Rattle.csq_draw.specs.Drawings.{DrawingStandsAfter, NotesStep};
 
 use crate::owners::{Owner, ended_by, new_owners, note_owner, owner_in};
 use crate::passes::{PassNow, lock_before, new_passes, pass_after};
@@ -38,7 +38,7 @@ impl<A: Allocator + Copy> Drawing<A> {
     /// A drawing without a step.
     fn new(alloc: A, irps: u32, passes: u32) -> Result<Drawing<A>, AllocError>
         requires { IsInLimits (record { irps = irps; passes = passes; first = 0 }) }
-        ensures { IfOk result (λ drawing. StandsAfter drawing (record { irps = irps; passes = passes; first = 0 }) []) }
+        ensures { IfOk result (λ drawing. DrawingStandsAfter drawing (record { irps = irps; passes = passes; first = 0 }) []) }
     {
         let Ok(machine) = Machine::new(alloc, irps, passes) else {
             return Err(AllocError);
@@ -57,7 +57,7 @@ impl<A: Allocator + Copy> Drawing<A> {
         requires pass { made.pass.0 < length self.old.passes.items }
         requires irp { OfIrp (λ i. number i < length self.old.owners.items) made.kind }
         requires few { length self.old.passes.items ≤ 65 }
-        ensures noted { OnOk result (Notes self.old.rows.items self.old.passes.items self.old.owners.items (record { line = line; step = made })
+        ensures noted { OnOk result (NotesStep self.old.rows.items self.old.passes.items self.old.owners.items (record { line = line; step = made })
             self.new.rows.items self.new.passes.items self.new.owners.items) }
         ensures machine { self.new.machine ≡ self.old.machine }
     {
@@ -138,7 +138,7 @@ impl<A: Allocator + Copy> Answerer<A> for Drawing<A> {
 
     ghost State = { List Numbered };
 
-    ghost stands = { λ drawing size W. StandsAfter drawing size W };
+    ghost stands = { λ drawing size W. DrawingStandsAfter drawing size W };
 
     ghost answers = { λ size W. DrawsLine size W };
 

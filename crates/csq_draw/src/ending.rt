@@ -31,11 +31,11 @@ struct Refusal(Stop);
 
 impl fmt::Display for Refusal {
     ghost use Rattle.std.specs.Prelude.{Some};
-    ghost use Rattle.csq_draw.specs.Endings.{refusal_text};
+    ghost use Rattle.csq_draw.specs.Endings.{ended_line_text};
 
-    ghost output = { λ refusal. Some (refusal_text refusal.0) };
+    ghost output = { λ refusal. Some (ended_line_text refusal.0) };
 
-    #[tactic(auto, unfolding(crate::specs::Endings::refusal_text))]
+    #[tactic(auto, unfolding(crate::specs::Endings::ended_line_text))]
     fn fmt<W: fmt::Write>(&self, f: &mut fmt::Formatter<W>) -> fmt::Result {
         let stop = self.0;
         match stop {

@@ -1,9 +1,9 @@
 //! What holds of every picture. Each function stands for a law: its contract is the law, and there is
 //! nothing to run.
 ghost use Rattle.std.specs.Prelude.{ℕ, List};
-ghost use Rattle.irp_core.specs.Runs.{Size};
+ghost use Rattle.irp_core.specs.Runs.{Size, EachRunFrom};
 ghost use Rattle.csq_replay.specs.Schedule.{Numbered};
-ghost use Rattle.csq_draw.specs.Laws.{HasOnePicture, EachStepHasOneMark, EachLineHasItsNumber, EachShadeIsOfTheLock, EachPassHasItsColumn, TheShadedPassHasTheLock};
+ghost use Rattle.csq_draw.specs.Laws.{HasOnePicture, EachStepHasOneMark, EachLineHasItsNumber, EachShadeIsOfTheLock, EachPassHasItsColumn, TheShadedPassHasTheLock, EachDrawnOwnerOwesOrHolds};
 
 /// A schedule has at most one picture, so the relation that `draw_schedule` meets names its bytes.
 pub fn a_schedule_has_one_picture()
@@ -36,4 +36,11 @@ pub fn each_pass_has_its_column()
 /// whoever makes it, if it needs the lock, and else whoever has the lock before it.
 pub fn the_shaded_pass_has_the_lock()
     ensures { (size : Size) (W : List Numbered) → TheShadedPassHasTheLock size W }
+{}
+
+/// Of every run, the pass that is drawn as owing an IRP after it is the one that owes the IRP by the run, in
+/// the IRP's present life, and the pass that is drawn as holding it the one that holds it; where none is
+/// drawn, none owes or holds it.
+pub fn each_drawn_owner_owes_or_holds()
+    ensures { EachRunFrom EachDrawnOwnerOwesOrHolds }
 {}

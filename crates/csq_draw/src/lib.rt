@@ -2,6 +2,7 @@
 #![tactic(auto)]
 
 mod drawing;
+mod element;
 mod ending;
 mod heading;
 mod laws;
@@ -18,6 +19,7 @@ mod spans;
 pub use drawing::draw_schedule;
 pub use heading::PICTURE_HEAD;
 pub use laws::{
-    a_schedule_has_one_picture, each_line_has_its_number, each_pass_has_its_column,
-    each_shade_is_of_the_lock, each_step_has_one_mark, the_shaded_pass_has_the_lock,
+    a_schedule_has_one_picture, each_drawn_owner_owes_or_holds, each_line_has_its_number,
+    each_pass_has_its_column, each_shade_is_of_the_lock, each_step_has_one_mark,
+    the_shaded_pass_has_the_lock,
 };

@@ -1,8 +1,7 @@
 //! Who owes an IRP, or holds it.
 ghost use Rattle.std.specs.Prelude.{◌≡◌, ◌<◌, length, replicate, IfOk};
-ghost use Rattle.std.specs.Option.{option_map};
 ghost use Rattle.irp_core.specs.Runs.{OfIrp};
-ghost use Rattle.irp_core.specs.Steps.{number, name_of};
+ghost use Rattle.irp_core.specs.Steps.{number};
 ghost use Rattle.csq_draw.specs.Owners.{owner_after, ended_by};
 ghost use Rattle.csq_draw.specs.Drawings.{owner_in, with_owner};
 
@@ -33,23 +32,6 @@ pub(crate) fn new_owners<A: Allocator>(
     ensures { IfOk result (λ owners. owners.items ≡ replicate count None) }
 {
     vec![in alloc; None; count]
-}
-
-/// The IRP that a step of this kind names.
-fn irp_of(kind: Kind) -> Option<IrpId>
-    ensures { result ≡ option_map (λ i. i.irp) (name_of kind) }
-{
-    match kind {
-        Kind::Arm(name)
-        | Kind::Test(name)
-        | Kind::Disarm(name)
-        | Kind::Flag(name)
-        | Kind::Take(name)
-        | Kind::Out(name)
-        | Kind::Done(name)
-        | Kind::Renew(name) => Some(name.irp),
-        Kind::End => None,
-    }
 }
 
 /// Who has an IRP after a step of it on this row.
@@ -96,7 +78,7 @@ pub(crate) fn owner_in(owners: &[Option<Owner>], kind: Kind) -> Option<Owner>
     requires { OfIrp (λ i. number i < length owners.now) kind }
     ensures { result ≡ owner_in owners.now kind }
 {
-    owners[irp_of(kind)?.0 as usize]
+    owners[kind.name()?.irp.0 as usize]
 }
 
 /// Notes the owner of an IRP after a step of it on this row.
@@ -104,8 +86,8 @@ pub(crate) fn note_owner(owners: &mut [Option<Owner>], made: Made, row: u32)
     requires { OfIrp (λ i. number i < length owners.old) made.kind }
     ensures { owners.new ≡ with_owner owners.old made row }
 {
-    if let Some(irp) = irp_of(made.kind) {
-        let owner = &mut owners[irp.0 as usize];
+    if let Some(name) = made.kind.name() {
+        let owner = &mut owners[name.irp.0 as usize];
         *owner = owner_after(*owner, made, row);
     }
 }

@@ -1,10 +1,9 @@
 //! What each pass is inside of, and since which line.
 ghost use Rattle.std.specs.Prelude.{◌≡◌, ◌<◌, ◌≤◌, length, position, replicate, IfOk, IfSome};
-ghost use Rattle.irp_core.specs.Inside.{inside_after, has_lock};
-ghost use Rattle.irp_core.specs.Lock.{needs_lock};
-ghost use Rattle.csq_draw.specs.Passes.{new_pass, pass_after, lock_of, lock_before, columns, column_of};
+ghost use Rattle.irp_core.specs.Inside.{has_lock};
+ghost use Rattle.csq_draw.specs.Passes.{new_pass_now, pass_after, lock_of, lock_before, columns, column_of};
 
-use irp_core::{Inside, Kind, Made, PassId};
+use irp_core::{Inside, Made, PassId};
 use std::alloc::{AllocError, Allocator};
 
 /// What a pass is inside of, the line on which that program began, and whether the pass makes a step.
@@ -24,43 +23,13 @@ impl PassNow {
     };
 }
 
-/// Whether a step of this kind is made under the lock.
-fn needs_lock(kind: Kind) -> bool
-    ensures { result ≡ needs_lock kind }
-{
-    !matches!(kind, Kind::Flag(_) | Kind::Take(_) | Kind::Done(_))
-}
-
-/// Whether a pass that is inside of this has the lock.
-fn has_lock(inside: Inside) -> bool
-    ensures { result ≡ has_lock inside }
-{
-    matches!(
-        inside,
-        Inside::Armed(_) | Inside::FlagSeen(_) | Inside::Removing
-    )
-}
-
-/// What a step leads to.
-fn inside_after(inside: Inside, kind: Kind, found: u64) -> Inside
-    ensures { result ≡ inside_after inside kind found }
-{
-    match kind {
-        Kind::Arm(name) => Inside::Armed(name),
-        Kind::Test(name) if found != 0 => Inside::FlagSeen(name),
-        Kind::Disarm(_) if found == 0 && !matches!(inside, Inside::FlagSeen(_)) => Inside::Removing,
-        Kind::Flag(name) => Inside::Cancelling(name),
-        _ => Inside::Nothing,
-    }
-}
-
 /// What is known of a pass after its step, which this line names.
 pub(crate) fn pass_after(before: PassNow, line: usize, made: Made) -> PassNow
     ensures { result ≡ pass_after before (record { line = line; step = made }) }
 {
     let begun = matches!(before.inside, Inside::Nothing);
     PassNow {
-        inside: inside_after(before.inside, made.kind, made.found),
+        inside: before.inside.after(made.kind, made.found),
         line: if begun { line } else { before.line },
         makes: true,
     }
@@ -71,7 +40,7 @@ pub(crate) fn new_passes<A: Allocator>(
     alloc: A,
     count: usize,
 ) -> Result<Vec<PassNow, A>, AllocError>
-    ensures { IfOk result (λ passes. passes.items ≡ replicate count new_pass) }
+    ensures { IfOk result (λ passes. passes.items ≡ replicate count new_pass_now) }
 {
     vec![in alloc; PassNow::NEW; count]
 }
@@ -81,7 +50,7 @@ fn lock_number(passes: &[PassNow]) -> Option<usize>
     ensures number { result ≡ position (λ now. has_lock now.inside) passes.now }
     ensures bound { IfSome result (λ number. number < length passes.now) }
 {
-    passes.iter().position(|now| has_lock(now.inside))
+    passes.iter().position(|now| now.inside.has_lock())
 }
 
 /// The pass that has the lock.
@@ -100,7 +69,7 @@ pub(crate) fn lock_before(passes: &[PassNow], made: Made) -> Option<PassId>
     requires { length passes.now ≤ 65 }
     ensures { result ≡ lock_before passes.now made }
 {
-    if needs_lock(made.kind) {
+    if made.kind.needs_lock() {
         Some(made.pass)
     } else {
         lock_of(passes)

@@ -2,23 +2,31 @@
 ghost use Rattle.std.specs.Prelude.{◌≡◌, ◌≤◌, ◌∷◌, [], codes, length, string_bytes, OnOk};
 ghost use Rattle.csq_replay.specs.Lines.{GrewBy};
 ghost use Rattle.csq_draw.specs.Elements.{elements_text, picture};
-ghost use Rattle.csq_draw.specs.Elements.{Element as element};
 ghost use Rattle.csq_draw.specs.Pictures.{each, column_element, column_elements, mark_element, shade_elements, span_elements, row_elements, open_elements, closing_elements, opening_elements, shown_elements, refused_elements, rest_element, stopped_elements, closed_elements};
 
+use crate::element::Element;
 use crate::ending::{Bar, Because, Closing, Refused, Rest};
-use crate::heading::{Column, Extent, Key, Opening, Shared, Sheet, Title};
+use crate::heading::{Column, Extent};
 use crate::marks::{Mark, Number, Shade};
 use crate::owners::Owner;
 use crate::passes::{PassNow, column_of, columns};
 use crate::reasons::Reason;
 use crate::rows::Row;
 use crate::spans::{OpenSpan, Span};
-use csq_replay::{IrpLine, Stop};
+use csq_replay::IrpLine;
 use irp_core::PassId;
 use std::alloc::{AllocError, Allocator};
 
+/// An element, on a line of its own.
+fn draw<A: Allocator>(element: Element, text: &mut String<A>) -> Result<(), AllocError>
+    ensures { OnOk result (GrewBy (string_bytes text.old) (string_bytes text.new)
+        (elements_text (element ∷ []))) }
+{
+    writeln!(text, "{element}")?;
+    Ok(())
+}
+
 /// The column of a pass.
-#[tactic(auto, unfolding(crate::specs::Elements::element_text))]
 fn draw_column<A: Allocator>(
     passes: &[PassNow],
     rows: u32,
@@ -34,8 +42,7 @@ fn draw_column<A: Allocator>(
         pass,
         rows,
     };
-    writeln!(text, "{column}")?;
-    Ok(())
+    draw(Element::Column(column), text)
 }
 
 /// The column of a pass, if it makes a step.
@@ -47,7 +54,8 @@ fn draw_maker<A: Allocator>(
     text: &mut String<A>,
 ) -> Result<(), AllocError>
     requires { length passes.now ≤ 65 }
-    ensures { OnOk result (GrewBy (string_bytes text.old) (string_bytes text.new) (elements_text (column_elements passes.now rows pass.0 now))) }
+    ensures { OnOk result (GrewBy (string_bytes text.old) (string_bytes text.new)
+        (elements_text (column_elements passes.now rows pass.0 now))) }
 {
     if now.makes {
         draw_column(passes, rows, pass, text)
@@ -63,7 +71,8 @@ fn draw_columns<A: Allocator>(
     text: &mut String<A>,
 ) -> Result<(), AllocError>
     requires { length passes.now ≤ 65 }
-    ensures { OnOk result (GrewBy (string_bytes text.old) (string_bytes text.new) (elements_text (each (column_elements passes.now rows) 0 passes.now))) }
+    ensures { OnOk result (GrewBy (string_bytes text.old) (string_bytes text.new)
+        (elements_text (each (column_elements passes.now rows) 0 passes.now))) }
 {
     for (number, now) in passes.iter().enumerate() {
         draw_maker(passes, rows, PassId(number as u32), *now, text)?;
@@ -72,14 +81,14 @@ fn draw_columns<A: Allocator>(
 }
 
 /// The shade behind a row, if a pass has the lock there.
-#[tactic(auto, unfolding(crate::specs::Elements::element_text))]
 fn draw_shade<A: Allocator>(
     passes: &[PassNow],
     row: Row,
     text: &mut String<A>,
 ) -> Result<(), AllocError>
     requires { length passes.now ≤ 65 }
-    ensures { OnOk result (GrewBy (string_bytes text.old) (string_bytes text.new) (elements_text (shade_elements passes.now row.row row.lock))) }
+    ensures { OnOk result (GrewBy (string_bytes text.old) (string_bytes text.new)
+        (elements_text (shade_elements passes.now row.row row.lock))) }
 {
     let Some(pass) = row.lock else {
         return Ok(());
@@ -88,19 +97,18 @@ fn draw_shade<A: Allocator>(
         row: row.row,
         column: column_of(passes, pass),
     };
-    writeln!(text, "{shade}")?;
-    Ok(())
+    draw(Element::Shade(shade), text)
 }
 
 /// The line of the owner whose time with an IRP ends on a row, if one does.
-#[tactic(auto, unfolding(crate::specs::Elements::element_text))]
 fn draw_span<A: Allocator>(
     passes: &[PassNow],
     row: Row,
     text: &mut String<A>,
 ) -> Result<(), AllocError>
     requires { length passes.now ≤ 65 }
-    ensures { OnOk result (GrewBy (string_bytes text.old) (string_bytes text.new) (elements_text (span_elements passes.now row.row row.ended))) }
+    ensures { OnOk result (GrewBy (string_bytes text.old) (string_bytes text.new)
+        (elements_text (span_elements passes.now row.row row.ended))) }
 {
     let Some(owner) = row.ended else {
         return Ok(());
@@ -110,12 +118,10 @@ fn draw_span<A: Allocator>(
         owner,
         to: row.row,
     };
-    writeln!(text, "{span}")?;
-    Ok(())
+    draw(Element::Span(span), text)
 }
 
 /// The mark of a row's step, in the column of its pass.
-#[tactic(auto, unfolding(crate::specs::Elements::element_text))]
 fn draw_mark<A: Allocator>(
     passes: &[PassNow],
     row: Row,
@@ -130,8 +136,7 @@ fn draw_mark<A: Allocator>(
         column: column_of(passes, row.made.pass),
         made: row.made,
     };
-    writeln!(text, "{mark}")?;
-    Ok(())
+    draw(Element::Mark(mark), text)
 }
 
 /// The row of a step.
@@ -141,13 +146,17 @@ fn draw_row<A: Allocator>(
     text: &mut String<A>,
 ) -> Result<(), AllocError>
     requires { length passes.now ≤ 65 }
-    ensures { OnOk result (GrewBy (string_bytes text.old) (string_bytes text.new) (elements_text (row_elements passes.now 0 row))) }
+    ensures { OnOk result (GrewBy (string_bytes text.old) (string_bytes text.new)
+        (elements_text (row_elements passes.now 0 row))) }
 {
-    draw_line(row.row, row.line, text)?;
+    let number = Number {
+        row: row.row,
+        line: row.line,
+    };
+    draw(Element::Number(number), text)?;
     draw_shade(passes, row, text)?;
     draw_span(passes, row, text)?;
-    draw_mark(passes, row, text)?;
-    Ok(())
+    draw_mark(passes, row, text)
 }
 
 /// The rows of all steps.
@@ -157,7 +166,8 @@ fn draw_rows<A: Allocator>(
     text: &mut String<A>,
 ) -> Result<(), AllocError>
     requires { length passes.now ≤ 65 }
-    ensures { OnOk result (GrewBy (string_bytes text.old) (string_bytes text.new) (elements_text (each (row_elements passes.now) 0 rows.now))) }
+    ensures { OnOk result (GrewBy (string_bytes text.old) (string_bytes text.new)
+        (elements_text (each (row_elements passes.now) 0 rows.now))) }
 {
     for row in rows {
         draw_row(passes, *row, text)?;
@@ -166,7 +176,6 @@ fn draw_rows<A: Allocator>(
 }
 
 /// The line of an owner that has its IRP in the end, if there is one.
-#[tactic(auto, unfolding(crate::specs::Elements::element_text))]
 fn draw_open<A: Allocator>(
     passes: &[PassNow],
     count: u32,
@@ -174,7 +183,8 @@ fn draw_open<A: Allocator>(
     text: &mut String<A>,
 ) -> Result<(), AllocError>
     requires { length passes.now ≤ 65 }
-    ensures { OnOk result (GrewBy (string_bytes text.old) (string_bytes text.new) (elements_text (open_elements passes.now count 0 owner))) }
+    ensures { OnOk result (GrewBy (string_bytes text.old) (string_bytes text.new)
+        (elements_text (open_elements passes.now count 0 owner))) }
 {
     let Some(owner) = owner else {
         return Ok(());
@@ -184,8 +194,7 @@ fn draw_open<A: Allocator>(
         owner,
         rows: count,
     };
-    writeln!(text, "{span}")?;
-    Ok(())
+    draw(Element::OpenSpan(span), text)
 }
 
 /// The lines of the owners that have their IRPs in the end.
@@ -196,26 +205,12 @@ fn draw_owners<A: Allocator>(
     text: &mut String<A>,
 ) -> Result<(), AllocError>
     requires { length passes.now ≤ 65 }
-    ensures { OnOk result (GrewBy (string_bytes text.old) (string_bytes text.new) (elements_text (each (open_elements passes.now rows) 0 owners.now))) }
+    ensures { OnOk result (GrewBy (string_bytes text.old) (string_bytes text.new)
+        (elements_text (each (open_elements passes.now rows) 0 owners.now))) }
 {
     for owner in owners {
         draw_open(passes, rows, *owner, text)?;
     }
-    Ok(())
-}
-
-/// Where an IRP is in the end, as the nth line of text.
-#[tactic(auto, unfolding(crate::specs::Elements::element_text))]
-fn draw_closing<A: Allocator>(
-    rows: u32,
-    nth: u32,
-    line: IrpLine,
-    text: &mut String<A>,
-) -> Result<(), AllocError>
-    ensures { OnOk result (GrewBy (string_bytes text.old) (string_bytes text.new) (elements_text (closing_elements rows nth line))) }
-{
-    let closing = Closing { rows, nth, line };
-    writeln!(text, "{closing}")?;
     Ok(())
 }
 
@@ -226,74 +221,26 @@ fn draw_told<A: Allocator>(
     text: &mut String<A>,
 ) -> Result<(), AllocError>
     requires { length told.now ≤ 1024 }
-    ensures { OnOk result (GrewBy (string_bytes text.old) (string_bytes text.new) (elements_text (each (closing_elements rows) 0 told.now))) }
+    ensures { OnOk result (GrewBy (string_bytes text.old) (string_bytes text.new)
+        (elements_text (each (closing_elements rows) 0 told.now))) }
 {
     for (nth, line) in told.iter().enumerate() {
-        draw_closing(rows, nth as u32, *line, text)?;
+        let (nth, line) = (nth as u32, *line);
+        draw(Element::Closing(Closing { rows, nth, line }), text)?;
     }
-    Ok(())
-}
-
-/// The beginning of a picture.
-#[tactic(auto, unfolding(crate::specs::Elements::element_text))]
-fn draw_opening<A: Allocator>(extent: Extent, text: &mut String<A>) -> Result<(), AllocError>
-    ensures { OnOk result (GrewBy (string_bytes text.old) (string_bytes text.new) (elements_text (element.opening extent ∷ []))) }
-{
-    let drawn = Opening(extent);
-    writeln!(text, "{drawn}")?;
-    Ok(())
-}
-
-/// Its title.
-#[tactic(auto, unfolding(crate::specs::Elements::element_text))]
-fn draw_title<A: Allocator>(extent: Extent, text: &mut String<A>) -> Result<(), AllocError>
-    ensures { OnOk result (GrewBy (string_bytes text.old) (string_bytes text.new) (elements_text (element.title extent ∷ []))) }
-{
-    let drawn = Title(extent);
-    writeln!(text, "{drawn}")?;
-    Ok(())
-}
-
-/// What all pictures share.
-#[tactic(auto, unfolding(crate::specs::Elements::element_text))]
-fn draw_shared<A: Allocator>(text: &mut String<A>) -> Result<(), AllocError>
-    ensures { OnOk result (GrewBy (string_bytes text.old) (string_bytes text.new) (elements_text (element.shared ∷ []))) }
-{
-    let drawn = Shared;
-    writeln!(text, "{drawn}")?;
-    Ok(())
-}
-
-/// Its sheet.
-#[tactic(auto, unfolding(crate::specs::Elements::element_text))]
-fn draw_sheet<A: Allocator>(extent: Extent, text: &mut String<A>) -> Result<(), AllocError>
-    ensures { OnOk result (GrewBy (string_bytes text.old) (string_bytes text.new) (elements_text (element.sheet extent ∷ []))) }
-{
-    let drawn = Sheet(extent);
-    writeln!(text, "{drawn}")?;
-    Ok(())
-}
-
-/// What its parts mean.
-#[tactic(auto, unfolding(crate::specs::Elements::element_text))]
-fn draw_key<A: Allocator>(text: &mut String<A>) -> Result<(), AllocError>
-    ensures { OnOk result (GrewBy (string_bytes text.old) (string_bytes text.new) (elements_text (element.key ∷ []))) }
-{
-    let drawn = Key;
-    writeln!(text, "{drawn}")?;
     Ok(())
 }
 
 /// What a picture of this extent begins with.
 fn draw_beginning<A: Allocator>(extent: Extent, text: &mut String<A>) -> Result<(), AllocError>
-    ensures { OnOk result (GrewBy (string_bytes text.old) (string_bytes text.new) (elements_text (opening_elements extent))) }
+    ensures { OnOk result (GrewBy (string_bytes text.old) (string_bytes text.new)
+        (elements_text (opening_elements extent))) }
 {
-    draw_opening(extent, text)?;
-    draw_title(extent, text)?;
-    draw_shared(text)?;
-    draw_sheet(extent, text)?;
-    draw_key(text)?;
-    Ok(())
+    draw(Element::Opening(extent), text)?;
+    draw(Element::Title(extent), text)?;
+    draw(Element::Shared, text)?;
+    draw(Element::Sheet(extent), text)?;
+    draw(Element::Key, text)
 }
 
 /// The steps: passes, rows and owners, with so many lines of text below them.
@@ -307,7 +254,8 @@ fn draw_steps<A: Allocator>(
 ) -> Result<(), AllocError>
     requires few { length passes.now ≤ 65 }
     requires count { count ≡ length rows.now }
-    ensures { OnOk result (GrewBy (string_bytes text.old) (string_bytes text.new) (elements_text (shown_elements passes.now rows.now owners.now count lines))) }
+    ensures { OnOk result (GrewBy (string_bytes text.old) (string_bytes text.new)
+        (elements_text (shown_elements passes.now rows.now owners.now count lines))) }
 {
     let extent = Extent {
         columns: columns(passes),
@@ -321,50 +269,6 @@ fn draw_steps<A: Allocator>(
     Ok(())
 }
 
-/// The bar of the line that ended the handling.
-#[tactic(auto, unfolding(crate::specs::Elements::element_text))]
-fn draw_bar<A: Allocator>(rows: u32, text: &mut String<A>) -> Result<(), AllocError>
-    ensures { OnOk result (GrewBy (string_bytes text.old) (string_bytes text.new) (elements_text (element.bar (record { rows = rows }) ∷ []))) }
-{
-    let drawn = Bar { rows };
-    writeln!(text, "{drawn}")?;
-    Ok(())
-}
-
-/// The number of a line, on this row.
-#[tactic(auto, unfolding(crate::specs::Elements::element_text))]
-fn draw_line<A: Allocator>(row: u32, line: usize, text: &mut String<A>) -> Result<(), AllocError>
-    ensures { OnOk result (GrewBy (string_bytes text.old) (string_bytes text.new) (elements_text (element.number (record { row = row; line = line }) ∷ []))) }
-{
-    let drawn = Number { row, line };
-    writeln!(text, "{drawn}")?;
-    Ok(())
-}
-
-/// What is told of the line that ended the handling.
-#[tactic(auto, unfolding(crate::specs::Elements::element_text))]
-fn draw_refusal<A: Allocator>(rows: u32, stop: Stop, text: &mut String<A>) -> Result<(), AllocError>
-    ensures { OnOk result (GrewBy (string_bytes text.old) (string_bytes text.new) (elements_text (element.refused (record { rows = rows; stop = stop }) ∷ []))) }
-{
-    let drawn = Refused { rows, stop };
-    writeln!(text, "{drawn}")?;
-    Ok(())
-}
-
-/// Why it ended the handling.
-#[tactic(auto, unfolding(crate::specs::Elements::element_text))]
-fn draw_because<A: Allocator>(
-    rows: u32,
-    reason: Reason,
-    text: &mut String<A>,
-) -> Result<(), AllocError>
-    ensures { OnOk result (GrewBy (string_bytes text.old) (string_bytes text.new) (elements_text (element.because (record { rows = rows; reason = reason }) ∷ []))) }
-{
-    let drawn = Because { rows, reason };
-    writeln!(text, "{drawn}")?;
-    Ok(())
-}
-
 /// The line that ended the handling, and why.
 fn draw_refused<A: Allocator>(
     rows: u32,
@@ -372,33 +276,20 @@ fn draw_refused<A: Allocator>(
     reason: Reason,
     text: &mut String<A>,
 ) -> Result<(), AllocError>
-    ensures { OnOk result (GrewBy (string_bytes text.old) (string_bytes text.new) (elements_text (refused_elements rows line reason))) }
+    ensures { OnOk result (GrewBy (string_bytes text.old) (string_bytes text.new)
+        (elements_text (refused_elements rows line reason))) }
 {
-    draw_bar(rows, text)?;
-    draw_line(rows, line, text)?;
-    draw_refusal(rows, reason.stop, text)?;
-    draw_because(rows, reason, text)?;
-    Ok(())
-}
-
-/// Whether all is at rest in the end, as the nth line of text.
-#[tactic(auto, unfolding(crate::specs::Elements::element_text))]
-fn draw_rest<A: Allocator>(
-    rows: u32,
-    nth: u32,
-    rest: bool,
-    text: &mut String<A>,
-) -> Result<(), AllocError>
-    ensures { OnOk result (GrewBy (string_bytes text.old) (string_bytes text.new) (elements_text (rest_element rows nth rest ∷ []))) }
-{
-    let rest = Rest { rows, nth, rest };
-    writeln!(text, "{rest}")?;
-    Ok(())
+    let (row, stop) = (rows, reason.stop);
+    draw(Element::Bar(Bar { rows }), text)?;
+    draw(Element::Number(Number { row, line }), text)?;
+    draw(Element::Refused(Refused { rows, stop }), text)?;
+    draw(Element::Because(Because { rows, reason }), text)
 }
 
 /// The end of a picture.
 fn draw_foot<A: Allocator>(text: &mut String<A>) -> Result<(), AllocError>
-    ensures { OnOk result (GrewBy (string_bytes text.old) (string_bytes text.new) (codes "</svg>\n")) }
+    ensures { OnOk result (GrewBy (string_bytes text.old) (string_bytes text.new)
+        (codes "</svg>\n")) }
 {
     writeln!(text, "</svg>")?;
     Ok(())
@@ -416,7 +307,8 @@ pub(crate) fn draw_stopped<A: Allocator>(
 ) -> Result<(), AllocError>
     requires few { length passes.now ≤ 65 }
     requires count { count ≡ length rows.now }
-    ensures { OnOk result (GrewBy (string_bytes text.old) (string_bytes text.new) (picture (stopped_elements passes.now rows.now owners.now count line reason))) }
+    ensures { OnOk result (GrewBy (string_bytes text.old) (string_bytes text.new)
+        (picture (stopped_elements passes.now rows.now owners.now count line reason))) }
 {
     draw_steps(passes, rows, owners, count, 3, text)?;
     draw_refused(count, line, reason, text)?;
@@ -437,12 +329,18 @@ pub(crate) fn draw_closed<A: Allocator>(
     requires few { length passes.now ≤ 65 }
     requires count { count ≡ length rows.now }
     requires told { length told.now ≤ 1024 }
-    ensures { OnOk result (GrewBy (string_bytes text.old) (string_bytes text.new) (picture (closed_elements passes.now rows.now owners.now count told.now rest))) }
+    ensures { OnOk result (GrewBy (string_bytes text.old) (string_bytes text.new)
+        (picture (closed_elements passes.now rows.now owners.now count told.now rest))) }
 {
     let nth = told.len() as u32;
     draw_steps(passes, rows, owners, count, nth + 1, text)?;
     draw_told(count, told, text)?;
-    draw_rest(count, nth, rest, text)?;
+    let rest = Rest {
+        rows: count,
+        nth,
+        rest,
+    };
+    draw(Element::Rest(rest), text)?;
     draw_foot(text)?;
     Ok(())
 }

@@ -79,9 +79,9 @@ struct Refusal {
 /// As `p3 has the lock since line 5`.
 impl fmt::Display for Refusal {
     ghost use Rattle.std.specs.Prelude.{Some};
-    ghost use Rattle.csq_draw.specs.Reasons.{refusal_text};
+    ghost use Rattle.csq_draw.specs.Reasons.{refusal_reason};
 
-    ghost output = { λ refusal. Some (refusal_text refusal) };
+    ghost output = { λ refusal. Some (refusal_reason refusal) };
 
     fn fmt<W: fmt::Write>(&self, f: &mut fmt::Formatter<W>) -> fmt::Result {
         let (pass, now) = (self.pass, self.now);

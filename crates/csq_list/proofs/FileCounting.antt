@@ -4,7 +4,7 @@ use Rattle.irp_core.specs.declared.ids.IrpId.{IrpId}
 use Rattle.irp_core.specs.declared.ids.FileId.{FileId}
 use Rattle.csq_list.specs.declared.entry.Entry.{Entry}
 use Rattle.csq_list.specs.declared.entry.Place.{Place}
-use Rattle.csq_list.specs.Searches.{same_file, of_file, is_listed, is_distinct, without}
+use Rattle.csq_list.specs.Searches.{same_file, of_file, is_listed, is_distinct, entries_without}
 use Rattle.csq_list.specs.Chains.{file_in}
 use Rattle.csq_list.specs.Listing.{put_at, is_file_full}
 use Rattle.csq_list.specs.VecParts.{HasFileLens, listing_of}
@@ -80,14 +80,14 @@ module _ (es : List Entry) (i : IrpId) (f : FileId) (lens : List ℕ) (distinct 
   file_is : place.entry.file ≡ f
   file_is = let same : Some place.entry.file ≡ Some f = sym (file_in-among place.before place.entry place.later split) ∙ (λ k. file_in (sym place.splits k) (place.is k)) ∙ in_file in cc
 
-  left : place.before ++ place.later ≡ without i es
-  left = sym (without-middle place.before place.entry place.later split) ∙ (λ k. without (place.is k) (sym place.splits k))
+  left : place.before ++ place.later ≡ entries_without i es
+  left = sym (without-middle place.before place.entry place.later split) ∙ (λ k. entries_without (place.is k) (sym place.splits k))
 
   pub taken-some : 1 ≤ get_or lens f.0 0
   taken-some = subst (λ (g : FileId). 1 ≤ get_or lens g.0 0) file_is (filed-some place.before place.entry place.later es place.splits lens filed)
 
-  pub taken-filed : f.0 < length lens → HasFileLens (set lens f.0 (get_or lens f.0 0 - 1)) (without i es)
+  pub taken-filed : f.0 < length lens → HasFileLens (set lens f.0 (get_or lens f.0 0 - 1)) (entries_without i es)
   taken-filed below =
-      subst (λ (g : FileId). HasFileLens (set lens g.0 (get_or lens g.0 0 - 1)) (without i es)) file_is
+      subst (λ (g : FileId). HasFileLens (set lens g.0 (get_or lens g.0 0 - 1)) (entries_without i es)) file_is
       (subst (HasFileLens (set lens place.entry.file.0 (get_or lens place.entry.file.0 0 - 1))) left
       (filed-taken place.before place.entry place.later es place.splits lens filed (subst (λ (g : FileId). g.0 < length lens) (sym file_is) below)))

@@ -5,6 +5,7 @@ use Rattle.clap.specs.Matches.{found_of, one_text}
 use Rattle.clap.specs.Values.{kind_of}
 use Rattle.clap.specs.declared.parser.matches.ArgMatches.{ArgMatches}
 use Rattle.irp_core.specs.Runs.{IsInLimits}
+use Rattle.csq_list.specs.AnyLists.{is_chained}
 use Rattle.csq_device.specs.Plans.{IsPlan}
 use Rattle.csq_device.specs.declared.plan.Plan.{Plan}
 use Rattle.csq_program.specs.declared.command.Job.{Job}
@@ -16,15 +17,15 @@ use Rattle.csq_program.specs.declared.command.CommandFault.TheVariants.{Memory, 
 abbrev pub IsInRange : Job → Type 0
 IsInRange (Schedule irps passes claims) = IsInLimits (record { irps = irps; passes = passes; first = 0 })
 IsInRange (Draw irps passes) = IsInLimits (record { irps = irps; passes = passes; first = 0 })
-IsInRange (Script irps files limit file_limit chain) = ((1 ≤ irps) × (irps ≤ 1024)) × ((1 ≤ files) × (files ≤ 256)) × IfSome limit (λ n. (1 ≤ n) × (n ≤ 1024)) × IfSome file_limit (λ n. (1 ≤ n) × (n ≤ 1024))
-IsInRange (Run plan chain) = IsPlan plan.irps plan.files plan.submitters plan.workers plan.cancellers plan.turns
+IsInRange (Script irps files limit file_limit list) = ((1 ≤ irps) × (irps ≤ 1024)) × ((1 ≤ files) × (files ≤ 256)) × IfSome limit (λ n. (1 ≤ n) × (n ≤ 1024)) × IfSome file_limit (λ n. (1 ≤ n) × (n ≤ 1024))
+IsInRange (Run plan list) = IsPlan plan.irps plan.files plan.submitters plan.workers plan.cancellers plan.turns
 
 -- the command of this name, of which any but a picture's, a script's and a run's is a schedule's
 abbrev pub IsJobOf : List ℕ → Job → Type 0
 IsJobOf name (Schedule irps passes claims) = (name ≢ codes "draw") × (name ≢ codes "script") × (name ≢ codes "run")
 IsJobOf name (Draw irps passes) = name ≡ codes "draw"
-IsJobOf name (Script irps files limit file_limit chain) = name ≡ codes "script"
-IsJobOf name (Run plan chain) = name ≡ codes "run"
+IsJobOf name (Script irps files limit file_limit list) = name ≡ codes "script"
+IsJobOf name (Run plan list) = name ≡ codes "run"
 
 -- a flag of this name: whether the options have it set
 pub record IsFlag (options : ArgMatches) (name : List ℕ) (flag : Bool) : Type 0 where
@@ -33,14 +34,14 @@ pub record IsFlag (options : ArgMatches) (name : List ℕ) (flag : Bool) : Type 
   pub absent : one_text (found_of options) name ≡ None → flag ≡ false
 
 -- the job's flag, if it has one, is that of the options
-abbrev pub TellsFlag : ArgMatches → Job → Type 0
-TellsFlag options (Schedule irps passes claims) = IsFlag options (codes "claims") claims
-TellsFlag options (Draw irps passes) = Unit {0}
-TellsFlag options (Script irps files limit file_limit chain) = IsFlag options (codes "chain") chain
-TellsFlag options (Run plan chain) = IsFlag options (codes "chain") chain
+abbrev pub TellsJobFlag : ArgMatches → Job → Type 0
+TellsJobFlag options (Schedule irps passes claims) = IsFlag options (codes "claims") claims
+TellsJobFlag options (Draw irps passes) = Unit {0}
+TellsJobFlag options (Script irps files limit file_limit list) = IsFlag options (codes "chain") (is_chained list)
+TellsJobFlag options (Run plan list) = IsFlag options (codes "chain") (is_chained list)
 
 -- an option of this name: the number that its text writes, where that is from 1 to `most`, and the default without a text
-pub record IsNumber (options : ArgMatches) (name : List ℕ) (most default number : ℕ) : Type 0 where
+pub record IsNumberOption (options : ArgMatches) (name : List ℕ) (most default number : ℕ) : Type 0 where
   pub given : (n : ℕ) → 1 ≤ n → n ≤ most → one_text (found_of options) name ≡ Some (decimal n) → number ≡ n
   pub absent : one_text (found_of options) name ≡ None → number ≡ default
 
@@ -51,24 +52,24 @@ pub record IsLimit (options : ArgMatches) (name : List ℕ) (limit : Option ℕ)
 
 -- the numbers of a plan are those of the options
 pub record ArePlanned (options : ArgMatches) (plan : Plan) : Type 0 where
-  pub irps : IsNumber options (codes "irps") 1024 64 plan.irps
-  pub files : IsNumber options (codes "files") 256 4 plan.files
-  pub submitters : IsNumber options (codes "submitters") 20 2 plan.submitters
-  pub workers : IsNumber options (codes "workers") 20 2 plan.workers
-  pub cancellers : IsNumber options (codes "cancellers") 20 2 plan.cancellers
-  pub turns : IsNumber options (codes "turns") 100000 64 plan.turns
+  pub irps : IsNumberOption options (codes "irps") 1024 64 plan.irps
+  pub files : IsNumberOption options (codes "files") 256 4 plan.files
+  pub submitters : IsNumberOption options (codes "submitters") 20 2 plan.submitters
+  pub workers : IsNumberOption options (codes "workers") 20 2 plan.workers
+  pub cancellers : IsNumberOption options (codes "cancellers") 20 2 plan.cancellers
+  pub turns : IsNumberOption options (codes "turns") 100000 64 plan.turns
 
 -- the job's numbers are those of the options
 abbrev pub TellsNumbers : ArgMatches → Job → Type 0
-TellsNumbers options (Schedule irps passes claims) = IsNumber options (codes "irps") 1024 8 irps × IsNumber options (codes "passes") 64 4 passes
-TellsNumbers options (Draw irps passes) = IsNumber options (codes "irps") 1024 8 irps × IsNumber options (codes "passes") 64 4 passes
-TellsNumbers options (Script irps files limit file_limit chain) = IsNumber options (codes "irps") 1024 8 irps × IsNumber options (codes "files") 256 4 files × IsLimit options (codes "limit") limit × IsLimit options (codes "file-limit") file_limit
-TellsNumbers options (Run plan chain) = ArePlanned options plan
+TellsNumbers options (Schedule irps passes claims) = IsNumberOption options (codes "irps") 1024 8 irps × IsNumberOption options (codes "passes") 64 4 passes
+TellsNumbers options (Draw irps passes) = IsNumberOption options (codes "irps") 1024 8 irps × IsNumberOption options (codes "passes") 64 4 passes
+TellsNumbers options (Script irps files limit file_limit list) = IsNumberOption options (codes "irps") 1024 8 irps × IsNumberOption options (codes "files") 256 4 files × IsLimit options (codes "limit") limit × IsLimit options (codes "file-limit") file_limit
+TellsNumbers options (Run plan list) = ArePlanned options plan
 
 -- the number of a fault
-abbrev pub number_of : CommandFault → ℕ
-number_of Memory = 1
-number_of (Refused error) = 2
+abbrev pub fault_number : CommandFault → ℕ
+fault_number Memory = 1
+fault_number (Refused error) = 2
 
 -- of a command line that was refused for a reason of this kind, or there is too little memory
 abbrev pub IsRefusalOf : ErrorKind → CommandFault → Type 0

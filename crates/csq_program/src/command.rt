@@ -1,7 +1,8 @@
 //! The command line.
 ghost use Rattle.std.specs.Prelude.{◌≡◌, ◌≤◌, codes, IfOk, IfSome};
 ghost use Rattle.irp_core.specs.Runs.{IsInLimits};
-ghost use Rattle.csq_program.specs.Jobs.{IsInRange, IsJobOf, IsLimit, IsNumber, IsRefusalOf, TellsFlag, TellsNumbers, number_of};
+ghost use Rattle.csq_list.specs.AnyLists.{is_chained};
+ghost use Rattle.csq_program.specs.Jobs.{IsFlag, IsInRange, IsJobOf, IsLimit, IsNumberOption, IsRefusalOf, TellsJobFlag, TellsNumbers, fault_number};
 
 use crate::help::{
     ABOUT, DRAW_ABOUT, DRAW_HELP, RUN_ABOUT, RUN_HELP, SCHEDULE_ABOUT, SCHEDULE_HELP, SCRIPT_ABOUT,
@@ -10,7 +11,7 @@ use crate::help::{
 use clap::error::ErrorKind;
 use clap::{Arg, ArgAction, ArgMatches, Command, value_parser};
 use csq_device::{MAX_THREADS, MAX_TURNS, Plan};
-use csq_list::MAX_FILES;
+use csq_list::{ListKind, MAX_FILES};
 use irp_core::{MAX_IRPS, MAX_PASSES};
 use std::alloc::{AllocError, Global};
 use std::convert::AsStr;
@@ -32,18 +33,18 @@ pub enum Job {
     },
     /// To make the calls of a script over this many IRPs and file objects, of which `limit` IRPs may
     /// be listed at a time, and `file_limit` for each file object: all, where none is given. The list is
-    /// in one vector, or in chains.
+    /// of this kind.
     Script {
         irps: u32,
         files: u32,
         limit: Option<u32>,
         file_limit: Option<u32>,
-        chain: bool,
+        list: ListKind,
     },
-    /// To run a device of this plan. The list is in one vector, or in chains.
+    /// To run a device of this plan. The list is of this kind.
     Run {
         plan: Plan,
-        chain: bool,
+        list: ListKind,
     },
 }
 
@@ -61,7 +62,7 @@ pub enum CommandFault {
 impl CommandFault {
     /// The number of the fault, from 1. Own rule.
     pub fn number(&self) -> u8
-        ensures { result ≡ number_of self.now }
+        ensures { result ≡ fault_number self.now }
     {
         match self {
             CommandFault::Memory => 1,
@@ -291,7 +292,7 @@ fn number_in(options: &ArgMatches<'_>, name: &str, most: u32, default: u32) -> u
     requires most { default ≤ most }
     ensures least { 1 ≤ result }
     ensures most { result ≤ most }
-    ensures number { IsNumber options.now name.now most default result }
+    ensures number { IsNumberOption options.now name.now most default result }
 {
     match options.get_one::<u32>(name) {
         Some(number) if 1 <= number && number <= most => number,
@@ -310,11 +311,22 @@ fn limit_in(options: &ArgMatches<'_>, name: &str) -> Option<u32>
     }
 }
 
+/// How the list is kept: in chains where the flag for them is set.
+fn list_kind(options: &ArgMatches<'_>) -> ListKind
+    ensures { IsFlag options.now (codes "chain") (is_chained result) }
+{
+    if options.get_flag("chain") {
+        ListKind::Chains
+    } else {
+        ListKind::Vector
+    }
+}
+
 /// How many IRPs and passes a machine has.
 fn machine_size(options: &ArgMatches<'_>) -> (u32, u32)
     ensures range { IsInLimits (record { irps = result.0; passes = result.1; first = 0 }) }
-    ensures irps { IsNumber options.now (codes "irps") 1024 8 result.0 }
-    ensures passes { IsNumber options.now (codes "passes") 64 4 result.1 }
+    ensures irps { IsNumberOption options.now (codes "irps") 1024 8 result.0 }
+    ensures passes { IsNumberOption options.now (codes "passes") 64 4 result.1 }
 {
     let irps = number_in(options, "irps", MAX_IRPS, 8);
     let passes = number_in(options, "passes", MAX_PASSES, 4);
@@ -324,7 +336,7 @@ fn machine_size(options: &ArgMatches<'_>) -> (u32, u32)
 fn schedule_job(options: &ArgMatches<'_>) -> Job
     ensures range { IsInRange result }
     ensures command { IsJobOf (codes "schedule") result }
-    ensures flag { TellsFlag options.now result }
+    ensures flag { TellsJobFlag options.now result }
     ensures numbers { TellsNumbers options.now result }
 {
     let (irps, passes) = machine_size(options);
@@ -338,7 +350,7 @@ fn schedule_job(options: &ArgMatches<'_>) -> Job
 fn draw_job(options: &ArgMatches<'_>) -> Job
     ensures range { IsInRange result }
     ensures command { IsJobOf (codes "draw") result }
-    ensures flag { TellsFlag options.now result }
+    ensures flag { TellsJobFlag options.now result }
     ensures numbers { TellsNumbers options.now result }
 {
     let (irps, passes) = machine_size(options);
@@ -348,7 +360,7 @@ fn draw_job(options: &ArgMatches<'_>) -> Job
 fn script_job(options: &ArgMatches<'_>) -> Job
     ensures range { IsInRange result }
     ensures command { IsJobOf (codes "script") result }
-    ensures flag { TellsFlag options.now result }
+    ensures flag { TellsJobFlag options.now result }
     ensures numbers { TellsNumbers options.now result }
 {
     Job::Script {
@@ -356,14 +368,14 @@ fn script_job(options: &ArgMatches<'_>) -> Job
         files: number_in(options, "files", MAX_FILES, 4),
         limit: limit_in(options, "limit"),
         file_limit: limit_in(options, "file-limit"),
-        chain: options.get_flag("chain"),
+        list: list_kind(options),
     }
 }
 
 fn device_job(options: &ArgMatches<'_>) -> Job
     ensures range { IsInRange result }
     ensures command { IsJobOf (codes "run") result }
-    ensures flag { TellsFlag options.now result }
+    ensures flag { TellsJobFlag options.now result }
     ensures numbers { TellsNumbers options.now result }
 {
     let plan = Plan::new(
@@ -374,9 +386,9 @@ fn device_job(options: &ArgMatches<'_>) -> Job
         number_in(options, "cancellers", MAX_THREADS, 2),
         number_in(options, "turns", MAX_TURNS, 64),
     );
-    let chain = options.get_flag("chain");
+    let list = list_kind(options);
     match plan {
-        Some(plan) => Job::Run { plan, chain },
+        Some(plan) => Job::Run { plan, list },
         None => unreachable!(),
     }
 }
@@ -385,7 +397,7 @@ fn device_job(options: &ArgMatches<'_>) -> Job
 fn job_of(name: &str, options: &ArgMatches<'_>) -> Job
     ensures range { IsInRange result }
     ensures command { IsJobOf name.now result }
-    ensures flag { TellsFlag options.now result }
+    ensures flag { TellsJobFlag options.now result }
     ensures numbers { TellsNumbers options.now result }
 {
     match name {

@@ -11,7 +11,7 @@ use crate::command::{CommandFault, Job, read_command, refuse_bytes};
 use crate::device_run::{RunFault, answer_run};
 use csq_device::{Free, Plan};
 use csq_draw::draw_schedule;
-use csq_list::{ChainList, ListNew, PendingList, VecList};
+use csq_list::{AnyList, ListKind, ListNew, PendingList};
 use csq_replay::{SimFault, answer_schedule, answer_script, exit_status};
 use std::alloc::{AllocError, Allocator};
 use std::io;
@@ -100,19 +100,16 @@ where
             files,
             limit,
             file_limit,
-            chain,
+            list,
         } => {
             let limit = limit.unwrap_or(irps);
             let file_limit = file_limit.unwrap_or(irps);
-            run_limited_script(rt, irps, files, limit, file_limit, chain)
+            run_limited_script(rt, list, irps, files, limit, file_limit)
         }
-        Job::Run { plan, chain } => {
+        Job::Run { plan, list } => {
             let Plan { irps, files, .. } = plan;
-            if chain {
-                run_device(rt, plan, ChainList::new(rt.alloc(), irps, files, irps))
-            } else {
-                run_device(rt, plan, VecList::new(rt.alloc(), irps, files, irps))
-            }
+            let list = AnyList::new(rt.alloc(), list, irps, files, irps);
+            run_device(rt, plan, list)
         }
     }
 }
@@ -157,25 +154,20 @@ fn file_limits_of<A: Allocator>(
     vec![in alloc; file_limit; files as usize]
 }
 
-/// Runs a script over a list with these limits, the second one for each file object.
+/// Runs a script over a list of this kind with these limits, the second one for each file object.
 fn run_limited_script<R: AllocGlobal + Print + Eprint + Input>(
     rt: &R,
+    kind: ListKind,
     irps: u32,
     files: u32,
     limit: u32,
     file_limit: u32,
-    chain: bool,
 ) -> Result<u8, ProgramFault>
     requires { (1 ≤ irps) × (irps ≤ 1024) }
 {
     let file_limits = file_limits_of(rt.alloc(), files, file_limit)?;
-    if chain {
-        let list = ChainList::with_file_limits(rt.alloc(), irps, files, limit, &file_limits);
-        run_script(rt, list)
-    } else {
-        let list = VecList::with_file_limits(rt.alloc(), irps, files, limit, &file_limits);
-        run_script(rt, list)
-    }
+    let list = AnyList::with_file_limits(rt.alloc(), kind, irps, files, limit, &file_limits);
+    run_script(rt, list)
 }
 
 /// Runs a script over a fresh list, if there is one.

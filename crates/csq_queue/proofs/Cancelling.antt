@@ -1,6 +1,6 @@
 -- A cancel, whose pass sees the execution at each of its steps.
 use Rattle.std.proofs.Common.{◌≡◌, ℕ, List, ◌++◌, ap, sym, subst, ◌∙◌}
-use Rattle.irp_core.specs.Steps.{Irp}
+use Rattle.irp_core.specs.declared.ids.IrpLife.{IrpLife}
 use Rattle.irp_core.specs.Runs.{Size}
 use Rattle.irp_core.specs.declared.step.Kind.TheVariants.{Flag, Take}
 use Rattle.csq_words.specs.declared.views.Entry.{Entry}
@@ -15,18 +15,18 @@ use Rattle.csq_queue.specs.Told.{AddsEvents}
 use Rattle.csq_queue.specs.Owned.{EndsWithTake}
 
 -- the steps of a cancel go on from what its pass had seen
-pub marked_follows : (size : Size) (i : Irp) (flag found : ℕ) (old new : PassRecord) → EndsWithTake size i flag found old new → IsExtendedBy old.run new.run
+pub marked_follows : (size : Size) (i : IrpLife) (flag found : ℕ) (old new : PassRecord) → EndsWithTake size i flag found old new → IsExtendedBy old.run new.run
 marked_follows size i flag found old new e =
     let flagged = extended_more (record { pass = new.pass; kind = Flag i; found = flag }) old.run e.earlier e.flags in
     let taken = extended_more (record { pass = new.pass; kind = Take i; found = found }) old.run e.before (extended_on _ _ _ flagged e.takes) in
     subst (IsExtendedBy old.run) (sym e.run_is) taken
 
 -- so does a completion
-pub completed_follows : (size : Size) (i : Irp) (old new : PassRecord) → FindsUnset size i old new → IsExtendedBy old.run new.run
+pub completed_follows : (size : Size) (i : IrpLife) (old new : PassRecord) → FindsUnset size i old new → IsExtendedBy old.run new.run
 completed_follows size i old new f = subst (IsExtendedBy old.run) (sym f.last.run_is) (extended_more _ old.run f.last.before f.last.follows)
 
 -- what a cancel routine adds to what its pass saw it adds to what the pass had seen before it marked the IRP
-pub adds_before : (l : Limits) (history : List Entry) (old mid out : PassRecord) (es : List Event) (i : Irp) (flag found : ℕ) → mid ≡ saw mid.run (with_step (Take i) found (with_step (Flag i) flag old))
+pub adds_before : (l : Limits) (history : List Entry) (old mid out : PassRecord) (es : List Event) (i : IrpLife) (flag found : ℕ) → mid ≡ saw mid.run (with_step (Take i) found (with_step (Flag i) flag old))
     → IsExtendedBy old.run mid.run → AddsEvents l history mid out es → AddsEvents l history old out es
 adds_before l history old mid out es i flag found e follows a = record {
   legal = a.legal;

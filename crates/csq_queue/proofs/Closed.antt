@@ -1,7 +1,8 @@
 -- Once a file is closed, no event lists an IRP for it.
 use Rattle.std.proofs.Common.{◌≡◌, ℕ, suc, ◌≤◌, ◌<◌, ◌==◌, not, ◌&&◌, ◌||◌, cond, Bool, true, false, true≢false, List, [], ◌∷◌, ◌++◌, length, filter, Some, None, refl, sym, ap, ◌∙◌, subst, eqb-true, arith}
 use Rattle.std.proofs.lemmas.Bool.{or_right, and_parts}
-use Rattle.irp_core.specs.Steps.{Irp, same_irp}
+use Rattle.irp_core.specs.Steps.{same_irp}
+use Rattle.irp_core.specs.declared.ids.IrpLife.{IrpLife}
 use Rattle.irp_core.specs.declared.ids.FileId.{FileId}
 use Rattle.irp_core.specs.declared.ids.IrpId.{IrpId}
 use Rattle.irp_core.proofs.Names.{same_irp-refl, same_some}
@@ -11,13 +12,15 @@ use Rattle.csq_list.specs.declared.entry.Place.{Place}
 use Rattle.csq_list.specs.declared.entry.Place.TheVariants.{Back, Front}
 use Rattle.csq_list.specs.Listing.{put_at}
 use Rattle.csq_list.specs.Searches.{same_file}
+use Rattle.csq_list.specs.declared.refusals.InsertStatus.TheVariants.{FileClosed}
+use Rattle.csq_list.proofs.Causes.{no_cause}
 use Rattle.csq_words.specs.declared.views.Entry.{Entry}
 use Rattle.csq_words.specs.declared.views.Event.{Event}
 use Rattle.csq_words.specs.declared.views.Event.TheVariants.{FlagSeen, Mark, Insert, RemoveNext, Remove, Out, CloseFile, Reuse}
 use Rattle.csq_words.specs.declared.views.InsertReply.TheVariants.{Pending, Cancelled, Refused}
 use Rattle.csq_words.specs.History.{IsLegal, MayCome, end_of}
-use Rattle.csq_words.specs.Queue.{Queued, QueueState, Limits, current, has_irp, has_file, marking, without, first_unmarked, refusal, after_event, new_entry}
-use Rattle.csq_queue.proofs.Crowding.{accepted_so, pending_none}
+use Rattle.csq_words.specs.Queue.{Queued, QueueState, Limits, current, has_irp, has_file, marking, without, first_unmarked, refusal, after_event, new_entry, plain_listing}
+use Rattle.csq_queue.proofs.Crowding.{pending_none}
 use Rattle.csq_words.proofs.Marking.{none_head, none_both, none_marking}
 
 -- the entries of a file
@@ -51,10 +54,10 @@ other_file : (l : Limits) (q : QueueState) (n : IrpId) (g f : FileId) → refusa
 other_file l q n g f accepted c = at (g.0 == f.0) refl
   where
     at : (b : Bool) → (g.0 == f.0) ≡ b → b ≡ false
-    at true e = absurd (true≢false (sym c ∙ (sym (same_closed q.closed f g e) ∙ (accepted_so l q n g accepted).not_closed)))
+    at true e = absurd (true≢false (sym c ∙ (sym (same_closed q.closed f g e) ∙ no_cause (plain_listing l q) n g accepted FileClosed)))
     at false e = refl
 
-none_without : (k : Peek) (i : Irp) (es : List Queued) → first_unmarked k es ≡ None → first_unmarked k (without i es) ≡ None
+none_without : (k : Peek) (i : IrpLife) (es : List Queued) → first_unmarked k es ≡ None → first_unmarked k (without i es) ≡ None
 none_without k i [] h = refl
 none_without k i (e ∷ es) h = at (none_without k i es) (same_irp e.irp i) refl
   where
@@ -62,7 +65,7 @@ none_without k i (e ∷ es) h = at (none_without k i es) (same_irp e.irp i) refl
     at rest true t = rw t (rest (none_head k e es h).1)
     at rest false t = rw (t, (none_head k e es h).0) (rest (none_head k e es h).1)
 
-none_put_at : (f g : FileId) (place : Place) (i : Irp) (es : List Queued) → (g.0 == f.0) ≡ false → first_unmarked (File f) es ≡ None → first_unmarked (File f) (put_at place (new_entry i g) es) ≡ None
+none_put_at : (f g : FileId) (place : Place) (i : IrpLife) (es : List Queued) → (g.0 == f.0) ≡ false → first_unmarked (File f) es ≡ None → first_unmarked (File f) (put_at place (new_entry i g) es) ≡ None
 none_put_at f g Front i es d h = rw d h
 none_put_at f g Back i es d h = none_both (File f) es (new_entry i g ∷ []) h (rw d refl)
 
@@ -87,7 +90,7 @@ none_later l (e ∷ newer) h f c n legal = none_after l (end_of l.first (newer +
 
 module _ (f : FileId) where
   -- a mark changes no file
-  count_marking : (i : Irp) (es : List Queued) → length (of_file f (marking i es)) ≡ length (of_file f es)
+  count_marking : (i : IrpLife) (es : List Queued) → length (of_file f (marking i es)) ≡ length (of_file f es)
   count_marking i [] = refl
   count_marking i (e ∷ es) = at (same_file e.file f) (count_marking i es)
     where
@@ -99,7 +102,7 @@ module _ (f : FileId) where
       at false r = r
 
   -- as an IRP leaves the list, no file gains an entry
-  count_without : (i : Irp) (es : List Queued) → length (of_file f (without i es)) ≤ length (of_file f es)
+  count_without : (i : IrpLife) (es : List Queued) → length (of_file f (without i es)) ≤ length (of_file f es)
   count_without i [] = omega arith
   count_without i (e ∷ es) = at (count_without i es) (same_irp e.irp i) (same_file e.file f) refl
     where
@@ -119,7 +122,7 @@ module _ (f : FileId) where
       at false r = r
 
   -- and where the first unmarked entry of the file leaves, the file has one fewer
-  pub count_first : (i : Irp) (es : List Queued) → first_unmarked (File f) es ≡ Some i → length (of_file f (without i es)) < length (of_file f es)
+  pub count_first : (i : IrpLife) (es : List Queued) → first_unmarked (File f) es ≡ Some i → length (of_file f (without i es)) < length (of_file f es)
   count_first i [] h = absurd (cc)
   count_first i (e ∷ es) h = at (not e.marked && same_file e.file f) refl (count_first i es)
     where
@@ -161,7 +164,7 @@ count_later l (e ∷ newer) h f c legal =
     omega arith
 
 -- a removal of the closed file that answers takes one away
-pub count_taken : (l : Limits) (newer h : List Entry) (e : Entry) (f : FileId) (i : Irp) → has_file (end_of l.first h).closed f ≡ true → IsLegal l (e ∷ newer ++ h) → e.event ≡ RemoveNext (File f) (Some i)
+pub count_taken : (l : Limits) (newer h : List Entry) (e : Entry) (f : FileId) (i : IrpLife) → has_file (end_of l.first h).closed f ≡ true → IsLegal l (e ∷ newer ++ h) → e.event ≡ RemoveNext (File f) (Some i)
     → length (of_file f (end_of l.first (e ∷ newer ++ h)).entries) < length (of_file f (end_of l.first h).entries)
 count_taken l newer h e f i c legal is =
     let q = end_of l.first (newer ++ h) in

@@ -1,31 +1,29 @@
 -- In the queue of one thread that a legal history leaves no more is listed than there are IRPs.
-use Rattle.std.proofs.Common.{◌≡◌, ℕ, ◌<◌, ◌≤◌, ◌==◌, ◌||◌, not, Bool, true, false, true≢false, List, [], ◌∷◌, length, map, Option, Some, None, refl, sym, ap, ◌∙◌, subst, ◌⊎◌, inl, inr, ⊎_elim, eq-eqb, eqb-true, arith}
-use Rattle.std.proofs.lemmas.Bool.{cases_lt, and_parts, or_cases, or_right, not-true}
+use Rattle.std.proofs.Common.{◌≡◌, ℕ, ◌<◌, ◌≤◌, ◌==◌, ◌||◌, not, Bool, true, false, true≢false, List, [], ◌∷◌, length, map, Option, Some, None, refl, sym, ap, ◌∙◌, subst, ◌⊎◌, inl, inr, eqb-true}
+use Rattle.std.proofs.lemmas.Bool.{and_parts, or_cases, or_right, not-true}
 use Rattle.std.proofs.lemmas.List.{length-map}
-use borrow.Author.Tests.{leb-false}
-use Rattle.irp_core.specs.Steps.{Irp, life_of, same_irp}
+use Rattle.irp_core.specs.Steps.{life_of, same_irp, same_id}
+use Rattle.irp_core.specs.declared.ids.IrpLife.{IrpLife}
 use Rattle.irp_core.specs.declared.ids.FileId.{FileId}
 use Rattle.irp_core.specs.declared.ids.IrpId.{IrpId}
-use Rattle.irp_core.proofs.Names.{same_irp-eq}
+use Rattle.irp_core.proofs.Names.{same_irp-eq, same_id-refl}
 use Rattle.csq_list.specs.declared.entry.Place.{Place}
 use Rattle.csq_list.specs.declared.refusals.InsertStatus.{InsertStatus}
-use Rattle.csq_list.specs.declared.refusals.InsertStatus.TheVariants.{UnknownIrp, UnknownFile, NotHome, FileClosed, FileFull, Full}
-use Rattle.csq_list.specs.Causes.{is_cause}
-use Rattle.csq_list.specs.Listing.{IsSound, inserted, is_file_full}
-use Rattle.csq_list.specs.Searches.{same_number, is_listed, is_distinct}
-use Rattle.csq_list.proofs.Keeping.{filter-none, unused-unlisted, sound-fresh, sound-inserted, sound-removed, sound-renewed}
-use Rattle.csq_list.proofs.Finding.{same_number-refl}
+use Rattle.csq_list.specs.declared.refusals.InsertStatus.TheVariants.{NotHome}
+use Rattle.csq_list.proofs.Causes.{no_cause, sound-accepted}
+use Rattle.csq_list.specs.Listing.{IsSound, inserted}
+use Rattle.csq_list.specs.Searches.{is_listed, is_distinct}
+use Rattle.csq_list.proofs.Keeping.{filter-none, unused-unlisted, sound-fresh, sound-removed, sound-renewed}
 use Rattle.csq_words.specs.declared.views.Entry.{Entry}
 use Rattle.csq_words.specs.declared.views.Event.{Event}
 use Rattle.csq_words.specs.declared.views.Event.TheVariants.{FlagSeen, Mark, Insert, RemoveNext, Remove, Out, CloseFile, Reuse}
 use Rattle.csq_words.specs.declared.views.InsertReply.TheVariants.{Pending, Cancelled, Refused}
 use Rattle.csq_words.specs.History.{IsLegal, MayCome, end_of}
-use Rattle.csq_words.specs.Queue.{Queued, QueueState, Limits, current, has_irp, has_file, has_entry, without, plain, new_entry, listing_of, refusal, reply_to_insert, after_event}
+use Rattle.csq_words.specs.Queue.{Queued, QueueState, Limits, current, has_irp, has_file, has_entry, without, plain, new_entry, plain_listing, refusal, reply_to_insert, after_event}
 use Rattle.csq_words.proofs.Lives.{ArePresent, HasSoundLives, legal_lives}
 use Rattle.csq_words.proofs.Listings.{is_listed-plain, listing-inserted, listing-marked, listing-removed, listing-taken_back, listing-renewed}
 use Rattle.csq_queue.specs.Counts.{has_life, AreApart}
 use Rattle.csq_queue.proofs.Counting.{apart_most}
-use Rattle.csq_queue.proofs.Inserting.{find_none}
 
 -- an insert is pending, or finds its IRP cancelled, only where no cause refuses it
 pub pending_none : (o : Option InsertStatus) (b : Bool) → Pending ≡ reply_to_insert o b → o ≡ None
@@ -36,66 +34,41 @@ cancelled_none : (o : Option InsertStatus) (b : Bool) → Cancelled ≡ reply_to
 cancelled_none None b h = refl
 cancelled_none (Some cause) b h = absurd (cc)
 
-less_than : (a b : ℕ) → a ≤ b → (a == b) ≡ false → a < b
-less_than a b most ne = ⊎_elim (λ h. h) (λ h. absurd (true≢false (sym (eq-eqb a b (equal a b most h)) ∙ ne))) (cases_lt a b)
-  where
-    equal : (a b : ℕ) → a ≤ b → b ≤ a → a ≡ b
-    equal a b h g = omega arith
-
--- what an insert finds that no cause refuses
-pub record IsAccepted (l : Limits) (u : QueueState) (n : IrpId) (f : FileId) : Type 0 where
-  pub irp_known : n.0 < l.irps
-  pub file_known : f.0 < l.files
-  pub unused : has_irp u.used (current u n) ≡ false
-  pub not_closed : has_file u.closed f ≡ false
-  pub file_not_full : is_file_full (listing_of l u) f ≡ false
-  pub not_full : (length (listing_of l u).entries == l.limit) ≡ false
-
-pub accepted_so : (l : Limits) (u : QueueState) (n : IrpId) (f : FileId) → refusal l u n f ≡ None → IsAccepted l u n f
-accepted_so l u n f h =
-    let one = find_none (is_cause (listing_of l u) n f) UnknownIrp (UnknownFile ∷ NotHome ∷ FileClosed ∷ FileFull ∷ Full ∷ []) h in
-    let two = find_none (is_cause (listing_of l u) n f) UnknownFile (NotHome ∷ FileClosed ∷ FileFull ∷ Full ∷ []) one.1 in
-    let three = find_none (is_cause (listing_of l u) n f) NotHome (FileClosed ∷ FileFull ∷ Full ∷ []) two.1 in
-    let four = find_none (is_cause (listing_of l u) n f) FileClosed (FileFull ∷ Full ∷ []) three.1 in
-    let five = find_none (is_cause (listing_of l u) n f) FileFull (Full ∷ []) four.1 in
-    let six = find_none (is_cause (listing_of l u) n f) Full [] five.1 in
-    record { irp_known = leb-false l.irps n.0 one.0; file_known = leb-false l.files f.0 two.0; unused = three.0; not_closed = four.0; file_not_full = five.0; not_full = six.0 }
-
 -- what is listed is of a present life
-listed_present : (lives : IrpId → ℕ) (i : Irp) (es : List Queued) → ArePresent lives es → has_entry es i ≡ true → life_of i ≡ lives i.irp
+listed_present : (lives : IrpId → ℕ) (i : IrpLife) (es : List Queued) → ArePresent lives es → has_entry es i ≡ true → life_of i ≡ lives i.irp
 listed_present lives i [] h e = absurd (true≢false (sym e))
 listed_present lives i (x ∷ es) h e = at (listed_present lives i es h.1) (same_irp x.irp i) refl e
   where
     at : (has_entry es i ≡ true → life_of i ≡ lives i.irp) → (b : Bool) → same_irp x.irp i ≡ b → (b || has_entry es i) ≡ true → life_of i ≡ lives i.irp
-    at rest true s e = subst (λ (j : Irp). life_of j ≡ lives j.irp) (same_irp-eq x.irp i s) h.0
+    at rest true s e = subst (λ (j : IrpLife). life_of j ≡ lives j.irp) (same_irp-eq x.irp i s) h.0
     at rest false s e = rest e
 
-module _ (l : Limits) (u : QueueState) (lives : HasSoundLives u) (sound : IsSound (listing_of l u)) where
+module _ (l : Limits) (u : QueueState) (lives : HasSoundLives u) (sound : IsSound (plain_listing l u)) where
   -- the list stays sound as an IRP leaves it
-  sound_without : (i : Irp) → IsSound (listing_of l (record u { entries = without i u.entries }))
+  sound_without : (i : IrpLife) → IsSound (plain_listing l (record u { entries = without i u.entries }))
   sound_without i = at (has_entry u.entries i) refl
     where
-      at : (b : Bool) → has_entry u.entries i ≡ b → IsSound (listing_of l (record u { entries = without i u.entries }))
-      at true e = subst IsSound (listing-removed l u i (listed_present u.lives i u.entries lives.entries e) lives.entries) (sound-removed (listing_of l u) sound i.irp)
-      at false e = subst (λ (es : List Queued). IsSound (listing_of l (record u { entries = es }))) (sym (filter-none (λ (x : Queued). same_irp x.irp i) u.entries e)) sound
+      at : (b : Bool) → has_entry u.entries i ≡ b → IsSound (plain_listing l (record u { entries = without i u.entries }))
+      at true e = subst IsSound (listing-removed l u i (listed_present u.lives i u.entries lives.entries e) lives.entries) (sound-removed (plain_listing l u) sound i.irp)
+      at false e = subst (λ (es : List Queued). IsSound (plain_listing l (record u { entries = es }))) (sym (filter-none (λ (x : Queued). same_irp x.irp i) u.entries e)) sound
 
   -- and as an IRP is listed
-  module _ (n : IrpId) (f : FileId) (a : IsAccepted l u n f) (place : Place) where
-    sound_listed : IsSound (inserted place (plain (new_entry (current u n) f)) (listing_of l u))
-    sound_listed = sound-inserted (listing_of l u) sound place (plain (new_entry (current u n) f)) a.irp_known a.file_known a.unused (less_than (length (listing_of l u).entries) l.limit sound.within_limit a.not_full) a.file_not_full
+  module _ (n : IrpId) (f : FileId) (accepted : refusal l u n f ≡ None) (place : Place) where
+    sound_listed : IsSound (inserted place (plain (new_entry (current u n) f)) (plain_listing l u))
+    sound_listed = sound-accepted (plain_listing l u) sound place (plain (new_entry (current u n) f)) accepted
 
     absent : has_entry u.entries (current u n) ≡ false
-    absent = sym (is_listed-plain u.lives (current u n) refl u.entries lives.entries) ∙ unused-unlisted (listing_of l u) sound n a.unused
+    absent = sym (is_listed-plain u.lives (current u n) refl u.entries lives.entries) ∙ unused-unlisted (plain_listing l u) sound n (no_cause (plain_listing l u) n f accepted NotHome)
 
-  sound_event : (e : Event) → MayCome l u e → IsSound (listing_of l (after_event u e))
+  sound_event : (e : Event) → MayCome l u e → IsSound (plain_listing l (after_event u e))
   sound_event (FlagSeen i) may = sound
   sound_event (Mark i) may = subst IsSound (listing-marked l u i) sound
   sound_event (Insert n f place Pending) may =
-      let a = accepted_so l u n f (pending_none (refusal l u n f) (has_irp u.flags (current u n)) may) in
-      subst IsSound (listing-inserted l u n f place) (sound_listed n f a place)
+      let accepted = pending_none (refusal l u n f) (has_irp u.flags (current u n)) may in
+      subst IsSound (listing-inserted l u n f place) (sound_listed n f accepted place)
   sound_event (Insert n f place Cancelled) may =
-      let a = accepted_so l u n f (cancelled_none (refusal l u n f) (has_irp u.flags (current u n)) may) in
-      subst IsSound (listing-taken_back l u n f place lives.entries (absent n f a place)) (sound-removed (inserted place (plain (new_entry (current u n) f)) (listing_of l u)) (sound_listed n f a place) n)
+      let accepted = cancelled_none (refusal l u n f) (has_irp u.flags (current u n)) may in
+      subst IsSound (listing-taken_back l u n f place lives.entries (absent n f accepted place)) (sound-removed (inserted place (plain (new_entry (current u n) f)) (plain_listing l u)) (sound_listed n f accepted place) n)
   sound_event (Insert n f place (Refused cause)) may = sound
   sound_event (RemoveNext k None) may = sound
   sound_event (RemoveNext k (Some i)) may = sound_without i
@@ -115,28 +88,28 @@ module _ (l : Limits) (u : QueueState) (lives : HasSoundLives u) (sound : IsSoun
       at : (g : FileId) → ((f.0 == g.0) ≡ true) ⊎ (has_file u.closed g ≡ true) → g.0 < l.files
       at g (inl h) = subst (λ (m : ℕ). m < l.files) (eqb-true f.0 g.0 h) may
       at g (inr h) = sound.closed_known g h
-  sound_event (Reuse n life) may = subst IsSound (listing-renewed l u n lives) (sound-renewed (listing_of l u) sound n (is_listed-plain u.lives (current u n) refl u.entries lives.entries ∙ may.1))
+  sound_event (Reuse n life) may = subst IsSound (listing-renewed l u n lives) (sound-renewed (plain_listing l u) sound n (is_listed-plain u.lives (current u n) refl u.entries lives.entries ∙ may.1))
 
-sound_later : (l : Limits) (h : List Entry) → IsLegal l h → IsSound (listing_of l (end_of l.first h))
+sound_later : (l : Limits) (h : List Entry) → IsLegal l h → IsSound (plain_listing l (end_of l.first h))
 sound_later l [] legal = sound-fresh l.irps l.files l.limit l.file_limits
 sound_later l (e ∷ h) legal = sound_event l (end_of l.first h) (legal_lives l h legal.1) (sound_later l h legal.1) e.event legal.0
 
 -- the IRPs that are listed, each in its life
-abbrev pub irps_of : List Queued → List Irp
+abbrev pub irps_of : List Queued → List IrpLife
 irps_of es = map (λ (e : Queued). e.irp) es
 
 lives_listed : (es : List Queued) (n : IrpId) → has_life (irps_of es) n ≡ is_listed (map plain es) n
 lives_listed [] n = refl
-lives_listed (e ∷ es) n = ap (λ b. same_number e.irp.irp n || b) (lives_listed es n)
+lives_listed (e ∷ es) n = ap (λ b. same_id e.irp.irp n || b) (lives_listed es n)
 
 -- listed IRPs are apart
 listed_apart : (irps : ℕ) (es : List Queued) → is_distinct (map plain es) ≡ true → ((n : IrpId) → is_listed (map plain es) n ≡ true → n.0 < irps) → AreApart irps (irps_of es)
 listed_apart irps [] d known = tt
 listed_apart irps (e ∷ es) d known =
     let parts = and_parts (not (is_listed (map plain es) e.irp.irp)) (is_distinct (map plain es)) d in (
-      known e.irp.irp (ap (λ b. b || is_listed (map plain es) e.irp.irp) (same_number-refl e.irp.irp)),
+      known e.irp.irp (ap (λ b. b || is_listed (map plain es) e.irp.irp) (same_id-refl e.irp.irp)),
       lives_listed es e.irp.irp ∙ not-true (is_listed (map plain es) e.irp.irp) parts.0,
-      listed_apart irps es parts.1 (λ n h. known n (or_right (same_number e.irp.irp n) (is_listed (map plain es) n) h)),
+      listed_apart irps es parts.1 (λ n h. known n (or_right (same_id e.irp.irp n) (is_listed (map plain es) n) h)),
     )
 
 -- no more is listed than there are IRPs

@@ -1,14 +1,15 @@
 -- What a call gave out: its steps tell.
 use Rattle.std.proofs.Common.{◌≡◌, ℕ, ◌<◌, not, ◌&&◌, ◌||◌, cond, Bool, true, false, true≢false, List, [], ◌∷◌, ◌++◌, Option, Some, None, Result, Ok, Err, IfSome, refl, sym, ap, ◌∙◌, subst}
-use Rattle.irp_core.specs.Steps.{Irp, number, same_irp}
+use Rattle.irp_core.specs.Steps.{number, same_irp}
+use Rattle.irp_core.specs.declared.ids.IrpLife.{IrpLife}
 use Rattle.irp_core.specs.Words.{flagged}
 use Rattle.irp_core.specs.Inside.{follows, in_insert, after_disarm}
 use Rattle.irp_core.specs.Programs.{Act}
 use Rattle.irp_core.specs.declared.ids.IrpId.{IrpId}
 use Rattle.irp_core.specs.declared.ids.Life.{Life}
 use Rattle.irp_core.specs.declared.ids.PassId.{PassId}
-use Rattle.irp_core.specs.declared.step.Inside.{Inside}
-use Rattle.irp_core.specs.declared.step.Inside.TheVariants.{Nothing, Removing}
+use Rattle.irp_core.specs.declared.inside.Inside.{Inside}
+use Rattle.irp_core.specs.declared.inside.Inside.TheVariants.{Nothing, Removing}
 use Rattle.irp_core.specs.declared.step.Kind.{Kind}
 use Rattle.irp_core.specs.declared.step.Kind.TheVariants.{Arm, Test, Disarm, End}
 use Rattle.irp_core.specs.declared.step.Made.{Made}
@@ -17,7 +18,7 @@ use Rattle.csq_list.specs.declared.entry.Peek.{Peek}
 use Rattle.csq_list.specs.declared.refusals.InsertStatus.{InsertStatus}
 use Rattle.csq_words.specs.declared.views.Event.{Event}
 use Rattle.csq_words.specs.declared.views.PassRecord.{PassRecord}
-use Rattle.csq_words.specs.Own.{inside_of, owes_in, holds_in, removed_in, held_list, owed_list}
+use Rattle.irp_core.specs.Own.{inside_of, owes_in, holds_in, removed_in, held_list, owed_list}
 use Rattle.csq_words.specs.Queue.{QueueState, Limits, has_entry, has_marked}
 use Rattle.csq_words.specs.Records.{with_step, with_calls}
 use Rattle.csq_words.specs.Rule.{is_done}
@@ -32,23 +33,23 @@ use Rattle.csq_queue.proofs.Newness.{IsNewTo}
 use Rattle.csq_queue.proofs.Owning.{held_more}
 
 -- what the call gave out joins the others
-abbrev pub with_given : Option Irp → List Irp → List Irp
+abbrev pub with_given : Option IrpLife → List IrpLife → List IrpLife
 with_given None is = is
 with_given (Some i) is = i ∷ is
 
 -- of what the pass holds, owes, has flagged and has completed the call changed only that the pass now holds what it gave out, by a removal or not
-pub record GivesOut (limits : Limits) (given : Option Irp) (by_removal : Bool) (old new : PassRecord) : Type 0 where
+pub record GivesOut (limits : Limits) (given : Option IrpLife) (by_removal : Bool) (old new : PassRecord) : Type 0 where
   pub pass : new.pass ≡ old.pass
   pub completed : new.completed ≡ old.completed
   pub found : new.lives ≡ old.lives
-  pub dones : (j : Irp) → is_done new.steps j ≡ is_done old.steps j
-  pub flags : (j : Irp) → flagged new.steps j ≡ flagged old.steps j
-  pub owed : (j : Irp) → owes_in new.steps j ≡ owes_in old.steps j
-  pub held : (j : Irp) → holds_in new.steps j ≡ (gave given j || holds_in old.steps j)
+  pub dones : (j : IrpLife) → is_done new.steps j ≡ is_done old.steps j
+  pub flags : (j : IrpLife) → flagged new.steps j ≡ flagged old.steps j
+  pub owed : (j : IrpLife) → owes_in new.steps j ≡ owes_in old.steps j
+  pub held : (j : IrpLife) → holds_in new.steps j ≡ (gave given j || holds_in old.steps j)
   pub holding : held_list new.steps ≡ with_given given (held_list old.steps)
   pub owing : owed_list new.steps ≡ owed_list old.steps
-  pub removed : (j : Irp) → removed_in new.steps j ≡ ((by_removal && gave given j) || removed_in old.steps j)
-  pub new_to_it : (i : Irp) → given ≡ Some i → IsNew limits old i
+  pub removed : (j : IrpLife) → removed_in new.steps j ≡ ((by_removal && gave given j) || removed_in old.steps j)
+  pub new_to_it : (i : IrpLife) → given ≡ Some i → IsNew limits old i
 
 -- the pass made no steps yet
 pub makes_none : (r : PassRecord) → inside_of r.steps ≡ Nothing → MakesSteps [] r r
@@ -69,7 +70,7 @@ abbrev after : List Act → PassRecord → PassRecord
 after acts r = record r { steps = made_by r.pass acts ++ r.steps }
 
 -- what the steps alone give out, a call that makes them gives out
-gives_so : (l : Limits) (given : Option Irp) (by_removal : Bool) (acts : List Act) (old new : PassRecord) → MakesSteps acts old new → GivesOut l given by_removal old (after acts old) → GivesOut l given by_removal old new
+gives_so : (l : Limits) (given : Option IrpLife) (by_removal : Bool) (acts : List Act) (old new : PassRecord) → MakesSteps acts old new → GivesOut l given by_removal old (after acts old) → GivesOut l given by_removal old new
 gives_so l given by_removal acts old new m g = record {
   pass = m.pass;
   completed = m.completed;
@@ -84,7 +85,7 @@ gives_so l given by_removal acts old new m g = record {
   new_to_it = g.new_to_it;
 }
 
-none_given : (l : Limits) (old : PassRecord) (i : Irp) → None ≡ Some i → IsNew l old i
+none_given : (l : Limits) (old : PassRecord) (i : IrpLife) → None ≡ Some i → IsNew l old i
 none_given l old i e = absurd (cc)
 
 -- no steps
@@ -103,7 +104,7 @@ unremoved false c d = refl
 
 module _ (l : Limits) (old r : PassRecord) (g : GivesOut l None true old r) where
   -- the pass found that a canceller has the IRP
-  gives_missed : (i : Irp) → GivesOut l None true old (with_step (Disarm i) 0 r)
+  gives_missed : (i : IrpLife) → GivesOut l None true old (with_step (Disarm i) 0 r)
   gives_missed i = record {
     pass = g.pass;
     completed = g.completed;
@@ -123,7 +124,7 @@ module _ (l : Limits) (old r : PassRecord) (g : GivesOut l None true old r) wher
   gives_ended = record { pass = g.pass; completed = g.completed; found = g.found; dones = g.dones; flags = g.flags; owed = g.owed; held = g.held; holding = g.holding; owing = g.owing; removed = g.removed; new_to_it = g.new_to_it }
 
   -- the pass got the IRP
-  gives_got : (i : Irp) → follows (inside_of r.steps) End ≡ true → IsNew l old i → GivesOut l (Some i) true old (with_step (Disarm i) 1 r)
+  gives_got : (i : IrpLife) → follows (inside_of r.steps) End ≡ true → IsNew l old i → GivesOut l (Some i) true old (with_step (Disarm i) 1 r)
   gives_got i removes new = record {
     pass = g.pass;
     completed = g.completed;
@@ -132,10 +133,10 @@ module _ (l : Limits) (old r : PassRecord) (g : GivesOut l None true old r) wher
     flags = g.flags;
     owed = g.owed;
     held = λ j. held_more (same_irp i j) (holds_in r.steps j) ∙ ap (λ h. same_irp i j || h) (g.held j);
-    holding = ap (λ (is : List Irp). i ∷ is) g.holding;
+    holding = ap (λ (is : List IrpLife). i ∷ is) g.holding;
     owing = g.owing;
     removed = λ j. got (same_irp i j) (inside_of r.steps) (removed_in r.steps j) removes ∙ ap (λ h. same_irp i j || h) (g.removed j);
-    new_to_it = λ j e. subst (λ (o : Irp). IsNew l old o) (same_some i j e) new;
+    new_to_it = λ j e. subst (λ (o : IrpLife). IsNew l old o) (same_some i j e) new;
   }
     where
       got : (b : Bool) (s : Inside) (d : Bool) → follows s End ≡ true → (((b && true) && not (in_insert s)) || d) ≡ (b || d)
@@ -145,13 +146,13 @@ module _ (l : Limits) (old r : PassRecord) (g : GivesOut l None true old r) wher
       got true s d h = absurd (true≢false (sym h))
 
   -- what is new to the pass then was new to it before
-  pub new_before : (i : Irp) → number i < l.irps → IsNewTo r.steps i → IsNew l old i
+  pub new_before : (i : IrpLife) → number i < l.irps → IsNewTo r.steps i → IsNew l old i
   new_before i known new = record {
     known = known;
     not_held = sym (g.held i) ∙ new.not_held;
     not_done = sym (g.dones i) ∙ new.not_done;
     not_removed = sym (g.removed i) ∙ new.not_removed;
-    no_other = ap (λ (is : List Irp). has_life is i.irp) (sym g.holding) ∙ new.no_other;
+    no_other = ap (λ (is : List IrpLife). has_life is i.irp) (sym g.holding) ∙ new.no_other;
   }
 
 pub removes_on : (s : Inside) → follows s End ≡ true → follows (after_disarm s 0) End ≡ true
@@ -160,36 +161,36 @@ removes_on Removing h = refl
 removes_on s h = absurd (true≢false (sym h))
 
 -- misses alone
-gives_misses : (l : Limits) (is : List Irp) (old : PassRecord) → GivesOut l None true old (after (misses is) old)
+gives_misses : (l : Limits) (is : List IrpLife) (old : PassRecord) → GivesOut l None true old (after (misses is) old)
 gives_misses l [] old = gives_none l true old
 gives_misses l (i ∷ is) old = gives_missed l old (after (misses is) old) (gives_misses l is old) i
 
 -- a removal goes on after them
-removes_misses : (is : List Irp) (p : PassId) (steps : List Made) → inside_of steps ≡ Nothing → follows (inside_of (made_by p (misses is) ++ steps)) End ≡ true
+removes_misses : (is : List IrpLife) (p : PassId) (steps : List Made) → inside_of steps ≡ Nothing → follows (inside_of (made_by p (misses is) ++ steps)) End ≡ true
 removes_misses [] p steps e = ap (λ s. follows s End) e
 removes_misses (i ∷ is) p steps e = removes_on (inside_of (made_by p (misses is) ++ steps)) (removes_misses is p steps e)
 
 -- what a removal on its way has given out
-pub misses_give : (l : Limits) (is : List Irp) (old new : PassRecord) → MakesSteps (misses is) old new → GivesOut l None true old new
+pub misses_give : (l : Limits) (is : List IrpLife) (old new : PassRecord) → MakesSteps (misses is) old new → GivesOut l None true old new
 misses_give l is old new m = gives_so l None true (misses is) old new m (gives_misses l is old)
 
 -- and one that is over
-removal_gives : (l : Limits) (is : List Irp) (given : Option Irp) (old new : PassRecord) → MakesSteps (last_step given ∷ misses is) old new → IfSome given (IsNew l old) → GivesOut l given true old new
+removal_gives : (l : Limits) (is : List IrpLife) (given : Option IrpLife) (old new : PassRecord) → MakesSteps (last_step given ∷ misses is) old new → IfSome given (IsNew l old) → GivesOut l given true old new
 removal_gives l is None old new m fresh = gives_so l None true (last_step None ∷ misses is) old new m (gives_ended l old (after (misses is) old) (gives_misses l is old))
 removal_gives l is (Some i) old new m fresh =
     gives_so l (Some i) true (last_step (Some i) ∷ misses is) old new m (gives_got l old (after (misses is) old) (gives_misses l is old) i (removes_misses is old.pass old.steps m.outside) fresh)
 
 -- what a removal of the next match gave out
-pub remove_next_gives : (l : Limits) (k : Peek) (given : Option Irp) (u : QueueState) (old new : PassRecord) → MakesSteps (remove_next_steps k given u) old new → IfSome given (IsNew l old) → GivesOut l given true old new
+pub remove_next_gives : (l : Limits) (k : Peek) (given : Option IrpLife) (u : QueueState) (old new : PassRecord) → MakesSteps (remove_next_steps k given u) old new → IfSome given (IsNew l old) → GivesOut l given true old new
 remove_next_gives l k given u old new m fresh = removal_gives l (passed_over k given u.entries) given old new m fresh
 
 -- what a removal of one IRP gave out
-pub remove_gives : (l : Limits) (i : Irp) (given : Option Irp) (u : QueueState) (old new : PassRecord) → MakesSteps (remove_steps i given u) old new → IfSome given (IsNew l old) → GivesOut l given true old new
+pub remove_gives : (l : Limits) (i : IrpLife) (given : Option IrpLife) (u : QueueState) (old new : PassRecord) → MakesSteps (remove_steps i given u) old new → IfSome given (IsNew l old) → GivesOut l given true old new
 remove_gives l i None u old new m fresh = removal_gives l (cond (has_entry u.entries i) (i ∷ []) []) None old new m fresh
 remove_gives l i (Some j) u old new m fresh = removal_gives l [] (Some j) old new m fresh
 
 -- what an insert gave out
-pub insert_gives : (l : Limits) (answer : Result (InsertAnswer Irp Irp) InsertStatus) (u : QueueState) (old new : PassRecord) → MakesSteps (insert_steps answer u) old new → IfSome (given_in answer) (IsNew l old) → GivesOut l (given_in answer) false old new
+pub insert_gives : (l : Limits) (answer : Result (InsertAnswer IrpLife IrpLife) InsertStatus) (u : QueueState) (old new : PassRecord) → MakesSteps (insert_steps answer u) old new → IfSome (given_in answer) (IsNew l old) → GivesOut l (given_in answer) false old new
 insert_gives l (Err cause) u old new m fresh = gives_so l None false [] old new m (gives_none l false old)
 insert_gives l (Ok (Cancelled i)) u old new m fresh = gives_so l (Some i) false ((Disarm i, 1) ∷ (Test i, 1) ∷ (Arm i, 0) ∷ []) old new m record {
   pass = refl;
@@ -202,7 +203,7 @@ insert_gives l (Ok (Cancelled i)) u old new m fresh = gives_so l (Some i) false 
   holding = refl;
   owing = refl;
   removed = λ j. taken_back (same_irp i j) (removed_in old.steps j);
-  new_to_it = λ j e. subst (λ (o : Irp). IsNew l old o) (same_some i j e) fresh;
+  new_to_it = λ j e. subst (λ (o : IrpLife). IsNew l old o) (same_some i j e) fresh;
 }
   where
     taken_back : (b r : Bool) → (((b && true) && false) || r) ≡ r

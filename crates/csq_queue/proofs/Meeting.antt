@@ -1,15 +1,15 @@
 -- Two passes that see the same execution.
 use Rattle.csq_words.specs.History.{IsExtendedBy}
-use Rattle.std.proofs.Common.{◌≡◌, ◌+◌, Bool, true, false, List, [], ◌∷◌, ◌++◌, length, Some, refl, sym, ap, ◌∙◌, arith}
+use Rattle.std.proofs.Common.{◌≡◌, Bool, true, false, List, [], ◌∷◌, ◌++◌, length, Some, refl, sym, ap, ◌∙◌, arith}
 use Rattle.std.proofs.lemmas.List.{length-append}
 use Rattle.irp_core.specs.declared.ids.PassId.{PassId}
 use Rattle.irp_core.specs.declared.step.Made.{Made}
-use Rattle.irp_core.specs.declared.step.Inside.TheVariants.{Nothing}
+use Rattle.irp_core.specs.declared.inside.Inside.TheVariants.{Nothing}
 use Rattle.irp_core.specs.Runs.{Size}
 use Rattle.irp_core.specs.Steps.{own, by}
 use Rattle.csq_words.specs.declared.views.PassRecord.{PassRecord}
 use Rattle.csq_words.specs.declared.views.QueueRecord.{QueueRecord}
-use Rattle.csq_words.specs.Own.{inside_of}
+use Rattle.irp_core.specs.Own.{inside_of}
 use Rattle.csq_words.specs.Records.{caught_up}
 use Rattle.csq_words.specs.Rule.{inserts, in_flight, IsHistoryOf, RecordsAgree, SomeRunAgrees}
 use Rattle.csq_words.proofs.Keeping.{same_flight}

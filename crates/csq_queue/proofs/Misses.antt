@@ -1,7 +1,8 @@
 -- The matches that a removal passes over.
 use Rattle.std.proofs.Common.{◌≡◌, ℕ, not, ◌&&◌, cond, Bool, true, false, true≢false, List, [], ◌∷◌, ◌++◌, map, Option, Some, None, refl, sym, ap, ◌∙◌, append_assoc, append-nil}
 use Rattle.std.proofs.lemmas.Bool.{false_from_ne_true, or_parts}
-use Rattle.irp_core.specs.Steps.{Irp, same_irp}
+use Rattle.irp_core.specs.Steps.{same_irp}
+use Rattle.irp_core.specs.declared.ids.IrpLife.{IrpLife}
 use Rattle.irp_core.specs.declared.ids.PassId.{PassId}
 use Rattle.irp_core.proofs.Names.{same_irp-eq}
 use Rattle.csq_list.specs.declared.entry.Peek.{Peek}
@@ -24,11 +25,11 @@ passed-append k (e ∷ xs) ys = at (matches k e.file) (passed-append k xs ys)
   where
     at : (b : Bool) → passed_over k None (xs ++ ys) ≡ passed_over k None ys ++ passed_over k None xs
         → cond b (passed_over k None (xs ++ ys) ++ e.irp ∷ []) (passed_over k None (xs ++ ys)) ≡ passed_over k None ys ++ cond b (passed_over k None xs ++ e.irp ∷ []) (passed_over k None xs)
-    at true h = ap (λ (is : List Irp). is ++ e.irp ∷ []) h ∙ append_assoc (passed_over k None ys) (passed_over k None xs) (e.irp ∷ [])
+    at true h = ap (λ (is : List IrpLife). is ++ e.irp ∷ []) h ∙ append_assoc (passed_over k None ys) (passed_over k None xs) (e.irp ∷ [])
     at false h = h
 
 -- where each match is marked, and i isn't, i is none of them
-pub passed-up_to : (k : Peek) (i : Irp) (xs ys : List Queued) → first_unmarked k xs ≡ None → has_marked (xs ++ ys) i ≡ false → passed_over k (Some i) (xs ++ ys) ≡ passed_over k (Some i) ys ++ passed_over k None xs
+pub passed-up_to : (k : Peek) (i : IrpLife) (xs ys : List Queued) → first_unmarked k xs ≡ None → has_marked (xs ++ ys) i ≡ false → passed_over k (Some i) (xs ++ ys) ≡ passed_over k (Some i) ys ++ passed_over k None xs
 passed-up_to k i [] ys h clear = sym (append-nil (passed_over k (Some i) ys))
 passed-up_to k i (e ∷ xs) ys h clear = at (matches k e.file) refl (passed-up_to k i xs ys head.1 parts.1)
   where
@@ -51,17 +52,17 @@ passed-up_to k i (e ∷ xs) ys h clear = at (matches k e.file) refl (passed-up_t
     at false t rest = rest
     at true t rest =
         ap (λ b. cond b [] (passed_over k (Some i) (xs ++ ys) ++ e.irp ∷ [])) (other t)
-        ∙ (ap (λ (is : List Irp). is ++ e.irp ∷ []) rest ∙ append_assoc (passed_over k (Some i) ys) (passed_over k None xs) (e.irp ∷ []))
+        ∙ (ap (λ (is : List IrpLife). is ++ e.irp ∷ []) rest ∙ append_assoc (passed_over k (Some i) ys) (passed_over k None xs) (e.irp ∷ []))
 
 -- a match that is given out ends the search
-pub passed-here : (k : Peek) (i : Irp) (e : Queued) (es : List Queued) → e.irp ≡ i → matches k e.file ≡ true → passed_over k (Some i) (e ∷ es) ≡ []
+pub passed-here : (k : Peek) (i : IrpLife) (e : Queued) (es : List Queued) → e.irp ≡ i → matches k e.file ≡ true → passed_over k (Some i) (e ∷ es) ≡ []
 passed-here k i e es is m =
     ap (λ b. cond b (cond (same_irp i e.irp) [] (passed_over k (Some i) es ++ e.irp ∷ [])) (passed_over k (Some i) es)) m
     ∙ ap (λ b. cond b [] (passed_over k (Some i) es ++ e.irp ∷ [])) (same_irp-is i e.irp (sym is))
 
 -- one match alone
-pub passed-one : (k : Peek) (i : Irp) (e : Queued) → e.irp ≡ i → matches k e.file ≡ true → passed_over k None (e ∷ []) ≡ i ∷ []
-passed-one k i e is m = ap (λ b. cond b (e.irp ∷ []) []) m ∙ ap (λ (j : Irp). j ∷ []) is
+pub passed-one : (k : Peek) (i : IrpLife) (e : Queued) → e.irp ≡ i → matches k e.file ≡ true → passed_over k None (e ∷ []) ≡ i ∷ []
+passed-one k i e is m = ap (λ b. cond b (e.irp ∷ []) []) m ∙ ap (λ (j : IrpLife). j ∷ []) is
 
 -- where nothing matches, nothing is passed over
 pub passed-none : (k : Peek) (es : List Queued) → list.first_match k (map plain es) ≡ None → passed_over k None es ≡ []
@@ -73,14 +74,14 @@ passed-none k (e ∷ es) h = at (passed-none k es) (matches k e.file) refl
     at rest false t = rw t (rest (rw t at h))
 
 -- a mark changes no match
-pub passed-marking : (k : Peek) (given : Option Irp) (i : Irp) (es : List Queued) → passed_over k given (marking i es) ≡ passed_over k given es
+pub passed-marking : (k : Peek) (given : Option IrpLife) (i : IrpLife) (es : List Queued) → passed_over k given (marking i es) ≡ passed_over k given es
 passed-marking k given i [] = refl
-passed-marking k given i (e ∷ es) = ap (λ (is : List Irp). cond (matches k e.file) (cond (gave given e.irp) [] (is ++ e.irp ∷ [])) is) (passed-marking k given i es)
+passed-marking k given i (e ∷ es) = ap (λ (is : List IrpLife). cond (matches k e.file) (cond (gave given e.irp) [] (is ++ e.irp ∷ [])) is) (passed-marking k given i es)
 
 -- nor do the marks of a removal
-passed-marks : (k : Peek) (given : Option Irp) (p : PassId) (marks : List Irp) (first : ℕ) (h : List Entry) → passed_over k given (end_of first (entries_of p (marked marks) ++ h)).entries ≡ passed_over k given (end_of first h).entries
+passed-marks : (k : Peek) (given : Option IrpLife) (p : PassId) (marks : List IrpLife) (first : ℕ) (h : List Entry) → passed_over k given (end_of first (entries_of p (marked marks) ++ h)).entries ≡ passed_over k given (end_of first h).entries
 passed-marks k given p [] first h = refl
 passed-marks k given p (i ∷ marks) first h = passed-marking k given i (end_of first (entries_of p (marked marks) ++ h)).entries ∙ passed-marks k given p marks first h
 
-pub passed-later : (k : Peek) (given : Option Irp) (p : PassId) (marks : List Irp) (q q' : QueueRecord) → q' ≡ with_events p (marked marks) q → passed_over k given (queue_of q').entries ≡ passed_over k given (queue_of q).entries
+pub passed-later : (k : Peek) (given : Option IrpLife) (p : PassId) (marks : List IrpLife) (q q' : QueueRecord) → q' ≡ with_events p (marked marks) q → passed_over k given (queue_of q').entries ≡ passed_over k given (queue_of q).entries
 passed-later k given p marks q q' is = ap (λ (z : QueueRecord). passed_over k given (queue_of z).entries) is ∙ passed-marks k given p marks q.first q.history

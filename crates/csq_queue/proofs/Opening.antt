@@ -7,7 +7,7 @@ use Rattle.csq_words.specs.Queue.{Limits, limits_of}
 use Rattle.csq_words.specs.declared.views.PassRecord.{PassRecord}
 use Rattle.csq_words.specs.Records.{with_run, caught_up}
 use Rattle.csq_words.specs.Seats.{WordsState, QueueSeatState, PassSeatState, joined_record, pass_record}
-use Rattle.irp_core.specs.Steps.{Irp}
+use Rattle.irp_core.specs.declared.ids.IrpLife.{IrpLife}
 use Rattle.csq_queue.specs.Named.{queue_size, IsLockedOf, IsPassSeatOf}
 use Rattle.csq_words.specs.declared.views.Event.{Event}
 use Rattle.csq_words.specs.Rule.{RecordsAgree, SomeRunAgrees}
@@ -46,7 +46,7 @@ module _ (w : WordsState) (s : Listing) (seat : QueueSeatState) (flags : List Bo
   on_words lives h = subst (λ (z : TableId × Limits). IsLockedOf z.0 z.1 s lives seat flags) (λ k. (table_is k, limits_at k)) h
 
   -- what a call gave out is new to the pass, by the limits of its own words
-  pub own_new : (given : Option Irp) (r : PassRecord) (entered : QueueSeatState) → joined_record entered ≡ r → IfSome given (IsNew (limits_on w s) (joined_record entered)) → IfSome given (IsNew q.limits r)
+  pub own_new : (given : Option IrpLife) (r : PassRecord) (entered : QueueSeatState) → joined_record entered ≡ r → IfSome given (IsNew (limits_on w s) (joined_record entered)) → IfSome given (IsNew q.limits r)
   own_new given r entered r_is h = subst (λ (z : Limits × PassRecord). IfSome given (IsNew z.0 z.1)) (λ k. (limits_are k, r_is k)) h
 
   -- and the events of a call, as its pass sees them once it has left

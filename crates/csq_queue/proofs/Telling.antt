@@ -2,7 +2,7 @@
 use Rattle.std.proofs.Common.{◌≡◌, ℕ, zero, suc, List, ◌∷◌, ap, ◌∙◌, sym, subst}
 use mathlib.Core.Option.{some, some-injective}
 use lib.ListN.{get_elem?}
-use Rattle.irp_core.specs.Steps.{Irp}
+use Rattle.irp_core.specs.declared.ids.IrpLife.{IrpLife}
 use Rattle.irp_core.specs.Lives.{HasBegun}
 use Rattle.csq_list.specs.Listing.{Listing}
 use Rattle.csq_words.specs.declared.views.Entry.{Entry}
@@ -19,7 +19,7 @@ use Rattle.csq_queue.specs.Rests.{IsRestOf, IsClosed}
 use Rattle.csq_queue.proofs.Backing.{still_at}
 
 -- the words are of as many IRPs as the limits say
-pub story_left : (limits : Limits) (finals : FinalWords) → finals.irps ≡ limits.irps → IsFinal (queue_size limits) finals.words finals.queue → AllBack finals.queue → (i : Irp) → HasBegun limits.first finals.queue.run i → Story finals i
+pub story_left : (limits : Limits) (finals : FinalWords) → finals.irps ≡ limits.irps → IsFinal (queue_size limits) finals.words finals.queue → AllBack finals.queue → (i : IrpLife) → HasBegun limits.first finals.queue.run i → Story finals i
 story_left limits finals irps last all i begun = subst (λ (f : FinalWords). Story f i) (λ k. record { irps = sym irps k; words = finals.words; queue = finals.queue }) (a_story (queue_size limits) finals.words finals.queue last all i begun)
 
 pub closing_see : (limits : Limits) (pass : PassRecord) (receipts : List PassRecord) (taken : ℕ) (listing : Listing) (finals : FinalWords)

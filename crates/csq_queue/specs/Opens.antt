@@ -45,6 +45,10 @@ pub record IsRack (seats : List (Option PassSeatState)) (irps next left : ℕ) :
   pub few : next + left ≤ 65
   pub most : irps ≤ 1024
 
+-- the queue after a call of this pass, which has then seen the whole history and the execution: they alone are new
+abbrev pub after_call : PassRecord → OpenState → OpenState
+after_call pass q = record q { queue = record q.queue { history = pass.seen; run = pass.run } }
+
 -- the limits of a queue of these words, over this list
 abbrev pub limits_on : WordsState → Listing → Limits
 limits_on words s = record { irps = words.size.irps; files = s.files; passes = words.size.passes; limit = s.limit; file_limits = s.file_limits; first = words.size.first }

@@ -1,6 +1,6 @@
 -- What happened to each IRP of a queue, and what its passes have seen.
 use Rattle.std.specs.Prelude.{ℕ, List, ◌∷◌}
-use Rattle.irp_core.specs.Steps.{Irp}
+use Rattle.irp_core.specs.declared.ids.IrpLife.{IrpLife}
 use Rattle.irp_core.specs.Lives.{HasBegun}
 use Rattle.csq_list.specs.Listing.{Listing}
 use Rattle.csq_words.specs.declared.views.PassRecord.{PassRecord}
@@ -15,16 +15,16 @@ use Rattle.csq_queue.specs.Rests.{IsClosed, IsRestOf}
 -- in what is left of a closed queue, each IRP has a story in each life that has begun
 abbrev pub EachIrpLeftHasAStory : Type 0
 EachIrpLeftHasAStory = (limits : Limits) (pass : PassRecord) (receipts : List PassRecord) (taken : ℕ) (listing : Listing) (finals : FinalWords)
-    → IsRestOf limits pass receipts taken listing finals → (i : Irp) → HasBegun limits.first finals.queue.run i → Story finals i
+    → IsRestOf limits pass receipts taken listing finals → (i : IrpLife) → HasBegun limits.first finals.queue.run i → Story finals i
 
 -- so it has in what is left of an open queue
 abbrev pub EachIrpOfAnOpenQueueHasAStory : Type 0
 EachIrpOfAnOpenQueueHasAStory = (limits : Limits) (taken : ℕ) (old : QueueRecord) (listing : Listing) (finals : FinalWords)
-    → IsClosed limits taken old listing finals → (i : Irp) → HasBegun limits.first finals.queue.run i → Story finals i
+    → IsClosed limits taken old listing finals → (i : IrpLife) → HasBegun limits.first finals.queue.run i → Story finals i
 
 -- in what a pass has seen, each life of each IRP was given out at most once
 abbrev pub EachIrpSeenIsGivenOnce : Type 0
-EachIrpSeenIsGivenOnce = (limits : Limits) (r : PassRecord) → SeesRun (queue_size limits) r → (i : Irp) → IsGivenOnce (queue_with limits.first r.seen) r.run i
+EachIrpSeenIsGivenOnce = (limits : Limits) (r : PassRecord) → SeesRun (queue_size limits) r → (i : IrpLife) → IsGivenOnce (queue_with limits.first r.seen) r.run i
 
 -- the closing pass and those of the receipts have seen one history and one execution, those of the queue that is left
 abbrev pub ClosingPassesSeeOneHistory : Type 0

@@ -1,5 +1,5 @@
 //! What a pass that was given back leaves.
-use crate::name::QueueName;
+use crate::named::QueueName;
 use csq_words::Receipt;
 use std::marker::{Model, PhantomData};
 

@@ -2,8 +2,6 @@
 use Rattle.std.proofs.Common.{◌≡◌, ℕ, Bool, true, false, cond, not, ◌&&◌, ◌||◌, ◌==◌, ◌⊎◌, inl, inr, List, [], ◌∷◌, Option, Some, None, refl, ap, sym, ◌∙◌, subst}
 use Rattle.std.proofs.lemmas.Bool.{or_left, or_right, and_parts, not-true}
 use Rattle.std.proofs.Math.Bool.{or-false, and-false}
-use Rattle.std.specs.Option.{option_map}
-use Rattle.std.specs.List.{find}
 use Rattle.irp_core.specs.declared.ids.FileId.{FileId}
 use Rattle.irp_core.specs.declared.ids.IrpId.{IrpId}
 use Rattle.irp_core.specs.declared.status.NtStatus.{NtStatus}
@@ -11,31 +9,33 @@ use Rattle.irp_core.specs.declared.status.TheConstants.NtStatus.{CANCELLED}
 use Rattle.irp_core.specs.declared.step.Kind.{Kind}
 use Rattle.irp_core.specs.declared.step.Kind.TheVariants.{Arm, Test, Disarm, End, Flag, Take, Out, Done, Renew}
 use Rattle.irp_core.specs.declared.step.Made.{Made}
-use Rattle.irp_core.specs.Steps.{Irp, same_irp, same_pass}
+use Rattle.irp_core.specs.Steps.{same_irp, same_pass}
+use Rattle.irp_core.specs.declared.ids.IrpLife.{IrpLife}
 use Rattle.irp_core.specs.Words.{bit, armed}
 use Rattle.irp_core.specs.Owners.{holds}
 use Rattle.irp_core.proofs.Names.{same_irp-refl, same_irp-eq, same_pass-refl}
+use Rattle.csq_words.specs.Plays.{status_recorded}
 use Rattle.csq_list.specs.declared.entry.Place.{Place}
 use Rattle.csq_list.specs.declared.entry.Place.TheVariants.{Back, Front}
 use Rattle.csq_list.specs.declared.entry.Peek.{Peek}
 use Rattle.csq_list.specs.declared.entry.Peek.TheVariants.{File}
 use Rattle.csq_list.specs.declared.refusals.InsertStatus.{InsertStatus}
-use Rattle.csq_list.specs.declared.refusals.InsertStatus.TheVariants.{UnknownIrp, UnknownFile, NotHome, FileClosed, FileFull, Full}
-use Rattle.csq_list.specs.Causes.{is_cause}
+use Rattle.csq_list.specs.declared.refusals.InsertStatus.TheVariants.{NotHome}
+use Rattle.csq_list.proofs.Causes.{no_cause}
 use Rattle.csq_list.specs.Listing.{put_at}
 use Rattle.csq_words.specs.declared.views.InsertReply.{InsertReply}
 use Rattle.csq_words.specs.declared.views.InsertReply.TheVariants as insert
 use Rattle.csq_words.specs.declared.views.Event.TheVariants as event
 use Rattle.csq_list.specs.Searches.{matches}
 use Rattle.csq_words.specs.declared.views.Completion.{Completion}
-use Rattle.csq_words.specs.Queue.{Queued, Limits, listing_of, refusal, reply_to_insert, first_unmarked, has_irp, has_entry, has_unmarked, has_marked, marking, without, new_entry}
+use Rattle.csq_words.specs.Queue.{Queued, Limits, plain_listing, refusal, reply_to_insert, first_unmarked, has_irp, has_entry, has_unmarked, has_marked, marking, without, new_entry}
 use Rattle.csq_words.proofs.Entries.{has_entry-marking, has_entry-placed, has_entry-without}
 use Rattle.csq_words.proofs.Facts.{bit_false}
 use Rattle.csq_replay.specs.declared.script.call.Call.{Call}
 use Rattle.csq_replay.specs.declared.script.call.Call.TheVariants.{Next, Mark, Routine, Complete, Close}
 use Rattle.csq_replay.specs.declared.script.call.Reply.{Reply}
 use Rattle.csq_replay.specs.declared.script.call.Reply.TheVariants.{Removed, NoIrp, Claimed, Unclaimed, Completed, Closed}
-use Rattle.csq_replay.specs.Calls.{Script, script_pass, new_script, present_of, after_reuse, next_step, after_steps, removal_steps, remove_steps, status_of, doing, completing, after_mark, Calls, Cleans, Does}
+use Rattle.csq_replay.specs.Calls.{Script, script_pass, new_script, present_of, after_reuse, next_step, after_steps, removal_steps, named_removal_steps, doing, completing, after_mark, Calls, Cleans, Does}
 use Rattle.csq_replay.specs.Calls.Calls.{refuses_insert, lists, cancels_insert, removes_next, removes, removes_none, claims, claims_none, runs_routine, has_no_claim, completes, holds_none, refuses_pending, closes, is_stale, reuses, not_completed, lives_spent, tells_flag, tells_status, knows_no_irp, knows_no_file}
 use Rattle.csq_replay.specs.Calls.Cleans.{none_left, one_more}
 use Rattle.csq_replay.specs.Calls.Does.{calls, cancel_claimed, cancel_unclaimed, cleaned}
@@ -44,24 +44,23 @@ use Rattle.csq_replay.specs.Laws.LeadTo.{at_end, by_nothing, by_call}
 use Rattle.csq_replay.specs.Drivers.{AreMarked}
 use Rattle.csq_replay.proofs.Queueing.{marks_stay, marks_without, marks_marking, marked_is, taken_routine, other_entry}
 use Rattle.csq_replay.proofs.Cleaning.{removal_holds}
-use Rattle.csq_replay.proofs.Inserting.{not_refused}
 
 -- listed, held or completed
-abbrev pub Accounted : Script → Irp → Type 0
-Accounted s i = (has_entry s.queue.entries i ≡ true) ⊎ ((holds s.run script_pass i ≡ true) ⊎ ((status : NtStatus) × (status_of s.completed i ≡ Some status)))
+abbrev pub Accounted : Script → IrpLife → Type 0
+Accounted s i = (has_entry s.queue.entries i ≡ true) ⊎ ((holds s.run script_pass i ≡ true) ⊎ ((status : NtStatus) × (status_recorded i s.completed ≡ Some status)))
 
 -- what is kept from call to call
 pub record Accounts (s : Script) : Type 0 where
   pub marks : AreMarked s.run s.queue.entries
-  pub used : (i : Irp) → has_entry s.queue.entries i ≡ true → has_irp s.queue.used i ≡ true
-  pub each : (i : Irp) → has_irp s.queue.used i ≡ true → Accounted s i
+  pub used : (i : IrpLife) → has_entry s.queue.entries i ≡ true → has_irp s.queue.used i ≡ true
+  pub each : (i : IrpLife) → has_irp s.queue.used i ≡ true → Accounted s i
 
 -- a step that completes nothing takes nothing from what is held
 abbrev is_done : Kind → Bool
 is_done (Done i) = true
 is_done _ = false
 
-holds_more : (E : List Made) (k : Kind) (i : Irp) → is_done k ≡ false → holds E script_pass i ≡ true → holds (next_step E k) script_pass i ≡ true
+holds_more : (E : List Made) (k : Kind) (i : IrpLife) → is_done k ≡ false → holds E script_pass i ≡ true → holds (next_step E k) script_pass i ≡ true
 holds_more E (Arm j) i n h = h
 holds_more E (Test j) i n h = h
 holds_more E (Disarm j) i n h = or_right (((same_irp j i && bit (armed E j) == 1) || false) && same_pass script_pass script_pass) (holds E script_pass i) h
@@ -73,15 +72,15 @@ holds_more E (Done j) i n h = absurd cc
 holds_more E (Renew j) i n h = h
 
 -- what an IRP was completed with stays, and one more is completed
-told_more : (completed : List Completion) (j : Irp) (status : NtStatus) (i : Irp) → (x : NtStatus) × (status_of completed i ≡ Some x) → (x : NtStatus) × (status_of (record { irp = j; status = status } ∷ completed) i ≡ Some x)
+told_more : (completed : List Completion) (j : IrpLife) (status : NtStatus) (i : IrpLife) → (x : NtStatus) × (status_recorded i completed ≡ Some x) → (x : NtStatus) × (status_recorded i (record { irp = j; status = status } ∷ completed) ≡ Some x)
 told_more completed j status i h = go (same_irp j i)
   where
-    go : (b : Bool) → (x : NtStatus) × (option_map (λ (c : Completion). c.status) (cond b (Some (record { irp = j; status = status })) (find (λ (c : Completion). same_irp c.irp i) completed)) ≡ Some x)
+    go : (b : Bool) → (x : NtStatus) × (cond b (Some status) (status_recorded i completed) ≡ Some x)
     go true = (status, refl)
     go false = h
 
 -- a completion keeps all accounted for
-done_accounted : (s : Script) (j : Irp) (status : NtStatus) (i : Irp) → Accounted s i → Accounted (completing j status s) i
+done_accounted : (s : Script) (j : IrpLife) (status : NtStatus) (i : IrpLife) → Accounted s i → Accounted (completing j status s) i
 done_accounted s j status i (inl h) = inl h
 done_accounted s j status i (inr (inl h)) = go (same_irp j i) refl
   where
@@ -90,7 +89,7 @@ done_accounted s j status i (inr (inl h)) = go (same_irp j i) refl
     go false e = inr (inl (rw (e, h) refl))
 done_accounted s j status i (inr (inr h)) = inr (inr (told_more s.completed j status i h))
 
-pub done_accounts : (s : Script) (j : Irp) (status : NtStatus) → Accounts s → Accounts (completing j status s)
+pub done_accounts : (s : Script) (j : IrpLife) (status : NtStatus) → Accounts s → Accounts (completing j status s)
 done_accounts s j status a = record {
   marks = marks_stay s.run (next_step s.run (Done j)) s.queue.entries (λ i there. refl) a.marks;
   used = a.used;
@@ -98,7 +97,7 @@ done_accounts s j status a = record {
 }
 
 -- what isn't used isn't listed
-unused_unlisted : (s : Script) → Accounts s → (i : Irp) → has_irp s.queue.used i ≡ false → has_entry s.queue.entries i ≡ false
+unused_unlisted : (s : Script) → Accounts s → (i : IrpLife) → has_irp s.queue.used i ≡ false → has_entry s.queue.entries i ≡ false
 unused_unlisted s a i none = go (has_entry s.queue.entries i) refl
   where
     go : (b : Bool) → has_entry s.queue.entries i ≡ b → b ≡ false
@@ -111,11 +110,11 @@ marks_put E Back e [] here h = (here, tt)
 marks_put E Back e (x ∷ es) here h = (h.0, marks_put E Back e es here h.1)
 
 -- the entries after a removal that answers this
-abbrev left_after : Option Irp → List Queued → List Queued
+abbrev left_after : Option IrpLife → List Queued → List Queued
 left_after None es = es
 left_after (Some i) es = without i es
 
-stays_apart : (i : Irp) (es : List Queued) (j : Irp) → has_entry (without i es) j ≡ true → same_irp i j ≡ false
+stays_apart : (i : IrpLife) (es : List Queued) (j : IrpLife) → has_entry (without i es) j ≡ true → same_irp i j ≡ false
 stays_apart i es j there = go (same_irp i j) (sym (has_entry-without i es j) ∙ there)
   where
     go : (b : Bool) → (not b && has_entry es j) ≡ true → b ≡ false
@@ -123,10 +122,10 @@ stays_apart i es j there = go (same_irp i j) (sym (has_entry-without i es j) ∙
     go false h = refl
 
 -- one Disarm: of an IRP without its routine, or of one that leaves
-marks_miss : (E : List Made) (i : Irp) (es : List Queued) → armed E i ≡ false → AreMarked E es → AreMarked (next_step E (Disarm i)) es
+marks_miss : (E : List Made) (i : IrpLife) (es : List Queued) → armed E i ≡ false → AreMarked E es → AreMarked (next_step E (Disarm i)) es
 marks_miss E i es gone h = marks_stay E (next_step E (Disarm i)) es (λ j there. taken_routine E i j (same_irp i j || false) (or-false (same_irp i j)) gone) h
 
-marks_leave : (E : List Made) (i : Irp) (es : List Queued) → AreMarked E es → AreMarked (next_step E (Disarm i)) (without i es)
+marks_leave : (E : List Made) (i : IrpLife) (es : List Queued) → AreMarked E es → AreMarked (next_step E (Disarm i)) (without i es)
 marks_leave E i es h = marks_stay E (next_step E (Disarm i)) (without i es) (λ j there. ap (λ b. not (b || false) && armed E j) (stays_apart i es j there)) (marks_without E i es h)
 
 mark_off : (a m : Bool) → m ≡ not a → m ≡ true → a ≡ false
@@ -146,7 +145,7 @@ marks_removal k all (e ∷ es) E ha h = go (marks_removal k all es) (matches k e
         rw (match, marked) (rest (next_step E (Disarm e.irp)) (marks_miss E e.irp all gone ha) (marks_miss E e.irp es gone h.1))
     go rest true match false marked = rw (match, marked) (marks_leave E e.irp all ha)
 
-holds_removal : (k : Peek) (es : List Queued) (E : List Made) (i : Irp) → holds E script_pass i ≡ true → holds (after_steps (removal_steps k es) E) script_pass i ≡ true
+holds_removal : (k : Peek) (es : List Queued) (E : List Made) (i : IrpLife) → holds E script_pass i ≡ true → holds (after_steps (removal_steps k es) E) script_pass i ≡ true
 holds_removal k [] E i h = holds_more E End i refl h
 holds_removal k (e ∷ es) E i h = go (λ F. holds_removal k es F i) (matches k e.file) refl e.marked refl
   where
@@ -156,35 +155,35 @@ holds_removal k (e ∷ es) E i h = go (λ F. holds_removal k es F i) (matches k 
     go rest true match true marked = rw (match, marked) (rest (next_step E (Disarm e.irp)) (holds_more E (Disarm e.irp) i refl h))
     go rest true match false marked = rw (match, marked) (holds_more E (Disarm e.irp) i refl h)
 
-module _ (s : Script) (a : Accounts s) (F : List Made) (closed : List FileId) (flags : List Irp) (lives : IrpId → ℕ) (kept : (j : Irp) → holds s.run script_pass j ≡ true → holds F script_pass j ≡ true) where
+module _ (s : Script) (a : Accounts s) (F : List Made) (closed : List FileId) (flags : List IrpLife) (lives : IrpId → ℕ) (kept : (j : IrpLife) → holds s.run script_pass j ≡ true → holds F script_pass j ≡ true) where
   -- a script with another run, whose entries stay
   stays : List Queued → Script
   stays es = record { run = F; queue = record { entries = es; closed = closed; used = s.queue.used; flags = flags; lives = lives }; completed = s.completed }
 
-  pub stays_accounts : (es : List Queued) → ((j : Irp) → has_entry es j ≡ has_entry s.queue.entries j) → AreMarked F es
+  pub stays_accounts : (es : List Queued) → ((j : IrpLife) → has_entry es j ≡ has_entry s.queue.entries j) → AreMarked F es
       → Accounts (record { run = F; queue = record { entries = es; closed = closed; used = s.queue.used; flags = flags; lives = lives }; completed = s.completed })
   stays_accounts es same marks = record { marks = marks; used = λ j h. a.used j (sym (same j) ∙ h); each = λ j h. go j (a.each j h) }
     where
-      go : (j : Irp) → Accounted s j → Accounted (record { run = F; queue = record { entries = es; closed = closed; used = s.queue.used; flags = flags; lives = lives }; completed = s.completed }) j
+      go : (j : IrpLife) → Accounted s j → Accounted (record { run = F; queue = record { entries = es; closed = closed; used = s.queue.used; flags = flags; lives = lives }; completed = s.completed }) j
       go j (inl h) = inl (same j ∙ h)
       go j (inr (inl h)) = inr (inl (kept j h))
       go j (inr (inr h)) = inr (inr h)
 
   -- one whose IRP leaves, and is held
-  pub leaves_accounts : (i : Irp) → AreMarked F (without i s.queue.entries) → holds F script_pass i ≡ true
+  pub leaves_accounts : (i : IrpLife) → AreMarked F (without i s.queue.entries) → holds F script_pass i ≡ true
       → Accounts (record { run = F; queue = record { entries = without i s.queue.entries; closed = closed; used = s.queue.used; flags = flags; lives = lives }; completed = s.completed })
   leaves_accounts i marks mine = record { marks = marks; used = λ j h. a.used j (still j (same_irp i j) (sym (has_entry-without i s.queue.entries j) ∙ h)); each = λ j h. go j (a.each j h) }
     where
-      still : (j : Irp) (b : Bool) → (not b && has_entry s.queue.entries j) ≡ true → has_entry s.queue.entries j ≡ true
+      still : (j : IrpLife) (b : Bool) → (not b && has_entry s.queue.entries j) ≡ true → has_entry s.queue.entries j ≡ true
       still j true h = absurd cc
       still j false h = h
 
-      left : (j : Irp) (b : Bool) → same_irp i j ≡ b → has_entry s.queue.entries j ≡ true
+      left : (j : IrpLife) (b : Bool) → same_irp i j ≡ b → has_entry s.queue.entries j ≡ true
           → Accounted (record { run = F; queue = record { entries = without i s.queue.entries; closed = closed; used = s.queue.used; flags = flags; lives = lives }; completed = s.completed }) j
       left j true e h = inr (inl (ap (holds F script_pass) (sym (same_irp-eq i j e)) ∙ mine))
       left j false e h = inl (has_entry-without i s.queue.entries j ∙ rw (e, h) refl)
 
-      go : (j : Irp) → Accounted s j → Accounted (record { run = F; queue = record { entries = without i s.queue.entries; closed = closed; used = s.queue.used; flags = flags; lives = lives }; completed = s.completed }) j
+      go : (j : IrpLife) → Accounted s j → Accounted (record { run = F; queue = record { entries = without i s.queue.entries; closed = closed; used = s.queue.used; flags = flags; lives = lives }; completed = s.completed }) j
       go j (inl h) = left j (same_irp i j) refl h
       go j (inr (inl h)) = inr (inl (kept j h))
       go j (inr (inr h)) = inr (inr h)
@@ -195,15 +194,11 @@ accepted None b r is other = refl
 accepted (Some cause) b r is other = absurd (other cause is)
 
 module _ (l : Limits) (s : Script) (a : Accounts s) (n : IrpId) (f : FileId) where
-  abbrev i : Irp
+  abbrev i : IrpLife
   i = present_of s n
 
-  causes : InsertStatus → Bool
-  causes cause = is_cause (listing_of l s.queue) n f cause
-
   unused : None ≡ refusal l s.queue n f → has_irp s.queue.used i ≡ false
-  unfolding causes
-  unused none = (not_refused (causes UnknownIrp) (causes UnknownFile) (causes NotHome) UnknownIrp UnknownFile NotHome (cond (causes FileClosed) (Some FileClosed) (cond (causes FileFull) (Some FileFull) (cond (causes Full) (Some Full) None))) none).1
+  unused none = no_cause (plain_listing l s.queue) n f (sym none) NotHome
 
   module _ (place : Place) (absent : has_entry s.queue.entries i ≡ false) where
     pub lists_accounts : Accounts (doing (Arm i ∷ Test i ∷ []) (event.Insert n f place insert.Pending) s)
@@ -214,16 +209,16 @@ module _ (l : Limits) (s : Script) (a : Accounts s) (n : IrpId) (f : FileId) whe
       each = λ j h. each_more j (same_irp i j) refl h;
     }
       where
-        used_more : (j : Irp) (b : Bool) → (b || has_entry s.queue.entries j) ≡ true → (b || has_irp s.queue.used j) ≡ true
+        used_more : (j : IrpLife) (b : Bool) → (b || has_entry s.queue.entries j) ≡ true → (b || has_irp s.queue.used j) ≡ true
         used_more j true h = refl
         used_more j false h = a.used j h
 
-        old : (j : Irp) → Accounted s j → Accounted (doing (Arm i ∷ Test i ∷ []) (event.Insert n f place insert.Pending) s) j
+        old : (j : IrpLife) → Accounted s j → Accounted (doing (Arm i ∷ Test i ∷ []) (event.Insert n f place insert.Pending) s) j
         old j (inl h) = inl (has_entry-placed place (new_entry i f) s.queue.entries j ∙ or_right (same_irp i j) (has_entry s.queue.entries j) h)
         old j (inr (inl h)) = inr (inl h)
         old j (inr (inr h)) = inr (inr h)
 
-        each_more : (j : Irp) (b : Bool) → same_irp i j ≡ b → (same_irp i j || has_irp s.queue.used j) ≡ true → Accounted (doing (Arm i ∷ Test i ∷ []) (event.Insert n f place insert.Pending) s) j
+        each_more : (j : IrpLife) (b : Bool) → same_irp i j ≡ b → (same_irp i j || has_irp s.queue.used j) ≡ true → Accounted (doing (Arm i ∷ Test i ∷ []) (event.Insert n f place insert.Pending) s) j
         each_more j true e h = inl (has_entry-placed place (new_entry i f) s.queue.entries j ∙ or_left (same_irp i j) (has_entry s.queue.entries j) e)
         each_more j false e h = old j (a.each j (rw e at h))
 
@@ -234,35 +229,35 @@ module _ (l : Limits) (s : Script) (a : Accounts s) (n : IrpId) (f : FileId) whe
       each = λ j h. each_more j (same_irp i j) refl h;
     }
       where
-        old : (j : Irp) → Accounted s j → Accounted (doing (Arm i ∷ Test i ∷ Disarm i ∷ []) (event.Insert n f place insert.Cancelled) s) j
+        old : (j : IrpLife) → Accounted s j → Accounted (doing (Arm i ∷ Test i ∷ Disarm i ∷ []) (event.Insert n f place insert.Cancelled) s) j
         old j (inl h) = inl h
         old j (inr (inl h)) = inr (inl (holds_more (after_steps (Arm i ∷ Test i ∷ []) s.run) (Disarm i) j refl h))
         old j (inr (inr h)) = inr (inr h)
 
-        each_more : (j : Irp) (b : Bool) → same_irp i j ≡ b → (same_irp i j || has_irp s.queue.used j) ≡ true → Accounted (doing (Arm i ∷ Test i ∷ Disarm i ∷ []) (event.Insert n f place insert.Cancelled) s) j
+        each_more : (j : IrpLife) (b : Bool) → same_irp i j ≡ b → (same_irp i j || has_irp s.queue.used j) ≡ true → Accounted (doing (Arm i ∷ Test i ∷ Disarm i ∷ []) (event.Insert n f place insert.Cancelled) s) j
         each_more j true e h = inr (inl (rw (e, same_irp-refl, same_pass-refl) refl))
         each_more j false e h = old j (a.each j (rw e at h))
 
-module _ (s : Script) (a : Accounts s) (i : Irp) where
-  removed_one : true ≡ has_unmarked s.queue.entries i → Accounts (doing (remove_steps i s.queue.entries) (event.Remove i true) s)
+module _ (s : Script) (a : Accounts s) (i : IrpLife) where
+  removed_one : true ≡ has_unmarked s.queue.entries i → Accounts (doing (named_removal_steps i s.queue.entries) (event.Remove i true) s)
   removed_one may =
       let set : armed s.run i ≡ true = (and_parts (has_entry s.queue.entries i) (armed s.run i) (sym (marked_is s.run s.queue.entries a.marks i).0 ∙ sym may)).1 in
       let P : List Made → Type 0 = λ E. Accounts (record { run = E; queue = record { entries = without i s.queue.entries; closed = s.queue.closed; used = s.queue.used; flags = s.queue.flags; lives = s.queue.lives }; completed = s.completed }) in
-      let steps : next_step s.run (Disarm i) ≡ after_steps (remove_steps i s.queue.entries) s.run = rw (← may) refl in
+      let steps : next_step s.run (Disarm i) ≡ after_steps (named_removal_steps i s.queue.entries) s.run = rw (← may) refl in
       subst P steps (leaves_accounts s a (next_step s.run (Disarm i)) s.queue.closed s.queue.flags s.queue.lives (λ j. holds_more s.run (Disarm i) j refl) i (marks_leave s.run i s.queue.entries a.marks)
       (rw (set, same_irp-refl, same_pass-refl) refl))
 
-  removed_none : false ≡ has_unmarked s.queue.entries i → (b : Bool) → has_marked s.queue.entries i ≡ b → Accounts (doing (remove_steps i s.queue.entries) (event.Remove i false) s)
+  removed_none : false ≡ has_unmarked s.queue.entries i → (b : Bool) → has_marked s.queue.entries i ≡ b → Accounts (doing (named_removal_steps i s.queue.entries) (event.Remove i false) s)
   removed_none may true marked =
       let gone : armed s.run i ≡ false = not-true (armed s.run i) (and_parts (has_entry s.queue.entries i) (not (armed s.run i)) (sym (marked_is s.run s.queue.entries a.marks i).1 ∙ marked)).1 in
       let P : List Made → Type 0 = λ E. Accounts (record { run = E; queue = s.queue; completed = s.completed }) in
       let E1 : List Made = next_step s.run (Disarm i) in
-      let steps : next_step (next_step s.run (Disarm i)) End ≡ after_steps (remove_steps i s.queue.entries) s.run = rw (← may, marked) refl in
+      let steps : next_step (next_step s.run (Disarm i)) End ≡ after_steps (named_removal_steps i s.queue.entries) s.run = rw (← may, marked) refl in
       subst P steps (stays_accounts s a (next_step (next_step s.run (Disarm i)) End) s.queue.closed s.queue.flags s.queue.lives (λ j. holds_more s.run (Disarm i) j refl) s.queue.entries (λ j. refl)
       (marks_stay (next_step s.run (Disarm i)) (next_step (next_step s.run (Disarm i)) End) s.queue.entries (λ j there. refl) (marks_miss s.run i s.queue.entries gone a.marks)))
   removed_none may false marked =
       let P : List Made → Type 0 = λ E. Accounts (record { run = E; queue = s.queue; completed = s.completed }) in
-      let steps : next_step s.run End ≡ after_steps (remove_steps i s.queue.entries) s.run = rw (← may, marked) refl in
+      let steps : next_step s.run End ≡ after_steps (named_removal_steps i s.queue.entries) s.run = rw (← may, marked) refl in
       subst P steps (stays_accounts s a (next_step s.run End) s.queue.closed s.queue.flags s.queue.lives (λ j h. h) s.queue.entries (λ j. refl)
       (marks_stay s.run (next_step s.run End) s.queue.entries (λ j there. refl) a.marks))
 
@@ -280,16 +275,16 @@ module _ (s : Script) (a : Accounts s) (i : Irp) where
       (rw (same_irp-refl, same_pass-refl) refl)
 
 module _ (s : Script) (a : Accounts s) (k : Peek) where
-  next_one : (i : Irp) → Some i ≡ first_unmarked k s.queue.entries → Accounts (doing (removal_steps k s.queue.entries) (event.RemoveNext k (Some i)) s)
+  next_one : (i : IrpLife) → Some i ≡ first_unmarked k s.queue.entries → Accounts (doing (removal_steps k s.queue.entries) (event.RemoveNext k (Some i)) s)
   next_one i may =
       let F : List Made = after_steps (removal_steps k s.queue.entries) s.run in
-      let P : Option Irp → Type 0 = λ o. AreMarked (after_steps (removal_steps k s.queue.entries) s.run) (left_after o s.queue.entries) in
+      let P : Option IrpLife → Type 0 = λ o. AreMarked (after_steps (removal_steps k s.queue.entries) s.run) (left_after o s.queue.entries) in
       leaves_accounts s a (after_steps (removal_steps k s.queue.entries) s.run) s.queue.closed s.queue.flags s.queue.lives (holds_removal k s.queue.entries s.run) i
       (subst P (sym may) (marks_removal k s.queue.entries s.queue.entries s.run a.marks a.marks)) (removal_holds k i s.queue.entries s.run a.marks (sym may))
 
   next_none : None ≡ first_unmarked k s.queue.entries → Accounts (doing (removal_steps k s.queue.entries) (event.RemoveNext k None) s)
   next_none may =
-      let P : Option Irp → Type 0 = λ o. AreMarked (after_steps (removal_steps k s.queue.entries) s.run) (left_after o s.queue.entries) in
+      let P : Option IrpLife → Type 0 = λ o. AreMarked (after_steps (removal_steps k s.queue.entries) s.run) (left_after o s.queue.entries) in
       stays_accounts s a (after_steps (removal_steps k s.queue.entries) s.run) s.queue.closed s.queue.flags s.queue.lives (holds_removal k s.queue.entries s.run) s.queue.entries (λ j. refl)
       (subst P (sym may) (marks_removal k s.queue.entries s.queue.entries s.run a.marks a.marks))
 

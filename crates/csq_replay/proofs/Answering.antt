@@ -1,5 +1,5 @@
 -- Answers, line after line.
-use Rattle.std.proofs.Common.{◌≡◌, ℕ, ◌+◌, List, [], ◌∷◌, ◌++◌, Option, Some, None, Result, Ok, Err, IfOk, ◌≤◌, append_assoc, refl, ap, subst, sym, ◌∙◌, length, true, eqb-true, arith}
+use Rattle.std.proofs.Common.{◌≡◌, ℕ, ◌+◌, List, ◌∷◌, ◌++◌, Option, Some, None, Result, Ok, Err, IfOk, ◌≤◌, append_assoc, refl, ap, subst, sym, ◌∙◌, length, true, eqb-true, arith}
 use Rattle.std.proofs.lemmas.List.{nil_from_length}
 use Rattle.std.specs.Prelude.{◌==◌}
 use Rattle.csq_replay.specs.declared.lines.answer.Ended.{Ended}

@@ -3,13 +3,13 @@ use Rattle.std.proofs.Common.{Bool, true, false, eq-eqb, ◌≡◌, ℕ, ◌+◌
 use Rattle.std.specs.Prelude.{nat_eq, MatchOption}
 use Rattle.std.specs.Cmp.Lexicographic.{pointwise}
 use Rattle.irp_core.specs.declared.status.NtStatus.{NtStatus}
-use Rattle.irp_core.specs.Steps.{Irp}
+use Rattle.irp_core.specs.declared.ids.IrpLife.{IrpLife}
 use Rattle.csq_list.specs.declared.entry.Place.{Place}
 use Rattle.csq_list.specs.declared.entry.Peek.TheVariants.{Any, File}
 use Rattle.csq_replay.specs.declared.script.call.Call.{Call}
 use Rattle.csq_replay.specs.declared.script.call.Call.TheVariants.{Insert, Next, Remove, Mark, Routine, Cancel, Complete, Close, Cleanup, Flag, Status, Reuse}
 use Rattle.csq_replay.specs.Pieces.{words_of, IsShort, IsNumber}
-use Rattle.csq_replay.specs.CallLine.{call_name, named_life, place_word, IsLifeName, IsStatusWord, IsOne, IsNamed}
+use Rattle.csq_replay.specs.CallLine.{call_name, named_life, place_word, IsLifeName, IsHexStatus, IsOne, IsNamed}
 use Rattle.csq_replay.specs.StepLine.{IsNameWord}
 use Rattle.csq_replay.proofs.NameWords.{alone, word_alone, same_name, words_of-decimal}
 use Rattle.csq_replay.proofs.StatusWords.{words_of-digits}
@@ -39,11 +39,11 @@ module _ (operands irp rest file place : List ℕ) (cut : words_of operands ≡ 
 
 module _ (operands irp status : List ℕ) (cut : words_of operands ≡ irp ∷ words_of status) where
   -- where the second word is no status, no completion is named
-  pub complete_no_status : ((code : NtStatus) → ¬ IsStatusWord status code.0) → (c : Call) → ¬ IsNamed (codes "complete") (words_of operands) c
+  pub complete_no_status : ((code : NtStatus) → ¬ IsHexStatus status code.0) → (c : Call) → ¬ IsNamed (codes "complete") (words_of operands) c
   complete_no_status none (Complete i code) h =
       let (first, digits, words, is_irp, is_status) = h.1 in
       let last : words_of status ≡ digits ∷ [] = cc (cut, words) in
-      let P : List ℕ → Type 0 = λ w. IsStatusWord w code.0 in
+      let P : List ℕ → Type 0 = λ w. IsHexStatus w code.0 in
       none code (subst P (sym (alone status digits last)) is_status)
   complete_no_status none (Insert i f p) h = let e = ap letters h.0 in absurd (omega (arith, e))
   complete_no_status none (Next k) h = let e = ap letters h.0 in absurd (omega (arith, e))
@@ -57,7 +57,7 @@ module _ (operands irp status : List ℕ) (cut : words_of operands ≡ irp ∷ w
   complete_no_status none (Status i) h = let e = ap letters h.0 in absurd (omega (arith, e))
   complete_no_status none (Reuse i) h = let e = ap letters h.0 in absurd (omega (arith, e))
 
-  pub complete_named : (n : ℕ) (code : NtStatus) → IsNumber irp n → IsStatusWord status code.0 → IsNamed (codes "complete") (words_of operands) (Complete (record { 0 = n }) code)
+  pub complete_named : (n : ℕ) (code : NtStatus) → IsNumber irp n → IsHexStatus status code.0 → IsNamed (codes "complete") (words_of operands) (Complete (record { 0 = n }) code)
   complete_named n code is_irp is_status = (refl, (irp, status, cut ∙ ap (λ words. irp ∷ words) (words_of-digits status is_status.1), is_irp, is_status))
 
 module _ (operand : List ℕ) where
@@ -103,7 +103,7 @@ module _ (operand : List ℕ) where
   no_call name insert next complete life none (Reuse i) h = is_number none i.0 h.1
 
   -- a call of such a name names a life
-  life_named : (name : List ℕ) → IsLifeName name → (c : Call) → IsNamed name (words_of operand) c → (i : Irp) × (named_life c ≡ Some i) × IsOne (λ word. IsNameWord word i) (words_of operand)
+  life_named : (name : List ℕ) → IsLifeName name → (c : Call) → IsNamed name (words_of operand) c → (i : IrpLife) × (named_life c ≡ Some i) × IsOne (λ word. IsNameWord word i) (words_of operand)
   life_named name life (Remove i) h = (i, refl, h.1)
   life_named name life (Mark i) h = (i, refl, h.1)
   life_named name life (Cancel i) h = (i, refl, h.1)
@@ -115,19 +115,19 @@ module _ (operand : List ℕ) where
       differs (inr (inr e)) a b d = d e
 
   -- where the operand names no life, no call is named
-  pub no_life_call : (name : List ℕ) → IsLifeName name → ((i : Irp) → ¬ IsNameWord operand i) → (c : Call) → ¬ IsNamed name (words_of operand) c
+  pub no_life_call : (name : List ℕ) → IsLifeName name → ((i : IrpLife) → ¬ IsNameWord operand i) → (c : Call) → ¬ IsNamed name (words_of operand) c
   no_life_call name life none c h =
       let (i, is, (word, words, named)) = life_named name life c h in
       let P : List ℕ → Type 0 = λ w. IsNameWord w i in
       none i (subst P (sym (alone operand word words)) named)
 
-  named_call : (name : List ℕ) (i : Irp) → IsNameWord operand i → (c : Call) → call_name c ≡ name → named_life c ≡ Some i → IsNamed name (words_of operand) c
-  named_call name i named (Remove j) e f = let same : i ≡ j = cc f in let P : Irp → Type 0 = λ x. IsOne (λ word. IsNameWord word x) (words_of operand) in (sym e, subst P same (operand, word_alone operand i named, named))
-  named_call name i named (Mark j) e f = let same : i ≡ j = cc f in let P : Irp → Type 0 = λ x. IsOne (λ word. IsNameWord word x) (words_of operand) in (sym e, subst P same (operand, word_alone operand i named, named))
-  named_call name i named (Cancel j) e f = let same : i ≡ j = cc f in let P : Irp → Type 0 = λ x. IsOne (λ word. IsNameWord word x) (words_of operand) in (sym e, subst P same (operand, word_alone operand i named, named))
+  named_call : (name : List ℕ) (i : IrpLife) → IsNameWord operand i → (c : Call) → call_name c ≡ name → named_life c ≡ Some i → IsNamed name (words_of operand) c
+  named_call name i named (Remove j) e f = let same : i ≡ j = cc f in let P : IrpLife → Type 0 = λ x. IsOne (λ word. IsNameWord word x) (words_of operand) in (sym e, subst P same (operand, word_alone operand i named, named))
+  named_call name i named (Mark j) e f = let same : i ≡ j = cc f in let P : IrpLife → Type 0 = λ x. IsOne (λ word. IsNameWord word x) (words_of operand) in (sym e, subst P same (operand, word_alone operand i named, named))
+  named_call name i named (Cancel j) e f = let same : i ≡ j = cc f in let P : IrpLife → Type 0 = λ x. IsOne (λ word. IsNameWord word x) (words_of operand) in (sym e, subst P same (operand, word_alone operand i named, named))
   named_call name i named c e f = absurd (cc f)
 
-  pub call_of_life_word : (name : List ℕ) → IsLifeName name → (i : Irp) → IsNameWord operand i → (found : Option Call)
+  pub call_of_life_word : (name : List ℕ) → IsLifeName name → (i : IrpLife) → IsNameWord operand i → (found : Option Call)
       → MatchOption found ((c : Call) → ¬ ((call_name c ≡ name) × (named_life c ≡ Some i))) (λ c. (call_name c ≡ name) × (named_life c ≡ Some i))
       → MatchOption found ((c : Call) → ¬ IsNamed name (words_of operand) c) (IsNamed name (words_of operand))
   call_of_life_word name life i named (Some c) h = named_call name i named c h.0 h.1

@@ -2,8 +2,6 @@
 use Rattle.std.proofs.Common.{◌≡◌, ℕ, ◌<◌, Bool, true, false, cond, not, ◌==◌, List, [], ◌∷◌, length, Option, Some, None, refl, ap, sym, ◌∙◌, subst, arith}
 use Rattle.std.specs.Prelude.{slice_index_or, slice_set}
 use Rattle.std.proofs.lemmas.List.{get_or-set_same, get_or-set_other, length-set}
-use Rattle.std.specs.Option.{option_map}
-use Rattle.std.specs.List.{find}
 use Rattle.irp_core.specs.declared.ids.FileId.{FileId}
 use Rattle.irp_core.specs.declared.ids.IrpId.{IrpId}
 use Rattle.irp_core.specs.declared.status.NtStatus.{NtStatus}
@@ -11,21 +9,22 @@ use Rattle.irp_core.specs.declared.status.TheConstants.NtStatus.{PENDING}
 use Rattle.irp_core.specs.declared.step.Kind.TheVariants.{Take, Out, Done}
 use Rattle.irp_core.specs.declared.step.Kind.TheVariants as step
 use Rattle.irp_core.specs.declared.step.Made.{Made}
-use Rattle.irp_core.specs.declared.step.IrpPlace.{IrpPlace}
-use Rattle.irp_core.specs.declared.step.IrpPlace.TheVariants.{Home, Listed, HeldBy}
-use Rattle.irp_core.specs.declared.step.IrpPlace.TheVariants.{Completed as PlaceCompleted}
+use Rattle.irp_core.specs.declared.standing.IrpPlace.{IrpPlace}
+use Rattle.irp_core.specs.declared.standing.IrpPlace.TheVariants.{Home, Listed, HeldBy}
+use Rattle.irp_core.specs.declared.standing.IrpPlace.TheVariants.{Completed as PlaceCompleted}
 use Rattle.irp_core.specs.Completion.{IsPlace}
 use Rattle.csq_replay.proofs.OneAnswer.{one_place}
-use Rattle.irp_core.specs.Steps.{Irp, number, same_irp, same_pass}
+use Rattle.irp_core.specs.Steps.{number, same_irp, same_pass}
+use Rattle.irp_core.specs.declared.ids.IrpLife.{IrpLife}
 use Rattle.irp_core.specs.Words.{bit, armed, flagged}
 use Rattle.irp_core.specs.Owners.{owes, holds, listed, dones}
 use Rattle.irp_core.specs.Lives.{present}
 use Rattle.irp_core.specs.Runs.{Size, IsRun}
 use Rattle.irp_core.specs.MachineState.{MachineState, Agrees, size_of}
 use Rattle.irp_core.proofs.Names.{same_irp-refl, same_irp-eq, same_irp-ne, same_pass-refl, same_pass-eq}
+use Rattle.csq_words.specs.Plays.{status_recorded}
 use Rattle.csq_list.specs.Searches.{is_listed}
 use Rattle.csq_list.specs.Listing.{Listing, with_closed, without_irp}
-use Rattle.csq_words.specs.declared.views.Completion.{Completion}
 use Rattle.csq_words.specs.declared.views.Event.TheVariants as event
 use Rattle.csq_words.specs.Queue.{Limits, after_event, has_entry, has_marked, has_unmarked}
 use Rattle.csq_words.proofs.Named.{id_eq}
@@ -36,7 +35,7 @@ use Rattle.csq_replay.specs.declared.script.call.Refusal.TheVariants.{UnknownIrp
 use Rattle.csq_replay.specs.declared.script.call.Reply.TheVariants.{Claimed, Unclaimed, Closed, Refused}
 use Rattle.csq_replay.specs.declared.script.call.Reply.TheVariants as reply
 use Rattle.csq_replay.specs.Calls.{Script, script_pass, script_size, present_of, IsNow, next_step, doing, completing, after_mark, status_reply, irp_of, cancelled_life, file_of, Calls}
-use Rattle.csq_replay.specs.Calls.Calls.{has_no_claim, completes, holds_none, refuses_pending, closes, tells_flag, tells_status, knows_no_irp, knows_no_file, claims_none, is_stale}
+use Rattle.csq_replay.specs.Calls.Calls.{has_no_claim, holds_none, refuses_pending, closes, tells_flag, tells_status, knows_no_irp, knows_no_file, claims_none, is_stale}
 use Rattle.csq_replay.specs.Calls.Calls.{claims as claims_it}
 use Rattle.csq_replay.specs.Drivers.{Keeping, Keeps, IsOfRun}
 use Rattle.csq_replay.specs.Replies.{mark_reply}
@@ -53,10 +52,10 @@ module _ (l : Limits) (kept : Keeping) (s : Script) (k : Keeps l kept s) where
   unknown_keeps c n names none = (s, knows_no_irp c n names (omega (arith, none, irps_are)), k)
 
   -- a life that isn't the present one
-  pub stale_keeps : (c : Call) (i : Irp) → cancelled_life c ≡ Some i → number i < (size_of kept.machine).irps → (x : Irp) → x ≡ present_of s i.irp → same_irp x i ≡ false
+  pub stale_keeps : (c : Call) (i : IrpLife) → cancelled_life c ≡ Some i → number i < (size_of kept.machine).irps → (x : IrpLife) → x ≡ present_of s i.irp → same_irp x i ≡ false
       → (t : Script) × Calls l s c (Refused (Stale x.life)) t × Keeps l kept t
   stale_keeps c i names known x is other =
-      let P : Irp → Type 0 = λ y. Calls l s c (Refused (Stale y.life)) s in
+      let P : IrpLife → Type 0 = λ y. Calls l s c (Refused (Stale y.life)) s in
       (s, subst P (sym is) (is_stale c i names (omega (arith, known, irps_are)) (λ now. same_irp-ne x i other (is ∙ now))), k)
 
   pub unknown_file_keeps : (c : Call) (f : FileId) → file_of c ≡ Some f → (f.0 < kept.listing.files → ⊥) → (new : Listing) → new ≡ kept.listing
@@ -122,21 +121,21 @@ module _ (l : Limits) (kept : Keeping) (s : Script) (k : Keeps l kept s) where
     where
       told : (j : IrpId) → j.0 < l.irps → (b : Bool) → same_irp (present_of s n) (present_of s j) ≡ b
           → slice_index_or (slice_set kept.statuses n.0 (Some status)) j.0 None
-          ≡ option_map (λ (c : Completion). c.status) (cond (same_irp (present_of s n) (present_of s j)) (Some (record { irp = present_of s n; status = status })) (find (λ (c : Completion). same_irp c.irp (present_of s j)) s.completed))
+          ≡ cond (same_irp (present_of s n) (present_of s j)) (Some status) (status_recorded (present_of s j) s.completed)
       told j in_range true e =
           rw (e, number_of_now n j e) (get_or-set_same kept.statuses n.0 (Some status) None (omega (arith, known, k.statuses_size)))
       told j in_range false e =
           rw e (get_or-set_other kept.statuses n.0 j.0 (Some status) None (other_number n j e) ∙ k.statuses j in_range)
 
-      untold : (i : Irp) (b : Bool) → same_irp (present_of s n) i ≡ b → dones (next_step s.run (Done (present_of s n))) i ≡ []
-          → option_map (λ (c : Completion). c.status) (cond (same_irp (present_of s n) i) (Some (record { irp = present_of s n; status = status })) (find (λ (c : Completion). same_irp c.irp i) s.completed)) ≡ None
+      untold : (i : IrpLife) (b : Bool) → same_irp (present_of s n) i ≡ b → dones (next_step s.run (Done (present_of s n))) i ≡ []
+          → cond (same_irp (present_of s n) i) (Some status) (status_recorded i s.completed) ≡ None
       untold i true e none = absurd (cc (rw e at none))
       untold i false e none = rw e (k.told i (rw e at none))
 
-  flagged_queue : (i : Irp) → IsOfRun l.first (next_step s.run (step.Flag i)) (after_event s.queue (event.FlagSeen i))
+  flagged_queue : (i : IrpLife) → IsOfRun l.first (next_step s.run (step.Flag i)) (after_event s.queue (event.FlagSeen i))
   flagged_queue i = queue_flag s.run s.queue k.queue i
 
-  unclaimed_keeps : (i : Irp) → number i < (size_of kept.machine).irps → IsNow s i → armed s.run i ≡ false → (machine : MachineState)
+  unclaimed_keeps : (i : IrpLife) → number i < (size_of kept.machine).irps → IsNow s i → armed s.run i ≡ false → (machine : MachineState)
       → Agrees machine (next_step (next_step s.run (step.Flag i)) (Take i)) → size_of machine ≡ size_of kept.machine
       → (t : Script) × Calls l s (Mark i) Unclaimed t × Keeps l (record kept { machine = machine }) t
   unclaimed_keeps i known now none machine a same = (
@@ -155,7 +154,7 @@ module _ (l : Limits) (kept : Keeping) (s : Script) (k : Keeps l kept s) where
     },
   )
 
-  claimed_keeps : (i : Irp) → number i < (size_of kept.machine).irps → IsNow s i → armed s.run i ≡ true → (machine : MachineState)
+  claimed_keeps : (i : IrpLife) → number i < (size_of kept.machine).irps → IsNow s i → armed s.run i ≡ true → (machine : MachineState)
       → Agrees machine (next_step (next_step s.run (step.Flag i)) (Take i)) → size_of machine ≡ size_of kept.machine
       → (t : Script) × Calls l s (Mark i) Claimed t × Keeps l (record kept { machine = machine }) t
   claimed_keeps i known now set machine a same =
@@ -178,7 +177,7 @@ module _ (l : Limits) (kept : Keeping) (s : Script) (k : Keeps l kept s) where
       )
 
   -- a mark answers whether its Take found the routine
-  pub mark_keeps : (i : Irp) → number i < (size_of kept.machine).irps → IsNow s i → (v : ℕ) → v ≡ bit (armed s.run i) → (machine : MachineState)
+  pub mark_keeps : (i : IrpLife) → number i < (size_of kept.machine).irps → IsNow s i → (v : ℕ) → v ≡ bit (armed s.run i) → (machine : MachineState)
       → Agrees machine (next_step (next_step s.run (step.Flag i)) (Take i)) → size_of machine ≡ size_of kept.machine
       → (t : Script) × Calls l s (Mark i) (mark_reply (not (v == 0))) t × Keeps l (record kept { machine = machine }) t
   mark_keeps i known now v found machine a same = go (armed s.run i) refl
@@ -188,7 +187,7 @@ module _ (l : Limits) (kept : Keeping) (s : Script) (k : Keeps l kept s) where
       go false none = rw (found ∙ ap bit none) (unclaimed_keeps i known now none machine a same)
 
   -- after a mark with a claim, the pass owes the IRP
-  pub claimed_owes : (i : Irp) (t : Script) → Calls l s (Mark i) Claimed t → (number i < l.irps) × (owes t.run script_pass (present_of t i.irp) ≡ true)
+  pub claimed_owes : (i : IrpLife) (t : Script) → Calls l s (Mark i) Claimed t → (number i < l.irps) × (owes t.run script_pass (present_of t i.irp) ≡ true)
   claimed_owes i t (claims_it j known now found may) =
       let mine : owes t.run script_pass i ≡ true = rw (same_irp-refl, same_pass-refl, found) refl in (known, ap (owes t.run script_pass) now ∙ mine)
 
@@ -208,7 +207,7 @@ module _ (l : Limits) (kept : Keeping) (s : Script) (k : Keeps l kept s) where
     statuses_size = k.statuses_size;
   }
 
-  pub out_may_come : (i : Irp) → owes s.run script_pass i ≡ true → has_marked s.queue.entries i ≡ true
+  pub out_may_come : (i : IrpLife) → owes s.run script_pass i ≡ true → has_marked s.queue.entries i ≡ true
   out_may_come i owed =
       let h = owed_listed (size_of kept.machine) s.run k.agrees.run i owed in
       (marked_is s.run s.queue.entries k.queue.marks i).1 ∙ rw (k.queue.entries i ∙ h.0, h.1) refl
@@ -248,7 +247,7 @@ abbrev pub held_there : IrpPlace → Bool
 held_there (HeldBy q) = same_pass q script_pass
 held_there _ = false
 
-pub place_holds : (size : Size) (E : List Made) → IsRun size E → (i : Irp) (place : IrpPlace) → IsPlace E i place → held_there place ≡ holds E script_pass i
+pub place_holds : (size : Size) (E : List Made) → IsRun size E → (i : IrpLife) (place : IrpPlace) → IsPlace E i place → held_there place ≡ holds E script_pass i
 place_holds size E r i place is = go (holds E script_pass i) refl
   where
     not_there : (p : IrpPlace) → IsPlace E i p → (b : Bool) → held_there p ≡ b → holds E script_pass i ≡ false → b ≡ false

@@ -9,9 +9,10 @@ use Rattle.irp_core.specs.declared.status.NtStatus.{NtStatus}
 use Rattle.irp_core.specs.declared.status.TheConstants.NtStatus.{PENDING, CANCELLED}
 use Rattle.irp_core.specs.declared.step.Kind.TheVariants.{Disarm}
 use Rattle.irp_core.specs.declared.step.Made.{Made}
-use Rattle.irp_core.specs.Steps.{Irp, life_of, same_irp}
+use Rattle.irp_core.specs.Steps.{life_of, same_irp}
+use Rattle.irp_core.specs.declared.ids.IrpLife.{IrpLife}
 use Rattle.irp_core.specs.Words.{armed}
-use Rattle.irp_core.specs.Owners.{owes, holds}
+use Rattle.irp_core.specs.Owners.{holds}
 use Rattle.irp_core.specs.Runs.{Size}
 use Rattle.irp_core.proofs.Names.{same_irp-refl, same_irp-eq, same_pass-refl}
 use Rattle.csq_list.specs.declared.entry.Peek.{Peek}
@@ -36,7 +37,7 @@ use Rattle.csq_replay.proofs.Removing.{present, entry_now, listed_is, listed_kno
 use Rattle.csq_replay.proofs.Queueing.{marks_stay, taken_routine}
 
 -- a mark that is refused refuses the cancel
-pub cancel_refused : (l : Limits) (s t : Script) (i : Irp) (refusal : Refusal) → Calls l s (Mark i) (Refused refusal) t → Does l s (Cancel i) (Refused refusal) t
+pub cancel_refused : (l : Limits) (s t : Script) (i : IrpLife) (refusal : Refusal) → Calls l s (Mark i) (Refused refusal) t → Does l s (Cancel i) (Refused refusal) t
 cancel_refused l s t i refusal (is_stale c k names known stale) = calls (Cancel i) (Refused refusal) t (is_stale (Cancel i) k names known stale)
 cancel_refused l s t i refusal (knows_no_irp c k names le) = calls (Cancel i) (Refused refusal) t (knows_no_irp (Cancel i) k names le)
 cancel_refused l s t i refusal (knows_no_file c f names le) = absurd (cc names)
@@ -48,7 +49,7 @@ cleanup_refused l s t f refusal (knows_no_irp c j names le) = absurd (cc names)
 cleanup_refused l s t f refusal (knows_no_file c g names le) = calls (Cleanup f) (Refused refusal) t (knows_no_file (Cleanup f) g names le)
 
 -- what a removal disarms last, it holds
-pub removal_holds : (k : Peek) (i : Irp) (es : List Queued) (E : List Made) → AreMarked E es → first_unmarked k es ≡ Some i → holds (after_steps (removal_steps k es) E) script_pass i ≡ true
+pub removal_holds : (k : Peek) (i : IrpLife) (es : List Queued) (E : List Made) → AreMarked E es → first_unmarked k es ≡ Some i → holds (after_steps (removal_steps k es) E) script_pass i ≡ true
 removal_holds k i [] E h f = absurd cc
 removal_holds k i (e ∷ es) E h f = go (removal_holds k i es) (matches k e.file) refl e.marked refl
   where
@@ -69,7 +70,7 @@ removal_holds k i (e ∷ es) E h f = go (removal_holds k i es) (matches k e.file
         rw (match, marked) (rw here (rw (same, same_irp-refl, same_pass-refl) refl))
 
 -- the IRP of a match is listed
-pub first_listed : (k : Peek) (i : Irp) (es : List Queued) → first_unmarked k es ≡ Some i → has_entry es i ≡ true
+pub first_listed : (k : Peek) (i : IrpLife) (es : List Queued) → first_unmarked k es ≡ Some i → has_entry es i ≡ true
 first_listed k i [] f = absurd cc
 first_listed k i (e ∷ es) f = go (not e.marked && matches k e.file) refl (first_listed k i es)
   where
@@ -81,7 +82,7 @@ first_listed k i (e ∷ es) f = go (not e.marked && matches k e.file) refl (firs
     go false match rest = ap (λ b. same_irp e.irp i || b) (rest (rw match at f)) ∙ or-true (same_irp e.irp i)
 
 -- one entry leaves
-pub length_without : (lives : IrpId → ℕ) (i : Irp) (es : List Queued) → ArePresent lives es → is_distinct (map plain es) ≡ true → has_entry es i ≡ true → length (without i es) + 1 ≡ length es
+pub length_without : (lives : IrpId → ℕ) (i : IrpLife) (es : List Queued) → ArePresent lives es → is_distinct (map plain es) ≡ true → has_entry es i ≡ true → length (without i es) + 1 ≡ length es
 length_without lives i [] present d h = absurd cc
 length_without lives i (e ∷ es) present d h = go (same_irp e.irp i) refl h (length_without lives i es present.1 (and_parts _ _ d).1)
   where
@@ -94,7 +95,7 @@ length_without lives i (e ∷ es) present d h = go (same_irp e.irp i) refl h (le
 
 -- what a removal of the next match tells
 pub next_removed : (l : Limits) (s t : Script) (k : Peek) (n : IrpId) (r : Reply) → r ≡ Removed n → Calls l s (Next k) r t
-    → (j : Irp) × (j.irp ≡ n) × (first_unmarked k s.queue.entries ≡ Some j) × (t.run ≡ after_steps (removal_steps k s.queue.entries) s.run) × (t.queue ≡ after_event s.queue (event.RemoveNext k (Some j)))
+    → (j : IrpLife) × (j.irp ≡ n) × (first_unmarked k s.queue.entries ≡ Some j) × (t.run ≡ after_steps (removal_steps k s.queue.entries) s.run) × (t.queue ≡ after_event s.queue (event.RemoveNext k (Some j)))
 next_removed l s t k n r is (removes_next k' (Some j) may) = let same : j.irp ≡ n = cc is in (j, same, sym may, refl, refl)
 next_removed l s t k n r is (removes_next k' None may) = absurd (cc is)
 next_removed l s t k n r is (is_stale c j names known stale) = absurd (cc names)
@@ -119,7 +120,7 @@ entries_length l kept s k = ap (λ (x : Listing). length x.entries) k.listing �
 
 module _ (l : Limits) (f : FileId) (s : Script) (kept : Keeping) (count : ℕ) (h : CleansSoFar l f s kept count) where
   module _ (sound : IsSound kept.listing) (i : IrpId) (t : Script) (next : Calls l h.now (Next (File f)) (Removed i) t) where
-    got : (j : Irp) × (j.irp ≡ i) × (first_unmarked (File f) h.now.queue.entries ≡ Some j) × (t.run ≡ after_steps (removal_steps (File f) h.now.queue.entries) h.now.run)
+    got : (j : IrpLife) × (j.irp ≡ i) × (first_unmarked (File f) h.now.queue.entries ≡ Some j) × (t.run ≡ after_steps (removal_steps (File f) h.now.queue.entries) h.now.run)
         × (t.queue ≡ after_event h.now.queue (event.RemoveNext (File f) (Some j)))
     got = next_removed l h.now t (File f) i (Removed i) refl next
 

@@ -1,18 +1,15 @@
 -- The closing lines.
-use Rattle.std.proofs.Common.{◌≡◌, ℕ, ◌+◌, Bool, true, false, cond, List, [], ◌∷◌, ◌++◌, ap, append_assoc, append-nil, ◌∙◌, sym, subst, add-one, refl, codes, decimal}
+use Rattle.std.proofs.Common.{◌≡◌, ℕ, ◌+◌, Bool, true, false, cond, List, [], ◌∷◌, ◌++◌, ap, append_assoc, append-nil, ◌∙◌, sym, subst, add-one, refl, codes}
 use mir.Val.{bool_byte}
 use Rattle.irp_core.specs.declared.step.Made.{Made}
-use Rattle.irp_core.specs.declared.step.IrpPlace.{IrpPlace}
-use Rattle.irp_core.specs.Steps.{Irp, life_of}
+use Rattle.irp_core.specs.declared.standing.IrpPlace.{IrpPlace}
+use Rattle.irp_core.specs.Steps.{life_of}
+use Rattle.irp_core.specs.declared.ids.IrpLife.{IrpLife}
 use Rattle.irp_core.specs.Words.{bit, flagged}
 use Rattle.irp_core.specs.Completion.{IsPlace}
 use Rattle.irp_core.specs.Lives.{present, present_life}
 use Rattle.irp_core.proofs.Names.{named}
-use Rattle.irp_core.specs.Texts.{name_text, place_text}
-use Rattle.irp_core.specs.declared.step.Step.{Step}
-use Rattle.irp_core.specs.declared.step.StepRefused.{StepRefused}
-use Rattle.irp_core.specs.Runs.{Size, IsRun}
-use Rattle.irp_core.specs.Refusals.{IsFirstCause}
+use Rattle.irp_core.specs.Runs.{Size}
 use Rattle.csq_replay.specs.declared.schedule.closing.IrpLine.{IrpLine}
 use Rattle.csq_replay.specs.declared.schedule.outcome.Outcome.{Outcome}
 use Rattle.csq_replay.specs.Outcomes.{ComesTo}
@@ -31,12 +28,12 @@ byte_is_bit true = refl
 byte_is_bit false = refl
 
 -- an IRP is told of so, where its present life, its place and its flag are told
-pub irp_told : (first : ℕ) (E : List Made) (i : Irp) → life_of i ≡ present_life first E i.irp → (place : IrpPlace) → IsPlace E (present first E i.irp) place
+pub irp_told : (first : ℕ) (E : List Made) (i : IrpLife) → life_of i ≡ present_life first E i.irp → (place : IrpPlace) → IsPlace E (present first E i.irp) place
     → (flag : Bool) → flag ≡ flagged E (present first E i.irp) → (told : List IrpLine) → told ≡ unless_silent (record { name = i; place = place; cancelled = flag })
     → IsToldOf E (present first E i.irp) told
 irp_told first E i now place is flag set told e =
     let same : i ≡ present first E i.irp = named i (present first E i.irp) refl now in
-    let line : Irp → Bool → IrpLine = λ x f. record { name = x; place = place; cancelled = f } in
+    let line : IrpLife → Bool → IrpLine = λ x f. record { name = x; place = place; cancelled = f } in
     (place, is, e ∙ ap (λ x. unless_silent (line x flag)) same ∙ ap (λ f. unless_silent (line (present first E i.irp) f)) set)
 
 pub told_none : (line : IrpLine) → is_silent line ≡ true → [] ≡ unless_silent line

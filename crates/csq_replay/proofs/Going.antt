@@ -1,20 +1,21 @@
 -- The run of a script's one pass goes on.
-use Rattle.std.proofs.Common.{◌≡◌, ◌≢◌, ℕ, ◌<◌, ◌≤◌, Bool, true, false, cond, List, [], ◌∷◌, Option, refl, ap, sym, ◌∙◌, subst, arith, lit≤}
+use Rattle.std.proofs.Common.{◌≡◌, ◌≢◌, ℕ, ◌<◌, ◌≤◌, Bool, true, false, cond, List, [], ◌∷◌, refl, ap, sym, ◌∙◌, subst, arith, lit≤}
 use Rattle.irp_core.specs.declared.ids.IrpId.{IrpId}
 use Rattle.irp_core.specs.declared.ids.PassId.{PassId}
 use Rattle.irp_core.specs.declared.step.Kind.{Kind}
 use Rattle.irp_core.specs.declared.step.Kind.TheVariants.{Arm, Test, Disarm, End, Flag, Take, Out, Done, Renew}
 use Rattle.irp_core.specs.declared.step.Made.{Made}
-use Rattle.irp_core.specs.declared.step.Inside.{Inside}
-use Rattle.irp_core.specs.declared.step.Inside.TheVariants.{Nothing, Armed, FlagSeen, Cancelling}
-use Rattle.irp_core.specs.Steps.{Irp, number, life_of, same_irp, same_pass, Each}
+use Rattle.irp_core.specs.declared.inside.Inside.{Inside}
+use Rattle.irp_core.specs.declared.inside.Inside.TheVariants.{Nothing, Armed, FlagSeen, Cancelling}
+use Rattle.irp_core.specs.Steps.{number, life_of, same_irp, same_pass, Each}
+use Rattle.irp_core.specs.declared.ids.IrpLife.{IrpLife}
 use Rattle.irp_core.specs.Words.{was_armed, found_by}
 use Rattle.irp_core.specs.Inside.{inside, inside_after, follows, has_lock}
 use Rattle.irp_core.specs.Owners.{owes, holds, listed, dones}
 use Rattle.irp_core.specs.Lives.{last_life, present_life, present, IsPresent}
 use Rattle.irp_core.specs.Runs.{Size, IsKnown, IsRun}
 use Rattle.irp_core.specs.MachineState.{MachineState, Agrees, size_of}
-use Rattle.irp_core.proofs.Names.{same_irp-refl, same_irp-eq, same_pass-refl, same_pass-eq}
+use Rattle.irp_core.proofs.Names.{same_irp-eq, same_pass-refl, same_pass-eq}
 use Rattle.irp_core.proofs.Next.{IsFreeFor, grows_by_arm, grows_by_test, grows_by_insert_disarm, grows_by_removal_disarm, grows_by_end, grows_by_flag, grows_by_take, grows_by_out, grows_by_done, grows_by_renew}
 use Rattle.csq_words.specs.Queue.{Limits}
 use Rattle.csq_replay.specs.Calls.{Script, script_pass, script_size, present_of, IsNow, next_step}
@@ -51,18 +52,18 @@ module _ (l : Limits) (kept : Keeping) (s : Script) (k : Keeps l kept s) where
 
   -- the machine's present life is the queue's
   pub present_is : (n : IrpId) → present (size_of kept.machine).first s.run n ≡ present_of s n
-  present_is n = let at_life : ℕ → Irp = λ g. record { irp = n; life = record { 0 = g } } in ap at_life (sym (now_present n))
+  present_is n = let at_life : ℕ → IrpLife = λ g. record { irp = n; life = record { 0 = g } } in ap at_life (sym (now_present n))
 
   -- a name that the machine says is present
-  pub now_named : (x i : Irp) → x ≡ present (size_of kept.machine).first s.run i.irp → same_irp x i ≡ true → IsNow s i
+  pub now_named : (x i : IrpLife) → x ≡ present (size_of kept.machine).first s.run i.irp → same_irp x i ≡ true → IsNow s i
   now_named x i is same = sym (is ∙ present_is i.irp) ∙ same_irp-eq x i same
 
-  pub name_present : (i : Irp) → IsNow s i → IsPresent (size_of kept.machine).first s.run i
+  pub name_present : (i : IrpLife) → IsNow s i → IsPresent (size_of kept.machine).first s.run i
   name_present i now = sym (ap life_of now) ∙ now_present i.irp
 
 -- of one name, and of the same name written another way
-pub made_as : (new : MachineState) (v : ℕ) (E : List Made) (K : Irp → Kind) (x i : Irp) → x ≡ i → Agrees new (next_step E (K x)) × (v ≡ found_by E (K x)) → Agrees new (next_step E (K i)) × (v ≡ found_by E (K i))
-made_as new v E K x i e h = let P : Irp → Type 0 = λ y. Agrees new (next_step E (K y)) × (v ≡ found_by E (K y)) in subst P e h
+pub made_as : (new : MachineState) (v : ℕ) (E : List Made) (K : IrpLife → Kind) (x i : IrpLife) → x ≡ i → Agrees new (next_step E (K x)) × (v ≡ found_by E (K x)) → Agrees new (next_step E (K i)) × (v ≡ found_by E (K i))
+made_as new v E K x i e h = let P : IrpLife → Type 0 = λ y. Agrees new (next_step E (K y)) × (v ≡ found_by E (K y)) in subst P e h
 
 -- a step may come
 abbrev pub May : MachineState → Kind → Type 0
@@ -82,38 +83,38 @@ module _ (state : MachineState) (E : List Made) (x : Inside) (g : Goes state E x
     at = rw (same_pass-refl, g.at) refl;
   }
 
-  pub may_arm : (i : Irp) → x ≡ Nothing → number i < (size_of state).irps → was_armed E i ≡ false → IsPresent (size_of state).first E i → May state (Arm i)
+  pub may_arm : (i : IrpLife) → x ≡ Nothing → number i < (size_of state).irps → was_armed E i ≡ false → IsPresent (size_of state).first E i → May state (Arm i)
   may_arm i at known home now = (E, g.agrees, grows_by_arm (size_of state) E g.agrees.run script_pass (lit≤ tt) to i known (g.at ∙ at) free home now)
 
-  pub may_test : (i : Irp) → x ≡ Armed i → number i < (size_of state).irps → May state (Test i)
+  pub may_test : (i : IrpLife) → x ≡ Armed i → number i < (size_of state).irps → May state (Test i)
   may_test i at known = (E, g.agrees, grows_by_test (size_of state) E g.agrees.run script_pass (lit≤ tt) to i known (g.at ∙ at))
 
-  pub may_disarm : (i : Irp) → x ≡ FlagSeen i → number i < (size_of state).irps → May state (Disarm i)
+  pub may_disarm : (i : IrpLife) → x ≡ FlagSeen i → number i < (size_of state).irps → May state (Disarm i)
   may_disarm i at known = (E, g.agrees, grows_by_insert_disarm (size_of state) E g.agrees.run script_pass (lit≤ tt) to i known (g.at ∙ at))
 
-  pub may_remove : (i : Irp) → follows x End ≡ true → number i < (size_of state).irps → listed E i ≡ true → May state (Disarm i)
+  pub may_remove : (i : IrpLife) → follows x End ≡ true → number i < (size_of state).irps → listed E i ≡ true → May state (Disarm i)
   may_remove i at known there = (E, g.agrees, grows_by_removal_disarm (size_of state) E g.agrees.run script_pass (lit≤ tt) to i known (ap (λ y. follows y End) g.at ∙ at) free there)
 
   pub may_end : follows x End ≡ true → May state End
   may_end at = (E, g.agrees, grows_by_end (size_of state) E g.agrees.run script_pass (lit≤ tt) to (ap (λ y. follows y End) g.at ∙ at) free)
 
-  pub may_flag : (i : Irp) → x ≡ Nothing → number i < (size_of state).irps → IsPresent (size_of state).first E i → May state (Flag i)
+  pub may_flag : (i : IrpLife) → x ≡ Nothing → number i < (size_of state).irps → IsPresent (size_of state).first E i → May state (Flag i)
   may_flag i at known now = (E, g.agrees, grows_by_flag (size_of state) E g.agrees.run script_pass (lit≤ tt) to i known (g.at ∙ at) now)
 
-  pub may_take : (i : Irp) → x ≡ Cancelling i → number i < (size_of state).irps → May state (Take i)
+  pub may_take : (i : IrpLife) → x ≡ Cancelling i → number i < (size_of state).irps → May state (Take i)
   may_take i at known = (E, g.agrees, grows_by_take (size_of state) E g.agrees.run script_pass (lit≤ tt) to i known (g.at ∙ at))
 
-  pub may_out : (i : Irp) → x ≡ Nothing → number i < (size_of state).irps → owes E script_pass i ≡ true → May state (Out i)
+  pub may_out : (i : IrpLife) → x ≡ Nothing → number i < (size_of state).irps → owes E script_pass i ≡ true → May state (Out i)
   may_out i at known owed = (E, g.agrees, grows_by_out (size_of state) E g.agrees.run script_pass (lit≤ tt) to i known (g.at ∙ at) free owed)
 
-  pub may_done : (i : Irp) → x ≡ Nothing → number i < (size_of state).irps → holds E script_pass i ≡ true → May state (Done i)
+  pub may_done : (i : IrpLife) → x ≡ Nothing → number i < (size_of state).irps → holds E script_pass i ≡ true → May state (Done i)
   may_done i at known held = (E, g.agrees, grows_by_done (size_of state) E g.agrees.run script_pass (lit≤ tt) to i known (g.at ∙ at) held)
 
-  pub may_renew : (i : Irp) → x ≡ Nothing → number i < (size_of state).irps → IsPresent (size_of state).first E i → dones E i ≢ [] → life_of i < last_life → May state (Renew i)
+  pub may_renew : (i : IrpLife) → x ≡ Nothing → number i < (size_of state).irps → IsPresent (size_of state).first E i → dones E i ≢ [] → life_of i < last_life → May state (Renew i)
   may_renew i at known now over room = (E, g.agrees, grows_by_renew (size_of state) E g.agrees.run script_pass (lit≤ tt) to i known (g.at ∙ at) free now over room)
 
-pub done_as : (new : MachineState) (E : List Made) (x i : Irp) → x ≡ i → Agrees new (next_step E (Done x)) → Agrees new (next_step E (Done i))
-done_as new E x i e h = let P : Irp → Type 0 = λ y. Agrees new (next_step E (Done y)) in subst P e h
+pub done_as : (new : MachineState) (E : List Made) (x i : IrpLife) → x ≡ i → Agrees new (next_step E (Done x)) → Agrees new (next_step E (Done i))
+done_as new E x i e h = let P : IrpLife → Type 0 = λ y. Agrees new (next_step E (Done y)) in subst P e h
 
-pub may_as : (state : MachineState) (K : Irp → Kind) (x i : Irp) → x ≡ i → May state (K i) → May state (K x)
-may_as state K x i e h = let P : Irp → Type 0 = λ y. May state (K y) in subst P (sym e) h
+pub may_as : (state : MachineState) (K : IrpLife → Kind) (x i : IrpLife) → x ≡ i → May state (K i) → May state (K x)
+may_as state K x i e h = let P : IrpLife → Type 0 = λ y. May state (K y) in subst P (sym e) h

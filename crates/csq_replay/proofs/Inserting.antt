@@ -1,12 +1,13 @@
 -- Inserts: what the driver keeps in the end.
-use Rattle.std.proofs.Common.{nat_le, ◌≡◌, ℕ, ◌<◌, Bool, true, false, cond, ◌||◌, List, [], ◌∷◌, Option, Some, None, refl, ap, sym, ◌∙◌, subst, arith}
+use Rattle.std.proofs.Common.{◌≡◌, ℕ, ◌<◌, Bool, true, false, List, [], ◌∷◌, Option, Some, None, refl, ap, sym, ◌∙◌, subst, arith}
 use borrow.Author.Tests.{leb-false}
 use Rattle.irp_core.specs.declared.ids.FileId.{FileId}
 use Rattle.irp_core.specs.declared.ids.IrpId.{IrpId}
 use Rattle.irp_core.specs.declared.step.Kind.TheVariants.{Arm, Test, Disarm}
 use Rattle.irp_core.specs.declared.step.Made.{Made}
-use Rattle.irp_core.specs.declared.step.Inside.TheVariants.{Nothing, Armed, FlagSeen}
-use Rattle.irp_core.specs.Steps.{Irp, number, same_irp}
+use Rattle.irp_core.specs.declared.inside.Inside.TheVariants.{Nothing, Armed, FlagSeen}
+use Rattle.irp_core.specs.Steps.{number, same_irp}
+use Rattle.irp_core.specs.declared.ids.IrpLife.{IrpLife}
 use Rattle.irp_core.specs.Words.{bit, flagged, was_armed, found_by}
 use Rattle.irp_core.specs.Inside.{inside, inside_after}
 use Rattle.irp_core.specs.Runs.{Size}
@@ -14,15 +15,14 @@ use Rattle.irp_core.specs.MachineState.{MachineState, Agrees, size_of}
 use Rattle.irp_core.proofs.Names.{same_irp-refl}
 use Rattle.csq_list.specs.declared.entry.Place.{Place}
 use Rattle.csq_list.specs.declared.refusals.InsertStatus.{InsertStatus}
-use Rattle.csq_list.specs.declared.refusals.InsertStatus.TheVariants.{UnknownIrp, UnknownFile, NotHome, FileClosed, FileFull, Full}
-use Rattle.csq_list.specs.Searches.{is_of, is_listed}
+use Rattle.csq_list.specs.declared.refusals.InsertStatus.TheVariants.{UnknownIrp, NotHome}
 use Rattle.csq_list.specs.Causes.{is_cause, first_cause}
 use Rattle.csq_list.specs.Listing.{Listing, put_at, inserted, without_irp}
-use Rattle.csq_list.proofs.Keeping.{filter-put_at, list_any-put_at}
-use Rattle.csq_list.proofs.Finding.{same_number-refl}
+use Rattle.csq_list.proofs.Causes.{no_cause}
+use Rattle.csq_list.proofs.Keeping.{filter-put_at}
 use Rattle.csq_words.specs.declared.views.InsertReply.TheVariants as reply
 use Rattle.csq_words.specs.declared.views.Event.TheVariants as event
-use Rattle.csq_words.specs.Queue.{Queued, QueueState, Limits, listing_of, refusal, reply_to_insert, has_irp, without, after_event, new_entry}
+use Rattle.csq_words.specs.Queue.{Queued, QueueState, Limits, plain_listing, refusal, reply_to_insert, has_irp, without, after_event, new_entry}
 use Rattle.csq_words.proofs.Listings.{listing-taken_back, listing-inserted}
 use Rattle.csq_replay.specs.declared.script.call.Call.TheVariants.{Insert}
 use Rattle.csq_replay.specs.declared.script.call.Reply.TheVariants.{Pending, InsertRefused}
@@ -33,13 +33,6 @@ use Rattle.csq_replay.proofs.Going.{Goes, May, starts, run_for, now_present, wen
 use Rattle.csq_replay.proofs.Queueing.{queue_arm, queue_test, queue_hit, unlisted, sound_lives, found_then}
 use Rattle.csq_replay.proofs.Removing.{keeps_run}
 
--- no cause holds of what isn't refused: its number is known, and it isn't used
-pub not_refused : {X : Type 0} (a b c : Bool) (x y z : X) (r : Option X) → None ≡ cond a (Some x) (cond b (Some y) (cond c (Some z) r)) → (a ≡ false) × (c ≡ false)
-not_refused true b c x y z r h = absurd cc
-not_refused false true c x y z r h = absurd cc
-not_refused false false true x y z r h = absurd cc
-not_refused false false false x y z r h = (refl, refl)
-
 zero_is : (b : Bool) (v : ℕ) → v ≡ bit b → v ≡ 0 → b ≡ false
 zero_is true v is e = absurd (omega arith)
 zero_is false v is e = refl
@@ -49,7 +42,7 @@ one_is true v is e = refl
 one_is false v is e = absurd (e is)
 
 module _ (l : Limits) (kept : Keeping) (s : Script) (k : Keeps l kept s) (n : IrpId) (f : FileId) (place : Place) where
-  abbrev pub i : Irp
+  abbrev pub i : IrpLife
   i = present_of s n
 
   replies : (o : Option InsertStatus) → o ≡ first_cause kept.listing n f → (b : Bool) → flagged s.run i ≡ b → reply_to_insert o b ≡ reply_to_insert (refusal l s.queue n f) (has_irp s.queue.flags i)
@@ -63,18 +56,14 @@ module _ (l : Limits) (kept : Keeping) (s : Script) (k : Keeps l kept s) (n : Ir
       (s, refuses_insert n f place cause (replies (Some cause) is (flagged s.run i) refl), subst P (sym same) k)
 
   module _ (accepted : None ≡ first_cause kept.listing n f) where
-    causes : InsertStatus → Bool
-    causes cause = is_cause kept.listing n f cause
-
-    tests : (nat_le kept.listing.irps n.0 ≡ false) × (kept.listing.used n ≡ false)
-    unfolding causes
-    tests = not_refused (causes UnknownIrp) (causes UnknownFile) (causes NotHome) UnknownIrp UnknownFile NotHome (cond (causes FileClosed) (Some FileClosed) (cond (causes FileFull) (Some FileFull) (cond (causes Full) (Some Full) None))) accepted
+    met : (cause : InsertStatus) → is_cause kept.listing n f cause ≡ false
+    met = no_cause kept.listing n f (sym accepted)
 
     pub known : number i < (size_of kept.machine).irps
-    known = omega (arith, leb-false kept.listing.irps n.0 tests.0, ap (λ (x : Listing). x.irps) k.listing, ap (λ (n : Size). n.irps) k.size)
+    known = omega (arith, leb-false kept.listing.irps n.0 (met UnknownIrp), ap (λ (x : Listing). x.irps) k.listing, ap (λ (n : Size). n.irps) k.size)
 
     home : was_armed s.run i ≡ false
-    home = sym (k.queue.used i) ∙ sym (ap (λ (x : Listing). x.used n) k.listing) ∙ tests.1
+    home = sym (k.queue.used i) ∙ sym (ap (λ (x : Listing). x.used n) k.listing) ∙ met NotHome
 
     E1 : List Made
     E1 = next_step s.run (Arm i)
@@ -107,7 +96,7 @@ module _ (l : Limits) (kept : Keeping) (s : Script) (k : Keeps l kept s) (n : Ir
         queue2 : IsOfRun l.first (next_step (next_step s.run (Arm i)) (Test i)) (after_event s.queue (event.Insert n f place reply.Pending))
         queue2 = queue_test (next_step s.run (Arm i)) (after_event s.queue (event.Insert n f place reply.Pending)) queue1 i
 
-        listing_is : listing ≡ listing_of l (after_event s.queue (event.Insert n f place reply.Pending))
+        listing_is : listing ≡ plain_listing l (after_event s.queue (event.Insert n f place reply.Pending))
         listing_is = is ∙ ap (inserted place (record { irp = n; file = f })) k.listing ∙ listing-inserted l s.queue n f place
 
         pub pending_keeps : v ≡ 0 → (t : Script) × Calls l s (Insert n f place) Pending t × Keeps l (record kept { machine = m2; listing = listing }) t
@@ -134,11 +123,6 @@ module _ (l : Limits) (kept : Keeping) (s : Script) (k : Keeps l kept s) (n : Ir
 
           pub disarm_may : May m2 (Disarm i)
           disarm_may = may_disarm m2 (next_step (next_step s.run (Arm i)) (Test i)) _ goes2 i at2 known2
-
-          pub listed_now : is_listed listing.entries n ≡ true
-          listed_now =
-              ap (λ (x : Listing). is_listed x.entries n) is ∙ list_any-put_at (is_of n) place (record { irp = n; file = f }) kept.listing.entries
-              ∙ ap (λ b. b || is_listed kept.listing.entries n) (same_number-refl n)
 
           -- the insert's own exchange finds the routine
           one_found : found_by (next_step (next_step s.run (Arm i)) (Test i)) (Disarm i) ≡ 1
@@ -170,7 +154,7 @@ module _ (l : Limits) (kept : Keeping) (s : Script) (k : Keeps l kept s) (n : Ir
                 let OfEntries : List Queued → Type 0 = λ es. IsOfRun l.first (found_then (next_step (next_step s.run (Arm i)) (Test i)) (Disarm i) 1) (with_these es) in
                 subst IsQueue (ap F (sym one_found)) (subst OfEntries entries_back (queue_hit (next_step (next_step s.run (Arm i)) (Test i)) (after_event s.queue (event.Insert n f place reply.Pending)) queue2 i))
 
-            last_is : last ≡ listing_of l (after_event s.queue (event.Insert n f place reply.Cancelled))
+            last_is : last ≡ plain_listing l (after_event s.queue (event.Insert n f place reply.Cancelled))
             last_is = without_i ∙ ap (without_irp n) (is ∙ ap (inserted place (record { irp = n; file = f })) k.listing)
                 ∙ listing-taken_back l s.queue n f place (sound_lives (script_size l) s.run (run_for l kept s k) s.queue k.queue).entries
                 (unlisted (script_size l) s.run (run_for l kept s k) s.queue k.queue i home)

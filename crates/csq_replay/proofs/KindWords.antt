@@ -5,29 +5,30 @@ use Rattle.std.proofs.lemmas.List.Splits.{length-slice_split}
 use Rattle.irp_core.specs.declared.step.Kind.{Kind}
 use Rattle.irp_core.specs.declared.step.Kind.TheVariants.{Arm, Test, Disarm, End, Flag, Take, Out, Done, Renew}
 use Rattle.irp_core.specs.declared.step.Step.{Step}
-use Rattle.irp_core.specs.Steps.{Irp, name_of}
+use Rattle.irp_core.specs.Steps.{name_of}
+use Rattle.irp_core.specs.declared.ids.IrpLife.{IrpLife}
 use Rattle.csq_replay.specs.Pieces.{words_of}
 use Rattle.csq_replay.specs.StepLine.{verb_of, IsNameWord, AreNameWords, AreKindWords, IsStepLine}
 use Rattle.csq_replay.proofs.NameWords.{one_piece, word_alone, same_name}
 
 module _ (text verb operand : List ℕ) (cut : words_of text ≡ verb ∷ words_of operand) where
   -- the second word, where a kind is named, names what it is of
-  operand_named : (k : Kind) → AreKindWords (words_of text) k → (i : Irp) × (name_of k ≡ Some i) × IsNameWord operand i
+  operand_named : (k : Kind) → AreKindWords (words_of text) k → (i : IrpLife) × (name_of k ≡ Some i) × IsNameWord operand i
   operand_named k h = go (name_of k) refl h.2
     where
       rest : words_of operand ≡ h.0
       rest = cc (cut, h.1)
 
-      go : (o : Option Irp) → name_of k ≡ o → AreNameWords h.0 o → (i : Irp) × (name_of k ≡ Some i) × IsNameWord operand i
+      go : (o : Option IrpLife) → name_of k ≡ o → AreNameWords h.0 o → (i : IrpLife) × (name_of k ≡ Some i) × IsNameWord operand i
       go None e names = absurd (let nothing = rest ∙ names in omega (arith, ap length nothing, length-slice_split (λ b. b == 32) operand))
       go (Some i) e names = (i, e, subst (λ w. IsNameWord w i) (sym (one_piece 32 operand names.0 (rest ∙ names.1))) names.2)
 
   -- where the second word names nothing, no kind is named
-  pub no_name : ((i : Irp) → ¬ IsNameWord operand i) → (k : Kind) → ¬ AreKindWords (words_of text) k
+  pub no_name : ((i : IrpLife) → ¬ IsNameWord operand i) → (k : Kind) → ¬ AreKindWords (words_of text) k
   no_name none k h = let n = operand_named k h in none n.0 n.2
 
   -- where it names one, the verb decides
-  pub verb_decides : (i : Irp) → IsNameWord operand i → (found : Option Kind)
+  pub verb_decides : (i : IrpLife) → IsNameWord operand i → (found : Option Kind)
       → MatchOption found ((k : Kind) → ¬ ((verb_of k ≡ verb) × (name_of k ≡ Some i))) (λ k. (verb_of k ≡ verb) × (name_of k ≡ Some i))
       → MatchOption found ((k : Kind) → ¬ AreKindWords (words_of text) k) (AreKindWords (words_of text))
   verb_decides i is None h = λ k words.
@@ -35,7 +36,7 @@ module _ (text verb operand : List ℕ) (cut : words_of text ≡ verb ∷ words_
       h k (cc (words.1, cut), n.1 ∙ ap Some (same_name operand n.0 i n.2 is))
   verb_decides i is (Some k) h = (operand ∷ [], cut ∙ ap (λ w. w ∷ words_of operand) (sym h.0) ∙ ap (λ ws. verb_of k ∷ ws) (word_alone operand i is), names_it (name_of k) h.1)
     where
-      names_it : (o : Option Irp) → o ≡ Some i → AreNameWords (operand ∷ []) o
+      names_it : (o : Option IrpLife) → o ≡ Some i → AreNameWords (operand ∷ []) o
       names_it None e = absurd cc
       names_it (Some j) e = (operand, refl, let same : i ≡ j = cc e in subst (λ x. IsNameWord operand x) same is)
 

@@ -12,7 +12,8 @@ use Rattle.std.proofs.lemmas.Fmt.{digits_decimal, decimal_injective, IsAscii-dec
 use Rattle.std.proofs.lemmas.List.{get_or_default}
 use Rattle.std.proofs.lemmas.Bool.{ne_eqb}
 use Rattle.irp_core.specs.declared.ids.IrpId.{IrpId}
-use Rattle.irp_core.specs.Steps.{Irp, number, life_of}
+use Rattle.irp_core.specs.Steps.{number, life_of}
+use Rattle.irp_core.specs.declared.ids.IrpLife.{IrpLife}
 use Rattle.irp_core.specs.Texts.{irp_text}
 use Rattle.irp_core.proofs.Names.{named}
 use Rattle.csq_replay.specs.Pieces.{pieces, words_of, IsShort, IsNumber}
@@ -49,7 +50,7 @@ pub alone : (text word : List ℕ) → words_of text ≡ word ∷ [] → text �
 alone = one_piece 32
 
 -- a name is one word
-pub word_alone : (word : List ℕ) (i : Irp) → IsNameWord word i → words_of word ≡ word ∷ []
+pub word_alone : (word : List ℕ) (i : IrpLife) → IsNameWord word i → words_of word ≡ word ∷ []
 word_alone word i (inl h) = rw h.0 (pieces_of-decimal 32 (number i) (short_fits _ h.1) (inl (omega arith)))
 word_alone word i (inr h) =
     let P : ℕ → Type 0 = λ x. (x == 32) ≡ false in
@@ -59,16 +60,16 @@ word_alone word i (inr h) =
     rw h.0 (slice_split_none (λ b. b == 32) (decimal (number i) ++ (64 ∷ decimal (life_of i))) all)
 
 -- the pieces of a name: the number, and the life's where it is told
-abbrev pub NamePieces : List ℕ → Irp → Type 0
+abbrev pub NamePieces : List ℕ → IrpLife → Type 0
 NamePieces word i = ((pieces 64 word ≡ decimal (number i) ∷ []) × (life_of i ≡ 0)) ⊎ (pieces 64 word ≡ decimal (number i) ∷ decimal (life_of i) ∷ [])
 
-pub name_pieces : (word : List ℕ) (i : Irp) → IsNameWord word i → NamePieces word i
+pub name_pieces : (word : List ℕ) (i : IrpLife) → IsNameWord word i → NamePieces word i
 name_pieces word i (inl h) = inl (rw h.0 (pieces_of-decimal 64 (number i) (short_fits _ h.1) (inr (omega arith))), h.2)
 name_pieces word i (inr h) =
     let cut = slice_split_at (λ b. b == 64) (decimal (number i)) 64 (decimal (life_of i)) (no_digit 64 (number i) (short_fits _ h.1) (inr (omega arith))) refl in
     inr (rw h.0 (cut ∙ ap (λ ps. decimal (number i) ∷ ps) (pieces_of-decimal 64 (life_of i) (short_fits _ h.2) (inr (omega arith)))))
 
-shorts : (word : List ℕ) (i : Irp) → IsNameWord word i → IsShort (number i) × IsShort (life_of i)
+shorts : (word : List ℕ) (i : IrpLife) → IsNameWord word i → IsShort (number i) × IsShort (life_of i)
 shorts word i (inl h) = (h.1, omega (arith, h.2))
 shorts word i (inr h) = (h.1, h.2)
 
@@ -79,7 +80,7 @@ pub irp_by_text : (i j : IrpId) → IsShort i.0 → IsShort j.0 → irp_text i �
 irp_by_text i j a b e = let id : ℕ → IrpId = λ n. record { 0 = n } in ap id (number_by_text i.0 j.0 a b e)
 
 -- a word names at most one life of one IRP
-pub same_name : (word : List ℕ) (i j : Irp) → IsNameWord word i → IsNameWord word j → i ≡ j
+pub same_name : (word : List ℕ) (i j : IrpLife) → IsNameWord word i → IsNameWord word j → i ≡ j
 same_name word i j h k = go (name_pieces word i h) (name_pieces word j k)
   where
     irp : decimal (number i) ≡ decimal (number j) → number i ≡ number j
@@ -93,7 +94,7 @@ same_name word i j h k = go (name_pieces word i h) (name_pieces word j k)
 
 module _ (word head : List ℕ) where
   -- a word whose first piece is no number names nothing
-  pub no_number : (rest : List (List ℕ)) → pieces 64 word ≡ head ∷ rest → ((n : ℕ) → ¬ IsNumber head n) → (i : Irp) → ¬ IsNameWord word i
+  pub no_number : (rest : List (List ℕ)) → pieces 64 word ≡ head ∷ rest → ((n : ℕ) → ¬ IsNumber head n) → (i : IrpLife) → ¬ IsNameWord word i
   no_number rest cut none i h = go (name_pieces word i h)
     where
       go : NamePieces word i → ⊥
@@ -101,7 +102,7 @@ module _ (word head : List ℕ) where
       go (inr a) = none (number i) (cc (cut, a), (shorts word i h).0)
 
   -- nor does one whose second piece is none
-  pub no_life : (rest : List ℕ) → pieces 64 word ≡ head ∷ pieces 64 rest → ((n : ℕ) → ¬ IsNumber rest n) → (i : Irp) → ¬ IsNameWord word i
+  pub no_life : (rest : List ℕ) → pieces 64 word ≡ head ∷ pieces 64 rest → ((n : ℕ) → ¬ IsNumber rest n) → (i : IrpLife) → ¬ IsNameWord word i
   no_life rest cut none i h = go (name_pieces word i h)
     where
       go : NamePieces word i → ⊥
@@ -118,7 +119,7 @@ module _ (word head : List ℕ) where
       inr (sym (join_with_byte-slice_split 64 word) ∙ ap (join_with_byte 64) whole, a.1, b.1)
 
 -- a name is ASCII, and at most 19 bytes long
-pub name_ascii : (word : List ℕ) (i : Irp) → IsNameWord word i → IsAscii word
+pub name_ascii : (word : List ℕ) (i : IrpLife) → IsNameWord word i → IsAscii word
 name_ascii word i (inl h) = rw h.0 (IsAscii-decimal (number i) (short_fits _ h.1))
 name_ascii word i (inr h) =
     rw h.0 (IsAscii-append (decimal (number i)) (64 ∷ decimal (life_of i)) (IsAscii-decimal (number i) (short_fits _ h.1))

@@ -1,24 +1,25 @@
 -- A schedule has one answer.
-use Rattle.std.proofs.Common.{◌≡◌, ℕ, zero, suc, ◌+◌, ◌<◌, Bool, true, false, cond, not, ◌&&◌, ◌||◌, List, [], ◌∷◌, ◌++◌, Option, Some, None, refl, ap, sym, ◌∙◌, arith, subst, inl, inr, decimal, codes}
+use Rattle.std.proofs.Common.{◌≡◌, ℕ, zero, suc, ◌<◌, Bool, true, false, cond, not, ◌&&◌, ◌||◌, List, [], ◌∷◌, ◌++◌, Option, Some, refl, ap, sym, ◌∙◌, arith, subst, codes}
 use Rattle.irp_core.specs.declared.ids.Life.{Life}
 use Rattle.irp_core.specs.declared.ids.PassId.{PassId}
 use Rattle.irp_core.specs.declared.step.Kind.{Kind}
 use Rattle.irp_core.specs.declared.step.Kind.TheVariants.{Arm, Disarm, Flag, Out, Renew}
 use Rattle.irp_core.specs.declared.step.Made.{Made}
 use Rattle.irp_core.specs.declared.step.Step.{Step}
-use Rattle.irp_core.specs.declared.step.StepRefused.{StepRefused}
-use Rattle.irp_core.specs.declared.step.StepRefused.TheVariants.{UnknownIrp, UnknownPass, LockHeld, NotNext, NotHome, NotListed, NotOwed, NotHeld, Stale, NotCompleted, LivesSpent}
-use Rattle.irp_core.specs.declared.step.IrpPlace.{IrpPlace}
-use Rattle.irp_core.specs.declared.step.IrpPlace.TheVariants as place
-use Rattle.irp_core.specs.declared.step.Standing.{Standing}
-use Rattle.irp_core.specs.declared.step.Standing.TheVariants.{Home, Waiting, Owed, Held, Finished}
-use Rattle.irp_core.specs.Steps.{Irp, is, found_one, made}
+use Rattle.irp_core.specs.declared.refusals.StepRefused.{StepRefused}
+use Rattle.irp_core.specs.declared.refusals.StepRefused.TheVariants.{UnknownIrp, UnknownPass, LockHeld, NotNext, NotHome, NotListed, NotOwed, NotHeld, Stale, NotCompleted, LivesSpent}
+use Rattle.irp_core.specs.declared.standing.IrpPlace.{IrpPlace}
+use Rattle.irp_core.specs.declared.standing.IrpPlace.TheVariants as place
+use Rattle.irp_core.specs.declared.standing.Standing.{Standing}
+use Rattle.irp_core.specs.declared.standing.Standing.TheVariants.{Home, Waiting, Owed, Held, Finished}
+use Rattle.irp_core.specs.Steps.{is, found_one, made}
+use Rattle.irp_core.specs.declared.ids.IrpLife.{IrpLife}
 use Rattle.irp_core.specs.Words.{flagged, was_armed, found_by}
 use Rattle.irp_core.specs.Runs.{Size, IsRun}
-use Rattle.irp_core.specs.Refusals.{number_of, IsCause, IsFirstCause}
+use Rattle.irp_core.specs.Refusals.{refusal_number, IsCause, IsFirstCause}
 use Rattle.irp_core.specs.Owners.{holds}
 use Rattle.std.specs.List.{list_any}
-use Rattle.irp_core.specs.Standings.{place_of, is_home, is_held_by}
+use Rattle.irp_core.specs.Standings.{place_of, stands_home, is_held_by}
 use Rattle.irp_core.specs.Completion.{IsPlace, completed_by, removed, status_due}
 use Rattle.irp_core.proofs.Names.{same_pass-eq}
 use Rattle.irp_core.proofs.Growing.{run_none, run_last, HasLock-has_lock}
@@ -44,7 +45,7 @@ module _ (ever left : Bool) (ho dn : PassId → Bool) (byr : Bool) where
   Places (place.HeldBy p) = ho p ≡ true
   Places (place.Completed status p) = (dn p ≡ true) × (status ≡ status_due byr)
 
-  place_row : (s : Standing) → ever ≡ not (is_home s) → left ≡ has_left s → ((q : PassId) → ho q ≡ is_held_by q s) → ((q : PassId) → dn q ≡ done_at s q) → IsDue s byr
+  place_row : (s : Standing) → ever ≡ not (stands_home s) → left ≡ has_left s → ((q : PassId) → ho q ≡ is_held_by q s) → ((q : PassId) → dn q ≡ done_at s q) → IsDue s byr
       → (p : IrpPlace) → Places p → p ≡ place_of s
   place_row Home ev lf hold done due place.Home e = refl
   place_row Home ev lf hold done due place.Listed e = absurd (cc (rw ev at e))
@@ -69,7 +70,7 @@ module _ (ever left : Bool) (ho dn : PassId → Bool) (byr : Bool) where
       ap (λ s. place.Completed s p) (e.1 ∙ sym due) ∙ ap (place.Completed at) (sym (same_pass-eq q p (sym (done p) ∙ e.0)))
 
 -- as IsPlace is by the values
-places : (E : List Made) (i : Irp) (p : IrpPlace) → IsPlace E i p
+places : (E : List Made) (i : IrpLife) (p : IrpPlace) → IsPlace E i p
     → Places (was_armed E i) (list_any (λ m. found_one (Disarm i) m || is (Out i) m) E) (λ q. holds E q i) (λ q. completed_by E q i) (removed E i) p
 places E i place.Home e = e
 places E i place.Listed e = e
@@ -77,13 +78,13 @@ places E i (place.HeldBy p) e = e
 places E i (place.Completed status p) e = e
 
 -- an IRP is in one place
-pub one_place : (size : Size) (E : List Made) → IsRun size E → (i : Irp) (p q : IrpPlace) → IsPlace E i p → IsPlace E i q → p ≡ q
+pub one_place : (size : Size) (E : List Made) → IsRun size E → (i : IrpLife) (p q : IrpPlace) → IsPlace E i p → IsPlace E i q → p ≡ q
 one_place size E r i p q a b =
     let (s, h) = stands size E r i in
     let is = λ (x : IrpPlace) (e : IsPlace E i x). place_row _ _ _ _ _ s h.ever_is h.left_is h.holding_is h.done_is h.due x (places E i x e) in
     is p a ∙ sym (is q b)
 
-one_told : (size : Size) (E : List Made) → IsRun size E → (i : Irp) (t u : List IrpLine) → IsToldOf E i t → IsToldOf E i u → t ≡ u
+one_told : (size : Size) (E : List Made) → IsRun size E → (i : IrpLife) (t u : List IrpLine) → IsToldOf E i t → IsToldOf E i u → t ≡ u
 one_told size E r i t u (p, a, e) (q, b, f) =
     let line : IrpPlace → IrpLine = λ x. record { name = i; place = x; cancelled = flagged E i } in
     e ∙ ap (λ x. unless_silent (line x)) (one_place size E r i p q a b) ∙ sym f
@@ -120,7 +121,7 @@ same_stale size E p (Renew i) g h a b = same_life g h (a.0 ∙ sym b.0)
 same_stale size E p k g h a b = absurd a
 
 -- causes of one number are the same, with the pass that has the lock or the present life
-same_cause : (size : Size) (E : List Made) → IsRun size E → (p : PassId) (k : Kind) (c d : StepRefused) → number_of c ≡ number_of d → IsCause size E p k c → IsCause size E p k d → c ≡ d
+same_cause : (size : Size) (E : List Made) → IsRun size E → (p : PassId) (k : Kind) (c d : StepRefused) → refusal_number c ≡ refusal_number d → IsCause size E p k c → IsCause size E p k d → c ≡ d
 same_cause size E r p k UnknownIrp UnknownIrp e a b = refl
 same_cause size E r p k UnknownPass UnknownPass e a b = refl
 same_cause size E r p k (LockHeld q) (LockHeld s) e a b = ap LockHeld (lock_one size E r s (HasLock-has_lock E s b.1) q (HasLock-has_lock E q a.1))
@@ -136,8 +137,8 @@ same_cause size E r p k c d e a b = absurd (omega (arith, e))
 
 one_cause : (size : Size) (E : List Made) → IsRun size E → (s : Step) (c d : StepRefused) → IsFirstCause size E s c → IsFirstCause size E s d → c ≡ d
 one_cause size E r s c d a b =
-    let below : number_of c < number_of d → ⊥ = λ lt. b.first c lt a.holds in
-    let above : number_of d < number_of c → ⊥ = λ lt. a.first d lt b.holds in
+    let below : refusal_number c < refusal_number d → ⊥ = λ lt. b.first c lt a.holds in
+    let above : refusal_number d < refusal_number c → ⊥ = λ lt. a.first d lt b.holds in
     same_cause size E r s.pass s.kind c d (omega (arith, below, above)) a.holds b.holds
 
 module _ (size : Size) (E : List Made) (line : List ℕ) (r : IsRun size E) where

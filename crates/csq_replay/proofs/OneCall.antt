@@ -8,14 +8,14 @@ use Rattle.std.proofs.lemmas.Fmt.{digits_decimal}
 use Rattle.irp_core.specs.declared.ids.FileId.{FileId}
 use Rattle.irp_core.specs.declared.status.NtStatus.{NtStatus}
 use Rattle.irp_core.specs.declared.ids.IrpId.{IrpId}
-use Rattle.irp_core.specs.Steps.{Irp}
+use Rattle.irp_core.specs.declared.ids.IrpLife.{IrpLife}
 use Rattle.csq_list.specs.declared.entry.Place.{Place}
 use Rattle.csq_list.specs.declared.entry.Place.TheVariants.{Back, Front}
 use Rattle.csq_list.specs.declared.entry.Peek.TheVariants.{Any, File}
 use Rattle.csq_replay.specs.declared.script.call.Call.{Call}
 use Rattle.csq_replay.specs.declared.script.call.Call.TheVariants.{Insert, Next, Remove, Mark, Routine, Cancel, Complete, Close, Cleanup, Flag, Status, Reuse}
 use Rattle.csq_replay.specs.Pieces.{words_of, IsShort}
-use Rattle.csq_replay.specs.CallLine.{call_name, place_word, IsIrpWord, IsFileWord, IsStatusWord, IsOne, AreOperands, IsCallLine}
+use Rattle.csq_replay.specs.CallLine.{call_name, place_word, IsIrpWord, IsFileWord, IsHexStatus, IsOne, AreOperands, IsCallLine}
 use Rattle.csq_replay.specs.Lines.{IsSkipped, IsWithinLine}
 use Rattle.csq_replay.proofs.CallWords.{letters}
 use Rattle.csq_replay.proofs.NameWords.{number_by_text, irp_by_text, same_name, short_number}
@@ -37,7 +37,7 @@ one_place Back Back e = refl
 one_place Front Front e = refl
 one_place p q e = let lengths = ap length e in absurd (omega (arith, lengths))
 
-one_status : (word : List ℕ) (a b : NtStatus) → IsStatusWord word a.0 → IsStatusWord word b.0 → a ≡ b
+one_status : (word : List ℕ) (a b : NtStatus) → IsHexStatus word a.0 → IsHexStatus word b.0 → a ≡ b
 one_status word a b is others = let status : ℕ → NtStatus = λ n. record { 0 = n } in ap status (is.2 ∙ sym others.2)
 
 -- a star is no number
@@ -54,7 +54,7 @@ module _ (words : List (List ℕ)) where
       let P : List ℕ → Type 0 = λ w. IsIrpWord w j in
       one_irp word i j named (subst P e again)
 
-  both_names : (i j : Irp) → IsOne (λ word. IsNameWord word i) words → IsOne (λ word. IsNameWord word j) words → i ≡ j
+  both_names : (i j : IrpLife) → IsOne (λ word. IsNameWord word i) words → IsOne (λ word. IsNameWord word j) words → i ≡ j
   both_names i j (word, is, named) (other, same, again) =
       let e : other ≡ word = cc (is, same) in
       let P : List ℕ → Type 0 = λ w. IsNameWord w j in
@@ -90,7 +90,7 @@ module _ (words : List (List ℕ)) where
       let same : irp' ≡ irp = cc (is, is') in
       let too : digits' ≡ digits = cc (is, is') in
       let P : List ℕ → Type 0 = λ w. IsIrpWord w j in
-      let Q : List ℕ → Type 0 = λ w. IsStatusWord w other.0 in
+      let Q : List ℕ → Type 0 = λ w. IsHexStatus w other.0 in
       ap (λ x. Complete x status) (one_irp irp i j first (subst P same first')) ∙ ap (Complete j) (one_status digits status other second (subst Q too second'))
   same_operands (Close f) (Close g) e a b = ap Close (both_files f g a b)
   same_operands (Cleanup f) (Cleanup g) e a b = ap Cleanup (both_files f g a b)
@@ -146,7 +146,7 @@ module _ (words : List (List ℕ)) where
   one_irp_short : (i : IrpId) → IsOne (λ word. IsIrpWord word i) words → length (join_with_byte 32 words) ≤ 9
   one_irp_short i (word, is, named) = rw (is, named.0) (short_number i.0 named.1)
 
-  one_name_short : (i : Irp) → IsOne (λ word. IsNameWord word i) words → length (join_with_byte 32 words) ≤ 19
+  one_name_short : (i : IrpLife) → IsOne (λ word. IsNameWord word i) words → length (join_with_byte 32 words) ≤ 19
   one_name_short i (word, is, named) = rw is (plain_name word i named).1
 
   one_file_short : (f : FileId) → IsOne (λ word. IsFileWord word f) words → length (join_with_byte 32 words) ≤ 9

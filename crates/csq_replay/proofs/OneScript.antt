@@ -8,9 +8,11 @@ use Rattle.csq_words.proofs.Named.{same_irp-is, same_irp-not}
 use Rattle.irp_core.specs.declared.status.NtStatus.{NtStatus}
 use Rattle.irp_core.specs.declared.status.TheConstants.NtStatus.{PENDING, CANCELLED}
 use Rattle.irp_core.specs.declared.step.Kind.TheVariants as step
-use Rattle.irp_core.specs.Steps.{Irp, number, same_irp}
+use Rattle.irp_core.specs.Steps.{number, same_irp}
+use Rattle.irp_core.specs.declared.ids.IrpLife.{IrpLife}
 use Rattle.irp_core.specs.Words.{flagged, found_by}
 use Rattle.irp_core.specs.Owners.{owes, holds}
+use Rattle.csq_words.specs.Plays.{status_recorded}
 use Rattle.csq_list.specs.declared.entry.Place.{Place}
 use Rattle.csq_list.specs.declared.entry.Peek.{Peek}
 use Rattle.csq_list.specs.declared.entry.Peek.TheVariants.{File}
@@ -24,7 +26,7 @@ use Rattle.csq_replay.specs.declared.script.call.Refusal.TheVariants.{UnknownIrp
 use Rattle.csq_replay.specs.declared.script.call.Reply.{Reply}
 use Rattle.csq_replay.specs.declared.script.call.Reply.TheVariants.{Pending, Cancelled, InsertRefused, Removed, NoIrp, Claimed, Unclaimed, Completed, Closed, Cleaned, Begun, Refused}
 use Rattle.csq_replay.specs.declared.script.call.Reply.TheVariants as reply
-use Rattle.csq_replay.specs.Calls.{Script, script_pass, new_script, present_of, IsNow, life_now, life_after, after_reuse, cancelled_life, doing, completing, removal_steps, remove_steps, removal_reply, status_of, status_reply, irp_of, file_of, after_mark, Calls, Cleans, Does}
+use Rattle.csq_replay.specs.Calls.{Script, script_pass, new_script, present_of, IsNow, life_now, life_after, after_reuse, cancelled_life, doing, completing, removal_steps, named_removal_steps, removal_reply, status_reply, irp_of, file_of, after_mark, Calls, Cleans, Does}
 use Rattle.csq_replay.specs.Calls.Calls.{refuses_insert, lists, cancels_insert, removes_next, removes, removes_none, claims, claims_none, runs_routine, has_no_claim, completes, holds_none, refuses_pending, closes, is_stale, reuses, not_completed, lives_spent, tells_flag, tells_status, knows_no_irp, knows_no_file}
 use Rattle.csq_replay.specs.Calls.Cleans.{none_left, one_more}
 use Rattle.csq_replay.specs.Calls.Does.{calls, cancel_claimed, cancel_unclaimed, cleaned}
@@ -45,14 +47,14 @@ inserted n f place s insert.Cancelled =
     (Cancelled, completing (present_of s n) CANCELLED (doing (step.Arm (present_of s n) ∷ step.Test (present_of s n) ∷ step.Disarm (present_of s n) ∷ []) (event.Insert n f place insert.Cancelled) s))
 inserted n f place s (insert.Refused cause) = (InsertRefused cause, s)
 
-abbrev removed_next : Peek → Script → Option Irp → Outcome
+abbrev removed_next : Peek → Script → Option IrpLife → Outcome
 removed_next k s got = (removal_reply got, doing (removal_steps k s.queue.entries) (event.RemoveNext k got) s)
 
-abbrev removed : Irp → Script → Bool → Outcome
-removed i s true = (Removed i.irp, doing (remove_steps i s.queue.entries) (event.Remove i true) s)
-removed i s false = (NoIrp, doing (remove_steps i s.queue.entries) (event.Remove i false) s)
+abbrev removed : IrpLife → Script → Bool → Outcome
+removed i s true = (Removed i.irp, doing (named_removal_steps i s.queue.entries) (event.Remove i true) s)
+removed i s false = (NoIrp, doing (named_removal_steps i s.queue.entries) (event.Remove i false) s)
 
-abbrev marked : Irp → Script → ℕ → Outcome
+abbrev marked : IrpLife → Script → ℕ → Outcome
 marked i s zero = (Unclaimed, after_mark i s)
 marked i s (suc n) = (Claimed, doing [] (event.Mark i) (after_mark i s))
 
@@ -73,7 +75,7 @@ reused n s (Some status) false = (Refused LivesSpent, s)
 abbrev of_known : Limits → Script → IrpId → Outcome → Outcome
 of_known l s n outcome = cond (ltb n.0 l.irps) outcome (Refused UnknownIrp, s)
 
-abbrev if_now : Script → Irp → Outcome → Outcome
+abbrev if_now : Script → IrpLife → Outcome → Outcome
 if_now s i outcome = cond (same_irp (present_of s i.irp) i) outcome (Refused (Stale (life_now s i.irp)), s)
 
 -- what a call that isn't made of others comes to
@@ -88,8 +90,8 @@ outcome l s (Complete n status) = of_known l s n (completed_with n status s (hol
 outcome l s (Close f) = cond (ltb f.0 l.files) (Closed, doing [] (event.CloseFile f) s) (Refused UnknownFile, s)
 outcome l s (Cleanup f) = (Refused UnknownFile, s)
 outcome l s (Flag n) = of_known l s n (reply.Flag (flagged s.run (present_of s n)), s)
-outcome l s (Status n) = of_known l s n (status_reply (status_of s.completed (present_of s n)), s)
-outcome l s (Reuse n) = of_known l s n (reused n s (status_of s.completed (present_of s n)) (ltb (s.queue.lives n) last_life))
+outcome l s (Status n) = of_known l s n (status_reply (status_recorded (present_of s n) s.completed), s)
+outcome l s (Reuse n) = of_known l s n (reused n s (status_recorded (present_of s n) s.completed) (ltb (s.queue.lives n) last_life))
 
 module _ (l : Limits) (s : Script) where
   known : (n : IrpId) → n.0 < l.irps → (x y : Outcome) → x ≡ y → x ≡ of_known l s n y
@@ -98,20 +100,20 @@ module _ (l : Limits) (s : Script) where
   beyond : (n m : IrpId) → n ≡ m → l.irps ≤ m.0 → (y : Outcome) → (Refused UnknownIrp, s) ≡ of_known l s n y
   beyond n m same le y = rw (le-ltb n.0 l.irps (omega (arith, le, ap (λ (x : IrpId). x.0) same))) refl
 
-  now_is : (i : Irp) → IsNow s i → (y : Outcome) → y ≡ if_now s i y
+  now_is : (i : IrpLife) → IsNow s i → (y : Outcome) → y ≡ if_now s i y
   now_is i now y = rw (same_irp-is (present_of s i.irp) i now) refl
 
-  stale_is : (i : Irp) → ¬ IsNow s i → (y : Outcome) → (Refused (Stale (life_now s i.irp)), s) ≡ if_now s i y
+  stale_is : (i : IrpLife) → ¬ IsNow s i → (y : Outcome) → (Refused (Stale (life_now s i.irp)), s) ≡ if_now s i y
   stale_is i stale y = rw (same_irp-not (present_of s i.irp) i stale) refl
 
-  stale_call : (c : Call) (i : Irp) → cancelled_life c ≡ Some i → number i < l.irps → ¬ IsNow s i → (Refused (Stale (life_now s i.irp)), s) ≡ outcome l s c
+  stale_call : (c : Call) (i : IrpLife) → cancelled_life c ≡ Some i → number i < l.irps → ¬ IsNow s i → (Refused (Stale (life_now s i.irp)), s) ≡ outcome l s c
   stale_call (Mark j) i e lt stale =
       let same : i ≡ j = cc e in
-      let P : Irp → Type 0 = λ x. (Refused (Stale (life_now s i.irp)), s) ≡ outcome l s (Mark x) in
+      let P : IrpLife → Type 0 = λ x. (Refused (Stale (life_now s i.irp)), s) ≡ outcome l s (Mark x) in
       subst P same (known i.irp lt _ _ (stale_is i stale _))
   stale_call (Cancel j) i e lt stale =
       let same : i ≡ j = cc e in
-      let P : Irp → Type 0 = λ x. (Refused (Stale (life_now s i.irp)), s) ≡ outcome l s (Cancel x) in
+      let P : IrpLife → Type 0 = λ x. (Refused (Stale (life_now s i.irp)), s) ≡ outcome l s (Cancel x) in
       subst P same (known i.irp lt _ _ refl)
   stale_call c i e lt stale = absurd (cc e)
 
@@ -166,9 +168,9 @@ module _ (l : Limits) (s : Script) where
       (ap (λ (x : Outcome). x.0) e, ap (λ (x : Outcome). x.1) e)
 
   -- a call that is made of others is of what is known
-  cancel_unknown : (i : Irp) (r : Reply) (t : Script) → Calls l s (Cancel i) r t → (l.irps ≤ number i) ⊎ (¬ IsNow s i)
+  cancel_unknown : (i : IrpLife) (r : Reply) (t : Script) → Calls l s (Cancel i) r t → (l.irps ≤ number i) ⊎ (¬ IsNow s i)
   cancel_unknown i r t (knows_no_irp c j names le) = let same : i.irp ≡ j = cc names in inl (omega (arith, le, ap (λ (x : IrpId). x.0) same))
-  cancel_unknown i r t (is_stale c j names known stale) = let same : j ≡ i = cc names in inr (let P : Irp → Type 0 = λ x. ¬ IsNow s x in subst P same stale)
+  cancel_unknown i r t (is_stale c j names known stale) = let same : j ≡ i = cc names in inr (let P : IrpLife → Type 0 = λ x. ¬ IsNow s x in subst P same stale)
   cancel_unknown i r t (knows_no_file c f names le) = absurd (cc names)
 
   cleanup_unknown : (f : FileId) (r : Reply) (t : Script) → Calls l s (Cleanup f) r t → l.files ≤ f.0
@@ -176,14 +178,14 @@ module _ (l : Limits) (s : Script) where
   cleanup_unknown f r t (knows_no_irp c i names le) = absurd (cc names)
   cleanup_unknown f r t (knows_no_file c g names le) = let same : f ≡ g = cc names in omega (arith, le, ap (λ (x : FileId). x.0) same)
 
-  claimed_known : (i : Irp) (t : Script) → Calls l s (Mark i) Claimed t → (number i < l.irps) × IsNow s i
+  claimed_known : (i : IrpLife) (t : Script) → Calls l s (Mark i) Claimed t → (number i < l.irps) × IsNow s i
   claimed_known i t (claims j lt now found may) = (lt, now)
 
-  unclaimed_known : (i : Irp) (t : Script) → Calls l s (Mark i) Unclaimed t → (number i < l.irps) × IsNow s i
+  unclaimed_known : (i : IrpLife) (t : Script) → Calls l s (Mark i) Unclaimed t → (number i < l.irps) × IsNow s i
   unclaimed_known i t (claims_none j lt now found) = (lt, now)
 
   -- no life is both
-  not_both : (i : Irp) → (l.irps ≤ number i) ⊎ (¬ IsNow s i) → (number i < l.irps) × IsNow s i → ⊥
+  not_both : (i : IrpLife) → (l.irps ≤ number i) ⊎ (¬ IsNow s i) → (number i < l.irps) × IsNow s i → ⊥
   not_both i (inl le) (lt, now) = omega (arith, le, lt)
   not_both i (inr stale) (lt, now) = stale now
 

@@ -4,7 +4,8 @@ use Rattle.irp_core.specs.declared.ids.PassId.{PassId}
 use Rattle.irp_core.specs.declared.step.Kind.{Kind}
 use Rattle.irp_core.specs.declared.step.Kind.TheVariants.{Arm, Test, Disarm, End, Flag, Take, Out, Done, Renew}
 use Rattle.irp_core.specs.declared.step.Step.{Step}
-use Rattle.irp_core.specs.Steps.{Irp, name_of}
+use Rattle.irp_core.specs.Steps.{name_of}
+use Rattle.irp_core.specs.declared.ids.IrpLife.{IrpLife}
 use Rattle.irp_core.specs.Texts.{pass_text}
 use Rattle.csq_replay.specs.Pieces.{IsShort}
 use Rattle.csq_replay.specs.StepLine.{verb_of, IsNameWord, AreNameWords, AreKindWords, IsStepLine}
@@ -19,7 +20,7 @@ same_passes p q a b e =
     ap named (number_by_text p.0 q.0 a b digits)
 
 -- the first two letters of its verb tell a kind
-same_verbs : (k l : Kind) (i : Irp) → name_of k ≡ Some i → name_of l ≡ Some i → verb_of k ≡ verb_of l → k ≡ l
+same_verbs : (k l : Kind) (i : IrpLife) → name_of k ≡ Some i → name_of l ≡ Some i → verb_of k ≡ verb_of l → k ≡ l
 same_verbs (Arm i) (Arm j) n e f v = cc (e, f)
 same_verbs (Test i) (Test j) n e f v = cc (e, f)
 same_verbs (Disarm i) (Disarm j) n e f v = cc (e, f)
@@ -43,7 +44,7 @@ same_kinds words k l (names, e, is) (others, f, are) = go (name_of k) (name_of l
     back : names ≡ others
     back = cc (e, f)
 
-    go : (o u : Option Irp) → name_of k ≡ o → name_of l ≡ u → AreNameWords names o → AreNameWords others u → k ≡ l
+    go : (o u : Option IrpLife) → name_of k ≡ o → name_of l ≡ u → AreNameWords names o → AreNameWords others u → k ≡ l
     go None None a b h g = nameless k a ∙ sym (nameless l b)
     go None (Some j) a b h g = absurd (cc (back, h, g.1))
     go (Some i) None a b h g = absurd (cc (back, g, h.1))

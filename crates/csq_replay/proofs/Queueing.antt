@@ -7,11 +7,12 @@ use Rattle.irp_core.specs.declared.ids.FileId.{FileId}
 use Rattle.irp_core.specs.declared.step.Kind.{Kind}
 use Rattle.irp_core.specs.declared.step.Kind.TheVariants.{Arm, Test, Disarm, End, Flag, Take, Out, Done, Renew}
 use Rattle.irp_core.specs.declared.step.Made.{Made}
-use Rattle.irp_core.specs.declared.step.Standing.{Standing}
-use Rattle.irp_core.specs.declared.step.Standing.TheVariants.{Home, Waiting, Owed}
+use Rattle.irp_core.specs.declared.standing.Standing.{Standing}
+use Rattle.irp_core.specs.declared.standing.Standing.TheVariants.{Home, Waiting, Owed}
 use Rattle.irp_core.specs.declared.ids.IrpId.{IrpId}
 use Rattle.irp_core.specs.declared.ids.Life.{Life}
-use Rattle.irp_core.specs.Steps.{Irp, life_of, same_id, same_irp, is, found_one}
+use Rattle.irp_core.specs.Steps.{life_of, same_id, same_irp, is, found_one}
+use Rattle.irp_core.specs.declared.ids.IrpLife.{IrpLife}
 use Rattle.irp_core.specs.Lives.{present_life, present, IsPresent}
 use Rattle.irp_core.proofs.Lives.{life_same, life_next, listed_present, used_begun}
 use Rattle.csq_words.proofs.Lives.{ArePresent, AreBegun, HasSoundLives}
@@ -33,10 +34,10 @@ use Rattle.csq_replay.specs.Calls.{script_pass, next_step}
 use Rattle.csq_replay.specs.Drivers.{AreMarked, IsOfRun}
 
 -- i left the list
-abbrev left : List Made → Irp → Bool
+abbrev left : List Made → IrpLife → Bool
 left E i = list_any (λ m. found_one (Disarm i) m || is (Out i) m) E
 
-module _ (ever set : Bool) (cl : List Made) (ow ho dn : PassId → Bool) (ends : List Made) (gone byr : Bool) (i : Irp) where
+module _ (ever set : Bool) (cl : List Made) (ow ho dn : PassId → Bool) (ends : List Made) (gone byr : Bool) (i : IrpLife) where
   row_home : (s : Standing) → Row ever set cl ow ho dn ends gone byr i s → ever ≡ false → gone ≡ false
   row_home Home h e = h.left_is
   row_home s h e = absurd (cc (e, h.ever_is))
@@ -49,7 +50,7 @@ module _ (ever set : Bool) (cl : List Made) (ow ho dn : PassId → Bool) (ends :
   row_owed (Owed q) h p e = ((h.ever_is, h.left_is), h.set_is)
   row_owed s h p e = absurd (cc (e, h.owing_is p))
 
-module _ (size : Size) (E : List Made) (r : IsRun size E) (i : Irp) where
+module _ (size : Size) (E : List Made) (r : IsRun size E) (i : IrpLife) where
   pub home_left : was_armed E i ≡ false → left E i ≡ false
   home_left h = let s = stands size E r i in row_home _ _ _ _ _ _ _ _ _ i s.0 s.1 h
 
@@ -62,7 +63,7 @@ module _ (size : Size) (E : List Made) (r : IsRun size E) (i : Irp) where
   owed_listed h = let s = stands size E r i in let f = row_owed _ _ _ _ _ _ _ _ _ i s.0 s.1 script_pass h in (rw (f.0.0, f.0.1) refl, f.1)
 
 -- entries are marked as before, where their routines stand as before
-pub marks_stay : (E F : List Made) (es : List Queued) → ((j : Irp) → has_entry es j ≡ true → armed F j ≡ armed E j) → AreMarked E es → AreMarked F es
+pub marks_stay : (E F : List Made) (es : List Queued) → ((j : IrpLife) → has_entry es j ≡ true → armed F j ≡ armed E j) → AreMarked E es → AreMarked F es
 marks_stay E F [] same h = tt
 marks_stay E F (e ∷ es) same h = (
   h.0 ∙ ap not (sym (same e.irp (ap (λ b. b || has_entry es e.irp) (same_irp-refl e.irp)))),
@@ -70,7 +71,7 @@ marks_stay E F (e ∷ es) same h = (
 )
 
 -- another IRP than one that isn't listed
-pub other_entry : (es : List Queued) (i j : Irp) → has_entry es i ≡ false → has_entry es j ≡ true → same_irp i j ≡ false
+pub other_entry : (es : List Queued) (i j : IrpLife) → has_entry es i ≡ false → has_entry es j ≡ true → same_irp i j ≡ false
 other_entry es i j absent there = go (same_irp i j) refl
   where
     go : (b : Bool) → same_irp i j ≡ b → b ≡ false
@@ -78,7 +79,7 @@ other_entry es i j absent there = go (same_irp i j) refl
     go true e = let same : i ≡ j = same_irp-eq i j e in absurd (cc (absent, there, same))
 
 -- the mark of a listed IRP
-pub marked_is : (E : List Made) (es : List Queued) → AreMarked E es → (i : Irp) → (has_unmarked es i ≡ (has_entry es i && armed E i)) × (has_marked es i ≡ (has_entry es i && not (armed E i)))
+pub marked_is : (E : List Made) (es : List Queued) → AreMarked E es → (i : IrpLife) → (has_unmarked es i ≡ (has_entry es i && armed E i)) × (has_marked es i ≡ (has_entry es i && not (armed E i)))
 marked_is E [] h i = (refl, refl)
 marked_is E (e ∷ es) h i = go (same_irp e.irp i) refl (marked_is E es h.1 i)
   where
@@ -101,17 +102,17 @@ marked_is E (e ∷ es) h i = go (same_irp e.irp i) refl (marked_is E es h.1 i)
 
 module _ {first : ℕ} (E : List Made) (q : QueueState) (h : IsOfRun first E q) where
   -- steps that exchange no routine and set no flag
-  pub queue_test : (i : Irp) → IsOfRun first (next_step E (Test i)) q
+  pub queue_test : (i : IrpLife) → IsOfRun first (next_step E (Test i)) q
   queue_test i = record { lives = h.lives; used = h.used; entries = h.entries; flags = h.flags; marks = marks_stay E (next_step E (Test i)) q.entries (λ j there. refl) h.marks }
 
   pub queue_end : IsOfRun first (next_step E End) q
   queue_end = record { lives = h.lives; used = h.used; entries = h.entries; flags = h.flags; marks = marks_stay E (next_step E End) q.entries (λ j there. refl) h.marks }
 
-  pub queue_done : (i : Irp) → IsOfRun first (next_step E (Done i)) q
+  pub queue_done : (i : IrpLife) → IsOfRun first (next_step E (Done i)) q
   queue_done i = record { lives = h.lives; used = h.used; entries = h.entries; flags = h.flags; marks = marks_stay E (next_step E (Done i)) q.entries (λ j there. refl) h.marks }
 
   -- a Flag is seen
-  pub queue_flag : (i : Irp) → IsOfRun first (next_step E (Flag i)) (after_event q (event.FlagSeen i))
+  pub queue_flag : (i : IrpLife) → IsOfRun first (next_step E (Flag i)) (after_event q (event.FlagSeen i))
   queue_flag i = record {
     lives = h.lives;
     used = h.used;
@@ -122,21 +123,21 @@ module _ {first : ℕ} (E : List Made) (q : QueueState) (h : IsOfRun first E q) 
 
 module _ (size : Size) (E : List Made) (r : IsRun size E) (q : QueueState) (h : IsOfRun size.first E q) where
   -- an IRP that the queue hasn't used
-  pub unlisted : (i : Irp) → was_armed E i ≡ false → has_entry q.entries i ≡ false
+  pub unlisted : (i : IrpLife) → was_armed E i ≡ false → has_entry q.entries i ≡ false
   unlisted i home = h.entries i ∙ rw home refl
 
   -- each entry is of a present life, and what was used has begun
-  now_of : (i : Irp) → IsPresent size.first E i → life_of i ≡ q.lives i.irp
+  now_of : (i : IrpLife) → IsPresent size.first E i → life_of i ≡ q.lives i.irp
   now_of i now = now ∙ sym (h.lives i.irp)
 
-  entries_present : (es : List Queued) → ((i : Irp) → has_entry es i ≡ true → life_of i ≡ q.lives i.irp) → ArePresent q.lives es
+  entries_present : (es : List Queued) → ((i : IrpLife) → has_entry es i ≡ true → life_of i ≡ q.lives i.irp) → ArePresent q.lives es
   entries_present [] each = tt
   entries_present (e ∷ es) each = (
     each e.irp (ap (λ b. b || has_entry es e.irp) (same_irp-refl e.irp)),
     entries_present es (λ i there. each i (ap (λ b. same_irp e.irp i || b) there ∙ or-true (same_irp e.irp i))),
   )
 
-  used_begun_all : (is : List Irp) → ((i : Irp) → has_irp is i ≡ true → life_of i ≤ q.lives i.irp) → AreBegun q.lives is
+  used_begun_all : (is : List IrpLife) → ((i : IrpLife) → has_irp is i ≡ true → life_of i ≤ q.lives i.irp) → AreBegun q.lives is
   used_begun_all [] each = tt
   used_begun_all (j ∷ is) each = (
     each j (ap (λ b. b || has_irp is j) (same_irp-refl j)),
@@ -153,7 +154,7 @@ module _ (size : Size) (E : List Made) (r : IsRun size E) (q : QueueState) (h : 
   pub current_is : (n : IrpId) → current q n ≡ present size.first E n
   current_is n = ap (λ (g : ℕ). the_life n g) (h.lives n)
     where
-      the_life : IrpId → ℕ → Irp
+      the_life : IrpId → ℕ → IrpLife
       the_life n g = record { irp = n; life = record { 0 = g } }
 
   -- an Arm lists its IRP
@@ -194,11 +195,11 @@ module _ (size : Size) (E : List Made) (r : IsRun size E) (q : QueueState) (h : 
       go m false e = ap (λ b. cond b (q.lives m + 1) (q.lives m)) e ∙ h.lives m ∙ sym (life_same size.first (record { pass = script_pass; kind = Renew (current q n); found = 0 }) E m e)
 
 -- a step that takes the routine of i, which it had or not
-pub taken_routine : (E : List Made) (i j : Irp) (b : Bool) → b ≡ same_irp i j → armed E i ≡ false → (not b && armed E j) ≡ armed E j
+pub taken_routine : (E : List Made) (i j : IrpLife) (b : Bool) → b ≡ same_irp i j → armed E i ≡ false → (not b && armed E j) ≡ armed E j
 taken_routine E i j true is none = sym (ap (armed E) (sym (same_irp-eq i j (sym is))) ∙ none)
 taken_routine E i j false is none = refl
 
-pub same_irp-sym : (i j : Irp) → same_irp i j ≡ same_irp j i
+pub same_irp-sym : (i j : IrpLife) → same_irp i j ≡ same_irp j i
 same_irp-sym i j = go (same_irp i j) (same_irp j i) refl refl
   where
     go : (b c : Bool) → same_irp i j ≡ b → same_irp j i ≡ c → b ≡ c
@@ -208,7 +209,7 @@ same_irp-sym i j = go (same_irp i j) (same_irp j i) refl refl
     go false true e f = let same : j ≡ i = same_irp-eq j i f in let own : same_irp i j ≡ true = ap (λ x. same_irp i x) same ∙ same_irp-refl i in cc
 
 -- the entries that stay are marked as before
-pub marks_without : (E : List Made) (i : Irp) (es : List Queued) → AreMarked E es → AreMarked E (without i es)
+pub marks_without : (E : List Made) (i : IrpLife) (es : List Queued) → AreMarked E es → AreMarked E (without i es)
 marks_without E i [] h = tt
 marks_without E i (e ∷ es) h = go (same_irp e.irp i) (marks_without E i es h.1)
   where
@@ -216,7 +217,7 @@ marks_without E i (e ∷ es) h = go (same_irp e.irp i) (marks_without E i es h.1
     go true rest = rest
     go false rest = (h.0, rest)
 
-pub marks_marking : (E F : List Made) (i : Irp) (es : List Queued) → ((j : Irp) → armed F j ≡ (not (same_irp i j) && armed E j)) → AreMarked E es → AreMarked F (marking i es)
+pub marks_marking : (E F : List Made) (i : IrpLife) (es : List Queued) → ((j : IrpLife) → armed F j ≡ (not (same_irp i j) && armed E j)) → AreMarked E es → AreMarked F (marking i es)
 marks_marking E F i [] after h = tt
 marks_marking E F i (e ∷ es) after h = (
   go (same_irp i e.irp) (same_irp e.irp i) (same_irp-sym e.irp i) e.marked h.0 ∙ ap not (sym (after e.irp)),
@@ -231,13 +232,13 @@ marks_marking E F i (e ∷ es) after h = (
 abbrev pub found_then : List Made → Kind → ℕ → List Made
 found_then E k v = record { pass = script_pass; kind = k; found = v } ∷ E
 
-module _ {first : ℕ} (E : List Made) (q : QueueState) (h : IsOfRun first E q) (i : Irp) where
+module _ {first : ℕ} (E : List Made) (q : QueueState) (h : IsOfRun first E q) (i : IrpLife) where
   -- i leaves the list
   abbrev leaving : QueueState
   leaving = record q { entries = without i q.entries }
 
-  leaves : (F : List Made) → ((j : Irp) → was_armed F j ≡ was_armed E j) → ((j : Irp) → flagged F j ≡ flagged E j) → ((j : Irp) → left F j ≡ (same_irp i j || left E j))
-      → ((j : Irp) → same_irp i j ≡ false → armed F j ≡ armed E j) → ((n : IrpId) → present_life first F n ≡ present_life first E n) → IsOfRun first F leaving
+  leaves : (F : List Made) → ((j : IrpLife) → was_armed F j ≡ was_armed E j) → ((j : IrpLife) → flagged F j ≡ flagged E j) → ((j : IrpLife) → left F j ≡ (same_irp i j || left E j))
+      → ((j : IrpLife) → same_irp i j ≡ false → armed F j ≡ armed E j) → ((n : IrpId) → present_life first F n ≡ present_life first E n) → IsOfRun first F leaving
   leaves F arms flags gone routines lives = record {
     lives = λ n. h.lives n ∙ sym (lives n);
     used = λ j. h.used j ∙ sym (arms j);
@@ -252,7 +253,7 @@ module _ {first : ℕ} (E : List Made) (q : QueueState) (h : IsOfRun first E q) 
       go true false x = refl
       go false w x = refl
 
-      stays : (j : Irp) (b : Bool) → (not b && has_entry q.entries j) ≡ true → b ≡ false
+      stays : (j : IrpLife) (b : Bool) → (not b && has_entry q.entries j) ≡ true → b ≡ false
       stays j true e = absurd cc
       stays j false e = refl
 

@@ -5,9 +5,10 @@ use Rattle.std.proofs.Math.Bool.{and-false}
 use Rattle.irp_core.specs.declared.ids.IrpId.{IrpId}
 use Rattle.irp_core.specs.declared.step.Kind.TheVariants.{Disarm, End}
 use Rattle.irp_core.specs.declared.step.Made.{Made}
-use Rattle.irp_core.specs.declared.step.Inside.{Inside}
-use Rattle.irp_core.specs.declared.step.Inside.TheVariants.{Nothing, Armed, FlagSeen, Removing, Cancelling}
-use Rattle.irp_core.specs.Steps.{Irp, number, life_of, same_irp}
+use Rattle.irp_core.specs.declared.inside.Inside.{Inside}
+use Rattle.irp_core.specs.declared.inside.Inside.TheVariants.{Nothing, Armed, FlagSeen, Removing, Cancelling}
+use Rattle.irp_core.specs.Steps.{number, life_of, same_irp}
+use Rattle.irp_core.specs.declared.ids.IrpLife.{IrpLife}
 use Rattle.irp_core.specs.Words.{bit, armed, found_by}
 use Rattle.irp_core.specs.Lives as life
 use Rattle.irp_core.specs.Inside.{inside, inside_after, follows}
@@ -16,6 +17,7 @@ use Rattle.irp_core.specs.Runs.{Size}
 use Rattle.irp_core.specs.MachineState.{MachineState, Agrees, size_of}
 use Rattle.irp_core.proofs.Names.{same_pass-refl}
 use Rattle.irp_core.proofs.Lives.{listed_present}
+use Rattle.csq_words.specs.Plays.{status_recorded}
 use Rattle.csq_list.specs.declared.entry.Entry.{Entry}
 use Rattle.csq_list.specs.declared.entry.Peek.{Peek}
 use Rattle.csq_list.specs.Searches.{matches, is_listed, is_distinct, rest_after}
@@ -23,13 +25,13 @@ use Rattle.csq_list.specs.Searches as plainly
 use Rattle.csq_list.specs.Listing.{Listing, IsSound, without_irp}
 use Rattle.csq_list.proofs.Finding.{rest_after-ends, rest_after-among}
 use Rattle.csq_words.specs.declared.views.Event.TheVariants as event
-use Rattle.csq_words.specs.Queue.{Queued, QueueState, Limits, current, listing_of, first_unmarked, has_entry, has_marked, has_unmarked, after_event, plain}
+use Rattle.csq_words.specs.Queue.{Queued, QueueState, Limits, current, plain_listing, first_unmarked, has_entry, has_marked, has_unmarked, after_event, plain}
 use Rattle.csq_words.proofs.Lives.{ArePresent}
 use Rattle.csq_words.proofs.Named.{irp_eq, same_irp-is}
 use Rattle.csq_words.proofs.Listings.{is_listed-plain, listing-removed}
 use Rattle.csq_replay.specs.declared.script.call.Call.TheVariants.{Next, Remove}
 use Rattle.csq_replay.specs.declared.script.call.Reply.TheVariants.{Removed, NoIrp}
-use Rattle.csq_replay.specs.Calls.{Script, script_pass, script_size, present_of, IsNow, status_of, next_step, after_steps, doing, removal_steps, remove_steps, Calls}
+use Rattle.csq_replay.specs.Calls.{Script, script_pass, script_size, present_of, IsNow, next_step, after_steps, doing, removal_steps, named_removal_steps, Calls}
 use Rattle.csq_replay.specs.Calls.Calls.{removes_next, removes, removes_none}
 use Rattle.csq_replay.specs.Drivers.{Keeping, Keeps, IsOfRun, AreMarked}
 use Rattle.csq_replay.proofs.Going.{Goes, May, starts, run_for, went, may_remove, may_end}
@@ -97,12 +99,12 @@ rest_later after es before e later distinct rest =
 abbrev pub seeks : Inside → Type 0
 seeks x = follows x End ≡ true
 
-after_miss : (x : Inside) (i : Irp) → seeks x → seeks (inside_after x (Disarm i) 0)
+after_miss : (x : Inside) (i : IrpLife) → seeks x → seeks (inside_after x (Disarm i) 0)
 after_miss Nothing i h = refl
 after_miss Removing i h = refl
 after_miss x i h = absurd cc
 
-after_hit : (x : Inside) (i : Irp) → inside_after x (Disarm i) 1 ≡ Nothing
+after_hit : (x : Inside) (i : IrpLife) → inside_after x (Disarm i) 1 ≡ Nothing
 after_hit Nothing i = refl
 after_hit (Armed j) i = refl
 after_hit (FlagSeen j) i = refl
@@ -122,7 +124,7 @@ pub record Seeks (begin : ℕ) (k : Peek) (s : Script) (listing : Listing) (mach
   pub plainly : map plain rest ≡ rest_after after listing.entries
   pub steps : after_steps (removal_steps k rest) run ≡ after_steps (removal_steps k s.queue.entries) s.run
   pub first : first_unmarked k rest ≡ first_unmarked k s.queue.entries
-  pub over : (j : Irp) → dones run j ≡ dones s.run j
+  pub over : (j : IrpLife) → dones run j ≡ dones s.run j
 
 bit_set : (b : Bool) (v : ℕ) → v ≡ bit b → v ≡ 1 → b ≡ true
 bit_set true v is e = refl
@@ -135,8 +137,8 @@ bit_clear false v is e = refl
 module _ (l : Limits) (kept : Keeping) (s : Script) (k : Keeps l kept s) where
   -- a script goes on by steps that claim, complete and renew nothing
   pub keeps_run : (machine : MachineState) (listing : Listing) (E : List Made) (q : QueueState) → Agrees machine E → size_of machine ≡ size_of kept.machine
-      → listing ≡ listing_of l q → IsOfRun l.first E q → inside E script_pass ≡ Nothing
-      → ((j : Irp) → dones E j ≡ dones s.run j) → ((n : IrpId) → q.lives n ≡ s.queue.lives n)
+      → listing ≡ plain_listing l q → IsOfRun l.first E q → inside E script_pass ≡ Nothing
+      → ((j : IrpLife) → dones E j ≡ dones s.run j) → ((n : IrpId) → q.lives n ≡ s.queue.lives n)
       → Keeps l (record kept { machine = machine; listing = listing }) (record s { run = E; queue = q })
   keeps_run machine listing E q a same is queue outside over lives = record {
     agrees = a;
@@ -146,30 +148,30 @@ module _ (l : Limits) (kept : Keeping) (s : Script) (k : Keeps l kept s) where
     queue = queue;
     outside = outside;
     told = λ i none. k.told i (sym (over i) ∙ none);
-    statuses = λ n in_range. k.statuses n in_range ∙ ap (status_of s.completed) (sym (still n));
+    statuses = λ n in_range. k.statuses n in_range ∙ ap (λ (y : IrpLife). status_recorded y s.completed) (sym (still n));
     statuses_size = k.statuses_size;
   }
     where
       still : (n : IrpId) → current q n ≡ present_of s n
-      still n = let at_life : ℕ → Irp = λ g. record { irp = n; life = record { 0 = g } } in ap at_life (lives n)
+      still n = let at_life : ℕ → IrpLife = λ g. record { irp = n; life = record { 0 = g } } in ap at_life (lives n)
 
   -- each entry is of its IRP's present life
   pub present : ArePresent s.queue.lives s.queue.entries
   present = (sound_lives (script_size l) s.run (run_for l kept s k) s.queue k.queue).entries
 
-  pub listed_now : (i : Irp) → listed s.run i ≡ true → present_of s i.irp ≡ i
+  pub listed_now : (i : IrpLife) → listed s.run i ≡ true → present_of s i.irp ≡ i
   listed_now i there =
       let now = listed_present (script_size l) s.run (run_for l kept s k) i there in
       irp_eq (present_of s i.irp) i refl (k.queue.lives i.irp ∙ sym now)
 
-  pub entry_now : (i : Irp) → has_entry s.queue.entries i ≡ true → present_of s i.irp ≡ i
+  pub entry_now : (i : IrpLife) → has_entry s.queue.entries i ≡ true → present_of s i.irp ≡ i
   entry_now i there = listed_now i (sym (k.queue.entries i) ∙ there)
 
   -- the entries of the list
   pub entries_are : kept.listing.entries ≡ map plain s.queue.entries
   entries_are = ap (λ (x : Listing). x.entries) k.listing
 
-  pub listed_is : (i : Irp) → life_of i ≡ s.queue.lives i.irp → is_listed kept.listing.entries i.irp ≡ has_entry s.queue.entries i
+  pub listed_is : (i : IrpLife) → life_of i ≡ s.queue.lives i.irp → is_listed kept.listing.entries i.irp ≡ has_entry s.queue.entries i
   listed_is i now = ap (λ es. is_listed es i.irp) entries_are ∙ is_listed-plain s.queue.lives i now s.queue.entries present
 
   pub listed_known : IsSound kept.listing → (n : IrpId) → is_listed kept.listing.entries n ≡ true → n.0 < (size_of kept.machine).irps
@@ -202,11 +204,11 @@ module _ (l : Limits) (kept : Keeping) (s : Script) (k : Keeps l kept s) where
     -- the machine's present life is still the queue's
     pub seeks_name : size_of machine ≡ size_of kept.machine → (n : IrpId) → life.present (size_of machine).first h.run n ≡ present_of s n
     seeks_name same n =
-        let at_life : ℕ → Irp = λ g. record { irp = n; life = record { 0 = g } } in
+        let at_life : ℕ → IrpLife = λ g. record { irp = n; life = record { 0 = g } } in
         ap at_life (ap (λ (x : Size). life.present_life x.first h.run n) (same ∙ k.size) ∙ sym (h.queue.lives n))
 
     module _ (n : IrpId) (found : Some n ≡ plainly.first_match peek (rest_after after kept.listing.entries)) where
-      abbrev i : Irp
+      abbrev i : IrpLife
       i = present_of s n
 
       here : Sought peek n h.rest
@@ -290,7 +292,7 @@ module _ (l : Limits) (kept : Keeping) (s : Script) (k : Keeps l kept s) where
         )
 
   -- a removal of one IRP
-  pub removed_keeps : (i : Irp) → number i < (size_of kept.machine).irps → IsNow s i → is_listed kept.listing.entries i.irp ≡ true → (new : MachineState) (v : ℕ) → Agrees new (next_step s.run (Disarm i))
+  pub removed_keeps : (i : IrpLife) → number i < (size_of kept.machine).irps → IsNow s i → is_listed kept.listing.entries i.irp ≡ true → (new : MachineState) (v : ℕ) → Agrees new (next_step s.run (Disarm i))
       → size_of new ≡ size_of kept.machine → v ≡ found_by s.run (Disarm i) → v ≡ 1 → (listing : Listing) → listing ≡ without_irp i.irp kept.listing
       → (t : Script) × Calls l s (Remove i) (Removed i.irp) t × Keeps l (record kept { machine = new; listing = listing }) t
   removed_keeps i known now there new v a same value hit listing without_i =
@@ -298,31 +300,31 @@ module _ (l : Limits) (kept : Keeping) (s : Script) (k : Keeps l kept s) where
       let set : armed s.run i ≡ true = bit_set (armed s.run i) v value hit in
       let one_found : found_by s.run (Disarm i) ≡ 1 = ap bit set in
       let unmarked : has_unmarked s.queue.entries i ≡ true = (marked_is s.run s.queue.entries k.queue.marks i).0 ∙ rw (sym (listed_is i life) ∙ there, set) refl in
-      let steps : next_step s.run (Disarm i) ≡ after_steps (remove_steps i s.queue.entries) s.run = rw unmarked refl in
+      let steps : next_step s.run (Disarm i) ≡ after_steps (named_removal_steps i s.queue.entries) s.run = rw unmarked refl in
       let q : QueueState = after_event s.queue (event.Remove i true) in
       let F : ℕ → List Made = λ n. found_then s.run (Disarm i) n in
       let IsQueue : List Made → Type 0 = λ E. IsOfRun l.first E q in
       let KeepsAt : List Made → Type 0 = λ E. Keeps l (record kept { machine = new; listing = listing }) (record s { run = E; queue = q }) in (
-        doing (remove_steps i s.queue.entries) (event.Remove i true) s,
+        doing (named_removal_steps i s.queue.entries) (event.Remove i true) s,
         removes i (omega (arith, known, ap (λ (n : Size). n.irps) k.size)) (sym unmarked),
         subst KeepsAt steps (keeps_run new listing (next_step s.run (Disarm i)) q a same (without_i ∙ ap (without_irp i.irp) k.listing ∙ listing-removed l s.queue i life present)
             (subst IsQueue (ap F (sym one_found)) (queue_hit s.run s.queue k.queue i))
             ((went kept.machine s.run Nothing (starts l kept s k) new (Disarm i) a same).at ∙ ap (inside_after Nothing (Disarm i)) one_found) (λ j. refl) (λ j. refl)),
       )
 
-  none_removed : (i : Irp) → number i < (size_of kept.machine).irps → has_unmarked s.queue.entries i ≡ false → (E : List Made) → E ≡ after_steps (remove_steps i s.queue.entries) s.run
+  none_removed : (i : IrpLife) → number i < (size_of kept.machine).irps → has_unmarked s.queue.entries i ≡ false → (E : List Made) → E ≡ after_steps (named_removal_steps i s.queue.entries) s.run
       → (new : MachineState) → Agrees new E → size_of new ≡ size_of kept.machine → IsOfRun l.first E s.queue → inside E script_pass ≡ Nothing
-      → ((j : Irp) → dones E j ≡ dones s.run j)
+      → ((j : IrpLife) → dones E j ≡ dones s.run j)
       → (t : Script) × Calls l s (Remove i) NoIrp t × Keeps l (record kept { machine = new }) t
   none_removed i known marked E steps new a same queue outside over =
       let KeepsAt : List Made → Type 0 = λ F. Keeps l (record kept { machine = new }) (record s { run = F }) in (
-        doing (remove_steps i s.queue.entries) (event.Remove i false) s,
+        doing (named_removal_steps i s.queue.entries) (event.Remove i false) s,
         removes_none i (omega (arith, known, ap (λ (n : Size). n.irps) k.size)) (sym marked),
         subst KeepsAt steps (keeps_run new kept.listing E s.queue a same k.listing queue outside over (λ j. refl)),
       )
 
   -- of an IRP that is claimed
-  pub marked_keeps : (i : Irp) → number i < (size_of kept.machine).irps → IsNow s i → is_listed kept.listing.entries i.irp ≡ true → (new : MachineState) (v : ℕ)
+  pub marked_keeps : (i : IrpLife) → number i < (size_of kept.machine).irps → IsNow s i → is_listed kept.listing.entries i.irp ≡ true → (new : MachineState) (v : ℕ)
       → Agrees new (next_step (next_step s.run (Disarm i)) End) → size_of new ≡ size_of kept.machine → v ≡ found_by s.run (Disarm i) → (v ≡ 1 → ⊥)
       → (t : Script) × Calls l s (Remove i) NoIrp t × Keeps l (record kept { machine = new }) t
   marked_keeps i known now there new v a same value miss =
@@ -339,7 +341,7 @@ module _ (l : Limits) (kept : Keeping) (s : Script) (k : Keeps l kept s) where
       (queue_end (next_step s.run (Disarm i)) s.queue queue) (rw same_pass-refl refl) (λ j. refl)
 
   -- of one that isn't listed in this life
-  pub unlisted_keeps : (i : Irp) → number i < (size_of kept.machine).irps → (same_irp (present_of s i.irp) i && is_listed kept.listing.entries i.irp) ≡ false → (new : MachineState)
+  pub unlisted_keeps : (i : IrpLife) → number i < (size_of kept.machine).irps → (same_irp (present_of s i.irp) i && is_listed kept.listing.entries i.irp) ≡ false → (new : MachineState)
       → Agrees new (next_step s.run End) → size_of new ≡ size_of kept.machine
       → (t : Script) × Calls l s (Remove i) NoIrp t × Keeps l (record kept { machine = new }) t
   unlisted_keeps i known absent new a same =
@@ -357,7 +359,7 @@ module _ (l : Limits) (kept : Keeping) (s : Script) (k : Keeps l kept s) where
           let both : (same_irp (present_of s i.irp) i && is_listed kept.listing.entries i.irp) ≡ true = rw (same_irp-is (present_of s i.irp) i now, here) refl in
           absurd (cc (absent, both))
 
-  pub marked_may_end : (i : Irp) (new : MachineState) (v : ℕ) → Agrees new (next_step s.run (Disarm i)) → size_of new ≡ size_of kept.machine → v ≡ found_by s.run (Disarm i) → (v ≡ 1 → ⊥) → May new End
+  pub marked_may_end : (i : IrpLife) (new : MachineState) (v : ℕ) → Agrees new (next_step s.run (Disarm i)) → size_of new ≡ size_of kept.machine → v ≡ found_by s.run (Disarm i) → (v ≡ 1 → ⊥) → May new End
   marked_may_end i new v a same value miss =
       let zero_found : found_by s.run (Disarm i) ≡ 0 = ap bit (bit_clear (armed s.run i) v value miss) in
       may_end new (next_step s.run (Disarm i)) _ (went kept.machine s.run Nothing (starts l kept s k) new (Disarm i) a same) (ap (λ n. follows (inside_after Nothing (Disarm i) n) End) zero_found)

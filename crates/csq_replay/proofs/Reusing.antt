@@ -1,17 +1,18 @@
 -- A reuse: what the driver keeps in the end.
-use Rattle.std.proofs.Common.{◌≡◌, ◌≢◌, ℕ, ◌+◌, ◌<◌, ◌≤◌, Bool, true, false, cond, not, List, [], length, Option, Some, None, refl, ap, sym, ◌∙◌, arith}
+use Rattle.std.proofs.Common.{◌≡◌, ◌≢◌, ℕ, ◌+◌, ◌<◌, ◌≤◌, Bool, true, false, cond, List, [], length, Option, Some, None, refl, ap, sym, ◌∙◌, arith}
 use Rattle.std.specs.Prelude.{slice_index_or, slice_set}
 use Rattle.std.specs.Option.{is_some}
 use Rattle.std.proofs.lemmas.List.{get_or-set_same, get_or-set_other, length-set}
 use Rattle.irp_core.specs.declared.ids.IrpId.{IrpId}
 use Rattle.irp_core.specs.declared.ids.PassId.{PassId}
 use Rattle.irp_core.specs.declared.status.NtStatus.{NtStatus}
-use Rattle.irp_core.specs.declared.step.Inside.TheVariants.{Nothing}
+use Rattle.irp_core.specs.declared.inside.Inside.TheVariants.{Nothing}
 use Rattle.irp_core.specs.declared.step.Kind.TheVariants.{Renew}
 use Rattle.irp_core.specs.declared.step.Made.{Made}
-use Rattle.irp_core.specs.declared.step.Standing.{Standing}
-use Rattle.irp_core.specs.declared.step.Standing.TheVariants.{Home, Waiting, Owed, Held, Finished}
-use Rattle.irp_core.specs.Steps.{Irp, same_id}
+use Rattle.irp_core.specs.declared.standing.Standing.{Standing}
+use Rattle.irp_core.specs.declared.standing.Standing.TheVariants.{Home, Waiting, Owed, Held, Finished}
+use Rattle.irp_core.specs.Steps.{same_id}
+use Rattle.irp_core.specs.declared.ids.IrpLife.{IrpLife}
 use Rattle.irp_core.specs.Words.{was_armed}
 use Rattle.irp_core.specs.Owners.{listed, dones}
 use Rattle.irp_core.specs.Lives.{last_life}
@@ -20,22 +21,22 @@ use Rattle.irp_core.proofs.Names.{same_id-eq, same_id-ne, same_pass-refl}
 use Rattle.irp_core.proofs.Rows.{Row}
 use Rattle.irp_core.proofs.Owning.{stands, done_gone}
 use Rattle.irp_core.proofs.Lives.{unborn_home}
+use Rattle.csq_words.specs.Plays.{status_recorded}
 use Rattle.csq_list.specs.Searches.{is_listed}
 use Rattle.csq_list.specs.Listing.{Listing, renewed}
-use Rattle.csq_words.specs.declared.views.Event.TheVariants as event
 use Rattle.csq_words.specs.Queue.{Limits}
 use Rattle.csq_words.proofs.Listings.{listing-renewed}
 use Rattle.csq_replay.specs.declared.script.call.Call.TheVariants.{Reuse}
 use Rattle.csq_replay.specs.declared.script.call.Refusal.TheVariants.{NotCompleted, LivesSpent}
 use Rattle.csq_replay.specs.declared.script.call.Reply.TheVariants.{Begun, Refused}
-use Rattle.csq_replay.specs.Calls.{Script, script_pass, script_size, present_of, life_after, status_of, next_step, after_reuse, Calls}
+use Rattle.csq_replay.specs.Calls.{Script, script_size, present_of, life_after, next_step, after_reuse, Calls}
 use Rattle.csq_replay.specs.Calls.Calls.{reuses, not_completed, lives_spent}
 use Rattle.csq_replay.specs.Drivers.{Keeping, Keeps}
 use Rattle.csq_replay.proofs.Going.{May, starts, run_for, now_present, may_renew}
 use Rattle.csq_replay.proofs.Queueing.{queue_renew, sound_lives}
 use Rattle.csq_replay.proofs.Calling.{irps_are, listed_there}
 
-module _ (ever set : Bool) (cl : List Made) (ow ho dn : PassId → Bool) (ends : List Made) (gone byr : Bool) (i : Irp) where
+module _ (ever set : Bool) (cl : List Made) (ow ho dn : PassId → Bool) (ends : List Made) (gone byr : Bool) (i : IrpLife) where
   -- what was completed was armed
   row_done : (s : Standing) → Row ever set cl ow ho dn ends gone byr i s → ends ≢ [] → ever ≡ true
   row_done (Finished status p) h n = h.ever_is
@@ -62,7 +63,7 @@ module _ (l : Limits) (kept : Keeping) (s : Script) (k : Keeps l kept s) (n : Ir
     here : n.0 < l.irps
     here = omega (arith, known, irps_are l kept s k)
 
-    has_status : status_of s.completed (present_of s n) ≡ Some status
+    has_status : status_recorded (present_of s n) s.completed ≡ Some status
     has_status = sym (k.statuses n here) ∙ kept_status
 
     -- so it was completed, and is over
@@ -89,7 +90,7 @@ module _ (l : Limits) (kept : Keeping) (s : Script) (k : Keeps l kept s) (n : Ir
       renew_may = may_renew kept.machine s.run Nothing (starts l kept s k) (present_of s n) refl known (now_present l kept s k n) over room
 
       -- the life after it
-      abbrev next : Irp
+      abbrev next : IrpLife
       next = record { irp = n; life = life_after s n }
 
       unborn : dones s.run next ≡ []
@@ -98,7 +99,7 @@ module _ (l : Limits) (kept : Keeping) (s : Script) (k : Keeps l kept s) (n : Ir
           (unborn_home (script_size l) s.run (run_for l kept s k) next (omega (arith, now))).dones_are
 
       -- each IRP's present life afterwards
-      abbrev at_life : IrpId → ℕ → Irp
+      abbrev at_life : IrpId → ℕ → IrpLife
       at_life m g = record { irp = m; life = record { 0 = g } }
 
       here_now : (m : IrpId) → same_id n m ≡ true → present_of (after_reuse n s) m ≡ next
@@ -109,12 +110,12 @@ module _ (l : Limits) (kept : Keeping) (s : Script) (k : Keeps l kept s) (n : Ir
       there_now : (m : IrpId) → same_id n m ≡ false → present_of (after_reuse n s) m ≡ present_of s m
       there_now m e = ap (λ b. at_life m (cond b (s.queue.lives m + 1) (s.queue.lives m))) e
 
-      status_now : (m : IrpId) → m.0 < l.irps → (b : Bool) → same_id n m ≡ b → slice_index_or (slice_set kept.statuses n.0 None) m.0 None ≡ status_of s.completed (present_of (after_reuse n s) m)
+      status_now : (m : IrpId) → m.0 < l.irps → (b : Bool) → same_id n m ≡ b → slice_index_or (slice_set kept.statuses n.0 None) m.0 None ≡ status_recorded (present_of (after_reuse n s) m) s.completed
       status_now m in_range true e =
           ap (λ (x : IrpId). slice_index_or (slice_set kept.statuses n.0 None) x.0 None) (sym (same_id-eq n m e)) ∙ get_or-set_same kept.statuses n.0 None None (omega (arith, here, k.statuses_size))
-          ∙ sym (ap (status_of s.completed) (here_now m e) ∙ k.told next unborn)
+          ∙ sym (ap (λ (y : IrpLife). status_recorded y s.completed) (here_now m e) ∙ k.told next unborn)
       status_now m in_range false e =
-          get_or-set_other kept.statuses n.0 m.0 None None (λ same. same_id-ne n m e (sym same)) ∙ k.statuses m in_range ∙ ap (status_of s.completed) (sym (there_now m e))
+          get_or-set_other kept.statuses n.0 m.0 None None (λ same. same_id-ne n m e (sym same)) ∙ k.statuses m in_range ∙ ap (λ (y : IrpLife). status_recorded y s.completed) (sym (there_now m e))
 
       pub renewed_keeps : (machine : MachineState) → Agrees machine (next_step s.run (Renew (present_of s n))) → size_of machine ≡ size_of kept.machine
           → (new : Listing) → new ≡ renewed n kept.listing → (statuses : List (Option NtStatus)) → statuses ≡ slice_set kept.statuses n.0 None

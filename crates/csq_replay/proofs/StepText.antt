@@ -11,7 +11,8 @@ use Rattle.std.proofs.lemmas.Fmt.{IsAscii-decimal}
 use Rattle.irp_core.specs.declared.step.Kind.{Kind}
 use Rattle.irp_core.specs.declared.step.Kind.TheVariants.{Arm, Test, Disarm, End, Flag, Take, Out, Done, Renew}
 use Rattle.irp_core.specs.declared.step.Step.{Step}
-use Rattle.irp_core.specs.Steps.{Irp, number, life_of, name_of}
+use Rattle.irp_core.specs.Steps.{number, life_of, name_of}
+use Rattle.irp_core.specs.declared.ids.IrpLife.{IrpLife}
 use Rattle.irp_core.specs.Texts.{pass_text}
 use Rattle.csq_replay.specs.Pieces.{words_of}
 use Rattle.csq_replay.specs.StepLine.{verb_of, IsNameWord, AreNameWords, IsStepLine}
@@ -27,7 +28,7 @@ plain_more n b text lt h = (IsAscii-append (b ∷ []) text (IsAscii-from_all (b 
 plain_both : (m n : ℕ) (text more : List ℕ) → IsPlain m text → IsPlain n more → IsPlain (m + n) (text ++ more)
 plain_both m n text more a b = (IsAscii-append text more a.0 b.0, let le = a.1 in let lf = b.1 in omega (arith, length-append text more))
 
-pub plain_name : (word : List ℕ) (i : Irp) → IsNameWord word i → IsPlain 19 word
+pub plain_name : (word : List ℕ) (i : IrpLife) → IsNameWord word i → IsPlain 19 word
 plain_name word i h = (name_ascii word i h, size h)
   where
     size : IsNameWord word i → length word ≤ 19
@@ -49,7 +50,7 @@ plain_verb (Done i) = plain_literal 6 (codes "done") refl (lit≤ tt)
 plain_verb (Renew i) = plain_literal 6 (codes "renew") refl (lit≤ tt)
 
 -- the words of a kind, joined behind those of a pass
-kind_tail : (pass : List ℕ) (k : Kind) (names : List (List ℕ)) (o : Option Irp) → AreNameWords names o
+kind_tail : (pass : List ℕ) (k : Kind) (names : List (List ℕ)) (o : Option IrpLife) → AreNameWords names o
     → (tail : List ℕ) × (join_with_byte 32 (pass ∷ verb_of k ∷ names) ≡ pass ++ (32 ∷ tail)) × IsPlain 26 tail
 kind_tail pass k names None h = (verb_of k, ap (λ ns. join_with_byte 32 (pass ∷ verb_of k ∷ ns)) h, ((plain_verb k).0, let le = (plain_verb k).1 in omega (arith, le)))
 kind_tail pass k names (Some i) (word, e, h) = (

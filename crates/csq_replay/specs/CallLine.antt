@@ -3,7 +3,7 @@ use Rattle.std.specs.Prelude.{◌≡◌, ◌⊎◌, ℕ, List, [], ◌∷◌, le
 use Rattle.std.specs.Str.Parse.{AllDigits, digits_value}
 use Rattle.irp_core.specs.declared.ids.FileId.{FileId}
 use Rattle.irp_core.specs.declared.ids.IrpId.{IrpId}
-use Rattle.irp_core.specs.Steps.{Irp}
+use Rattle.irp_core.specs.declared.ids.IrpLife.{IrpLife}
 use Rattle.irp_core.specs.Texts.{irp_text}
 use Rattle.csq_list.specs.declared.entry.Place.{Place}
 use Rattle.csq_list.specs.declared.entry.Place.TheVariants.{Back, Front}
@@ -33,7 +33,7 @@ place_word Back = codes "back"
 place_word Front = codes "front"
 
 -- the IRP and life that a call names, where it names a life
-abbrev pub named_life : Call → Option Irp
+abbrev pub named_life : Call → Option IrpLife
 named_life (Remove i) = Some i
 named_life (Mark i) = Some i
 named_life (Cancel i) = Some i
@@ -52,8 +52,8 @@ abbrev pub IsFileWord : List ℕ → FileId → Type 0
 IsFileWord word f = (word ≡ decimal f.0) × IsShort f.0
 
 -- eight hexadecimal digits, in either case, write this status
-abbrev pub IsStatusWord : List ℕ → ℕ → Type 0
-IsStatusWord word code = (length word ≡ 8) × AllDigits 16 word × (code ≡ digits_value 16 word)
+abbrev pub IsHexStatus : List ℕ → ℕ → Type 0
+IsHexStatus word code = (length word ≡ 8) × AllDigits 16 word × (code ≡ digits_value 16 word)
 
 -- the words are one that is as P says
 abbrev pub IsOne : (List ℕ → Type 0) → List (List ℕ) → Type 0
@@ -68,7 +68,7 @@ AreOperands words (Remove i) = IsOne (λ word. IsNameWord word i) words
 AreOperands words (Mark i) = IsOne (λ word. IsNameWord word i) words
 AreOperands words (Routine i) = IsOne (λ word. IsIrpWord word i) words
 AreOperands words (Cancel i) = IsOne (λ word. IsNameWord word i) words
-AreOperands words (Complete i status) = (irp digits : List ℕ) × (words ≡ irp ∷ digits ∷ []) × IsIrpWord irp i × IsStatusWord digits status.0
+AreOperands words (Complete i status) = (irp digits : List ℕ) × (words ≡ irp ∷ digits ∷ []) × IsIrpWord irp i × IsHexStatus digits status.0
 AreOperands words (Close f) = IsOne (λ word. IsFileWord word f) words
 AreOperands words (Cleanup f) = IsOne (λ word. IsFileWord word f) words
 AreOperands words (Flag i) = IsOne (λ word. IsIrpWord word i) words

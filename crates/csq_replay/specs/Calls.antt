@@ -1,7 +1,5 @@
 -- What the calls of a script do: steps of one pass beside events of the queue of one thread.
 use Rattle.std.specs.Prelude.{◌≡◌, ◌≢◌, ℕ, ◌+◌, ◌<◌, ◌≤◌, true, false, List, [], ◌∷◌, Option, Some, None, if◌then◌else◌}
-use Rattle.std.specs.List.{find}
-use Rattle.std.specs.Option.{option_map}
 use Rattle.irp_core.specs.declared.ids.PassId.{PassId}
 use Rattle.irp_core.specs.declared.ids.FileId.{FileId}
 use Rattle.irp_core.specs.declared.ids.IrpId.{IrpId}
@@ -11,7 +9,8 @@ use Rattle.irp_core.specs.declared.status.TheConstants.NtStatus.{PENDING, CANCEL
 use Rattle.irp_core.specs.declared.step.Kind.{Kind}
 use Rattle.irp_core.specs.declared.step.Kind.TheVariants as step
 use Rattle.irp_core.specs.declared.step.Made.{Made}
-use Rattle.irp_core.specs.Steps.{Irp, number, same_irp}
+use Rattle.irp_core.specs.Steps.{number}
+use Rattle.irp_core.specs.declared.ids.IrpLife.{IrpLife}
 use Rattle.irp_core.specs.Lives.{last_life}
 use Rattle.irp_core.specs.Words.{flagged, found_by}
 use Rattle.irp_core.specs.Owners.{owes, holds}
@@ -27,6 +26,7 @@ use Rattle.csq_words.specs.declared.views.Event.{Event}
 use Rattle.csq_words.specs.declared.views.Event.TheVariants as event
 use Rattle.csq_words.specs.Queue.{Queued, QueueState, Limits, empty_queue, current, has_marked, has_unmarked, after_event}
 use Rattle.csq_words.specs.History.{MayCome}
+use Rattle.csq_words.specs.Plays.{status_recorded}
 use Rattle.csq_replay.specs.declared.script.call.Call.{Call}
 use Rattle.csq_replay.specs.declared.script.call.Call.TheVariants.{Insert, Next, Remove, Mark, Routine, Cancel, Complete, Close, Cleanup, Flag, Status, Reuse}
 use Rattle.csq_replay.specs.declared.script.call.Refusal.TheVariants.{UnknownIrp, UnknownFile, NoClaim, NotHeld, StatusPending, Stale, NotCompleted, LivesSpent}
@@ -53,11 +53,11 @@ abbrev pub new_script : Limits → Script
 new_script l = record { run = []; queue = empty_queue l.first; completed = [] }
 
 -- IRP n in its present life
-abbrev pub present_of : Script → IrpId → Irp
+abbrev pub present_of : Script → IrpId → IrpLife
 present_of s n = current s.queue n
 
 -- i names the present life of its IRP
-abbrev pub IsNow : Script → Irp → Type 0
+abbrev pub IsNow : Script → IrpLife → Type 0
 IsNow s i = present_of s i.irp ≡ i
 
 -- the present life of IRP n, and the one after it
@@ -81,7 +81,7 @@ abbrev pub doing : List Kind → Event → Script → Script
 doing ks e s = record s { run = after_steps ks s.run; queue = after_event s.queue e }
 
 -- the script after the completion of an IRP
-abbrev pub completing : Irp → NtStatus → Script → Script
+abbrev pub completing : IrpLife → NtStatus → Script → Script
 completing i status s = record s { run = next_step s.run (step.Done i); completed = record { irp = i; status = status } ∷ s.completed }
 
 -- a removal of the next match disarms each match until one isn't marked. Where none is left, it ends
@@ -90,17 +90,13 @@ removal_steps k [] = step.End ∷ []
 removal_steps k (e ∷ es) = if matches k e.file then step.Disarm e.irp ∷ (if e.marked then removal_steps k es else []) else removal_steps k es
 
 -- a removal of i disarms it where it is listed, and ends where it is marked or not listed
-abbrev pub remove_steps : Irp → List Queued → List Kind
-remove_steps i es = if has_unmarked es i then step.Disarm i ∷ [] else (if has_marked es i then step.Disarm i ∷ step.End ∷ [] else step.End ∷ [])
+abbrev pub named_removal_steps : IrpLife → List Queued → List Kind
+named_removal_steps i es = if has_unmarked es i then step.Disarm i ∷ [] else (if has_marked es i then step.Disarm i ∷ step.End ∷ [] else step.End ∷ [])
 
 -- what a removal answers that takes this IRP, or none
-abbrev pub removal_reply : Option Irp → Reply
+abbrev pub removal_reply : Option IrpLife → Reply
 removal_reply (Some i) = Removed i.irp
 removal_reply None = NoIrp
-
--- the status of a life, if it was completed
-abbrev pub status_of : List Completion → Irp → Option NtStatus
-status_of completed i = option_map (λ (c : Completion). c.status) (find (λ (c : Completion). same_irp c.irp i) completed)
 
 abbrev pub status_reply : Option NtStatus → Reply
 status_reply (Some status) = reply.Status status
@@ -119,7 +115,7 @@ irp_of (Reuse n) = Some n
 irp_of _ = None
 
 -- the life that a call is to cancel
-abbrev pub cancelled_life : Call → Option Irp
+abbrev pub cancelled_life : Call → Option IrpLife
 cancelled_life (Mark i) = Some i
 cancelled_life (Cancel i) = Some i
 cancelled_life _ = None
@@ -131,7 +127,7 @@ file_of (Cleanup f) = Some f
 file_of _ = None
 
 -- the script after a mark: the Take found the routine, or didn't
-abbrev pub after_mark : Irp → Script → Script
+abbrev pub after_mark : IrpLife → Script → Script
 after_mark i s = doing (step.Flag i ∷ step.Take i ∷ []) (event.FlagSeen i) s
 
 -- the script after the cancel routine of IRP n, and its completion
@@ -152,17 +148,17 @@ pub data Calls (l : Limits) (s : Script) : Call → Reply → Script → Type 0 
       → Calls l s (Insert n f place) Cancelled
       (completing (present_of s n) CANCELLED
       (doing (step.Arm (present_of s n) ∷ step.Test (present_of s n) ∷ step.Disarm (present_of s n) ∷ []) (event.Insert n f place insert.Cancelled) s))
-  removes_next : (k : Peek) (got : Option Irp) → MayCome l s.queue (event.RemoveNext k got)
+  removes_next : (k : Peek) (got : Option IrpLife) → MayCome l s.queue (event.RemoveNext k got)
       → Calls l s (Next k) (removal_reply got) (doing (removal_steps k s.queue.entries) (event.RemoveNext k got) s)
-  removes : (i : Irp) → number i < l.irps → MayCome l s.queue (event.Remove i true)
-      → Calls l s (Remove i) (Removed i.irp) (doing (remove_steps i s.queue.entries) (event.Remove i true) s)
-  removes_none : (i : Irp) → number i < l.irps → MayCome l s.queue (event.Remove i false)
-      → Calls l s (Remove i) NoIrp (doing (remove_steps i s.queue.entries) (event.Remove i false) s)
-  claims : (i : Irp) → number i < l.irps → IsNow s i → found_by s.run (step.Take i) ≡ 1 → MayCome l s.queue (event.Mark i)
+  removes : (i : IrpLife) → number i < l.irps → MayCome l s.queue (event.Remove i true)
+      → Calls l s (Remove i) (Removed i.irp) (doing (named_removal_steps i s.queue.entries) (event.Remove i true) s)
+  removes_none : (i : IrpLife) → number i < l.irps → MayCome l s.queue (event.Remove i false)
+      → Calls l s (Remove i) NoIrp (doing (named_removal_steps i s.queue.entries) (event.Remove i false) s)
+  claims : (i : IrpLife) → number i < l.irps → IsNow s i → found_by s.run (step.Take i) ≡ 1 → MayCome l s.queue (event.Mark i)
       → Calls l s (Mark i) Claimed (doing [] (event.Mark i) (after_mark i s))
-  claims_none : (i : Irp) → number i < l.irps → IsNow s i → found_by s.run (step.Take i) ≡ 0
+  claims_none : (i : IrpLife) → number i < l.irps → IsNow s i → found_by s.run (step.Take i) ≡ 0
       → Calls l s (Mark i) Unclaimed (after_mark i s)
-  is_stale : (c : Call) (i : Irp) → cancelled_life c ≡ Some i → number i < l.irps → ¬ IsNow s i → Calls l s c (Refused (Stale (life_now s i.irp))) s
+  is_stale : (c : Call) (i : IrpLife) → cancelled_life c ≡ Some i → number i < l.irps → ¬ IsNow s i → Calls l s c (Refused (Stale (life_now s i.irp))) s
   runs_routine : (n : IrpId) → n.0 < l.irps → owes s.run script_pass (present_of s n) ≡ true → MayCome l s.queue (event.Out (present_of s n))
       → Calls l s (Routine n) (Completed CANCELLED) (after_routine n s)
   has_no_claim : (n : IrpId) → n.0 < l.irps → owes s.run script_pass (present_of s n) ≡ false → Calls l s (Routine n) (Refused NoClaim) s
@@ -172,11 +168,11 @@ pub data Calls (l : Limits) (s : Script) : Call → Reply → Script → Type 0 
   refuses_pending : (n : IrpId) → n.0 < l.irps → holds s.run script_pass (present_of s n) ≡ true → Calls l s (Complete n PENDING) (Refused StatusPending) s
   closes : (f : FileId) → MayCome l s.queue (event.CloseFile f) → Calls l s (Close f) Closed (doing [] (event.CloseFile f) s)
   tells_flag : (n : IrpId) → n.0 < l.irps → Calls l s (Flag n) (reply.Flag (flagged s.run (present_of s n))) s
-  tells_status : (n : IrpId) → n.0 < l.irps → Calls l s (Status n) (status_reply (status_of s.completed (present_of s n))) s
-  reuses : (n : IrpId) (status : NtStatus) → n.0 < l.irps → status_of s.completed (present_of s n) ≡ Some status → s.queue.lives n < last_life
+  tells_status : (n : IrpId) → n.0 < l.irps → Calls l s (Status n) (status_reply (status_recorded (present_of s n) s.completed)) s
+  reuses : (n : IrpId) (status : NtStatus) → n.0 < l.irps → status_recorded (present_of s n) s.completed ≡ Some status → s.queue.lives n < last_life
       → MayCome l s.queue (event.Reuse n (life_after s n)) → Calls l s (Reuse n) (Begun (life_after s n)) (after_reuse n s)
-  not_completed : (n : IrpId) → n.0 < l.irps → status_of s.completed (present_of s n) ≡ None → Calls l s (Reuse n) (Refused NotCompleted) s
-  lives_spent : (n : IrpId) (status : NtStatus) → n.0 < l.irps → status_of s.completed (present_of s n) ≡ Some status → last_life ≤ s.queue.lives n
+  not_completed : (n : IrpId) → n.0 < l.irps → status_recorded (present_of s n) s.completed ≡ None → Calls l s (Reuse n) (Refused NotCompleted) s
+  lives_spent : (n : IrpId) (status : NtStatus) → n.0 < l.irps → status_recorded (present_of s n) s.completed ≡ Some status → last_life ≤ s.queue.lives n
       → Calls l s (Reuse n) (Refused LivesSpent) s
   knows_no_irp : (c : Call) (n : IrpId) → irp_of c ≡ Some n → l.irps ≤ n.0 → Calls l s c (Refused UnknownIrp) s
   knows_no_file : (c : Call) (f : FileId) → file_of c ≡ Some f → l.files ≤ f.0 → Calls l s c (Refused UnknownFile) s
@@ -190,6 +186,6 @@ pub data Cleans (l : Limits) (f : FileId) : Script → ℕ → Script → Type 0
 -- a call, which may be made of others: a cancel is a mark and, with its claim, the cancel routine; a cleanup closes and cleans
 pub data Does (l : Limits) (s : Script) : Call → Reply → Script → Type 0 where
   calls : (c : Call) (r : Reply) (t : Script) → Calls l s c r t → Does l s c r t
-  cancel_claimed : (i : Irp) (t u : Script) → Calls l s (Mark i) Claimed t → Calls l t (Routine i.irp) (Completed CANCELLED) u → Does l s (Cancel i) (CancelAnswered true) u
-  cancel_unclaimed : (i : Irp) (t : Script) → Calls l s (Mark i) Unclaimed t → Does l s (Cancel i) (CancelAnswered false) t
+  cancel_claimed : (i : IrpLife) (t u : Script) → Calls l s (Mark i) Claimed t → Calls l t (Routine i.irp) (Completed CANCELLED) u → Does l s (Cancel i) (CancelAnswered true) u
+  cancel_unclaimed : (i : IrpLife) (t : Script) → Calls l s (Mark i) Unclaimed t → Does l s (Cancel i) (CancelAnswered false) t
   cleaned : (f : FileId) (t u : Script) (n : ℕ) → Calls l s (Close f) Closed t → Cleans l f t n u → Does l s (Cleanup f) (Cleaned n) u

@@ -1,21 +1,22 @@
 -- What a driver keeps of its script: the private side of its contracts.
-use Rattle.std.specs.Prelude.{◌≡◌, ℕ, ◌<◌, ◌≤◌, true, not, List, [], ◌∷◌, length, Option, Some, None, slice_index_or}
+use Rattle.std.specs.Prelude.{◌≡◌, ℕ, ◌<◌, ◌≤◌, true, not, List, [], ◌∷◌, length, Option, None, slice_index_or}
 use Rattle.irp_core.specs.declared.ids.IrpId.{IrpId}
 use Rattle.irp_core.specs.declared.status.NtStatus.{NtStatus}
 use Rattle.irp_core.specs.declared.step.Made.{Made}
-use Rattle.irp_core.specs.declared.step.Inside.TheVariants.{Nothing}
-use Rattle.irp_core.specs.Steps.{Irp}
+use Rattle.irp_core.specs.declared.inside.Inside.TheVariants.{Nothing}
+use Rattle.irp_core.specs.declared.ids.IrpLife.{IrpLife}
 use Rattle.irp_core.specs.Words.{armed, flagged, was_armed}
 use Rattle.irp_core.specs.Inside.{inside}
 use Rattle.irp_core.specs.Owners.{owes, holds, listed, dones}
 use Rattle.irp_core.specs.Lives.{present_life}
 use Rattle.irp_core.specs.MachineState.{MachineState, Agrees, size_of}
+use Rattle.csq_words.specs.Plays.{status_recorded}
 use Rattle.csq_list.specs.Listing.{Listing}
-use Rattle.csq_words.specs.Queue.{Queued, QueueState, Limits, listing_of, has_irp, has_entry}
+use Rattle.csq_words.specs.Queue.{Queued, QueueState, Limits, plain_listing, has_irp, has_entry}
 use Rattle.csq_replay.specs.declared.script.call.Call.{Call}
 use Rattle.csq_replay.specs.declared.script.call.Reply.{Reply}
 use Rattle.csq_replay.specs.declared.script.driver.Driver.{Driver}
-use Rattle.csq_replay.specs.Calls.{Script, script_pass, script_size, present_of, status_of, Calls, Does}
+use Rattle.csq_replay.specs.Calls.{Script, script_pass, script_size, present_of, Calls, Does}
 
 -- each entry is marked where its routine is gone
 abbrev pub AreMarked : List Made → List Queued → Type 0
@@ -25,9 +26,9 @@ AreMarked E (e ∷ es) = (e.marked ≡ not (armed E e.irp)) × AreMarked E es
 -- the queue of one thread says of each IRP what the run says, which begins in this life
 pub record IsOfRun (first : ℕ) (E : List Made) (q : QueueState) : Type 0 where
   pub lives : (n : IrpId) → q.lives n ≡ present_life first E n
-  pub used : (i : Irp) → has_irp q.used i ≡ was_armed E i
-  pub entries : (i : Irp) → has_entry q.entries i ≡ listed E i
-  pub flags : (i : Irp) → has_irp q.flags i ≡ flagged E i
+  pub used : (i : IrpLife) → has_irp q.used i ≡ was_armed E i
+  pub entries : (i : IrpLife) → has_entry q.entries i ≡ listed E i
+  pub flags : (i : IrpLife) → has_irp q.flags i ≡ flagged E i
   pub marks : AreMarked E q.entries
 
 -- what a driver keeps: its machine, what its list means, and the status of each IRP in its present life
@@ -45,12 +46,12 @@ pub record Keeps (l : Limits) (kept : Keeping) (s : Script) : Type 0 where
   pub agrees : Agrees kept.machine s.run
   pub size : size_of kept.machine ≡ script_size l
   pub few : l.irps ≤ 1024
-  pub listing : kept.listing ≡ listing_of l s.queue
+  pub listing : kept.listing ≡ plain_listing l s.queue
   pub queue : IsOfRun l.first s.run s.queue
   pub outside : inside s.run script_pass ≡ Nothing
   -- only what was completed has a status
-  pub told : (i : Irp) → dones s.run i ≡ [] → status_of s.completed i ≡ None
-  pub statuses : (n : IrpId) → n.0 < l.irps → slice_index_or kept.statuses n.0 None ≡ status_of s.completed (present_of s n)
+  pub told : (i : IrpLife) → dones s.run i ≡ [] → status_recorded i s.completed ≡ None
+  pub statuses : (n : IrpId) → n.0 < l.irps → slice_index_or kept.statuses n.0 None ≡ status_recorded (present_of s n) s.completed
   pub statuses_size : length kept.statuses ≡ l.irps
 
 -- it keeps some script

@@ -8,12 +8,13 @@ use Rattle.csq_replay.specs.Lines.{IsSkipped}
 use Rattle.csq_replay.specs.Schedule.{IsScheduleAnswer}
 use Rattle.csq_replay.specs.CallLine.{IsCallLine}
 use Rattle.irp_core.specs.declared.status.NtStatus.{NtStatus}
-use Rattle.irp_core.specs.Steps.{Irp}
+use Rattle.irp_core.specs.declared.ids.IrpLife.{IrpLife}
 use Rattle.irp_core.specs.Owners.{holds}
+use Rattle.csq_words.specs.Plays.{status_recorded}
 use Rattle.csq_words.specs.Queue.{Limits, has_irp, has_entry}
 use Rattle.csq_replay.specs.declared.script.call.Call.{Call}
 use Rattle.csq_replay.specs.declared.script.call.Reply.{Reply}
-use Rattle.csq_replay.specs.Calls.{Script, script_pass, new_script, status_of, Does}
+use Rattle.csq_replay.specs.Calls.{Script, script_pass, new_script, Does}
 use Rattle.csq_replay.specs.ScriptAnswer.{IsScriptAnswer, closing_lines}
 
 -- two answers to one schedule are the same
@@ -34,8 +35,8 @@ pub data LeadTo (l : Limits) : Script → List (List ℕ) → Script → Type 0 
       → LeadTo l s (line ∷ lines) u
 
 -- the IRP in this life is listed, held, or completed with a status that is told
-abbrev pub IsAccountedFor : Script → Irp → Type 0
-IsAccountedFor s i = IsTrue (has_entry s.queue.entries i) ⊎ (IsTrue (holds s.run script_pass i) ⊎ ((status : NtStatus) × (status_of s.completed i ≡ Some status)))
+abbrev pub IsAccountedFor : Script → IrpLife → Type 0
+IsAccountedFor s i = IsTrue (has_entry s.queue.entries i) ⊎ (IsTrue (holds s.run script_pass i) ⊎ ((status : NtStatus) × (status_recorded i s.completed ≡ Some status)))
 
 -- the text ends with these lines
 abbrev pub EndsWith : List ℕ → List ℕ → Type 0
@@ -45,4 +46,4 @@ EndsWith text lines = (before : List ℕ) × (text ≡ before ++ lines)
 -- IRP that an insert accepted is accounted for
 abbrev pub EachInsertedIrpIsAccountedFor : Limits → Type 0
 EachInsertedIrpIsAccountedFor l = (input text : List ℕ) → IsScriptAnswer l input text AllHandled
-    → (last : Script) × LeadTo l (new_script l) (lines_of input) last × EndsWith text (closing_lines l last) × ((i : Irp) → IsTrue (has_irp last.queue.used i) → IsAccountedFor last i)
+    → (last : Script) × LeadTo l (new_script l) (lines_of input) last × EndsWith text (closing_lines l last) × ((i : IrpLife) → IsTrue (has_irp last.queue.used i) → IsAccountedFor last i)

@@ -2,7 +2,7 @@
 use Rattle.std.specs.Prelude.{List, ℕ, ◌++◌, true, false, Option, Some, None, codes, decimal}
 use Rattle.irp_core.specs.declared.status.NtStatus.{NtStatus}
 use Rattle.irp_core.specs.Texts.{irp_text, life_text, status_text}
-use Rattle.csq_list.specs.Causes.{name_of, nt_of}
+use Rattle.csq_list.specs.Causes.{cause_name, nt_of}
 use Rattle.csq_replay.specs.declared.script.call.Refusal.{Refusal}
 use Rattle.csq_replay.specs.declared.script.call.Refusal.TheVariants.{UnknownIrp, UnknownFile, NoClaim, NotHeld, StatusPending, Stale, NotCompleted, LivesSpent}
 use Rattle.csq_replay.specs.declared.script.call.Reply.{Reply}
@@ -27,7 +27,7 @@ nt_text (Some status) = codes " " ++ status_text status
 abbrev pub reply_text : Reply → List ℕ
 reply_text Pending = codes "pending"
 reply_text Cancelled = codes "cancelled"
-reply_text (InsertRefused cause) = codes "refused " ++ (name_of cause ++ nt_text (nt_of cause))
+reply_text (InsertRefused cause) = codes "refused " ++ (cause_name cause ++ nt_text (nt_of cause))
 reply_text (Removed i) = codes "irp " ++ irp_text i
 reply_text NoIrp = codes "none"
 reply_text Claimed = codes "claimed"

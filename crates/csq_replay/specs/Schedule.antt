@@ -4,9 +4,10 @@ use Rattle.std.specs.Option.{option_map_or}
 use Rattle.irp_core.specs.declared.step.Kind.{Kind}
 use Rattle.irp_core.specs.declared.step.Kind.TheVariants.{Disarm, Take}
 use Rattle.irp_core.specs.declared.step.Made.{Made}
-use Rattle.irp_core.specs.declared.step.IrpPlace.{IrpPlace}
-use Rattle.irp_core.specs.declared.step.IrpPlace.TheVariants.{Home}
-use Rattle.irp_core.specs.Steps.{Irp, life_of}
+use Rattle.irp_core.specs.declared.standing.IrpPlace.{IrpPlace}
+use Rattle.irp_core.specs.declared.standing.IrpPlace.TheVariants.{Home}
+use Rattle.irp_core.specs.Steps.{life_of}
+use Rattle.irp_core.specs.declared.ids.IrpLife.{IrpLife}
 use Rattle.irp_core.specs.Words.{bit, flagged}
 use Rattle.irp_core.specs.Owners.{is_claim}
 use Rattle.irp_core.specs.Lives.{present}
@@ -49,7 +50,7 @@ abbrev pub AnswersLine : Size → List Numbered → ℕ → List ℕ → List �
 AnswersLine = TellsLine answer_text
 
 -- whether i is home in life 0, with a clear Cancel flag
-abbrev pub is_untouched : IrpPlace → Bool → Irp → Bool
+abbrev pub is_untouched : IrpPlace → Bool → IrpLife → Bool
 is_untouched Home false i = life_of i == 0
 is_untouched _ _ i = false
 
@@ -75,7 +76,7 @@ told_of (Some line) = line ∷ []
 told_of None = []
 
 -- so i is told of after E
-abbrev pub IsToldOf : List Made → Irp → List IrpLine → Type 0
+abbrev pub IsToldOf : List Made → IrpLife → List IrpLine → Type 0
 IsToldOf E i told = (place : IrpPlace) × IsPlace E i place × (told ≡ unless_silent (record { name = i; place = place; cancelled = flagged E i }))
 
 -- so the first IRPs are told of in their present lives, by rising number
@@ -93,7 +94,7 @@ abbrev pub TellsRest : List Made → Bool → Type 0
 TellsRest E rest = (IsTrue rest) ↔ IsAtRest E
 
 -- the IRP whose routine a step of this kind takes out
-abbrev pub exchanged_irp : Kind → Option Irp
+abbrev pub exchanged_irp : Kind → Option IrpLife
 exchanged_irp (Disarm i) = Some i
 exchanged_irp (Take i) = Some i
 exchanged_irp _ = None

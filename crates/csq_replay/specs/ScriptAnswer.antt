@@ -1,10 +1,10 @@
 -- What a script is answered.
-use Rattle.std.specs.Prelude.{◌≡◌, ℕ, zero, suc, Bool, ◌+◌, ◌<◌, ◌≤◌, List, [], ◌∷◌, ◌++◌, filter, map, length, codes, Option, Some, None}
+use Rattle.std.specs.Prelude.{◌≡◌, ℕ, zero, suc, Bool, ◌<◌, List, [], ◌∷◌, ◌++◌, filter, map, length, codes, Option, Some, None}
 use Rattle.irp_core.specs.declared.ids.IrpId.{IrpId}
 use Rattle.irp_core.specs.declared.step.Made.{Made}
 use Rattle.irp_core.specs.Owners.{owes, holds}
 use Rattle.irp_core.specs.Runs.{IsRun}
-use Rattle.irp_core.specs.Steps.{Irp}
+use Rattle.irp_core.specs.declared.ids.IrpLife.{IrpLife}
 use Rattle.irp_core.specs.Texts.{irp_text}
 use Rattle.csq_words.specs.Queue.{Queued, Limits}
 use Rattle.csq_replay.specs.declared.lines.answer.Ended.{Ended}
@@ -46,7 +46,7 @@ irps_below zero = []
 irps_below (suc n) = irps_below n ++ record { 0 = n } ∷ []
 
 -- the pass keeps the IRP so
-abbrev pub is_kept : Kept → List Made → Irp → Bool
+abbrev pub is_kept : Kept → List Made → IrpLife → Bool
 is_kept Held E i = holds E script_pass i
 is_kept Owed E i = owes E script_pass i
 

@@ -4,7 +4,8 @@ use Rattle.irp_core.specs.declared.ids.PassId.{PassId}
 use Rattle.irp_core.specs.declared.step.Kind.{Kind}
 use Rattle.irp_core.specs.declared.step.Kind.TheVariants.{Arm, Test, Disarm, End, Flag, Take, Out, Done, Renew}
 use Rattle.irp_core.specs.declared.step.Step.{Step}
-use Rattle.irp_core.specs.Steps.{Irp, number, life_of, name_of}
+use Rattle.irp_core.specs.Steps.{number, life_of, name_of}
+use Rattle.irp_core.specs.declared.ids.IrpLife.{IrpLife}
 use Rattle.irp_core.specs.Texts.{irp_text, life_text, pass_text}
 use Rattle.csq_replay.specs.Pieces.{words_of, IsShort}
 
@@ -25,12 +26,12 @@ abbrev pub IsPassWord : List ℕ → PassId → Type 0
 IsPassWord word p = (word ≡ pass_text p) × IsShort p.0
 
 -- the word names an IRP in this life: by its number and, after @, the life's, or in life 0 by its number alone
-abbrev pub IsNameWord : List ℕ → Irp → Type 0
+abbrev pub IsNameWord : List ℕ → IrpLife → Type 0
 IsNameWord word i = ((word ≡ irp_text i.irp) × IsShort (number i) × (life_of i ≡ 0))
     ⊎ ((word ≡ irp_text i.irp ++ (codes "@" ++ life_text i.life)) × IsShort (number i) × IsShort (life_of i))
 
 -- the words name this, or nothing
-abbrev pub AreNameWords : List (List ℕ) → Option Irp → Type 0
+abbrev pub AreNameWords : List (List ℕ) → Option IrpLife → Type 0
 AreNameWords words None = words ≡ []
 AreNameWords words (Some i) = (word : List ℕ) × (words ≡ word ∷ []) × IsNameWord word i
 

@@ -8,14 +8,15 @@ use Rattle.irp_core.specs.declared.status.TheConstants.NtStatus.{CANCELLED}
 use Rattle.irp_core.specs.declared.step.Kind.{Kind}
 use Rattle.irp_core.specs.declared.step.Kind.TheVariants.{Arm, Test, Disarm, End, Flag, Take, Out, Done, Renew}
 use Rattle.irp_core.specs.declared.step.Made.{Made}
-use Rattle.irp_core.specs.Steps.{Irp, same_irp, same_kind, is, found_one, by, own}
+use Rattle.irp_core.specs.Steps.{same_irp, same_kind, is, found_one, by, own}
+use Rattle.irp_core.specs.declared.ids.IrpLife.{IrpLife}
 use Rattle.irp_core.specs.Inside.{in_insert}
 use Rattle.irp_core.specs.Owners.{is_claim, claims, owes, dones}
 use Rattle.irp_core.specs.Runs.{Size, MayTouch, IsRun}
 use Rattle.irp_core.proofs.Names.{same_irp-eq, same_pass-eq, same_some}
 use Rattle.irp_core.proofs.Growing.{run_less, run_last}
 use Rattle.irp_core.proofs.Owning.{claims_one, owner_claims}
-use Rattle.csq_words.specs.Own.{inside_of, disarmed_in, out_in, removed_in}
+use Rattle.irp_core.specs.Own.{inside_of, disarmed_in, out_in, removed_in}
 use Rattle.csq_words.specs.declared.views.Completion.{Completion}
 use Rattle.csq_words.specs.Queue.{has_irp}
 use Rattle.csq_words.specs.Rule.{is_done, with_done, completed_in, AreDue}
@@ -23,11 +24,11 @@ use Rattle.csq_words.specs.Plays.{status_recorded}
 use Rattle.csq_words.specs.Stories.{IsOneOf}
 use Rattle.csq_words.proofs.Facts.{off}
 use Rattle.csq_words.proofs.Keeping.{none_is}
-use Rattle.csq_words.proofs.Own.{own_made}
+use Rattle.irp_core.proofs.Own.{own_made}
 use Rattle.csq_words.proofs.Truths.{own_any}
 
 -- a removal is a claim, and so is each exchange that took the routine
-pub removed_claims : (steps : List Made) (i : Irp) → removed_in steps i ≡ true → list_any (is_claim i) steps ≡ true
+pub removed_claims : (steps : List Made) (i : IrpLife) → removed_in steps i ≡ true → list_any (is_claim i) steps ≡ true
 removed_claims [] i h = h
 removed_claims (m ∷ steps) i h = go (found_one (Disarm i) m) (found_one (Take i) m) (not (in_insert (inside_of steps))) (removed_claims steps i) h
   where
@@ -35,7 +36,7 @@ removed_claims (m ∷ steps) i h = go (found_one (Disarm i) m) (found_one (Take 
     go true c x rest h = refl
     go false c x rest h = or_right c (list_any (is_claim i) steps) (rest h)
 
-pub disarmed_claims : (steps : List Made) (i : Irp) → disarmed_in steps i ≡ true → list_any (is_claim i) steps ≡ true
+pub disarmed_claims : (steps : List Made) (i : IrpLife) → disarmed_in steps i ≡ true → list_any (is_claim i) steps ≡ true
 disarmed_claims [] i h = h
 disarmed_claims (m ∷ steps) i h = go (found_one (Disarm i) m) (found_one (Take i) m) (disarmed_claims steps i) h
   where
@@ -48,7 +49,7 @@ short [] m h = refl
 short (x ∷ xs) m h = absurd (omega (arith, h))
 
 -- a step of this kind is an Out of what the pass owes
-out_owed : (size : Size) (p : PassId) (E : List Made) (i : Irp) (k : Kind) → MayTouch size p k E → same_kind k (Out i) ≡ true → owes E p i ≡ true
+out_owed : (size : Size) (p : PassId) (E : List Made) (i : IrpLife) (k : Kind) → MayTouch size p k E → same_kind k (Out i) ≡ true → owes E p i ≡ true
 out_owed size p E i (Out j) t h = ap (owes E p) (sym (same_irp-eq j i h)) ∙ t
 out_owed size p E i (Arm j) t h = off h
 out_owed size p E i (Test j) t h = off h
@@ -61,7 +62,7 @@ out_owed size p E i (Renew j) t h = off h
 
 module _ (size : Size) where
   -- once claimed, an IRP is claimed by no other step
-  claim_stays : (m : Made) (E : List Made) → IsRun size (m ∷ E) → (p : PassId) (i : Irp) → IsOneOf p (claims E i) → IsOneOf p (claims (m ∷ E) i)
+  claim_stays : (m : Made) (E : List Made) → IsRun size (m ∷ E) → (p : PassId) (i : IrpLife) → IsOneOf p (claims E i) → IsOneOf p (claims (m ∷ E) i)
   claim_stays m E r p i h = go (is_claim i m) refl
     where
       go : (b : Bool) → is_claim i m ≡ b → IsOneOf p (cond b (m ∷ claims E i) (claims E i))
@@ -72,7 +73,7 @@ module _ (size : Size) where
           absurd cc
 
   -- who claimed an IRP made its one claim
-  pub one_claim : (E : List Made) → IsRun size E → (p : PassId) (i : Irp) → list_any (is_claim i) (own p E) ≡ true → IsOneOf p (claims E i)
+  pub one_claim : (E : List Made) → IsRun size E → (p : PassId) (i : IrpLife) → list_any (is_claim i) (own p E) ≡ true → IsOneOf p (claims E i)
   one_claim [] r p i h = off h
   one_claim (m ∷ E) r p i h = go (λ c. claim_stays m E r p i (one_claim E (run_less size m E r) p i c)) (by p m) refl h
     where
@@ -87,7 +88,7 @@ module _ (size : Size) where
       go rest false e h = rest h
 
   -- who took an IRP out made its one claim
-  pub out_claim : (E : List Made) → IsRun size E → (p : PassId) (i : Irp) → out_in (own p E) i ≡ true → IsOneOf p (claims E i)
+  pub out_claim : (E : List Made) → IsRun size E → (p : PassId) (i : IrpLife) → out_in (own p E) i ≡ true → IsOneOf p (claims E i)
   out_claim [] r p i h = off h
   out_claim (m ∷ E) r p i h = go (λ c. claim_stays m E r p i (out_claim E (run_less size m E r) p i c)) (by p m) refl h
     where
@@ -103,7 +104,7 @@ module _ (size : Size) where
       go rest false e h = rest h
 
 -- an IRP that was completed once was completed by a step of its own pass
-pub done_own : (E : List Made) (d : Made) (i : Irp) → dones E i ≡ d ∷ [] → is_done (own d.pass E) i ≡ true
+pub done_own : (E : List Made) (d : Made) (i : IrpLife) → dones E i ≡ d ∷ [] → is_done (own d.pass E) i ≡ true
 done_own [] d i h = absurd cc
 done_own (m ∷ E) d i h = go (done_own E d i) (is (Done i) m) refl h
   where
@@ -112,7 +113,7 @@ done_own (m ∷ E) d i h = go (done_own E d i) (is (Done i) m) refl h
     go rest false e h = own_any d.pass m E (is (Done i)) (rest h)
 
 -- what the steps completed is among what they completed, and a record of that has a status of each
-pub completed_has : (steps : List Made) (i : Irp) → is_done steps i ≡ true → has_irp (completed_in steps) i ≡ true
+pub completed_has : (steps : List Made) (i : IrpLife) → is_done steps i ≡ true → has_irp (completed_in steps) i ≡ true
 completed_has [] i h = h
 completed_has (m ∷ steps) i h = go m.kind (completed_has steps i) h
   where
@@ -131,7 +132,7 @@ completed_has (m ∷ steps) i h = go m.kind (completed_has steps i) h
     go (Out j) rest h = rest h
     go (Renew j) rest h = rest h
 
-pub has_status : (cs : List Completion) (i : Irp) → has_irp (map (λ (c : Completion). c.irp) cs) i ≡ true → (status : NtStatus) × (status_recorded i cs ≡ Some status)
+pub has_status : (cs : List Completion) (i : IrpLife) → has_irp (map (λ (c : Completion). c.irp) cs) i ≡ true → (status : NtStatus) × (status_recorded i cs ≡ Some status)
 has_status [] i h = off h
 has_status (c ∷ cs) i h = go (same_irp c.irp i) (has_status cs i) h
   where
@@ -141,7 +142,7 @@ has_status (c ∷ cs) i h = go (same_irp c.irp i) (has_status cs i) h
     go false rest h = rest h
 
 -- the status that was recorded was due
-pub recorded_due : (steps : List Made) (cs : List Completion) (i : Irp) (status : NtStatus) → AreDue steps cs → status_recorded i cs ≡ Some status → removed_in steps i ≡ false → status ≡ CANCELLED
+pub recorded_due : (steps : List Made) (cs : List Completion) (i : IrpLife) (status : NtStatus) → AreDue steps cs → status_recorded i cs ≡ Some status → removed_in steps i ≡ false → status ≡ CANCELLED
 recorded_due steps [] i status h e n = none_is status e
 recorded_due steps (c ∷ cs) i status h e n = go (recorded_due steps cs i status h.1) (same_irp c.irp i) refl e
   where

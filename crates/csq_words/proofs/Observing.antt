@@ -12,12 +12,12 @@ use Rattle.csq_words.specs.declared.views.PassRecord.{PassRecord}
 use Rattle.csq_words.specs.declared.views.QueueRecord.{QueueRecord}
 use Rattle.csq_words.specs.declared.views.View.{View}
 use Rattle.csq_words.specs.Records.{view_of, with_run}
-use Rattle.csq_words.specs.Own.{inside_of}
+use Rattle.irp_core.specs.Own.{inside_of}
 use Rattle.csq_words.specs.Rule.{in_flight, IsOut, WordsAgree, Fits, RuleHoldsBy, RuleHolds, QueueHasRun}
 use Rattle.csq_words.specs.Plays.{SeatView, Observes, TellsQueue, TellsBoth}
 use Rattle.csq_words.proofs.Indexes.{at_below}
 use Rattle.csq_words.proofs.Keeping.{none_is, all_set, present_else, apart, at_queue, nobody_in, agrees_same, inserts_none, are_back}
-use Rattle.csq_words.proofs.Renewing.{renewal_kept}
+use Rattle.csq_words.proofs.ReuseSteps.{renewal_kept}
 
 -- the queue's record has the execution so far
 observes : (size : Size) (slots id : ℕ) (q : QueueRecord) (r : PassRecord) (held : List (ℕ × Unit {0})) → Allows (RuleHolds size) slots id (view_of q (Some r), held) 0 (λ n. n) (Observes size (step slots 0 0 0 none) (view_of q (Some r), held))

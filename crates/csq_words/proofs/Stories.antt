@@ -10,9 +10,10 @@ use Rattle.irp_core.specs.declared.status.NtStatus.{NtStatus}
 use Rattle.irp_core.specs.declared.status.TheConstants.NtStatus.{CANCELLED}
 use Rattle.irp_core.specs.declared.step.Kind.TheVariants.{Done}
 use Rattle.irp_core.specs.declared.step.Made.{Made}
-use Rattle.irp_core.specs.declared.step.Standing.{Standing}
-use Rattle.irp_core.specs.declared.step.Standing.TheVariants.{Home, Waiting, Owed, Held, Finished}
-use Rattle.irp_core.specs.Steps.{Irp, number, life_of, same_irp, is, by, own}
+use Rattle.irp_core.specs.declared.standing.Standing.{Standing}
+use Rattle.irp_core.specs.declared.standing.Standing.TheVariants.{Home, Waiting, Owed, Held, Finished}
+use Rattle.irp_core.specs.Steps.{number, life_of, same_irp, is, by, own}
+use Rattle.irp_core.specs.declared.ids.IrpLife.{IrpLife}
 use Rattle.irp_core.specs.Words.{flagged, was_armed}
 use Rattle.irp_core.specs.Owners.{claims, dones, listed}
 use Rattle.irp_core.specs.Lives.{present_life, IsPresent, HasBegun}
@@ -24,8 +25,8 @@ use Rattle.irp_core.proofs.Resting.{unknown_stands}
 use Rattle.irp_core.proofs.Next.{inserted_listed}
 use Rattle.irp_core.proofs.Next as growing
 use Rattle.irp_core.specs.Inside.{inside}
-use Rattle.irp_core.specs.declared.step.Inside.{Inside}
-use Rattle.irp_core.specs.declared.step.Inside.TheVariants.{Nothing, Armed, FlagSeen, Removing, Cancelling}
+use Rattle.irp_core.specs.declared.inside.Inside.{Inside}
+use Rattle.irp_core.specs.declared.inside.Inside.TheVariants.{Nothing, Armed, FlagSeen, Removing, Cancelling}
 use Rattle.irp_core.specs.Completion.{removed}
 use Rattle.csq_list.specs.declared.entry.Place.{Place}
 use Rattle.csq_list.specs.declared.entry.Peek.{Peek}
@@ -42,12 +43,12 @@ use Rattle.csq_words.specs.declared.views.QueueRecord.{QueueRecord}
 use Rattle.csq_words.specs.Queue.{Queued, QueueState, current, has_irp, has_entry, first_unmarked, without, new_entry, after_event}
 use Rattle.csq_words.specs.History.{end_of, MayStand, IsOrderly}
 use Rattle.csq_words.specs.Records.{queue_of}
-use Rattle.csq_words.specs.Own.{inside_of, removed_in}
+use Rattle.irp_core.specs.Own.{inside_of, removed_in}
 use Rattle.csq_words.specs.Rule.{is_done, IsTrueOf, AreTrueOf, inserts, RecordsAgree}
 use Rattle.csq_words.specs.Finals.{FinalWords, final_status, IsRecordedBack, AllBack, IsFinal, InLife}
 use Rattle.csq_words.specs.Stories.{accepts, gives, inserted_by, given_to, IsOneOf, HasRecorded, Story, IsGivenOnce, NoIrpHasTwoStories}
 use Rattle.csq_words.proofs.Facts.{off, dones_some, done_over}
-use Rattle.csq_words.proofs.Own.{any_filtered, inside_of-own, removed_in-own}
+use Rattle.irp_core.proofs.Own.{any_filtered, inside_of-own, removed_in-own}
 use Rattle.csq_words.proofs.Truths.{left}
 use Rattle.csq_words.proofs.Closing.{no_zero, cancelled_is, keeps_records}
 use Rattle.csq_words.proofs.Entries.{has_entry-marking, has_entry-placed, has_entry-without}
@@ -63,7 +64,7 @@ any_less f g (e ∷ es) h = go (f e) (g e) (any_less f g es) h
     go false b rest h = rest h
 
 -- the first unmarked match is listed
-first_listed : (k : Peek) (es : List Queued) (j : Irp) → Some j ≡ first_unmarked k es → has_entry es j ≡ true
+first_listed : (k : Peek) (es : List Queued) (j : IrpLife) → Some j ≡ first_unmarked k es → has_entry es j ≡ true
 first_listed k [] j h = absurd cc
 first_listed k (e ∷ es) j h = go (not e.marked && matches k e.file) (first_listed k es j) h
   where
@@ -79,7 +80,7 @@ record Unused (used entry : Bool) (inserted given : List PassId) : Type 0 where
   to_none : given ≡ []
 
 -- an insert of one pass accepted it, and it is listed
-record Waits (run : List Made) (i : Irp) (used entry : Bool) (inserted given : List PassId) : Type 0 where
+record Waits (run : List Made) (i : IrpLife) (used entry : Bool) (inserted given : List PassId) : Type 0 where
   used_is : used ≡ true
   listed_is : entry ≡ true
   inserter : PassId
@@ -88,7 +89,7 @@ record Waits (run : List Made) (i : Irp) (used entry : Bool) (inserted given : L
   to_none : given ≡ []
 
 -- it was given to one pass, which claimed it
-record IsGiven (run : List Made) (i : Irp) (used entry : Bool) (inserted given : List PassId) : Type 0 where
+record IsGiven (run : List Made) (i : IrpLife) (used entry : Bool) (inserted given : List PassId) : Type 0 where
   used_is : used ≡ true
   unlisted : entry ≡ false
   inserter : PassId
@@ -99,10 +100,10 @@ record IsGiven (run : List Made) (i : Irp) (used entry : Bool) (inserted given :
   claimed : IsOneOf owner (claims run i)
 
 -- how far the story of i is
-abbrev SoFar : List Made → Irp → Bool → Bool → List PassId → List PassId → Type 0
+abbrev SoFar : List Made → IrpLife → Bool → Bool → List PassId → List PassId → Type 0
 SoFar run i used entry inserted given = Unused used entry inserted given ⊎ Waits run i used entry inserted given ⊎ IsGiven run i used entry inserted given
 
-module _ (run : List Made) (i : Irp) (used entry : Bool) (inserted given : List PassId) where
+module _ (run : List Made) (i : IrpLife) (used entry : Bool) (inserted given : List PassId) where
   only_unused : SoFar run i used entry inserted given → used ≡ false → Unused used entry inserted given
   only_unused (inl h) e = h
   only_unused (inr (inl h)) e = off (sym e ∙ h.used_is)
@@ -118,7 +119,7 @@ module _ (run : List Made) (i : Irp) (used entry : Bool) (inserted given : List 
   only_given (inr (inl h)) e f = off (sym f ∙ h.listed_is)
   only_given (inr (inr h)) e f = h
 
-module _ (size : Size) (run : List Made) (r : IsRun size run) (i : Irp) (u : QueueState) (inserted given : List PassId) (s : SoFar run i (has_irp u.used i) (has_entry u.entries i) inserted given) where
+module _ (size : Size) (run : List Made) (r : IsRun size run) (i : IrpLife) (u : QueueState) (inserted given : List PassId) (s : SoFar run i (has_irp u.used i) (has_entry u.entries i) inserted given) where
   -- after an event of p
   abbrev Next : PassId → Event → Type 0
   Next p e = SoFar run i (has_irp (after_event u e).used i) (has_entry (after_event u e).entries i) (cond (accepts u i e) (p ∷ inserted) inserted) (cond (gives u i e) (p ∷ given) given)
@@ -157,7 +158,7 @@ module _ (size : Size) (run : List Made) (r : IsRun size run) (i : Irp) (u : Que
             claimed = subst (λ x. IsOneOf p (claims run x)) same claim;
           })
 
-  leaves : (p : PassId) (j : Irp) → has_entry u.entries j ≡ true → IsOneOf p (claims run j) → SoFar run i (has_irp u.used i) (has_entry (without j u.entries) i) inserted (cond (same_irp j i) (p ∷ given) given)
+  leaves : (p : PassId) (j : IrpLife) → has_entry u.entries j ≡ true → IsOneOf p (claims run j) → SoFar run i (has_irp u.used i) (has_entry (without j u.entries) i) inserted (cond (same_irp j i) (p ∷ given) given)
   leaves p j there claim = go (same_irp j i) refl
     where
       go : (b : Bool) → same_irp j i ≡ b → SoFar run i (has_irp u.used i) (has_entry (without j u.entries) i) inserted (cond b (p ∷ given) given)
@@ -190,7 +191,7 @@ module _ (size : Size) (run : List Made) (r : IsRun size run) (i : Irp) (u : Que
   next p (Reuse n life) may t = s
 
 -- how far the story of i is at the end of a history
-so_far : (size : Size) (run : List Made) → IsRun size run → (i : Irp) (first : ℕ) (history : List Entry) → IsOrderly first history → AreTrueOf first run history
+so_far : (size : Size) (run : List Made) → IsRun size run → (i : IrpLife) (first : ℕ) (history : List Entry) → IsOrderly first history → AreTrueOf first run history
     → SoFar run i (has_irp (end_of first history).used i) (has_entry (end_of first history).entries i) (inserted_by first i history) (given_to first i history)
 so_far size run r i first [] o t = inl record { unused = refl; unlisted = refl; none = refl; to_none = refl }
 so_far size run r i first (e ∷ history) o t = next size run r i (end_of first history) (inserted_by first i history) (given_to first i history) (so_far size run r i first history o.1 t.1) e.pass e.event o.0 t.0
@@ -201,7 +202,7 @@ record Over (claimed completed : List Made) : Type 0 where
   one_claim' : IsOneOf owner claimed
   one_done : IsOneOf owner completed
 
-module _ (ever set : Bool) (cl : List Made) (ow ho dn : PassId → Bool) (ends : List Made) (left byr : Bool) (i : Irp) where
+module _ (ever set : Bool) (cl : List Made) (ow ho dn : PassId → Bool) (ends : List Made) (left byr : Bool) (i : IrpLife) where
   -- an IRP that nobody owes or holds
   row_story : (s : Standing) → Row ever set cl ow ho dn ends left byr i s → ((p : PassId) → ow p ≡ false) → ((p : PassId) → ho p ≡ false)
       → ((ever ≡ false) × (cl ≡ []) × (ends ≡ [])) ⊎ (((ever ≡ true) × (left ≡ false) × (cl ≡ []) × (ends ≡ [])) ⊎ ((ever ≡ true) × (left ≡ true) × Over cl ends))
@@ -211,7 +212,7 @@ module _ (ever set : Bool) (cl : List Made) (ow ho dn : PassId → Bool) (ends :
   row_story (Owed p) h o g = off (sym (o p) ∙ (h.owing_is p ∙ same_pass-refl p))
   row_story (Held p status) h o g = off (sym (g p) ∙ (h.holding_is p ∙ same_pass-refl p))
 
-module _ (size : Size) (words : List ℕ) (q : QueueRecord) (f : IsFinal size words q) (all : AllBack q) (i : Irp) (begun : HasBegun size.first q.run i) where
+module _ (size : Size) (words : List ℕ) (q : QueueRecord) (f : IsFinal size words q) (all : AllBack q) (i : IrpLife) (begun : HasBegun size.first q.run i) where
   is_run : IsRun size q.run
   is_run = f.agrees.history_is.is_run
 
@@ -303,14 +304,14 @@ module _ (size : Size) (words : List ℕ) (q : QueueRecord) (f : IsFinal size wo
           })
 
 -- what is in an insert is listed
-in_insert_listed : (s : Inside) (i : Irp) → inserts s i ≡ true → growing.inserts i s ≡ true
+in_insert_listed : (s : Inside) (i : IrpLife) → inserts s i ≡ true → growing.inserts i s ≡ true
 in_insert_listed (Armed j) i h = h
 in_insert_listed (FlagSeen j) i h = h
 in_insert_listed Nothing i h = off h
 in_insert_listed Removing i h = off h
 in_insert_listed (Cancelling j) i h = off h
 
-module _ (ever set : Bool) (cl : List Made) (ow ho dn : PassId → Bool) (ends : List Made) (left byr : Bool) (i : Irp) where
+module _ (ever set : Bool) (cl : List Made) (ow ho dn : PassId → Bool) (ends : List Made) (left byr : Bool) (i : IrpLife) where
   -- who completed an IRP made its one claim
   row_done_claim : (s : Standing) → Row ever set cl ow ho dn ends left byr i s → (p : PassId) → IsOneOf p ends → IsOneOf p cl
   row_done_claim (Finished status o) h p d =
@@ -321,7 +322,7 @@ module _ (ever set : Bool) (cl : List Made) (ow ho dn : PassId → Bool) (ends :
   row_done_claim (Owed o) h p d = absurd (cc (d.1, h.dones_are))
   row_done_claim (Held o status) h p d = absurd (cc (d.1, h.dones_are))
 
-module _ (run : List Made) (i : Irp) (used entry : Bool) (inserted given : List PassId) where
+module _ (run : List Made) (i : IrpLife) (used entry : Bool) (inserted given : List PassId) where
   inserted_once : SoFar run i used entry inserted given → length inserted ≤ 1
   inserted_once (inl h) = rw h.none (omega arith)
   inserted_once (inr (inl h)) = rw h.one (omega arith)
@@ -337,7 +338,7 @@ module _ (run : List Made) (i : Irp) (used entry : Bool) (inserted given : List 
   given_claimed (inr (inl h)) p e = absurd (cc (e, h.to_none))
   given_claimed (inr (inr h)) p e = let same : h.owner ≡ p = cc (e, h.to_one) in subst (λ x. IsOneOf x (claims run i)) same h.claimed
 
-module _ (size : Size) (q : QueueRecord) (r : PassRecord) (run : List Made) (told : RecordsAgree size run q r) (i : Irp) where
+module _ (size : Size) (q : QueueRecord) (r : PassRecord) (run : List Made) (told : RecordsAgree size run q r) (i : IrpLife) where
   is_run' : IsRun size run
   is_run' = told.history_is.is_run
 

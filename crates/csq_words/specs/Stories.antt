@@ -2,7 +2,8 @@
 use Rattle.std.specs.Prelude.{◌≡◌, ◌≤◌, ◌⊎◌, ℕ, Bool, true, false, List, [], ◌∷◌, length, Some, if◌then◌else◌}
 use mathlib.Core.Option.{some}
 use lib.ListN.{get_elem?}
-use Rattle.irp_core.specs.Steps.{Irp, same_irp, own}
+use Rattle.irp_core.specs.Steps.{same_irp, own}
+use Rattle.irp_core.specs.declared.ids.IrpLife.{IrpLife}
 use Rattle.irp_core.specs.Words.{flagged, was_armed}
 use Rattle.irp_core.specs.Owners.{claims, dones}
 use Rattle.irp_core.specs.Lives.{IsPresent, HasBegun}
@@ -25,13 +26,13 @@ use Rattle.csq_words.specs.Plays.{status_recorded}
 use Rattle.csq_words.specs.Finals.{FinalWords, final_status, AllBack, IsFinal, InLife, shows_cancelled}
 
 -- the event, which finds the queue so, is an insert that accepted i
-abbrev pub accepts : QueueState → Irp → Event → Bool
+abbrev pub accepts : QueueState → IrpLife → Event → Bool
 accepts u i (Insert n f place Pending) = same_irp (current u n) i
 accepts u i (Insert n f place Cancelled) = same_irp (current u n) i
 accepts u i _ = false
 
 -- it gave i to its pass: by a removal, by a cancel routine, or by an insert that found it cancelled
-abbrev pub gives : QueueState → Irp → Event → Bool
+abbrev pub gives : QueueState → IrpLife → Event → Bool
 gives u i (Insert n f place Cancelled) = same_irp (current u n) i
 gives u i (RemoveNext k (Some j)) = same_irp j i
 gives u i (Remove j true) = same_irp j i
@@ -39,12 +40,12 @@ gives u i (Out j) = same_irp j i
 gives u i _ = false
 
 -- the passes whose inserts accepted i, the newest first
-abbrev pub inserted_by : ℕ → Irp → List Entry → List PassId
+abbrev pub inserted_by : ℕ → IrpLife → List Entry → List PassId
 inserted_by first i [] = []
 inserted_by first i (e ∷ history) = if accepts (end_of first history) i e.event then e.pass ∷ inserted_by first i history else inserted_by first i history
 
 -- the passes that i was given to
-abbrev pub given_to : ℕ → Irp → List Entry → List PassId
+abbrev pub given_to : ℕ → IrpLife → List Entry → List PassId
 given_to first i [] = []
 given_to first i (e ∷ history) = if gives (end_of first history) i e.event then e.pass ∷ given_to first i history else given_to first i history
 
@@ -53,11 +54,11 @@ abbrev pub IsOneOf : PassId → List Made → Type 0
 IsOneOf p steps = (m : Made) × (steps ≡ m ∷ []) × (m.pass ≡ p)
 
 -- p came back, with a record that it completed i with this status
-abbrev pub HasRecorded : QueueRecord → PassId → Irp → NtStatus → Type 0
+abbrev pub HasRecorded : QueueRecord → PassId → IrpLife → NtStatus → Type 0
 HasRecorded q p i status = (k : ℕ) × (r : PassRecord) × (get_elem? q.back k ≡ some r) × (r.pass ≡ p) × (status_recorded i r.completed ≡ Some status)
 
 -- i, in its present life, was never inserted: it was given to none, and none claimed or completed it
-pub record NeverInserted (q : QueueRecord) (i : Irp) : Type 0 where
+pub record NeverInserted (q : QueueRecord) (i : IrpLife) : Type 0 where
   pub is_present : IsPresent q.first q.run i
   pub inserted : inserted_by q.first i q.history ≡ []
   pub given : given_to q.first i q.history ≡ []
@@ -65,7 +66,7 @@ pub record NeverInserted (q : QueueRecord) (i : Irp) : Type 0 where
   pub completed : dones q.run i ≡ []
 
 -- i, in its present life, was inserted by one pass, and is listed with its flag clear: it was given to none, and none claimed or completed it
-pub record StillListed (q : QueueRecord) (i : Irp) : Type 0 where
+pub record StillListed (q : QueueRecord) (i : IrpLife) : Type 0 where
   pub is_present : IsPresent q.first q.run i
   pub listed : has_entry (queue_of q).entries i ≡ true
   pub clear : flagged q.run i ≡ false
@@ -77,7 +78,7 @@ pub record StillListed (q : QueueRecord) (i : Irp) : Type 0 where
   pub completed : dones q.run i ≡ []
 
 -- i was inserted by one pass and given to one, which made its one claim and its one completion, with the status that it recorded: STATUS_CANCELLED where the history says that i was cancelled. In the present life this is the final status
-pub record HasEnded (finals : FinalWords) (q : QueueRecord) (i : Irp) : Type 0 where
+pub record HasEnded (finals : FinalWords) (q : QueueRecord) (i : IrpLife) : Type 0 where
   pub unlisted : has_entry (queue_of q).entries i ≡ false
   pub inserter : PassId
   pub inserted : inserted_by q.first i q.history ≡ inserter ∷ []
@@ -92,15 +93,15 @@ pub record HasEnded (finals : FinalWords) (q : QueueRecord) (i : Irp) : Type 0 w
   pub final : InLife finals i (final_status finals i.irp ≡ Some status)
 
 -- what happened to i
-abbrev pub Story : FinalWords → Irp → Type 0
+abbrev pub Story : FinalWords → IrpLife → Type 0
 Story finals i = NeverInserted finals.queue i ⊎ StillListed finals.queue i ⊎ HasEnded finals finals.queue i
 
 -- every life that has begun has a story
 abbrev pub EachIrpHasAStory : Type 0
-EachIrpHasAStory = (size : Size) (words : List ℕ) (q : QueueRecord) → IsFinal size words q → AllBack q → (i : Irp) → HasBegun size.first q.run i → Story (record { irps = size.irps; words = words; queue = q }) i
+EachIrpHasAStory = (size : Size) (words : List ℕ) (q : QueueRecord) → IsFinal size words q → AllBack q → (i : IrpLife) → HasBegun size.first q.run i → Story (record { irps = size.irps; words = words; queue = q }) i
 
 -- of a history with which a run agrees: at most one pass inserted i, and at most one was given i. This one made the one claim of i, and who completed i was given it
-pub record IsGivenOnce (q : QueueRecord) (run : List Made) (i : Irp) : Type 0 where
+pub record IsGivenOnce (q : QueueRecord) (run : List Made) (i : IrpLife) : Type 0 where
   pub inserted : length (inserted_by q.first i q.history) ≤ 1
   pub given : length (given_to q.first i q.history) ≤ 1
   pub claimed : (p : PassId) → given_to q.first i q.history ≡ p ∷ [] → IsOneOf p (claims run i)
@@ -108,7 +109,7 @@ pub record IsGivenOnce (q : QueueRecord) (run : List Made) (i : Irp) : Type 0 wh
 
 -- at every step, each life of each IRP is given out at most once
 abbrev pub EachIrpIsGivenOnce : Type 0
-EachIrpIsGivenOnce = (size : Size) (q : QueueRecord) (r : PassRecord) (run : List Made) → RecordsAgree size run q r → (i : Irp) → IsGivenOnce q run i
+EachIrpIsGivenOnce = (size : Size) (q : QueueRecord) (r : PassRecord) (run : List Made) → RecordsAgree size run q r → (i : IrpLife) → IsGivenOnce q run i
 
 -- no two of these hold
 abbrev pub AtMostOne : Type 0 → Type 0 → Type 0 → Type 0
@@ -116,7 +117,7 @@ AtMostOne A B C = (A → B → ⊥) × (A → C → ⊥) × (B → C → ⊥)
 
 -- of the three stories of an IRP no two hold
 abbrev pub NoIrpHasTwoStories : Type 0
-NoIrpHasTwoStories = (finals : FinalWords) (q : QueueRecord) (i : Irp) → AtMostOne (NeverInserted q i) (StillListed q i) (HasEnded finals q i)
+NoIrpHasTwoStories = (finals : FinalWords) (q : QueueRecord) (i : IrpLife) → AtMostOne (NeverInserted q i) (StillListed q i) (HasEnded finals q i)
 
 module _ {A : Type 0} where
   -- one of these histories, or executions, goes on from the other

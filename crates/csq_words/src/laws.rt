@@ -1,28 +1,30 @@
-//! What happens to each IRP, and what the passes have seen, whatever the run. Each function stands for a
-//! law: its contract is the law, and there is nothing to run.
+//! What happens to each IRP, and what the passes have seen, whatever the run. Each function stands
+//! for a law: its contract is the law, and there is nothing to run.
 ghost use Rattle.csq_words.specs.Stories.{EachIrpHasAStory, EachIrpIsGivenOnce, NoIrpHasTwoStories, JoinedPassesSeeOneHistory, PassesBackSeeOneHistory, PassesAtTheEndSeeOneHistory};
 
-/// At every step, in each of its lives, an IRP was inserted by at most one pass and given to at most one: this
-/// one made its one claim by the run, and none but this one completes it.
+/// At every step, in each of its lives, an IRP was inserted by at most one pass and given to at
+/// most one: this one made its one claim by the run, and none but this one completes it.
 pub fn each_irp_is_given_once()
     ensures { EachIrpIsGivenOnce }
 {}
 
-/// Where every pass is back, each IRP has one story in each life that has begun: it was never inserted; or
-/// one pass inserted it, and it is listed; or one pass inserted it, and it was given to one pass, which made its
-/// one claim by the run and its one completion, with the status that it recorded.
+/// Where every pass is back, each IRP has one story in each life that has begun: it was never
+/// inserted; or one pass inserted it, and it is listed; or one pass inserted it, and it was given
+/// to one pass, which made its one claim by the run and its one completion, with the status that it
+/// recorded.
 pub fn each_irp_has_a_story()
     ensures { EachIrpHasAStory }
 {}
 
-/// An IRP has no two of these stories in one life: it was never inserted, it is listed, or it has ended.
+/// An IRP has no two of these stories in one life: it was never inserted, it is listed, or it has
+/// ended.
 pub fn no_irp_has_two_stories()
     ensures { NoIrpHasTwoStories }
 {}
 
-/// Passes that were joined with the record of a queue have seen one history and one execution: these begin with
-/// what each has seen, and have of each pass the calls and the steps that it made, in the order in which it made
-/// them. So of what two passes have seen, one begins with the other.
+/// Passes that were joined with the record of a queue have seen one history and one execution:
+/// these begin with what each has seen, and have of each pass the calls and the steps that it made,
+/// in the order in which it made them. So of what two passes have seen, one begins with the other.
 pub fn joined_passes_see_one_history()
     ensures { JoinedPassesSeeOneHistory }
 {}

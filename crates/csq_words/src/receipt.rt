@@ -2,8 +2,8 @@
 use crate::rule::WordSeat;
 use std::marker::Model;
 
-/// The receipt of a pass that is back. A contract sees the table that it belongs to and the record that
-/// the pass had, or None while it is shown.
+/// The receipt of a pass that is back. A contract sees the table that it belongs to and the record
+/// that the pass had, or None while it is shown.
 #[derive(Drop)]
 pub struct Receipt {
     pub(crate) seat: Option<WordSeat>,

@@ -2,11 +2,11 @@
 use csq_draw::{PICTURE_HEAD, draw_schedule};
 use csq_replay::{Ended, MAX_INPUT, SimFault};
 use linked_list_allocator::LocalHeap;
-use refusing_heap::RefusingHeap;
 use std::io;
 use std::io::{Error, ErrorKind, Read, Write};
 use std::process::Abort;
 use std::test::Fail;
+use test_heap::RefusingHeap;
 
 /// A schedule, what is drawn of it before and behind what all pictures share, and how it ended.
 struct Row {

@@ -2,7 +2,8 @@
 use Rattle.std.proofs.Common.{◌≡◌, ◌≢◌, ℕ, ◌<◌, ◌≤◌, ◌||◌, Bool, true, false, List, [], Some, Ok, Err, Result, Option, refl, sym, ap, ◌∙◌, arith}
 use Rattle.std.specs.Prelude.{IfOk, IfErr, OnErr}
 use Rattle.std.proofs.lemmas.Bool.{or_right}
-use Rattle.irp_core.specs.Steps.{Irp, life_of}
+use Rattle.irp_core.specs.Steps.{life_of}
+use Rattle.irp_core.specs.declared.ids.IrpLife.{IrpLife}
 use Rattle.irp_core.specs.Completion.{removed}
 use Rattle.irp_core.specs.Words.{flagged, was_armed}
 use Rattle.irp_core.specs.Lives.{present}
@@ -31,11 +32,11 @@ use Rattle.csq_queue.specs.declared.refusals.ReuseRefused.TheVariants.{UnknownIr
 use Rattle.test_execution.specs.Conclusions.{IsLater}
 
 -- a life that the pass has seen completed isn't the one of which a reuse says that it isn't
-pub reuse_later : (size : Size) (i : Irp) (old new : PassRecord) (answer : Result Life ReuseRefused) → is_done old.run i ≡ true → IsExtendedBy old.run new.run → SeesRun size new
+pub reuse_later : (size : Size) (i : IrpLife) (old new : PassRecord) (answer : Result Life ReuseRefused) → is_done old.run i ≡ true → IsExtendedBy old.run new.run → SeesRun size new
     → IfErr answer (IsReuseRefusal (current (end_of size.first new.seen) i.irp) old new) → IsLater size.first i new answer
 reuse_later size i old new answer done follows sees refused e = go answer e refused
   where
-    here : Irp
+    here : IrpLife
     here = current (end_of size.first new.seen) i.irp
 
     begun : life_of i ≤ (end_of size.first new.seen).lives i.irp
@@ -58,7 +59,7 @@ reuse_later size i old new answer done follows sees refused e = go answer e refu
 
 -- a status that is read as set is of a life that was completed in what the pass has then seen
 pub read_done : (size : Size) (n : IrpId) (old new : PassRecord) (w : ℕ) (status : NtStatus) → IsStatusOf size n old new w → status_in w ≡ Some status
-    → (i : Irp) × (i.irp ≡ n) × (life_of i ≡ status_life_in w) × (is_done new.run i ≡ true)
+    → (i : IrpLife) × (i.irp ≡ n) × (life_of i ≡ status_life_in w) × (is_done new.run i ≡ true)
 read_done size n old new w status h set =
     let i = stands_for h.renewed (present size.first new.run n) in
     let said = says (life_of i) (is_done new.run i) (removed new.run i) h.status_is in
@@ -73,7 +74,7 @@ read_done size n old new w status h set =
     says life true b e = (e.0, refl)
 
 -- what was completed just now is completed in what the pass has seen
-pub completed_now : (size : Size) (i : Irp) (old new : PassRecord) → FindsUnset size i old new → is_done new.run i ≡ true
+pub completed_now : (size : Size) (i : IrpLife) (old new : PassRecord) → FindsUnset size i old new → is_done new.run i ≡ true
 completed_now size i old new f = ap (λ (run : List Made). is_done run i) f.last.run_is ∙ ap (λ b. b || is_done f.last.before i) (same_irp-refl i)
 
 -- a read goes on from what the pass had seen

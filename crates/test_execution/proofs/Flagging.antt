@@ -3,7 +3,8 @@ use Rattle.std.proofs.Common.{◌≡◌, ℕ, ◌==◌, ◌&&◌, ◌||◌, Bool
 use Rattle.std.proofs.lemmas.Bool.{or_right}
 use Rattle.std.proofs.lemmas.List.{append_cancel_right}
 use Rattle.std.specs.List.{list_any}
-use Rattle.irp_core.specs.Steps.{Irp, is, by, own, same_irp}
+use Rattle.irp_core.specs.Steps.{is, by, own, same_irp}
+use Rattle.irp_core.specs.declared.ids.IrpLife.{IrpLife}
 use Rattle.irp_core.specs.Words.{bit, flagged, found_by}
 use Rattle.irp_core.specs.Owners.{taken}
 use Rattle.irp_core.specs.Runs.{Size, IsRun}
@@ -16,14 +17,14 @@ use Rattle.csq_words.specs.declared.views.PassRecord.{PassRecord}
 use Rattle.csq_words.specs.Queue.{has_marked}
 use Rattle.csq_words.specs.History.{end_of, IsExtendedBy}
 use Rattle.csq_words.proofs.Marks.{marked_taken}
-use Rattle.csq_words.proofs.Own.{any_filtered}
+use Rattle.irp_core.proofs.Own.{any_filtered}
 use Rattle.csq_queue.specs.Steps.{made_by, insert_steps}
 use Rattle.csq_queue.specs.Told.{SeesRun}
 use Rattle.csq_queue.specs.declared.tokens.InsertAnswer.TheVariants.{Pending}
 use Rattle.csq_queue.proofs.Meeting.{own-append}
 
 -- a flag stays set
-pub flag_stays : (i : Irp) (shorter longer : List Made) → IsExtendedBy shorter longer → flagged shorter i ≡ true → flagged longer i ≡ true
+pub flag_stays : (i : IrpLife) (shorter longer : List Made) → IsExtendedBy shorter longer → flagged shorter i ≡ true → flagged longer i ≡ true
 flag_stays i shorter longer h set = ap (λ (l : List Made). flagged l i) h.1 ∙ go h.0
   where
     go : (newer : List Made) → flagged (newer ++ shorter) i ≡ true
@@ -31,11 +32,11 @@ flag_stays i shorter longer h set = ap (λ (l : List Made). flagged l i) h.1 ∙
     go (m ∷ newer) = or_right (is (Flag i) m) (flagged (newer ++ shorter) i) (go newer)
 
 -- the step tests the flag of i and finds it clear
-abbrev finds_clear : Irp → Made → Bool
+abbrev finds_clear : IrpLife → Made → Bool
 finds_clear i m = is (Test i) m && (m.found == 0)
 
 -- once a flag is set, no test finds it clear
-none_clear : (size : Size) (i : Irp) (older newer : List Made) → flagged older i ≡ true → IsRun size (newer ++ older) → list_any (finds_clear i) newer ≡ false
+none_clear : (size : Size) (i : IrpLife) (older newer : List Made) → flagged older i ≡ true → IsRun size (newer ++ older) → list_any (finds_clear i) newer ≡ false
 none_clear size i older [] set r = refl
 none_clear size i older (m ∷ newer) set r =
     let rest = none_clear size i older newer set (run_less size m (newer ++ older) r) in
@@ -43,7 +44,7 @@ none_clear size i older (m ∷ newer) set r =
     let on = flag_stays i older (newer ++ older) (newer, refl) set in
     λ k. (head m.kind m.found found on k || rest k)
   where
-    seen : (j : Irp) (n : ℕ) → n ≡ bit (flagged (newer ++ older) j) → flagged (newer ++ older) i ≡ true → (b : Bool) → same_irp j i ≡ b → (b && (n == 0)) ≡ false
+    seen : (j : IrpLife) (n : ℕ) → n ≡ bit (flagged (newer ++ older) j) → flagged (newer ++ older) i ≡ true → (b : Bool) → same_irp j i ≡ b → (b && (n == 0)) ≡ false
     seen j n e on true same = ap (λ (x : ℕ). x == 0) (e ∙ ap bit (ap (flagged (newer ++ older)) (same_irp-eq j i same) ∙ on))
     seen j n e on false same = refl
 
@@ -59,7 +60,7 @@ none_clear size i older (m ∷ newer) set r =
     head (Renew j) n e on = refl
 
 -- an insert that leaves a flagged IRP pending was made where a canceller has its routine
-pub pending_taken : (size : Size) (i : Irp) (old new : PassRecord) → new.pass ≡ old.pass → flagged old.run i ≡ true → IsExtendedBy old.run new.run → old.steps ≡ own old.pass old.run → SeesRun size new
+pub pending_taken : (size : Size) (i : IrpLife) (old new : PassRecord) → new.pass ≡ old.pass → flagged old.run i ≡ true → IsExtendedBy old.run new.run → old.steps ≡ own old.pass old.run → SeesRun size new
     → new.steps ≡ made_by old.pass (insert_steps (Ok (Pending i)) (end_of size.first new.seen)) ++ old.steps → taken new.run i ≡ true
 pending_taken size i old new same set follows steps sees made = go (has_marked (end_of size.first new.seen).entries i) refl
   where

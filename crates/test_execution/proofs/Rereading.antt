@@ -1,7 +1,8 @@
 -- Two reads, one after the other.
 use Rattle.std.proofs.Common.{◌≡◌, ℕ, Bool, true, false, Some, None, Option, refl, sym, ap, ◌∙◌, arith, eqb-true, eq-eqb}
 use Rattle.std.specs.Prelude.{is_some}
-use Rattle.irp_core.specs.Steps.{Irp, life_of}
+use Rattle.irp_core.specs.Steps.{life_of}
+use Rattle.irp_core.specs.declared.ids.IrpLife.{IrpLife}
 use Rattle.irp_core.specs.Completion.{removed}
 use Rattle.irp_core.specs.Words.{bit, flagged}
 use Rattle.irp_core.specs.Lives.{present}
@@ -37,7 +38,7 @@ pub statuses_stay : (size : Size) (n : IrpId) (old mid new : PassRecord) (v w : 
     → StaysSet ((status_read v).0, is_some (status_read v).1) ((status_read w).0, is_some (status_read w).1)
 statuses_stay size n old mid new v w h g same set = some (status_in v) refl set
   where
-    later : Irp
+    later : IrpLife
     later = stands_for g.renewed (present size.first new.run n)
 
     named : (b : Bool) → (stands_for b (present size.first new.run n)).irp ≡ n

@@ -1,6 +1,6 @@
 //! A cancel that came before its insert.
 ghost use Rattle.std.specs.Prelude.{◌≡◌, Ok, true, IfOk, IfSome};
-ghost use Rattle.irp_core.specs.Steps.{Irp};
+ghost use Rattle.irp_core.specs.declared.ids.IrpLife.{IrpLife};
 ghost use Rattle.irp_core.specs.Owners.{taken};
 ghost use Rattle.irp_core.specs.Words.{flagged};
 ghost use Rattle.csq_queue.specs.Inserts.{given_by};
@@ -25,7 +25,7 @@ pub(crate) fn insert_after_flag<L: PendingList + Drop, N: QueueName, A: Allocato
     place: Place,
 ) -> Result<Inserted<N>, InsertStatus>
     ensures token { IfOk result (λ inserted. IfSome (given_by inserted) (Holds N.limits.irps inserter.new)) }
-    ensures claimed { (i : Irp) → result ≡ Ok (Pending i) → flagged canceller.old.steps i ≡ true → taken inserter.new.run i ≡ true }
+    ensures claimed { (i : IrpLife) → result ≡ Ok (Pending i) → flagged canceller.old.steps i ≡ true → taken inserter.new.run i ≡ true }
 {
     queue.meet(rt, canceller, inserter);
     queue.insert(rt, inserter, irp, file, place)

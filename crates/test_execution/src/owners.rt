@@ -1,6 +1,6 @@
 //! Two passes that have met.
 ghost use Rattle.std.specs.Prelude.{◌≡◌, ◌≢◌, true, false};
-ghost use Rattle.irp_core.specs.Steps.{Irp};
+ghost use Rattle.irp_core.specs.declared.ids.IrpLife.{IrpLife};
 ghost use Rattle.test_execution.specs.Conclusions.{has};
 
 use csq_list::PendingList;
@@ -16,7 +16,7 @@ pub(crate) fn meet<L: PendingList + Drop, N: QueueName, A: Allocator>(
     other: &mut Pass<N>,
 )
     requires apart { one.old.pass ≢ other.old.pass }
-    ensures owner { (i : Irp) → has one.new i ≡ true → has other.new i ≡ false }
+    ensures owner { (i : IrpLife) → has one.new i ≡ true → has other.new i ≡ false }
 {
     queue.meet(rt, one, other);
 }

@@ -1,6 +1,6 @@
 //! A reuse of an IRP that is known to be completed.
 ghost use Rattle.std.specs.Prelude.{◌≡◌, Some, Ok};
-ghost use Rattle.irp_core.specs.Steps.{Irp};
+ghost use Rattle.irp_core.specs.declared.ids.IrpLife.{IrpLife};
 ghost use Rattle.irp_core.specs.declared.ids.Life.{Life as LifeNumber};
 ghost use Rattle.irp_core.specs.declared.status.NtStatus.{NtStatus as Status};
 ghost use Rattle.csq_queue.specs.Named.{named};

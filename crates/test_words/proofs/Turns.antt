@@ -1,10 +1,11 @@
 -- What an insert, a removal and a reuse make of the queue's record.
 use Rattle.std.proofs.Common.{◌≡◌, ◌∙◌, ◌||◌, ℕ, Bool, true, false, List, [], ◌∷◌, refl, ap, sym, subst, arith}
-use Rattle.irp_core.specs.Steps.{Irp, same_irp, same_id}
+use Rattle.irp_core.specs.Steps.{same_irp, same_id}
+use Rattle.irp_core.specs.declared.ids.IrpLife.{IrpLife}
 use Rattle.irp_core.specs.declared.ids.PassId.{PassId}
 use Rattle.irp_core.proofs.Names.{same_irp-refl, same_id-refl, other_life}
 use Rattle.irp_core.specs.declared.step.Kind.TheVariants.{Disarm}
-use Rattle.irp_core.specs.declared.step.Inside.TheVariants as inner
+use Rattle.irp_core.specs.declared.inside.Inside.TheVariants as inner
 use Rattle.csq_list.specs.declared.entry.Peek.TheVariants.{Any, File}
 use Rattle.csq_list.specs.declared.entry.Place.TheVariants.{Back}
 use Rattle.csq_list.specs.Listing.{put_at}
@@ -12,7 +13,7 @@ use Rattle.csq_words.specs.declared.views.Event.TheVariants as event
 use Rattle.csq_words.specs.declared.calls.Call.{Call}
 use Rattle.csq_words.specs.declared.calls.Call.TheVariants.{Insert, RemoveNext, Remove, CancelRoutine, CloseFile, Reuse, GiveBack}
 use Rattle.csq_words.specs.Calls.{MayMake, after_step}
-use Rattle.csq_words.specs.Own.{inside_of}
+use Rattle.irp_core.specs.Own.{inside_of}
 use Rattle.csq_words.specs.declared.views.PassRecord.{PassRecord}
 use Rattle.csq_words.specs.declared.views.Event.{Event}
 use Rattle.csq_words.specs.declared.views.InsertReply.TheVariants.{Pending}
@@ -28,11 +29,11 @@ use Rattle.test_words.specs.Listed.{IsHome, IsInserted, Removes, only_entry}
 abbrev pub pending_event : Event
 pending_event = event.Insert record { 0 = 0 } record { 0 = 0 } Back Pending
 
-pub after_pending : (i : Irp) (q : QueueRecord) (p : PassId) → IsHome i q → IsInserted i (only_entry i) (with_events p (pending_event ∷ []) q)
+pub after_pending : (i : IrpLife) (q : QueueRecord) (p : PassId) → IsHome i q → IsInserted i (only_entry i) (with_events p (pending_event ∷ []) q)
 after_pending i q p h =
     let u = queue_of q in
     let put : List Queued → List Queued = λ es. put_at Back (new_entry (current u record { 0 = 0 }) record { 0 = 0 }) es in
-    let alone : Irp → List Queued = λ k. new_entry k record { 0 = 0 } ∷ [] in
+    let alone : IrpLife → List Queued = λ k. new_entry k record { 0 = 0 } ∷ [] in
     record {
       idle = h.idle;
       present = h.present;
@@ -40,22 +41,22 @@ after_pending i q p h =
       unused = λ j less.
           let a : same_irp i j ≡ false = other_life i j (λ e. omega (arith, e, less)) in
           let b : has_irp u.used j ≡ false = h.unused j (omega (arith, less)) in
-          subst (λ (k : Irp). (same_irp k j || has_irp u.used j) ≡ false) h.present (rw (a, b) refl);
+          subst (λ (k : IrpLife). (same_irp k j || has_irp u.used j) ≡ false) h.present (rw (a, b) refl);
     }
 
 -- what is left of the only entry without its IRP
-pub none_left : (i : Irp) (es : List Queued) → es ≡ only_entry i → without i es ≡ []
+pub none_left : (i : IrpLife) (es : List Queued) → es ≡ only_entry i → without i es ≡ []
 none_left i es e = ap (without i) e ∙ (rw same_irp-refl refl)
 
 -- what is home, or alone inserted, is so whatever the record has of the execution
-pub home_in : (i : Irp) (q : QueueRecord) (run : List Made) → IsHome i q → IsHome i (with_run run q)
+pub home_in : (i : IrpLife) (q : QueueRecord) (run : List Made) → IsHome i q → IsHome i (with_run run q)
 home_in i q run h = record { idle = h.idle; present = h.present; empty = h.empty; unused = h.unused }
 
-pub inserted_in : (i : Irp) (entries : List Queued) (q : QueueRecord) (run : List Made) → IsInserted i entries q → IsInserted i entries (with_run run q)
+pub inserted_in : (i : IrpLife) (entries : List Queued) (q : QueueRecord) (run : List Made) → IsInserted i entries q → IsInserted i entries (with_run run q)
 inserted_in i entries q run h = record { idle = h.idle; present = h.present; entries_are = h.entries_are; unused = h.unused }
 
 -- the disarm of a removal may come where its IRP alone is listed
-pub may_disarm : (call : Call) (i : Irp) (q : QueueRecord) (r : PassRecord) → Removes call i → IsInserted i (only_entry i) q → inside_of r.steps ≡ inner.Nothing → MayMake call (Disarm i) q r
+pub may_disarm : (call : Call) (i : IrpLife) (q : QueueRecord) (r : PassRecord) → Removes call i → IsInserted i (only_entry i) q → inside_of r.steps ≡ inner.Nothing → MayMake call (Disarm i) q r
 may_disarm (RemoveNext Any) i q r h at outside = (
   rw outside refl,
   record {
@@ -71,7 +72,7 @@ may_disarm (RemoveNext Any) i q r h at outside = (
 may_disarm (Remove j) i q r h at outside = (
   sym h,
   rw outside refl,
-  subst (λ (k : Irp). has_entry (queue_of q).entries k ≡ true) (sym h) (rw (at.entries_are, same_irp-refl) refl),
+  subst (λ (k : IrpLife). has_entry (queue_of q).entries k ≡ true) (sym h) (rw (at.entries_are, same_irp-refl) refl),
 )
 may_disarm (RemoveNext (File f)) i q r h at outside = absurd h
 may_disarm (Insert n f place) i q r h at outside = absurd h
@@ -81,13 +82,13 @@ may_disarm (Reuse n) i q r h at outside = absurd h
 may_disarm GiveBack i q r h at outside = absurd h
 
 -- it leaves none
-pub after_removal : (call : Call) (i : Irp) (q : QueueRecord) (r : PassRecord) (n : ℕ) → n ≡ 1 → Removes call i → IsInserted i (only_entry i) q → IsInserted i [] (queue_in (after_step call (Disarm i) n q r))
+pub after_removal : (call : Call) (i : IrpLife) (q : QueueRecord) (r : PassRecord) (n : ℕ) → n ≡ 1 → Removes call i → IsInserted i (only_entry i) q → IsInserted i [] (queue_in (after_step call (Disarm i) n q r))
 after_removal (RemoveNext Any) i q r n one h at =
     subst (λ (k : ℕ). IsInserted i [] (queue_in (after_step (RemoveNext Any) (Disarm i) k q r))) (sym one)
     (record { idle = at.idle; present = at.present; entries_are = none_left i _ at.entries_are; unused = at.unused })
 after_removal (Remove j) i q r n one h at =
     subst (λ (k : ℕ). IsInserted i [] (queue_in (after_step (Remove j) (Disarm i) k q r))) (sym one)
-    (record { idle = at.idle; present = at.present; entries_are = subst (λ (k : Irp). without k (queue_of q).entries ≡ []) (sym h) (none_left i _ at.entries_are); unused = at.unused })
+    (record { idle = at.idle; present = at.present; entries_are = subst (λ (k : IrpLife). without k (queue_of q).entries ≡ []) (sym h) (none_left i _ at.entries_are); unused = at.unused })
 after_removal (RemoveNext (File f)) i q r n one h at = absurd h
 after_removal (Insert m f place) i q r n one h at = absurd h
 after_removal (CancelRoutine m) i q r n one h at = absurd h
@@ -96,10 +97,10 @@ after_removal (Reuse m) i q r n one h at = absurd h
 after_removal GiveBack i q r n one h at = absurd h
 
 -- a reuse of i begins its next life
-pub after_reuse : (i : Irp) (q : QueueRecord) (p : PassId) → IsInserted i [] (with_reusing Nothing q) → IsHome (next_life i) (with_events p (event.Reuse i.irp (next_life i).life ∷ []) (with_reusing Nothing q))
+pub after_reuse : (i : IrpLife) (q : QueueRecord) (p : PassId) → IsInserted i [] (with_reusing Nothing q) → IsHome (next_life i) (with_events p (event.Reuse i.irp (next_life i).life ∷ []) (with_reusing Nothing q))
 after_reuse i q p h =
-    let next : Irp → Irp = next_life in
-    let zero_named : Irp → Bool = λ k. same_id k.irp record { 0 = 0 } in
+    let next : IrpLife → IrpLife = next_life in
+    let zero_named : IrpLife → Bool = λ k. same_id k.irp record { 0 = 0 } in
     let named : same_id i.irp record { 0 = 0 } ≡ true = ap zero_named h.present ∙ same_id-refl record { 0 = 0 } in
     record {
       idle = refl;

@@ -2,7 +2,8 @@
 
 use irp_core::Life;
 
-/// How far the calls under the lock are with the IRP. In each but the last it is in its present life.
+/// How far the calls under the lock are with the IRP. In each but the last it is in its present
+/// life.
 #[derive(Clone, Copy)]
 pub enum Stage {
     /// It may be inserted.

@@ -1,5 +1,5 @@
-//! Nearly all tests are lists of actions of three passes, which one interpreter carries out on the words
-//! and on the machine beside them. A function that owns words or seats only passes them on.
+//! Nearly all tests are lists of actions of three passes, which one interpreter carries out on the
+//! words and on the machine beside them. A function that owns words or seats only passes them on.
 use csq_list::Place;
 use csq_words::Call;
 use irp_core::{FileId, IrpId, Life};
@@ -8,6 +8,7 @@ mod actions;
 mod cancels;
 mod fixture;
 mod inserts;
+mod layout;
 mod lives;
 mod making;
 mod orders;

@@ -3,7 +3,7 @@ ghost use Rattle.std.specs.Prelude.{◌≡◌, ◌↔◌, ◌<◌, ◌==◌, ◌
 ghost use Rattle.std.specs.Option.{option_map_or, ForSome};
 ghost use Rattle.irp_core.specs.declared.status.NtStatus.{NtStatus};
 ghost use Rattle.csq_replay.specs.Pieces.{pieces, lines_of, IsNumber};
-ghost use Rattle.csq_replay.specs.CallLine.{IsStatusWord};
+ghost use Rattle.csq_replay.specs.CallLine.{IsHexStatus};
 
 use irp_core::NtStatus;
 use itoa::Buffer;
@@ -76,7 +76,7 @@ const STATUS_DIGITS: usize = 8;
 
 /// The status that eight hexadecimal digits write, in either case.
 pub(crate) fn parse_status(word: &[u8]) -> Option<NtStatus>
-    ensures { MatchOption result ((status : NtStatus) → ¬ IsStatusWord word.now status.0) (λ status. IsStatusWord word.now status.0) }
+    ensures { MatchOption result ((status : NtStatus) → ¬ IsHexStatus word.now status.0) (λ status. IsHexStatus word.now status.0) }
 {
     if word.len() != STATUS_DIGITS || word.first() == Some(&b'+') {
         return None;

@@ -7,7 +7,7 @@ use std::process::Abort;
 use std::sync::Wait;
 use std::sync::atomic::{AtomicBool, AtomicU64, Ordering};
 use std::thread::Threads;
-use watched_list::wait_for;
+use test_watched_list::wait_for;
 
 // Submitters, workers, cancellers and the cleanup.
 const THREADS: u64 = 3 + 3 + 4 + 1;

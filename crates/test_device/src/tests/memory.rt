@@ -2,11 +2,11 @@
 use super::{chains, device_over, plan_of, vector};
 use csq_device::{Gate, Point, RunRefused, Totals};
 use csq_list::PendingList;
-use refusing_heap::RefusingHeap;
 use std::process::Abort;
 use std::sync::Wait;
 use std::sync::atomic::{AtomicU64, Ordering};
 use std::thread::Threads;
+use test_heap::RefusingHeap;
 
 // More than the calls for memory of a run.
 const CALLS: u64 = 100;

@@ -7,7 +7,7 @@ use std::process::Abort;
 use std::sync::Wait;
 use std::sync::atomic::{AtomicBool, AtomicU64, Ordering};
 use std::thread::Threads;
-use watched_list::{Moment, Watch, WatchedList, wait_for};
+use test_watched_list::{Moment, Watch, WatchedList, wait_for};
 
 // How many inserts two submitters make.
 const SUBMITTED: u64 = 14;

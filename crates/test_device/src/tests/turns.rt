@@ -7,7 +7,7 @@ use std::process::Abort;
 use std::sync::Wait;
 use std::sync::atomic::{AtomicBool, AtomicU64, Ordering};
 use std::thread::Threads;
-use watched_list::wait_for;
+use test_watched_list::wait_for;
 
 // How many IRPs two submitters insert.
 const INSERTED: u64 = 14;

@@ -7,10 +7,10 @@ use csq_queue::{Blank, NewCause};
 use csq_words::{PassSeats, Words, WordsNew};
 use irp_core::{FileId, IrpId, IrpLife, Kind, Life, Machine, MachineNew, PassId, Step};
 use linked_list_allocator::LocalHeap;
-use refusing_heap::RefusingHeap;
 use std::alloc::Allocator;
 use std::process::Abort;
 use std::test::Fail;
+use test_heap::RefusingHeap;
 
 const IRPS: u32 = 64;
 

@@ -1,4 +1,5 @@
 //! Command lines of schedules and scripts.
+use csq_list::ListKind;
 use csq_program::{CommandFault, Job, read_command, refuse_bytes};
 use std::test::Fail;
 
@@ -88,19 +89,19 @@ fn command_lines_of_scripts_are_read(rt: HostRuntime) -> Result<(), Fail> {
     ];
     let chained = ["csqsim", "script", "--chain"];
     let jobs = [
-        (plain.as_slice(), 8, 4, None, None, false),
-        (sized.as_slice(), 3, 1, Some(2), None, false),
-        (least.as_slice(), 1, 1, Some(1), Some(1), false),
-        (chained.as_slice(), 8, 4, None, None, true),
+        (plain.as_slice(), 8, 4, None, None, ListKind::Vector),
+        (sized.as_slice(), 3, 1, Some(2), None, ListKind::Vector),
+        (least.as_slice(), 1, 1, Some(1), Some(1), ListKind::Vector),
+        (chained.as_slice(), 8, 4, None, None, ListKind::Chains),
     ];
-    for (words, irps, files, limit, file_limit, chain) in jobs {
+    for (words, irps, files, limit, file_limit, list) in jobs {
         let job = read_command(rt.alloc(), words).ok();
         let wanted = Job::Script {
             irps,
             files,
             limit,
             file_limit,
-            chain,
+            list,
         };
         assert_eq!(rt; job, Some(wanted));
     }
@@ -123,7 +124,7 @@ fn a_script_has_limits_beside_chains(rt: HostRuntime) -> Result<(), Fail> {
         files: 4,
         limit: Some(8),
         file_limit: Some(3),
-        chain: true,
+        list: ListKind::Chains,
     };
     assert_eq!(rt;
         read_command(rt.alloc(), words.as_slice()).ok(),
@@ -147,7 +148,7 @@ fn a_script_is_as_large_as_it_may_be(rt: HostRuntime) -> Result<(), Fail> {
         files: 256,
         limit: Some(1024),
         file_limit: Some(1024),
-        chain: false,
+        list: ListKind::Vector,
     };
     assert_eq!(rt;
         read_command(rt.alloc(), words.as_slice()).ok(),

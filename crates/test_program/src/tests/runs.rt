@@ -2,10 +2,9 @@
 ghost use Rattle.csq_device.specs.Plans.{IsListFor};
 
 use csq_device::{Free, Gate, Plan, Point, RunRefused};
-use csq_list::{ChainList, PendingList, VecList};
+use csq_list::{ChainList, ListKind, PendingList, VecList};
 use csq_program::{Job, ProgramFault, RunFault, answer_run, read_command, status_of};
 use csq_replay::SimFault;
-use refusing_heap::RefusingHeap;
 use std::alloc::{AllocError, Global};
 use std::io;
 use std::io::{Error, ErrorKind, Write};
@@ -14,6 +13,7 @@ use std::sync::Wait;
 use std::sync::atomic::{AtomicU64, Ordering};
 use std::test::Fail;
 use std::thread::Threads;
+use test_heap::RefusingHeap;
 
 const USUAL: &str = "irps 64\naccounted 64\ncancelled and listed 0\n";
 
@@ -167,11 +167,11 @@ fn read_run(
     alloc: Global,
     words: &[&str],
     numbers: [u32; 6],
-    chain: bool,
+    list: ListKind,
 ) -> Result<(), Fail> {
     let [irps, files, submitters, workers, cancellers, turns] = numbers;
     let plan = Plan::new(irps, files, submitters, workers, cancellers, turns).ok_or("a plan")?;
-    let wanted = Job::Run { plan, chain };
+    let wanted = Job::Run { plan, list };
     assert_eq!(rt; read_command(alloc, words).ok(), Some(wanted));
     Ok(())
 }
@@ -186,8 +186,20 @@ fn command_lines_of_runs_are_read(rt: HostRuntime) -> Result<(), Fail> {
         "--submitters=20",
         "--workers=20",
     ];
-    read_run(&rt, rt.alloc(), &plain, [64, 4, 2, 2, 2, 64], false)?;
-    read_run(&rt, rt.alloc(), &most, [1024, 4, 20, 20, 2, 64], false)
+    read_run(
+        &rt,
+        rt.alloc(),
+        &plain,
+        [64, 4, 2, 2, 2, 64],
+        ListKind::Vector,
+    )?;
+    read_run(
+        &rt,
+        rt.alloc(),
+        &most,
+        [1024, 4, 20, 20, 2, 64],
+        ListKind::Vector,
+    )
 }
 
 #[test]
@@ -213,8 +225,20 @@ fn each_number_of_a_run_is_read(rt: HostRuntime) -> Result<(), Fail> {
         "--cancellers=1",
         "--turns=1",
     ];
-    read_run(&rt, rt.alloc(), &sized, [2, 256, 3, 4, 20, 100_000], true)?;
-    read_run(&rt, rt.alloc(), &least, [1, 1, 1, 1, 1, 1], false)
+    read_run(
+        &rt,
+        rt.alloc(),
+        &sized,
+        [2, 256, 3, 4, 20, 100_000],
+        ListKind::Chains,
+    )?;
+    read_run(
+        &rt,
+        rt.alloc(),
+        &least,
+        [1, 1, 1, 1, 1, 1],
+        ListKind::Vector,
+    )
 }
 
 #[test]

@@ -9,12 +9,12 @@ use csq_list::{ChainList, PendingList, VecList};
 use csq_queue::{Blank, QueueName};
 use irp_core::Life;
 use linked_list_allocator::LocalHeap;
-use refusing_heap::RefusingHeap;
 use std::alloc::{Allocator, Global};
 use std::marker::Brand;
 use std::process::Abort;
 use std::sync::Wait;
 use std::test::Fail;
+use test_heap::RefusingHeap;
 
 // Makes a queue on the heap of its list, and refuses all memory from then on: the calls answer as ever.
 fn run_without_memory<'a, L: PendingList + Drop, R: Wait + Abort>(

@@ -1,6 +1,6 @@
 //! What the contracts tell the only caller of a queue.
 ghost use Rattle.std.specs.Prelude.{◌≡◌, true, Some, IfOk, IfSome};
-ghost use Rattle.irp_core.specs.Steps.{Irp};
+ghost use Rattle.irp_core.specs.declared.ids.IrpLife.{IrpLife};
 ghost use Rattle.irp_core.specs.Words.{flagged};
 ghost use Rattle.csq_queue.specs.Named.{pass_numbered};
 ghost use Rattle.csq_queue.specs.Inserts.{given_by};
@@ -29,7 +29,7 @@ fn insert_alone<L: PendingList + Drop, N: QueueName, A: Allocator>(
     requires one { N.limits.passes ≡ 1 }
     requires first { pass.old.pass ≡ pass_numbered 1 }
     ensures token { IfOk result (λ inserted. IfSome (given_by inserted) (Holds N.limits.irps pass.new)) }
-    ensures flagged { IfOk result (λ inserted. (i : Irp) → given_by inserted ≡ Some i → flagged pass.old.steps i ≡ true) }
+    ensures flagged { IfOk result (λ inserted. (i : IrpLife) → given_by inserted ≡ Some i → flagged pass.old.steps i ≡ true) }
 {
     queue.insert(rt, pass, irp, file, Place::Back)
 }

@@ -12,7 +12,7 @@ use std::sync::atomic::{AtomicBool, AtomicU64, Ordering};
 use std::test::Fail;
 use std::thread::{Threads, join};
 use test_queue::insert_pending;
-use watched_list::{Moment, Watch, WatchedList, wait_for};
+use test_watched_list::{Moment, Watch, WatchedList, wait_for};
 
 // How many IRPs are cleaned up.
 const SHARE: u32 = 1000;

@@ -12,7 +12,7 @@ use std::sync::Wait;
 use std::sync::atomic::Ordering;
 use std::test::Fail;
 use std::thread::{Threads, join, yield_now};
-use watched_list::WatchedList;
+use test_watched_list::WatchedList;
 
 // How often a thread yields, so that another comes to the lock.
 const WHILE: u32 = 1000;

@@ -15,7 +15,7 @@ use std::sync::atomic::{AtomicBool, Ordering};
 use std::test::Fail;
 use std::thread::{Threads, join, yield_now};
 use test_queue::insert_pending;
-use watched_list::WatchedList;
+use test_watched_list::WatchedList;
 
 // The life of each IRP.
 const LIFE: Life = Life(1);

@@ -1,6 +1,6 @@
 //! What the threads of a test tell each other.
 use std::sync::atomic::{AtomicBool, AtomicU64, Ordering};
-use watched_list::{Moment, Watch, wait_for};
+use test_watched_list::{Moment, Watch, wait_for};
 
 /// Each is counted once it is so.
 #[derive(Drop)]

@@ -6,10 +6,10 @@ use super::answers::Answer;
 use csq_list::{ChainList, PendingList, VecList};
 use csq_replay::{Ended, SimFault, answer_schedule, answer_script};
 use linked_list_allocator::LocalHeap;
-use refusing_heap::RefusingHeap;
 use std::alloc::{Allocator, Global};
 use std::process::Abort;
 use std::test::Fail;
+use test_heap::RefusingHeap;
 
 // More than the memory of any answer here.
 const ROOM: usize = 1 << 16;

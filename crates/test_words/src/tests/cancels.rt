@@ -1,17 +1,17 @@
 //! Cancels by pass 2, and flags by any pass that name another life than the present one.
 ghost use Rattle.std.specs.Prelude.{◌≡◌, ◌<◌, None, true};
 ghost use Rattle.irp_core.specs.Steps.{life_of};
-ghost use Rattle.irp_core.specs.declared.step.Inside.TheVariants.{Nothing, Cancelling};
-ghost use Rattle.csq_words.specs.Own.{inside_of, owes_in};
+ghost use Rattle.irp_core.specs.declared.inside.Inside.TheVariants.{Nothing, Cancelling};
+ghost use Rattle.irp_core.specs.Own.{inside_of, owes_in};
 ghost use Rattle.csq_words.specs.Seats.{pass_record, IsHere};
 ghost use Rattle.csq_words.specs.declared.views.Reusing.TheVariants as Reusing;
 ghost use Rattle.csq_words.specs.Words.{bit_word};
-ghost use Rattle.test_words.specs.Listed.{IsPresent};
+ghost use Rattle.test_words.specs.Listed.{IsIrpZero};
 
 use super::ZERO;
-use super::fixture::{By, Case, FREE, compare};
+use super::fixture::{By, Case, FREE, compare, compare_bit};
 use crate::states::{Doing, Hand, Stage};
-use csq_words::{Call, Note, PassSeat, QueueSeat, Words, flag_read};
+use csq_words::{Call, Note, PassSeat, QueueSeat, Words, bit_word, flag_read};
 use irp_core::{FinalStatus, IrpLife, Kind, Life, Machine, PassId, Step, StepRefused};
 use std::process::Abort;
 
@@ -28,10 +28,11 @@ fn take(
     requires flagged { inside_of (pass_record pass.old).steps ≡ Cancelling name }
     ensures here { IsHere words.now.table pass.new }
     ensures outside { inside_of (pass_record pass.new).steps ≡ Nothing }
-    ensures owed { result ≡ bit_word (life_of name) 1 → owes_in (pass_record pass.new).steps name ≡ true }
+    ensures owed { result ≡ bit_word (life_of name) 1
+        → owes_in (pass_record pass.new).steps name ≡ true }
 {
     let found = pass.take(words, name);
-    let taken = found == 2 * u64::from(name.life.0) + 1;
+    let taken = found == bit_word(name.life, true);
     compare(rt, machine, 2, Kind::Take(name), u64::from(taken));
     found
 }
@@ -48,7 +49,7 @@ fn finish(
     requires words { queue.old.table ≡ words.now.table }
     requires irp { name.irp.0 < words.now.size.irps }
     requires alone { queue.old.joined ≡ None }
-    requires present { IsPresent name queue.old.queue }
+    requires present { IsIrpZero name queue.old.queue }
     requires idle { queue.old.queue.reusing ≡ Reusing.Nothing }
     requires here { IsHere words.now.table pass.old }
     requires outside { inside_of (pass_record pass.old).steps ≡ Nothing }
@@ -83,8 +84,8 @@ fn flag_stale(
 {
     let before = (pass.read_cancel(words, ZERO), pass.read_status(words, ZERO));
     let found = pass.flag(words, name);
-    assert!(rt; found / 2 == u64::from(present.life.0));
-    let (_, set) = flag_read(found);
+    let (life, set) = flag_read(found);
+    assert!(rt; life == present.life);
     let step = Step {
         pass: PassId(by),
         kind: Kind::Flag(name),
@@ -104,13 +105,14 @@ impl Case {
         let life = self.life;
         let name = IrpLife { irp: ZERO, life };
         let found = self.two.flag(&self.words, name);
-        assert!(rt; found / 2 == u64::from(name.life.0));
-        compare(rt, &mut self.machine, 2, Kind::Flag(name), found % 2);
+        let (found_life, _) = flag_read(found);
+        assert!(rt; found_life == life);
+        compare_bit(rt, &mut self.machine, 2, Kind::Flag(name), found);
         self.canceller = Hand::Here(Doing::Cancelling(self.life));
     }
 
-    // Its exchange of the routine finds this word. Where that is the routine of the life that it flagged, it
-    // owes the IRP.
+    // Its exchange of the routine finds this word. Where that is the routine of the life that it
+    // flagged, it owes the IRP.
     pub(super) fn take(&mut self, rt: &impl Abort, word: u64) {
         let Hand::Here(Doing::Cancelling(life)) = self.canceller else {
             panic!(rt; "pass 2 flagged nothing");
@@ -118,7 +120,7 @@ impl Case {
         let name = IrpLife { irp: ZERO, life };
         let found = take(rt, &mut self.machine, &self.words, &mut self.two, name);
         assert_eq!(rt; found, word);
-        if found == 2 * u64::from(life.0) + 1 {
+        if found == bit_word(life, true) {
             self.canceller = Hand::Here(Doing::Owing(life));
         } else {
             self.canceller = FREE;

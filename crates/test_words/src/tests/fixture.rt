@@ -1,12 +1,12 @@
-//! One IRP in the words, with the machine beside them: the queue's seat, and those of three passes, of
-//! which the first inserts and reuses, the second cancels and the third removes.
+//! One IRP in the words, with the machine beside them: the queue's seat, and those of three passes,
+//! of which the first inserts and reuses, the second cancels and the third removes.
 ghost use Rattle.std.specs.Prelude.{◌≡◌, ◌∷◌, None};
 ghost use Rattle.csq_words.specs.Records.{new_queue};
 ghost use Rattle.csq_words.specs.Seats.{new_seats};
 
 use super::ZERO;
 use crate::states::{Doing, Hand, Stage};
-use csq_words::{PassSeat, PassSeats, QueueSeat, Words};
+use csq_words::{PassSeat, PassSeats, QueueSeat, Words, is_set};
 use irp_core::{Kind, Life, Machine, NtStatus, PassId, Step};
 use std::marker::Model;
 use std::process::Abort;
@@ -55,7 +55,8 @@ impl Model for Case {
 
     ghost view = { λ c. c.life };
 
-    ghost invariant = { λ c. IsCase c.words c.stage (irp_in c.life) c.queue c.inserter c.one c.canceller c.two c.remover c.three };
+    ghost invariant = { λ c. IsCase c.words c.stage (irp_in c.life) c.queue c.inserter c.one
+        c.canceller c.two c.remover c.three };
 }
 
 // A step finds what the machine finds.
@@ -65,6 +66,17 @@ pub(super) fn compare(rt: &impl Abort, machine: &mut Machine, pass: u32, kind: K
         kind,
     };
     assert_eq!(rt; machine.step(step), Ok(found));
+}
+
+// A step on a Cancel flag or a routine finds the bit that the machine finds.
+pub(super) fn compare_bit(
+    rt: &impl Abort,
+    machine: &mut Machine,
+    pass: u32,
+    kind: Kind,
+    word: u64,
+) {
+    compare(rt, machine, pass, kind, u64::from(is_set(word)));
 }
 
 fn new_machine<R: AllocGlobal + Abort>(rt: &R, life: Life) -> Machine {
@@ -77,7 +89,8 @@ fn new_machine<R: AllocGlobal + Abort>(rt: &R, life: Life) -> Machine {
 // Words of one IRP, which is in this life, and the seats.
 fn new_words<R: AllocGlobal + Abort>(rt: &R, life: Life) -> (Words, QueueSeat, PassSeats)
     ensures size { result.0.size.irps ≡ 1 }
-    ensures queue { result.1 ≡ record { table = result.0.table; queue = new_queue life.0 3; joined = None } }
+    ensures queue { result.1
+        ≡ record { table = result.0.table; queue = new_queue life.0 3; joined = None } }
     ensures seats { result.2 ≡ new_seats result.0.table 1 3 }
 {
     match Words::new_at(rt.alloc(), 1, 3, life) {

@@ -1,17 +1,17 @@
 //! Inserts by pass 1.
 ghost use Rattle.std.specs.Prelude.{◌≡◌, ◌<◌, None, true};
-ghost use Rattle.irp_core.specs.declared.step.Inside.TheVariants.{Nothing, Armed, FlagSeen};
-ghost use Rattle.csq_words.specs.Own.{inside_of, holds_in};
+ghost use Rattle.irp_core.specs.declared.inside.Inside.TheVariants.{Nothing, Armed, FlagSeen};
+ghost use Rattle.irp_core.specs.Own.{inside_of, holds_in};
 ghost use Rattle.csq_words.specs.Seats.{joined_record, pass_record, IsHere, IsJoined};
 ghost use Rattle.csq_words.specs.declared.views.Reusing.TheVariants as Reusing;
 ghost use Rattle.csq_words.specs.Words.{bit_in};
-ghost use Rattle.test_words.specs.Listed.{IsHome, IsInserted, IsPresent, only_entry};
+ghost use Rattle.test_words.specs.Listed.{IsHome, IsInserted, IsIrpZero, only_entry};
 
-use super::fixture::{Case, FREE, compare};
+use super::fixture::{Case, FREE, compare_bit};
 use super::{INSERT, ZERO};
 use crate::states::{Doing, Hand, Stage};
 use csq_list::InsertStatus;
-use csq_words::{Note, PassSeat, QueueSeat, Words};
+use csq_words::{Note, PassSeat, QueueSeat, Words, is_set};
 use irp_core::{IrpLife, Kind, Machine};
 use std::process::Abort;
 
@@ -36,12 +36,13 @@ fn find_clear(
     ensures outside { inside_of (pass_record pass.new).steps ≡ Nothing }
 {
     let found = queue.test(words, INSERT, ZERO);
-    compare(rt, machine, 1, Kind::Test(name), found % 2);
-    assert!(rt; found % 2 == 0);
+    compare_bit(rt, machine, 1, Kind::Test(name), found);
+    assert!(rt; !is_set(found));
     queue.leave(words, pass);
 }
 
-// The pass exchanges the routine that it set, and its insert ends. It holds the IRP where it found it.
+// The pass exchanges the routine that it set, and its insert ends. It holds the IRP where it found
+// it.
 fn take_back(
     rt: &impl Abort,
     machine: &mut Machine,
@@ -57,14 +58,14 @@ fn take_back(
     requires seen { inside_of (joined_record queue.old).steps ≡ FlagSeen name }
     ensures words { queue.new.table ≡ words.now.table }
     ensures alone { queue.new.joined ≡ None }
-    ensures present { IsPresent name queue.new.queue }
+    ensures present { IsIrpZero name queue.new.queue }
     ensures idle { queue.new.queue.reusing ≡ Reusing.Nothing }
     ensures here { IsHere words.now.table pass.new }
     ensures outside { inside_of (pass_record pass.new).steps ≡ Nothing }
     ensures held { bit_in result ≡ 1 → holds_in (pass_record pass.new).steps name ≡ true }
 {
     let found = queue.disarm(words, INSERT, name);
-    compare(rt, machine, 1, Kind::Disarm(name), found % 2);
+    compare_bit(rt, machine, 1, Kind::Disarm(name), found);
     queue.leave(words, pass);
     found
 }
@@ -82,7 +83,7 @@ impl Case {
         let name = IrpLife { irp: ZERO, life };
         self.queue.enter(&self.words, &mut self.one);
         let found = self.queue.arm(&self.words, INSERT, name);
-        compare(rt, &mut self.machine, 1, Kind::Arm(name), found % 2);
+        compare_bit(rt, &mut self.machine, 1, Kind::Arm(name), found);
         self.stage = Stage::Armed;
         self.inserter = Hand::Away;
     }
@@ -114,12 +115,13 @@ impl Case {
         let life = self.life;
         let name = IrpLife { irp: ZERO, life };
         let found = self.queue.test(&self.words, INSERT, ZERO);
-        compare(rt, &mut self.machine, 1, Kind::Test(name), found % 2);
-        assert!(rt; found % 2 == 1);
+        compare_bit(rt, &mut self.machine, 1, Kind::Test(name), found);
+        assert!(rt; is_set(found));
         self.stage = Stage::FlagSeen;
     }
 
-    // Its exchange of the routine then finds this word. Where the routine was there, it holds the IRP.
+    // Its exchange of the routine then finds this word. Where the routine was there, it holds the
+    // IRP.
     pub(super) fn take_back(&mut self, rt: &impl Abort, word: u64) {
         let Stage::FlagSeen = self.stage else {
             panic!(rt; "the flag wasn't found set");
@@ -136,7 +138,7 @@ impl Case {
         );
         assert_eq!(rt; found, word);
         self.stage = Stage::Taken;
-        if found % 2 == 1 {
+        if is_set(found) {
             self.inserter = Hand::Here(Doing::Holding(self.life));
         } else {
             self.inserter = FREE;

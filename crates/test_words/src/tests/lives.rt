@@ -22,8 +22,8 @@ fn flag_in_vain(life: Life) -> Action {
     Action::FlagStale(By::Canceller, life, false)
 }
 
-// Pass 2 cancels the life that a reuse is about to end. It finds this word, which has no routine, and a
-// flag of the next life changes no word.
+// Pass 2 cancels the life that a reuse is about to end. It finds this word, which has no routine,
+// and a flag of the next life changes no word.
 fn cancel_in_vain(word: u64) -> [Action; 3] {
     [
         Action::Flag,
@@ -34,7 +34,8 @@ fn cancel_in_vain(word: u64) -> [Action; 3] {
 
 #[test]
 fn cancels_come_between_the_renewals(rt: HostRuntime) {
-    // The flag is still of the old life when the status is renewed, and so is the routine, which is gone.
+    // The flag is still of the old life when the status is renewed, and so is the routine, which is
+    // gone.
     let [flag, take_old, flag_next] = cancel_in_vain(10);
     // Then the routine is of the new one.
     let [_, take_new, _] = cancel_in_vain(12);
@@ -145,8 +146,8 @@ fn the_life_before_the_last_is_renewed(rt: HostRuntime) {
     play(&rt, LAST_BUT_ONE, &actions);
 }
 
-// Pass 2 has flagged the IRP, which pass 3 has removed and then completes. Its take comes once pass 1
-// has inserted the IRP again, and finds nothing: the new life is removed and completed.
+// Pass 2 has flagged the IRP, which pass 3 has removed and then completes. Its take comes once pass
+// 1 has inserted the IRP again, and finds nothing: the new life is removed and completed.
 #[test]
 fn a_late_take_leaves_the_next_life_alone(rt: HostRuntime) {
     let actions = [

@@ -38,6 +38,16 @@ fn words_in_a_life_after_the_last_are_refused(rt: HostRuntime) {
 }
 
 #[test]
+fn words_know_how_many_irps_they_have(rt: HostRuntime) {
+    for irps in [1, 2, 1024] {
+        match Words::new(rt.alloc(), irps, 1) {
+            Ok((words, _, _)) => assert_eq!(rt; words.irps(), irps),
+            Err(_) => panic!(rt; "no words"),
+        }
+    }
+}
+
+#[test]
 fn refusals_have_numbers(rt: HostRuntime) {
     assert_eq!(rt; WordsNew::BadSize.number(), 1);
     assert_eq!(rt; WordsNew::Memory.number(), 2);

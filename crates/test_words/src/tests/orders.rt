@@ -1,5 +1,6 @@
-//! Every order of an insert's arm and test with a cancel's flag and take, and of a removal's disarm with
-//! them. Each goes on to its end: the IRP is completed once, by the pass whose exchange found the routine.
+//! Every order of an insert's arm and test with a cancel's flag and take, and of a removal's disarm
+//! with them. Each goes on to its end: the IRP is completed once, by the pass whose exchange found
+//! the routine.
 
 use super::FIRST;
 use super::actions::{Action, play};

@@ -1,17 +1,17 @@
 //! Removals by pass 3, calls that find nothing, and completions.
 ghost use Rattle.std.specs.Prelude.{◌≡◌, ◌<◌, None, [], true};
-ghost use Rattle.irp_core.specs.declared.step.Inside.TheVariants.{Nothing};
-ghost use Rattle.csq_words.specs.Own.{inside_of, holds_in, removed_in};
+ghost use Rattle.irp_core.specs.declared.inside.Inside.TheVariants.{Nothing};
+ghost use Rattle.irp_core.specs.Own.{inside_of, holds_in, removed_in};
 ghost use Rattle.csq_words.specs.Seats.{pass_record, IsHere};
 ghost use Rattle.csq_words.specs.declared.views.Reusing.TheVariants as Reusing;
 ghost use Rattle.csq_words.specs.Words.{bit_in};
-ghost use Rattle.test_words.specs.Listed.{IsInserted, IsPresent, Removes, only_entry};
+ghost use Rattle.test_words.specs.Listed.{IsInserted, IsIrpZero, Removes, only_entry};
 
 use super::ZERO;
-use super::fixture::{Case, FREE, compare};
+use super::fixture::{Case, FREE, compare, compare_bit};
 use crate::states::{Doing, Hand, Stage};
 use csq_list::Peek;
-use csq_words::{Call, Note, PassSeat, QueueSeat, Words};
+use csq_words::{Call, Note, PassSeat, QueueSeat, Words, bit_word, is_set};
 use irp_core::{FileId, FinalStatus, IrpLife, Kind, Machine, NtStatus};
 use std::process::Abort;
 
@@ -19,7 +19,7 @@ use std::process::Abort;
 fn expect_found(rt: &impl Abort, found: u64)
     ensures { bit_in found ≡ 1 }
 {
-    assert!(rt; found % 2 == 1);
+    assert!(rt; is_set(found));
 }
 
 // A removal by pass 3 takes the routine of the IRP, and the pass then holds the IRP.
@@ -49,7 +49,7 @@ fn remove(
 {
     queue.enter(words, pass);
     let found = queue.disarm(words, call, name);
-    compare(rt, machine, 3, Kind::Disarm(name), found % 2);
+    compare_bit(rt, machine, 3, Kind::Disarm(name), found);
     expect_found(rt, found);
     queue.leave(words, pass);
 }
@@ -71,15 +71,15 @@ fn find_taken(
     requires outside { inside_of (pass_record pass.old).steps ≡ Nothing }
     ensures words { queue.new.table ≡ words.now.table }
     ensures alone { queue.new.joined ≡ None }
-    ensures present { IsPresent name queue.new.queue }
+    ensures present { IsIrpZero name queue.new.queue }
     ensures idle { queue.new.queue.reusing ≡ Reusing.Nothing }
 {
     queue.enter(words, pass);
     let call = Call::Remove(name);
     let found = queue.disarm(words, call, name);
-    compare(rt, machine, 3, Kind::Disarm(name), found % 2);
-    assert!(rt; found % 2 == 0);
-    assert_eq!(rt; found, 2 * u64::from(name.life.0));
+    compare_bit(rt, machine, 3, Kind::Disarm(name), found);
+    assert!(rt; !is_set(found));
+    assert_eq!(rt; found, bit_word(name.life, false));
     queue.note(words, call, Note::Event);
     compare(rt, machine, 3, Kind::End, 0);
     queue.leave(words, pass);

@@ -2,8 +2,8 @@
 ghost use Rattle.std.specs.Prelude.{◌≡◌, ◌<◌, None, []};
 ghost use Rattle.irp_core.specs.Lives.{last_life};
 ghost use Rattle.irp_core.specs.Steps.{life_of};
-ghost use Rattle.irp_core.specs.declared.step.Inside.TheVariants.{Nothing};
-ghost use Rattle.csq_words.specs.Own.{inside_of};
+ghost use Rattle.irp_core.specs.declared.inside.Inside.TheVariants.{Nothing};
+ghost use Rattle.irp_core.specs.Own.{inside_of};
 ghost use Rattle.csq_words.specs.Records.{with_reusing};
 ghost use Rattle.csq_words.specs.Rule.{next_life};
 ghost use Rattle.csq_words.specs.Seats.{joined_record, pass_record, IsHere, IsJoined};
@@ -13,7 +13,7 @@ ghost use Rattle.test_words.specs.Listed.{IsHome, IsInserted};
 use super::ZERO;
 use super::fixture::{Case, FREE, compare};
 use crate::states::{Doing, Hand, Stage};
-use csq_words::{Call, PassSeat, QueueSeat, Words, flag_read, status_read};
+use csq_words::{Call, PassSeat, QueueSeat, Words, bit_word, flag_read, status_read};
 use irp_core::{IrpLife, Kind, Life, Machine, NtStatus, PassId, Step, StepRefused};
 use std::process::Abort;
 
@@ -115,7 +115,7 @@ impl Case {
         let life = self.life;
         let name = IrpLife { irp: ZERO, life };
         let found = self.queue.renew_routine(&self.words, REUSE, name);
-        assert_eq!(rt; found, 2 * u64::from(name.life.0));
+        assert_eq!(rt; found, bit_word(name.life, false));
         self.stage = Stage::RoutineRenewed;
     }
 

@@ -1,13 +1,13 @@
 //! Two threads that cancel one IRP.
 ghost use Rattle.std.specs.Prelude.{◌≡◌, ◌<◌};
-ghost use Rattle.irp_core.specs.declared.step.Inside.TheVariants.{Nothing};
-ghost use Rattle.csq_words.specs.Own.{inside_of};
+ghost use Rattle.irp_core.specs.declared.inside.Inside.TheVariants.{Nothing};
+ghost use Rattle.irp_core.specs.Own.{inside_of};
 ghost use Rattle.csq_words.specs.Seats.{pass_record, IsHere};
 
 use super::fixture::Case;
 use super::{FIRST, ZERO};
 use crate::states::{Doing, Hand};
-use csq_words::{PassSeat, Words};
+use csq_words::{PassSeat, Words, bit_word, flag_read};
 use irp_core::IrpLife;
 use std::process::Abort;
 use std::thread::{Threads, join};
@@ -24,10 +24,11 @@ fn claim(words: &Words, pass: &mut PassSeat) -> u64
     requires outside { inside_of (pass_record pass.old).steps ≡ Nothing }
     ensures { result < 2 }
 {
-    if pass.flag(words, NAME) / 2 != 0 {
+    let (life, _) = flag_read(pass.flag(words, NAME));
+    if life != FIRST {
         return 0;
     }
-    u64::from(pass.take(words, NAME) == 1)
+    u64::from(pass.take(words, NAME) == bit_word(FIRST, true))
 }
 
 // Both passes cancel, each in a thread. Answers how many got the IRP.
@@ -49,11 +50,13 @@ fn claim_in_threads<R: Threads + Abort>(rt: &R, case: &mut Case) -> u64 {
     let (a, b) = join(
         rt,
         || -> u64
-            requires { (0 < words.now.size.irps) × IsHere words.now.table two.now × (inside_of (pass_record two.now).steps ≡ Nothing) }
+            requires { (0 < words.now.size.irps) × IsHere words.now.table two.now
+                × (inside_of (pass_record two.now).steps ≡ Nothing) }
             ensures { result < 2 }
         { claim(words, two) },
         || -> u64
-            requires { (0 < words.now.size.irps) × IsHere words.now.table three.now × (inside_of (pass_record three.now).steps ≡ Nothing) }
+            requires { (0 < words.now.size.irps) × IsHere words.now.table three.now
+                × (inside_of (pass_record three.now).steps ≡ Nothing) }
             ensures { result < 2 }
         { claim(words, three) },
     );

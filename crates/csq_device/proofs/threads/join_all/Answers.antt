@@ -1,5 +1,5 @@
 use Rattle.std.proofs.Common.{rules, ◌≡◌, ◌+◌, [], ◌∷◌, ◌++◌, ◌∙◌, length, suc, vec_items, sym, ap, subst}
-use Rattle.csq_device.specs.Served.{AreReceipts, completed_by}
+use Rattle.csq_device.specs.Served.{AreReceipts, completions_of}
 use Rattle.csq_device.proofs.Shifts.{completed_by-push, one_more_served}
 use Rattle.csq_device.proofs.threads.join_all.Goals as goal
 
@@ -17,7 +17,7 @@ loop-handle-preserved g c =
       all = search rules;
       room = search rules;
       next = λ k d below. let h = was.next (k + 1) d in grind rules;
-      handed = (λ i. was.handed i + (c.from-handed.ensures ∙ served.count_is) i) ∙ (sym (completed_by-push old receipt) ∙ ap completed_by (sym pushed));
+      handed = (λ i. was.handed i + (c.from-handed.ensures ∙ served.count_is) i) ∙ (sym (completed_by-push old receipt) ∙ ap completions_of (sym pushed));
       receipts = subst AreReceipts (sym pushed) (one_more_served c.in-Some.handle.promise.number c.join-completed.result.completed old receipt served number was.receipts);
       few = search rules;
     }

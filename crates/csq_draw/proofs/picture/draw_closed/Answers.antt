@@ -10,4 +10,4 @@ returns g c =
     let lines = each (closing_elements c.args.count) 0 told in
     let rest = rest_element c.args.count (length told) c.args.rest ∷ [] in
     grew_picture _ _ _ (shown ++ (lines ++ rest))
-    (grew_elements _ _ _ shown (lines ++ rest) c.in_ok-draw_steps.ensures (grew_elements _ _ _ lines rest c.in_ok-draw_told.ensures c.in_ok-draw_rest.ensures)) c.in_ok-draw_foot.ensures
+    (grew_elements _ _ _ shown (lines ++ rest) c.in_ok-draw_steps.ensures (grew_elements _ _ _ lines rest c.in_ok-draw_told.ensures c.in_ok-draw.ensures)) c.in_ok-draw_foot.ensures

@@ -1,6 +1,5 @@
 use Rattle.std.proofs.Common.{arith}
-use Rattle.csq_replay.specs.declared.lines.answer.Ended.{Ended}
-use Rattle.csq_replay.specs.Lines.IsAnswer.{too_long_input, answered}
+use Rattle.csq_replay.specs.Lines.IsAnswer.{too_long_input}
 use Rattle.csq_replay.proofs.Answering.{each_answer}
 use Rattle.csq_replay.proofs.lines.answer_input.Goals as goal
 

@@ -7,7 +7,7 @@ use Rattle.test_execution.proofs.reads.serve_next.Goals as goal
 pub returns : goal.returns
 returns g c =
     let size = queue_size g.N.QueueName.limits in
-    let removed = c.in_ok-token.ensures.call.2.follows in
-    let completed = completed_follows size c.in_ok-token.token c.remove_next.new.pass c.complete.new.pass c.complete.ensures.unset in
-    let read = read_follows size c.irp-irp.result c.complete.new.pass c.status.new.pass c.status.result c.status.ensures.found c.status.ensures.unknown in
+    let removed = c.in_ok-token.ensures.call.1.call.1.follows in
+    let completed = completed_follows size c.in_ok-token.token c.remove_next.new.pass c.complete.new.pass c.complete.ensures.call.unset in
+    let read = read_follows size c.irp-irp.result c.complete.new.pass c.status.new.pass c.status.result c.status.ensures.call.found c.status.ensures.call.unknown in
     record { follows = extended_on _ _ _ removed (extended_on _ _ _ completed read) }

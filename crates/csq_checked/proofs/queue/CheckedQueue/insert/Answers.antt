@@ -1,6 +1,6 @@
 use Rattle.std.proofs.Common.{None, Ok, false, refl, subst, rules}
 use Rattle.std.specs.Arc.{arc_value}
-use Rattle.irp_core.specs.Steps.{Irp}
+use Rattle.irp_core.specs.declared.ids.IrpLife.{IrpLife}
 use Rattle.csq_words.specs.History.{end_of}
 use Rattle.csq_queue.specs.declared.tokens.InsertAnswer.{InsertAnswer}
 use Rattle.csq_queue.specs.Inserts.{given_by}
@@ -15,5 +15,5 @@ invariant_of-by-in_default c =
     let on : IsQueueOn words c.self.inside.queue = search rules in
     let q = c.self.inside.queue in
     let told = c.in_ok-inserted.ensures in
-    let gives = insert_gives q.limits (Ok c.in_ok-inserted.inserted) (end_of q.limits.first c.insert.new.pass.pass.seen) c.by.inside.pass.pass c.insert.new.pass.pass told.steps told.new in
-    giving_keeps words c.by.inside.pass c.by.inside.held c.by.inside.owed c.by.invariant q on None false _ _ (subst (λ (a : InsertAnswer Irp Irp). GivesOut q.limits (given_by a) false c.by.inside.pass.pass c.insert.new.pass.pass) c.in_default.is gives) told.place refl
+    let gives = insert_gives q.limits (Ok c.in_ok-inserted.inserted) (end_of q.limits.first c.insert.new.pass.pass.seen) c.by.inside.pass.pass c.insert.new.pass.pass told.call.steps told.call.new in
+    giving_keeps words c.by.inside.pass c.by.inside.held c.by.inside.owed c.by.invariant q on None false _ _ (subst (λ (a : InsertAnswer IrpLife IrpLife). GivesOut q.limits (given_by a) false c.by.inside.pass.pass c.insert.new.pass.pass) c.in_default.is gives) told.place refl

@@ -1,5 +1,4 @@
 use Rattle.std.proofs.Common.{ℕ, ◌<◌, ◌∷◌, [], ◌∙◌, Some, None, ap, sym, refl, subst, append-nil, arith}
-use Rattle.irp_core.specs.declared.step.Made.{Made}
 use Rattle.irp_core.specs.MachineState.{MachineState, Agrees, size_of}
 use Rattle.irp_core.specs.Runs.{Size, OfIrp}
 use Rattle.irp_core.specs.Steps.{number}

@@ -1,4 +1,4 @@
-use Rattle.std.proofs.Common.{refl, sym, subst, ◌∙◌}
+use Rattle.std.proofs.Common.{refl, sym, subst}
 use Rattle.csq_list.specs.Listing.{IsFresh}
 use Rattle.csq_list.proofs.chain_list.ChainList.with_file_limits.Goals as goal
 

@@ -9,4 +9,4 @@ invariant_of-queue g c =
     let w = c.self.inside.words in
     let l = limits_of c.self.inside.passes w.size.first s in
     own_words w.table l s c.self.inside.lives c.self.inside.seat c.self.inside.back.items
-    (new_locked w s c.self.inside.seat c.self.inside.seats c.self.inside.back.items c.self.inside.lives c.self.invariant.0 c.self.inside.passes c.self.invariant.2)
+    (new_locked w s c.self.inside.seat c.self.inside.seats c.self.inside.back.items c.self.inside.lives c.self.invariant.0 c.self.inside.passes c.self.invariant.1)

@@ -1,5 +1,5 @@
 use Rattle.std.proofs.Common.{◌∷◌, []}
-use Rattle.csq_replay.proofs.Closings.{grew_none, grew_line}
+use Rattle.csq_replay.proofs.Closings.{grew_line}
 use Rattle.csq_replay.proofs.schedule.closing.close_irp.Goals as goal
 
 pub returns : goal.returns

@@ -3,15 +3,15 @@ use Rattle.csq_words.specs.Records.{view_of, with_shown, shown_by}
 use Rattle.csq_words.specs.Rule.{table_size}
 use Rattle.csq_words.specs.Seats.{pass_record}
 use Rattle.csq_words.proofs.Receipts.{shows_as, shown_receipt_as}
-use Rattle.csq_words.proofs.Values.{receipt_here, alone}
+use Rattle.csq_words.proofs.SeatValues.{receipt_here, alone}
 use Rattle.csq_words.proofs.queue_seat.QueueSeat.show.Goals as goal
 
 pub join_seat-requires : goal.join_seat-requires
 join_seat-requires g c =
     let words = c.words.inside in
     let table = ap (λ w. w.table) c.words.view_is in
-    let receipt = receipt_here c.receipt.inside.seat c.in-Some.seat c.args.receipt.now c.args.words.now.table (sym c.take.ensures.value ∙ c.in-Some.is) c.receipt.view_is c.receipt.invariant c.requires.receipt in
-    let queue = alone c.self.inside.seat c.args.self.now c.self.view_is c.self.invariant c.requires.alone in (
+    let receipt = receipt_here (sym c.take.ensures.value ∙ c.in-Some.is) c.receipt.view_is c.receipt.invariant c.requires.receipt in
+    let queue = alone c.self.inside.seat c.self.view_is c.self.invariant c.requires.alone in (
       ap (λ z. z.table) c.self.view_is ∙ (c.requires.words ∙ sym table),
       receipt.0 ∙ sym table,
       receipt.1,
@@ -23,8 +23,8 @@ pub split_seat-requires : goal.split_seat-requires
 split_seat-requires g c =
     let words = c.words.inside in
     let table = ap (λ w. w.table) c.words.view_is in
-    let receipt = receipt_here c.receipt.inside.seat c.in-Some.seat c.args.receipt.now c.args.words.now.table (sym c.take.ensures.value ∙ c.in-Some.is) c.receipt.view_is c.receipt.invariant c.requires.receipt in
-    let queue = alone c.self.inside.seat c.args.self.now c.self.view_is c.self.invariant c.requires.alone in
+    let receipt = receipt_here (sym c.take.ensures.value ∙ c.in-Some.is) c.receipt.view_is c.receipt.invariant c.requires.receipt in
+    let queue = alone c.self.inside.seat c.self.view_is c.self.invariant c.requires.alone in
     let r = pass_record c.args.receipt.now in
     let q = with_shown r c.args.self.now.queue in
     let joined = c.join_seat.ensures in

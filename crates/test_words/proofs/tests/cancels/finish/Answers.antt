@@ -1,7 +1,7 @@
 use Rattle.std.proofs.Common.{◌≡◌, true, refl, sym, subst}
 use Rattle.std.specs.Prelude.{Option}
 use Rattle.irp_core.proofs.Names.{same_irp-refl}
-use Rattle.csq_words.specs.Own.{holds_in}
+use Rattle.irp_core.specs.Own.{holds_in}
 use Rattle.csq_words.specs.Queue.{current}
 use Rattle.csq_words.specs.Records.{queue_of}
 use Rattle.csq_words.specs.Seats.{QueueSeatState, PassSeatState, pass_record, joined_record}

@@ -1,7 +1,7 @@
 use Rattle.std.proofs.Common.{◌≡◌, true, refl, sym, subst, eq-eqb}
 use Rattle.std.specs.Prelude.{Option}
 use Rattle.irp_core.proofs.Names.{same_irp-refl}
-use Rattle.csq_words.specs.Own.{owes_in}
+use Rattle.irp_core.specs.Own.{owes_in}
 use Rattle.csq_words.specs.Seats.{PassSeatState, pass_record}
 use Rattle.test_words.proofs.tests.cancels.take.Goals as goal
 

@@ -2,7 +2,7 @@ use Rattle.std.proofs.Common.{◌≡◌, true, refl, sym, subst}
 use Rattle.irp_core.specs.declared.step.Kind.TheVariants.{End}
 use Rattle.irp_core.specs.Inside.{follows}
 use Rattle.irp_core.proofs.Names.{same_irp-refl}
-use Rattle.csq_words.specs.Own.{inside_of}
+use Rattle.irp_core.specs.Own.{inside_of}
 use Rattle.csq_words.specs.Queue.{has_entry}
 use Rattle.csq_words.specs.Records.{queue_of}
 use Rattle.csq_words.specs.Seats.{QueueSeatState, joined_record}

@@ -1,9 +1,9 @@
 use Rattle.std.proofs.Common.{◌≡◌, true, [], refl, sym, subst}
 use Rattle.std.specs.Prelude.{Option}
 use Rattle.irp_core.specs.declared.step.Kind.TheVariants.{Disarm}
-use Rattle.irp_core.specs.declared.step.Inside.TheVariants.{Nothing}
+use Rattle.irp_core.specs.declared.inside.Inside.TheVariants.{Nothing}
 use Rattle.irp_core.proofs.Names.{same_irp-refl}
-use Rattle.csq_words.specs.Own.{inside_of, holds_in, removed_in}
+use Rattle.irp_core.specs.Own.{inside_of, holds_in, removed_in}
 use Rattle.csq_words.specs.Calls.{MayMake}
 use Rattle.csq_words.specs.Records.{with_run}
 use Rattle.csq_words.specs.Seats.{QueueSeatState, PassSeatState, pass_record, joined_record}

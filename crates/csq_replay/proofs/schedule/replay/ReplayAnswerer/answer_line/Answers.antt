@@ -1,4 +1,4 @@
-use Rattle.std.proofs.Common.{◌++◌, ◌∷◌, ◌∙◌, Some, None, ap, sym, refl, append-nil, string_bytes, codes, decimal}
+use Rattle.std.proofs.Common.{◌++◌, ◌∷◌, ◌∙◌, Some, ap, sym, refl, append-nil, string_bytes, codes, decimal}
 use Rattle.std.proofs.lemmas.Str.{IsUtf8-from_ascii}
 use Rattle.csq_replay.specs.declared.schedule.outcome.Outcome.TheVariants.{Skipped, Accepted}
 use Rattle.csq_replay.specs.Outcomes.{step_of}

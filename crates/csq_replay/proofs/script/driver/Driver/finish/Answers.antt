@@ -1,7 +1,7 @@
 use Rattle.std.proofs.Common.{Some, refl, ap, ◌∙◌, arith}
 use Rattle.std.specs.Prelude.{slice_set}
 use Rattle.irp_core.specs.declared.status.NtStatus.{NtStatus}
-use Rattle.irp_core.specs.declared.step.Inside.TheVariants.{Nothing}
+use Rattle.irp_core.specs.declared.inside.Inside.TheVariants.{Nothing}
 use Rattle.irp_core.specs.declared.step.Kind.TheVariants.{Done}
 use Rattle.csq_replay.specs.Calls.{present_of}
 use Rattle.csq_replay.proofs.Going.{starts, may_done, present_is, may_as, done_as}

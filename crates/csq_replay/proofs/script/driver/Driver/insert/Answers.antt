@@ -2,6 +2,9 @@ use Rattle.std.proofs.Common.{refl, ap, ◌∙◌, arith, ◌∷◌, []}
 use Rattle.irp_core.specs.declared.step.Kind.TheVariants.{Arm, Test, Disarm}
 use Rattle.irp_core.specs.declared.status.TheConstants.NtStatus.{CANCELLED}
 use Rattle.irp_core.proofs.Names.{same_irp-refl, same_pass-refl}
+use Rattle.csq_list.specs.Listing.{Listing}
+use Rattle.csq_list.specs.Searches.{is_listed}
+use Rattle.csq_list.proofs.Keeping.{listed-put}
 use Rattle.csq_words.specs.declared.views.InsertReply.TheVariants as reply
 use Rattle.csq_words.specs.declared.views.Event.TheVariants as event
 use Rattle.csq_replay.specs.Calls.{next_step, present_of, completing, doing}
@@ -47,6 +50,9 @@ make-requires-3 g c =
     let a1 = (made_as _ _ s.run Arm _ i e (c.make.ensures.made s.run k.agrees)).0 in
     let a2 = made_as _ _ (next_step s.run (Arm i)) Test _ i e (c.make-2.ensures.made (next_step s.run (Arm i)) a1) in
     may_as _ Disarm _ _ e (disarm_may l _ s k c.args.irp c.args.file c.args.place c.in_ok-insert_ex.ensures.cause _ a1 c.make.ensures.size _ a2.0 c.make-2.ensures.size _ a2.1 _ c.in_ok-insert_ex.ensures.ok c.if-make-eq0.false)
+
+pub remove-requires : goal.remove-requires
+remove-requires g c = ap (λ (s : Listing). is_listed s.entries c.args.irp) c.in_ok-insert_ex.ensures.ok ∙ listed-put c.args.place (record { irp = c.args.irp; file = c.args.file }) _
 
 pub finish-requires : goal.finish-requires
 finish-requires g c =

@@ -2,7 +2,7 @@ use Rattle.std.proofs.Common.{refl, sym, ap, ◌∙◌, arith}
 use Rattle.std.proofs.lemmas.Bool.{not-true, not-false}
 use Rattle.irp_core.specs.Runs.{Size}
 use Rattle.irp_core.specs.Steps.{same_irp}
-use Rattle.irp_core.specs.declared.step.Inside.TheVariants.{Nothing, Cancelling}
+use Rattle.irp_core.specs.declared.inside.Inside.TheVariants.{Nothing, Cancelling}
 use Rattle.irp_core.specs.declared.step.Kind.TheVariants.{Flag}
 use Rattle.csq_replay.specs.declared.script.call.Call.TheVariants.{Mark}
 use Rattle.csq_replay.specs.Calls.{next_step}

@@ -1,7 +1,8 @@
 use Rattle.std.proofs.Common.{◌&&◌, None, refl, sym, ap, ◌∙◌}
 use Rattle.std.proofs.lemmas.Bool.{and_parts}
-use Rattle.irp_core.specs.Steps.{Irp, same_irp}
-use Rattle.irp_core.specs.declared.step.Inside.TheVariants.{Nothing}
+use Rattle.irp_core.specs.Steps.{same_irp}
+use Rattle.irp_core.specs.declared.ids.IrpLife.{IrpLife}
+use Rattle.irp_core.specs.declared.inside.Inside.TheVariants.{Nothing}
 use Rattle.irp_core.specs.declared.step.Kind.TheVariants.{Disarm}
 use Rattle.irp_core.proofs.Names.{same_irp-eq}
 use Rattle.csq_list.specs.Searches.{is_listed}
@@ -25,7 +26,7 @@ pub returns-then-not-lists : goal.returns-then-not-lists
 returns-then-not-lists g c = λ l s k.
     let i = c.args.name in
     let listed = is_listed (g.L.PendingList.listing c.args.self.now.list).entries i.irp in
-    let there = c.lists.ensures s.run k.agrees ∙ ap (λ (x : Irp). same_irp x i && listed) (present_is l _ s k i.irp) in
+    let there = c.lists.ensures s.run k.agrees ∙ ap (λ (x : IrpLife). same_irp x i && listed) (present_is l _ s k i.irp) in
     unlisted_keeps l _ s k i (c.is_known.ensures.0 c.if-not-is_known.false) (sym there ∙ c.if-not-lists.true) _ (c.make.ensures.made s.run k.agrees).0 c.make.ensures.size
 
 pub make-requires-2 : goal.make-requires-2
@@ -33,7 +34,7 @@ make-requires-2 g c =
     let (l, s, k) = c.requires in
     let i = c.args.name in
     let listed = is_listed (g.L.PendingList.listing c.args.self.now.list).entries i.irp in
-    let there = c.lists.ensures s.run k.agrees ∙ ap (λ (x : Irp). same_irp x i && listed) (present_is l _ s k i.irp) in
+    let there = c.lists.ensures s.run k.agrees ∙ ap (λ (x : IrpLife). same_irp x i && listed) (present_is l _ s k i.irp) in
     let both = and_parts (same_irp (present_of s i.irp) i) listed (sym there ∙ c.if-not-lists.false) in
     let now = same_irp-eq (present_of s i.irp) i both.0 in
     may_as _ Disarm i (present_of s i.irp) (sym now) (may_disarm_next l _ s k Any _ None (seeks_first l _ s k Any) (g.met.L.PendingList.sound c.args.self.now.list) refl i.irp both.1)
@@ -48,7 +49,7 @@ pub returns-then-make-ne1 : goal.returns-then-make-ne1
 returns-then-make-ne1 g c = λ l s k.
     let i = c.args.name in
     let listed = is_listed (g.L.PendingList.listing c.args.self.now.list).entries i.irp in
-    let there = c.lists.ensures s.run k.agrees ∙ ap (λ (x : Irp). same_irp x i && listed) (present_is l _ s k i.irp) in
+    let there = c.lists.ensures s.run k.agrees ∙ ap (λ (x : IrpLife). same_irp x i && listed) (present_is l _ s k i.irp) in
     let both = and_parts (same_irp (present_of s i.irp) i) listed (sym there ∙ c.if-not-lists.false) in
     let made = c.make-2.ensures.made s.run k.agrees in
     let ended = c.make-then-make-ne1.ensures.made (next_step s.run (Disarm i)) made.0 in
@@ -58,7 +59,7 @@ pub returns : goal.returns
 returns g c = λ l s k.
     let i = c.args.name in
     let listed = is_listed (g.L.PendingList.listing c.args.self.now.list).entries i.irp in
-    let there = c.lists.ensures s.run k.agrees ∙ ap (λ (x : Irp). same_irp x i && listed) (present_is l _ s k i.irp) in
+    let there = c.lists.ensures s.run k.agrees ∙ ap (λ (x : IrpLife). same_irp x i && listed) (present_is l _ s k i.irp) in
     let both = and_parts (same_irp (present_of s i.irp) i) listed (sym there ∙ c.if-not-lists.false) in
     let made = c.make-2.ensures.made s.run k.agrees in
     removed_keeps l _ s k i (c.is_known.ensures.0 c.if-not-is_known.false) (same_irp-eq (present_of s i.irp) i both.0) both.1 _ _ made.0 c.make-2.ensures.size made.1 c.if-make-ne1.false _ c.remove.ensures

@@ -1,6 +1,7 @@
 use Rattle.std.proofs.Common.{◌+◌, not, None, refl, sym, ap, ◌∙◌, subst, arith}
 use Rattle.std.proofs.lemmas.List.{get_or_default}
-use Rattle.irp_core.specs.Steps.{Irp, life_of}
+use Rattle.irp_core.specs.Steps.{life_of}
+use Rattle.irp_core.specs.declared.ids.IrpLife.{IrpLife}
 use Rattle.irp_core.specs.declared.step.Kind.TheVariants.{Renew}
 use Rattle.csq_replay.specs.declared.script.call.Call.TheVariants.{Reuse}
 use Rattle.csq_replay.specs.declared.script.call.Reply.TheVariants.{Begun}
@@ -66,4 +67,4 @@ returns g c = λ l s k.
     let e = c.current-ended.ensures s.run k.agrees ∙ present_is l _ s k n in
     let made = (made_as _ _ s.run Renew _ (present_of s n) e (c.make.ensures.made s.run k.agrees)).0 in
     let done = renewed_keeps l _ s k n known some.0 (sym kept ∙ some.1) (omega (arith, c.if-ended.false, ap life_of e)) _ made c.make.ensures.size _ c.renew.ensures _ refl in
-    (done.0, subst (λ (x : Irp). Calls l s (Reuse n) (Begun (record { 0 = life_of x + 1 })) done.0) (sym e) done.1, done.2)
+    (done.0, subst (λ (x : IrpLife). Calls l s (Reuse n) (Begun (record { 0 = life_of x + 1 })) done.0) (sym e) done.1, done.2)

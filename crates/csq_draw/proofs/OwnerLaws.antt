@@ -1,0 +1,257 @@
+-- Who is drawn as an IRP's owner is its owner by the run.
+use Rattle.std.proofs.Common.{◌≡◌, ◌≢◌, ◌↔◌, ℕ, ◌==◌, Bool, true, false, cond, List, [], ◌∷◌, length, Option, Some, None, refl, ap, sym, ◌∙◌, subst}
+use Rattle.irp_core.specs.declared.ids.IrpId.{IrpId}
+use Rattle.irp_core.specs.declared.ids.IrpLife.{IrpLife}
+use Rattle.irp_core.specs.declared.ids.Life.{Life}
+use Rattle.irp_core.specs.declared.ids.PassId.{PassId}
+use Rattle.irp_core.specs.declared.inside.Inside.{Inside}
+use Rattle.irp_core.specs.declared.standing.Standing.{Standing}
+use Rattle.irp_core.specs.declared.standing.Standing.TheVariants.{Home, Waiting, Owed, Held, Finished}
+use Rattle.irp_core.specs.declared.step.Kind.{Kind}
+use Rattle.irp_core.specs.declared.step.Kind.TheVariants.{Arm, Test, Disarm, End, Flag, Take, Out, Done, Renew}
+use Rattle.irp_core.specs.declared.step.Made.{Made}
+use Rattle.irp_core.specs.Inside.{inside}
+use Rattle.irp_core.specs.Lives.{renews, present_life, present, IsPresent}
+use Rattle.irp_core.specs.Owners.{owes, holds, dones}
+use Rattle.irp_core.specs.Runs.{Size, IsRun, EachRunFrom}
+use Rattle.irp_core.specs.Standings.{moved, names, standing_after, is_waiting, is_owed_by, is_held_by}
+use Rattle.irp_core.specs.Steps.{same_irp, same_pass}
+use Rattle.irp_core.specs.Words.{bit, armed}
+use Rattle.irp_core.proofs.Growing.{run_less}
+use Rattle.irp_core.proofs.Lives.{life_same, armed_present, owed_present, held_present, Next, renewed_present, renewed_home}
+use Rattle.irp_core.proofs.MachineStates.{is_standing, standing_says, standing_grows}
+use Rattle.irp_core.proofs.Names.{named, same_irp-refl, same_irp-eq, same_id-eq, same_pass-refl, same_pass-eq, other_irp}
+use Rattle.irp_core.proofs.Rows.{DonesAre, Stands, stands_same}
+use Rattle.csq_draw.specs.declared.owners.Having.{Having}
+use Rattle.csq_draw.specs.declared.owners.Having.TheVariants.{Owes, Holds}
+use Rattle.csq_draw.specs.declared.owners.Owner.{Owner}
+use Rattle.csq_draw.specs.Laws.{EachDrawnOwnerOwesOrHolds}
+use Rattle.csq_draw.specs.Owners.{is_of_irp, owner}
+
+abbrev drawn_as : PassId → Having → ℕ → IrpId → Option Owner
+drawn_as p having row n = Some (record { irp = n; pass = p; having = having; row = row })
+
+-- IRP n, which stands so, is drawn with this owner
+abbrev Fits : IrpId → Standing → Option Owner → Type 0
+Fits n (Owed p) o = (row : ℕ) × (o ≡ drawn_as p Owes row n)
+Fits n (Held p status) o = (row : ℕ) × (o ≡ drawn_as p Holds row n)
+Fits n _ o = o ≡ None
+
+-- IRP n stands in its present life as it is drawn
+abbrev IsDrawn : Size → IrpId → List Made → Type 0
+IsDrawn size n E = (s : Standing) × Stands E (present size.first E n) s × Fits n s (owner E n)
+
+bit_found : (b : Bool) (v : ℕ) → v ≡ bit b → (v == 1) ≡ b
+bit_found true v e = rw e refl
+bit_found false v e = rw e refl
+
+-- a step of another IRP is of none of its lives
+unnamed : (n : IrpId) (l : Life) (k : Kind) → is_of_irp n k ≡ false → names (record { irp = n; life = l }) k ≡ false
+unnamed n l (Arm j) e = other_irp j (record { irp = n; life = l }) e
+unnamed n l (Test j) e = other_irp j (record { irp = n; life = l }) e
+unnamed n l (Disarm j) e = other_irp j (record { irp = n; life = l }) e
+unnamed n l End e = refl
+unnamed n l (Flag j) e = other_irp j (record { irp = n; life = l }) e
+unnamed n l (Take j) e = other_irp j (record { irp = n; life = l }) e
+unnamed n l (Out j) e = other_irp j (record { irp = n; life = l }) e
+unnamed n l (Done j) e = other_irp j (record { irp = n; life = l }) e
+unnamed n l (Renew j) e = other_irp j (record { irp = n; life = l }) e
+
+unrenewed : (n : IrpId) (k : Kind) → is_of_irp n k ≡ false → renews n k ≡ false
+unrenewed n (Arm j) e = refl
+unrenewed n (Test j) e = refl
+unrenewed n (Disarm j) e = refl
+unrenewed n End e = refl
+unrenewed n (Flag j) e = refl
+unrenewed n (Take j) e = refl
+unrenewed n (Out j) e = refl
+unrenewed n (Done j) e = refl
+unrenewed n (Renew j) e = e
+
+-- a name of the present life
+is_present : (size : Size) (n : IrpId) (E : List Made) (j : IrpLife) → j.irp ≡ n → IsPresent size.first E j → j ≡ present size.first E n
+is_present size n E j e now = named j (present size.first E n) (ap (λ (x : IrpId). x.0) e) (now ∙ ap (λ x. present_life size.first E x) e)
+
+-- what a step of IRP n, which names j, makes of how it stands and is drawn; `t` says whether j is the present life
+module _ (n : IrpId) (j : IrpLife) (p : PassId) (x : Inside) where
+  armed_fits : (t : Bool) (s : Standing) (o : Option Owner) → Fits n s o → Fits n (cond t (moved (Arm j) s p x) s) o
+  armed_fits true Home o f = f
+  armed_fits true Waiting o f = f
+  armed_fits true (Owed q) o f = f
+  armed_fits true (Held q status) o f = f
+  armed_fits true (Finished status q) o f = f
+  armed_fits false s o f = f
+
+  tested_fits : (t : Bool) (s : Standing) (o : Option Owner) → Fits n s o → Fits n (cond t (moved (Test j) s p x) s) o
+  tested_fits true s o f = f
+  tested_fits false s o f = f
+
+  flagged_fits : (t : Bool) (s : Standing) (o : Option Owner) → Fits n s o → Fits n (cond t (moved (Flag j) s p x) s) o
+  flagged_fits true s o f = f
+  flagged_fits false s o f = f
+
+  -- an exchange that found no routine
+  untaken_fits : (t : Bool) (s : Standing) (o : Option Owner) → (t ≡ true → is_waiting s ≡ false) → Fits n s o → Fits n (cond t (moved (Take j) s p x) s) o
+  untaken_fits true Home o w f = f
+  untaken_fits true Waiting o w f = absurd (cc (w refl))
+  untaken_fits true (Owed q) o w f = f
+  untaken_fits true (Held q status) o w f = f
+  untaken_fits true (Finished status q) o w f = f
+  untaken_fits false s o w f = f
+
+  missed_fits : (t : Bool) (s : Standing) (o : Option Owner) → (t ≡ true → is_waiting s ≡ false) → Fits n s o → Fits n (cond t (moved (Disarm j) s p x) s) o
+  missed_fits true Home o w f = f
+  missed_fits true Waiting o w f = absurd (cc (w refl))
+  missed_fits true (Owed q) o w f = f
+  missed_fits true (Held q status) o w f = f
+  missed_fits true (Finished status q) o w f = f
+  missed_fits false s o w f = f
+
+  -- one that found it, and the steps of an owner
+  module _ (row : ℕ) (same : j.irp ≡ n) where
+    taken_fits : (s : Standing) → is_waiting s ≡ true → Fits n (moved (Take j) s p x) (drawn_as p Owes row j.irp)
+    taken_fits Home w = absurd (cc w)
+    taken_fits Waiting w = (row, ap (drawn_as p Owes row) same)
+    taken_fits (Owed q) w = absurd (cc w)
+    taken_fits (Held q status) w = absurd (cc w)
+    taken_fits (Finished status q) w = absurd (cc w)
+
+    disarmed_fits : (s : Standing) → is_waiting s ≡ true → Fits n (moved (Disarm j) s p x) (drawn_as p Holds row j.irp)
+    disarmed_fits Home w = absurd (cc w)
+    disarmed_fits Waiting w = (row, ap (drawn_as p Holds row) same)
+    disarmed_fits (Owed q) w = absurd (cc w)
+    disarmed_fits (Held q status) w = absurd (cc w)
+    disarmed_fits (Finished status q) w = absurd (cc w)
+
+    out_fits : (s : Standing) → is_owed_by p s ≡ true → Fits n (moved (Out j) s p x) (drawn_as p Holds row j.irp)
+    out_fits Home w = absurd (cc w)
+    out_fits Waiting w = absurd (cc w)
+    out_fits (Owed q) w = (row, ap (drawn_as p Holds row) same)
+    out_fits (Held q status) w = absurd (cc w)
+    out_fits (Finished status q) w = absurd (cc w)
+
+  done_fits : (s : Standing) → is_held_by p s ≡ true → Fits n (moved (Done j) s p x) None
+  done_fits Home w = absurd (cc w)
+  done_fits Waiting w = absurd (cc w)
+  done_fits (Owed q) w = absurd (cc w)
+  done_fits (Held q status) w = refl
+  done_fits (Finished status q) w = absurd (cc w)
+
+-- nobody is drawn as the owner of what was completed
+over_fits : (n : IrpId) (s : Standing) (ends : List Made) (o : Option Owner) → DonesAre s ends → ends ≢ [] → Fits n s o → o ≡ None
+over_fits n Home ends o d ne f = f
+over_fits n Waiting ends o d ne f = f
+over_fits n (Owed q) ends o d ne f = absurd (ne d)
+over_fits n (Held q status) ends o d ne f = absurd (ne d)
+over_fits n (Finished status q) ends o d ne f = f
+
+-- one more step, of IRP n
+module _ (size : Size) (n : IrpId) (p : PassId) (v : ℕ) (E : List Made) (s : Standing) (st : Stands E (present size.first E n) s) (f : Fits n s (owner E n)) where
+  abbrev now : IrpLife
+  now = present size.first E n
+
+  abbrev step : Kind → Made
+  step k = record { pass = p; kind = k; found = v }
+
+  stands_next : (k : Kind) → IsRun size (step k ∷ E) → Stands (step k ∷ E) now (standing_after E (step k) now s)
+  stands_next k r = standing_says size (step k ∷ E) r now _ (standing_grows size (step k) E r now s (is_standing E now s st))
+
+  names_now : (j : IrpLife) → j ≡ now → same_irp j now ≡ true
+  names_now j e = subst (λ (y : IrpLife). same_irp j y ≡ true) e (same_irp-refl j)
+
+  at_now : (j : IrpLife) → j ≡ now → (b : Bool) → armed E j ≡ b → is_waiting s ≡ b
+  at_now j e b a = sym st.set_is ∙ ap (λ (y : IrpLife). armed E y) (sym e) ∙ a
+
+  drawn_next : (k : Kind) → IsRun size (step k ∷ E) → is_of_irp n k ≡ true → IsDrawn size n (step k ∷ E)
+  drawn_next (Arm j) r e = (standing_after E (step (Arm j)) now s, stands_next (Arm j) r, rw e (armed_fits n j p (inside E p) (same_irp j now) s (owner E n) f))
+  drawn_next (Test j) r e = (standing_after E (step (Test j)) now s, stands_next (Test j) r, rw e (tested_fits n j p (inside E p) (same_irp j now) s (owner E n) f))
+  drawn_next (Disarm j) r e = (standing_after E (step (Disarm j)) now s, stands_next (Disarm j) r, go (armed E j) refl)
+    where
+      go : (b : Bool) → armed E j ≡ b → Fits n (standing_after E (step (Disarm j)) now s) (owner (step (Disarm j) ∷ E) n)
+      go true a =
+          let same = same_id-eq j.irp n e in
+          let named_now = is_present size n E j same (armed_present size E (run_less size (step (Disarm j)) E r) j a) in
+          rw (e, bit_found (armed E j) v r.found.0 ∙ a, names_now j named_now) (disarmed_fits n j p (inside E p) (length E) same s (at_now j named_now true a))
+      go false a = rw (e, bit_found (armed E j) v r.found.0 ∙ a) (missed_fits n j p (inside E p) (same_irp j now) s (owner E n) (λ t. at_now j (same_irp-eq j now t) false a) f)
+  drawn_next End r e = absurd (cc e)
+  drawn_next (Flag j) r e = (standing_after E (step (Flag j)) now s, stands_next (Flag j) r, rw e (flagged_fits n j p (inside E p) (same_irp j now) s (owner E n) f))
+  drawn_next (Take j) r e = (standing_after E (step (Take j)) now s, stands_next (Take j) r, go (armed E j) refl)
+    where
+      go : (b : Bool) → armed E j ≡ b → Fits n (standing_after E (step (Take j)) now s) (owner (step (Take j) ∷ E) n)
+      go true a =
+          let same = same_id-eq j.irp n e in
+          let named_now = is_present size n E j same (armed_present size E (run_less size (step (Take j)) E r) j a) in
+          rw (e, bit_found (armed E j) v r.found.0 ∙ a, names_now j named_now) (taken_fits n j p (inside E p) (length E) same s (at_now j named_now true a))
+      go false a = rw (e, bit_found (armed E j) v r.found.0 ∙ a) (untaken_fits n j p (inside E p) (same_irp j now) s (owner E n) (λ t. at_now j (same_irp-eq j now t) false a) f)
+  drawn_next (Out j) r e =
+      let same = same_id-eq j.irp n e in
+      let named_now = is_present size n E j same (owed_present size E (run_less size (step (Out j)) E r) j p r.owned.0) in
+      let mine : is_owed_by p s ≡ true = sym (st.owing_is p) ∙ ap (λ (y : IrpLife). owes E p y) (sym named_now) ∙ r.owned.0 in
+      (standing_after E (step (Out j)) now s, stands_next (Out j) r, rw (e, names_now j named_now) (out_fits n j p (inside E p) (length E) same s mine))
+  drawn_next (Done j) r e =
+      let same = same_id-eq j.irp n e in
+      let named_now = is_present size n E j same (held_present size E (run_less size (step (Done j)) E r) j p r.owned.0) in
+      let mine : is_held_by p s ≡ true = sym (st.holding_is p) ∙ ap (λ (y : IrpLife). holds E p y) (sym named_now) ∙ r.owned.0 in
+      (standing_after E (step (Done j)) now s, stands_next (Done j) r, rw (e, names_now j named_now) (done_fits n j p (inside E p) s mine))
+  drawn_next (Renew j) r e =
+      let same = same_id-eq j.irp n e in
+      let was_now = is_present size n E j same r.owned.0.0 in
+      let ended : dones E now ≢ [] = subst (λ (y : IrpLife). dones E y ≢ []) was_now r.owned.0.1 in
+      let next = is_present size n (step (Renew j) ∷ E) (Next size p j v E r) same (renewed_present size p j v E r) in
+      (Home, subst (λ (y : IrpLife). Stands (step (Renew j) ∷ E) y Home) next (renewed_home size p j v E r), rw e (over_fits n s (dones E now) (owner E n) st.dones_are ended f))
+
+drawn : (size : Size) (n : IrpId) (E : List Made) → IsRun size E → IsDrawn size n E
+drawn size n [] r = (Home, record { ever_is = refl; set_is = refl; claims_are = refl; owing_is = λ q. refl; holding_is = λ q. refl; done_is = λ q. refl; dones_are = refl; left_is = refl; due = refl }, refl)
+drawn size n (m ∷ E) r = go (is_of_irp n m.kind) refl (drawn size n E (run_less size m E r))
+  where
+    go : (b : Bool) → is_of_irp n m.kind ≡ b → IsDrawn size n E → IsDrawn size n (m ∷ E)
+    go true e d = drawn_next size n m.pass m.found E d.0 d.1 d.2 m.kind r e
+    go false e d =
+        let now = present size.first E n in
+        let lived : present size.first E n ≡ present size.first (m ∷ E) n = named _ _ refl (sym (life_same size.first m E n (unrenewed n m.kind e))) in
+        let here : Stands (m ∷ E) now d.0 = standing_kept e d.0 d.1 in
+        (d.0, subst (λ (y : IrpLife). Stands (m ∷ E) y d.0) lived here, rw e d.2)
+      where
+        standing_kept : is_of_irp n m.kind ≡ false → (s : Standing) → Stands E (present size.first E n) s → Stands (m ∷ E) (present size.first E n) s
+        standing_kept e s st = stands_same m.pass m.kind m.found E (present size.first E n) s (unnamed n (present size.first E n).life m.kind e) st
+
+-- of two owners that are one
+abbrev pass_in : PassId → Option Owner → PassId
+pass_in q (Some o) = o.pass
+pass_in q None = q
+
+abbrev is_owing : Having → Bool
+is_owing Owes = true
+is_owing Holds = false
+
+abbrev owing : Option Owner → Bool
+owing (Some o) = is_owing o.having
+owing None = false
+
+-- who is drawn as the owner of an IRP that stands so
+module _ (n : IrpId) (p : PassId) (o : Option Owner) where
+  owed_is : (s : Standing) → Fits n s o → ((row : ℕ) × (o ≡ drawn_as p Owes row n)) ↔ (is_owed_by p s ≡ true)
+  owed_is Home f = (λ d. absurd (cc (f, d.1)), λ w. absurd (cc w))
+  owed_is Waiting f = (λ d. absurd (cc (f, d.1)), λ w. absurd (cc w))
+  owed_is (Owed q) f = (λ d. same_by (sym f.1 ∙ d.1), λ w. (f.0, f.1 ∙ ap (λ y. drawn_as y Owes f.0 n) (same_pass-eq q p w)))
+    where
+      same_by : {a b : ℕ} → drawn_as q Owes a n ≡ drawn_as p Owes b n → same_pass q p ≡ true
+      same_by e = subst (λ (y : PassId). same_pass q y ≡ true) (ap (pass_in q) e) (same_pass-refl q)
+  owed_is (Held q status) f = (λ d. absurd (cc (ap owing (sym f.1 ∙ d.1))), λ w. absurd (cc w))
+  owed_is (Finished status q) f = (λ d. absurd (cc (f, d.1)), λ w. absurd (cc w))
+
+  held_is : (s : Standing) → Fits n s o → ((row : ℕ) × (o ≡ drawn_as p Holds row n)) ↔ (is_held_by p s ≡ true)
+  held_is Home f = (λ d. absurd (cc (f, d.1)), λ w. absurd (cc w))
+  held_is Waiting f = (λ d. absurd (cc (f, d.1)), λ w. absurd (cc w))
+  held_is (Owed q) f = (λ d. absurd (cc (ap owing (sym f.1 ∙ d.1))), λ w. absurd (cc w))
+  held_is (Held q status) f = (λ d. same_by (sym f.1 ∙ d.1), λ w. (f.0, f.1 ∙ ap (λ y. drawn_as y Holds f.0 n) (same_pass-eq q p w)))
+    where
+      same_by : {a b : ℕ} → drawn_as q Holds a n ≡ drawn_as p Holds b n → same_pass q p ≡ true
+      same_by e = subst (λ (y : PassId). same_pass q y ≡ true) (ap (pass_in q) e) (same_pass-refl q)
+  held_is (Finished status q) f = (λ d. absurd (cc (f, d.1)), λ w. absurd (cc w))
+
+pub each_owner : EachRunFrom EachDrawnOwnerOwesOrHolds
+each_owner size E r = record {
+  owed = λ n p. let d = drawn size n E r in let is = owed_is n p (owner E n) d.0 d.2 in (λ a. d.1.owing_is p ∙ is.0 a, λ b. is.1 (sym (d.1.owing_is p) ∙ b));
+  held = λ n p. let d = drawn size n E r in let is = held_is n p (owner E n) d.0 d.2 in (λ a. d.1.holding_is p ∙ is.0 a, λ b. is.1 (sym (d.1.holding_is p) ∙ b));
+}

@@ -1,0 +1,33 @@
+-- What an insert met that no cause refuses.
+use Rattle.std.proofs.Common.{◌≡◌, ◌<◌, Bool, true, false, cond, List, [], ◌∷◌, length, Some, None, refl, sym, ap, ◌∙◌, arith}
+use Rattle.std.specs.List.{find, AllByRecursion}
+use borrow.Author.Tests.{leb-false, eqb-false}
+use Rattle.irp_core.specs.declared.ids.IrpId.{IrpId}
+use Rattle.irp_core.specs.declared.ids.FileId.{FileId}
+use Rattle.csq_list.specs.declared.entry.Entry.{Entry}
+use Rattle.csq_list.specs.declared.entry.Place.{Place}
+use Rattle.csq_list.specs.declared.refusals.InsertStatus.{InsertStatus}
+use Rattle.csq_list.specs.Causes.{causes, of_each, is_cause, first_cause}
+use Rattle.csq_list.specs.declared.refusals.InsertStatus.TheVariants.{UnknownIrp, UnknownFile, NotHome, FileFull, Full}
+use Rattle.csq_list.specs.Listing.{Listing, IsSound, inserted}
+use Rattle.csq_list.proofs.Keeping.{sound-inserted}
+
+-- where nothing is found, no element passes the test
+none_found : {X : Type 0} (test : X → Bool) (xs : List X) → find test xs ≡ None → AllByRecursion (λ x. test x ≡ false) xs
+none_found test [] h = tt
+none_found {X} test (x ∷ xs) h = by_case (test x) refl (none_found test xs)
+  where
+    by_case : (b : Bool) → test x ≡ b → (find test xs ≡ None → AllByRecursion (λ (y : X). test y ≡ false) xs) → (test x ≡ false) × AllByRecursion (λ (y : X). test y ≡ false) xs
+    by_case true e rest = let t = ap (λ b. cond b (Some x) (find test xs)) e in absurd (cc)
+    by_case false e rest = (e, rest (sym (ap (λ b. cond b (Some x) (find test xs)) e) ∙ h))
+
+-- what was accepted met no cause
+pub no_cause : (s : Listing) (i : IrpId) (f : FileId) → first_cause s i f ≡ None → (cause : InsertStatus) → is_cause s i f cause ≡ false
+no_cause s i f accepted = of_each (λ cause. is_cause s i f cause ≡ false) (none_found (is_cause s i f) causes accepted)
+
+-- and keeps a list sound
+pub sound-accepted : (s : Listing) → IsSound s → (place : Place) (e : Entry) → first_cause s e.irp e.file ≡ None → IsSound (inserted place e s)
+sound-accepted s sound place e accepted =
+    let met = no_cause s e.irp e.file accepted in
+    let room : length s.entries < s.limit = omega (arith, sound.within_limit, eqb-false (length s.entries) s.limit (met Full)) in
+    sound-inserted s sound place e (leb-false s.irps e.irp.0 (met UnknownIrp)) (leb-false s.files e.file.0 (met UnknownFile)) (met NotHome) room (met FileFull)

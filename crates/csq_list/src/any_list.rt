@@ -1,0 +1,192 @@
+//! A list whose kind is chosen when it is made.
+ghost use Rattle.std.specs.Prelude.{◌≡◌, ◌↔◌, IfOk, Err, IsTrue, replicate};
+ghost use Rattle.csq_list.specs.Listing.{fresh, IsListSize, are_file_limits};
+ghost use Rattle.csq_list.specs.AnyLists.{kind_of, any_listing, any_sound};
+
+use crate::chain_list::ChainList;
+use crate::entry::{Peek, Place};
+use crate::pending::PendingList;
+use crate::refusals::{InsertStatus, ListNew, UnknownFile};
+use crate::vec_list::VecList;
+use irp_core::{FileId, IrpId};
+use std::alloc::Global;
+
+/// How a list is kept. Own rule.
+#[derive(Clone, Copy, Debug, PartialEq, Eq)]
+pub enum ListKind {
+    /// In one vector (`VecList`).
+    Vector,
+    /// In chains (`ChainList`).
+    Chains,
+}
+
+/// A pending list of either kind. Own rule.
+#[derive(Drop)]
+pub enum AnyList {
+    Vector(VecList),
+    Chains(ChainList),
+}
+
+impl AnyList {
+    /// An empty list of this kind, as `VecList::new` makes it. `BadSize` comes exactly where a number is out
+    /// of its range, then `Memory` where an allocation was refused.
+    pub fn new(
+        alloc: Global,
+        kind: ListKind,
+        irps: u32,
+        files: u32,
+        limit: u32,
+    ) -> Result<AnyList, ListNew>
+        ensures made { IfOk result (λ list. ⟦<AnyList as PendingList>⟧.listing list
+            ≡ fresh irps files limit (replicate files irps)) }
+        ensures kind { IfOk result (λ list. kind_of list ≡ kind) }
+        ensures bad_size { (result ≡ Err ListNew.BadSize) ↔ ¬ IsListSize irps files limit }
+    {
+        match kind {
+            ListKind::Vector => Ok(AnyList::Vector(VecList::new(alloc, irps, files, limit)?)),
+            ListKind::Chains => Ok(AnyList::Chains(ChainList::new(alloc, irps, files, limit)?)),
+        }
+    }
+
+    /// An empty list of this kind with a limit for each file object, as `VecList::with_file_limits` makes
+    /// it. Refused as `new` is, and with `BadSize` also where the limits aren't one for each file object, or
+    /// one of them isn't 1 to `irps`.
+    pub fn with_file_limits(
+        alloc: Global,
+        kind: ListKind,
+        irps: u32,
+        files: u32,
+        limit: u32,
+        file_limits: &[u32],
+    ) -> Result<AnyList, ListNew>
+        ensures made { IfOk result (λ list. ⟦<AnyList as PendingList>⟧.listing list
+            ≡ fresh irps files limit file_limits.now) }
+        ensures kind { IfOk result (λ list. kind_of list ≡ kind) }
+        ensures bad_size { (result ≡ Err ListNew.BadSize)
+            ↔ ¬ (IsListSize irps files limit
+            × IsTrue (are_file_limits irps files file_limits.now)) }
+    {
+        match kind {
+            ListKind::Vector => Ok(AnyList::Vector(VecList::with_file_limits(
+                alloc,
+                irps,
+                files,
+                limit,
+                file_limits,
+            )?)),
+            ListKind::Chains => Ok(AnyList::Chains(ChainList::with_file_limits(
+                alloc,
+                irps,
+                files,
+                limit,
+                file_limits,
+            )?)),
+        }
+    }
+}
+
+impl PendingList for AnyList {
+    ghost listing = { any_listing ⟦<VecList as PendingList>⟧.listing
+        ⟦<ChainList as PendingList>⟧.listing };
+
+    ghost sound = { any_sound ⟦<VecList as PendingList>⟧.listing
+        ⟦<ChainList as PendingList>⟧.listing (λ list. list.sound) (λ list. list.sound) };
+
+    fn irps(&self) -> u32 {
+        match self {
+            AnyList::Vector(list) => list.irps(),
+            AnyList::Chains(list) => list.irps(),
+        }
+    }
+
+    fn files(&self) -> u32 {
+        match self {
+            AnyList::Vector(list) => list.files(),
+            AnyList::Chains(list) => list.files(),
+        }
+    }
+
+    fn limit(&self) -> u32 {
+        match self {
+            AnyList::Vector(list) => list.limit(),
+            AnyList::Chains(list) => list.limit(),
+        }
+    }
+
+    fn file_len(&self, file: FileId) -> u32 {
+        match self {
+            AnyList::Vector(list) => list.file_len(file),
+            AnyList::Chains(list) => list.file_len(file),
+        }
+    }
+
+    fn file_limit(&self, file: FileId) -> Option<u32> {
+        match self {
+            AnyList::Vector(list) => list.file_limit(file),
+            AnyList::Chains(list) => list.file_limit(file),
+        }
+    }
+
+    fn len(&self) -> u32 {
+        match self {
+            AnyList::Vector(list) => list.len(),
+            AnyList::Chains(list) => list.len(),
+        }
+    }
+
+    fn is_fresh(&self) -> bool {
+        match self {
+            AnyList::Vector(list) => list.is_fresh(),
+            AnyList::Chains(list) => list.is_fresh(),
+        }
+    }
+
+    fn is_home(&self, irp: IrpId) -> bool {
+        match self {
+            AnyList::Vector(list) => list.is_home(irp),
+            AnyList::Chains(list) => list.is_home(irp),
+        }
+    }
+
+    fn is_listed(&self, irp: IrpId) -> bool {
+        match self {
+            AnyList::Vector(list) => list.is_listed(irp),
+            AnyList::Chains(list) => list.is_listed(irp),
+        }
+    }
+
+    fn insert_ex(&mut self, irp: IrpId, file: FileId, place: Place) -> Result<(), InsertStatus> {
+        match self {
+            AnyList::Vector(list) => list.insert_ex(irp, file, place),
+            AnyList::Chains(list) => list.insert_ex(irp, file, place),
+        }
+    }
+
+    fn peek_next(&self, after: Option<IrpId>, peek: Peek) -> Option<IrpId> {
+        match self {
+            AnyList::Vector(list) => list.peek_next(after, peek),
+            AnyList::Chains(list) => list.peek_next(after, peek),
+        }
+    }
+
+    fn remove(&mut self, irp: IrpId) {
+        match self {
+            AnyList::Vector(list) => list.remove(irp),
+            AnyList::Chains(list) => list.remove(irp),
+        }
+    }
+
+    fn renew(&mut self, irp: IrpId) {
+        match self {
+            AnyList::Vector(list) => list.renew(irp),
+            AnyList::Chains(list) => list.renew(irp),
+        }
+    }
+
+    fn close_file(&mut self, file: FileId) -> Result<(), UnknownFile> {
+        match self {
+            AnyList::Vector(list) => list.close_file(file),
+            AnyList::Chains(list) => list.close_file(file),
+        }
+    }
+}

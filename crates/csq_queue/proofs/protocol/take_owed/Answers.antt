@@ -1,0 +1,54 @@
+use Rattle.std.proofs.Common.{◌≡◌, true, ◌∷◌, refl, sym, ap, ◌∙◌, subst}
+use Rattle.irp_core.specs.declared.ids.IrpLife.{IrpLife}
+use Rattle.irp_core.specs.declared.step.Kind.TheVariants.{Out as StepOut}
+use Rattle.csq_list.specs.Listing.{Listing}
+use Rattle.csq_words.specs.declared.calls.Call.TheVariants.{CancelRoutine}
+use Rattle.csq_words.specs.declared.views.Event.TheVariants.{Out}
+use Rattle.csq_words.specs.Calls.{due_mark, after_step}
+use Rattle.csq_words.specs.Queue.{current}
+use Rattle.csq_words.specs.Records.{queue_of, with_run}
+use Rattle.irp_core.specs.Own.{owes_in}
+use Rattle.csq_words.specs.Rule.{SomeRunAgrees}
+use Rattle.csq_words.specs.Seats.{QueueSeatState, joined_record, with_view}
+use Rattle.csq_words.proofs.Named.{irp_eq}
+use Rattle.csq_queue.specs.Opens.{limits_on}
+use Rattle.csq_queue.specs.Adding.{Adds}
+use Rattle.csq_queue.proofs.Searching.{with_made}
+use Rattle.csq_queue.proofs.Ones.{one_known, owed_now, owed_is_listed, owed_out}
+use Rattle.csq_queue.proofs.protocol.take_owed.Given.{Over}
+use Rattle.csq_queue.proofs.protocol.take_owed.Goals as goal
+use Rattle.csq_queue.proofs.protocol.take_owed.Goals.{After-remove}
+
+pub note-requires-clause-may : goal.note-requires-clause-may
+note-requires-clause-may g c =
+    let z = c.args.seat.now in
+    let i = c.args.irp in
+    let known = one_known c.requires.entered i (g.met.L.PendingList.sound c.args.list.now) (owed_is_listed c.requires.entered i c.requires.owed) in
+    let now : i ≡ current (queue_of z.queue) i.irp = irp_eq i (current (queue_of z.queue) i.irp) refl (owed_now c.requires.entered i c.requires.owed) in
+    (known, (refl, c.requires.entered.outside, subst (λ (j : IrpLife). owes_in (joined_record z).steps j ≡ true) now c.requires.owed))
+
+-- the seat after the note
+noted : (g : Over) (c : After-remove g) → c.note.new.self ≡ with_made (StepOut c.args.irp) 0 (Out c.args.irp ∷ due_mark c.args.irp (queue_of c.args.seat.now.queue)) c.note.new.self.queue.run c.args.seat.now
+noted g c =
+    let z = c.args.seat.now in
+    let i = c.args.irp in
+    let now : i ≡ current (queue_of z.queue) i.irp = irp_eq i (current (queue_of z.queue) i.irp) refl (owed_now c.requires.entered i c.requires.owed) in
+    c.note.ensures.noted ∙ (λ k. with_view (after_step (CancelRoutine i.irp) (StepOut (sym now k)) 0 (with_run c.note.new.self.queue.run z.queue) (joined_record z)) z)
+
+pub remove-requires : goal.remove-requires
+remove-requires g c = owed_is_listed c.requires.entered c.args.irp c.requires.owed
+
+pub returns-clause-adds : goal.returns-clause-adds
+returns-clause-adds g c =
+    let v = c.args.lives.now in
+    let new = Out c.args.irp ∷ due_mark c.args.irp (queue_of c.args.seat.now.queue) in
+    let is = noted g c in
+    let out = owed_out c.requires.entered c.args.irp c.note.new.self.queue.run c.requires.owed (subst (λ (z : QueueSeatState). SomeRunAgrees c.args.words.now.size z.queue (joined_record z)) is (c.note.new.self.queue.run, c.note.ensures.told.told)) in
+    subst (λ (z : Listing × QueueSeatState). Adds (limits_on c.args.words.now (g.L.PendingList.listing c.args.list.now)) c.args.seat.now new z.0 v z.1) (λ k. (sym c.remove.ensures k, sym is k)) out
+
+pub returns-clause-steps : goal.returns-clause-steps
+returns-clause-steps g c = ap (λ (z : QueueSeatState). (joined_record z).steps) (noted g c)
+
+pub returns-clause-known : goal.returns-clause-known
+returns-clause-known g c =
+    one_known c.requires.entered c.args.irp (g.met.L.PendingList.sound c.args.list.now) (owed_is_listed c.requires.entered c.args.irp c.requires.owed)

@@ -1,0 +1,123 @@
+-- What each call answers and what its pass has seen and done then, one record a call: over the call and its answer, the limits of the queue and its history as the call found it (of a call without the lock the size alone), and the pass's record before the call and after it.
+use Rattle.std.specs.Prelude.{◌≡◌, ◌⊎◌, ℕ, ◌<◌, ◌↔◌, true, false, List, [], ◌∷◌, Option, Some, None, Result, Err, IsOk, IfOk, IfErr, OnOk, OnErr, IfSome, Bool}
+use Rattle.std.specs.Option.{is_some}
+use Rattle.irp_core.specs.Runs.{Size}
+use Rattle.irp_core.specs.Steps.{life_of}
+use Rattle.irp_core.specs.Words.{flagged}
+use Rattle.irp_core.specs.declared.ids.FileId.{FileId}
+use Rattle.irp_core.specs.declared.ids.IrpId.{IrpId}
+use Rattle.irp_core.specs.declared.ids.IrpLife.{IrpLife}
+use Rattle.irp_core.specs.declared.ids.Life.{Life}
+use Rattle.irp_core.specs.declared.status.NtStatus.{NtStatus}
+use Rattle.irp_core.specs.declared.step.Kind.TheVariants.{Flag, Take, Done}
+use Rattle.irp_core.specs.declared.step.Kind.TheVariants.{Out as StepOut}
+use Rattle.csq_list.specs.declared.entry.Peek.{Peek}
+use Rattle.csq_list.specs.declared.entry.Place.{Place}
+use Rattle.csq_list.specs.declared.refusals.InsertStatus.{InsertStatus}
+use Rattle.csq_list.specs.declared.refusals.UnknownFile.{UnknownFile}
+use Rattle.csq_words.specs.declared.views.Entry.{Entry}
+use Rattle.csq_words.specs.declared.views.Event.{Event}
+use Rattle.csq_words.specs.declared.views.Event.TheVariants.{CloseFile, Insert, RemoveNext, Remove, Out}
+use Rattle.csq_words.specs.declared.views.InsertReply.TheVariants.{Refused}
+use Rattle.csq_words.specs.declared.views.PassRecord.{PassRecord}
+use Rattle.csq_words.specs.Calls.{due_mark}
+use Rattle.csq_words.specs.History.{end_of}
+use Rattle.irp_core.specs.Own.{owes_in, holds_in, removed_in, held_list, owed_list}
+use Rattle.csq_words.specs.Plays.{IsFlagOf, IsStatusOf, flag_read, status_read, shows_flagged, status_recorded}
+use Rattle.csq_words.specs.Queue.{Limits, current, refusal}
+use Rattle.csq_words.specs.Records.{saw, with_step, with_completion}
+use Rattle.csq_words.specs.Rule.{FindsUnset}
+use Rattle.csq_queue.specs.declared.refusals.CancelRefused.{CancelRefused}
+use Rattle.csq_queue.specs.declared.refusals.ReuseRefused.{ReuseRefused}
+use Rattle.csq_queue.specs.declared.refusals.ReuseRefused.TheVariants as reuse
+use Rattle.csq_queue.specs.declared.refusals.UnknownIrp.{UnknownIrp}
+use Rattle.csq_queue.specs.declared.tokens.InsertAnswer.{InsertAnswer}
+use Rattle.csq_queue.specs.Counts.{has_life}
+use Rattle.csq_queue.specs.Inserts.{IsInsert, given_by, given_in}
+use Rattle.csq_queue.specs.Named.{named}
+use Rattle.csq_queue.specs.Owned.{Holds, HoldsRemoved, Owes, EndsWithTake, MissedTheRoutine}
+use Rattle.csq_queue.specs.Refusals.{reuse_events, IsReuseRefusal, IsCancelRefusal}
+use Rattle.csq_queue.specs.Searches.{marked}
+use Rattle.csq_queue.specs.Steps.{MakesSteps, insert_steps, remove_next_steps, remove_steps, reuse_steps}
+use Rattle.csq_queue.specs.Told.{AddsEvents, IsNew, count_given}
+
+-- an insert: it queued the IRP, or found it cancelled and gave it back, which the pass holds then, or refused it for the first cause
+pub record Inserts (irp : IrpId) (file : FileId) (place : Place) (answer : Result (InsertAnswer IrpLife IrpLife) InsertStatus) (limits : Limits) (history : List Entry) (p p' : PassRecord) : Type 0 where
+  pub accepted : IfOk answer (λ inserted. (events : List Event) × IsInsert (current (end_of limits.first history) irp) file place inserted events × AddsEvents limits history p p' events)
+  pub steps : MakesSteps (insert_steps answer (end_of limits.first p'.seen)) p p'
+  pub new : IfSome (given_in answer) (IsNew limits p)
+  pub token : IfOk answer (λ inserted. IfSome (given_by inserted) (Holds limits.irps p'))
+  pub refused : IfErr answer (λ cause. AddsEvents limits history p p' (Insert irp file place (Refused cause) ∷ []))
+  pub cause : IfErr answer (λ cause. refusal limits (end_of limits.first history) irp file ≡ Some cause)
+
+-- a removal of the first match that no canceller has: the pass holds it then
+pub record RemovesNext (peek : Peek) (taken : Option IrpLife) (limits : Limits) (history : List Entry) (p p' : PassRecord) : Type 0 where
+  pub call : (marks : List IrpLife) × AddsEvents limits history p p' (RemoveNext peek taken ∷ marked marks)
+  pub steps : MakesSteps (remove_next_steps peek taken (end_of limits.first history)) p p'
+  pub new : IfSome taken (IsNew limits p)
+  pub token : IfSome taken (HoldsRemoved limits.irps p')
+
+-- a removal of i, in its life
+pub record RemovesOne (i : IrpLife) (taken : Option IrpLife) (limits : Limits) (history : List Entry) (p p' : PassRecord) : Type 0 where
+  pub irp : IfSome taken (λ got. got ≡ i)
+  pub call : (marks : List IrpLife) × AddsEvents limits history p p' (Remove i (is_some taken) ∷ marked marks)
+  pub steps : MakesSteps (remove_steps i taken (end_of limits.first history)) p p'
+  pub new : IfSome taken (IsNew limits p)
+  pub token : IfSome taken (HoldsRemoved limits.irps p')
+
+-- a cancel routine takes out i: the pass holds i then as cancelled, and owes the IRP in no life
+pub record RunsRoutine (i : IrpLife) (limits : Limits) (history : List Entry) (p p' : PassRecord) : Type 0 where
+  pub call : AddsEvents limits history p p' (Out i ∷ due_mark i (end_of limits.first history))
+  pub step : p' ≡ record (with_step (StepOut i) 0 p) { seen = p'.seen; mine = p'.mine; run = p'.run }
+  pub token : Holds limits.irps p' i
+  pub cancelled : removed_in p'.steps i ≡ false
+  pub none_owed : has_life (owed_list p'.steps) i.irp ≡ false
+
+-- a file object is closed for good, if there is one
+pub record ClosesFile (file : FileId) (answer : Result (Unit {0}) UnknownFile) (limits : Limits) (history : List Entry) (p p' : PassRecord) : Type 0 where
+  pub known : IsOk answer ↔ (file.0 < limits.files)
+  pub call : OnOk answer (AddsEvents limits history p p' (CloseFile file ∷ []))
+  pub steps : OnOk answer (MakesSteps [] p p')
+  pub unknown : OnErr answer (p' ≡ p)
+
+-- the next life of a completed IRP begins, or the cause why not
+pub record Reuses (irp : IrpId) (answer : Result Life ReuseRefused) (limits : Limits) (history : List Entry) (p p' : PassRecord) : Type 0 where
+  pub known : (answer ≡ Err reuse.UnknownIrp) ↔ ¬ (irp.0 < limits.irps)
+  pub unknown : answer ≡ Err reuse.UnknownIrp → p' ≡ p
+  pub call : irp.0 < limits.irps → AddsEvents limits history p p' (reuse_events irp answer)
+  pub steps : MakesSteps (reuse_steps irp answer) p p'
+  pub refused : irp.0 < limits.irps → IfErr answer (IsReuseRefusal (current (end_of limits.first p'.seen) irp) p p')
+
+-- a cancel up to its exchange, without the lock: the flag is set in the life named, and where the routine was there, the pass owes the IRP
+pub record MarksCancel (irp : IrpId) (life : Life) (answer : Result (Option IrpLife) CancelRefused) (size : Size) (p p' : PassRecord) : Type 0 where
+  pub known : IsOk answer → irp.0 < size.irps
+  pub step : IfOk answer (λ claim. (flag : ℕ) × (p' ≡ saw p'.run (with_step (Take (named irp life)) (count_given claim) (with_step (Flag (named irp life)) flag p)))
+      × EndsWithTake size (named irp life) flag (count_given claim) p p')
+  pub claimed : IfOk answer (λ claim. IfSome claim (λ i. (i ≡ named irp life) × Owes p' i))
+  pub missed : IfOk answer (λ claim. claim ≡ None → MissedTheRoutine (named irp life) p')
+  pub refused : IfErr answer (IsCancelRefusal size (named irp life) p p')
+
+-- the pass completed i with this status, which nobody had before, and holds the IRP in no life
+pub record CompletesOne (i : IrpLife) (status : NtStatus) (size : Size) (p p' : PassRecord) : Type 0 where
+  pub step : p' ≡ saw p'.run (with_completion i status (with_step (Done i) 0 p))
+  pub unset : FindsUnset size i p p'
+  pub none_held : has_life (held_list p'.steps) i.irp ≡ false
+
+-- a load of an IRP's Cancel flag, and the life that it stands for
+pub record ReadsFlag (irp : IrpId) (answer : Result (Life × Bool) UnknownIrp) (size : Size) (p p' : PassRecord) : Type 0 where
+  pub known : IsOk answer ↔ (irp.0 < size.irps)
+  pub same : p' ≡ saw p'.run p
+  pub unknown : OnErr answer (p' ≡ p)
+  pub found : IfOk answer (λ read. (w : ℕ) × (read ≡ flag_read w) × IsFlagOf size irp p p' w)
+  pub mine : IfOk answer (λ read. (i : IrpLife) → i.irp ≡ irp → flagged p.steps i ≡ true → (read ≡ (i.life, true)) ⊎ (life_of i < read.0.0))
+  pub seen : IfOk answer (λ read. (i : IrpLife) → i.irp ≡ irp → shows_flagged i p.seen ≡ true → (read ≡ (i.life, true)) ⊎ (life_of i < read.0.0))
+
+-- a load of its status
+pub record ReadsStatus (irp : IrpId) (answer : Result (Life × Option NtStatus) UnknownIrp) (size : Size) (p p' : PassRecord) : Type 0 where
+  pub known : IsOk answer ↔ (irp.0 < size.irps)
+  pub same : p' ≡ saw p'.run p
+  pub unknown : OnErr answer (p' ≡ p)
+  pub found : IfOk answer (λ read. (w : ℕ) × (read ≡ status_read w) × IsStatusOf size irp p p' w)
+  pub mine : IfOk answer (λ read. (i : IrpLife) (status : NtStatus) → i.irp ≡ irp → status_recorded i p.completed ≡ Some status → (read ≡ (i.life, Some status)) ⊎ (life_of i < read.0.0))
+  pub owed : IfOk answer (λ read. (i : IrpLife) → i.irp ≡ irp → owes_in p.steps i ≡ true → read ≡ (i.life, None))
+  pub held : IfOk answer (λ read. (i : IrpLife) → i.irp ≡ irp → holds_in p.steps i ≡ true → read ≡ (i.life, None))

@@ -1,0 +1,269 @@
+//! What a call does while its pass is joined with the queue's seat.
+ghost use Rattle.std.specs.Prelude.{◌≡◌, ◌<◌, ◌==◌, ◌&&◌, length, slice_index, ◌≤◌, None, Some, true, false, List, [], ◌∷◌, IfOk, IfErr, IfSome};
+ghost use Rattle.std.specs.Option.{is_some};
+ghost use Rattle.irp_core.specs.declared.ids.IrpLife.{IrpLife};
+ghost use Rattle.irp_core.specs.declared.inside.Inside.TheVariants.{Nothing};
+ghost use Rattle.irp_core.specs.declared.step.Kind.TheVariants.{Out as StepOut};
+ghost use Rattle.csq_list.specs.Searches.{is_listed};
+ghost use Rattle.csq_words.specs.declared.views.Event.{Event};
+ghost use Rattle.csq_words.specs.declared.views.Event.TheVariants.{Insert, RemoveNext, Remove, Out};
+ghost use Rattle.csq_words.specs.declared.views.InsertReply.TheVariants.{Refused};
+ghost use Rattle.irp_core.specs.Own.{inside_of, owes_in};
+ghost use Rattle.csq_words.specs.Calls.{due_mark};
+ghost use Rattle.csq_words.specs.Queue.{current, refusal};
+ghost use Rattle.csq_words.specs.History.{end_of};
+ghost use Rattle.csq_words.specs.Records.{queue_of, caught_up, with_run, with_step};
+ghost use Rattle.csq_words.specs.Seats.{IsJoined, joined_record, pass_at, pass_record};
+ghost use Rattle.csq_words.specs.Rule.{RecordsAgree};
+ghost use Rattle.csq_words.specs.declared.views.Reusing.TheVariants.{Nothing as IdleQueue};
+ghost use Rattle.irp_core.specs.Inside.{has_lock};
+ghost use Rattle.csq_queue.specs.Told.{IsNew};
+ghost use Rattle.csq_queue.specs.Steps.{MakesSteps, insert_steps, remove_next_steps, remove_steps, reuse_steps};
+ghost use Rattle.csq_queue.specs.Opens.{limits_on};
+ghost use Rattle.csq_queue.specs.Adding.{IsEntered, Adds};
+ghost use Rattle.csq_queue.specs.Inserts.{IsInsert, given_in};
+ghost use Rattle.irp_core.specs.Lives.{last_life};
+ghost use Rattle.csq_queue.specs.Refusals.{reuse_events, IsLookRefusal};
+ghost use Rattle.csq_queue.specs.Searches.{marked};
+
+use crate::lives::Lives;
+use crate::open::OpenInserted;
+use crate::refusals::ReuseRefused;
+use crate::tokens::InsertAnswer;
+use csq_list::{InsertStatus, Peek, PendingList, Place};
+use csq_words::{Call, Note, PassSeat, QueueSeat, Words, is_set, status_read};
+use irp_core::{FileId, IrpId, IrpLife, Life};
+use std::alloc::Allocator;
+
+// Gives the pass its record back, with the whole history and the execution so far, which the call's last
+// step observed. It adds nothing to the seat's own call but what its contract says of the execution.
+pub(crate) fn leave<A: Allocator>(seat: &mut QueueSeat, words: &Words<A>, pass: &mut PassSeat)
+    requires words { seat.old.table ≡ words.now.table }
+    requires joined { IsJoined seat.old }
+    requires ended { has_lock (inside_of (joined_record seat.old).steps) ≡ false }
+    requires idle { seat.old.queue.reusing ≡ IdleQueue }
+    requires told { RecordsAgree words.now.size seat.old.queue.run seat.old.queue
+        (joined_record seat.old) }
+    ensures queue { seat.new ≡ record seat.old
+        { joined = None; queue = with_run (pass_record pass.new).run seat.old.queue } }
+    ensures pass { pass.new ≡ pass_at words.now.table
+        (caught_up (with_run (pass_record pass.new).run seat.old.queue) (joined_record seat.old)) }
+    ensures run { RecordsAgree words.now.size (pass_record pass.new).run
+        (with_run (pass_record pass.new).run seat.old.queue) (joined_record seat.old) }
+    ensures last { (pass_record pass.new).run ≡ seat.old.queue.run }
+{
+    seat.leave(words, pass);
+}
+
+// Lists an IRP, arms it and tests its Cancel flag. Where that is set and the routine is still there,
+// the IRP leaves again.
+pub(crate) fn list_irp<L: PendingList, A: Allocator>(
+    list: &mut L,
+    seat: &mut QueueSeat,
+    lives: &Lives<A>,
+    words: &Words<A>,
+    irp: IrpId,
+    file: FileId,
+    place: Place,
+) -> Result<OpenInserted, InsertStatus>
+    requires entered { IsEntered words.now.table (limits_on words.now (L.listing list.old))
+        (L.listing list.old) lives.now seat.old }
+    ensures accepted { IfOk result (λ inserted. (events : List Event)
+        × IsInsert (current (queue_of seat.old.queue) irp) file place inserted events
+        × Adds (limits_on words.now (L.listing list.old)) seat.old events (L.listing list.new)
+        lives.now seat.new) }
+    ensures steps { MakesSteps (insert_steps result
+        (end_of words.now.size.first seat.new.queue.history)) (joined_record seat.old)
+        (joined_record seat.new) }
+    ensures new { IfSome (given_in result) (IsNew (limits_on words.now (L.listing list.old))
+        (joined_record seat.old)) }
+    ensures refused { IfErr result (λ cause. Adds (limits_on words.now (L.listing list.old))
+        seat.old (Insert irp file place (Refused cause) ∷ []) (L.listing list.new) lives.now
+        seat.new) }
+    ensures cause { IfErr result (λ cause. refusal (limits_on words.now (L.listing list.old))
+        (queue_of seat.old.queue) irp file ≡ Some cause) }
+    ensures told { RecordsAgree words.now.size seat.new.queue.run seat.new.queue
+        (joined_record seat.new) }
+    ensures outside { inside_of (joined_record seat.new).steps ≡ Nothing }
+{
+    let call = Call::Insert(irp, file, place);
+    if let Err(cause) = list.insert_ex(irp, file, place) {
+        // Linearization point: this load. The list is as it was, and nothing was armed.
+        seat.note(words, call, Note::Refused(cause));
+        return Err(cause);
+    }
+    let current = lives.present(irp);
+    // The insert arms, then tests; a canceller flags, then takes. Each writes its word before it looks
+    // at the other's (Dekker's pattern), so that at least one of the two sees what the other wrote.
+    seat.arm(words, call, current);
+    // Linearization point where the flag is clear. A flag that is set from now on is followed by a take
+    // that finds the routine, unless another exchange has found it before.
+    if !is_set(seat.test(words, call, irp)) {
+        return Ok(InsertAnswer::Pending(current));
+    }
+    // The flag is set: a canceller may want the IRP too. This exchange decides, and is the
+    // linearization point either way. Where it finds no routine, the canceller has the IRP, and takes
+    // it out under the lock.
+    if !is_set(seat.disarm(words, call, current)) {
+        return Ok(InsertAnswer::Pending(current));
+    }
+    // No canceller can get the IRP any more: this pass has to complete it.
+    list.remove(irp);
+    Ok(InsertAnswer::Cancelled(current))
+}
+
+// Takes out the first match that no canceller has. Those before it are marked.
+pub(crate) fn take_match<L: PendingList, A: Allocator>(
+    list: &mut L,
+    seat: &mut QueueSeat,
+    lives: &Lives<A>,
+    words: &Words<A>,
+    peek: Peek,
+) -> Option<IrpLife>
+    requires entered { IsEntered words.now.table (limits_on words.now (L.listing list.old))
+        (L.listing list.old) lives.now seat.old }
+    ensures adds { (marks : List IrpLife)
+        × Adds (limits_on words.now (L.listing list.old)) seat.old
+        (RemoveNext peek result ∷ marked marks) (L.listing list.new) lives.now seat.new }
+    ensures steps { MakesSteps (remove_next_steps peek result (queue_of seat.old.queue))
+        (joined_record seat.old) (joined_record seat.new) }
+    ensures new { IfSome result (IsNew (limits_on words.now (L.listing list.old))
+        (joined_record seat.old)) }
+    ensures told { RecordsAgree words.now.size seat.new.queue.run seat.new.queue
+        (joined_record seat.new) }
+    ensures outside { inside_of (joined_record seat.new).steps ≡ Nothing }
+{
+    let call = Call::RemoveNext(peek);
+    let mut after = None;
+    'search: while let Some(next) = list.peek_next(after, peek) {
+        let current = lives.present(next);
+        // Linearization point where this finds the routine: no cancel can get the IRP any more.
+        if is_set(seat.disarm(words, call, current)) {
+            list.remove(next);
+            return Some(current);
+        }
+        // A canceller's exchange was first, and the IRP stays listed until that canceller has the lock.
+        // The search goes on behind it: what waits there is to be had.
+        after = Some(next);
+    }
+    // Linearization point of None: this load. Every match that is left is a canceller's.
+    seat.note(words, call, Note::Event);
+    None
+}
+
+// Whether an IRP is listed in the life named.
+fn is_here<L: PendingList, A: Allocator>(list: &L, lives: &Lives<A>, irp: IrpLife) -> bool
+    requires { is_listed (L.listing list.now).entries irp.irp ≡ true
+        → irp.irp.0 < length lives.now }
+    ensures { result ≡ (is_listed (L.listing list.now).entries irp.irp
+        && (slice_index lives.now irp.irp.0 == irp.life.0)) }
+{
+    list.is_listed(irp.irp) && lives.is_present(irp)
+}
+
+// Takes out this IRP, unless it isn't listed in the life named or a canceller has it.
+pub(crate) fn take_one<L: PendingList, A: Allocator>(
+    list: &mut L,
+    seat: &mut QueueSeat,
+    lives: &Lives<A>,
+    words: &Words<A>,
+    irp: IrpLife,
+) -> Option<IrpLife>
+    requires entered { IsEntered words.now.table (limits_on words.now (L.listing list.old))
+        (L.listing list.old) lives.now seat.old }
+    ensures irp { IfSome result (λ taken. taken ≡ irp) }
+    ensures adds { (marks : List IrpLife)
+        × Adds (limits_on words.now (L.listing list.old)) seat.old
+        (Remove irp (is_some result) ∷ marked marks) (L.listing list.new) lives.now seat.new }
+    ensures steps { MakesSteps (remove_steps irp result (queue_of seat.old.queue))
+        (joined_record seat.old) (joined_record seat.new) }
+    ensures new { IfSome result (IsNew (limits_on words.now (L.listing list.old))
+        (joined_record seat.old)) }
+    ensures told { RecordsAgree words.now.size seat.new.queue.run seat.new.queue
+        (joined_record seat.new) }
+    ensures outside { inside_of (joined_record seat.new).steps ≡ Nothing }
+{
+    let call = Call::Remove(irp);
+    if !is_here(list, lives, irp) {
+        // No exchange: it would write a life that may be over. Linearization point: this load.
+        seat.note(words, call, Note::Event);
+        return None;
+    }
+    // Linearization point where this finds the routine: no cancel can get the IRP any more.
+    if is_set(seat.disarm(words, call, irp)) {
+        list.remove(irp.irp);
+        return Some(irp);
+    }
+    // A canceller's exchange was first; the IRP stays listed for it. Linearization point: this load.
+    seat.note(words, call, Note::Event);
+    None
+}
+
+// Takes out an IRP that the joined pass owes.
+pub(crate) fn take_owed<L: PendingList, A: Allocator>(
+    list: &mut L,
+    seat: &mut QueueSeat,
+    lives: &Lives<A>,
+    words: &Words<A>,
+    irp: IrpLife,
+)
+    requires entered { IsEntered words.now.table (limits_on words.now (L.listing list.old))
+        (L.listing list.old) lives.now seat.old }
+    requires owed { owes_in (joined_record seat.old).steps irp ≡ true }
+    ensures adds { Adds (limits_on words.now (L.listing list.old)) seat.old
+        (Out irp ∷ due_mark irp (queue_of seat.old.queue)) (L.listing list.new) lives.now seat.new }
+    ensures steps { (joined_record seat.new).steps
+        ≡ (with_step (StepOut irp) 0 (joined_record seat.old)).steps }
+    ensures known { irp.irp.0 < words.now.size.irps }
+    ensures told { RecordsAgree words.now.size seat.new.queue.run seat.new.queue
+        (joined_record seat.new) }
+    ensures outside { inside_of (joined_record seat.new).steps ≡ Nothing }
+{
+    // No exchange: the pass's own take found the routine, so nobody else has taken the IRP out.
+    // Linearization point: this load.
+    seat.note(words, Call::CancelRoutine(irp.irp), Note::Event);
+    list.remove(irp.irp);
+}
+
+// Begins the next life of an IRP, where its present one was completed and isn't the last.
+pub(crate) fn renew_irp<L: PendingList, A: Allocator>(
+    list: &mut L,
+    seat: &mut QueueSeat,
+    lives: &mut Lives<A>,
+    words: &Words<A>,
+    irp: IrpId,
+) -> Result<Life, ReuseRefused>
+    requires first { words.now.size.first ≤ last_life }
+    requires entered { IsEntered words.now.table (limits_on words.now (L.listing list.old))
+        (L.listing list.old) lives.old seat.old }
+    requires known { irp.0 < words.now.size.irps }
+    ensures adds { Adds (limits_on words.now (L.listing list.old)) seat.old
+        (reuse_events irp result) (L.listing list.new) lives.new seat.new }
+    ensures steps { MakesSteps (reuse_steps irp result) (joined_record seat.old)
+        (joined_record seat.new) }
+    ensures refused { IfErr result (IsLookRefusal (current (queue_of seat.new.queue) irp)
+        (joined_record seat.old) seat.new.queue) }
+    ensures told { RecordsAgree words.now.size seat.new.queue.run seat.new.queue
+        (joined_record seat.new) }
+    ensures outside { inside_of (joined_record seat.new).steps ≡ Nothing }
+{
+    let call = Call::Reuse(irp);
+    // Only a completed life may end: nobody owes or holds the IRP then, and it isn't listed.
+    let (life, status) = status_read(seat.look(words, call, irp));
+    if status.is_none() {
+        return Err(ReuseRefused::NotCompleted);
+    }
+    if life.0 == Life::LAST.0 {
+        return Err(ReuseRefused::LivesSpent);
+    }
+    let current = IrpLife { irp, life };
+    // The flag comes last, and is the linearization point. Until then a late cancel flags the life that
+    // ends, where no routine is left to take; from then on it finds another life.
+    seat.renew_status(words, call, current);
+    seat.renew_routine(words, call, current);
+    seat.renew_cancel(words, call, current);
+    // Still under the lock, so no call that takes it sees list, lives and words apart.
+    list.renew(irp);
+    lives.begin_next(irp);
+    Ok(Life(life.0 + 1))
+}

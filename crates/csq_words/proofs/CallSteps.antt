@@ -1,0 +1,143 @@
+-- The steps of a call under the lock keep the rule.
+use Rattle.std.proofs.Common.{◌≡◌, ℕ, ◌*◌, ◌≤◌, not, ◌&&◌, List, [], ◌∷◌, ◌++◌, length, set, Some, refl, sym, ap, ◌∙◌, arith}
+use Rattle.irp_core.specs.Own.{inside_of}
+use Rattle.irp_core.specs.declared.ids.PassId.{PassId}
+use Rattle.irp_core.specs.declared.step.Kind.{Kind}
+use Rattle.irp_core.specs.declared.step.Made.{Made}
+use Rattle.irp_core.specs.declared.ids.IrpLife.{IrpLife}
+use Rattle.irp_core.specs.Inside.{inside, inside_after}
+use Rattle.irp_core.specs.Owners.{listed}
+use Rattle.irp_core.specs.Runs.{Size, IsRun}
+use Rattle.irp_core.proofs.Next.{IsFreeFor}
+use Rattle.csq_words.specs.declared.views.Event.{Event}
+use Rattle.csq_words.specs.declared.views.Completion.{Completion}
+use Rattle.csq_words.specs.declared.views.PassRecord.{PassRecord}
+use Rattle.csq_words.specs.declared.views.QueueRecord.{QueueRecord}
+use Rattle.csq_words.specs.declared.views.View.{View}
+use Rattle.csq_words.specs.Queue.{has_entry, has_irp}
+use Rattle.csq_words.specs.History.{end_of, IsOrderly}
+use Rattle.csq_words.specs.Records.{view_of, entries_of, with_events, with_calls, with_step, with_run, with_reusing}
+use Rattle.irp_core.specs.Steps.{own}
+use Rattle.irp_core.specs.Words.{was_armed}
+use Rattle.irp_core.specs.Lives.{present_life}
+use Rattle.irp_core.specs.declared.ids.IrpId.{IrpId}
+use Rattle.csq_words.specs.declared.views.Reusing.{Reusing}
+use Rattle.csq_words.specs.Rule.{inserts, in_flight, AreTrueOf, IsReuse, IsHistoryOf, with_done, completed_in, IsPassOf, AreStored, RuleHoldsBy, RecordsAgree, HasObserved}
+use Rattle.csq_words.proofs.PassSteps.{AllWords}
+use Rattle.irp_core.proofs.Own.{own-mine, own-other}
+use Rattle.csq_words.proofs.Keeping.{inside_is, only_joined, nobody_in}
+use Rattle.csq_words.proofs.SeatSteps.{locked_step, inside_other, begun_more}
+use Rattle.csq_words.proofs.Facts.{due_more, extended_more}
+use Rattle.csq_words.proofs.Entries.{begins_more, calls_of-other, calls_of-mine}
+
+-- the rule, as the joined pass sees it
+pub record Sees (size : Size) (words : List ℕ) (run : List Made) (q : QueueRecord) (r : PassRecord) : Type 0 where
+  pub wide : length words ≡ 3 * size.irps
+  pub words_are : AllWords size words run q.reusing
+  pub history_is : IsHistoryOf size run q (in_flight (Some r))
+  pub reuse_is : IsReuse size run q.reusing
+  pub same : inside_of r.steps ≡ inside run r.pass
+  pub steps_is : r.steps ≡ own r.pass run
+  pub free : IsFreeFor run r.pass
+  pub from : 1 ≤ r.pass.0
+  pub to : r.pass.0 ≤ size.passes
+
+pub sees : (size : Size) (words : List ℕ) (views : List View) (run : List Made) (id : ℕ) (q : QueueRecord) (r : PassRecord) (seat : PassId → ℕ) → RuleHoldsBy size words views run id q (Some r) seat → Sees size words run q r
+sees size words views run id q r seat k =
+    let mine = (k.each_view id (view_of q (Some r)) k.queue_is).pass_here r refl in
+    let to = mine.1.to in
+    let few = k.agrees.few in record {
+      wide = k.agrees.wide;
+      words_are = k.agrees.words_are;
+      history_is = k.agrees.history_is;
+      reuse_is = k.agrees.reuse_is;
+      same = inside_is run r words q mine.2;
+      steps_is = mine.2.of_pass.steps_is;
+      free = only_joined run r k.lock;
+      from = mine.1.from;
+      to = omega arith;
+    }
+
+-- what a step of this kind that found n, records these events and leaves the reuse so owes, where the words become words'
+pub record IsMade (size : Size) (words words' : List ℕ) (run : List Made) (q : QueueRecord) (r : PassRecord) (kind : Kind) (n : ℕ) (es : List Event) (reuse : Reusing) : Type 0 where
+  pub wide : length words' ≡ length words
+  pub is_run : IsRun size (record { pass = r.pass; kind = kind; found = n } ∷ run)
+  pub words_are : AllWords size words' (record { pass = r.pass; kind = kind; found = n } ∷ run) reuse
+  pub reuse_is : IsReuse size (record { pass = r.pass; kind = kind; found = n } ∷ run) reuse
+  pub inert : (is : List IrpLife) → with_done kind is ≡ is
+  pub stored : (cs : List Completion) → AreStored words cs → AreStored words' cs
+  pub listed_is : (i : IrpLife) → has_entry (end_of q.first (entries_of r.pass es ++ q.history)).entries i ≡ (not (inserts (inside_after (inside_of r.steps) kind n) i) && listed (record { pass = r.pass; kind = kind; found = n } ∷ run) i)
+  pub used_is : (i : IrpLife) → has_irp (end_of q.first (entries_of r.pass es ++ q.history)).used i ≡ (not (inserts (inside_after (inside_of r.steps) kind n) i) && was_armed (record { pass = r.pass; kind = kind; found = n } ∷ run) i)
+  pub lives_are : (m : IrpId) → (end_of q.first (entries_of r.pass es ++ q.history)).lives m ≡ present_life size.first (record { pass = r.pass; kind = kind; found = n } ∷ run) m
+  pub true_of : AreTrueOf q.first (record { pass = r.pass; kind = kind; found = n } ∷ run) (entries_of r.pass es ++ q.history)
+  pub orderly : IsOrderly q.first (entries_of r.pass es ++ q.history)
+
+-- the queue's record after it, which has observed this execution
+abbrev pub made_record : PassRecord → List Event → Reusing → List Made → QueueRecord → QueueRecord
+made_record r es reuse run q = with_events r.pass es (with_reusing reuse (with_run run q))
+
+-- what the rule says after the step
+abbrev pub KeptAfter : Size → List ℕ → List View → List Made → ℕ → (PassId → ℕ) → QueueRecord → PassRecord → Type 0
+KeptAfter size words views run id seat q r = RuleHoldsBy size words (set views id (view_of q (Some r))) run id q (Some r) seat × RecordsAgree size run q r
+
+-- the same where the queue's record has the run, and had a beginning of it before
+abbrev pub ObservedAfter : Size → List ℕ → List View → ℕ → (PassId → ℕ) → QueueRecord → QueueRecord → PassRecord → Type 0
+ObservedAfter size words views id seat old q r = RuleHoldsBy size words (set views id (view_of q (Some r))) q.run id q (Some r) seat × HasObserved size old q r
+
+-- two records with which the rule says that the run agrees
+pub told_kept : (size : Size) (words : List ℕ) (views : List View) (run : List Made) (id : ℕ) (q : QueueRecord) (r : PassRecord) (seat : PassId → ℕ)
+    → IsHistoryOf size run q (in_flight (Some r)) → IsPassOf run q.history r → RuleHoldsBy size words views run id q (Some r) seat → RuleHoldsBy size words views run id q (Some r) seat × RecordsAgree size run q r
+told_kept size words views run id q r seat history pass k = (k, record { history_is = history; pass_is = pass; callers = λ p s. (k.agrees.nobody p (nobody_in q.made size.passes p k.agrees.few s)).1; seen = k.agrees.seen })
+
+pub made_kept : (size : Size) (words words' : List ℕ) (views : List View) (run : List Made) (id : ℕ) (q : QueueRecord) (r : PassRecord) (seat : PassId → ℕ) (kind : Kind) (n : ℕ) (es : List Event) (reuse : Reusing)
+    → RuleHoldsBy size words views run id q (Some r) seat → IsMade size words words' run q r kind n es reuse
+    → ObservedAfter size words' views id seat q (made_record r es reuse (record { pass = r.pass; kind = kind; found = n } ∷ run) q) (with_calls es (with_step kind n r))
+made_kept size words words' views run id q r seat kind n es reuse k x =
+    let m : Made = record { pass = r.pass; kind = kind; found = n } in
+    let q' = made_record r es reuse (m ∷ run) q in
+    let history' = entries_of r.pass es ++ q.history in
+    let r' = with_calls es (with_step kind n r) in
+    let owner = (k.each_view id (view_of q (Some r)) k.queue_is).pass_here r refl in
+    let was = owner.2.of_pass in
+    let history_is : IsHistoryOf size (m ∷ run) q' (in_flight (Some r')) = record {
+      is_run = x.is_run;
+      first_is = k.agrees.history_is.first_is;
+      listed_is = x.listed_is;
+      used_is = x.used_is;
+      lives_are = x.lives_are;
+      true_of = x.true_of;
+      orderly = x.orderly;
+    } in
+    let pass_is : IsPassOf (m ∷ run) history' r' = record {
+      seen_is = begins_more r.seen q.history (entries_of r.pass es) was.seen_is;
+      mine_is = calls_of-mine r.pass es q.history r.mine was.mine_is;
+      steps_is = ap (λ u. m ∷ u) was.steps_is ∙ sym (own-mine r.pass m run refl);
+      completed_is = was.completed_is ∙ sym (x.inert (completed_in r.steps));
+      run_is = extended_more m r.run run was.run_is;
+    } in
+    let kept = told_kept size words' (set views id (view_of q' (Some r'))) (m ∷ run) id q' r' seat history_is pass_is
+    (locked_step size words words' views run (m ∷ run) id q q' seat r r' k record {
+      same_pass = refl;
+      same_made = refl;
+      same_back = refl;
+      same_shown = refl;
+      wide = x.wide;
+      words_are = x.words_are;
+      history_is = history_is;
+      reuse_is = x.reuse_is;
+      others = λ o ne rec. record {
+        of_pass = record {
+          seen_is = begins_more o.seen q.history (entries_of r.pass es) rec.of_pass.seen_is;
+          mine_is = rec.of_pass.mine_is ∙ sym (calls_of-other o.pass r.pass es q.history ne);
+          steps_is = rec.of_pass.steps_is ∙ sym (own-other o.pass m run (λ e. ne (sym e)));
+          completed_is = rec.of_pass.completed_is;
+          run_is = extended_more m o.run run rec.of_pass.run_is;
+        };
+        stored = x.stored o.completed rec.stored;
+        due = rec.due;
+        begun = begun_more q.first m run o.lives rec.begun;
+      };
+      elsewhere = λ p ne. (own-other p m run (λ e. ne (sym e)), calls_of-other p r.pass es q.history ne, inside_other m run p ne);
+      seen = ([], refl);
+      mine = record { of_pass = pass_is; stored = x.stored r.completed owner.2.stored; due = due_more m r.steps r.completed owner.2.due; begun = begun_more q.first m run r.lives owner.2.begun };
+    }) in (kept.0, record { told = kept.1; follows = extended_more m q.run run k.agrees.seen })

@@ -1,0 +1,435 @@
+-- The steps of a pass's own seat keep the rule.
+use Rattle.std.proofs.Common.{◌≡◌, ◌≢◌, ℕ, ◌+◌, ◌*◌, ◌^◌, ◌<◌, ◌≤◌, ◌==◌, inl, Bool, true, false, cond, if◌then◌else◌, List, [], ◌∷◌, ◌++◌, Some, None, length, set, Option, eqb-true, eq-eqb, refl, sym, ap, ◌∙◌, subst, arith, length-set, get_or-set_same}
+use Rattle.std.proofs.lemmas.Bool.{false_from_ne_true, or_right}
+use Rattle.std.proofs.lemmas.List.{set-get_or}
+use Rattle.std.specs.Prelude.{slice_index}
+use mathlib.Core.Option.{some, none}
+use lib.ListN.{get_elem?}
+use prog.Atomic.{either}
+use Rattle.atomic_table.specs.Table.{Allows, step, keeps}
+use Rattle.irp_core.specs.Own.{inside_of, holds_in, removed_in}
+use Rattle.irp_core.specs.declared.ids.IrpId.{IrpId}
+use Rattle.irp_core.specs.declared.ids.PassId.{PassId}
+use Rattle.irp_core.specs.declared.status.NtStatus.{NtStatus}
+use Rattle.irp_core.specs.declared.step.Kind.TheVariants.{Flag, Take, Done}
+use Rattle.irp_core.specs.declared.step.Made.{Made}
+use Rattle.irp_core.specs.declared.inside.Inside.TheVariants.{Nothing, Cancelling}
+use Rattle.irp_core.specs.Steps.{number, life_of, same_id}
+use Rattle.irp_core.specs.declared.ids.IrpLife.{IrpLife}
+use Rattle.irp_core.specs.Words.{bit, armed, flagged, cancel, routine, found_by}
+use Rattle.irp_core.specs.Inside.{has_lock}
+use Rattle.irp_core.specs.Owners.{owes, holds}
+use Rattle.irp_core.specs.Completion.{removed}
+use Rattle.irp_core.specs.Lives.{last_life, present_life, present, IsPresent}
+use Rattle.irp_core.specs.Runs.{Size, IsRun}
+use Rattle.irp_core.proofs.Names.{same_pass-refl}
+use Rattle.irp_core.proofs.Lives.{life_bound}
+use Rattle.irp_core.proofs.Next.{grows_by_flag, grows_by_take, grows_by_done}
+use Rattle.csq_words.specs.declared.views.InsertReply.TheVariants.{Pending, Cancelled, Refused}
+use Rattle.csq_words.specs.declared.views.Event.{Event}
+use Rattle.csq_words.specs.declared.views.Event.TheVariants.{Insert, RemoveNext, Remove, Reuse}
+use Rattle.csq_words.specs.declared.views.Entry.{Entry}
+use Rattle.csq_words.specs.Queue.{QueueState, after_event}
+use Rattle.csq_words.specs.declared.views.Reusing.{Reusing}
+use Rattle.csq_words.specs.declared.views.Reusing.TheVariants.{Looked, StatusRenewed, RoutineRenewed}
+use Rattle.csq_words.specs.declared.views.Reusing.TheVariants as reusing
+use Rattle.csq_words.specs.declared.views.Completion.{Completion}
+use Rattle.csq_words.specs.declared.views.PassRecord.{PassRecord}
+use Rattle.csq_words.specs.declared.views.QueueRecord.{QueueRecord}
+use Rattle.csq_words.specs.declared.views.View.{View}
+use Rattle.csq_words.specs.Records.{pass_view, with_step, with_completion, with_life, saw}
+use Rattle.irp_core.specs.declared.status.TheConstants.NtStatus.{CANCELLED}
+use Rattle.csq_words.specs.History.{end_of}
+use Rattle.csq_words.specs.Words.{cancel_at, routine_at, status_at, bit_word, life_in, bit_in, unset_word, status_word, status_life_in, status_in}
+use Rattle.csq_words.specs.Rule.{renewed_routine, renewed_status, stands_for, is_done, SaysStatus, HasWords, AreTrueOf, MayRenew, IsReuse, IsStored, in_flight, IsHistoryOf, IsPassOf, IsOut, IsRecord, RuleHoldsBy, RuleHolds}
+use Rattle.csq_words.specs.Plays.{SeatView, life_found, after_flag, SeesFlag, Flags, taken_by, Takes, Completes}
+use Rattle.csq_words.proofs.Facts.{off, due_more, bit_bound, bit_true, set_listed, listed_now, listed_undone, open_now, open_undone}
+use Rattle.csq_words.proofs.Named.{by_id, irp_eq, same_id-not}
+use Rattle.irp_core.proofs.Own.{own-mine, holds_in-own, removed_in-own}
+use Rattle.csq_words.proofs.Decoding.{life_in-put, bit_in-put, status_life_in-unset, status_life_in-put, status_in-unset, status_in-put}
+use Rattle.csq_words.proofs.Keeping.{inside_is}
+use Rattle.csq_words.proofs.SeatSteps.{OwnStep, own_step, longer_step, begun_more}
+use Rattle.csq_words.proofs.Changes.{present_is, routine_of, status_of, stands_irp, flag_words, take_words, miss_words, done_words, stored_else, stored_put, stored_first, status_routine, status_cancel}
+
+-- every IRP of the words has those of the run
+abbrev pub AllWords : Size → List ℕ → List Made → Reusing → Type 0
+AllWords size words run reuse = (n : IrpId) → n.0 < size.irps → HasWords size.first words run reuse n
+
+-- an IRP that isn't completed in its present life has no word renewed
+module _ (size : Size) (run : List Made) (i : IrpLife) (now : IsPresent size.first run i) (undone : is_done run i ≡ false) where
+  apart : (j : IrpLife) → MayRenew size run j → same_id j.irp i.irp ≡ false
+  apart j may = by_id (same_id j.irp i.irp ≡ false) j.irp i.irp
+      (λ e. off (sym undone ∙ (ap (is_done run) (sym (same j may e)) ∙ may.done)))
+      (λ ne. same_id-not j.irp i.irp (λ e. ne (ap (λ (x : IrpId). x.0) e)))
+    where
+      same : (j : IrpLife) → MayRenew size run j → j.irp ≡ i.irp → j ≡ i
+      same j may e = sym (present_is size.first run j may.is_present) ∙ (ap (present size.first run) e ∙ present_is size.first run i now)
+
+  unrenewed : (reuse : Reusing) → IsReuse size run reuse → (renewed_routine reuse i.irp ≡ false) × (renewed_status reuse i.irp ≡ false)
+  unrenewed reusing.Nothing h = (refl, refl)
+  unrenewed (Looked j) h = (refl, refl)
+  unrenewed (StatusRenewed j) h = (refl, apart j h)
+  unrenewed (RoutineRenewed j) h = (apart j h, apart j h)
+
+  -- so its words stand for it
+  pub routine_here : (reuse : Reusing) → IsReuse size run reuse → routine_of size.first run reuse i.irp ≡ i
+  routine_here reuse h = ap (λ b. stands_for b (present size.first run i.irp)) (unrenewed reuse h).0 ∙ present_is size.first run i now
+
+  pub status_here : (reuse : Reusing) → IsReuse size run reuse → status_of size.first run reuse i.irp ≡ i
+  status_here reuse h = ap (λ b. stands_for b (present size.first run i.irp)) (unrenewed reuse h).1 ∙ present_is size.first run i now
+
+-- the word after an exchange of a clear flag for a set one
+flag_put : (w g : ℕ) (b : Bool) → w ≡ bit_word g (bit b) → either (w == bit_word g 0) (bit_word g 1) w ≡ bit_word g 1
+flag_put w g true is = go (w == bit_word g 0)
+  where
+    go : (t : Bool) → either t (bit_word g 1) w ≡ bit_word g 1
+    go true = refl
+    go false = is
+flag_put w g false is = ap (λ t. either t (bit_word g 1) w) (eq-eqb w (bit_word g 0) is)
+
+module _ (size : Size) (words : List ℕ) (run : List Made) (q : QueueRecord) (r : PassRecord) (i : IrpLife) (known : number i < size.irps) where
+  -- a flag that finds the life that it names
+  flag_made : (w : ℕ) → length words ≡ 3 * size.irps → w ≡ slice_index words (cancel_at i.irp) → AllWords size words run q.reusing → IsRun size run → AreTrueOf q.first run q.history → IsReuse size run q.reusing
+      → IsOut q r.pass → q.made ≤ size.passes → IsRecord q.first words run q.history r → inside_of r.steps ≡ Nothing → life_in w ≡ life_of i
+      → OwnStep size words (set words (cancel_at i.irp) (bit_word (life_of i) 1)) run (record { pass = r.pass; kind = Flag i; found = bit_in w } ∷ run) q r (saw (record { pass = r.pass; kind = Flag i; found = bit_in w } ∷ run) (with_step (Flag i) (bit_in w) r))
+      × (w ≡ bit_word (life_of i) (bit (flagged run i)))
+  flag_made w wide is ws is_run true' reuse out few rec outside e =
+      let c = is ∙ (ws i.irp known).cancel_is in
+      let now : IsPresent size.first run i = sym e ∙ (ap life_in c ∙ life_in-put (present_life size.first run i.irp) _ (bit_bound (flagged run (present size.first run i.irp)))) in
+      let here = present_is size.first run i now in
+      let c' : w ≡ bit_word (life_of i) (bit (flagged run i)) = c ∙ ap (λ (j : IrpLife). bit_word (life_of j) (cancel run j)) here in
+      let found : bit_in w ≡ found_by run (Flag i) = ap bit_in c' ∙ bit_in-put (life_of i) _ (bit_bound (flagged run i)) in
+      let m : Made = record { pass = r.pass; kind = Flag i; found = bit_in w } in
+      let to = out.to in
+      let same = inside_is run r words q rec in
+      let is_run' : IsRun size (m ∷ run) = subst (λ n. IsRun size (record { pass = r.pass; kind = Flag i; found = n } ∷ run)) (sym found) (grows_by_flag size run is_run r.pass out.from (omega arith) i known (sym same ∙ outside) now) in (
+        longer_step size words (set words (cancel_at i.irp) (bit_word (life_of i) 1)) run m q r (saw (m ∷ run) (with_step (Flag i) (bit_in w) r)) true' reuse record {
+          by = refl;
+          same_pass = refl;
+          wide = length-set words (cancel_at i.irp) (bit_word (life_of i) 1);
+          is_run = is_run';
+          words_are = λ n l. flag_words size.first words run q.reusing r.pass i (bit_in w) n (ws n l) now (omega arith);
+          listed_same = λ j. refl;
+          armed_same = λ j. refl;
+          lives_same = λ n. refl;
+          stored = λ o rec. stored_else words (cancel_at i.irp) (bit_word (life_of i) 1) o.completed (λ n. status_cancel n i.irp) rec.stored;
+          unlocked = rw same_pass-refl refl;
+          mine = record {
+            of_pass = record { seen_is = rec.of_pass.seen_is; mine_is = rec.of_pass.mine_is; steps_is = ap (λ u. m ∷ u) rec.of_pass.steps_is ∙ sym (own-mine r.pass m run refl); completed_is = rec.of_pass.completed_is; run_is = ([], refl) };
+            stored = stored_else words (cancel_at i.irp) (bit_word (life_of i) 1) r.completed (λ n. status_cancel n i.irp) rec.stored;
+            due = due_more m r.steps r.completed rec.due;
+            begun = begun_more q.first m run r.lives rec.begun;
+          };
+        },
+        c',
+      )
+
+  -- a flag that finds another life
+  flag_missed : (w : ℕ) → w ≡ slice_index words (cancel_at i.irp) → AllWords size words run q.reusing → IsRun size run → q.first ≡ size.first → AreTrueOf q.first run q.history → IsReuse size run q.reusing
+      → IsRecord q.first words run q.history r → inside_of r.steps ≡ Nothing
+      → OwnStep size words words run run q r (saw run (with_life (life_found i w) r)) × (life_in w ≡ present_life size.first run i.irp)
+  flag_missed w is ws is_run first true' reuse rec outside =
+      let c = is ∙ (ws i.irp known).cancel_is in
+      let life : life_in w ≡ present_life size.first run i.irp = ap life_in c ∙ life_in-put (present_life size.first run i.irp) _ (bit_bound (flagged run (present size.first run i.irp))) in
+      let life' : life_in w ≡ present_life q.first run i.irp = life ∙ ap (λ f. present_life f run i.irp) (sym first) in (
+        record {
+          same_pass = refl;
+          wide = refl;
+          is_run = is_run;
+          words_are = ws;
+          listed_same = λ j. refl;
+          armed_same = λ j. refl;
+          lives_same = λ n. refl;
+          true_of = true';
+          reuse_is = reuse;
+          others = λ o ne h. h;
+          elsewhere = λ p ne. (refl, refl);
+          unlocked = ap has_lock (sym (inside_is run r words q rec) ∙ outside);
+          seen = λ shorter h. h;
+          mine = record { of_pass = record { seen_is = rec.of_pass.seen_is; mine_is = rec.of_pass.mine_is; steps_is = rec.of_pass.steps_is; completed_is = rec.of_pass.completed_is; run_is = ([], refl) }; stored = rec.stored; due = rec.due; begun = ((omega (arith, life'), omega (arith, life')), rec.begun) };
+        },
+        life,
+      )
+
+-- a later history has no earlier present life
+event_lives : (u : QueueState) (e : Event) (n : IrpId) → u.lives n ≤ (after_event u e).lives n
+event_lives u (Insert m f place Pending) n = omega arith
+event_lives u (Insert m f place Cancelled) n = omega arith
+event_lives u (Insert m f place (Refused cause)) n = omega arith
+event_lives u (RemoveNext k None) n = omega arith
+event_lives u (RemoveNext k (Some j)) n = omega arith
+event_lives u (Remove j false) n = omega arith
+event_lives u (Remove j true) n = omega arith
+event_lives u (Reuse m life) n = go (same_id m n)
+  where
+    go : (b : Bool) → u.lives n ≤ cond b (u.lives n + 1) (u.lives n)
+    go true = omega arith
+    go false = omega arith
+event_lives u e n = omega arith
+
+lives_more : (first : ℕ) (newer older : List Entry) (n : IrpId) → (end_of first older).lives n ≤ (end_of first (newer ++ older)).lives n
+lives_more first [] older n = omega arith
+lives_more first (e ∷ newer) older n = let h = lives_more first newer older n in let g = event_lives (end_of first (newer ++ older)) e.event n in omega (arith, h, g)
+
+-- the present lives in what a pass has seen are no later than those of the run
+pub seen_lives : (size : Size) (run : List Made) (q : QueueRecord) (f : IrpLife → Bool) (r : PassRecord) → IsHistoryOf size run q f → IsPassOf run q.history r → (n : IrpId) → (end_of size.first r.seen).lives n ≤ present_life size.first run n
+seen_lives size run q f r h was n =
+    let grown = lives_more size.first was.seen_is.0 r.seen n in
+    let now : (end_of size.first (was.seen_is.0 ++ r.seen)).lives n ≡ present_life size.first run n = ap (λ l. (end_of size.first l).lives n) (sym was.seen_is.1) ∙ (ap (λ f. (end_of f q.history).lives n) (sym h.first_is) ∙ h.lives_are n) in
+    omega (arith, grown, now)
+
+-- the next view of the seat, and that it keeps the rule
+module _ (size : Size) (words : List ℕ) (views : List View) (run : List Made) (queue_at : ℕ) (queue : QueueRecord) (joined : Option PassRecord) (seat : PassId → ℕ) (id : ℕ) (r : PassRecord)
+    (k : RuleHoldsBy size words views run queue_at queue joined seat) (here : get_elem? views id ≡ some (pass_view r)) (i : IrpLife) (known : number i < size.irps) where
+  owner : (seat r.pass ≡ id) × IsOut queue r.pass × IsRecord queue.first words run queue.history r
+  owner = (k.each_view id (pass_view r) here).pass_here r refl
+
+  -- what is kept after a change of this seat's view and of a word
+  abbrev pub KeptWith : List ℕ → PassRecord → Type 0
+  KeptWith words' r' = (run' : List Made) × (queue_at' : ℕ) × (queue' : QueueRecord) × (joined' : Option PassRecord) × (seat' : PassId → ℕ) × RuleHoldsBy size words' (set views id (pass_view r')) run' queue_at' queue' joined' seat'
+
+  module _ (outside : inside_of r.steps ≡ Nothing) where
+    abbrev found : ℕ
+    found = slice_index words (cancel_at i.irp)
+
+    abbrev flag_next : ℕ
+    flag_next = either (found == bit_word (life_of i) 0) (bit_word (life_of i) 1) found
+
+    abbrev Flagged : PassRecord → Type 0
+    Flagged r' = KeptWith (set words (cancel_at i.irp) flag_next) r' × SeesFlag size i found r r'
+
+    -- the run after it
+    abbrev pub flag_run : List Made
+    flag_run = if life_in found == life_of i then record { pass = r.pass; kind = Flag i; found = bit_in found } ∷ run else run
+
+    flag_bound : size.first ≤ last_life → life_in found ≤ last_life
+    flag_bound few =
+        let c = (k.agrees.words_are i.irp known).cancel_is in
+        let life : life_in found ≡ present_life size.first run i.irp = ap life_in c ∙ life_in-put (present_life size.first run i.irp) _ (bit_bound (flagged run (present size.first run i.irp))) in
+        let bound = life_bound size run k.agrees.history_is.is_run few i.irp in
+        omega (arith, life, bound)
+
+    flag_kept : (b : Bool) → (life_in found == life_of i) ≡ b → Flagged (saw flag_run (after_flag i found r))
+    flag_kept true e =
+        let h = k.agrees.history_is in
+        let m : Made = record { pass = r.pass; kind = Flag i; found = bit_in found } in
+        let made = flag_made size words run queue r i known found k.agrees.wide refl k.agrees.words_are h.is_run h.true_of k.agrees.reuse_is owner.1 k.agrees.few owner.2 outside (eqb-true (life_in found) (life_of i) e) in
+        let put = flag_put found (life_of i) (flagged run i) made.1 in
+        let r' = saw (m ∷ run) (with_step (Flag i) (bit_in found) r) in
+        let kept = own_step size words (set words (cancel_at i.irp) (bit_word (life_of i) 1)) views run (m ∷ run) queue_at queue joined seat id r r' k here made.0 in
+        rw e (
+          (m ∷ run, queue_at, queue, joined, seat, subst (λ n. RuleHoldsBy size (set words (cancel_at i.irp) n) (set views id (pass_view r')) (m ∷ run) queue_at queue joined seat) (sym put) kept),
+          record { before = run; follows = owner.2.of_pass.run_is; run_is = refl; is_run = made.0.is_run; steps_are = made.0.mine.of_pass.steps_is },
+        )
+    flag_kept false e =
+        let h = k.agrees.history_is in
+        let was = owner.2.of_pass in
+        let other : life_of i ≢ life_in found = λ same. off (sym e ∙ eq-eqb (life_in found) (life_of i) (sym same)) in
+        let missed = flag_missed size words run queue r i known found refl k.agrees.words_are h.is_run h.first_is h.true_of k.agrees.reuse_is owner.2 outside in
+        let none' : (found == bit_word (life_of i) 0) ≡ false = false_from_ne_true (found == bit_word (life_of i) 0) (λ t. other (sym (ap life_in (eqb-true found (bit_word (life_of i) 0) t) ∙ life_in-put (life_of i) 0 (omega arith)))) in
+        let same : set words (cancel_at i.irp) flag_next ≡ words = ap (λ b. set words (cancel_at i.irp) (either b (bit_word (life_of i) 1) found)) none' ∙ set-get_or words (cancel_at i.irp) 0 in
+        let r' = saw run (with_life (life_found i found) r) in
+        let kept = own_step size words words views run run queue_at queue joined seat id r r' k here missed.0 in
+        let seen = seen_lives size run queue (in_flight joined) r h was i.irp in
+        let life = missed.1 in
+        rw e (
+          (run, queue_at, queue, joined, seat, subst (λ ws. RuleHoldsBy size ws (set views id (pass_view r')) run queue_at queue joined seat) (sym same) kept),
+          record { sees = record { follows = was.run_is; is_run = h.is_run; steps_are = was.steps_is }; other = other; life_is = life; seen = omega (arith, seen, life) },
+        )
+
+-- a flag sets the Cancel flag in the life that it names, or finds another life and changes nothing
+flags : (size : Size) (slots id : ℕ) (r : PassRecord) (held : List (ℕ × Unit {0})) (i : IrpLife) → number i < size.irps → size.first ≤ last_life → inside_of r.steps ≡ Nothing
+    → Allows (RuleHolds size) slots id (pass_view r, held) (cancel_at i.irp) (λ n. either (n == bit_word (life_of i) 0) (bit_word (life_of i) 1) n)
+    (Flags size i (step slots (cancel_at i.irp) (bit_word (life_of i) 0) (bit_word (life_of i) 1) none) (pass_view r, held))
+flags size slots id r held i known few outside s (run, queue_at, queue, joined, seat, k) _ here _ =
+    let w = slice_index s.words (cancel_at i.irp) in
+    let kept = flag_kept size s.words s.views run queue_at queue joined seat id r k here i known outside (life_in w == life_of i) refl in
+    let after = flag_run size s.words s.views run queue_at queue joined seat id r k here i known outside in
+    (pass_view (saw after (after_flag i w r)), keeps, tt, kept.0, (refl, flag_bound size s.words s.views run queue_at queue joined seat id r k here i known outside few, kept.1))
+
+module _ (size : Size) (words : List ℕ) (run : List Made) (reuse : Reusing) (i : IrpLife) (known : number i < size.irps) (ws : AllWords size words run reuse) (is_run : IsRun size run) (may : IsReuse size run reuse) where
+  -- an IRP whose routine is set has it in its word
+  set_word : armed run i ≡ true → slice_index words (routine_at i.irp) ≡ bit_word (life_of i) 1
+  set_word a =
+      let there = (set_listed size run is_run i a).1 in
+      let here = routine_here size run i (listed_now size run is_run i there) (listed_undone size run is_run i there) reuse may in
+      (ws i.irp known).routine_is ∙ (ap (λ (j : IrpLife). bit_word (life_of j) (routine run j)) here ∙ ap (λ b. bit_word (life_of i) (bit b)) a)
+
+  -- and no other word says so
+  word_set : slice_index words (routine_at i.irp) ≡ bit_word (life_of i) 1 → (armed run i ≡ true) × (routine_of size.first run reuse i.irp ≡ i)
+  word_set e =
+      let j = routine_of size.first run reuse i.irp in
+      let is = sym (ws i.irp known).routine_is ∙ e in
+      let bound = bit_bound (armed run j) in
+      let life : life_of j ≡ life_of i = sym (life_in-put (life_of j) (routine run j) bound) ∙ (ap life_in is ∙ life_in-put (life_of i) 1 (omega arith)) in
+      let one : routine run j ≡ 1 = sym (bit_in-put (life_of j) (routine run j) bound) ∙ (ap bit_in is ∙ bit_in-put (life_of i) 1 (omega arith)) in
+      let same : j ≡ i = irp_eq j i (stands_irp (renewed_routine reuse i.irp) (present size.first run i.irp)) life in
+      (bit_true (armed run i) 1 (sym (sym (ap (routine run) same) ∙ one)) (omega arith), same)
+
+  -- so a take finds 1 exactly where it exchanges the word
+  take_finds : taken_by i (slice_index words (routine_at i.irp)) ≡ found_by run (Take i)
+  take_finds = go (slice_index words (routine_at i.irp) == bit_word (life_of i) 1) refl
+    where
+      go : (b : Bool) → (slice_index words (routine_at i.irp) == bit_word (life_of i) 1) ≡ b → bit b ≡ routine run i
+      go true e = ap bit (sym (word_set (eqb-true _ _ e)).0)
+      go false e = ap bit (sym (false_from_ne_true (armed run i) (λ a. off (sym e ∙ eq-eqb _ _ (set_word a)))))
+
+module _ (size : Size) (words : List ℕ) (run : List Made) (q : QueueRecord) (r : PassRecord) (i : IrpLife) (known : number i < size.irps) (wide : length words ≡ 3 * size.irps) (ws : AllWords size words run q.reusing) (is_run : IsRun size run)
+    (true' : AreTrueOf q.first run q.history) (reuse : IsReuse size run q.reusing) (out : IsOut q r.pass) (few : q.made ≤ size.passes) (rec : IsRecord q.first words run q.history r) (after_flag' : inside_of r.steps ≡ Cancelling i) where
+  abbrev routine_word : ℕ
+  routine_word = slice_index words (routine_at i.irp)
+
+  abbrev took : ℕ
+  took = taken_by i routine_word
+
+  abbrev take_next : ℕ
+  take_next = either (routine_word == bit_word (life_of i) 1) (bit_word (life_of i) 0) routine_word
+
+  abbrev take_step : Made
+  take_step = record { pass = r.pass; kind = Take i; found = took }
+
+  taken_run : IsRun size (take_step ∷ run)
+  taken_run =
+      let to = out.to in
+      subst (λ n. IsRun size (record { pass = r.pass; kind = Take i; found = n } ∷ run)) (sym (take_finds size words run q.reusing i known ws is_run reuse))
+      (grows_by_take size run is_run r.pass out.from (omega arith) i known (sym (inside_is run r words q rec) ∙ after_flag'))
+
+  taken_words : (b : Bool) → (routine_word == bit_word (life_of i) 1) ≡ b → AllWords size (set words (routine_at i.irp) (either b (bit_word (life_of i) 0) routine_word)) (take_step ∷ run) q.reusing
+  taken_words true e n l = take_words size.first words run q.reusing r.pass i took n (ws n l) 0 (omega arith) (word_set size words run q.reusing i known ws is_run reuse (eqb-true _ _ e)).1 refl
+  taken_words false e n l =
+      let none' : armed run i ≡ false = false_from_ne_true (armed run i) (λ a. off (sym e ∙ eq-eqb _ _ (set_word size words run q.reusing i known ws is_run reuse a))) in
+      subst (λ us. HasWords size.first us (take_step ∷ run) q.reusing n) (sym (set-get_or words (routine_at i.irp) 0)) (miss_words size.first words run q.reusing r.pass i took n (ws n l) none')
+
+  -- a take owes this, whatever it finds
+  take_made : OwnStep size words (set words (routine_at i.irp) take_next) run (take_step ∷ run) q r (saw (take_step ∷ run) (with_step (Take i) took r))
+  take_made = longer_step size words (set words (routine_at i.irp) take_next) run take_step q r (saw (take_step ∷ run) (with_step (Take i) took r)) true' reuse record {
+    by = refl;
+    same_pass = refl;
+    wide = length-set words (routine_at i.irp) take_next;
+    is_run = taken_run;
+    words_are = taken_words (routine_word == bit_word (life_of i) 1) refl;
+    listed_same = λ j. refl;
+    armed_same = λ j. refl;
+    lives_same = λ n. refl;
+    stored = λ o rec. stored_else words (routine_at i.irp) take_next o.completed (λ n. status_routine n i.irp) rec.stored;
+    unlocked = rw same_pass-refl refl;
+    mine = record {
+      of_pass = record { seen_is = rec.of_pass.seen_is; mine_is = rec.of_pass.mine_is; steps_is = ap (λ u. take_step ∷ u) rec.of_pass.steps_is ∙ sym (own-mine r.pass take_step run refl); completed_is = rec.of_pass.completed_is; run_is = ([], refl) };
+      stored = stored_else words (routine_at i.irp) take_next r.completed (λ n. status_routine n i.irp) rec.stored;
+      due = due_more take_step r.steps r.completed rec.due;
+      begun = begun_more q.first take_step run r.lives rec.begun;
+    };
+  }
+
+-- a take exchanges the routine in the life that it names, or finds none
+takes : (size : Size) (slots id : ℕ) (r : PassRecord) (held : List (ℕ × Unit {0})) (i : IrpLife) → number i < size.irps → inside_of r.steps ≡ Cancelling i
+    → Allows (RuleHolds size) slots id (pass_view r, held) (routine_at i.irp) (λ n. either (n == bit_word (life_of i) 1) (bit_word (life_of i) 0) n)
+    (Takes size i (step slots (routine_at i.irp) (bit_word (life_of i) 1) (bit_word (life_of i) 0) none) (pass_view r, held))
+takes size slots id r held i known after s (run, queue_at, queue, joined, seat, k) _ here _ =
+    let w = slice_index s.words (routine_at i.irp) in
+    let h = k.agrees.history_is in
+    let own = (k.each_view id (pass_view r) here).pass_here r refl in
+    let m : Made = record { pass = r.pass; kind = Take i; found = taken_by i w } in
+    let r' = saw (m ∷ run) (with_step (Take i) (taken_by i w) r) in
+    let next = either (w == bit_word (life_of i) 1) (bit_word (life_of i) 0) w in
+    let made = take_made size s.words run queue r i known k.agrees.wide k.agrees.words_are h.is_run h.true_of k.agrees.reuse_is own.1 k.agrees.few own.2 after in (
+      pass_view r',
+      keeps,
+      tt,
+      (m ∷ run, queue_at, queue, joined, seat, own_step size s.words (set s.words (routine_at i.irp) next) s.views run (m ∷ run) queue_at queue joined seat id r r' k here made),
+      (refl, record { before = run; follows = own.2.of_pass.run_is; run_is = refl; is_run = made.is_run; steps_are = made.mine.of_pass.steps_is }),
+    )
+
+-- the status word of what isn't completed
+pub unset_word_is : (w life : ℕ) (d b : Bool) → d ≡ false → SaysStatus w life d b → w ≡ unset_word life
+unset_word_is w life false b e h = h
+unset_word_is w life true b e h = off (sym e)
+
+-- a pass completes an IRP that it holds
+completes : (size : Size) (slots id : ℕ) (r : PassRecord) (held : List (ℕ × Unit {0})) (i : IrpLife) (status : NtStatus) (v : ℕ) → number i < size.irps → size.first ≤ last_life → status.0 < 2 ^ 32 → (life_of i ≤ last_life → v ≡ status_word (life_of i) status)
+    → inside_of r.steps ≡ Nothing → holds_in r.steps i ≡ true → (removed_in r.steps i ≡ false → status ≡ CANCELLED)
+    → Allows (RuleHolds size) slots id (pass_view r, held) (status_at i.irp) (λ _. v) (Completes size i status (step slots (status_at i.irp) v 0 none) (pass_view r, held))
+completes size slots id r held i status v known few_lives small put outside held' due s (run, queue_at, queue, joined, seat, k) _ here _ =
+    let h = k.agrees.history_is in
+    let is_run = h.is_run in
+    let found = slice_index s.words (status_at i.irp) in
+    let m : Made = record { pass = r.pass; kind = Done i; found = 0 } in
+    let r' = saw (m ∷ run) (with_completion i status (with_step (Done i) 0 r)) in
+    let mine = (k.each_view id (pass_view r) here).pass_here r refl in
+    let was = mine.2.of_pass in
+    let holds' : holds run r.pass i ≡ true = sym (ap (λ t. holds_in t i) was.steps_is ∙ holds_in-own r.pass i run) ∙ held' in
+    let open' = or_right (owes run r.pass i) (holds run r.pass i) holds' in
+    let undone = open_undone size run is_run i r.pass open' in
+    let now = open_now size run is_run i r.pass open' in
+    let at = status_here size run i now undone queue.reusing k.agrees.reuse_is in
+    let word : SaysStatus found (life_of i) (is_done run i) (removed run i) = subst (λ (j : IrpLife). SaysStatus found (life_of j) (is_done run j) (removed run j)) at (k.agrees.words_are i.irp known).status_is in
+    let unset : found ≡ unset_word (life_of i) = unset_word_is found (life_of i) (is_done run i) (removed run i) undone word in
+    let bound = life_bound size run is_run few_lives i.irp in
+    let v_is : v ≡ status_word (life_of i) status = put (omega (arith, bound, now)) in
+    let to = mine.1.to in
+    let few = k.agrees.few in
+    let wide = k.agrees.wide in
+    let room : status_at i.irp < length s.words = omega arith in
+    let longer = grows_by_done size run is_run r.pass mine.1.from (omega (arith, to, few)) i known (sym (inside_is run r s.words queue mine.2) ∙ outside) holds' in
+    let due' : removed run i ≡ false → status ≡ CANCELLED = λ e. due (false_from_ne_true (removed_in r.steps i) (λ x. off (sym e ∙ removed_in-own r.pass i run (subst (λ t. removed_in t i ≡ true) was.steps_is x)))) in
+    let steps = ap (λ u. m ∷ u) was.steps_is ∙ sym (own-mine r.pass m run refl) in
+    let first' : (c : Completion) → IsStored found c → IsStored v c = λ c x. stored_first found v c (ap status_in unset ∙ status_in-unset (life_of i)) (ap status_life_in unset ∙ (status_life_in-unset (life_of i) ∙ sym (ap status_life_in v_is ∙ status_life_in-put (life_of i) status small))) x in (
+      pass_view r',
+      keeps,
+      tt,
+      (
+        m ∷ run,
+        queue_at,
+        queue,
+        joined,
+        seat,
+        own_step size s.words (set s.words (status_at i.irp) v) s.views run (m ∷ run) queue_at queue joined seat id r r' k here
+            (longer_step size s.words (set s.words (status_at i.irp) v) run m queue r r' h.true_of k.agrees.reuse_is record {
+              by = refl;
+              same_pass = refl;
+              wide = length-set s.words (status_at i.irp) v;
+              is_run = longer;
+              words_are = λ n l. subst (λ x. HasWords size.first (set s.words (status_at i.irp) x) (m ∷ run) queue.reusing n) (sym v_is)
+                  (done_words size.first s.words run queue.reusing r.pass i 0 status n (k.agrees.words_are n l) small due' room at);
+              listed_same = λ j. refl;
+              armed_same = λ j. refl;
+              lives_same = λ n. refl;
+              stored = λ o rec. stored_put s.words i.irp v o.completed room first' rec.stored;
+              unlocked = rw same_pass-refl refl;
+              mine = record {
+                of_pass = record { seen_is = was.seen_is; mine_is = was.mine_is; steps_is = steps; completed_is = ap (λ xs. i ∷ xs) was.completed_is; run_is = ([], refl) };
+                stored = (
+                  inl (
+                    ap status_life_in (get_or-set_same s.words (status_at i.irp) v 0 room ∙ v_is) ∙ status_life_in-put (life_of i) status small,
+                    ap status_in (get_or-set_same s.words (status_at i.irp) v 0 room ∙ v_is) ∙ status_in-put (life_of i) status small,
+                  ),
+                  stored_put s.words i.irp v r.completed room first' mine.2.stored,
+                );
+                due = (due, due_more m r.steps r.completed mine.2.due);
+                begun = begun_more queue.first m run r.lives mine.2.begun;
+              };
+            }),
+      ),
+      (unset, refl, record { last = record { before = run; follows = was.run_is; run_is = refl; is_run = longer; steps_are = steps }; undone = undone }),
+    )
+
+-- the same at a view that is known, and with words that are known by their values
+module _ (size : Size) (slots id : ℕ) (m : SeatView) (r : PassRecord) (is : m.0 ≡ pass_view r) (i j : IrpLife) (named : j ≡ i) (known : number i < size.irps) where
+  pub flags_as : (other : Size) (place old new : ℕ) → other ≡ size → place ≡ cancel_at i.irp → old ≡ bit_word (life_of i) 0 → new ≡ bit_word (life_of i) 1 → size.first ≤ last_life → inside_of r.steps ≡ Nothing
+      → Allows (RuleHolds size) slots id m place (λ n. either (n == old) new n) (Flags other j (step slots place old new none) m)
+  flags_as other place old new same lies clear put few outside =
+      subst (λ (z : View × IrpLife × Size × ℕ × ℕ × ℕ). Allows (RuleHolds size) slots id (z.0, m.1) z.5 (λ n. either (n == z.3) z.4 n) (Flags z.2 z.1 (step slots z.5 z.3 z.4 none) (z.0, m.1)))
+      (λ k. (sym is k, sym named k, sym same k, sym clear k, sym put k, sym lies k)) (flags size slots id r m.1 i known few outside)
+
+  pub takes_as : (other : Size) (place old new : ℕ) → other ≡ size → place ≡ routine_at i.irp → old ≡ bit_word (life_of i) 1 → new ≡ bit_word (life_of i) 0 → inside_of r.steps ≡ Cancelling i
+      → Allows (RuleHolds size) slots id m place (λ n. either (n == old) new n) (Takes other j (step slots place old new none) m)
+  takes_as other place old new same lies set' put after =
+      subst (λ (z : View × IrpLife × Size × ℕ × ℕ × ℕ). Allows (RuleHolds size) slots id (z.0, m.1) z.5 (λ n. either (n == z.3) z.4 n) (Takes z.2 z.1 (step slots z.5 z.3 z.4 none) (z.0, m.1)))
+      (λ k. (sym is k, sym named k, sym same k, sym set' k, sym put k, sym lies k)) (takes size slots id r m.1 i known after)
+
+  pub completes_as : (sized : Size) (status other : NtStatus) (place v : ℕ) → sized ≡ size → other ≡ status → place ≡ status_at i.irp → size.first ≤ last_life → status.0 < 2 ^ 32 → (life_of i ≤ last_life → v ≡ status_word (life_of i) status)
+      → inside_of r.steps ≡ Nothing → holds_in r.steps i ≡ true → (removed_in r.steps i ≡ false → status ≡ CANCELLED)
+      → Allows (RuleHolds size) slots id m place (λ _. v) (Completes sized j other (step slots place v 0 none) m)
+  completes_as sized status other place v one same lies few small put outside held due =
+      subst (λ (z : View × IrpLife × Size × NtStatus × ℕ). Allows (RuleHolds size) slots id (z.0, m.1) z.4 (λ _. v) (Completes z.2 z.1 z.3 (step slots z.4 v 0 none) (z.0, m.1)))
+      (λ k. (sym is k, sym named k, sym one k, sym same k, sym lies k)) (completes size slots id r m.1 i status v known few small put outside held due)

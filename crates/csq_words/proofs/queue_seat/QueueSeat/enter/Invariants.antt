@@ -1,5 +1,0 @@
-use Rattle.csq_words.proofs.queue_seat.QueueSeat.enter.Given as goal
-
--- of these words
-abbrev pub ghosts-tell_as : goal.ghosts-tell_as
-ghosts-tell_as g a = record { irp = record { irp = record { 0 = 0 }; life = record { 0 = 0 } }; status = record { 0 = 0 }; size = a.words.now.size }

@@ -1,0 +1,33 @@
+use Rattle.std.proofs.Common.{◌∙◌, ap, sym, subst, arith, refl}
+use Rattle.irp_core.specs.Runs.{Size}
+use Rattle.csq_words.specs.declared.views.View.{View}
+use Rattle.csq_words.specs.Records.{queue_in, pass_in}
+use Rattle.csq_words.specs.Rule.{table_size, SomeRunAgrees}
+use Rattle.csq_words.proofs.ReuseSteps.{renews_status_as}
+use Rattle.csq_words.proofs.SeatValues.{joined, status_renewed}
+use Rattle.csq_words.proofs.queue_seat.QueueSeat.renew_status.Goals as goal
+
+pub renew_status-requires : goal.renew_status-requires
+renew_status-requires g c =
+    let words = c.words.inside in
+    let queue = joined c.self.inside.seat c.self.view_is c.self.invariant c.requires.joined in
+    let irps = ap (λ w. w.size.irps) c.words.view_is in (
+      ap (λ z. z.table) c.self.view_is ∙ (c.requires.words ∙ sym (ap (λ w. w.table) c.words.view_is)),
+      omega (arith, c.words.invariant.0, c.words.invariant.1, irps, c.requires.irp, c.place-word.ensures),
+      renews_status_as (table_size words.table.shared.key) words.table.shared.table_id.slots c.self.inside.seat.id c.self.inside.seat.me _ _ queue c.args.irp _ refl _ refl _ _ c.place-word.ensures c.requires.next c.next_unset-unset.ensures,
+    )
+
+pub invariant_of-self : goal.invariant_of-self
+invariant_of-self g c = (status_renewed c.self.inside.seat c.renew_status.new.seat c.self.view_is c.self.invariant c.requires.joined c.renew_status.ensures.table c.renew_status.result refl c.renew_status.ensures.told).0
+
+pub returns-clause-found : goal.returns-clause-found
+returns-clause-found g c = (status_renewed c.self.inside.seat c.renew_status.new.seat c.self.view_is c.self.invariant c.requires.joined c.renew_status.ensures.table c.renew_status.result refl c.renew_status.ensures.told).2.1
+
+pub returns-clause-set : goal.returns-clause-set
+returns-clause-set g c = (status_renewed c.self.inside.seat c.renew_status.new.seat c.self.view_is c.self.invariant c.requires.joined c.renew_status.ensures.table c.renew_status.result refl c.renew_status.ensures.told).2.2
+
+pub returns-clause-step : goal.returns-clause-step
+returns-clause-step g c = (status_renewed c.self.inside.seat c.renew_status.new.seat c.self.view_is c.self.invariant c.requires.joined c.renew_status.ensures.table c.renew_status.result refl c.renew_status.ensures.told).1
+
+pub returns-clause-told : goal.returns-clause-told
+returns-clause-told g c = let x = c.renew_status.ensures.told in subst (λ (z : Size × View). SomeRunAgrees z.0 (queue_in z.1) (pass_in z.1)) (λ k. (ap (λ w. w.size) c.words.view_is k, sym (ap (λ m. m.0) x.0) k)) x.3

@@ -1,0 +1,88 @@
+-- A pass's own steps in a run.
+use Rattle.std.proofs.Common.{◌≡◌, ◌≢◌, Bool, true, false, cond, not, ◌&&◌, ◌||◌, List, [], ◌∷◌, filter, refl, sym, ap, ◌∙◌}
+use Rattle.std.proofs.Math.Bool.{and-false, and-true}
+use Rattle.std.proofs.lemmas.Bool.{or_right}
+use Rattle.std.specs.List.{list_any}
+use Rattle.irp_core.specs.declared.ids.PassId.{PassId}
+use Rattle.irp_core.specs.declared.step.Kind.TheVariants.{Disarm, Flag, Take, Out, Done}
+use Rattle.irp_core.specs.declared.step.Made.{Made}
+use Rattle.irp_core.specs.Steps.{is, found_one, by, own, since}
+use Rattle.irp_core.specs.declared.ids.IrpLife.{IrpLife}
+use Rattle.irp_core.specs.Words.{flagged}
+use Rattle.irp_core.specs.Inside.{inside, inside_after, in_insert}
+use Rattle.irp_core.specs.Owners.{owes, holds}
+use Rattle.irp_core.specs.Completion.{removed}
+use Rattle.irp_core.proofs.Names.{same_pass-eq, same_pass-is, same_pass-not}
+use Rattle.irp_core.specs.Own.{inside_of, owes_in, holds_in, removed_in}
+
+pub own-mine : (p : PassId) (m : Made) (E : List Made) → m.pass ≡ p → own p (m ∷ E) ≡ m ∷ own p E
+own-mine p m E e = ap (λ b. cond b (m ∷ own p E) (own p E)) (same_pass-is m.pass p e)
+
+pub own-other : (p : PassId) (m : Made) (E : List Made) → m.pass ≢ p → own p (m ∷ E) ≡ own p E
+own-other p m E ne = ap (λ b. cond b (m ∷ own p E) (own p E)) (same_pass-not m.pass p ne)
+
+module _ {A : Type 0} where
+  -- what meets a test in a part of the list meets it in the list
+  pub any_filtered : (f g : A → Bool) (xs : List A) → list_any f (filter g xs) ≡ true → list_any f xs ≡ true
+  any_filtered f g [] h = h
+  any_filtered f g (x ∷ xs) h = go (any_filtered f g xs) (g x) h
+    where
+      either' : (b : Bool) → (list_any f (filter g xs) ≡ true → list_any f xs ≡ true) → (b || list_any f (filter g xs)) ≡ true → (b || list_any f xs) ≡ true
+      either' true rest h = refl
+      either' false rest h = rest h
+
+      go : (list_any f (filter g xs) ≡ true → list_any f xs ≡ true) → (b : Bool) → list_any f (cond b (x ∷ filter g xs) (filter g xs)) ≡ true → (f x || list_any f xs) ≡ true
+      go rest true h = either' (f x) rest h
+      go rest false h = or_right (f x) (list_any f xs) (rest h)
+
+-- the step that a pass makes is its own
+module _ (p : PassId) (m : Made) (E : List Made) (mine : m.pass ≡ p) where
+  pub own_made : (f : Made → Bool) → f m ≡ true → list_any f (own p (m ∷ E)) ≡ true
+  own_made f h = ap (list_any f) (own-mine p m E mine) ∙ rw h refl
+
+  pub own_stays : (f : Made → Bool) → list_any f (own p E) ≡ true → list_any f (own p (m ∷ E)) ≡ true
+  own_stays f h = ap (list_any f) (own-mine p m E mine) ∙ or_right (f m) (list_any f (own p E)) h
+
+-- a flag that a pass set is set
+pub flagged_own : (p : PassId) (E : List Made) (i : IrpLife) → flagged (own p E) i ≡ true → flagged E i ≡ true
+flagged_own p E i h = any_filtered (is (Flag i)) (by p) E h
+
+-- what a pass is inside of, owes and holds is told by its own steps
+pub inside_of-own : (p : PassId) (E : List Made) → inside_of (own p E) ≡ inside E p
+inside_of-own p [] = refl
+inside_of-own p (m ∷ E) = go (by p m) (inside_of-own p E)
+  where
+    go : (t : Bool) → inside_of (own p E) ≡ inside E p → inside_of (cond t (m ∷ own p E) (own p E)) ≡ cond t (inside_after (inside E p) m.kind m.found) (inside E p)
+    go true ih = ap (λ s. inside_after s m.kind m.found) ih
+    go false ih = ih
+
+since_own : (p : PassId) (begins ends : Made → Bool) (E : List Made) → since begins ends (own p E) ≡ since (λ m. begins m && by p m) (λ m. ends m && by p m) E
+since_own p begins ends [] = refl
+since_own p begins ends (m ∷ E) = go (by p m) refl (since_own p begins ends E)
+  where
+    go : (t : Bool) → by p m ≡ t → since begins ends (own p E) ≡ since (λ x. begins x && by p x) (λ x. ends x && by p x) E
+        → since begins ends (cond t (m ∷ own p E) (own p E)) ≡ ((begins m && by p m) || (not (ends m && by p m) && since (λ x. begins x && by p x) (λ x. ends x && by p x) E))
+    go true e ih = rw (e, and-true (begins m), and-true (ends m), ih) refl
+    go false e ih = rw (e, and-false (begins m), and-false (ends m)) ih
+
+pub owes_in-own : (p : PassId) (i : IrpLife) (E : List Made) → owes_in (own p E) i ≡ owes E p i
+owes_in-own p i E = since_own p (found_one (Take i)) (is (Out i)) E
+
+pub holds_in-own : (p : PassId) (i : IrpLife) (E : List Made) → holds_in (own p E) i ≡ holds E p i
+holds_in-own p i E = since_own p (λ m. found_one (Disarm i) m || is (Out i) m) (is (Done i)) E
+
+-- what a pass's own steps say of a removal is so
+pub removed_in-own : (p : PassId) (i : IrpLife) (E : List Made) → removed_in (own p E) i ≡ true → removed E i ≡ true
+removed_in-own p i [] h = h
+removed_in-own p i (m ∷ E) h = go (removed_in-own p i E) (by p m) refl h
+  where
+    either' : (b : Bool) → (removed_in (own p E) i ≡ true → removed E i ≡ true) → (b || removed_in (own p E) i) ≡ true → (b || removed E i) ≡ true
+    either' true rest h = refl
+    either' false rest h = rest h
+
+    go : (removed_in (own p E) i ≡ true → removed E i ≡ true) → (t : Bool) → by p m ≡ t → removed_in (cond t (m ∷ own p E) (own p E)) i ≡ true
+        → ((found_one (Disarm i) m && not (in_insert (inside E m.pass))) || removed E i) ≡ true
+    go rest true e h =
+        let there : inside_of (own p E) ≡ inside E m.pass = inside_of-own p E ∙ ap (inside E) (sym (same_pass-eq m.pass p e)) in
+        either' _ rest (rw there at h)
+    go rest false e h = or_right _ (removed E i) (rest h)
