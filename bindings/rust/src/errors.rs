@@ -151,17 +151,100 @@ impl Error for Holding {}
 
 /// A queue that wasn't closed, since passes are out. It comes back.
 #[derive(Debug)]
-pub struct PassesOut {
+pub struct PassesOut<Q = Queue> {
     /// The queue.
-    pub queue: Queue,
+    pub queue: Q,
     /// How many passes are out.
     pub out: u32,
 }
 
-impl fmt::Display for PassesOut {
+impl<Q> fmt::Display for PassesOut<Q> {
     fn fmt(&self, f: &mut fmt::Formatter<'_>) -> fmt::Result {
         write!(f, "passes out: {}", self.out)
     }
 }
 
-impl Error for PassesOut {}
+impl<Q: fmt::Debug> Error for PassesOut<Q> {}
+
+/// Why a value isn't submitted, in the order in which the causes are tested.
+#[derive(Clone, Copy, Debug, PartialEq, Eq, Hash)]
+pub enum SubmitError {
+    /// No IRP is free: each has a request under way, or has had its last life.
+    NoIrp,
+    /// Each IRP has had its last life, so no request can be submitted any more.
+    LivesSpent,
+    /// The file object's number isn't below the queue's number of file objects.
+    UnknownFile,
+    /// The file object was closed. A driver answers `STATUS_FILE_CLOSED`.
+    FileClosed,
+    /// As many requests are listed for the file object as its own limit allows. A driver answers
+    /// `STATUS_INSUFFICIENT_RESOURCES`.
+    FileFull,
+    /// As many requests are listed as the limit allows. A driver answers `STATUS_INSUFFICIENT_RESOURCES`.
+    Full,
+}
+
+refusal!(SubmitError {
+    NoIrp => "no IRP is free",
+    LivesSpent => "each IRP has had its last life",
+    UnknownFile => "there is no such file object",
+    FileClosed => "the file object was closed",
+    FileFull => "the file object has as many requests listed as it may",
+    Full => "the queue has as many requests listed as it may",
+});
+
+impl SubmitError {
+    /// Why an insert of a free IRP is refused.
+    pub(crate) fn of(refusal: InsertError) -> SubmitError {
+        match refusal {
+            InsertError::UnknownFile => SubmitError::UnknownFile,
+            InsertError::FileClosed => SubmitError::FileClosed,
+            InsertError::FileFull => SubmitError::FileFull,
+            InsertError::Full => SubmitError::Full,
+            InsertError::UnknownIrp | InsertError::NotHome => {
+                unreachable!("a free IRP: {refusal}")
+            }
+        }
+    }
+}
+
+/// A value that wasn't submitted. It comes back.
+pub struct Refused<T> {
+    /// The value.
+    pub value: T,
+    /// Why it wasn't submitted.
+    pub cause: SubmitError,
+}
+
+impl<T> fmt::Debug for Refused<T> {
+    fn fmt(&self, f: &mut fmt::Formatter<'_>) -> fmt::Result {
+        f.debug_struct("Refused")
+            .field("cause", &self.cause)
+            .finish_non_exhaustive()
+    }
+}
+
+impl<T> fmt::Display for Refused<T> {
+    fn fmt(&self, f: &mut fmt::Formatter<'_>) -> fmt::Result {
+        self.cause.fmt(f)
+    }
+}
+
+impl<T> Error for Refused<T> {}
+
+/// Why a cancel of a request got no value.
+#[derive(Clone, Copy, Debug, PartialEq, Eq, Hash)]
+pub enum Missed {
+    /// The request is of another queue.
+    OtherQueue,
+    /// The request was completed.
+    Completed,
+    /// Somebody else has the request. Who took it is told ([`Request::is_cancelled`](crate::Request::is_cancelled)).
+    Taken,
+}
+
+refusal!(Missed {
+    OtherQueue => "the request is of another queue",
+    Completed => "the request was completed",
+    Taken => "somebody else has the request",
+});

@@ -7,6 +7,8 @@
 //! its IRP with `STATUS_CANCELLED`. So once a queue is closed, each IRP that an insert accepted was completed once or
 //! is listed.
 //!
+//! [`Requests`] is such a queue of values: it takes an IRP for each, and hands each value over once.
+//!
 //! ```
 //! use csq::{FinalStatus, Inserted, Peek, Place, Queue, Size};
 //!
@@ -40,7 +42,7 @@
 //! // All passes are back by now, so the queue can be closed.
 //! let closed = queue.close()?;
 //! assert_eq!(closed.listed().count(), 0);
-//! assert!((0..8).all(|irp| closed.irp(irp).is_some_and(|left| left.status.is_some())));
+//! assert!((0..8).all(|irp| matches!(closed.irp(irp), Some(csq::Left { status: Some(_), .. }))));
 //! # Ok(())
 //! # }
 //! ```
@@ -85,21 +87,23 @@
 //! ```
 //!
 //! To link: the variable `CSQ_LIBRARY` of the environment names the library's archives, in the linker's order, with
-//! colons between them.
+//! colons between them. A relative path is of the folder from which the build is started.
 #![deny(missing_docs, unsafe_op_in_unsafe_fn)]
 
 mod errors;
 mod pass;
 mod queue;
 mod raw;
+mod requests;
 mod token;
 mod words;
 
 pub use errors::{
-    CancelError, Holding, InsertError, NewError, PassError, PassesOut, ReuseError, UnknownFile,
-    UnknownIrp,
+    CancelError, Holding, InsertError, Missed, NewError, PassError, PassesOut, Refused, ReuseError,
+    SubmitError, UnknownFile, UnknownIrp,
 };
 pub use pass::Pass;
 pub use queue::{Closed, Listed, Queue};
+pub use requests::{Request, RequestId, RequestPass, Requests};
 pub use token::{Cancelled, Claim, Inserted, Removed};
 pub use words::{FinalStatus, Irp, Left, List, Peek, Place, Size, LAST_LIFE};

@@ -116,9 +116,15 @@ extern "C" {
 mod tests {
     use super::*;
 
-    // The number that the C header gives a code.
-    fn in_header(name: &str) -> Option<u32> {
-        let header = include_str!("../../../include/csq.h");
+    // The C header, which stands in the repository and not in the package: `tests/documents.rs`, which isn't in the
+    // package either, asks for it.
+    fn header() -> Option<String> {
+        let header = concat!(env!("CARGO_MANIFEST_DIR"), "/../../include/csq.h");
+        std::fs::read_to_string(header).ok()
+    }
+
+    // The number that the header gives a code.
+    fn in_header(header: &str, name: &str) -> Option<u32> {
         let line = header
             .lines()
             .map(str::trim)
@@ -148,15 +154,18 @@ mod tests {
             ("CSQ_NO_MEMORY", NO_MEMORY),
             ("CSQ_EMPTY_HANDLE", EMPTY_HANDLE),
         ];
-        for (name, code) in codes {
-            assert_eq!(in_header(name), Some(code), "{name}");
+        if let Some(header) = header() {
+            for (name, code) in codes {
+                assert_eq!(in_header(&header, name), Some(code), "{name}");
+            }
         }
     }
 
     #[test]
     fn the_kinds_of_list_are_those_of_the_header() {
-        let header = include_str!("../../../include/csq.h");
-        assert!(header.contains("enum { CSQ_VECTOR = 0, CSQ_CHAINS = 1 };"));
+        if let Some(header) = header() {
+            assert!(header.contains("enum { CSQ_VECTOR = 0, CSQ_CHAINS = 1 };"));
+        }
         let size = crate::Size::new(1, 1, 1);
         assert_eq!(size.raw().list, 0);
         let list = crate::List::Chains;

@@ -1,0 +1,136 @@
+//! A queue of values: a submit puts one in, and whoever gets the request has it.
+
+mod pass;
+mod request;
+mod slots;
+
+pub use pass::RequestPass;
+pub use request::{Request, RequestId};
+
+use crate::errors::{NewError, PassError, PassesOut};
+use crate::queue::Queue;
+use crate::words::Size;
+use slots::Slots;
+use std::fmt;
+use std::sync::atomic::{AtomicU64, Ordering};
+use std::sync::Arc;
+
+/// A cancel-safe queue of requests that carry a value, as an IRP carries its buffers.
+///
+/// [`RequestPass::submit`] puts a value in for a file object. It comes out once: to whoever takes the request
+/// ([`RequestPass::next`]), to whoever cancels it ([`RequestPass::cancel`]), to the cleanup of its file object
+/// ([`RequestPass::cleanup`]), or to the close of the queue ([`Requests::close`]). Which IRPs stand behind the requests,
+/// and their lives, is the queue's own affair: it takes a free one for each submit.
+///
+/// ```
+/// # fn main() -> Result<(), Box<dyn std::error::Error>> {
+/// # use csq::{Peek, Place, Requests, Size};
+/// let reads = Requests::new(&Size::new(64, 2, 4))?; // 64 requests, 2 file objects, 4 passes
+/// let (caller, worker) = (reads.pass()?, reads.pass()?);
+///
+/// let first = caller.submit(String::from("first"), 0, Place::Back)?;
+/// caller.submit(String::from("second"), 0, Place::Back)?;
+/// assert_eq!(caller.cancel(first)?, "first");              // the canceller has the value
+///
+/// if let Some(mut request) = worker.next(Peek::File(0)) {  // the worker has the next one
+///     request.value_mut().push_str(", served");
+///     assert_eq!(request.complete(), "second, served");
+/// }
+/// caller.submit(String::from("third"), 1, Place::Back)?;
+/// assert_eq!(worker.cleanup(1)?, ["third"]);               // the last handle to file object 1 went
+/// # drop((caller, worker));
+/// # assert!(reads.close()?.is_empty());
+/// # Ok(())
+/// # }
+/// ```
+///
+/// At most [`Size::irps`] requests are under way at a time, submitted and not completed, and [`Size::limit`] of them
+/// listed. In its whole life a queue has 2^30 requests for each IRP ([`SubmitError::LivesSpent`]).
+///
+/// No value comes out twice, and none is dropped twice, whatever is dropped, forgotten ([`std::mem::forget`]) or let go
+/// in a panic. What is still listed where queue and passes are dropped is dropped with the last of them. A [`Request`]
+/// that is forgotten keeps its value and its IRP for ever.
+///
+/// Passes and requests go to other threads where their values may:
+///
+/// ```compile_fail,E0277
+/// # use csq::{Requests, Size};
+/// let queue = Requests::<std::rc::Rc<u32>>::new(&Size::new(1, 1, 1)).unwrap();
+/// let pass = queue.pass().unwrap();
+/// std::thread::spawn(move || pass.cleanup(0));
+/// ```
+///
+/// [`SubmitError::LivesSpent`]: crate::SubmitError::LivesSpent
+pub struct Requests<T> {
+    queue: Queue,
+    shared: Arc<Shared<T>>,
+}
+
+/// What a queue of requests and its passes share, beside the queue itself.
+struct Shared<T> {
+    slots: Slots<T>,
+    // No two queues have the same.
+    name: u64,
+}
+
+impl<T> fmt::Debug for Requests<T> {
+    fn fmt(&self, f: &mut fmt::Formatter<'_>) -> fmt::Result {
+        f.debug_struct("Requests").finish_non_exhaustive()
+    }
+}
+
+impl<T> Requests<T> {
+    /// A queue of this size.
+    pub fn new(size: &Size) -> Result<Requests<T>, NewError> {
+        Ok(Requests::over(Queue::new(size)?, size))
+    }
+
+    /// A queue of this size, each file object with a limit of its own: how many requests may be listed for it at a time,
+    /// 1 to `irps`.
+    pub fn with_file_limits(size: &Size, file_limits: &[u32]) -> Result<Requests<T>, NewError> {
+        Ok(Requests::over(
+            Queue::with_file_limits(size, file_limits)?,
+            size,
+        ))
+    }
+
+    // The queue is of this size, so the number of its IRPs is in range.
+    fn over(queue: Queue, size: &Size) -> Requests<T> {
+        static NAMES: AtomicU64 = AtomicU64::new(0);
+        Requests {
+            queue,
+            shared: Arc::new(Shared {
+                slots: Slots::new(size.irps),
+                name: NAMES.fetch_add(1, Ordering::Relaxed),
+            }),
+        }
+    }
+
+    /// The next pass. One that was given back isn't handed out again.
+    pub fn pass(&self) -> Result<RequestPass<T>, PassError> {
+        let pass = self.queue.pass()?;
+        Ok(RequestPass::new(Arc::clone(&self.shared), pass))
+    }
+
+    /// How many passes are out.
+    pub fn passes_out(&self) -> u32 {
+        self.queue.passes_out()
+    }
+
+    /// Closes the queue, once no pass is out, and hands over the values that are still listed, in the list's order.
+    pub fn close(self) -> Result<Vec<T>, PassesOut<Requests<T>>> {
+        let Requests { queue, shared } = self;
+        let closed = match queue.close() {
+            Ok(closed) => closed,
+            Err(PassesOut { queue, out }) => {
+                let queue = Requests { queue, shared };
+                return Err(PassesOut { queue, out });
+            }
+        };
+        match Arc::try_unwrap(shared) {
+            Ok(shared) => Ok(shared.slots.into_values(closed.listed())),
+            // A pass lets go of its share before it is given back.
+            Err(_) => unreachable!("closed while a pass is out"),
+        }
+    }
+}
