@@ -1,6 +1,20 @@
 /*
  * csq.h: the cancel-safe IRP queue of Microsoft's WDK (IoCsqInsertIrpEx, IoCsqRemoveNextIrp, IoCsqRemoveIrp,
- * IoSetCancelRoutine, IoCancelIrp, IRP_MJ_CLEANUP) for programs in C and C++ that bring a lock of their own.
+ * IoSetCancelRoutine, IoCancelIrp, IRP_MJ_CLEANUP) for programs in C and C++ that bring a lock of their own. The
+ * library runs on 64-bit Linux (ELF), on a processor of x86-64-v2 (SSE4.1) or later.
+ *
+ *     the WDK                                  here
+ *     IoCsqInitializeEx                        csq_new, csq_pass
+ *     IoCsqInsertIrpEx                         csq_insert
+ *     IoCsqRemoveNextIrp                       csq_remove_next
+ *     IoCsqRemoveIrp, IO_CSQ_IRP_CONTEXT       csq_remove, struct csq_irp
+ *     IoCancelIrp                              csq_cancel; its halves are csq_mark_cancel and csq_cancel_routine
+ *     CsqCompleteCanceledIrp                   csq_complete_cancelled
+ *     IoCompleteRequest                        csq_complete
+ *     IRP_MJ_CLEANUP                           csq_cleanup; csq_close_file
+ *     IoReuseIrp                               csq_reuse
+ *     Irp->Cancel, Irp->IoStatus.Status        csq_is_cancelled, csq_status
+ *     CsqAcquireLock, CsqReleaseLock           the caller's lock (struct csq_lock)
  *
  * The words:
  *
@@ -22,13 +36,19 @@
  * thread or ends the program. (csq_cancel and csq_cleanup, at the end, take the caller's lock through the caller's
  * functions.)
  *
- * Memory: csq_new, csq_new_with_file_limits and csq_pass take memory. No other call does.
+ * Allocation: csq_new, csq_new_with_file_limits and csq_pass take memory. No other call does.
+ *
+ * Memory order: what a thread wrote before csq_insert is seen by whoever removes the IRP or runs its cancel routine,
+ * since both have the lock. What it wrote before csq_complete or csq_complete_cancelled is seen by whoever learns of
+ * that completion from csq_status or csq_reuse: the library's steps on its words are atomic and sequentially
+ * consistent. (The thread sanitizer doesn't see them in the library, and may report the second as a race.)
  *
  * The answer of a call is a code of the one table below. Where several would fit it is the first one tested:
  * whether handles are filled or empty, in the order of the parameters; whether the queue is closed; then the
  * causes in the order in which the call's comment names them. A refusal, which is any answer but CSQ_OK and
  * csq_insert's CSQ_CANCELLED, changes nothing and writes nothing, but for the life that csq_status tells. (csq_cancel
- * and csq_cleanup are made of several calls: their comments say what holds after a refusal.)
+ * and csq_cleanup are made of several calls: their comments say what holds after a refusal.) CSQ_EMPTY_HANDLE of a
+ * handle that is filled says that two calls had it at once: the lock is missing somewhere.
  *
  * What the caller must uphold, which nothing checks:
  *
@@ -40,8 +60,8 @@
  *   sequentially consistent atomic).
  * - Pointers are valid for what is read and written through them, none is null, and those of one call don't overlap.
  * - malloc, realloc and free are of one allocator, and may be called by several threads at once.
- * - No call is made in a signal handler, in the forked child of a process with threads, or with less than a
- *   few kilobytes of the stack left.
+ * - No call is made in a signal handler, in the forked child of a process with threads, or with less than 8 KB of
+ *   the stack left. (Measured: csq_new takes 5.8 KB at most, csq_pass 3.3 KB, each other call less than 1.2 KB.)
  */
 #ifndef CSQ_H
 #define CSQ_H
@@ -51,6 +71,15 @@
 
 /* The version of this interface. */
 #define CSQ_VERSION "1.0.0"
+
+/* An answer that has to be looked at: else an IRP may be held or owed by a pass whose program doesn't know. */
+#if (defined(__cplusplus) && __cplusplus >= 201703L) || (defined(__STDC_VERSION__) && __STDC_VERSION__ >= 202311L)
+#define CSQ_NODISCARD [[nodiscard]]
+#elif defined(__GNUC__)
+#define CSQ_NODISCARD __attribute__((warn_unused_result))
+#else
+#define CSQ_NODISCARD
+#endif
 
 #ifdef __cplusplus
 extern "C" {
@@ -62,7 +91,7 @@ extern "C" {
 #endif
 
 /* What a call answers. */
-enum {
+enum csq_code {
     CSQ_OK = 0,
     /* The IRP's number isn't below the queue's number of IRPs. */
     CSQ_UNKNOWN_IRP = 1,
@@ -128,7 +157,10 @@ enum { CSQ_MOST_IRPS = 1024, CSQ_MOST_FILES = 256, CSQ_MOST_PASSES = 64, CSQ_LAS
 /* Statuses with the numbers that Windows gives them. */
 #define CSQ_STATUS_SUCCESS UINT32_C(0x00000000)
 #define CSQ_STATUS_PENDING UINT32_C(0x00000103)
+#define CSQ_STATUS_INVALID_PARAMETER UINT32_C(0xC000000D)
+#define CSQ_STATUS_INSUFFICIENT_RESOURCES UINT32_C(0xC000009A)
 #define CSQ_STATUS_CANCELLED UINT32_C(0xC0000120)
+#define CSQ_STATUS_FILE_CLOSED UINT32_C(0xC0000128)
 
 /* The handles, and what an empty one begins as: struct csq_queue queue = CSQ_EMPTY; */
 struct csq_queue {
@@ -167,16 +199,16 @@ struct csq_left {
 
 /* Makes a queue, as IoCsqInitializeEx does: no IRP is used, and each file object is open.
  * CSQ_NOT_EMPTY; CSQ_BAD_SIZE; CSQ_NO_MEMORY. Lock: not needed, for no other thread knows the queue yet. */
-uint32_t csq_new(struct csq_queue *queue, const struct csq_size *size);
+CSQ_NODISCARD uint32_t csq_new(struct csq_queue *queue, const struct csq_size *size);
 
 /* csq_new, with a limit for each file object: how many IRPs may be listed for it at a time, 1 to irps. There are
  * `count` limits, as many as file objects. CSQ_NOT_EMPTY; CSQ_BAD_SIZE; CSQ_NO_MEMORY. Lock: not needed. */
-uint32_t csq_new_with_file_limits(struct csq_queue *queue, const struct csq_size *size, const uint32_t *file_limits,
-                                  size_t count);
+CSQ_NODISCARD uint32_t csq_new_with_file_limits(struct csq_queue *queue, const struct csq_size *size,
+                                                const uint32_t *file_limits, size_t count);
 
 /* Frees a queue, closed or not and whatever is left in it, once no pass is out. The handle is empty then.
  * CSQ_EMPTY_HANDLE; CSQ_PASSES_OUT. Lock: held, or no other thread uses the queue any more. */
-uint32_t csq_free(struct csq_queue *queue);
+CSQ_NODISCARD uint32_t csq_free(struct csq_queue *queue);
 
 /* How many passes are out. CSQ_EMPTY_HANDLE; CSQ_CLOSED. Lock: held. */
 uint32_t csq_passes_out(struct csq_queue *queue, uint32_t *out);
@@ -185,7 +217,7 @@ uint32_t csq_passes_out(struct csq_queue *queue, uint32_t *out);
  * (csq_next_listed, csq_left), is freed by csq_free, and answers CSQ_CLOSED to any call that wants an open queue,
  * once the call's other handles are as it wants them.
  * CSQ_EMPTY_HANDLE; CSQ_CLOSED; CSQ_PASSES_OUT. Lock: held, or no other thread uses the queue any more. */
-uint32_t csq_close(struct csq_queue *queue);
+CSQ_NODISCARD uint32_t csq_close(struct csq_queue *queue);
 
 /* The listed IRPs of a closed queue, in the list's order: the first for CSQ_ANY, or the one after `after`.
  * CSQ_EMPTY_HANDLE; CSQ_NOT_CLOSED; CSQ_NOT_LISTED (`after` isn't listed); CSQ_NONE (none follows). Lock: held,
@@ -201,16 +233,16 @@ uint32_t csq_left(struct csq_queue *queue, uint32_t irp, struct csq_left *left);
 /* Hands out the queue's next pass, which holds and owes nothing. One that was given back isn't handed out again.
  * After CSQ_NO_MEMORY the same pass can be asked for again.
  * CSQ_EMPTY_HANDLE; CSQ_NOT_EMPTY; CSQ_CLOSED; CSQ_NO_PASS; CSQ_NO_MEMORY. Lock: held. */
-uint32_t csq_pass(struct csq_queue *queue, struct csq_pass *pass);
+CSQ_NODISCARD uint32_t csq_pass(struct csq_queue *queue, struct csq_pass *pass);
 
 /* Gives a pass back, which then isn't out any more. The handle is empty then.
  * CSQ_EMPTY_HANDLE; CSQ_CLOSED; CSQ_HOLDING. Lock: held. */
-uint32_t csq_give_back(struct csq_queue *queue, struct csq_pass *pass);
+CSQ_NODISCARD uint32_t csq_give_back(struct csq_queue *queue, struct csq_pass *pass);
 
 /* Frees a pass without giving it back: for a pass whose queue lives as long as the program, since that queue
  * counts the pass as out ever after and can neither be closed nor freed. The handle is empty then.
  * CSQ_EMPTY_HANDLE; CSQ_HOLDING. Lock: not needed. */
-uint32_t csq_free_pass(struct csq_pass *pass);
+CSQ_NODISCARD uint32_t csq_free_pass(struct csq_pass *pass);
 
 /* How many IRPs the pass holds, and how many it owes. CSQ_EMPTY_HANDLE. Lock: not needed. */
 uint32_t csq_holding(struct csq_pass *pass, uint32_t *held, uint32_t *owed);
@@ -223,18 +255,19 @@ uint32_t csq_holding(struct csq_pass *pass, uint32_t *held, uint32_t *owed);
  * in its life.
  * CSQ_EMPTY_HANDLE; CSQ_CLOSED; CSQ_UNKNOWN_IRP; CSQ_UNKNOWN_FILE; CSQ_NOT_HOME; CSQ_FILE_CLOSED; CSQ_FILE_FULL;
  * CSQ_FULL. Lock: held. */
-uint32_t csq_insert(struct csq_queue *queue, struct csq_pass *pass, uint32_t irp, uint32_t file, uint32_t front,
-                    struct csq_irp *context);
+CSQ_NODISCARD uint32_t csq_insert(struct csq_queue *queue, struct csq_pass *pass, uint32_t irp, uint32_t file,
+                                  uint32_t front, struct csq_irp *context);
 
 /* Removes the first listed IRP of a file object, or of any for CSQ_ANY, that no canceller has
  * (IoCsqRemoveNextIrp). The pass holds it then. CSQ_NONE also for an unknown file object.
  * CSQ_EMPTY_HANDLE; CSQ_CLOSED; CSQ_NONE. Lock: held. */
-uint32_t csq_remove_next(struct csq_queue *queue, struct csq_pass *pass, uint32_t file, struct csq_irp *irp);
+CSQ_NODISCARD uint32_t csq_remove_next(struct csq_queue *queue, struct csq_pass *pass, uint32_t file,
+                                       struct csq_irp *irp);
 
 /* Removes the IRP of an insert context (IoCsqRemoveIrp). The pass holds it then. CSQ_NONE where the IRP isn't
  * listed in that life, or a canceller has it.
  * CSQ_EMPTY_HANDLE; CSQ_CLOSED; CSQ_NONE. Lock: held. */
-uint32_t csq_remove(struct csq_queue *queue, struct csq_pass *pass, struct csq_irp irp);
+CSQ_NODISCARD uint32_t csq_remove(struct csq_queue *queue, struct csq_pass *pass, struct csq_irp irp);
 
 /* The cancel routine of an IRP that the pass owes: takes it out of the list. The pass holds it then, and
  * csq_complete_cancelled is due.
@@ -248,7 +281,7 @@ uint32_t csq_close_file(struct csq_queue *queue, struct csq_pass *pass, uint32_t
 
 /* Begins the next life of a completed IRP (IoReuseIrp), which is home then, and tells that life.
  * CSQ_EMPTY_HANDLE; CSQ_CLOSED; CSQ_UNKNOWN_IRP; CSQ_NOT_COMPLETED; CSQ_LIVES_SPENT. Lock: held. */
-uint32_t csq_reuse(struct csq_queue *queue, struct csq_pass *pass, uint32_t irp, uint32_t *life);
+CSQ_NODISCARD uint32_t csq_reuse(struct csq_queue *queue, struct csq_pass *pass, uint32_t irp, uint32_t *life);
 
 /* ---- Without the lock ---- */
 
@@ -257,11 +290,11 @@ uint32_t csq_reuse(struct csq_queue *queue, struct csq_pass *pass, uint32_t irp,
  * where the IRP isn't listed, or a pass, perhaps this one, has it. An insert that comes later finds the flag, and
  * gives the IRP back unless another canceller has it by then.
  * CSQ_EMPTY_HANDLE; CSQ_UNKNOWN_IRP; CSQ_STALE. Lock: not needed. */
-uint32_t csq_mark_cancel(struct csq_pass *pass, struct csq_irp irp, uint32_t *found);
+CSQ_NODISCARD uint32_t csq_mark_cancel(struct csq_pass *pass, struct csq_irp irp, uint32_t *found);
 
 /* Completes an IRP that the pass got by a removal (IoCompleteRequest), with any status but STATUS_PENDING.
  * CSQ_EMPTY_HANDLE; CSQ_UNKNOWN_IRP; CSQ_NOT_HELD; CSQ_NOT_REMOVED; CSQ_NOT_FINAL. Lock: not needed. */
-uint32_t csq_complete(struct csq_pass *pass, uint32_t irp, uint32_t status);
+CSQ_NODISCARD uint32_t csq_complete(struct csq_pass *pass, uint32_t irp, uint32_t status);
 
 /* Completes an IRP that the pass holds, however it got it, with STATUS_CANCELLED (IoCompleteRequest).
  * CSQ_EMPTY_HANDLE; CSQ_UNKNOWN_IRP; CSQ_NOT_HELD. Lock: not needed. */
@@ -275,6 +308,36 @@ uint32_t csq_is_cancelled(struct csq_pass *pass, uint32_t irp, uint32_t *life, u
  * with in that life. CSQ_NONE where it isn't completed there; then *life is written, and *status isn't.
  * CSQ_EMPTY_HANDLE; CSQ_UNKNOWN_IRP; CSQ_NONE. Lock: not needed. */
 uint32_t csq_status(struct csq_pass *pass, uint32_t irp, uint32_t *life, uint32_t *status);
+
+/* ---- What a code says ---- */
+
+/* The name of a code, as "CSQ_FULL"; "?" of a number that is no code. Lock: not needed. */
+static inline const char *csq_name(uint32_t code) {
+    static const char *const names[] = {
+        "CSQ_OK",            "CSQ_UNKNOWN_IRP",  "CSQ_UNKNOWN_FILE", "CSQ_NOT_HOME",    "CSQ_FILE_CLOSED",
+        "CSQ_FULL",          "CSQ_FILE_FULL",    "CSQ_CANCELLED",    "CSQ_NONE",        "CSQ_STALE",
+        "CSQ_NOT_COMPLETED", "CSQ_LIVES_SPENT",  "CSQ_NOT_HELD",     "CSQ_NOT_OWED",    "CSQ_NOT_REMOVED",
+        "CSQ_NOT_FINAL",     "CSQ_HOLDING",      "CSQ_PASSES_OUT",   "CSQ_NO_PASS",     "CSQ_BAD_SIZE",
+        "CSQ_NO_MEMORY",     "CSQ_EMPTY_HANDLE", "CSQ_NOT_EMPTY",    "CSQ_NOT_LISTED",  "CSQ_CLOSED",
+        "CSQ_NOT_CLOSED"
+    };
+    return code < sizeof names / sizeof *names ? names[code] : "?";
+}
+
+/* The NTSTATUS that a driver's dispatch routine answers after csq_insert answered this code: STATUS_PENDING where the
+ * IRP was accepted, or was found cancelled and is completed so; STATUS_FILE_CLOSED and STATUS_INSUFFICIENT_RESOURCES
+ * where the file object or the list took no more; STATUS_INVALID_PARAMETER for what is a fault of the program's. Lock:
+ * not needed. */
+static inline uint32_t csq_insert_status(uint32_t code) {
+    switch (code) {
+    case CSQ_OK:
+    case CSQ_CANCELLED: return CSQ_STATUS_PENDING;
+    case CSQ_FILE_CLOSED: return CSQ_STATUS_FILE_CLOSED;
+    case CSQ_FULL:
+    case CSQ_FILE_FULL: return CSQ_STATUS_INSUFFICIENT_RESOURCES;
+    default: return CSQ_STATUS_INVALID_PARAMETER;
+    }
+}
 
 /* ---- Calls made of others, which take the lock themselves ---- */
 
@@ -291,8 +354,8 @@ struct csq_lock {
  * Answers as csq_mark_cancel does; such a refusal changes nothing. Where the routine was there, and the queue's handle
  * is empty or its queue closed, CSQ_EMPTY_HANDLE or CSQ_CLOSED: the pass owes the IRP all the same, and
  * csq_cancel_routine is due. Lock: not held; it is taken only where the routine was there. */
-static inline uint32_t csq_cancel(struct csq_queue *queue, struct csq_pass *pass, struct csq_irp irp,
-                                  const struct csq_lock *lock, uint32_t *completed) {
+CSQ_NODISCARD static inline uint32_t csq_cancel(struct csq_queue *queue, struct csq_pass *pass, struct csq_irp irp,
+                                                const struct csq_lock *lock, uint32_t *completed) {
     uint32_t found = 0;
     uint32_t code = csq_mark_cancel(pass, irp, &found);
     if (code == CSQ_OK && found) {
@@ -313,8 +376,8 @@ static inline uint32_t csq_cancel(struct csq_queue *queue, struct csq_pass *pass
 /* Handles IRP_MJ_CLEANUP of a file object: closes it, then removes each IRP that is listed for it and completes it
  * as cancelled. *completed is how many. What a canceller has is left to that canceller.
  * Answers as csq_close_file does. Lock: not held; it is taken for each call, and free between two of them. */
-static inline uint32_t csq_cleanup(struct csq_queue *queue, struct csq_pass *pass, uint32_t file,
-                                   const struct csq_lock *lock, uint32_t *completed) {
+CSQ_NODISCARD static inline uint32_t csq_cleanup(struct csq_queue *queue, struct csq_pass *pass, uint32_t file,
+                                                 const struct csq_lock *lock, uint32_t *completed) {
     struct csq_irp irp = { 0, 0 };
     uint32_t code, count = 0;
     lock->lock(lock->of);

@@ -5,6 +5,7 @@
 #include "csq.h"
 
 #include <stdio.h>
+#include <string.h>
 
 static struct csq_queue queue = CSQ_EMPTY;
 static struct csq_pass pass = CSQ_EMPTY;
@@ -78,6 +79,40 @@ static uint32_t way(void) {
     return wrong | (uint32_t)held;
 }
 
+static int failed;
+
+static void tell(const char *test, int holds) {
+    printf("%s %s\n", holds ? "passed" : "FAILED", test);
+    failed |= !holds;
+}
+
+/* csq_name beside the cases above, which the preprocessor wrote. */
+static int names_are_right(uint32_t codes) {
+    for (uint32_t code = 0; code < codes; code++) {
+        if (strcmp(csq_name(code), name_of(code)) != 0) {
+            return 0;
+        }
+    }
+    return strcmp(csq_name(codes), "?") == 0 && strcmp(csq_name(UINT32_MAX), "?") == 0;
+}
+
+/* The numbers are those of Windows' ntstatus.h. */
+static int insert_statuses_are_right(void) {
+    static const struct {
+        uint32_t code, status;
+    } rows[] = {
+        { CSQ_OK, 0x00000103 },          { CSQ_CANCELLED, 0x00000103 },   { CSQ_FILE_CLOSED, 0xC0000128 },
+        { CSQ_FULL, 0xC000009A },        { CSQ_FILE_FULL, 0xC000009A },   { CSQ_UNKNOWN_IRP, 0xC000000D },
+        { CSQ_UNKNOWN_FILE, 0xC000000D }, { CSQ_NOT_HOME, 0xC000000D },    { CSQ_CLOSED, 0xC000000D },
+        { CSQ_EMPTY_HANDLE, 0xC000000D },
+    };
+    int right = 1;
+    for (size_t row = 0; row < sizeof rows / sizeof *rows; row++) {
+        right &= csq_insert_status(rows[row].code) == rows[row].status;
+    }
+    return right;
+}
+
 int main(void) {
     uint32_t named = 0;
     while (*name_of(named)) {
@@ -85,7 +120,8 @@ int main(void) {
     }
     int fits = named == CSQ_NOT_CLOSED + 1 && sizeof(struct csq_irp) == 8 && sizeof(struct csq_size) == 24 &&
                sizeof(struct csq_left) == 16 && sizeof queue == sizeof(void *) && sizeof pass == sizeof(void *);
-    int passed = fits && way() == 0;
-    printf("%s the_header_names_what_is_there\n", passed ? "passed" : "FAILED");
-    return passed ? 0 : 1;
+    tell("the_header_names_what_is_there", fits && way() == 0);
+    tell("each_code_has_its_name", names_are_right(named));
+    tell("an_insert_has_its_status", insert_statuses_are_right());
+    return failed;
 }

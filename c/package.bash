@@ -1,0 +1,88 @@
+# Makes the tree of an installation, for c/install and c/dist: source this after c/library.bash, with the shell's
+# options -euo pipefail. CC, LD, AR and OBJCOPY name the tools, LIBDIR the libraries' folder below the prefix.
+: "${CC:=cc}" "${LD:=ld}" "${AR:=ar}" "${OBJCOPY:=objcopy}" "${LIBDIR:=lib}"
+
+# Ends the script with an error: csq_refuse NAME WHAT, with what to do.
+csq_refuse() {
+  echo "c/${0##*/}: $1: $2" >&2
+  exit 1
+}
+
+# Refuses where one of these tools isn't there.
+csq_need() {
+  local tool
+  for tool; do
+    command -v "$tool" >/dev/null || csq_refuse "no tool" \
+      "there is no $tool. A C compiler and binutils have cc, ld, ar and objcopy; CC, LD, AR and OBJCOPY name others"
+  done
+}
+
+# Prints the archives to pack, one a line: csq_archives TOP WORK takes the proved library, built where its sources have
+# changed; with --plain the plain C queue, compiled in the folder WORK; with FILE.. these.
+csq_archives() {
+  local top=$1 work=$2 file
+  shift 2
+  if [[ ${1-} == --plain ]]; then
+    csq_plain_library "$top" "$work/libcsq_plain.a" "$CC" -O2 -fPIC ||
+      csq_refuse "no archive" "the plain C queue wasn't compiled. CC names another compiler than $CC"
+    echo "$work/libcsq_plain.a"
+  elif (($# > 0)); then
+    for file; do
+      [[ -f $file ]] || csq_refuse "no archive" "there is no file $file. Name what csq_library of c/library.bash prints"
+    done
+    printf '%s\n' "$@"
+  else
+    csq_library "$top" || csq_refuse "no archive" "name those of a library that was built, or say --plain"
+  fi
+}
+
+# Prints the version, which stands in csq.h alone.
+csq_version() {
+  sed -n 's/^#define CSQ_VERSION "\([0-9.]*\)"$/\1/p' "$1/include/csq.h" | grep . ||
+    csq_refuse "no version" "include/csq.h has no line #define CSQ_VERSION \"MAJOR.MINOR.PATCH\""
+}
+
+# Prints a template of c/package with its names between @ replaced: csq_fill FILE NAME=VALUE..
+csq_fill() {
+  local text pair
+  text=$(<"$1")
+  shift
+  for pair; do
+    text=${text//@"${pair%%=*}"@/"${pair#*=}"}
+  done
+  printf '%s\n' "$text"
+}
+
+# Links the archives into one object, in which only csq_* is a name for others, and that into libcsq.a and the shared
+# library: csq_link TOP WORK VERSION ARCHIVE..
+csq_link() {
+  local top=$1 work=$2 version=$3 major=${3%%.*} lib=$2/tree/$LIBDIR
+  shift 3
+  "$LD" -r --whole-archive "$@" --no-whole-archive -o "$work/csq.o" ||
+    csq_refuse "not linked" "$LD can't link the archives. Name those of csq_library of c/library.bash, each once"
+  "$OBJCOPY" --wildcard --keep-global-symbol='csq_*' "$work/csq.o"
+  csq_fill "$top/c/package/csq.map.in" "MAJOR=$major" >"$work/csq.map"
+  mkdir -p "$lib"
+  "$AR" rcsD "$lib/libcsq.a" "$work/csq.o"
+  # Calls inside of the library are bound there (-Bsymbolic): what was proved isn't exchanged for a program's own.
+  "$CC" -shared -Wl,-soname,"libcsq.so.$major" -Wl,--version-script="$work/csq.map" -Wl,-Bsymbolic -Wl,-z,defs \
+    -Wl,-z,relro,-z,now -Wl,--require-defined=csq_new "$work/csq.o" -o "$lib/libcsq.so.$version" ||
+    csq_refuse "not linked" "the archives aren't a whole library. Name all that csq_library of c/library.bash prints"
+  ln -s "libcsq.so.$version" "$lib/libcsq.so.$major"
+  ln -s "libcsq.so.$major" "$lib/libcsq.so"
+}
+
+# Makes the tree WORK/tree: csq_package TOP WORK PREFIX ARCHIVE.., where PREFIX is what csq.pc is to name.
+csq_package() {
+  local top=$1 work=$2 prefix=$3 version lib=$2/tree/$LIBDIR
+  shift 3
+  version=$(csq_version "$top")
+  csq_link "$top" "$work" "$version" "$@"
+  local values=("VERSION=$version" "MAJOR=${version%%.*}" "LIBDIR=$LIBDIR" "PREFIX=$prefix"
+    "TO_PREFIX=$(realpath -ms --relative-to="/$LIBDIR/cmake/csq" /)")
+  install -D -m 644 "$top/include/csq.h" "$work/tree/include/keuvatsi/csq.h"
+  mkdir -p "$lib/pkgconfig" "$lib/cmake/csq"
+  csq_fill "$top/c/package/csq.pc.in" "${values[@]}" >"$lib/pkgconfig/csq.pc"
+  csq_fill "$top/c/package/csqConfig.cmake.in" "${values[@]}" >"$lib/cmake/csq/csqConfig.cmake"
+  csq_fill "$top/c/package/csqConfigVersion.cmake.in" "${values[@]}" >"$lib/cmake/csq/csqConfigVersion.cmake"
+}

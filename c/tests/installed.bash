@@ -1,0 +1,143 @@
+# The tests of c/install and c/dist, for c/run-tests, whose variables and functions they use: source this.
+# shellcheck disable=SC2154,SC2317 # c/run-tests sets the variables, and expect calls the functions
+
+# What c/tests/header.cpp writes where all is well.
+header_lines=$(printf 'passed %s\n' the_header_names_what_is_there each_code_has_its_name an_insert_has_its_status)
+
+# expect TEST COMMAND..: passes where the command ends well, and shows what it wrote where it doesn't.
+expect() {
+  local test=$1
+  shift
+  if "$@" >"$work/out" 2>"$work/errors"; then pass "$test"; else fail "$test" <(cat "$work/out" "$work/errors"); fi
+}
+
+# only_csq PREFIX VERSION: each library gives csq_* alone to others, both the same names, the shared one versioned.
+only_csq() {
+  local lib=$1/lib version=CSQ_${2%%.*}
+  nm -g --defined-only "$lib/libcsq.a" | awk -v version="$version" 'NF == 3 { print $3 "@@" version }' | sort \
+    >"$work/static"
+  readelf -W --dyn-syms "$lib/libcsq.so" | awk '$5 == "GLOBAL" && $7 ~ /^[0-9]+$/ { print $8 }' | sort >"$work/shared"
+  diff "$work/static" "$work/shared" && grep '^csq_new@' "$work/static" && ! grep -v '^csq_[a-z_]*@' "$work/static"
+}
+
+# has_version PREFIX VERSION: the version of csq.h stands in the shared library's names and in what pkg-config reads.
+has_version() {
+  local lib=$1/lib version=$2 major=${2%%.*}
+  readelf -d "$lib/libcsq.so.$version" | grep -F "soname: [libcsq.so.$major]" &&
+    [[ $(readlink "$lib/libcsq.so.$major") == "libcsq.so.$version" ]] &&
+    [[ $(readlink "$lib/libcsq.so") == "libcsq.so.$major" ]] && grep -x "Version: $version" "$lib/pkgconfig/csq.pc"
+}
+
+# staged ARGUMENT..: all lies below DESTDIR, and nothing in it names that folder.
+staged() {
+  local stage=$work/stage prefix=$work/nowhere
+  rm -rf "$stage"
+  DESTDIR=$stage "$top/c/install" "$prefix" "$@" && [[ ! -e $prefix ]] &&
+    cmp "$top/include/csq.h" "$stage$prefix/include/keuvatsi/csq.h" && ! grep -rF "$stage" "$stage" &&
+    grep -x "prefix=$prefix" "$stage$prefix/lib/pkgconfig/csq.pc"
+}
+
+# dist_twice FOLDER ORIGIN ARGUMENT..: the same bytes twice, with their checksum; unpacked, a README with its origin.
+dist_twice() {
+  local folder=$1 origin=$2 turn
+  shift 2
+  for turn in 1 2; do
+    mkdir -p "$folder/$turn" && (cd "$folder/$turn" && "$top/c/dist" "$@") || return 1
+  done
+  cmp "$folder"/[12]/*.tar.gz && (cd "$folder/2" && sha256sum -c ./*.sha256) &&
+    tar -xzf "$folder"/1/*.tar.gz -C "$folder" && mv "$folder"/csq-* "$folder/csq" &&
+    grep -F "$origin" "$folder/csq/README"
+}
+
+# by_pkg_config PREFIX shared|static TEXT COMPILER FLAG.. SOURCE: the program is linked so, and writes this text.
+by_pkg_config() {
+  local prefix=$1 kind=$2 text=$3 flags libs
+  local -x PKG_CONFIG_PATH=$1/lib/pkgconfig LD_LIBRARY_PATH=
+  shift 3
+  read -ra flags <<<"$(pkg-config --cflags csq)"
+  if [[ $kind == shared ]]; then
+    read -ra libs <<<"$(pkg-config --libs csq)"
+    LD_LIBRARY_PATH=$prefix/lib
+  else
+    libs=("$(pkg-config --variable=libdir csq)/libcsq.a")
+  fi
+  "$@" "${warnings[@]}" "${flags[@]}" "${libs[@]}" -pthread -o "$work/program" || return 1
+  if readelf -d "$work/program" | grep -F '[libcsq.so.'; then [[ $kind == shared ]]; else [[ $kind == static ]]; fi &&
+    [[ $("$work/program") == "$text" ]]
+}
+
+# by_cmake PREFIX VERSION COMPILER: the programs of c/tests/CMakeLists.txt find both libraries.
+by_cmake() {
+  local prefix=$1 version=$2 compiler=$3 kind
+  rm -rf "$work/cmake"
+  cmake -S "$work/programs" -B "$work/cmake" -DCMAKE_C_COMPILER="$compiler" -DCMAKE_PREFIX_PATH="$prefix" \
+    -DVERSION="$version" && cmake --build "$work/cmake" || return 1
+  for kind in shared static; do
+    [[ $("$work/cmake/$kind") == "$(<"$top/c/examples/driver.stdout")" ]] || return 1
+  done
+}
+
+# run_programs NAME PREFIX VERSION COMPILER: programs in C and C++ find the installation by what there is here.
+run_programs() {
+  local name=$1 prefix=$2 version=$3 compiler=$4 kind cxx
+  if command -v pkg-config >"$work/try"; then
+    for kind in shared static; do
+      expect "$name: pkg-config, $kind" by_pkg_config "$prefix" $kind "$(<"$top/c/examples/driver.stdout")" \
+        "$compiler" -std=c11 "$work/programs/driver.c"
+      for cxx in g++ clang++; do
+        if ! command -v $cxx >"$work/try"; then continue; fi
+        expect "$name: pkg-config, $kind, $cxx" by_pkg_config "$prefix" $kind \
+          "$header_lines" $cxx -std=c++17 "$work/programs/header.cpp"
+      done
+    done
+  fi
+  if command -v cmake >"$work/try"; then expect "$name: CMake" by_cmake "$prefix" "$version" "$compiler"; fi
+}
+
+# run_install NAME COMPILER ORIGIN ARGUMENT..: what c/install and c/dist make of these arguments.
+run_install() {
+  local name=$1 compiler=$2 origin=$3 prefix=$work/installed-$1/prefix version
+  local -x CC=$compiler CSQ_KIT="$origin"
+  shift 3
+  version=$("$compiler" -include "$top/include/csq.h" -E -P -x c - <<<CSQ_VERSION | tail -1 | tr -d '"')
+  expect "$name: c/install" "$top/c/install" "$prefix" "$@"
+  expect "$name: only csq_* is global" only_csq "$prefix" "$version"
+  expect "$name: soname and version" has_version "$prefix" "$version"
+  expect "$name: DESTDIR" staged "$@"
+  expect "$name: c/dist, twice the same" dist_twice "$work/installed-$name/dist" "$origin" "$@"
+  run_programs "$name, installed" "$prefix" "$version" "$compiler"
+  run_programs "$name, unpacked" "$work/installed-$name/dist/csq" "$version" "$compiler"
+}
+
+# refused ERROR PREFIX ARGUMENT..: ends with the error of this name, and leaves no file.
+refused() {
+  local error=$1 prefix=$2
+  shift
+  ! "$top/c/install" "$@" && grep "^c/install: $error: " "$work/errors" && [[ ! $(find "$prefix" ! -type d) ]]
+}
+
+# run_installs COMPILER: installs the plain C queue, and the archives that are tested; and what refuses to be installed.
+run_installs() {
+  local compiler=$1 tool file archives
+  for tool in ld objcopy ar nm readelf; do
+    if ! command -v $tool >"$work/try"; then echo "there is no $tool: installing was left out"; return; fi
+  done
+  for tool in pkg-config cmake; do
+    if ! command -v $tool >"$work/try"; then echo "there is no $tool: its programs were left out"; fi
+  done
+  mkdir -p "$work/programs"
+  for file in examples/driver.c tests/header.c tests/header.cpp tests/CMakeLists.txt; do
+    sed 's|"csq.h"|<keuvatsi/csq.h>|' "$top/c/$file" >"$work/programs/${file##*/}"
+  done
+  mapfile -t archives < <(files_of installed "$compiler" -O2 -fPIC)
+  run_install plain "$compiler" "Nothing of it is proved" --plain
+  run_install archives "$compiler" "the kit of this test" "${archives[@]}"
+  csq_plain_library "$top" "$work/part.a" "$compiler" -O2 -fPIC
+  mkdir -p "$work/taken/lib/libcsq.a"
+  touch "$work/file"
+  expect "install: no archive" refused "no archive" "$work/none" "$work/none.a"
+  expect "install: not a whole library" refused "not linked" "$work/none" "$work/part.plain_list.o"
+  expect "install: prefix not writable" refused "prefix not writable" "$work/file/none" --plain
+  expect "install: a folder in a file's place" refused "prefix not writable" "$work/taken" --plain
+  OBJCOPY=no-objcopy expect "install: no tool" refused "no tool" "$work/none" --plain
+}

@@ -1,0 +1,44 @@
+/* A program that forgets the lock in one thread. Over the plain queue the thread sanitizer has to tell it, so this
+ * program ends well only where nothing looks: it is a test of the tests. */
+#include "csq.h"
+
+#include <pthread.h>
+#include <stdio.h>
+
+enum { TURNS = 2000 };
+
+static struct csq_queue queue = CSQ_EMPTY;
+static pthread_mutex_t mutex = PTHREAD_MUTEX_INITIALIZER;
+
+static void *count_with_the_lock(void *unused) {
+    uint32_t out = 0;
+    (void)unused;
+    for (int turn = 0; turn < TURNS; turn++) {
+        pthread_mutex_lock(&mutex);
+        (void)csq_passes_out(&queue, &out);
+        pthread_mutex_unlock(&mutex);
+    }
+    return NULL;
+}
+
+static void *count_without_it(void *unused) {
+    uint32_t out = 0;
+    (void)unused;
+    for (int turn = 0; turn < TURNS; turn++) {
+        (void)csq_passes_out(&queue, &out);
+    }
+    return NULL;
+}
+
+int main(void) {
+    struct csq_size size = { 1, 1, 1, 1, 0, CSQ_VECTOR };
+    pthread_t threads[2];
+    if (csq_new(&queue, &size) != CSQ_OK || pthread_create(&threads[0], NULL, count_with_the_lock, NULL) != 0 ||
+        pthread_create(&threads[1], NULL, count_without_it, NULL) != 0) {
+        return 2;
+    }
+    pthread_join(threads[0], NULL);
+    pthread_join(threads[1], NULL);
+    puts("nothing was told");
+    return csq_free(&queue) == CSQ_OK ? 0 : 2;
+}
