@@ -53,6 +53,20 @@ static uint64_t unset(uint32_t life) {
     return (uint64_t)life << STATUS_LIFE;
 }
 
+/* What is in a handle. It is written too: the proved library takes it out for a call and puts it back, so two calls that
+ * overlap are a fault even where both only read, and with this the thread sanitizer tells it. */
+static void *taken(void *volatile *handle) {
+    void *at = *handle;
+    *handle = at;
+    return at;
+}
+static struct queue *queue_in(struct csq_queue *queue) {
+    return taken((void *volatile *)&queue->at);
+}
+static struct pass *pass_in(struct csq_pass *pass) {
+    return taken((void *volatile *)&pass->at);
+}
+
 /* ---- A queue's beginning and end ---- */
 
 static bool is_size(const struct csq_size *size) {
@@ -123,7 +137,7 @@ uint32_t csq_new_with_file_limits(struct csq_queue *queue, const struct csq_size
 }
 
 uint32_t csq_free(struct csq_queue *queue) {
-    struct queue *at = queue->at;
+    struct queue *at = queue_in(queue);
     if (!at) {
         return CSQ_EMPTY_HANDLE;
     }
@@ -143,7 +157,7 @@ static uint32_t open_queue(const struct queue *at) {
 }
 
 uint32_t csq_passes_out(struct csq_queue *queue, uint32_t *out) {
-    const struct queue *at = queue->at;
+    const struct queue *at = queue_in(queue);
     uint32_t code = open_queue(at);
     if (code != CSQ_OK) {
         return code;
@@ -153,7 +167,7 @@ uint32_t csq_passes_out(struct csq_queue *queue, uint32_t *out) {
 }
 
 uint32_t csq_close(struct csq_queue *queue) {
-    struct queue *at = queue->at;
+    struct queue *at = queue_in(queue);
     uint32_t code = open_queue(at);
     if (code != CSQ_OK) {
         return code;
@@ -173,7 +187,7 @@ static uint32_t closed_queue(const struct queue *at) {
 }
 
 uint32_t csq_next_listed(struct csq_queue *queue, uint32_t after, uint32_t *irp) {
-    const struct queue *at = queue->at;
+    const struct queue *at = queue_in(queue);
     uint32_t code = closed_queue(at);
     if (code != CSQ_OK) {
         return code;
@@ -190,7 +204,7 @@ uint32_t csq_next_listed(struct csq_queue *queue, uint32_t after, uint32_t *irp)
 }
 
 uint32_t csq_left(struct csq_queue *queue, uint32_t irp, struct csq_left *left) {
-    const struct queue *at = queue->at;
+    const struct queue *at = queue_in(queue);
     uint32_t code = closed_queue(at);
     if (code != CSQ_OK) {
         return code;
@@ -206,7 +220,7 @@ uint32_t csq_left(struct csq_queue *queue, uint32_t irp, struct csq_left *left) 
 /* ---- Passes ---- */
 
 uint32_t csq_pass(struct csq_queue *queue, struct csq_pass *pass) {
-    struct queue *at = queue->at;
+    struct queue *at = queue_in(queue);
     if (!at) {
         return CSQ_EMPTY_HANDLE;
     }
@@ -234,7 +248,7 @@ uint32_t csq_pass(struct csq_queue *queue, struct csq_pass *pass) {
 }
 
 uint32_t csq_free_pass(struct csq_pass *pass) {
-    struct pass *by = pass->at;
+    struct pass *by = pass_in(pass);
     if (!by) {
         return CSQ_EMPTY_HANDLE;
     }
@@ -248,12 +262,12 @@ uint32_t csq_free_pass(struct csq_pass *pass) {
 }
 
 /* Whether both handles are filled, and the queue is open. */
-static uint32_t may_call(const struct csq_queue *queue, const struct csq_pass *pass) {
+static uint32_t may_call(struct csq_queue *queue, struct csq_pass *pass) {
     return queue->at && pass->at ? open_queue(queue->at) : CSQ_EMPTY_HANDLE;
 }
 
 uint32_t csq_give_back(struct csq_queue *queue, struct csq_pass *pass) {
-    struct queue *at = queue->at;
+    struct queue *at = queue_in(queue);
     uint32_t code = may_call(queue, pass);
     if (code != CSQ_OK) {
         return code;
@@ -264,7 +278,7 @@ uint32_t csq_give_back(struct csq_queue *queue, struct csq_pass *pass) {
 }
 
 uint32_t csq_holding(struct csq_pass *pass, uint32_t *held, uint32_t *owed) {
-    const struct pass *by = pass->at;
+    const struct pass *by = pass_in(pass);
     if (!by) {
         return CSQ_EMPTY_HANDLE;
     }
@@ -287,7 +301,7 @@ static bool disarm(struct queue *at, uint32_t irp) {
 
 uint32_t csq_insert(struct csq_queue *queue, struct csq_pass *pass, uint32_t irp, uint32_t file, uint32_t front,
                     struct csq_irp *context) {
-    struct queue *at = queue->at;
+    struct queue *at = queue_in(queue);
     uint32_t code = may_call(queue, pass);
     if (code == CSQ_OK) {
         code = plain_list_refusal(&at->list, irp, file);
@@ -313,7 +327,7 @@ static void take_removed(struct queue *at, struct pass *by, uint32_t irp) {
 }
 
 uint32_t csq_remove_next(struct csq_queue *queue, struct csq_pass *pass, uint32_t file, struct csq_irp *irp) {
-    struct queue *at = queue->at;
+    struct queue *at = queue_in(queue);
     uint32_t code = may_call(queue, pass);
     if (code != CSQ_OK) {
         return code;
@@ -331,7 +345,7 @@ uint32_t csq_remove_next(struct csq_queue *queue, struct csq_pass *pass, uint32_
 }
 
 uint32_t csq_remove(struct csq_queue *queue, struct csq_pass *pass, struct csq_irp irp) {
-    struct queue *at = queue->at;
+    struct queue *at = queue_in(queue);
     uint32_t code = may_call(queue, pass);
     if (code != CSQ_OK) {
         return code;
@@ -344,8 +358,8 @@ uint32_t csq_remove(struct csq_queue *queue, struct csq_pass *pass, struct csq_i
 }
 
 uint32_t csq_cancel_routine(struct csq_queue *queue, struct csq_pass *pass, uint32_t irp) {
-    struct queue *at = queue->at;
-    struct pass *by = pass->at;
+    struct queue *at = queue_in(queue);
+    struct pass *by = pass_in(pass);
     uint32_t code = may_call(queue, pass);
     if (code != CSQ_OK) {
         return code;
@@ -363,7 +377,7 @@ uint32_t csq_cancel_routine(struct csq_queue *queue, struct csq_pass *pass, uint
 }
 
 uint32_t csq_close_file(struct csq_queue *queue, struct csq_pass *pass, uint32_t file) {
-    struct queue *at = queue->at;
+    struct queue *at = queue_in(queue);
     uint32_t code = may_call(queue, pass);
     if (code != CSQ_OK) {
         return code;
@@ -376,7 +390,7 @@ uint32_t csq_close_file(struct csq_queue *queue, struct csq_pass *pass, uint32_t
 }
 
 uint32_t csq_reuse(struct csq_queue *queue, struct csq_pass *pass, uint32_t irp, uint32_t *life) {
-    struct queue *at = queue->at;
+    struct queue *at = queue_in(queue);
     uint32_t code = may_call(queue, pass);
     if (code != CSQ_OK) {
         return code;
@@ -404,8 +418,8 @@ uint32_t csq_reuse(struct csq_queue *queue, struct csq_pass *pass, uint32_t irp,
 
 /* ---- Without the lock ---- */
 
-static uint32_t knows(const struct csq_pass *pass, uint32_t irp) {
-    const struct pass *by = pass->at;
+static uint32_t knows(struct csq_pass *pass, uint32_t irp) {
+    const struct pass *by = pass_in(pass);
     if (!by) {
         return CSQ_EMPTY_HANDLE;
     }
@@ -413,7 +427,7 @@ static uint32_t knows(const struct csq_pass *pass, uint32_t irp) {
 }
 
 uint32_t csq_mark_cancel(struct csq_pass *pass, struct csq_irp irp, uint32_t *found) {
-    struct pass *by = pass->at;
+    struct pass *by = pass_in(pass);
     uint32_t code = knows(pass, irp.irp);
     if (code != CSQ_OK) {
         return code;
@@ -437,8 +451,8 @@ static void set_status(struct pass *by, uint32_t irp, uint32_t status) {
     by->held--;
 }
 
-static uint32_t holds(const struct csq_pass *pass, uint32_t irp) {
-    const struct pass *by = pass->at;
+static uint32_t holds(struct csq_pass *pass, uint32_t irp) {
+    const struct pass *by = pass_in(pass);
     uint32_t code = knows(pass, irp);
     if (code != CSQ_OK) {
         return code;
@@ -447,7 +461,7 @@ static uint32_t holds(const struct csq_pass *pass, uint32_t irp) {
 }
 
 uint32_t csq_complete(struct csq_pass *pass, uint32_t irp, uint32_t status) {
-    struct pass *by = pass->at;
+    struct pass *by = pass_in(pass);
     uint32_t code = holds(pass, irp);
     if (code != CSQ_OK) {
         return code;
@@ -471,7 +485,7 @@ uint32_t csq_complete_cancelled(struct csq_pass *pass, uint32_t irp) {
 }
 
 uint32_t csq_is_cancelled(struct csq_pass *pass, uint32_t irp, uint32_t *life, uint32_t *cancelled) {
-    const struct pass *by = pass->at;
+    const struct pass *by = pass_in(pass);
     uint32_t code = knows(pass, irp);
     if (code != CSQ_OK) {
         return code;
@@ -483,7 +497,7 @@ uint32_t csq_is_cancelled(struct csq_pass *pass, uint32_t irp, uint32_t *life, u
 }
 
 uint32_t csq_status(struct csq_pass *pass, uint32_t irp, uint32_t *life, uint32_t *status) {
-    const struct pass *by = pass->at;
+    const struct pass *by = pass_in(pass);
     uint32_t code = knows(pass, irp);
     if (code != CSQ_OK) {
         return code;
