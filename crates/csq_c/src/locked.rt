@@ -31,7 +31,10 @@ pub extern "C" fn csq_insert(
     requires { ArePaired queue.old.body pass.old.body }
     ensures { OnHandles queue.old.body queue.new.body pass.old.body pass.new.body result
         (context.new ≡ context.old)
-        (λ body body' p p' code. (told : Option IrpLife) × InsertsInto (irp_numbered irp) (file_numbered file) (place_numbered front) body body' p p' code told × (context.new ≡ written told context.old)) }
+        (λ body body' p p' code. (told : Option IrpLife)
+        × InsertsInto (irp_numbered irp) (file_numbered file)
+        (place_numbered front) body body' p p' code told
+        × (context.new ≡ written told context.old)) }
 {
     let mut lent = match lend(alloc, queue, pass) {
         Ok(lent) => lent,
@@ -59,7 +62,9 @@ pub extern "C" fn csq_remove_next(
     requires { ArePaired queue.old.body pass.old.body }
     ensures { OnHandles queue.old.body queue.new.body pass.old.body pass.new.body result
         (irp.new ≡ irp.old)
-        (λ body body' p p' code. (told : Option IrpLife) × RemovesNextFrom (peek_of file) body body' p p' code told × (irp.new ≡ written told irp.old)) }
+        (λ body body' p p' code. (told : Option IrpLife)
+        × RemovesNextFrom (peek_of file) body body' p p' code told
+        × (irp.new ≡ written told irp.old)) }
 {
     let mut lent = match lend(alloc, queue, pass) {
         Ok(lent) => lent,
@@ -151,7 +156,9 @@ pub extern "C" fn csq_reuse(
     requires { ArePaired queue.old.body pass.old.body }
     ensures { OnHandles queue.old.body queue.new.body pass.old.body pass.new.body result
         (life.new ≡ life.old)
-        (λ body body' p p' code. (told : Option ℕ) × ReusesOf (irp_numbered irp) body body' p p' code told × (life.new ≡ set_to told life.old)) }
+        (λ body body' p p' code. (told : Option ℕ)
+        × ReusesOf (irp_numbered irp) body body' p p' code told
+        × (life.new ≡ set_to told life.old)) }
 {
     let mut lent = match lend(alloc, queue, pass) {
         Ok(lent) => lent,

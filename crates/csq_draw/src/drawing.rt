@@ -38,7 +38,8 @@ impl<A: Allocator + Copy> Drawing<A> {
     /// A drawing without a step.
     fn new(alloc: A, irps: u32, passes: u32) -> Result<Drawing<A>, AllocError>
         requires { IsInLimits (record { irps = irps; passes = passes; first = 0 }) }
-        ensures { IfOk result (λ drawing. DrawingStandsAfter drawing (record { irps = irps; passes = passes; first = 0 }) []) }
+        ensures { IfOk result (λ drawing. DrawingStandsAfter drawing
+            (record { irps = irps; passes = passes; first = 0 }) []) }
     {
         let Ok(machine) = Machine::new(alloc, irps, passes) else {
             return Err(AllocError);
@@ -57,7 +58,9 @@ impl<A: Allocator + Copy> Drawing<A> {
         requires pass { made.pass.0 < length self.old.passes.items }
         requires irp { OfIrp (λ i. number i < length self.old.owners.items) made.kind }
         requires few { length self.old.passes.items ≤ 65 }
-        ensures noted { OnOk result (NotesStep self.old.rows.items self.old.passes.items self.old.owners.items (record { line = line; step = made })
+        ensures noted { OnOk result
+            (NotesStep self.old.rows.items self.old.passes.items self.old.owners.items
+            (record { line = line; step = made })
             self.new.rows.items self.new.passes.items self.new.owners.items) }
         ensures machine { self.new.machine ≡ self.old.machine }
     {
@@ -88,7 +91,8 @@ impl<A: Allocator + Copy> Drawing<A> {
     /// What is told of the IRPs in the end.
     fn told(&self) -> Result<Vec<IrpLine, A>, AllocError>
         ensures told { IfOk result (λ told. (E : List MadeOf) → Agrees self.now.machine E
-            → AreToldOf (size_of self.now.machine).first E (size_of self.now.machine).irps told.items) }
+            → AreToldOf (size_of self.now.machine).first E
+            (size_of self.now.machine).irps told.items) }
         ensures few { IfOk result (λ told. vec_len told ≤ (size_of self.now.machine).irps) }
     {
         let mut told = Vec::new(self.alloc);
@@ -120,7 +124,8 @@ fn push_told<A: Allocator>(
 ) -> Result<(), AllocError>
     requires { irp.0 < (size_of machine.now).irps }
     ensures told { OnOk result ((more : List IrpLineOf) × (told.new.items ≡ told.old.items ++ more)
-        × ((E : List MadeOf) → Agrees machine.now E → IsToldOf E (present (size_of machine.now).first E irp) more)) }
+        × ((E : List MadeOf) → Agrees machine.now E
+        → IsToldOf E (present (size_of machine.now).first E irp) more)) }
     ensures few { OnOk result (vec_len told.new ≤ vec_len told.old + 1) }
 {
     let Some(line) = irp_line(machine, irp) else {

@@ -49,7 +49,8 @@ impl<A: Allocator> FileCounts<A> {
 
     /// How many may be, where there is such a file.
     pub(crate) fn limit(&self, file: FileId) -> Option<u32>
-        ensures { result ≡ (if nat_lt file.0 (length self.now.limits.items) then Some (slice_index_or self.now.limits.items file.0 0) else None) }
+        ensures { result ≡ (if nat_lt file.0 (length self.now.limits.items)
+            then Some (slice_index_or self.now.limits.items file.0 0) else None) }
     {
         if file.0 as usize >= self.limits.len() {
             return None;
@@ -59,7 +60,9 @@ impl<A: Allocator> FileCounts<A> {
 
     /// Whether as many are as may be.
     pub(crate) fn is_full(&self, file: FileId) -> bool
-        ensures { result ≡ (nat_lt file.0 (length self.now.limits.items) && (slice_index_or self.now.lens.items file.0 0 == slice_index_or self.now.limits.items file.0 0)) }
+        ensures { result ≡ (nat_lt file.0 (length self.now.limits.items)
+            && (slice_index_or self.now.lens.items file.0 0 == slice_index_or self.now.limits.items
+            file.0 0)) }
     {
         (file.0 as usize) < self.limits.len()
             && self.lens[file.0 as usize] == self.limits[file.0 as usize]
@@ -69,7 +72,8 @@ impl<A: Allocator> FileCounts<A> {
     pub(crate) fn add(&mut self, file: FileId)
         requires known { file.0 < length self.old.lens.items }
         requires fits { slice_index_or self.old.lens.items file.0 0 + 1 < 2 ^ 32 }
-        ensures lens { self.new.lens.items ≡ set self.old.lens.items file.0 (slice_index_or self.old.lens.items file.0 0 + 1) }
+        ensures lens { self.new.lens.items
+            ≡ set self.old.lens.items file.0 (slice_index_or self.old.lens.items file.0 0 + 1) }
         ensures limits { self.new.limits ≡ self.old.limits }
     {
         self.lens[file.0 as usize] += 1;
@@ -79,7 +83,8 @@ impl<A: Allocator> FileCounts<A> {
     pub(crate) fn take(&mut self, file: FileId)
         requires known { file.0 < length self.old.lens.items }
         requires some { 1 ≤ slice_index_or self.old.lens.items file.0 0 }
-        ensures lens { self.new.lens.items ≡ set self.old.lens.items file.0 (slice_index_or self.old.lens.items file.0 0 - 1) }
+        ensures lens { self.new.lens.items
+            ≡ set self.old.lens.items file.0 (slice_index_or self.old.lens.items file.0 0 - 1) }
         ensures limits { self.new.limits ≡ self.old.limits }
     {
         self.lens[file.0 as usize] -= 1;

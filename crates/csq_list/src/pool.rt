@@ -39,7 +39,9 @@ impl<A: Allocator> Pool<A> {
     pub(crate) fn new(alloc: &A, irps: u32, files: u32, limit: u32) -> Result<Pool<A>, ListNew>
     where
         A: Clone,
-        ensures made { IfOk result (λ pool. listing_of [] pool.used.items pool.closed.items pool.limit pool.counts.limits.items ≡ fresh irps files limit (replicate files irps)) }
+        ensures made { IfOk result
+            (λ pool. listing_of [] pool.used.items pool.closed.items pool.limit
+            pool.counts.limits.items ≡ fresh irps files limit (replicate files irps)) }
         ensures none { IfOk result (λ pool. HasFileLens pool.counts.lens.items []) }
         ensures bad_size { (result ≡ Err ListNew.BadSize) ↔ ¬ IsListSize irps files limit }
     {
@@ -60,9 +62,13 @@ impl<A: Allocator> Pool<A> {
     ) -> Result<Pool<A>, ListNew>
     where
         A: Clone,
-        ensures made { IfOk result (λ pool. listing_of [] pool.used.items pool.closed.items pool.limit pool.counts.limits.items ≡ fresh irps files limit file_limits.now) }
+        ensures made { IfOk result
+            (λ pool. listing_of [] pool.used.items pool.closed.items pool.limit
+            pool.counts.limits.items ≡ fresh irps files limit file_limits.now) }
         ensures none { IfOk result (λ pool. HasFileLens pool.counts.lens.items []) }
-        ensures bad_size { (result ≡ Err ListNew.BadSize) ↔ ¬ (IsListSize irps files limit × IsTrue (are_file_limits irps files file_limits.now)) }
+        ensures bad_size { (result ≡ Err ListNew.BadSize)
+            ↔ ¬ (IsListSize irps files limit
+            × IsTrue (are_file_limits irps files file_limits.now)) }
     {
         if !is_list_size(irps, files, limit) || !are_file_limits(irps, files, file_limits) {
             return Err(ListNew::BadSize);
@@ -83,7 +89,9 @@ impl<A: Allocator> Pool<A> {
         A: Clone,
         requires size { IsListSize irps files limit }
         requires counted { length counts.limits.items ≡ files }
-        ensures made { IfOk result (λ pool. listing_of [] pool.used.items pool.closed.items pool.limit pool.counts.limits.items ≡ fresh irps files limit counts.limits.items) }
+        ensures made { IfOk result
+            (λ pool. listing_of [] pool.used.items pool.closed.items pool.limit
+            pool.counts.limits.items ≡ fresh irps files limit counts.limits.items) }
         ensures counts { IfOk result (λ pool. pool.counts ≡ counts) }
     {
         let used = vec![in alloc.clone()?; false; irps as usize]?;
@@ -110,14 +118,16 @@ impl<A: Allocator> Pool<A> {
 
     /// Whether no IRP is used, and no file object closed.
     pub(crate) fn is_clear(&self) -> bool
-        ensures { result ≡ (list_all not self.now.used.items && list_all not self.now.closed.items) }
+        ensures { result ≡ (list_all not self.now.used.items
+            && list_all not self.now.closed.items) }
     {
         are_clear(&self.used) && are_clear(&self.closed)
     }
 
     /// Whether the IRP is known and unused.
     pub(crate) fn is_home(&self, irp: IrpId) -> bool
-        ensures { result ≡ (nat_lt irp.0 (length self.now.used.items) && not (slice_index_or self.now.used.items irp.0 false)) }
+        ensures { result ≡ (nat_lt irp.0 (length self.now.used.items)
+            && not (slice_index_or self.now.used.items irp.0 false)) }
     {
         (irp.0 as usize) < self.used.len() && !self.used[irp.0 as usize]
     }
@@ -130,10 +140,18 @@ impl<A: Allocator> Pool<A> {
         irp: IrpId,
         file: FileId,
     ) -> Result<(), InsertStatus>
-        ensures cause { (entries : List Entry) → HasFileLens self.now.counts.lens.items entries → full ≡ (length entries == self.now.limit) → result_err result ≡ first_cause (listing_of entries self.now.used.items self.now.closed.items self.now.limit self.now.counts.limits.items) irp file }
-        ensures known { OnOk result ((irp.0 < length self.now.used.items) × (file.0 < length self.now.closed.items)) }
+        ensures cause { (entries : List Entry) → HasFileLens self.now.counts.lens.items entries
+            → full ≡ (length entries == self.now.limit)
+            → result_err result ≡ first_cause
+            (listing_of entries self.now.used.items self.now.closed.items self.now.limit
+            self.now.counts.limits.items) irp file }
+        ensures known { OnOk result
+            ((irp.0 < length self.now.used.items) × (file.0 < length self.now.closed.items)) }
         ensures home { OnOk result (slice_index_or self.now.used.items irp.0 false ≡ false) }
-        ensures file_room { (entries : List Entry) → HasFileLens self.now.counts.lens.items entries → OnOk result (is_file_full (listing_of entries self.now.used.items self.now.closed.items self.now.limit self.now.counts.limits.items) file ≡ false) }
+        ensures file_room { (entries : List Entry) → HasFileLens self.now.counts.lens.items entries
+            → OnOk result (is_file_full
+            (listing_of entries self.now.used.items self.now.closed.items self.now.limit
+            self.now.counts.limits.items) file ≡ false) }
         ensures room { OnOk result (full ≡ false) }
     {
         if irp.0 as usize >= self.used.len() {

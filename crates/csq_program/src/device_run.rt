@@ -75,7 +75,8 @@ impl From<RunRefused> for RunFault {
 
 /// The lines of a device's totals.
 fn write_totals<A: Allocator>(totals: &Totals, text: &mut String<A>) -> Result<(), AllocError>
-    ensures { OnOk result (string_bytes text.new ≡ string_bytes text.old ++ totals_text totals.now) }
+    ensures { OnOk result (string_bytes text.new
+        ≡ string_bytes text.old ++ totals_text totals.now) }
 {
     let irps = totals.irps;
     let accounted = totals.accounted();
@@ -106,7 +107,8 @@ where
     A: Allocator + Copy + Send + Sync,
     W: Write,
     requires { IsListFor plan.irps plan.files (L.listing list) }
-    ensures written { OnOk result (Appends (W.contents writer.old) (W.contents writer.new) (run_text plan.irps)) }
+    ensures written { OnOk result
+        (Appends (W.contents writer.old) (W.contents writer.new) (run_text plan.irps)) }
     ensures unwritten { IfErr result (λ fault. fault ≢ RunFault.Write
         → Keeps (W.contents writer.old) (W.contents writer.new)) }
 {

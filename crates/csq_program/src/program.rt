@@ -177,7 +177,8 @@ fn run_script<L: PendingList + Drop, R: AllocGlobal + Print + Eprint + Input>(
 ) -> Result<u8, ProgramFault>
     requires fresh { IfOk list (λ l. IsFresh (L.listing l)) }
     requires irps { IfOk list (λ l. (1 ≤ (L.listing l).irps) × ((L.listing l).irps ≤ 1024)) }
-    ensures memory { IfErr list (λ refused. refused ≡ ListNew.Memory → result ≡ Err (Replay SimFault.Memory)) }
+    ensures memory { IfErr list
+        (λ refused. refused ≡ ListNew.Memory → result ≡ Err (Replay SimFault.Memory)) }
     ensures bad_size { IfErr list (λ refused. refused ≡ BadSize → result ≡ Ok 2) }
 {
     match list {

@@ -62,13 +62,15 @@ pub trait Answerer<A: Allocator> {
         requires { (c : Self.Kind) × (s : Self.State) × stands self.old c s }
         ensures { (c : Self.Kind) (s : Self.State) → stands self.old c s → IfOk result (λ handling.
             (added : List ℕ) × GrewBy (string_bytes text.old) (string_bytes text.new) added
-            × ((more : Option Self.State) × answers c s number line.now added more × Leaves (stands self.new c) handling more)) };
+            × ((more : Option Self.State) × answers c s number line.now added more
+            × Leaves (stands self.new c) handling more)) };
 
     /// Writes the closing lines.
     fn close(&self, text: &mut String<A>) -> Result<(), AllocError>
         requires { (c : Self.Kind) × (s : Self.State) × stands self.now c s }
         ensures { OnOk result ((c : Self.Kind) (s : Self.State) → stands self.now c s
-            → (added : List ℕ) × GrewBy (string_bytes text.old) (string_bytes text.new) added × closes c s added) };
+            → (added : List ℕ) × GrewBy (string_bytes text.old) (string_bytes text.new) added
+            × closes c s added) };
 }
 
 /// Answers each line, one after the other, and closes.
@@ -124,7 +126,8 @@ pub fn reply<X: Answerer<A>, A: Allocator + Copy, R: Read, W: Write>(
     writer: &mut W,
 ) -> Result<Ended, SimFault>
     requires { (c : X.Kind) × (s : X.State) × X.stands answerer.old c s }
-    ensures answered { (c : X.Kind) (s : X.State) → X.stands answerer.old c s → IfOk result (RepliesTo (IsAnswer (X.answers c) (X.closes c) s)
+    ensures answered { (c : X.Kind) (s : X.State) → X.stands answerer.old c s
+        → IfOk result (RepliesTo (IsAnswer (X.answers c) (X.closes c) s)
         (R.remaining reader.old) (R.remaining reader.new) (W.contents writer.old) (W.contents writer.new)) }
     ensures unwritten { IfErr result (λ fault. fault ≢ SimFault.Write
         → Keeps (W.contents writer.old) (W.contents writer.new)) }

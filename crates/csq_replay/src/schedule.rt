@@ -32,7 +32,8 @@ pub fn answer_schedule<A: Allocator + Copy, R: Read, W: Write>(
     writer: &mut W,
 ) -> Result<Ended, SimFault>
     requires { IsInLimits (record { irps = irps; passes = passes; first = 0 }) }
-    ensures answered { IfOk result (RepliesToSchedule (record { irps = irps; passes = passes; first = 0 }) claims
+    ensures answered { IfOk result
+        (RepliesToSchedule (record { irps = irps; passes = passes; first = 0 }) claims
         (R.remaining reader.old) (R.remaining reader.new) (W.contents writer.old) (W.contents writer.new)) }
     ensures unwritten { IfErr result (λ fault. fault ≢ SimFault.Write
         → Keeps (W.contents writer.old) (W.contents writer.new)) }

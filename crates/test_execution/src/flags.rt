@@ -24,8 +24,10 @@ pub(crate) fn insert_after_flag<L: PendingList + Drop, N: QueueName, A: Allocato
     file: FileId,
     place: Place,
 ) -> Result<Inserted<N>, InsertStatus>
-    ensures token { IfOk result (λ inserted. IfSome (given_by inserted) (Holds N.limits.irps inserter.new)) }
-    ensures claimed { (i : IrpLife) → result ≡ Ok (Pending i) → flagged canceller.old.steps i ≡ true → taken inserter.new.run i ≡ true }
+    ensures token { IfOk result
+        (λ inserted. IfSome (given_by inserted) (Holds N.limits.irps inserter.new)) }
+    ensures claimed { (i : IrpLife) → result ≡ Ok (Pending i) → flagged canceller.old.steps i ≡ true
+        → taken inserter.new.run i ≡ true }
 {
     queue.meet(rt, canceller, inserter);
     queue.insert(rt, inserter, irp, file, place)

@@ -39,7 +39,9 @@ pub(crate) fn read_statuses<L: PendingList + Drop, N: QueueName, A: Allocator>(
     pass: &mut Pass<N>,
     irp: IrpId,
 ) -> Statuses
-    ensures stays { IfOk result.0 (λ earlier. IfOk result.1 (λ later. StaysSet (earlier.0, is_some earlier.1) (later.0, is_some later.1))) }
+    ensures stays { IfOk result.0
+        (λ earlier. IfOk result.1 (λ later. StaysSet (earlier.0, is_some earlier.1)
+        (later.0, is_some later.1))) }
 {
     let earlier = queue.status(pass, irp);
     (earlier, queue.status(pass, irp))

@@ -26,7 +26,8 @@ pub(crate) fn read_and_reuse<L: PendingList + Drop, N: QueueName, A: Allocator>(
     pass: &mut Pass<N>,
     irp: IrpId,
 ) -> ReadAndReuse
-    ensures later { (life : LifeNumber) (status : Status) → result.0 ≡ Ok (life, Some status) → IsLater N.limits.first (named irp life) pass.new result.1 }
+    ensures later { (life : LifeNumber) (status : Status) → result.0 ≡ Ok (life, Some status)
+        → IsLater N.limits.first (named irp life) pass.new result.1 }
 {
     let read = queue.status(pass, irp);
     (read, queue.reuse(rt, pass, irp))

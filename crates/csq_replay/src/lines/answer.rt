@@ -75,7 +75,9 @@ const PIECE: usize = 4096;
 
 /// One read, again where it was interrupted; 0 at the end.
 fn read_piece<R: Read>(reader: &mut R, piece: &mut [u8]) -> Result<usize, SimFault>
-    ensures bytes { IfOk result (λ n. (n ≤ length piece.new) × Consumes (R.remaining reader.old) (R.remaining reader.new) (take n piece.new)
+    ensures bytes { IfOk result
+        (λ n. (n ≤ length piece.new)
+        × Consumes (R.remaining reader.old) (R.remaining reader.new) (take n piece.new)
         × (n ≡ 0 → 0 < length piece.new → IsAtEnd (R.remaining reader.new))) }
     ensures fault { IfErr result (λ fault. fault ≡ SimFault.Read) }
 {
@@ -94,7 +96,8 @@ pub(crate) fn read_input<A: Allocator, R: Read>(
     alloc: A,
     reader: &mut R,
 ) -> Result<Vec<u8, A>, SimFault>
-    ensures read { IfOk result (λ input. ReadsInput (R.remaining reader.old) (R.remaining reader.new) input.items) }
+    ensures read { IfOk result
+        (λ input. ReadsInput (R.remaining reader.old) (R.remaining reader.new) input.items) }
     ensures fault { IfErr result (λ fault. fault ≢ SimFault.Write) }
 {
     let mut input = Vec::new(alloc);

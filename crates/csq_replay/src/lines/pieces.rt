@@ -76,7 +76,8 @@ const STATUS_DIGITS: usize = 8;
 
 /// The status that eight hexadecimal digits write, in either case.
 pub(crate) fn parse_status(word: &[u8]) -> Option<NtStatus>
-    ensures { MatchOption result ((status : NtStatus) → ¬ IsHexStatus word.now status.0) (λ status. IsHexStatus word.now status.0) }
+    ensures { MatchOption result ((status : NtStatus) → ¬ IsHexStatus word.now status.0)
+        (λ status. IsHexStatus word.now status.0) }
 {
     if word.len() != STATUS_DIGITS || word.first() == Some(&b'+') {
         return None;

@@ -44,7 +44,8 @@ fn is_silent(line: IrpLine) -> bool
 /// Own rule.
 pub fn irp_line<A: Allocator>(machine: &Machine<A>, irp: IrpId) -> Option<IrpLine>
     requires { irp.0 < (size_of machine.now).irps }
-    ensures { (E : List Made) → Agrees machine.now E → IsToldOf E (present (size_of machine.now).first E irp) (told_of result) }
+    ensures { (E : List Made) → Agrees machine.now E
+        → IsToldOf E (present (size_of machine.now).first E irp) (told_of result) }
 {
     let life = machine.life(irp).unwrap();
     let name = IrpLife { irp, life };
@@ -65,8 +66,10 @@ fn close_irp<A: Allocator>(
     text: &mut String<A>,
 ) -> Result<(), AllocError>
     requires { irp.0 < (size_of machine.now).irps }
-    ensures { OnOk result ((told : List IrpLineOf) × GrewBy (string_bytes text.old) (string_bytes text.new) (irp_lines_text told)
-        × ((E : List Made) → Agrees machine.now E → IsToldOf E (present (size_of machine.now).first E irp) told)) }
+    ensures { OnOk result ((told : List IrpLineOf)
+        × GrewBy (string_bytes text.old) (string_bytes text.new) (irp_lines_text told)
+        × ((E : List Made) → Agrees machine.now E
+        → IsToldOf E (present (size_of machine.now).first E irp) told)) }
 {
     let Some(line) = irp_line(machine, irp) else {
         return Ok(());
@@ -80,8 +83,10 @@ pub(crate) fn close_irps<A: Allocator>(
     machine: &Machine<A>,
     text: &mut String<A>,
 ) -> Result<(), AllocError>
-    ensures { OnOk result ((told : List IrpLineOf) × GrewBy (string_bytes text.old) (string_bytes text.new) (irp_lines_text told)
-        × ((E : List Made) → Agrees machine.now E → AreToldOf (size_of machine.now).first E (size_of machine.now).irps told)) }
+    ensures { OnOk result ((told : List IrpLineOf)
+        × GrewBy (string_bytes text.old) (string_bytes text.new) (irp_lines_text told)
+        × ((E : List Made) → Agrees machine.now E
+        → AreToldOf (size_of machine.now).first E (size_of machine.now).irps told)) }
 {
     for number in 0..machine.irps() {
         close_irp(machine, IrpId(number), text)?;

@@ -53,7 +53,8 @@ pub enum Outcome {
 /// leads to. Own rule.
 pub fn handle_line<A: Allocator>(machine: &mut Machine<A>, line: &[u8]) -> Outcome
     ensures comes { (E : List Made) → Agrees machine.old E
-        → ComesTo (size_of machine.old) E line.now result × Agrees machine.new (run_after E result) }
+        → ComesTo (size_of machine.old) E line.now result
+        × Agrees machine.new (run_after E result) }
     ensures size { size_of machine.new ≡ size_of machine.old }
 {
     if line.len() > MAX_LINE {

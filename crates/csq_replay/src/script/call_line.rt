@@ -12,7 +12,8 @@ use csq_list::{Peek, Place};
 use irp_core::{FileId, IrpId, IrpLife};
 
 fn parse_place(word: &[u8]) -> Option<Place>
-    ensures { MatchOption result ((place : Place) → ¬ (word.now ≡ place_word place)) (λ place. word.now ≡ place_word place) }
+    ensures { MatchOption result ((place : Place) → ¬ (word.now ≡ place_word place))
+        (λ place. word.now ≡ place_word place) }
 {
     match word {
         b"back" => Some(Place::Back),
@@ -77,7 +78,8 @@ fn call_of_number(name: &[u8], number: u32) -> Option<Call>
     requires short { number < 1000000000 }
     requires other { name.now ≢ codes "next" }
     requires no_life { ¬ IsLifeName name.now }
-    ensures { MatchOption result ((c : Call) → ¬ IsNamed name.now (decimal number ∷ []) c) (IsNamed name.now (decimal number ∷ [])) }
+    ensures { MatchOption result ((c : Call) → ¬ IsNamed name.now (decimal number ∷ []) c)
+        (IsNamed name.now (decimal number ∷ [])) }
 {
     match name {
         b"routine" => Some(Call::Routine(IrpId(number))),
@@ -91,7 +93,8 @@ fn call_of_number(name: &[u8], number: u32) -> Option<Call>
 }
 
 fn parse_operands(name: &[u8], operands: &[u8]) -> Option<Call>
-    ensures { MatchOption result ((c : Call) → ¬ IsNamed name.now (words_of operands.now) c) (IsNamed name.now (words_of operands.now)) }
+    ensures { MatchOption result ((c : Call) → ¬ IsNamed name.now (words_of operands.now) c)
+        (IsNamed name.now (words_of operands.now)) }
 {
     if name == b"insert".as_slice() {
         return parse_insert(operands);

@@ -38,8 +38,10 @@ pub(crate) struct Driver<L, A: Allocator> {
 
 /// Makes a step of the pass, which is one that may come next, and answers the value that it found.
 fn make<A: Allocator>(machine: &mut Machine<A>, kind: Kind) -> u64
-    requires { (E : List Made) × Agrees machine.old E × IsRun (size_of machine.old) (next_step E kind) }
-    ensures made { (E : List Made) → Agrees machine.old E → Agrees machine.new (next_step E kind) × (result ≡ found_by E kind) }
+    requires { (E : List Made) × Agrees machine.old E
+        × IsRun (size_of machine.old) (next_step E kind) }
+    ensures made { (E : List Made) → Agrees machine.old E → Agrees machine.new (next_step E kind)
+        × (result ≡ found_by E kind) }
     ensures size { size_of machine.new ≡ size_of machine.old }
 {
     machine.step(Step { pass: PASS, kind }).unwrap()
@@ -77,7 +79,8 @@ impl<L: PendingList, A: Allocator> Driver<L, A> {
     /// The IRP in its present life.
     fn current(&self, irp: IrpId) -> IrpLife
         requires { irp.0 < (size_of self.now.machine).irps }
-        ensures { (E : List Made) → Agrees self.now.machine E → result ≡ present (size_of self.now.machine).first E irp }
+        ensures { (E : List Made) → Agrees self.now.machine E
+            → result ≡ present (size_of self.now.machine).first E irp }
     {
         IrpLife {
             irp,
@@ -89,7 +92,9 @@ impl<L: PendingList, A: Allocator> Driver<L, A> {
     #[tactic(auto, unfolding(irp_core::specs::Steps::same_irp))]
     fn lists(&self, name: IrpLife) -> bool
         requires { number name < (size_of self.now.machine).irps }
-        ensures { (E : List Made) → Agrees self.now.machine E → result ≡ (same_irp (present (size_of self.now.machine).first E name.irp) name && is_listed (L.listing self.now.list).entries name.irp) }
+        ensures { (E : List Made) → Agrees self.now.machine E
+            → result ≡ (same_irp (present (size_of self.now.machine).first E name.irp) name
+            && is_listed (L.listing self.now.list).entries name.irp) }
     {
         self.current(name.irp) == name && self.list.is_listed(name.irp)
     }
@@ -98,7 +103,8 @@ impl<L: PendingList, A: Allocator> Driver<L, A> {
     #[tactic(auto, unfolding(irp_core::specs::Steps::same_pass))]
     pub(crate) fn holds(&self, irp: IrpId) -> bool
         requires { irp.0 < (size_of self.now.machine).irps }
-        ensures { (E : List Made) → Agrees self.now.machine E → result ≡ holds E script_pass (present (size_of self.now.machine).first E irp) }
+        ensures { (E : List Made) → Agrees self.now.machine E
+            → result ≡ holds E script_pass (present (size_of self.now.machine).first E irp) }
     {
         match self.machine.place(irp).unwrap() {
             IrpPlace::HeldBy(pass) => pass == PASS,
@@ -108,7 +114,8 @@ impl<L: PendingList, A: Allocator> Driver<L, A> {
 
     /// Whether the pass owes the IRP in its present life.
     pub(crate) fn owes(&self, irp: IrpId) -> bool
-        ensures { (E : List Made) → Agrees self.now.machine E → result ≡ owes E script_pass (present (size_of self.now.machine).first E irp) }
+        ensures { (E : List Made) → Agrees self.now.machine E
+            → result ≡ owes E script_pass (present (size_of self.now.machine).first E irp) }
     {
         self.machine.owes(PASS, irp)
     }
@@ -116,7 +123,8 @@ impl<L: PendingList, A: Allocator> Driver<L, A> {
     /// Completes an IRP that the pass holds.
     fn finish(&mut self, irp: IrpId, status: FinalStatus)
         requires { IsHolding (keeping L.listing self.old) irp }
-        ensures { (l : Limits) (s : Script) → Keeps l (keeping L.listing self.old) s → Keeps l (keeping L.listing self.new) (completing (present_of s irp) status s) }
+        ensures { (l : Limits) (s : Script) → Keeps l (keeping L.listing self.old) s
+            → Keeps l (keeping L.listing self.new) (completing (present_of s irp) status s) }
     {
         let name = self.current(irp);
         make(&mut self.machine, Kind::Done(name));
@@ -126,7 +134,8 @@ impl<L: PendingList, A: Allocator> Driver<L, A> {
     /// Takes out an IRP that the pass owes, and completes it as cancelled.
     fn run_routine(&mut self, irp: IrpId)
         requires { IsOwing (keeping L.listing self.old) irp }
-        ensures { (l : Limits) (s : Script) → Keeps l (keeping L.listing self.old) s → Keeps l (keeping L.listing self.new) (after_routine irp s) }
+        ensures { (l : Limits) (s : Script) → Keeps l (keeping L.listing self.old) s
+            → Keeps l (keeping L.listing self.new) (after_routine irp s) }
     {
         let name = self.current(irp);
         make(&mut self.machine, Kind::Out(name));
@@ -142,7 +151,8 @@ impl<L: PendingList, A: Allocator> Driver<L, A> {
         place: Place,
     ) -> Result<Inserted, InsertStatus>
         requires { IsKeeping (keeping L.listing self.old) }
-        ensures { Called (keeping L.listing self.old) (call.Insert irp file place) (insert_reply result) (keeping L.listing self.new) }
+        ensures { Called (keeping L.listing self.old) (call.Insert irp file place)
+            (insert_reply result) (keeping L.listing self.new) }
     {
         self.list.insert_ex(irp, file, place)?;
         let name = self.current(irp);
@@ -159,7 +169,8 @@ impl<L: PendingList, A: Allocator> Driver<L, A> {
     /// Removes the first match that no cancel claimed.
     pub(crate) fn next(&mut self, peek: Peek) -> Option<IrpId>
         requires { IsKeeping (keeping L.listing self.old) }
-        ensures { Called (keeping L.listing self.old) (call.Next peek) (taken_reply result) (keeping L.listing self.new) }
+        ensures { Called (keeping L.listing self.old) (call.Next peek) (taken_reply result)
+            (keeping L.listing self.new) }
     {
         let mut after = None;
         while let Some(irp) = self.list.peek_next(after, peek) {
@@ -177,7 +188,8 @@ impl<L: PendingList, A: Allocator> Driver<L, A> {
     /// Removes an IRP, where it is listed in this life and no cancel claimed it.
     pub(crate) fn remove(&mut self, name: IrpLife) -> Result<Option<IrpId>, Refusal>
         requires { IsKeeping (keeping L.listing self.old) }
-        ensures { Called (keeping L.listing self.old) (call.Remove name) (told taken_reply result) (keeping L.listing self.new) }
+        ensures { Called (keeping L.listing self.old) (call.Remove name) (told taken_reply result)
+            (keeping L.listing self.new) }
     {
         if !self.is_known(name.irp) {
             return Err(Refusal::UnknownIrp);
@@ -198,7 +210,8 @@ impl<L: PendingList, A: Allocator> Driver<L, A> {
     #[tactic(auto, unfolding(irp_core::specs::Steps::same_irp))]
     pub(crate) fn mark(&mut self, name: IrpLife) -> Result<bool, Refusal>
         requires { IsKeeping (keeping L.listing self.old) }
-        ensures { Called (keeping L.listing self.old) (call.Mark name) (told mark_reply result) (keeping L.listing self.new) }
+        ensures { Called (keeping L.listing self.old) (call.Mark name) (told mark_reply result)
+            (keeping L.listing self.new) }
     {
         if !self.is_known(name.irp) {
             return Err(Refusal::UnknownIrp);
@@ -214,7 +227,8 @@ impl<L: PendingList, A: Allocator> Driver<L, A> {
     /// Runs the cancel routine of an IRP that the pass owes. Answers the status of its completion.
     pub(crate) fn routine(&mut self, irp: IrpId) -> Result<NtStatus, Refusal>
         requires { IsKeeping (keeping L.listing self.old) }
-        ensures { Called (keeping L.listing self.old) (call.Routine irp) (told reply.Completed result) (keeping L.listing self.new) }
+        ensures { Called (keeping L.listing self.old) (call.Routine irp)
+            (told reply.Completed result) (keeping L.listing self.new) }
     {
         if !self.is_known(irp) {
             return Err(Refusal::UnknownIrp);
@@ -229,7 +243,8 @@ impl<L: PendingList, A: Allocator> Driver<L, A> {
     /// Marks an IRP, and runs its routine where it was there. Answers whether it was.
     pub(crate) fn cancel(&mut self, name: IrpLife) -> Result<bool, Refusal>
         requires { IsKeeping (keeping L.listing self.old) }
-        ensures { Did (keeping L.listing self.old) (call.Cancel name) (told reply.CancelAnswered result) (keeping L.listing self.new) }
+        ensures { Did (keeping L.listing self.old) (call.Cancel name)
+            (told reply.CancelAnswered result) (keeping L.listing self.new) }
     {
         let claimed = self.mark(name)?;
         if !claimed {
@@ -242,7 +257,8 @@ impl<L: PendingList, A: Allocator> Driver<L, A> {
     /// Completes an IRP that the pass holds. Answers the status.
     pub(crate) fn complete(&mut self, irp: IrpId, status: NtStatus) -> Result<NtStatus, Refusal>
         requires { IsKeeping (keeping L.listing self.old) }
-        ensures { Called (keeping L.listing self.old) (call.Complete irp status) (told reply.Completed result) (keeping L.listing self.new) }
+        ensures { Called (keeping L.listing self.old) (call.Complete irp status)
+            (told reply.Completed result) (keeping L.listing self.new) }
     {
         if !self.is_known(irp) {
             return Err(Refusal::UnknownIrp);
@@ -260,7 +276,8 @@ impl<L: PendingList, A: Allocator> Driver<L, A> {
     /// Closes a file object.
     pub(crate) fn close(&mut self, file: FileId) -> Result<(), Refusal>
         requires { IsKeeping (keeping L.listing self.old) }
-        ensures { Called (keeping L.listing self.old) (call.Close file) (told (λ _. reply.Closed) result) (keeping L.listing self.new) }
+        ensures { Called (keeping L.listing self.old) (call.Close file)
+            (told (λ _. reply.Closed) result) (keeping L.listing self.new) }
     {
         match self.list.close_file(file) {
             Ok(()) => Ok(()),
@@ -271,7 +288,8 @@ impl<L: PendingList, A: Allocator> Driver<L, A> {
     /// Closes a file object, and completes what is queued for it as cancelled. Answers how many it completed.
     pub(crate) fn cleanup(&mut self, file: FileId) -> Result<u32, Refusal>
         requires { IsKeeping (keeping L.listing self.old) }
-        ensures { Did (keeping L.listing self.old) (call.Cleanup file) (told reply.Cleaned result) (keeping L.listing self.new) }
+        ensures { Did (keeping L.listing self.old) (call.Cleanup file) (told reply.Cleaned result)
+            (keeping L.listing self.new) }
     {
         self.close(file)?;
         Ok(self.remove_all(file))
@@ -280,7 +298,8 @@ impl<L: PendingList, A: Allocator> Driver<L, A> {
     /// Completes the IRPs of a file object as cancelled, until no removal answers one. Answers how many.
     fn remove_all(&mut self, file: FileId) -> u32
         requires { IsKeeping (keeping L.listing self.old) }
-        ensures { (l : Limits) (s : Script) → Keeps l (keeping L.listing self.old) s → (t : Script) × Cleans l file s result t × Keeps l (keeping L.listing self.new) t }
+        ensures { (l : Limits) (s : Script) → Keeps l (keeping L.listing self.old) s → (t : Script)
+            × Cleans l file s result t × Keeps l (keeping L.listing self.new) t }
     {
         let mut completed = 0;
         while let Some(removed) = self.next(Peek::File(file)) {
@@ -293,7 +312,8 @@ impl<L: PendingList, A: Allocator> Driver<L, A> {
     /// Whether the Cancel flag is set.
     pub(crate) fn flag(&self, irp: IrpId) -> Result<bool, Refusal>
         requires { IsKeeping (keeping L.listing self.now) }
-        ensures { Called (keeping L.listing self.now) (call.Flag irp) (told reply.Flag result) (keeping L.listing self.now) }
+        ensures { Called (keeping L.listing self.now) (call.Flag irp) (told reply.Flag result)
+            (keeping L.listing self.now) }
     {
         if self.is_known(irp) {
             Ok(self.machine.cancelled(irp))
@@ -305,7 +325,8 @@ impl<L: PendingList, A: Allocator> Driver<L, A> {
     /// The status with which the present life was completed, if it was.
     pub(crate) fn status(&self, irp: IrpId) -> Result<Option<NtStatus>, Refusal>
         requires { IsKeeping (keeping L.listing self.now) }
-        ensures { Called (keeping L.listing self.now) (call.Status irp) (told status_reply result) (keeping L.listing self.now) }
+        ensures { Called (keeping L.listing self.now) (call.Status irp) (told status_reply result)
+            (keeping L.listing self.now) }
     {
         if self.is_known(irp) {
             Ok(self.statuses[irp.0 as usize])
@@ -317,7 +338,8 @@ impl<L: PendingList, A: Allocator> Driver<L, A> {
     /// Begins the next life, and answers it.
     pub(crate) fn reuse(&mut self, irp: IrpId) -> Result<Life, Refusal>
         requires { IsKeeping (keeping L.listing self.old) }
-        ensures { Called (keeping L.listing self.old) (call.Reuse irp) (told reply.Begun result) (keeping L.listing self.new) }
+        ensures { Called (keeping L.listing self.old) (call.Reuse irp) (told reply.Begun result)
+            (keeping L.listing self.new) }
     {
         if !self.is_known(irp) {
             return Err(Refusal::UnknownIrp);

@@ -19,7 +19,8 @@ fn write_listed<L: PendingList, A: Allocator>(
     list: &L,
     text: &mut String<A>,
 ) -> Result<(), AllocError>
-    ensures { OnOk result (string_bytes text.new ≡ string_bytes text.old ++ numbers (map (λ e. e.irp) (L.listing list.now).entries)) }
+    ensures { OnOk result (string_bytes text.new
+        ≡ string_bytes text.old ++ numbers (map (λ e. e.irp) (L.listing list.now).entries)) }
 {
     let mut after = None;
     while let Some(irp) = list.peek_next(after, Peek::Any) {
@@ -34,7 +35,8 @@ pub(crate) fn close_left<L: PendingList, A: Allocator>(
     list: &L,
     text: &mut String<A>,
 ) -> Result<(), AllocError>
-    ensures { OnOk result (string_bytes text.new ≡ string_bytes text.old ++ left_line (map (λ e. e.irp) (L.listing list.now).entries)) }
+    ensures { OnOk result (string_bytes text.new
+        ≡ string_bytes text.old ++ left_line (map (λ e. e.irp) (L.listing list.now).entries)) }
 {
     if list.len() == 0 {
         return writeln!(text, "left none");
@@ -67,7 +69,8 @@ impl Kept {
 /// Whether the pass keeps the IRP so, in its present life.
 fn is_kept<L: PendingList, A: Allocator>(driver: &Driver<L, A>, kept: Kept, irp: IrpId) -> bool
     requires { irp.0 < (size_of driver.now.machine).irps }
-    ensures { (E : List Made) → Agrees driver.now.machine E → result ≡ is_kept kept E (present (size_of driver.now.machine).first E irp) }
+    ensures { (E : List Made) → Agrees driver.now.machine E
+        → result ≡ is_kept kept E (present (size_of driver.now.machine).first E irp) }
 {
     match kept {
         Kept::Held => driver.holds(irp),
@@ -82,7 +85,10 @@ fn write_kept<L: PendingList, A: Allocator>(
     text: &mut String<A>,
 ) -> Result<(), AllocError>
     ensures { OnOk result ((E : List Made) → Agrees driver.now.machine E
-        → string_bytes text.new ≡ string_bytes text.old ++ numbers (filter (λ n. is_kept kept E (present (size_of driver.now.machine).first E n)) (irps_below (size_of driver.now.machine).irps))) }
+        → string_bytes text.new ≡ string_bytes text.old
+        ++ numbers (filter (λ n. is_kept kept E
+        (present (size_of driver.now.machine).first E n))
+        (irps_below (size_of driver.now.machine).irps))) }
 {
     for number in 0..driver.machine.irps() {
         let irp = IrpId(number);

@@ -63,7 +63,8 @@ impl<L: PendingList, A: Allocator> Driver<L, A> {
     /// Makes a call, and tells what it answers where it isn't refused.
     fn tell(&mut self, call: Call) -> Result<Reply, Refusal>
         requires { IsKeeping (keeping L.listing self.old) }
-        ensures { Did (keeping L.listing self.old) call (told (λ reply. reply) result) (keeping L.listing self.new) }
+        ensures { Did (keeping L.listing self.old) call (told (λ reply. reply) result)
+            (keeping L.listing self.new) }
     {
         match call {
             Call::Insert(irp, file, place) => Ok(insert_reply(self.insert(irp, file, place))),

@@ -28,8 +28,10 @@ fn insert_alone<L: PendingList + Drop, N: QueueName, A: Allocator>(
 ) -> Result<Inserted<N>, InsertStatus>
     requires one { N.limits.passes ≡ 1 }
     requires first { pass.old.pass ≡ pass_numbered 1 }
-    ensures token { IfOk result (λ inserted. IfSome (given_by inserted) (Holds N.limits.irps pass.new)) }
-    ensures flagged { IfOk result (λ inserted. (i : IrpLife) → given_by inserted ≡ Some i → flagged pass.old.steps i ≡ true) }
+    ensures token { IfOk result
+        (λ inserted. IfSome (given_by inserted) (Holds N.limits.irps pass.new)) }
+    ensures flagged { IfOk result
+        (λ inserted. (i : IrpLife) → given_by inserted ≡ Some i → flagged pass.old.steps i ≡ true) }
 {
     queue.insert(rt, pass, irp, file, Place::Back)
 }
