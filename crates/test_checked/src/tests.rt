@@ -5,6 +5,7 @@ ghost use Rattle.csq_checked.specs.Passes.{IsPassIn};
 mod calls;
 mod ends;
 mod kinds;
+mod looks;
 mod plays;
 mod sizes;
 mod threads;
