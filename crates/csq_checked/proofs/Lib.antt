@@ -1,3 +1,4 @@
 pub mod Knowing
+pub mod Idling
 pub mod Keeping
 pub mod Checking

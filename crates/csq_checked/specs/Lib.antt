@@ -1,4 +1,5 @@
 pub mod Slots
+pub mod Idle
 pub mod Passes
 pub mod Causes
 pub mod Sizes

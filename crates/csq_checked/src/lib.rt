@@ -3,6 +3,7 @@
 #![tactic(auto)]
 
 mod calls;
+mod idle;
 mod looks;
 mod pass;
 mod queue;

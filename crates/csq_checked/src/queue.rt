@@ -1,14 +1,18 @@
 //! A queue without a lock whose passes know what they hold and owe: how it is made, and how it ends.
-ghost use Rattle.std.specs.Prelude.{◌≡◌, ◌+◌, ◌-◌, ◌<◌, ◌≤◌, ◌↔◌, Err, IsTrue, IsOk, IfOk, IfErr, OnOk, OnErr, replicate};
+ghost use Rattle.std.specs.Prelude.{◌≡◌, ◌+◌, ◌-◌, ◌<◌, ◌≤◌, ◌↔◌, Err, IsTrue, IsOk, IfOk, IfErr, OnOk, OnErr, None, ◌⊎◌, replicate};
 ghost use Rattle.irp_core.specs.Runs.{IsInLimits};
 ghost use Rattle.csq_list.specs.Listing.{IsListSize, are_file_limits};
 ghost use Rattle.csq_words.specs.Queue.{limits_of};
 ghost use Rattle.csq_words.specs.Records.{new_pass, new_queue, with_back};
 ghost use Rattle.csq_queue.specs.Named.{pass_numbered, out_count};
 ghost use Rattle.csq_queue.specs.Rests.{HoldsNothing, FirstAreBack, IsClosed};
-ghost use Rattle.csq_checked.specs.Passes.{IsPassIn};
+ghost use Rattle.std.specs.Arc.{arc_value};
+ghost use Rattle.csq_queue.specs.Opens.{IsQueueOn, IsRackOn};
+ghost use Rattle.csq_checked.specs.Idle.{AreIdle, IsFirstIdle, NoneIsIdle, count_out, with_idle_back};
+ghost use Rattle.csq_checked.specs.Passes.{IsPassIn, IsBack, HandsOutNew, HandsOutAgain, out_of};
 ghost use Rattle.csq_checked.specs.Sizes.{IsFreshOf, size_in, limits_given};
 
+use crate::idle::{IdlePass, IdlePasses};
 use crate::pass::CheckedPass;
 use crate::size::{NewRefused, PassRefused, Size};
 use crate::slots::Slots;
@@ -26,6 +30,8 @@ pub struct CheckedQueue {
     pub(crate) words: Arc<Words>,
     pub(crate) queue: OpenQueue<AnyList>,
     pub(crate) rack: OpenRack,
+    // The passes that came back.
+    pub(crate) idle: IdlePasses,
 }
 
 impl Model for CheckedQueue {
@@ -34,9 +40,9 @@ impl Model for CheckedQueue {
 
     ghost Value = { CheckedState };
 
-    ghost view = { λ q. record { queue = q.queue; left = q.rack.left } };
+    ghost view = { λ q. record { queue = q.queue; left = q.rack.left; idle = q.idle } };
 
-    ghost invariant = { λ q. IsCheckedQueue (arc_value q.words) q.queue q.rack };
+    ghost invariant = { λ q. IsCheckedQueue (arc_value q.words) q.queue q.rack q.idle };
 }
 
 impl CheckedQueue {
@@ -53,6 +59,7 @@ impl CheckedQueue {
                     = new_queue size.first.0 size.passes;
               };
               left = size.passes;
+              idle = replicate size.passes None;
             }) }
         ensures bad_size { (result ≡ Err NewRefused.BadSize)
             ↔ ¬ (IsInLimits (size_in size) × IsListSize size.irps size.files size.limit) }
@@ -81,6 +88,8 @@ impl CheckedQueue {
               };
               left
                   = size.passes;
+              idle
+                  = replicate size.passes None;
             }) }
         ensures bad_size { (result ≡ Err NewRefused.BadSize)
             ↔ ¬ (IsInLimits (size_in size) × IsListSize size.irps size.files size.limit
@@ -119,6 +128,7 @@ impl CheckedQueue {
                     = new_queue size.first.0 size.passes;
               };
               left = size.passes;
+              idle = replicate size.passes None;
             })) }
         ensures bad_size { (result ≡ Err NewRefused.BadSize) ↔ (list ≡ Err ListNew.BadSize) }
         ensures ok { IsOk result → IsOk list }
@@ -135,97 +145,158 @@ impl CheckedQueue {
         let Ok(words) = Arc::new(alloc, words) else {
             return Err(NewRefused::Memory);
         };
-        Ok(CheckedQueue { words, queue, rack })
+        let Ok(idle) = IdlePasses::new(alloc, size.passes) else {
+            return Err(NewRefused::Memory);
+        };
+        Ok(CheckedQueue {
+            words,
+            queue,
+            rack,
+            idle,
+        })
     }
 
-    /// The next pass: 1, 2, and so on. It has seen and done nothing.
-    pub fn take_pass(&mut self, alloc: Global) -> Result<Box<CheckedPass>, PassRefused>
-        ensures none { (result ≡ Err PassRefused.NoPass) ↔ (self.old.left ≡ 0) }
-        ensures pass { IfOk result (λ pass. IsPassIn self.old.queue pass.value
-            × (pass.value.pass ≡ new_pass (pass_numbered
-            (self.old.queue.limits.passes + 1 - self.old.left)))) }
-        ensures left { OnOk result (self.new.left + 1 ≡ self.old.left) }
-        ensures queue { self.new.queue ≡ self.old.queue }
+    /// A pass: the first that is idle, since it came back, else the next new one, which has seen and done
+    /// nothing. Memory is taken for a new one alone.
+    pub fn take_pass(&mut self, alloc: Global) -> Result<CheckedPass, PassRefused>
+        ensures none { (result ≡ Err PassRefused.NoPass)
+            ↔ ((self.old.left ≡ 0) × NoneIsIdle self.old.idle) }
+        ensures pass { IfOk result (λ pass. IsPassIn self.old.queue pass
+            × (HandsOutNew self.old self.new pass.pass ⊎ HandsOutAgain self.old self.new pass)) }
         ensures kept { OnErr result (self.new ≡ self.old) }
     {
-        if self.rack.left() == 0 {
+        let idle = self.idle.first();
+        if idle.is_none() && self.rack.left() == 0 {
             return Err(PassRefused::NoPass);
         }
-        let (Ok(words), Ok(held), Ok(owed)) = (
-            Arc::try_clone(&self.words),
-            Slots::new(alloc, self.words.irps()),
-            Slots::new(alloc, self.words.irps()),
+        let Ok(words) = Arc::try_clone(&self.words) else {
+            return Err(PassRefused::Memory);
+        };
+        match idle {
+            Some(at) => Ok(self.take_idle(at, words)),
+            None => self.take_new(alloc, words),
+        }
+    }
+
+    // The idle pass of this slot, with a share of its words.
+    fn take_idle(&mut self, at: usize, words: Arc<Words>) -> CheckedPass
+        requires first { IsFirstIdle self.old.idle at }
+        requires words { IsQueueOn (arc_value words) self.old.queue }
+        ensures on { IsPassIn self.old.queue result }
+        ensures again { HandsOutAgain self.old self.new result }
+    {
+        let Some(pass) = self.idle.take(at) else {
+            unreachable!()
+        };
+        pass.with_words(words)
+    }
+
+    // The next pass of the rack, with a share of its words.
+    fn take_new(&mut self, alloc: Global, words: Arc<Words>) -> Result<CheckedPass, PassRefused>
+        requires none { NoneIsIdle self.old.idle }
+        requires left { 0 < self.old.left }
+        requires words { IsQueueOn (arc_value words) self.old.queue }
+        ensures on { IfOk result (IsPassIn self.old.queue) }
+        ensures new { IfOk result (λ pass. HandsOutNew self.old self.new pass.pass) }
+        ensures memory { OnErr result (result ≡ Err PassRefused.Memory) }
+        ensures kept { OnErr result (self.new ≡ self.old) }
+    {
+        let (Ok(held), Ok(owed)) = (
+            Slots::new(alloc, words.irps()),
+            Slots::new(alloc, words.irps()),
         ) else {
             return Err(PassRefused::Memory);
         };
         let Some(pass) = self.rack.take() else {
             unreachable!()
         };
-        let pass = CheckedPass {
+        Ok(CheckedPass {
             words,
             pass,
             held,
             owed,
-        };
-        match Box::new(alloc, pass) {
-            Ok(pass) => Ok(pass),
-            Err(refused) => {
-                self.rack.put_back(refused.value.pass);
-                Err(PassRefused::Memory)
-            }
-        }
+        })
     }
 
     /// How many passes were handed out and aren't back. Own rule.
     pub fn passes_out(&self) -> u32
-        ensures all { result ≡ 0 → FirstAreBack (self.now.queue.limits.passes - self.now.left)
-            self.now.queue.queue.back }
-        ensures count { result ≡ out_count 0 self.now.queue.queue.back
-            (self.now.queue.limits.passes - self.now.left) }
+        ensures { result ≡ out_of self.now }
     {
-        self.queue.out(self.rack.taken(), 0)
+        self.idle.out(self.rack.taken())
     }
 
-    /// Gives a pass back, which holds and owes nothing, as `Csq::give_back` does. The pass comes back
-    /// where it holds or owes IRPs.
-    pub fn give_back(&mut self, pass: Box<CheckedPass>) -> Result<(), Box<CheckedPass>>
-        requires { IsPassIn self.old.queue pass.value }
-        ensures back { OnOk result (self.new
-            ≡ record self.old {
-              queue = record self.old.queue {
-                queue
-                    = with_back pass.value.pass self.old.queue.queue;
-              };
-            }) }
-        ensures nothing { OnOk result (HoldsNothing pass.value.pass) }
-        ensures holding { OnErr result (¬ HoldsNothing pass.value.pass) }
+    /// Takes a pass back that holds and owes nothing: it is idle then. The pass comes back where it holds or
+    /// owes IRPs.
+    pub fn give_back(&mut self, pass: CheckedPass) -> Result<(), CheckedPass>
+        requires { IsPassIn self.old.queue pass }
+        ensures back { OnOk result (IsBack pass.pass self.old self.new) }
+        ensures nothing { OnOk result (HoldsNothing pass.pass) }
+        ensures holding { OnErr result (¬ HoldsNothing pass.pass) }
         ensures kept { IfErr result (λ same. (same ≡ pass) × (self.new ≡ self.old)) }
     {
         if pass.tokens() > 0 || pass.claims() > 0 {
             return Err(pass);
         }
-        let CheckedPass { words, pass, .. } = Box::into_inner(pass);
-        self.queue.give_back(&words, pass);
+        self.put_idle(pass);
         Ok(())
+    }
+
+    // Puts a pass into the slot of its number.
+    fn put_idle(&mut self, pass: CheckedPass)
+        requires on { IsPassIn self.old.queue pass }
+        requires nothing { HoldsNothing pass.pass }
+        ensures { IsBack pass.pass self.old self.new }
+    {
+        let at = pass.pass.number() as usize - 1;
+        self.idle.put(at, IdlePass::of(pass));
     }
 
     /// Ends the queue once all passes that were handed out are back, and tells what is left. The queue comes
     /// back where one isn't.
     pub fn close(self) -> Result<Rest<AnyList>, CheckedQueue>
         ensures rest { IfOk result (λ rest. IsClosed self.queue.limits
-            (self.queue.limits.passes - self.left) self.queue.queue
+            (self.queue.limits.passes - self.left)
+            (with_idle_back self.idle (self.queue.limits.passes - self.left) self.queue.queue)
             (⟦<AnyList as PendingList>⟧.listing rest.list) rest.finals) }
-        ensures all { OnOk result (FirstAreBack (self.queue.limits.passes - self.left)
-            self.queue.queue.back) }
+        ensures all { OnOk result (out_of self ≡ 0) }
         ensures kept { IfErr result (λ same. same ≡ self) }
     {
         if self.passes_out() > 0 {
             return Err(self);
         }
-        let CheckedQueue { words, queue, rack } = self;
+        let CheckedQueue {
+            words,
+            queue,
+            rack,
+            idle,
+        } = self;
         match Arc::try_unwrap(words) {
-            Ok(words) => Ok(queue.close(words, rack)),
-            Err(words) => Err(CheckedQueue { words, queue, rack }),
+            Ok(words) => Ok(close_over(queue, words, rack, idle)),
+            Err(words) => Err(CheckedQueue {
+                words,
+                queue,
+                rack,
+                idle,
+            }),
         }
     }
+}
+
+// Ends a queue all of whose passes are idle or were never handed out.
+fn close_over(
+    mut queue: OpenQueue<AnyList>,
+    words: Words,
+    rack: OpenRack,
+    idle: IdlePasses,
+) -> Rest<AnyList>
+    requires queue { IsQueueOn words queue }
+    requires rack { IsRackOn words rack }
+    requires idle { AreIdle words idle }
+    requires all { count_out idle (queue.limits.passes - rack.left) ≡ 0 }
+    ensures rest { IsClosed queue.limits (queue.limits.passes - rack.left)
+        (with_idle_back idle (queue.limits.passes - rack.left) queue.queue)
+        (⟦<AnyList as PendingList>⟧.listing result.list) result.finals }
+{
+    idle.give_back(&mut queue, &words, rack.taken());
+    queue.close(words, rack)
 }

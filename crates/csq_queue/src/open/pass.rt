@@ -1,5 +1,5 @@
 //! The passes of a queue without a name. Their calls that cancel, complete and read take no queue.
-ghost use Rattle.std.specs.Prelude.{◌≡◌};
+ghost use Rattle.std.specs.Prelude.{◌≡◌, ◌≤◌};
 ghost use Rattle.irp_core.specs.declared.status.TheConstants.NtStatus.{CANCELLED};
 ghost use Rattle.irp_core.specs.Own.{held_list, owed_list};
 ghost use Rattle.csq_queue.specs.Calls.{MarksCancel, CompletesOne, ReadsFlag, ReadsStatus};
@@ -53,8 +53,9 @@ impl Model for OpenPass {
 
 impl OpenPass {
     /// Its number: 1, 2, and so on.
-    pub(crate) fn number(&self) -> u32
-        ensures { result ≡ self.now.pass.pass.0 }
+    pub fn number(&self) -> u32
+        ensures number { result ≡ self.now.pass.pass.0 }
+        ensures range { (1 ≤ result) × (result ≤ self.now.passes) }
     {
         self.number
     }

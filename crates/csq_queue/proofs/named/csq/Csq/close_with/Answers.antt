@@ -20,7 +20,7 @@ use Rattle.csq_queue.proofs.named.csq.Csq.close_with.Goals.{After-new, After-clo
 are_out : (g : Over) (c : After-new g) → AreOut g.N.QueueName.limits c.args.pass c.args.receipts.now (g.N.QueueName.limits.passes - c.args.rack) c.out-out.result
 are_out g c =
     let told = subst (λ (z : Size × PassRecord). QueueAndPassHaveRun z.0 c.tell.new.self.queue z.1) (λ k. (c.self.invariant.1 k, c.pass.view_is k)) c.tell.ensures.told in
-    let own : c.number.result ≡ c.args.pass.pass.0 = c.number.ensures ∙ (ap (λ (p : OpenPassState). p.pass.pass.0) c.tell.ensures.kept ∙ ap (λ (r : PassRecord). r.pass.0) c.pass.view_is) in
+    let own : c.number.result ≡ c.args.pass.pass.0 = c.number.ensures.number ∙ (ap (λ (p : OpenPassState). p.pass.pass.0) c.tell.ensures.kept ∙ ap (λ (r : PassRecord). r.pass.0) c.pass.view_is) in
     let taken : c.taken.result ≡ g.N.QueueName.limits.passes - c.args.rack = c.taken.ensures ∙ (λ k. c.rack.invariant.2 k - c.rack.view_is k) in
     let limits = ap (λ (z : OpenState). z.limits) c.tell.ensures.step ∙ (ap (λ (z : OpenState). z.limits) c.see.ensures.queue ∙ c.locked.invariant.1) in
     record {
@@ -55,7 +55,7 @@ close-requires-clause-back g c =
     ap (λ (z : OpenState). z.limits.passes) c.give_back.ensures.back
     ∙ (ap (λ (z : OpenState). z.limits.passes) c.tell.ensures.step ∙ (ap (λ (z : OpenState). z.limits.passes) c.see.ensures.queue ∙ (ap (λ (l : Limits). l.passes) c.locked.invariant.1 ∙ sym c.rack.invariant.2))) in
     let taken : c.taken.result ≡ c.give_back.new.self.limits.passes - c.rack.inside.open.left = c.taken.ensures ∙ (λ k. sym limits k - c.rack.inside.open.left) in
-    let number' : r.pass ≡ pass_numbered c.number.result = λ k. pass_numbered (sym c.number.ensures k) in
+    let number' : r.pass ≡ pass_numbered c.number.result = λ k. pass_numbered (sym c.number.ensures.number k) in
     λ p low high. ap (λ (q : QueueRecord). is_back (pass_numbered p) q.back) shut ∙ none_out c.number.result back c.taken.result r none' number' p low (subst (λ n. p ≤ n) (sym taken) high)
 
 -- what is left, by the queue's own limits, of those passes that were taken
