@@ -1,8 +1,9 @@
 -- The slots of idle passes, as one is taken or put, and that all passes are back once the idle ones gave themselves back.
-use Rattle.std.proofs.Common.{◌≡◌, ℕ, zero, suc, ◌<◌, ◌≤◌, ◌||◌, Bool, true, false, true≢false, ◌∷◌, ◌-◌, length, Option, Some, None, refl, sym, ap, ◌∙◌, subst, arith}
+use Rattle.std.proofs.Common.{◌≡◌, ℕ, zero, suc, ◌<◌, ◌≤◌, ◌||◌, Bool, true, false, true≢false, List, [], ◌∷◌, ◌-◌, length, Option, Some, None, refl, sym, ap, ◌∙◌, subst, arith}
 use Rattle.std.specs.Option.{is_none}
 use Rattle.std.specs.Prelude.{slice_set}
 use Rattle.std.proofs.Math.ListN.{length-set}
+use Rattle.std.proofs.lemmas.List.{set-get_or}
 use Rattle.std.proofs.lemmas.Option.{none-some, same_Some}
 use Rattle.irp_core.specs.Steps.{same_pass}
 use Rattle.irp_core.proofs.Names.{same_pass-is}
@@ -57,8 +58,8 @@ idle_are_back words idle are taken (suc n) few none q p low high =
     let now : (with_idle_back idle (suc n) q).back ≡ s.pass ∷ before.back = ap (λ (slot : Option OpenPassState). (with_one_back slot before).back) e in
     let is : s.pass.pass ≡ pass_numbered (suc n) = (are.each n s e).numbered in
     ap (is_back (pass_numbered p)) now ∙ by_number (is_back (pass_numbered p) (s.pass ∷ before.back) ≡ true) p (suc n)
-        (λ same. ap (λ b. b || is_back (pass_numbered p) before.back) (same_pass-is s.pass.pass (pass_numbered p) (is ∙ ap pass_numbered (sym same))))
-        (λ other. or_right (same_pass s.pass.pass (pass_numbered p)) (is_back (pass_numbered p) before.back) (idle_are_back words idle are taken n (omega arith) none q p low (omega arith)))
+    (λ same. ap (λ b. b || is_back (pass_numbered p) before.back) (same_pass-is s.pass.pass (pass_numbered p) (is ∙ ap pass_numbered (sym same))))
+    (λ other. or_right (same_pass s.pass.pass (pass_numbered p)) (is_back (pass_numbered p) before.back) (idle_are_back words idle are taken n (omega arith) none q p low (omega arith)))
 
 -- a pass of the queue that holds and owes nothing may be put into the slot of its number
 pub in_slot : (words mine : WordsState) (queue : OpenState) (idle : IdleSlots) (p : OpenPassState) (number : ℕ) → IsQueueOn words queue → AreIdle words idle → IsQueueOn mine queue → IsPassOn mine p → number ≡ p.pass.pass.0 → 1 ≤ number → number ≤ mine.size.passes → HoldsNothing p.pass
@@ -75,3 +76,22 @@ in_slot words mine queue idle p number on are its of is low high nothing =
         nothing = nothing;
       },
     )
+
+-- a slot that is set twice
+set_twice : {T : Type 0} (xs : List T) (n : ℕ) (x y : T) → slice_set (slice_set xs n x) n y ≡ slice_set xs n y
+set_twice [] n x y = refl
+set_twice (z ∷ xs) zero x y = refl
+set_twice (z ∷ xs) (suc n) x y = ap (λ rest. z ∷ rest) (set_twice xs n x y)
+
+-- a pass that was taken out and is put back
+pub put_again : (idle : IdleSlots) (n : ℕ) (s t : OpenPassState) → slot_at idle n ≡ Some s → t ≡ s → slice_set (slice_set idle n None) n (Some t) ≡ idle
+put_again idle n s t there same = set_twice idle n None (Some t) ∙ (ap (slice_set idle n) (ap Some same ∙ sym there) ∙ set-get_or idle n None)
+
+-- a pass is known by its record and by the queue whose words it is of
+pub same_pass_of : (words mine : WordsState) (queue : OpenState) (s t : OpenPassState) → IsQueueOn words queue → IsQueueOn mine queue → IsPassOn words s → IsPassOn mine t → t.pass ≡ s.pass → t ≡ s
+same_pass_of words mine queue s t on its of same is =
+    let size : mine.size ≡ words.size = sym its.size ∙ on.size in
+    let table : t.table ≡ s.table = same.table ∙ (sym its.table ∙ (on.table ∙ sym of.table)) in
+    let irps : t.irps ≡ s.irps = same.irps ∙ (ap (λ (z : Size). z.irps) size ∙ sym of.irps) in
+    let passes : t.passes ≡ s.passes = same.passes ∙ (ap (λ (z : Size). z.passes) size ∙ sym of.passes) in
+    λ k. record { table = table k; irps = irps k; passes = passes k; pass = is k }

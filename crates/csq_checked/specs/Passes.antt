@@ -41,12 +41,12 @@ pub record HandsOutNew (q q' : CheckedState) (p : PassRecord) : Type 0 where
   pub idle : q'.idle ≡ q.idle
 
 -- the first idle pass is handed out again
-pub record HandsOutAgain (q q' : CheckedState) (p : CheckedPassState) : Type 0 where
+pub record HandsOutAgain (q q' : CheckedState) (p : PassRecord) : Type 0 where
   pub slot : ℕ
   pub first : IsFirstIdle q.idle slot
   pub pass : OpenPassState
   pub there : slot_at q.idle slot ≡ Some pass
-  pub again : p.pass ≡ pass.pass
+  pub again : p ≡ pass.pass
   pub queue : q' ≡ record q { idle = slice_set q.idle slot None }
 
 -- how many passes of a queue are out

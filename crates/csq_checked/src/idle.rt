@@ -8,8 +8,8 @@ ghost use Rattle.csq_checked.specs.Slots.{slot_at};
 
 use crate::pass::CheckedPass;
 use crate::slots::{Held, Slots};
-use csq_queue::{OpenPass, OpenQueue};
 use csq_list::AnyList;
+use csq_queue::{OpenPass, OpenQueue};
 use csq_words::Words;
 use irp_core::Life;
 use std::alloc::{AllocError, Global};
@@ -43,7 +43,10 @@ impl IdlePass {
         ensures pass { result.pass ≡ pass.pass }
     {
         let CheckedPass {
-            pass, held, owed, ..
+            pass,
+            held,
+            owed,
+            ..
         } = pass;
         IdlePass { pass, held, owed }
     }

@@ -157,12 +157,14 @@ impl CheckedQueue {
     }
 
     /// A pass: the first that is idle, since it came back, else the next new one, which has seen and done
-    /// nothing. Memory is taken for a new one alone.
-    pub fn take_pass(&mut self, alloc: Global) -> Result<CheckedPass, PassRefused>
+    /// nothing.
+    pub fn take_pass(&mut self, alloc: Global) -> Result<Box<CheckedPass>, PassRefused>
         ensures none { (result ≡ Err PassRefused.NoPass)
             ↔ ((self.old.left ≡ 0) × NoneIsIdle self.old.idle) }
-        ensures pass { IfOk result (λ pass. IsPassIn self.old.queue pass
-            × (HandsOutNew self.old self.new pass.pass ⊎ HandsOutAgain self.old self.new pass)) }
+        ensures pass { IfOk result (λ pass. IsPassIn self.old.queue pass.value
+            × (HandsOutNew self.old self.new pass.value.pass
+            ⊎ HandsOutAgain self.old self.new pass.value.pass)) }
+        ensures queue { self.new.queue ≡ self.old.queue }
         ensures kept { OnErr result (self.new ≡ self.old) }
     {
         let idle = self.idle.first();
@@ -173,31 +175,48 @@ impl CheckedQueue {
             return Err(PassRefused::Memory);
         };
         match idle {
-            Some(at) => Ok(self.take_idle(at, words)),
+            Some(at) => self.take_idle(alloc, at, words),
             None => self.take_new(alloc, words),
         }
     }
 
     // The idle pass of this slot, with a share of its words.
-    fn take_idle(&mut self, at: usize, words: Arc<Words>) -> CheckedPass
+    fn take_idle(
+        &mut self,
+        alloc: Global,
+        at: usize,
+        words: Arc<Words>,
+    ) -> Result<Box<CheckedPass>, PassRefused>
         requires first { IsFirstIdle self.old.idle at }
         requires words { IsQueueOn (arc_value words) self.old.queue }
-        ensures on { IsPassIn self.old.queue result }
-        ensures again { HandsOutAgain self.old self.new result }
+        ensures on { IfOk result (λ pass. IsPassIn self.old.queue pass.value) }
+        ensures again { IfOk result (λ pass. HandsOutAgain self.old self.new pass.value.pass) }
+        ensures memory { OnErr result (result ≡ Err PassRefused.Memory) }
+        ensures kept { OnErr result (self.new ≡ self.old) }
     {
         let Some(pass) = self.idle.take(at) else {
             unreachable!()
         };
-        pass.with_words(words)
+        match Box::new(alloc, pass.with_words(words)) {
+            Ok(pass) => Ok(pass),
+            Err(refused) => {
+                self.idle.put(at, IdlePass::of(refused.value));
+                Err(PassRefused::Memory)
+            }
+        }
     }
 
     // The next pass of the rack, with a share of its words.
-    fn take_new(&mut self, alloc: Global, words: Arc<Words>) -> Result<CheckedPass, PassRefused>
+    fn take_new(
+        &mut self,
+        alloc: Global,
+        words: Arc<Words>,
+    ) -> Result<Box<CheckedPass>, PassRefused>
         requires none { NoneIsIdle self.old.idle }
         requires left { 0 < self.old.left }
         requires words { IsQueueOn (arc_value words) self.old.queue }
-        ensures on { IfOk result (IsPassIn self.old.queue) }
-        ensures new { IfOk result (λ pass. HandsOutNew self.old self.new pass.pass) }
+        ensures on { IfOk result (λ pass. IsPassIn self.old.queue pass.value) }
+        ensures new { IfOk result (λ pass. HandsOutNew self.old self.new pass.value.pass) }
         ensures memory { OnErr result (result ≡ Err PassRefused.Memory) }
         ensures kept { OnErr result (self.new ≡ self.old) }
     {
@@ -210,12 +229,19 @@ impl CheckedQueue {
         let Some(pass) = self.rack.take() else {
             unreachable!()
         };
-        Ok(CheckedPass {
+        let pass = CheckedPass {
             words,
             pass,
             held,
             owed,
-        })
+        };
+        match Box::new(alloc, pass) {
+            Ok(pass) => Ok(pass),
+            Err(refused) => {
+                self.rack.put_back(refused.value.pass);
+                Err(PassRefused::Memory)
+            }
+        }
     }
 
     /// How many passes were handed out and aren't back. Own rule.
@@ -227,17 +253,17 @@ impl CheckedQueue {
 
     /// Takes a pass back that holds and owes nothing: it is idle then. The pass comes back where it holds or
     /// owes IRPs.
-    pub fn give_back(&mut self, pass: CheckedPass) -> Result<(), CheckedPass>
-        requires { IsPassIn self.old.queue pass }
-        ensures back { OnOk result (IsBack pass.pass self.old self.new) }
-        ensures nothing { OnOk result (HoldsNothing pass.pass) }
-        ensures holding { OnErr result (¬ HoldsNothing pass.pass) }
+    pub fn give_back(&mut self, pass: Box<CheckedPass>) -> Result<(), Box<CheckedPass>>
+        requires { IsPassIn self.old.queue pass.value }
+        ensures back { OnOk result (IsBack pass.value.pass self.old self.new) }
+        ensures nothing { OnOk result (HoldsNothing pass.value.pass) }
+        ensures holding { OnErr result (¬ HoldsNothing pass.value.pass) }
         ensures kept { IfErr result (λ same. (same ≡ pass) × (self.new ≡ self.old)) }
     {
         if pass.tokens() > 0 || pass.claims() > 0 {
             return Err(pass);
         }
-        self.put_idle(pass);
+        self.put_idle(Box::into_inner(pass));
         Ok(())
     }
 

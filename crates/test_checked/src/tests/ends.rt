@@ -1,5 +1,5 @@
 //! Passes that are handed out and come back, and what is left.
-use super::plays::{Answer, Call, begin, close_early, end, give_back, give_back_early, put};
+use super::plays::{Answer, Begun, Call, begin, close_early, end, give_back, give_back_early, put};
 use super::{FILE, KINDS, ONE, ZERO, first, made, sized, take};
 use csq_checked::{AnyList, CheckedQueue, ListKind, PassRefused};
 use csq_list::{Peek, PendingList};
@@ -20,22 +20,55 @@ pub(super) fn find_none<R: AllocGlobal + Abort>(rt: &R, queue: &mut CheckedQueue
     );
 }
 
-// Takes both passes of a queue, and gives one back.
+// Takes both passes of a queue, gives one back and takes it again.
 fn take_both<R: AllocGlobal + Abort>(rt: &R, list: ListKind) {
     let mut queue = made(rt, sized(list));
     find_out(rt, &queue, 0);
     let one = take(rt, &mut queue);
     let _two = take(rt, &mut queue);
     find_out(rt, &queue, 2);
+    find_none(rt, &mut queue);
     give_back(rt, &mut queue, one);
     find_out(rt, &queue, 1);
+    let _again = take(rt, &mut queue);
+    find_out(rt, &queue, 2);
     find_none(rt, &mut queue);
 }
 
 #[test]
-fn passes_are_handed_out_once(rt: HostRuntime) {
+fn passes_are_handed_out_again_once_they_are_back(rt: HostRuntime) {
     for list in KINDS {
         take_both(&rt, list);
+    }
+}
+
+// Gives the pass back, and takes it again.
+fn renew<R: AllocGlobal + Abort>(rt: &R, begun: Begun) -> Begun {
+    let Begun { mut queue, pass } = begun;
+    give_back(rt, &mut queue, pass);
+    let pass = take(rt, &mut queue);
+    Begun { queue, pass }
+}
+
+// A pass inserts an IRP, comes back, and is handed out again, removes the IRP and completes it.
+fn go_on<R: AllocGlobal + Abort>(rt: &R, list: ListKind) {
+    let mut begun = begin(rt, made(rt, sized(list)));
+    begun.play(rt, &[(put(ONE, FILE), Answer::Pending(first(ONE)))]);
+    let mut begun = renew(rt, begun);
+    begun.play(
+        rt,
+        &[
+            (Call::Next(Peek::Any), Answer::Got(first(ONE))),
+            (Call::Complete(first(ONE), NtStatus::SUCCESS), Answer::Done),
+        ],
+    );
+    let _rest = end(rt, begun);
+}
+
+#[test]
+fn a_pass_that_came_back_goes_on(rt: HostRuntime) {
+    for list in KINDS {
+        go_on(&rt, list);
     }
 }
 

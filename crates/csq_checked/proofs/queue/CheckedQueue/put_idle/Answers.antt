@@ -15,13 +15,13 @@ fits c =
     let words : arc_value c.pass.inside.words ≡ seen.words = ap (λ (p : CheckedPassState). p.words) c.pass.view_is in
     let pass : c.pass.inside.pass.pass ≡ seen.pass = ap (λ (p : CheckedPassState). p.pass) c.pass.view_is in
     in_slot (arc_value c.self.inside.words) seen.words c.self.inside.queue c.self.inside.idle c.of.result c.number.result
-        c.self.invariant.on c.self.invariant.idle_are
-        (subst (λ (q : CheckedState). IsPassIn q.queue seen) (sym c.self.view_is) c.requires.on)
-        c.of.ensures.on
-        (c.number.ensures.number ∙ ap (λ (r : PassRecord). r.pass.0) (pass ∙ sym c.of.ensures.pass))
-        c.number.ensures.range.0
-        (subst (λ (n : ℕ). c.number.result ≤ n) (c.pass.invariant.on.passes ∙ ap (λ (w : WordsState). w.size.passes) words) c.number.ensures.range.1)
-        (subst HoldsNothing (sym c.of.ensures.pass) c.requires.nothing)
+    c.self.invariant.on c.self.invariant.idle_are
+    (subst (λ (q : CheckedState). IsPassIn q.queue seen) (sym c.self.view_is) c.requires.on)
+    c.of.ensures.on
+    (c.number.ensures.number ∙ ap (λ (r : PassRecord). r.pass.0) (pass ∙ sym c.of.ensures.pass))
+    c.number.ensures.range.0
+    (subst (λ (n : ℕ). c.number.result ≤ n) (c.pass.invariant.on.passes ∙ ap (λ (w : WordsState). w.size.passes) words) c.number.ensures.range.1)
+    (subst HoldsNothing (sym c.of.ensures.pass) c.requires.nothing)
 
 pub invariant_of-self : goal.invariant_of-self
 invariant_of-self c = record {
