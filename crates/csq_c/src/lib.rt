@@ -9,6 +9,7 @@ mod hold;
 mod left;
 mod lent;
 mod locked;
+mod looks;
 mod passes;
 mod queues;
 mod shapes;
