@@ -9,11 +9,9 @@ ghost use Rattle.csq_c.specs.Shapes.{file_numbered, peek_of, set_to, written};
 use crate::body::QueueBody;
 use crate::codes::Code;
 use crate::handles::CsqQueue;
-use crate::hold::{put, take};
 use crate::shapes::{CsqIrp, peek, start, write};
 use csq_list::Peek;
 use irp_core::{FileId, IrpId, IrpLife};
-use std::alloc::Global;
 
 impl QueueBody {
     /// How many IRPs are listed, where the queue is open.
@@ -57,17 +55,16 @@ impl QueueBody {
 /// Writes how many IRPs are listed, with those whose canceller has taken the cancel routine already:
 /// CSQ_OK. Own rule.
 #[unsafe(no_mangle)]
-pub extern "C" fn csq_len(alloc: Global, queue: &mut CsqQueue, len: &mut u32) -> u32
+pub extern "C" fn csq_len(queue: &mut CsqQueue, len: &mut u32) -> u32
     ensures same { queue.new.body ≡ queue.old.body }
     ensures look { OnQueueHandle queue.old.body result (len.new ≡ len.old)
         (λ body code. (told : Option ℕ) × CountsListed body code told
         × (len.new ≡ set_to told len.old)) }
 {
-    let Some(body) = take(queue, alloc) else {
+    let Some(body) = queue.lent() else {
         return Code::Empty.number();
     };
     let (code, told) = body.len();
-    drop(put(queue, alloc, body));
     write(len, told);
     code.number()
 }
@@ -75,17 +72,16 @@ pub extern "C" fn csq_len(alloc: Global, queue: &mut CsqQueue, len: &mut u32) ->
 /// Writes how many IRPs are listed for a file object: CSQ_OK, or CSQ_UNKNOWN_FILE where there is none.
 /// Own rule.
 #[unsafe(no_mangle)]
-pub extern "C" fn csq_file_len(alloc: Global, queue: &mut CsqQueue, file: u32, len: &mut u32) -> u32
+pub extern "C" fn csq_file_len(queue: &mut CsqQueue, file: u32, len: &mut u32) -> u32
     ensures same { queue.new.body ≡ queue.old.body }
     ensures look { OnQueueHandle queue.old.body result (len.new ≡ len.old)
         (λ body code. (told : Option ℕ) × CountsListedFor (file_numbered file) body code told
         × (len.new ≡ set_to told len.old)) }
 {
-    let Some(body) = take(queue, alloc) else {
+    let Some(body) = queue.lent() else {
         return Code::Empty.number();
     };
     let (code, told) = body.file_len(FileId(file));
-    drop(put(queue, alloc, body));
     write(len, told);
     code.number()
 }
@@ -96,7 +92,6 @@ pub extern "C" fn csq_file_len(alloc: Global, queue: &mut CsqQueue, file: u32, l
 /// taken the cancel routine already, and no removal gets it then. As `CsqPeekNextIrp`.
 #[unsafe(no_mangle)]
 pub extern "C" fn csq_peek_next(
-    alloc: Global,
     queue: &mut CsqQueue,
     after: u32,
     file: u32,
@@ -108,11 +103,10 @@ pub extern "C" fn csq_peek_next(
         × PeeksNextOf (start_of after) (peek_of file) body code told
         × (irp.new ≡ written told irp.old)) }
 {
-    let Some(body) = take(queue, alloc) else {
+    let Some(body) = queue.lent() else {
         return Code::Empty.number();
     };
     let (code, told) = body.peek_next(start(after), peek(file));
-    drop(put(queue, alloc, body));
     irp.write(told);
     code.number()
 }
