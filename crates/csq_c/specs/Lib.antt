@@ -1,4 +1,5 @@
 pub mod Holds
+pub mod Lends
 pub mod Bodies
 pub mod Codes
 pub mod Shapes
@@ -7,3 +8,4 @@ pub mod Calls
 pub mod Sizes
 pub mod Ends
 pub mod Lefts
+pub mod Looks
