@@ -8,6 +8,7 @@ mod handles;
 mod hold;
 mod left;
 mod locked;
+mod numbers;
 mod passes;
 mod queues;
 mod shapes;
