@@ -22,7 +22,7 @@ use Rattle.csq_checked.specs.declared.size.NewRefused.TheVariants as new
 use Rattle.csq_checked.specs.declared.size.PassRefused.{PassRefused}
 use Rattle.csq_checked.specs.declared.size.PassRefused.TheVariants as pass
 use Rattle.csq_c.specs.declared.codes.Code.{Code}
-use Rattle.csq_c.specs.declared.codes.Code.TheVariants.{Done, UnknownIrp, UnknownFile, NotHome, FileClosed, Full, FileFull, Cancelled, Nothing, Stale, NotCompleted, LivesSpent, NotHeld, NotOwed, NotRemoved, NotFinal, Holding, PassesOut, NoPass, BadSize, NoMemory, Empty, NotEmpty, NotListed, Closed, NotClosed}
+use Rattle.csq_c.specs.declared.codes.Code.TheVariants.{Done, UnknownIrp, UnknownFile, NotHome, FileClosed, Full, FileFull, Cancelled, Nothing, Stale, NotCompleted, LivesSpent, NotHeld, NotOwed, NotRemoved, NotFinal, Holding, PassesOut, NoPass, BadSize, NoMemory, Empty, NotEmpty, NotListed, Closed, NotClosed, OtherQueue}
 
 -- the number of a code
 abbrev pub number_of : Code → ℕ
@@ -52,6 +52,7 @@ number_of NotEmpty = 22
 number_of NotListed = 23
 number_of Closed = 24
 number_of NotClosed = 25
+number_of OtherQueue = 26
 
 -- why no IRP was inserted
 abbrev pub refusal_code : InsertStatus → Code

@@ -31,19 +31,19 @@ abbrev pub open_code : Option QueueBodyState → Code
 open_code None = Empty
 open_code (Some body) = if is_some body.queue then Done else Closed
 
--- what freeing a queue answers
+-- what freeing a queue answers: of an empty handle as C's free of NULL
 abbrev pub free_code : Option QueueBodyState → Code
-free_code None = Empty
+free_code None = Done
 free_code (Some body) = if out_left body.queue == 0 then Done else PassesOut
 
 -- whether a pass holds and owes no IRP
 abbrev pub is_idle : CheckedPassState → Bool
 is_idle p = (held_count p.pass.steps == 0) && (owed_count p.pass.steps == 0)
 
--- what freeing a pass answers
-abbrev pub free_pass_code : Option CheckedPassState → Code
-free_pass_code None = Empty
-free_pass_code (Some p) = if is_idle p then Done else Holding
+-- what letting a pass go answers
+abbrev pub abandon_code : Option CheckedPassState → Code
+abandon_code None = Empty
+abandon_code (Some p) = if is_idle p then Done else Holding
 
 -- what giving a pass back answers
 abbrev pub give_back_code : QueueBodyState → CheckedPassState → Code

@@ -36,6 +36,7 @@ pub(crate) enum Code {
     NotListed,
     Closed,
     NotClosed,
+    OtherQueue,
 }
 
 impl Code {
@@ -70,6 +71,7 @@ impl Code {
             Code::NotListed => 23,
             Code::Closed => 24,
             Code::NotClosed => 25,
+            Code::OtherQueue => 26,
         }
     }
 }

@@ -64,7 +64,7 @@ impl QueueBody {
 /// CSQ_OK, or CSQ_NONE after the last, else CSQ_EMPTY_HANDLE, CSQ_NOT_CLOSED, or CSQ_NOT_LISTED
 /// where that one isn't listed. Own rule.
 #[unsafe(no_mangle)]
-pub extern "C" fn csq_next_listed(
+pub extern "C" fn csq_read_listed(
     alloc: Global,
     queue: &mut CsqQueue,
     after: u32,
@@ -90,7 +90,12 @@ pub extern "C" fn csq_next_listed(
 /// Writes what is left of an IRP of a closed queue: CSQ_OK, else CSQ_EMPTY_HANDLE, CSQ_NOT_CLOSED
 /// or CSQ_UNKNOWN_IRP. Own rule.
 #[unsafe(no_mangle)]
-pub extern "C" fn csq_left(alloc: Global, queue: &mut CsqQueue, irp: u32, left: &mut CsqLeft) -> u32
+pub extern "C" fn csq_read_left(
+    alloc: Global,
+    queue: &mut CsqQueue,
+    irp: u32,
+    left: &mut CsqLeft,
+) -> u32
     ensures same { queue.new.body ≡ queue.old.body }
     ensures empty { queue.old.body ≡ None → (result ≡ number_of Code.Empty)
         × (left.new ≡ left.old) }

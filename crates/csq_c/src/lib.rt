@@ -13,3 +13,4 @@ mod passes;
 mod queues;
 mod shapes;
 mod unlocked;
+mod version;

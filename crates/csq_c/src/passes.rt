@@ -1,9 +1,9 @@
-//! How passes are handed out, given back and freed.
+//! How passes are handed out, given back and abandoned.
 ghost use Rattle.std.specs.Prelude.{◌≡◌, ◌⊎◌, ◌<◌, ◌↔◌, Some, None, IfSome};
 ghost use Rattle.csq_checked.specs.Passes.{CheckedState, CheckedPassState};
 ghost use Rattle.csq_c.specs.Bodies.{QueueBodyState, ArePaired, open_of};
 ghost use Rattle.csq_c.specs.Codes.{number_of};
-ghost use Rattle.csq_c.specs.Ends.{IsNextPass, IsTaken, free_pass_code, give_back_code, take_cause, with_back_in};
+ghost use Rattle.csq_c.specs.Ends.{IsNextPass, IsTaken, abandon_code, give_back_code, take_cause, with_back_in};
 
 use crate::codes::Code;
 use crate::handles::{CsqPass, CsqQueue};
@@ -14,7 +14,7 @@ use std::alloc::Global;
 /// Hands out the next pass, under the caller's lock: CSQ_OK, else CSQ_EMPTY_HANDLE, CSQ_NOT_EMPTY,
 /// CSQ_CLOSED, CSQ_NO_PASS or CSQ_NO_MEMORY. Own rule.
 #[unsafe(no_mangle)]
-pub extern "C" fn csq_pass(alloc: Global, queue: &mut CsqQueue, pass: &mut CsqPass) -> u32
+pub extern "C" fn csq_take_pass(alloc: Global, queue: &mut CsqQueue, pass: &mut CsqPass) -> u32
     ensures refused { IfSome (take_cause queue.old.body pass.old.body)
         (λ cause. result ≡ number_of cause) }
     ensures none { IfSome (open_of queue.old.body)
@@ -81,8 +81,8 @@ pub extern "C" fn csq_give_back(alloc: Global, queue: &mut CsqQueue, pass: &mut 
 /// Frees a pass without giving it back, so that its queue is never closed: CSQ_OK, and the handle
 /// is empty, else CSQ_EMPTY_HANDLE, or CSQ_HOLDING where it holds or owes IRPs. Own rule.
 #[unsafe(no_mangle)]
-pub extern "C" fn csq_free_pass(alloc: Global, pass: &mut CsqPass) -> u32
-    ensures code { result ≡ number_of (free_pass_code pass.old.body) }
+pub extern "C" fn csq_abandon_pass(alloc: Global, pass: &mut CsqPass) -> u32
+    ensures code { result ≡ number_of (abandon_code pass.old.body) }
     ensures freed { result ≡ number_of Code.Done → pass.new.body ≡ None }
     ensures kept { 0 < result → pass.new.body ≡ pass.old.body }
 {

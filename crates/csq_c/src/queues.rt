@@ -97,8 +97,8 @@ pub extern "C" fn csq_new_with_file_limits(
     }
 }
 
-/// Frees a queue, open or closed: CSQ_OK, and the handle is empty, else CSQ_EMPTY_HANDLE, or
-/// CSQ_PASSES_OUT where a pass is out. Own rule.
+/// Frees a queue, open or closed: CSQ_OK, and the handle is empty, also where it was, else
+/// CSQ_PASSES_OUT where a pass is out. Own rule, as `free` of null.
 #[unsafe(no_mangle)]
 pub extern "C" fn csq_free(alloc: Global, queue: &mut CsqQueue) -> u32
     ensures code { result ≡ number_of (free_code queue.old.body) }
@@ -106,7 +106,7 @@ pub extern "C" fn csq_free(alloc: Global, queue: &mut CsqQueue) -> u32
     ensures kept { 0 < result → queue.new.body ≡ queue.old.body }
 {
     let Some(body) = take(queue, alloc) else {
-        return Code::Empty.number();
+        return Code::Done.number();
     };
     if body.out_left() > 0 {
         drop(put(queue, alloc, body));
@@ -116,7 +116,7 @@ pub extern "C" fn csq_free(alloc: Global, queue: &mut CsqQueue) -> u32
     Code::Done.number()
 }
 
-/// Closes a queue, of which `csq_next_listed` and `csq_left` then tell what is left: CSQ_OK, else
+/// Closes a queue, of which `csq_read_listed` and `csq_read_left` then tell what is left: CSQ_OK, else
 /// CSQ_EMPTY_HANDLE, CSQ_CLOSED, or CSQ_PASSES_OUT where a pass is out. Own rule.
 #[unsafe(no_mangle)]
 pub extern "C" fn csq_close(alloc: Global, queue: &mut CsqQueue) -> u32
@@ -143,7 +143,7 @@ pub extern "C" fn csq_close(alloc: Global, queue: &mut CsqQueue) -> u32
 
 /// How many passes are out: CSQ_OK, else CSQ_EMPTY_HANDLE or CSQ_CLOSED. Own rule.
 #[unsafe(no_mangle)]
-pub extern "C" fn csq_passes_out(alloc: Global, queue: &mut CsqQueue, out: &mut u32) -> u32
+pub extern "C" fn csq_count_passes_out(alloc: Global, queue: &mut CsqQueue, out: &mut u32) -> u32
     ensures code { result ≡ number_of (open_code queue.old.body) }
     ensures out { IfSome queue.old.body (λ body. out.new
         ≡ set_to (out_of_open body.queue) out.old) }

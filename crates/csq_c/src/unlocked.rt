@@ -81,7 +81,7 @@ pub extern "C" fn csq_complete_cancelled(alloc: Global, pass: &mut CsqPass, irp:
 /// The life that an IRP's Cancel flag stands for, and whether it is set there: CSQ_OK, or
 /// CSQ_UNKNOWN_IRP. As the field `Irp->Cancel`.
 #[unsafe(no_mangle)]
-pub extern "C" fn csq_is_cancelled(
+pub extern "C" fn csq_read_cancel(
     alloc: Global,
     pass: &mut CsqPass,
     irp: u32,
@@ -108,7 +108,7 @@ pub extern "C" fn csq_is_cancelled(
 /// The life that an IRP's status stands for, and the status: CSQ_OK, or CSQ_NONE where it isn't
 /// completed in that life, or CSQ_UNKNOWN_IRP. As the field `Irp->IoStatus.Status`.
 #[unsafe(no_mangle)]
-pub extern "C" fn csq_status(
+pub extern "C" fn csq_read_status(
     alloc: Global,
     pass: &mut CsqPass,
     irp: u32,
@@ -134,7 +134,7 @@ pub extern "C" fn csq_status(
 
 /// How many IRPs the pass holds and owes: CSQ_OK. Own rule.
 #[unsafe(no_mangle)]
-pub extern "C" fn csq_holding(
+pub extern "C" fn csq_count_held(
     alloc: Global,
     pass: &mut CsqPass,
     held: &mut u32,
