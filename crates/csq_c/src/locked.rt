@@ -4,7 +4,7 @@
 ghost use Rattle.std.specs.Prelude.{◌≡◌, ℕ, Option};
 ghost use Rattle.irp_core.specs.declared.ids.IrpLife.{IrpLife};
 ghost use Rattle.csq_c.specs.Bodies.{ArePaired};
-ghost use Rattle.csq_c.specs.Calls.{InsertsInto, RemovesNextFrom, RemovesFrom, RunsRoutineOn, ClosesFileOf, ReusesOf};
+ghost use Rattle.csq_c.specs.Calls.{InsertsInto, RemovesNextFrom, RemovesFrom, RunsRoutineOn, CancelsOwedOn, ClosesFileOf, ReusesOf};
 ghost use Rattle.csq_c.specs.Exports.{OnHandles};
 ghost use Rattle.csq_c.specs.Shapes.{irp_numbered, file_numbered, irp_named, place_numbered, peek_of, written, set_to};
 
@@ -98,25 +98,49 @@ pub extern "C" fn csq_remove(
     code.number()
 }
 
-/// Runs the cancel routine of an IRP that the pass owes: CSQ_OK, and the pass holds it then. Else
-/// CSQ_UNKNOWN_IRP or CSQ_NOT_OWED. As the cancel routine that the WDK's queue sets, which takes
-/// the IRP out under the lock.
+/// Runs the cancel routine of an IRP that the pass owes in the life named: CSQ_OK, and the pass
+/// holds it then. Else CSQ_UNKNOWN_IRP or CSQ_NOT_OWED. As the cancel routine that the WDK's queue
+/// sets, which takes the IRP out under the lock.
 #[unsafe(no_mangle)]
 pub extern "C" fn csq_cancel_routine(
     alloc: Global,
     queue: &mut CsqQueue,
     pass: &mut CsqPass,
-    irp: u32,
+    irp: CsqIrp,
 ) -> u32
     requires { ArePaired queue.old.body pass.old.body }
     ensures { OnHandles queue.old.body queue.new.body pass.old.body pass.new.body result (Unit {0})
-        (λ body body' p p' code. RunsRoutineOn (irp_numbered irp) body body' p p' code) }
+        (λ body body' p p' code. RunsRoutineOn (irp_named irp) body body' p p' code) }
 {
     let mut lent = match lend(alloc, queue, pass) {
         Ok(lent) => lent,
         Err(code) => return code.number(),
     };
-    let code = lent.body.cancel_routine(&mut lent.pass, IrpId(irp));
+    let code = lent.body.cancel_routine(&mut lent.pass, irp.named());
+    lent.give_back(alloc, queue, pass);
+    code.number()
+}
+
+/// Runs the cancel routine of an IRP that the pass owes in the life named, and completes the IRP with
+/// STATUS_CANCELLED: CSQ_OK. Else CSQ_UNKNOWN_IRP or CSQ_NOT_OWED. As the cancel routine that the
+/// WDK's queue sets, which takes the IRP out under the lock and then calls
+/// `CsqCompleteCanceledIrp`.
+#[unsafe(no_mangle)]
+pub extern "C" fn csq_cancel_owed(
+    alloc: Global,
+    queue: &mut CsqQueue,
+    pass: &mut CsqPass,
+    irp: CsqIrp,
+) -> u32
+    requires { ArePaired queue.old.body pass.old.body }
+    ensures { OnHandles queue.old.body queue.new.body pass.old.body pass.new.body result (Unit {0})
+        (λ body body' p p' code. CancelsOwedOn (irp_named irp) body body' p p' code) }
+{
+    let mut lent = match lend(alloc, queue, pass) {
+        Ok(lent) => lent,
+        Err(code) => return code.number(),
+    };
+    let code = lent.body.cancel_owed(&mut lent.pass, irp.named());
     lent.give_back(alloc, queue, pass);
     code.number()
 }
@@ -143,28 +167,29 @@ pub extern "C" fn csq_close_file(
     code.number()
 }
 
-/// Begins the next life of a completed IRP and writes it: CSQ_OK, else CSQ_UNKNOWN_IRP,
-/// CSQ_NOT_COMPLETED or CSQ_LIVES_SPENT. As `IoReuseIrp`.
+/// Begins the next life of an IRP that was completed in the life named, and writes it: CSQ_OK, else
+/// CSQ_UNKNOWN_IRP, CSQ_STALE where the life named isn't the present one, CSQ_NOT_COMPLETED or
+/// CSQ_LIVES_SPENT. As `IoReuseIrp`.
 #[unsafe(no_mangle)]
 pub extern "C" fn csq_reuse(
     alloc: Global,
     queue: &mut CsqQueue,
     pass: &mut CsqPass,
-    irp: u32,
+    irp: CsqIrp,
     life: &mut u32,
 ) -> u32
     requires { ArePaired queue.old.body pass.old.body }
     ensures { OnHandles queue.old.body queue.new.body pass.old.body pass.new.body result
         (life.new ≡ life.old)
         (λ body body' p p' code. (told : Option ℕ)
-        × ReusesOf (irp_numbered irp) body body' p p' code told
+        × ReusesOf (irp_named irp) body body' p p' code told
         × (life.new ≡ set_to told life.old)) }
 {
     let mut lent = match lend(alloc, queue, pass) {
         Ok(lent) => lent,
         Err(code) => return code.number(),
     };
-    let (code, told) = lent.body.reuse(&mut lent.pass, IrpId(irp));
+    let (code, told) = lent.body.reuse(&mut lent.pass, irp.named());
     lent.give_back(alloc, queue, pass);
     write(life, told);
     code.number()
