@@ -65,16 +65,22 @@ module _ {M : Type 1} {𝓤 : Ura M} (𝓛 : Logic 𝓤) (R : RattleType) (x : R
       (guard_i 𝓤 (Testable p) (sem 𝓛 (box_owns frees R p x)))
 
 module _ {M : Type 1} {𝓤 : Ura M} {𝓛 : Logic 𝓤} {K : Type 0} {Γ : List (Item 𝓤)} {G : Goal 𝓤 𝓛.H} (R : RattleType) where
+  -- a box lies in a block, whose address may be compared with null
+  pub a_box : K → (p : Ptr) (x : R.Denot)
+      → ((b o : ℕ) → p ≡ block_ptr b o → Testable (block_ptr b o) → Seq K 𝓛 (‵ (box_owns frees R (block_ptr b o) x) ∷ Γ) G)
+      → Seq K 𝓛 (‵ (held R p (Some x)) ∷ Γ) G
+  a_box t p x filled =
+      in_a_block t p (λ q. box_owns frees R q x) (fst∗ 𝓤 (never 𝓤) (sem 𝓛 (frees (bare (lone R.mir)) null_ptr))) (λ b o e.
+      use1 𝓛 (given (Testable (block_ptr b o)) (‵ (box_owns frees R (block_ptr b o) x))) (testable 𝓛 R x (block_ptr b o)) $
+      learn t (λ may. filled b o e may))
+
   -- nothing is held at null, or a box in a block
   pub by_cases : K → (p : Ptr) (body : Option R.Denot)
       → (p ≡ null_ptr → body ≡ None → Seq K 𝓛 Γ G)
       → ((b o : ℕ) (x : R.Denot) → p ≡ block_ptr b o → body ≡ Some x → Testable (block_ptr b o) → Seq K 𝓛 (‵ (box_owns frees R (block_ptr b o) x) ∷ Γ) G)
       → Seq K 𝓛 (‵ (held R p body) ∷ Γ) G
   by_cases t p None empty filled = feq_l t (λ e. empty e refl)
-  by_cases t p (Some x) empty filled =
-      in_a_block t p (λ q. box_owns frees R q x) (fst∗ 𝓤 (never 𝓤) (sem 𝓛 (frees (bare (lone R.mir)) null_ptr))) (λ b o e.
-      use1 𝓛 (given (Testable (block_ptr b o)) (‵ (box_owns frees R (block_ptr b o) x))) (testable 𝓛 R x (block_ptr b o)) $
-      learn t (λ may. filled b o x e refl may))
+  by_cases t p (Some x) empty filled = a_box t p x (λ b o e may. filled b o x e refl may)
 
 -- takes a struct of one pointer apart, and makes another of it
 abbrev pub passing : Sym → Sym → Fn

@@ -1,4 +1,5 @@
 pub mod Holds
+pub mod Lends
 pub mod Bodies
 pub mod Codes
 pub mod Shapes

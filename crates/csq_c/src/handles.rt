@@ -3,6 +3,8 @@ ghost use Rattle.std.specs.Prelude.{◌≡◌, Option};
 ghost use Rattle.csq_checked.specs.Passes.{CheckedPassState};
 ghost use Rattle.csq_c.specs.Bodies.{QueueBodyState};
 
+mod lent;
+
 use crate::body::QueueBody;
 use crate::hold::{Handle, Hold};
 use csq_checked::CheckedPass;

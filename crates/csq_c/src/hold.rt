@@ -26,6 +26,13 @@ impl<T> Hold<T> {
         Hold { at: null_mut() }
     }
 
+    /// Lets nothing go.
+    pub(crate) fn end(self)
+        requires { self.body ≡ None }
+    {
+        let Hold { at: _ } = self;
+    }
+
     /// The box, or nothing.
     pub(crate) fn into_body(self, alloc: Global) -> Option<Box<T>>
         ensures { MatchOption result (self.body ≡ None) (λ body. self.body ≡ Some body.value) }
@@ -75,30 +82,12 @@ pub(crate) fn take<H: Handle>(handle: &mut H, alloc: Global) -> Option<Box<H::Bo
     whole.into_hold().into_body(alloc)
 }
 
-/// Puts a box in, and answers what was there.
-pub(crate) fn put<H: Handle>(
-    handle: &mut H,
-    alloc: Global,
-    body: Box<H::Body>,
-) -> Option<Box<H::Body>>
-    ensures before { MatchOption result (H.held_in handle.old ≡ None)
-        (λ there. H.held_in handle.old ≡ Some there.value) }
-    ensures after { H.held_in handle.new ≡ Some body.value }
+/// Puts a box into a handle that is empty. What the handle was is let go without a look at it, so nothing
+/// is freed here.
+pub(crate) fn put<H: Handle>(handle: &mut H, body: Box<H::Body>)
+    requires { H.held_in handle.old ≡ None }
+    ensures { H.held_in handle.new ≡ Some body.value }
 {
-    let whole = replace(handle, H::of(Hold::of(body)));
-    whole.into_hold().into_body(alloc)
-}
-
-/// Whether there is nothing.
-pub(crate) fn is_empty<H: Handle>(handle: &mut H, alloc: Global) -> bool
-    ensures answer { result ≡ true ↔ H.held_in handle.old ≡ None }
-    ensures unchanged { H.held_in handle.new ≡ H.held_in handle.old }
-{
-    match take(handle, alloc) {
-        None => true,
-        Some(body) => {
-            drop(put(handle, alloc, body));
-            false
-        }
-    }
+    let empty = replace(handle, H::of(Hold::of(body)));
+    empty.into_hold().end();
 }

@@ -7,11 +7,9 @@ ghost use Rattle.csq_c.specs.Shapes.{irp_numbered, set_to};
 use crate::body::QueueBody;
 use crate::codes::Code;
 use crate::handles::CsqQueue;
-use crate::hold::{put, take};
 use crate::shapes::{CsqLeft, start, write};
 use csq_list::PendingList;
 use irp_core::IrpId;
-use std::alloc::Global;
 
 impl QueueBody {
     /// The listed IRP after this one, or the first, where the queue is closed.
@@ -64,12 +62,7 @@ impl QueueBody {
 /// CSQ_OK, or CSQ_NONE after the last, else CSQ_EMPTY_HANDLE, CSQ_NOT_CLOSED, or CSQ_NOT_LISTED
 /// where that one isn't listed. Own rule.
 #[unsafe(no_mangle)]
-pub extern "C" fn csq_read_listed(
-    alloc: Global,
-    queue: &mut CsqQueue,
-    after: u32,
-    irp: &mut u32,
-) -> u32
+pub extern "C" fn csq_read_listed(queue: &mut CsqQueue, after: u32, irp: &mut u32) -> u32
     ensures same { queue.new.body ≡ queue.old.body }
     ensures empty { queue.old.body ≡ None → (result ≡ number_of Code.Empty) × (irp.new ≡ irp.old) }
     ensures unclosed { IfSome queue.old.body (λ body. body.rest ≡ None
@@ -78,11 +71,10 @@ pub extern "C" fn csq_read_listed(
         (λ rest. (result ≡ number_of (next_code rest.entries (start_of after)))
         × (irp.new ≡ set_to (number_told (next_after rest.entries (start_of after))) irp.old))) }
 {
-    let Some(body) = take(queue, alloc) else {
+    let Some(body) = queue.lent() else {
         return Code::Empty.number();
     };
     let (code, next) = body.next_listed(start(after));
-    drop(put(queue, alloc, body));
     write(irp, next);
     code.number()
 }
@@ -90,12 +82,7 @@ pub extern "C" fn csq_read_listed(
 /// Writes what is left of an IRP of a closed queue: CSQ_OK, else CSQ_EMPTY_HANDLE, CSQ_NOT_CLOSED
 /// or CSQ_UNKNOWN_IRP. Own rule.
 #[unsafe(no_mangle)]
-pub extern "C" fn csq_read_left(
-    alloc: Global,
-    queue: &mut CsqQueue,
-    irp: u32,
-    left: &mut CsqLeft,
-) -> u32
+pub extern "C" fn csq_read_left(queue: &mut CsqQueue, irp: u32, left: &mut CsqLeft) -> u32
     ensures same { queue.new.body ≡ queue.old.body }
     ensures empty { queue.old.body ≡ None → (result ≡ number_of Code.Empty)
         × (left.new ≡ left.old) }
@@ -105,11 +92,10 @@ pub extern "C" fn csq_read_left(
         (λ rest. (result ≡ number_of (left_code (left_of rest.finals (irp_numbered irp))))
         × (left.new ≡ left_written (left_of rest.finals (irp_numbered irp)) left.old))) }
 {
-    let Some(body) = take(queue, alloc) else {
+    let Some(body) = queue.lent() else {
         return Code::Empty.number();
     };
     let (code, told) = body.left(IrpId(irp));
-    drop(put(queue, alloc, body));
     left.write(told);
     code.number()
 }

@@ -7,7 +7,6 @@ mod ends;
 mod handles;
 mod hold;
 mod left;
-mod lent;
 mod locked;
 mod passes;
 mod queues;

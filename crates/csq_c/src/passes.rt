@@ -7,8 +7,7 @@ ghost use Rattle.csq_c.specs.Ends.{IsNextPass, IsTaken, abandon_code, give_back_
 
 use crate::codes::Code;
 use crate::handles::{CsqPass, CsqQueue};
-use crate::hold::{is_empty, put, take};
-use crate::lent::{Lent, lend};
+use crate::hold::{put, take};
 use std::alloc::Global;
 
 /// Hands out the next pass, under the caller's lock: CSQ_OK, else CSQ_EMPTY_HANDLE, CSQ_NOT_EMPTY,
@@ -29,19 +28,16 @@ pub extern "C" fn csq_take_pass(alloc: Global, queue: &mut CsqQueue, pass: &mut 
     ensures kept { 0 < result → (queue.new.body ≡ queue.old.body)
         × (pass.new.body ≡ pass.old.body) }
 {
-    let Some(mut body) = take(queue, alloc) else {
+    let Some(body) = queue.lent() else {
         return Code::Empty.number();
     };
-    if !is_empty(pass, alloc) {
-        drop(put(queue, alloc, body));
+    if pass.is_filled() {
         return Code::NotEmpty.number();
     }
-    let taken = body.take_pass(alloc);
-    drop(put(queue, alloc, body));
-    match taken {
+    match body.take_pass(alloc) {
         Err(code) => code.number(),
         Ok(by) => {
-            drop(put(pass, alloc, by));
+            put(pass, by);
             Code::Done.number()
         }
     }
@@ -63,16 +59,16 @@ pub extern "C" fn csq_give_back(alloc: Global, queue: &mut CsqQueue, pass: &mut 
     ensures kept { 0 < result → (queue.new.body ≡ queue.old.body)
         × (pass.new.body ≡ pass.old.body) }
 {
-    let Lent { mut body, pass: by } = match lend(alloc, queue, pass) {
-        Ok(lent) => lent,
-        Err(code) => return code.number(),
+    let Some(body) = queue.lent() else {
+        return Code::Empty.number();
     };
-    let given = body.give_back(by);
-    drop(put(queue, alloc, body));
-    match given {
+    let Some(by) = take(pass, alloc) else {
+        return Code::Empty.number();
+    };
+    match body.give_back(by) {
         Ok(()) => Code::Done.number(),
         Err((code, by)) => {
-            drop(put(pass, alloc, by));
+            put(pass, by);
             code.number()
         }
     }
@@ -86,13 +82,12 @@ pub extern "C" fn csq_abandon_pass(alloc: Global, pass: &mut CsqPass) -> u32
     ensures freed { result ≡ number_of Code.Done → pass.new.body ≡ None }
     ensures kept { 0 < result → pass.new.body ≡ pass.old.body }
 {
-    let Some(by) = take(pass, alloc) else {
+    let Some(by) = pass.lent() else {
         return Code::Empty.number();
     };
     if by.tokens() > 0 || by.claims() > 0 {
-        drop(put(pass, alloc, by));
         return Code::Holding.number();
     }
-    drop(by);
+    drop(take(pass, alloc));
     Code::Done.number()
 }

@@ -1,4 +1,5 @@
-//! How a queue is made, closed and freed.
+//! How a queue is made, closed and freed. (`alloc` is malloc, realloc and free. It has no size, so C
+//! hands in nothing for it.)
 ghost use Rattle.std.specs.Prelude.{◌≡◌, ◌⊎◌, ◌<◌, ◌↔◌, Err, IsTrue, IfOk, IfSome, Some, None, replicate};
 ghost use Rattle.csq_list.specs.Listing.{are_file_limits};
 ghost use Rattle.csq_c.specs.Bodies.{QueueBodyState, open_of};
@@ -10,7 +11,7 @@ ghost use Rattle.csq_c.specs.Sizes.{IsGoodSize, IsNewQueue, new_checked_state};
 use crate::body::QueueBody;
 use crate::codes::Code;
 use crate::handles::CsqQueue;
-use crate::hold::{is_empty, put, take};
+use crate::hold::{put, take};
 use crate::shapes::{CsqSize, write};
 use csq_checked::{CheckedQueue, NewRefused};
 use std::alloc::Global;
@@ -54,13 +55,13 @@ pub extern "C" fn csq_new(alloc: Global, queue: &mut CsqQueue, size: &CsqSize) -
     ensures cause { queue.old.body ≡ None → (result ≡ number_of Code.Done)
         ⊎ ((result ≡ number_of Code.BadSize) ⊎ (result ≡ number_of Code.NoMemory)) }
 {
-    if !is_empty(queue, alloc) {
+    if queue.is_filled() {
         return Code::NotEmpty.number();
     }
     match QueueBody::opened(alloc, made(alloc, size)) {
         Err(code) => code.number(),
         Ok(body) => {
-            drop(put(queue, alloc, body));
+            put(queue, body);
             Code::Done.number()
         }
     }
@@ -85,13 +86,13 @@ pub extern "C" fn csq_new_with_file_limits(
     ensures cause { queue.old.body ≡ None → (result ≡ number_of Code.Done)
         ⊎ ((result ≡ number_of Code.BadSize) ⊎ (result ≡ number_of Code.NoMemory)) }
 {
-    if !is_empty(queue, alloc) {
+    if queue.is_filled() {
         return Code::NotEmpty.number();
     }
     match QueueBody::opened(alloc, made_with(alloc, size, file_limits)) {
         Err(code) => code.number(),
         Ok(body) => {
-            drop(put(queue, alloc, body));
+            put(queue, body);
             Code::Done.number()
         }
     }
@@ -105,21 +106,20 @@ pub extern "C" fn csq_free(alloc: Global, queue: &mut CsqQueue) -> u32
     ensures freed { result ≡ number_of Code.Done → queue.new.body ≡ None }
     ensures kept { 0 < result → queue.new.body ≡ queue.old.body }
 {
-    let Some(body) = take(queue, alloc) else {
+    let Some(body) = queue.lent() else {
         return Code::Done.number();
     };
     if body.out_left() > 0 {
-        drop(put(queue, alloc, body));
         return Code::PassesOut.number();
     }
-    drop(body);
+    drop(take(queue, alloc));
     Code::Done.number()
 }
 
 /// Closes a queue, of which `csq_read_listed` and `csq_read_left` then tell what is left: CSQ_OK, else
 /// CSQ_EMPTY_HANDLE, CSQ_CLOSED, or CSQ_PASSES_OUT where a pass is out. Own rule.
 #[unsafe(no_mangle)]
-pub extern "C" fn csq_close(alloc: Global, queue: &mut CsqQueue) -> u32
+pub extern "C" fn csq_close(queue: &mut CsqQueue) -> u32
     ensures empty { queue.old.body ≡ None → result ≡ number_of Code.Empty }
     ensures closed { (body : QueueBodyState) → queue.old.body ≡ Some body → body.queue ≡ None
         → result ≡ number_of Code.Closed }
@@ -133,28 +133,26 @@ pub extern "C" fn csq_close(alloc: Global, queue: &mut CsqQueue) -> u32
     ensures kept { 0 < result → queue.new.body ≡ queue.old.body }
     ensures there { ¬ (queue.old.body ≡ None) → ¬ (queue.new.body ≡ None) }
 {
-    let Some(mut body) = take(queue, alloc) else {
+    let Some(body) = queue.lent() else {
         return Code::Empty.number();
     };
     let code = body.close();
-    drop(put(queue, alloc, body));
     code.number()
 }
 
 /// How many passes are out: CSQ_OK, else CSQ_EMPTY_HANDLE or CSQ_CLOSED. Own rule.
 #[unsafe(no_mangle)]
-pub extern "C" fn csq_count_passes_out(alloc: Global, queue: &mut CsqQueue, out: &mut u32) -> u32
+pub extern "C" fn csq_count_passes_out(queue: &mut CsqQueue, out: &mut u32) -> u32
     ensures code { result ≡ number_of (open_code queue.old.body) }
     ensures out { IfSome queue.old.body (λ body. out.new
         ≡ set_to (out_of_open body.queue) out.old) }
     ensures empty { queue.old.body ≡ None → out.new ≡ out.old }
     ensures same { queue.new.body ≡ queue.old.body }
 {
-    let Some(body) = take(queue, alloc) else {
+    let Some(body) = queue.lent() else {
         return Code::Empty.number();
     };
     let told = body.passes_out();
-    drop(put(queue, alloc, body));
     write(out, told);
     match told {
         Some(_) => Code::Done.number(),

@@ -16,31 +16,23 @@ ghost use Rattle.csq_c.specs.Shapes.{irp_named, irp_numbered, life_numbered, sta
 
 use crate::codes::{Code, of_complete, of_flag, of_mark, of_status};
 use crate::handles::CsqPass;
-use crate::hold::{put, take};
 use crate::shapes::{CsqIrp, write};
 use irp_core::{IrpId, Life, NtStatus};
-use std::alloc::Global;
 
 /// Sets the Cancel flag of an IRP in the life named and takes its cancel routine: CSQ_OK, and in
 /// `found` 1 where the routine was there, and the pass owes the IRP then, else 0. Refused with
 /// CSQ_UNKNOWN_IRP or CSQ_STALE. As `IoCancelIrp`, up to the call of the routine.
 #[unsafe(no_mangle)]
-pub extern "C" fn csq_mark_cancel(
-    alloc: Global,
-    pass: &mut CsqPass,
-    irp: CsqIrp,
-    found: &mut u32,
-) -> u32
+pub extern "C" fn csq_mark_cancel(pass: &mut CsqPass, irp: CsqIrp, found: &mut u32) -> u32
     ensures { OnPass pass.old.body pass.new.body result (found.new ≡ found.old)
         (λ p p' code. (answer : Result (Option IrpLife) CancelRefused)
         × MakesOwnCall (MarksCancel (irp_numbered irp.irp) (life_numbered irp.life) answer) p p'
         × (code ≡ mark_code answer) × (found.new ≡ set_to (claim_told answer) found.old)) }
 {
-    let Some(mut by) = take(pass, alloc) else {
+    let Some(by) = pass.lent() else {
         return Code::Empty.number();
     };
     let (code, told) = of_mark(by.mark_cancel(IrpId(irp.irp), Life(irp.life)));
-    drop(put(pass, alloc, by));
     write(found, told);
     code.number()
 }
@@ -48,33 +40,31 @@ pub extern "C" fn csq_mark_cancel(
 /// Completes an IRP that the pass got by a removal, in the life named, with this status: CSQ_OK,
 /// else CSQ_UNKNOWN_IRP, CSQ_NOT_HELD, CSQ_NOT_REMOVED or CSQ_NOT_FINAL. As `IoCompleteRequest`.
 #[unsafe(no_mangle)]
-pub extern "C" fn csq_complete(alloc: Global, pass: &mut CsqPass, irp: CsqIrp, status: u32) -> u32
+pub extern "C" fn csq_complete(pass: &mut CsqPass, irp: CsqIrp, status: u32) -> u32
     ensures { OnPass pass.old.body pass.new.body result (Unit {0})
         (λ p p' code. (answer : Result (Unit {0}) CompleteRefused)
         × CompletesRemoved (irp_named irp) (status_numbered status) answer p p'
         × (code ≡ complete_code answer)) }
 {
-    let Some(mut by) = take(pass, alloc) else {
+    let Some(by) = pass.lent() else {
         return Code::Empty.number();
     };
     let code = of_complete(by.complete(irp.named(), NtStatus(status)));
-    drop(put(pass, alloc, by));
     code.number()
 }
 
 /// Completes an IRP that the pass holds in the life named with STATUS_CANCELLED: CSQ_OK, else
 /// CSQ_UNKNOWN_IRP or CSQ_NOT_HELD. As `IoCompleteRequest`.
 #[unsafe(no_mangle)]
-pub extern "C" fn csq_complete_cancelled(alloc: Global, pass: &mut CsqPass, irp: CsqIrp) -> u32
+pub extern "C" fn csq_complete_cancelled(pass: &mut CsqPass, irp: CsqIrp) -> u32
     ensures { OnPass pass.old.body pass.new.body result (Unit {0})
         (λ p p' code. (answer : Result (Unit {0}) CompleteRefused)
         × CompletesHeld (irp_named irp) answer p p' × (code ≡ complete_code answer)) }
 {
-    let Some(mut by) = take(pass, alloc) else {
+    let Some(by) = pass.lent() else {
         return Code::Empty.number();
     };
     let code = of_complete(by.complete_cancelled(irp.named()));
-    drop(put(pass, alloc, by));
     code.number()
 }
 
@@ -82,7 +72,6 @@ pub extern "C" fn csq_complete_cancelled(alloc: Global, pass: &mut CsqPass, irp:
 /// CSQ_UNKNOWN_IRP. As the field `Irp->Cancel`.
 #[unsafe(no_mangle)]
 pub extern "C" fn csq_read_cancel(
-    alloc: Global,
     pass: &mut CsqPass,
     irp: u32,
     life: &mut u32,
@@ -95,11 +84,10 @@ pub extern "C" fn csq_read_cancel(
         × (life.new ≡ set_to (flag_life_told answer) life.old)
         × (cancelled.new ≡ set_to (flag_told answer) cancelled.old)) }
 {
-    let Some(mut by) = take(pass, alloc) else {
+    let Some(by) = pass.lent() else {
         return Code::Empty.number();
     };
     let (code, lived, flag) = of_flag(by.is_cancelled(IrpId(irp)));
-    drop(put(pass, alloc, by));
     write(life, lived);
     write(cancelled, flag);
     code.number()
@@ -109,7 +97,6 @@ pub extern "C" fn csq_read_cancel(
 /// completed in that life, or CSQ_UNKNOWN_IRP. As the field `Irp->IoStatus.Status`.
 #[unsafe(no_mangle)]
 pub extern "C" fn csq_read_status(
-    alloc: Global,
     pass: &mut CsqPass,
     irp: u32,
     life: &mut u32,
@@ -122,11 +109,10 @@ pub extern "C" fn csq_read_status(
         × (life.new ≡ set_to (status_life_told answer) life.old)
         × (status.new ≡ set_to (status_told answer) status.old)) }
 {
-    let Some(mut by) = take(pass, alloc) else {
+    let Some(by) = pass.lent() else {
         return Code::Empty.number();
     };
     let (code, lived, told) = of_status(by.status(IrpId(irp)));
-    drop(put(pass, alloc, by));
     write(life, lived);
     write(status, told);
     code.number()
@@ -134,21 +120,15 @@ pub extern "C" fn csq_read_status(
 
 /// How many IRPs the pass holds and owes: CSQ_OK. Own rule.
 #[unsafe(no_mangle)]
-pub extern "C" fn csq_count_held(
-    alloc: Global,
-    pass: &mut CsqPass,
-    held: &mut u32,
-    owed: &mut u32,
-) -> u32
+pub extern "C" fn csq_count_held(pass: &mut CsqPass, held: &mut u32, owed: &mut u32) -> u32
     ensures { OnPass pass.old.body pass.new.body result
         ((held.new ≡ held.old) × (owed.new ≡ owed.old)) (λ p p' code. (p' ≡ p) × (code ≡ Code.Done)
         × (held.new ≡ held_count p.pass.steps) × (owed.new ≡ owed_count p.pass.steps)) }
 {
-    let Some(by) = take(pass, alloc) else {
+    let Some(by) = pass.lent() else {
         return Code::Empty.number();
     };
     let (tokens, claims) = (by.tokens(), by.claims());
-    drop(put(pass, alloc, by));
     *held = tokens;
     *owed = claims;
     Code::Done.number()

@@ -1,0 +1,19 @@
+-- What becomes of a handle once a call had what stands behind it.
+use Rattle.std.specs.Prelude.{Option, Some}
+use Rattle.std.specs.Borrow.{Fml, MutBor, LendsIf}
+use Rattle.csq_checked.specs.Passes.{CheckedPassState}
+use Rattle.csq_checked.specs.contracts.pass.CheckedPass as pass
+use Rattle.csq_c.specs.Bodies.{QueueBodyState}
+use Rattle.csq_c.specs.contracts.body.QueueBody as body
+use Rattle.csq_c.specs.contracts.handles.CsqPass as pass_handle
+use Rattle.csq_c.specs.contracts.handles.CsqQueue as queue_handle
+use Rattle.csq_c.specs.declared.handles.CsqPass.{CsqPass}
+use Rattle.csq_c.specs.declared.handles.CsqQueue.{CsqQueue}
+
+-- a queue's handle ends with what the call left of the queue, and an empty one as it was
+abbrev pub LendsQueue : MutBor CsqQueue → Option (MutBor QueueBodyState) → Fml
+LendsQueue h r = LendsIf queue_handle.the_row body.the_row h r (λ body. record h.now { body = Some body }) h.now
+
+-- so does a pass's
+abbrev pub LendsPass : MutBor CsqPass → Option (MutBor CheckedPassState) → Fml
+LendsPass h r = LendsIf pass_handle.the_row pass.the_row h r (λ body. record h.now { body = Some body }) h.now

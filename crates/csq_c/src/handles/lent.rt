@@ -1,0 +1,60 @@
+//! What stands behind a handle, lent to one call, which doesn't write the handle.
+ghost use Rattle.std.specs.Prelude.{◌≡◌, Some, None, MatchOption, ◌↔◌, false};
+ghost use Rattle.std.specs.Borrow.{sem};
+ghost use Rattle.csq_c.specs.Lends.{LendsQueue, LendsPass};
+
+use crate::body::QueueBody;
+use crate::handles::{CsqPass, CsqQueue};
+use csq_checked::CheckedPass;
+
+impl CsqQueue {
+    /// The queue, or None where the handle is empty. Own rule.
+    pub(crate) fn lent(&mut self) -> Option<&mut QueueBody>
+        ensures* writes_back { sem 𝓛 (LendsQueue self.entry result) }
+        ensures value { MatchOption result (self.old.body ≡ None)
+            (λ body. self.old.body ≡ Some body.now) }
+    {
+        let at = self.at as *mut QueueBody;
+        if at.is_null() {
+            return None;
+        }
+        Some(unsafe { &mut *at })
+    }
+
+    /// Whether there is a queue.
+    pub(crate) fn is_filled(&mut self) -> bool
+        ensures answer { result ≡ false ↔ self.old.body ≡ None }
+        ensures same { self.new.body ≡ self.old.body }
+    {
+        match self.lent() {
+            None => false,
+            Some(_) => true,
+        }
+    }
+}
+
+impl CsqPass {
+    /// The pass, or None where the handle is empty. Own rule.
+    pub(crate) fn lent(&mut self) -> Option<&mut CheckedPass>
+        ensures* writes_back { sem 𝓛 (LendsPass self.entry result) }
+        ensures value { MatchOption result (self.old.body ≡ None)
+            (λ body. self.old.body ≡ Some body.now) }
+    {
+        let at = self.at as *mut CheckedPass;
+        if at.is_null() {
+            return None;
+        }
+        Some(unsafe { &mut *at })
+    }
+
+    /// Whether there is a pass.
+    pub(crate) fn is_filled(&mut self) -> bool
+        ensures answer { result ≡ false ↔ self.old.body ≡ None }
+        ensures same { self.new.body ≡ self.old.body }
+    {
+        match self.lent() {
+            None => false,
+            Some(_) => true,
+        }
+    }
+}
