@@ -3,7 +3,7 @@
 //! queue's, then CSQ_CLOSED of a closed queue.
 ghost use Rattle.std.specs.Prelude.{◌≡◌, ℕ, Option};
 ghost use Rattle.irp_core.specs.declared.ids.IrpLife.{IrpLife};
-ghost use Rattle.csq_c.specs.Calls.{InsertsInto, RemovesNextFrom, RemovesFrom, RunsRoutineOn, ClosesFileOf, ReusesOf};
+ghost use Rattle.csq_c.specs.Calls.{InsertsInto, RemovesNextFrom, RemovesFrom, RunsRoutineOn, CancelsOwedOn, ClosesFileOf, ReusesOf};
 ghost use Rattle.csq_c.specs.Exports.{OnHandles, ArePaired};
 ghost use Rattle.csq_c.specs.Shapes.{irp_numbered, file_numbered, irp_named, place_numbered, peek_of, written, set_to};
 
@@ -99,14 +99,14 @@ pub extern "C" fn csq_remove(queue: &mut CsqQueue, pass: &mut CsqPass, irp: CsqI
     code.number()
 }
 
-/// Runs the cancel routine of an IRP that the pass owes: CSQ_OK, and the pass holds it then. Else
-/// CSQ_UNKNOWN_IRP or CSQ_NOT_OWED. As the cancel routine that the WDK's queue sets, which takes
-/// the IRP out under the lock.
+/// Runs the cancel routine of an IRP that the pass owes in the life named: CSQ_OK, and the pass
+/// holds it then. Else CSQ_UNKNOWN_IRP or CSQ_NOT_OWED. As the cancel routine that the WDK's queue
+/// sets, which takes the IRP out under the lock.
 #[unsafe(no_mangle)]
-pub extern "C" fn csq_cancel_routine(queue: &mut CsqQueue, pass: &mut CsqPass, irp: u32) -> u32
+pub extern "C" fn csq_cancel_routine(queue: &mut CsqQueue, pass: &mut CsqPass, irp: CsqIrp) -> u32
     requires { ArePaired queue.old pass.old }
     ensures { OnHandles queue.old queue.new pass.old pass.new result (Unit {0})
-        (λ body body' p p' code. RunsRoutineOn (irp_numbered irp) body body' p p' code) }
+        (λ body body' p p' code. RunsRoutineOn (irp_named irp) body body' p p' code) }
 {
     let Some(body) = queue.boxed.lent() else {
         return Code::Empty.number();
@@ -117,7 +117,30 @@ pub extern "C" fn csq_cancel_routine(queue: &mut CsqQueue, pass: &mut CsqPass, i
     if pass.queue != queue.number {
         return Code::OtherQueue.number();
     }
-    let code = body.cancel_routine(by, IrpId(irp));
+    let code = body.cancel_routine(by, irp.named());
+    code.number()
+}
+
+/// Runs the cancel routine of an IRP that the pass owes in the life named, and completes the IRP with
+/// STATUS_CANCELLED: CSQ_OK. Else CSQ_UNKNOWN_IRP or CSQ_NOT_OWED. As the cancel routine that the
+/// WDK's queue sets, which takes the IRP out under the lock and then calls
+/// `CsqCompleteCanceledIrp`.
+#[unsafe(no_mangle)]
+pub extern "C" fn csq_cancel_owed(queue: &mut CsqQueue, pass: &mut CsqPass, irp: CsqIrp) -> u32
+    requires { ArePaired queue.old pass.old }
+    ensures { OnHandles queue.old queue.new pass.old pass.new result (Unit {0})
+        (λ body body' p p' code. CancelsOwedOn (irp_named irp) body body' p p' code) }
+{
+    let Some(body) = queue.boxed.lent() else {
+        return Code::Empty.number();
+    };
+    let Some(by) = pass.boxed.lent() else {
+        return Code::Empty.number();
+    };
+    if pass.queue != queue.number {
+        return Code::OtherQueue.number();
+    }
+    let code = body.cancel_owed(by, irp.named());
     code.number()
 }
 
@@ -142,20 +165,21 @@ pub extern "C" fn csq_close_file(queue: &mut CsqQueue, pass: &mut CsqPass, file:
     code.number()
 }
 
-/// Begins the next life of a completed IRP and writes it: CSQ_OK, else CSQ_UNKNOWN_IRP,
-/// CSQ_NOT_COMPLETED or CSQ_LIVES_SPENT. As `IoReuseIrp`.
+/// Begins the next life of an IRP that was completed in the life named, and writes it: CSQ_OK, else
+/// CSQ_UNKNOWN_IRP, CSQ_STALE where the life named isn't the present one, CSQ_NOT_COMPLETED or
+/// CSQ_LIVES_SPENT. As `IoReuseIrp`.
 #[unsafe(no_mangle)]
 pub extern "C" fn csq_reuse(
     queue: &mut CsqQueue,
     pass: &mut CsqPass,
-    irp: u32,
+    irp: CsqIrp,
     life: &mut u32,
 ) -> u32
     requires { ArePaired queue.old pass.old }
     ensures { OnHandles queue.old queue.new pass.old pass.new result
         (life.new ≡ life.old)
         (λ body body' p p' code. (told : Option ℕ)
-        × ReusesOf (irp_numbered irp) body body' p p' code told
+        × ReusesOf (irp_named irp) body body' p p' code told
         × (life.new ≡ set_to told life.old)) }
 {
     let Some(body) = queue.boxed.lent() else {
@@ -167,7 +191,7 @@ pub extern "C" fn csq_reuse(
     if pass.queue != queue.number {
         return Code::OtherQueue.number();
     }
-    let (code, told) = body.reuse(by, IrpId(irp));
+    let (code, told) = body.reuse(by, irp.named());
     write(life, told);
     code.number()
 }

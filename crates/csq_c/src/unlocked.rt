@@ -12,7 +12,7 @@ ghost use Rattle.csq_checked.specs.Calls.{MakesOwnCall, CompletesRemoved, Comple
 ghost use Rattle.csq_checked.specs.declared.unlocked.CompleteRefused.{CompleteRefused};
 ghost use Rattle.csq_c.specs.Codes.{mark_code, claim_told, complete_code, flag_code, flag_life_told, flag_told, status_code, status_life_told, status_told};
 ghost use Rattle.csq_c.specs.Exports.{OnPass};
-ghost use Rattle.csq_c.specs.Shapes.{irp_numbered, life_numbered, status_numbered, set_to};
+ghost use Rattle.csq_c.specs.Shapes.{irp_named, irp_numbered, life_numbered, status_numbered, set_to};
 
 use crate::codes::{Code, of_complete, of_flag, of_mark, of_status};
 use crate::handles::CsqPass;
@@ -37,34 +37,34 @@ pub extern "C" fn csq_mark_cancel(pass: &mut CsqPass, irp: CsqIrp, found: &mut u
     code.number()
 }
 
-/// Completes an IRP that the pass got by a removal with this status: CSQ_OK, else CSQ_UNKNOWN_IRP,
-/// CSQ_NOT_HELD, CSQ_NOT_REMOVED or CSQ_NOT_FINAL. As `IoCompleteRequest`.
+/// Completes an IRP that the pass got by a removal, in the life named, with this status: CSQ_OK,
+/// else CSQ_UNKNOWN_IRP, CSQ_NOT_HELD, CSQ_NOT_REMOVED or CSQ_NOT_FINAL. As `IoCompleteRequest`.
 #[unsafe(no_mangle)]
-pub extern "C" fn csq_complete(pass: &mut CsqPass, irp: u32, status: u32) -> u32
+pub extern "C" fn csq_complete(pass: &mut CsqPass, irp: CsqIrp, status: u32) -> u32
     ensures { OnPass pass.old pass.new result (Unit {0})
-        (λ p p' code. (answer : Result IrpLife CompleteRefused)
-        × CompletesRemoved (irp_numbered irp) (status_numbered status) answer p p'
+        (λ p p' code. (answer : Result (Unit {0}) CompleteRefused)
+        × CompletesRemoved (irp_named irp) (status_numbered status) answer p p'
         × (code ≡ complete_code answer)) }
 {
     let Some(by) = pass.boxed.lent() else {
         return Code::Empty.number();
     };
-    let code = of_complete(by.complete(IrpId(irp), NtStatus(status)));
+    let code = of_complete(by.complete(irp.named(), NtStatus(status)));
     code.number()
 }
 
-/// Completes an IRP that the pass holds with STATUS_CANCELLED: CSQ_OK, else CSQ_UNKNOWN_IRP or
-/// CSQ_NOT_HELD. As `IoCompleteRequest`.
+/// Completes an IRP that the pass holds in the life named with STATUS_CANCELLED: CSQ_OK, else
+/// CSQ_UNKNOWN_IRP or CSQ_NOT_HELD. As `IoCompleteRequest`.
 #[unsafe(no_mangle)]
-pub extern "C" fn csq_complete_cancelled(pass: &mut CsqPass, irp: u32) -> u32
+pub extern "C" fn csq_complete_cancelled(pass: &mut CsqPass, irp: CsqIrp) -> u32
     ensures { OnPass pass.old pass.new result (Unit {0})
-        (λ p p' code. (answer : Result IrpLife CompleteRefused)
-        × CompletesHeld (irp_numbered irp) answer p p' × (code ≡ complete_code answer)) }
+        (λ p p' code. (answer : Result (Unit {0}) CompleteRefused)
+        × CompletesHeld (irp_named irp) answer p p' × (code ≡ complete_code answer)) }
 {
     let Some(by) = pass.boxed.lent() else {
         return Code::Empty.number();
     };
-    let code = of_complete(by.complete_cancelled(IrpId(irp)));
+    let code = of_complete(by.complete_cancelled(irp.named()));
     code.number()
 }
 

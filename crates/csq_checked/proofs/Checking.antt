@@ -1,5 +1,5 @@
 -- A pass's slots still tell what it holds and owes, after each of its calls.
-use Rattle.std.proofs.Common.{◌≡◌, ◌<◌, Bool, true, false, List, Option, Some, None, IfSome, refl, sym, ap, ◌∙◌, subst}
+use Rattle.std.proofs.Common.{◌≡◌, ℕ, ◌<◌, ◌==◌, Bool, true, false, true≢false, List, Option, Some, None, IfSome, refl, sym, ap, ◌∙◌, subst, eqb-true, eq-eqb}
 use Rattle.std.specs.Prelude.{slice_set}
 use Rattle.irp_core.specs.Runs.{Size}
 use Rattle.irp_core.specs.Steps.{number}
@@ -7,17 +7,17 @@ use Rattle.irp_core.specs.declared.ids.IrpLife.{IrpLife}
 use Rattle.irp_core.specs.declared.ids.Life.{Life}
 use Rattle.irp_core.specs.declared.status.NtStatus.{NtStatus}
 use Rattle.irp_core.specs.declared.step.Kind.TheVariants.{Out, Done}
-use Rattle.irp_core.specs.Own.{removed_in, held_list, owed_list}
+use Rattle.irp_core.specs.Own.{holds_in, owes_in, removed_in, held_list, owed_list}
 use Rattle.csq_words.specs.Records.{saw, with_step, with_completion}
 use Rattle.csq_words.specs.Seats.{WordsState}
-use Rattle.csq_queue.specs.Counts.{has_life}
+use Rattle.csq_queue.specs.Counts.{has_life, AreApart}
 use Rattle.csq_queue.specs.Opens.{OpenState, OpenPassState, IsQueueOn, IsPassOn}
-use Rattle.csq_queue.specs.Owned.{Holds, HoldsRemoved, Owes}
+use Rattle.csq_queue.specs.Owned.{Holds, Owes}
 use Rattle.csq_queue.proofs.Giving.{GivesOut}
 use Rattle.csq_checked.specs.declared.slots.Held.{Held}
 use Rattle.csq_checked.specs.Slots.{KnowsItsOwn, slot_at, with_held}
 use Rattle.csq_checked.specs.Passes.{IsCheckedPass}
-use Rattle.csq_checked.proofs.Knowing.{holds_told, owes_told}
+use Rattle.csq_checked.proofs.Knowing.{holds_told, owes_told, not_held, not_owed}
 use Rattle.csq_checked.proofs.Keeping.{kept_done, kept_out, kept_given}
 
 module _ (words : WordsState) (pass : OpenPassState) (held : List (Option Held)) (owed : List (Option Life)) (was : IsCheckedPass words pass held owed) where
@@ -32,13 +32,26 @@ module _ (words : WordsState) (pass : OpenPassState) (held : List (Option Held))
       held = (holds_told words.size.irps pass.pass.steps held owed was.own i known slot e life).0;
     }
 
-    pub slot_removed : (slot : Held) → slot_at held (number i) ≡ Some slot → i.life ≡ slot.life → slot.removed ≡ true → HoldsRemoved words.size.irps pass.pass i
-    slot_removed slot e life removed =
-        let told = holds_told words.size.irps pass.pass.steps held owed was.own i known slot e life in
-        record { known = known; held = told.0; removed = told.1 ∙ removed }
+    pub slot_got : (slot : Held) → slot_at held (number i) ≡ Some slot → i.life ≡ slot.life → removed_in pass.pass.steps i ≡ slot.removed
+    slot_got slot e life = (holds_told words.size.irps pass.pass.steps held owed was.own i known slot e life).1
 
     pub slot_owes : slot_at owed (number i) ≡ Some i.life → Owes pass.pass i
     slot_owes e = owes_told words.size.irps pass.pass.steps held owed was.own i known e
+
+    -- what it holds and owes no two lives of, it holds and owes in the life that a slot tells alone
+    pub slot_not_held : (some : ℕ) → AreApart some (held_list pass.pass.steps) → ((slot : Held) → slot_at held (number i) ≡ Some slot → slot.life ≡ i.life → ⊥) → holds_in pass.pass.steps i ≡ false
+    slot_not_held some apart none = not_held words.size.irps pass.pass.steps held owed was.own i known some apart none
+
+    pub slot_not_owed : (some : ℕ) → AreApart some (owed_list pass.pass.steps) → (slot_at owed (number i) ≡ Some i.life → ⊥) → owes_in pass.pass.steps i ≡ false
+    slot_not_owed some apart none = not_owed words.size.irps pass.pass.steps held owed was.own i known some apart none
+
+    -- so a slot that is filled tells by its life whether i is owed
+    pub slot_owed_is : (some : ℕ) → AreApart some (owed_list pass.pass.steps) → (life : Life) → slot_at owed (number i) ≡ Some life → (life.0 == i.life.0) ≡ owes_in pass.pass.steps i
+    slot_owed_is some apart life e = at (life.0 == i.life.0) refl
+      where
+        at : (b : Bool) → (life.0 == i.life.0) ≡ b → b ≡ owes_in pass.pass.steps i
+        at true same = sym (slot_owes (e ∙ ap (λ (n : ℕ). Some (record { 0 = n })) (eqb-true life.0 i.life.0 same)))
+        at false other = sym (slot_not_owed some apart (λ f. let told : ◌≡◌ (Some life) (Some i.life) = sym e ∙ f in let is : life ≡ i.life = cc in true≢false (sym (eq-eqb life.0 i.life.0 (ap (λ (l : Life). l.0) is)) ∙ other)))
 
     -- it completed i
     pub completion_keeps : (status : NtStatus) (pass' : OpenPassState) (held' : List (Option Held)) → pass' ≡ record pass { pass = saw pass'.pass.run (with_completion i status (with_step (Done i) 0 pass.pass)) }

@@ -1,5 +1,6 @@
 -- What the slots of a pass tell, from one record of the pass to the next.
-use Rattle.std.proofs.Common.{◌≡◌, ◌≢◌, ℕ, ◌<◌, ◌==◌, ◌||◌, not, cond, Bool, true, false, true≢false, List, [], ◌∷◌, length, Option, Some, None, refl, sym, ap, ◌∙◌, eqb-true, ne_eqb}
+use Rattle.std.proofs.Common.{◌≡◌, ◌≢◌, ℕ, ◌<◌, ◌==◌, ◌||◌, not, cond, Bool, true, false, true≢false, List, [], ◌∷◌, length, Option, Some, None, refl, sym, ap, ◌∙◌, eqb-true, eq-eqb, ne_eqb}
+use Rattle.std.proofs.lemmas.Bool.{false_from_ne_true, or_parts}
 use Rattle.std.specs.Prelude.{slice_set}
 use Rattle.std.proofs.lemmas.List.{get_or-set_same, get_or-set_other}
 use Rattle.irp_core.specs.Steps.{number, same_id, same_irp}
@@ -10,7 +11,7 @@ use Rattle.irp_core.proofs.Names.{same_irp-refl, same_irp-eq, named}
 use Rattle.irp_core.specs.Own.{holds_in, owes_in, removed_in, held_list, owed_list}
 use Rattle.csq_words.specs.Queue.{has_irp}
 use Rattle.csq_words.proofs.Held.{held_list-is, owed_list-is}
-use Rattle.csq_queue.specs.Counts.{has_life}
+use Rattle.csq_queue.specs.Counts.{has_life, AreApart}
 use Rattle.csq_queue.proofs.Counting.{spent}
 use Rattle.csq_checked.specs.declared.slots.Held.{Held}
 use Rattle.csq_checked.specs.Slots.{KnowsItsOwn, slot_at, held_at, owed_at}
@@ -105,7 +106,47 @@ owed_found (j ∷ is) i e = at (number j == number i) refl e (owed_found is i)
         ap (λ (b : Bool). b || has_irp is i) (ap (λ (x : IrpLife). same_irp x i) is_it ∙ same_irp-refl i)
     at false unlike f rest = or_second (same_irp j i) (has_irp is i) (rest f)
 
--- what a slot tells is so
+-- names that differ in the number, or in the life, differ
+unlike_number : (j i : IrpLife) → (number j == number i) ≡ false → same_irp j i ≡ false
+unlike_number j i e = false_from_ne_true (same_irp j i) (λ t. true≢false (sym (eq-eqb (number j) (number i) (ap number (same_irp-eq j i t))) ∙ e))
+
+unlike_life : (j i : IrpLife) → (j.life ≡ i.life → ⊥) → same_irp j i ≡ false
+unlike_life j i ne = false_from_ne_true (same_irp j i) (λ t. ne (ap (λ (x : IrpLife). x.life) (same_irp-eq j i t)))
+
+or_neither : (a b : Bool) → a ≡ false → b ≡ false → (a || b) ≡ false
+or_neither a b e f = ap (λ c. c || b) e ∙ f
+
+-- of an IRP that has no life among these, none is
+no_life : (is : List IrpLife) (j i : IrpLife) → number j ≡ number i → has_life is j.irp ≡ false → has_irp is i ≡ false
+unfolding same_id
+no_life [] j i e h = refl
+no_life (k ∷ is) j i e h =
+    let parts = or_parts (number k == number j) (has_life is j.irp) h in
+    or_neither (same_irp k i) (has_irp is i) (unlike_number k i (ap (λ n. number k == n) (sym e) ∙ parts.0)) (no_life is j i e parts.1)
+
+-- what isn't told of in its life isn't among these, where no two are lives of one IRP
+pub held_absent : (irps : ℕ) (steps : List Made) (is : List IrpLife) (i : IrpLife) → AreApart irps is → ((held : Held) → held_at steps is (number i) ≡ Some held → held.life ≡ i.life → ⊥) → has_irp is i ≡ false
+held_absent irps steps [] i apart none = refl
+held_absent irps steps (j ∷ is) i apart none = at (number j == number i) refl none (held_absent irps steps is i apart.2)
+  where
+    here : Held
+    here = record { removed = removed_in steps j; life = j.life }
+
+    at : (b : Bool) → (number j == number i) ≡ b → ((held : Held) → cond b (Some here) (held_at steps is (number i)) ≡ Some held → held.life ≡ i.life → ⊥)
+        → (((held : Held) → held_at steps is (number i) ≡ Some held → held.life ≡ i.life → ⊥) → has_irp is i ≡ false) → (same_irp j i || has_irp is i) ≡ false
+    at true same f rest = or_neither (same_irp j i) (has_irp is i) (unlike_life j i (f here refl)) (no_life is j i (eqb-true (number j) (number i) same) apart.1)
+    at false unlike f rest = or_neither (same_irp j i) (has_irp is i) (unlike_number j i unlike) (rest f)
+
+pub owed_absent : (irps : ℕ) (is : List IrpLife) (i : IrpLife) → AreApart irps is → (owed_at is (number i) ≡ Some i.life → ⊥) → has_irp is i ≡ false
+owed_absent irps [] i apart none = refl
+owed_absent irps (j ∷ is) i apart none = at (number j == number i) refl none (owed_absent irps is i apart.2)
+  where
+    at : (b : Bool) → (number j == number i) ≡ b → (cond b (Some j.life) (owed_at is (number i)) ≡ Some i.life → ⊥)
+        → ((owed_at is (number i) ≡ Some i.life → ⊥) → has_irp is i ≡ false) → (same_irp j i || has_irp is i) ≡ false
+    at true same f rest = or_neither (same_irp j i) (has_irp is i) (unlike_life j i (λ (e : j.life ≡ i.life). f (ap (λ (l : Life). Some l) e))) (no_life is j i (eqb-true (number j) (number i) same) apart.1)
+    at false unlike f rest = or_neither (same_irp j i) (has_irp is i) (unlike_number j i unlike) (rest f)
+
+-- what a slot tells is so, and what it doesn't tell isn't, where no two are lives of one IRP
 module _ (irps : ℕ) (steps : List Made) (held : List (Option Held)) (owed : List (Option Life)) (own : KnowsItsOwn irps steps held owed) (i : IrpLife) (known : number i < irps) where
   pub holds_told : (slot : Held) → slot_at held (number i) ≡ Some slot → i.life ≡ slot.life → (holds_in steps i ≡ true) × (removed_in steps i ≡ slot.removed)
   holds_told slot e life =
@@ -114,3 +155,9 @@ module _ (irps : ℕ) (steps : List Made) (held : List (Option Held)) (owed : Li
 
   pub owes_told : slot_at owed (number i) ≡ Some i.life → owes_in steps i ≡ true
   owes_told e = sym (owed_list-is steps i) ∙ owed_found (owed_list steps) i (sym (own.owed_is (number i) known) ∙ e)
+
+  pub not_held : (some : ℕ) → AreApart some (held_list steps) → ((slot : Held) → slot_at held (number i) ≡ Some slot → slot.life ≡ i.life → ⊥) → holds_in steps i ≡ false
+  not_held some apart none = sym (held_list-is steps i) ∙ held_absent some steps (held_list steps) i apart (λ slot e. none slot (own.held_is (number i) known ∙ e))
+
+  pub not_owed : (some : ℕ) → AreApart some (owed_list steps) → (slot_at owed (number i) ≡ Some i.life → ⊥) → owes_in steps i ≡ false
+  not_owed some apart none = sym (owed_list-is steps i) ∙ owed_absent some (owed_list steps) i apart (λ e. none (own.owed_is (number i) known ∙ e))

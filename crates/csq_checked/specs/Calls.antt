@@ -1,9 +1,9 @@
 -- What a call of a checked queue, or of its pass alone, answers and leaves: it is the open queue's call, or is refused for the first cause that holds.
-use Rattle.std.specs.Prelude.{◌≡◌, ◌<◌, List, Result, Err, IfOk, OnOk, OnErr}
+use Rattle.std.specs.Prelude.{◌≡◌, ◌<◌, ◌↔◌, List, Option, Some, None, Result, Ok, Err, IfSome, OnOk, OnErr}
 use Rattle.std.specs.Result.{result_err}
 use Rattle.irp_core.specs.Runs.{Size}
+use Rattle.irp_core.specs.Steps.{number}
 use Rattle.irp_core.specs.declared.ids.FileId.{FileId}
-use Rattle.irp_core.specs.declared.ids.IrpId.{IrpId}
 use Rattle.irp_core.specs.declared.ids.IrpLife.{IrpLife}
 use Rattle.irp_core.specs.declared.ids.Life.{Life}
 use Rattle.irp_core.specs.declared.status.NtStatus.{NtStatus}
@@ -11,12 +11,15 @@ use Rattle.irp_core.specs.declared.status.TheConstants.NtStatus.{CANCELLED}
 use Rattle.csq_list.specs.declared.refusals.UnknownFile.{UnknownFile}
 use Rattle.csq_words.specs.declared.views.Entry.{Entry}
 use Rattle.csq_words.specs.declared.views.PassRecord.{PassRecord}
-use Rattle.csq_words.specs.Queue.{Limits}
-use Rattle.csq_queue.specs.declared.refusals.ReuseRefused.{ReuseRefused}
-use Rattle.csq_queue.specs.declared.refusals.ReuseRefused.TheVariants.{UnknownIrp}
+use Rattle.csq_words.specs.History.{end_of}
+use Rattle.csq_words.specs.Queue.{Limits, current}
+use Rattle.csq_queue.specs.declared.refusals.ReuseRefused.{ReuseRefused as QueueRefused}
+use Rattle.csq_queue.specs.declared.refusals.ReuseRefused.TheVariants as of_queue
 use Rattle.csq_queue.specs.Calls.{RunsRoutine, ClosesFile, Reuses, CompletesOne}
-use Rattle.csq_queue.specs.Opens.{after_call}
+use Rattle.csq_queue.specs.Opens.{OpenState, after_call}
 use Rattle.csq_queue.specs.Owned.{Holds, HoldsRemoved, Owes}
+use Rattle.csq_checked.specs.declared.calls.ReuseRefused.{ReuseRefused}
+use Rattle.csq_checked.specs.declared.calls.ReuseRefused.TheVariants.{UnknownIrp, Stale, NotCompleted, LivesSpent}
 use Rattle.csq_checked.specs.declared.unlocked.CompleteRefused.{CompleteRefused}
 use Rattle.csq_checked.specs.declared.unlocked.RoutineRefused.{RoutineRefused}
 use Rattle.csq_checked.specs.Causes.{complete_cause, cancelled_cause, routine_cause}
@@ -41,11 +44,11 @@ pub record MakesOwnCall (call_is : Size → PassRecord → PassRecord → Type 0
   pub call : call_is p.words.size p.pass p'.pass
   pub words : p'.words ≡ p.words
 
--- a cancel routine of an IRP that the pass owes, or the first cause why not
-pub record RunsOwedRoutine (irp : IrpId) (answer : Result IrpLife RoutineRefused) (q : CheckedState) (p : CheckedPassState) (q' : CheckedState) (p' : CheckedPassState) : Type 0 where
-  pub cause : result_err answer ≡ routine_cause q.queue.limits.irps p.pass.steps irp
-  pub owed : IfOk answer (λ i. (i.irp ≡ irp) × Owes p.pass i)
-  pub call : IfOk answer (λ i. MakesCall (RunsRoutine i) q p q' p')
+-- the cancel routine of i, which the pass owes, or the first cause why not
+pub record RunsOwedRoutine (i : IrpLife) (answer : Result (Unit {0}) RoutineRefused) (q : CheckedState) (p : CheckedPassState) (q' : CheckedState) (p' : CheckedPassState) : Type 0 where
+  pub cause : result_err answer ≡ routine_cause q.queue.limits.irps p.pass.steps i
+  pub owed : OnOk answer (Owes p.pass i)
+  pub call : OnOk answer (MakesCall (RunsRoutine i) q p q' p')
   pub kept : OnErr answer (AreKept q p q' p')
 
 -- a file object is closed where there is one; else nothing is new
@@ -54,22 +57,42 @@ pub record ClosesKnownFile (file : FileId) (answer : Result (Unit {0}) UnknownFi
   pub after : OnOk answer (IsAfter q p q' p')
   pub kept : OnErr answer (AreKept q p q' p')
 
--- a reuse of an IRP, where there is one; else nothing is new
-pub record ReusesKnownIrp (irp : IrpId) (answer : Result Life ReuseRefused) (q : CheckedState) (p : CheckedPassState) (q' : CheckedState) (p' : CheckedPassState) : Type 0 where
-  pub call : Reuses irp answer q.queue.limits q.queue.queue.history p.pass p'.pass
-  pub after : irp.0 < q.queue.limits.irps → IsAfter q p q' p'
-  pub kept : answer ≡ Err UnknownIrp → AreKept q p q' p'
+-- i is its IRP's present life at the end of the history
+abbrev pub IsPresentIn : OpenState → IrpLife → Type 0
+IsPresentIn queue i = i ≡ current (end_of queue.limits.first queue.queue.history) i.irp
 
--- a completion of an IRP that a removal got, or the first cause why not
-pub record CompletesRemoved (irp : IrpId) (status : NtStatus) (answer : Result IrpLife CompleteRefused) (p p' : CheckedPassState) : Type 0 where
-  pub cause : result_err answer ≡ complete_cause p.words.size.irps p.pass.steps irp status
-  pub held : IfOk answer (λ i. (i.irp ≡ irp) × HoldsRemoved p.words.size.irps p.pass i)
-  pub call : IfOk answer (λ i. MakesOwnCall (CompletesOne i status) p p')
+-- what the open queue answered, if it was asked
+abbrev pub asked : Result Life ReuseRefused → Option (Result Life QueueRefused)
+asked (Ok life) = Some (Ok life)
+asked (Err UnknownIrp) = None
+asked (Err Stale) = None
+asked (Err NotCompleted) = Some (Err of_queue.NotCompleted)
+asked (Err LivesSpent) = Some (Err of_queue.LivesSpent)
+
+-- a reuse of i, where it is a present life; else nothing is new
+pub record ReusesPresentLife (i : IrpLife) (answer : Result Life ReuseRefused) (q : CheckedState) (p : CheckedPassState) (q' : CheckedState) (p' : CheckedPassState) : Type 0 where
+  pub unknown : (answer ≡ Err UnknownIrp) ↔ ¬ (number i < q.queue.limits.irps)
+  pub stale : (answer ≡ Err Stale) ↔ ((number i < q.queue.limits.irps) × ¬ IsPresentIn q.queue i)
+  pub call : IfSome (asked answer) (λ a. MakesCall (Reuses i.irp a) q p q' p')
+  pub kept : asked answer ≡ None → AreKept q p q' p'
+
+-- a completion of i, which a removal got, or the first cause why not
+pub record CompletesRemoved (i : IrpLife) (status : NtStatus) (answer : Result (Unit {0}) CompleteRefused) (p p' : CheckedPassState) : Type 0 where
+  pub cause : result_err answer ≡ complete_cause p.words.size.irps p.pass.steps i status
+  pub held : OnOk answer (HoldsRemoved p.words.size.irps p.pass i)
+  pub call : OnOk answer (MakesOwnCall (CompletesOne i status) p p')
   pub kept : OnErr answer (p' ≡ p)
 
--- a completion as cancelled of an IRP that the pass holds, or the first cause why not
-pub record CompletesHeld (irp : IrpId) (answer : Result IrpLife CompleteRefused) (p p' : CheckedPassState) : Type 0 where
-  pub cause : result_err answer ≡ cancelled_cause p.words.size.irps p.pass.steps irp
-  pub held : IfOk answer (λ i. (i.irp ≡ irp) × Holds p.words.size.irps p.pass i)
-  pub call : IfOk answer (λ i. MakesOwnCall (CompletesOne i CANCELLED) p p')
+-- a completion as cancelled of i, which the pass holds, or the first cause why not
+pub record CompletesHeld (i : IrpLife) (answer : Result (Unit {0}) CompleteRefused) (p p' : CheckedPassState) : Type 0 where
+  pub cause : result_err answer ≡ cancelled_cause p.words.size.irps p.pass.steps i
+  pub held : OnOk answer (Holds p.words.size.irps p.pass i)
+  pub call : OnOk answer (MakesOwnCall (CompletesOne i CANCELLED) p p')
   pub kept : OnErr answer (p' ≡ p)
+
+-- the cancel routine of i, which the pass owes, and the completion of i as cancelled; or the first cause why not
+pub record CancelsOwed (i : IrpLife) (answer : Result (Unit {0}) RoutineRefused) (q : CheckedState) (p : CheckedPassState) (q' : CheckedState) (p' : CheckedPassState) : Type 0 where
+  pub between : CheckedPassState
+  pub routine : RunsOwedRoutine i answer q p q' between
+  pub completion : OnOk answer (CompletesHeld i (Ok tt) between p')
+  pub kept : OnErr answer (AreKept q p q' p')

@@ -1,7 +1,7 @@
 //! The calls that take the queue.
 ghost use Rattle.std.specs.Prelude.{◌≡◌, ◌<◌, length, IfSome, true};
 ghost use Rattle.csq_queue.specs.Calls.{Inserts, RemovesNext, RemovesOne};
-ghost use Rattle.csq_checked.specs.Calls.{MakesCall, RunsOwedRoutine, ClosesKnownFile, ReusesKnownIrp};
+ghost use Rattle.csq_checked.specs.Calls.{MakesCall, RunsOwedRoutine, CancelsOwed, ClosesKnownFile, ReusesPresentLife};
 ghost use Rattle.csq_checked.specs.Passes.{IsPassIn};
 ghost use Rattle.csq_checked.specs.Slots.{with_held};
 
@@ -10,8 +10,21 @@ use crate::queue::CheckedQueue;
 use crate::slots::{Held, Slots};
 use crate::unlocked::RoutineRefused;
 use csq_list::{InsertStatus, Peek, Place, UnknownFile};
-use csq_queue::{InsertAnswer, OpenInserted, ReuseRefused};
+use csq_queue::{InsertAnswer, OpenInserted};
 use irp_core::{FileId, IrpId, IrpLife, Life};
+
+/// Why an IRP was not given its next life, in the order in which the causes are tested. Own rule.
+#[derive(Clone, Copy, Debug, PartialEq, Eq)]
+pub enum ReuseRefused {
+    /// There is no such IRP.
+    UnknownIrp,
+    /// The life named isn't its present one.
+    Stale,
+    /// Its present life isn't completed.
+    NotCompleted,
+    /// Its present life is the last that there can be, 2^30 - 1.
+    LivesSpent,
+}
 
 impl CheckedQueue {
     /// Inserts an IRP for a file object, last or first, or tells the first cause why not, as `Csq::insert`
@@ -62,31 +75,45 @@ impl CheckedQueue {
         taken
     }
 
-    /// Takes out an IRP that the pass owes, as `Csq::cancel_routine` does, and answers it in its life. The
-    /// pass holds it then. A refusal is the first cause that holds.
+    /// Takes out an IRP that the pass owes in the life named, as `Csq::cancel_routine` does. The pass holds
+    /// it then. A refusal is the first cause that holds.
     pub fn cancel_routine(
         &mut self,
         by: &mut CheckedPass,
-        irp: IrpId,
-    ) -> Result<IrpLife, RoutineRefused>
+        irp: IrpLife,
+    ) -> Result<(), RoutineRefused>
         requires { IsPassIn self.old.queue by.old }
         ensures call { RunsOwedRoutine irp result self.old by.old self.new by.new }
     {
-        if !by.owed.knows(irp) {
+        if !by.owed.knows(irp.irp) {
             return Err(RoutineRefused::UnknownIrp);
         }
-        let life = by.owed.get(irp).ok_or(RoutineRefused::NotOwed)?;
-        let named = IrpLife { irp, life };
-        self.queue.cancel_routine(&by.words, &mut by.pass, named);
-        by.owed.set(irp, None);
+        if !by.owes(irp) {
+            return Err(RoutineRefused::NotOwed);
+        }
+        self.queue.cancel_routine(&by.words, &mut by.pass, irp);
+        by.owed.set(irp.irp, None);
         by.held.set(
-            irp,
+            irp.irp,
             Some(Held {
                 removed: false,
-                life,
+                life: irp.life,
             }),
         );
-        Ok(named)
+        Ok(())
+    }
+
+    /// Takes out an IRP that the pass owes in the life named and completes it with STATUS_CANCELLED, as the
+    /// WDK's queue does by CsqCompleteCanceledIrp. Refused as `cancel_routine` is.
+    pub fn cancel_owed(&mut self, by: &mut CheckedPass, irp: IrpLife) -> Result<(), RoutineRefused>
+        requires { IsPassIn self.old.queue by.old }
+        ensures call { CancelsOwed irp result self.old by.old self.new by.new }
+    {
+        self.cancel_routine(by, irp)?;
+        if by.complete_cancelled(irp).is_err() {
+            unreachable!()
+        }
+        Ok(())
     }
 
     /// Closes a file object for good, as `Csq::close_file` does.
@@ -97,12 +124,22 @@ impl CheckedQueue {
         self.queue.close_file(&by.words, &mut by.pass, file)
     }
 
-    /// Begins the next life of a completed IRP, as `Csq::reuse` does.
-    pub fn reuse(&mut self, by: &mut CheckedPass, irp: IrpId) -> Result<Life, ReuseRefused>
+    /// Begins the next life of an IRP that was completed in the life named, as `Csq::reuse` does. A refusal
+    /// is the first cause that holds.
+    pub fn reuse(&mut self, by: &mut CheckedPass, irp: IrpLife) -> Result<Life, ReuseRefused>
         requires { IsPassIn self.old.queue by.old }
-        ensures call { ReusesKnownIrp irp result self.old by.old self.new by.new }
+        ensures call { ReusesPresentLife irp result self.old by.old self.new by.new }
     {
-        self.queue.reuse(&by.words, &mut by.pass, irp)
+        let present = self.queue.life(irp.irp).ok_or(ReuseRefused::UnknownIrp)?;
+        if present.0 != irp.life.0 {
+            return Err(ReuseRefused::Stale);
+        }
+        match self.queue.reuse(&by.words, &mut by.pass, irp.irp) {
+            Ok(life) => Ok(life),
+            Err(csq_queue::ReuseRefused::NotCompleted) => Err(ReuseRefused::NotCompleted),
+            Err(csq_queue::ReuseRefused::LivesSpent) => Err(ReuseRefused::LivesSpent),
+            Err(csq_queue::ReuseRefused::UnknownIrp) => unreachable!(),
+        }
     }
 }
 

@@ -1,10 +1,12 @@
 //! The calls of a pass that take no queue.
-ghost use Rattle.std.specs.Prelude.{◌≡◌};
+ghost use Rattle.std.specs.Prelude.{◌≡◌, ◌<◌, ◌↔◌, true, IsSome, IfSome};
+ghost use Rattle.irp_core.specs.Own.{holds_in, owes_in, removed_in};
 ghost use Rattle.csq_queue.specs.Counts.{held_count, owed_count};
 ghost use Rattle.csq_queue.specs.Calls.{MarksCancel, ReadsFlag, ReadsStatus};
 ghost use Rattle.csq_checked.specs.Calls.{MakesOwnCall, CompletesRemoved, CompletesHeld};
 
 use crate::pass::CheckedPass;
+use crate::slots::Held;
 use csq_queue::{CancelRefused, UnknownIrp};
 use irp_core::{FinalStatus, IrpId, IrpLife, Life, NtStatus};
 
@@ -13,7 +15,7 @@ use irp_core::{FinalStatus, IrpId, IrpLife, Life, NtStatus};
 pub enum CompleteRefused {
     /// There is no such IRP.
     UnknownIrp,
-    /// The pass doesn't hold it.
+    /// The pass doesn't hold it in the life named.
     NotHeld,
     /// The pass holds it, but got it cancelled: it is completed as cancelled alone.
     NotRemoved,
@@ -26,7 +28,7 @@ pub enum CompleteRefused {
 pub enum RoutineRefused {
     /// There is no such IRP.
     UnknownIrp,
-    /// The pass doesn't owe it.
+    /// The pass doesn't owe it in the life named.
     NotOwed,
 }
 
@@ -57,44 +59,67 @@ impl CheckedPass {
         Ok(claim)
     }
 
-    /// Completes an IRP that the pass got by a removal with this status (`IoCompleteRequest`): nobody
-    /// completed it before. It answers the IRP in its life. A refusal is the first cause that holds.
-    pub fn complete(&mut self, irp: IrpId, status: NtStatus) -> Result<IrpLife, CompleteRefused>
+    // How the pass holds an IRP in the life named, if it does.
+    fn holding(&self, irp: IrpLife) -> Option<Held>
+        requires { irp.irp.0 < self.now.words.size.irps }
+        ensures held { IsSome result ↔ (holds_in self.now.pass.steps irp ≡ true) }
+        ensures removed { IfSome result (λ held. held.removed
+            ≡ removed_in self.now.pass.steps irp) }
+    {
+        // Counted for the proof alone: it holds no two lives of one IRP.
+        let _ = self.pass.tokens();
+        let held = self.held.get(irp.irp)?;
+        if held.life.0 != irp.life.0 {
+            return None;
+        }
+        Some(held)
+    }
+
+    // Whether the pass owes an IRP in the life named.
+    pub(crate) fn owes(&self, irp: IrpLife) -> bool
+        requires { irp.irp.0 < self.now.words.size.irps }
+        ensures { result ≡ owes_in self.now.pass.steps irp }
+    {
+        // Counted for the proof alone: it owes no two lives of one IRP.
+        let _ = self.pass.claims();
+        match self.owed.get(irp.irp) {
+            Some(life) => life.0 == irp.life.0,
+            None => false,
+        }
+    }
+
+    /// Completes an IRP that the pass got by a removal, in the life in which it got it, with this status
+    /// (`IoCompleteRequest`): nobody completed it before. A refusal is the first cause that holds.
+    pub fn complete(&mut self, irp: IrpLife, status: NtStatus) -> Result<(), CompleteRefused>
         ensures call { CompletesRemoved irp status result self.old self.new }
     {
-        if !self.held.knows(irp) {
+        if !self.held.knows(irp.irp) {
             return Err(CompleteRefused::UnknownIrp);
         }
-        let held = self.held.get(irp).ok_or(CompleteRefused::NotHeld)?;
+        let held = self.holding(irp).ok_or(CompleteRefused::NotHeld)?;
         if !held.removed {
             return Err(CompleteRefused::NotRemoved);
         }
         let status = FinalStatus::new(status).ok_or(CompleteRefused::NotFinal)?;
-        let named = IrpLife {
-            irp,
-            life: held.life,
-        };
-        self.pass.complete(&self.words, named, status);
-        self.held.set(irp, None);
-        Ok(named)
+        self.pass.complete(&self.words, irp, status);
+        self.held.set(irp.irp, None);
+        Ok(())
     }
 
-    /// Completes an IRP that the pass holds with STATUS_CANCELLED: nobody completed it before. It answers
-    /// the IRP in its life. Refused with `UnknownIrp` or `NotHeld`.
-    pub fn complete_cancelled(&mut self, irp: IrpId) -> Result<IrpLife, CompleteRefused>
+    /// Completes an IRP that the pass holds in the life named with STATUS_CANCELLED: nobody completed it
+    /// before. Refused with `UnknownIrp` or `NotHeld`.
+    pub fn complete_cancelled(&mut self, irp: IrpLife) -> Result<(), CompleteRefused>
         ensures call { CompletesHeld irp result self.old self.new }
     {
-        if !self.held.knows(irp) {
+        if !self.held.knows(irp.irp) {
             return Err(CompleteRefused::UnknownIrp);
         }
-        let held = self.held.get(irp).ok_or(CompleteRefused::NotHeld)?;
-        let named = IrpLife {
-            irp,
-            life: held.life,
-        };
-        self.pass.complete_cancelled(&self.words, named);
-        self.held.set(irp, None);
-        Ok(named)
+        if self.holding(irp).is_none() {
+            return Err(CompleteRefused::NotHeld);
+        }
+        self.pass.complete_cancelled(&self.words, irp);
+        self.held.set(irp.irp, None);
+        Ok(())
     }
 
     /// The life that an IRP's Cancel flag stands for, and whether it is set there, as `Csq::is_cancelled`

@@ -5,6 +5,7 @@ ghost use Rattle.csq_checked.specs.Passes.{IsPassIn};
 mod calls;
 mod ends;
 mod kinds;
+mod lives;
 mod plays;
 mod sizes;
 mod threads;
@@ -29,6 +30,11 @@ const KINDS: [ListKind; 2] = [ListKind::Vector, ListKind::Chains];
 // An IRP in the life in which all begin.
 fn first(irp: IrpId) -> IrpLife {
     IrpLife { irp, life: Life(5) }
+}
+
+// An IRP in the life after it.
+fn second(irp: IrpId) -> IrpLife {
+    IrpLife { irp, life: Life(6) }
 }
 
 // Three IRPs for two file objects, and two passes.

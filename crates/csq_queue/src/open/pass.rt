@@ -1,8 +1,9 @@
 //! The passes of a queue without a name. Their calls that cancel, complete and read take no queue.
 ghost use Rattle.std.specs.Prelude.{◌≡◌};
 ghost use Rattle.irp_core.specs.declared.status.TheConstants.NtStatus.{CANCELLED};
+ghost use Rattle.irp_core.specs.Own.{held_list, owed_list};
 ghost use Rattle.csq_queue.specs.Calls.{MarksCancel, CompletesOne, ReadsFlag, ReadsStatus};
-ghost use Rattle.csq_queue.specs.Counts.{held_count, owed_count};
+ghost use Rattle.csq_queue.specs.Counts.{AreApart, held_count, owed_count};
 ghost use Rattle.csq_queue.specs.Opens.{IsPassOn};
 ghost use Rattle.csq_queue.specs.Owned.{Holds, HoldsRemoved};
 
@@ -60,7 +61,8 @@ impl OpenPass {
 
     /// How many IRPs the pass holds. Own rule.
     pub fn tokens(&self) -> u32
-        ensures { result ≡ held_count self.now.pass.steps }
+        ensures count { result ≡ held_count self.now.pass.steps }
+        ensures apart { AreApart self.now.irps (held_list self.now.pass.steps) }
     {
         let OpenPass { tokens, .. } = self;
         *tokens
@@ -68,7 +70,8 @@ impl OpenPass {
 
     /// How many IRPs the pass owes. Own rule.
     pub fn claims(&self) -> u32
-        ensures { result ≡ owed_count self.now.pass.steps }
+        ensures count { result ≡ owed_count self.now.pass.steps }
+        ensures apart { AreApart self.now.irps (owed_list self.now.pass.steps) }
     {
         let OpenPass { claims, .. } = self;
         *claims

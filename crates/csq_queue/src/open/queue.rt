@@ -1,16 +1,16 @@
 //! A queue without a lock and without a name: whoever has it makes one call at a time of those that take
 //! it. Its words are shared by its passes, which cancel and complete without it.
-ghost use Rattle.std.specs.Prelude.{◌≡◌, ◌+◌, ◌-◌, ◌<◌, ◌≤◌, false, Err, OnOk, OnErr};
+ghost use Rattle.std.specs.Prelude.{◌≡◌, ◌+◌, ◌-◌, ◌<◌, ◌≤◌, ◌↔◌, false, Err, OnOk, OnErr, IfSome, IsSome};
 ghost use Rattle.irp_core.specs.declared.ids.IrpId.{IrpId as IrpNumber};
 ghost use Rattle.irp_core.specs.Steps.{own};
 ghost use Rattle.csq_words.specs.Finals.{AllBack, IsFinal, IsLeft, KeepsRecords};
-ghost use Rattle.csq_words.specs.History.{IsLegal, IsExtendedBy, calls_of};
-ghost use Rattle.csq_words.specs.Queue.{plain_listing};
+ghost use Rattle.csq_words.specs.History.{IsLegal, IsExtendedBy, calls_of, end_of};
+ghost use Rattle.csq_words.specs.Queue.{current, plain_listing};
 ghost use Rattle.csq_words.specs.Records.{caught_up, queue_of, with_run, with_back, with_shown};
 ghost use Rattle.csq_words.specs.Rule.{IsHistoryOf, QueueAndPassHaveRun};
 ghost use Rattle.csq_words.specs.Seats.{pass_at, pass_record, IsHere};
 ghost use Rattle.csq_queue.specs.Calls.{Inserts, RemovesNext, RemovesOne, RunsRoutine, ClosesFile, Reuses};
-ghost use Rattle.csq_queue.specs.Named.{queue_size, out_count};
+ghost use Rattle.csq_queue.specs.Named.{named, queue_size, out_count};
 ghost use Rattle.csq_queue.specs.Opens.{IsQueueOn, IsPassOn, IsRackOn, after_call};
 ghost use Rattle.csq_queue.specs.Owned.{Owes};
 ghost use Rattle.csq_queue.specs.Rests.{HoldsNothing, FirstAreBack, GivenBack, IsClosed};
@@ -196,6 +196,16 @@ impl<L: PendingList + Drop, A: Allocator> OpenQueue<L, A> {
         let life = renew_irp::<L, A>(&mut self.list, &mut self.seat, &mut self.lives, words, irp);
         leave(&mut self.seat, words, &mut pass.seat);
         life
+    }
+
+    /// The present life of an IRP: the first one, and after each reuse the next. None where there is no such
+    /// IRP. Own rule.
+    pub fn life(&self, irp: IrpId) -> Option<Life>
+        ensures known { IsSome result ↔ (irp.0 < self.now.limits.irps) }
+        ensures present { IfSome result (λ life. named irp life
+            ≡ current (end_of self.now.limits.first self.now.queue.history) irp) }
+    {
+        self.lives.get(irp)
     }
 
     /// Lets a pass see the whole history, and the execution so far.

@@ -1,22 +1,22 @@
 //! What the calls of a pass answer.
 use super::plays::{Answer, Call, Row, play_over, put};
-use super::{FILE, KINDS, ONE, OTHER, UNKNOWN, ZERO, first, made, sized};
-use csq_checked::{CompleteRefused, RoutineRefused};
+use super::{FILE, KINDS, ONE, OTHER, UNKNOWN, ZERO, first, made, second, sized};
+use csq_checked::{CompleteRefused, ReuseRefused, RoutineRefused};
 use csq_list::{InsertStatus, Peek, Place};
-use csq_queue::{CancelRefused, ReuseRefused};
+use csq_queue::CancelRefused;
 use irp_core::{FileId, IrpLife, Life, NtStatus};
 use std::process::Abort;
 
-const NOT_HELD: Answer = Answer::NotCompleted(CompleteRefused::NotHeld);
+pub(super) const NOT_HELD: Answer = Answer::NotCompleted(CompleteRefused::NotHeld);
 
 const NOT_REMOVED: Answer = Answer::NotCompleted(CompleteRefused::NotRemoved);
 
-const NOT_OWED: Answer = Answer::NotRun(RoutineRefused::NotOwed);
+pub(super) const NOT_OWED: Answer = Answer::NotRun(RoutineRefused::NotOwed);
 
 const UNKNOWN_IRP: Answer = Answer::NotCompleted(CompleteRefused::UnknownIrp);
 
 // Plays the rows over a new queue with either list.
-fn play_over_both<R: AllocGlobal + Abort>(rt: &R, rows: &[Row]) {
+pub(super) fn play_over_both<R: AllocGlobal + Abort>(rt: &R, rows: &[Row]) {
     for list in KINDS {
         play_over(rt, made(rt, sized(list)), rows);
     }
@@ -31,14 +31,14 @@ fn removal() -> [Row; 12] {
         (Call::Next(Peek::File(OTHER)), Answer::Nothing),
         (Call::Next(Peek::Any), Answer::Got(first(ZERO))),
         (Call::Count, Answer::Counted(1, 0)),
-        (Call::Complete(ZERO, NtStatus::PENDING), not_final),
-        (Call::Complete(UNKNOWN, NtStatus::SUCCESS), UNKNOWN_IRP),
-        (Call::Complete(ONE, NtStatus::SUCCESS), NOT_HELD),
+        (Call::Complete(first(ZERO), NtStatus::PENDING), not_final),
         (
-            Call::Complete(ZERO, NtStatus::SUCCESS),
-            Answer::Got(first(ZERO)),
+            Call::Complete(first(UNKNOWN), NtStatus::SUCCESS),
+            UNKNOWN_IRP,
         ),
-        (Call::Complete(ZERO, NtStatus::SUCCESS), NOT_HELD),
+        (Call::Complete(first(ONE), NtStatus::SUCCESS), NOT_HELD),
+        (Call::Complete(first(ZERO), NtStatus::SUCCESS), Answer::Done),
+        (Call::Complete(first(ZERO), NtStatus::SUCCESS), NOT_HELD),
         (Call::Status(ZERO), succeeded),
         (Call::Status(UNKNOWN), Answer::Unknown),
         (Call::Count, Answer::Counted(0, 0)),
@@ -60,19 +60,19 @@ fn claim() -> [Row; 15] {
             Call::Insert(ZERO, FILE, Place::Front),
             Answer::Pending(first(ZERO)),
         ),
-        (Call::Routine(ZERO), NOT_OWED),
+        (Call::Routine(first(ZERO)), NOT_OWED),
         (Call::Mark(ZERO, Life(4)), stale),
         (Call::Mark(ZERO, Life(5)), Answer::Got(first(ZERO))),
         (Call::Count, Answer::Counted(0, 1)),
         (Call::Remove(first(ZERO)), Answer::Nothing),
-        (Call::CompleteCancelled(ZERO), NOT_HELD),
-        (Call::Routine(UNKNOWN), unknown),
-        (Call::Routine(ZERO), Answer::Got(first(ZERO))),
-        (Call::Routine(ZERO), NOT_OWED),
-        (Call::Complete(ZERO, NtStatus::SUCCESS), NOT_REMOVED),
-        (Call::CompleteCancelled(ZERO), Answer::Got(first(ZERO))),
-        (Call::CompleteCancelled(ZERO), NOT_HELD),
-        (Call::CompleteCancelled(UNKNOWN), UNKNOWN_IRP),
+        (Call::CompleteCancelled(first(ZERO)), NOT_HELD),
+        (Call::Routine(first(UNKNOWN)), unknown),
+        (Call::Routine(first(ZERO)), Answer::Done),
+        (Call::Routine(first(ZERO)), NOT_OWED),
+        (Call::Complete(first(ZERO), NtStatus::SUCCESS), NOT_REMOVED),
+        (Call::CompleteCancelled(first(ZERO)), Answer::Done),
+        (Call::CompleteCancelled(first(ZERO)), NOT_HELD),
+        (Call::CompleteCancelled(first(UNKNOWN)), UNKNOWN_IRP),
         (Call::IsCancelled(ZERO), Answer::Flag(Life(5), true)),
     ]
 }
@@ -90,12 +90,12 @@ fn early_cancel() -> [Row; 10] {
         (Call::Mark(UNKNOWN, Life(5)), unknown),
         (Call::Mark(ONE, Life(5)), Answer::Nothing),
         (put(ONE, FILE), Answer::Cancelled(first(ONE))),
-        (Call::Complete(ONE, NtStatus::SUCCESS), NOT_REMOVED),
-        (Call::CompleteCancelled(ONE), Answer::Got(first(ONE))),
-        (Call::Reuse(ONE), Answer::Began(Life(6))),
-        (Call::Reuse(ONE), not_completed),
+        (Call::Complete(first(ONE), NtStatus::SUCCESS), NOT_REMOVED),
+        (Call::CompleteCancelled(first(ONE)), Answer::Done),
+        (Call::Reuse(first(ONE)), Answer::Began(Life(6))),
+        (Call::Reuse(second(ONE)), not_completed),
         (
-            Call::Reuse(UNKNOWN),
+            Call::Reuse(first(UNKNOWN)),
             Answer::NotReused(ReuseRefused::UnknownIrp),
         ),
         (Call::IsCancelled(ONE), Answer::Flag(Life(6), false)),
@@ -122,7 +122,7 @@ fn closed_file() -> [Row; 7] {
         (put(ONE, OTHER), closed),
         (Call::Remove(earlier), Answer::Nothing),
         (Call::Remove(first(ZERO)), Answer::Got(first(ZERO))),
-        (Call::CompleteCancelled(ZERO), Answer::Got(first(ZERO))),
+        (Call::CompleteCancelled(first(ZERO)), Answer::Done),
     ]
 }
 

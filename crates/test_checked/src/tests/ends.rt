@@ -42,16 +42,18 @@ fn passes_are_handed_out_once(rt: HostRuntime) {
 // Gives a pass back that holds an IRP, and again once it completed that.
 fn give_back_twice<R: AllocGlobal + Abort>(rt: &R, list: ListKind) {
     let mut begun = begin(rt, made(rt, sized(list)));
-    let got = Answer::Got(first(ONE));
     begun.play(
         rt,
         &[
             (put(ONE, FILE), Answer::Pending(first(ONE))),
-            (Call::Next(Peek::File(FILE)), got),
+            (Call::Next(Peek::File(FILE)), Answer::Got(first(ONE))),
         ],
     );
     let mut begun = give_back_early(rt, begun);
-    begun.play(rt, &[(Call::Complete(ONE, NtStatus::SUCCESS), got)]);
+    begun.play(
+        rt,
+        &[(Call::Complete(first(ONE), NtStatus::SUCCESS), Answer::Done)],
+    );
     let _rest = end(rt, begun);
 }
 

@@ -2,9 +2,11 @@
 ghost use Rattle.csq_checked.specs.Passes.{IsPassIn};
 
 use super::take;
-use csq_checked::{AnyList, CheckedPass, CheckedQueue, CompleteRefused, RoutineRefused};
+use csq_checked::{
+    AnyList, CheckedPass, CheckedQueue, CompleteRefused, ReuseRefused, RoutineRefused,
+};
 use csq_list::{InsertStatus, Peek, Place};
-use csq_queue::{CancelRefused, InsertAnswer, Rest, ReuseRefused};
+use csq_queue::{CancelRefused, InsertAnswer, Rest};
 use irp_core::{FileId, IrpId, IrpLife, Life, NtStatus};
 use std::process::Abort;
 
@@ -15,14 +17,16 @@ pub(super) enum Call {
     // Removes the first match.
     Next(Peek),
     Remove(IrpLife),
-    Complete(IrpId, NtStatus),
-    CompleteCancelled(IrpId),
+    Complete(IrpLife, NtStatus),
+    CompleteCancelled(IrpLife),
     // The first half of a cancel, in this life.
     Mark(IrpId, Life),
-    // The second half.
-    Routine(IrpId),
+    // The cancel routine.
+    Routine(IrpLife),
+    // It and the completion.
+    CancelOwed(IrpLife),
     CloseFile(FileId),
-    Reuse(IrpId),
+    Reuse(IrpLife),
     IsCancelled(IrpId),
     Status(IrpId),
     // How many IRPs the pass holds and owes.
@@ -37,8 +41,10 @@ pub(super) enum Answer {
     // It found its IRP cancelled, and gave it back to be completed.
     Cancelled(IrpLife),
     NotInserted(InsertStatus),
-    // A call got this IRP, or is done with it.
+    // A call got this IRP.
     Got(IrpLife),
+    // A call did with its IRP what it was to do.
+    Done,
     // A call got none.
     Nothing,
     NotCompleted(CompleteRefused),
@@ -76,10 +82,18 @@ fn removed(taken: Option<IrpLife>) -> Answer {
 }
 
 // What a completion answers.
-fn completed(answer: Result<IrpLife, CompleteRefused>) -> Answer {
+fn completed(answer: Result<(), CompleteRefused>) -> Answer {
     match answer {
-        Ok(irp) => Answer::Got(irp),
+        Ok(()) => Answer::Done,
         Err(cause) => Answer::NotCompleted(cause),
+    }
+}
+
+// What a cancel routine answers.
+fn run(answer: Result<(), RoutineRefused>) -> Answer {
+    match answer {
+        Ok(()) => Answer::Done,
+        Err(cause) => Answer::NotRun(cause),
     }
 }
 
@@ -107,13 +121,6 @@ impl Begun {
         }
     }
 
-    fn run_routine(&mut self, irp: IrpId) -> Answer {
-        match self.queue.cancel_routine(&mut self.pass, irp) {
-            Ok(irp) => Answer::Got(irp),
-            Err(cause) => Answer::NotRun(cause),
-        }
-    }
-
     fn close_file(&mut self, file: FileId) -> Answer {
         match self.queue.close_file(&mut self.pass, file) {
             Ok(()) => Answer::Closed,
@@ -121,7 +128,7 @@ impl Begun {
         }
     }
 
-    fn reuse(&mut self, irp: IrpId) -> Answer {
+    fn reuse(&mut self, irp: IrpLife) -> Answer {
         match self.queue.reuse(&mut self.pass, irp) {
             Ok(life) => Answer::Began(life),
             Err(cause) => Answer::NotReused(cause),
@@ -151,7 +158,8 @@ impl Begun {
             Call::Complete(irp, status) => completed(self.pass.complete(irp, status)),
             Call::CompleteCancelled(irp) => completed(self.pass.complete_cancelled(irp)),
             Call::Mark(irp, life) => self.mark_cancel(irp, life),
-            Call::Routine(irp) => self.run_routine(irp),
+            Call::Routine(irp) => run(self.queue.cancel_routine(&mut self.pass, irp)),
+            Call::CancelOwed(irp) => run(self.queue.cancel_owed(&mut self.pass, irp)),
             Call::CloseFile(file) => self.close_file(file),
             Call::Reuse(irp) => self.reuse(irp),
             Call::IsCancelled(irp) => self.read_flag(irp),

@@ -201,3 +201,28 @@ fn what_is_left_over_chains_tells_lives(rt: HostRuntime) -> Result<(), Fail> {
     run_over(&rt, list, Life(7), &second_reused(), left);
     Ok(())
 }
+
+// What a queue without a lock tells of an IRP that there is, and of one that there isn't.
+fn lives_told<L: PendingList + Drop, A: Allocator>(blank: Blank<L, A>) -> [Option<Life>; 2] {
+    let (queue, _words, _rack) = blank.into_open();
+    [queue.life(ONE), queue.life(TWO)]
+}
+
+// The same of a queue over this list, whose IRPs begin in this life.
+fn lives_at<L: PendingList + Drop, R: AllocGlobal + Abort>(
+    rt: &R,
+    list: L,
+    first: Life,
+) -> [Option<Life>; 2] {
+    match Blank::new_at(rt.alloc(), list, 2, 2, first) {
+        Ok(blank) => lives_told(blank),
+        Err(_) => panic!(rt; "no queue"),
+    }
+}
+
+#[test]
+fn the_present_life_is_told_of_an_irp_that_there_is(rt: HostRuntime) -> Result<(), Fail> {
+    let list = VecList::new(rt.alloc(), 2, 1, 2)?;
+    assert!(rt; lives_at(&rt, list, Life(5)) == [Some(Life(5)), None]);
+    Ok(())
+}
