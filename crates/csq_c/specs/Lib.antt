@@ -8,3 +8,4 @@ pub mod Calls
 pub mod Sizes
 pub mod Ends
 pub mod Lefts
+pub mod Looks

@@ -8,6 +8,7 @@ mod handles;
 mod hold;
 mod left;
 mod locked;
+mod looks;
 mod numbers;
 mod passes;
 mod queues;

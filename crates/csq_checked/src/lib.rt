@@ -3,6 +3,7 @@
 #![tactic(auto)]
 
 mod calls;
+mod looks;
 mod pass;
 mod queue;
 mod size;

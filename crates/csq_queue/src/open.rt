@@ -1,4 +1,5 @@
 //! A queue without a lock and without a name, with its passes: what the named queue is made of.
+mod looks;
 mod pass;
 mod queue;
 mod rack;

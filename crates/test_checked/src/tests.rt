@@ -6,6 +6,7 @@ mod calls;
 mod ends;
 mod kinds;
 mod lives;
+mod looks;
 mod plays;
 mod sizes;
 mod threads;

@@ -7,6 +7,7 @@ mod calls;
 mod file_limits;
 mod irp_state;
 mod lives;
+mod looks;
 mod making;
 mod memory;
 mod passes;
