@@ -31,7 +31,3 @@ open_of (Some body) = body.queue
 -- the pass was made by the queue, where there is an open one
 abbrev pub IsPassFor : QueueBodyState → CheckedPassState → Type 0
 IsPassFor body p = IfSome body.queue (λ q. IsPassIn q.queue p)
-
--- the pass was made by the queue, where the handles have an open queue and a pass
-abbrev pub ArePaired : Option QueueBodyState → Option CheckedPassState → Type 0
-ArePaired queue pass = IfSome queue (λ body. IfSome pass (IsPassFor body))

@@ -9,10 +9,10 @@ use Rattle.csq_list.specs.declared.entry.Place.{Place}
 use Rattle.csq_list.specs.declared.refusals.InsertStatus.{InsertStatus}
 use Rattle.csq_list.specs.declared.refusals.UnknownFile.{UnknownFile}
 use Rattle.csq_queue.specs.declared.tokens.InsertAnswer.{InsertAnswer}
-use Rattle.csq_queue.specs.declared.refusals.ReuseRefused.{ReuseRefused}
 use Rattle.csq_queue.specs.Calls.{Inserts, RemovesNext, RemovesOne}
-use Rattle.csq_checked.specs.Calls.{MakesCall, RunsOwedRoutine, ClosesKnownFile, ReusesKnownIrp}
+use Rattle.csq_checked.specs.Calls.{MakesCall, RunsOwedRoutine, CancelsOwed, ClosesKnownFile, ReusesPresentLife}
 use Rattle.csq_checked.specs.Passes.{CheckedPassState}
+use Rattle.csq_checked.specs.declared.calls.ReuseRefused.{ReuseRefused}
 use Rattle.csq_checked.specs.declared.unlocked.RoutineRefused.{RoutineRefused}
 use Rattle.csq_c.specs.Bodies.{QueueBodyState}
 use Rattle.csq_c.specs.Codes.{insert_code, inserted_irp, removal_code, routine_code, close_file_code, reuse_code, life_told}
@@ -35,9 +35,14 @@ RemovesFrom i body body' p p' code = OnQueue body body' p p' code (Unit {0})
     (λ q q'. (taken : Option IrpLife) × MakesCall (RemovesOne i taken) q p q' p' × (code ≡ removal_code taken))
 
 -- a cancel routine answers this code
-abbrev pub RunsRoutineOn : IrpId → QueueBodyState → QueueBodyState → CheckedPassState → CheckedPassState → Code → Type 0
-RunsRoutineOn irp body body' p p' code = OnQueue body body' p p' code (Unit {0})
-    (λ q q'. (answer : Result IrpLife RoutineRefused) × RunsOwedRoutine irp answer q p q' p' × (code ≡ routine_code answer))
+abbrev pub RunsRoutineOn : IrpLife → QueueBodyState → QueueBodyState → CheckedPassState → CheckedPassState → Code → Type 0
+RunsRoutineOn i body body' p p' code = OnQueue body body' p p' code (Unit {0})
+    (λ q q'. (answer : Result (Unit {0}) RoutineRefused) × RunsOwedRoutine i answer q p q' p' × (code ≡ routine_code answer))
+
+-- and one with the completion as cancelled
+abbrev pub CancelsOwedOn : IrpLife → QueueBodyState → QueueBodyState → CheckedPassState → CheckedPassState → Code → Type 0
+CancelsOwedOn i body body' p p' code = OnQueue body body' p p' code (Unit {0})
+    (λ q q'. (answer : Result (Unit {0}) RoutineRefused) × CancelsOwed i answer q p q' p' × (code ≡ routine_code answer))
 
 -- so does the closing of a file object
 abbrev pub ClosesFileOf : FileId → QueueBodyState → QueueBodyState → CheckedPassState → CheckedPassState → Code → Type 0
@@ -45,6 +50,6 @@ ClosesFileOf file body body' p p' code = OnQueue body body' p p' code (Unit {0})
     (λ q q'. (answer : Result (Unit {0}) UnknownFile) × ClosesKnownFile file answer q p q' p' × (code ≡ close_file_code answer))
 
 -- a reuse answers this code, and tells of this life
-abbrev pub ReusesOf : IrpId → QueueBodyState → QueueBodyState → CheckedPassState → CheckedPassState → Code → Option ℕ → Type 0
-ReusesOf irp body body' p p' code told = OnQueue body body' p p' code (told ≡ None)
-    (λ q q'. (answer : Result Life ReuseRefused) × ReusesKnownIrp irp answer q p q' p' × (code ≡ reuse_code answer) × (told ≡ life_told answer))
+abbrev pub ReusesOf : IrpLife → QueueBodyState → QueueBodyState → CheckedPassState → CheckedPassState → Code → Option ℕ → Type 0
+ReusesOf i body body' p p' code told = OnQueue body body' p p' code (told ≡ None)
+    (λ q q'. (answer : Result Life ReuseRefused) × ReusesPresentLife i answer q p q' p' × (code ≡ reuse_code answer) × (told ≡ life_told answer))

@@ -10,9 +10,9 @@ use Rattle.csq_queue.specs.declared.tokens.InsertAnswer.{InsertAnswer}
 use Rattle.csq_queue.specs.declared.tokens.InsertAnswer.TheVariants as inserted
 use Rattle.csq_queue.specs.declared.refusals.CancelRefused.{CancelRefused}
 use Rattle.csq_queue.specs.declared.refusals.CancelRefused.TheVariants as cancel
-use Rattle.csq_queue.specs.declared.refusals.ReuseRefused.{ReuseRefused}
-use Rattle.csq_queue.specs.declared.refusals.ReuseRefused.TheVariants as reuse
 use Rattle.csq_queue.specs.declared.refusals.UnknownIrp.{UnknownIrp as NoIrp}
+use Rattle.csq_checked.specs.declared.calls.ReuseRefused.{ReuseRefused}
+use Rattle.csq_checked.specs.declared.calls.ReuseRefused.TheVariants as reuse
 use Rattle.csq_checked.specs.declared.unlocked.CompleteRefused.{CompleteRefused}
 use Rattle.csq_checked.specs.declared.unlocked.CompleteRefused.TheVariants as complete
 use Rattle.csq_checked.specs.declared.unlocked.RoutineRefused.{RoutineRefused}
@@ -81,8 +81,8 @@ removal_code (Some i) = Done
 removal_code None = Nothing
 
 -- what a cancel routine answered
-abbrev pub routine_code : Result IrpLife RoutineRefused → Code
-routine_code (Ok i) = Done
+abbrev pub routine_code : Result (Unit {0}) RoutineRefused → Code
+routine_code (Ok done) = Done
 routine_code (Err routine.UnknownIrp) = UnknownIrp
 routine_code (Err routine.NotOwed) = NotOwed
 
@@ -95,6 +95,7 @@ close_file_code (Err refused) = UnknownFile
 abbrev pub reuse_code : Result Life ReuseRefused → Code
 reuse_code (Ok life) = Done
 reuse_code (Err reuse.UnknownIrp) = UnknownIrp
+reuse_code (Err reuse.Stale) = Stale
 reuse_code (Err reuse.NotCompleted) = NotCompleted
 reuse_code (Err reuse.LivesSpent) = LivesSpent
 
@@ -105,8 +106,8 @@ mark_code (Err cancel.UnknownIrp) = UnknownIrp
 mark_code (Err (cancel.Stale life)) = Stale
 
 -- what a completion answered
-abbrev pub complete_code : Result IrpLife CompleteRefused → Code
-complete_code (Ok i) = Done
+abbrev pub complete_code : Result (Unit {0}) CompleteRefused → Code
+complete_code (Ok done) = Done
 complete_code (Err complete.UnknownIrp) = UnknownIrp
 complete_code (Err complete.NotHeld) = NotHeld
 complete_code (Err complete.NotRemoved) = NotRemoved

@@ -5,15 +5,15 @@ use Rattle.csq_checked.specs.Passes.{CheckedPassState}
 use Rattle.csq_checked.specs.contracts.pass.CheckedPass as pass
 use Rattle.csq_c.specs.Bodies.{QueueBodyState}
 use Rattle.csq_c.specs.contracts.body.QueueBody as body
-use Rattle.csq_c.specs.contracts.handles.CsqPass as pass_handle
-use Rattle.csq_c.specs.contracts.handles.CsqQueue as queue_handle
-use Rattle.csq_c.specs.declared.handles.CsqPass.{CsqPass}
-use Rattle.csq_c.specs.declared.handles.CsqQueue.{CsqQueue}
+use Rattle.csq_c.specs.contracts.handles.PassBox as pass_handle
+use Rattle.csq_c.specs.contracts.handles.QueueBox as queue_handle
+use Rattle.csq_c.specs.declared.handles.PassBox.{PassBox}
+use Rattle.csq_c.specs.declared.handles.QueueBox.{QueueBox}
 
 -- a queue's handle ends with what the call left of the queue, and an empty one as it was
-abbrev pub LendsQueue : MutBor CsqQueue → Option (MutBor QueueBodyState) → Fml
+abbrev pub LendsQueue : MutBor QueueBox → Option (MutBor QueueBodyState) → Fml
 LendsQueue h r = LendsIf queue_handle.the_row body.the_row h r (λ body. record h.now { body = Some body }) h.now
 
 -- so does a pass's
-abbrev pub LendsPass : MutBor CsqPass → Option (MutBor CheckedPassState) → Fml
+abbrev pub LendsPass : MutBor PassBox → Option (MutBor CheckedPassState) → Fml
 LendsPass h r = LendsIf pass_handle.the_row pass.the_row h r (λ body. record h.now { body = Some body }) h.now

@@ -1,7 +1,7 @@
 //! What the handle of a queue stands for, and the calls of it.
 ghost use Rattle.std.specs.Prelude.{◌≡◌};
 ghost use Rattle.csq_c.specs.Bodies.{IsPassFor};
-ghost use Rattle.csq_c.specs.Calls.{InsertsInto, RemovesNextFrom, RemovesFrom, RunsRoutineOn, ClosesFileOf, ReusesOf};
+ghost use Rattle.csq_c.specs.Calls.{InsertsInto, RemovesNextFrom, RemovesFrom, RunsRoutineOn, CancelsOwedOn, ClosesFileOf, ReusesOf};
 
 use crate::codes::{Code, of_close_file, of_insert, of_removal, of_reuse, of_routine};
 use csq_checked::{AnyList, CheckedPass, CheckedQueue};
@@ -76,13 +76,24 @@ impl QueueBody {
     }
 
     /// Takes out an IRP that the pass owes, where the queue is open.
-    pub(crate) fn cancel_routine(&mut self, by: &mut CheckedPass, irp: IrpId) -> Code
+    pub(crate) fn cancel_routine(&mut self, by: &mut CheckedPass, irp: IrpLife) -> Code
         requires { IsPassFor self.old by.old }
         ensures { RunsRoutineOn irp self.old self.new by.old by.new result }
     {
         match &mut self.queue {
             None => Code::Closed,
             Some(queue) => of_routine(queue.cancel_routine(by, irp)),
+        }
+    }
+
+    /// Takes out an IRP that the pass owes and completes it as cancelled, where the queue is open.
+    pub(crate) fn cancel_owed(&mut self, by: &mut CheckedPass, irp: IrpLife) -> Code
+        requires { IsPassFor self.old by.old }
+        ensures { CancelsOwedOn irp self.old self.new by.old by.new result }
+    {
+        match &mut self.queue {
+            None => Code::Closed,
+            Some(queue) => of_routine(queue.cancel_owed(by, irp)),
         }
     }
 
@@ -98,7 +109,7 @@ impl QueueBody {
     }
 
     /// Begins the next life of an IRP, where the queue is open.
-    pub(crate) fn reuse(&mut self, by: &mut CheckedPass, irp: IrpId) -> (Code, Option<u32>)
+    pub(crate) fn reuse(&mut self, by: &mut CheckedPass, irp: IrpLife) -> (Code, Option<u32>)
         requires { IsPassFor self.old by.old }
         ensures { ReusesOf irp self.old self.new by.old by.new result.0 result.1 }
     {

@@ -2,9 +2,9 @@
 ghost use Rattle.std.specs.Prelude.{◌≡◌};
 ghost use Rattle.csq_c.specs.Codes.{number_of, refusal_code, insert_code, inserted_irp, removal_code, routine_code, close_file_code, reuse_code, life_told, mark_code, claim_told, complete_code, flag_code, flag_life_told, flag_told, status_code, status_life_told, status_told, new_code, pass_code};
 
-use csq_checked::{CompleteRefused, NewRefused, PassRefused, RoutineRefused};
+use csq_checked::{CompleteRefused, NewRefused, PassRefused, ReuseRefused, RoutineRefused};
 use csq_list::{InsertStatus, UnknownFile};
-use csq_queue::{CancelRefused, InsertAnswer, OpenInserted, ReuseRefused, UnknownIrp};
+use csq_queue::{CancelRefused, InsertAnswer, OpenInserted, UnknownIrp};
 use irp_core::{IrpLife, Life, NtStatus};
 
 /// What a call answers. Each has its number and its name in `csq.h`. Own rule.
@@ -112,11 +112,11 @@ pub(crate) fn of_removal(taken: Option<IrpLife>) -> Code
 }
 
 /// What a cancel routine answered.
-pub(crate) fn of_routine(answer: Result<IrpLife, RoutineRefused>) -> Code
+pub(crate) fn of_routine(answer: Result<(), RoutineRefused>) -> Code
     ensures { result ≡ routine_code answer }
 {
     match answer {
-        Ok(_) => Code::Done,
+        Ok(()) => Code::Done,
         Err(RoutineRefused::UnknownIrp) => Code::UnknownIrp,
         Err(RoutineRefused::NotOwed) => Code::NotOwed,
     }
@@ -139,6 +139,7 @@ pub(crate) fn of_reuse(answer: Result<Life, ReuseRefused>) -> (Code, Option<u32>
     match answer {
         Ok(life) => (Code::Done, Some(life.0)),
         Err(ReuseRefused::UnknownIrp) => (Code::UnknownIrp, None),
+        Err(ReuseRefused::Stale) => (Code::Stale, None),
         Err(ReuseRefused::NotCompleted) => (Code::NotCompleted, None),
         Err(ReuseRefused::LivesSpent) => (Code::LivesSpent, None),
     }
@@ -157,11 +158,11 @@ pub(crate) fn of_mark(answer: Result<Option<IrpLife>, CancelRefused>) -> (Code, 
 }
 
 /// What a completion answered.
-pub(crate) fn of_complete(answer: Result<IrpLife, CompleteRefused>) -> Code
+pub(crate) fn of_complete(answer: Result<(), CompleteRefused>) -> Code
     ensures { result ≡ complete_code answer }
 {
     match answer {
-        Ok(_) => Code::Done,
+        Ok(()) => Code::Done,
         Err(CompleteRefused::UnknownIrp) => Code::UnknownIrp,
         Err(CompleteRefused::NotHeld) => Code::NotHeld,
         Err(CompleteRefused::NotRemoved) => Code::NotRemoved,

@@ -10,74 +10,90 @@ use crate::hold::{Handle, Hold};
 use csq_checked::CheckedPass;
 use std::marker::Model;
 
-/// The handle of a queue, or an empty one. C sees one address.
+/// The address of a queue, or null.
 #[repr(C)]
-pub struct CsqQueue {
+pub struct QueueBox {
     at: *mut u8,
     pub ghost body: { Option QueueBodyState },
 }
 
-impl Model for CsqQueue {
+impl Model for QueueBox {
     ghost use Rattle.csq_c.specs.Holds.{held};
     ghost use Rattle.csq_c.specs.contracts.body.QueueBody.{the_row};
 
     ghost also_owns = { λ q. held the_row q.at q.body };
 }
 
-impl Handle for CsqQueue {
+impl Handle for QueueBox {
     type Body = QueueBody;
 
     ghost held_in = { λ q. q.body };
 
-    fn of(hold: Hold<QueueBody>) -> CsqQueue
+    fn of(hold: Hold<QueueBody>) -> QueueBox
         ensures { result.body ≡ hold.body }
     {
         let Hold { at } = hold;
-        CsqQueue { at: at as *mut u8 }
+        QueueBox { at: at as *mut u8 }
     }
 
     fn into_hold(self) -> Hold<QueueBody>
         ensures { result.body ≡ self.body }
     {
-        let CsqQueue { at } = self;
+        let QueueBox { at } = self;
         Hold {
             at: at as *mut QueueBody,
         }
     }
 }
 
-/// The handle of a pass, or an empty one. C sees one address.
+/// The address of a pass, or null.
 #[repr(C)]
-pub struct CsqPass {
+pub struct PassBox {
     at: *mut u8,
     pub ghost body: { Option CheckedPassState },
 }
 
-impl Model for CsqPass {
+impl Model for PassBox {
     ghost use Rattle.csq_c.specs.Holds.{held};
     ghost use Rattle.csq_checked.specs.contracts.pass.CheckedPass.{the_row};
 
     ghost also_owns = { λ p. held the_row p.at p.body };
 }
 
-impl Handle for CsqPass {
+impl Handle for PassBox {
     type Body = CheckedPass;
 
     ghost held_in = { λ p. p.body };
 
-    fn of(hold: Hold<CheckedPass>) -> CsqPass
+    fn of(hold: Hold<CheckedPass>) -> PassBox
         ensures { result.body ≡ hold.body }
     {
         let Hold { at } = hold;
-        CsqPass { at: at as *mut u8 }
+        PassBox { at: at as *mut u8 }
     }
 
     fn into_hold(self) -> Hold<CheckedPass>
         ensures { result.body ≡ self.body }
     {
-        let CsqPass { at } = self;
+        let PassBox { at } = self;
         Hold {
             at: at as *mut CheckedPass,
         }
     }
+}
+
+/// The handle of a queue, or an empty one. C sees the address and the number.
+#[repr(C)]
+pub struct CsqQueue {
+    pub boxed: QueueBox,
+    /// The queue's number.
+    pub number: u64,
+}
+
+/// The handle of a pass, or an empty one. C sees the address and the number.
+#[repr(C)]
+pub struct CsqPass {
+    pub boxed: PassBox,
+    /// The number of the queue that made the pass.
+    pub queue: u64,
 }

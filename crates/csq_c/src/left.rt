@@ -1,6 +1,7 @@
 //! What is told of a closed queue.
 ghost use Rattle.std.specs.Prelude.{◌≡◌, ℕ, Some, None, IfSome};
 ghost use Rattle.csq_c.specs.Codes.{number_of};
+ghost use Rattle.csq_c.specs.Exports.{IsQueueKept};
 ghost use Rattle.csq_c.specs.Lefts.{left_code, left_of, left_written, next_after, next_code, number_told, start_of};
 ghost use Rattle.csq_c.specs.Shapes.{irp_numbered, set_to};
 
@@ -63,15 +64,15 @@ impl QueueBody {
 /// where that one isn't listed. Own rule.
 #[unsafe(no_mangle)]
 pub extern "C" fn csq_read_listed(queue: &mut CsqQueue, after: u32, irp: &mut u32) -> u32
-    ensures same { queue.new.body ≡ queue.old.body }
-    ensures empty { queue.old.body ≡ None → (result ≡ number_of Code.Empty) × (irp.new ≡ irp.old) }
-    ensures unclosed { IfSome queue.old.body (λ body. body.rest ≡ None
+    ensures same { IsQueueKept queue.old queue.new }
+    ensures empty { queue.old.boxed.body ≡ None → (result ≡ number_of Code.Empty) × (irp.new ≡ irp.old) }
+    ensures unclosed { IfSome queue.old.boxed.body (λ body. body.rest ≡ None
         → (result ≡ number_of Code.NotClosed) × (irp.new ≡ irp.old)) }
-    ensures next { IfSome queue.old.body (λ body. IfSome body.rest
+    ensures next { IfSome queue.old.boxed.body (λ body. IfSome body.rest
         (λ rest. (result ≡ number_of (next_code rest.entries (start_of after)))
         × (irp.new ≡ set_to (number_told (next_after rest.entries (start_of after))) irp.old))) }
 {
-    let Some(body) = queue.lent() else {
+    let Some(body) = queue.boxed.lent() else {
         return Code::Empty.number();
     };
     let (code, next) = body.next_listed(start(after));
@@ -83,16 +84,16 @@ pub extern "C" fn csq_read_listed(queue: &mut CsqQueue, after: u32, irp: &mut u3
 /// or CSQ_UNKNOWN_IRP. Own rule.
 #[unsafe(no_mangle)]
 pub extern "C" fn csq_read_left(queue: &mut CsqQueue, irp: u32, left: &mut CsqLeft) -> u32
-    ensures same { queue.new.body ≡ queue.old.body }
-    ensures empty { queue.old.body ≡ None → (result ≡ number_of Code.Empty)
+    ensures same { IsQueueKept queue.old queue.new }
+    ensures empty { queue.old.boxed.body ≡ None → (result ≡ number_of Code.Empty)
         × (left.new ≡ left.old) }
-    ensures unclosed { IfSome queue.old.body (λ body. body.rest ≡ None
+    ensures unclosed { IfSome queue.old.boxed.body (λ body. body.rest ≡ None
         → (result ≡ number_of Code.NotClosed) × (left.new ≡ left.old)) }
-    ensures left { IfSome queue.old.body (λ body. IfSome body.rest
+    ensures left { IfSome queue.old.boxed.body (λ body. IfSome body.rest
         (λ rest. (result ≡ number_of (left_code (left_of rest.finals (irp_numbered irp))))
         × (left.new ≡ left_written (left_of rest.finals (irp_numbered irp)) left.old))) }
 {
-    let Some(body) = queue.lent() else {
+    let Some(body) = queue.boxed.lent() else {
         return Code::Empty.number();
     };
     let (code, told) = body.left(IrpId(irp));

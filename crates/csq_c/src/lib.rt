@@ -9,6 +9,7 @@ mod hold;
 mod left;
 mod locked;
 mod looks;
+mod numbers;
 mod passes;
 mod queues;
 mod shapes;

@@ -1,10 +1,10 @@
 //! The calls that take an open queue, by a pass, under the caller's lock. Before any other code each
-//! answers CSQ_EMPTY_HANDLE where a handle is empty, then CSQ_CLOSED of a closed queue.
+//! answers CSQ_EMPTY_HANDLE where a handle is empty, then CSQ_OTHER_QUEUE where the pass is another
+//! queue's, then CSQ_CLOSED of a closed queue.
 ghost use Rattle.std.specs.Prelude.{◌≡◌, ℕ, Option};
 ghost use Rattle.irp_core.specs.declared.ids.IrpLife.{IrpLife};
-ghost use Rattle.csq_c.specs.Bodies.{ArePaired};
-ghost use Rattle.csq_c.specs.Calls.{InsertsInto, RemovesNextFrom, RemovesFrom, RunsRoutineOn, ClosesFileOf, ReusesOf};
-ghost use Rattle.csq_c.specs.Exports.{OnHandles};
+ghost use Rattle.csq_c.specs.Calls.{InsertsInto, RemovesNextFrom, RemovesFrom, RunsRoutineOn, CancelsOwedOn, ClosesFileOf, ReusesOf};
+ghost use Rattle.csq_c.specs.Exports.{OnHandles, ArePaired};
 ghost use Rattle.csq_c.specs.Shapes.{irp_numbered, file_numbered, irp_named, place_numbered, peek_of, written, set_to};
 
 use crate::codes::Code;
@@ -25,20 +25,23 @@ pub extern "C" fn csq_insert(
     front: u32,
     context: &mut CsqIrp,
 ) -> u32
-    requires { ArePaired queue.old.body pass.old.body }
-    ensures { OnHandles queue.old.body queue.new.body pass.old.body pass.new.body result
+    requires { ArePaired queue.old pass.old }
+    ensures { OnHandles queue.old queue.new pass.old pass.new result
         (context.new ≡ context.old)
         (λ body body' p p' code. (told : Option IrpLife)
         × InsertsInto (irp_numbered irp) (file_numbered file)
         (place_numbered front) body body' p p' code told
         × (context.new ≡ written told context.old)) }
 {
-    let Some(body) = queue.lent() else {
+    let Some(body) = queue.boxed.lent() else {
         return Code::Empty.number();
     };
-    let Some(by) = pass.lent() else {
+    let Some(by) = pass.boxed.lent() else {
         return Code::Empty.number();
     };
+    if pass.queue != queue.number {
+        return Code::OtherQueue.number();
+    }
     let (code, told) = body.insert(by, IrpId(irp), FileId(file), place(front));
     context.write(told);
     code.number()
@@ -54,19 +57,22 @@ pub extern "C" fn csq_remove_next(
     file: u32,
     irp: &mut CsqIrp,
 ) -> u32
-    requires { ArePaired queue.old.body pass.old.body }
-    ensures { OnHandles queue.old.body queue.new.body pass.old.body pass.new.body result
+    requires { ArePaired queue.old pass.old }
+    ensures { OnHandles queue.old queue.new pass.old pass.new result
         (irp.new ≡ irp.old)
         (λ body body' p p' code. (told : Option IrpLife)
         × RemovesNextFrom (peek_of file) body body' p p' code told
         × (irp.new ≡ written told irp.old)) }
 {
-    let Some(body) = queue.lent() else {
+    let Some(body) = queue.boxed.lent() else {
         return Code::Empty.number();
     };
-    let Some(by) = pass.lent() else {
+    let Some(by) = pass.boxed.lent() else {
         return Code::Empty.number();
     };
+    if pass.queue != queue.number {
+        return Code::OtherQueue.number();
+    }
     let (code, told) = body.remove_next(by, peek(file));
     irp.write(told);
     code.number()
@@ -76,36 +82,65 @@ pub extern "C" fn csq_remove_next(
 /// life named or a canceller has it. As `IoCsqRemoveIrp`.
 #[unsafe(no_mangle)]
 pub extern "C" fn csq_remove(queue: &mut CsqQueue, pass: &mut CsqPass, irp: CsqIrp) -> u32
-    requires { ArePaired queue.old.body pass.old.body }
-    ensures { OnHandles queue.old.body queue.new.body pass.old.body pass.new.body result (Unit {0})
+    requires { ArePaired queue.old pass.old }
+    ensures { OnHandles queue.old queue.new pass.old pass.new result (Unit {0})
         (λ body body' p p' code. RemovesFrom (irp_named irp) body body' p p' code) }
 {
-    let Some(body) = queue.lent() else {
+    let Some(body) = queue.boxed.lent() else {
         return Code::Empty.number();
     };
-    let Some(by) = pass.lent() else {
+    let Some(by) = pass.boxed.lent() else {
         return Code::Empty.number();
     };
+    if pass.queue != queue.number {
+        return Code::OtherQueue.number();
+    }
     let code = body.remove(by, irp.named());
     code.number()
 }
 
-/// Runs the cancel routine of an IRP that the pass owes: CSQ_OK, and the pass holds it then. Else
-/// CSQ_UNKNOWN_IRP or CSQ_NOT_OWED. As the cancel routine that the WDK's queue sets, which takes
-/// the IRP out under the lock.
+/// Runs the cancel routine of an IRP that the pass owes in the life named: CSQ_OK, and the pass
+/// holds it then. Else CSQ_UNKNOWN_IRP or CSQ_NOT_OWED. As the cancel routine that the WDK's queue
+/// sets, which takes the IRP out under the lock.
 #[unsafe(no_mangle)]
-pub extern "C" fn csq_cancel_routine(queue: &mut CsqQueue, pass: &mut CsqPass, irp: u32) -> u32
-    requires { ArePaired queue.old.body pass.old.body }
-    ensures { OnHandles queue.old.body queue.new.body pass.old.body pass.new.body result (Unit {0})
-        (λ body body' p p' code. RunsRoutineOn (irp_numbered irp) body body' p p' code) }
+pub extern "C" fn csq_cancel_routine(queue: &mut CsqQueue, pass: &mut CsqPass, irp: CsqIrp) -> u32
+    requires { ArePaired queue.old pass.old }
+    ensures { OnHandles queue.old queue.new pass.old pass.new result (Unit {0})
+        (λ body body' p p' code. RunsRoutineOn (irp_named irp) body body' p p' code) }
 {
-    let Some(body) = queue.lent() else {
+    let Some(body) = queue.boxed.lent() else {
         return Code::Empty.number();
     };
-    let Some(by) = pass.lent() else {
+    let Some(by) = pass.boxed.lent() else {
         return Code::Empty.number();
     };
-    let code = body.cancel_routine(by, IrpId(irp));
+    if pass.queue != queue.number {
+        return Code::OtherQueue.number();
+    }
+    let code = body.cancel_routine(by, irp.named());
+    code.number()
+}
+
+/// Runs the cancel routine of an IRP that the pass owes in the life named, and completes the IRP with
+/// STATUS_CANCELLED: CSQ_OK. Else CSQ_UNKNOWN_IRP or CSQ_NOT_OWED. As the cancel routine that the
+/// WDK's queue sets, which takes the IRP out under the lock and then calls
+/// `CsqCompleteCanceledIrp`.
+#[unsafe(no_mangle)]
+pub extern "C" fn csq_cancel_owed(queue: &mut CsqQueue, pass: &mut CsqPass, irp: CsqIrp) -> u32
+    requires { ArePaired queue.old pass.old }
+    ensures { OnHandles queue.old queue.new pass.old pass.new result (Unit {0})
+        (λ body body' p p' code. CancelsOwedOn (irp_named irp) body body' p p' code) }
+{
+    let Some(body) = queue.boxed.lent() else {
+        return Code::Empty.number();
+    };
+    let Some(by) = pass.boxed.lent() else {
+        return Code::Empty.number();
+    };
+    if pass.queue != queue.number {
+        return Code::OtherQueue.number();
+    }
+    let code = body.cancel_owed(by, irp.named());
     code.number()
 }
 
@@ -113,43 +148,50 @@ pub extern "C" fn csq_cancel_routine(queue: &mut CsqQueue, pass: &mut CsqPass, i
 /// of `IRP_MJ_CLEANUP`.
 #[unsafe(no_mangle)]
 pub extern "C" fn csq_close_file(queue: &mut CsqQueue, pass: &mut CsqPass, file: u32) -> u32
-    requires { ArePaired queue.old.body pass.old.body }
-    ensures { OnHandles queue.old.body queue.new.body pass.old.body pass.new.body result (Unit {0})
+    requires { ArePaired queue.old pass.old }
+    ensures { OnHandles queue.old queue.new pass.old pass.new result (Unit {0})
         (λ body body' p p' code. ClosesFileOf (file_numbered file) body body' p p' code) }
 {
-    let Some(body) = queue.lent() else {
+    let Some(body) = queue.boxed.lent() else {
         return Code::Empty.number();
     };
-    let Some(by) = pass.lent() else {
+    let Some(by) = pass.boxed.lent() else {
         return Code::Empty.number();
     };
+    if pass.queue != queue.number {
+        return Code::OtherQueue.number();
+    }
     let code = body.close_file(by, FileId(file));
     code.number()
 }
 
-/// Begins the next life of a completed IRP and writes it: CSQ_OK, else CSQ_UNKNOWN_IRP,
-/// CSQ_NOT_COMPLETED or CSQ_LIVES_SPENT. As `IoReuseIrp`.
+/// Begins the next life of an IRP that was completed in the life named, and writes it: CSQ_OK, else
+/// CSQ_UNKNOWN_IRP, CSQ_STALE where the life named isn't the present one, CSQ_NOT_COMPLETED or
+/// CSQ_LIVES_SPENT. As `IoReuseIrp`.
 #[unsafe(no_mangle)]
 pub extern "C" fn csq_reuse(
     queue: &mut CsqQueue,
     pass: &mut CsqPass,
-    irp: u32,
+    irp: CsqIrp,
     life: &mut u32,
 ) -> u32
-    requires { ArePaired queue.old.body pass.old.body }
-    ensures { OnHandles queue.old.body queue.new.body pass.old.body pass.new.body result
+    requires { ArePaired queue.old pass.old }
+    ensures { OnHandles queue.old queue.new pass.old pass.new result
         (life.new ≡ life.old)
         (λ body body' p p' code. (told : Option ℕ)
-        × ReusesOf (irp_numbered irp) body body' p p' code told
+        × ReusesOf (irp_named irp) body body' p p' code told
         × (life.new ≡ set_to told life.old)) }
 {
-    let Some(body) = queue.lent() else {
+    let Some(body) = queue.boxed.lent() else {
         return Code::Empty.number();
     };
-    let Some(by) = pass.lent() else {
+    let Some(by) = pass.boxed.lent() else {
         return Code::Empty.number();
     };
-    let (code, told) = body.reuse(by, IrpId(irp));
+    if pass.queue != queue.number {
+        return Code::OtherQueue.number();
+    }
+    let (code, told) = body.reuse(by, irp.named());
     write(life, told);
     code.number()
 }

@@ -2,6 +2,7 @@
 //! CSQ_EMPTY_HANDLE where the handle is empty, then CSQ_CLOSED of a closed queue.
 ghost use Rattle.std.specs.Prelude.{◌≡◌, ℕ, Option};
 ghost use Rattle.irp_core.specs.declared.ids.IrpLife.{IrpLife};
+ghost use Rattle.csq_c.specs.Exports.{IsQueueKept};
 ghost use Rattle.csq_c.specs.Lefts.{start_of};
 ghost use Rattle.csq_c.specs.Looks.{CountsListed, CountsListedFor, OnQueueHandle, PeeksNextOf};
 ghost use Rattle.csq_c.specs.Shapes.{file_numbered, peek_of, set_to, written};
@@ -56,12 +57,12 @@ impl QueueBody {
 /// CSQ_OK. Own rule.
 #[unsafe(no_mangle)]
 pub extern "C" fn csq_len(queue: &mut CsqQueue, len: &mut u32) -> u32
-    ensures same { queue.new.body ≡ queue.old.body }
-    ensures look { OnQueueHandle queue.old.body result (len.new ≡ len.old)
+    ensures same { IsQueueKept queue.old queue.new }
+    ensures look { OnQueueHandle queue.old.boxed.body result (len.new ≡ len.old)
         (λ body code. (told : Option ℕ) × CountsListed body code told
         × (len.new ≡ set_to told len.old)) }
 {
-    let Some(body) = queue.lent() else {
+    let Some(body) = queue.boxed.lent() else {
         return Code::Empty.number();
     };
     let (code, told) = body.len();
@@ -73,12 +74,12 @@ pub extern "C" fn csq_len(queue: &mut CsqQueue, len: &mut u32) -> u32
 /// Own rule.
 #[unsafe(no_mangle)]
 pub extern "C" fn csq_file_len(queue: &mut CsqQueue, file: u32, len: &mut u32) -> u32
-    ensures same { queue.new.body ≡ queue.old.body }
-    ensures look { OnQueueHandle queue.old.body result (len.new ≡ len.old)
+    ensures same { IsQueueKept queue.old queue.new }
+    ensures look { OnQueueHandle queue.old.boxed.body result (len.new ≡ len.old)
         (λ body code. (told : Option ℕ) × CountsListedFor (file_numbered file) body code told
         × (len.new ≡ set_to told len.old)) }
 {
-    let Some(body) = queue.lent() else {
+    let Some(body) = queue.boxed.lent() else {
         return Code::Empty.number();
     };
     let (code, told) = body.file_len(FileId(file));
@@ -97,13 +98,13 @@ pub extern "C" fn csq_peek_next(
     file: u32,
     irp: &mut CsqIrp,
 ) -> u32
-    ensures same { queue.new.body ≡ queue.old.body }
-    ensures look { OnQueueHandle queue.old.body result (irp.new ≡ irp.old)
+    ensures same { IsQueueKept queue.old queue.new }
+    ensures look { OnQueueHandle queue.old.boxed.body result (irp.new ≡ irp.old)
         (λ body code. (told : Option IrpLife)
         × PeeksNextOf (start_of after) (peek_of file) body code told
         × (irp.new ≡ written told irp.old)) }
 {
-    let Some(body) = queue.lent() else {
+    let Some(body) = queue.boxed.lent() else {
         return Code::Empty.number();
     };
     let (code, told) = body.peek_next(start(after), peek(file));

@@ -1,8 +1,9 @@
 //! How passes are handed out, given back and abandoned.
 ghost use Rattle.std.specs.Prelude.{◌≡◌, ◌⊎◌, ◌<◌, ◌↔◌, Some, None, IfSome};
 ghost use Rattle.csq_checked.specs.Passes.{CheckedState, CheckedPassState};
-ghost use Rattle.csq_c.specs.Bodies.{QueueBodyState, ArePaired, open_of};
+ghost use Rattle.csq_c.specs.Bodies.{QueueBodyState, open_of};
 ghost use Rattle.csq_c.specs.Codes.{number_of};
+ghost use Rattle.csq_c.specs.Exports.{ArePaired, AreHandlesKept, IsPassKept};
 ghost use Rattle.csq_c.specs.Ends.{IsNextPass, IsTaken, abandon_code, give_back_code, take_cause, with_back_in};
 
 use crate::codes::Code;
@@ -14,61 +15,69 @@ use std::alloc::Global;
 /// CSQ_CLOSED, CSQ_NO_PASS or CSQ_NO_MEMORY. Own rule.
 #[unsafe(no_mangle)]
 pub extern "C" fn csq_take_pass(alloc: Global, queue: &mut CsqQueue, pass: &mut CsqPass) -> u32
-    ensures refused { IfSome (take_cause queue.old.body pass.old.body)
+    ensures refused { IfSome (take_cause queue.old.boxed.body pass.old.boxed.body)
         (λ cause. result ≡ number_of cause) }
-    ensures none { IfSome (open_of queue.old.body)
-        (λ q. pass.old.body ≡ None → ((result ≡ number_of Code.NoPass) ↔ (q.left ≡ 0))) }
-    ensures cause { IfSome (open_of queue.old.body)
-        (λ q. pass.old.body ≡ None → (result ≡ number_of Code.Done)
+    ensures none { IfSome (open_of queue.old.boxed.body)
+        (λ q. pass.old.boxed.body ≡ None → ((result ≡ number_of Code.NoPass) ↔ (q.left ≡ 0))) }
+    ensures cause { IfSome (open_of queue.old.boxed.body)
+        (λ q. pass.old.boxed.body ≡ None → (result ≡ number_of Code.Done)
         ⊎ ((result ≡ number_of Code.NoPass) ⊎ (result ≡ number_of Code.NoMemory))) }
     ensures made { result ≡ number_of Code.Done → (body body' : QueueBodyState) × (q : CheckedState)
-        × (p : CheckedPassState) × (queue.old.body ≡ Some body) × (body.queue ≡ Some q)
-        × (queue.new.body ≡ Some body') × (pass.new.body ≡ Some p) × IsNextPass q p
+        × (p : CheckedPassState) × (queue.old.boxed.body ≡ Some body) × (body.queue ≡ Some q)
+        × (queue.new.boxed.body ≡ Some body') × (pass.new.boxed.body ≡ Some p)
+        × (pass.new.queue ≡ queue.old.number) × IsNextPass q p
         × IsTaken body body' q }
-    ensures kept { 0 < result → (queue.new.body ≡ queue.old.body)
-        × (pass.new.body ≡ pass.old.body) }
+    ensures number { queue.new.number ≡ queue.old.number }
+    ensures kept { 0 < result → AreHandlesKept queue.old queue.new pass.old pass.new }
 {
-    let Some(body) = queue.lent() else {
+    let Some(body) = queue.boxed.lent() else {
         return Code::Empty.number();
     };
-    if pass.is_filled() {
+    if pass.boxed.is_filled() {
         return Code::NotEmpty.number();
     }
     match body.take_pass(alloc) {
         Err(code) => code.number(),
         Ok(by) => {
-            put(pass, by);
+            put(&mut pass.boxed, by);
+            pass.queue = queue.number;
             Code::Done.number()
         }
     }
 }
 
 /// Gives a pass back, under the caller's lock: CSQ_OK, and its handle is empty, else
-/// CSQ_EMPTY_HANDLE, CSQ_CLOSED, or CSQ_HOLDING where it holds or owes IRPs. Own rule.
+/// CSQ_EMPTY_HANDLE, CSQ_OTHER_QUEUE where it is another queue's, CSQ_CLOSED, or CSQ_HOLDING where it
+/// holds or owes IRPs. Own rule.
 #[unsafe(no_mangle)]
 pub extern "C" fn csq_give_back(alloc: Global, queue: &mut CsqQueue, pass: &mut CsqPass) -> u32
-    requires { ArePaired queue.old.body pass.old.body }
-    ensures empty { (queue.old.body ≡ None) ⊎ (pass.old.body ≡ None)
+    requires { ArePaired queue.old pass.old }
+    ensures empty { (queue.old.boxed.body ≡ None) ⊎ (pass.old.boxed.body ≡ None)
         → result ≡ number_of Code.Empty }
-    ensures code { IfSome queue.old.body (λ body. IfSome pass.old.body
-        (λ p. result ≡ number_of (give_back_code body p))) }
+    ensures other { IfSome queue.old.boxed.body (λ body. IfSome pass.old.boxed.body
+        (λ p. ¬ (pass.old.queue ≡ queue.old.number) → result ≡ number_of Code.OtherQueue)) }
+    ensures code { IfSome queue.old.boxed.body (λ body. IfSome pass.old.boxed.body
+        (λ p. pass.old.queue ≡ queue.old.number → result ≡ number_of (give_back_code body p))) }
     ensures back { result ≡ number_of Code.Done
-        → IfSome queue.old.body (λ body. IfSome pass.old.body
-        (λ p. (queue.new.body ≡ Some (record body { queue = with_back_in p.pass body.queue }))
-        × (pass.new.body ≡ None))) }
-    ensures kept { 0 < result → (queue.new.body ≡ queue.old.body)
-        × (pass.new.body ≡ pass.old.body) }
+        → IfSome queue.old.boxed.body (λ body. IfSome pass.old.boxed.body
+        (λ p. (queue.new.boxed.body ≡ Some (record body { queue = with_back_in p.pass body.queue }))
+        × (pass.new.boxed.body ≡ None))) }
+    ensures number { queue.new.number ≡ queue.old.number }
+    ensures kept { 0 < result → AreHandlesKept queue.old queue.new pass.old pass.new }
 {
-    let Some(body) = queue.lent() else {
+    let Some(body) = queue.boxed.lent() else {
         return Code::Empty.number();
     };
-    let Some(by) = take(pass, alloc) else {
+    if pass.boxed.is_filled() && pass.queue != queue.number {
+        return Code::OtherQueue.number();
+    }
+    let Some(by) = take(&mut pass.boxed, alloc) else {
         return Code::Empty.number();
     };
     match body.give_back(by) {
         Ok(()) => Code::Done.number(),
         Err((code, by)) => {
-            put(pass, by);
+            put(&mut pass.boxed, by);
             code.number()
         }
     }
@@ -78,16 +87,16 @@ pub extern "C" fn csq_give_back(alloc: Global, queue: &mut CsqQueue, pass: &mut 
 /// is empty, else CSQ_EMPTY_HANDLE, or CSQ_HOLDING where it holds or owes IRPs. Own rule.
 #[unsafe(no_mangle)]
 pub extern "C" fn csq_abandon_pass(alloc: Global, pass: &mut CsqPass) -> u32
-    ensures code { result ≡ number_of (abandon_code pass.old.body) }
-    ensures freed { result ≡ number_of Code.Done → pass.new.body ≡ None }
-    ensures kept { 0 < result → pass.new.body ≡ pass.old.body }
+    ensures code { result ≡ number_of (abandon_code pass.old.boxed.body) }
+    ensures freed { result ≡ number_of Code.Done → pass.new.boxed.body ≡ None }
+    ensures kept { 0 < result → IsPassKept pass.old pass.new }
 {
-    let Some(by) = pass.lent() else {
+    let Some(by) = pass.boxed.lent() else {
         return Code::Empty.number();
     };
     if by.tokens() > 0 || by.claims() > 0 {
         return Code::Holding.number();
     }
-    drop(take(pass, alloc));
+    drop(take(&mut pass.boxed, alloc));
     Code::Done.number()
 }

@@ -4,6 +4,7 @@ ghost use Rattle.std.specs.Prelude.{◌≡◌, ◌⊎◌, ◌<◌, ◌↔◌, Er
 ghost use Rattle.csq_list.specs.Listing.{are_file_limits};
 ghost use Rattle.csq_c.specs.Bodies.{QueueBodyState, open_of};
 ghost use Rattle.csq_c.specs.Codes.{number_of};
+ghost use Rattle.csq_c.specs.Exports.{IsQueueKept};
 ghost use Rattle.csq_c.specs.Ends.{IsLeftOf, free_code, open_code, out_of_open};
 ghost use Rattle.csq_c.specs.Shapes.{set_to};
 ghost use Rattle.csq_c.specs.Sizes.{IsGoodSize, IsNewQueue, new_checked_state};
@@ -12,6 +13,7 @@ use crate::body::QueueBody;
 use crate::codes::Code;
 use crate::handles::CsqQueue;
 use crate::hold::{put, take};
+use crate::numbers::fresh;
 use crate::shapes::{CsqSize, write};
 use csq_checked::{CheckedQueue, NewRefused};
 use std::alloc::Global;
@@ -46,22 +48,23 @@ fn made_with(alloc: Global, size: &CsqSize, file_limits: &[u32]) -> Result<Check
 /// CSQ_NOT_EMPTY, CSQ_BAD_SIZE or CSQ_NO_MEMORY. As `IoCsqInitializeEx`.
 #[unsafe(no_mangle)]
 pub extern "C" fn csq_new(alloc: Global, queue: &mut CsqQueue, size: &CsqSize) -> u32
-    ensures filled { (result ≡ number_of Code.NotEmpty) ↔ ¬ (queue.old.body ≡ None) }
-    ensures bad_size { queue.old.body ≡ None → ((result ≡ number_of Code.BadSize)
+    ensures filled { (result ≡ number_of Code.NotEmpty) ↔ ¬ (queue.old.boxed.body ≡ None) }
+    ensures bad_size { queue.old.boxed.body ≡ None → ((result ≡ number_of Code.BadSize)
         ↔ ¬ IsGoodSize size.now) }
     ensures made { result ≡ number_of Code.Done
-        → IsNewQueue size.now (replicate size.now.files size.now.irps) queue.new.body }
-    ensures kept { 0 < result → queue.new.body ≡ queue.old.body }
-    ensures cause { queue.old.body ≡ None → (result ≡ number_of Code.Done)
+        → IsNewQueue size.now (replicate size.now.files size.now.irps) queue.new.boxed.body }
+    ensures kept { 0 < result → IsQueueKept queue.old queue.new }
+    ensures cause { queue.old.boxed.body ≡ None → (result ≡ number_of Code.Done)
         ⊎ ((result ≡ number_of Code.BadSize) ⊎ (result ≡ number_of Code.NoMemory)) }
 {
-    if queue.is_filled() {
+    if queue.boxed.is_filled() {
         return Code::NotEmpty.number();
     }
     match QueueBody::opened(alloc, made(alloc, size)) {
         Err(code) => code.number(),
         Ok(body) => {
-            put(queue, body);
+            put(&mut queue.boxed, body);
+            queue.number = fresh();
             Code::Done.number()
         }
     }
@@ -76,23 +79,24 @@ pub extern "C" fn csq_new_with_file_limits(
     size: &CsqSize,
     file_limits: &[u32],
 ) -> u32
-    ensures filled { (result ≡ number_of Code.NotEmpty) ↔ ¬ (queue.old.body ≡ None) }
-    ensures bad_size { queue.old.body ≡ None → ((result ≡ number_of Code.BadSize)
+    ensures filled { (result ≡ number_of Code.NotEmpty) ↔ ¬ (queue.old.boxed.body ≡ None) }
+    ensures bad_size { queue.old.boxed.body ≡ None → ((result ≡ number_of Code.BadSize)
         ↔ ¬ (IsGoodSize size.now
         × IsTrue (are_file_limits size.now.irps size.now.files file_limits.now))) }
     ensures made { result ≡ number_of Code.Done
-        → IsNewQueue size.now file_limits.now queue.new.body }
-    ensures kept { 0 < result → queue.new.body ≡ queue.old.body }
-    ensures cause { queue.old.body ≡ None → (result ≡ number_of Code.Done)
+        → IsNewQueue size.now file_limits.now queue.new.boxed.body }
+    ensures kept { 0 < result → IsQueueKept queue.old queue.new }
+    ensures cause { queue.old.boxed.body ≡ None → (result ≡ number_of Code.Done)
         ⊎ ((result ≡ number_of Code.BadSize) ⊎ (result ≡ number_of Code.NoMemory)) }
 {
-    if queue.is_filled() {
+    if queue.boxed.is_filled() {
         return Code::NotEmpty.number();
     }
     match QueueBody::opened(alloc, made_with(alloc, size, file_limits)) {
         Err(code) => code.number(),
         Ok(body) => {
-            put(queue, body);
+            put(&mut queue.boxed, body);
+            queue.number = fresh();
             Code::Done.number()
         }
     }
@@ -102,17 +106,17 @@ pub extern "C" fn csq_new_with_file_limits(
 /// CSQ_PASSES_OUT where a pass is out. Own rule, as `free` of null.
 #[unsafe(no_mangle)]
 pub extern "C" fn csq_free(alloc: Global, queue: &mut CsqQueue) -> u32
-    ensures code { result ≡ number_of (free_code queue.old.body) }
-    ensures freed { result ≡ number_of Code.Done → queue.new.body ≡ None }
-    ensures kept { 0 < result → queue.new.body ≡ queue.old.body }
+    ensures code { result ≡ number_of (free_code queue.old.boxed.body) }
+    ensures freed { result ≡ number_of Code.Done → queue.new.boxed.body ≡ None }
+    ensures kept { 0 < result → IsQueueKept queue.old queue.new }
 {
-    let Some(body) = queue.lent() else {
+    let Some(body) = queue.boxed.lent() else {
         return Code::Done.number();
     };
     if body.out_left() > 0 {
         return Code::PassesOut.number();
     }
-    drop(take(queue, alloc));
+    drop(take(&mut queue.boxed, alloc));
     Code::Done.number()
 }
 
@@ -120,20 +124,21 @@ pub extern "C" fn csq_free(alloc: Global, queue: &mut CsqQueue) -> u32
 /// CSQ_EMPTY_HANDLE, CSQ_CLOSED, or CSQ_PASSES_OUT where a pass is out. Own rule.
 #[unsafe(no_mangle)]
 pub extern "C" fn csq_close(queue: &mut CsqQueue) -> u32
-    ensures empty { queue.old.body ≡ None → result ≡ number_of Code.Empty }
-    ensures closed { (body : QueueBodyState) → queue.old.body ≡ Some body → body.queue ≡ None
+    ensures empty { queue.old.boxed.body ≡ None → result ≡ number_of Code.Empty }
+    ensures closed { (body : QueueBodyState) → queue.old.boxed.body ≡ Some body → body.queue ≡ None
         → result ≡ number_of Code.Closed }
-    ensures cause { IfSome (open_of queue.old.body)
+    ensures cause { IfSome (open_of queue.old.boxed.body)
         (λ q. (result ≡ number_of Code.Done) ⊎ (result ≡ number_of Code.PassesOut)) }
     ensures rest { result ≡ number_of Code.Done
-        → IfSome queue.new.body (λ body. (body.queue ≡ None)
-        × IfSome (open_of queue.old.body) (λ q. IfSome body.rest (IsLeftOf q))) }
+        → IfSome queue.new.boxed.body (λ body. (body.queue ≡ None)
+        × IfSome (open_of queue.old.boxed.body) (λ q. IfSome body.rest (IsLeftOf q))) }
     ensures some { result ≡ number_of Code.Done
-        → IfSome queue.new.body (λ body. ¬ (body.rest ≡ None)) }
-    ensures kept { 0 < result → queue.new.body ≡ queue.old.body }
-    ensures there { ¬ (queue.old.body ≡ None) → ¬ (queue.new.body ≡ None) }
+        → IfSome queue.new.boxed.body (λ body. ¬ (body.rest ≡ None)) }
+    ensures kept { 0 < result → IsQueueKept queue.old queue.new }
+    ensures there { ¬ (queue.old.boxed.body ≡ None) → ¬ (queue.new.boxed.body ≡ None) }
+    ensures number { queue.new.number ≡ queue.old.number }
 {
-    let Some(body) = queue.lent() else {
+    let Some(body) = queue.boxed.lent() else {
         return Code::Empty.number();
     };
     let code = body.close();
@@ -143,13 +148,13 @@ pub extern "C" fn csq_close(queue: &mut CsqQueue) -> u32
 /// How many passes are out: CSQ_OK, else CSQ_EMPTY_HANDLE or CSQ_CLOSED. Own rule.
 #[unsafe(no_mangle)]
 pub extern "C" fn csq_count_passes_out(queue: &mut CsqQueue, out: &mut u32) -> u32
-    ensures code { result ≡ number_of (open_code queue.old.body) }
-    ensures out { IfSome queue.old.body (λ body. out.new
+    ensures code { result ≡ number_of (open_code queue.old.boxed.body) }
+    ensures out { IfSome queue.old.boxed.body (λ body. out.new
         ≡ set_to (out_of_open body.queue) out.old) }
-    ensures empty { queue.old.body ≡ None → out.new ≡ out.old }
-    ensures same { queue.new.body ≡ queue.old.body }
+    ensures empty { queue.old.boxed.body ≡ None → out.new ≡ out.old }
+    ensures same { IsQueueKept queue.old queue.new }
 {
-    let Some(body) = queue.lent() else {
+    let Some(body) = queue.boxed.lent() else {
         return Code::Empty.number();
     };
     let told = body.passes_out();

@@ -12,7 +12,7 @@ ghost use Rattle.csq_checked.specs.Calls.{MakesOwnCall, CompletesRemoved, Comple
 ghost use Rattle.csq_checked.specs.declared.unlocked.CompleteRefused.{CompleteRefused};
 ghost use Rattle.csq_c.specs.Codes.{mark_code, claim_told, complete_code, flag_code, flag_life_told, flag_told, status_code, status_life_told, status_told};
 ghost use Rattle.csq_c.specs.Exports.{OnPass};
-ghost use Rattle.csq_c.specs.Shapes.{irp_numbered, life_numbered, status_numbered, set_to};
+ghost use Rattle.csq_c.specs.Shapes.{irp_named, irp_numbered, life_numbered, status_numbered, set_to};
 
 use crate::codes::{Code, of_complete, of_flag, of_mark, of_status};
 use crate::handles::CsqPass;
@@ -24,12 +24,12 @@ use irp_core::{IrpId, Life, NtStatus};
 /// CSQ_UNKNOWN_IRP or CSQ_STALE. As `IoCancelIrp`, up to the call of the routine.
 #[unsafe(no_mangle)]
 pub extern "C" fn csq_mark_cancel(pass: &mut CsqPass, irp: CsqIrp, found: &mut u32) -> u32
-    ensures { OnPass pass.old.body pass.new.body result (found.new ≡ found.old)
+    ensures { OnPass pass.old pass.new result (found.new ≡ found.old)
         (λ p p' code. (answer : Result (Option IrpLife) CancelRefused)
         × MakesOwnCall (MarksCancel (irp_numbered irp.irp) (life_numbered irp.life) answer) p p'
         × (code ≡ mark_code answer) × (found.new ≡ set_to (claim_told answer) found.old)) }
 {
-    let Some(by) = pass.lent() else {
+    let Some(by) = pass.boxed.lent() else {
         return Code::Empty.number();
     };
     let (code, told) = of_mark(by.mark_cancel(IrpId(irp.irp), Life(irp.life)));
@@ -37,34 +37,34 @@ pub extern "C" fn csq_mark_cancel(pass: &mut CsqPass, irp: CsqIrp, found: &mut u
     code.number()
 }
 
-/// Completes an IRP that the pass got by a removal with this status: CSQ_OK, else CSQ_UNKNOWN_IRP,
-/// CSQ_NOT_HELD, CSQ_NOT_REMOVED or CSQ_NOT_FINAL. As `IoCompleteRequest`.
+/// Completes an IRP that the pass got by a removal, in the life named, with this status: CSQ_OK,
+/// else CSQ_UNKNOWN_IRP, CSQ_NOT_HELD, CSQ_NOT_REMOVED or CSQ_NOT_FINAL. As `IoCompleteRequest`.
 #[unsafe(no_mangle)]
-pub extern "C" fn csq_complete(pass: &mut CsqPass, irp: u32, status: u32) -> u32
-    ensures { OnPass pass.old.body pass.new.body result (Unit {0})
-        (λ p p' code. (answer : Result IrpLife CompleteRefused)
-        × CompletesRemoved (irp_numbered irp) (status_numbered status) answer p p'
+pub extern "C" fn csq_complete(pass: &mut CsqPass, irp: CsqIrp, status: u32) -> u32
+    ensures { OnPass pass.old pass.new result (Unit {0})
+        (λ p p' code. (answer : Result (Unit {0}) CompleteRefused)
+        × CompletesRemoved (irp_named irp) (status_numbered status) answer p p'
         × (code ≡ complete_code answer)) }
 {
-    let Some(by) = pass.lent() else {
+    let Some(by) = pass.boxed.lent() else {
         return Code::Empty.number();
     };
-    let code = of_complete(by.complete(IrpId(irp), NtStatus(status)));
+    let code = of_complete(by.complete(irp.named(), NtStatus(status)));
     code.number()
 }
 
-/// Completes an IRP that the pass holds with STATUS_CANCELLED: CSQ_OK, else CSQ_UNKNOWN_IRP or
-/// CSQ_NOT_HELD. As `IoCompleteRequest`.
+/// Completes an IRP that the pass holds in the life named with STATUS_CANCELLED: CSQ_OK, else
+/// CSQ_UNKNOWN_IRP or CSQ_NOT_HELD. As `IoCompleteRequest`.
 #[unsafe(no_mangle)]
-pub extern "C" fn csq_complete_cancelled(pass: &mut CsqPass, irp: u32) -> u32
-    ensures { OnPass pass.old.body pass.new.body result (Unit {0})
-        (λ p p' code. (answer : Result IrpLife CompleteRefused)
-        × CompletesHeld (irp_numbered irp) answer p p' × (code ≡ complete_code answer)) }
+pub extern "C" fn csq_complete_cancelled(pass: &mut CsqPass, irp: CsqIrp) -> u32
+    ensures { OnPass pass.old pass.new result (Unit {0})
+        (λ p p' code. (answer : Result (Unit {0}) CompleteRefused)
+        × CompletesHeld (irp_named irp) answer p p' × (code ≡ complete_code answer)) }
 {
-    let Some(by) = pass.lent() else {
+    let Some(by) = pass.boxed.lent() else {
         return Code::Empty.number();
     };
-    let code = of_complete(by.complete_cancelled(IrpId(irp)));
+    let code = of_complete(by.complete_cancelled(irp.named()));
     code.number()
 }
 
@@ -77,14 +77,14 @@ pub extern "C" fn csq_read_cancel(
     life: &mut u32,
     cancelled: &mut u32,
 ) -> u32
-    ensures { OnPass pass.old.body pass.new.body result
+    ensures { OnPass pass.old pass.new result
         ((life.new ≡ life.old) × (cancelled.new ≡ cancelled.old))
         (λ p p' code. (answer : Result (Life × Bool) UnknownIrp)
         × MakesOwnCall (ReadsFlag (irp_numbered irp) answer) p p' × (code ≡ flag_code answer)
         × (life.new ≡ set_to (flag_life_told answer) life.old)
         × (cancelled.new ≡ set_to (flag_told answer) cancelled.old)) }
 {
-    let Some(by) = pass.lent() else {
+    let Some(by) = pass.boxed.lent() else {
         return Code::Empty.number();
     };
     let (code, lived, flag) = of_flag(by.is_cancelled(IrpId(irp)));
@@ -102,14 +102,14 @@ pub extern "C" fn csq_read_status(
     life: &mut u32,
     status: &mut u32,
 ) -> u32
-    ensures { OnPass pass.old.body pass.new.body result
+    ensures { OnPass pass.old pass.new result
         ((life.new ≡ life.old) × (status.new ≡ status.old))
         (λ p p' code. (answer : Result (Life × Option Status) UnknownIrp)
         × MakesOwnCall (ReadsStatus (irp_numbered irp) answer) p p' × (code ≡ status_code answer)
         × (life.new ≡ set_to (status_life_told answer) life.old)
         × (status.new ≡ set_to (status_told answer) status.old)) }
 {
-    let Some(by) = pass.lent() else {
+    let Some(by) = pass.boxed.lent() else {
         return Code::Empty.number();
     };
     let (code, lived, told) = of_status(by.status(IrpId(irp)));
@@ -121,11 +121,11 @@ pub extern "C" fn csq_read_status(
 /// How many IRPs the pass holds and owes: CSQ_OK. Own rule.
 #[unsafe(no_mangle)]
 pub extern "C" fn csq_count_held(pass: &mut CsqPass, held: &mut u32, owed: &mut u32) -> u32
-    ensures { OnPass pass.old.body pass.new.body result
+    ensures { OnPass pass.old pass.new result
         ((held.new ≡ held.old) × (owed.new ≡ owed.old)) (λ p p' code. (p' ≡ p) × (code ≡ Code.Done)
         × (held.new ≡ held_count p.pass.steps) × (owed.new ≡ owed_count p.pass.steps)) }
 {
-    let Some(by) = pass.lent() else {
+    let Some(by) = pass.boxed.lent() else {
         return Code::Empty.number();
     };
     let (tokens, claims) = (by.tokens(), by.claims());

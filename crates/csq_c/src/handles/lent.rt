@@ -4,10 +4,10 @@ ghost use Rattle.std.specs.Borrow.{sem};
 ghost use Rattle.csq_c.specs.Lends.{LendsQueue, LendsPass};
 
 use crate::body::QueueBody;
-use crate::handles::{CsqPass, CsqQueue};
+use crate::handles::{PassBox, QueueBox};
 use csq_checked::CheckedPass;
 
-impl CsqQueue {
+impl QueueBox {
     /// The queue, or None where the handle is empty. Own rule.
     pub(crate) fn lent(&mut self) -> Option<&mut QueueBody>
         ensures* writes_back { sem 𝓛 (LendsQueue self.entry result) }
@@ -33,7 +33,7 @@ impl CsqQueue {
     }
 }
 
-impl CsqPass {
+impl PassBox {
     /// The pass, or None where the handle is empty. Own rule.
     pub(crate) fn lent(&mut self) -> Option<&mut CheckedPass>
         ensures* writes_back { sem 𝓛 (LendsPass self.entry result) }

@@ -12,10 +12,10 @@ use Rattle.core.proofs.alloc.Calls.{Goes-blank}
 use Rattle.csq_c.specs.Holds.{held}
 use Rattle.csq_checked.specs.contracts.pass.CheckedPass.{the_row}
 use Rattle.csq_c.specs.contracts.hold.Hold as hold
-use Rattle.csq_c.specs.contracts.handles.CsqPassHandle.of as f
+use Rattle.csq_c.specs.contracts.handles.PassBoxHandle.of as f
 use Rattle.csq_c.proofs.Holding.{word, passes}
-use Rattle.csq_c.proofs.handles.CsqPassHandle.of.Code as code
-use Rattle.csq_c.proofs.handles.CsqPassHandle.of.Statement.{statement}
+use Rattle.csq_c.proofs.handles.PassBoxHandle.of.Code as code
+use Rattle.csq_c.proofs.handles.PassBoxHandle.of.Statement.{statement}
 
 abbrev stayed : Stays f.ended.signature.params f.ended.kept
 stayed = (stay_dropped (plain (λ _. hold.the_row the_row)) yes, tt)

@@ -36,11 +36,11 @@ use Rattle.std_alloc.proofs.VecSteps.Shapes.{after}
 use Rattle.csq_c.specs.Holds.{held, frees}
 use Rattle.csq_c.specs.Lends.{LendsPass}
 use Rattle.csq_checked.specs.contracts.pass.CheckedPass.{the_row as R}
-use Rattle.csq_c.specs.contracts.handles.CsqPass.{the_row as H}
-use Rattle.csq_c.specs.contracts.handles.CsqPass.lent as f
+use Rattle.csq_c.specs.contracts.handles.PassBox.{the_row as H}
+use Rattle.csq_c.specs.contracts.handles.PassBox.lent as f
 use Rattle.csq_c.proofs.Holding.{word, pointer_typed, taken_apart, made, a_box}
-use Rattle.csq_c.proofs.handles.CsqPass.lent.Code as code
-use Rattle.csq_c.proofs.handles.CsqPass.lent.Statement.{statement}
+use Rattle.csq_c.proofs.handles.PassBox.lent.Code as code
+use Rattle.csq_c.proofs.handles.PassBox.lent.Statement.{statement}
 
 abbrev stayed : Stays f.ended.signature.params f.ended.kept
 stayed = (stay_dropped (mut_ref_to (0 ∷ []) tt (plain (λ _. H))) no, tt)

@@ -10,12 +10,12 @@ use denote.Triple.Entry.{alive}
 use denote.Triple.Walked.{Stays, stay_dropped, walk_of}
 use Rattle.core.proofs.alloc.Calls.{Goes-blank}
 use Rattle.csq_c.specs.Holds.{held}
-use Rattle.csq_checked.specs.contracts.pass.CheckedPass.{the_row}
-use Rattle.csq_c.specs.contracts.handles.CsqPass as handle
-use Rattle.csq_c.specs.contracts.handles.CsqPassHandle.into_hold as f
+use Rattle.csq_c.specs.contracts.body.QueueBody.{the_row}
+use Rattle.csq_c.specs.contracts.handles.QueueBox as handle
+use Rattle.csq_c.specs.contracts.handles.QueueBoxHandle.into_hold as f
 use Rattle.csq_c.proofs.Holding.{word, passes}
-use Rattle.csq_c.proofs.handles.CsqPassHandle.into_hold.Code as code
-use Rattle.csq_c.proofs.handles.CsqPassHandle.into_hold.Statement.{statement}
+use Rattle.csq_c.proofs.handles.QueueBoxHandle.into_hold.Code as code
+use Rattle.csq_c.proofs.handles.QueueBoxHandle.into_hold.Statement.{statement}
 
 abbrev stayed : Stays f.ended.signature.params f.ended.kept
 stayed = (stay_dropped (plain (λ _. handle.the_row)) yes, tt)

@@ -36,11 +36,11 @@ use Rattle.std_alloc.proofs.VecSteps.Shapes.{after}
 use Rattle.csq_c.specs.Holds.{held, frees}
 use Rattle.csq_c.specs.Lends.{LendsQueue}
 use Rattle.csq_c.specs.contracts.body.QueueBody.{the_row as R}
-use Rattle.csq_c.specs.contracts.handles.CsqQueue.{the_row as H}
-use Rattle.csq_c.specs.contracts.handles.CsqQueue.lent as f
+use Rattle.csq_c.specs.contracts.handles.QueueBox.{the_row as H}
+use Rattle.csq_c.specs.contracts.handles.QueueBox.lent as f
 use Rattle.csq_c.proofs.Holding.{word, pointer_typed, taken_apart, made, a_box}
-use Rattle.csq_c.proofs.handles.CsqQueue.lent.Code as code
-use Rattle.csq_c.proofs.handles.CsqQueue.lent.Statement.{statement}
+use Rattle.csq_c.proofs.handles.QueueBox.lent.Code as code
+use Rattle.csq_c.proofs.handles.QueueBox.lent.Statement.{statement}
 
 abbrev stayed : Stays f.ended.signature.params f.ended.kept
 stayed = (stay_dropped (mut_ref_to (0 ∷ []) tt (plain (λ _. H))) no, tt)
