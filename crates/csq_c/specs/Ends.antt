@@ -1,20 +1,15 @@
 -- Passes that are handed out and come back, and queues that are closed and freed.
-use Rattle.std.specs.Prelude.{◌≡◌, ℕ, ◌+◌, ◌-◌, ◌==◌, ◌&&◌, Bool, Option, Some, None, if◌then◌else◌}
+use Rattle.std.specs.Prelude.{◌≡◌, ◌⊎◌, ℕ, ◌-◌, ◌==◌, ◌&&◌, Bool, Option, Some, None, if◌then◌else◌}
 use Rattle.std.specs.Option.{is_some}
 use Rattle.csq_list.specs.Listing.{Listing}
 use Rattle.csq_words.specs.declared.views.PassRecord.{PassRecord}
-use Rattle.csq_words.specs.Records.{new_pass, with_back}
 use Rattle.csq_queue.specs.Counts.{held_count, owed_count}
-use Rattle.csq_queue.specs.Named.{pass_numbered, out_count}
-use Rattle.csq_queue.specs.Rests.{FirstAreBack, IsClosed}
-use Rattle.csq_checked.specs.Passes.{CheckedState, CheckedPassState, IsPassIn}
+use Rattle.csq_queue.specs.Rests.{IsClosed}
+use Rattle.csq_checked.specs.Idle.{with_idle_back}
+use Rattle.csq_checked.specs.Passes.{CheckedState, CheckedPassState, IsPassIn, HandsOutNew, HandsOutAgain, IsBack, out_of}
 use Rattle.csq_c.specs.Bodies.{QueueBodyState, RestState}
 use Rattle.csq_c.specs.declared.codes.Code.{Code}
 use Rattle.csq_c.specs.declared.codes.Code.TheVariants.{Done, Holding, PassesOut, Empty, NotEmpty, Closed}
-
--- how many passes of a queue are out
-abbrev pub out_of : CheckedState → ℕ
-out_of q = out_count 0 q.queue.queue.back (q.queue.limits.passes - q.left)
 
 -- how many are out, of a queue that is open
 abbrev pub out_of_open : Option CheckedState → Option ℕ
@@ -49,32 +44,29 @@ abandon_code (Some p) = if is_idle p then Done else Holding
 abbrev pub give_back_code : QueueBodyState → CheckedPassState → Code
 give_back_code body p = if is_some body.queue then (if is_idle p then Done else Holding) else Closed
 
--- the queue once this pass is back
-abbrev pub with_pass_back : PassRecord → CheckedState → CheckedState
-with_pass_back pass q = record q { queue = record q.queue { queue = with_back pass q.queue.queue } }
+-- this pass came back to the open queue
+pub record IsTakenBack (body body' : QueueBodyState) (p : PassRecord) : Type 0 where
+  pub before : CheckedState
+  pub after : CheckedState
+  pub was : body.queue ≡ Some before
+  pub queue_is : body' ≡ record body { queue = Some after }
+  pub back : IsBack p before after
 
-abbrev pub with_back_in : PassRecord → Option CheckedState → Option CheckedState
-with_back_in pass None = None
-with_back_in pass (Some q) = Some (with_pass_back pass q)
-
--- what is left of a queue with this record that was closed
+-- what is left of a queue with this record that was closed, once its idle passes gave themselves back
 pub record IsLeftOf (q : CheckedState) (rest : RestState) : Type 0 where
   pub listing : Listing
   pub entries_are : rest.entries ≡ listing.entries
-  pub closed : IsClosed q.queue.limits (q.queue.limits.passes - q.left) q.queue.queue listing rest.finals
-  pub back : FirstAreBack (q.queue.limits.passes - q.left) q.queue.queue.back
+  pub closed : IsClosed q.queue.limits (q.queue.limits.passes - q.left) (with_idle_back q.idle (q.queue.limits.passes - q.left) q.queue.queue) listing rest.finals
+  pub back : out_of q ≡ 0
 
--- a queue's next pass, which has seen and done nothing
-pub record IsNextPass (q : CheckedState) (p : CheckedPassState) : Type 0 where
-  pub made_by : IsPassIn q.queue p
-  pub new : p.pass ≡ new_pass (pass_numbered (q.queue.limits.passes + 1 - q.left))
-
--- one pass fewer is left
-pub record IsTaken (body body' : QueueBodyState) (q : CheckedState) : Type 0 where
+-- the open queue hands this pass out: the first that is idle, else the next new one
+pub record IsHandedOut (body body' : QueueBodyState) (p : CheckedPassState) : Type 0 where
+  pub before : CheckedState
   pub after : CheckedState
+  pub was : body.queue ≡ Some before
   pub queue_is : body' ≡ record body { queue = Some after }
-  pub same : after.queue ≡ q.queue
-  pub left : after.left + 1 ≡ q.left
+  pub made_by : IsPassIn before.queue p
+  pub handed : HandsOutNew before after p.pass ⊎ HandsOutAgain before after p.pass
 
 -- why no pass is asked for
 abbrev pub take_cause : Option QueueBodyState → Option CheckedPassState → Option Code

@@ -1,5 +1,5 @@
 -- How large a queue C wants, and the queue that it gets.
-use Rattle.std.specs.Prelude.{◌≡◌, ℕ, ◌==◌, true, ◌||◌, List, Option, Some, None, if◌then◌else◌}
+use Rattle.std.specs.Prelude.{◌≡◌, ℕ, ◌==◌, true, ◌||◌, List, replicate, Option, Some, None, if◌then◌else◌}
 use Rattle.irp_core.specs.Runs.{IsInLimits}
 use Rattle.csq_list.specs.Listing.{IsListSize, fresh}
 use Rattle.atomic_table.specs.Seated.{TableId}
@@ -36,6 +36,7 @@ abbrev pub new_checked_state : CsqSize → List ℕ → TableId → CheckedState
 new_checked_state c limits table = record {
   queue = record { table = table; limits = limits_of c.passes c.first_life (fresh c.irps c.files c.limit limits); queue = new_queue c.first_life c.passes };
   left = c.passes;
+  idle = replicate c.passes None;
 }
 
 -- the handle has such a queue, which is open

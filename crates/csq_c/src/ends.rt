@@ -2,7 +2,8 @@
 ghost use Rattle.std.specs.Prelude.{◌≡◌, ◌⊎◌, ◌↔◌, Ok, Err, Some, None, IsOk, IfOk, IfErr, OnOk, OnErr, IfSome};
 ghost use Rattle.csq_c.specs.Bodies.{IsPassFor};
 ghost use Rattle.csq_c.specs.Codes.{new_code};
-ghost use Rattle.csq_c.specs.Ends.{IsNextPass, IsLeftOf, IsTaken, give_back_code, out_left, out_of_open, with_back_in};
+ghost use Rattle.csq_checked.specs.Idle.{NoneIsIdle};
+ghost use Rattle.csq_c.specs.Ends.{IsHandedOut, IsLeftOf, IsTakenBack, give_back_code, out_left, out_of_open};
 
 use crate::body::QueueBody;
 use crate::codes::{Code, of_new, of_pass};
@@ -35,14 +36,14 @@ impl QueueBody {
         }
     }
 
-    /// The next pass, where the queue is open.
+    /// A pass, where the queue is open: the first that is idle, else the next new one.
     pub(crate) fn take_pass(&mut self, alloc: Global) -> Result<Box<CheckedPass>, Code>
         ensures closed { self.old.queue ≡ None → result ≡ Err Code.Closed }
-        ensures none { IfSome self.old.queue (λ q. (result ≡ Err Code.NoPass) ↔ (q.left ≡ 0)) }
+        ensures none { IfSome self.old.queue (λ q. (result ≡ Err Code.NoPass)
+            ↔ ((q.left ≡ 0) × NoneIsIdle q.idle)) }
         ensures cause { IfSome self.old.queue
             (λ q. IfErr result (λ code. (code ≡ Code.NoPass) ⊎ (code ≡ Code.NoMemory))) }
-        ensures pass { IfOk result (λ pass. IfSome self.old.queue
-            (λ q. IsNextPass q pass.value × IsTaken self.old self.new q)) }
+        ensures pass { IfOk result (λ pass. IsHandedOut self.old self.new pass.value) }
         ensures kept { OnErr result (self.new ≡ self.old) }
     {
         let Some(queue) = &mut self.queue else {
@@ -61,8 +62,7 @@ impl QueueBody {
     ) -> Result<(), (Code, Box<CheckedPass>)>
         requires { IsPassFor self.old pass.value }
         ensures done { OnOk result (give_back_code self.old pass.value ≡ Code.Done) }
-        ensures back { OnOk result (self.new
-            ≡ record self.old { queue = with_back_in pass.value.pass self.old.queue }) }
+        ensures back { OnOk result (IsTakenBack self.old self.new pass.value.pass) }
         ensures cause { IfErr result (λ kept. (kept.0 ≡ Code.Closed) ⊎ (kept.0 ≡ Code.Holding)) }
         ensures refused { IfErr result (λ kept. (kept.0 ≡ give_back_code self.old pass.value)
             × (kept.1 ≡ pass) × (self.new ≡ self.old)) }

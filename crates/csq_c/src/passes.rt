@@ -4,29 +4,30 @@ ghost use Rattle.csq_checked.specs.Passes.{CheckedState, CheckedPassState};
 ghost use Rattle.csq_c.specs.Bodies.{QueueBodyState, open_of};
 ghost use Rattle.csq_c.specs.Codes.{number_of};
 ghost use Rattle.csq_c.specs.Exports.{ArePaired, AreHandlesKept, IsPassKept};
-ghost use Rattle.csq_c.specs.Ends.{IsNextPass, IsTaken, abandon_code, give_back_code, take_cause, with_back_in};
+ghost use Rattle.csq_checked.specs.Idle.{NoneIsIdle};
+ghost use Rattle.csq_c.specs.Ends.{IsHandedOut, IsTakenBack, abandon_code, give_back_code, take_cause};
 
 use crate::codes::Code;
 use crate::handles::{CsqPass, CsqQueue};
 use crate::hold::{put, take};
 use std::alloc::Global;
 
-/// Hands out the next pass, under the caller's lock: CSQ_OK, else CSQ_EMPTY_HANDLE, CSQ_NOT_EMPTY,
+/// Hands out a pass, one that came back before a new one, under the caller's lock: CSQ_OK, else CSQ_EMPTY_HANDLE, CSQ_NOT_EMPTY,
 /// CSQ_CLOSED, CSQ_NO_PASS or CSQ_NO_MEMORY. Own rule.
 #[unsafe(no_mangle)]
 pub extern "C" fn csq_take_pass(alloc: Global, queue: &mut CsqQueue, pass: &mut CsqPass) -> u32
     ensures refused { IfSome (take_cause queue.old.boxed.body pass.old.boxed.body)
         (λ cause. result ≡ number_of cause) }
     ensures none { IfSome (open_of queue.old.boxed.body)
-        (λ q. pass.old.boxed.body ≡ None → ((result ≡ number_of Code.NoPass) ↔ (q.left ≡ 0))) }
+        (λ q. pass.old.boxed.body ≡ None → ((result ≡ number_of Code.NoPass)
+        ↔ ((q.left ≡ 0) × NoneIsIdle q.idle))) }
     ensures cause { IfSome (open_of queue.old.boxed.body)
         (λ q. pass.old.boxed.body ≡ None → (result ≡ number_of Code.Done)
         ⊎ ((result ≡ number_of Code.NoPass) ⊎ (result ≡ number_of Code.NoMemory))) }
-    ensures made { result ≡ number_of Code.Done → (body body' : QueueBodyState) × (q : CheckedState)
-        × (p : CheckedPassState) × (queue.old.boxed.body ≡ Some body) × (body.queue ≡ Some q)
+    ensures made { result ≡ number_of Code.Done → (body body' : QueueBodyState)
+        × (p : CheckedPassState) × (queue.old.boxed.body ≡ Some body)
         × (queue.new.boxed.body ≡ Some body') × (pass.new.boxed.body ≡ Some p)
-        × (pass.new.queue ≡ queue.old.number) × IsNextPass q p
-        × IsTaken body body' q }
+        × (pass.new.queue ≡ queue.old.number) × IsHandedOut body body' p }
     ensures number { queue.new.number ≡ queue.old.number }
     ensures kept { 0 < result → AreHandlesKept queue.old queue.new pass.old pass.new }
 {
@@ -59,9 +60,9 @@ pub extern "C" fn csq_give_back(alloc: Global, queue: &mut CsqQueue, pass: &mut 
     ensures code { IfSome queue.old.boxed.body (λ body. IfSome pass.old.boxed.body
         (λ p. pass.old.queue ≡ queue.old.number → result ≡ number_of (give_back_code body p))) }
     ensures back { result ≡ number_of Code.Done
-        → IfSome queue.old.boxed.body (λ body. IfSome pass.old.boxed.body
-        (λ p. (queue.new.boxed.body ≡ Some (record body { queue = with_back_in p.pass body.queue }))
-        × (pass.new.boxed.body ≡ None))) }
+        → (pass.new.boxed.body ≡ None) × (body body' : QueueBodyState) × (p : CheckedPassState)
+        × (queue.old.boxed.body ≡ Some body) × (pass.old.boxed.body ≡ Some p)
+        × (queue.new.boxed.body ≡ Some body') × IsTakenBack body body' p.pass }
     ensures number { queue.new.number ≡ queue.old.number }
     ensures kept { 0 < result → AreHandlesKept queue.old queue.new pass.old pass.new }
 {
