@@ -82,8 +82,8 @@ pub(crate) fn take<H: Handle>(handle: &mut H, alloc: Global) -> Option<Box<H::Bo
     whole.into_hold().into_body(alloc)
 }
 
-/// Puts a box into a handle that is empty. What the handle was is let go without a look at it, so nothing
-/// is freed here.
+/// Puts a box into a handle that is empty. What the handle was is let go without a look at it, so
+/// nothing is freed here.
 pub(crate) fn put<H: Handle>(handle: &mut H, body: Box<H::Body>)
     requires { H.held_in handle.old ≡ None }
     ensures { H.held_in handle.new ≡ Some body.value }

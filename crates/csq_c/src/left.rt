@@ -65,7 +65,8 @@ impl QueueBody {
 #[unsafe(no_mangle)]
 pub extern "C" fn csq_read_listed(queue: &mut CsqQueue, after: u32, irp: &mut u32) -> u32
     ensures same { IsQueueKept queue.old queue.new }
-    ensures empty { queue.old.boxed.body ≡ None → (result ≡ number_of Code.Empty) × (irp.new ≡ irp.old) }
+    ensures empty { queue.old.boxed.body ≡ None → (result ≡ number_of Code.Empty)
+        × (irp.new ≡ irp.old) }
     ensures unclosed { IfSome queue.old.boxed.body (λ body. body.rest ≡ None
         → (result ≡ number_of Code.NotClosed) × (irp.new ≡ irp.old)) }
     ensures next { IfSome queue.old.boxed.body (λ body. IfSome body.rest

@@ -1,6 +1,6 @@
-//! The calls that take an open queue, by a pass, under the caller's lock. Before any other code each
-//! answers CSQ_EMPTY_HANDLE where a handle is empty, then CSQ_OTHER_QUEUE where the pass is another
-//! queue's, then CSQ_CLOSED of a closed queue.
+//! The calls that take an open queue, by a pass, under the caller's lock. Before any other code
+//! each answers CSQ_EMPTY_HANDLE where a handle is empty, then CSQ_OTHER_QUEUE where the pass is
+//! another queue's, then CSQ_CLOSED of a closed queue.
 ghost use Rattle.std.specs.Prelude.{◌≡◌, ℕ, Option};
 ghost use Rattle.irp_core.specs.declared.ids.IrpLife.{IrpLife};
 ghost use Rattle.csq_c.specs.Calls.{InsertsInto, RemovesNextFrom, RemovesFrom, RunsRoutineOn, CancelsOwedOn, ClosesFileOf, ReusesOf};

@@ -48,8 +48,8 @@ pub extern "C" fn csq_take_pass(alloc: Global, queue: &mut CsqQueue, pass: &mut 
 }
 
 /// Gives a pass back, under the caller's lock: CSQ_OK, and its handle is empty, else
-/// CSQ_EMPTY_HANDLE, CSQ_OTHER_QUEUE where it is another queue's, CSQ_CLOSED, or CSQ_HOLDING where it
-/// holds or owes IRPs. Own rule.
+/// CSQ_EMPTY_HANDLE, CSQ_OTHER_QUEUE where it is another queue's, CSQ_CLOSED, or CSQ_HOLDING where
+/// it holds or owes IRPs. Own rule.
 #[unsafe(no_mangle)]
 pub extern "C" fn csq_give_back(alloc: Global, queue: &mut CsqQueue, pass: &mut CsqPass) -> u32
     requires { ArePaired queue.old pass.old }

@@ -1,5 +1,5 @@
-//! How a queue is made, closed and freed. (`alloc` is malloc, realloc and free. It has no size, so C
-//! hands in nothing for it.)
+//! How a queue is made, closed and freed. (`alloc` is malloc, realloc and free. It has no size, so
+//! C hands in nothing for it.)
 ghost use Rattle.std.specs.Prelude.{◌≡◌, ◌⊎◌, ◌<◌, ◌↔◌, Err, IsTrue, IfOk, IfSome, Some, None, replicate};
 ghost use Rattle.csq_list.specs.Listing.{are_file_limits};
 ghost use Rattle.csq_c.specs.Bodies.{QueueBodyState, open_of};
@@ -120,8 +120,8 @@ pub extern "C" fn csq_free(alloc: Global, queue: &mut CsqQueue) -> u32
     Code::Done.number()
 }
 
-/// Closes a queue, of which `csq_read_listed` and `csq_read_left` then tell what is left: CSQ_OK, else
-/// CSQ_EMPTY_HANDLE, CSQ_CLOSED, or CSQ_PASSES_OUT where a pass is out. Own rule.
+/// Closes a queue, of which `csq_read_listed` and `csq_read_left` then tell what is left: CSQ_OK,
+/// else CSQ_EMPTY_HANDLE, CSQ_CLOSED, or CSQ_PASSES_OUT where a pass is out. Own rule.
 #[unsafe(no_mangle)]
 pub extern "C" fn csq_close(queue: &mut CsqQueue) -> u32
     ensures empty { queue.old.boxed.body ≡ None → result ≡ number_of Code.Empty }
