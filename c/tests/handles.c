@@ -302,16 +302,16 @@ static struct device device_to_close(uint32_t list) {
         IS(put(&device, 0, irp, irp % 2), CSQ_OK);
     }
     IS(csq_remove(&device.queue, &device.passes[3], context), CSQ_OK);
-    IS(csq_complete(&device.passes[3], irp_in(2, 0), 0xC0000001), CSQ_OK);
+    IS(csq_complete(&device.passes[3], irp_in(2, 3), 0xC0000001), CSQ_OK);
     IS(mark(&device, 1, 3, 3), 1);
     IS(mark(&device, 2, 4, 3), 1);
-    IS(csq_cancel_routine(&device.queue, &device.passes[2], irp_in(4, 0)), CSQ_OK);
-    IS(csq_complete_cancelled(&device.passes[2], irp_in(4, 0)), CSQ_OK);
-    IS(csq_reuse(&device.queue, &device.passes[2], irp_in(4, 0), &life), CSQ_OK);
+    IS(csq_cancel_routine(&device.queue, &device.passes[2], irp_in(4, 3)), CSQ_OK);
+    IS(csq_complete_cancelled(&device.passes[2], irp_in(4, 3)), CSQ_OK);
+    IS(csq_reuse(&device.queue, &device.passes[2], irp_in(4, 3), &life), CSQ_OK);
     IS(csq_insert(&device.queue, &device.passes[0], 7, 0, 1, &context), CSQ_OK);
     IS(take(&device, 1, 0), 7);
-    IS(csq_complete(&device.passes[1], irp_in(7, 0), 5), CSQ_OK);
-    IS(csq_reuse(&device.queue, &device.passes[2], irp_in(7, 0), &life), CSQ_OK);
+    IS(csq_complete(&device.passes[1], irp_in(7, 3), 5), CSQ_OK);
+    IS(csq_reuse(&device.queue, &device.passes[2], irp_in(7, 3), &life), CSQ_OK);
     IS(csq_insert(&device.queue, &device.passes[0], 7, 0, 1, &context), CSQ_OK);
     settle(&device);
     return device;
