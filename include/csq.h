@@ -4,16 +4,17 @@
  * library runs on 64-bit Linux (ELF), on a processor of x86-64-v2 (SSE4.1) or later.
  *
  *     the WDK                                  here
- *     IoCsqInitializeEx                        csq_new, csq_pass
+ *     IoCsqInitializeEx                        csq_new, csq_take_pass
  *     IoCsqInsertIrpEx                         csq_insert
  *     IoCsqRemoveNextIrp                       csq_remove_next
  *     IoCsqRemoveIrp, IO_CSQ_IRP_CONTEXT       csq_remove, struct csq_irp
- *     IoCancelIrp                              csq_cancel; its halves are csq_mark_cancel and csq_cancel_routine
- *     CsqCompleteCanceledIrp                   csq_complete_cancelled
+ *     IoCancelIrp                              csq_cancel; its halves are csq_mark_cancel and csq_cancel_owed
+ *     CsqPeekNextIrp                           csq_peek_next
+ *     CsqCompleteCanceledIrp                   csq_complete_cancelled; struct csq_callback is told before it
  *     IoCompleteRequest                        csq_complete
- *     IRP_MJ_CLEANUP                           csq_cleanup; csq_close_file
+ *     IRP_MJ_CLEANUP                           csq_cleanup; csq_close_file, csq_drain
  *     IoReuseIrp                               csq_reuse
- *     Irp->Cancel, Irp->IoStatus.Status        csq_is_cancelled, csq_status
+ *     Irp->Cancel, Irp->IoStatus.Status        csq_read_cancel, csq_read_status
  *     CsqAcquireLock, CsqReleaseLock           the caller's lock (struct csq_lock)
  *
  * The words:
@@ -24,8 +25,8 @@
  *   that pass at once. An IRP that an insert accepted is completed at most once, and once no pass is out it is
  *   listed or was completed.
  * - A completed IRP may be used again (csq_reuse): its next life begins, of which all this holds anew. A
- *   caller names an IRP in one of its lives (struct csq_irp), so that what comes late for an old life takes
- *   nothing of a newer one.
+ *   caller names an IRP in one of its lives (struct csq_irp), so that what comes late for an old life is refused
+ *   and takes nothing of a newer one.
  * - A pass is what calls are made through: one for each thread that inserts, removes, cancels or completes.
  *   It knows which IRPs it holds (got by a removal, or got cancelled), and which ones it owes: their cancel
  *   routine was taken through this pass and has yet to run.
@@ -33,35 +34,36 @@
  * The lock: "Lock: held" says that the caller has the queue's lock round the call, which is any lock of the
  * caller's, one for each queue. "Lock: not needed" says that the call may come at any time, also while another
  * thread has the lock. No call here takes a lock or waits (but for what malloc, realloc and free do), starts a
- * thread or ends the program. (csq_cancel and csq_cleanup, at the end, take the caller's lock through the caller's
- * functions.)
+ * thread or ends the program. (csq_cancel, csq_cleanup and csq_drain, at the end, take the caller's lock through the
+ * caller's functions.)
  *
- * Allocation: csq_new, csq_new_with_file_limits and csq_pass take memory. No other call does.
+ * Allocation: csq_new, csq_new_with_file_limits and csq_take_pass take memory. No other call does.
  *
  * Memory order: what a thread wrote before csq_insert is seen by whoever removes the IRP or runs its cancel routine,
  * since both have the lock. What it wrote before csq_complete or csq_complete_cancelled is seen by whoever learns of
- * that completion from csq_status or csq_reuse: the library's steps on its words are atomic and sequentially
+ * that completion from csq_read_status or csq_reuse: the library's steps on its words are atomic and sequentially
  * consistent. (The thread sanitizer doesn't see them in the library, and may report the second as a race.)
  *
  * The answer of a call is a code of the one table below. Where several would fit it is the first one tested:
- * whether handles are filled or empty, in the order of the parameters; whether the queue is closed; then the
- * causes in the order in which the call's comment names them. A refusal, which is any answer but CSQ_OK and
- * csq_insert's CSQ_CANCELLED, changes nothing and writes nothing, but for the life that csq_status tells. (csq_cancel
- * and csq_cleanup are made of several calls: their comments say what holds after a refusal.) CSQ_EMPTY_HANDLE of a
- * handle that is filled says that two calls had it at once: the lock is missing somewhere.
+ * whether handles are filled or empty, in the order of the parameters; whether the pass is this queue's; whether the
+ * queue is closed; then the causes in the order in which the call's comment names them. A closed queue has no pass, so
+ * a call that takes both answers CSQ_OTHER_QUEUE of it. A refusal, which is any answer but CSQ_OK and csq_insert's
+ * CSQ_CANCELLED, changes nothing and writes nothing, but for the life that csq_read_status tells. (csq_cancel,
+ * csq_cleanup and csq_drain are made of several calls: their comments say what holds after a refusal.)
+ * CSQ_EMPTY_HANDLE of a handle that is filled says that two calls had it at once: the lock is missing somewhere.
  *
  * What the caller must uphold, which nothing checks:
  *
- * - A pass is used with no other open queue than the one that handed it out.
  * - A handle begins as CSQ_EMPTY and is filled by these calls alone. It is not copied, but may be moved while no
  *   call uses it; what it points to is not read or written.
- * - A handle is in one call at a time. For a queue that is the lock; a pass is used by one thread at a time,
- *   and goes from one to another by an act that synchronises (a lock, the start or the join of a thread, a
- *   sequentially consistent atomic).
+ * - A handle is in one call at a time. For a queue that is the lock: of csq_cancel, csq_cleanup and csq_drain the
+ *   queue is in a call only while they have the lock, so other threads' calls may come in between. A pass is used by
+ *   one thread at a time, from the beginning of a call to its end, and goes from one to another by an act that
+ *   synchronises (a lock, the start or the join of a thread, a sequentially consistent atomic).
  * - Pointers are valid for what is read and written through them, none is null, and those of one call don't overlap.
  * - malloc, realloc and free are of one allocator, and may be called by several threads at once.
  * - No call is made in a signal handler, in the forked child of a process with threads, or with less than 8 KB of
- *   the stack left. (Measured: csq_new takes 5.8 KB at most, csq_pass 3.3 KB, each other call less than 1.2 KB.)
+ *   the stack left. (Measured: csq_new takes 5.8 KB at most, csq_take_pass 3.3 KB, each other call less than 1.2 KB.)
  */
 #ifndef CSQ_H
 #define CSQ_H
@@ -69,8 +71,9 @@
 #include <stddef.h>
 #include <stdint.h>
 
-/* The version of this interface. */
+/* The version of this interface: as text, and as the number that csq_version answers of the library. */
 #define CSQ_VERSION "1.0.0"
+#define CSQ_VERSION_NUMBER UINT32_C(10000)
 
 /* An answer that has to be looked at: else an IRP may be held or owed by a pass whose program doesn't know. */
 #if (defined(__cplusplus) && __cplusplus >= 201703L) || (defined(__STDC_VERSION__) && __STDC_VERSION__ >= 202311L)
@@ -83,11 +86,6 @@
 
 #ifdef __cplusplus
 extern "C" {
-/* csq_pass and csq_left are calls and structs: these are named with the word struct, as in C. */
-#ifdef __GNUC__
-#pragma GCC diagnostic push
-#pragma GCC diagnostic ignored "-Wshadow"
-#endif
 #endif
 
 /* What a call answers. */
@@ -115,9 +113,9 @@ enum csq_code {
     CSQ_NOT_COMPLETED = 10,
     /* The IRP's present life is the last that there can be. */
     CSQ_LIVES_SPENT = 11,
-    /* The pass doesn't hold the IRP. */
+    /* The pass doesn't hold the IRP in the life named. */
     CSQ_NOT_HELD = 12,
-    /* The pass doesn't owe the IRP. */
+    /* The pass doesn't owe the IRP in the life named. */
     CSQ_NOT_OWED = 13,
     /* The pass got the IRP cancelled, so it completes it by csq_complete_cancelled alone. */
     CSQ_NOT_REMOVED = 14,
@@ -137,12 +135,14 @@ enum csq_code {
     CSQ_EMPTY_HANDLE = 21,
     /* A handle that is to be filled isn't empty. */
     CSQ_NOT_EMPTY = 22,
-    /* The IRP isn't in the list of the closed queue. */
+    /* The IRP isn't in the queue's list. */
     CSQ_NOT_LISTED = 23,
     /* The queue is closed. */
     CSQ_CLOSED = 24,
     /* The queue isn't closed. */
-    CSQ_NOT_CLOSED = 25
+    CSQ_NOT_CLOSED = 25,
+    /* The pass is another queue's. */
+    CSQ_OTHER_QUEUE = 26
 };
 
 /* How a queue keeps its list: in one vector, or in chains (one over all listed IRPs, one for each file object). */
@@ -206,46 +206,56 @@ CSQ_NODISCARD uint32_t csq_new(struct csq_queue *queue, const struct csq_size *s
 CSQ_NODISCARD uint32_t csq_new_with_file_limits(struct csq_queue *queue, const struct csq_size *size,
                                                 const uint32_t *file_limits, size_t count);
 
-/* Frees a queue, closed or not and whatever is left in it, once no pass is out. The handle is empty then.
- * CSQ_EMPTY_HANDLE; CSQ_PASSES_OUT. Lock: held, or no other thread uses the queue any more. */
-CSQ_NODISCARD uint32_t csq_free(struct csq_queue *queue);
+/* Frees a queue, closed or not and whatever is left in it, once no pass is out. The handle is empty then. Of an empty
+ * handle CSQ_OK, as free(NULL) has it.
+ * CSQ_PASSES_OUT. Lock: held, or no other thread uses the queue any more. */
+CSQ_NODISCARD uint32_t csq_free_queue(struct csq_queue *queue);
 
-/* How many passes are out. CSQ_EMPTY_HANDLE; CSQ_CLOSED. Lock: held. */
-uint32_t csq_passes_out(struct csq_queue *queue, uint32_t *out);
+/* csq_free_queue, and CSQ_OK of NULL too. */
+CSQ_NODISCARD static inline uint32_t csq_free(struct csq_queue *queue) {
+    return queue ? csq_free_queue(queue) : (uint32_t)CSQ_OK;
+}
+
+/* Tells how many passes are out. CSQ_EMPTY_HANDLE; CSQ_CLOSED. Lock: held. */
+uint32_t csq_count_passes_out(const struct csq_queue *queue, uint32_t *out);
 
 /* Closes the queue, once no pass is out. The same handle is the closed queue then, which tells what is left
- * (csq_next_listed, csq_left), is freed by csq_free, and answers CSQ_CLOSED to any call that wants an open queue,
- * once the call's other handles are as it wants them.
+ * (csq_read_listed, csq_read_left), is freed by csq_free, and answers CSQ_CLOSED to any call of a queue alone that
+ * wants it open.
  * CSQ_EMPTY_HANDLE; CSQ_CLOSED; CSQ_PASSES_OUT. Lock: held, or no other thread uses the queue any more. */
 CSQ_NODISCARD uint32_t csq_close(struct csq_queue *queue);
 
-/* The listed IRPs of a closed queue, in the list's order: the first for CSQ_ANY, or the one after `after`.
+/* Reads the listed IRPs of a closed queue, in the list's order: the first for CSQ_ANY, or the one after `after`.
  * CSQ_EMPTY_HANDLE; CSQ_NOT_CLOSED; CSQ_NOT_LISTED (`after` isn't listed); CSQ_NONE (none follows). Lock: held,
  * or no other thread uses the queue any more. */
-uint32_t csq_next_listed(struct csq_queue *queue, uint32_t after, uint32_t *irp);
+uint32_t csq_read_listed(const struct csq_queue *queue, uint32_t after, uint32_t *irp);
 
-/* What a closed queue tells of an IRP. CSQ_EMPTY_HANDLE; CSQ_NOT_CLOSED; CSQ_UNKNOWN_IRP. Lock: as for
- * csq_next_listed. */
-uint32_t csq_left(struct csq_queue *queue, uint32_t irp, struct csq_left *left);
+/* Reads what is left of an IRP in a closed queue. CSQ_EMPTY_HANDLE; CSQ_NOT_CLOSED; CSQ_UNKNOWN_IRP. Lock: as for
+ * csq_read_listed. */
+uint32_t csq_read_left(const struct csq_queue *queue, uint32_t irp, struct csq_left *left);
+
+/* Answers the library's version as CSQ_VERSION_NUMBER is that of this header: 10,000 times the major version, 100
+ * times the minor one, and the patch. Lock: not needed. */
+uint32_t csq_version(void);
 
 /* ---- Passes ---- */
 
 /* Hands out the queue's next pass, which holds and owes nothing. One that was given back isn't handed out again.
  * After CSQ_NO_MEMORY the same pass can be asked for again.
  * CSQ_EMPTY_HANDLE; CSQ_NOT_EMPTY; CSQ_CLOSED; CSQ_NO_PASS; CSQ_NO_MEMORY. Lock: held. */
-CSQ_NODISCARD uint32_t csq_pass(struct csq_queue *queue, struct csq_pass *pass);
+CSQ_NODISCARD uint32_t csq_take_pass(struct csq_queue *queue, struct csq_pass *pass);
 
 /* Gives a pass back, which then isn't out any more. The handle is empty then.
- * CSQ_EMPTY_HANDLE; CSQ_CLOSED; CSQ_HOLDING. Lock: held. */
+ * CSQ_EMPTY_HANDLE; CSQ_OTHER_QUEUE; CSQ_HOLDING. Lock: held. */
 CSQ_NODISCARD uint32_t csq_give_back(struct csq_queue *queue, struct csq_pass *pass);
 
-/* Frees a pass without giving it back: for a pass whose queue lives as long as the program, since that queue
- * counts the pass as out ever after and can neither be closed nor freed. The handle is empty then.
+/* Abandons a pass: frees it without giving it back. For a pass whose queue lives as long as the program, since that
+ * queue counts the pass as out ever after and can neither be closed nor freed. The handle is empty then.
  * CSQ_EMPTY_HANDLE; CSQ_HOLDING. Lock: not needed. */
-CSQ_NODISCARD uint32_t csq_free_pass(struct csq_pass *pass);
+CSQ_NODISCARD uint32_t csq_abandon_pass(struct csq_pass *pass);
 
-/* How many IRPs the pass holds, and how many it owes. CSQ_EMPTY_HANDLE. Lock: not needed. */
-uint32_t csq_holding(struct csq_pass *pass, uint32_t *held, uint32_t *owed);
+/* Tells how many IRPs the pass holds, and how many it owes. CSQ_EMPTY_HANDLE. Lock: not needed. */
+uint32_t csq_count_held(const struct csq_pass *pass, uint32_t *held, uint32_t *owed);
 
 /* ---- Under the lock ---- */
 
@@ -253,61 +263,83 @@ uint32_t csq_holding(struct csq_pass *pass, uint32_t *held, uint32_t *owed);
  * and sets its cancel routine (IoSetCancelRoutine). CSQ_OK: it is pending. CSQ_CANCELLED: it was cancelled before,
  * so it isn't listed, the pass holds it, and csq_complete_cancelled is due. In both cases *context names the IRP
  * in its life.
- * CSQ_EMPTY_HANDLE; CSQ_CLOSED; CSQ_UNKNOWN_IRP; CSQ_UNKNOWN_FILE; CSQ_NOT_HOME; CSQ_FILE_CLOSED; CSQ_FILE_FULL;
- * CSQ_FULL. Lock: held. */
+ * CSQ_EMPTY_HANDLE; CSQ_OTHER_QUEUE; CSQ_UNKNOWN_IRP; CSQ_UNKNOWN_FILE; CSQ_NOT_HOME; CSQ_FILE_CLOSED;
+ * CSQ_FILE_FULL; CSQ_FULL. Lock: held. */
 CSQ_NODISCARD uint32_t csq_insert(struct csq_queue *queue, struct csq_pass *pass, uint32_t irp, uint32_t file,
                                   uint32_t front, struct csq_irp *context);
 
 /* Removes the first listed IRP of a file object, or of any for CSQ_ANY, that no canceller has
  * (IoCsqRemoveNextIrp). The pass holds it then. CSQ_NONE also for an unknown file object.
- * CSQ_EMPTY_HANDLE; CSQ_CLOSED; CSQ_NONE. Lock: held. */
+ * CSQ_EMPTY_HANDLE; CSQ_OTHER_QUEUE; CSQ_NONE. Lock: held. */
 CSQ_NODISCARD uint32_t csq_remove_next(struct csq_queue *queue, struct csq_pass *pass, uint32_t file,
                                        struct csq_irp *irp);
 
 /* Removes the IRP of an insert context (IoCsqRemoveIrp). The pass holds it then. CSQ_NONE where the IRP isn't
  * listed in that life, or a canceller has it.
- * CSQ_EMPTY_HANDLE; CSQ_CLOSED; CSQ_NONE. Lock: held. */
+ * CSQ_EMPTY_HANDLE; CSQ_OTHER_QUEUE; CSQ_NONE. Lock: held. */
 CSQ_NODISCARD uint32_t csq_remove(struct csq_queue *queue, struct csq_pass *pass, struct csq_irp irp);
 
-/* The cancel routine of an IRP that the pass owes: takes it out of the list. The pass holds it then, and
- * csq_complete_cancelled is due.
- * CSQ_EMPTY_HANDLE; CSQ_CLOSED; CSQ_UNKNOWN_IRP; CSQ_NOT_OWED. Lock: held. */
-uint32_t csq_cancel_routine(struct csq_queue *queue, struct csq_pass *pass, uint32_t irp);
+/* Runs the cancel routine of an IRP that the pass owes in this life: takes it out of the list. The pass holds it then,
+ * and csq_complete_cancelled is due.
+ * CSQ_EMPTY_HANDLE; CSQ_OTHER_QUEUE; CSQ_UNKNOWN_IRP; CSQ_NOT_OWED. Lock: held. */
+uint32_t csq_cancel_routine(struct csq_queue *queue, struct csq_pass *pass, struct csq_irp irp);
+
+/* Cancels an IRP that the pass owes in this life, the second half of csq_cancel: csq_cancel_routine, and
+ * csq_complete_cancelled after it.
+ * CSQ_EMPTY_HANDLE; CSQ_OTHER_QUEUE; CSQ_UNKNOWN_IRP; CSQ_NOT_OWED. Lock: held. */
+uint32_t csq_cancel_owed(struct csq_queue *queue, struct csq_pass *pass, struct csq_irp irp);
 
 /* Closes a file object for good: the first half of IRP_MJ_CLEANUP. The second is to remove each IRP that is listed
  * for it (csq_remove_next) and to complete it as cancelled; csq_cleanup does both. Closing it again is no fault.
- * CSQ_EMPTY_HANDLE; CSQ_CLOSED; CSQ_UNKNOWN_FILE. Lock: held. */
+ * CSQ_EMPTY_HANDLE; CSQ_OTHER_QUEUE; CSQ_UNKNOWN_FILE. Lock: held. */
 uint32_t csq_close_file(struct csq_queue *queue, struct csq_pass *pass, uint32_t file);
 
-/* Begins the next life of a completed IRP (IoReuseIrp), which is home then, and tells that life.
- * CSQ_EMPTY_HANDLE; CSQ_CLOSED; CSQ_UNKNOWN_IRP; CSQ_NOT_COMPLETED; CSQ_LIVES_SPENT. Lock: held. */
-CSQ_NODISCARD uint32_t csq_reuse(struct csq_queue *queue, struct csq_pass *pass, uint32_t irp, uint32_t *life);
+/* Begins the next life of an IRP that is completed in the life named, its present one (IoReuseIrp). It is home then.
+ * Tells that next life.
+ * CSQ_EMPTY_HANDLE; CSQ_OTHER_QUEUE; CSQ_UNKNOWN_IRP; CSQ_STALE (the present life is another); CSQ_NOT_COMPLETED;
+ * CSQ_LIVES_SPENT. Lock: held. */
+CSQ_NODISCARD uint32_t csq_reuse(struct csq_queue *queue, struct csq_pass *pass, struct csq_irp irp, uint32_t *life);
+
+/* ---- Looks at an open queue, under the lock ---- */
+
+/* Tells the first listed IRP of a file object, or of any for CSQ_ANY, in its present life: from the first on where
+ * `after` is CSQ_ANY, else after that one (CsqPeekNextIrp). It may be one whose cancel routine a canceller has taken,
+ * which is listed until that canceller has run it. CSQ_NONE also for an unknown file object.
+ * CSQ_EMPTY_HANDLE; CSQ_CLOSED; CSQ_NOT_LISTED (`after` isn't listed); CSQ_NONE. Lock: held. */
+uint32_t csq_peek_next(const struct csq_queue *queue, uint32_t after, uint32_t file, struct csq_irp *irp);
+
+/* Tells how many IRPs are listed. CSQ_EMPTY_HANDLE; CSQ_CLOSED. Lock: held. */
+uint32_t csq_len(const struct csq_queue *queue, uint32_t *len);
+
+/* Tells how many IRPs are listed for a file object. CSQ_EMPTY_HANDLE; CSQ_CLOSED; CSQ_UNKNOWN_FILE. Lock: held. */
+uint32_t csq_file_len(const struct csq_queue *queue, uint32_t file, uint32_t *len);
 
 /* ---- Without the lock ---- */
 
 /* What IoCancelIrp does first: sets the Cancel flag of an IRP in the life named, then exchanges its cancel routine
- * for none. *found is 1 where the routine was there: the pass owes the IRP, and csq_cancel_routine is due. It is 0
+ * for none. *found is 1 where the routine was there: the pass owes the IRP, and csq_cancel_owed is due. It is 0
  * where the IRP isn't listed, or a pass, perhaps this one, has it. An insert that comes later finds the flag, and
  * gives the IRP back unless another canceller has it by then.
  * CSQ_EMPTY_HANDLE; CSQ_UNKNOWN_IRP; CSQ_STALE. Lock: not needed. */
 CSQ_NODISCARD uint32_t csq_mark_cancel(struct csq_pass *pass, struct csq_irp irp, uint32_t *found);
 
-/* Completes an IRP that the pass got by a removal (IoCompleteRequest), with any status but STATUS_PENDING.
+/* Completes an IRP that the pass got by a removal in this life (IoCompleteRequest), with any status but
+ * STATUS_PENDING.
  * CSQ_EMPTY_HANDLE; CSQ_UNKNOWN_IRP; CSQ_NOT_HELD; CSQ_NOT_REMOVED; CSQ_NOT_FINAL. Lock: not needed. */
-CSQ_NODISCARD uint32_t csq_complete(struct csq_pass *pass, uint32_t irp, uint32_t status);
+CSQ_NODISCARD uint32_t csq_complete(struct csq_pass *pass, struct csq_irp irp, uint32_t status);
 
-/* Completes an IRP that the pass holds, however it got it, with STATUS_CANCELLED (IoCompleteRequest).
+/* Completes an IRP that the pass holds in this life, however it got it, with STATUS_CANCELLED (IoCompleteRequest).
  * CSQ_EMPTY_HANDLE; CSQ_UNKNOWN_IRP; CSQ_NOT_HELD. Lock: not needed. */
-uint32_t csq_complete_cancelled(struct csq_pass *pass, uint32_t irp);
+uint32_t csq_complete_cancelled(struct csq_pass *pass, struct csq_irp irp);
 
 /* Reads the Cancel flag of an IRP (Irp->Cancel): the life that it stands for, and 1 where it is set there, else 0.
  * CSQ_EMPTY_HANDLE; CSQ_UNKNOWN_IRP. Lock: not needed. */
-uint32_t csq_is_cancelled(struct csq_pass *pass, uint32_t irp, uint32_t *life, uint32_t *cancelled);
+uint32_t csq_read_cancel(struct csq_pass *pass, uint32_t irp, uint32_t *life, uint32_t *cancelled);
 
 /* Reads the status of an IRP (Irp->IoStatus.Status): the life that it stands for, and what the IRP was completed
  * with in that life. CSQ_NONE where it isn't completed there; then *life is written, and *status isn't.
  * CSQ_EMPTY_HANDLE; CSQ_UNKNOWN_IRP; CSQ_NONE. Lock: not needed. */
-uint32_t csq_status(struct csq_pass *pass, uint32_t irp, uint32_t *life, uint32_t *status);
+uint32_t csq_read_status(struct csq_pass *pass, uint32_t irp, uint32_t *life, uint32_t *status);
 
 /* ---- What a code says ---- */
 
@@ -319,7 +351,7 @@ static inline const char *csq_name(uint32_t code) {
         "CSQ_NOT_COMPLETED", "CSQ_LIVES_SPENT",  "CSQ_NOT_HELD",     "CSQ_NOT_OWED",    "CSQ_NOT_REMOVED",
         "CSQ_NOT_FINAL",     "CSQ_HOLDING",      "CSQ_PASSES_OUT",   "CSQ_NO_PASS",     "CSQ_BAD_SIZE",
         "CSQ_NO_MEMORY",     "CSQ_EMPTY_HANDLE", "CSQ_NOT_EMPTY",    "CSQ_NOT_LISTED",  "CSQ_CLOSED",
-        "CSQ_NOT_CLOSED"
+        "CSQ_NOT_CLOSED",    "CSQ_OTHER_QUEUE"
     };
     return code < sizeof names / sizeof *names ? names[code] : "?";
 }
@@ -341,31 +373,41 @@ static inline uint32_t csq_insert_status(uint32_t code) {
 
 /* ---- Calls made of others, which take the lock themselves ---- */
 
-/* The caller's lock of a queue, as CsqAcquireLock and CsqReleaseLock: two functions, which return to their caller (by
- * no exception and no longjmp), and what they are called with. */
+/* The caller's lock of a queue, as CsqAcquireLock and CsqReleaseLock: two functions, and what they are called with.
+ * They return to their caller (by no exception and no longjmp) and make no call with this queue or this pass. */
 struct csq_lock {
     void (*lock)(void *of);
     void (*unlock)(void *of);
     void *of;
 };
 
-/* Cancels an IRP in the life named (IoCancelIrp): csq_mark_cancel, and where the routine was there the cancel routine
- * under the lock and the completion. *completed is 1 where the IRP was completed here, else 0.
- * Answers as csq_mark_cancel does; such a refusal changes nothing. Where the routine was there, and the queue's handle
- * is empty or its queue closed, CSQ_EMPTY_HANDLE or CSQ_CLOSED: the pass owes the IRP all the same, and
- * csq_cancel_routine is due. Lock: not held; it is taken only where the routine was there. */
+/* A function that is told of an IRP that is about to be completed as cancelled, as CsqCompleteCanceledIrp is told, and
+ * what it is called with. The lock is free then, and the IRP is the calling pass's alone: what the function writes for
+ * the IRP's owner is seen by whoever learns of the completion. It returns to its caller (by no exception and no
+ * longjmp), makes no call with this pass, and may make any other call. */
+struct csq_callback {
+    void (*before_completion)(void *of, struct csq_irp irp);
+    void *of;
+};
+
+/* Cancels an IRP in the life named (IoCancelIrp): csq_mark_cancel, and where the routine was there the callback, which
+ * may be NULL, and csq_cancel_owed under the lock. *completed is 1 where the IRP was completed here, else 0.
+ * Answers as csq_mark_cancel does; such a refusal changes nothing. Where the routine was there, and csq_cancel_owed is
+ * refused (CSQ_EMPTY_HANDLE, or CSQ_OTHER_QUEUE), it answers that code: the pass owes the IRP all the same, the
+ * callback was told of it, and csq_cancel_owed is due with the pass's own queue. Lock: not held; it is taken only where
+ * the routine was there. */
 CSQ_NODISCARD static inline uint32_t csq_cancel(struct csq_queue *queue, struct csq_pass *pass, struct csq_irp irp,
-                                                const struct csq_lock *lock, uint32_t *completed) {
+                                                const struct csq_lock *lock, const struct csq_callback *callback,
+                                                uint32_t *completed) {
     uint32_t found = 0;
     uint32_t code = csq_mark_cancel(pass, irp, &found);
     if (code == CSQ_OK && found) {
-        lock->lock(lock->of);
-        /* Refused only where the handle's queue isn't there or is closed: the pass still owes the IRP then. */
-        code = csq_cancel_routine(queue, pass, irp.irp);
-        lock->unlock(lock->of);
-        if (code == CSQ_OK) {
-            code = csq_complete_cancelled(pass, irp.irp);
+        if (callback) {
+            callback->before_completion(callback->of, irp);
         }
+        lock->lock(lock->of);
+        code = csq_cancel_owed(queue, pass, irp);
+        lock->unlock(lock->of);
     }
     if (code == CSQ_OK) {
         *completed = found;
@@ -373,45 +415,53 @@ CSQ_NODISCARD static inline uint32_t csq_cancel(struct csq_queue *queue, struct 
     return code;
 }
 
-/* Handles IRP_MJ_CLEANUP of a file object: closes it, then removes each IRP that is listed for it and completes it
- * as cancelled. *completed is how many. What a canceller has is left to that canceller.
- * Answers as csq_close_file does. Lock: not held; it is taken for each call, and free between two of them. */
-CSQ_NODISCARD static inline uint32_t csq_cleanup(struct csq_queue *queue, struct csq_pass *pass, uint32_t file,
-                                                 const struct csq_lock *lock, uint32_t *completed) {
+/* Removes each IRP that is listed for a file object, or each for CSQ_ANY, and completes it as cancelled; before that
+ * the callback, which may be NULL, is told of it. The file object stays open. *completed is how many. What a canceller
+ * has is left to that canceller, and is listed until then (csq_file_len). It ends once it finds none, so it may go on
+ * for as long as others insert.
+ * CSQ_EMPTY_HANDLE; CSQ_OTHER_QUEUE; CSQ_UNKNOWN_FILE. Lock: not held; it is taken for each removal, and free between
+ * two of them. */
+CSQ_NODISCARD static inline uint32_t csq_drain(struct csq_queue *queue, struct csq_pass *pass, uint32_t file,
+                                               const struct csq_lock *lock, const struct csq_callback *callback,
+                                               uint32_t *completed) {
     struct csq_irp irp = { 0, 0 };
-    uint32_t code, count = 0;
-    lock->lock(lock->of);
-    code = csq_close_file(queue, pass, file);
-    lock->unlock(lock->of);
-    if (code != CSQ_OK) {
-        return code;
-    }
-    for (;;) {
+    uint32_t code, found, len = 0, count = 0;
+    do {
         lock->lock(lock->of);
         code = csq_remove_next(queue, pass, file, &irp);
+        found = code == CSQ_OK;
+        if (code == CSQ_NONE) {
+            /* That none is left is the end, unless there is no such file object. */
+            code = file == CSQ_ANY ? (uint32_t)CSQ_OK : csq_file_len(queue, file, &len);
+        }
         lock->unlock(lock->of);
-        if (code == CSQ_OK) {
-            code = csq_complete_cancelled(pass, irp.irp);
+        if (found) {
+            if (callback) {
+                callback->before_completion(callback->of, irp);
+            }
+            code = csq_complete_cancelled(pass, irp);
+            count += code == CSQ_OK;
         }
-        if (code != CSQ_OK) {
-            break;
-        }
-        count++;
-    }
-    /* A pass that is out keeps its queue open, so there is no other end. */
-    if (code == CSQ_NONE) {
-        code = CSQ_OK;
-    }
+    } while (found && code == CSQ_OK);
     if (code == CSQ_OK) {
         *completed = count;
     }
     return code;
 }
 
+/* Handles IRP_MJ_CLEANUP of a file object: csq_close_file, then csq_drain. *completed is how many IRPs were completed.
+ * Answers as csq_close_file does. Lock: not held; it is taken for each call, and free between two of them. */
+CSQ_NODISCARD static inline uint32_t csq_cleanup(struct csq_queue *queue, struct csq_pass *pass, uint32_t file,
+                                                 const struct csq_lock *lock, const struct csq_callback *callback,
+                                                 uint32_t *completed) {
+    uint32_t code;
+    lock->lock(lock->of);
+    code = csq_close_file(queue, pass, file);
+    lock->unlock(lock->of);
+    return code == CSQ_OK ? csq_drain(queue, pass, file, lock, callback, completed) : code;
+}
+
 #ifdef __cplusplus
-#ifdef __GNUC__
-#pragma GCC diagnostic pop
-#endif
 }
 #endif
 

@@ -145,7 +145,17 @@ static uint32_t chains_next(const struct plain_list *list, uint32_t after, uint3
     if (file >= list->files) {
         return NOBODY;
     }
-    return after == NOBODY ? list->file_ends[file].after : list->file_links[after].after;
+    if (after == NOBODY) {
+        return list->file_ends[file].after;
+    }
+    if (list->file_of[after] == file) {
+        return list->file_links[after].after;
+    }
+    /* After an IRP of another file object the chain over all leads to the next one. */
+    do {
+        after = list->links[after].after;
+    } while (after != NOBODY && list->file_of[after] != file);
+    return after;
 }
 
 /* ---- Either ---- */

@@ -45,7 +45,7 @@ uint32_t plain_list_refusal(const struct plain_list *list, uint32_t irp, uint32_
 /* Lists an IRP whose insert isn't refused. */
 void plain_list_insert(struct plain_list *list, uint32_t irp, uint32_t file, bool front);
 
-/* The first listed IRP of a file object or of any, after a listed one of it or (NOBODY) from the first on. */
+/* The first listed IRP of a file object or of any, after a listed one or (NOBODY) from the first on. */
 uint32_t plain_list_next(const struct plain_list *list, uint32_t after, uint32_t file);
 
 /* Takes out a listed IRP. */

@@ -34,6 +34,8 @@ struct slot {
 };
 
 struct pass {
+    /* The queue that handed it out, which outlives it. */
+    struct queue *of;
     word *words;
     struct slot *slots;
     uint32_t irps;
@@ -53,8 +55,8 @@ static uint64_t unset(uint32_t life) {
     return (uint64_t)life << STATUS_LIFE;
 }
 
-/* What is in a handle. It is written too: the proved library takes it out for a call and puts it back, so two calls that
- * overlap are a fault even where both only read, and with this the thread sanitizer tells it. */
+/* What is in the handle of a call that changes something. It is written too, so that the thread sanitizer tells a call
+ * without the lock, whatever the call changes behind the handle. */
 static void *taken(void *volatile *handle) {
     void *at = *handle;
     *handle = at;
@@ -136,10 +138,14 @@ uint32_t csq_new_with_file_limits(struct csq_queue *queue, const struct csq_size
     return is_size(size) && are_limits(size, file_limits, count) ? make(queue, size, file_limits) : CSQ_BAD_SIZE;
 }
 
-uint32_t csq_free(struct csq_queue *queue) {
+uint32_t csq_version(void) {
+    return CSQ_VERSION_NUMBER;
+}
+
+uint32_t csq_free_queue(struct csq_queue *queue) {
     struct queue *at = queue_in(queue);
     if (!at) {
-        return CSQ_EMPTY_HANDLE;
+        return CSQ_OK;
     }
     if (at->out > 0) {
         return CSQ_PASSES_OUT;
@@ -156,8 +162,8 @@ static uint32_t open_queue(const struct queue *at) {
     return at->closed ? CSQ_CLOSED : CSQ_OK;
 }
 
-uint32_t csq_passes_out(struct csq_queue *queue, uint32_t *out) {
-    const struct queue *at = queue_in(queue);
+uint32_t csq_count_passes_out(const struct csq_queue *queue, uint32_t *out) {
+    const struct queue *at = queue->at;
     uint32_t code = open_queue(at);
     if (code != CSQ_OK) {
         return code;
@@ -186,25 +192,29 @@ static uint32_t closed_queue(const struct queue *at) {
     return at->closed ? CSQ_OK : CSQ_NOT_CLOSED;
 }
 
-uint32_t csq_next_listed(struct csq_queue *queue, uint32_t after, uint32_t *irp) {
-    const struct queue *at = queue_in(queue);
-    uint32_t code = closed_queue(at);
-    if (code != CSQ_OK) {
-        return code;
-    }
+/* The listed IRP that follows this one for a file object, or for any. */
+static uint32_t next_listed(const struct queue *at, uint32_t after, uint32_t file, uint32_t *irp) {
     if (after != CSQ_ANY && !plain_list_has(&at->list, after)) {
         return CSQ_NOT_LISTED;
     }
-    uint32_t next = plain_list_next(&at->list, after, CSQ_ANY);
-    if (next == NOBODY) {
-        return CSQ_NONE;
-    }
-    *irp = next;
-    return CSQ_OK;
+    *irp = plain_list_next(&at->list, after, file);
+    return *irp == NOBODY ? CSQ_NONE : CSQ_OK;
 }
 
-uint32_t csq_left(struct csq_queue *queue, uint32_t irp, struct csq_left *left) {
-    const struct queue *at = queue_in(queue);
+uint32_t csq_read_listed(const struct csq_queue *queue, uint32_t after, uint32_t *irp) {
+    const struct queue *at = queue->at;
+    uint32_t next = NOBODY, code = closed_queue(at);
+    if (code == CSQ_OK) {
+        code = next_listed(at, after, CSQ_ANY, &next);
+    }
+    if (code == CSQ_OK) {
+        *irp = next;
+    }
+    return code;
+}
+
+uint32_t csq_read_left(const struct csq_queue *queue, uint32_t irp, struct csq_left *left) {
+    const struct queue *at = queue->at;
     uint32_t code = closed_queue(at);
     if (code != CSQ_OK) {
         return code;
@@ -219,7 +229,7 @@ uint32_t csq_left(struct csq_queue *queue, uint32_t irp, struct csq_left *left) 
 
 /* ---- Passes ---- */
 
-uint32_t csq_pass(struct csq_queue *queue, struct csq_pass *pass) {
+uint32_t csq_take_pass(struct csq_queue *queue, struct csq_pass *pass) {
     struct queue *at = queue_in(queue);
     if (!at) {
         return CSQ_EMPTY_HANDLE;
@@ -240,14 +250,14 @@ uint32_t csq_pass(struct csq_queue *queue, struct csq_pass *pass) {
         free(slots);
         return CSQ_NO_MEMORY;
     }
-    *made = (struct pass){ .words = at->words, .slots = slots, .irps = at->irps };
+    *made = (struct pass){ .of = at, .words = at->words, .slots = slots, .irps = at->irps };
     at->handed_out++;
     at->out++;
     pass->at = made;
     return CSQ_OK;
 }
 
-uint32_t csq_free_pass(struct csq_pass *pass) {
+uint32_t csq_abandon_pass(struct csq_pass *pass) {
     struct pass *by = pass_in(pass);
     if (!by) {
         return CSQ_EMPTY_HANDLE;
@@ -261,9 +271,13 @@ uint32_t csq_free_pass(struct csq_pass *pass) {
     return CSQ_OK;
 }
 
-/* Whether both handles are filled, and the queue is open. */
+/* Whether both handles are filled, and the pass is this queue's, which is open then. */
 static uint32_t may_call(struct csq_queue *queue, struct csq_pass *pass) {
-    return queue->at && pass->at ? open_queue(queue->at) : CSQ_EMPTY_HANDLE;
+    const struct pass *by = pass_in(pass);
+    if (!queue->at || !by) {
+        return CSQ_EMPTY_HANDLE;
+    }
+    return by->of == queue->at ? CSQ_OK : CSQ_OTHER_QUEUE;
 }
 
 uint32_t csq_give_back(struct csq_queue *queue, struct csq_pass *pass) {
@@ -272,13 +286,13 @@ uint32_t csq_give_back(struct csq_queue *queue, struct csq_pass *pass) {
     if (code != CSQ_OK) {
         return code;
     }
-    code = csq_free_pass(pass);
+    code = csq_abandon_pass(pass);
     at->out -= code == CSQ_OK;
     return code;
 }
 
-uint32_t csq_holding(struct csq_pass *pass, uint32_t *held, uint32_t *owed) {
-    const struct pass *by = pass_in(pass);
+uint32_t csq_count_held(const struct csq_pass *pass, uint32_t *held, uint32_t *owed) {
+    const struct pass *by = pass->at;
     if (!by) {
         return CSQ_EMPTY_HANDLE;
     }
@@ -357,23 +371,28 @@ uint32_t csq_remove(struct csq_queue *queue, struct csq_pass *pass, struct csq_i
     return CSQ_OK;
 }
 
-uint32_t csq_cancel_routine(struct csq_queue *queue, struct csq_pass *pass, uint32_t irp) {
+uint32_t csq_cancel_routine(struct csq_queue *queue, struct csq_pass *pass, struct csq_irp irp) {
     struct queue *at = queue_in(queue);
     struct pass *by = pass_in(pass);
     uint32_t code = may_call(queue, pass);
     if (code != CSQ_OK) {
         return code;
     }
-    if (irp >= by->irps) {
+    if (irp.irp >= by->irps) {
         return CSQ_UNKNOWN_IRP;
     }
-    if (by->slots[irp].has != OWED) {
+    if (by->slots[irp.irp].has != OWED || by->slots[irp.irp].life != irp.life) {
         return CSQ_NOT_OWED;
     }
-    plain_list_remove(&at->list, irp);
+    plain_list_remove(&at->list, irp.irp);
     by->owed--;
-    hold(by, irp, by->slots[irp].life, GOT_CANCELLED);
+    hold(by, irp.irp, irp.life, GOT_CANCELLED);
     return CSQ_OK;
+}
+
+uint32_t csq_cancel_owed(struct csq_queue *queue, struct csq_pass *pass, struct csq_irp irp) {
+    uint32_t code = csq_cancel_routine(queue, pass, irp);
+    return code == CSQ_OK ? csq_complete_cancelled(pass, irp) : code;
 }
 
 uint32_t csq_close_file(struct csq_queue *queue, struct csq_pass *pass, uint32_t file) {
@@ -389,30 +408,71 @@ uint32_t csq_close_file(struct csq_queue *queue, struct csq_pass *pass, uint32_t
     return CSQ_OK;
 }
 
-uint32_t csq_reuse(struct csq_queue *queue, struct csq_pass *pass, uint32_t irp, uint32_t *life) {
-    struct queue *at = queue_in(queue);
-    uint32_t code = may_call(queue, pass);
-    if (code != CSQ_OK) {
-        return code;
-    }
-    if (irp >= at->irps) {
-        return CSQ_UNKNOWN_IRP;
-    }
-    uint64_t found = atomic_load(word_of(at->words, irp, STATUS));
-    if (!(found & STATUS_SET)) {
-        return CSQ_NOT_COMPLETED;
-    }
-    if (found >> STATUS_LIFE == CSQ_LAST_LIFE) {
-        return CSQ_LIVES_SPENT;
-    }
-    uint32_t next = at->lives[irp] + 1;
-    /* The flag comes last: with it the next life begins. */
+/* Begins the next life of an IRP in its words. The flag comes last: with it the next life begins. */
+static void renew(struct queue *at, uint32_t irp, uint32_t next) {
     atomic_exchange(word_of(at->words, irp, STATUS), unset(next));
     atomic_exchange(word_of(at->words, irp, ROUTINE), clear(next));
     atomic_exchange(word_of(at->words, irp, FLAG), clear(next));
     at->list.used[irp] = false;
     at->lives[irp] = next;
-    *life = next;
+}
+
+uint32_t csq_reuse(struct csq_queue *queue, struct csq_pass *pass, struct csq_irp irp, uint32_t *life) {
+    struct queue *at = queue_in(queue);
+    uint32_t code = may_call(queue, pass);
+    if (code != CSQ_OK) {
+        return code;
+    }
+    if (irp.irp >= at->irps) {
+        return CSQ_UNKNOWN_IRP;
+    }
+    if (irp.life != at->lives[irp.irp]) {
+        return CSQ_STALE;
+    }
+    if (!(atomic_load(word_of(at->words, irp.irp, STATUS)) & STATUS_SET)) {
+        return CSQ_NOT_COMPLETED;
+    }
+    if (irp.life == CSQ_LAST_LIFE) {
+        return CSQ_LIVES_SPENT;
+    }
+    renew(at, irp.irp, irp.life + 1);
+    *life = irp.life + 1;
+    return CSQ_OK;
+}
+
+/* ---- Looks at an open queue ---- */
+
+uint32_t csq_peek_next(const struct csq_queue *queue, uint32_t after, uint32_t file, struct csq_irp *irp) {
+    const struct queue *at = queue->at;
+    uint32_t next = NOBODY, code = open_queue(at);
+    if (code == CSQ_OK) {
+        code = next_listed(at, after, file, &next);
+    }
+    if (code == CSQ_OK) {
+        *irp = (struct csq_irp){ next, at->lives[next] };
+    }
+    return code;
+}
+
+uint32_t csq_len(const struct csq_queue *queue, uint32_t *len) {
+    const struct queue *at = queue->at;
+    uint32_t code = open_queue(at);
+    if (code == CSQ_OK) {
+        *len = at->list.length;
+    }
+    return code;
+}
+
+uint32_t csq_file_len(const struct csq_queue *queue, uint32_t file, uint32_t *len) {
+    const struct queue *at = queue->at;
+    uint32_t code = open_queue(at);
+    if (code != CSQ_OK) {
+        return code;
+    }
+    if (file >= at->list.files) {
+        return CSQ_UNKNOWN_FILE;
+    }
+    *len = at->list.file_lengths[file];
     return CSQ_OK;
 }
 
@@ -451,40 +511,41 @@ static void set_status(struct pass *by, uint32_t irp, uint32_t status) {
     by->held--;
 }
 
-static uint32_t holds(struct csq_pass *pass, uint32_t irp) {
+static uint32_t holds(struct csq_pass *pass, struct csq_irp irp) {
     const struct pass *by = pass_in(pass);
-    uint32_t code = knows(pass, irp);
+    uint32_t code = knows(pass, irp.irp);
     if (code != CSQ_OK) {
         return code;
     }
-    return by->slots[irp].has == REMOVED || by->slots[irp].has == GOT_CANCELLED ? CSQ_OK : CSQ_NOT_HELD;
+    struct slot slot = by->slots[irp.irp];
+    return (slot.has == REMOVED || slot.has == GOT_CANCELLED) && slot.life == irp.life ? CSQ_OK : CSQ_NOT_HELD;
 }
 
-uint32_t csq_complete(struct csq_pass *pass, uint32_t irp, uint32_t status) {
+uint32_t csq_complete(struct csq_pass *pass, struct csq_irp irp, uint32_t status) {
     struct pass *by = pass_in(pass);
     uint32_t code = holds(pass, irp);
     if (code != CSQ_OK) {
         return code;
     }
-    if (by->slots[irp].has != REMOVED) {
+    if (by->slots[irp.irp].has != REMOVED) {
         return CSQ_NOT_REMOVED;
     }
     if (status == CSQ_STATUS_PENDING) {
         return CSQ_NOT_FINAL;
     }
-    set_status(by, irp, status);
+    set_status(by, irp.irp, status);
     return CSQ_OK;
 }
 
-uint32_t csq_complete_cancelled(struct csq_pass *pass, uint32_t irp) {
+uint32_t csq_complete_cancelled(struct csq_pass *pass, struct csq_irp irp) {
     uint32_t code = holds(pass, irp);
     if (code == CSQ_OK) {
-        set_status(pass->at, irp, CSQ_STATUS_CANCELLED);
+        set_status(pass->at, irp.irp, CSQ_STATUS_CANCELLED);
     }
     return code;
 }
 
-uint32_t csq_is_cancelled(struct csq_pass *pass, uint32_t irp, uint32_t *life, uint32_t *cancelled) {
+uint32_t csq_read_cancel(struct csq_pass *pass, uint32_t irp, uint32_t *life, uint32_t *cancelled) {
     const struct pass *by = pass_in(pass);
     uint32_t code = knows(pass, irp);
     if (code != CSQ_OK) {
@@ -496,7 +557,7 @@ uint32_t csq_is_cancelled(struct csq_pass *pass, uint32_t irp, uint32_t *life, u
     return CSQ_OK;
 }
 
-uint32_t csq_status(struct csq_pass *pass, uint32_t irp, uint32_t *life, uint32_t *status) {
+uint32_t csq_read_status(struct csq_pass *pass, uint32_t irp, uint32_t *life, uint32_t *status) {
     const struct pass *by = pass_in(pass);
     uint32_t code = knows(pass, irp);
     if (code != CSQ_OK) {

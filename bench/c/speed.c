@@ -77,16 +77,16 @@ static void remove_one(struct csq_pass *pass) {
     lock();
     uint32_t code = csq_remove_next(&queue, pass, CSQ_ANY, &irp);
     unlock();
-    must(code == CSQ_OK && csq_complete(pass, irp.irp, CSQ_STATUS_SUCCESS) == CSQ_OK, "no removal");
+    must(code == CSQ_OK && csq_complete(pass, irp, CSQ_STATUS_SUCCESS) == CSQ_OK, "no removal");
 }
 
 static void cancel_one(struct csq_pass *pass, struct csq_irp irp) {
     uint32_t found = 0;
     must(csq_mark_cancel(pass, irp, &found) == CSQ_OK && found, "no cancel");
     lock();
-    uint32_t code = csq_cancel_routine(&queue, pass, irp.irp);
+    uint32_t code = csq_cancel_routine(&queue, pass, irp);
     unlock();
-    must(code == CSQ_OK && csq_complete_cancelled(pass, irp.irp) == CSQ_OK, "no cancel");
+    must(code == CSQ_OK && csq_complete_cancelled(pass, irp) == CSQ_OK, "no cancel");
 }
 
 /* The IRPs of one thread: it ends each before the next, so that there is always one to remove. */
@@ -119,7 +119,7 @@ static void begin(void) {
     const struct csq_size size = { IRPS, 1, IRPS, (uint32_t)threads, 0, CSQ_VECTOR };
     must(csq_new(&queue, &size) == CSQ_OK, "no queue");
     for (int at = 0; at < threads; at++) {
-        must(csq_pass(&queue, &passes[at]) == CSQ_OK, "no pass");
+        must(csq_take_pass(&queue, &passes[at]) == CSQ_OK, "no pass");
     }
 }
 

@@ -34,8 +34,8 @@ static void removes_what_a_context_names(uint32_t list) {
     IS(csq_remove(&device.queue, &device.passes[1], unknown), CSQ_NONE);
     IS(csq_remove(&device.queue, &device.passes[1], context), CSQ_OK);
     IS(csq_remove(&device.queue, &device.passes[1], context), CSQ_NONE);
-    IS(csq_complete(&device.passes[0], 1, 0), CSQ_NOT_HELD);
-    IS(csq_complete(&device.passes[1], 1, 0), CSQ_OK);
+    IS(csq_complete(&device.passes[0], irp_in(1, 0), 0), CSQ_NOT_HELD);
+    IS(csq_complete(&device.passes[1], irp_in(1, 0), 0), CSQ_OK);
     IS(csq_remove(&device.queue, &device.passes[1], context), CSQ_NONE);
     IS(take(&device, 0, CSQ_ANY), 0);
     IS(take(&device, 0, CSQ_ANY), 2);
@@ -54,13 +54,13 @@ static void cancels_what_is_listed(uint32_t list) {
     IS(mark(&device, 1, 0, 0), 0);
     IS(take(&device, 2, CSQ_ANY), 1);
     IS(take(&device, 2, 0), CSQ_ANY);
-    IS(csq_cancel_routine(&device.queue, &device.passes[2], 0), CSQ_NOT_OWED);
-    IS(csq_complete_cancelled(&device.passes[1], 0), CSQ_NOT_HELD);
-    IS(csq_cancel_routine(&device.queue, &device.passes[1], 0), CSQ_OK);
-    IS(csq_cancel_routine(&device.queue, &device.passes[1], 0), CSQ_NOT_OWED);
-    IS(csq_complete(&device.passes[1], 0, 0), CSQ_NOT_REMOVED);
-    IS(csq_complete_cancelled(&device.passes[1], 0), CSQ_OK);
-    IS(csq_complete_cancelled(&device.passes[1], 0), CSQ_NOT_HELD);
+    IS(csq_cancel_routine(&device.queue, &device.passes[2], irp_in(0, 0)), CSQ_NOT_OWED);
+    IS(csq_complete_cancelled(&device.passes[1], irp_in(0, 0)), CSQ_NOT_HELD);
+    IS(csq_cancel_routine(&device.queue, &device.passes[1], irp_in(0, 0)), CSQ_OK);
+    IS(csq_cancel_routine(&device.queue, &device.passes[1], irp_in(0, 0)), CSQ_NOT_OWED);
+    IS(csq_complete(&device.passes[1], irp_in(0, 0), 0), CSQ_NOT_REMOVED);
+    IS(csq_complete_cancelled(&device.passes[1], irp_in(0, 0)), CSQ_OK);
+    IS(csq_complete_cancelled(&device.passes[1], irp_in(0, 0)), CSQ_NOT_HELD);
     end(&device);
 }
 
@@ -72,12 +72,12 @@ static void an_insert_finds_a_cancel(uint32_t list) {
     IS(csq_insert(&device.queue, &device.passes[0], 1, 0, 0, &context), CSQ_CANCELLED);
     IS(context.irp, 1);
     IS(context.life, 0);
-    IS(csq_holding(&device.passes[0], &held, &owed), CSQ_OK);
+    IS(csq_count_held(&device.passes[0], &held, &owed), CSQ_OK);
     IS(held, 1);
     IS(owed, 0);
     IS(take(&device, 2, CSQ_ANY), CSQ_ANY);
-    IS(csq_complete(&device.passes[0], 1, 0), CSQ_NOT_REMOVED);
-    IS(csq_complete_cancelled(&device.passes[0], 1), CSQ_OK);
+    IS(csq_complete(&device.passes[0], irp_in(1, 0), 0), CSQ_NOT_REMOVED);
+    IS(csq_complete_cancelled(&device.passes[0], irp_in(1, 0)), CSQ_OK);
     IS(put(&device, 0, 1, 0), CSQ_NOT_HOME);
     end(&device);
 }
@@ -88,21 +88,14 @@ static void a_cancel_of_what_is_held_is_too_late(uint32_t list) {
     put(&device, 0, 0, 0);
     IS(take(&device, 1, 0), 0);
     IS(mark(&device, 2, 0, 0), 0);
-    IS(csq_complete(&device.passes[1], 0, 0x40000000), CSQ_OK);
+    IS(csq_complete(&device.passes[1], irp_in(0, 0), 0x40000000), CSQ_OK);
     IS(mark(&device, 2, 0, 0), 0);
-    IS(csq_status(&device.passes[0], 0, &life, &status), CSQ_OK);
+    IS(csq_read_status(&device.passes[0], 0, &life, &status), CSQ_OK);
     IS(life, 0);
     IS(status, 0x40000000);
-    IS(csq_is_cancelled(&device.passes[0], 0, &life, &cancelled), CSQ_OK);
+    IS(csq_read_cancel(&device.passes[0], 0, &life, &cancelled), CSQ_OK);
     IS(cancelled, 1);
     end(&device);
-}
-
-static void status_of(struct device *device, uint32_t irp, uint32_t want) {
-    uint32_t life = UNWRITTEN, status = UNWRITTEN;
-    IS(csq_status(&device->passes[3], irp, &life, &status), CSQ_OK);
-    IS(life, 0);
-    IS(status, want);
 }
 
 static void completes_with_any_final_status(uint32_t list) {
@@ -112,18 +105,18 @@ static void completes_with_any_final_status(uint32_t list) {
     for (uint32_t irp = 0; irp < 6; irp++) {
         put(&device, 0, irp, 0);
         IS(take(&device, 0, CSQ_ANY), irp);
-        IS(csq_complete(&device.passes[0], irp, CSQ_STATUS_PENDING), CSQ_NOT_FINAL);
-        IS(csq_status(&device.passes[3], irp, &life, &status), CSQ_NONE);
+        IS(csq_complete(&device.passes[0], irp_in(irp, 0), CSQ_STATUS_PENDING), CSQ_NOT_FINAL);
+        IS(csq_read_status(&device.passes[3], irp, &life, &status), CSQ_NONE);
         IS(life, 0);
         IS(status, UNWRITTEN);
-        IS(csq_complete(&device.passes[0], irp, statuses[irp]), CSQ_OK);
+        IS(csq_complete(&device.passes[0], irp_in(irp, 0), statuses[irp]), CSQ_OK);
         status_of(&device, irp, statuses[irp]);
         life = UNWRITTEN;
     }
     /* What a removal got may be completed as cancelled too. */
     put(&device, 0, 6, 0);
     IS(take(&device, 0, CSQ_ANY), 6);
-    IS(csq_complete_cancelled(&device.passes[0], 6), CSQ_OK);
+    IS(csq_complete_cancelled(&device.passes[0], irp_in(6, 0)), CSQ_OK);
     status_of(&device, 6, CSQ_STATUS_CANCELLED);
     end(&device);
 }
@@ -139,16 +132,16 @@ static void counts_what_a_pass_holds_and_owes(uint32_t list) {
     IS(mark(&device, 1, 7, 0), 1);
     IS(take(&device, 1, 0), 0);
     IS(take(&device, 1, 0), 2);
-    IS(csq_cancel_routine(&device.queue, &device.passes[1], 5), CSQ_OK);
-    IS(csq_holding(&device.passes[1], &held, &owed), CSQ_OK);
+    IS(csq_cancel_routine(&device.queue, &device.passes[1], irp_in(5, 0)), CSQ_OK);
+    IS(csq_count_held(&device.passes[1], &held, &owed), CSQ_OK);
     IS(held, 3);
     IS(owed, 2);
-    IS(csq_complete(&device.passes[1], 0, 0), CSQ_OK);
-    IS(csq_complete_cancelled(&device.passes[1], 5), CSQ_OK);
-    IS(csq_holding(&device.passes[1], &held, &owed), CSQ_OK);
+    IS(csq_complete(&device.passes[1], irp_in(0, 0), 0), CSQ_OK);
+    IS(csq_complete_cancelled(&device.passes[1], irp_in(5, 0)), CSQ_OK);
+    IS(csq_count_held(&device.passes[1], &held, &owed), CSQ_OK);
     IS(held, 1);
     IS(owed, 2);
-    IS(csq_holding(&device.passes[0], &held, &owed), CSQ_OK);
+    IS(csq_count_held(&device.passes[0], &held, &owed), CSQ_OK);
     IS(held, 0);
     IS(owed, 0);
     end(&device);
@@ -165,7 +158,7 @@ static void closes_a_file_object_for_good(uint32_t list) {
     /* What was listed for it can still be removed. */
     IS(take(&device, 1, 0), 0);
     IS(take(&device, 1, 0), CSQ_ANY);
-    IS(csq_complete_cancelled(&device.passes[1], 0), CSQ_OK);
+    IS(csq_complete_cancelled(&device.passes[1], irp_in(0, 0)), CSQ_OK);
     IS(put(&device, 0, 3, 0), CSQ_FILE_CLOSED);
     end(&device);
 }
@@ -176,19 +169,19 @@ static void hands_each_pass_out_once(void) {
     struct csq_pass one = CSQ_EMPTY, two = CSQ_EMPTY, three = CSQ_EMPTY;
     uint32_t out = UNWRITTEN;
     IS(csq_new(&queue, &size), CSQ_OK);
-    IS(csq_passes_out(&queue, &out), CSQ_OK);
+    IS(csq_count_passes_out(&queue, &out), CSQ_OK);
     IS(out, 0);
-    IS(csq_pass(&queue, &one), CSQ_OK);
+    IS(csq_take_pass(&queue, &one), CSQ_OK);
     IS(csq_give_back(&queue, &one), CSQ_OK);
     CHECK(one.at == NULL);
-    IS(csq_pass(&queue, &two), CSQ_OK);
-    IS(csq_passes_out(&queue, &out), CSQ_OK);
+    IS(csq_take_pass(&queue, &two), CSQ_OK);
+    IS(csq_count_passes_out(&queue, &out), CSQ_OK);
     IS(out, 1);
-    IS(csq_pass(&queue, &three), CSQ_NO_PASS);
+    IS(csq_take_pass(&queue, &three), CSQ_NO_PASS);
     IS(csq_free(&queue), CSQ_PASSES_OUT);
     IS(csq_give_back(&queue, &two), CSQ_OK);
-    IS(csq_pass(&queue, &three), CSQ_NO_PASS);
-    IS(csq_passes_out(&queue, &out), CSQ_OK);
+    IS(csq_take_pass(&queue, &three), CSQ_NO_PASS);
+    IS(csq_count_passes_out(&queue, &out), CSQ_OK);
     IS(out, 0);
     IS(csq_free(&queue), CSQ_OK);
     /* The handle may be filled again. */
@@ -204,85 +197,19 @@ static void frees_a_pass_that_stays_out(void) {
     struct csq_irp irp = { 0, 0 };
     uint32_t out = UNWRITTEN;
     IS(csq_new(&queue, &size), CSQ_OK);
-    IS(csq_pass(&queue, &one), CSQ_OK);
+    IS(csq_take_pass(&queue, &one), CSQ_OK);
     IS(csq_insert(&queue, &one, 0, 0, 0, &irp), CSQ_OK);
     IS(csq_remove_next(&queue, &one, CSQ_ANY, &irp), CSQ_OK);
-    IS(csq_free_pass(&one), CSQ_HOLDING);
-    IS(csq_complete(&one, 0, 0), CSQ_OK);
-    IS(csq_free_pass(&one), CSQ_OK);
+    IS(csq_abandon_pass(&one), CSQ_HOLDING);
+    IS(csq_complete(&one, irp_in(0, 0), 0), CSQ_OK);
+    IS(csq_abandon_pass(&one), CSQ_OK);
     CHECK(one.at == NULL);
-    IS(csq_passes_out(&queue, &out), CSQ_OK);
+    IS(csq_count_passes_out(&queue, &out), CSQ_OK);
     IS(out, 1);
-    IS(csq_pass(&queue, &two), CSQ_OK);
+    IS(csq_take_pass(&queue, &two), CSQ_OK);
     IS(csq_give_back(&queue, &two), CSQ_OK);
     IS(csq_free(&queue), CSQ_PASSES_OUT);
     IS(csq_close(&queue), CSQ_PASSES_OUT);
-}
-
-struct watch {
-    int taken;
-    int held;
-};
-
-static void lock_it(void *of) {
-    struct watch *watch = (struct watch *)of;
-    CHECK(!watch->held);
-    watch->held = 1;
-    watch->taken++;
-}
-
-static void unlock_it(void *of) {
-    struct watch *watch = (struct watch *)of;
-    CHECK(watch->held);
-    watch->held = 0;
-}
-
-static void cancels_through_the_callers_lock(uint32_t list) {
-    struct device device = device_of(size_of(2, 1, list));
-    struct watch watch = { 0, 0 };
-    struct csq_lock lock = { lock_it, unlock_it, &watch };
-    struct csq_irp first = { 0, 0 }, second = { 1, 0 }, unknown = { 2, 0 }, another_life = { 0, 7 };
-    uint32_t completed = UNWRITTEN;
-    put(&device, 0, 0, 0);
-    IS(csq_cancel(&device.queue, &device.passes[1], unknown, &lock, &completed), CSQ_UNKNOWN_IRP);
-    IS(csq_cancel(&device.queue, &device.passes[1], another_life, &lock, &completed), CSQ_STALE);
-    IS(completed, UNWRITTEN);
-    IS(csq_cancel(&device.queue, &device.passes[1], second, &lock, &completed), CSQ_OK);
-    IS(completed, 0);
-    IS(watch.taken, 0);
-    IS(csq_cancel(&device.queue, &device.passes[1], first, &lock, &completed), CSQ_OK);
-    IS(completed, 1);
-    IS(watch.taken, 1);
-    status_of(&device, 0, CSQ_STATUS_CANCELLED);
-    IS(put(&device, 0, 1, 0), CSQ_CANCELLED);
-    end(&device);
-}
-
-static void cleans_up_through_the_callers_lock(uint32_t list) {
-    struct device device = device_of(size_of(6, 2, list));
-    struct watch watch = { 0, 0 };
-    struct csq_lock lock = { lock_it, unlock_it, &watch };
-    uint32_t completed = UNWRITTEN;
-    for (uint32_t irp = 0; irp < 6; irp++) {
-        put(&device, 0, irp, irp % 2);
-    }
-    IS(mark(&device, 2, 3, 0), 1);
-    IS(csq_cleanup(&device.queue, &device.passes[1], 2, &lock, &completed), CSQ_UNKNOWN_FILE);
-    IS(csq_cleanup(&device.queue, &device.passes[1], CSQ_ANY, &lock, &completed), CSQ_UNKNOWN_FILE);
-    IS(completed, UNWRITTEN);
-    watch.taken = 0;
-    IS(csq_cleanup(&device.queue, &device.passes[1], 1, &lock, &completed), CSQ_OK);
-    IS(completed, 2);
-    /* One to close the file object, one for each removal, and one for that which finds none. */
-    IS(watch.taken, 4);
-    IS(watch.held, 0);
-    status_of(&device, 1, CSQ_STATUS_CANCELLED);
-    status_of(&device, 5, CSQ_STATUS_CANCELLED);
-    IS(csq_cancel_routine(&device.queue, &device.passes[2], 3), CSQ_OK);
-    IS(take(&device, 0, CSQ_ANY), 0);
-    IS(csq_cleanup(&device.queue, &device.passes[1], 1, &lock, &completed), CSQ_OK);
-    IS(completed, 0);
-    end(&device);
 }
 
 int main(void) {
@@ -296,7 +223,5 @@ int main(void) {
     RUN_BOTH(closes_a_file_object_for_good);
     RUN(hands_each_pass_out_once);
     RUN(frees_a_pass_that_stays_out);
-    RUN_BOTH(cancels_through_the_callers_lock);
-    RUN_BOTH(cleans_up_through_the_callers_lock);
     return DONE();
 }

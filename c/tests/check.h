@@ -67,7 +67,7 @@ static inline struct csq_size size_of(uint32_t irps, uint32_t files, uint32_t li
 
 static inline void hand_out(struct device *device) {
     for (int at = 0; at < CHECK_PASSES; at++) {
-        IS(csq_pass(&device->queue, &device->passes[at]), CSQ_OK);
+        IS(csq_take_pass(&device->queue, &device->passes[at]), CSQ_OK);
     }
 }
 
@@ -79,17 +79,29 @@ static inline struct device device_of(struct csq_size size) {
     return device;
 }
 
+/* An IRP in a life; and in its present one. */
+static inline struct csq_irp irp_in(uint32_t irp, uint32_t life) {
+    struct csq_irp name = { irp, life };
+    return name;
+}
+static inline struct csq_irp present(struct csq_pass *pass, uint32_t irp) {
+    uint32_t life = UNWRITTEN, cancelled = UNWRITTEN;
+    IS(csq_read_cancel(pass, irp, &life, &cancelled), CSQ_OK);
+    return irp_in(irp, life);
+}
+
 /* Completes whatever the passes hold and owe, and gives them back. */
 static inline void settle(struct device *device) {
     for (int at = 0; at < CHECK_PASSES; at++) {
         struct csq_pass *pass = &device->passes[at];
         uint32_t held = 1, owed = 1;
         for (uint32_t irp = 0; pass->at && irp < device->irps; irp++) {
-            csq_cancel_routine(&device->queue, pass, irp);
-            csq_complete_cancelled(pass, irp);
+            struct csq_irp name = present(pass, irp);
+            csq_cancel_routine(&device->queue, pass, name);
+            csq_complete_cancelled(pass, name);
         }
         if (pass->at) {
-            IS(csq_holding(pass, &held, &owed), CSQ_OK);
+            IS(csq_count_held(pass, &held, &owed), CSQ_OK);
             IS(held + owed, 0);
             IS(csq_give_back(&device->queue, pass), CSQ_OK);
         }
@@ -118,11 +130,18 @@ static inline uint32_t take(struct device *device, int pass, uint32_t file) {
 
 /* What csq_mark_cancel finds of an IRP in a life; 2 where it is refused. */
 static inline uint32_t mark(struct device *device, int pass, uint32_t irp, uint32_t life) {
-    struct csq_irp name = { irp, life };
     uint32_t found = 2;
-    uint32_t code = csq_mark_cancel(&device->passes[pass], name, &found);
+    uint32_t code = csq_mark_cancel(&device->passes[pass], irp_in(irp, life), &found);
     CHECK(code == CSQ_OK ? found < 2 : found == 2);
     return found;
+}
+
+/* What an IRP was completed with in its first life. */
+static inline void status_of(struct device *device, uint32_t irp, uint32_t want) {
+    uint32_t life = UNWRITTEN, status = UNWRITTEN;
+    IS(csq_read_status(&device->passes[3], irp, &life, &status), CSQ_OK);
+    IS(life, 0);
+    IS(status, want);
 }
 
 #endif

@@ -50,6 +50,7 @@ static const char *name_of(uint32_t code) {
         NAME(CSQ_NOT_LISTED);
         NAME(CSQ_CLOSED);
         NAME(CSQ_NOT_CLOSED);
+        NAME(CSQ_OTHER_QUEUE);
     default:
         return "";
     }
@@ -64,18 +65,21 @@ static uint32_t way(void) {
     int held = 0;
     struct csq_lock its_lock = { lock, unlock, &held };
     uint32_t wrong = csq_new(&queue, &size) | csq_free(&queue);
-    wrong |= csq_new_with_file_limits(&queue, &size, limits, 1) | csq_pass(&queue, &pass);
-    wrong |= csq_insert(&queue, &pass, 0, 0, 1, &irp) | csq_remove(&queue, &pass, irp) | csq_complete(&pass, 0, 0);
-    wrong |= csq_reuse(&queue, &pass, 0, &number) | csq_insert(&queue, &pass, 0, 0, 0, &irp);
-    wrong |= csq_cancel(&queue, &pass, irp, &its_lock, &number) | csq_insert(&queue, &pass, 1, 0, 0, &irp);
-    wrong |= csq_mark_cancel(&pass, irp, &number) | csq_cancel_routine(&queue, &pass, 1);
-    wrong |= csq_complete_cancelled(&pass, 1) | csq_cleanup(&queue, &pass, 0, &its_lock, &number);
-    wrong |= csq_close_file(&queue, &pass, 0) | csq_is_cancelled(&pass, 0, &number, &other);
-    wrong |= csq_status(&pass, 0, &number, &other) | csq_holding(&pass, &number, &other);
-    wrong |= csq_passes_out(&queue, &number) | (csq_remove_next(&queue, &pass, CSQ_ANY, &irp) ^ CSQ_NONE);
-    wrong |= (csq_free_pass(&pass) | csq_free_pass(&pass)) ^ CSQ_EMPTY_HANDLE;
-    wrong |= (csq_close(&queue) ^ CSQ_PASSES_OUT) | (csq_next_listed(&queue, CSQ_ANY, &number) ^ CSQ_NOT_CLOSED);
-    wrong |= (csq_left(&queue, 0, &left) ^ CSQ_NOT_CLOSED) | (csq_give_back(&queue, &pass) ^ CSQ_EMPTY_HANDLE);
+    wrong |= csq_new_with_file_limits(&queue, &size, limits, 1) | csq_take_pass(&queue, &pass);
+    wrong |= csq_insert(&queue, &pass, 0, 0, 1, &irp) | csq_remove(&queue, &pass, irp) | csq_complete(&pass, irp, 0);
+    wrong |= csq_reuse(&queue, &pass, irp, &number) | csq_insert(&queue, &pass, 0, 0, 0, &irp);
+    wrong |= csq_cancel(&queue, &pass, irp, &its_lock, NULL, &number) | csq_insert(&queue, &pass, 1, 0, 0, &irp);
+    wrong |= csq_peek_next(&queue, CSQ_ANY, 0, &irp) | csq_len(&queue, &number) | csq_file_len(&queue, 0, &number);
+    wrong |= csq_mark_cancel(&pass, irp, &number) | csq_cancel_routine(&queue, &pass, irp);
+    wrong |= csq_complete_cancelled(&pass, irp) | (csq_cancel_owed(&queue, &pass, irp) ^ CSQ_NOT_OWED);
+    wrong |= csq_drain(&queue, &pass, 0, &its_lock, NULL, &number) | csq_free(NULL);
+    wrong |= csq_cleanup(&queue, &pass, 0, &its_lock, NULL, &number) | (csq_version() ^ CSQ_VERSION_NUMBER);
+    wrong |= csq_close_file(&queue, &pass, 0) | csq_read_cancel(&pass, 0, &number, &other);
+    wrong |= csq_read_status(&pass, 0, &number, &other) | csq_count_held(&pass, &number, &other);
+    wrong |= csq_count_passes_out(&queue, &number) | (csq_remove_next(&queue, &pass, CSQ_ANY, &irp) ^ CSQ_NONE);
+    wrong |= (csq_abandon_pass(&pass) | csq_abandon_pass(&pass)) ^ CSQ_EMPTY_HANDLE;
+    wrong |= (csq_close(&queue) ^ CSQ_PASSES_OUT) | (csq_read_listed(&queue, CSQ_ANY, &number) ^ CSQ_NOT_CLOSED);
+    wrong |= (csq_read_left(&queue, 0, &left) ^ CSQ_NOT_CLOSED) | (csq_give_back(&queue, &pass) ^ CSQ_EMPTY_HANDLE);
     return wrong | (uint32_t)held;
 }
 
@@ -118,7 +122,7 @@ int main(void) {
     while (*name_of(named)) {
         named++;
     }
-    int fits = named == CSQ_NOT_CLOSED + 1 && sizeof(struct csq_irp) == 8 && sizeof(struct csq_size) == 24 &&
+    int fits = named == CSQ_OTHER_QUEUE + 1 && sizeof(struct csq_irp) == 8 && sizeof(struct csq_size) == 24 &&
                sizeof(struct csq_left) == 16 && sizeof queue == sizeof(void *) && sizeof pass == sizeof(void *);
     tell("the_header_names_what_is_there", fits && way() == 0);
     tell("each_code_has_its_name", names_are_right(named));

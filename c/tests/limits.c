@@ -44,7 +44,7 @@ static void a_cancel_frees_its_place_by_its_routine(uint32_t list) {
     IS(put(&device, 0, 0, 0), CSQ_OK);
     IS(mark(&device, 1, 0, 0), 1);
     IS(put(&device, 0, 1, 0), CSQ_FILE_FULL);
-    IS(csq_cancel_routine(&device.queue, &device.passes[1], 0), CSQ_OK);
+    IS(csq_cancel_routine(&device.queue, &device.passes[1], irp_in(0, 0)), CSQ_OK);
     IS(put(&device, 0, 1, 0), CSQ_OK);
     end(&device);
 }
@@ -70,7 +70,7 @@ static void the_largest_queue_is_filled_and_emptied(uint32_t list) {
     for (uint32_t file = CSQ_MOST_FILES; file-- > 0;) {
         for (uint32_t irp = file; irp < CSQ_MOST_IRPS; irp += CSQ_MOST_FILES) {
             IS(take(&device, 1, file), irp);
-            IS(csq_complete(&device.passes[1], irp, 0), CSQ_OK);
+            IS(csq_complete(&device.passes[1], irp_in(irp, 0), 0), CSQ_OK);
         }
         IS(take(&device, 1, file), CSQ_ANY);
     }
@@ -85,11 +85,11 @@ static void a_queue_hands_out_sixty_four_passes(void) {
     IS(csq_new(&queue, &size), CSQ_OK);
     for (uint32_t at = 0; at <= CSQ_MOST_PASSES; at++) {
         passes[at].at = NULL;
-        IS(csq_pass(&queue, &passes[at]), at < CSQ_MOST_PASSES ? CSQ_OK : CSQ_NO_PASS);
+        IS(csq_take_pass(&queue, &passes[at]), at < CSQ_MOST_PASSES ? CSQ_OK : CSQ_NO_PASS);
     }
     for (uint32_t at = CSQ_MOST_PASSES; at-- > 0;) {
         IS(csq_give_back(&queue, &passes[at]), CSQ_OK);
-        IS(csq_passes_out(&queue, &out), CSQ_OK);
+        IS(csq_count_passes_out(&queue, &out), CSQ_OK);
         IS(out, at);
     }
     IS(csq_free(&queue), CSQ_OK);

@@ -3,17 +3,17 @@
 
 static void reuse(struct device *device, uint32_t irp, uint32_t want) {
     uint32_t life = UNWRITTEN;
-    IS(csq_reuse(&device->queue, &device->passes[3], irp, &life), CSQ_OK);
+    IS(csq_reuse(&device->queue, &device->passes[3], irp_in(irp, want - 1), &life), CSQ_OK);
     IS(life, want);
 }
 
 static void reads(struct device *device, uint32_t irp, uint32_t want_life, uint32_t want_cancelled) {
     uint32_t life = UNWRITTEN, cancelled = UNWRITTEN, status = UNWRITTEN;
-    IS(csq_is_cancelled(&device->passes[2], irp, &life, &cancelled), CSQ_OK);
+    IS(csq_read_cancel(&device->passes[2], irp, &life, &cancelled), CSQ_OK);
     IS(life, want_life);
     IS(cancelled, want_cancelled);
     life = UNWRITTEN;
-    IS(csq_status(&device->passes[2], irp, &life, &status), CSQ_NONE);
+    IS(csq_read_status(&device->passes[2], irp, &life, &status), CSQ_NONE);
     IS(life, want_life);
     IS(status, UNWRITTEN);
 }
@@ -26,11 +26,11 @@ static void a_completed_irp_is_used_again(uint32_t list) {
         if (life % 2) {
             IS(mark(&device, 1, 1, life), 1);
             reads(&device, 1, life, 1);
-            IS(csq_cancel_routine(&device.queue, &device.passes[1], 1), CSQ_OK);
-            IS(csq_complete_cancelled(&device.passes[1], 1), CSQ_OK);
+            IS(csq_cancel_routine(&device.queue, &device.passes[1], irp_in(1, life)), CSQ_OK);
+            IS(csq_complete_cancelled(&device.passes[1], irp_in(1, life)), CSQ_OK);
         } else {
             IS(take(&device, 1, 0), 1);
-            IS(csq_complete(&device.passes[1], 1, life), CSQ_OK);
+            IS(csq_complete(&device.passes[1], irp_in(1, life), life), CSQ_OK);
         }
         reuse(&device, 1, life + 1);
     }
@@ -42,18 +42,19 @@ static void only_a_completed_irp_is_used_again(uint32_t list) {
     struct device device = device_of(size_of(3, 1, list));
     uint32_t life = UNWRITTEN;
     struct csq_pass *by = &device.passes[0];
-    IS(csq_reuse(&device.queue, by, 0, &life), CSQ_NOT_COMPLETED);
+    struct csq_irp first = irp_in(0, 0);
+    IS(csq_reuse(&device.queue, by, first, &life), CSQ_NOT_COMPLETED);
     put(&device, 0, 0, 0);
-    IS(csq_reuse(&device.queue, by, 0, &life), CSQ_NOT_COMPLETED);
+    IS(csq_reuse(&device.queue, by, first, &life), CSQ_NOT_COMPLETED);
     IS(mark(&device, 0, 0, 0), 1);
-    IS(csq_reuse(&device.queue, by, 0, &life), CSQ_NOT_COMPLETED);
-    IS(csq_cancel_routine(&device.queue, by, 0), CSQ_OK);
-    IS(csq_reuse(&device.queue, by, 0, &life), CSQ_NOT_COMPLETED);
-    IS(csq_complete_cancelled(by, 0), CSQ_OK);
-    IS(csq_reuse(&device.queue, by, 3, &life), CSQ_UNKNOWN_IRP);
+    IS(csq_reuse(&device.queue, by, first, &life), CSQ_NOT_COMPLETED);
+    IS(csq_cancel_routine(&device.queue, by, first), CSQ_OK);
+    IS(csq_reuse(&device.queue, by, first, &life), CSQ_NOT_COMPLETED);
+    IS(csq_complete_cancelled(by, first), CSQ_OK);
+    IS(csq_reuse(&device.queue, by, irp_in(3, 0), &life), CSQ_UNKNOWN_IRP);
     IS(life, UNWRITTEN);
     reuse(&device, 0, 1);
-    IS(csq_reuse(&device.queue, by, 0, &life), CSQ_NOT_COMPLETED);
+    IS(csq_reuse(&device.queue, by, irp_in(0, 1), &life), CSQ_NOT_COMPLETED);
     IS(life, UNWRITTEN);
     end(&device);
 }
@@ -64,7 +65,7 @@ static void a_late_cancel_takes_nothing_of_a_newer_life(uint32_t list) {
     uint32_t found = UNWRITTEN;
     put(&device, 0, 0, 0);
     take(&device, 0, 0);
-    IS(csq_complete(&device.passes[0], 0, 0), CSQ_OK);
+    IS(csq_complete(&device.passes[0], irp_in(0, 0), 0), CSQ_OK);
     /* Before the reuse the old life is the present one, and has no routine. */
     IS(mark(&device, 1, 0, 0), 0);
     reuse(&device, 0, 1);
@@ -81,6 +82,36 @@ static void a_late_cancel_takes_nothing_of_a_newer_life(uint32_t list) {
     end(&device);
 }
 
+/* Each call that names an IRP refuses it in a life that is over, and in one to come. */
+static void what_names_another_life_is_refused(uint32_t list) {
+    static const uint32_t others[] = { 4, 6, UINT32_MAX };
+    struct csq_size size = size_of(2, 1, list);
+    size.first_life = 5;
+    struct device device = device_of(size);
+    struct csq_pass *by = &device.passes[0];
+    uint32_t life = UNWRITTEN, found = UNWRITTEN;
+    put(&device, 0, 0, 0);
+    put(&device, 0, 1, 0);
+    IS(take(&device, 0, CSQ_ANY), 0);
+    IS(mark(&device, 0, 1, 5), 1);
+    for (size_t at = 0; at < sizeof others / sizeof *others; at++) {
+        struct csq_irp held = irp_in(0, others[at]), owed = irp_in(1, others[at]);
+        IS(csq_complete(by, held, 0), CSQ_NOT_HELD);
+        IS(csq_complete_cancelled(by, held), CSQ_NOT_HELD);
+        IS(csq_cancel_routine(&device.queue, by, owed), CSQ_NOT_OWED);
+        IS(csq_cancel_owed(&device.queue, by, owed), CSQ_NOT_OWED);
+        IS(csq_mark_cancel(by, held, &found), CSQ_STALE);
+        IS(csq_reuse(&device.queue, by, held, &life), CSQ_STALE);
+    }
+    IS(csq_complete(by, irp_in(0, 5), 0), CSQ_OK);
+    IS(csq_reuse(&device.queue, by, irp_in(0, 4), &life), CSQ_STALE);
+    IS(csq_reuse(&device.queue, by, irp_in(0, 6), &life), CSQ_STALE);
+    IS(csq_cancel_owed(&device.queue, by, irp_in(1, 5)), CSQ_OK);
+    IS(life, UNWRITTEN);
+    IS(found, UNWRITTEN);
+    end(&device);
+}
+
 static void contexts_name_the_present_life(uint32_t list) {
     struct csq_size size = size_of(2, 1, list);
     size.first_life = 77;
@@ -93,7 +124,7 @@ static void contexts_name_the_present_life(uint32_t list) {
     IS(csq_remove_next(&device.queue, &device.passes[0], CSQ_ANY, &context), CSQ_OK);
     IS(context.irp, 1);
     IS(context.life, 77);
-    IS(csq_complete(&device.passes[0], 1, 0), CSQ_OK);
+    IS(csq_complete(&device.passes[0], context, 0), CSQ_OK);
     reuse(&device, 1, 78);
     IS(mark(&device, 1, 1, 78), 0);
     IS(csq_insert(&device.queue, &device.passes[0], 1, 0, 0, &context), CSQ_CANCELLED);
@@ -103,22 +134,23 @@ static void contexts_name_the_present_life(uint32_t list) {
 
 static void the_last_life_is_the_end(uint32_t list) {
     struct csq_size size = size_of(2, 1, list);
+    struct csq_irp last = irp_in(0, CSQ_LAST_LIFE);
     uint32_t life = UNWRITTEN, status = UNWRITTEN;
     size.first_life = CSQ_LAST_LIFE - 1;
     struct device device = device_of(size);
     put(&device, 0, 0, 0);
     take(&device, 0, 0);
-    IS(csq_complete(&device.passes[0], 0, UINT32_MAX), CSQ_OK);
+    IS(csq_complete(&device.passes[0], irp_in(0, CSQ_LAST_LIFE - 1), UINT32_MAX), CSQ_OK);
     reuse(&device, 0, CSQ_LAST_LIFE);
     reads(&device, 0, CSQ_LAST_LIFE, 0);
     put(&device, 0, 0, 0);
     IS(mark(&device, 1, 0, CSQ_LAST_LIFE), 1);
-    IS(csq_cancel_routine(&device.queue, &device.passes[1], 0), CSQ_OK);
-    IS(csq_reuse(&device.queue, &device.passes[0], 0, &life), CSQ_NOT_COMPLETED);
-    IS(csq_complete_cancelled(&device.passes[1], 0), CSQ_OK);
-    IS(csq_reuse(&device.queue, &device.passes[0], 0, &life), CSQ_LIVES_SPENT);
+    IS(csq_cancel_routine(&device.queue, &device.passes[1], last), CSQ_OK);
+    IS(csq_reuse(&device.queue, &device.passes[0], last, &life), CSQ_NOT_COMPLETED);
+    IS(csq_complete_cancelled(&device.passes[1], last), CSQ_OK);
+    IS(csq_reuse(&device.queue, &device.passes[0], last, &life), CSQ_LIVES_SPENT);
     IS(life, UNWRITTEN);
-    IS(csq_status(&device.passes[0], 0, &life, &status), CSQ_OK);
+    IS(csq_read_status(&device.passes[0], 0, &life, &status), CSQ_OK);
     IS(life, CSQ_LAST_LIFE);
     IS(status, CSQ_STATUS_CANCELLED);
     IS(put(&device, 0, 0, 0), CSQ_NOT_HOME);
@@ -132,7 +164,7 @@ static void lives_of_irps_are_their_own(uint32_t list) {
             if (turn % (irp + 1) == 0) {
                 IS(put(&device, 0, irp, 0), CSQ_OK);
                 IS(take(&device, 1, 0), irp);
-                IS(csq_complete(&device.passes[1], irp, 0), CSQ_OK);
+                IS(csq_complete(&device.passes[1], irp_in(irp, turn / (irp + 1)), 0), CSQ_OK);
                 reuse(&device, irp, turn / (irp + 1) + 1);
             }
         }
@@ -147,6 +179,7 @@ int main(void) {
     RUN_BOTH(a_completed_irp_is_used_again);
     RUN_BOTH(only_a_completed_irp_is_used_again);
     RUN_BOTH(a_late_cancel_takes_nothing_of_a_newer_life);
+    RUN_BOTH(what_names_another_life_is_refused);
     RUN_BOTH(contexts_name_the_present_life);
     RUN_BOTH(the_last_life_is_the_end);
     RUN_BOTH(lives_of_irps_are_their_own);

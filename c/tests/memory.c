@@ -131,20 +131,20 @@ static bool try_pass(uint32_t list, unsigned long which, bool later) {
     IS(make(&queue, list, false), CSQ_OK);
     unsigned long before = blocks;
     refuse(which, later);
-    uint32_t code = csq_pass(&queue, &pass);
+    uint32_t code = csq_take_pass(&queue, &pass);
     bool met = asked >= which;
     refuse(0, false);
     if (code != CSQ_OK) {
         IS(code, CSQ_NO_MEMORY);
         CHECK(pass.at == NULL && blocks == before);
-        IS(csq_passes_out(&queue, &out), CSQ_OK);
+        IS(csq_count_passes_out(&queue, &out), CSQ_OK);
         IS(out, 0);
-        IS(csq_pass(&queue, &pass), CSQ_OK);
+        IS(csq_take_pass(&queue, &pass), CSQ_OK);
     } else {
         CHECK(!met || !later);
     }
     IS(csq_give_back(&queue, &pass), CSQ_OK);
-    IS(csq_pass(&queue, &pass), CSQ_NO_PASS);
+    IS(csq_take_pass(&queue, &pass), CSQ_NO_PASS);
     IS(csq_free(&queue), CSQ_OK);
     return met;
 }
@@ -164,11 +164,11 @@ static void other_refusals_come_before_that_of_memory(uint32_t list) {
     struct csq_pass pass = CSQ_EMPTY, other = CSQ_EMPTY;
     struct csq_size bad = { 4, 2, 5, 1, 0, list };
     IS(make(&queue, list, false), CSQ_OK);
-    IS(csq_pass(&queue, &pass), CSQ_OK);
+    IS(csq_take_pass(&queue, &pass), CSQ_OK);
     refuse(1, true);
     IS(make(&queue, list, false), CSQ_NOT_EMPTY);
-    IS(csq_pass(&queue, &pass), CSQ_NOT_EMPTY);
-    IS(csq_pass(&queue, &other), CSQ_NO_PASS);
+    IS(csq_take_pass(&queue, &pass), CSQ_NOT_EMPTY);
+    IS(csq_take_pass(&queue, &other), CSQ_NO_PASS);
     IS(csq_give_back(&queue, &pass), CSQ_OK);
     IS(csq_free(&queue), CSQ_OK);
     IS(csq_new(&queue, &bad), CSQ_BAD_SIZE);
@@ -193,13 +193,13 @@ static void lead_through_a_life(struct device *device, uint32_t irp, uint32_t li
     } else if (way == 2) {
         IS(csq_mark_cancel(&device->passes[0], name, &found), CSQ_OK);
         IS(found, 1);
-        IS(csq_cancel_routine(&device->queue, &device->passes[0], irp), CSQ_OK);
+        IS(csq_cancel_routine(&device->queue, &device->passes[0], name), CSQ_OK);
     }
-    IS(csq_complete(&device->passes[0], irp, 7), way < 2 ? CSQ_OK : CSQ_NOT_REMOVED);
-    IS(csq_complete_cancelled(&device->passes[0], irp), way < 2 ? CSQ_NOT_HELD : CSQ_OK);
-    IS(csq_status(&device->passes[2], irp, &next, &value), CSQ_OK);
-    IS(csq_is_cancelled(&device->passes[2], irp, &next, &value), CSQ_OK);
-    IS(csq_reuse(&device->queue, &device->passes[3], irp, &next), CSQ_OK);
+    IS(csq_complete(&device->passes[0], name, 7), way < 2 ? CSQ_OK : CSQ_NOT_REMOVED);
+    IS(csq_complete_cancelled(&device->passes[0], name), way < 2 ? CSQ_NOT_HELD : CSQ_OK);
+    IS(csq_read_status(&device->passes[2], irp, &next, &value), CSQ_OK);
+    IS(csq_read_cancel(&device->passes[2], irp, &next, &value), CSQ_OK);
+    IS(csq_reuse(&device->queue, &device->passes[3], name, &next), CSQ_OK);
     IS(next, life + 1);
 }
 
@@ -219,15 +219,15 @@ static void no_other_call_takes_memory(uint32_t list) {
     for (uint32_t at = 0; at < CSQ_MOST_IRPS; at += 2) {
         IS(mark(&device, 1, at, 2), 1);
     }
-    IS(csq_holding(&device.passes[1], &held, &owed), CSQ_OK);
-    IS(csq_passes_out(&device.queue, &irp), CSQ_OK);
+    IS(csq_count_held(&device.passes[1], &held, &owed), CSQ_OK);
+    IS(csq_count_passes_out(&device.queue, &irp), CSQ_OK);
     IS(csq_close_file(&device.queue, &device.passes[0], 255), CSQ_OK);
     while (take(&device, 2, 255) != CSQ_ANY) {
     }
     settle(&device);
     IS(csq_close(&device.queue), CSQ_OK);
-    IS(csq_next_listed(&device.queue, CSQ_ANY, &irp), CSQ_OK);
-    IS(csq_left(&device.queue, irp, &left), CSQ_OK);
+    IS(csq_read_listed(&device.queue, CSQ_ANY, &irp), CSQ_OK);
+    IS(csq_read_left(&device.queue, irp, &left), CSQ_OK);
     IS(csq_free(&device.queue), CSQ_OK);
     IS(asked, 0);
     refuse(0, false);
@@ -240,10 +240,10 @@ static void a_pass_that_is_freed_keeps_no_memory(uint32_t list) {
     struct csq_pass pass = CSQ_EMPTY;
     IS(make(&queues[list], list, false), CSQ_OK);
     unsigned long before = blocks;
-    IS(csq_pass(&queues[list], &pass), CSQ_OK);
+    IS(csq_take_pass(&queues[list], &pass), CSQ_OK);
     CHECK(blocks > before);
     refuse(1, true);
-    IS(csq_free_pass(&pass), CSQ_OK);
+    IS(csq_abandon_pass(&pass), CSQ_OK);
     IS(asked, 0);
     refuse(0, false);
     IS(blocks, before);

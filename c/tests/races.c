@@ -49,10 +49,10 @@ static void *cancel_each(void *unused) {
         faults_of_cancel += csq_mark_cancel(&device.passes[1], name, &found) != CSQ_OK;
         if (found) {
             pthread_mutex_lock(&mutex);
-            faults_of_cancel += csq_cancel_routine(&device.queue, &device.passes[1], irp) != CSQ_OK;
+            faults_of_cancel += csq_cancel_routine(&device.queue, &device.passes[1], name) != CSQ_OK;
             pthread_mutex_unlock(&mutex);
             atomic_fetch_add(&completed[irp], 1);
-            faults_of_cancel += csq_complete_cancelled(&device.passes[1], irp) != CSQ_OK;
+            faults_of_cancel += csq_complete_cancelled(&device.passes[1], name) != CSQ_OK;
             by_cancel++;
         }
     }
@@ -67,7 +67,7 @@ static void insert_this(uint32_t irp) {
     faults_of_first += code != CSQ_OK && code != CSQ_CANCELLED;
     if (code == CSQ_CANCELLED) {
         atomic_fetch_add(&completed[irp], 1);
-        faults_of_first += csq_complete_cancelled(&device.passes[0], irp) != CSQ_OK;
+        faults_of_first += csq_complete_cancelled(&device.passes[0], context) != CSQ_OK;
         by_first++;
     }
 }
@@ -79,7 +79,7 @@ static void remove_this(uint32_t irp) {
     pthread_mutex_unlock(&mutex);
     if (code == CSQ_OK) {
         atomic_fetch_add(&completed[irp], 1);
-        faults_of_first += csq_complete(&device.passes[0], irp, 0) != CSQ_OK;
+        faults_of_first += csq_complete(&device.passes[0], name, 0) != CSQ_OK;
         by_first++;
     }
 }
@@ -103,10 +103,10 @@ static void end_of_race(void) {
     uint32_t irp = UNWRITTEN;
     settle(&device);
     IS(csq_close(&device.queue), CSQ_OK);
-    IS(csq_next_listed(&device.queue, CSQ_ANY, &irp), CSQ_NONE);
+    IS(csq_read_listed(&device.queue, CSQ_ANY, &irp), CSQ_NONE);
     for (irp = 0; irp < IRPS; irp++) {
         struct csq_left left = { 0, 0, 0, 0 };
-        IS(csq_left(&device.queue, irp, &left), CSQ_OK);
+        IS(csq_read_left(&device.queue, irp, &left), CSQ_OK);
         IS(left.cancelled, 1);
         IS(left.completed, 1);
         IS(completed[irp], 1);

@@ -52,22 +52,22 @@ static void a_completion_is_refused_for_its_first_cause(uint32_t list) {
     IS(put(&device, 0, 2, 0), CSQ_CANCELLED);
     IS(mark(&device, 0, 1, 0), 1);
     IS(take(&device, 0, CSQ_ANY), 0);
-    IS(csq_complete(by, 4, CSQ_STATUS_PENDING), CSQ_UNKNOWN_IRP);
-    IS(csq_complete(by, UINT32_MAX, 0), CSQ_UNKNOWN_IRP);
-    IS(csq_complete(by, 3, CSQ_STATUS_PENDING), CSQ_NOT_HELD);
-    IS(csq_complete(by, 1, CSQ_STATUS_PENDING), CSQ_NOT_HELD);
-    IS(csq_complete(by, 2, CSQ_STATUS_PENDING), CSQ_NOT_REMOVED);
-    IS(csq_complete(by, 2, CSQ_STATUS_CANCELLED), CSQ_NOT_REMOVED);
-    IS(csq_complete(by, 0, CSQ_STATUS_PENDING), CSQ_NOT_FINAL);
-    IS(csq_complete_cancelled(by, 4), CSQ_UNKNOWN_IRP);
-    IS(csq_complete_cancelled(by, 3), CSQ_NOT_HELD);
-    IS(csq_complete_cancelled(by, 1), CSQ_NOT_HELD);
+    IS(csq_complete(by, irp_in(4, 0), CSQ_STATUS_PENDING), CSQ_UNKNOWN_IRP);
+    IS(csq_complete(by, irp_in(UINT32_MAX, 0), 0), CSQ_UNKNOWN_IRP);
+    IS(csq_complete(by, irp_in(3, 0), CSQ_STATUS_PENDING), CSQ_NOT_HELD);
+    IS(csq_complete(by, irp_in(1, 0), CSQ_STATUS_PENDING), CSQ_NOT_HELD);
+    IS(csq_complete(by, irp_in(2, 0), CSQ_STATUS_PENDING), CSQ_NOT_REMOVED);
+    IS(csq_complete(by, irp_in(2, 0), CSQ_STATUS_CANCELLED), CSQ_NOT_REMOVED);
+    IS(csq_complete(by, irp_in(0, 0), CSQ_STATUS_PENDING), CSQ_NOT_FINAL);
+    IS(csq_complete_cancelled(by, irp_in(4, 0)), CSQ_UNKNOWN_IRP);
+    IS(csq_complete_cancelled(by, irp_in(3, 0)), CSQ_NOT_HELD);
+    IS(csq_complete_cancelled(by, irp_in(1, 0)), CSQ_NOT_HELD);
     /* All are as they were. */
-    IS(csq_complete(&device.passes[1], 0, 0), CSQ_NOT_HELD);
-    IS(csq_complete(by, 0, 0), CSQ_OK);
-    IS(csq_complete(by, 0, 0), CSQ_NOT_HELD);
-    IS(csq_complete_cancelled(by, 2), CSQ_OK);
-    IS(csq_cancel_routine(&device.queue, by, 1), CSQ_OK);
+    IS(csq_complete(&device.passes[1], irp_in(0, 0), 0), CSQ_NOT_HELD);
+    IS(csq_complete(by, irp_in(0, 0), 0), CSQ_OK);
+    IS(csq_complete(by, irp_in(0, 0), 0), CSQ_NOT_HELD);
+    IS(csq_complete_cancelled(by, irp_in(2, 0)), CSQ_OK);
+    IS(csq_cancel_routine(&device.queue, by, irp_in(1, 0)), CSQ_OK);
     end(&device);
 }
 
@@ -79,12 +79,12 @@ static void a_cancel_is_refused_for_its_first_cause(uint32_t list) {
     IS(mark(&device, 0, 2, 9), 2);
     IS(mark(&device, 0, 0, 1), 2);
     IS(mark(&device, 0, 0, UINT32_MAX), 2);
-    IS(csq_is_cancelled(by, 0, &life, &cancelled), CSQ_OK);
+    IS(csq_read_cancel(by, 0, &life, &cancelled), CSQ_OK);
     IS(life, 0);
     IS(cancelled, 0);
-    IS(csq_cancel_routine(&device.queue, by, 2), CSQ_UNKNOWN_IRP);
-    IS(csq_cancel_routine(&device.queue, by, 0), CSQ_NOT_OWED);
-    IS(csq_cancel_routine(&device.queue, by, 1), CSQ_NOT_OWED);
+    IS(csq_cancel_routine(&device.queue, by, irp_in(2, 0)), CSQ_UNKNOWN_IRP);
+    IS(csq_cancel_routine(&device.queue, by, irp_in(0, 0)), CSQ_NOT_OWED);
+    IS(csq_cancel_routine(&device.queue, by, irp_in(1, 0)), CSQ_NOT_OWED);
     IS(mark(&device, 0, 0, 0), 1);
     end(&device);
 }
@@ -102,9 +102,9 @@ static void the_code_of_a_refused_cancel_tells_why(uint32_t list) {
 static void reads_of_an_unknown_irp_are_refused(uint32_t list) {
     struct device device = device_of(size_of(2, 1, list));
     uint32_t life = UNWRITTEN, value = UNWRITTEN;
-    IS(csq_is_cancelled(&device.passes[0], 2, &life, &value), CSQ_UNKNOWN_IRP);
-    IS(csq_status(&device.passes[0], UINT32_MAX, &life, &value), CSQ_UNKNOWN_IRP);
-    IS(csq_reuse(&device.queue, &device.passes[0], 2, &life), CSQ_UNKNOWN_IRP);
+    IS(csq_read_cancel(&device.passes[0], 2, &life, &value), CSQ_UNKNOWN_IRP);
+    IS(csq_read_status(&device.passes[0], UINT32_MAX, &life, &value), CSQ_UNKNOWN_IRP);
+    IS(csq_reuse(&device.queue, &device.passes[0], irp_in(2, 0), &life), CSQ_UNKNOWN_IRP);
     IS(csq_close_file(&device.queue, &device.passes[0], 1), CSQ_UNKNOWN_FILE);
     IS(csq_close_file(&device.queue, &device.passes[0], CSQ_ANY), CSQ_UNKNOWN_FILE);
     IS(life, UNWRITTEN);
@@ -119,16 +119,16 @@ static void a_pass_that_holds_or_owes_is_not_given_back(uint32_t list) {
     put(&device, 0, 0, 0);
     IS(mark(&device, 0, 0, 0), 1);
     IS(csq_give_back(&device.queue, by), CSQ_HOLDING);
-    IS(csq_free_pass(by), CSQ_HOLDING);
-    IS(csq_cancel_routine(&device.queue, by, 0), CSQ_OK);
+    IS(csq_abandon_pass(by), CSQ_HOLDING);
+    IS(csq_cancel_routine(&device.queue, by, irp_in(0, 0)), CSQ_OK);
     IS(csq_give_back(&device.queue, by), CSQ_HOLDING);
-    IS(csq_free_pass(by), CSQ_HOLDING);
-    IS(csq_holding(by, &held, &owed), CSQ_OK);
+    IS(csq_abandon_pass(by), CSQ_HOLDING);
+    IS(csq_count_held(by, &held, &owed), CSQ_OK);
     IS(held, 1);
     IS(owed, 0);
-    IS(csq_complete_cancelled(by, 0), CSQ_OK);
+    IS(csq_complete_cancelled(by, irp_in(0, 0)), CSQ_OK);
     IS(csq_give_back(&device.queue, by), CSQ_OK);
-    IS(csq_passes_out(&device.queue, &out), CSQ_OK);
+    IS(csq_count_passes_out(&device.queue, &out), CSQ_OK);
     IS(out, CHECK_PASSES - 1);
     end(&device);
 }
@@ -139,7 +139,7 @@ static void a_queue_with_passes_out_is_not_ended(uint32_t list) {
     put(&device, 0, 1, 0);
     IS(csq_free(&device.queue), CSQ_PASSES_OUT);
     IS(csq_close(&device.queue), CSQ_PASSES_OUT);
-    IS(csq_next_listed(&device.queue, CSQ_ANY, &irp), CSQ_NOT_CLOSED);
+    IS(csq_read_listed(&device.queue, CSQ_ANY, &irp), CSQ_NOT_CLOSED);
     IS(irp, UNWRITTEN);
     /* It goes on as before. */
     IS(put(&device, 0, 0, 0), CSQ_OK);

@@ -44,13 +44,15 @@ static uint32_t status_in(uint32_t life) {
     return UINT32_C(0x40000000) + life;
 }
 
-/* Begins the next life of an IRP, if its present one is completed. */
+/* Begins the next life of an IRP, if the one in which the pass sees it is the present one, and completed. */
 static void renew(struct csq_pass *pass, uint32_t irp) {
-    uint32_t life = 0;
+    struct csq_irp name = { irp, 0 };
+    uint32_t life = 0, cancelled = 0;
+    fault_unless(csq_read_cancel(pass, irp, &name.life, &cancelled) == CSQ_OK);
     lock(&mutex);
-    uint32_t code = csq_reuse(&device.queue, pass, irp, &life);
+    uint32_t code = csq_reuse(&device.queue, pass, name, &life);
     unlock(&mutex);
-    fault_unless(code == CSQ_NOT_COMPLETED || (code == CSQ_OK && life > 0));
+    fault_unless(code == CSQ_NOT_COMPLETED || code == CSQ_STALE || (code == CSQ_OK && life == name.life + 1));
 }
 
 static void remove_one(struct csq_pass *pass, uint32_t file) {
@@ -60,7 +62,7 @@ static void remove_one(struct csq_pass *pass, uint32_t file) {
     unlock(&mutex);
     if (code == CSQ_OK) {
         note(irp.irp, irp.life);
-        fault_unless(csq_complete(pass, irp.irp, status_in(irp.life)) == CSQ_OK);
+        fault_unless(csq_complete(pass, irp, status_in(irp.life)) == CSQ_OK);
         removed++;
     }
 }
@@ -71,7 +73,7 @@ static void remove_this(struct csq_pass *pass, struct csq_irp irp) {
     unlock(&mutex);
     if (code == CSQ_OK) {
         note(irp.irp, irp.life);
-        fault_unless(csq_complete(pass, irp.irp, status_in(irp.life)) == CSQ_OK);
+        fault_unless(csq_complete(pass, irp, status_in(irp.life)) == CSQ_OK);
         removed++;
     }
 }
@@ -83,7 +85,7 @@ static void insert_one(struct csq_pass *pass, uint32_t irp, uint64_t *state) {
     unlock(&mutex);
     if (code == CSQ_CANCELLED) {
         note(irp, context.life);
-        fault_unless(csq_complete_cancelled(pass, irp) == CSQ_OK);
+        fault_unless(csq_complete_cancelled(pass, context) == CSQ_OK);
         found_cancelled++;
     } else if (code == CSQ_OK && pick(state, 8) == 0) {
         remove_this(pass, context);
@@ -101,10 +103,10 @@ static void cancel_one(struct csq_pass *pass, uint32_t irp, uint32_t back) {
         missed++;
     } else {
         lock(&mutex);
-        fault_unless(csq_cancel_routine(&device.queue, pass, irp) == CSQ_OK);
+        fault_unless(csq_cancel_routine(&device.queue, pass, name) == CSQ_OK);
         unlock(&mutex);
         note(irp, name.life);
-        fault_unless(csq_complete_cancelled(pass, irp) == CSQ_OK);
+        fault_unless(csq_complete_cancelled(pass, name) == CSQ_OK);
         claimed++;
     }
 }
@@ -112,9 +114,9 @@ static void cancel_one(struct csq_pass *pass, uint32_t irp, uint32_t back) {
 /* What a pass reads of an IRP is never older than what it read of it before. */
 static void read_one(struct csq_pass *pass, uint32_t irp, uint32_t *lives) {
     uint32_t life = 0, value = 0;
-    fault_unless(csq_is_cancelled(pass, irp, &life, &value) == CSQ_OK && life >= lives[irp] && value <= 1);
+    fault_unless(csq_read_cancel(pass, irp, &life, &value) == CSQ_OK && life >= lives[irp] && value <= 1);
     lives[irp] = life;
-    uint32_t code = csq_status(pass, irp, &life, &value);
+    uint32_t code = csq_read_status(pass, irp, &life, &value);
     fault_unless(life >= lives[irp] && (code == CSQ_NONE || value == status_in(life) || value == CSQ_STATUS_CANCELLED));
 }
 
@@ -163,9 +165,9 @@ static void end_of_lives(void) {
     }
     settle(&device);
     IS(csq_close(&device.queue), CSQ_OK);
-    IS(csq_next_listed(&device.queue, CSQ_ANY, &irp), CSQ_NONE);
+    IS(csq_read_listed(&device.queue, CSQ_ANY, &irp), CSQ_NONE);
     for (irp = 0; irp < IRPS; irp++) {
-        IS(csq_left(&device.queue, irp, &left), CSQ_OK);
+        IS(csq_read_left(&device.queue, irp, &left), CSQ_OK);
         IS(completed[irp], left.life + left.completed);
         sum += completed[irp];
     }
@@ -198,14 +200,14 @@ static void *serve_once(void *of) {
         unlock(&mutex);
         fault_unless(code == CSQ_OK || code == CSQ_CANCELLED || code == CSQ_FILE_CLOSED);
         if (code == CSQ_CANCELLED) {
-            fault_unless(csq_complete_cancelled(pass, irp) == CSQ_OK);
+            fault_unless(csq_complete_cancelled(pass, context) == CSQ_OK);
             completed[irp]++;
         }
-        fault_unless(csq_cancel(&device.queue, pass, other, &the_lock, &count) == CSQ_OK);
+        fault_unless(csq_cancel(&device.queue, pass, other, &the_lock, NULL, &count) == CSQ_OK);
         completed[other.irp] += count;
         claimed += count;
     }
-    fault_unless(csq_cleanup(&device.queue, pass, me, &the_lock, &cleaned) == CSQ_OK);
+    fault_unless(csq_cleanup(&device.queue, pass, me, &the_lock, NULL, &cleaned) == CSQ_OK);
     removed += cleaned;
     return NULL;
 }
@@ -217,9 +219,9 @@ static unsigned long end_of_once(void) {
     uint32_t irp = 0;
     settle(&device);
     IS(csq_close(&device.queue), CSQ_OK);
-    IS(csq_next_listed(&device.queue, CSQ_ANY, &irp), CSQ_NONE);
+    IS(csq_read_listed(&device.queue, CSQ_ANY, &irp), CSQ_NONE);
     for (irp = 0; irp < IRPS; irp++) {
-        IS(csq_left(&device.queue, irp, &left), CSQ_OK);
+        IS(csq_read_left(&device.queue, irp, &left), CSQ_OK);
         CHECK(completed[irp] <= left.completed);
         CHECK(!left.completed || left.status == CSQ_STATUS_CANCELLED);
         sum += completed[irp];

@@ -12,7 +12,7 @@ static struct csq_queue queue;
 static struct csq_pass passes[PASSES];
 static struct csq_irp contexts[IRPS];
 /* What each pass got last, and what it came to owe last, so that some calls are of these. */
-static uint32_t got[PASSES], owes[PASSES];
+static struct csq_irp got[PASSES], owes[PASSES];
 static uint64_t state, digest = 14695981039346656037u;
 static unsigned long calls;
 static int tells_each;
@@ -58,7 +58,7 @@ static void make_insert(int by) {
         contexts[context.irp] = context;
     }
     if (code == CSQ_CANCELLED) {
-        got[by] = context.irp;
+        got[by] = context;
     }
     tell("insert", code, context.irp, context.life);
 }
@@ -74,7 +74,7 @@ static void make_removal(int by) {
         tell("remove", code, irp.irp, irp.life);
     }
     if (code == CSQ_OK) {
-        got[by] = irp.irp;
+        got[by] = irp;
     }
 }
 
@@ -84,56 +84,76 @@ static void make_cancel(int by) {
     uint32_t code = csq_mark_cancel(&passes[by], irp, &found);
     tell("mark", code, irp.irp, found);
     if (code == CSQ_OK && found) {
-        owes[by] = irp.irp;
+        owes[by] = irp;
     }
 }
 
 static void make_routine(int by) {
-    uint32_t irp = pick(3) ? owes[by] : some_irp();
-    uint32_t code = csq_cancel_routine(&queue, &passes[by], irp);
-    tell("routine", code, irp, 0);
+    struct csq_irp irp = pick(3) ? owes[by] : some_name();
+    uint32_t code;
+    if (pick(3)) {
+        code = csq_cancel_routine(&queue, &passes[by], irp);
+        tell("routine", code, irp.irp, irp.life);
+    } else {
+        code = csq_cancel_owed(&queue, &passes[by], irp);
+        tell("owed", code, irp.irp, irp.life);
+    }
     if (code == CSQ_OK) {
         got[by] = irp;
     }
 }
 
 static void make_completion(int by) {
-    uint32_t irp = pick(3) ? got[by] : some_irp();
+    struct csq_irp irp = pick(3) ? got[by] : some_name();
     if (pick(2)) {
         uint32_t status = pick(5) ? pick(5) : CSQ_STATUS_PENDING;
-        tell("complete", csq_complete(&passes[by], irp, status), irp, status);
+        tell("complete", csq_complete(&passes[by], irp, status), irp.irp, status);
     } else {
-        tell("cancelled", csq_complete_cancelled(&passes[by], irp), irp, 0);
+        tell("cancelled", csq_complete_cancelled(&passes[by], irp), irp.irp, irp.life);
     }
 }
 
 static void make_reuse(int by) {
-    uint32_t irp = some_irp(), life = 99;
-    uint32_t code = csq_reuse(&queue, &passes[by], irp, &life);
+    struct csq_irp irp = some_name();
+    uint32_t life = 99, code = csq_reuse(&queue, &passes[by], irp, &life);
     if (code == CSQ_OK) {
-        contexts[irp].life = life;
+        contexts[irp.irp].life = life;
     }
-    tell("reuse", code, irp, life);
+    tell("reuse", code, irp.irp, life);
+}
+
+static void make_look(void) {
+    struct csq_irp irp = { 99, 99 };
+    uint32_t len = 99, file = some_file();
+    uint32_t code = csq_peek_next(&queue, pick(2) ? CSQ_ANY : some_irp(), pick(2) ? CSQ_ANY : file, &irp);
+    tell("peek", code, irp.irp, irp.life);
+    code = csq_file_len(&queue, file, &len);
+    tell("file len", code, file, len);
+    code = csq_len(&queue, &len);
+    tell("len", code, len, 0);
 }
 
 static void make_read(int by) {
     uint32_t irp = some_irp(), one = 99, two = 99, code;
-    switch (pick(4)) {
+    switch (pick(5)) {
     case 0:
-        code = csq_status(&passes[by], irp, &one, &two);
+        code = csq_read_status(&passes[by], irp, &one, &two);
         tell("status", code, one, two);
         break;
     case 1:
-        code = csq_is_cancelled(&passes[by], irp, &one, &two);
+        code = csq_read_cancel(&passes[by], irp, &one, &two);
         tell("flag", code, one, two);
         break;
     case 2:
-        code = csq_holding(&passes[by], &one, &two);
+        code = csq_count_held(&passes[by], &one, &two);
         tell("holding", code, one, two);
         break;
-    default:
-        code = csq_passes_out(&queue, &one);
+    case 3:
+        code = csq_count_passes_out(&queue, &one);
         tell("out", code, one, 0);
+        break;
+    default:
+        make_look();
     }
 }
 
@@ -160,7 +180,7 @@ static void begin(uint32_t list) {
         contexts[irp].life = first;
     }
     for (int at = 0; at < PASSES; at++) {
-        tell("pass", csq_pass(&queue, &passes[at]), 0, 0);
+        tell("pass", csq_take_pass(&queue, &passes[at]), 0, 0);
     }
 }
 
@@ -170,17 +190,17 @@ static void end(void) {
     for (int at = 0; at < PASSES; at++) {
         tell("back", csq_give_back(&queue, &passes[at]), 0, 0);
         for (uint32_t each = 0; each < IRPS; each++) {
-            tell("routine", csq_cancel_routine(&queue, &passes[at], each), each, 0);
-            tell("cancelled", csq_complete_cancelled(&passes[at], each), each, 0);
+            tell("routine", csq_cancel_routine(&queue, &passes[at], contexts[each]), each, 0);
+            tell("cancelled", csq_complete_cancelled(&passes[at], contexts[each]), each, 0);
         }
         tell("back", csq_give_back(&queue, &passes[at]), 0, 0);
     }
     tell("close", csq_close(&queue), 0, 0);
-    while (csq_next_listed(&queue, irp, &irp) == CSQ_OK) {
+    while (csq_read_listed(&queue, irp, &irp) == CSQ_OK) {
         tell("listed", 0, irp, 0);
     }
     for (uint32_t each = 0; each < IRPS; each++) {
-        uint32_t code = csq_left(&queue, each, &left);
+        uint32_t code = csq_read_left(&queue, each, &left);
         tell("left", code, left.life, left.cancelled);
         tell("left", code, left.completed, left.status);
     }

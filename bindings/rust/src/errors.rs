@@ -94,6 +94,8 @@ refusal!(CancelError {
 pub enum ReuseError {
     /// The IRP's number isn't below the queue's number of IRPs.
     UnknownIrp,
+    /// The IRP is in another life than the one named.
+    Stale,
     /// Its present life isn't completed.
     NotCompleted,
     /// Its present life is the last that there can be.
@@ -102,6 +104,7 @@ pub enum ReuseError {
 
 refusal!(ReuseError {
     UnknownIrp => "there is no such IRP",
+    Stale => "the IRP is in another life",
     NotCompleted => "the IRP isn't completed",
     LivesSpent => "the IRP is in its last life",
 });
@@ -129,6 +132,18 @@ impl fmt::Display for UnknownFile {
 }
 
 impl Error for UnknownFile {}
+
+/// The IRP isn't in the queue's list.
+#[derive(Clone, Copy, Debug, PartialEq, Eq, Hash)]
+pub struct NotListed;
+
+impl fmt::Display for NotListed {
+    fn fmt(&self, f: &mut fmt::Formatter<'_>) -> fmt::Result {
+        f.write_str("the IRP isn't listed")
+    }
+}
+
+impl Error for NotListed {}
 
 /// A pass that wasn't given back, since it holds or owes IRPs whose tokens were forgotten. It comes back.
 #[derive(Debug)]

@@ -99,11 +99,18 @@ mod token;
 mod words;
 
 pub use errors::{
-    CancelError, Holding, InsertError, Missed, NewError, PassError, PassesOut, Refused, ReuseError,
-    SubmitError, UnknownFile, UnknownIrp,
+    CancelError, Holding, InsertError, Missed, NewError, NotListed, PassError, PassesOut, Refused,
+    ReuseError, SubmitError, UnknownFile, UnknownIrp,
 };
 pub use pass::Pass;
 pub use queue::{Closed, Listed, Queue};
 pub use requests::{Request, RequestId, RequestPass, Requests};
 pub use token::{Cancelled, Claim, Inserted, Removed};
 pub use words::{FinalStatus, Irp, Left, List, Peek, Place, Size, LAST_LIFE};
+
+/// The version of the C library that the program is linked with: major, minor and patch.
+pub fn library_version() -> (u32, u32, u32) {
+    // SAFETY: the call takes and changes nothing.
+    let version = unsafe { raw::csq_version() };
+    (version / 10_000, version / 100 % 100, version % 100)
+}

@@ -3,7 +3,7 @@
 use crate::errors::{
     CancelError, Holding, InsertError, PassError, ReuseError, UnknownFile, UnknownIrp,
 };
-use crate::queue::Shared;
+use crate::queue::{file_of, Shared};
 use crate::raw::{self, RawIrp, RawPass, RawQueue};
 use crate::token::{Cancelled, Claim, Inserted, Removed};
 use crate::words::{FinalStatus, Irp, Peek, Place};
@@ -39,7 +39,7 @@ impl Pass {
             at: ptr::null_mut(),
         };
         // SAFETY: the queue is locked, and the pass's handle is empty.
-        let code = unsafe { raw::csq_pass(&mut *shared.lock(), &mut handle) };
+        let code = unsafe { raw::csq_take_pass(&mut *shared.lock(), &mut handle) };
         match code {
             raw::OK => Ok(Pass {
                 shared: Arc::clone(shared),
@@ -47,7 +47,7 @@ impl Pass {
             }),
             raw::NO_PASS => Err(PassError::NoPass),
             raw::NO_MEMORY => Err(PassError::NoMemory),
-            code => unreachable!("csq_pass answered {code}"),
+            code => unreachable!("csq_take_pass answered {code}"),
         }
     }
 
@@ -77,7 +77,7 @@ impl Pass {
     pub fn holding(&self) -> (u32, u32) {
         let (mut held, mut owed) = (0, 0);
         // SAFETY: this thread alone has the pass.
-        let code = unsafe { raw::csq_holding(self.handle.get(), &mut held, &mut owed) };
+        let code = unsafe { raw::csq_count_held(self.handle.get(), &mut held, &mut owed) };
         debug_assert_eq!(code, raw::OK);
         (held, owed)
     }
@@ -108,12 +108,11 @@ impl Pass {
     /// Removes the first listed match that no canceller has (`IoCsqRemoveNextIrp`). Takes the lock.
     #[must_use = "a removed IRP has to be completed, and is completed as cancelled where it is dropped"]
     pub fn remove_next(&self, peek: Peek) -> Option<Removed<'_>> {
-        let file = match peek {
-            Peek::Any => raw::ANY,
-            // In C this number stands for any; here it is an unknown file object.
-            Peek::File(raw::ANY) => return None,
-            Peek::File(file) => file,
-        };
+        // In C this number stands for any; here it is an unknown file object.
+        if peek == Peek::File(raw::ANY) {
+            return None;
+        }
+        let file = file_of(peek);
         let mut irp = RawIrp::default();
         // SAFETY: the queue is locked, and this thread alone has the pass.
         let code =
@@ -144,26 +143,61 @@ impl Pass {
         }
     }
 
-    /// Handles `IRP_MJ_CLEANUP` of a file object: closes it, then removes each IRP that is listed for it and completes
-    /// it with `STATUS_CANCELLED`. Answers how many. What a canceller has is left to that canceller. The lock is free
-    /// between two of them.
+    /// Handles `IRP_MJ_CLEANUP` of a file object: closes it, then does what [`Pass::drain`] does. Answers how many IRPs
+    /// were completed.
     pub fn cleanup(&self, file: u32) -> Result<u32, UnknownFile> {
+        self.cleanup_with(file, |_| ())
+    }
+
+    /// [`Pass::cleanup`], and `before` is told of each IRP before it is completed.
+    pub fn cleanup_with(&self, file: u32, before: impl FnMut(Irp)) -> Result<u32, UnknownFile> {
         self.close_file(file)?;
+        Ok(self.complete_listed(Peek::File(file), before))
+    }
+
+    /// Removes each IRP that is listed for a file object, or for any, and completes it with `STATUS_CANCELLED`. Answers
+    /// how many. The file object stays open, so this may go on for as long as others insert. What a canceller has is left
+    /// to that canceller, and is listed until then ([`Queue::file_len`](crate::Queue::file_len)). The lock is free
+    /// between two of them.
+    pub fn drain(&self, peek: Peek) -> Result<u32, UnknownFile> {
+        self.drain_with(peek, |_| ())
+    }
+
+    /// [`Pass::drain`], and `before` is told of each IRP before it is completed.
+    pub fn drain_with(&self, peek: Peek, before: impl FnMut(Irp)) -> Result<u32, UnknownFile> {
+        if let Peek::File(file) = peek {
+            self.file_len(file)?;
+        }
+        Ok(self.complete_listed(peek, before))
+    }
+
+    // How many IRPs are listed for a file object.
+    pub(crate) fn file_len(&self, file: u32) -> Result<u32, UnknownFile> {
+        self.shared.file_len(file)
+    }
+
+    // Completes what is listed as cancelled, and answers how many.
+    fn complete_listed(&self, peek: Peek, mut before: impl FnMut(Irp)) -> u32 {
         let mut completed = 0;
-        while let Some(removed) = self.remove_next(Peek::File(file)) {
+        while let Some(removed) = self.remove_next(peek) {
+            before(removed.irp());
             removed.complete(FinalStatus::CANCELLED);
             completed += 1;
         }
-        Ok(completed)
+        completed
     }
 
-    /// Begins the next life of a completed IRP (`IoReuseIrp`), and names it. Takes the lock.
-    pub fn reuse(&self, irp: u32) -> Result<Irp, ReuseError> {
+    /// Begins the next life of an IRP that is completed in the life named, its present one (`IoReuseIrp`), and names it
+    /// in that next life. Takes the lock.
+    pub fn reuse(&self, irp: Irp) -> Result<Irp, ReuseError> {
         let mut life = 0;
         // SAFETY: the queue is locked, and this thread alone has the pass.
-        match self.locked(|queue, pass| unsafe { raw::csq_reuse(queue, pass, irp, &mut life) }) {
-            raw::OK => Ok(Irp { irp, life }),
+        match self
+            .locked(|queue, pass| unsafe { raw::csq_reuse(queue, pass, irp.raw(), &mut life) })
+        {
+            raw::OK => Ok(Irp { life, ..irp }),
             raw::UNKNOWN_IRP => Err(ReuseError::UnknownIrp),
+            raw::STALE => Err(ReuseError::Stale),
             raw::NOT_COMPLETED => Err(ReuseError::NotCompleted),
             raw::LIVES_SPENT => Err(ReuseError::LivesSpent),
             code => unreachable!("csq_reuse answered {code}"),
@@ -187,10 +221,17 @@ impl Pass {
     /// Cancels an IRP in the life named (`IoCancelIrp`): where its routine was there, runs it and completes the IRP.
     /// Answers whether it did. Takes the lock only where the routine was there.
     pub fn cancel(&self, irp: Irp) -> Result<bool, CancelError> {
+        self.cancel_with(irp, |_| ())
+    }
+
+    /// [`Pass::cancel`], and `before` is told of the IRP before it is completed, where it is completed here.
+    pub fn cancel_with(&self, irp: Irp, before: impl FnOnce(Irp)) -> Result<bool, CancelError> {
         match self.mark_cancel(irp)? {
             None => Ok(false),
             Some(claim) => {
-                claim.run().complete();
+                before(irp);
+                // Also where `before` panics, a claim that is dropped completes its IRP.
+                drop(claim);
                 Ok(true)
             }
         }
@@ -200,7 +241,7 @@ impl Pass {
     pub fn is_cancelled(&self, irp: u32) -> Result<(u32, bool), UnknownIrp> {
         let (mut life, mut cancelled) = (0, 0);
         // SAFETY: this thread alone has the pass.
-        match unsafe { raw::csq_is_cancelled(self.handle.get(), irp, &mut life, &mut cancelled) } {
+        match unsafe { raw::csq_read_cancel(self.handle.get(), irp, &mut life, &mut cancelled) } {
             raw::OK => Ok((life, cancelled == 1)),
             _ => Err(UnknownIrp),
         }
@@ -210,7 +251,7 @@ impl Pass {
     pub fn status(&self, irp: u32) -> Result<(u32, Option<FinalStatus>), UnknownIrp> {
         let (mut life, mut status) = (0, 0);
         // SAFETY: this thread alone has the pass.
-        match unsafe { raw::csq_status(self.handle.get(), irp, &mut life, &mut status) } {
+        match unsafe { raw::csq_read_status(self.handle.get(), irp, &mut life, &mut status) } {
             raw::OK => Ok((life, Some(FinalStatus::of(status)))),
             raw::NONE => Ok((life, None)),
             _ => Err(UnknownIrp),
@@ -221,30 +262,36 @@ impl Pass {
 
     pub(crate) fn complete(&self, irp: Irp, status: FinalStatus) {
         // SAFETY: this thread alone has the pass.
-        let code = unsafe { raw::csq_complete(self.handle.get(), irp.irp, status.number()) };
+        let code = unsafe { raw::csq_complete(self.handle.get(), irp.raw(), status.number()) };
         debug_assert_eq!(code, raw::OK);
     }
 
     pub(crate) fn complete_cancelled(&self, irp: Irp) {
         // SAFETY: this thread alone has the pass.
-        let code = unsafe { raw::csq_complete_cancelled(self.handle.get(), irp.irp) };
+        let code = unsafe { raw::csq_complete_cancelled(self.handle.get(), irp.raw()) };
         debug_assert_eq!(code, raw::OK);
     }
 
     pub(crate) fn cancel_routine(&self, irp: Irp) {
         // SAFETY: the queue is locked, and this thread alone has the pass.
         let code =
-            self.locked(|queue, pass| unsafe { raw::csq_cancel_routine(queue, pass, irp.irp) });
+            self.locked(|queue, pass| unsafe { raw::csq_cancel_routine(queue, pass, irp.raw()) });
         debug_assert_eq!(code, raw::OK);
     }
 
-    // Completes what forgotten tokens left.
+    pub(crate) fn cancel_owed(&self, irp: Irp) {
+        // SAFETY: the queue is locked, and this thread alone has the pass.
+        let code =
+            self.locked(|queue, pass| unsafe { raw::csq_cancel_owed(queue, pass, irp.raw()) });
+        debug_assert_eq!(code, raw::OK);
+    }
+
+    // Completes what forgotten tokens left: an IRP that a pass holds or owes is in that life until it is completed.
     fn settle(&self) {
-        for irp in 0..self.shared.irps {
-            self.locked(|queue, pass| {
-                // SAFETY: the queue is locked, and this thread alone has the pass. What isn't owed is refused.
-                unsafe { raw::csq_cancel_routine(queue, pass, irp) }
-            });
+        let present = |irp| self.is_cancelled(irp).map(|(life, _)| RawIrp { irp, life });
+        for irp in (0..self.shared.irps).flat_map(present) {
+            // SAFETY: the queue is locked, and this thread alone has the pass. What isn't owed is refused.
+            self.locked(|queue, pass| unsafe { raw::csq_cancel_owed(queue, pass, irp) });
             // SAFETY: this thread alone has the pass. What isn't held is refused.
             unsafe { raw::csq_complete_cancelled(self.handle.get(), irp) };
         }

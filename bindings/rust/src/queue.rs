@@ -1,9 +1,9 @@
 //! A queue, open and closed.
 
-use crate::errors::{NewError, PassError, PassesOut};
+use crate::errors::{NewError, NotListed, PassError, PassesOut, UnknownFile};
 use crate::pass::Pass;
-use crate::raw::{self, RawLeft, RawQueue};
-use crate::words::{FinalStatus, Left, Size};
+use crate::raw::{self, RawIrp, RawLeft, RawQueue};
+use crate::words::{FinalStatus, Irp, Left, Peek, Size};
 use std::fmt;
 use std::ptr;
 use std::sync::{Arc, Mutex, MutexGuard, PoisonError};
@@ -22,6 +22,17 @@ impl Shared {
     pub(crate) fn lock(&self) -> MutexGuard<'_, RawQueue> {
         self.handle.lock().unwrap_or_else(PoisonError::into_inner)
     }
+
+    /// How many IRPs are listed for a file object.
+    pub(crate) fn file_len(&self, file: u32) -> Result<u32, UnknownFile> {
+        let mut len = 0;
+        // SAFETY: the handle is locked.
+        match unsafe { raw::csq_file_len(&*self.lock(), file, &mut len) } {
+            raw::OK => Ok(len),
+            raw::UNKNOWN_FILE => Err(UnknownFile),
+            code => unreachable!("csq_file_len answered {code}"),
+        }
+    }
 }
 
 impl Drop for Shared {
@@ -31,7 +42,7 @@ impl Drop for Shared {
             .get_mut()
             .unwrap_or_else(PoisonError::into_inner);
         // SAFETY: nobody else has the handle, since each pass has a share of it.
-        let code = unsafe { raw::csq_free(handle) };
+        let code = unsafe { raw::csq_free_queue(handle) };
         debug_assert_eq!(code, raw::OK);
     }
 }
@@ -88,7 +99,47 @@ impl Queue {
 
     /// How many passes are out.
     pub fn passes_out(&self) -> u32 {
-        passes_out(&mut self.shared.lock())
+        passes_out(&self.shared.lock())
+    }
+
+    /// The first listed IRP of a file object, or of any, in its present life: from the first on, or after this one
+    /// (`CsqPeekNextIrp`). It may be one whose cancel routine a canceller has taken, which is listed until that canceller
+    /// has run it. Another thread may remove it as soon as this is answered. Takes the lock.
+    pub fn peek_next(&self, after: Option<u32>, peek: Peek) -> Result<Option<Irp>, NotListed> {
+        // In C this number stands for the first on; here it is an IRP that isn't listed.
+        if after == Some(raw::ANY) {
+            return Err(NotListed);
+        }
+        let mut irp = RawIrp::default();
+        let handle = self.shared.lock();
+        // SAFETY: the handle is locked.
+        match unsafe {
+            raw::csq_peek_next(&*handle, after.unwrap_or(raw::ANY), file_of(peek), &mut irp)
+        } {
+            raw::OK if peek != Peek::File(raw::ANY) => Ok(Some(Irp::of(irp))),
+            raw::OK | raw::NONE => Ok(None),
+            raw::NOT_LISTED => Err(NotListed),
+            code => unreachable!("csq_peek_next answered {code}"),
+        }
+    }
+
+    /// How many IRPs are listed. Takes the lock.
+    pub fn len(&self) -> u32 {
+        let mut len = 0;
+        // SAFETY: the handle is locked.
+        let code = unsafe { raw::csq_len(&*self.shared.lock(), &mut len) };
+        debug_assert_eq!(code, raw::OK);
+        len
+    }
+
+    /// Whether none is listed. Takes the lock.
+    pub fn is_empty(&self) -> bool {
+        self.len() == 0
+    }
+
+    /// How many IRPs are listed for a file object. Takes the lock.
+    pub fn file_len(&self, file: u32) -> Result<u32, UnknownFile> {
+        self.shared.file_len(file)
     }
 
     /// Closes the queue, once no pass is out.
@@ -103,7 +154,7 @@ impl Queue {
                 })
             }
             raw::PASSES_OUT => {
-                let out = passes_out(&mut handle);
+                let out = passes_out(&handle);
                 drop(handle);
                 Err(PassesOut { queue: self, out })
             }
@@ -113,12 +164,20 @@ impl Queue {
 }
 
 // How many passes of an open queue are out.
-fn passes_out(handle: &mut RawQueue) -> u32 {
+fn passes_out(handle: &RawQueue) -> u32 {
     let mut out = 0;
-    // SAFETY: whoever has the handle so has it alone.
-    let code = unsafe { raw::csq_passes_out(handle, &mut out) };
+    // SAFETY: whoever has the handle so has the lock.
+    let code = unsafe { raw::csq_count_passes_out(handle, &mut out) };
     debug_assert_eq!(code, raw::OK);
     out
+}
+
+/// A file object as C is told of it.
+pub(crate) fn file_of(peek: Peek) -> u32 {
+    match peek {
+        Peek::Any => raw::ANY,
+        Peek::File(file) => file,
+    }
 }
 
 /// A queue that was closed. It tells what is left.
@@ -145,7 +204,7 @@ impl Closed {
     pub fn irp(&self, irp: u32) -> Option<Left> {
         let mut left = RawLeft::default();
         // SAFETY: the handle is locked.
-        let code = unsafe { raw::csq_left(&mut *self.shared.lock(), irp, &mut left) };
+        let code = unsafe { raw::csq_read_left(&*self.shared.lock(), irp, &mut left) };
         (code == raw::OK).then(|| Left {
             life: left.life,
             cancelled: left.cancelled == 1,
@@ -169,7 +228,7 @@ impl Iterator for Listed<'_> {
         let mut irp = 0;
         let after = self.after?;
         // SAFETY: the handle is locked.
-        let code = unsafe { raw::csq_next_listed(&mut *self.queue.shared.lock(), after, &mut irp) };
+        let code = unsafe { raw::csq_read_listed(&*self.queue.shared.lock(), after, &mut irp) };
         self.after = (code == raw::OK).then_some(irp);
         self.after
     }

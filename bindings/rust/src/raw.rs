@@ -20,6 +20,7 @@ pub(crate) const NO_PASS: u32 = 18;
 pub(crate) const BAD_SIZE: u32 = 19;
 pub(crate) const NO_MEMORY: u32 = 20;
 pub(crate) const EMPTY_HANDLE: u32 = 21;
+pub(crate) const NOT_LISTED: u32 = 23;
 
 /// In the place of a file object or of a listed IRP: any.
 pub(crate) const ANY: u32 = u32::MAX;
@@ -68,14 +69,15 @@ extern "C" {
         file_limits: *const u32,
         count: usize,
     ) -> u32;
-    pub(crate) fn csq_free(queue: *mut RawQueue) -> u32;
-    pub(crate) fn csq_passes_out(queue: *mut RawQueue, out: *mut u32) -> u32;
+    pub(crate) fn csq_free_queue(queue: *mut RawQueue) -> u32;
+    pub(crate) fn csq_count_passes_out(queue: *const RawQueue, out: *mut u32) -> u32;
     pub(crate) fn csq_close(queue: *mut RawQueue) -> u32;
-    pub(crate) fn csq_next_listed(queue: *mut RawQueue, after: u32, irp: *mut u32) -> u32;
-    pub(crate) fn csq_left(queue: *mut RawQueue, irp: u32, left: *mut RawLeft) -> u32;
-    pub(crate) fn csq_pass(queue: *mut RawQueue, pass: *mut RawPass) -> u32;
+    pub(crate) fn csq_read_listed(queue: *const RawQueue, after: u32, irp: *mut u32) -> u32;
+    pub(crate) fn csq_read_left(queue: *const RawQueue, irp: u32, left: *mut RawLeft) -> u32;
+    pub(crate) fn csq_version() -> u32;
+    pub(crate) fn csq_take_pass(queue: *mut RawQueue, pass: *mut RawPass) -> u32;
     pub(crate) fn csq_give_back(queue: *mut RawQueue, pass: *mut RawPass) -> u32;
-    pub(crate) fn csq_holding(pass: *mut RawPass, held: *mut u32, owed: *mut u32) -> u32;
+    pub(crate) fn csq_count_held(pass: *const RawPass, held: *mut u32, owed: *mut u32) -> u32;
     pub(crate) fn csq_insert(
         queue: *mut RawQueue,
         pass: *mut RawPass,
@@ -91,30 +93,47 @@ extern "C" {
         irp: *mut RawIrp,
     ) -> u32;
     pub(crate) fn csq_remove(queue: *mut RawQueue, pass: *mut RawPass, irp: RawIrp) -> u32;
-    pub(crate) fn csq_cancel_routine(queue: *mut RawQueue, pass: *mut RawPass, irp: u32) -> u32;
+    pub(crate) fn csq_cancel_routine(queue: *mut RawQueue, pass: *mut RawPass, irp: RawIrp) -> u32;
+    pub(crate) fn csq_cancel_owed(queue: *mut RawQueue, pass: *mut RawPass, irp: RawIrp) -> u32;
     pub(crate) fn csq_close_file(queue: *mut RawQueue, pass: *mut RawPass, file: u32) -> u32;
     pub(crate) fn csq_reuse(
         queue: *mut RawQueue,
         pass: *mut RawPass,
-        irp: u32,
+        irp: RawIrp,
         life: *mut u32,
     ) -> u32;
+    pub(crate) fn csq_peek_next(
+        queue: *const RawQueue,
+        after: u32,
+        file: u32,
+        irp: *mut RawIrp,
+    ) -> u32;
+    pub(crate) fn csq_len(queue: *const RawQueue, len: *mut u32) -> u32;
+    pub(crate) fn csq_file_len(queue: *const RawQueue, file: u32, len: *mut u32) -> u32;
     pub(crate) fn csq_mark_cancel(pass: *mut RawPass, irp: RawIrp, found: *mut u32) -> u32;
-    pub(crate) fn csq_complete(pass: *mut RawPass, irp: u32, status: u32) -> u32;
-    pub(crate) fn csq_complete_cancelled(pass: *mut RawPass, irp: u32) -> u32;
-    pub(crate) fn csq_is_cancelled(
+    pub(crate) fn csq_complete(pass: *mut RawPass, irp: RawIrp, status: u32) -> u32;
+    pub(crate) fn csq_complete_cancelled(pass: *mut RawPass, irp: RawIrp) -> u32;
+    pub(crate) fn csq_read_cancel(
         pass: *mut RawPass,
         irp: u32,
         life: *mut u32,
         cancelled: *mut u32,
     ) -> u32;
-    pub(crate) fn csq_status(pass: *mut RawPass, irp: u32, life: *mut u32, status: *mut u32)
-        -> u32;
+    pub(crate) fn csq_read_status(
+        pass: *mut RawPass,
+        irp: u32,
+        life: *mut u32,
+        status: *mut u32,
+    ) -> u32;
 }
 
 #[cfg(test)]
 mod tests {
     use super::*;
+    use std::ptr::null_mut;
+
+    // A pass has a share of its queue in this crate, so no call meets this code but here.
+    const OTHER_QUEUE: u32 = 26;
 
     // The C header, which stands in the repository and not in the package: `tests/documents.rs`, which isn't in the
     // package either, asks for it.
@@ -153,6 +172,8 @@ mod tests {
             ("CSQ_BAD_SIZE", BAD_SIZE),
             ("CSQ_NO_MEMORY", NO_MEMORY),
             ("CSQ_EMPTY_HANDLE", EMPTY_HANDLE),
+            ("CSQ_NOT_LISTED", NOT_LISTED),
+            ("CSQ_OTHER_QUEUE", OTHER_QUEUE),
         ];
         if let Some(header) = header() {
             for (name, code) in codes {
@@ -170,6 +191,37 @@ mod tests {
         assert_eq!(size.raw().list, 0);
         let list = crate::List::Chains;
         assert_eq!(crate::Size { list, ..size }.raw().list, 1);
+    }
+
+    fn queue_and_pass() -> (RawQueue, RawPass) {
+        let mut queue = RawQueue { at: null_mut() };
+        let mut pass = RawPass { at: null_mut() };
+        // SAFETY: the handles are empty, and the pointers valid.
+        unsafe {
+            assert_eq!(csq_new(&mut queue, &crate::Size::new(1, 1, 1).raw()), OK);
+            assert_eq!(csq_take_pass(&mut queue, &mut pass), OK);
+        }
+        (queue, pass)
+    }
+
+    #[test]
+    #[cfg_attr(miri, ignore)]
+    fn a_pass_of_another_queue_is_refused() {
+        let (mut queue, mut pass) = queue_and_pass();
+        let (mut other, mut its_pass) = queue_and_pass();
+        let mut irp = RawIrp::default();
+        // SAFETY: the handles are filled, and this thread alone has them.
+        unsafe {
+            let code = csq_insert(&mut other, &mut pass, 9, 9, 0, &mut irp);
+            assert_eq!(code, OTHER_QUEUE);
+            assert_eq!(csq_give_back(&mut queue, &mut its_pass), OTHER_QUEUE);
+            assert_eq!(csq_give_back(&mut queue, &mut pass), OK);
+            assert_eq!(csq_give_back(&mut other, &mut its_pass), OK);
+            assert_eq!(csq_free_queue(&mut queue), OK);
+            assert_eq!(csq_free_queue(&mut other), OK);
+            // An empty handle is freed, as null is by `free`.
+            assert_eq!(csq_free_queue(&mut other), OK);
+        }
     }
 
     #[test]

@@ -7,7 +7,7 @@ mod slots;
 pub use pass::RequestPass;
 pub use request::{Request, RequestId};
 
-use crate::errors::{NewError, PassError, PassesOut};
+use crate::errors::{NewError, PassError, PassesOut, UnknownFile};
 use crate::queue::Queue;
 use crate::words::Size;
 use slots::Slots;
@@ -115,6 +115,21 @@ impl<T> Requests<T> {
     /// How many passes are out.
     pub fn passes_out(&self) -> u32 {
         self.queue.passes_out()
+    }
+
+    /// How many requests are listed. Takes the lock.
+    pub fn len(&self) -> u32 {
+        self.queue.len()
+    }
+
+    /// Whether none is listed. Takes the lock.
+    pub fn is_empty(&self) -> bool {
+        self.queue.is_empty()
+    }
+
+    /// How many requests are listed for a file object. Takes the lock.
+    pub fn file_len(&self, file: u32) -> Result<u32, UnknownFile> {
+        self.queue.file_len(file)
     }
 
     /// Closes the queue, once no pass is out, and hands over the values that are still listed, in the list's order.

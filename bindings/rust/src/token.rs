@@ -95,8 +95,7 @@ impl<'pass> Claim<'pass> {
 
 impl Drop for Claim<'_> {
     fn drop(&mut self) {
-        self.pass.cancel_routine(self.irp);
-        self.pass.complete_cancelled(self.irp);
+        self.pass.cancel_owed(self.irp);
     }
 }
 

@@ -104,8 +104,11 @@ fn refusals_tell_their_causes() {
         assert_eq!(pass.cancel(stale), Err(CancelError::Stale));
         assert_eq!(pass.is_cancelled(4), Err(UnknownIrp));
         assert_eq!(pass.status(4), Err(UnknownIrp));
-        assert_eq!(pass.reuse(4), Err(ReuseError::UnknownIrp));
-        assert_eq!(pass.reuse(0), Err(ReuseError::NotCompleted));
+        assert_eq!(pass.drain(Peek::File(3)), Err(UnknownFile));
+        assert_eq!(pass.reuse(unknown), Err(ReuseError::UnknownIrp));
+        assert_eq!(pass.reuse(stale), Err(ReuseError::Stale));
+        let first = Irp { irp: 0, life: 0 };
+        assert_eq!(pass.reuse(first), Err(ReuseError::NotCompleted));
         assert_eq!(pass.cleanup(0), Ok(1));
         assert_eq!(pass.cleanup(1), Ok(1));
         assert_eq!(pass.cleanup(1), Ok(0));
@@ -153,7 +156,11 @@ fn a_completed_irp_is_used_again() {
             pass.remove_next(Peek::Any)
                 .unwrap()
                 .complete(FinalStatus::SUCCESS);
-            let answer = pass.reuse(0);
+            let others = [life - 1, life + 1].map(|life| Irp { irp: 0, life });
+            for other in others {
+                assert_eq!(pass.reuse(other), Err(ReuseError::Stale));
+            }
+            let answer = pass.reuse(context);
             if life == LAST_LIFE {
                 assert_eq!(answer, Err(ReuseError::LivesSpent));
                 assert_eq!(pass.cancel(context), Ok(false));

@@ -56,7 +56,9 @@ fn serve(pass: &Pass, completed: &Completed, seed: u32) {
                 token.complete(FinalStatus::SUCCESS);
             }
         }
-        let _ = pass.reuse(pick(&mut state, IRPS));
+        let irp = pick(&mut state, IRPS);
+        let (life, _) = pass.is_cancelled(irp).unwrap();
+        let _ = pass.reuse(Irp { irp, life });
     }
 }
 

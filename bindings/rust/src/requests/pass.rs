@@ -84,7 +84,7 @@ impl<T> RequestPass<T> {
         let mut number = unsafe { Number::given_out(token.irp()) };
         let value = self.take_value(&mut number);
         token.complete();
-        self.release(number);
+        self.release(request.irp, number);
         Ok(value)
     }
 
@@ -92,14 +92,29 @@ impl<T> RequestPass<T> {
     /// the list's order. What a canceller has is left to that canceller. The lock is free between two of them.
     pub fn cleanup(&self, file: u32) -> Result<Vec<T>, UnknownFile> {
         self.pass.close_file(file)?;
-        let listed = std::iter::from_fn(|| self.next(Peek::File(file)));
-        Ok(listed.map(Request::cancelled).collect())
+        Ok(self.cancel_listed(Peek::File(file)))
+    }
+
+    /// Cancels each request that is listed for a file object, or for any, and hands their values over, in the list's
+    /// order. The file object stays open, so this may go on for as long as others submit. What a canceller has is left to
+    /// that canceller. The lock is free between two of them.
+    pub fn drain(&self, peek: Peek) -> Result<Vec<T>, UnknownFile> {
+        if let Peek::File(file) = peek {
+            self.pass.file_len(file)?;
+        }
+        Ok(self.cancel_listed(peek))
+    }
+
+    fn cancel_listed(&self, peek: Peek) -> Vec<T> {
+        let listed = std::iter::from_fn(|| self.next(peek));
+        listed.map(Request::cancelled).collect()
     }
 
     /// Completes a request that this pass took, and makes its number free.
     pub(super) fn complete(&self, token: Removed<'_>, number: Number, status: FinalStatus) {
+        let irp = token.irp();
         token.complete(status);
-        self.release(number);
+        self.release(irp, number);
     }
 
     /// Whether a cancel named this request, in its life.
@@ -124,8 +139,8 @@ impl<T> RequestPass<T> {
     }
 
     // Begins the next life of an IRP that this pass completed.
-    fn release(&self, number: Number) {
-        match self.pass.reuse(number.irp()) {
+    fn release(&self, irp: Irp, number: Number) {
+        match self.pass.reuse(irp) {
             Ok(_) => self.shared.slots.put_number(number),
             Err(cause) => {
                 debug_assert_eq!(cause, ReuseError::LivesSpent);
