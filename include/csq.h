@@ -162,14 +162,18 @@ enum { CSQ_MOST_IRPS = 1024, CSQ_MOST_FILES = 256, CSQ_MOST_PASSES = 64, CSQ_LAS
 #define CSQ_STATUS_CANCELLED UINT32_C(0xC0000120)
 #define CSQ_STATUS_FILE_CLOSED UINT32_C(0xC0000128)
 
-/* The handles, and what an empty one begins as: struct csq_queue queue = CSQ_EMPTY; */
+/* The handles, and what an empty one begins as: struct csq_queue queue = CSQ_EMPTY; Each queue has a number, drawn at
+ * random by csq_new (from the system's getentropy), and a pass has its queue's: by these the library knows a pass of
+ * another queue. */
 struct csq_queue {
     void *at;
+    uint64_t number;
 };
 struct csq_pass {
     void *at;
+    uint64_t queue;
 };
-#define CSQ_EMPTY { 0 }
+#define CSQ_EMPTY { 0, 0 }
 
 /* An IRP in one of its lives. From an insert it is the insert context (IO_CSQ_IRP_CONTEXT). */
 struct csq_irp {

@@ -123,7 +123,7 @@ int main(void) {
         named++;
     }
     int fits = named == CSQ_OTHER_QUEUE + 1 && sizeof(struct csq_irp) == 8 && sizeof(struct csq_size) == 24 &&
-               sizeof(struct csq_left) == 16 && sizeof queue == sizeof(void *) && sizeof pass == sizeof(void *);
+               sizeof(struct csq_left) == 16 && sizeof queue == 16 && sizeof pass == 16;
     tell("the_header_names_what_is_there", fits && way() == 0);
     tell("each_code_has_its_name", names_are_right(named));
     tell("an_insert_has_its_status", insert_statuses_are_right());

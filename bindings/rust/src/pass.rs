@@ -9,7 +9,6 @@ use crate::token::{Cancelled, Claim, Inserted, Removed};
 use crate::words::{FinalStatus, Irp, Peek, Place};
 use std::cell::UnsafeCell;
 use std::fmt;
-use std::ptr;
 use std::sync::Arc;
 
 /// A pass of a queue, through which one thread at a time makes its calls. It has a share of its queue, so it can be
@@ -35,9 +34,7 @@ impl fmt::Debug for Pass {
 
 impl Pass {
     pub(crate) fn of(shared: &Arc<Shared>) -> Result<Pass, PassError> {
-        let mut handle = RawPass {
-            at: ptr::null_mut(),
-        };
+        let mut handle = RawPass::EMPTY;
         // SAFETY: the queue is locked, and the pass's handle is empty.
         let code = unsafe { raw::csq_take_pass(&mut *shared.lock(), &mut handle) };
         match code {

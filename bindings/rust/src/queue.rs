@@ -5,7 +5,6 @@ use crate::pass::Pass;
 use crate::raw::{self, RawIrp, RawLeft, RawQueue};
 use crate::words::{FinalStatus, Irp, Left, Peek, Size};
 use std::fmt;
-use std::ptr;
 use std::sync::{Arc, Mutex, MutexGuard, PoisonError};
 
 // SAFETY: the library lets a queue go from one thread to another; it keeps nothing of the thread.
@@ -76,9 +75,7 @@ impl Queue {
     }
 
     fn made(size: &Size, make: impl FnOnce(&mut RawQueue) -> u32) -> Result<Queue, NewError> {
-        let mut handle = RawQueue {
-            at: ptr::null_mut(),
-        };
+        let mut handle = RawQueue::EMPTY;
         match make(&mut handle) {
             raw::OK => Ok(Queue {
                 shared: Arc::new(Shared {

@@ -1,6 +1,7 @@
 //! What `include/csq.h` declares, written again by hand.
 
 use std::os::raw::c_void;
+use std::ptr::null_mut;
 
 pub(crate) const OK: u32 = 0;
 pub(crate) const UNKNOWN_IRP: u32 = 1;
@@ -28,11 +29,29 @@ pub(crate) const ANY: u32 = u32::MAX;
 #[repr(C)]
 pub(crate) struct RawQueue {
     pub(crate) at: *mut c_void,
+    number: u64,
 }
 
 #[repr(C)]
 pub(crate) struct RawPass {
     pub(crate) at: *mut c_void,
+    queue: u64,
+}
+
+impl RawQueue {
+    /// An empty handle.
+    pub(crate) const EMPTY: RawQueue = RawQueue {
+        at: null_mut(),
+        number: 0,
+    };
+}
+
+impl RawPass {
+    /// An empty handle.
+    pub(crate) const EMPTY: RawPass = RawPass {
+        at: null_mut(),
+        queue: 0,
+    };
 }
 
 #[repr(C)]
@@ -130,7 +149,6 @@ extern "C" {
 #[cfg(test)]
 mod tests {
     use super::*;
-    use std::ptr::null_mut;
 
     // A pass has a share of its queue in this crate, so no call meets this code but here.
     const OTHER_QUEUE: u32 = 26;
@@ -194,8 +212,7 @@ mod tests {
     }
 
     fn queue_and_pass() -> (RawQueue, RawPass) {
-        let mut queue = RawQueue { at: null_mut() };
-        let mut pass = RawPass { at: null_mut() };
+        let (mut queue, mut pass) = (RawQueue::EMPTY, RawPass::EMPTY);
         // SAFETY: the handles are empty, and the pointers valid.
         unsafe {
             assert_eq!(csq_new(&mut queue, &crate::Size::new(1, 1, 1).raw()), OK);
@@ -229,10 +246,7 @@ mod tests {
         assert_eq!(std::mem::size_of::<RawIrp>(), 8);
         assert_eq!(std::mem::size_of::<RawSize>(), 24);
         assert_eq!(std::mem::size_of::<RawLeft>(), 16);
-        assert_eq!(
-            std::mem::size_of::<RawQueue>(),
-            std::mem::size_of::<usize>()
-        );
-        assert_eq!(std::mem::size_of::<RawPass>(), std::mem::size_of::<usize>());
+        assert_eq!(std::mem::size_of::<RawQueue>(), 16);
+        assert_eq!(std::mem::size_of::<RawPass>(), 16);
     }
 }

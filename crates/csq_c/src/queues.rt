@@ -105,7 +105,7 @@ pub extern "C" fn csq_new_with_file_limits(
 /// Frees a queue, open or closed: CSQ_OK, and the handle is empty, also where it was, else
 /// CSQ_PASSES_OUT where a pass is out. Own rule, as `free` of null.
 #[unsafe(no_mangle)]
-pub extern "C" fn csq_free(alloc: Global, queue: &mut CsqQueue) -> u32
+pub extern "C" fn csq_free_queue(alloc: Global, queue: &mut CsqQueue) -> u32
     ensures code { result ≡ number_of (free_code queue.old.boxed.body) }
     ensures freed { result ≡ number_of Code.Done → queue.new.boxed.body ≡ None }
     ensures kept { 0 < result → IsQueueKept queue.old queue.new }

@@ -24,7 +24,8 @@ use std::marker::Model;
 use std::sync::Arc;
 
 /// A queue without a lock of its own: whoever has it makes one call at a time of those that take it. A
-/// contract sees it as it sees an open queue, with the number of passes that are left. Own rule.
+/// contract sees it as it sees an open queue, with the number of passes that are left, and those that
+/// are idle since they came back. Own rule.
 #[derive(Drop)]
 pub struct CheckedQueue {
     pub(crate) words: Arc<Words>,

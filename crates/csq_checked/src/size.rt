@@ -46,7 +46,7 @@ pub enum NewRefused {
 /// Why no pass is handed out, in the order in which the causes are tested. Own rule.
 #[derive(Clone, Copy, Debug, PartialEq, Eq)]
 pub enum PassRefused {
-    /// All passes were handed out.
+    /// All passes are out.
     NoPass,
     /// Memory that the pass needs was refused. It can still be handed out.
     Memory,
