@@ -125,7 +125,7 @@ enum csq_code {
     CSQ_HOLDING = 16,
     /* Passes are out: handed out, and not given back. */
     CSQ_PASSES_OUT = 17,
-    /* All passes of the queue were handed out. */
+    /* All passes of the queue are out. */
     CSQ_NO_PASS = 18,
     /* A number is out of its range. */
     CSQ_BAD_SIZE = 19,
@@ -162,9 +162,8 @@ enum { CSQ_MOST_IRPS = 1024, CSQ_MOST_FILES = 256, CSQ_MOST_PASSES = 64, CSQ_LAS
 #define CSQ_STATUS_CANCELLED UINT32_C(0xC0000120)
 #define CSQ_STATUS_FILE_CLOSED UINT32_C(0xC0000128)
 
-/* The handles, and what an empty one begins as: struct csq_queue queue = CSQ_EMPTY; Each queue has a number, drawn at
- * random by csq_new (from the system's getentropy), and a pass has its queue's: by these the library knows a pass of
- * another queue. */
+/* The handles, and what an empty one begins as: struct csq_queue queue = CSQ_EMPTY; A queue's number is the address of
+ * what it points to, and a pass has its queue's number: by these the library knows a pass of another queue. */
 struct csq_queue {
     void *at;
     uint64_t number;
@@ -201,14 +200,32 @@ struct csq_left {
 
 /* ---- A queue's beginning and end ---- */
 
+/* The library's halves of csq_new and csq_new_with_file_limits, which call them and give the queue its number: for these
+ * two alone to call, and for bindings to other languages, which do as they do. */
+CSQ_NODISCARD uint32_t csq_new_queue(struct csq_queue *queue, const struct csq_size *size);
+CSQ_NODISCARD uint32_t csq_new_queue_with_file_limits(struct csq_queue *queue, const struct csq_size *size,
+                                                      const uint32_t *file_limits, size_t count);
+
 /* Makes a queue, as IoCsqInitializeEx does: no IRP is used, and each file object is open.
  * CSQ_NOT_EMPTY; CSQ_BAD_SIZE; CSQ_NO_MEMORY. Lock: not needed, for no other thread knows the queue yet. */
-CSQ_NODISCARD uint32_t csq_new(struct csq_queue *queue, const struct csq_size *size);
+CSQ_NODISCARD static inline uint32_t csq_new(struct csq_queue *queue, const struct csq_size *size) {
+    uint32_t code = csq_new_queue(queue, size);
+    if (code == CSQ_OK) {
+        queue->number = (uint64_t)(uintptr_t)queue->at;
+    }
+    return code;
+}
 
 /* csq_new, with a limit for each file object: how many IRPs may be listed for it at a time, 1 to irps. There are
  * `count` limits, as many as file objects. CSQ_NOT_EMPTY; CSQ_BAD_SIZE; CSQ_NO_MEMORY. Lock: not needed. */
-CSQ_NODISCARD uint32_t csq_new_with_file_limits(struct csq_queue *queue, const struct csq_size *size,
-                                                const uint32_t *file_limits, size_t count);
+CSQ_NODISCARD static inline uint32_t csq_new_with_file_limits(struct csq_queue *queue, const struct csq_size *size,
+                                                              const uint32_t *file_limits, size_t count) {
+    uint32_t code = csq_new_queue_with_file_limits(queue, size, file_limits, count);
+    if (code == CSQ_OK) {
+        queue->number = (uint64_t)(uintptr_t)queue->at;
+    }
+    return code;
+}
 
 /* Frees a queue, closed or not and whatever is left in it, once no pass is out. The handle is empty then. Of an empty
  * handle CSQ_OK, as free(NULL) has it.
@@ -244,8 +261,8 @@ uint32_t csq_version(void);
 
 /* ---- Passes ---- */
 
-/* Hands out the queue's next pass, which holds and owes nothing. One that was given back isn't handed out again.
- * After CSQ_NO_MEMORY the same pass can be asked for again.
+/* Hands out a pass, which holds and owes nothing: one that was given back, if there is one, else a new one. After
+ * CSQ_NO_MEMORY it can be asked for again.
  * CSQ_EMPTY_HANDLE; CSQ_NOT_EMPTY; CSQ_CLOSED; CSQ_NO_PASS; CSQ_NO_MEMORY. Lock: held. */
 CSQ_NODISCARD uint32_t csq_take_pass(struct csq_queue *queue, struct csq_pass *pass);
 

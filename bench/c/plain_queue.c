@@ -23,6 +23,8 @@ struct queue {
     uint32_t passes;
     uint32_t handed_out;
     uint32_t out;
+    /* The passes that came back, the latest first. */
+    struct pass *idle;
     bool closed;
 };
 
@@ -36,6 +38,7 @@ struct slot {
 struct pass {
     /* The queue that handed it out, which outlives it. */
     struct queue *of;
+    struct pass *next_idle;
     word *words;
     struct slot *slots;
     uint32_t irps;
@@ -89,7 +92,17 @@ static bool are_limits(const struct csq_size *size, const uint32_t *file_limits,
     return true;
 }
 
+static void free_pass(struct pass *by) {
+    free(by->slots);
+    free(by);
+}
+
 static void free_queue(struct queue *made) {
+    while (made->idle) {
+        struct pass *by = made->idle;
+        made->idle = by->next_idle;
+        free_pass(by);
+    }
     plain_list_free(&made->list);
     free(made->words);
     free(made->lives);
@@ -123,15 +136,15 @@ static uint32_t make(struct csq_queue *queue, const struct csq_size *size, const
     return CSQ_OK;
 }
 
-uint32_t csq_new(struct csq_queue *queue, const struct csq_size *size) {
+uint32_t csq_new_queue(struct csq_queue *queue, const struct csq_size *size) {
     if (queue->at) {
         return CSQ_NOT_EMPTY;
     }
     return is_size(size) ? make(queue, size, NULL) : CSQ_BAD_SIZE;
 }
 
-uint32_t csq_new_with_file_limits(struct csq_queue *queue, const struct csq_size *size, const uint32_t *file_limits,
-                                  size_t count) {
+uint32_t csq_new_queue_with_file_limits(struct csq_queue *queue, const struct csq_size *size,
+                                        const uint32_t *file_limits, size_t count) {
     if (queue->at) {
         return CSQ_NOT_EMPTY;
     }
@@ -229,6 +242,20 @@ uint32_t csq_read_left(const struct csq_queue *queue, uint32_t irp, struct csq_l
 
 /* ---- Passes ---- */
 
+/* A new pass, which counts as handed out. NULL for want of memory. */
+static struct pass *new_pass(struct queue *at) {
+    struct pass *made = malloc(sizeof *made);
+    struct slot *slots = calloc(at->irps, sizeof *slots);
+    if (!made || !slots) {
+        free(made);
+        free(slots);
+        return NULL;
+    }
+    *made = (struct pass){ .of = at, .words = at->words, .slots = slots, .irps = at->irps };
+    at->handed_out++;
+    return made;
+}
+
 uint32_t csq_take_pass(struct csq_queue *queue, struct csq_pass *pass) {
     struct queue *at = queue_in(queue);
     if (!at) {
@@ -240,21 +267,21 @@ uint32_t csq_take_pass(struct csq_queue *queue, struct csq_pass *pass) {
     if (at->closed) {
         return CSQ_CLOSED;
     }
-    if (at->handed_out == at->passes) {
+    struct pass *by = at->idle;
+    if (by) {
+        at->idle = by->next_idle;
+    } else if (at->handed_out == at->passes) {
         return CSQ_NO_PASS;
-    }
-    struct pass *made = malloc(sizeof *made);
-    struct slot *slots = calloc(at->irps, sizeof *slots);
-    if (!made || !slots) {
-        free(made);
-        free(slots);
+    } else if (!(by = new_pass(at))) {
         return CSQ_NO_MEMORY;
     }
-    *made = (struct pass){ .of = at, .words = at->words, .slots = slots, .irps = at->irps };
-    at->handed_out++;
     at->out++;
-    pass->at = made;
+    pass->at = by;
     return CSQ_OK;
+}
+
+static uint32_t is_spent(const struct pass *by) {
+    return by->held > 0 || by->owed > 0 ? CSQ_HOLDING : CSQ_OK;
 }
 
 uint32_t csq_abandon_pass(struct csq_pass *pass) {
@@ -262,13 +289,12 @@ uint32_t csq_abandon_pass(struct csq_pass *pass) {
     if (!by) {
         return CSQ_EMPTY_HANDLE;
     }
-    if (by->held > 0 || by->owed > 0) {
-        return CSQ_HOLDING;
+    uint32_t code = is_spent(by);
+    if (code == CSQ_OK) {
+        free_pass(by);
+        pass->at = NULL;
     }
-    free(by->slots);
-    free(by);
-    pass->at = NULL;
-    return CSQ_OK;
+    return code;
 }
 
 /* Whether both handles are filled, and the pass is this queue's, which is open then. */
@@ -282,12 +308,17 @@ static uint32_t may_call(struct csq_queue *queue, struct csq_pass *pass) {
 
 uint32_t csq_give_back(struct csq_queue *queue, struct csq_pass *pass) {
     struct queue *at = queue_in(queue);
+    struct pass *by = pass->at;
     uint32_t code = may_call(queue, pass);
-    if (code != CSQ_OK) {
-        return code;
+    if (code == CSQ_OK) {
+        code = is_spent(by);
     }
-    code = csq_abandon_pass(pass);
-    at->out -= code == CSQ_OK;
+    if (code == CSQ_OK) {
+        by->next_idle = at->idle;
+        at->idle = by;
+        at->out--;
+        pass->at = NULL;
+    }
     return code;
 }
 

@@ -163,7 +163,7 @@ static void closes_a_file_object_for_good(uint32_t list) {
     end(&device);
 }
 
-static void hands_each_pass_out_once(void) {
+static void hands_a_pass_out_again_once_it_is_back(void) {
     struct csq_size size = { 2, 1, 2, 2, 0, CSQ_VECTOR };
     struct csq_queue queue = CSQ_EMPTY;
     struct csq_pass one = CSQ_EMPTY, two = CSQ_EMPTY, three = CSQ_EMPTY;
@@ -177,10 +177,16 @@ static void hands_each_pass_out_once(void) {
     IS(csq_take_pass(&queue, &two), CSQ_OK);
     IS(csq_count_passes_out(&queue, &out), CSQ_OK);
     IS(out, 1);
+    IS(csq_take_pass(&queue, &one), CSQ_OK);
     IS(csq_take_pass(&queue, &three), CSQ_NO_PASS);
+    CHECK(three.at == NULL);
     IS(csq_free(&queue), CSQ_PASSES_OUT);
     IS(csq_give_back(&queue, &two), CSQ_OK);
-    IS(csq_take_pass(&queue, &three), CSQ_NO_PASS);
+    IS(csq_take_pass(&queue, &three), CSQ_OK);
+    IS(csq_count_passes_out(&queue, &out), CSQ_OK);
+    IS(out, 2);
+    IS(csq_give_back(&queue, &one), CSQ_OK);
+    IS(csq_give_back(&queue, &three), CSQ_OK);
     IS(csq_count_passes_out(&queue, &out), CSQ_OK);
     IS(out, 0);
     IS(csq_free(&queue), CSQ_OK);
@@ -221,7 +227,7 @@ int main(void) {
     RUN_BOTH(completes_with_any_final_status);
     RUN_BOTH(counts_what_a_pass_holds_and_owes);
     RUN_BOTH(closes_a_file_object_for_good);
-    RUN(hands_each_pass_out_once);
+    RUN(hands_a_pass_out_again_once_it_is_back);
     RUN(frees_a_pass_that_stays_out);
     return DONE();
 }

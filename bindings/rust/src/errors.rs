@@ -37,14 +37,14 @@ refusal!(NewError {
 /// Why no pass is handed out, in the order in which the causes are tested.
 #[derive(Clone, Copy, Debug, PartialEq, Eq, Hash)]
 pub enum PassError {
-    /// All passes of the queue were handed out.
+    /// All passes of the queue are out.
     NoPass,
     /// Memory was refused. The pass can be asked for again.
     NoMemory,
 }
 
 refusal!(PassError {
-    NoPass => "all passes were handed out",
+    NoPass => "all passes are out",
     NoMemory => "memory was refused",
 });
 

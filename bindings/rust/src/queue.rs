@@ -61,7 +61,9 @@ impl Queue {
     /// A queue of this size.
     pub fn new(size: &Size) -> Result<Queue, NewError> {
         // SAFETY: the handle is empty, and both pointers are valid.
-        Queue::made(size, |queue| unsafe { raw::csq_new(queue, &size.raw()) })
+        Queue::made(size, |queue| unsafe {
+            raw::csq_new_queue(queue, &size.raw())
+        })
     }
 
     /// A queue of this size, each file object with a limit of its own: how many IRPs may be listed for it at a time, 1
@@ -70,26 +72,30 @@ impl Queue {
         let (limits, count) = (file_limits.as_ptr(), file_limits.len());
         // SAFETY: the handle is empty, the pointers are valid, and there are so many limits.
         Queue::made(size, |queue| unsafe {
-            raw::csq_new_with_file_limits(queue, &size.raw(), limits, count)
+            raw::csq_new_queue_with_file_limits(queue, &size.raw(), limits, count)
         })
     }
 
     fn made(size: &Size, make: impl FnOnce(&mut RawQueue) -> u32) -> Result<Queue, NewError> {
         let mut handle = RawQueue::EMPTY;
         match make(&mut handle) {
-            raw::OK => Ok(Queue {
-                shared: Arc::new(Shared {
-                    handle: Mutex::new(handle),
-                    irps: size.irps,
-                }),
-            }),
+            raw::OK => {
+                // As `csq_new` in the header does, by which a pass of another queue is known.
+                handle.number = handle.at as u64;
+                Ok(Queue {
+                    shared: Arc::new(Shared {
+                        handle: Mutex::new(handle),
+                        irps: size.irps,
+                    }),
+                })
+            }
             raw::BAD_SIZE => Err(NewError::BadSize),
             raw::NO_MEMORY => Err(NewError::NoMemory),
             code => unreachable!("csq_new answered {code}"),
         }
     }
 
-    /// The next pass. One that was given back isn't handed out again.
+    /// A pass: one that was given back, if there is one, else a new one. Takes the lock.
     pub fn pass(&self) -> Result<Pass, PassError> {
         Pass::of(&self.shared)
     }

@@ -29,7 +29,7 @@ pub(crate) const ANY: u32 = u32::MAX;
 #[repr(C)]
 pub(crate) struct RawQueue {
     pub(crate) at: *mut c_void,
-    number: u64,
+    pub(crate) number: u64,
 }
 
 #[repr(C)]
@@ -81,8 +81,8 @@ pub(crate) struct RawIrp {
 }
 
 extern "C" {
-    pub(crate) fn csq_new(queue: *mut RawQueue, size: *const RawSize) -> u32;
-    pub(crate) fn csq_new_with_file_limits(
+    pub(crate) fn csq_new_queue(queue: *mut RawQueue, size: *const RawSize) -> u32;
+    pub(crate) fn csq_new_queue_with_file_limits(
         queue: *mut RawQueue,
         size: *const RawSize,
         file_limits: *const u32,
@@ -215,7 +215,9 @@ mod tests {
         let (mut queue, mut pass) = (RawQueue::EMPTY, RawPass::EMPTY);
         // SAFETY: the handles are empty, and the pointers valid.
         unsafe {
-            assert_eq!(csq_new(&mut queue, &crate::Size::new(1, 1, 1).raw()), OK);
+            let size = crate::Size::new(1, 1, 1).raw();
+            assert_eq!(csq_new_queue(&mut queue, &size), OK);
+            queue.number = queue.at as u64;
             assert_eq!(csq_take_pass(&mut queue, &mut pass), OK);
         }
         (queue, pass)

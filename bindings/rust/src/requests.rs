@@ -106,7 +106,7 @@ impl<T> Requests<T> {
         }
     }
 
-    /// The next pass. One that was given back isn't handed out again.
+    /// A pass: one that was given back, if there is one, else a new one. Takes the lock.
     pub fn pass(&self) -> Result<RequestPass<T>, PassError> {
         let pass = self.queue.pass()?;
         Ok(RequestPass::new(Arc::clone(&self.shared), pass))

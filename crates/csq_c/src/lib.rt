@@ -9,7 +9,6 @@ mod hold;
 mod left;
 mod locked;
 mod looks;
-mod numbers;
 mod passes;
 mod queues;
 mod shapes;

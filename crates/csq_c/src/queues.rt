@@ -13,7 +13,6 @@ use crate::body::QueueBody;
 use crate::codes::Code;
 use crate::handles::CsqQueue;
 use crate::hold::{put, take};
-use crate::numbers::fresh;
 use crate::shapes::{CsqSize, write};
 use csq_checked::{CheckedQueue, NewRefused};
 use std::alloc::Global;
@@ -45,9 +44,10 @@ fn made_with(alloc: Global, size: &CsqSize, file_limits: &[u32]) -> Result<Check
 }
 
 /// Makes a queue of this size, whose file objects have no limit of their own: CSQ_OK, else
-/// CSQ_NOT_EMPTY, CSQ_BAD_SIZE or CSQ_NO_MEMORY. As `IoCsqInitializeEx`.
+/// CSQ_NOT_EMPTY, CSQ_BAD_SIZE or CSQ_NO_MEMORY. Its number is left to the caller: csq.h gives it the
+/// address that the handle has then. As `IoCsqInitializeEx`.
 #[unsafe(no_mangle)]
-pub extern "C" fn csq_new(alloc: Global, queue: &mut CsqQueue, size: &CsqSize) -> u32
+pub extern "C" fn csq_new_queue(alloc: Global, queue: &mut CsqQueue, size: &CsqSize) -> u32
     ensures filled { (result ≡ number_of Code.NotEmpty) ↔ ¬ (queue.old.boxed.body ≡ None) }
     ensures bad_size { queue.old.boxed.body ≡ None → ((result ≡ number_of Code.BadSize)
         ↔ ¬ IsGoodSize size.now) }
@@ -56,6 +56,7 @@ pub extern "C" fn csq_new(alloc: Global, queue: &mut CsqQueue, size: &CsqSize) -
     ensures kept { 0 < result → IsQueueKept queue.old queue.new }
     ensures cause { queue.old.boxed.body ≡ None → (result ≡ number_of Code.Done)
         ⊎ ((result ≡ number_of Code.BadSize) ⊎ (result ≡ number_of Code.NoMemory)) }
+    ensures number { queue.new.number ≡ queue.old.number }
 {
     if queue.boxed.is_filled() {
         return Code::NotEmpty.number();
@@ -64,16 +65,15 @@ pub extern "C" fn csq_new(alloc: Global, queue: &mut CsqQueue, size: &CsqSize) -
         Err(code) => code.number(),
         Ok(body) => {
             put(&mut queue.boxed, body);
-            queue.number = fresh();
             Code::Done.number()
         }
     }
 }
 
-/// Makes a queue of this size, each file object with a limit of its own: as `csq_new`, and 19 also where
-/// the limits aren't one for each file object, each 1 to the number of IRPs.
+/// Makes a queue of this size, each file object with a limit of its own: as `csq_new_queue`, and
+/// CSQ_BAD_SIZE also where the limits aren't one for each file object, each 1 to the number of IRPs.
 #[unsafe(no_mangle)]
-pub extern "C" fn csq_new_with_file_limits(
+pub extern "C" fn csq_new_queue_with_file_limits(
     alloc: Global,
     queue: &mut CsqQueue,
     size: &CsqSize,
@@ -88,6 +88,7 @@ pub extern "C" fn csq_new_with_file_limits(
     ensures kept { 0 < result → IsQueueKept queue.old queue.new }
     ensures cause { queue.old.boxed.body ≡ None → (result ≡ number_of Code.Done)
         ⊎ ((result ≡ number_of Code.BadSize) ⊎ (result ≡ number_of Code.NoMemory)) }
+    ensures number { queue.new.number ≡ queue.old.number }
 {
     if queue.boxed.is_filled() {
         return Code::NotEmpty.number();
@@ -96,7 +97,6 @@ pub extern "C" fn csq_new_with_file_limits(
         Err(code) => code.number(),
         Ok(body) => {
             put(&mut queue.boxed, body);
-            queue.number = fresh();
             Code::Done.number()
         }
     }
