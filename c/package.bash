@@ -66,7 +66,7 @@ csq_link() {
   "$AR" rcsD "$lib/libcsq.a" "$work/csq.o"
   # Calls inside of the library are bound there (-Bsymbolic): what was proved isn't exchanged for a program's own.
   "$CC" -shared -Wl,-soname,"libcsq.so.$major" -Wl,--version-script="$work/csq.map" -Wl,-Bsymbolic -Wl,-z,defs \
-    -Wl,-z,relro,-z,now -Wl,--require-defined=csq_new "$work/csq.o" -o "$lib/libcsq.so.$version" ||
+    -Wl,-z,relro,-z,now -Wl,--require-defined=csq_new_queue "$work/csq.o" -o "$lib/libcsq.so.$version" ||
     csq_refuse "not linked" "the archives aren't a whole library. Name all that csq_library of c/library.bash prints"
   ln -s "libcsq.so.$version" "$lib/libcsq.so.$major"
   ln -s "libcsq.so.$major" "$lib/libcsq.so"

@@ -195,6 +195,28 @@ static void hands_a_pass_out_again_once_it_is_back(void) {
     IS(csq_free(&queue), CSQ_OK);
 }
 
+/* A pass that came back knows nothing of what it did, and does as any other. */
+static void a_pass_that_came_back_goes_on(uint32_t list) {
+    struct device device = device_of(size_of(2, 1, list));
+    struct csq_pass *by = &device.passes[1];
+    uint32_t held = UNWRITTEN, owed = UNWRITTEN;
+    for (uint32_t turn = 0; turn < 100; turn++) {
+        struct csq_irp irp = { UNWRITTEN, UNWRITTEN };
+        uint32_t life = UNWRITTEN;
+        IS(put(&device, 1, turn % 2, 0), CSQ_OK);
+        IS(csq_give_back(&device.queue, by), CSQ_OK);
+        IS(csq_take_pass(&device.queue, by), CSQ_OK);
+        IS(csq_count_held(by, &held, &owed), CSQ_OK);
+        IS(held + owed, 0);
+        IS(csq_remove_next(&device.queue, by, 0, &irp), CSQ_OK);
+        IS(irp.irp, turn % 2);
+        IS(irp.life, turn / 2);
+        IS(csq_complete(by, irp, 0), CSQ_OK);
+        IS(csq_reuse(&device.queue, by, irp, &life), CSQ_OK);
+    }
+    end(&device);
+}
+
 /* Its queue is left as it is: that is what such a pass is for. */
 static void frees_a_pass_that_stays_out(void) {
     static struct csq_queue queue = CSQ_EMPTY;
@@ -228,6 +250,7 @@ int main(void) {
     RUN_BOTH(counts_what_a_pass_holds_and_owes);
     RUN_BOTH(closes_a_file_object_for_good);
     RUN(hands_a_pass_out_again_once_it_is_back);
+    RUN_BOTH(a_pass_that_came_back_goes_on);
     RUN(frees_a_pass_that_stays_out);
     return DONE();
 }

@@ -17,7 +17,7 @@ only_csq() {
   nm -g --defined-only "$lib/libcsq.a" | awk -v version="$version" 'NF == 3 { print $3 "@@" version }' | sort \
     >"$work/static"
   readelf -W --dyn-syms "$lib/libcsq.so" | awk '$5 == "GLOBAL" && $7 ~ /^[0-9]+$/ { print $8 }' | sort >"$work/shared"
-  diff "$work/static" "$work/shared" && grep '^csq_new@' "$work/static" && ! grep -v '^csq_[a-z_]*@' "$work/static"
+  diff "$work/static" "$work/shared" && grep '^csq_new_queue@' "$work/static" && ! grep -v '^csq_[a-z_]*@' "$work/static"
 }
 
 # has_version PREFIX VERSION: the version of csq.h stands in the shared library's names and in what pkg-config reads.

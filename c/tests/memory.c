@@ -144,7 +144,6 @@ static bool try_pass(uint32_t list, unsigned long which, bool later) {
         CHECK(!met || !later);
     }
     IS(csq_give_back(&queue, &pass), CSQ_OK);
-    IS(csq_take_pass(&queue, &pass), CSQ_NO_PASS);
     IS(csq_free(&queue), CSQ_OK);
     return met;
 }

@@ -4,6 +4,7 @@
 
 #include <pthread.h>
 #include <stdatomic.h>
+#include <string.h>
 
 enum { IRPS = 64, FILES = 4, THREADS = CHECK_PASSES };
 
@@ -247,11 +248,61 @@ static void cancels_and_cleanups_complete_each_irp_once(uint32_t list) {
              queues, IRPS, by_cancels, by_cleanups, refused);
 }
 
+/* A thread that lives for one IRP: takes a pass, inserts its IRP, removes one or cancels its own, and gives the pass
+ * back. */
+static void *live_briefly(void *of) {
+    uint32_t irp = *(uint32_t *)of, found = 0;
+    struct csq_pass pass = CSQ_EMPTY;
+    struct csq_irp context = { 0, 0 };
+    struct csq_lock the_lock = { lock, unlock, &mutex };
+    lock(&mutex);
+    fault_unless(csq_take_pass(&device.queue, &pass) == CSQ_OK);
+    fault_unless(csq_insert(&device.queue, &pass, irp, irp % FILES, 0, &context) == CSQ_OK);
+    uint32_t code = irp % 2 ? csq_remove(&device.queue, &pass, context) : (uint32_t)CSQ_NONE;
+    unlock(&mutex);
+    if (code == CSQ_OK) {
+        fault_unless(csq_complete(&pass, context, CSQ_STATUS_SUCCESS) == CSQ_OK);
+    } else {
+        fault_unless(csq_cancel(&device.queue, &pass, context, &the_lock, NULL, &found) == CSQ_OK && found == 1);
+    }
+    lock(&mutex);
+    fault_unless(csq_reuse(&device.queue, &pass, context, &context.life) == CSQ_OK);
+    fault_unless(csq_give_back(&device.queue, &pass) == CSQ_OK);
+    unlock(&mutex);
+    return NULL;
+}
+
+/* Far more threads than passes, of which sixty are there at a time. */
+static void short_lived_threads_share_the_passes_of_a_queue(uint32_t list) {
+    enum { AT_A_TIME = 60 };
+    unsigned long rounds = turns / 2400 + 2;
+    pthread_t threads[AT_A_TIME];
+    uint32_t irps[AT_A_TIME];
+    struct csq_size size = { AT_A_TIME, FILES, AT_A_TIME, CSQ_MOST_PASSES, 0, list };
+    begin_counts();
+    memset(&device, 0, sizeof device);
+    IS(csq_new(&device.queue, &size), CSQ_OK);
+    for (unsigned long round = 0; round < rounds; round++) {
+        for (uint32_t at = 0; at < AT_A_TIME; at++) {
+            irps[at] = at;
+            IS(pthread_create(&threads[at], NULL, live_briefly, &irps[at]), 0);
+        }
+        for (uint32_t at = 0; at < AT_A_TIME; at++) {
+            IS(pthread_join(threads[at], NULL), 0);
+        }
+    }
+    IS(faults, 0);
+    IS(csq_close(&device.queue), CSQ_OK);
+    IS(csq_free(&device.queue), CSQ_OK);
+    snprintf(check_note, sizeof check_note, " (%lu threads, %d passes)", rounds * AT_A_TIME, CSQ_MOST_PASSES);
+}
+
 int main(int count, char **words) {
     if (count > 1) {
         turns = strtoul(words[1], NULL, 10);
     }
     RUN_BOTH(each_life_is_completed_once);
     RUN_BOTH(cancels_and_cleanups_complete_each_irp_once);
+    RUN_BOTH(short_lived_threads_share_the_passes_of_a_queue);
     return DONE();
 }

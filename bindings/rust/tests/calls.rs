@@ -207,16 +207,20 @@ fn a_closed_queue_tells_what_is_left() {
 }
 
 #[test]
-fn each_pass_is_handed_out_once() {
+fn a_pass_that_is_back_is_handed_out_again() {
     let queue = Queue::new(&Size::new(1, 1, 2)).unwrap();
     let one = queue.pass().unwrap();
     one.give_back().unwrap();
     let two = queue.pass().unwrap();
-    assert_eq!(queue.pass().unwrap_err(), PassError::NoPass);
     assert_eq!(queue.passes_out(), 1);
-    drop(two);
-    assert_eq!(queue.passes_out(), 0);
+    let three = queue.pass().unwrap();
     assert_eq!(queue.pass().unwrap_err(), PassError::NoPass);
+    drop(two);
+    assert_eq!(queue.passes_out(), 1);
+    // It goes on as any other.
+    let again = queue.pass().unwrap();
+    pending(again.insert(0, 0, Place::Back));
+    assert_eq!(three.cleanup(0), Ok(1));
 }
 
 #[test]
