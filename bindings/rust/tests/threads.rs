@@ -96,3 +96,34 @@ fn each_life_is_completed_once() {
     run(List::Vector);
     run(List::Chains);
 }
+
+// A thread that lives for one request: it takes a pass, and gives it back.
+fn live_briefly(queue: &Queue, irp: u32) {
+    let pass = queue.pass().unwrap();
+    let irp = match pass.insert(irp, irp % FILES, Place::Back).unwrap() {
+        Inserted::Pending(irp) => irp,
+        Inserted::Cancelled(_) => unreachable!("nobody else knows of it"),
+    };
+    match pass.remove(irp) {
+        Some(token) if irp.irp % 2 == 0 => token.complete(FinalStatus::SUCCESS),
+        // Dropped, it is completed as cancelled.
+        _ => {}
+    }
+    pass.reuse(irp).unwrap();
+}
+
+#[test]
+fn short_lived_threads_share_the_passes_of_a_queue() {
+    const AT_A_TIME: u32 = 50;
+    let queue = Queue::new(&Size::new(AT_A_TIME, FILES, 64)).unwrap();
+    for _ in 0..40 {
+        std::thread::scope(|scope| {
+            for irp in 0..AT_A_TIME {
+                let queue = &queue;
+                scope.spawn(move || live_briefly(queue, irp));
+            }
+        });
+    }
+    assert_eq!(queue.passes_out(), 0);
+    assert_eq!(queue.close().unwrap().listed().count(), 0);
+}
