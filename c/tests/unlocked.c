@@ -1,46 +1,52 @@
-/* A program that forgets the lock in one thread. Over the plain queue the thread sanitizer has to tell it, so this
- * program ends well only where nothing looks: it is a test of the tests. */
-#include "csq.h"
+/* A program that forgets the lock in one thread, for a call that only reads. It is the program's fault: over the plain
+ * queue the thread sanitizer has to tell it. But the thread that has the lock is answered right all the same, and
+ * nothing is freed twice, since a call that only reads doesn't write its handle. */
+#include "check.h"
 
 #include <pthread.h>
-#include <stdio.h>
 
-enum { TURNS = 2000 };
-
+static unsigned long turns = 2000;
+static unsigned long wrong;
 static struct csq_queue queue = CSQ_EMPTY;
 static struct csq_pass pass = CSQ_EMPTY;
 static pthread_mutex_t mutex = PTHREAD_MUTEX_INITIALIZER;
 
-static void *close_with_the_lock(void *unused) {
-    (void)unused;
-    for (int turn = 0; turn < TURNS; turn++) {
+static void *remove_with_the_lock(void *unused) {
+    struct csq_irp irp = { 0, 0 };
+    for (unsigned long turn = 0; turn < turns; turn++) {
         pthread_mutex_lock(&mutex);
-        (void)csq_close_file(&queue, &pass, 0);
+        wrong += csq_remove_next(&queue, &pass, CSQ_ANY, &irp) != CSQ_NONE;
         pthread_mutex_unlock(&mutex);
     }
-    return NULL;
+    return unused;
 }
 
-/* It only reads: what is missing is the lock all the same. */
 static void *count_without_it(void *unused) {
     uint32_t out = 0;
-    (void)unused;
-    for (int turn = 0; turn < TURNS; turn++) {
+    for (unsigned long turn = 0; turn < turns; turn++) {
         (void)csq_count_passes_out(&queue, &out);
     }
-    return NULL;
+    return unused;
 }
 
-int main(void) {
+static void a_look_without_the_lock_frees_nothing(void) {
     struct csq_size size = { 1, 1, 1, 1, 0, CSQ_VECTOR };
     pthread_t threads[2];
-    if (csq_new(&queue, &size) != CSQ_OK || csq_take_pass(&queue, &pass) != CSQ_OK ||
-        pthread_create(&threads[0], NULL, close_with_the_lock, NULL) != 0 ||
-        pthread_create(&threads[1], NULL, count_without_it, NULL) != 0) {
-        return 2;
+    IS(csq_new(&queue, &size), CSQ_OK);
+    IS(csq_take_pass(&queue, &pass), CSQ_OK);
+    IS(pthread_create(&threads[0], NULL, remove_with_the_lock, NULL), 0);
+    IS(pthread_create(&threads[1], NULL, count_without_it, NULL), 0);
+    IS(pthread_join(threads[0], NULL), 0);
+    IS(pthread_join(threads[1], NULL), 0);
+    IS(wrong, 0);
+    IS(csq_give_back(&queue, &pass), CSQ_OK);
+    IS(csq_free(&queue), CSQ_OK);
+}
+
+int main(int count, char **words) {
+    if (count > 1) {
+        turns = strtoul(words[1], NULL, 10);
     }
-    pthread_join(threads[0], NULL);
-    pthread_join(threads[1], NULL);
-    puts("nothing was told");
-    return csq_give_back(&queue, &pass) == CSQ_OK && csq_free(&queue) == CSQ_OK ? 0 : 2;
+    RUN(a_look_without_the_lock_frees_nothing);
+    return DONE();
 }
