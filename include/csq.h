@@ -63,7 +63,8 @@
  * - Pointers are valid for what is read and written through them, none is null, and those of one call don't overlap.
  * - malloc, realloc and free are of one allocator, and may be called by several threads at once.
  * - No call is made in a signal handler, in the forked child of a process with threads, or with less than 8 KB of
- *   the stack left. (Measured, with what malloc and free use: csq_new takes 6.1 KB at most, each other call less than 1.3 KB.)
+ *   the stack left. (Measured, with what malloc and free use: csq_new takes 6.1 KB at most, each other call less than
+ *   1.3 KB.)
  */
 #ifndef CSQ_H
 #define CSQ_H
@@ -200,8 +201,8 @@ struct csq_left {
 
 /* ---- A queue's beginning and end ---- */
 
-/* The library's halves of csq_new and csq_new_with_file_limits, which call them and give the queue its number: for these
- * two alone to call, and for bindings to other languages, which do as they do. */
+/* What csq_new and csq_new_with_file_limits call, which then give the queue its number. For these two, and for bindings
+ * to other languages, which do as they do. */
 CSQ_NODISCARD uint32_t csq_new_queue(struct csq_queue *queue, const struct csq_size *size);
 CSQ_NODISCARD uint32_t csq_new_queue_with_file_limits(struct csq_queue *queue, const struct csq_size *size,
                                                       const uint32_t *file_limits, size_t count);
