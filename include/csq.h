@@ -40,22 +40,25 @@
  * Allocation: csq_new, csq_new_with_file_limits and csq_take_pass take memory. No other call does.
  *
  * Memory order: what a thread wrote before csq_insert is seen by whoever removes the IRP or runs its cancel routine,
- * since both have the lock. What it wrote before csq_complete or csq_complete_cancelled is seen by whoever learns of
- * that completion from csq_read_status or csq_reuse: the library's steps on its words are atomic and sequentially
- * consistent. (The thread sanitizer doesn't see them in the library, and may report the second as a race.)
+ * since both have the lock; and by whoever takes its cancel routine (csq_mark_cancel with *found 1, and the callback of
+ * csq_cancel), without the lock. What a thread wrote before csq_complete, csq_complete_cancelled or csq_cancel_owed is
+ * seen by whoever learns of that completion from csq_read_status or csq_reuse. For the last two the library's steps on
+ * its words are atomic and sequentially consistent. (The thread sanitizer doesn't see them in the library, and may
+ * report a race there.)
  *
  * The answer of a call is a code of the one table below. Where several would fit it is the first one tested:
  * whether handles are filled or empty, in the order of the parameters; whether the pass is this queue's; whether the
  * queue is closed; then the causes in the order in which the call's comment names them. A closed queue has no pass, so
- * a call that takes both answers CSQ_OTHER_QUEUE of it. A refusal, which is any answer but CSQ_OK and csq_insert's
- * CSQ_CANCELLED, changes nothing and writes nothing, but for the life that csq_read_status tells. (csq_cancel,
- * csq_cleanup and csq_drain are made of several calls: their comments say what holds after a refusal.)
- * CSQ_EMPTY_HANDLE of a handle that is filled says that two calls had it at once: the lock is missing somewhere.
+ * a call that takes a queue and a filled pass answers CSQ_OTHER_QUEUE of it. A refusal, which is any answer but CSQ_OK
+ * and csq_insert's CSQ_CANCELLED, changes nothing and writes nothing, but for the life that csq_read_status tells.
+ * (csq_drain and csq_cleanup are made of several calls: what they did before a refusal stays done.) CSQ_EMPTY_HANDLE of
+ * a handle that is filled says that two calls had it at once: the lock is missing somewhere.
  *
  * What the caller must uphold, which nothing checks:
  *
- * - A handle begins as CSQ_EMPTY and is filled by these calls alone. It is not copied, but may be moved while no
- *   call uses it; what it points to is not read or written.
+ * - A handle begins as CSQ_EMPTY (or with all bytes 0), and these calls alone fill and empty it. It is empty where
+ *   its field `at` is NULL. It is not copied, but may be moved while no call uses it (a callback is inside of its
+ *   call); what it points to is not read or written.
  * - A handle is in one call at a time. For a queue that is the lock: of csq_cancel, csq_cleanup and csq_drain the
  *   queue is in a call only while they have the lock, so other threads' calls may come in between. A pass is used by
  *   one thread at a time, from the beginning of a call to its end, and goes from one to another by an act that
@@ -63,8 +66,8 @@
  * - Pointers are valid for what is read and written through them, none is null, and those of one call don't overlap.
  * - malloc, realloc and free are of one allocator, and may be called by several threads at once.
  * - No call is made in a signal handler, in the forked child of a process with threads, or with less than 8 KB of
- *   the stack left. (Measured, with what malloc and free use: csq_new takes 6.1 KB at most, each other call less than
- *   1.3 KB.)
+ *   the stack left. (Measured with glibc: csq_new takes 3.1 KB, each other call less than 1.3 KB. Where the dynamic
+ *   linker binds malloc or free at its first call, that call takes up to 3.1 KB more.)
  */
 #ifndef CSQ_H
 #define CSQ_H
@@ -233,17 +236,21 @@ CSQ_NODISCARD static inline uint32_t csq_new_with_file_limits(struct csq_queue *
  * CSQ_PASSES_OUT. Lock: held, or no other thread uses the queue any more. */
 CSQ_NODISCARD uint32_t csq_free_queue(struct csq_queue *queue);
 
-/* csq_free_queue, and CSQ_OK of NULL too. */
+/* csq_free_queue, and CSQ_OK of NULL too. The handle is as CSQ_EMPTY then. */
 CSQ_NODISCARD static inline uint32_t csq_free(struct csq_queue *queue) {
-    return queue ? csq_free_queue(queue) : (uint32_t)CSQ_OK;
+    uint32_t code = queue ? csq_free_queue(queue) : (uint32_t)CSQ_OK;
+    if (queue && code == CSQ_OK) {
+        queue->number = 0;
+    }
+    return code;
 }
 
 /* Tells how many passes are out. CSQ_EMPTY_HANDLE; CSQ_CLOSED. Lock: held. */
 uint32_t csq_count_passes_out(const struct csq_queue *queue, uint32_t *out);
 
 /* Closes the queue, once no pass is out. The same handle is the closed queue then, which tells what is left
- * (csq_read_listed, csq_read_left), is freed by csq_free, and answers CSQ_CLOSED to any call of a queue alone that
- * wants it open.
+ * (csq_read_listed, csq_read_left), is freed by csq_free, and answers CSQ_CLOSED to csq_take_pass and to any call of a
+ * queue alone that wants it open.
  * CSQ_EMPTY_HANDLE; CSQ_CLOSED; CSQ_PASSES_OUT. Lock: held, or no other thread uses the queue any more. */
 CSQ_NODISCARD uint32_t csq_close(struct csq_queue *queue);
 
@@ -297,19 +304,19 @@ CSQ_NODISCARD uint32_t csq_remove_next(struct csq_queue *queue, struct csq_pass 
                                        struct csq_irp *irp);
 
 /* Removes the IRP of an insert context (IoCsqRemoveIrp). The pass holds it then. CSQ_NONE where the IRP isn't
- * listed in that life, or a canceller has it.
+ * listed in that life, or a canceller has it; also for an unknown IRP.
  * CSQ_EMPTY_HANDLE; CSQ_OTHER_QUEUE; CSQ_NONE. Lock: held. */
 CSQ_NODISCARD uint32_t csq_remove(struct csq_queue *queue, struct csq_pass *pass, struct csq_irp irp);
 
 /* Runs the cancel routine of an IRP that the pass owes in this life: takes it out of the list. The pass holds it then,
  * and csq_complete_cancelled is due.
  * CSQ_EMPTY_HANDLE; CSQ_OTHER_QUEUE; CSQ_UNKNOWN_IRP; CSQ_NOT_OWED. Lock: held. */
-uint32_t csq_cancel_routine(struct csq_queue *queue, struct csq_pass *pass, struct csq_irp irp);
+CSQ_NODISCARD uint32_t csq_cancel_routine(struct csq_queue *queue, struct csq_pass *pass, struct csq_irp irp);
 
 /* Cancels an IRP that the pass owes in this life, the second half of csq_cancel: csq_cancel_routine, and
  * csq_complete_cancelled after it.
  * CSQ_EMPTY_HANDLE; CSQ_OTHER_QUEUE; CSQ_UNKNOWN_IRP; CSQ_NOT_OWED. Lock: held. */
-uint32_t csq_cancel_owed(struct csq_queue *queue, struct csq_pass *pass, struct csq_irp irp);
+CSQ_NODISCARD uint32_t csq_cancel_owed(struct csq_queue *queue, struct csq_pass *pass, struct csq_irp irp);
 
 /* Closes a file object for good: the first half of IRP_MJ_CLEANUP. The second is to remove each IRP that is listed
  * for it (csq_remove_next) and to complete it as cancelled; csq_cleanup does both. Closing it again is no fault.
@@ -341,7 +348,7 @@ uint32_t csq_file_len(const struct csq_queue *queue, uint32_t file, uint32_t *le
 /* What IoCancelIrp does first: sets the Cancel flag of an IRP in the life named, then exchanges its cancel routine
  * for none. *found is 1 where the routine was there: the pass owes the IRP, and csq_cancel_owed is due. It is 0
  * where the IRP isn't listed, or a pass, perhaps this one, has it. An insert that comes later finds the flag, and
- * gives the IRP back unless another canceller has it by then.
+ * answers CSQ_CANCELLED unless another canceller has the IRP by then.
  * CSQ_EMPTY_HANDLE; CSQ_UNKNOWN_IRP; CSQ_STALE. Lock: not needed. */
 CSQ_NODISCARD uint32_t csq_mark_cancel(struct csq_pass *pass, struct csq_irp irp, uint32_t *found);
 
@@ -398,9 +405,9 @@ static inline uint32_t csq_insert_status(uint32_t code) {
 /* The caller's lock of a queue, as CsqAcquireLock and CsqReleaseLock: two functions, and what they are called with.
  * They return to their caller (by no exception and no longjmp) and make no call with this queue or this pass. */
 struct csq_lock {
-    void (*lock)(void *of);
-    void (*unlock)(void *of);
-    void *of;
+    void (*lock)(void *context);
+    void (*unlock)(void *context);
+    void *context;
 };
 
 /* A function that is told of an IRP that is about to be completed as cancelled, as CsqCompleteCanceledIrp is told, and
@@ -408,28 +415,32 @@ struct csq_lock {
  * the IRP's owner is seen by whoever learns of the completion. It returns to its caller (by no exception and no
  * longjmp), makes no call with this pass, and may make any other call. */
 struct csq_callback {
-    void (*before_completion)(void *of, struct csq_irp irp);
-    void *of;
+    void (*before_completion)(void *context, struct csq_irp irp);
+    void *context;
 };
 
 /* Cancels an IRP in the life named (IoCancelIrp): csq_mark_cancel, and where the routine was there the callback, which
- * may be NULL, and csq_cancel_owed under the lock. *completed is 1 where the IRP was completed here, else 0.
- * Answers as csq_mark_cancel does; such a refusal changes nothing. Where the routine was there, and csq_cancel_owed is
- * refused (CSQ_EMPTY_HANDLE, or CSQ_OTHER_QUEUE), it answers that code: the pass owes the IRP all the same, the
- * callback was told of it, and csq_cancel_owed is due with the pass's own queue. Lock: not held; it is taken only where
- * the routine was there. */
+ * may be NULL, and csq_cancel_owed under the lock. *completed is 1 where the IRP was completed here, else 0. While the
+ * callback is told of the IRP it is listed still, so it counts for the limits and for csq_file_len.
+ * CSQ_EMPTY_HANDLE; CSQ_OTHER_QUEUE; CSQ_UNKNOWN_IRP; CSQ_STALE. Lock: not held; it is taken only where the routine was
+ * there. */
 CSQ_NODISCARD static inline uint32_t csq_cancel(struct csq_queue *queue, struct csq_pass *pass, struct csq_irp irp,
                                                 const struct csq_lock *lock, const struct csq_callback *callback,
                                                 uint32_t *completed) {
-    uint32_t found = 0;
-    uint32_t code = csq_mark_cancel(pass, irp, &found);
+    uint32_t code, found = 0;
+    if (pass->at && pass->queue != queue->number) {
+        /* Before the mark, which looks at no queue. Only an empty handle has the number 0. */
+        return queue->number ? (uint32_t)CSQ_OTHER_QUEUE : (uint32_t)CSQ_EMPTY_HANDLE;
+    }
+    code = csq_mark_cancel(pass, irp, &found);
     if (code == CSQ_OK && found) {
         if (callback) {
-            callback->before_completion(callback->of, irp);
+            callback->before_completion(callback->context, irp);
         }
-        lock->lock(lock->of);
+        lock->lock(lock->context);
+        /* Never refused: a pass that is out keeps its queue open. */
         code = csq_cancel_owed(queue, pass, irp);
-        lock->unlock(lock->of);
+        lock->unlock(lock->context);
     }
     if (code == CSQ_OK) {
         *completed = found;
@@ -438,9 +449,9 @@ CSQ_NODISCARD static inline uint32_t csq_cancel(struct csq_queue *queue, struct 
 }
 
 /* Removes each IRP that is listed for a file object, or each for CSQ_ANY, and completes it as cancelled; before that
- * the callback, which may be NULL, is told of it. The file object stays open. *completed is how many. What a canceller
- * has is left to that canceller, and is listed until then (csq_file_len). It ends once it finds none, so it may go on
- * for as long as others insert.
+ * the callback, which may be NULL, is told of it, when it isn't listed any more. The file object stays open. *completed
+ * is how many. What a canceller has is left to that canceller, and is listed until then (csq_file_len). It ends once it
+ * finds none, so it may go on for as long as others insert.
  * CSQ_EMPTY_HANDLE; CSQ_OTHER_QUEUE; CSQ_UNKNOWN_FILE. Lock: not held; it is taken for each removal, and free between
  * two of them. */
 CSQ_NODISCARD static inline uint32_t csq_drain(struct csq_queue *queue, struct csq_pass *pass, uint32_t file,
@@ -449,17 +460,17 @@ CSQ_NODISCARD static inline uint32_t csq_drain(struct csq_queue *queue, struct c
     struct csq_irp irp = { 0, 0 };
     uint32_t code, found, len = 0, count = 0;
     do {
-        lock->lock(lock->of);
+        lock->lock(lock->context);
         code = csq_remove_next(queue, pass, file, &irp);
         found = code == CSQ_OK;
         if (code == CSQ_NONE) {
             /* That none is left is the end, unless there is no such file object. */
             code = file == CSQ_ANY ? (uint32_t)CSQ_OK : csq_file_len(queue, file, &len);
         }
-        lock->unlock(lock->of);
+        lock->unlock(lock->context);
         if (found) {
             if (callback) {
-                callback->before_completion(callback->of, irp);
+                callback->before_completion(callback->context, irp);
             }
             code = csq_complete_cancelled(pass, irp);
             count += code == CSQ_OK;
@@ -477,9 +488,9 @@ CSQ_NODISCARD static inline uint32_t csq_cleanup(struct csq_queue *queue, struct
                                                  const struct csq_lock *lock, const struct csq_callback *callback,
                                                  uint32_t *completed) {
     uint32_t code;
-    lock->lock(lock->of);
+    lock->lock(lock->context);
     code = csq_close_file(queue, pass, file);
-    lock->unlock(lock->of);
+    lock->unlock(lock->context);
     return code == CSQ_OK ? csq_drain(queue, pass, file, lock, callback, completed) : code;
 }
 

@@ -277,6 +277,7 @@ uint32_t csq_take_pass(struct csq_queue *queue, struct csq_pass *pass) {
     }
     at->out++;
     pass->at = by;
+    pass->queue = queue->number;
     return CSQ_OK;
 }
 

@@ -12,7 +12,7 @@ static struct csq_queue queue = CSQ_EMPTY;
 static pthread_mutex_t mutex = PTHREAD_MUTEX_INITIALIZER;
 static void lock(void *of) { pthread_mutex_lock(of); }
 static void unlock(void *of) { pthread_mutex_unlock(of); }
-static const struct csq_lock queue_lock = { .lock = lock, .unlock = unlock, .of = &mutex };
+static const struct csq_lock queue_lock = { .lock = lock, .unlock = unlock, .context = &mutex };
 
 static void must(int holds, const char *what) {
     if (!holds) {

@@ -97,7 +97,8 @@ static inline void settle(struct device *device) {
         uint32_t held = 1, owed = 1;
         for (uint32_t irp = 0; pass->at && irp < device->irps; irp++) {
             struct csq_irp name = present(pass, irp);
-            csq_cancel_routine(&device->queue, pass, name);
+            uint32_t code = csq_cancel_owed(&device->queue, pass, name);
+            CHECK(code == CSQ_OK || code == CSQ_NOT_OWED);
             csq_complete_cancelled(pass, name);
         }
         if (pass->at) {

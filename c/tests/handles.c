@@ -135,7 +135,7 @@ static void what_is_empty_is_freed_again(void) {
     IS(csq_free(&queue), CSQ_OK);
     IS(csq_new(&queue, &small), CSQ_OK);
     IS(csq_free(&queue), CSQ_OK);
-    CHECK(queue.at == NULL);
+    CHECK(queue.at == NULL && queue.number == 0);
     IS(csq_free(&queue), CSQ_OK);
     IS(csq_free(NULL), CSQ_OK);
 }
@@ -232,25 +232,27 @@ static void no_lock(void *of) {
     (void)of;
 }
 
-/* The mark of csq_cancel needs no queue, and its routine does. */
-static void a_cancel_without_its_queue_leaves_the_irp_owed(void) {
-    struct csq_queue queue = CSQ_EMPTY, none = CSQ_EMPTY;
-    struct csq_pass pass = CSQ_EMPTY;
+static void what_takes_the_lock_itself_refuses_an_empty_queue(void) {
+    struct csq_queue queue = CSQ_EMPTY, none = CSQ_EMPTY, freed = CSQ_EMPTY;
+    struct csq_pass pass = CSQ_EMPTY, nobody = CSQ_EMPTY;
     struct csq_lock lock = { no_lock, no_lock, NULL };
     struct csq_irp irp = { 0, 0 };
     uint32_t completed = UNWRITTEN, held = UNWRITTEN, owed = UNWRITTEN;
+    IS(csq_new(&freed, &small), CSQ_OK);
+    IS(csq_free(&freed), CSQ_OK);
     IS(csq_new(&queue, &small), CSQ_OK);
     IS(csq_take_pass(&queue, &pass), CSQ_OK);
-    IS(csq_cleanup(&none, &pass, 0, &lock, NULL, &completed), CSQ_EMPTY_HANDLE);
     IS(csq_insert(&queue, &pass, 0, 0, 0, &irp), CSQ_OK);
+    IS(csq_cleanup(&none, &pass, 0, &lock, NULL, &completed), CSQ_EMPTY_HANDLE);
     IS(csq_drain(&none, &pass, CSQ_ANY, &lock, NULL, &completed), CSQ_EMPTY_HANDLE);
     IS(csq_cancel(&none, &pass, irp, &lock, NULL, &completed), CSQ_EMPTY_HANDLE);
+    IS(csq_cancel(&freed, &pass, irp, &lock, NULL, &completed), CSQ_EMPTY_HANDLE);
+    IS(csq_cancel(&queue, &nobody, irp, &lock, NULL, &completed), CSQ_EMPTY_HANDLE);
     IS(completed, UNWRITTEN);
     IS(csq_count_held(&pass, &held, &owed), CSQ_OK);
-    IS(held, 0);
-    IS(owed, 1);
-    IS(csq_cancel_routine(&queue, &pass, irp_in(0, 0)), CSQ_OK);
-    IS(csq_complete_cancelled(&pass, irp_in(0, 0)), CSQ_OK);
+    IS(held + owed, 0);
+    IS(csq_cancel(&queue, &pass, irp, &lock, NULL, &completed), CSQ_OK);
+    IS(completed, 1);
     IS(csq_give_back(&queue, &pass), CSQ_OK);
     IS(csq_free(&queue), CSQ_OK);
 }
@@ -348,7 +350,7 @@ int main(void) {
     RUN(a_pass_of_another_queue_is_refused_before_anything_else);
     RUN(a_queue_made_after_another_is_another);
     RUN(a_closed_queue_refuses_every_other_call);
-    RUN(a_cancel_without_its_queue_leaves_the_irp_owed);
+    RUN(what_takes_the_lock_itself_refuses_an_empty_queue);
     RUN(only_a_closed_queue_tells_what_is_left);
     RUN_BOTH(a_closed_queue_tells_what_is_left);
     return DONE();

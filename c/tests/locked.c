@@ -10,22 +10,22 @@ struct watch {
     struct device *device;
 };
 
-static void lock_it(void *of) {
-    struct watch *watch = (struct watch *)of;
+static void lock_it(void *context) {
+    struct watch *watch = (struct watch *)context;
     CHECK(!watch->held);
     watch->held = 1;
     watch->taken++;
 }
 
-static void unlock_it(void *of) {
-    struct watch *watch = (struct watch *)of;
+static void unlock_it(void *context) {
+    struct watch *watch = (struct watch *)context;
     CHECK(watch->held);
     watch->held = 0;
 }
 
 /* The lock is free, the IRP isn't completed yet, and nobody else can have it: another pass asks. */
-static void note_it(void *of, struct csq_irp irp) {
-    struct watch *watch = (struct watch *)of;
+static void note_it(void *context, struct csq_irp irp) {
+    struct watch *watch = (struct watch *)context;
     uint32_t life = UNWRITTEN, status = UNWRITTEN, found = UNWRITTEN;
     CHECK(!watch->held);
     IS(csq_read_status(&watch->device->passes[0], irp.irp, &life, &status), CSQ_NONE);
@@ -181,24 +181,53 @@ static void drains_every_file_object(uint32_t list) {
     end(&device);
 }
 
-/* The mark needs no queue, and the second half does. */
-static void a_cancel_with_another_queue_leaves_the_irp_owed(uint32_t list) {
+static void another_queue_is_refused_before_the_cancel_flag_is_set(uint32_t list) {
     struct device device = device_of(size_of(1, 1, list)), other = device_of(size_of(1, 1, list));
     struct watch watch = watch_of(&device);
     struct csq_lock lock = { lock_it, unlock_it, &watch };
+    struct csq_callback callback = { note_it, &watch };
     struct csq_pass *by = &device.passes[1];
-    uint32_t completed = UNWRITTEN, held = UNWRITTEN, owed = UNWRITTEN;
+    uint32_t completed = UNWRITTEN, life = UNWRITTEN, cancelled = UNWRITTEN;
     put(&device, 0, 0, 0);
-    IS(csq_cancel(&other.queue, by, irp_in(0, 0), &lock, NULL, &completed), CSQ_OTHER_QUEUE);
-    IS(csq_drain(&other.queue, by, CSQ_ANY, &lock, NULL, &completed), CSQ_OTHER_QUEUE);
-    IS(csq_cleanup(&other.queue, by, 0, &lock, NULL, &completed), CSQ_OTHER_QUEUE);
+    IS(csq_cancel(&other.queue, by, irp_in(0, 0), &lock, &callback, &completed), CSQ_OTHER_QUEUE);
+    IS(csq_cancel(&other.queue, by, irp_in(9, 9), &lock, &callback, &completed), CSQ_OTHER_QUEUE);
+    IS(csq_drain(&other.queue, by, CSQ_ANY, &lock, &callback, &completed), CSQ_OTHER_QUEUE);
+    IS(csq_cleanup(&other.queue, by, 0, &lock, &callback, &completed), CSQ_OTHER_QUEUE);
     IS(completed, UNWRITTEN);
-    IS(csq_count_held(by, &held, &owed), CSQ_OK);
-    IS(held, 0);
-    IS(owed, 1);
-    IS(csq_cancel_owed(&device.queue, by, irp_in(0, 0)), CSQ_OK);
+    IS(watch.count, 0);
+    IS(csq_read_cancel(by, 0, &life, &cancelled), CSQ_OK);
+    IS(cancelled, 0);
+    IS(take(&device, 0, 0), 0);
     end(&device);
     end(&other);
+}
+
+/* In a cancel's callback the IRP is listed still, in a drain's it isn't. */
+static void count_listed(void *context, struct csq_irp irp) {
+    struct watch *watch = (struct watch *)context;
+    uint32_t len = UNWRITTEN;
+    IS(csq_len(&watch->device->queue, &len), CSQ_OK);
+    IS(irp.life, 0);
+    watch->told[watch->count++] = len;
+}
+
+static void an_irp_is_listed_until_its_cancel_routine_has_run(uint32_t list) {
+    struct device device = device_of(size_of(3, 1, list));
+    struct watch watch = watch_of(&device);
+    struct csq_lock lock = { lock_it, unlock_it, &watch };
+    struct csq_callback callback = { count_listed, &watch };
+    struct csq_pass *by = &device.passes[1];
+    uint32_t completed = UNWRITTEN;
+    for (uint32_t irp = 0; irp < 3; irp++) {
+        put(&device, 0, irp, 0);
+    }
+    IS(csq_cancel(&device.queue, by, irp_in(0, 0), &lock, &callback, &completed), CSQ_OK);
+    IS(csq_drain(&device.queue, by, 0, &lock, &callback, &completed), CSQ_OK);
+    IS(watch.count, 3);
+    IS(watch.told[0], 3);
+    IS(watch.told[1], 1);
+    IS(watch.told[2], 0);
+    end(&device);
 }
 
 int main(void) {
@@ -208,6 +237,7 @@ int main(void) {
     RUN_BOTH(cleans_up_through_the_callers_lock);
     RUN_BOTH(a_drained_file_object_is_used_again);
     RUN_BOTH(drains_every_file_object);
-    RUN_BOTH(a_cancel_with_another_queue_leaves_the_irp_owed);
+    RUN_BOTH(another_queue_is_refused_before_the_cancel_flag_is_set);
+    RUN_BOTH(an_irp_is_listed_until_its_cancel_routine_has_run);
     return DONE();
 }

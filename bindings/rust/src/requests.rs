@@ -49,7 +49,7 @@ use std::sync::Arc;
 ///
 /// No value comes out twice, and none is dropped twice, whatever is dropped, forgotten ([`std::mem::forget`]) or let go
 /// in a panic. What is still listed where queue and passes are dropped is dropped with the last of them. A [`Request`]
-/// that is forgotten keeps its value and its IRP for ever.
+/// that is forgotten keeps its value and its number for ever; its IRP is completed when its pass is dropped.
 ///
 /// Passes and requests go to other threads where their values may:
 ///

@@ -115,7 +115,7 @@ impl Size {
 }
 
 /// A status with which an IRP may be completed: any but `STATUS_PENDING`.
-#[derive(Clone, Copy, Debug, PartialEq, Eq, Hash)]
+#[derive(Clone, Copy, PartialEq, Eq, Hash)]
 pub struct FinalStatus(u32);
 
 impl FinalStatus {
@@ -140,6 +140,13 @@ impl FinalStatus {
 
     pub(crate) fn of(number: u32) -> FinalStatus {
         FinalStatus(number)
+    }
+}
+
+/// As `FinalStatus(0xC0000120)`.
+impl fmt::Debug for FinalStatus {
+    fn fmt(&self, f: &mut fmt::Formatter<'_>) -> fmt::Result {
+        write!(f, "FinalStatus({:#010X})", self.0)
     }
 }
 
