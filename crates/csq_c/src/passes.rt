@@ -12,8 +12,8 @@ use crate::handles::{CsqPass, CsqQueue};
 use crate::hold::{put, take};
 use std::alloc::Global;
 
-/// Hands out a pass, one that came back before a new one, under the caller's lock: CSQ_OK, else CSQ_EMPTY_HANDLE, CSQ_NOT_EMPTY,
-/// CSQ_CLOSED, CSQ_NO_PASS or CSQ_NO_MEMORY. Own rule.
+/// Hands out a pass, one that came back before a new one, under the caller's lock: CSQ_OK, else
+/// CSQ_EMPTY_HANDLE, CSQ_NOT_EMPTY, CSQ_CLOSED, CSQ_NO_PASS or CSQ_NO_MEMORY. Own rule.
 #[unsafe(no_mangle)]
 pub extern "C" fn csq_take_pass(alloc: Global, queue: &mut CsqQueue, pass: &mut CsqPass) -> u32
     ensures refused { IfSome (take_cause queue.old.boxed.body pass.old.boxed.body)

@@ -44,8 +44,8 @@ fn made_with(alloc: Global, size: &CsqSize, file_limits: &[u32]) -> Result<Check
 }
 
 /// Makes a queue of this size, whose file objects have no limit of their own: CSQ_OK, else
-/// CSQ_NOT_EMPTY, CSQ_BAD_SIZE or CSQ_NO_MEMORY. Its number is left to the caller: csq.h gives it the
-/// address that the handle has then. As `IoCsqInitializeEx`.
+/// CSQ_NOT_EMPTY, CSQ_BAD_SIZE or CSQ_NO_MEMORY. Its number is left to the caller: csq.h takes the
+/// address of its box, which the handle has then. As `IoCsqInitializeEx`.
 #[unsafe(no_mangle)]
 pub extern "C" fn csq_new_queue(alloc: Global, queue: &mut CsqQueue, size: &CsqSize) -> u32
     ensures filled { (result ≡ number_of Code.NotEmpty) ↔ ¬ (queue.old.boxed.body ≡ None) }

@@ -1,4 +1,6 @@
 //! Passes that are handed out and come back, and what is left.
+ghost use Rattle.std.specs.Prelude.{◌≡◌};
+
 use super::plays::{Answer, Begun, Call, begin, close_early, end, give_back, give_back_early, put};
 use super::{FILE, KINDS, ONE, ZERO, first, made, sized, take};
 use csq_checked::{AnyList, CheckedQueue, ListKind, PassRefused};
@@ -13,7 +15,9 @@ pub(super) fn find_out<R: Abort>(rt: &R, queue: &CheckedQueue, out: u32) {
 }
 
 // No pass is left.
-pub(super) fn find_none<R: AllocGlobal + Abort>(rt: &R, queue: &mut CheckedQueue) {
+pub(super) fn find_none<R: AllocGlobal + Abort>(rt: &R, queue: &mut CheckedQueue)
+    ensures { queue.new.queue ≡ queue.old.queue }
+{
     assert_eq!(rt;
         queue.take_pass(rt.alloc()).err(),
         Some(PassRefused::NoPass)
