@@ -37,7 +37,7 @@
  * thread or ends the program. (csq_cancel, csq_cleanup and csq_drain, at the end, take the caller's lock through the
  * caller's functions.)
  *
- * Allocation: csq_new, csq_new_with_file_limits and csq_take_pass take memory. No other call does.
+ * Allocation: csq_new, csq_new_with_file_limits and csq_take_pass of a new pass take memory. No other call does.
  *
  * Memory order: what a thread wrote before csq_insert is seen by whoever removes the IRP or runs its cancel routine,
  * since both have the lock; and by whoever takes its cancel routine (csq_mark_cancel with *found 1, and the callback of
@@ -269,8 +269,8 @@ uint32_t csq_version(void);
 
 /* ---- Passes ---- */
 
-/* Hands out a pass, which holds and owes nothing: one that was given back, if there is one, else a new one. After
- * CSQ_NO_MEMORY it can be asked for again.
+/* Hands out a pass, which holds and owes nothing: one that was given back, if there is one, else a new one. Only a new
+ * one takes memory. After CSQ_NO_MEMORY it can be asked for again.
  * CSQ_EMPTY_HANDLE; CSQ_NOT_EMPTY; CSQ_CLOSED; CSQ_NO_PASS; CSQ_NO_MEMORY. Lock: held. */
 CSQ_NODISCARD uint32_t csq_take_pass(struct csq_queue *queue, struct csq_pass *pass);
 

@@ -248,6 +248,26 @@ static void a_pass_that_is_freed_keeps_no_memory(uint32_t list) {
     IS(blocks, before);
 }
 
+/* Only the first hand-out of a pass takes memory: one that came back keeps its blocks until its queue ends. */
+static void a_pass_that_came_back_is_handed_out_without_memory(uint32_t list) {
+    struct csq_queue queue = CSQ_EMPTY;
+    struct csq_pass pass = CSQ_EMPTY;
+    unsigned long before = blocks;
+    IS(make(&queue, list, false), CSQ_OK);
+    IS(csq_take_pass(&queue, &pass), CSQ_OK);
+    IS(csq_give_back(&queue, &pass), CSQ_OK);
+    refuse(1, true);
+    for (int turn = 0; turn < 100; turn++) {
+        IS(csq_take_pass(&queue, &pass), CSQ_OK);
+        IS(csq_give_back(&queue, &pass), CSQ_OK);
+    }
+    IS(csq_close(&queue), CSQ_OK);
+    IS(csq_free(&queue), CSQ_OK);
+    IS(asked, 0);
+    refuse(0, false);
+    IS(blocks, before);
+}
+
 /* How many bytes a queue takes. */
 static size_t bytes_of(uint32_t list, bool limited) {
     struct csq_queue queue = CSQ_EMPTY;
@@ -270,6 +290,7 @@ int main(void) {
     RUN_BOTH(other_refusals_come_before_that_of_memory);
     RUN_BOTH(no_other_call_takes_memory);
     RUN_BOTH(a_pass_that_is_freed_keeps_no_memory);
+    RUN_BOTH(a_pass_that_came_back_is_handed_out_without_memory);
     RUN(a_queue_has_the_list_that_was_asked_for);
     return DONE();
 }

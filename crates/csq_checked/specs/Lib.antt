@@ -4,3 +4,4 @@ pub mod Passes
 pub mod Causes
 pub mod Sizes
 pub mod Calls
+pub mod Forms

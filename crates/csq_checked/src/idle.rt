@@ -4,6 +4,7 @@ ghost use Rattle.std.specs.Arc.{arc_value};
 ghost use Rattle.csq_queue.specs.Opens.{OpenPassState, IsPassOn, IsQueueOn};
 ghost use Rattle.csq_queue.specs.Rests.{FirstAreBack, HoldsNothing};
 ghost use Rattle.csq_checked.specs.Idle.{AreIdle, IsFirstIdle, NoneIsIdle, count_out, with_one_back, with_idle_back};
+ghost use Rattle.csq_checked.specs.Passes.{open_state};
 ghost use Rattle.csq_checked.specs.Slots.{slot_at};
 
 use crate::pass::CheckedPass;
@@ -16,16 +17,15 @@ use std::alloc::{AllocError, Global};
 use std::marker::Model;
 use std::sync::Arc;
 
-/// A pass that came back. It has no share of the queue's words, so that the queue can be closed. A
-/// contract sees the pass.
+/// A pass without its share of the queue's words. A contract sees the pass.
 #[derive(Drop)]
-pub(crate) struct IdlePass {
+pub(crate) struct BarePass {
     pass: OpenPass,
     held: Slots<Held>,
     owed: Slots<Life>,
 }
 
-impl Model for IdlePass {
+impl Model for BarePass {
     ghost use Rattle.csq_queue.specs.Opens.{OpenPassState};
     ghost use Rattle.csq_checked.specs.Slots.{KnowsItsOwn};
 
@@ -36,11 +36,10 @@ impl Model for IdlePass {
     ghost invariant = { λ p. KnowsItsOwn p.pass.irps p.pass.pass.steps p.held p.owed };
 }
 
-impl IdlePass {
-    /// The pass, without its share of the words.
-    pub(crate) fn of(pass: CheckedPass) -> IdlePass
-        ensures on { IsPassOn pass.words result }
-        ensures pass { result.pass ≡ pass.pass }
+impl BarePass {
+    // The pass, without its share of the words.
+    fn of(pass: CheckedPass) -> BarePass
+        ensures { result ≡ open_state pass }
     {
         let CheckedPass {
             pass,
@@ -48,21 +47,116 @@ impl IdlePass {
             owed,
             ..
         } = pass;
-        IdlePass { pass, held, owed }
+        BarePass { pass, held, owed }
     }
 
-    /// The pass, with a share of its words.
-    pub(crate) fn with_words(self, words: Arc<Words>) -> CheckedPass
+    // The pass, with a share of its words.
+    fn with_words(self, words: Arc<Words>) -> CheckedPass
         requires { IsPassOn (arc_value words) self }
         ensures { result ≡ record { words = arc_value words; pass = self.pass } }
     {
-        let IdlePass { pass, held, owed } = self;
+        let BarePass { pass, held, owed } = self;
         CheckedPass {
             words,
             pass,
             held,
             owed,
         }
+    }
+}
+
+/// How an idle pass is kept.
+#[derive(Drop)]
+pub(crate) enum IdleForm {
+    /// In the box in which it came back, with its share of the words: it is handed out again without
+    /// memory.
+    Boxed(Box<CheckedPass>),
+    /// Without a share, since a close takes the words whole.
+    Bare(BarePass),
+}
+
+/// A pass that came back. A contract sees the pass.
+#[derive(Drop)]
+pub(crate) struct IdlePass {
+    form: IdleForm,
+}
+
+impl Model for IdlePass {
+    ghost use Rattle.csq_queue.specs.Opens.{OpenPassState};
+    ghost use Rattle.csq_checked.specs.Forms.{idle_state};
+
+    ghost Value = { OpenPassState };
+
+    ghost view = { λ p. idle_state p.form };
+}
+
+impl IdlePass {
+    /// The pass in this box.
+    pub(crate) fn of(pass: Box<CheckedPass>) -> IdlePass
+        ensures { result ≡ open_state pass.value }
+    {
+        IdlePass {
+            form: IdleForm::Boxed(pass),
+        }
+    }
+
+    /// The pass in a box, with this share of its words. No memory is taken where it is in one. Where
+    /// memory is refused, the pass comes back.
+    pub(crate) fn into_box(
+        self,
+        alloc: Global,
+        words: Arc<Words>,
+    ) -> Result<Box<CheckedPass>, IdlePass>
+        requires { IsPassOn (arc_value words) self }
+        ensures boxed { IfOk result
+            (λ pass. pass.value ≡ record { words = arc_value words; pass = self.pass }) }
+        ensures kept { IfErr result (λ same. same ≡ self) }
+    {
+        match self.form {
+            IdleForm::Boxed(mut pass) => {
+                pass.words = words;
+                Ok(pass)
+            }
+            IdleForm::Bare(pass) => boxed(alloc, pass, words),
+        }
+    }
+
+    /// The pass, without its share of the words.
+    fn without_words(self) -> IdlePass
+        ensures { result ≡ self }
+    {
+        match self.form {
+            IdleForm::Boxed(pass) => IdlePass {
+                form: IdleForm::Bare(BarePass::of(Box::into_inner(pass))),
+            },
+            form => IdlePass { form },
+        }
+    }
+
+    /// The pass as its queue takes it back.
+    fn into_open(self) -> OpenPass
+        ensures { result ≡ self }
+    {
+        let bare = match self.form {
+            IdleForm::Boxed(pass) => BarePass::of(Box::into_inner(pass)),
+            IdleForm::Bare(pass) => pass,
+        };
+        bare.pass
+    }
+}
+
+// A bare pass in a new box, with this share of its words.
+fn boxed(alloc: Global, pass: BarePass, words: Arc<Words>) -> Result<Box<CheckedPass>, IdlePass>
+    requires { IsPassOn (arc_value words) pass }
+    ensures boxed { IfOk result
+        (λ boxed. boxed.value ≡ record { words = arc_value words; pass = pass.pass }) }
+    ensures kept { IfErr result (λ same. same ≡ pass) }
+{
+    match Box::new(alloc, pass.with_words(words)) {
+        Ok(pass) => Ok(pass),
+        Err(refused) => Err(IdlePass {
+            form: IdleForm::Bare(BarePass::of(refused.value)),
+        }),
     }
 }
 
@@ -123,6 +217,17 @@ impl IdlePasses {
         self.slots[at] = Some(pass);
     }
 
+    /// Takes each idle pass's share of the words from it, so that whoever has the words has them whole.
+    pub(crate) fn let_words_go(&mut self)
+        ensures { self.new ≡ self.old }
+    {
+        'slots: for at in 0..self.slots.len() {
+            if let Some(pass) = self.slots[at].take() {
+                self.slots[at] = Some(pass.without_words());
+            }
+        }
+    }
+
     /// Gives the idle ones among the first passes back to their queue, so many of which were taken.
     pub(crate) fn give_back(mut self, queue: &mut OpenQueue<AnyList>, words: &Words, taken: u32)
         requires queue { IsQueueOn words.now queue.old }
@@ -160,6 +265,6 @@ fn give_one(queue: &mut OpenQueue<AnyList>, words: &Words, pass: Option<IdlePass
     ensures { queue.new ≡ record queue.old { queue = with_one_back pass queue.old.queue } }
 {
     if let Some(pass) = pass {
-        queue.give_back(words, pass.pass);
+        queue.give_back(words, pass.into_open());
     }
 }

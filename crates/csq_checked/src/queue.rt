@@ -158,7 +158,7 @@ impl CheckedQueue {
     }
 
     /// A pass: the first that is idle, since it came back, else the next new one, which has seen and done
-    /// nothing.
+    /// nothing. Only the hand-out of a new one takes memory.
     pub fn take_pass(&mut self, alloc: Global) -> Result<Box<CheckedPass>, PassRefused>
         ensures none { (result ≡ Err PassRefused.NoPass)
             ↔ ((self.old.left ≡ 0) × NoneIsIdle self.old.idle) }
@@ -198,10 +198,10 @@ impl CheckedQueue {
         let Some(pass) = self.idle.take(at) else {
             unreachable!()
         };
-        match Box::new(alloc, pass.with_words(words)) {
+        match pass.into_box(alloc, words) {
             Ok(pass) => Ok(pass),
-            Err(refused) => {
-                self.idle.put(at, IdlePass::of(refused.value));
+            Err(pass) => {
+                self.idle.put(at, pass);
                 Err(PassRefused::Memory)
             }
         }
@@ -264,15 +264,15 @@ impl CheckedQueue {
         if pass.tokens() > 0 || pass.claims() > 0 {
             return Err(pass);
         }
-        self.put_idle(Box::into_inner(pass));
+        self.put_idle(pass);
         Ok(())
     }
 
     // Puts a pass into the slot of its number.
-    fn put_idle(&mut self, pass: CheckedPass)
-        requires on { IsPassIn self.old.queue pass }
-        requires nothing { HoldsNothing pass.pass }
-        ensures { IsBack pass.pass self.old self.new }
+    fn put_idle(&mut self, pass: Box<CheckedPass>)
+        requires on { IsPassIn self.old.queue pass.value }
+        requires nothing { HoldsNothing pass.value.pass }
+        ensures { IsBack pass.value.pass self.old self.new }
     {
         let at = pass.pass.number() as usize - 1;
         self.idle.put(at, IdlePass::of(pass));
@@ -295,8 +295,9 @@ impl CheckedQueue {
             words,
             queue,
             rack,
-            idle,
+            mut idle,
         } = self;
+        idle.let_words_go();
         match Arc::try_unwrap(words) {
             Ok(words) => Ok(close_over(queue, words, rack, idle)),
             Err(words) => Err(CheckedQueue {
