@@ -6,6 +6,7 @@ use Rattle.csq_words.specs.Records.{new_pass}
 use Rattle.csq_words.specs.Seats.{WordsState}
 use Rattle.csq_queue.specs.Named.{pass_numbered}
 use Rattle.csq_queue.specs.Opens.{OpenState, OpenPassState, OpenRackState, IsQueueOn, IsPassOn, IsRackOn}
+use Rattle.csq_queue.specs.Rests.{HoldsNothing}
 use Rattle.csq_checked.specs.declared.slots.Held.{Held}
 use Rattle.csq_checked.specs.Idle.{IdleSlots, NoneIsIdle, IsFirstIdle, AreIdle, count_out}
 use Rattle.csq_checked.specs.Slots.{KnowsItsOwn, slot_at}
@@ -44,13 +45,14 @@ pub record HandsOutNew (q q' : CheckedState) (p : PassRecord) : Type 0 where
   pub queue : q'.queue ≡ q.queue
   pub idle : q'.idle ≡ q.idle
 
--- the first idle pass is handed out again
+-- the first idle pass is handed out again, which holds and owes nothing
 pub record HandsOutAgain (q q' : CheckedState) (p : PassRecord) : Type 0 where
   pub slot : ℕ
   pub first : IsFirstIdle q.idle slot
   pub pass : OpenPassState
   pub there : slot_at q.idle slot ≡ Some pass
   pub again : p ≡ pass.pass
+  pub nothing : HoldsNothing p
   pub queue : q' ≡ record q { idle = slice_set q.idle slot None }
 
 -- how many passes of a queue are out
