@@ -15,6 +15,7 @@ use Rattle.irp_core.specs.Runs.{Size}
 use Rattle.csq_queue.specs.Rests.{FirstAreBack, HoldsNothing}
 use Rattle.csq_queue.proofs.Counting.{by_number, tally_none}
 use Rattle.csq_checked.specs.Idle.{IdleSlots, IsIdle, AreIdle, count_out, with_one_back, with_idle_back}
+use Rattle.csq_checked.specs.Passes.{CheckedPassState, IsPassIn, open_state}
 use Rattle.csq_checked.specs.Slots.{slot_at}
 use Rattle.csq_checked.proofs.Knowing.{slot_set, slot_kept}
 
@@ -62,20 +63,26 @@ idle_are_back words idle are taken (suc n) few none q p low high =
     (λ other. or_right (same_pass s.pass.pass (pass_numbered p)) (is_back (pass_numbered p) before.back) (idle_are_back words idle are taken n (omega arith) none q p low (omega arith)))
 
 -- a pass of the queue that holds and owes nothing may be put into the slot of its number
-pub in_slot : (words mine : WordsState) (queue : OpenState) (idle : IdleSlots) (p : OpenPassState) (number : ℕ) → IsQueueOn words queue → AreIdle words idle → IsQueueOn mine queue → IsPassOn mine p → number ≡ p.pass.pass.0 → 1 ≤ number → number ≤ mine.size.passes → HoldsNothing p.pass
-    → (number - 1 < length idle) × IsIdle words (number - 1) p
-in_slot words mine queue idle p number on are its of is low high nothing =
-    let size : mine.size ≡ words.size = sym its.size ∙ on.size in
-    let passes : mine.size.passes ≡ words.size.passes = ap (λ (s : Size). s.passes) size in
+pub in_slot : (words : WordsState) (queue : OpenState) (idle : IdleSlots) (p : CheckedPassState) (number : ℕ) → IsQueueOn words queue → AreIdle words idle → IsPassIn queue p → number ≡ p.pass.pass.0 → 1 ≤ number → number ≤ p.words.size.passes → HoldsNothing p.pass
+    → (number - 1 < length idle) × IsIdle words (number - 1) (open_state p)
+in_slot words queue idle p number on are its is low high nothing =
+    let size : p.words.size ≡ words.size = sym its.size ∙ on.size in
+    let passes : p.words.size.passes ≡ words.size.passes = ap (λ (s : Size). s.passes) size in
     let slots = are.one_each in
     let next : p.pass.pass.0 ≡ suc (number - 1) = omega arith in (
       omega arith,
       record {
-        on = record { table = of.table ∙ (sym its.table ∙ on.table); irps = of.irps ∙ ap (λ (s : Size). s.irps) size; passes = of.passes ∙ passes };
+        on = record { table = sym its.table ∙ on.table; irps = ap (λ (s : Size). s.irps) size; passes = passes };
         numbered = λ k. pass_numbered (next k);
         nothing = nothing;
       },
     )
+
+-- a pass of the queue's words is of any that are the queue's
+pub on_any : (words mine : WordsState) (queue : OpenState) (p : OpenPassState) → IsQueueOn words queue → IsQueueOn mine queue → IsPassOn words p → IsPassOn mine p
+on_any words mine queue p on its of =
+    let size : words.size ≡ mine.size = sym on.size ∙ its.size in
+    record { table = of.table ∙ (sym on.table ∙ its.table); irps = of.irps ∙ ap (λ (s : Size). s.irps) size; passes = of.passes ∙ ap (λ (s : Size). s.passes) size }
 
 -- a slot that is set twice
 set_twice : {T : Type 0} (xs : List T) (n : ℕ) (x y : T) → slice_set (slice_set xs n x) n y ≡ slice_set xs n y
@@ -83,15 +90,10 @@ set_twice [] n x y = refl
 set_twice (z ∷ xs) zero x y = refl
 set_twice (z ∷ xs) (suc n) x y = ap (λ rest. z ∷ rest) (set_twice xs n x y)
 
--- a pass that was taken out and is put back
-pub put_again : (idle : IdleSlots) (n : ℕ) (s t : OpenPassState) → slot_at idle n ≡ Some s → t ≡ s → slice_set (slice_set idle n None) n (Some t) ≡ idle
-put_again idle n s t there same = set_twice idle n None (Some t) ∙ (ap (slice_set idle n) (ap Some same ∙ sym there) ∙ set-get_or idle n None)
+-- what was taken out of a slot is put back
+pub put_same : {T : Type 0} (slots : List (Option T)) (n : ℕ) (x : T) → Some x ≡ slot_at slots n → slice_set (slice_set slots n None) n (Some x) ≡ slots
+put_same slots n x there = set_twice slots n None (Some x) ∙ (ap (slice_set slots n) there ∙ set-get_or slots n None)
 
--- a pass is known by its record and by the queue whose words it is of
-pub same_pass_of : (words mine : WordsState) (queue : OpenState) (s t : OpenPassState) → IsQueueOn words queue → IsQueueOn mine queue → IsPassOn words s → IsPassOn mine t → t.pass ≡ s.pass → t ≡ s
-same_pass_of words mine queue s t on its of same is =
-    let size : mine.size ≡ words.size = sym its.size ∙ on.size in
-    let table : t.table ≡ s.table = same.table ∙ (sym its.table ∙ (on.table ∙ sym of.table)) in
-    let irps : t.irps ≡ s.irps = same.irps ∙ (ap (λ (z : Size). z.irps) size ∙ sym of.irps) in
-    let passes : t.passes ≡ s.passes = same.passes ∙ (ap (λ (z : Size). z.passes) size ∙ sym of.passes) in
-    λ k. record { table = table k; irps = irps k; passes = passes k; pass = is k }
+-- there was nothing in it
+pub put_none : {T : Type 0} (slots : List (Option T)) (n : ℕ) → None ≡ slot_at slots n → slice_set slots n None ≡ slots
+put_none slots n there = ap (slice_set slots n) there ∙ set-get_or slots n None

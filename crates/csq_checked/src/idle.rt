@@ -1,5 +1,5 @@
 //! Passes that came back, until they are handed out again.
-ghost use Rattle.std.specs.Prelude.{◌≡◌, ◌≤◌, ◌<◌, length, replicate, None, Some, IfOk, IfSome, IfNone, MatchOption, slice_set};
+ghost use Rattle.std.specs.Prelude.{◌≡◌, ◌≤◌, ◌<◌, length, replicate, None, Some, IfOk, IfErr, IfSome, IfNone, MatchOption, slice_set};
 ghost use Rattle.std.specs.Arc.{arc_value};
 ghost use Rattle.csq_queue.specs.Opens.{OpenPassState, IsPassOn, IsQueueOn};
 ghost use Rattle.csq_queue.specs.Rests.{FirstAreBack, HoldsNothing};
@@ -222,9 +222,18 @@ impl IdlePasses {
         ensures { self.new ≡ self.old }
     {
         'slots: for at in 0..self.slots.len() {
-            if let Some(pass) = self.slots[at].take() {
-                self.slots[at] = Some(pass.without_words());
-            }
+            self.let_go(at);
+        }
+    }
+
+    // Takes its share of the words from the pass in a slot, if there is one.
+    #[tactic(auto, using(crate::proofs::Idling::put_same, crate::proofs::Idling::put_none))]
+    fn let_go(&mut self, at: usize)
+        requires { at < length self.old }
+        ensures { self.new ≡ self.old }
+    {
+        if let Some(pass) = self.take(at) {
+            self.put(at, pass.without_words());
         }
     }
 

@@ -1,4 +1,6 @@
 //! A pass that knows what it holds and owes.
+ghost use Rattle.std.specs.Prelude.{◌≡◌, ◌≤◌};
+
 use crate::slots::{Held, Slots};
 use csq_queue::OpenPass;
 use csq_words::Words;
@@ -25,4 +27,14 @@ impl Model for CheckedPass {
     ghost view = { λ p. record { words = arc_value p.words; pass = p.pass.pass } };
 
     ghost invariant = { λ p. IsCheckedPass (arc_value p.words) p.pass p.held p.owed };
+}
+
+impl CheckedPass {
+    /// The number of the pass, from 1.
+    pub(crate) fn number(&self) -> u32
+        ensures number { result ≡ self.now.pass.pass.0 }
+        ensures range { (1 ≤ result) × (result ≤ self.now.words.size.passes) }
+    {
+        self.pass.number()
+    }
 }

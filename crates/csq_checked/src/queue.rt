@@ -274,7 +274,7 @@ impl CheckedQueue {
         requires nothing { HoldsNothing pass.value.pass }
         ensures { IsBack pass.value.pass self.old self.new }
     {
-        let at = pass.pass.number() as usize - 1;
+        let at = pass.number() as usize - 1;
         self.idle.put(at, IdlePass::of(pass));
     }
 
