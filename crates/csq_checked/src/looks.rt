@@ -1,6 +1,7 @@
 //! What a queue shows without a pass.
-ghost use Rattle.std.specs.Prelude.{◌≡◌};
-ghost use Rattle.csq_queue.specs.Looks.{PeeksNext, listed_count, listed_for};
+ghost use Rattle.std.specs.Prelude.{◌≡◌, IsTrue};
+ghost use Rattle.csq_list.specs.Searches.{is_distinct};
+ghost use Rattle.csq_queue.specs.Looks.{PeeksNext, listed_count, listed_for, present_listing};
 
 use crate::queue::CheckedQueue;
 use csq_list::Peek;
@@ -8,9 +9,10 @@ use csq_queue::NotListed;
 use irp_core::{FileId, IrpId, IrpLife};
 
 impl CheckedQueue {
-    /// How many IRPs are listed, as `OpenQueue::len` counts them.
+    /// How many IRPs are listed, each once, as `OpenQueue::len` counts them.
     pub fn len(&self) -> u32
-        ensures { result ≡ listed_count self.now.queue }
+        ensures count { result ≡ listed_count self.now.queue }
+        ensures each_once { IsTrue (is_distinct (present_listing self.now.queue).entries) }
     {
         self.queue.len()
     }

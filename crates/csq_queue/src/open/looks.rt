@@ -1,8 +1,8 @@
 //! What an open queue shows without a pass. No look is noted in the history: it changes nothing, and tells
 //! what the calls before it left.
 ghost use Rattle.std.specs.Prelude.{◌≡◌, ◌↔◌, IsTrue};
-ghost use Rattle.csq_list.specs.Searches.{IsStartIn};
-ghost use Rattle.csq_queue.specs.Looks.{PeeksNext, listed_count, listed_for};
+ghost use Rattle.csq_list.specs.Searches.{IsStartIn, is_distinct};
+ghost use Rattle.csq_queue.specs.Looks.{PeeksNext, listed_count, listed_for, present_listing};
 
 use crate::open::OpenQueue;
 use crate::refusals::NotListed;
@@ -11,10 +11,11 @@ use irp_core::{FileId, IrpId, IrpLife};
 use std::alloc::Allocator;
 
 impl<L: PendingList + Drop, A: Allocator> OpenQueue<L, A> {
-    /// How many IRPs are listed. An IRP whose canceller has taken the cancel routine is listed until that
-    /// canceller takes it out. Own rule.
+    /// How many IRPs are listed, each once. An IRP whose canceller has taken the cancel routine is listed
+    /// until that canceller takes it out. Own rule.
     pub fn len(&self) -> u32
-        ensures { result ≡ listed_count self.now }
+        ensures count { result ≡ listed_count self.now }
+        ensures each_once { IsTrue (is_distinct (present_listing self.now).entries) }
     {
         self.list.len()
     }
