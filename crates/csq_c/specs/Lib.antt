@@ -9,3 +9,4 @@ pub mod Sizes
 pub mod Ends
 pub mod Lefts
 pub mod Looks
+pub mod Judges

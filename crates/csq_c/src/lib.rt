@@ -6,6 +6,7 @@ mod codes;
 mod ends;
 mod handles;
 mod hold;
+mod judges;
 mod left;
 mod locked;
 mod looks;

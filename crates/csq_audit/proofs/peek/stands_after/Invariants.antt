@@ -1,0 +1,12 @@
+use Rattle.std.proofs.Common.{◌≡◌, ◌≤◌, ◌+◌, length}
+use Rattle.csq_list.specs.Searches.{IsStartIn, is_listed, rest_after}
+use Rattle.csq_audit.specs.Lists.{listed, matching}
+use Rattle.csq_audit.proofs.peek.stands_after.Given as goal
+
+-- the IRP is among the matches after the last one where it is among all, and each look leaves fewer entries
+abbrev pub invariant-matches : goal.invariant-matches
+invariant-matches l = record {
+  start : IsStartIn (listed l.fn.queue) l.at;
+  same : is_listed (matching l.fn.peek (rest_after l.at (listed l.fn.queue))) l.fn.irp ≡ is_listed (matching l.fn.peek (rest_after l.fn.from (listed l.fn.queue))) l.fn.irp;
+  nearer : length (rest_after l.at (listed l.fn.queue)) + l.counter ≤ length (listed l.fn.queue);
+}

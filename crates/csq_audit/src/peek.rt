@@ -1,0 +1,146 @@
+//! What a driver's `CsqPeekNextIrp` answers, beside the queue's list.
+ghost use Rattle.std.specs.Prelude.{◌≡◌, ◌↔◌, ◌≤◌, Ok, Err, Some, IsOk, IfOk, IsTrue, length};
+ghost use Rattle.irp_core.specs.Steps.{same_id};
+ghost use Rattle.csq_list.specs.Searches.{IsStartIn, first_match, is_listed, rest_after};
+ghost use Rattle.csq_audit.specs.Lists.{listed, matching};
+ghost use Rattle.csq_audit.specs.Peeks.{irp_verdict, peek_verdict, stray_verdict, verdict_beside};
+ghost use Rattle.csq_audit.specs.declared.peek.PeekVerdict.TheVariants.{Agrees};
+
+use csq_checked::CheckedQueue;
+use csq_list::Peek;
+use csq_queue::NotListed;
+use irp_core::IrpId;
+
+/// What is to be said of the answer of a `CsqPeekNextIrp`. Own rule.
+#[derive(Clone, Copy, Debug, PartialEq, Eq)]
+pub enum PeekVerdict {
+    /// It is what the queue's list answers.
+    Agrees,
+    /// It is none, or a later match: this match comes first.
+    Skips(IrpId),
+    /// It is a match, but none that stands after the IRP from which the peek went on.
+    Backwards,
+    /// It is in the queue, but no match.
+    NoMatch,
+    /// It isn't in the queue.
+    NotListed,
+}
+
+/// Compares the answer of a driver's `CsqPeekNextIrp` with the queue's list, whose lock the caller has:
+/// it was asked for the first match after an IRP, or in the whole queue.
+///
+/// `NotListed` comes exactly where the peek went on from an IRP that isn't in the queue. Own rule.
+pub fn judge_peek(
+    queue: &CheckedQueue,
+    after: Option<IrpId>,
+    peek: Peek,
+    answer: Option<IrpId>,
+) -> Result<PeekVerdict, NotListed>
+    ensures start { IsOk result ↔ IsStartIn (listed queue.now) after }
+    ensures agrees { (result ≡ Ok Agrees) ↔ (IsStartIn (listed queue.now) after
+        × (answer ≡ first_match peek (rest_after after (listed queue.now)))) }
+    ensures verdict { IfOk result
+        (λ verdict. verdict ≡ peek_verdict (listed queue.now) after peek answer) }
+{
+    let first = next_match(queue, after, peek)?;
+    Ok(judge_beside(queue, first, peek, answer))
+}
+
+// An answer, where this is the first match after the start, if there is one.
+fn judge_beside(
+    queue: &CheckedQueue,
+    first: Option<IrpId>,
+    peek: Peek,
+    answer: Option<IrpId>,
+) -> PeekVerdict
+    requires { IsStartIn (listed queue.now) first }
+    ensures { result ≡ verdict_beside (listed queue.now) peek first answer }
+{
+    match (first, answer) {
+        (None, None) => PeekVerdict::Agrees,
+        (Some(first), None) => PeekVerdict::Skips(first),
+        (None, Some(irp)) => judge_stray(queue, peek, irp),
+        (Some(first), Some(irp)) => judge_irp(queue, first, peek, irp),
+    }
+}
+
+// An answer that is an IRP, where this is the first match after the start.
+fn judge_irp(queue: &CheckedQueue, first: IrpId, peek: Peek, irp: IrpId) -> PeekVerdict
+    requires { IsStartIn (listed queue.now) (Some first) }
+    ensures { result ≡ irp_verdict (listed queue.now) peek first irp }
+{
+    if is_same(first, irp) {
+        PeekVerdict::Agrees
+    } else if stands_after(queue, Some(first), peek, irp) {
+        PeekVerdict::Skips(first)
+    } else {
+        judge_stray(queue, peek, irp)
+    }
+}
+
+// An answer that is no match after the start.
+fn judge_stray(queue: &CheckedQueue, peek: Peek, irp: IrpId) -> PeekVerdict
+    ensures { result ≡ stray_verdict (listed queue.now) peek irp }
+{
+    if stands_after(queue, None, peek, irp) {
+        PeekVerdict::Backwards
+    } else if next_match(queue, Some(irp), Peek::Any).is_ok() {
+        PeekVerdict::NoMatch
+    } else {
+        PeekVerdict::NotListed
+    }
+}
+
+// The first match after an IRP, or in the whole queue, by its number.
+fn next_match(
+    queue: &CheckedQueue,
+    after: Option<IrpId>,
+    peek: Peek,
+) -> Result<Option<IrpId>, NotListed>
+    ensures start { IsOk result ↔ IsStartIn (listed queue.now) after }
+    ensures first { IfOk result
+        (λ first. first ≡ first_match peek (rest_after after (listed queue.now))) }
+{
+    match queue.peek_next(after, peek) {
+        Ok(Some(next)) => Ok(Some(next.irp)),
+        Ok(None) => Ok(None),
+        Err(refusal) => Err(refusal),
+    }
+}
+
+// The first match after an IRP that is in the queue, or in the whole queue.
+fn match_after(queue: &CheckedQueue, after: Option<IrpId>, peek: Peek) -> Option<IrpId>
+    requires { IsStartIn (listed queue.now) after }
+    ensures { result ≡ first_match peek (rest_after after (listed queue.now)) }
+{
+    match next_match(queue, after, peek) {
+        Ok(first) => first,
+        Err(_) => unreachable!(),
+    }
+}
+
+// Whether an IRP is among the matches after another one, or in the whole queue.
+fn stands_after(queue: &CheckedQueue, from: Option<IrpId>, peek: Peek, irp: IrpId) -> bool
+    requires { IsStartIn (listed queue.now) from }
+    ensures { result ≡ is_listed (matching peek (rest_after from (listed queue.now))) irp }
+{
+    let mut at = from;
+    'matches: for _ in 0..queue.len() {
+        let Some(next) = match_after(queue, at, peek) else {
+            return false;
+        };
+        if is_same(next, irp) {
+            return true;
+        }
+        at = Some(next);
+    }
+    false
+}
+
+// Whether two numbers are of one IRP.
+#[tactic(auto, unfolding(irp_core::specs::Steps::same_id))]
+fn is_same(one: IrpId, other: IrpId) -> bool
+    ensures { result ≡ same_id one other }
+{
+    one.0 == other.0
+}

@@ -1,0 +1,49 @@
+-- What a judgement of a driver's peek answers to C.
+use Rattle.std.specs.Prelude.{◌≡◌, ℕ, List, Option, Some, None, if◌then◌else◌}
+use Rattle.irp_core.specs.declared.ids.IrpId.{IrpId}
+use Rattle.csq_list.specs.declared.entry.Entry.{Entry}
+use Rattle.csq_list.specs.declared.entry.Peek.{Peek}
+use Rattle.csq_audit.specs.Lists.{listed}
+use Rattle.csq_audit.specs.Peeks.{peek_verdict}
+use Rattle.csq_audit.specs.declared.peek.PeekVerdict.{PeekVerdict}
+use Rattle.csq_audit.specs.declared.peek.PeekVerdict.TheVariants as verdict
+use Rattle.csq_c.specs.Bodies.{QueueBodyState}
+use Rattle.csq_c.specs.Lefts.{is_start}
+use Rattle.csq_c.specs.Looks.{OnOpen}
+use Rattle.csq_c.specs.declared.codes.Code.{Code}
+use Rattle.csq_c.specs.declared.codes.Code.TheVariants.{Done, NotListed}
+
+-- the verdict of a peek's answer, where the peek may go on after that IRP
+abbrev pub judged : List Entry → Option IrpId → Peek → Option IrpId → Option PeekVerdict
+judged es after k answer = if is_start es after then Some (peek_verdict es after k answer) else None
+
+-- whether there is a verdict
+abbrev pub judge_code : Option PeekVerdict → Code
+judge_code (Some v) = Done
+judge_code None = NotListed
+
+-- an open queue's verdict of a peek's answer
+abbrev pub JudgesPeekOf : Option IrpId → Peek → Option IrpId → QueueBodyState → Code → Option PeekVerdict → Type 0
+JudgesPeekOf after k answer body code told = OnOpen body code (told ≡ None) (λ q. (told ≡ judged (listed q) after k answer) × (code ≡ judge_code told))
+
+-- the number of a verdict
+abbrev pub verdict_number : PeekVerdict → ℕ
+verdict_number verdict.Agrees = 0
+verdict_number (verdict.Skips i) = 1
+verdict_number verdict.Backwards = 2
+verdict_number verdict.NoMatch = 3
+verdict_number verdict.NotListed = 4
+
+-- which IRP is skipped
+abbrev pub skipped_by : PeekVerdict → Option ℕ
+skipped_by (verdict.Skips i) = Some i.0
+skipped_by _ = None
+
+-- both, where there is a verdict
+abbrev pub verdict_told : Option PeekVerdict → Option ℕ
+verdict_told None = None
+verdict_told (Some v) = Some (verdict_number v)
+
+abbrev pub skipped_told : Option PeekVerdict → Option ℕ
+skipped_told None = None
+skipped_told (Some v) = skipped_by v

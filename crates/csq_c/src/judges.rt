@@ -1,0 +1,94 @@
+//! What is to be said of a driver's queue callbacks, beside an open queue, under the caller's lock. Before any other
+//! code each answers CSQ_EMPTY_HANDLE where the handle is empty, then CSQ_CLOSED of a closed queue.
+ghost use Rattle.std.specs.Prelude.{◌≡◌, Option};
+ghost use Rattle.csq_audit.specs.declared.peek.PeekVerdict.{PeekVerdict as Verdict};
+ghost use Rattle.csq_c.specs.Exports.{IsQueueKept};
+ghost use Rattle.csq_c.specs.Judges.{JudgesPeekOf, skipped_by, skipped_told, verdict_number, verdict_told};
+ghost use Rattle.csq_c.specs.Lefts.{start_of};
+ghost use Rattle.csq_c.specs.Looks.{OnQueueHandle};
+ghost use Rattle.csq_c.specs.Shapes.{peek_of, set_to};
+
+use crate::body::QueueBody;
+use crate::codes::Code;
+use crate::handles::CsqQueue;
+use crate::shapes::{peek, start, write};
+use csq_audit::{PeekVerdict, judge_peek};
+use csq_list::Peek;
+use irp_core::IrpId;
+
+impl QueueBody {
+    /// The verdict of a peek's answer, where the queue is open.
+    fn judge_peek(
+        &self,
+        after: Option<IrpId>,
+        peek: Peek,
+        answer: Option<IrpId>,
+    ) -> (Code, Option<PeekVerdict>)
+        ensures { JudgesPeekOf after peek answer self.now result.0 result.1 }
+    {
+        let Some(queue) = &self.queue else {
+            return (Code::Closed, None);
+        };
+        match judge_peek(queue, after, peek, answer) {
+            Ok(verdict) => (Code::Done, Some(verdict)),
+            Err(_) => (Code::NotListed, None),
+        }
+    }
+}
+
+// The number of a verdict, and of the IRP that is skipped.
+fn numbers_of(verdict: PeekVerdict) -> (u32, Option<u32>)
+    ensures { result ≡ (verdict_number verdict, skipped_by verdict) }
+{
+    match verdict {
+        PeekVerdict::Agrees => (0, None),
+        PeekVerdict::Skips(irp) => (1, Some(irp.0)),
+        PeekVerdict::Backwards => (2, None),
+        PeekVerdict::NoMatch => (3, None),
+        PeekVerdict::NotListed => (4, None),
+    }
+}
+
+// Those of a verdict, where there is one.
+fn told(verdict: Option<PeekVerdict>) -> (Option<u32>, Option<u32>)
+    ensures { result ≡ (verdict_told verdict, skipped_told verdict) }
+{
+    let Some(verdict) = verdict else {
+        return (None, None);
+    };
+    let (number, skipped) = numbers_of(verdict);
+    (Some(number), skipped)
+}
+
+/// Compares the answer of a driver's `CsqPeekNextIrp` with the queue's list: `answer`, or none by the largest
+/// number, to a peek that went on after `after` (or from the first, by the largest number) for IRPs of a
+/// file object (or of all, by the largest number). Writes a verdict: 0 where it agrees with
+/// `csq_peek_next`; 1 where it is none or a later match, and in `skipped` the match that comes first;
+/// 2 where it is a match, but not after `after`; 3 where it is no match; 4 where it isn't listed.
+/// CSQ_OK, or CSQ_NOT_LISTED where `after` isn't listed. Own rule.
+#[unsafe(no_mangle)]
+pub extern "C" fn csq_judge_peek(
+    queue: &mut CsqQueue,
+    after: u32,
+    file: u32,
+    answer: u32,
+    verdict: &mut u32,
+    skipped: &mut u32,
+) -> u32
+    ensures same { IsQueueKept queue.old queue.new }
+    ensures judged { OnQueueHandle queue.old.boxed.body result
+        ((verdict.new ≡ verdict.old) × (skipped.new ≡ skipped.old))
+        (λ body code. (told : Option Verdict)
+        × JudgesPeekOf (start_of after) (peek_of file) (start_of answer) body code told
+        × (verdict.new ≡ set_to (verdict_told told) verdict.old)
+        × (skipped.new ≡ set_to (skipped_told told) skipped.old)) }
+{
+    let Some(body) = queue.boxed.lent() else {
+        return Code::Empty.number();
+    };
+    let (code, judged) = body.judge_peek(start(after), peek(file), start(answer));
+    let (number, first) = told(judged);
+    write(verdict, number);
+    write(skipped, first);
+    code.number()
+}
