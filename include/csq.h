@@ -149,6 +149,20 @@ enum csq_code {
     CSQ_OTHER_QUEUE = 26
 };
 
+/* What csq_judge_peek says of an answer, the first that holds: */
+enum csq_peek_verdict {
+    /* It is what csq_peek_next answers. */
+    CSQ_PEEK_AGREES = 0,
+    /* It is none, or a later match: another match comes first. */
+    CSQ_PEEK_SKIPS = 1,
+    /* It is a match, but none after the IRP from which the peek went on. */
+    CSQ_PEEK_BACKWARDS = 2,
+    /* It is listed, and no match. */
+    CSQ_PEEK_NO_MATCH = 3,
+    /* It isn't listed. */
+    CSQ_PEEK_NOT_LISTED = 4
+};
+
 /* How a queue keeps its list: in one vector, or in chains (one over all listed IRPs, one for each file object). */
 enum { CSQ_VECTOR = 0, CSQ_CHAINS = 1 };
 
@@ -336,6 +350,13 @@ CSQ_NODISCARD uint32_t csq_reuse(struct csq_queue *queue, struct csq_pass *pass,
  * which is listed until that canceller has run it. CSQ_NONE also for an unknown file object.
  * CSQ_EMPTY_HANDLE; CSQ_CLOSED; CSQ_NOT_LISTED (`after` isn't listed); CSQ_NONE. Lock: held. */
 uint32_t csq_peek_next(const struct csq_queue *queue, uint32_t after, uint32_t file, struct csq_irp *irp);
+
+/* Judges what a driver's own CsqPeekNextIrp answered for its list, beside this queue's: `answer`, or CSQ_ANY for none,
+ * to a peek that went on after `after`, or from the first on for CSQ_ANY, for a file object, or for any with CSQ_ANY.
+ * Tells one of enum csq_peek_verdict, and for CSQ_PEEK_SKIPS in *skipped the match that comes first.
+ * CSQ_EMPTY_HANDLE; CSQ_CLOSED; CSQ_NOT_LISTED (`after` isn't listed). Lock: held. */
+uint32_t csq_judge_peek(const struct csq_queue *queue, uint32_t after, uint32_t file, uint32_t answer,
+                        uint32_t *verdict, uint32_t *skipped);
 
 /* Tells how many IRPs are listed. CSQ_EMPTY_HANDLE; CSQ_CLOSED. Lock: held. */
 uint32_t csq_len(const struct csq_queue *queue, uint32_t *len);

@@ -18,6 +18,7 @@ static uint32_t limited_of(struct arguments a) { return csq_new_with_file_limits
 static uint32_t len_of(struct arguments a) { return csq_len(a.queue, &first); }
 static uint32_t file_len_of(struct arguments a) { return csq_file_len(a.queue, 9, &first); }
 static uint32_t peek_of(struct arguments a) { return csq_peek_next(a.queue, 9, 9, &named); }
+static uint32_t judge_of(struct arguments a) { return csq_judge_peek(a.queue, 9, 9, 9, &first, &second); }
 static uint32_t out_of(struct arguments a) { return csq_count_passes_out(a.queue, &first); }
 static uint32_t close_of(struct arguments a) { return csq_close(a.queue); }
 static uint32_t listed_of(struct arguments a) { return csq_read_listed(a.queue, CSQ_ANY, &first); }
@@ -43,8 +44,8 @@ typedef uint32_t (*call)(struct arguments);
 
 /* The calls that take a queue alone, of which some want it open; both; and a pass alone. csq_new and csq_take_pass,
  * which fill one, and csq_free, which takes an empty one, stand apart. */
-static const call of_queue[] = { out_of, close_of, len_of, file_len_of, peek_of, listed_of, left_of };
-static const call of_open[] = { out_of, close_of, len_of, file_len_of, peek_of };
+static const call of_queue[] = { out_of, close_of, len_of, file_len_of, peek_of, judge_of, listed_of, left_of };
+static const call of_open[] = { out_of, close_of, len_of, file_len_of, peek_of, judge_of };
 static const call of_both[] = { back_of, insert_of, next_of, remove_of, routine_of, owed_of, file_of, reuse_of };
 static const call of_pass[] = { drop_of, holding_of, mark_of, complete_of, cancelled_of, flag_of, read_of };
 

@@ -70,6 +70,7 @@ static uint32_t way(void) {
     wrong |= csq_reuse(&queue, &pass, irp, &number) | csq_insert(&queue, &pass, 0, 0, 0, &irp);
     wrong |= csq_cancel(&queue, &pass, irp, &its_lock, NULL, &number) | csq_insert(&queue, &pass, 1, 0, 0, &irp);
     wrong |= csq_peek_next(&queue, CSQ_ANY, 0, &irp) | csq_len(&queue, &number) | csq_file_len(&queue, 0, &number);
+    wrong |= csq_judge_peek(&queue, CSQ_ANY, 0, irp.irp, &number, &other) | (number ^ CSQ_PEEK_AGREES);
     wrong |= csq_mark_cancel(&pass, irp, &number) | csq_cancel_routine(&queue, &pass, irp);
     wrong |= csq_complete_cancelled(&pass, irp) | (csq_cancel_owed(&queue, &pass, irp) ^ CSQ_NOT_OWED);
     wrong |= csq_drain(&queue, &pass, 0, &its_lock, NULL, &number) | csq_free(NULL);

@@ -127,6 +127,9 @@ static void make_look(void) {
     uint32_t len = 99, file = some_file();
     uint32_t code = csq_peek_next(&queue, pick(2) ? CSQ_ANY : some_irp(), pick(2) ? CSQ_ANY : file, &irp);
     tell("peek", code, irp.irp, irp.life);
+    uint32_t verdict = 99, skipped = 99, after = pick(2) ? CSQ_ANY : some_irp();
+    code = csq_judge_peek(&queue, after, pick(2) ? CSQ_ANY : file, pick(4) ? some_irp() : CSQ_ANY, &verdict, &skipped);
+    tell("judge", code, verdict, skipped);
     code = csq_file_len(&queue, file, &len);
     tell("file len", code, file, len);
     code = csq_len(&queue, &len);
