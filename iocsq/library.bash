@@ -1,0 +1,34 @@
+# Builds tests of drivers with the checker, for iocsq/run-tests: source this. `top` is the repository, `work` a folder for
+# what is made, `library` the files of csq.h's library, or empty for the plain queue.
+warnings=(-Wall -Wextra -Wpedantic -Wshadow -Wconversion -Wno-multichar -Werror)
+
+# Compiles the checker and the storm once for each compiler and flags, and prints the folder with its objects:
+# iocsq_objects COMPILER FLAG..
+iocsq_objects() {
+  local name=${*//[^A-Za-z0-9]/_} file
+  local folder=$work/objects/$name
+  if [[ ! -d $folder ]]; then
+    mkdir -p "$folder.new"
+    for file in "$top"/iocsq/*.c "$top/iocsq/tests/storm.c"; do
+      "$@" -std=c11 "${warnings[@]}" -I"$top/include" -I"$top/iocsq" -c "$file" -o "$folder.new/$(basename "$file" .c).o" ||
+        return 1
+    done
+    if ((${#library[@]} == 0)); then
+      csq_plain_library "$top" "$folder.new/libcsq_plain.a" "$@" || return 1
+    fi
+    mv "$folder.new" "$folder"
+  fi
+  echo "$folder"
+}
+
+# Links the storm with a driver: iocsq_build PROGRAM DRIVER WRONG COMPILER FLAG.. DRIVER is a file below iocsq without
+# its ending; beside it NAME.test.c says what its callbacks mean, if it isn't the usual.
+iocsq_build() {
+  local program=$1 driver=$top/iocsq/$2 wrong=$3 objects test=()
+  shift 3
+  objects=$(iocsq_objects "$@") || return 1
+  if [[ -f $driver.test.c ]]; then test=("$driver.test.c"); fi
+  "$@" -std=c11 "${warnings[@]}" -DWRONG="$wrong" -I"$top/include/wdk" -c "$driver.c" -o "$program.driver.o" &&
+    "$@" -std=c11 "${warnings[@]}" -I"$top/include" "$objects"/*.o "${test[@]}" "$program.driver.o" \
+      "${library[@]:-$objects/libcsq_plain.a}" -pthread -o "$program"
+}
