@@ -1,11 +1,12 @@
-/* What runs later: timers and DPCs, on a thread that stands for the processor; work items, on threads of the system. The
- * state's lock is held for all of it, but not while a routine of the driver runs. */
+/* What runs later: timers and DPCs, on a thread that stands for the processor; work items, on threads of the system.
+ * The state's lock is held for all of it, but not while a routine of the driver runs. */
 #include "internal.h"
 
 #include <stdlib.h>
 
 enum { WORKERS = 2, TIMER = 8 }; /* a timer's type is TIMER + its TIMER_TYPE */
 #define MILLISECOND UINT64_C(1000000)
+#define SOON (100 * MILLISECOND)
 
 static KTIMER *timers; /* that are set */
 static bool timers_changed;
@@ -209,9 +210,19 @@ BOOLEAN NTAPI KeSetTimer(PKTIMER Timer, LARGE_INTEGER DueTime, PKDPC Dpc) {
     return KeSetTimerEx(Timer, DueTime, 0, Dpc);
 }
 
+/* In turns it is drawn whether the clock came just before: what a driver has to reckon with as it cancels a timer. */
+static void draw_expiry(const KTIMER *timer) {
+    uint64_t now = iocsq_now();
+    if (iocsq_in_turns() && timer->Set && timer->DueTime > now && timer->DueTime - now < SOON && iocsq_rarely(2)) {
+        iocsq_pass_time_in_turns(timer->DueTime - now);
+    }
+    expire_timers();
+}
+
 BOOLEAN NTAPI KeCancelTimer(PKTIMER Timer) {
     iocsq_point();
     iocsq_lock_state();
+    draw_expiry(Timer);
     bool was_set = unset(Timer);
     iocsq_unlock_state();
     return was_set;

@@ -1,4 +1,5 @@
-/* What the files of iocsq share. All names for others begin with iocsq_, since they stand in one program with a driver. */
+/* What the files of iocsq share. All names for others begin with iocsq_, since they stand in one program with a
+ * driver. */
 #ifndef IOCSQ_INTERNAL_H
 #define IOCSQ_INTERNAL_H
 #include "iocsq_test.h"
@@ -6,8 +7,8 @@
 #include <stdatomic.h>
 #include <stdbool.h>
 
-/* IRPs under way, file objects that are open (one number of csq.h's is for no file object), an IRP's stack locations, and
- * the steps kept of an IRP's stay. */
+/* IRPs under way, file objects that are open (one number of csq.h's is for no file object), an IRP's stack locations,
+ * and the steps kept of an IRP's stay. */
 enum { IOCSQ_IRPS = 4096, IOCSQ_FILES = 255, IOCSQ_STACK = 4, IOCSQ_STEPS = 16 };
 /* In the place of a time in nanoseconds: without a limit. */
 #define IOCSQ_FOR_EVER UINT64_MAX
@@ -92,6 +93,7 @@ void iocsq_turn_point(void);
 void iocsq_yield(void); /* lets another thread run, in turns and else */
 void iocsq_wait_in_turns(bool (*may_go)(void *), void *of, uint64_t nanoseconds, const char *what);
 uint64_t iocsq_now_in_turns(void);
+void iocsq_pass_time_in_turns(uint64_t nanoseconds);
 void iocsq_end_turns_of_thread(void);
 
 /* ---- waits.c ---- */

@@ -1,4 +1,5 @@
-/* The IRPs: their table, their way down through stack locations and up through completion routines, their cancellation. */
+/* The IRPs: their table, their way down through stack locations and up through completion routines, and their
+ * cancellation. */
 #include "internal.h"
 
 #if defined(__SANITIZE_ADDRESS__)
@@ -232,9 +233,13 @@ static bool go_up(struct iocsq_irp *i) {
 }
 
 void iocsq_check_pending(const struct iocsq_irp *i) {
-    if (i->pending_returned != (i->answer == STATUS_PENDING)) {
-        iocsq_disagree(i, "irp %u is completed %s pending, and its dispatch routine answered %08X", i->index,
-                       i->pending_returned ? "as marked" : "and not marked", (unsigned)i->answer);
+    if (i->answer == STATUS_PENDING && !i->pending_returned) {
+        iocsq_disagree(i, "irp %u is completed without the pending mark, and its dispatch routine answered "
+                          "STATUS_PENDING: a completion routine did not pass the mark on", i->index);
+    }
+    if (i->answer != STATUS_PENDING && i->pending_returned) {
+        iocsq_disagree(i, "irp %u is completed with the pending mark, and its dispatch routine answered %08X", i->index,
+                       (unsigned)i->answer);
     }
 }
 

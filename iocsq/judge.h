@@ -1,5 +1,5 @@
-/* What a driver's CsqPeekNextIrp answered, compared with what csq_peek_next answers: functions of numbers alone. An IRP is
- * the number that it has in the queue of csq.h, or IOCSQ_NONE. */
+/* What a driver's CsqPeekNextIrp answered, compared with what csq_peek_next answers: functions of numbers alone. An IRP
+ * is the number that it has in the queue of csq.h, or IOCSQ_NONE. */
 #ifndef IOCSQ_JUDGE_H
 #define IOCSQ_JUDGE_H
 #include <stdbool.h>
@@ -7,8 +7,8 @@
 
 #define IOCSQ_NONE UINT32_MAX
 
-/* Of a peek's answer: it is the expected one; it passes over an IRP that should have come; it isn't in the list; it isn't a
- * match of what was asked for; it doesn't stand after the IRP from which the peek went on. */
+/* Of a peek's answer: it is the expected one; it passes over an IRP that should have come; it isn't in the list; it
+ * isn't a match of what was asked for; it doesn't stand after the IRP from which the peek went on. */
 enum iocsq_verdict { IOCSQ_AGREES, IOCSQ_SKIPS, IOCSQ_NOT_LISTED, IOCSQ_NO_MATCH, IOCSQ_BACKWARDS };
 
 /* What is known of the answer of a peek, where it is an IRP. */

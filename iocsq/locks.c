@@ -194,26 +194,28 @@ NTSTATUS NTAPI IoAcquireRemoveLockEx(PIO_REMOVE_LOCK RemoveLock, PVOID Tag, PCST
     }
     if (RemoveLock->Removed) {
         status = STATUS_DELETE_PENDING;
-    } else if (RemoveLock->TagCount == IOCSQ_REMOVE_TAGS) {
-        iocsq_disagree(NULL, "a remove lock is acquired %u times", (unsigned)IOCSQ_REMOVE_TAGS + 1);
     } else {
         RemoveLock->IoCount++;
-        RemoveLock->Tags[RemoveLock->TagCount++] = Tag;
+        if (RemoveLock->TagCount < IOCSQ_REMOVE_TAGS) {
+            RemoveLock->Tags[RemoveLock->TagCount++] = Tag;
+        }
     }
     iocsq_unlock_state();
     return status;
 }
 
-/* One acquire with this tag is undone. */
+/* One acquire with this tag is undone. Of very many acquires not all tags are known. */
 static void release(PIO_REMOVE_LOCK lock, PVOID tag) {
-    ULONG at = 0;
-    while (at < lock->TagCount && lock->Tags[at] != tag) {
+    ULONG at = 0, count = lock->TagCount;
+    while (at < count && lock->Tags[at] != tag) {
         at++;
     }
-    if (at == lock->TagCount) {
+    if (at < count) {
+        lock->Tags[at] = lock->Tags[count - 1];
+        lock->TagCount--;
+    } else if (lock->IoCount - 1 == (LONG)count) {
         iocsq_disagree(iocsq_irp_at(tag), "IoReleaseRemoveLock with a tag that no acquire has, or that was released");
     }
-    lock->Tags[at] = lock->Tags[--lock->TagCount];
     if (--lock->IoCount == 0) {
         lock->RemoveEvent.Header.SignalState = 1;
         iocsq_state_changed();

@@ -1,5 +1,5 @@
-/* The queue calls of iocsq.h: the driver's callbacks keep the driver's list, a reference queue of csq.h decides beside it,
- * and the first disagreement of the two ends the program. */
+/* The queue calls of iocsq.h: the driver's callbacks keep the driver's list, a reference queue of csq.h decides beside
+ * it, and the first disagreement of the two ends the program. */
 #include "queue.h"
 
 /* ---- The driver's callbacks, with what is asked of each ---- */

@@ -1,5 +1,5 @@
-/* The queue of csq.h that runs beside the list of one IO_CSQ, and decides who gets which IRP. It has locks of its own, so
- * that a driver whose lock is wrong doesn't break what csq.h asks of its caller. */
+/* The queue of csq.h that runs beside the list of one IO_CSQ, and decides who gets which IRP. It has locks of its own,
+ * so that a driver whose lock is wrong doesn't break what csq.h asks of its caller. */
 #ifndef IOCSQ_REFERENCE_H
 #define IOCSQ_REFERENCE_H
 #include "csq.h"

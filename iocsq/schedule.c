@@ -1,5 +1,5 @@
 /* A stay in a queue as a schedule of csqsim: the atomic steps on the one IRP, which is named 0 there, each by its pass.
- * In turns they stand in their order; where threads run freely two of different threads may stand the other way round. */
+ * Only in turns it is told: where threads run freely, the order of two steps of different threads isn't known. */
 #include "internal.h"
 
 void iocsq_begin_steps(struct iocsq_irp *i) {

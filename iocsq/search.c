@@ -11,7 +11,7 @@ static bool matches(const struct iocsq_search *s, struct iocsq_irp *i) {
     return s->context == NULL || s->context == (PVOID)iocsq_irp_file(i);
 }
 
-/* The first match after a slot, or with `unseen` the first that wasn't an answer yet; IOCSQ_NONE where there is none. */
+/* The first match after a slot, or with `unseen` the first that wasn't an answer yet. IOCSQ_NONE: there is none. */
 static uint32_t next_match(const struct iocsq_search *s, uint32_t after, bool unseen) {
     struct iocsq_reference *r = &s->q->reference;
     uint32_t slot = after;
@@ -45,19 +45,23 @@ static bool stands_after(const struct iocsq_search *s, uint32_t slot) {
     return at == slot;
 }
 
+/* The answer as a number: an IRP that isn't listed has no slot, and is none that could be expected. */
+static uint32_t answer_number(const struct iocsq_irp *answer, uint32_t slot) {
+    return answer && slot == IOCSQ_NONE ? (uint32_t)CSQ_MOST_IRPS : slot;
+}
+
 static struct iocsq_judgement judge(const struct iocsq_search *s, struct iocsq_irp *answer) {
     uint32_t slot = answer ? iocsq_slot_in(&s->q->reference, answer) : IOCSQ_NONE;
     bool listed = slot != IOCSQ_NONE, any_order = s->q->policy.AnyOrder;
     struct iocsq_facts facts = { listed, listed && matches(s, answer), false };
     if (any_order) {
         facts.after = listed && !s->seen[slot];
-        return iocsq_judge_any_order(answer ? IOCSQ_NONE : next_match(s, CSQ_ANY, true), answer ? slot : IOCSQ_NONE, facts);
+        uint32_t left = answer ? IOCSQ_NONE : next_match(s, CSQ_ANY, true);
+        return iocsq_judge_any_order(left, answer_number(answer, slot), facts);
     }
     uint32_t expected = expected_answer(s);
     facts.after = listed && (slot == expected || stands_after(s, slot));
-    /* An IRP that isn't listed has no slot, and is none that could be expected. */
-    uint32_t number = answer && !listed ? CSQ_MOST_IRPS : slot;
-    return iocsq_judge(expected, number, facts);
+    return iocsq_judge(expected, answer_number(answer, slot), facts);
 }
 
 /* The report of a judgement that isn't Agrees. */

@@ -48,6 +48,10 @@ uint64_t iocsq_now_in_turns(void) {
     return now;
 }
 
+void iocsq_pass_time_in_turns(uint64_t nanoseconds) {
+    now += nanoseconds;
+}
+
 static struct task *new_task(void) {
     if (task_count == TASKS) {
         iocsq_fail("more than %u threads", (unsigned)TASKS);
@@ -86,7 +90,7 @@ static void tell_deadlock(void) {
     iocsq_disagree(NULL, "every thread waits for another");
 }
 
-/* Fills in the tasks that may go and don't rest, and tells how many. Where all that may go rest, none rests any more. */
+/* Fills in the tasks that may go and don't rest, and tells how many. Where all that may go rest, none rests on. */
 static uint32_t find_able(struct task **able) {
     uint32_t count = 0, resting = 0;
     for (uint32_t at = 0; at < task_count; at++) {

@@ -63,6 +63,7 @@ typedef unsigned char UCHAR, *PUCHAR, BOOLEAN, *PBOOLEAN;
 typedef int16_t SHORT, CSHORT;
 typedef uint16_t USHORT, *PUSHORT;
 typedef int32_t LONG, *PLONG;
+#define MAXLONG 0x7fffffff
 typedef uint32_t ULONG, *PULONG;
 typedef int64_t LONGLONG, LONG64;
 typedef uint64_t ULONGLONG, ULONG64;

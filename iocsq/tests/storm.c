@@ -10,6 +10,7 @@
 #include <stdlib.h>
 #include <unistd.h>
 
+#define ANY_CONTROL CTL_CODE(FILE_DEVICE_UNKNOWN, 0x801, METHOD_BUFFERED, FILE_ANY_ACCESS)
 enum { THREADS = 32, OPEN = 6, MINE = 12, BYTES = 16, LONGEST = 4, PATIENCE = 20000, SECONDS = 100 };
 
 extern DRIVER_INITIALIZE DriverEntry;
@@ -67,7 +68,7 @@ static ULONG control_code(struct user *u) {
     while (DriverControls && DriverControls[count]) {
         count++;
     }
-    return count ? DriverControls[roll(u, count)] : CTL_CODE(FILE_DEVICE_UNKNOWN, 0x801, METHOD_BUFFERED, FILE_ANY_ACCESS);
+    return count ? DriverControls[roll(u, count)] : (ULONG)ANY_CONTROL;
 }
 
 static void send(struct user *u, struct request *r, PFILE_OBJECT file) {
