@@ -39,6 +39,8 @@ BOOLEAN IocsqWait(IOCSQ_REQUEST *Request, ULONG Milliseconds);  /* whether it wa
 NTSTATUS IocsqStatus(IOCSQ_REQUEST *Request);                   /* STATUS_PENDING until it was */
 ULONG_PTR IocsqInformation(IOCSQ_REQUEST *Request);             /* once it was completed */
 VOID IocsqFree(IOCSQ_REQUEST *Request);                         /* once it was completed */
+/* Ends the program with a report on a request, which begins with its name and this text. */
+VOID IocsqComplain(IOCSQ_REQUEST *Request, const char *Text);
 
 /* IoCancelIrp of a request at random, also of one whose dispatch routine still runs, as another thread may. */
 BOOLEAN IocsqCancelAny(VOID);

@@ -24,6 +24,8 @@ struct iocsq_step {
     uint32_t pass;
 };
 
+struct iocsq_queue;
+
 /* An IRP, with what the checker knows of it: in memory of its own, so that an IRP that was completed isn't read. */
 struct iocsq_irp {
     IRP irp; /* first: iocsq_irp_at relies on it */
@@ -39,6 +41,7 @@ struct iocsq_irp {
     _Atomic uint64_t stay; /* the queue, slot and life that it has in a reference queue; 0: none */
     uint32_t pass;         /* which holds it there */
     PIO_CSQ_IRP_CONTEXT context;
+    struct iocsq_queue *call_of; /* the queue whose call is to end with the IRP's completion, or null */
     _Atomic uint64_t pending; /* `use` in the upper half, and a bit for each location that was marked pending */
     _Atomic bool passed_on;   /* to a lower driver */
     _Atomic uint32_t completions; /* calls of IoCompleteRequest */
@@ -48,7 +51,7 @@ struct iocsq_irp {
     ULONG_PTR information;
     bool pending_returned;
     struct iocsq_step steps[IOCSQ_STEPS]; /* of its present stay */
-    _Atomic uint32_t step_count;
+    uint32_t step_count;
 };
 
 struct iocsq_irp *iocsq_irp_at(const void *irp);                    /* null: no IRP */
@@ -69,6 +72,7 @@ uint32_t iocsq_thread(void); /* this thread's number: 1 and so on */
 uint32_t iocsq_random(void);
 bool iocsq_rarely(uint32_t in); /* once in so many times */
 void iocsq_point(void);         /* another thread may come between here */
+void iocsq_long_point(uint32_t in); /* and once in so many times others come between for long */
 /* Notes a call, for the reports; `about` may be null. */
 void iocsq_tell(const struct iocsq_irp *about, const char *format, ...) __attribute__((format(printf, 2, 3)));
 void iocsq_tell_sent(const struct iocsq_irp *about, const char *format, ...) __attribute__((format(printf, 2, 3)));
@@ -90,6 +94,7 @@ void iocsq_show_schedule(const struct iocsq_irp *i);
 /* ---- turns.c ---- */
 bool iocsq_in_turns(void); /* whether one thread runs at a time */
 void iocsq_turn_point(void);
+void iocsq_long_turn_point(uint32_t in);
 void iocsq_yield(void); /* lets another thread run, in turns and else */
 void iocsq_wait_in_turns(bool (*may_go)(void *), void *of, uint64_t nanoseconds, const char *what);
 uint64_t iocsq_now_in_turns(void);

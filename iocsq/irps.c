@@ -90,6 +90,7 @@ static void begin_irp(struct iocsq_irp *i, int locations) {
     i->passed_on = false;
     i->answered = false;
     i->context = NULL;
+    i->call_of = NULL;
     i->stay = 0;
     iocsq_begin_steps(i);
 }
@@ -295,7 +296,7 @@ BOOLEAN NTAPI IoCancelIrp(PIRP Irp) {
     KIRQL before;
     iocsq_tell(i, "IoCancelIrp(irp %u)", i->index);
     Irp->Cancel = TRUE;
-    iocsq_point();
+    iocsq_long_point(8);
     if (iocsq_cancel_queued(i)) {
         return TRUE;
     }

@@ -22,13 +22,18 @@ iocsq_objects() {
 }
 
 # Links the storm with a driver: iocsq_build PROGRAM DRIVER WRONG COMPILER FLAG.. DRIVER is a file below iocsq without
-# its ending; beside it NAME.test.c says what its callbacks mean, if it isn't the usual.
+# its ending; beside it NAME.test.c says what its callbacks mean, if it isn't the usual. WRONG is the number of the place
+# where it is wrong, 0 for none, or `planted`.
 iocsq_build() {
-  local program=$1 driver=$top/iocsq/$2 wrong=$3 objects test=()
+  local program=$1 driver=$top/iocsq/$2 wrong=$3 objects test=() source=$top/iocsq/$2.c
   shift 3
+  if [[ $wrong == planted ]]; then
+    source=$program.planted.c wrong=0
+    "$top/iocsq/examples/plant" "$(basename "$driver")" >"$source" || return 1
+  fi
   objects=$(iocsq_objects "$@") || return 1
   if [[ -f $driver.test.c ]]; then test=("$driver.test.c"); fi
-  "$@" -std=c11 "${warnings[@]}" -DWRONG="$wrong" -I"$top/include/wdk" -c "$driver.c" -o "$program.driver.o" &&
+  "$@" -std=c11 "${warnings[@]}" -DWRONG="$wrong" -I"$top/include/wdk" -c "$source" -o "$program.driver.o" &&
     "$@" -std=c11 "${warnings[@]}" -I"$top/include" "$objects"/*.o "${test[@]}" "$program.driver.o" \
       "${library[@]:-$objects/libcsq_plain.a}" -pthread -o "$program"
 }

@@ -5,7 +5,7 @@
 #include <stdlib.h>
 #include <unistd.h>
 
-enum { TEN_SECONDS = 10000, MILLISECOND = 1000000 };
+enum { MILLISECOND = 1000000 };
 
 static FILE_OBJECT files[IOCSQ_FILES]; /* with the next, under the state's lock */
 static bool is_open[IOCSQ_FILES];
@@ -23,6 +23,11 @@ bool iocsq_is_cleaned(const void *file) {
     bool cleaned = number < IOCSQ_FILES && is_cleaned[number];
     iocsq_unlock_state();
     return cleaned;
+}
+
+/* After so many milliseconds a request that should have been completed will never be. */
+static ULONG patience(void) {
+    return iocsq_in_turns() ? 2000 : 10000;
 }
 
 /* ---- Requests ---- */
@@ -145,11 +150,15 @@ VOID IocsqFree(IOCSQ_REQUEST *Request) {
     iocsq_unlock_state();
 }
 
-/* Whether it is a test's request that isn't completed, but for a cleanup, which nobody cancels. Then it stays until
- * end_cancel, as a caller of IoCancelIrp has to see to. */
+VOID IocsqComplain(IOCSQ_REQUEST *Request, const char *Text) {
+    iocsq_disagree(&Request->irp, "irp %u %s", Request->irp.index, Text);
+}
+
+/* Whether it is a test's request that isn't completed or cancelled, but for a cleanup, which nobody cancels. Then it
+ * stays until end_cancel, as a caller of IoCancelIrp has to see to. */
 static bool begin_cancel(struct iocsq_irp *i) {
     iocsq_lock_state();
-    bool may = i->used && !i->own && i->file && i->place != IOCSQ_DONE && i->major != IRP_MJ_CLEANUP;
+    bool may = i->used && !i->own && i->file && i->place != IOCSQ_DONE && !i->irp.Cancel && i->major != IRP_MJ_CLEANUP;
     i->cancels += may;
     iocsq_unlock_state();
     return may;
@@ -177,7 +186,7 @@ static NTSTATUS send_and_wait(PFILE_OBJECT file, UCHAR major) {
     if (!request) {
         iocsq_fail("out of IRPs");
     }
-    if (!IocsqWait(request, TEN_SECONDS)) {
+    if (!IocsqWait(request, patience())) {
         iocsq_disagree(&request->irp, "irp %u (major %02x) was never completed", request->irp.index, major);
     }
     NTSTATUS status = IocsqStatus(request);
@@ -245,7 +254,7 @@ VOID IocsqClose(PFILE_OBJECT File) {
     check_cleaned(File);
     for (uint32_t at = 0; at < iocsq_irp_count(); at++) {
         struct iocsq_irp *i = iocsq_irp_number(at);
-        if (is_of(i, File) && !wait_for(i, TEN_SECONDS)) {
+        if (is_of(i, File) && !wait_for(i, patience())) {
             iocsq_disagree(i, "irp %u of file %u %s, and was never completed", i->index, iocsq_file_number(File),
                            iocsq_place_name(i));
         }
@@ -299,7 +308,7 @@ PDRIVER_OBJECT IocsqLoad(PDRIVER_INITIALIZE DriverEntry) {
 static void check_all_completed(void) {
     for (uint32_t at = 0; at < iocsq_irp_count(); at++) {
         struct iocsq_irp *i = iocsq_irp_number(at);
-        if (i->used && !i->own && !wait_for(i, TEN_SECONDS)) {
+        if (i->used && !i->own && !wait_for(i, patience())) {
             iocsq_disagree(i, "irp %u %s, and was never completed", i->index, iocsq_place_name(i));
         }
     }

@@ -59,10 +59,12 @@ static void remove_by_driver(struct iocsq_queue *q, struct iocsq_irp *i) {
     iocsq_audit(q, "after CsqRemoveIrp");
 }
 
+/* The last that is done in a call. With the IRP's completion the call needs the queue no more: a driver may free it. */
 static void complete_by_driver(struct iocsq_queue *q, struct iocsq_irp *i) {
     uint32_t completions = i->completions;
     iocsq_point();
     iocsq_tell(i, "  CsqCompleteCanceledIrp(irp %u)", i->index);
+    i->call_of = q;
     q->csq->CsqCompleteCanceledIrp(q->csq, &i->irp);
     if (completions == i->completions) {
         iocsq_disagree(i, "CsqCompleteCanceledIrp returned, and irp %u was not completed", i->index);
@@ -77,7 +79,8 @@ bool iocsq_cancel_queued(struct iocsq_irp *i) {
         return false;
     }
     struct iocsq_queue *q = iocsq_queue_at(claim.reference->index);
-    iocsq_point();
+    q->calls++;
+    iocsq_long_point(2); /* the routine is taken, and has yet to run */
     iocsq_tell(i, "  the queue's cancel routine of irp %u", i->index);
     struct held held = enter(q);
     iocsq_reference_run_routine(&claim, i);
@@ -155,6 +158,7 @@ static bool insert_into_reference(struct iocsq_queue *q, struct iocsq_irp *i, PV
 
 NTSTATUS NTAPI IoCsqInsertIrpEx(PIO_CSQ Csq, PIRP Irp, PIO_CSQ_IRP_CONTEXT Context, PVOID InsertContext) {
     struct iocsq_queue *q = iocsq_queue_of(Csq);
+    q->calls++;
     struct iocsq_irp *i = iocsq_known(Irp, "IoCsqInsertIrp of");
     struct held held = enter(q);
     iocsq_tell(i, "IoCsqInsertIrp%s(irp %u)", Csq->Type == IO_TYPE_CSQ_EX ? "Ex" : "", i->index);
@@ -164,6 +168,7 @@ NTSTATUS NTAPI IoCsqInsertIrpEx(PIO_CSQ Csq, PIRP Irp, PIO_CSQ_IRP_CONTEXT Conte
         IOCSQ_COUNT(Refused);
         iocsq_audit(q, "after an insert that the driver refused");
         leave(q, held);
+        q->calls--;
         return status;
     }
     check_file(i);
@@ -173,6 +178,7 @@ NTSTATUS NTAPI IoCsqInsertIrpEx(PIO_CSQ Csq, PIRP Irp, PIO_CSQ_IRP_CONTEXT Conte
     if (insert_into_reference(q, i, InsertContext)) {
         iocsq_audit(q, "after the insert callback");
         leave(q, held);
+        q->calls--;
         return status;
     }
     iocsq_tell(i, "  irp %u was cancelled before", i->index);
@@ -198,6 +204,7 @@ static void tell_peek(const struct iocsq_irp *before, const struct iocsq_irp *an
 
 PIRP NTAPI IoCsqRemoveNextIrp(PIO_CSQ Csq, PVOID PeekContext) {
     struct iocsq_queue *q = iocsq_queue_of(Csq);
+    q->calls++;
     struct held held = enter(q);
     struct iocsq_search s = { .q = q, .context = PeekContext, .when = "in IoCsqRemoveNextIrp" };
     struct iocsq_irp *answer, *before;
@@ -212,6 +219,8 @@ PIRP NTAPI IoCsqRemoveNextIrp(PIO_CSQ Csq, PVOID PeekContext) {
         remove_by_driver(q, answer);
     }
     leave(q, held);
+    q->calls--;
+    iocsq_long_point(8); /* the driver has the IRP, and has yet to say so elsewhere */
     return answer ? &answer->irp : NULL;
 }
 
@@ -231,6 +240,7 @@ static struct iocsq_irp *irp_of_context(PIO_CSQ csq, PIO_CSQ_IRP_CONTEXT context
 
 PIRP NTAPI IoCsqRemoveIrp(PIO_CSQ Csq, PIO_CSQ_IRP_CONTEXT Context) {
     struct iocsq_queue *q = iocsq_queue_of(Csq);
+    q->calls++;
     struct held held = enter(q);
     struct iocsq_irp *i = irp_of_context(Csq, Context);
     bool removed = i && iocsq_reference_remove(&q->reference, i);
@@ -239,12 +249,18 @@ PIRP NTAPI IoCsqRemoveIrp(PIO_CSQ Csq, PIO_CSQ_IRP_CONTEXT Context) {
         remove_by_driver(q, i);
     }
     leave(q, held);
+    q->calls--;
+    iocsq_long_point(8);
     return removed ? &i->irp : NULL;
 }
 
 /* ---- Completion, of an IRP that stays in a queue ---- */
 void iocsq_complete_held(struct iocsq_irp *i, NTSTATUS status) {
     int place = i->place;
+    if (i->call_of) {
+        i->call_of->calls--;
+        i->call_of = NULL;
+    }
     uint32_t code = iocsq_reference_complete(i, status);
     if (code == CSQ_NOT_REMOVED) {
         iocsq_disagree(i, "irp %u was got cancelled, and is completed with %08X (csq_complete answers %s)", i->index,

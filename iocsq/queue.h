@@ -8,6 +8,7 @@ struct iocsq_queue {
     PIO_CSQ csq; /* null: its memory was freed */
     IOCSQ_POLICY policy;
     struct iocsq_reference reference;
+    _Atomic uint32_t calls;  /* and cancel routines of it, under way */
     _Atomic uint32_t inside; /* the thread that has the driver's lock, through CsqAcquireLock */
     _Atomic(const void *) lock;
 };

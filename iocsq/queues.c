@@ -53,8 +53,8 @@ static void forget(struct iocsq_queue *q, const char *what) {
         const struct iocsq_irp *i = q->reference.by_slot[listed];
         iocsq_disagree(i, "%s, and irp %u is in a queue in it", what, i->index);
     }
-    if (q->inside) {
-        iocsq_disagree(NULL, "%s, and T%u has the lock of a queue in it", what, q->inside);
+    if (q->calls > 0) {
+        iocsq_disagree(NULL, "%s, and a call or a cancel routine of a queue in it has not ended", what);
     }
     q->csq = NULL;
 }

@@ -7,7 +7,7 @@
 
 #include <pthread.h>
 
-enum { IOCSQ_QUEUES = 256, IOCSQ_PASSES = 16 };
+enum { IOCSQ_QUEUES = 512, IOCSQ_PASSES = 16 };
 
 /* A pass is used by one thread at a time. */
 struct iocsq_lent_pass {

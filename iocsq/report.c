@@ -71,6 +71,14 @@ void iocsq_point(void) {
     }
 }
 
+void iocsq_long_point(uint32_t in) {
+    if (iocsq_in_turns()) {
+        iocsq_long_turn_point(in);
+    } else {
+        iocsq_point();
+    }
+}
+
 /* ---- Lines: threads write them without a lock, since one that is torn as it is shown does no harm ---- */
 __attribute__((no_sanitize("thread"), format(printf, 3, 0))) static void
 add_line(const struct iocsq_irp *about, bool sent, const char *format, va_list rest) {

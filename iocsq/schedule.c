@@ -1,13 +1,15 @@
 /* A stay in a queue as a schedule of csqsim: the atomic steps on the one IRP, which is named 0 there, each by its pass.
- * Only in turns it is told: where threads run freely, the order of two steps of different threads isn't known. */
-#include "internal.h"
+ * Only in turns they are kept: where threads run freely, the order of two steps of different threads isn't known. */
+#include "reference.h"
 
 void iocsq_begin_steps(struct iocsq_irp *i) {
-    i->step_count = 0;
+    if (iocsq_in_turns()) {
+        i->step_count = 0;
+    }
 }
 
 void iocsq_step(struct iocsq_irp *i, uint32_t pass, const char *name) {
-    uint32_t at = atomic_fetch_add(&i->step_count, 1);
+    uint32_t at = iocsq_in_turns() ? i->step_count++ : IOCSQ_STEPS;
     if (at < IOCSQ_STEPS) {
         i->steps[at].name = name;
         i->steps[at].pass = pass;
@@ -16,7 +18,7 @@ void iocsq_step(struct iocsq_irp *i, uint32_t pass, const char *name) {
 
 void iocsq_step_again(struct iocsq_irp *i, const char *name) {
     if (i->step_count > 0) {
-        iocsq_step(i, iocsq_thread(), name);
+        iocsq_step(i, iocsq_pass_of_thread(), name);
     }
 }
 
@@ -33,7 +35,7 @@ static uint32_t name_of_pass(uint32_t *names, uint32_t *count, uint32_t pass) {
 
 void iocsq_show_schedule(const struct iocsq_irp *i) {
     uint32_t names[IOCSQ_STEPS], passes = 0, count = i->step_count;
-    if (count == 0 || count > IOCSQ_STEPS || !iocsq_in_turns()) {
+    if (count == 0 || count > IOCSQ_STEPS) {
         return;
     }
     fprintf(stderr, "  As a schedule, for csqsim:\n");

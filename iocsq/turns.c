@@ -7,7 +7,7 @@
 #include <sched.h>
 #include <stdlib.h>
 
-enum { TASKS = 256, TURN_NANOSECONDS = 1000 };
+enum { TASKS = 256, TURN_NANOSECONDS = 10000, SHORT_REST = 400, LONG_REST = 4000 };
 
 /* A thread, as it takes turns. */
 struct task {
@@ -104,7 +104,7 @@ static uint32_t find_able(struct task **able) {
         }
     }
     if (count == 0 && resting > 0) {
-        given += 4000; /* the longest rest */
+        given += LONG_REST;
         return find_able(able);
     }
     return count;
@@ -126,7 +126,7 @@ static void hand_over(void) {
     given++;
     now += TURN_NANOSECONDS;
     if (self && draw(64) == 0) {
-        self->rests = given + draw(draw(4) == 0 ? 4000 : 400);
+        self->rests = given + draw(draw(4) == 0 ? LONG_REST : SHORT_REST);
     }
     while ((count = find_able(able)) == 0) {
         now = soonest_end_of_wait();
@@ -157,6 +157,15 @@ void iocsq_turn_point(void) {
     bool limited = most_switches && iocsq_counts.Switches >= most_switches;
     if (draw(3) == 0 && !limited) {
         take_turns();
+    }
+}
+
+void iocsq_long_turn_point(uint32_t in) {
+    if (draw(in) == 0) {
+        self->rests = given + draw(LONG_REST);
+        take_turns();
+    } else {
+        iocsq_turn_point();
     }
 }
 

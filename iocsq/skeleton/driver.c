@@ -1,6 +1,6 @@
 /*
- * @NAME@: a driver whose reads wait in a cancel-safe queue, until a write of the same file object completes the oldest of
- * them. Begin here: put your own dispatch routines in the place of these, and keep the queue's callbacks in their form.
+ * @NAME@: a driver whose reads wait in a cancel-safe queue, until a write of the same file object completes the oldest
+ * of them. Put your own dispatch routines in the place of these, and keep the queue's callbacks in their form.
  */
 #include <ntddk.h>
 #include <csq.h>

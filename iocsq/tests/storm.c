@@ -11,7 +11,8 @@
 #include <unistd.h>
 
 #define ANY_CONTROL CTL_CODE(FILE_DEVICE_UNKNOWN, 0x801, METHOD_BUFFERED, FILE_ANY_ACCESS)
-enum { THREADS = 32, OPEN = 6, MINE = 12, BYTES = 16, LONGEST = 4, PATIENCE = 20000, SECONDS = 100 };
+enum { THREADS = 32, CANCELLERS = 3, OPEN = 6, MINE = 12, BYTES = 16, LONGEST = 4, SECONDS = 100 };
+enum { SHORTEST_PAUSE = 20, LONGEST_PAUSE = 320 }; /* microseconds */
 
 extern DRIVER_INITIALIZE DriverEntry;
 /* What a driver's callbacks mean, if it isn't the usual. */
@@ -21,6 +22,7 @@ extern const ULONG DriverControls[] __attribute__((weak));
 
 static PDRIVER_OBJECT driver;
 static long turns;
+static ULONG patience = 20000; /* milliseconds */
 static _Atomic unsigned long succeeded, cancelled, timed_out, refused, cancels;
 static _Atomic int ending;
 
@@ -92,7 +94,9 @@ static void cancel(struct user *u, struct request *r) {
     IocsqCancel(r->sent);
     cancels++; /* found or not */
     if (roll(u, 2) == 0) {
-        must(IocsqWait(r->sent, PATIENCE), "a cancelled request was never completed");
+        if (!IocsqWait(r->sent, patience)) {
+            IocsqComplain(r->sent, "was cancelled, and was never completed");
+        }
         reap(r);
     }
 }
@@ -102,7 +106,9 @@ static void close_file(struct user *u, PFILE_OBJECT *file) {
     for (uint32_t at = 0; at < MINE; at++) {
         struct request *r = &u->requests[at];
         if (r->sent && r->file == *file) {
-            must(IocsqWait(r->sent, 0), "a request outlived its file object");
+            if (!IocsqWait(r->sent, 0)) {
+                IocsqComplain(r->sent, "outlived its file object");
+            }
             reap(r);
         }
     }
@@ -141,10 +147,14 @@ static void *use(void *user) {
     return NULL;
 }
 
+/* Cancels requests of all users, and waits the longer where there is none to cancel. */
 static void *cancel_any(void *of) {
+    ULONG pause = SHORTEST_PAUSE;
     while (!ending) {
-        cancels += IocsqCancelAny();
-        IocsqPause(20);
+        BOOLEAN found = IocsqCancelAny();
+        cancels += found;
+        pause = found ? SHORTEST_PAUSE : pause < LONGEST_PAUSE ? 2 * pause : pause;
+        IocsqPause(pause);
     }
     return of;
 }
@@ -152,18 +162,22 @@ static void *cancel_any(void *of) {
 /* ---- The run ---- */
 static void run(int threads, uint32_t seed) {
     static struct user users[THREADS];
-    IOCSQ_THREAD started[THREADS], any;
+    IOCSQ_THREAD started[THREADS], cancellers[CANCELLERS];
     must((driver = IocsqLoad(DriverEntry)) != NULL, "the driver wasn't loaded");
     for (int at = 0; at < threads; at++) {
         users[at].dice = (uint32_t)at * 7919u + seed * 104729u + 1;
         started[at] = IocsqThread(use, &users[at]);
     }
-    any = IocsqThread(cancel_any, NULL);
+    for (int at = 0; at < CANCELLERS; at++) {
+        cancellers[at] = IocsqThread(cancel_any, NULL);
+    }
     for (int at = 0; at < threads; at++) {
         IocsqJoin(started[at]);
     }
     ending = 1;
-    IocsqJoin(any);
+    for (int at = 0; at < CANCELLERS; at++) {
+        IocsqJoin(cancellers[at]);
+    }
     IocsqUnload(driver);
 }
 
@@ -195,6 +209,7 @@ int main(int argc, char **argv) {
     alarm(SECONDS);
     if (argc > 4) {
         IocsqTurns(seed);
+        patience = 2000;
         IocsqSwitches(argc > 5 ? (ULONG)number(argc, argv, 5, 0, 1000000000) : 0);
     } else {
         IocsqChaos(seed);
