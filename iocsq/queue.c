@@ -202,6 +202,15 @@ static void tell_peek(const struct iocsq_irp *before, const struct iocsq_irp *an
     }
 }
 
+/* Whether the driver gets the IRP that it answered: not where a canceller has it. */
+static bool take(struct iocsq_queue *q, struct iocsq_irp *answer) {
+    bool taken = iocsq_reference_remove(&q->reference, answer);
+    if (!taken) {
+        iocsq_tell(answer, "    irp %u is a canceller's", answer->index);
+    }
+    return taken;
+}
+
 PIRP NTAPI IoCsqRemoveNextIrp(PIO_CSQ Csq, PVOID PeekContext) {
     struct iocsq_queue *q = iocsq_queue_of(Csq);
     q->calls++;
@@ -213,7 +222,7 @@ PIRP NTAPI IoCsqRemoveNextIrp(PIO_CSQ Csq, PVOID PeekContext) {
         before = s.before;
         answer = iocsq_peek(&s);
         tell_peek(before, answer);
-    } while (answer && !iocsq_reference_remove(&q->reference, answer));
+    } while (answer && !take(q, answer));
     if (answer) {
         IOCSQ_COUNT(Removed);
         remove_by_driver(q, answer);
@@ -243,7 +252,7 @@ PIRP NTAPI IoCsqRemoveIrp(PIO_CSQ Csq, PIO_CSQ_IRP_CONTEXT Context) {
     q->calls++;
     struct held held = enter(q);
     struct iocsq_irp *i = irp_of_context(Csq, Context);
-    bool removed = i && iocsq_reference_remove(&q->reference, i);
+    bool removed = i && take(q, i);
     if (removed) {
         IOCSQ_COUNT(Removed);
         remove_by_driver(q, i);
