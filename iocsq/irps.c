@@ -56,6 +56,15 @@ static struct iocsq_irp *known(const void *irp, const char *call) {
     return i;
 }
 
+/* One that the driver may still use: it wasn't completed, or freed. */
+static struct iocsq_irp *in_use(const void *irp, const char *call) {
+    struct iocsq_irp *i = known(irp, call);
+    if (i->place == IOCSQ_DONE) {
+        iocsq_disagree(i, "%s of irp %u, which was %s", call, i->index, i->own ? "freed" : "completed");
+    }
+    return i;
+}
+
 /* An IRP that isn't used, at random: what comes late for an old use should hit another. The state's lock is held. */
 static struct iocsq_irp *find_unused(void) {
     uint32_t from = irp_count < 64 ? 0 : iocsq_random() % irp_count;
@@ -119,7 +128,7 @@ static void mark_pending(struct iocsq_irp *i) {
 }
 
 VOID NTAPI IoMarkIrpPending(PIRP Irp) {
-    struct iocsq_irp *i = known(Irp, "IoMarkIrpPending");
+    struct iocsq_irp *i = in_use(Irp, "IoMarkIrpPending");
     if (Irp->CurrentLocation > Irp->StackCount) {
         iocsq_disagree(i, "IoMarkIrpPending of irp %u, which has no current stack location", i->index);
     }
@@ -158,7 +167,7 @@ NTSTATUS iocsq_dispatch(PDEVICE_OBJECT device, struct iocsq_irp *i) {
 }
 
 NTSTATUS NTAPI IofCallDriver(PDEVICE_OBJECT DeviceObject, PIRP Irp) {
-    struct iocsq_irp *i = known(Irp, "IoCallDriver");
+    struct iocsq_irp *i = in_use(Irp, "IoCallDriver");
     if (i->place != IOCSQ_HOME && i->place != IOCSQ_REMOVED) {
         iocsq_disagree(i, "IoCallDriver of irp %u, which %s", i->index, iocsq_place_name(i));
     }
@@ -284,7 +293,7 @@ VOID NTAPI IofCompleteRequest(PIRP Irp, CCHAR PriorityBoost) {
 
 /* ---- Cancellation ---- */
 PDRIVER_CANCEL NTAPI IoSetCancelRoutine(PIRP Irp, PDRIVER_CANCEL CancelRoutine) {
-    struct iocsq_irp *i = known(Irp, "IoSetCancelRoutine");
+    struct iocsq_irp *i = in_use(Irp, "IoSetCancelRoutine");
     if (i->place == IOCSQ_LISTED) {
         iocsq_disagree(i, "IoSetCancelRoutine of irp %u, which is in a cancel-safe queue", i->index);
     }
@@ -294,6 +303,9 @@ PDRIVER_CANCEL NTAPI IoSetCancelRoutine(PIRP Irp, PDRIVER_CANCEL CancelRoutine) 
 BOOLEAN NTAPI IoCancelIrp(PIRP Irp) {
     struct iocsq_irp *i = known(Irp, "IoCancelIrp");
     KIRQL before;
+    if (i->own && i->place == IOCSQ_DONE) {
+        iocsq_disagree(i, "IoCancelIrp of irp %u, which was freed", i->index);
+    }
     iocsq_tell(i, "IoCancelIrp(irp %u)", i->index);
     Irp->Cancel = TRUE;
     iocsq_long_point(8);

@@ -44,6 +44,9 @@ static PDEVICE_OBJECT top_of(PDEVICE_OBJECT device) {
 
 /* An IRP whose next stack location is filled in. Null: all are under way. */
 static struct iocsq_irp *make_irp(PFILE_OBJECT file, UCHAR major, PVOID buffer) {
+    if (major > IRP_MJ_MAXIMUM_FUNCTION) {
+        iocsq_fail("there is no major function %02x", major);
+    }
     struct iocsq_irp *i = iocsq_new_irp(top_of(file->DeviceObject)->StackSize, false);
     if (!i) {
         return NULL;

@@ -18,7 +18,7 @@ static void check_lock(struct iocsq_queue *q, const struct held *held) {
     }
     uint32_t other = atomic_exchange(&q->inside, iocsq_thread());
     if (other) {
-        iocsq_disagree(NULL, "CsqAcquireLock let this thread in beside T%u", other);
+        iocsq_disagree(NULL, "CsqAcquireLock let this thread in beside t%u", other);
     }
 }
 

@@ -43,7 +43,8 @@ struct iocsq_irp *iocsq_known(PIRP irp, const char *who) {
 }
 
 PFILE_OBJECT iocsq_irp_file(struct iocsq_irp *i) {
-    return IoGetCurrentIrpStackLocation(&i->irp)->FileObject;
+    bool has_location = i->irp.CurrentLocation <= i->irp.StackCount;
+    return has_location ? IoGetCurrentIrpStackLocation(&i->irp)->FileObject : NULL;
 }
 
 /* ---- The end of a queue's memory ---- */

@@ -121,7 +121,7 @@ __attribute__((no_sanitize("thread"))) static void show(uint32_t irp, uint32_t m
     for (; at < end; at++) {
         const struct line *line = &lines[at % LINES];
         if (irp == NO_IRP || line->irp == irp) {
-            fprintf(stderr, "  %6llu T%-3u %s\n", (unsigned long long)at, line->thread, line->text);
+            fprintf(stderr, "  %6llu t%-3u %s\n", (unsigned long long)at, line->thread, line->text);
         }
     }
 }
@@ -136,7 +136,7 @@ void iocsq_show_last_calls(void) {
 void iocsq_disagree(const struct iocsq_irp *about, const char *format, ...) {
     va_list rest;
     pthread_mutex_lock(&report_mutex); /* for good: the first report ends the program */
-    fprintf(stderr, "iocsq: T%u: ", iocsq_thread());
+    fprintf(stderr, "iocsq: t%u: ", iocsq_thread());
     va_start(rest, format);
     vfprintf(stderr, format, rest);
     va_end(rest);

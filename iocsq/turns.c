@@ -84,7 +84,7 @@ static bool is_ready(const struct task *t) {
 static void tell_deadlock(void) {
     for (uint32_t at = 0; at < task_count; at++) {
         if (!tasks[at].done) {
-            iocsq_tell(NULL, "T%u waits for ever, for %s", tasks[at].number, tasks[at].waits_for);
+            iocsq_tell(NULL, "t%u waits for ever, for %s", tasks[at].number, tasks[at].waits_for);
         }
     }
     iocsq_disagree(NULL, "every thread waits for another");
