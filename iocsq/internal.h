@@ -119,6 +119,13 @@ uint32_t iocsq_spin_lock_count(void);
 void iocsq_note_lock(const void *lock);   /* this thread has it */
 void iocsq_forget_lock(const void *lock); /* has it no more */
 void iocsq_set_irql(KIRQL level);
+/* Counts how often this thread releases a lock from now on. What it counted before: for iocsq_end_watch. */
+struct iocsq_watch {
+    const void *lock;
+    uint32_t releases;
+};
+struct iocsq_watch iocsq_watch_lock(const void *lock);
+uint32_t iocsq_end_watch(struct iocsq_watch before); /* answers how often it was released */
 
 /* ---- deferred.c ---- */
 void iocsq_check_no_deferred(const void *from, size_t size, const char *what); /* no timer or DPC lies in there */

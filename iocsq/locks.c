@@ -11,6 +11,7 @@ static _Thread_local const void *locks[LOCKS];
 static _Thread_local uint32_t lock_count;
 static _Thread_local uint32_t spin_lock_count;
 static _Thread_local KIRQL irql;
+static _Thread_local struct iocsq_watch watch;
 
 uint32_t iocsq_lock_count(void) {
     return lock_count;
@@ -52,6 +53,19 @@ void iocsq_forget_lock(const void *lock) {
         locks[at - 1] = locks[at];
     }
     lock_count--;
+    watch.releases += lock == watch.lock;
+}
+
+struct iocsq_watch iocsq_watch_lock(const void *lock) {
+    struct iocsq_watch before = watch, begun = { lock, 0 };
+    watch = begun;
+    return before;
+}
+
+uint32_t iocsq_end_watch(struct iocsq_watch before) {
+    uint32_t releases = watch.releases;
+    watch = before;
+    return releases;
 }
 
 /* ---- IRQL ---- */

@@ -6,6 +6,7 @@
 struct held {
     KIRQL irql, irql_before;
     uint32_t locks_before;
+    struct iocsq_watch watch_before;
 };
 
 static void check_lock(struct iocsq_queue *q, const struct held *held) {
@@ -23,13 +24,14 @@ static void check_lock(struct iocsq_queue *q, const struct held *held) {
 }
 
 static struct held enter(struct iocsq_queue *q) {
-    struct held held = { 0, KeGetCurrentIrql(), iocsq_lock_count() };
+    struct held held = { .irql_before = KeGetCurrentIrql(), .locks_before = iocsq_lock_count() };
     if (q->inside == iocsq_thread()) {
         iocsq_disagree(NULL, "a call of the queue from inside one of its callbacks");
     }
     iocsq_point();
     q->csq->CsqAcquireLock(q->csq, &held.irql);
     check_lock(q, &held);
+    held.watch_before = iocsq_watch_lock(q->lock);
     iocsq_point();
     iocsq_audit(q, "as the lock was taken");
     return held;
@@ -37,6 +39,9 @@ static struct held enter(struct iocsq_queue *q) {
 
 static void leave(struct iocsq_queue *q, struct held held) {
     iocsq_point();
+    if (iocsq_end_watch(held.watch_before) > 0) {
+        iocsq_disagree(NULL, "a callback of the queue released its lock");
+    }
     q->inside = 0;
     q->csq->CsqReleaseLock(q->csq, held.irql);
     if (iocsq_lock_count() != held.locks_before) {
@@ -109,6 +114,15 @@ static void check_insert(struct iocsq_irp *i) {
     }
 }
 
+/* A context is of one IRP at a time: the removal of that one clears it. */
+static void check_context(const struct iocsq_irp *i, const IO_CSQ_IRP_CONTEXT *context) {
+    const struct iocsq_irp *other = context ? iocsq_irp_at(context->Irp) : NULL;
+    if (other && other->context == context && other->place == IOCSQ_LISTED) {
+        iocsq_disagree(i, "IoCsqInsertIrp of irp %u with a context that irp %u is in the queue with", i->index,
+                       other->index);
+    }
+}
+
 static NTSTATUS insert_by_driver(PIO_CSQ csq, struct iocsq_irp *i, PIO_CSQ_IRP_CONTEXT context, PVOID insert_context) {
     PVOID kept = context ? (PVOID)context : (PVOID)csq;
     NTSTATUS status = STATUS_PENDING;
@@ -163,6 +177,7 @@ NTSTATUS NTAPI IoCsqInsertIrpEx(PIO_CSQ Csq, PIRP Irp, PIO_CSQ_IRP_CONTEXT Conte
     struct held held = enter(q);
     iocsq_tell(i, "IoCsqInsertIrp%s(irp %u)", Csq->Type == IO_TYPE_CSQ_EX ? "Ex" : "", i->index);
     check_insert(i);
+    check_context(i, Context);
     NTSTATUS status = insert_by_driver(Csq, i, Context, InsertContext);
     if (!NT_SUCCESS(status)) {
         IOCSQ_COUNT(Refused);

@@ -147,11 +147,17 @@ VOID IocsqSetPolicy(PIO_CSQ Csq, const IOCSQ_POLICY *Policy) {
     *(Csq ? &iocsq_queue_of(Csq)->policy : &first_policy) = *Policy;
 }
 
-/* A list entry of an IRP that is in a queue is linked or unlinked under that queue's lock alone. */
-VOID IocsqTouch(const LIST_ENTRY *Entry, const char *Call) {
-    struct iocsq_irp *i = iocsq_irp_of_entry(Entry);
+/* ---- List entries of IRPs that are in a queue: under that queue's lock alone ---- */
+static void check_touch(const LIST_ENTRY *entry, const char *call, const char *how) {
+    struct iocsq_irp *i = iocsq_irp_of_entry(entry);
     const struct iocsq_reference *r = i && i->place == IOCSQ_LISTED ? iocsq_reference_of(i) : NULL;
     if (r && !iocsq_has_lock(iocsq_queue_at(r->index)->lock)) {
-        iocsq_disagree(i, "%s of irp %u, which is in the queue, without the queue's lock", Call, i->index);
+        iocsq_disagree(i, "%s %s irp %u, which is in the queue, without the queue's lock", call, how, i->index);
     }
+}
+
+VOID IocsqTouch(const LIST_ENTRY *Entry, const LIST_ENTRY *Before, const LIST_ENTRY *After, const char *Call) {
+    check_touch(Entry, Call, "of");
+    check_touch(Before, Call, "beside");
+    check_touch(After, Call, "beside");
 }

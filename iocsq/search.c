@@ -16,7 +16,8 @@ static uint32_t next_match(const struct iocsq_search *s, uint32_t after, bool un
     struct iocsq_reference *r = &s->q->reference;
     uint32_t slot = after;
     while ((slot = iocsq_reference_next(r, slot, CSQ_ANY)) != IOCSQ_NONE) {
-        if (matches(s, r->by_slot[slot]) && !(unseen && s->seen[slot])) {
+        struct iocsq_irp *i = r->by_slot[slot];
+        if (i && matches(s, i) && !(unseen && s->seen[slot])) {
             break;
         }
     }
@@ -50,8 +51,8 @@ static uint32_t answer_number(const struct iocsq_irp *answer, uint32_t slot) {
     return answer && slot == IOCSQ_NONE ? (uint32_t)CSQ_MOST_IRPS : slot;
 }
 
-static struct iocsq_judgement judge(const struct iocsq_search *s, struct iocsq_irp *answer) {
-    uint32_t slot = answer ? iocsq_slot_in(&s->q->reference, answer) : IOCSQ_NONE;
+/* `slot` is the answer's in the reference, or IOCSQ_NONE. */
+static struct iocsq_judgement judge(const struct iocsq_search *s, struct iocsq_irp *answer, uint32_t slot) {
     bool listed = slot != IOCSQ_NONE, any_order = s->q->policy.AnyOrder;
     struct iocsq_facts facts = { listed, listed && matches(s, answer), false };
     if (any_order) {
@@ -70,6 +71,9 @@ static void complain(const struct iocsq_search *s, const struct iocsq_irp *answe
     char given[32] = "none";
     if (answer) {
         snprintf(given, sizeof given, "irp %u", answer->index);
+    }
+    if (judgement.verdict == IOCSQ_SKIPS && !skipped) {
+        iocsq_disagree(answer, "%s: the list changes while this thread has its lock", s->when);
     }
     switch (judgement.verdict) {
     case IOCSQ_SKIPS:
@@ -92,12 +96,13 @@ struct iocsq_irp *iocsq_peek(struct iocsq_search *s) {
     IOCSQ_COUNT(Peeks);
     PIRP irp = csq->CsqPeekNextIrp(csq, s->before ? &s->before->irp : NULL, s->context);
     struct iocsq_irp *answer = irp ? iocsq_known(irp, "CsqPeekNextIrp answered") : NULL;
-    struct iocsq_judgement judgement = judge(s, answer);
+    uint32_t slot = answer ? iocsq_slot_in(&s->q->reference, answer) : IOCSQ_NONE;
+    struct iocsq_judgement judgement = judge(s, answer, slot);
     if (judgement.verdict != IOCSQ_AGREES) {
         complain(s, answer, judgement);
     }
     if (answer) {
-        s->seen[iocsq_slot_in(&s->q->reference, answer)] = true;
+        s->seen[slot] = true;
         s->before = answer;
     }
     return answer;

@@ -113,8 +113,9 @@ typedef struct _LIST_ENTRY {
     struct _LIST_ENTRY *Blink;
 } LIST_ENTRY, *PLIST_ENTRY;
 
-/* Tells the checker of an entry that is linked or unlinked: one of a queued IRP wants its queue's lock. */
-VOID IocsqTouch(const LIST_ENTRY *Entry, const char *Call);
+/* Tells the checker of an entry that is linked between two others, or unlinked: where one of the three is of a queued
+ * IRP, that wants its queue's lock. */
+VOID IocsqTouch(const LIST_ENTRY *Entry, const LIST_ENTRY *Before, const LIST_ENTRY *After, const char *Call);
 
 FORCEINLINE VOID InitializeListHead(PLIST_ENTRY Head) {
     Head->Flink = Head->Blink = Head;
@@ -123,8 +124,8 @@ FORCEINLINE BOOLEAN IsListEmpty(const LIST_ENTRY *Head) {
     return Head->Flink == Head;
 }
 FORCEINLINE BOOLEAN RemoveEntryList(PLIST_ENTRY Entry) {
-    IocsqTouch(Entry, "RemoveEntryList");
     PLIST_ENTRY After = Entry->Flink, Before = Entry->Blink;
+    IocsqTouch(Entry, Before, After, "RemoveEntryList");
     Before->Flink = After;
     After->Blink = Before;
     return After == Before;
@@ -140,16 +141,16 @@ FORCEINLINE PLIST_ENTRY RemoveTailList(PLIST_ENTRY Head) {
     return Entry;
 }
 FORCEINLINE VOID InsertTailList(PLIST_ENTRY Head, PLIST_ENTRY Entry) {
-    IocsqTouch(Entry, "InsertTailList");
     PLIST_ENTRY Before = Head->Blink;
+    IocsqTouch(Entry, Before, Head, "InsertTailList");
     Entry->Flink = Head;
     Entry->Blink = Before;
     Before->Flink = Entry;
     Head->Blink = Entry;
 }
 FORCEINLINE VOID InsertHeadList(PLIST_ENTRY Head, PLIST_ENTRY Entry) {
-    IocsqTouch(Entry, "InsertHeadList");
     PLIST_ENTRY After = Head->Flink;
+    IocsqTouch(Entry, Head, After, "InsertHeadList");
     Entry->Flink = After;
     Entry->Blink = Head;
     After->Blink = Entry;
