@@ -41,6 +41,8 @@ ULONG_PTR IocsqInformation(IOCSQ_REQUEST *Request);             /* once it was c
 VOID IocsqFree(IOCSQ_REQUEST *Request);                         /* once it was completed */
 /* Ends the program with a report on a request, which begins with its name and this text. */
 VOID IocsqComplain(IOCSQ_REQUEST *Request, const char *Text);
+/* Ends the program with a report once it has run for so many seconds. */
+VOID IocsqLimit(ULONG Seconds);
 
 /* IoCancelIrp of a request at random, also of one whose dispatch routine still runs, as another thread may. */
 BOOLEAN IocsqCancelAny(VOID);

@@ -274,7 +274,8 @@ static NTSTATUS refuse(PDEVICE_OBJECT device, PIRP irp) {
     return STATUS_INVALID_DEVICE_REQUEST;
 }
 
-/* Where the driver uses a bad address, the calls before it are told too. */
+/* Where the driver uses a bad address, or the time is over, the calls before it are told too. The text is written
+ * first, since nothing else is safe in a signal's handler. */
 static void tell_bad_address(int signal_number) {
     static const char text[] = "iocsq: the driver used a bad address.\n";
     signal(signal_number, SIG_DFL);
@@ -282,6 +283,20 @@ static void tell_bad_address(int signal_number) {
         iocsq_show_last_calls();
     }
     raise(signal_number);
+}
+
+static void tell_time_over(int signal_number) {
+    static const char text[] = "iocsq: the run takes longer than it may: a thread waits for ever, or goes round.\n";
+    signal(signal_number, SIG_DFL);
+    if (write(STDERR_FILENO, text, sizeof text - 1) > 0) {
+        iocsq_show_last_calls();
+    }
+    _exit(IOCSQ_DISAGREES);
+}
+
+VOID IocsqLimit(ULONG Seconds) {
+    signal(SIGALRM, tell_time_over);
+    alarm(Seconds);
 }
 
 static void catch_bad_addresses(void) {

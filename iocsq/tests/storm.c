@@ -8,7 +8,6 @@
 #include <stdatomic.h>
 #include <stdio.h>
 #include <stdlib.h>
-#include <unistd.h>
 
 #define ANY_CONTROL CTL_CODE(FILE_DEVICE_UNKNOWN, 0x801, METHOD_BUFFERED, FILE_ANY_ACCESS)
 enum { THREADS = 32, CANCELLERS = 3, OPEN = 6, MINE = 12, BYTES = 16, LONGEST = 4, SECONDS = 100 };
@@ -206,7 +205,7 @@ int main(int argc, char **argv) {
     int threads = (int)number(argc, argv, 1, 1, THREADS);
     turns = number(argc, argv, 2, 1, 1000000000);
     uint32_t seed = (uint32_t)number(argc, argv, 3, 1, 1000000000);
-    alarm(SECONDS);
+    IocsqLimit(SECONDS);
     if (argc > 4) {
         IocsqTurns(seed);
         patience = 2000;
