@@ -2,16 +2,16 @@
 # what is made, `library` the files of csq.h's library, or empty for the plain queue.
 warnings=(-Wall -Wextra -Wpedantic -Wshadow -Wconversion -Wno-multichar -Werror)
 
-# Compiles the checker and the storm once for each compiler and flags, and prints the folder with its objects:
-# iocsq_objects COMPILER FLAG..
+# Compiles the checker once for each compiler and flags, and prints the folder with its objects; those of the tests are
+# in the folder `tests` of it: iocsq_objects COMPILER FLAG..
 iocsq_objects() {
-  local name=${*//[^A-Za-z0-9]/_} file
+  local name=${*//[^A-Za-z0-9]/_} file object
   local folder=$work/objects/$name
   if [[ ! -d $folder ]]; then
-    mkdir -p "$folder.new"
-    for file in "$top"/iocsq/*.c "$top/iocsq/tests/storm.c"; do
-      "$@" -std=c11 "${warnings[@]}" -I"$top/include" -I"$top/iocsq" -c "$file" -o "$folder.new/$(basename "$file" .c).o" ||
-        return 1
+    mkdir -p "$folder.new/tests"
+    for file in "$top"/iocsq/*.c "$top"/iocsq/tests/{storm,kernel}.c; do
+      object=${file#"$top/iocsq/"}
+      "$@" -std=c11 "${warnings[@]}" -I"$top/include" -I"$top/iocsq" -c "$file" -o "$folder.new/${object%.c}.o" || return 1
     done
     if ((${#library[@]} == 0)); then
       csq_plain_library "$top" "$folder.new/libcsq_plain.a" "$@" || return 1
@@ -34,6 +34,6 @@ iocsq_build() {
   objects=$(iocsq_objects "$@") || return 1
   if [[ -f $driver.test.c ]]; then test=("$driver.test.c"); fi
   "$@" -std=c11 "${warnings[@]}" -DWRONG="$wrong" -I"$top/include/wdk" -c "$source" -o "$program.driver.o" &&
-    "$@" -std=c11 "${warnings[@]}" -I"$top/include" "$objects"/*.o "${test[@]}" "$program.driver.o" \
-      "${library[@]:-$objects/libcsq_plain.a}" -pthread -o "$program"
+    "$@" -std=c11 "${warnings[@]}" -I"$top/include" "$objects"/*.o "$objects/tests/storm.o" "${test[@]}" \
+      "$program.driver.o" "${library[@]:-$objects/libcsq_plain.a}" -pthread -o "$program"
 }
