@@ -72,6 +72,22 @@ csq_link() {
   ln -s "libcsq.so.$major" "$lib/libcsq.so"
 }
 
+# Adds what tests of drivers are built from: the headers, and the checker as sources, since it is compiled with the
+# sanitizers of the driver that it tests: csq_add_iocsq TOP TREE
+csq_add_iocsq() {
+  local top=$1 tree=$2 share=$2/share/keuvatsi/iocsq
+  install -d "$tree/include/keuvatsi"/{iocsq,wdk} "$share"/{skeleton,tests}
+  install -m 644 "$top"/include/iocsq*.h "$tree/include/keuvatsi"
+  install -m 644 "$top"/include/iocsq/*.h "$tree/include/keuvatsi/iocsq"
+  install -m 644 "$top"/include/wdk/*.h "$tree/include/keuvatsi/wdk"
+  install -m 644 "$top"/iocsq/*.[ch] "$share"
+  install -m 644 "$top"/iocsq/skeleton/* "$share/skeleton"
+  install -m 644 "$top/iocsq/tests/storm.c" "$share/tests"
+  install -m 755 "$top"/iocsq/{new,shortest} "$share"
+  printf '%s\n' "# Paths from this folder, for new" "include=../../../include/keuvatsi" \
+    "library=../../../$LIBDIR/libcsq.a" >"$share/installed"
+}
+
 # Makes the tree WORK/tree: csq_package TOP WORK PREFIX ARCHIVE.., where PREFIX is what csq.pc is to name.
 csq_package() {
   local top=$1 work=$2 prefix=$3 version lib=$2/tree/$LIBDIR
@@ -81,6 +97,7 @@ csq_package() {
   local values=("VERSION=$version" "MAJOR=${version%%.*}" "LIBDIR=$LIBDIR" "PREFIX=$prefix"
     "TO_PREFIX=$(realpath -ms --relative-to="/$LIBDIR/cmake/csq" /)")
   install -D -m 644 "$top/include/csq.h" "$work/tree/include/keuvatsi/csq.h"
+  csq_add_iocsq "$top" "$work/tree"
   mkdir -p "$lib/pkgconfig" "$lib/cmake/csq"
   csq_fill "$top/c/package/csq.pc.in" "${values[@]}" >"$lib/pkgconfig/csq.pc"
   csq_fill "$top/c/package/csqConfig.cmake.in" "${values[@]}" >"$lib/cmake/csq/csqConfig.cmake"

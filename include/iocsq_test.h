@@ -1,0 +1,76 @@
+/*
+ * iocsq_test.h: what a test of a driver's queue calls. The test is the I/O manager: it loads the driver, opens file
+ * objects, sends IRPs, waits for them, cancels them, closes file objects, and unloads the driver.
+ */
+#ifndef IOCSQ_TEST_H
+#define IOCSQ_TEST_H
+#include "iocsq.h"
+#ifdef __cplusplus
+extern "C" {
+#endif
+
+/* What the checker is to know of a queue's callbacks, where it isn't what the comment at each field says. */
+typedef struct _IOCSQ_POLICY {
+    /* Whether an IRP is a match. Null: where PeekContext is null any IRP is, else one whose file object it is. */
+    BOOLEAN (*Match)(PIRP Irp, PVOID PeekContext);
+    /* Where an insert puts its IRP: 0 last, 1 first. Null: last. */
+    int (*Place)(PIRP Irp, PVOID InsertContext);
+    /* The driver keeps an order of its own (by priority, say): the order isn't compared, only who is in the list. */
+    BOOLEAN AnyOrder;
+    /* PeekContext null doesn't mean any IRP to this driver: the whole list can't be looked at. */
+    BOOLEAN NoAudit;
+} IOCSQ_POLICY;
+/* Of one queue, after its IoCsqInitialize[Ex]; for null, of all that are initialized from now on. */
+VOID IocsqSetPolicy(PIO_CSQ Csq, const IOCSQ_POLICY *Policy);
+
+PDRIVER_OBJECT IocsqLoad(PDRIVER_INITIALIZE DriverEntry); /* null where DriverEntry fails, or makes no device */
+PFILE_OBJECT IocsqOpen(PDRIVER_OBJECT Driver);            /* IRP_MJ_CREATE; null where that fails */
+VOID IocsqClose(PFILE_OBJECT File);                       /* IRP_MJ_CLEANUP, then IRP_MJ_CLOSE */
+VOID IocsqUnload(PDRIVER_OBJECT Driver);                  /* and tells each IRP that was never completed */
+
+/* A request that was sent. It stays valid until IocsqFree. IocsqSend and IocsqControl answer null where 4,096 IRPs are
+ * under way. The buffer is as the driver has it by METHOD_BUFFERED: in AssociatedIrp.SystemBuffer. */
+typedef struct _IOCSQ_REQUEST IOCSQ_REQUEST;
+IOCSQ_REQUEST *IocsqSend(PFILE_OBJECT File, UCHAR MajorFunction, PVOID Buffer, ULONG Length);
+IOCSQ_REQUEST *IocsqControl(PFILE_OBJECT File, ULONG IoControlCode, PVOID Buffer, ULONG InputLength,
+                            ULONG OutputLength);                /* IRP_MJ_DEVICE_CONTROL */
+BOOLEAN IocsqCancel(IOCSQ_REQUEST *Request);                    /* IoCancelIrp, at any time */
+BOOLEAN IocsqWait(IOCSQ_REQUEST *Request, ULONG Milliseconds);  /* whether it was completed by then */
+NTSTATUS IocsqStatus(IOCSQ_REQUEST *Request);                   /* STATUS_PENDING until it was */
+ULONG_PTR IocsqInformation(IOCSQ_REQUEST *Request);             /* once it was completed */
+VOID IocsqFree(IOCSQ_REQUEST *Request);                         /* once it was completed */
+/* Ends the program with a report on a request, which begins with its name and this text. */
+VOID IocsqComplain(IOCSQ_REQUEST *Request, const char *Text);
+/* Ends the program with a report once it has run for so many seconds. */
+VOID IocsqLimit(ULONG Seconds);
+
+/* IoCancelIrp of a request at random, also of one whose dispatch routine still runs, as another thread may. */
+BOOLEAN IocsqCancelAny(VOID);
+
+/* Delays at random, at the places where another thread may come between. 0: none. */
+VOID IocsqChaos(ULONG Seed);
+
+/* From now on one thread runs at a time, and the seed draws which, at each place where another may come between: so the
+ * same seed gives the same run, and the same report. A wait takes no time. Call it first, and start the test's threads
+ * by IocsqThread. (The thread sanitizer sees less then: the turns order everything.) 0: threads run freely. */
+VOID IocsqTurns(ULONG Seed);
+/* In turns: after so many switches from one thread to another a thread runs until it waits. 0: no limit. */
+VOID IocsqSwitches(ULONG Most);
+
+typedef void *IOCSQ_THREAD;
+IOCSQ_THREAD IocsqThread(void *(*Start)(void *), void *Context);
+VOID IocsqJoin(IOCSQ_THREAD Thread);
+VOID IocsqPause(ULONG Microseconds);
+
+/* How many calls the checker saw agree, and how often one thread gave its turn to another. */
+typedef struct _IOCSQ_COUNTS {
+    ULONG64 Inserted, Refused, Removed, Cancelled, Completed, Peeks, Audits, Switches;
+} IOCSQ_COUNTS;
+IOCSQ_COUNTS IocsqCounts(VOID);
+
+/* A disagreement ends the program with this status, after its report on standard error. */
+enum { IOCSQ_DISAGREES = 70 };
+#ifdef __cplusplus
+}
+#endif
+#endif

@@ -1,0 +1,351 @@
+/* What runs later: timers and DPCs, on a thread that stands for the processor; work items, on threads of the system.
+ * The state's lock is held for all of it, but not while a routine of the driver runs. */
+#include "internal.h"
+
+#include <stdlib.h>
+
+enum { WORKERS = 2, TIMER = 8 }; /* a timer's type is TIMER + its TIMER_TYPE */
+#define MILLISECOND UINT64_C(1000000)
+#define SOON (100 * MILLISECOND)
+
+static KTIMER *timers; /* that are set */
+static bool timers_changed;
+static KDPC *first_dpc, *last_dpc;
+static const KDPC *running_dpc;
+static IOCSQ_THREAD processor;
+static _Thread_local bool is_processor;
+static struct _IO_WORKITEM *first_work, *last_work;
+static IOCSQ_THREAD workers[WORKERS];
+static uint32_t items_allocated;
+static bool ending;
+
+static void check_left(const char *what) {
+    if (iocsq_lock_count() > 0 || KeGetCurrentIrql() != PASSIVE_LEVEL) {
+        iocsq_disagree(NULL, "%s returns with a lock or a changed IRQL", what);
+    }
+}
+
+/* ---- The processor ---- */
+static bool queue_dpc(KDPC *dpc) {
+    if (dpc->Queued) {
+        return false;
+    }
+    dpc->Queued = TRUE;
+    dpc->Next = NULL;
+    *(first_dpc ? &last_dpc->Next : &first_dpc) = dpc;
+    last_dpc = dpc;
+    iocsq_state_changed();
+    return true;
+}
+
+/* Takes a timer out of those that are set. Whether it was. */
+static bool unset(KTIMER *timer) {
+    KTIMER **at = &timers;
+    while (*at && *at != timer) {
+        at = &(*at)->Next;
+    }
+    if (!*at) {
+        return false;
+    }
+    *at = timer->Next;
+    timer->Set = FALSE;
+    return true;
+}
+
+static void set(KTIMER *timer, uint64_t due) {
+    timer->DueTime = due;
+    timer->Set = TRUE;
+    timer->Next = timers;
+    timers = timer;
+    timers_changed = true;
+    iocsq_state_changed();
+}
+
+static KTIMER *next_timer(void) {
+    KTIMER *soonest = timers;
+    for (KTIMER *at = timers; at; at = at->Next) {
+        soonest = at->DueTime < soonest->DueTime ? at : soonest;
+    }
+    return soonest;
+}
+
+static void expire_timers(void) {
+    KTIMER *timer;
+    while ((timer = next_timer()) != NULL && timer->DueTime <= iocsq_now()) {
+        unset(timer);
+        timer->Header.SignalState = 1;
+        if (timer->Period > 0) {
+            set(timer, timer->DueTime + (uint64_t)timer->Period * MILLISECOND);
+        }
+        if (timer->Dpc) {
+            queue_dpc(timer->Dpc);
+        }
+        iocsq_state_changed();
+    }
+    timers_changed = false;
+}
+
+static void run_first_dpc(void) {
+    KDPC *dpc = first_dpc, call = *dpc; /* its routine may free it */
+    first_dpc = dpc->Next;
+    dpc->Queued = FALSE;
+    running_dpc = dpc;
+    iocsq_unlock_state();
+    iocsq_point();
+    iocsq_tell(NULL, "a DPC");
+    iocsq_set_irql(DISPATCH_LEVEL);
+    call.DeferredRoutine(dpc, call.DeferredContext, call.SystemArgument1, call.SystemArgument2);
+    if (KeGetCurrentIrql() != DISPATCH_LEVEL) {
+        iocsq_disagree(NULL, "a DPC returns at IRQL %u", KeGetCurrentIrql());
+    }
+    iocsq_set_irql(PASSIVE_LEVEL);
+    check_left("a DPC");
+    iocsq_lock_state();
+    running_dpc = NULL;
+    iocsq_state_changed();
+}
+
+static bool has_processor_work(void *of) {
+    (void)of;
+    return first_dpc || timers_changed || ending;
+}
+
+static void *run_processor(void *of) {
+    is_processor = true;
+    iocsq_lock_state();
+    while (!ending) {
+        KTIMER *next = next_timer();
+        uint64_t now = iocsq_now(), wait = !next ? IOCSQ_FOR_EVER : next->DueTime > now ? next->DueTime - now : 0;
+        iocsq_await(has_processor_work, NULL, wait, "a timer or a DPC");
+        expire_timers();
+        if (first_dpc) {
+            run_first_dpc();
+        }
+    }
+    iocsq_unlock_state();
+    return of;
+}
+
+static void need_processor(void) {
+    if (!processor) {
+        processor = IocsqThread(run_processor, NULL);
+    }
+}
+
+/* ---- DPCs ---- */
+VOID NTAPI KeInitializeDpc(PRKDPC Dpc, PKDEFERRED_ROUTINE DeferredRoutine, PVOID DeferredContext) {
+    KDPC dpc = { NULL, DeferredRoutine, DeferredContext, NULL, NULL, FALSE };
+    *Dpc = dpc;
+}
+
+BOOLEAN NTAPI KeInsertQueueDpc(PRKDPC Dpc, PVOID SystemArgument1, PVOID SystemArgument2) {
+    iocsq_lock_state();
+    need_processor();
+    bool queued = queue_dpc(Dpc);
+    if (queued) {
+        Dpc->SystemArgument1 = SystemArgument1;
+        Dpc->SystemArgument2 = SystemArgument2;
+    }
+    iocsq_unlock_state();
+    return queued;
+}
+
+BOOLEAN NTAPI KeRemoveQueueDpc(PRKDPC Dpc) {
+    iocsq_lock_state();
+    bool queued = Dpc->Queued;
+    for (KDPC *at = first_dpc, *before = NULL; queued && at; before = at, at = at->Next) {
+        if (at == Dpc) {
+            *(before ? &before->Next : &first_dpc) = at->Next;
+            last_dpc = at == last_dpc ? before : last_dpc;
+        }
+    }
+    Dpc->Queued = FALSE;
+    iocsq_unlock_state();
+    return queued;
+}
+
+static bool no_dpc(void *of) {
+    (void)of;
+    return !first_dpc && !running_dpc;
+}
+
+VOID NTAPI KeFlushQueuedDpcs(VOID) {
+    if (KeGetCurrentIrql() >= DISPATCH_LEVEL) {
+        iocsq_disagree(NULL, "KeFlushQueuedDpcs at DISPATCH_LEVEL");
+    }
+    iocsq_lock_state();
+    iocsq_await(no_dpc, NULL, IOCSQ_FOR_EVER, "the DPCs");
+    iocsq_unlock_state();
+}
+
+/* ---- Timers ---- */
+VOID NTAPI KeInitializeTimerEx(PKTIMER Timer, TIMER_TYPE Type) {
+    KTIMER timer = { { (UCHAR)(TIMER + Type), 0 }, NULL, NULL, 0, 0, FALSE };
+    *Timer = timer;
+}
+
+VOID NTAPI KeInitializeTimer(PKTIMER Timer) {
+    KeInitializeTimerEx(Timer, NotificationTimer);
+}
+
+BOOLEAN NTAPI KeSetTimerEx(PKTIMER Timer, LARGE_INTEGER DueTime, LONG Period, PKDPC Dpc) {
+    if (Timer->Header.Type < TIMER) {
+        iocsq_disagree(NULL, "KeSetTimer of a timer that was not initialized");
+    }
+    if (DueTime.QuadPart > 0) {
+        iocsq_fail("an absolute time is not known here");
+    }
+    iocsq_lock_state();
+    need_processor();
+    bool was_set = unset(Timer);
+    Timer->Header.SignalState = 0;
+    Timer->Period = Period;
+    Timer->Dpc = Dpc;
+    set(Timer, iocsq_now() + (uint64_t)-DueTime.QuadPart * 100);
+    iocsq_unlock_state();
+    return was_set;
+}
+
+BOOLEAN NTAPI KeSetTimer(PKTIMER Timer, LARGE_INTEGER DueTime, PKDPC Dpc) {
+    return KeSetTimerEx(Timer, DueTime, 0, Dpc);
+}
+
+/* In turns it is drawn whether the clock came just before: what a driver has to reckon with as it cancels a timer. */
+static void draw_expiry(const KTIMER *timer) {
+    uint64_t now = iocsq_now();
+    if (iocsq_in_turns() && timer->Set && timer->DueTime > now && timer->DueTime - now < SOON && iocsq_rarely(2)) {
+        iocsq_pass_time_in_turns(timer->DueTime - now);
+    }
+    expire_timers();
+}
+
+BOOLEAN NTAPI KeCancelTimer(PKTIMER Timer) {
+    iocsq_point();
+    iocsq_lock_state();
+    draw_expiry(Timer);
+    bool was_set = unset(Timer);
+    iocsq_unlock_state();
+    return was_set;
+}
+
+BOOLEAN NTAPI KeReadStateTimer(PKTIMER Timer) {
+    iocsq_lock_state();
+    bool signaled = iocsq_is_signaled(&Timer->Header);
+    iocsq_unlock_state();
+    return signaled;
+}
+
+/* ---- Work items ---- */
+struct _IO_WORKITEM {
+    struct _IO_WORKITEM *next;
+    PDEVICE_OBJECT device;
+    PIO_WORKITEM_ROUTINE routine;
+    PVOID context;
+    bool queued;
+};
+
+static bool has_work(void *of) {
+    (void)of;
+    return first_work || ending;
+}
+
+static void run_first_work(void) {
+    struct _IO_WORKITEM *item = first_work, call = *item; /* its routine may free it, or queue it again */
+    first_work = item->next;
+    item->queued = false;
+    iocsq_unlock_state();
+    iocsq_point();
+    iocsq_tell(NULL, "a work item");
+    call.routine(call.device, call.context);
+    check_left("a work item");
+    iocsq_lock_state();
+}
+
+static void *run_worker(void *of) {
+    iocsq_lock_state();
+    while (iocsq_await(has_work, NULL, IOCSQ_FOR_EVER, "a work item") && first_work) {
+        run_first_work();
+    }
+    iocsq_unlock_state();
+    return of;
+}
+
+PIO_WORKITEM NTAPI IoAllocateWorkItem(PDEVICE_OBJECT DeviceObject) {
+    struct _IO_WORKITEM *item = calloc(1, sizeof *item);
+    if (item) {
+        item->device = DeviceObject;
+        __atomic_add_fetch(&items_allocated, 1, __ATOMIC_SEQ_CST);
+    }
+    return item;
+}
+
+VOID NTAPI IoQueueWorkItem(PIO_WORKITEM IoWorkItem, PIO_WORKITEM_ROUTINE WorkerRoutine, WORK_QUEUE_TYPE QueueType,
+                           PVOID Context) {
+    (void)QueueType;
+    iocsq_lock_state();
+    if (IoWorkItem->queued) {
+        iocsq_disagree(NULL, "IoQueueWorkItem of a work item that is queued already");
+    }
+    for (int at = 0; at < WORKERS && !workers[at]; at++) {
+        workers[at] = IocsqThread(run_worker, NULL);
+    }
+    IoWorkItem->routine = WorkerRoutine;
+    IoWorkItem->context = Context;
+    IoWorkItem->queued = true;
+    IoWorkItem->next = NULL;
+    *(first_work ? &last_work->next : &first_work) = IoWorkItem;
+    last_work = IoWorkItem;
+    iocsq_state_changed();
+    iocsq_unlock_state();
+}
+
+VOID NTAPI IoFreeWorkItem(PIO_WORKITEM IoWorkItem) {
+    iocsq_lock_state();
+    if (IoWorkItem->queued) {
+        iocsq_disagree(NULL, "IoFreeWorkItem of a work item that is queued");
+    }
+    iocsq_unlock_state();
+    __atomic_sub_fetch(&items_allocated, 1, __ATOMIC_SEQ_CST);
+    free(IoWorkItem);
+}
+
+/* ---- Ends ---- */
+static bool lies_in(const void *at, const void *from, size_t size) {
+    return (uintptr_t)at - (uintptr_t)from < size;
+}
+
+void iocsq_check_no_deferred(const void *from, size_t size, const char *what) {
+    iocsq_lock_state();
+    for (const KTIMER *at = timers; at; at = at->Next) {
+        if (lies_in(at, from, size)) {
+            iocsq_disagree(NULL, "%s, and a timer in it is set", what);
+        }
+    }
+    for (const KDPC *at = first_dpc; at; at = at->Next) {
+        if (lies_in(at, from, size)) {
+            iocsq_disagree(NULL, "%s, and a DPC in it is queued", what);
+        }
+    }
+    if (running_dpc && !is_processor && lies_in(running_dpc, from, size)) {
+        iocsq_disagree(NULL, "%s, and a DPC in it runs", what);
+    }
+    iocsq_unlock_state();
+}
+
+/* After the driver was unloaded: nothing of it may run later any more. */
+void iocsq_end_deferred(void) {
+    iocsq_check_no_deferred(NULL, SIZE_MAX, "the driver was unloaded");
+    if (items_allocated > 0) {
+        iocsq_disagree(NULL, "the driver was unloaded, and a work item of it was not freed");
+    }
+    iocsq_lock_state();
+    ending = true;
+    iocsq_state_changed();
+    iocsq_unlock_state();
+    if (processor) {
+        IocsqJoin(processor);
+    }
+    for (int at = 0; at < WORKERS && workers[at]; at++) {
+        IocsqJoin(workers[at]);
+    }
+}

@@ -1,0 +1,6 @@
+/* The control codes that inverted.c knows. */
+#include "iocsq_test.h"
+
+extern const ULONG DriverControls[];
+const ULONG DriverControls[] = { CTL_CODE(FILE_DEVICE_UNKNOWN, 0x801, METHOD_BUFFERED, FILE_ANY_ACCESS),
+                                 CTL_CODE(FILE_DEVICE_UNKNOWN, 0x802, METHOD_BUFFERED, FILE_ANY_ACCESS), 0 };

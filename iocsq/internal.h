@@ -1,0 +1,143 @@
+/* What the files of iocsq share. All names for others begin with iocsq_, since they stand in one program with a
+ * driver. */
+#ifndef IOCSQ_INTERNAL_H
+#define IOCSQ_INTERNAL_H
+#include "iocsq_test.h"
+
+#include <stdatomic.h>
+#include <stdbool.h>
+
+/* IRPs under way, file objects that are open (one number of csq.h's is for no file object), an IRP's stack locations,
+ * and the steps kept of an IRP's stay. */
+enum { IOCSQ_IRPS = 4096, IOCSQ_FILES = 255, IOCSQ_STACK = 4, IOCSQ_STEPS = 16 };
+/* In the place of a time in nanoseconds: without a limit. */
+#define IOCSQ_FOR_EVER UINT64_MAX
+
+/* ---- irps.c ---- */
+
+/* Where an IRP is: in no queue; in a queue's list; removed from it; taken out of it as cancelled; completed. */
+enum iocsq_place { IOCSQ_HOME, IOCSQ_LISTED, IOCSQ_REMOVED, IOCSQ_CANCELLED, IOCSQ_DONE };
+
+/* An atomic step on an IRP, with the pass that made it. */
+struct iocsq_step {
+    const char *name;
+    uint32_t pass;
+};
+
+struct iocsq_queue;
+
+/* An IRP, with what the checker knows of it: in memory of its own, so that an IRP that was completed isn't read. */
+struct iocsq_irp {
+    IRP irp; /* first: iocsq_irp_at relies on it */
+    IO_STACK_LOCATION stack[IOCSQ_STACK]; /* location k is stack[k - 1] */
+    uint32_t index;
+    bool used;        /* with the next under the state's lock */
+    uint32_t cancels; /* of IocsqCancelAny, under way: the IRP isn't used anew before they end */
+    bool own;  /* the driver allocated it */
+    _Atomic uint32_t use; /* which of its uses this is: it is sent, allocated, freed */
+    UCHAR major;
+    PFILE_OBJECT file;
+    _Atomic int place;
+    _Atomic uint64_t stay; /* the queue, slot and life that it has in a reference queue; 0: none */
+    uint32_t pass;         /* which holds it there */
+    PIO_CSQ_IRP_CONTEXT context;
+    struct iocsq_queue *call_of; /* the queue whose call is to end with the IRP's completion, or null */
+    _Atomic uint64_t pending; /* `use` in the upper half, and a bit for each location that was marked pending */
+    _Atomic bool passed_on;   /* to a lower driver */
+    _Atomic uint32_t completions; /* calls of IoCompleteRequest */
+    bool answered; /* by its dispatch routine; with the next four the state's lock is held for it */
+    NTSTATUS answer;
+    NTSTATUS status;
+    ULONG_PTR information;
+    bool pending_returned;
+    struct iocsq_step steps[IOCSQ_STEPS]; /* of its present stay */
+    uint32_t step_count;
+};
+
+struct iocsq_irp *iocsq_irp_at(const void *irp);                    /* null: no IRP */
+struct iocsq_irp *iocsq_irp_of_entry(const LIST_ENTRY *entry);      /* null: no entry of an IRP */
+struct iocsq_irp *iocsq_irp_number(uint32_t index);
+uint32_t iocsq_irp_count(void);                                     /* none above was ever used */
+struct iocsq_irp *iocsq_new_irp(int locations, bool own);           /* null: all are under way */
+const char *iocsq_place_name(const struct iocsq_irp *i);
+NTSTATUS iocsq_dispatch(PDEVICE_OBJECT device, struct iocsq_irp *i); /* calls the driver at the IRP's next location */
+void iocsq_check_pending(const struct iocsq_irp *i); /* its answer and its completion agree; the state's lock is held */
+
+/* ---- manager.c ---- */
+uint32_t iocsq_file_number(const void *file); /* IOCSQ_FILES: no file object */
+bool iocsq_is_cleaned(const void *file);      /* its IRP_MJ_CLEANUP was completed */
+
+/* ---- report.c ---- */
+uint32_t iocsq_thread(void); /* this thread's number: 1 and so on */
+uint32_t iocsq_random(void);
+bool iocsq_rarely(uint32_t in); /* once in so many times */
+void iocsq_point(void);         /* another thread may come between here */
+void iocsq_long_point(uint32_t in); /* and once in so many times others come between for long */
+/* Notes a call, for the reports; `about` may be null. */
+void iocsq_tell(const struct iocsq_irp *about, const char *format, ...) __attribute__((format(printf, 2, 3)));
+void iocsq_tell_sent(const struct iocsq_irp *about, const char *format, ...) __attribute__((format(printf, 2, 3)));
+/* The driver's fault: reports it, and ends the program. `about` may be null. */
+void iocsq_disagree(const struct iocsq_irp *about, const char *format, ...)
+    __attribute__((format(printf, 2, 3), noreturn));
+/* No fault of the driver's. */
+void iocsq_fail(const char *format, ...) __attribute__((format(printf, 1, 2), noreturn));
+void iocsq_show_last_calls(void);
+extern IOCSQ_COUNTS iocsq_counts;
+#define IOCSQ_COUNT(of) __atomic_add_fetch(&iocsq_counts.of, 1, __ATOMIC_RELAXED)
+
+/* ---- schedule.c ---- */
+void iocsq_begin_steps(struct iocsq_irp *i);
+void iocsq_step(struct iocsq_irp *i, uint32_t pass, const char *name);
+void iocsq_step_again(struct iocsq_irp *i, const char *name); /* a step of this thread that the protocol refuses */
+void iocsq_show_schedule(const struct iocsq_irp *i);
+
+/* ---- turns.c ---- */
+bool iocsq_in_turns(void); /* whether one thread runs at a time */
+void iocsq_turn_point(void);
+void iocsq_long_turn_point(uint32_t in);
+void iocsq_yield(void); /* lets another thread run, in turns and else */
+void iocsq_wait_in_turns(bool (*may_go)(void *), void *of, uint64_t nanoseconds, const char *what);
+uint64_t iocsq_now_in_turns(void);
+void iocsq_pass_time_in_turns(uint64_t nanoseconds);
+void iocsq_end_turns_of_thread(void);
+
+/* ---- waits.c ---- */
+void iocsq_lock_state(void); /* the lock of what threads wait for, of the IRPs' table and of the file objects */
+void iocsq_unlock_state(void);
+void iocsq_state_changed(void);
+/* Waits until it holds or the time is over, and tells whether it holds. The state's lock is held before and after. */
+bool iocsq_await(bool (*holds)(void *), void *of, uint64_t nanoseconds, const char *what);
+uint64_t iocsq_now(void); /* nanoseconds, in turns those of the turns */
+bool iocsq_is_signaled(void *header);
+void iocsq_join_threads(void);
+
+/* ---- locks.c ---- */
+uint32_t iocsq_lock_count(void); /* how many locks of the driver's this thread has */
+const void *iocsq_last_lock(void);
+bool iocsq_has_lock(const void *lock);
+uint32_t iocsq_spin_lock_count(void);
+void iocsq_note_lock(const void *lock);   /* this thread has it */
+void iocsq_forget_lock(const void *lock); /* has it no more */
+void iocsq_set_irql(KIRQL level);
+/* Counts how often this thread releases a lock from now on. What it counted before: for iocsq_end_watch. */
+struct iocsq_watch {
+    const void *lock;
+    uint32_t releases;
+};
+struct iocsq_watch iocsq_watch_lock(const void *lock);
+uint32_t iocsq_end_watch(struct iocsq_watch before); /* answers how often it was released */
+
+/* ---- deferred.c ---- */
+void iocsq_check_no_deferred(const void *from, size_t size, const char *what); /* no timer or DPC lies in there */
+void iocsq_end_deferred(void);
+
+/* ---- memory.c ---- */
+void iocsq_check_memory_freed(void);
+
+/* ---- queue.c ---- */
+void iocsq_end_queues_in(const void *from, size_t size, const char *what); /* whose IO_CSQ lies in there */
+void iocsq_end_queues(void);
+bool iocsq_cancel_queued(struct iocsq_irp *i);                   /* whether its cancel routine was a queue's */
+void iocsq_complete_held(struct iocsq_irp *i, NTSTATUS status);  /* ends its stay */
+
+#endif

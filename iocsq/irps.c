@@ -1,0 +1,375 @@
+/* The IRPs: their table, their way down through stack locations and up through completion routines, and their
+ * cancellation. */
+#include "internal.h"
+
+#if defined(__SANITIZE_ADDRESS__)
+#define POISONS 1
+#elif defined(__has_feature)
+#if __has_feature(address_sanitizer)
+#define POISONS 1
+#endif
+#endif
+#ifdef POISONS
+#include <sanitizer/asan_interface.h>
+#define POISON(at, size) __asan_poison_memory_region(at, size)
+#define UNPOISON(at, size) __asan_unpoison_memory_region(at, size)
+#else
+#define POISON(at, size) ((void)(at), (void)(size))
+#define UNPOISON(at, size) ((void)(at), (void)(size))
+#endif
+
+static struct iocsq_irp irps[IOCSQ_IRPS]; /* the state's lock is held to give one out or take one back */
+static uint32_t irp_count;                /* none above was ever used */
+
+/* ---- The table ---- */
+struct iocsq_irp *iocsq_irp_at(const void *irp) {
+    uintptr_t offset = (uintptr_t)irp - (uintptr_t)irps;
+    return offset < sizeof irps && offset % sizeof *irps == 0 ? &irps[offset / sizeof *irps] : NULL;
+}
+
+struct iocsq_irp *iocsq_irp_of_entry(const LIST_ENTRY *entry) {
+    return iocsq_irp_at((const void *)((uintptr_t)entry - offsetof(IRP, Tail.Overlay.ListEntry)));
+}
+
+struct iocsq_irp *iocsq_irp_number(uint32_t index) {
+    return &irps[index];
+}
+
+uint32_t iocsq_irp_count(void) {
+    iocsq_lock_state();
+    uint32_t count = irp_count;
+    iocsq_unlock_state();
+    return count;
+}
+
+const char *iocsq_place_name(const struct iocsq_irp *i) {
+    static const char *const names[] = { "is in no queue", "is in the queue", "was removed from the queue",
+                                         "was taken out as cancelled", "was completed" };
+    return names[i->place];
+}
+
+static struct iocsq_irp *known(const void *irp, const char *call) {
+    struct iocsq_irp *i = iocsq_irp_at(irp);
+    if (!i) {
+        iocsq_disagree(NULL, "%s of %p, which is no IRP", call, irp);
+    }
+    return i;
+}
+
+/* One that the driver may still use: it wasn't completed, or freed. */
+static struct iocsq_irp *in_use(const void *irp, const char *call) {
+    struct iocsq_irp *i = known(irp, call);
+    if (i->place == IOCSQ_DONE) {
+        iocsq_disagree(i, "%s of irp %u, which was %s", call, i->index, i->own ? "freed" : "completed");
+    }
+    return i;
+}
+
+/* An IRP that isn't used, at random: what comes late for an old use should hit another. The state's lock is held. */
+static struct iocsq_irp *find_unused(void) {
+    uint32_t from = irp_count < 64 ? 0 : iocsq_random() % irp_count;
+    for (uint32_t at = 0; at < irp_count; at++) {
+        struct iocsq_irp *i = &irps[(from + at) % irp_count];
+        if (!i->used && i->cancels == 0) {
+            return i;
+        }
+    }
+    if (irp_count == IOCSQ_IRPS) {
+        return NULL;
+    }
+    irps[irp_count].index = irp_count;
+    return &irps[irp_count++];
+}
+
+static void begin_irp(struct iocsq_irp *i, int locations) {
+    UNPOISON(&i->irp.Tail, sizeof i->irp.Tail);
+    UNPOISON(i->stack, sizeof i->stack);
+    memset(i->stack, 0, sizeof i->stack);
+    memset(&i->irp.Tail, 0xA5, sizeof i->irp.Tail);
+    i->irp.Type = 6;
+    i->irp.Size = sizeof(IRP);
+    i->irp.CancelRoutine = (PDRIVER_CANCEL)NULL;
+    i->irp.PendingReturned = FALSE;
+    i->irp.IoStatus.Status = STATUS_SUCCESS;
+    i->irp.IoStatus.Information = 0;
+    i->irp.StackCount = (CHAR)locations;
+    i->irp.CurrentLocation = (CHAR)(locations + 1);
+    i->irp.Tail.Overlay.CurrentStackLocation = &i->stack[locations - 1] + 1;
+    i->pending = (uint64_t)i->use << 32;
+    i->passed_on = false;
+    i->answered = false;
+    i->context = NULL;
+    i->call_of = NULL;
+    i->stay = 0;
+    iocsq_begin_steps(i);
+}
+
+struct iocsq_irp *iocsq_new_irp(int locations, bool own) {
+    iocsq_lock_state();
+    struct iocsq_irp *i = find_unused();
+    if (i) {
+        i->used = true;
+        i->own = own;
+        i->use++;
+        i->file = NULL;
+        i->status = STATUS_PENDING;
+        i->irp.Cancel = FALSE;
+        begin_irp(i, locations);
+        i->place = IOCSQ_HOME;
+    }
+    iocsq_unlock_state();
+    return i;
+}
+
+/* ---- The way down ---- */
+static void mark_pending(struct iocsq_irp *i) {
+    IoGetCurrentIrpStackLocation(&i->irp)->Control |= SL_PENDING_RETURNED;
+    atomic_fetch_or(&i->pending, (uint64_t)1 << i->irp.CurrentLocation);
+}
+
+VOID NTAPI IoMarkIrpPending(PIRP Irp) {
+    struct iocsq_irp *i = in_use(Irp, "IoMarkIrpPending");
+    if (Irp->CurrentLocation > Irp->StackCount) {
+        iocsq_disagree(i, "IoMarkIrpPending of irp %u, which has no current stack location", i->index);
+    }
+    mark_pending(i);
+}
+
+/* What a dispatch routine answers, against what it did with the IRP at this location. The IRP may be in another use by
+ * now: then nothing is known of it. */
+static void check_answer(const struct iocsq_irp *i, uint32_t use, int location, NTSTATUS status) {
+    uint64_t pending = i->pending;
+    bool marked = pending >> location & 1;
+    if (pending >> 32 != use || i->passed_on) {
+        return;
+    }
+    if (status == STATUS_PENDING && !marked) {
+        iocsq_disagree(i, "the dispatch routine answers STATUS_PENDING, and irp %u was not marked pending", i->index);
+    }
+    if (status != STATUS_PENDING && marked) {
+        iocsq_disagree(i, "irp %u was marked pending, and its dispatch routine answers %08X", i->index,
+                       (unsigned)status);
+    }
+}
+
+NTSTATUS iocsq_dispatch(PDEVICE_OBJECT device, struct iocsq_irp *i) {
+    uint32_t use = i->use;
+    int location = i->irp.CurrentLocation - 1;
+    if (location < 1) {
+        iocsq_disagree(i, "IoCallDriver of irp %u, which has no stack location left", i->index);
+    }
+    i->irp.CurrentLocation--;
+    PIO_STACK_LOCATION stack = --i->irp.Tail.Overlay.CurrentStackLocation;
+    stack->DeviceObject = device;
+    NTSTATUS status = device->DriverObject->MajorFunction[stack->MajorFunction](device, &i->irp);
+    check_answer(i, use, location, status);
+    return status;
+}
+
+NTSTATUS NTAPI IofCallDriver(PDEVICE_OBJECT DeviceObject, PIRP Irp) {
+    struct iocsq_irp *i = in_use(Irp, "IoCallDriver");
+    if (i->place != IOCSQ_HOME && i->place != IOCSQ_REMOVED) {
+        iocsq_disagree(i, "IoCallDriver of irp %u, which %s", i->index, iocsq_place_name(i));
+    }
+    if (Irp->CancelRoutine) {
+        iocsq_disagree(i, "IoCallDriver of irp %u, which still has a cancel routine", i->index);
+    }
+    iocsq_tell(i, "IoCallDriver(irp %u)", i->index);
+    i->passed_on = true;
+    iocsq_point();
+    return iocsq_dispatch(DeviceObject, i);
+}
+
+/* ---- The way up ---- */
+static void check_completion(struct iocsq_irp *i) {
+    if (i->place == IOCSQ_DONE) {
+        iocsq_step_again(i, "done");
+        iocsq_disagree(i, "IoCompleteRequest of irp %u, which was completed before", i->index);
+    }
+    iocsq_tell(i, "IoCompleteRequest(irp %u, %08X)", i->index, (unsigned)i->irp.IoStatus.Status);
+    if (iocsq_spin_lock_count() > 0) {
+        iocsq_disagree(i, "IoCompleteRequest of irp %u with a spin lock held", i->index);
+    }
+    if (i->irp.IoStatus.Status == STATUS_PENDING) {
+        iocsq_disagree(i, "IoCompleteRequest of irp %u with STATUS_PENDING", i->index);
+    }
+    if (i->irp.CancelRoutine) {
+        iocsq_disagree(i, "IoCompleteRequest of irp %u, which still has a cancel routine", i->index);
+    }
+    if (i->irp.CurrentLocation > i->irp.StackCount) {
+        iocsq_disagree(i, "IoCompleteRequest of irp %u, which has no current stack location", i->index);
+    }
+}
+
+static bool is_invoked(const struct iocsq_irp *i, const IO_STACK_LOCATION *stack) {
+    return stack->CompletionRoutine &&
+           ((stack->Control & SL_INVOKE_ON_SUCCESS && NT_SUCCESS(i->irp.IoStatus.Status)) ||
+            (stack->Control & SL_INVOKE_ON_ERROR && !NT_SUCCESS(i->irp.IoStatus.Status)) ||
+            (stack->Control & SL_INVOKE_ON_CANCEL && i->irp.Cancel));
+}
+
+/* Calls a completion routine. Whether the completion goes on; if not, the driver has the IRP, or has freed it. */
+static bool run_completion_routine(struct iocsq_irp *i, const IO_STACK_LOCATION *stack) {
+    uint32_t use = i->use;
+    bool above = i->irp.CurrentLocation <= i->irp.StackCount;
+    PDEVICE_OBJECT device = above ? IoGetCurrentIrpStackLocation(&i->irp)->DeviceObject : NULL;
+    iocsq_point();
+    iocsq_tell(i, "  a completion routine of irp %u", i->index);
+    NTSTATUS status = stack->CompletionRoutine(device, &i->irp, stack->Context);
+    if (status == STATUS_MORE_PROCESSING_REQUIRED) {
+        return false;
+    }
+    if (i->use != use) {
+        iocsq_disagree(i, "a completion routine freed irp %u, and answered %08X", i->index, (unsigned)status);
+    }
+    return true;
+}
+
+/* Goes up through the stack locations. Whether the top was reached. */
+static bool go_up(struct iocsq_irp *i) {
+    while (i->irp.CurrentLocation <= i->irp.StackCount) {
+        const IO_STACK_LOCATION *stack = i->irp.Tail.Overlay.CurrentStackLocation++;
+        i->irp.CurrentLocation++;
+        i->irp.PendingReturned = (stack->Control & SL_PENDING_RETURNED) != 0;
+        if (is_invoked(i, stack)) {
+            if (!run_completion_routine(i, stack)) {
+                return false;
+            }
+        } else if (i->irp.PendingReturned && i->irp.CurrentLocation <= i->irp.StackCount) {
+            mark_pending(i);
+        }
+    }
+    return true;
+}
+
+void iocsq_check_pending(const struct iocsq_irp *i) {
+    if (i->answer == STATUS_PENDING && !i->pending_returned) {
+        iocsq_disagree(i, "irp %u is completed without the pending mark, and its dispatch routine answered "
+                          "STATUS_PENDING: a completion routine did not pass the mark on", i->index);
+    }
+    if (i->answer != STATUS_PENDING && i->pending_returned) {
+        iocsq_disagree(i, "irp %u is completed with the pending mark, and its dispatch routine answered %08X", i->index,
+                       (unsigned)i->answer);
+    }
+}
+
+static void finish(struct iocsq_irp *i) {
+    iocsq_lock_state();
+    if (atomic_exchange(&i->place, IOCSQ_DONE) == IOCSQ_DONE) {
+        iocsq_disagree(i, "IoCompleteRequest of irp %u, which was completed before", i->index);
+    }
+    i->status = i->irp.IoStatus.Status;
+    i->information = i->irp.IoStatus.Information;
+    i->pending_returned = i->irp.PendingReturned;
+    if (i->answered) {
+        iocsq_check_pending(i);
+    }
+    POISON(&i->irp.Tail, sizeof i->irp.Tail);
+    POISON(i->stack, sizeof i->stack);
+    iocsq_state_changed();
+    iocsq_unlock_state();
+}
+
+VOID NTAPI IofCompleteRequest(PIRP Irp, CCHAR PriorityBoost) {
+    struct iocsq_irp *i = known(Irp, "IoCompleteRequest");
+    (void)PriorityBoost;
+    check_completion(i);
+    NTSTATUS status = Irp->IoStatus.Status;
+    iocsq_point();
+    if (i->stay) {
+        iocsq_complete_held(i, status);
+    }
+    i->completions++;
+    IOCSQ_COUNT(Completed);
+    if (!go_up(i)) {
+        return;
+    }
+    if (i->own) {
+        iocsq_disagree(i, "irp %u is of the driver's own, and no completion routine kept it "
+                          "(STATUS_MORE_PROCESSING_REQUIRED)", i->index);
+    }
+    finish(i);
+}
+
+/* ---- Cancellation ---- */
+PDRIVER_CANCEL NTAPI IoSetCancelRoutine(PIRP Irp, PDRIVER_CANCEL CancelRoutine) {
+    struct iocsq_irp *i = in_use(Irp, "IoSetCancelRoutine");
+    if (i->place == IOCSQ_LISTED) {
+        iocsq_disagree(i, "IoSetCancelRoutine of irp %u, which is in a cancel-safe queue", i->index);
+    }
+    return atomic_exchange(&Irp->CancelRoutine, CancelRoutine);
+}
+
+BOOLEAN NTAPI IoCancelIrp(PIRP Irp) {
+    struct iocsq_irp *i = known(Irp, "IoCancelIrp");
+    KIRQL before;
+    if (i->own && i->place == IOCSQ_DONE) {
+        iocsq_disagree(i, "IoCancelIrp of irp %u, which was freed", i->index);
+    }
+    iocsq_tell(i, "IoCancelIrp(irp %u)", i->index);
+    Irp->Cancel = TRUE;
+    iocsq_long_point(8);
+    if (iocsq_cancel_queued(i)) {
+        return TRUE;
+    }
+    IoAcquireCancelSpinLock(&before);
+    PDRIVER_CANCEL routine = atomic_exchange(&Irp->CancelRoutine, (PDRIVER_CANCEL)NULL);
+    if (!routine) {
+        IoReleaseCancelSpinLock(before);
+        return FALSE;
+    }
+    Irp->CancelIrql = before;
+    routine(IoGetCurrentIrpStackLocation(Irp)->DeviceObject, Irp); /* which releases the cancel spin lock */
+    return TRUE;
+}
+
+/* ---- IRPs of the driver's own ---- */
+PIRP NTAPI IoAllocateIrp(CCHAR StackSize, BOOLEAN ChargeQuota) {
+    (void)ChargeQuota;
+    if (StackSize < 1 || StackSize > IOCSQ_STACK) {
+        iocsq_disagree(NULL, "IoAllocateIrp with %d stack locations", StackSize);
+    }
+    struct iocsq_irp *i = iocsq_new_irp(StackSize, true);
+    if (!i) {
+        return NULL;
+    }
+    iocsq_tell_sent(i, "IoAllocateIrp = irp %u", i->index);
+    return &i->irp;
+}
+
+static struct iocsq_irp *own_irp(PIRP irp, const char *call) {
+    struct iocsq_irp *i = known(irp, call);
+    if (!i->own || !i->used) {
+        iocsq_disagree(i, "%s of irp %u, which %s", call, i->index, i->own ? "was freed before" : "is another's");
+    }
+    if (i->stay || irp->CurrentLocation <= irp->StackCount) {
+        iocsq_disagree(i, "%s of irp %u, which %s", call, i->index,
+                       i->stay ? iocsq_place_name(i) : "was sent, and not completed");
+    }
+    return i;
+}
+
+VOID NTAPI IoFreeIrp(PIRP Irp) {
+    iocsq_lock_state();
+    struct iocsq_irp *i = own_irp(Irp, "IoFreeIrp");
+    iocsq_tell(i, "IoFreeIrp(irp %u)", i->index);
+    i->use++;
+    i->pending = (uint64_t)i->use << 32;
+    i->place = IOCSQ_DONE;
+    POISON(&i->irp.Tail, sizeof i->irp.Tail);
+    POISON(i->stack, sizeof i->stack);
+    i->used = false;
+    iocsq_unlock_state();
+}
+
+VOID NTAPI IoReuseIrp(PIRP Irp, NTSTATUS Status) {
+    iocsq_lock_state();
+    struct iocsq_irp *i = own_irp(Irp, "IoReuseIrp");
+    iocsq_tell_sent(i, "IoReuseIrp(irp %u)", i->index);
+    i->use++;
+    Irp->Cancel = FALSE;
+    begin_irp(i, Irp->StackCount);
+    Irp->IoStatus.Status = Status;
+    i->place = IOCSQ_HOME;
+    iocsq_unlock_state();
+}

@@ -1,0 +1,39 @@
+# Builds tests of drivers with the checker, for iocsq/run-tests: source this. `top` is the repository, `work` a folder for
+# what is made, `library` the files of csq.h's library, or empty for the plain queue.
+warnings=(-Wall -Wextra -Wpedantic -Wshadow -Wconversion -Wno-multichar -Werror)
+
+# Compiles the checker once for each compiler and flags, and prints the folder with its objects; those of the tests are
+# in the folder `tests` of it: iocsq_objects COMPILER FLAG..
+iocsq_objects() {
+  local name=${*//[^A-Za-z0-9]/_} file object
+  local folder=$work/objects/$name
+  if [[ ! -d $folder ]]; then
+    mkdir -p "$folder.new/tests"
+    for file in "$top"/iocsq/*.c "$top"/iocsq/tests/{storm,kernel}.c; do
+      object=${file#"$top/iocsq/"}
+      "$@" -std=c11 "${warnings[@]}" -I"$top/include" -I"$top/iocsq" -c "$file" -o "$folder.new/${object%.c}.o" || return 1
+    done
+    if ((${#library[@]} == 0)); then
+      csq_plain_library "$top" "$folder.new/libcsq_plain.a" "$@" || return 1
+    fi
+    mv "$folder.new" "$folder"
+  fi
+  echo "$folder"
+}
+
+# Links the storm with a driver: iocsq_build PROGRAM DRIVER WRONG COMPILER FLAG.. DRIVER is a file below iocsq without
+# its ending; beside it NAME.test.c says what its callbacks mean, if it isn't the usual. WRONG is the number of the place
+# where it is wrong, 0 for none, or `planted`.
+iocsq_build() {
+  local program=$1 driver=$top/iocsq/$2 wrong=$3 objects test=() source=$top/iocsq/$2.c
+  shift 3
+  if [[ $wrong == planted ]]; then
+    source=$program.planted.c wrong=0
+    "$top/iocsq/examples/plant" "$(basename "$driver")" >"$source" || return 1
+  fi
+  objects=$(iocsq_objects "$@") || return 1
+  if [[ -f $driver.test.c ]]; then test=("$driver.test.c"); fi
+  "$@" -std=c11 "${warnings[@]}" -DWRONG="$wrong" -I"$top/include/wdk" -c "$source" -o "$program.driver.o" &&
+    "$@" -std=c11 "${warnings[@]}" -I"$top/include" "$objects"/*.o "$objects/tests/storm.o" "${test[@]}" \
+      "$program.driver.o" "${library[@]:-$objects/libcsq_plain.a}" -pthread -o "$program"
+}

@@ -1,0 +1,266 @@
+/* IRQL, spin locks, fast mutexes, the system's cancel spin lock, remove locks. */
+#include "internal.h"
+
+#include <stdlib.h>
+
+enum { LOCKS = 16 };
+#define TEN_SECONDS UINT64_C(10000000000)
+
+/* The locks that this thread has, the last one taken last. */
+static _Thread_local const void *locks[LOCKS];
+static _Thread_local uint32_t lock_count;
+static _Thread_local uint32_t spin_lock_count;
+static _Thread_local KIRQL irql;
+static _Thread_local struct iocsq_watch watch;
+
+uint32_t iocsq_lock_count(void) {
+    return lock_count;
+}
+
+uint32_t iocsq_spin_lock_count(void) {
+    return spin_lock_count;
+}
+
+const void *iocsq_last_lock(void) {
+    return lock_count ? locks[lock_count - 1] : NULL;
+}
+
+bool iocsq_has_lock(const void *lock) {
+    for (uint32_t at = 0; at < lock_count; at++) {
+        if (locks[at] == lock) {
+            return true;
+        }
+    }
+    return false;
+}
+
+void iocsq_note_lock(const void *lock) {
+    if (lock_count == LOCKS) {
+        iocsq_disagree(NULL, "more than %u locks are held", (unsigned)LOCKS);
+    }
+    locks[lock_count++] = lock;
+}
+
+void iocsq_forget_lock(const void *lock) {
+    uint32_t at = lock_count;
+    while (at > 0 && locks[at - 1] != lock) {
+        at--;
+    }
+    if (at == 0) {
+        iocsq_disagree(NULL, "a lock is released that this thread does not have");
+    }
+    for (; at < lock_count; at++) {
+        locks[at - 1] = locks[at];
+    }
+    lock_count--;
+    watch.releases += lock == watch.lock;
+}
+
+struct iocsq_watch iocsq_watch_lock(const void *lock) {
+    struct iocsq_watch before = watch, begun = { lock, 0 };
+    watch = begun;
+    return before;
+}
+
+uint32_t iocsq_end_watch(struct iocsq_watch before) {
+    uint32_t releases = watch.releases;
+    watch = before;
+    return releases;
+}
+
+/* ---- IRQL ---- */
+KIRQL NTAPI KeGetCurrentIrql(VOID) {
+    return irql;
+}
+
+void iocsq_set_irql(KIRQL level) {
+    irql = level;
+}
+
+KIRQL NTAPI KfRaiseIrql(KIRQL NewIrql) {
+    KIRQL before = irql;
+    if (NewIrql < before) {
+        iocsq_disagree(NULL, "KeRaiseIrql from %u to %u", before, NewIrql);
+    }
+    irql = NewIrql;
+    return before;
+}
+
+VOID NTAPI KeLowerIrql(KIRQL NewIrql) {
+    if (NewIrql > irql) {
+        iocsq_disagree(NULL, "KeLowerIrql from %u to %u", irql, NewIrql);
+    }
+    irql = NewIrql;
+}
+
+/* ---- Words that are locks: 0, or the number of the thread that has it ---- */
+static bool is_free(void *word) {
+    return __atomic_load_n((ULONG_PTR *)word, __ATOMIC_SEQ_CST) == 0;
+}
+
+static void take_word(ULONG_PTR *word, const char *what) {
+    ULONG_PTR expected = 0, mine = iocsq_thread();
+    while (!__atomic_compare_exchange_n(word, &expected, mine, 0, __ATOMIC_SEQ_CST, __ATOMIC_SEQ_CST)) {
+        if (expected == mine) {
+            iocsq_disagree(NULL, "%s is taken again by the thread that has it", what);
+        }
+        expected = 0;
+        if (iocsq_in_turns()) {
+            iocsq_wait_in_turns(is_free, word, IOCSQ_FOR_EVER, what);
+        } else {
+            iocsq_yield();
+        }
+    }
+    iocsq_note_lock(word);
+}
+
+static void leave_word(ULONG_PTR *word) {
+    iocsq_forget_lock(word);
+    __atomic_store_n(word, 0, __ATOMIC_SEQ_CST);
+}
+
+/* ---- Spin locks ---- */
+VOID NTAPI KeInitializeSpinLock(PKSPIN_LOCK SpinLock) {
+    *SpinLock = 0;
+}
+
+VOID NTAPI KeAcquireSpinLockAtDpcLevel(PKSPIN_LOCK SpinLock) {
+    if (irql < DISPATCH_LEVEL) {
+        iocsq_disagree(NULL, "KeAcquireSpinLockAtDpcLevel at IRQL %u", irql);
+    }
+    take_word(SpinLock, "a spin lock");
+    spin_lock_count++;
+}
+
+VOID NTAPI KeReleaseSpinLockFromDpcLevel(PKSPIN_LOCK SpinLock) {
+    leave_word(SpinLock);
+    spin_lock_count--;
+}
+
+KIRQL NTAPI KeAcquireSpinLockRaiseToDpc(PKSPIN_LOCK SpinLock) {
+    KIRQL before = irql;
+    irql = DISPATCH_LEVEL;
+    KeAcquireSpinLockAtDpcLevel(SpinLock);
+    return before;
+}
+
+VOID NTAPI KeReleaseSpinLock(PKSPIN_LOCK SpinLock, KIRQL NewIrql) {
+    KeReleaseSpinLockFromDpcLevel(SpinLock);
+    irql = NewIrql;
+}
+
+VOID NTAPI KeAcquireInStackQueuedSpinLock(PKSPIN_LOCK SpinLock, PKLOCK_QUEUE_HANDLE LockHandle) {
+    LockHandle->Lock = SpinLock;
+    LockHandle->OldIrql = KeAcquireSpinLockRaiseToDpc(SpinLock);
+}
+
+VOID NTAPI KeReleaseInStackQueuedSpinLock(PKLOCK_QUEUE_HANDLE LockHandle) {
+    KeReleaseSpinLock(LockHandle->Lock, LockHandle->OldIrql);
+}
+
+static KSPIN_LOCK cancel_lock;
+VOID NTAPI IoAcquireCancelSpinLock(PKIRQL Irql) {
+    *Irql = KeAcquireSpinLockRaiseToDpc(&cancel_lock);
+}
+
+VOID NTAPI IoReleaseCancelSpinLock(KIRQL Irql) {
+    KeReleaseSpinLock(&cancel_lock, Irql);
+}
+
+/* ---- Fast mutexes ---- */
+VOID NTAPI ExInitializeFastMutex(PFAST_MUTEX FastMutex) {
+    FastMutex->Lock = 0;
+}
+
+VOID NTAPI ExAcquireFastMutex(PFAST_MUTEX FastMutex) {
+    KIRQL before = irql;
+    if (irql >= DISPATCH_LEVEL) {
+        iocsq_disagree(NULL, "ExAcquireFastMutex at DISPATCH_LEVEL");
+    }
+    irql = APC_LEVEL;
+    take_word(&FastMutex->Lock, "a fast mutex");
+    FastMutex->OldIrql = before;
+}
+
+VOID NTAPI ExReleaseFastMutex(PFAST_MUTEX FastMutex) {
+    KIRQL before = FastMutex->OldIrql;
+    leave_word(&FastMutex->Lock);
+    irql = before;
+}
+
+/* ---- Remove locks: the state's lock is held for all of their fields ---- */
+VOID NTAPI IoInitializeRemoveLockEx(PIO_REMOVE_LOCK Lock, ULONG AllocateTag, ULONG MaxLockedMinutes,
+                                    ULONG HighWatermark, ULONG RemlockSize) {
+    (void)AllocateTag, (void)MaxLockedMinutes, (void)HighWatermark, (void)RemlockSize;
+    Lock->IoCount = 1;
+    Lock->Removed = FALSE;
+    Lock->TagCount = 0;
+    KeInitializeEvent(&Lock->RemoveEvent, NotificationEvent, FALSE);
+}
+
+NTSTATUS NTAPI IoAcquireRemoveLockEx(PIO_REMOVE_LOCK RemoveLock, PVOID Tag, PCSTR File, ULONG Line, ULONG RemlockSize) {
+    NTSTATUS status = STATUS_SUCCESS;
+    (void)File, (void)Line, (void)RemlockSize;
+    iocsq_point();
+    iocsq_lock_state();
+    if (RemoveLock->IoCount == 0 && !RemoveLock->Removed) {
+        iocsq_disagree(NULL, "IoAcquireRemoveLock of a remove lock that was not initialized");
+    }
+    if (RemoveLock->Removed) {
+        status = STATUS_DELETE_PENDING;
+    } else {
+        RemoveLock->IoCount++;
+        if (RemoveLock->TagCount < IOCSQ_REMOVE_TAGS) {
+            RemoveLock->Tags[RemoveLock->TagCount++] = Tag;
+        }
+    }
+    iocsq_unlock_state();
+    return status;
+}
+
+/* One acquire with this tag is undone. Of very many acquires not all tags are known. */
+static void release(PIO_REMOVE_LOCK lock, PVOID tag) {
+    ULONG at = 0, count = lock->TagCount;
+    while (at < count && lock->Tags[at] != tag) {
+        at++;
+    }
+    if (at < count) {
+        lock->Tags[at] = lock->Tags[count - 1];
+        lock->TagCount--;
+    } else if (lock->IoCount - 1 == (LONG)count) {
+        iocsq_disagree(iocsq_irp_at(tag), "IoReleaseRemoveLock with a tag that no acquire has, or that was released");
+    }
+    if (--lock->IoCount == 0) {
+        lock->RemoveEvent.Header.SignalState = 1;
+        iocsq_state_changed();
+    }
+}
+
+VOID NTAPI IoReleaseRemoveLockEx(PIO_REMOVE_LOCK RemoveLock, PVOID Tag, ULONG RemlockSize) {
+    (void)RemlockSize;
+    iocsq_lock_state();
+    release(RemoveLock, Tag);
+    iocsq_unlock_state();
+    iocsq_point();
+}
+
+VOID NTAPI IoReleaseRemoveLockAndWaitEx(PIO_REMOVE_LOCK RemoveLock, PVOID Tag, ULONG RemlockSize) {
+    (void)RemlockSize;
+    if (irql >= DISPATCH_LEVEL) {
+        iocsq_disagree(NULL, "IoReleaseRemoveLockAndWait at DISPATCH_LEVEL");
+    }
+    iocsq_lock_state();
+    if (RemoveLock->Removed) {
+        iocsq_disagree(NULL, "IoReleaseRemoveLockAndWait of a remove lock that was waited for before");
+    }
+    RemoveLock->Removed = TRUE;
+    release(RemoveLock, Tag);
+    if (--RemoveLock->IoCount == 0) {
+        RemoveLock->RemoveEvent.Header.SignalState = 1;
+    }
+    if (!iocsq_await(iocsq_is_signaled, &RemoveLock->RemoveEvent.Header, TEN_SECONDS, "a remove lock")) {
+        iocsq_disagree(iocsq_irp_at(RemoveLock->Tags[0]), "IoReleaseRemoveLockAndWait waits for an acquire that is "
+                                                          "never released");
+    }
+    iocsq_unlock_state();
+}

@@ -1,0 +1,358 @@
+/* The I/O manager's side, which a test calls (iocsq_test.h): drivers, file objects, requests. */
+#include "internal.h"
+
+#include <signal.h>
+#include <stdlib.h>
+#include <unistd.h>
+
+enum { MILLISECOND = 1000000 };
+
+static FILE_OBJECT files[IOCSQ_FILES]; /* with the next, under the state's lock */
+static bool is_open[IOCSQ_FILES];
+static bool is_cleaned[IOCSQ_FILES];
+
+uint32_t iocsq_file_number(const void *file) {
+    uintptr_t offset = (uintptr_t)file - (uintptr_t)files;
+    bool is_file = offset < sizeof files && offset % sizeof *files == 0;
+    return is_file ? (uint32_t)(offset / sizeof *files) : (uint32_t)IOCSQ_FILES;
+}
+
+bool iocsq_is_cleaned(const void *file) {
+    uint32_t number = iocsq_file_number(file);
+    iocsq_lock_state();
+    bool cleaned = number < IOCSQ_FILES && is_cleaned[number];
+    iocsq_unlock_state();
+    return cleaned;
+}
+
+/* After so many milliseconds a request that should have been completed will never be. */
+static ULONG patience(void) {
+    return iocsq_in_turns() ? 2000 : 10000;
+}
+
+/* ---- Requests ---- */
+struct _IOCSQ_REQUEST {
+    struct iocsq_irp irp;
+};
+
+static PDEVICE_OBJECT top_of(PDEVICE_OBJECT device) {
+    while (device->AttachedDevice) {
+        device = device->AttachedDevice;
+    }
+    return device;
+}
+
+/* An IRP whose next stack location is filled in. Null: all are under way. */
+static struct iocsq_irp *make_irp(PFILE_OBJECT file, UCHAR major, PVOID buffer) {
+    if (major > IRP_MJ_MAXIMUM_FUNCTION) {
+        iocsq_fail("there is no major function %02x", major);
+    }
+    struct iocsq_irp *i = iocsq_new_irp(top_of(file->DeviceObject)->StackSize, false);
+    if (!i) {
+        return NULL;
+    }
+    iocsq_lock_state();
+    i->file = file;
+    i->major = major;
+    iocsq_unlock_state();
+    i->irp.AssociatedIrp.SystemBuffer = buffer;
+    i->irp.UserBuffer = buffer;
+    i->irp.RequestorMode = UserMode;
+    i->irp.Tail.Overlay.OriginalFileObject = file;
+    PIO_STACK_LOCATION stack = IoGetNextIrpStackLocation(&i->irp);
+    stack->MajorFunction = major;
+    stack->FileObject = file;
+    return i;
+}
+
+static void check_after_dispatch(struct iocsq_irp *i, NTSTATUS status) {
+    iocsq_lock_state();
+    bool done = i->place == IOCSQ_DONE;
+    i->answered = true;
+    i->answer = status;
+    if (done) {
+        iocsq_check_pending(i);
+    }
+    iocsq_unlock_state();
+    if (status != STATUS_PENDING && !done) {
+        iocsq_disagree(i, "the dispatch routine answers %08X, and irp %u was not completed", (unsigned)status,
+                       i->index);
+    }
+    if (iocsq_lock_count() > 0 || KeGetCurrentIrql() != PASSIVE_LEVEL) {
+        iocsq_disagree(i, "the dispatch routine of irp %u returns with a lock or a raised IRQL", i->index);
+    }
+}
+
+static IOCSQ_REQUEST *send(struct iocsq_irp *i, PFILE_OBJECT file) {
+    iocsq_tell_sent(i, "dispatch(irp %u, major %02x, file %u)", i->index, i->major, iocsq_file_number(file));
+    NTSTATUS status = iocsq_dispatch(top_of(file->DeviceObject), i);
+    iocsq_tell(i, "dispatch(irp %u) = %08X", i->index, (unsigned)status);
+    check_after_dispatch(i, status);
+    return (IOCSQ_REQUEST *)(void *)i;
+}
+
+IOCSQ_REQUEST *IocsqSend(PFILE_OBJECT File, UCHAR MajorFunction, PVOID Buffer, ULONG Length) {
+    struct iocsq_irp *i = make_irp(File, MajorFunction, Buffer);
+    if (!i) {
+        return NULL;
+    }
+    IoGetNextIrpStackLocation(&i->irp)->Parameters.Read.Length = Length;
+    return send(i, File);
+}
+
+IOCSQ_REQUEST *IocsqControl(PFILE_OBJECT File, ULONG IoControlCode, PVOID Buffer, ULONG InputLength,
+                            ULONG OutputLength) {
+    struct iocsq_irp *i = make_irp(File, IRP_MJ_DEVICE_CONTROL, Buffer);
+    if (!i) {
+        return NULL;
+    }
+    PIO_STACK_LOCATION stack = IoGetNextIrpStackLocation(&i->irp);
+    stack->Parameters.DeviceIoControl.IoControlCode = IoControlCode;
+    stack->Parameters.DeviceIoControl.InputBufferLength = InputLength;
+    stack->Parameters.DeviceIoControl.OutputBufferLength = OutputLength;
+    return send(i, File);
+}
+
+BOOLEAN IocsqCancel(IOCSQ_REQUEST *Request) {
+    return IoCancelIrp(&Request->irp.irp);
+}
+
+static bool is_done(void *irp) {
+    return ((struct iocsq_irp *)irp)->place == IOCSQ_DONE;
+}
+
+static bool wait_for(struct iocsq_irp *i, ULONG milliseconds) {
+    iocsq_lock_state();
+    bool done = iocsq_await(is_done, i, milliseconds * (uint64_t)MILLISECOND, "a request");
+    iocsq_unlock_state();
+    return done;
+}
+
+BOOLEAN IocsqWait(IOCSQ_REQUEST *Request, ULONG Milliseconds) {
+    return wait_for(&Request->irp, Milliseconds);
+}
+
+NTSTATUS IocsqStatus(IOCSQ_REQUEST *Request) {
+    iocsq_lock_state();
+    NTSTATUS status = is_done(&Request->irp) ? Request->irp.status : STATUS_PENDING;
+    iocsq_unlock_state();
+    return status;
+}
+
+ULONG_PTR IocsqInformation(IOCSQ_REQUEST *Request) {
+    return Request->irp.information;
+}
+
+VOID IocsqFree(IOCSQ_REQUEST *Request) {
+    struct iocsq_irp *i = &Request->irp;
+    iocsq_lock_state();
+    if (i->place != IOCSQ_DONE) {
+        iocsq_fail("IocsqFree of irp %u, which was not completed", i->index);
+    }
+    i->used = false;
+    iocsq_unlock_state();
+}
+
+VOID IocsqComplain(IOCSQ_REQUEST *Request, const char *Text) {
+    iocsq_disagree(&Request->irp, "irp %u %s", Request->irp.index, Text);
+}
+
+/* Whether it is a test's request that isn't completed or cancelled, but for a cleanup, which nobody cancels. Then it
+ * stays until end_cancel, as a caller of IoCancelIrp has to see to. */
+static bool begin_cancel(struct iocsq_irp *i) {
+    iocsq_lock_state();
+    bool may = i->used && !i->own && i->file && i->place != IOCSQ_DONE && !i->irp.Cancel && i->major != IRP_MJ_CLEANUP;
+    i->cancels += may;
+    iocsq_unlock_state();
+    return may;
+}
+
+static void end_cancel(struct iocsq_irp *i) {
+    iocsq_lock_state();
+    i->cancels--;
+    iocsq_unlock_state();
+}
+
+BOOLEAN IocsqCancelAny(VOID) {
+    uint32_t count = iocsq_irp_count();
+    struct iocsq_irp *i = iocsq_irp_number(count ? iocsq_random() % count : 0);
+    if (!begin_cancel(i)) {
+        return FALSE;
+    }
+    BOOLEAN found = IoCancelIrp(&i->irp);
+    end_cancel(i);
+    return found;
+}
+
+static NTSTATUS send_and_wait(PFILE_OBJECT file, UCHAR major) {
+    IOCSQ_REQUEST *request = IocsqSend(file, major, NULL, 0);
+    if (!request) {
+        iocsq_fail("out of IRPs");
+    }
+    if (!IocsqWait(request, patience())) {
+        iocsq_disagree(&request->irp, "irp %u (major %02x) was never completed", request->irp.index, major);
+    }
+    NTSTATUS status = IocsqStatus(request);
+    IocsqFree(request);
+    return status;
+}
+
+/* ---- File objects ---- */
+static PFILE_OBJECT new_file(void) {
+    PFILE_OBJECT file = NULL;
+    iocsq_lock_state();
+    for (uint32_t at = 0; at < IOCSQ_FILES && !file; at++) {
+        if (!is_open[at]) {
+            is_open[at] = true;
+            is_cleaned[at] = false;
+            file = &files[at];
+            memset(file, 0, sizeof *file);
+        }
+    }
+    iocsq_unlock_state();
+    return file;
+}
+
+static void free_file(PFILE_OBJECT file) {
+    iocsq_lock_state();
+    is_open[iocsq_file_number(file)] = false;
+    iocsq_unlock_state();
+}
+
+PFILE_OBJECT IocsqOpen(PDRIVER_OBJECT Driver) {
+    PFILE_OBJECT file = new_file();
+    if (!file) {
+        return NULL;
+    }
+    file->DeviceObject = Driver->DeviceObject;
+    if (!NT_SUCCESS(send_and_wait(file, IRP_MJ_CREATE))) {
+        free_file(file);
+        return NULL;
+    }
+    return file;
+}
+
+static bool is_of(struct iocsq_irp *i, PFILE_OBJECT file) {
+    iocsq_lock_state();
+    bool is = i->used && !i->own && i->file == file;
+    iocsq_unlock_state();
+    return is;
+}
+
+/* What is still listed, and not being cancelled, was left. */
+static void check_cleaned(PFILE_OBJECT file) {
+    iocsq_lock_state();
+    is_cleaned[iocsq_file_number(file)] = true;
+    iocsq_unlock_state();
+    for (uint32_t at = 0; at < iocsq_irp_count(); at++) {
+        struct iocsq_irp *i = iocsq_irp_number(at);
+        if (is_of(i, file) && i->place == IOCSQ_LISTED && !i->irp.Cancel) {
+            iocsq_disagree(i, "IRP_MJ_CLEANUP of file %u left irp %u in the queue", iocsq_file_number(file), i->index);
+        }
+    }
+}
+
+VOID IocsqClose(PFILE_OBJECT File) {
+    send_and_wait(File, IRP_MJ_CLEANUP);
+    check_cleaned(File);
+    for (uint32_t at = 0; at < iocsq_irp_count(); at++) {
+        struct iocsq_irp *i = iocsq_irp_number(at);
+        if (is_of(i, File) && !wait_for(i, patience())) {
+            iocsq_disagree(i, "irp %u of file %u %s, and was never completed", i->index, iocsq_file_number(File),
+                           iocsq_place_name(i));
+        }
+    }
+    send_and_wait(File, IRP_MJ_CLOSE);
+    free_file(File);
+}
+
+/* ---- Drivers ---- */
+static NTSTATUS refuse(PDEVICE_OBJECT device, PIRP irp) {
+    (void)device;
+    irp->IoStatus.Status = STATUS_INVALID_DEVICE_REQUEST;
+    IoCompleteRequest(irp, IO_NO_INCREMENT);
+    return STATUS_INVALID_DEVICE_REQUEST;
+}
+
+/* Where the driver uses a bad address, or the time is over, the calls before it are told too. The text is written
+ * first, since nothing else is safe in a signal's handler. */
+static void tell_bad_address(int signal_number) {
+    static const char text[] = "iocsq: the driver used a bad address.\n";
+    signal(signal_number, SIG_DFL);
+    if (write(STDERR_FILENO, text, sizeof text - 1) > 0) {
+        iocsq_show_last_calls();
+    }
+    raise(signal_number);
+}
+
+static void tell_time_over(int signal_number) {
+    static const char text[] = "iocsq: the run takes longer than it may: a thread waits for ever, or goes round.\n";
+    signal(signal_number, SIG_DFL);
+    if (write(STDERR_FILENO, text, sizeof text - 1) > 0) {
+        iocsq_show_last_calls();
+    }
+    _exit(IOCSQ_DISAGREES);
+}
+
+VOID IocsqLimit(ULONG Seconds) {
+    signal(SIGALRM, tell_time_over);
+    alarm(Seconds);
+}
+
+static void catch_bad_addresses(void) {
+    void (*before)(int) = signal(SIGSEGV, tell_bad_address);
+    if (before != SIG_DFL) {
+        signal(SIGSEGV, before); /* a sanitizer's */
+    }
+}
+
+PDRIVER_OBJECT IocsqLoad(PDRIVER_INITIALIZE DriverEntry) {
+    static UNICODE_STRING registry_path;
+    PDRIVER_OBJECT driver = calloc(1, sizeof *driver);
+    if (!driver) {
+        return NULL;
+    }
+    catch_bad_addresses();
+    for (int major = 0; major <= IRP_MJ_MAXIMUM_FUNCTION; major++) {
+        driver->MajorFunction[major] = refuse;
+    }
+    if (!NT_SUCCESS(DriverEntry(driver, &registry_path)) || !driver->DeviceObject) {
+        free(driver);
+        return NULL;
+    }
+    return driver;
+}
+
+static void check_all_completed(void) {
+    for (uint32_t at = 0; at < iocsq_irp_count(); at++) {
+        struct iocsq_irp *i = iocsq_irp_number(at);
+        if (i->used && !i->own && !wait_for(i, patience())) {
+            iocsq_disagree(i, "irp %u %s, and was never completed", i->index, iocsq_place_name(i));
+        }
+    }
+}
+
+static void check_own_freed(void) {
+    for (uint32_t at = 0; at < iocsq_irp_count(); at++) {
+        struct iocsq_irp *i = iocsq_irp_number(at);
+        if (i->used && i->own) {
+            iocsq_disagree(i, "the driver was unloaded, and irp %u of its own was not freed", i->index);
+        }
+    }
+}
+
+VOID IocsqUnload(PDRIVER_OBJECT Driver) {
+    check_all_completed();
+    if (Driver->DriverUnload) {
+        Driver->DriverUnload(Driver);
+    }
+    iocsq_join_threads();
+    iocsq_end_deferred();
+    if (Driver->DeviceObject) {
+        iocsq_disagree(NULL, "the driver was unloaded, and a device of it is left");
+    }
+    check_own_freed();
+    iocsq_check_memory_freed();
+    iocsq_end_queues();
+    free(Driver);
+}

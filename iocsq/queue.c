@@ -1,0 +1,300 @@
+/* The queue calls of iocsq.h: the driver's callbacks keep the driver's list, a reference queue of csq.h decides beside
+ * it, and the first disagreement of the two ends the program. */
+#include "queue.h"
+
+/* ---- The driver's callbacks, with what is asked of each ---- */
+struct held {
+    KIRQL irql, irql_before;
+    uint32_t locks_before;
+    struct iocsq_watch watch_before;
+};
+
+static void check_lock(struct iocsq_queue *q, const struct held *held) {
+    if (iocsq_lock_count() == held->locks_before) {
+        iocsq_disagree(NULL, "CsqAcquireLock took no lock");
+    }
+    const void *expected = NULL, *lock = iocsq_last_lock();
+    if (!atomic_compare_exchange_strong(&q->lock, &expected, lock) && expected != lock) {
+        iocsq_disagree(NULL, "CsqAcquireLock took another lock than before");
+    }
+    uint32_t other = atomic_exchange(&q->inside, iocsq_thread());
+    if (other) {
+        iocsq_disagree(NULL, "CsqAcquireLock let this thread in beside t%u", other);
+    }
+}
+
+static struct held enter(struct iocsq_queue *q) {
+    struct held held = { .irql_before = KeGetCurrentIrql(), .locks_before = iocsq_lock_count() };
+    if (q->inside == iocsq_thread()) {
+        iocsq_disagree(NULL, "a call of the queue from inside one of its callbacks");
+    }
+    iocsq_point();
+    q->csq->CsqAcquireLock(q->csq, &held.irql);
+    check_lock(q, &held);
+    held.watch_before = iocsq_watch_lock(q->lock);
+    iocsq_point();
+    iocsq_audit(q, "as the lock was taken");
+    return held;
+}
+
+static void leave(struct iocsq_queue *q, struct held held) {
+    iocsq_point();
+    if (iocsq_end_watch(held.watch_before) > 0) {
+        iocsq_disagree(NULL, "a callback of the queue released its lock");
+    }
+    q->inside = 0;
+    q->csq->CsqReleaseLock(q->csq, held.irql);
+    if (iocsq_lock_count() != held.locks_before) {
+        iocsq_disagree(NULL, "CsqReleaseLock left a lock taken");
+    }
+    if (KeGetCurrentIrql() != held.irql_before) {
+        iocsq_disagree(NULL, "CsqReleaseLock left IRQL %u, and CsqAcquireLock found %u", KeGetCurrentIrql(),
+                       held.irql_before);
+    }
+    iocsq_point();
+}
+
+static void remove_by_driver(struct iocsq_queue *q, struct iocsq_irp *i) {
+    iocsq_tell(i, "  CsqRemoveIrp(irp %u)", i->index);
+    q->csq->CsqRemoveIrp(q->csq, &i->irp);
+    if (i->context) {
+        i->context->Irp = NULL;
+        i->context = NULL;
+    }
+    iocsq_audit(q, "after CsqRemoveIrp");
+}
+
+/* The last that is done in a call. With the IRP's completion the call needs the queue no more: a driver may free it. */
+static void complete_by_driver(struct iocsq_queue *q, struct iocsq_irp *i) {
+    uint32_t completions = i->completions;
+    iocsq_point();
+    iocsq_tell(i, "  CsqCompleteCanceledIrp(irp %u)", i->index);
+    i->call_of = q;
+    q->csq->CsqCompleteCanceledIrp(q->csq, &i->irp);
+    if (completions == i->completions) {
+        iocsq_disagree(i, "CsqCompleteCanceledIrp returned, and irp %u was not completed", i->index);
+    }
+    IOCSQ_COUNT(Cancelled);
+}
+
+/* ---- Cancellation ---- */
+bool iocsq_cancel_queued(struct iocsq_irp *i) {
+    struct iocsq_claim claim;
+    if (!iocsq_reference_mark(i, &claim)) {
+        return false;
+    }
+    struct iocsq_queue *q = iocsq_queue_at(claim.reference->index);
+    q->calls++;
+    iocsq_long_point(2); /* the routine is taken, and has yet to run */
+    iocsq_tell(i, "  the queue's cancel routine of irp %u", i->index);
+    struct held held = enter(q);
+    iocsq_reference_run_routine(&claim, i);
+    remove_by_driver(q, i);
+    leave(q, held);
+    complete_by_driver(q, i);
+    return true;
+}
+
+/* ---- Insertion ---- */
+static void check_insert(struct iocsq_irp *i) {
+    if (i->irp.CancelRoutine) {
+        iocsq_disagree(i, "IoCsqInsertIrp of irp %u, which has a cancel routine of the driver", i->index);
+    }
+    if (i->place == IOCSQ_LISTED) {
+        uint32_t code = iocsq_reference_insert_again(i);
+        iocsq_disagree(i, "IoCsqInsertIrp of irp %u, which is in a queue already (csq_insert answers %s)", i->index,
+                       csq_name(code));
+    }
+    if (i->place == IOCSQ_CANCELLED || i->place == IOCSQ_DONE) {
+        iocsq_disagree(i, "IoCsqInsertIrp of irp %u, which %s", i->index, iocsq_place_name(i));
+    }
+    /* A driver may insert again what it removed: one stay ends, and the next begins. */
+    if (i->place == IOCSQ_REMOVED && iocsq_reference_complete(i, STATUS_SUCCESS) != CSQ_OK) {
+        iocsq_fail("a stay was not ended");
+    }
+}
+
+/* A context is of one IRP at a time: the removal of that one clears it. */
+static void check_context(const struct iocsq_irp *i, const IO_CSQ_IRP_CONTEXT *context) {
+    const struct iocsq_irp *other = context ? iocsq_irp_at(context->Irp) : NULL;
+    if (other && other->context == context && other->place == IOCSQ_LISTED) {
+        iocsq_disagree(i, "IoCsqInsertIrp of irp %u with a context that irp %u is in the queue with", i->index,
+                       other->index);
+    }
+}
+
+static NTSTATUS insert_by_driver(PIO_CSQ csq, struct iocsq_irp *i, PIO_CSQ_IRP_CONTEXT context, PVOID insert_context) {
+    PVOID kept = context ? (PVOID)context : (PVOID)csq;
+    NTSTATUS status = STATUS_PENDING;
+    i->irp.Tail.Overlay.DriverContext[3] = kept;
+    if (context) {
+        IO_CSQ_IRP_CONTEXT filled = { IO_TYPE_CSQ_IRP_CONTEXT, &i->irp, csq };
+        *context = filled;
+    }
+    if (csq->Type == IO_TYPE_CSQ_EX) {
+        void (*insert)(void) = (void (*)(void))csq->CsqInsertIrp;
+        status = ((PIO_CSQ_INSERT_IRP_EX)insert)(csq, &i->irp, insert_context);
+        iocsq_tell(i, "  CsqInsertIrpEx(irp %u) = %08X", i->index, (unsigned)status);
+    } else {
+        iocsq_tell(i, "  CsqInsertIrp(irp %u)", i->index);
+        csq->CsqInsertIrp(csq, &i->irp);
+    }
+    if (i->irp.Tail.Overlay.DriverContext[3] != kept) {
+        iocsq_disagree(i, "the insert callback changed DriverContext[3] of irp %u", i->index);
+    }
+    if (!NT_SUCCESS(status) && context) {
+        context->Irp = NULL;
+    }
+    return status;
+}
+
+/* A file object's cleanup empties the queue of its IRPs, so none may come after it. */
+static void check_file(struct iocsq_irp *i) {
+    PFILE_OBJECT file = iocsq_irp_file(i);
+    if (iocsq_is_cleaned(file)) {
+        iocsq_disagree(i, "irp %u goes into the queue after IRP_MJ_CLEANUP of its file %u", i->index,
+                       iocsq_file_number(file));
+    }
+}
+
+/* Inserts into the reference what the driver inserted. Whether it is pending; if not it was cancelled before. */
+static bool insert_into_reference(struct iocsq_queue *q, struct iocsq_irp *i, PVOID insert_context) {
+    struct iocsq_claim none;
+    bool first = q->policy.Place && q->policy.Place(&i->irp, insert_context) != 0;
+    iocsq_reference_join(&q->reference, i);
+    iocsq_point();
+    /* A cancel sets the IRP's flag, then looks for its stay; here the stay comes first. So one of the two sees it. */
+    if (i->irp.Cancel) {
+        iocsq_reference_mark(i, &none); /* takes nothing: no routine is set yet */
+    }
+    return iocsq_reference_insert(&q->reference, i, iocsq_file_number(iocsq_irp_file(i)), first);
+}
+
+NTSTATUS NTAPI IoCsqInsertIrpEx(PIO_CSQ Csq, PIRP Irp, PIO_CSQ_IRP_CONTEXT Context, PVOID InsertContext) {
+    struct iocsq_queue *q = iocsq_queue_of(Csq);
+    q->calls++;
+    struct iocsq_irp *i = iocsq_known(Irp, "IoCsqInsertIrp of");
+    struct held held = enter(q);
+    iocsq_tell(i, "IoCsqInsertIrp%s(irp %u)", Csq->Type == IO_TYPE_CSQ_EX ? "Ex" : "", i->index);
+    check_insert(i);
+    check_context(i, Context);
+    NTSTATUS status = insert_by_driver(Csq, i, Context, InsertContext);
+    if (!NT_SUCCESS(status)) {
+        IOCSQ_COUNT(Refused);
+        iocsq_audit(q, "after an insert that the driver refused");
+        leave(q, held);
+        q->calls--;
+        return status;
+    }
+    check_file(i);
+    IOCSQ_COUNT(Inserted);
+    IoMarkIrpPending(Irp);
+    i->context = Context;
+    if (insert_into_reference(q, i, InsertContext)) {
+        iocsq_audit(q, "after the insert callback");
+        leave(q, held);
+        q->calls--;
+        return status;
+    }
+    iocsq_tell(i, "  irp %u was cancelled before", i->index);
+    remove_by_driver(q, i);
+    leave(q, held);
+    complete_by_driver(q, i);
+    return status;
+}
+
+VOID NTAPI IoCsqInsertIrp(PIO_CSQ Csq, PIRP Irp, PIO_CSQ_IRP_CONTEXT Context) {
+    IoCsqInsertIrpEx(Csq, Irp, Context, NULL);
+}
+
+/* ---- Removal ---- */
+static void tell_peek(const struct iocsq_irp *before, const struct iocsq_irp *answer) {
+    const char *from = before ? "after that" : "from the first";
+    if (answer) {
+        iocsq_tell(answer, "  CsqPeekNextIrp(%s) = irp %u", from, answer->index);
+    } else {
+        iocsq_tell(NULL, "  CsqPeekNextIrp(%s) = none", from);
+    }
+}
+
+/* Whether the driver gets the IRP that it answered: not where a canceller has it. */
+static bool take(struct iocsq_queue *q, struct iocsq_irp *answer) {
+    bool taken = iocsq_reference_remove(&q->reference, answer);
+    if (!taken) {
+        iocsq_tell(answer, "    irp %u is a canceller's", answer->index);
+    }
+    return taken;
+}
+
+PIRP NTAPI IoCsqRemoveNextIrp(PIO_CSQ Csq, PVOID PeekContext) {
+    struct iocsq_queue *q = iocsq_queue_of(Csq);
+    q->calls++;
+    struct held held = enter(q);
+    struct iocsq_search s = { .q = q, .context = PeekContext, .when = "in IoCsqRemoveNextIrp" };
+    struct iocsq_irp *answer, *before;
+    iocsq_tell(NULL, "IoCsqRemoveNextIrp(%s)", PeekContext ? "a peek context" : "any");
+    do {
+        before = s.before;
+        answer = iocsq_peek(&s);
+        tell_peek(before, answer);
+    } while (answer && !take(q, answer));
+    if (answer) {
+        IOCSQ_COUNT(Removed);
+        remove_by_driver(q, answer);
+    }
+    leave(q, held);
+    q->calls--;
+    iocsq_long_point(8); /* the driver has the IRP, and has yet to say so elsewhere */
+    return answer ? &answer->irp : NULL;
+}
+
+/* The IRP that a context names, if it names one. */
+static struct iocsq_irp *irp_of_context(PIO_CSQ csq, PIO_CSQ_IRP_CONTEXT context) {
+    if (!context->Irp) {
+        iocsq_tell(NULL, "IoCsqRemoveIrp(a context without IRP)");
+        return NULL;
+    }
+    struct iocsq_irp *i = iocsq_known(context->Irp, "IoCsqRemoveIrp of a context with");
+    iocsq_tell(i, "IoCsqRemoveIrp(irp %u)", i->index);
+    if (context->Csq != csq || i->context != context) {
+        iocsq_disagree(i, "IoCsqRemoveIrp of a context that irp %u was not inserted with", i->index);
+    }
+    return i;
+}
+
+PIRP NTAPI IoCsqRemoveIrp(PIO_CSQ Csq, PIO_CSQ_IRP_CONTEXT Context) {
+    struct iocsq_queue *q = iocsq_queue_of(Csq);
+    q->calls++;
+    struct held held = enter(q);
+    struct iocsq_irp *i = irp_of_context(Csq, Context);
+    bool removed = i && take(q, i);
+    if (removed) {
+        IOCSQ_COUNT(Removed);
+        remove_by_driver(q, i);
+    }
+    leave(q, held);
+    q->calls--;
+    iocsq_long_point(8);
+    return removed ? &i->irp : NULL;
+}
+
+/* ---- Completion, of an IRP that stays in a queue ---- */
+void iocsq_complete_held(struct iocsq_irp *i, NTSTATUS status) {
+    int place = i->place;
+    if (i->call_of) {
+        i->call_of->calls--;
+        i->call_of = NULL;
+    }
+    uint32_t code = iocsq_reference_complete(i, status);
+    if (code == CSQ_NOT_REMOVED) {
+        iocsq_disagree(i, "irp %u was got cancelled, and is completed with %08X (csq_complete answers %s)", i->index,
+                       (unsigned)status, csq_name(code));
+    }
+    if (code == CSQ_NOT_HELD) {
+        iocsq_disagree(i, "irp %u is completed %s (csq_complete answers %s)", i->index,
+                       place == IOCSQ_LISTED ? "while it is in the queue" : "by two threads at once", csq_name(code));
+    }
+    if (code != CSQ_OK) {
+        iocsq_fail("csq_complete answered %s", csq_name(code));
+    }
+}

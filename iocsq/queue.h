@@ -1,0 +1,33 @@
+/* What is known of an IO_CSQ, and searches through its list. */
+#ifndef IOCSQ_OF_QUEUE_H
+#define IOCSQ_OF_QUEUE_H
+#include "reference.h"
+
+/* ---- queues.c ---- */
+struct iocsq_queue {
+    PIO_CSQ csq; /* null: its memory was freed */
+    IOCSQ_POLICY policy;
+    struct iocsq_reference reference;
+    _Atomic uint32_t calls;  /* and cancel routines of it, under way */
+    _Atomic uint32_t inside; /* the thread that has the driver's lock, through CsqAcquireLock */
+    _Atomic(const void *) lock;
+};
+struct iocsq_queue *iocsq_queue_of(PIO_CSQ csq);
+struct iocsq_queue *iocsq_queue_at(uint32_t index);
+struct iocsq_irp *iocsq_known(PIRP irp, const char *who); /* ends the program where it is no IRP */
+PFILE_OBJECT iocsq_irp_file(struct iocsq_irp *i); /* null: it has none */
+
+/* ---- search.c: the driver's lock is held ---- */
+struct iocsq_search {
+    struct iocsq_queue *q;
+    PVOID context;
+    const char *when;
+    struct iocsq_irp *before;  /* the last answer */
+    bool seen[CSQ_MOST_IRPS];  /* the slots of all answers */
+};
+/* The driver's next answer, which agrees with the reference. Null: none. */
+struct iocsq_irp *iocsq_peek(struct iocsq_search *s);
+/* Compares the driver's whole list, as peeks tell it, with the reference's. */
+void iocsq_audit(struct iocsq_queue *q, const char *when);
+
+#endif

@@ -1,0 +1,163 @@
+/* The queues that there are: from IoCsqInitialize until their memory is freed. */
+#include "queue.h"
+
+#include <stdlib.h>
+
+static struct iocsq_queue *queues[IOCSQ_QUEUES]; /* none is freed before the end, since a canceller may look at it */
+static uint32_t queue_count;
+static pthread_mutex_t queues_mutex = PTHREAD_MUTEX_INITIALIZER; /* of the two, and of each queue's csq */
+static IOCSQ_POLICY first_policy; /* of queues that are initialized from now on */
+
+struct iocsq_queue *iocsq_queue_at(uint32_t index) {
+    pthread_mutex_lock(&queues_mutex);
+    struct iocsq_queue *q = queues[index];
+    pthread_mutex_unlock(&queues_mutex);
+    return q;
+}
+
+static struct iocsq_queue *find(const IO_CSQ *csq) {
+    for (uint32_t at = 0; at < queue_count; at++) {
+        if (queues[at]->csq == csq) {
+            return queues[at];
+        }
+    }
+    return NULL;
+}
+
+struct iocsq_queue *iocsq_queue_of(PIO_CSQ csq) {
+    pthread_mutex_lock(&queues_mutex);
+    struct iocsq_queue *found = find(csq);
+    pthread_mutex_unlock(&queues_mutex);
+    if (!found || csq->ReservePointer != found) {
+        iocsq_disagree(NULL, "a call of an IO_CSQ that was not initialized, or was overwritten");
+    }
+    return found;
+}
+
+struct iocsq_irp *iocsq_known(PIRP irp, const char *who) {
+    struct iocsq_irp *i = iocsq_irp_at(irp);
+    if (!i) {
+        iocsq_disagree(NULL, "%s %p, which is no IRP", who, (void *)irp);
+    }
+    return i;
+}
+
+PFILE_OBJECT iocsq_irp_file(struct iocsq_irp *i) {
+    bool has_location = i->irp.CurrentLocation <= i->irp.StackCount;
+    return has_location ? IoGetCurrentIrpStackLocation(&i->irp)->FileObject : NULL;
+}
+
+/* ---- The end of a queue's memory ---- */
+static void forget(struct iocsq_queue *q, const char *what) {
+    uint32_t listed = iocsq_reference_next(&q->reference, CSQ_ANY, CSQ_ANY);
+    if (listed != CSQ_ANY) {
+        const struct iocsq_irp *i = q->reference.by_slot[listed];
+        iocsq_disagree(i, "%s, and irp %u is in a queue in it", what, i->index);
+    }
+    if (q->calls > 0) {
+        iocsq_disagree(NULL, "%s, and a call or a cancel routine of a queue in it has not ended", what);
+    }
+    q->csq = NULL;
+}
+
+void iocsq_end_queues_in(const void *from, size_t size, const char *what) {
+    pthread_mutex_lock(&queues_mutex);
+    for (uint32_t at = 0; at < queue_count; at++) {
+        if (queues[at]->csq && (uintptr_t)queues[at]->csq - (uintptr_t)from < size) {
+            forget(queues[at], what);
+        }
+    }
+    pthread_mutex_unlock(&queues_mutex);
+}
+
+void iocsq_end_queues(void) {
+    for (uint32_t at = 0; at < queue_count; at++) {
+        iocsq_reference_end(&queues[at]->reference);
+        free(queues[at]);
+    }
+    queue_count = 0;
+}
+
+/* ---- Beginning ---- */
+static struct iocsq_queue *new_queue(void) {
+    struct iocsq_queue *q = queue_count < IOCSQ_QUEUES ? calloc(1, sizeof *q) : NULL;
+    if (!q) {
+        iocsq_fail("no memory for a queue, or more than %u of them", (unsigned)IOCSQ_QUEUES);
+    }
+    iocsq_reference_begin(&q->reference, queue_count);
+    queues[queue_count++] = q;
+    return q;
+}
+
+/* One whose memory was freed, and in which nothing stays any more. */
+static struct iocsq_queue *find_forgotten(void) {
+    for (uint32_t at = 0; at < queue_count; at++) {
+        if (!queues[at]->csq && iocsq_reference_is_idle(&queues[at]->reference)) {
+            return queues[at];
+        }
+    }
+    return NULL;
+}
+
+static void begin(PIO_CSQ csq) {
+    iocsq_end_queues_in(csq, sizeof *csq, "IoCsqInitialize of an IO_CSQ that is in use");
+    pthread_mutex_lock(&queues_mutex);
+    struct iocsq_queue *q = find_forgotten();
+    if (!q) {
+        q = new_queue();
+    }
+    q->csq = csq;
+    q->policy = first_policy;
+    q->inside = 0;
+    q->lock = NULL;
+    csq->ReservePointer = q;
+    pthread_mutex_unlock(&queues_mutex);
+}
+
+static NTSTATUS initialize(PIO_CSQ csq, IO_CSQ all) {
+    if (!all.CsqInsertIrp || !all.CsqRemoveIrp || !all.CsqPeekNextIrp || !all.CsqAcquireLock || !all.CsqReleaseLock ||
+        !all.CsqCompleteCanceledIrp) {
+        iocsq_disagree(NULL, "a callback of IoCsqInitialize is null");
+    }
+    *csq = all;
+    begin(csq);
+    return STATUS_SUCCESS;
+}
+
+NTSTATUS NTAPI IoCsqInitialize(PIO_CSQ Csq, PIO_CSQ_INSERT_IRP CsqInsertIrp, PIO_CSQ_REMOVE_IRP CsqRemoveIrp,
+                               PIO_CSQ_PEEK_NEXT_IRP CsqPeekNextIrp, PIO_CSQ_ACQUIRE_LOCK CsqAcquireLock,
+                               PIO_CSQ_RELEASE_LOCK CsqReleaseLock,
+                               PIO_CSQ_COMPLETE_CANCELED_IRP CsqCompleteCanceledIrp) {
+    IO_CSQ all = { IO_TYPE_CSQ,    CsqInsertIrp,   CsqRemoveIrp,           CsqPeekNextIrp,
+                   CsqAcquireLock, CsqReleaseLock, CsqCompleteCanceledIrp, NULL };
+    return initialize(Csq, all);
+}
+
+NTSTATUS NTAPI IoCsqInitializeEx(PIO_CSQ Csq, PIO_CSQ_INSERT_IRP_EX CsqInsertIrp, PIO_CSQ_REMOVE_IRP CsqRemoveIrp,
+                                 PIO_CSQ_PEEK_NEXT_IRP CsqPeekNextIrp, PIO_CSQ_ACQUIRE_LOCK CsqAcquireLock,
+                                 PIO_CSQ_RELEASE_LOCK CsqReleaseLock,
+                                 PIO_CSQ_COMPLETE_CANCELED_IRP CsqCompleteCanceledIrp) {
+    void (*insert)(void) = (void (*)(void))CsqInsertIrp; /* as the WDK's struct has it: one field for both */
+    IO_CSQ all = { IO_TYPE_CSQ_EX, (PIO_CSQ_INSERT_IRP)insert, CsqRemoveIrp,           CsqPeekNextIrp,
+                   CsqAcquireLock, CsqReleaseLock,             CsqCompleteCanceledIrp, NULL };
+    return initialize(Csq, all);
+}
+
+VOID IocsqSetPolicy(PIO_CSQ Csq, const IOCSQ_POLICY *Policy) {
+    *(Csq ? &iocsq_queue_of(Csq)->policy : &first_policy) = *Policy;
+}
+
+/* ---- List entries of IRPs that are in a queue: under that queue's lock alone ---- */
+static void check_touch(const LIST_ENTRY *entry, const char *call, const char *how) {
+    struct iocsq_irp *i = iocsq_irp_of_entry(entry);
+    const struct iocsq_reference *r = i && i->place == IOCSQ_LISTED ? iocsq_reference_of(i) : NULL;
+    if (r && !iocsq_has_lock(iocsq_queue_at(r->index)->lock)) {
+        iocsq_disagree(i, "%s %s irp %u, which is in the queue, without the queue's lock", call, how, i->index);
+    }
+}
+
+VOID IocsqTouch(const LIST_ENTRY *Entry, const LIST_ENTRY *Before, const LIST_ENTRY *After, const char *Call) {
+    check_touch(Entry, Call, "of");
+    check_touch(Before, Call, "beside");
+    check_touch(After, Call, "beside");
+}

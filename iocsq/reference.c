@@ -1,0 +1,239 @@
+#include "reference.h"
+
+static struct iocsq_reference *references[IOCSQ_QUEUES];
+
+/* ---- A stay: queue, slot and life in one word, so that a canceller reads them together ---- */
+static uint64_t stay_at(const struct iocsq_reference *r, uint32_t slot, uint32_t life) {
+    return (uint64_t)1 << 63 | (uint64_t)r->index << 48 | (uint64_t)slot << 32 | life;
+}
+
+static struct iocsq_reference *reference_of(uint64_t stay) {
+    return references[stay >> 48 & (IOCSQ_QUEUES - 1)];
+}
+
+static struct csq_irp irp_of(uint64_t stay) {
+    struct csq_irp irp = { (uint32_t)(stay >> 32) & 0xFFFF, (uint32_t)stay };
+    return irp;
+}
+
+static void expect(uint32_t code, uint32_t expected, const char *call) {
+    if (code != expected) {
+        iocsq_fail("%s answered %s", call, csq_name(code));
+    }
+}
+
+/* ---- Passes: any is taken for one call, but what one holds or owes is ended through the same ---- */
+uint32_t iocsq_pass_of_thread(void) {
+    return iocsq_thread() % IOCSQ_PASSES;
+}
+
+static uint32_t lend_pass(struct iocsq_reference *r) {
+    uint32_t first = iocsq_pass_of_thread(), at = first;
+    while (pthread_mutex_trylock(&r->passes[at].mutex) != 0) {
+        at = (at + 1) % IOCSQ_PASSES;
+        if (at == first) {
+            pthread_mutex_lock(&r->passes[at].mutex);
+            break;
+        }
+    }
+    return at;
+}
+
+static void lend_this_pass(struct iocsq_reference *r, uint32_t pass) {
+    pthread_mutex_lock(&r->passes[pass].mutex);
+}
+
+static void return_pass(struct iocsq_reference *r, uint32_t pass) {
+    pthread_mutex_unlock(&r->passes[pass].mutex);
+}
+
+/* ---- Beginning and end ---- */
+void iocsq_reference_begin(struct iocsq_reference *r, uint32_t index) {
+    const struct csq_size size = { .irps = CSQ_MOST_IRPS, .files = CSQ_MOST_FILES, .limit = CSQ_MOST_IRPS,
+                                   .passes = IOCSQ_PASSES, .first_life = 0, .list = CSQ_CHAINS };
+    r->index = index;
+    pthread_mutex_init(&r->mutex, NULL);
+    expect(csq_new(&r->queue, &size), CSQ_OK, "csq_new");
+    for (uint32_t at = 0; at < IOCSQ_PASSES; at++) {
+        pthread_mutex_init(&r->passes[at].mutex, NULL);
+        expect(csq_take_pass(&r->queue, &r->passes[at].pass), CSQ_OK, "csq_take_pass");
+    }
+    for (r->free_count = 0; r->free_count < CSQ_MOST_IRPS; r->free_count++) {
+        r->free_slots[r->free_count] = CSQ_MOST_IRPS - 1 - r->free_count;
+    }
+    references[index] = r;
+}
+
+void iocsq_reference_end(struct iocsq_reference *r) {
+    uint32_t left;
+    for (uint32_t at = 0; at < IOCSQ_PASSES; at++) {
+        expect(csq_give_back(&r->queue, &r->passes[at].pass), CSQ_OK, "csq_give_back");
+    }
+    expect(csq_close(&r->queue), CSQ_OK, "csq_close");
+    expect(csq_read_listed(&r->queue, CSQ_ANY, &left), CSQ_NONE, "csq_read_listed of the emptied queue");
+    expect(csq_free(&r->queue), CSQ_OK, "csq_free");
+    references[r->index] = NULL;
+}
+
+bool iocsq_reference_is_idle(struct iocsq_reference *r) {
+    pthread_mutex_lock(&r->mutex);
+    bool idle = r->free_count == CSQ_MOST_IRPS;
+    pthread_mutex_unlock(&r->mutex);
+    return idle;
+}
+
+/* ---- The list ---- */
+uint32_t iocsq_reference_next(struct iocsq_reference *r, uint32_t after, uint32_t file) {
+    struct csq_irp next = { CSQ_ANY, 0 };
+    pthread_mutex_lock(&r->mutex);
+    uint32_t code = csq_peek_next(&r->queue, after, file, &next);
+    pthread_mutex_unlock(&r->mutex);
+    return code == CSQ_OK ? next.irp : CSQ_ANY;
+}
+
+uint32_t iocsq_reference_len(struct iocsq_reference *r) {
+    uint32_t len = 0;
+    pthread_mutex_lock(&r->mutex);
+    expect(csq_len(&r->queue, &len), CSQ_OK, "csq_len");
+    pthread_mutex_unlock(&r->mutex);
+    return len;
+}
+
+struct iocsq_reference *iocsq_reference_of(const struct iocsq_irp *i) {
+    uint64_t stay = i->stay;
+    return stay ? reference_of(stay) : NULL;
+}
+
+uint32_t iocsq_slot_in(const struct iocsq_reference *r, const struct iocsq_irp *i) {
+    uint64_t stay = i->stay;
+    return stay && i->place == IOCSQ_LISTED && reference_of(stay) == r ? irp_of(stay).irp : CSQ_ANY;
+}
+
+/* ---- Stays ---- */
+void iocsq_reference_join(struct iocsq_reference *r, struct iocsq_irp *i) {
+    pthread_mutex_lock(&r->mutex);
+    if (r->free_count == 0) {
+        iocsq_fail("more than %u IRPs in one queue", (unsigned)CSQ_MOST_IRPS);
+    }
+    uint32_t slot = r->free_slots[--r->free_count];
+    r->by_slot[slot] = i;
+    iocsq_begin_steps(i);
+    i->stay = stay_at(r, slot, r->lives[slot]);
+    pthread_mutex_unlock(&r->mutex);
+}
+
+bool iocsq_reference_insert(struct iocsq_reference *r, struct iocsq_irp *i, uint32_t file, bool first) {
+    struct csq_irp context;
+    pthread_mutex_lock(&r->mutex);
+    uint32_t pass = lend_pass(r);
+    uint32_t code = csq_insert(&r->queue, &r->passes[pass].pass, irp_of(i->stay).irp, file, first, &context);
+    return_pass(r, pass);
+    if (code != CSQ_CANCELLED) {
+        expect(code, CSQ_OK, "csq_insert");
+    }
+    iocsq_step(i, pass, "arm");
+    iocsq_step(i, pass, "test");
+    if (code == CSQ_CANCELLED) {
+        iocsq_step(i, pass, "disarm");
+        i->pass = pass;
+    }
+    i->place = code == CSQ_OK ? IOCSQ_LISTED : IOCSQ_CANCELLED;
+    pthread_mutex_unlock(&r->mutex);
+    return code == CSQ_OK;
+}
+
+uint32_t iocsq_reference_insert_again(struct iocsq_irp *i) {
+    struct iocsq_reference *r = reference_of(i->stay);
+    struct csq_irp context;
+    pthread_mutex_lock(&r->mutex);
+    uint32_t pass = lend_pass(r);
+    uint32_t code = csq_insert(&r->queue, &r->passes[pass].pass, irp_of(i->stay).irp, 0, 0, &context);
+    return_pass(r, pass);
+    pthread_mutex_unlock(&r->mutex);
+    iocsq_step(i, pass, "arm");
+    return code;
+}
+
+bool iocsq_reference_remove(struct iocsq_reference *r, struct iocsq_irp *i) {
+    pthread_mutex_lock(&r->mutex);
+    uint32_t pass = lend_pass(r);
+    uint32_t code = csq_remove(&r->queue, &r->passes[pass].pass, irp_of(i->stay));
+    return_pass(r, pass);
+    if (i->place == IOCSQ_LISTED) {
+        iocsq_step(i, pass, "disarm");
+    }
+    if (code == CSQ_OK) {
+        i->pass = pass;
+        i->place = IOCSQ_REMOVED;
+    } else {
+        expect(code, CSQ_NONE, "csq_remove");
+        iocsq_step(i, pass, "end");
+    }
+    pthread_mutex_unlock(&r->mutex);
+    return code == CSQ_OK;
+}
+
+bool iocsq_reference_mark(struct iocsq_irp *i, struct iocsq_claim *claim) {
+    uint64_t stay;
+    while ((stay = i->stay) != 0) {
+        struct iocsq_reference *r = reference_of(stay);
+        struct iocsq_claim made = { r, irp_of(stay), lend_pass(r) };
+        uint32_t found = 0;
+        uint32_t code = csq_mark_cancel(&r->passes[made.pass].pass, made.irp, &found);
+        return_pass(r, made.pass);
+        if (code == CSQ_OK) {
+            iocsq_step(i, made.pass, "flag");
+            iocsq_step(i, made.pass, "take");
+            *claim = made;
+            return found != 0;
+        }
+        expect(code, CSQ_STALE, "csq_mark_cancel");
+        if (stay == i->stay) {
+            iocsq_yield(); /* the stay is ending: its word is cleared in a moment */
+        }
+    }
+    return false;
+}
+
+void iocsq_reference_run_routine(const struct iocsq_claim *claim, struct iocsq_irp *i) {
+    struct iocsq_reference *r = claim->reference;
+    pthread_mutex_lock(&r->mutex);
+    lend_this_pass(r, claim->pass);
+    uint32_t code = csq_cancel_routine(&r->queue, &r->passes[claim->pass].pass, claim->irp);
+    return_pass(r, claim->pass);
+    expect(code, CSQ_OK, "csq_cancel_routine");
+    iocsq_step(i, claim->pass, "out");
+    i->pass = claim->pass;
+    i->place = IOCSQ_CANCELLED;
+    pthread_mutex_unlock(&r->mutex);
+}
+
+/* The next life of its slot begins, and the slot is free. The queue's mutex and the pass's are held. */
+static void free_slot(struct iocsq_reference *r, struct iocsq_irp *i, struct csq_irp irp, uint32_t pass) {
+    expect(csq_reuse(&r->queue, &r->passes[pass].pass, irp, &r->lives[irp.irp]), CSQ_OK, "csq_reuse");
+    i->stay = 0;
+    i->place = IOCSQ_HOME;
+    r->by_slot[irp.irp] = NULL;
+    r->free_slots[r->free_count++] = irp.irp;
+}
+
+uint32_t iocsq_reference_complete(struct iocsq_irp *i, NTSTATUS status) {
+    uint64_t stay = i->stay;
+    uint32_t pass = i->place == IOCSQ_LISTED ? iocsq_pass_of_thread() : i->pass;
+    if (!stay) {
+        return CSQ_NOT_HELD;
+    }
+    struct iocsq_reference *r = reference_of(stay);
+    struct csq_irp irp = irp_of(stay);
+    pthread_mutex_lock(&r->mutex);
+    lend_this_pass(r, pass);
+    iocsq_step(i, pass, "done");
+    uint32_t code = status == STATUS_CANCELLED ? csq_complete_cancelled(&r->passes[pass].pass, irp)
+                                               : csq_complete(&r->passes[pass].pass, irp, (uint32_t)status);
+    if (code == CSQ_OK) {
+        free_slot(r, i, irp, pass);
+    }
+    return_pass(r, pass);
+    pthread_mutex_unlock(&r->mutex);
+    return code;
+}

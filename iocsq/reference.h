@@ -1,0 +1,64 @@
+/* The queue of csq.h that runs beside the list of one IO_CSQ, and decides who gets which IRP. It has locks of its own,
+ * so that a driver whose lock is wrong doesn't break what csq.h asks of its caller. */
+#ifndef IOCSQ_REFERENCE_H
+#define IOCSQ_REFERENCE_H
+#include "csq.h"
+#include "internal.h"
+
+#include <pthread.h>
+
+enum { IOCSQ_QUEUES = 512, IOCSQ_PASSES = 16 };
+
+/* A pass is used by one thread at a time. */
+struct iocsq_lent_pass {
+    pthread_mutex_t mutex; /* held for one call of csq.h alone, and taken after the queue's */
+    struct csq_pass pass;
+};
+
+struct iocsq_reference {
+    uint32_t index; /* below IOCSQ_QUEUES */
+    pthread_mutex_t mutex; /* the lock of the queue, and of the fields below */
+    struct csq_queue queue;
+    struct iocsq_lent_pass passes[IOCSQ_PASSES];
+    /* An IRP has a slot while it stays in the queue: from its insert until its completion, or until the driver inserts
+     * it again. Each stay is one life of the slot, so a cancel that comes late names an old life. */
+    struct iocsq_irp *by_slot[CSQ_MOST_IRPS];
+    uint32_t lives[CSQ_MOST_IRPS];
+    uint32_t free_slots[CSQ_MOST_IRPS];
+    uint32_t free_count;
+};
+
+/* A cancel routine that was taken: the pass owes the IRP. */
+struct iocsq_claim {
+    struct iocsq_reference *reference;
+    struct csq_irp irp;
+    uint32_t pass;
+};
+
+void iocsq_reference_begin(struct iocsq_reference *r, uint32_t index);
+void iocsq_reference_end(struct iocsq_reference *r); /* once nothing stays in it */
+bool iocsq_reference_is_idle(struct iocsq_reference *r); /* nothing stays in it */
+
+/* The list: slots, or CSQ_ANY for none. */
+uint32_t iocsq_reference_next(struct iocsq_reference *r, uint32_t after, uint32_t file);
+uint32_t iocsq_reference_len(struct iocsq_reference *r);
+struct iocsq_reference *iocsq_reference_of(const struct iocsq_irp *i); /* in which it stays; null: none */
+uint32_t iocsq_slot_in(const struct iocsq_reference *r, const struct iocsq_irp *i); /* CSQ_ANY: it isn't listed there */
+
+/* Gives the IRP a slot, so that cancellers find it there. */
+void iocsq_reference_join(struct iocsq_reference *r, struct iocsq_irp *i);
+/* Inserts it for a file object's number. Whether it is pending; if not it was cancelled before, and is held. */
+bool iocsq_reference_insert(struct iocsq_reference *r, struct iocsq_irp *i, uint32_t file, bool first);
+/* What an insert of an IRP that stays in a queue answers. */
+uint32_t iocsq_reference_insert_again(struct iocsq_irp *i);
+/* Removes it. Whether it is held then; if not a canceller has it. */
+bool iocsq_reference_remove(struct iocsq_reference *r, struct iocsq_irp *i);
+/* Sets the flag of an IRP that stays in a queue, and takes its routine. Whether the routine was there. */
+bool iocsq_reference_mark(struct iocsq_irp *i, struct iocsq_claim *claim);
+/* Runs the cancel routine that was taken. The IRP is held then. */
+void iocsq_reference_run_routine(const struct iocsq_claim *claim, struct iocsq_irp *i);
+/* Ends a stay, through the pass that holds the IRP. CSQ_OK; CSQ_NOT_HELD; CSQ_NOT_REMOVED. */
+uint32_t iocsq_reference_complete(struct iocsq_irp *i, NTSTATUS status);
+
+uint32_t iocsq_pass_of_thread(void); /* the pass that this thread asks for first */
+#endif

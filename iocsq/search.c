@@ -1,0 +1,119 @@
+/* Searches through the driver's list by its CsqPeekNextIrp: each answer is compared with that of the reference. */
+#include "judge.h"
+#include "queue.h"
+
+enum { AUDITED = 64 }; /* a longer list is looked through now and then alone */
+
+static bool matches(const struct iocsq_search *s, struct iocsq_irp *i) {
+    if (s->q->policy.Match) {
+        return s->q->policy.Match(&i->irp, s->context);
+    }
+    return s->context == NULL || s->context == (PVOID)iocsq_irp_file(i);
+}
+
+/* The first match after a slot, or with `unseen` the first that wasn't an answer yet. IOCSQ_NONE: there is none. */
+static uint32_t next_match(const struct iocsq_search *s, uint32_t after, bool unseen) {
+    struct iocsq_reference *r = &s->q->reference;
+    uint32_t slot = after;
+    while ((slot = iocsq_reference_next(r, slot, CSQ_ANY)) != IOCSQ_NONE) {
+        struct iocsq_irp *i = r->by_slot[slot];
+        if (i && matches(s, i) && !(unseen && s->seen[slot])) {
+            break;
+        }
+    }
+    return slot;
+}
+
+/* What csq_peek_next answers: by itself, where the peek context is "any" or a file object. */
+static uint32_t expected_answer(const struct iocsq_search *s) {
+    struct iocsq_reference *r = &s->q->reference;
+    uint32_t after = s->before ? iocsq_slot_in(r, s->before) : CSQ_ANY;
+    if (s->q->policy.Match) {
+        return next_match(s, after, false);
+    }
+    uint32_t file = s->context ? iocsq_file_number(s->context) : CSQ_ANY;
+    if (file == IOCSQ_FILES) {
+        iocsq_fail("a peek context that is no file object: IocsqSetPolicy says what such a one means");
+    }
+    return iocsq_reference_next(r, after, file);
+}
+
+static bool stands_after(const struct iocsq_search *s, uint32_t slot) {
+    struct iocsq_reference *r = &s->q->reference;
+    uint32_t at = s->before ? iocsq_slot_in(r, s->before) : CSQ_ANY;
+    while ((at = iocsq_reference_next(r, at, CSQ_ANY)) != IOCSQ_NONE && at != slot) {
+    }
+    return at == slot;
+}
+
+/* The answer as a number: an IRP that isn't listed has no slot, and is none that could be expected. */
+static uint32_t answer_number(const struct iocsq_irp *answer, uint32_t slot) {
+    return answer && slot == IOCSQ_NONE ? (uint32_t)CSQ_MOST_IRPS : slot;
+}
+
+/* `slot` is the answer's in the reference, or IOCSQ_NONE. */
+static struct iocsq_judgement judge(const struct iocsq_search *s, struct iocsq_irp *answer, uint32_t slot) {
+    bool listed = slot != IOCSQ_NONE, any_order = s->q->policy.AnyOrder;
+    struct iocsq_facts facts = { listed, listed && matches(s, answer), false };
+    if (any_order) {
+        facts.after = listed && !s->seen[slot];
+        uint32_t left = answer ? IOCSQ_NONE : next_match(s, CSQ_ANY, true);
+        return iocsq_judge_any_order(left, answer_number(answer, slot), facts);
+    }
+    uint32_t expected = expected_answer(s);
+    facts.after = listed && (slot == expected || stands_after(s, slot));
+    return iocsq_judge(expected, answer_number(answer, slot), facts);
+}
+
+/* The report of a judgement that isn't Agrees. */
+static void complain(const struct iocsq_search *s, const struct iocsq_irp *answer, struct iocsq_judgement judgement) {
+    const struct iocsq_irp *skipped = s->q->reference.by_slot[judgement.skipped % CSQ_MOST_IRPS];
+    char given[32] = "none";
+    if (answer) {
+        snprintf(given, sizeof given, "irp %u", answer->index);
+    }
+    if (judgement.verdict == IOCSQ_SKIPS && !skipped) {
+        iocsq_disagree(answer, "%s: the list changes while this thread has its lock", s->when);
+    }
+    switch (judgement.verdict) {
+    case IOCSQ_SKIPS:
+        iocsq_disagree(skipped, "%s: CsqPeekNextIrp answered %s, and skipped irp %u, a match", s->when, given,
+                       skipped->index);
+    case IOCSQ_NOT_LISTED:
+        iocsq_disagree(answer, "%s: CsqPeekNextIrp answered %s, which %s", s->when, given,
+                       answer->place == IOCSQ_LISTED ? "is in another queue" : iocsq_place_name(answer));
+    case IOCSQ_NO_MATCH:
+        iocsq_disagree(answer, "%s: CsqPeekNextIrp answered %s, which is no match of the peek context", s->when, given);
+    default:
+        iocsq_disagree(answer, "%s: CsqPeekNextIrp answered %s, which %s irp %u", s->when, given,
+                       s->q->policy.AnyOrder ? "came before in this search, after" : "does not stand after",
+                       s->before ? s->before->index : answer->index);
+    }
+}
+
+struct iocsq_irp *iocsq_peek(struct iocsq_search *s) {
+    PIO_CSQ csq = s->q->csq;
+    IOCSQ_COUNT(Peeks);
+    PIRP irp = csq->CsqPeekNextIrp(csq, s->before ? &s->before->irp : NULL, s->context);
+    struct iocsq_irp *answer = irp ? iocsq_known(irp, "CsqPeekNextIrp answered") : NULL;
+    uint32_t slot = answer ? iocsq_slot_in(&s->q->reference, answer) : IOCSQ_NONE;
+    struct iocsq_judgement judgement = judge(s, answer, slot);
+    if (judgement.verdict != IOCSQ_AGREES) {
+        complain(s, answer, judgement);
+    }
+    if (answer) {
+        s->seen[slot] = true;
+        s->before = answer;
+    }
+    return answer;
+}
+
+void iocsq_audit(struct iocsq_queue *q, const char *when) {
+    struct iocsq_search s = { .q = q, .when = when };
+    if (q->policy.NoAudit || (iocsq_reference_len(&q->reference) > AUDITED && !iocsq_rarely(16))) {
+        return;
+    }
+    IOCSQ_COUNT(Audits);
+    while (iocsq_peek(&s)) {
+    }
+}

@@ -1,0 +1,262 @@
+/* What stands for the kernel, call by call: kernel [turns]. */
+#include "iocsq_test.h"
+
+#include <stdlib.h>
+
+static const char *test;
+static int failures;
+
+static void check(int holds, const char *what, int line) {
+    if (!holds) {
+        printf("FAILED %s: line %d: %s\n", test, line, what);
+        failures++;
+    }
+}
+#define CHECK(condition) check((condition) != 0, #condition, __LINE__)
+#define RUN(name) (test = #name, name(), failures == 0 ? (void)printf("passed %s\n", test) : (void)0)
+
+static LARGE_INTEGER after_milliseconds(LONG milliseconds) {
+    LARGE_INTEGER time;
+    time.QuadPart = -10000 * (LONGLONG)milliseconds;
+    return time;
+}
+
+static NTSTATUS wait_for(PVOID object, LONG milliseconds) {
+    LARGE_INTEGER time = after_milliseconds(milliseconds);
+    return KeWaitForSingleObject(object, Executive, KernelMode, FALSE, &time);
+}
+
+/* ---- Events, mutexes, semaphores ---- */
+static void events(void) {
+    KEVENT stays, goes;
+    KeInitializeEvent(&stays, NotificationEvent, FALSE);
+    KeInitializeEvent(&goes, SynchronizationEvent, TRUE);
+    CHECK(wait_for(&stays, 1) == STATUS_TIMEOUT);
+    CHECK(KeSetEvent(&stays, IO_NO_INCREMENT, FALSE) == 0);
+    CHECK(wait_for(&stays, 0) == STATUS_SUCCESS && wait_for(&stays, 0) == STATUS_SUCCESS);
+    CHECK(wait_for(&goes, 0) == STATUS_SUCCESS && wait_for(&goes, 0) == STATUS_TIMEOUT);
+    CHECK(KeReadStateEvent(&stays) == 1 && KeResetEvent(&stays) == 1);
+    KeClearEvent(&stays);
+    CHECK(KeReadStateEvent(&stays) == 0);
+}
+
+static void mutexes(void) {
+    KMUTEX mutex;
+    KeInitializeMutex(&mutex, 0);
+    CHECK(wait_for(&mutex, 0) == STATUS_SUCCESS && wait_for(&mutex, 0) == STATUS_SUCCESS); /* twice by its owner */
+    KeReleaseMutex(&mutex, FALSE);
+    KeReleaseMutex(&mutex, FALSE);
+    CHECK(mutex.OwnerThread == 0);
+}
+
+static void several_objects(void) {
+    KSEMAPHORE semaphore;
+    KEVENT event;
+    PVOID objects[2] = { &semaphore, &event };
+    LARGE_INTEGER now = after_milliseconds(0);
+    KeInitializeSemaphore(&semaphore, 0, 2);
+    KeInitializeEvent(&event, SynchronizationEvent, TRUE);
+    CHECK(KeWaitForMultipleObjects(2, objects, WaitAll, Executive, KernelMode, FALSE, &now, NULL) == STATUS_TIMEOUT);
+    CHECK(KeWaitForMultipleObjects(2, objects, WaitAny, Executive, KernelMode, FALSE, &now, NULL) == STATUS_WAIT_0 + 1);
+    KeSetEvent(&event, IO_NO_INCREMENT, FALSE);
+    CHECK(KeReleaseSemaphore(&semaphore, IO_NO_INCREMENT, 2, FALSE) == 0);
+    CHECK(KeWaitForMultipleObjects(2, objects, WaitAll, Executive, KernelMode, FALSE, &now, NULL) == STATUS_SUCCESS);
+    CHECK(semaphore.Header.SignalState == 1 && KeReadStateEvent(&event) == 0);
+}
+
+/* ---- Locks ---- */
+static void locks(void) {
+    KSPIN_LOCK lock;
+    KLOCK_QUEUE_HANDLE handle;
+    FAST_MUTEX mutex;
+    KIRQL before;
+    KeInitializeSpinLock(&lock);
+    ExInitializeFastMutex(&mutex);
+    KeAcquireInStackQueuedSpinLock(&lock, &handle);
+    CHECK(KeGetCurrentIrql() == DISPATCH_LEVEL);
+    KeReleaseInStackQueuedSpinLock(&handle);
+    ExAcquireFastMutex(&mutex);
+    CHECK(KeGetCurrentIrql() == APC_LEVEL);
+    ExReleaseFastMutex(&mutex);
+    KeRaiseIrql(DISPATCH_LEVEL, &before);
+    KeAcquireSpinLockAtDpcLevel(&lock);
+    KeReleaseSpinLockFromDpcLevel(&lock);
+    KeLowerIrql(before);
+    CHECK(KeGetCurrentIrql() == PASSIVE_LEVEL);
+}
+
+static void remove_locks(void) {
+    IO_REMOVE_LOCK lock;
+    int tag;
+    IoInitializeRemoveLock(&lock, 'tseT', 0, 0);
+    CHECK(IoAcquireRemoveLock(&lock, &tag) == STATUS_SUCCESS && IoAcquireRemoveLock(&lock, NULL) == STATUS_SUCCESS);
+    IoReleaseRemoveLock(&lock, NULL);
+    IoReleaseRemoveLockAndWait(&lock, &tag);
+    CHECK(IoAcquireRemoveLock(&lock, &tag) == STATUS_DELETE_PENDING);
+}
+
+/* ---- Timers, DPCs, work items ---- */
+static LONG runs;
+static PVOID last_argument;
+
+static VOID NTAPI count(PKDPC dpc, PVOID context, PVOID first, PVOID second) {
+    (void)dpc, (void)second;
+    CHECK(KeGetCurrentIrql() == DISPATCH_LEVEL);
+    InterlockedIncrement((LONG *)context);
+    last_argument = first;
+}
+
+static void timers_and_dpcs(void) {
+    KTIMER timer;
+    KDPC dpc;
+    runs = 0;
+    KeInitializeDpc(&dpc, count, &runs);
+    CHECK(KeInsertQueueDpc(&dpc, &timer, NULL));
+    KeFlushQueuedDpcs();
+    CHECK(runs == 1 && last_argument == &timer && !KeRemoveQueueDpc(&dpc));
+    KeInitializeTimer(&timer);
+    CHECK(!KeSetTimer(&timer, after_milliseconds(2), &dpc) && KeSetTimer(&timer, after_milliseconds(1), &dpc));
+    CHECK(wait_for(&timer, 1000) == STATUS_SUCCESS && KeReadStateTimer(&timer));
+    KeFlushQueuedDpcs();
+    CHECK(runs == 2 && !KeCancelTimer(&timer));
+    KeInitializeTimerEx(&timer, SynchronizationTimer);
+    KeSetTimerEx(&timer, after_milliseconds(1), 1, &dpc);
+    CHECK(wait_for(&timer, 1000) == STATUS_SUCCESS && wait_for(&timer, 1000) == STATUS_SUCCESS);
+    CHECK(KeCancelTimer(&timer));
+    KeFlushQueuedDpcs();
+    CHECK(runs >= 3); /* a DPC that is queued already is queued once */
+}
+
+static VOID NTAPI set_event(PDEVICE_OBJECT device, PVOID context) {
+    (void)device;
+    KeSetEvent(context, IO_NO_INCREMENT, FALSE);
+}
+
+static void work_items(void) {
+    KEVENT done;
+    PIO_WORKITEM item = IoAllocateWorkItem(NULL);
+    KeInitializeEvent(&done, SynchronizationEvent, FALSE);
+    for (int turn = 0; turn < 3; turn++) {
+        IoQueueWorkItem(item, set_event, DelayedWorkQueue, &done);
+        CHECK(wait_for(&done, 1000) == STATUS_SUCCESS);
+    }
+    IoFreeWorkItem(item);
+}
+
+/* ---- Memory ---- */
+static void memory(void) {
+    static const WCHAR text[] = L"abc";
+    UNICODE_STRING string;
+    UCHAR *bytes = ExAllocatePool2(POOL_FLAG_NON_PAGED, 16, 'tseT');
+    CHECK(bytes && bytes[0] == 0 && bytes[15] == 0);
+    ExFreePool(bytes);
+    bytes = ExAllocatePoolWithTag(NonPagedPoolNx, 16, 'tseT');
+    ExFreePoolWithTag(bytes, 'tseT');
+    RtlInitUnicodeString(&string, text);
+    CHECK(string.Length == 3 * sizeof(WCHAR) && string.MaximumLength == 4 * sizeof(WCHAR) && string.Buffer[2] == 'c');
+}
+
+/* ---- A driver whose device is attached to another, and IRPs of its own ---- */
+static PDEVICE_OBJECT lower, upper;
+static PIRP kept; /* by the lower device */
+
+static NTSTATUS NTAPI pass_or_keep(PDEVICE_OBJECT device, PIRP irp) {
+    if (device == upper && IoGetCurrentIrpStackLocation(irp)->MajorFunction == IRP_MJ_READ) {
+        IoCopyCurrentIrpStackLocationToNext(irp);
+        return IoCallDriver(lower, irp);
+    }
+    if (IoGetCurrentIrpStackLocation(irp)->MajorFunction == IRP_MJ_READ) {
+        IoMarkIrpPending(irp);
+        kept = irp;
+        return STATUS_PENDING;
+    }
+    irp->IoStatus.Status = STATUS_SUCCESS;
+    irp->IoStatus.Information = 0;
+    IoCompleteRequest(irp, IO_NO_INCREMENT);
+    return STATUS_SUCCESS;
+}
+
+static VOID NTAPI unload(PDRIVER_OBJECT driver) {
+    (void)driver;
+    IoDetachDevice(lower);
+    IoDeleteDevice(upper);
+    IoDeleteDevice(lower);
+}
+
+static NTSTATUS NTAPI entry(PDRIVER_OBJECT driver, PUNICODE_STRING path) {
+    static const UCHAR majors[] = { IRP_MJ_CREATE, IRP_MJ_CLOSE, IRP_MJ_CLEANUP, IRP_MJ_READ };
+    (void)path;
+    for (size_t at = 0; at < sizeof majors; at++) {
+        driver->MajorFunction[majors[at]] = pass_or_keep;
+    }
+    driver->DriverUnload = unload;
+    IoCreateDevice(driver, 0, NULL, FILE_DEVICE_UNKNOWN, 0, FALSE, &lower);
+    IoCreateDevice(driver, 0, NULL, FILE_DEVICE_UNKNOWN, 0, FALSE, &upper);
+    return IoAttachDeviceToDeviceStack(upper, lower) == lower ? STATUS_SUCCESS : STATUS_UNSUCCESSFUL;
+}
+
+static void complete_kept(NTSTATUS status) {
+    kept->IoStatus.Status = status;
+    kept->IoStatus.Information = 7;
+    IoCompleteRequest(kept, IO_NO_INCREMENT);
+}
+
+/* A read that is passed on is pending above too, and its completion goes up. */
+static void passed_on(PFILE_OBJECT file) {
+    UCHAR byte;
+    IOCSQ_REQUEST *read = IocsqSend(file, IRP_MJ_READ, &byte, 1);
+    CHECK(IocsqStatus(read) == STATUS_PENDING && kept->CurrentLocation == 1 && kept->StackCount == 2);
+    complete_kept(STATUS_SUCCESS);
+    CHECK(IocsqStatus(read) == STATUS_SUCCESS && IocsqInformation(read) == 7);
+    IocsqFree(read);
+    CHECK(IocsqStatus(read = IocsqControl(file, 1, &byte, 1, 1)) == STATUS_INVALID_DEVICE_REQUEST);
+    IocsqFree(read);
+}
+
+static NTSTATUS NTAPI keep(PDEVICE_OBJECT device, PIRP irp, PVOID context) {
+    CHECK(device == NULL && irp->PendingReturned);
+    *(NTSTATUS *)context = irp->IoStatus.Status;
+    return STATUS_MORE_PROCESSING_REQUIRED;
+}
+
+/* An IRP of the driver's own, sent twice, and cancelled by who sent it where nobody has a cancel routine. */
+static void own_irps(void) {
+    NTSTATUS got = STATUS_PENDING;
+    PIRP irp = IoAllocateIrp(lower->StackSize, FALSE);
+    for (int turn = 0; turn < 2; turn++) {
+        IoGetNextIrpStackLocation(irp)->MajorFunction = IRP_MJ_READ;
+        IoSetCompletionRoutine(irp, keep, &got, TRUE, TRUE, TRUE);
+        CHECK(IoCallDriver(lower, irp) == STATUS_PENDING && !IoCancelIrp(irp) && irp->Cancel);
+        complete_kept(STATUS_CANCELLED);
+        CHECK(got == STATUS_CANCELLED);
+        IoReuseIrp(irp, STATUS_SUCCESS);
+        CHECK(!irp->Cancel);
+    }
+    IoFreeIrp(irp);
+}
+
+static void devices(void) {
+    PDRIVER_OBJECT driver = IocsqLoad(entry);
+    PFILE_OBJECT file = IocsqOpen(driver);
+    passed_on(file);
+    own_irps();
+    IocsqClose(file);
+    IocsqUnload(driver);
+}
+
+int main(int argc, char **argv) {
+    IocsqLimit(100);
+    if (argc > 1 && strcmp(argv[1], "turns") == 0) {
+        IocsqTurns(1);
+    }
+    RUN(events);
+    RUN(mutexes);
+    RUN(several_objects);
+    RUN(locks);
+    RUN(remove_locks);
+    RUN(timers_and_dpcs);
+    RUN(work_items);
+    RUN(memory);
+    RUN(devices);
+    return failures > 0;
+}

@@ -1,0 +1,222 @@
+/* Threads that open file objects, read, write, control, cancel and close at random, on whatever driver is linked:
+ *
+ *     storm THREADS TURNS SEED                    threads run freely, with delays at random
+ *     storm THREADS TURNS SEED turns [SWITCHES]   one runs at a time, as the seed draws; at most so many switches
+ */
+#include "iocsq_test.h"
+
+#include <stdatomic.h>
+#include <stdio.h>
+#include <stdlib.h>
+
+#define ANY_CONTROL CTL_CODE(FILE_DEVICE_UNKNOWN, 0x801, METHOD_BUFFERED, FILE_ANY_ACCESS)
+enum { THREADS = 32, CANCELLERS = 3, OPEN = 6, MINE = 12, BYTES = 16, LONGEST = 4, SECONDS = 100 };
+enum { SHORTEST_PAUSE = 20, LONGEST_PAUSE = 320 }; /* microseconds */
+
+extern DRIVER_INITIALIZE DriverEntry;
+/* What a driver's callbacks mean, if it isn't the usual. */
+extern const IOCSQ_POLICY DriverPolicy __attribute__((weak));
+/* The control codes that it knows, and a 0 after them. */
+extern const ULONG DriverControls[] __attribute__((weak));
+
+static PDRIVER_OBJECT driver;
+static long turns;
+static ULONG patience = 20000; /* milliseconds */
+static _Atomic unsigned long succeeded, cancelled, timed_out, refused, cancels;
+static _Atomic int ending;
+
+/* A request under way: its buffer stays where it is until the request was completed. */
+struct request {
+    IOCSQ_REQUEST *sent; /* null: none */
+    PFILE_OBJECT file;
+    unsigned char buffer[BYTES];
+};
+
+struct user {
+    uint32_t dice;
+    PFILE_OBJECT files[OPEN];
+    struct request requests[MINE];
+};
+
+static uint32_t roll(struct user *u, uint32_t below) {
+    u->dice ^= u->dice << 13;
+    u->dice ^= u->dice >> 17;
+    u->dice ^= u->dice << 5;
+    return u->dice % below;
+}
+
+static void must(int holds, const char *what) {
+    if (!holds) {
+        fprintf(stderr, "storm: %s\n", what);
+        exit(1);
+    }
+}
+
+static void reap(struct request *r) {
+    switch (IocsqStatus(r->sent)) {
+    case STATUS_SUCCESS: succeeded++; break;
+    case STATUS_CANCELLED: cancelled++; break;
+    case STATUS_TIMEOUT: timed_out++; break;
+    default: refused++;
+    }
+    IocsqFree(r->sent);
+    r->sent = NULL;
+}
+
+/* ---- What a user does ---- */
+static ULONG control_code(struct user *u) {
+    uint32_t count = 0;
+    while (DriverControls && DriverControls[count]) {
+        count++;
+    }
+    return count ? DriverControls[roll(u, count)] : (ULONG)ANY_CONTROL;
+}
+
+static void send(struct user *u, struct request *r, PFILE_OBJECT file) {
+    uint32_t act = roll(u, 16);
+    ULONG length = 1 + roll(u, LONGEST);
+    if (r->sent) {
+        return;
+    }
+    r->file = file;
+    if (act >= 10 && act < 13) {
+        r->sent = IocsqControl(file, control_code(u), r->buffer, length, BYTES);
+    } else {
+        r->sent = IocsqSend(file, act < 10 ? IRP_MJ_READ : IRP_MJ_WRITE, r->buffer, length);
+    }
+}
+
+static void cancel(struct user *u, struct request *r) {
+    if (!r->sent) {
+        return;
+    }
+    IocsqCancel(r->sent);
+    cancels++; /* found or not */
+    if (roll(u, 2) == 0) {
+        if (!IocsqWait(r->sent, patience)) {
+            IocsqComplain(r->sent, "was cancelled, and was never completed");
+        }
+        reap(r);
+    }
+}
+
+static void close_file(struct user *u, PFILE_OBJECT *file) {
+    IocsqClose(*file);
+    for (uint32_t at = 0; at < MINE; at++) {
+        struct request *r = &u->requests[at];
+        if (r->sent && r->file == *file) {
+            if (!IocsqWait(r->sent, 0)) {
+                IocsqComplain(r->sent, "outlived its file object");
+            }
+            reap(r);
+        }
+    }
+    *file = NULL;
+}
+
+static void take_turn(struct user *u) {
+    struct request *r = &u->requests[roll(u, MINE)];
+    PFILE_OBJECT *file = &u->files[roll(u, OPEN)];
+    uint32_t act = roll(u, 32);
+    if (!*file) {
+        must((*file = IocsqOpen(driver)) != NULL, "a file object wasn't opened");
+    }
+    if (r->sent && IocsqWait(r->sent, 0)) {
+        reap(r);
+    }
+    if (act < 16) {
+        send(u, r, *file);
+    } else if (act < 28) {
+        cancel(u, r);
+    } else if (act == 28) {
+        close_file(u, file);
+    }
+}
+
+static void *use(void *user) {
+    struct user *u = user;
+    for (long turn = 0; turn < turns; turn++) {
+        take_turn(u);
+    }
+    for (uint32_t at = 0; at < OPEN; at++) {
+        if (u->files[at]) {
+            close_file(u, &u->files[at]);
+        }
+    }
+    return NULL;
+}
+
+/* Cancels requests of all users, and waits the longer where there is none to cancel. */
+static void *cancel_any(void *of) {
+    ULONG pause = SHORTEST_PAUSE;
+    while (!ending) {
+        BOOLEAN found = IocsqCancelAny();
+        cancels += found;
+        pause = found ? SHORTEST_PAUSE : pause < LONGEST_PAUSE ? 2 * pause : pause;
+        IocsqPause(pause);
+    }
+    return of;
+}
+
+/* ---- The run ---- */
+static void run(int threads, uint32_t seed) {
+    static struct user users[THREADS];
+    IOCSQ_THREAD started[THREADS], cancellers[CANCELLERS];
+    must((driver = IocsqLoad(DriverEntry)) != NULL, "the driver wasn't loaded");
+    for (int at = 0; at < threads; at++) {
+        users[at].dice = (uint32_t)at * 7919u + seed * 104729u + 1;
+        started[at] = IocsqThread(use, &users[at]);
+    }
+    for (int at = 0; at < CANCELLERS; at++) {
+        cancellers[at] = IocsqThread(cancel_any, NULL);
+    }
+    for (int at = 0; at < threads; at++) {
+        IocsqJoin(started[at]);
+    }
+    ending = 1;
+    for (int at = 0; at < CANCELLERS; at++) {
+        IocsqJoin(cancellers[at]);
+    }
+    IocsqUnload(driver);
+}
+
+static void tell_counts(void) {
+    IOCSQ_COUNTS c = IocsqCounts();
+    printf("inserted %llu refused %llu removed %llu cancelled %llu completed %llu, peeks %llu, audits %llu; "
+           "succeeded %lu cancelled %lu timed out %lu refused %lu of %lu cancels; %llu switches\n",
+           (unsigned long long)c.Inserted, (unsigned long long)c.Refused, (unsigned long long)c.Removed,
+           (unsigned long long)c.Cancelled, (unsigned long long)c.Completed, (unsigned long long)c.Peeks,
+           (unsigned long long)c.Audits, succeeded, cancelled, timed_out, refused, cancels,
+           (unsigned long long)c.Switches);
+}
+
+static long number(int argc, char **argv, int at, long least, long most) {
+    char *end = NULL;
+    long value = at < argc ? strtol(argv[at], &end, 10) : -1;
+    if (!end || *end || value < least || value > most) {
+        fprintf(stderr, "storm THREADS TURNS SEED [turns [SWITCHES]]: argument %d is a number from %ld to %ld\n", at,
+                least, most);
+        exit(2);
+    }
+    return value;
+}
+
+int main(int argc, char **argv) {
+    int threads = (int)number(argc, argv, 1, 1, THREADS);
+    turns = number(argc, argv, 2, 1, 1000000000);
+    uint32_t seed = (uint32_t)number(argc, argv, 3, 1, 1000000000);
+    IocsqLimit(SECONDS);
+    if (argc > 4) {
+        IocsqTurns(seed);
+        patience = 2000;
+        IocsqSwitches(argc > 5 ? (ULONG)number(argc, argv, 5, 0, 1000000000) : 0);
+    } else {
+        IocsqChaos(seed);
+    }
+    if (&DriverPolicy) {
+        IocsqSetPolicy(NULL, &DriverPolicy);
+    }
+    run(threads, seed);
+    tell_counts();
+    return 0;
+}

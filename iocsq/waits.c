@@ -1,0 +1,342 @@
+/* What threads wait for: events, mutexes, semaphores, timers, threads; and the threads of the driver. All of it, with
+ * the table of IRPs, is under one lock, the state's, and one condition tells of each change. */
+#define _GNU_SOURCE
+#include "internal.h"
+
+#include <errno.h>
+#include <pthread.h>
+#include <stdlib.h>
+#include <time.h>
+
+enum { MUTANT = 2, SEMAPHORE = 5, THREAD = 6 }; /* beside the EVENT_TYPEs, and the timers of deferred.c */
+enum { SECOND = 1000000000, HUNDRED_NANOSECONDS = 100 };
+
+static pthread_mutex_t state_mutex = PTHREAD_MUTEX_INITIALIZER;
+static pthread_cond_t state_condition = PTHREAD_COND_INITIALIZER;
+
+/* ---- The state's lock ---- */
+void iocsq_lock_state(void) {
+    pthread_mutex_lock(&state_mutex);
+}
+
+void iocsq_unlock_state(void) {
+    pthread_mutex_unlock(&state_mutex);
+}
+
+void iocsq_state_changed(void) {
+    pthread_cond_broadcast(&state_condition);
+}
+
+uint64_t iocsq_now(void) {
+    struct timespec now;
+    if (iocsq_in_turns()) {
+        return iocsq_now_in_turns();
+    }
+    clock_gettime(CLOCK_MONOTONIC, &now);
+    return (uint64_t)now.tv_sec * SECOND + (uint64_t)now.tv_nsec;
+}
+
+static struct timespec time_after(uint64_t nanoseconds) {
+    struct timespec until;
+    clock_gettime(CLOCK_REALTIME, &until);
+    nanoseconds += (uint64_t)until.tv_nsec;
+    until.tv_sec += (time_t)(nanoseconds / SECOND);
+    until.tv_nsec = (long)(nanoseconds % SECOND);
+    return until;
+}
+
+bool iocsq_await(bool (*holds)(void *), void *of, uint64_t nanoseconds, const char *what) {
+    struct timespec until = time_after(nanoseconds == IOCSQ_FOR_EVER ? 0 : nanoseconds);
+    int code = 0;
+    if (nanoseconds > 0 && iocsq_in_turns() && !holds(of)) {
+        pthread_mutex_unlock(&state_mutex);
+        iocsq_wait_in_turns(holds, of, nanoseconds, what);
+        pthread_mutex_lock(&state_mutex);
+    }
+    while (nanoseconds > 0 && !iocsq_in_turns() && !holds(of) && code != ETIMEDOUT) {
+        code = nanoseconds == IOCSQ_FOR_EVER ? pthread_cond_wait(&state_condition, &state_mutex)
+                                             : pthread_cond_timedwait(&state_condition, &state_mutex, &until);
+    }
+    return holds(of);
+}
+
+static bool never(void *of) {
+    (void)of;
+    return false;
+}
+
+static void sleep_for(uint64_t nanoseconds) {
+    struct timespec delay = { (time_t)(nanoseconds / SECOND), (long)(nanoseconds % SECOND) };
+    if (iocsq_in_turns()) {
+        iocsq_wait_in_turns(never, NULL, nanoseconds, "a delay");
+    } else {
+        nanosleep(&delay, NULL);
+    }
+}
+
+VOID IocsqPause(ULONG Microseconds) {
+    sleep_for(Microseconds * (uint64_t)1000);
+}
+
+/* ---- Events, mutexes, semaphores ---- */
+static LONG set_signal(DISPATCHER_HEADER *header, LONG state) {
+    iocsq_lock_state();
+    LONG before = header->SignalState;
+    header->SignalState = state;
+    iocsq_state_changed();
+    iocsq_unlock_state();
+    return before;
+}
+
+VOID NTAPI KeInitializeEvent(PRKEVENT Event, EVENT_TYPE Type, BOOLEAN State) {
+    Event->Header.Type = (UCHAR)Type;
+    Event->Header.SignalState = State;
+}
+
+LONG NTAPI KeSetEvent(PRKEVENT Event, KPRIORITY Increment, BOOLEAN Wait) {
+    (void)Increment, (void)Wait;
+    return set_signal(&Event->Header, 1);
+}
+
+LONG NTAPI KeResetEvent(PRKEVENT Event) {
+    return set_signal(&Event->Header, 0);
+}
+
+VOID NTAPI KeClearEvent(PRKEVENT Event) {
+    set_signal(&Event->Header, 0);
+}
+
+LONG NTAPI KeReadStateEvent(PRKEVENT Event) {
+    iocsq_lock_state();
+    LONG state = Event->Header.SignalState;
+    iocsq_unlock_state();
+    return state;
+}
+
+VOID NTAPI KeInitializeMutex(PRKMUTEX Mutex, ULONG Level) {
+    (void)Level;
+    Mutex->Header.Type = MUTANT;
+    Mutex->Header.SignalState = 1;
+    Mutex->OwnerThread = 0;
+}
+
+LONG NTAPI KeReleaseMutex(PRKMUTEX Mutex, BOOLEAN Wait) {
+    (void)Wait;
+    iocsq_lock_state();
+    if (Mutex->OwnerThread != iocsq_thread()) {
+        iocsq_disagree(NULL, "KeReleaseMutex by a thread that doesn't have the mutex");
+    }
+    LONG before = Mutex->Header.SignalState++;
+    if (Mutex->Header.SignalState == 1) {
+        Mutex->OwnerThread = 0;
+        iocsq_forget_lock(Mutex);
+    }
+    iocsq_state_changed();
+    iocsq_unlock_state();
+    return before;
+}
+
+VOID NTAPI KeInitializeSemaphore(PRKSEMAPHORE Semaphore, LONG Count, LONG Limit) {
+    if (Count < 0 || Limit < 1 || Count > Limit) {
+        iocsq_disagree(NULL, "KeInitializeSemaphore with count %d and limit %d", Count, Limit);
+    }
+    Semaphore->Header.Type = SEMAPHORE;
+    Semaphore->Header.SignalState = Count;
+    Semaphore->Limit = Limit;
+}
+
+LONG NTAPI KeReleaseSemaphore(PRKSEMAPHORE Semaphore, KPRIORITY Increment, LONG Adjustment, BOOLEAN Wait) {
+    (void)Increment, (void)Wait;
+    iocsq_lock_state();
+    LONG before = Semaphore->Header.SignalState;
+    if (Adjustment < 1 || Adjustment > Semaphore->Limit - before) {
+        iocsq_disagree(NULL, "KeReleaseSemaphore by %d of a semaphore at %d, whose limit is %d", Adjustment, before,
+                       Semaphore->Limit);
+    }
+    Semaphore->Header.SignalState += Adjustment;
+    iocsq_state_changed();
+    iocsq_unlock_state();
+    return before;
+}
+
+/* ---- Waits ---- */
+struct wait {
+    DISPATCHER_HEADER **objects;
+    ULONG count;
+    WAIT_TYPE type;
+    uint32_t thread;
+};
+
+static bool owns(const DISPATCHER_HEADER *header, uint32_t thread) {
+    return header->Type == MUTANT && ((const KMUTANT *)(const void *)header)->OwnerThread == thread;
+}
+
+static bool is_for(const DISPATCHER_HEADER *header, uint32_t thread) {
+    return header->SignalState > 0 || owns(header, thread);
+}
+
+bool iocsq_is_signaled(void *header) {
+    return ((DISPATCHER_HEADER *)header)->SignalState > 0;
+}
+
+static bool is_over(void *of) {
+    const struct wait *wait = of;
+    ULONG signaled = 0;
+    for (ULONG at = 0; at < wait->count; at++) {
+        signaled += is_for(wait->objects[at], wait->thread);
+    }
+    return wait->type == WaitAny ? signaled > 0 : signaled == wait->count;
+}
+
+/* What a thread takes from an object as its wait for it ends. */
+static void take_signal(DISPATCHER_HEADER *header) {
+    if (header->Type == SynchronizationEvent || header->Type == SEMAPHORE || header->Type == MUTANT) {
+        header->SignalState--;
+    }
+    if (header->Type == MUTANT) {
+        KMUTANT *mutant = (KMUTANT *)(void *)header;
+        if (mutant->OwnerThread == 0) {
+            iocsq_note_lock(mutant);
+        }
+        mutant->OwnerThread = iocsq_thread();
+    }
+}
+
+static NTSTATUS end_wait(const struct wait *wait) {
+    for (ULONG at = 0; at < wait->count; at++) {
+        if (is_for(wait->objects[at], wait->thread)) {
+            take_signal(wait->objects[at]);
+            if (wait->type == WaitAny) {
+                return (NTSTATUS)(STATUS_WAIT_0 + (NTSTATUS)at);
+            }
+        }
+    }
+    return STATUS_SUCCESS;
+}
+
+static uint64_t nanoseconds_of(const LARGE_INTEGER *timeout) {
+    if (!timeout) {
+        return IOCSQ_FOR_EVER;
+    }
+    if (timeout->QuadPart > 0) {
+        iocsq_fail("an absolute time is not known here");
+    }
+    return (uint64_t)-timeout->QuadPart * HUNDRED_NANOSECONDS;
+}
+
+NTSTATUS NTAPI KeWaitForMultipleObjects(ULONG Count, PVOID Object[], WAIT_TYPE WaitType, KWAIT_REASON Reason,
+                                        KPROCESSOR_MODE Mode, BOOLEAN Alertable, PLARGE_INTEGER Timeout,
+                                        PKWAIT_BLOCK WaitBlockArray) {
+    DISPATCHER_HEADER *objects[MAXIMUM_WAIT_OBJECTS];
+    struct wait wait = { objects, Count, WaitType, iocsq_thread() };
+    uint64_t nanoseconds = nanoseconds_of(Timeout);
+    (void)Reason, (void)Mode, (void)Alertable, (void)WaitBlockArray;
+    if (KeGetCurrentIrql() >= DISPATCH_LEVEL && nanoseconds > 0) {
+        iocsq_disagree(NULL, "a wait at DISPATCH_LEVEL");
+    }
+    if (Count < 1 || Count > MAXIMUM_WAIT_OBJECTS) {
+        iocsq_disagree(NULL, "a wait for %u objects", Count);
+    }
+    for (ULONG at = 0; at < Count; at++) {
+        objects[at] = Object[at];
+    }
+    iocsq_lock_state();
+    bool over = iocsq_await(is_over, &wait, nanoseconds, "an object");
+    NTSTATUS status = over ? end_wait(&wait) : STATUS_TIMEOUT;
+    iocsq_unlock_state();
+    return status;
+}
+
+NTSTATUS NTAPI KeWaitForSingleObject(PVOID Object, KWAIT_REASON Reason, KPROCESSOR_MODE Mode, BOOLEAN Alertable,
+                                     PLARGE_INTEGER Timeout) {
+    return KeWaitForMultipleObjects(1, &Object, WaitAny, Reason, Mode, Alertable, Timeout, NULL);
+}
+
+NTSTATUS NTAPI KeDelayExecutionThread(KPROCESSOR_MODE Mode, BOOLEAN Alertable, PLARGE_INTEGER Interval) {
+    (void)Mode, (void)Alertable;
+    if (KeGetCurrentIrql() >= DISPATCH_LEVEL) {
+        iocsq_disagree(NULL, "KeDelayExecutionThread at DISPATCH_LEVEL");
+    }
+    sleep_for(nanoseconds_of(Interval));
+    return STATUS_SUCCESS;
+}
+
+/* ---- Threads of the driver ---- */
+struct thread_object {
+    DISPATCHER_HEADER header; /* signaled once the thread has ended */
+    IOCSQ_THREAD thread;
+    PKSTART_ROUTINE start;
+    PVOID context;
+    struct thread_object *next;
+};
+static struct thread_object *thread_objects;
+static _Thread_local struct thread_object *own_object;
+
+static void *run_thread(void *object) {
+    own_object = object;
+    own_object->start(own_object->context);
+    set_signal(&own_object->header, 1);
+    return NULL;
+}
+
+NTSTATUS NTAPI PsCreateSystemThread(PHANDLE ThreadHandle, ULONG DesiredAccess, POBJECT_ATTRIBUTES ObjectAttributes,
+                                    HANDLE ProcessHandle, PCLIENT_ID ClientId, PKSTART_ROUTINE StartRoutine,
+                                    PVOID StartContext) {
+    struct thread_object *object = calloc(1, sizeof *object);
+    (void)DesiredAccess, (void)ObjectAttributes, (void)ProcessHandle, (void)ClientId;
+    if (!object) {
+        return STATUS_INSUFFICIENT_RESOURCES;
+    }
+    object->header.Type = THREAD;
+    object->start = StartRoutine;
+    object->context = StartContext;
+    object->thread = IocsqThread(run_thread, object);
+    iocsq_lock_state();
+    object->next = thread_objects;
+    thread_objects = object;
+    iocsq_unlock_state();
+    *ThreadHandle = object;
+    return STATUS_SUCCESS;
+}
+
+NTSTATUS NTAPI PsTerminateSystemThread(NTSTATUS ExitStatus) {
+    (void)ExitStatus;
+    if (!own_object) {
+        iocsq_disagree(NULL, "PsTerminateSystemThread by a thread that isn't the driver's");
+    }
+    set_signal(&own_object->header, 1);
+    iocsq_end_turns_of_thread();
+    pthread_exit(NULL);
+}
+
+NTSTATUS NTAPI ObReferenceObjectByHandle(HANDLE Handle, ACCESS_MASK DesiredAccess, POBJECT_TYPE ObjectType,
+                                         KPROCESSOR_MODE AccessMode, PVOID *Object, PVOID HandleInformation) {
+    (void)DesiredAccess, (void)ObjectType, (void)AccessMode, (void)HandleInformation;
+    *Object = Handle;
+    return STATUS_SUCCESS;
+}
+
+VOID IocsqDereference(PVOID Object) {
+    (void)Object;
+}
+
+NTSTATUS NTAPI ZwClose(HANDLE Handle) {
+    (void)Handle;
+    return STATUS_SUCCESS;
+}
+
+/* After the driver was unloaded: its threads have ended by then. */
+void iocsq_join_threads(void) {
+    while (thread_objects) {
+        struct thread_object *object = thread_objects;
+        thread_objects = object->next;
+        iocsq_lock_state();
+        bool ended = iocsq_is_signaled(&object->header);
+        iocsq_unlock_state();
+        if (!ended) {
+            iocsq_disagree(NULL, "the driver was unloaded, and a thread of it has not ended");
+        }
+        IocsqJoin(object->thread);
+        free(object);
+    }
+}
