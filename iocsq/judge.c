@@ -1,12 +1,12 @@
 #include "judge.h"
 
 static struct iocsq_judgement agrees(void) {
-    struct iocsq_judgement made = { IOCSQ_AGREES, IOCSQ_NONE };
+    struct iocsq_judgement made = { CSQ_PEEK_AGREES, IOCSQ_NONE };
     return made;
 }
 
 static struct iocsq_judgement skips(uint32_t irp) {
-    struct iocsq_judgement made = { IOCSQ_SKIPS, irp };
+    struct iocsq_judgement made = { CSQ_PEEK_SKIPS, irp };
     return made;
 }
 
@@ -14,11 +14,11 @@ static struct iocsq_judgement skips(uint32_t irp) {
 static struct iocsq_judgement judge_facts(struct iocsq_facts facts) {
     struct iocsq_judgement made = agrees();
     if (!facts.listed) {
-        made.verdict = IOCSQ_NOT_LISTED;
+        made.verdict = CSQ_PEEK_NOT_LISTED;
     } else if (!facts.match) {
-        made.verdict = IOCSQ_NO_MATCH;
+        made.verdict = CSQ_PEEK_NO_MATCH;
     } else if (!facts.after) {
-        made.verdict = IOCSQ_BACKWARDS;
+        made.verdict = CSQ_PEEK_BACKWARDS;
     }
     return made;
 }
@@ -28,7 +28,7 @@ struct iocsq_judgement iocsq_judge(uint32_t expected, uint32_t answer, struct io
         return agrees();
     }
     struct iocsq_judgement made = answer == IOCSQ_NONE ? agrees() : judge_facts(facts);
-    return made.verdict == IOCSQ_AGREES ? skips(expected) : made;
+    return made.verdict == CSQ_PEEK_AGREES ? skips(expected) : made;
 }
 
 struct iocsq_judgement iocsq_judge_any_order(uint32_t left, uint32_t answer, struct iocsq_facts facts) {

@@ -1,15 +1,14 @@
-/* What a driver's CsqPeekNextIrp answered, compared with what csq_peek_next answers: functions of numbers alone. An IRP
- * is the number that it has in the queue of csq.h, or IOCSQ_NONE. */
+/* The verdict of a driver's CsqPeekNextIrp where csq_judge_peek can't give it, since the queue knows neither the driver's
+ * matches nor its order: functions of numbers alone. An IRP is the number that it has in the queue of csq.h, or
+ * IOCSQ_NONE. */
 #ifndef IOCSQ_JUDGE_H
 #define IOCSQ_JUDGE_H
 #include <stdbool.h>
 #include <stdint.h>
 
-#define IOCSQ_NONE UINT32_MAX
+#include "csq.h"
 
-/* Of a peek's answer: it is the expected one; it passes over an IRP that should have come; it isn't in the list; it
- * isn't a match of what was asked for; it doesn't stand after the IRP from which the peek went on. */
-enum iocsq_verdict { IOCSQ_AGREES, IOCSQ_SKIPS, IOCSQ_NOT_LISTED, IOCSQ_NO_MATCH, IOCSQ_BACKWARDS };
+#define IOCSQ_NONE CSQ_ANY
 
 /* What is known of the answer of a peek, where it is an IRP. */
 struct iocsq_facts {
@@ -19,11 +18,11 @@ struct iocsq_facts {
 };
 
 struct iocsq_judgement {
-    enum iocsq_verdict verdict;
-    uint32_t skipped; /* of IOCSQ_SKIPS */
+    uint32_t verdict; /* of enum csq_peek_verdict */
+    uint32_t skipped; /* of CSQ_PEEK_SKIPS */
 };
 
-/* Of a driver that keeps the queue's order: `expected` is what csq_peek_next answers. */
+/* Of a driver that keeps the queue's order, and has matches of its own: `expected` is the first of them. */
 struct iocsq_judgement iocsq_judge(uint32_t expected, uint32_t answer, struct iocsq_facts facts);
 
 /* Of a driver that keeps an order of its own: `facts.after` says that the answer hadn't come before in this search, and

@@ -91,6 +91,18 @@ uint32_t iocsq_reference_next(struct iocsq_reference *r, uint32_t after, uint32_
     return code == CSQ_OK ? next.irp : CSQ_ANY;
 }
 
+uint32_t iocsq_reference_judge(struct iocsq_reference *r, uint32_t after, uint32_t file, uint32_t answer,
+                               uint32_t *skipped) {
+    uint32_t verdict = CSQ_PEEK_SKIPS; /* of none, where `after` has gone meanwhile */
+    pthread_mutex_lock(&r->mutex);
+    uint32_t code = csq_judge_peek(&r->queue, after, file, answer, &verdict, skipped);
+    pthread_mutex_unlock(&r->mutex);
+    if (code != CSQ_NOT_LISTED) {
+        expect(code, CSQ_OK, "csq_judge_peek");
+    }
+    return verdict;
+}
+
 uint32_t iocsq_reference_len(struct iocsq_reference *r) {
     uint32_t len = 0;
     pthread_mutex_lock(&r->mutex);

@@ -41,6 +41,9 @@ bool iocsq_reference_is_idle(struct iocsq_reference *r); /* nothing stays in it 
 
 /* The list: slots, or CSQ_ANY for none. */
 uint32_t iocsq_reference_next(struct iocsq_reference *r, uint32_t after, uint32_t file);
+/* The verdict of a peek's answer, of enum csq_peek_verdict; writes which match is skipped, if one is. */
+uint32_t iocsq_reference_judge(struct iocsq_reference *r, uint32_t after, uint32_t file, uint32_t answer,
+                               uint32_t *skipped);
 uint32_t iocsq_reference_len(struct iocsq_reference *r);
 struct iocsq_reference *iocsq_reference_of(const struct iocsq_irp *i); /* in which it stays; null: none */
 uint32_t iocsq_slot_in(const struct iocsq_reference *r, const struct iocsq_irp *i); /* CSQ_ANY: it isn't listed there */

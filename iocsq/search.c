@@ -24,23 +24,27 @@ static uint32_t next_match(const struct iocsq_search *s, uint32_t after, bool un
     return slot;
 }
 
-/* What csq_peek_next answers: by itself, where the peek context is "any" or a file object. */
-static uint32_t expected_answer(const struct iocsq_search *s) {
-    struct iocsq_reference *r = &s->q->reference;
-    uint32_t after = s->before ? iocsq_slot_in(r, s->before) : CSQ_ANY;
-    if (s->q->policy.Match) {
-        return next_match(s, after, false);
-    }
-    uint32_t file = s->context ? iocsq_file_number(s->context) : CSQ_ANY;
+/* The IRP from which the peek went on, as csq.h numbers it. */
+static uint32_t start_of(const struct iocsq_search *s) {
+    return s->before ? iocsq_slot_in(&s->q->reference, s->before) : CSQ_ANY;
+}
+
+/* The verdict where the peek context is "any" or a file object: the queue gives it. */
+static struct iocsq_judgement judge_by_queue(const struct iocsq_search *s, uint32_t answer) {
+    struct iocsq_judgement made = { CSQ_PEEK_SKIPS, IOCSQ_NONE };
+    uint32_t start = start_of(s), file = s->context ? iocsq_file_number(s->context) : CSQ_ANY;
     if (file == IOCSQ_FILES) {
         iocsq_fail("a peek context that is no file object: IocsqSetPolicy says what such a one means");
     }
-    return iocsq_reference_next(r, after, file);
+    if (s->before == NULL || start != CSQ_ANY) {
+        made.verdict = iocsq_reference_judge(&s->q->reference, start, file, answer, &made.skipped);
+    } /* else the last answer has gone meanwhile, and no match can be named */
+    return made;
 }
 
 static bool stands_after(const struct iocsq_search *s, uint32_t slot) {
     struct iocsq_reference *r = &s->q->reference;
-    uint32_t at = s->before ? iocsq_slot_in(r, s->before) : CSQ_ANY;
+    uint32_t at = start_of(s);
     while ((at = iocsq_reference_next(r, at, CSQ_ANY)) != IOCSQ_NONE && at != slot) {
     }
     return at == slot;
@@ -60,29 +64,33 @@ static struct iocsq_judgement judge(const struct iocsq_search *s, struct iocsq_i
         uint32_t left = answer ? IOCSQ_NONE : next_match(s, CSQ_ANY, true);
         return iocsq_judge_any_order(left, answer_number(answer, slot), facts);
     }
-    uint32_t expected = expected_answer(s);
+    if (!s->q->policy.Match) {
+        return judge_by_queue(s, answer_number(answer, slot));
+    }
+    uint32_t expected = next_match(s, start_of(s), false);
     facts.after = listed && (slot == expected || stands_after(s, slot));
     return iocsq_judge(expected, answer_number(answer, slot), facts);
 }
 
 /* The report of a judgement that isn't Agrees. */
 static void complain(const struct iocsq_search *s, const struct iocsq_irp *answer, struct iocsq_judgement judgement) {
-    const struct iocsq_irp *skipped = s->q->reference.by_slot[judgement.skipped % CSQ_MOST_IRPS];
+    const struct iocsq_irp *skipped =
+        judgement.skipped == IOCSQ_NONE ? NULL : s->q->reference.by_slot[judgement.skipped];
     char given[32] = "none";
     if (answer) {
         snprintf(given, sizeof given, "irp %u", answer->index);
     }
-    if (judgement.verdict == IOCSQ_SKIPS && !skipped) {
+    if (judgement.verdict == CSQ_PEEK_SKIPS && !skipped) {
         iocsq_disagree(answer, "%s: the list changes while this thread has its lock", s->when);
     }
     switch (judgement.verdict) {
-    case IOCSQ_SKIPS:
+    case CSQ_PEEK_SKIPS:
         iocsq_disagree(skipped, "%s: CsqPeekNextIrp answered %s, and skipped irp %u, a match", s->when, given,
                        skipped->index);
-    case IOCSQ_NOT_LISTED:
+    case CSQ_PEEK_NOT_LISTED:
         iocsq_disagree(answer, "%s: CsqPeekNextIrp answered %s, which %s", s->when, given,
                        answer->place == IOCSQ_LISTED ? "is in another queue" : iocsq_place_name(answer));
-    case IOCSQ_NO_MATCH:
+    case CSQ_PEEK_NO_MATCH:
         iocsq_disagree(answer, "%s: CsqPeekNextIrp answered %s, which is no match of the peek context", s->when, given);
     default:
         iocsq_disagree(answer, "%s: CsqPeekNextIrp answered %s, which %s irp %u", s->when, given,
@@ -98,7 +106,7 @@ struct iocsq_irp *iocsq_peek(struct iocsq_search *s) {
     struct iocsq_irp *answer = irp ? iocsq_known(irp, "CsqPeekNextIrp answered") : NULL;
     uint32_t slot = answer ? iocsq_slot_in(&s->q->reference, answer) : IOCSQ_NONE;
     struct iocsq_judgement judgement = judge(s, answer, slot);
-    if (judgement.verdict != IOCSQ_AGREES) {
+    if (judgement.verdict != CSQ_PEEK_AGREES) {
         complain(s, answer, judgement);
     }
     if (answer) {

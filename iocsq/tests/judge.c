@@ -39,10 +39,10 @@ static uint32_t first_match(const struct list *list, uint32_t after) {
 static bool is_right(const struct list *list, uint32_t after, uint32_t answer, struct iocsq_judgement got) {
     uint32_t at = answer == IOCSQ_NONE ? 0 : position(list, answer), expected = first_match(list, after);
     switch (got.verdict) {
-    case IOCSQ_AGREES: return answer == expected;
-    case IOCSQ_NOT_LISTED: return answer != IOCSQ_NONE && at == 0;
-    case IOCSQ_NO_MATCH: return at > 0 && !list->match[answer];
-    case IOCSQ_BACKWARDS: return at > 0 && list->match[answer] && at <= after;
+    case CSQ_PEEK_AGREES: return answer == expected;
+    case CSQ_PEEK_NOT_LISTED: return answer != IOCSQ_NONE && at == 0;
+    case CSQ_PEEK_NO_MATCH: return at > 0 && !list->match[answer];
+    case CSQ_PEEK_BACKWARDS: return at > 0 && list->match[answer] && at <= after;
     default: return got.skipped == expected && expected != answer && (answer == IOCSQ_NONE || at > after);
     }
 }

@@ -4,6 +4,7 @@ ghost use Rattle.csq_checked.specs.Passes.{IsPassIn};
 
 mod calls;
 mod ends;
+mod judges;
 mod kinds;
 mod lives;
 mod looks;
