@@ -1,5 +1,5 @@
-# Builds tests of drivers with the checker, for iocsq/run-tests: source this. `top` is the repository, `work` a folder for
-# what is made, `library` the files of csq.h's library, or empty for the plain queue.
+# Builds tests of drivers with the checker, for iocsq/run-tests: source this. `top` is the repository, `work` a folder
+# for what is made, `library` the files of csq.h's library, or empty for the plain queue.
 warnings=(-Wall -Wextra -Wpedantic -Wshadow -Wconversion -Wno-multichar -Werror)
 
 # Compiles the checker once for each compiler and flags, and prints the folder with its objects; those of the tests are
@@ -11,7 +11,8 @@ iocsq_objects() {
     mkdir -p "$folder.new/tests"
     for file in "$top"/iocsq/*.c "$top"/iocsq/tests/{storm,kernel}.c; do
       object=${file#"$top/iocsq/"}
-      "$@" -std=c11 "${warnings[@]}" -I"$top/include" -I"$top/iocsq" -c "$file" -o "$folder.new/${object%.c}.o" || return 1
+      "$@" -std=c11 "${warnings[@]}" -I"$top/include" -I"$top/iocsq" -c "$file" -o "$folder.new/${object%.c}.o" ||
+        return 1
     done
     if ((${#library[@]} == 0)); then
       csq_plain_library "$top" "$folder.new/libcsq_plain.a" "$@" || return 1
@@ -22,8 +23,8 @@ iocsq_objects() {
 }
 
 # Links the storm with a driver: iocsq_build PROGRAM DRIVER WRONG COMPILER FLAG.. DRIVER is a file below iocsq without
-# its ending; beside it NAME.test.c says what its callbacks mean, if it isn't the usual. WRONG is the number of the place
-# where it is wrong, 0 for none, or `planted`.
+# its ending; beside it NAME.test.c says what its callbacks mean, if it isn't the usual. WRONG is the number of the
+# place where it is wrong, 0 for none, or `planted`.
 iocsq_build() {
   local program=$1 driver=$top/iocsq/$2 wrong=$3 objects test=() source=$top/iocsq/$2.c
   shift 3

@@ -1,6 +1,6 @@
 /* The queue calls of iocsq.h: the driver's callbacks keep the driver's list, a reference queue of csq.h decides beside
  * it, and the first disagreement of the two ends the program. */
-#include "queue.h"
+#include "queues.h"
 
 /* ---- The driver's callbacks, with what is asked of each ---- */
 struct held {

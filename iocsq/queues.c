@@ -1,5 +1,5 @@
 /* The queues that there are: from IoCsqInitialize until their memory is freed. */
-#include "queue.h"
+#include "queues.h"
 
 #include <stdlib.h>
 

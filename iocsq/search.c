@@ -1,6 +1,6 @@
 /* Searches through the driver's list by its CsqPeekNextIrp: each answer is compared with that of the reference. */
 #include "judge.h"
-#include "queue.h"
+#include "queues.h"
 
 enum { AUDITED = 64 }; /* a longer list is looked through now and then alone */
 

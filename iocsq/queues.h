@@ -1,6 +1,6 @@
 /* What is known of an IO_CSQ, and searches through its list. */
-#ifndef IOCSQ_OF_QUEUE_H
-#define IOCSQ_OF_QUEUE_H
+#ifndef IOCSQ_QUEUES_H
+#define IOCSQ_QUEUES_H
 #include "reference.h"
 
 /* ---- queues.c ---- */
