@@ -1,7 +1,9 @@
 mod commands;
 mod file_limits;
+mod files;
 mod helps;
 mod pictures;
 mod process;
 mod runs;
 mod shell;
+mod sources;

@@ -1,0 +1,9 @@
+pub mod Expecting
+pub mod Grammars
+pub mod Misfits
+pub mod Nearness
+pub mod Founds
+pub mod Malforms
+pub mod Texts
+pub mod LineTexts
+pub mod Diagnoses
