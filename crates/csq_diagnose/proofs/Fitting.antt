@@ -1,6 +1,8 @@
 -- Words that fit the places of a line.
-use Rattle.std.proofs.Common.{◌≡◌, ℕ, zero, suc, ◌+◌, ◌≤◌, Bool, true, false, List, [], ◌∷◌, ◌++◌, take, drop, length, map, refl, ap, sym, ◌∙◌, inl, inr, arith, codes, decimal, subst}
-use Rattle.std.specs.Prelude.{if◌then◌else◌}
+use Rattle.std.proofs.Common.{◌≡◌, ℕ, zero, suc, ◌+◌, ◌≤◌, Bool, true, false, List, [], ◌∷◌, ◌++◌, take, drop, length, map, refl, ap, sym, ◌∙◌, inl, inr, arith, rules, codes, decimal, subst}
+use Rattle.std.specs.Prelude.{◌||◌, if◌then◌else◌}
+use Rattle.std.specs.Str.{bytes_eq}
+use Rattle.irp_core.specs.Texts.{irp_text, pass_text}
 use Rattle.csq_diagnose.specs.declared.expected.Expected.{Expected}
 use Rattle.csq_diagnose.specs.declared.expected.Expected.TheVariants.{Pass, Step, Call, IrpInLife, Irp, File, Peek, Place, Status, Nothing}
 use Rattle.csq_diagnose.specs.Expecting.{Admits}
@@ -8,12 +10,12 @@ use Rattle.csq_diagnose.specs.Grammars.{Fit, expected_at, named, operands}
 
 -- a word that may stand there
 abbrev pub sample : Expected → List ℕ
-sample Pass = codes "p1"
+sample Pass = pass_text (record { 0 = 1 })
 sample Step = codes "end"
 sample Call = codes "flag"
-sample IrpInLife = codes "0"
-sample Irp = codes "0"
-sample File = codes "0"
+sample IrpInLife = irp_text (record { 0 = 0 })
+sample Irp = decimal 0
+sample File = decimal 0
 sample Peek = codes "*"
 sample Place = codes "back"
 sample Status = codes "00000000"
@@ -65,8 +67,8 @@ fit_from zero (e ∷ es) w f a = (a, fit_samples es f.1)
 fit_from (suc n) [] w f a = absurd a
 fit_from (suc n) (e ∷ es) w f a = fit_from n es w f.1 a
 
-pub pass_sample : Admits Pass (codes "p1")
-pass_sample = (record { 0 = 1 }, refl, omega arith)
+pub pass_sample : Admits Pass (sample Pass)
+pass_sample = (record { 0 = 1 }, (refl, omega arith))
 
 pub step_sample : Admits Step (codes "end")
 step_sample = inr (inr (inr (inl refl)))
@@ -74,23 +76,28 @@ step_sample = inr (inr (inr (inl refl)))
 pub call_sample : Admits Call (codes "flag")
 call_sample = inr (inr (inr (inr (inr (inr (inr (inr (inr (inl refl)))))))))
 
-pub irp_sample : Admits Irp (codes "0")
-irp_sample = (0, refl, omega arith)
+pub irp_sample : Admits Irp (decimal 0)
+irp_sample = (0, (refl, omega arith))
 
-life_sample : Admits IrpInLife (codes "0")
+life_sample : Admits IrpInLife (sample IrpInLife)
 life_sample = (record { irp = record { 0 = 0 }; life = record { 0 = 0 } }, inl (refl, omega arith, refl))
 
 status_sample : Admits Status (codes "00000000")
-status_sample = (record { 0 = 0 }, refl, search rules, refl)
+status_sample = (record { 0 = 0 }, (refl, search rules, search rules))
 
 -- each place behind the first words of a line has a word that may stand there
 pub fillable_named : (verb : List ℕ) → AreFillable (named verb)
-fillable_named verb = fillable_if _ [] (IrpInLife ∷ []) tt (life_sample, tt)
+fillable_named verb = fillable_if (bytes_eq verb (codes "end")) [] (IrpInLife ∷ []) tt (life_sample, tt)
 
 pub fillable_operands : (name : List ℕ) → AreFillable (operands name)
 fillable_operands name =
-    fillable_if _ (Irp ∷ File ∷ Place ∷ []) _ (irp_sample, irp_sample, inl refl, tt)
-    (fillable_if _ (Peek ∷ []) _ (inl refl, tt)
-    (fillable_if _ (Irp ∷ Status ∷ []) _ (irp_sample, status_sample, tt)
-    (fillable_if _ (IrpInLife ∷ []) _ (life_sample, tt)
-    (fillable_if _ (File ∷ []) (Irp ∷ []) (irp_sample, tt) (irp_sample, tt)))))
+    let is = λ (word : List ℕ). bytes_eq name word in
+    let numbers = if is (codes "close") || is (codes "cleanup") then File ∷ [] else Irp ∷ [] in
+    let lives = if is (codes "remove") || is (codes "mark") || is (codes "cancel") then IrpInLife ∷ [] else numbers in
+    let statuses = if is (codes "complete") then Irp ∷ Status ∷ [] else lives in
+    let peeks = if is (codes "next") then Peek ∷ [] else statuses in
+    fillable_if (is (codes "insert")) (Irp ∷ File ∷ Place ∷ []) peeks (irp_sample, (irp_sample, (inl refl, tt)))
+    (fillable_if (is (codes "next")) (Peek ∷ []) statuses (inl refl, tt)
+    (fillable_if (is (codes "complete")) (Irp ∷ Status ∷ []) lives (irp_sample, (status_sample, tt))
+    (fillable_if (is (codes "remove") || is (codes "mark") || is (codes "cancel")) (IrpInLife ∷ []) numbers (life_sample, tt)
+    (fillable_if (is (codes "close") || is (codes "cleanup")) (File ∷ []) (Irp ∷ []) (irp_sample, tt) (irp_sample, tt)))))

@@ -1,5 +1,5 @@
 -- Where a line is no step, or no call.
-use Rattle.std.specs.Prelude.{◌≡◌, ◌↔◌, ℕ, ◌+◌, ◌-◌, ◌<◌, ◌≤◌, Bool, List, [], ◌∷◌, ◌++◌, take, drop, length, Option, Some, None, slice_get, is_none, IfSome, IfNone}
+use Rattle.std.specs.Prelude.{◌≡◌, ◌↔◌, ℕ, ◌+◌, ◌-◌, ◌^◌, ◌<◌, ◌≤◌, List, [], ◌∷◌, ◌++◌, take, drop, length, Option, Some, None, slice_get, is_none, IfSome, IfNone}
 use Rattle.std.specs.List.{join_with_byte}
 use Rattle.std.specs.Option.{option_map}
 use Rattle.csq_replay.specs.Pieces.{words_of}
@@ -19,6 +19,11 @@ pub record StandsThere (line : List ℕ) (m : Misfit) : Type 0 where
   pub column : m.column ≡ column_of line (drop m.before (words_of line))
   pub last : IfSome m.word (λ w. m.is_last ≡ is_none (slice_get (words_of line) (m.before + 1)))
   pub unfit : IfSome m.word (λ w. ¬ Admits m.expected w.now)
+  pub small : IfSome m.word (λ w. m.column + length w.now ≤ 2 ^ 63)
+
+-- so many words are all of the line, and more are expected
+abbrev pub IsEnd : List Expected → List ℕ → ℕ → Misfit → Type 0
+IsEnd places line n m = (m.before ≡ n) × (n < length places) × (m.word ≡ None) × (m.column ≡ length line + 1) × (m.expected ≡ expected_at places n)
 
 -- by these places it is the first misfit of the line
 pub record IsFirstMisfit (places : List Expected) (line : List ℕ) (m : Misfit) : Type 0 where

@@ -1,5 +1,5 @@
 -- How near a word is to others.
-use Rattle.std.specs.Prelude.{◌≡◌, ℕ, ◌≤◌, List, length, nat_eq}
+use Rattle.std.specs.Prelude.{◌≡◌, ℕ, ◌≤◌, nat_eq, nat_le, List, length, Option, Some, None, if◌then◌else◌}
 use Rattle.std.specs.List.{All}
 use Rattle.std.specs.Str.{chars}
 use Rattle.strsim.specs.Edits.{levenshtein_row}
@@ -15,3 +15,8 @@ pub record IsNearest (words : List (List ℕ)) (word : List ℕ) (near : Near) :
   pub one : IsOneOf words near.word.now
   pub edits_are : near.edits ≡ edits word near.word.now
   pub least : All (λ other. near.edits ≤ edits word other) words
+
+-- the nearer of two, the first one where both are as near
+abbrev pub nearer : Option Near → Near → Near
+nearer (Some best) other = if nat_le best.edits other.edits then best else other
+nearer None other = other

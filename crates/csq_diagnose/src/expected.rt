@@ -1,5 +1,7 @@
 //! What may stand in a place of a line.
 ghost use Rattle.std.specs.Prelude.{◌≡◌, ◌↔◌, map, IsTrue};
+ghost use Rattle.std.specs.List.{list_any};
+ghost use Rattle.std.specs.Str.{bytes_eq};
 ghost use Rattle.csq_diagnose.specs.Expecting.{Admits, IsOneOf, expected_words};
 
 use csq_replay::{parse_name, parse_number, parse_pass, parse_status};
@@ -45,11 +47,18 @@ const PLACES: [&str; 2] = ["back", "front"];
 
 const NO_WORDS: [&str; 0] = [];
 
+/// The test for one of these words, by their bytes.
+fn has_word(words: &[&str], word: &[u8]) -> bool
+    ensures { result ≡ list_any (λ one. bytes_eq one.now word.now) words.now }
+{
+    words.iter().any(|one| one.as_bytes() == word)
+}
+
 /// Whether the word is one of these.
 fn is_one_of(word: &[u8], words: &[&str]) -> bool
     ensures { IsTrue result ↔ IsOneOf (map (λ one. one.now) words.now) word.now }
 {
-    words.iter().any(|one| one.as_bytes() == word)
+    has_word(words, word)
 }
 
 impl Expected {
@@ -71,7 +80,9 @@ impl Expected {
     {
         match self {
             Expected::Pass => parse_pass(word).is_some(),
-            Expected::Step | Expected::Call | Expected::Place => is_one_of(word, self.words()),
+            Expected::Step => is_one_of(word, &STEPS),
+            Expected::Call => is_one_of(word, &CALLS),
+            Expected::Place => is_one_of(word, &PLACES),
             Expected::IrpInLife => parse_name(word).is_some(),
             Expected::Irp | Expected::File => parse_number(word).is_some(),
             Expected::Peek => word == b"*".as_slice() || parse_number(word).is_some(),

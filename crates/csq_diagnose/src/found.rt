@@ -1,6 +1,6 @@
 //! What stands where a line is no step, or no call.
-ghost use Rattle.std.specs.Prelude.{◌≡◌, ◌<◌, length, position, IfSome};
-ghost use Rattle.csq_diagnose.specs.Founds.{is_strange, IsFoundIn};
+ghost use Rattle.std.specs.Prelude.{◌≡◌, ◌+◌, ◌<◌, ◌≤◌, ◌^◌, length, position, IfSome};
+ghost use Rattle.csq_diagnose.specs.Founds.{is_strange, space_of, IsFoundIn};
 
 use crate::misfit::Misfit;
 use std::str;
@@ -33,6 +33,7 @@ fn first_strange(word: &[u8]) -> Option<usize>
 impl<'a> Misfit<'a> {
     /// What stands there, and its column.
     pub(crate) fn found(&self) -> (Found<'a>, usize)
+        requires { IfSome self.now.word (λ word. self.now.column + length word.now ≤ 2 ^ 63) }
         ensures { IsFoundIn self.now result.0 result.1 }
     {
         let Some(word) = self.word else {
@@ -51,7 +52,9 @@ impl<'a> Misfit<'a> {
     }
 
     /// Which space stands there, where the word is empty.
-    fn space(&self) -> Found<'a> {
+    fn space(&self) -> Found<'a>
+        ensures { result ≡ space_of self.now }
+    {
         if self.before == 0 {
             Found::FirstSpace
         } else if self.is_last {

@@ -7,8 +7,8 @@ ghost use Rattle.csq_diagnose.specs.Malforms.{IsMalformed, IsNearTo};
 use crate::expected::Expected;
 use crate::found::Found;
 use crate::grammar::Grammar;
-use crate::misfit::misfit;
-use crate::nearest::{Near, nearest};
+use crate::misfit::Misfit;
+use crate::nearest::Near;
 use std::alloc::{AllocError, Allocator};
 
 /// Why a line names no step, or no call.
@@ -30,33 +30,35 @@ fn nearest_to<A: Allocator + Copy>(
     found: Found<'_>,
     expected: Expected,
 ) -> Result<Option<Near>, AllocError>
-    ensures { IfOk result (IsNearTo expected found) }
+    ensures { IfOk result (IsNearTo expected found.entry) }
 {
     match found {
-        Found::Word(word) => nearest(alloc, word, expected.words()),
+        Found::Word(word) => Near::find(alloc, word, expected.words()),
         _ => Ok(None),
     }
 }
 
-/// Why a line names no step, or no call; none where it names one. Own rule.
-pub fn malformed<A: Allocator + Copy>(
-    alloc: A,
-    grammar: Grammar,
-    line: &[u8],
-) -> Result<Option<Malformed<'_>>, AllocError>
-    ensures { IfOk result (λ fault. MatchOption fault
-        (AreLineWords grammar (words_of line.now)) (IsMalformed grammar line.now)) }
-{
-    let Some(misfit) = misfit(grammar, line) else {
-        return Ok(None);
-    };
-    let expected = misfit.expected;
-    let (found, column) = misfit.found();
-    let near = nearest_to(alloc, found, expected)?;
-    Ok(Some(Malformed {
-        column,
-        found,
-        expected,
-        near,
-    }))
+impl<'a> Malformed<'a> {
+    /// Why a line names no step, or no call; none where it names one. Own rule.
+    pub fn find<A: Allocator + Copy>(
+        alloc: A,
+        grammar: Grammar,
+        line: &'a [u8],
+    ) -> Result<Option<Malformed<'a>>, AllocError>
+        ensures { IfOk result (λ fault. MatchOption fault
+            (AreLineWords grammar (words_of line.now)) (IsMalformed grammar line.now)) }
+    {
+        let Some(misfit) = Misfit::find(grammar, line) else {
+            return Ok(None);
+        };
+        let expected = misfit.expected;
+        let (found, column) = misfit.found();
+        let near = nearest_to(alloc, found, expected)?;
+        Ok(Some(Malformed {
+            column,
+            found,
+            expected,
+            near,
+        }))
+    }
 }

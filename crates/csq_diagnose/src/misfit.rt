@@ -1,8 +1,8 @@
 //! The first word of a line that may not stand in its place.
-ghost use Rattle.std.specs.Prelude.{◌<◌, ◌≤◌, ◌^◌, length, MatchOption};
+ghost use Rattle.std.specs.Prelude.{◌≡◌, ◌<◌, ◌≤◌, length, IfNone, IfSome, MatchOption};
 ghost use Rattle.csq_replay.specs.Pieces.{words_of};
 ghost use Rattle.csq_diagnose.specs.Grammars.{AreLineWords, Fit};
-ghost use Rattle.csq_diagnose.specs.Misfits.{IsFirstMisfit, IsMisfit};
+ghost use Rattle.csq_diagnose.specs.Misfits.{IsEnd, IsFirstMisfit, IsMisfit};
 
 use crate::expected::Expected;
 use crate::grammar::Grammar;
@@ -22,7 +22,6 @@ pub struct Misfit<'a> {
     pub is_last: bool,
     /// What may stand there.
     pub expected: Expected,
-    pub ghost fits: { column ≤ 2 ^ 63 },
 }
 
 /// The first misfit of a line, if it has one, by what may stand in each of its places.
@@ -62,7 +61,10 @@ fn first_misfit<'a>(places: &[Expected], line: &'a [u8]) -> Option<Misfit<'a>>
 }
 
 /// The misfit of a line that ends after so many words, if more are missing.
-fn missing<'a>(places: &[Expected], line: &'a [u8], before: usize) -> Option<Misfit<'a>> {
+fn missing<'a>(places: &[Expected], line: &'a [u8], before: usize) -> Option<Misfit<'a>>
+    ensures none { IfNone result (length places.now ≤ before) }
+    ensures some { IfSome result (λ m. IsEnd places.now line.now before m) }
+{
     let expected = places.get(before)?;
     Some(Misfit {
         before,
@@ -73,10 +75,12 @@ fn missing<'a>(places: &[Expected], line: &'a [u8], before: usize) -> Option<Mis
     })
 }
 
-/// The first misfit of a line that names no step, or no call; none where it names one. Own rule.
-pub fn misfit(grammar: Grammar, line: &[u8]) -> Option<Misfit<'_>>
-    ensures { MatchOption result (AreLineWords grammar (words_of line.now))
-        (IsMisfit grammar line.now) }
-{
-    first_misfit(grammar.places(line), line)
+impl<'a> Misfit<'a> {
+    /// The first misfit of a line that names no step, or no call; none where it names one. Own rule.
+    pub fn find(grammar: Grammar, line: &'a [u8]) -> Option<Misfit<'a>>
+        ensures { MatchOption result (AreLineWords grammar (words_of line.now))
+            (IsMisfit grammar line.now) }
+    {
+        first_misfit(grammar.places(line), line)
+    }
 }

@@ -1,6 +1,6 @@
 //! The word that somebody may have meant.
 ghost use Rattle.std.specs.Prelude.{◌≡◌, [], map, IfOk, MatchOption};
-ghost use Rattle.csq_diagnose.specs.Nearness.{IsNearest, edits};
+ghost use Rattle.csq_diagnose.specs.Nearness.{IsNearest, nearer};
 
 use std::alloc::{AllocError, Allocator};
 use strsim::levenshtein;
@@ -13,27 +13,31 @@ pub struct Near {
 }
 
 /// The nearer of two, the first one where both are as near.
-fn nearer(best: Option<Near>, other: Near) -> Near {
+fn nearer(best: Option<Near>, other: Near) -> Near
+    ensures { result ≡ nearer best other }
+{
     match best {
         Some(best) if best.edits <= other.edits => best,
         _ => other,
     }
 }
 
-/// The one of these words to which the fewest edits lead, the first of several; none where there are no words.
-/// Own rule.
-pub fn nearest<A: Allocator + Copy>(
-    alloc: A,
-    word: &str,
-    words: &[&'static str],
-) -> Result<Option<Near>, AllocError>
-    ensures { IfOk result (λ near. MatchOption near (words.now ≡ [])
-        (IsNearest (map (λ one. one.now) words.now) word.now)) }
-{
-    let mut best = None;
-    for one in words {
-        let edits = levenshtein(alloc, word, one)?;
-        best = Some(nearer(best, Near { word: one, edits }));
+impl Near {
+    /// The one of these words to which the fewest edits lead, the first of several; none where there are no
+    /// words. Own rule.
+    pub fn find<A: Allocator + Copy>(
+        alloc: A,
+        word: &str,
+        words: &[&'static str],
+    ) -> Result<Option<Near>, AllocError>
+        ensures { IfOk result (λ near. MatchOption near (words.now ≡ [])
+            (IsNearest (map (λ one. one.now) words.now) word.now)) }
+    {
+        let mut best = None;
+        for one in words {
+            let edits = levenshtein(alloc, word, one)?;
+            best = Some(nearer(best, Near { word: one, edits }));
+        }
+        Ok(best)
     }
-    Ok(best)
 }

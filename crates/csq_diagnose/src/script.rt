@@ -5,7 +5,7 @@ ghost use Rattle.csq_diagnose.specs.Diagnoses.{DiagnosesScript};
 
 use crate::grammar::Grammar;
 use crate::lines::{LongLine, MalformedLine};
-use crate::malformed::malformed;
+use crate::malformed::Malformed;
 use csq_replay::{Answerer, Ended, Handling, MAX_LINE, SimFault, is_skipped, reply};
 use std::alloc::{AllocError, Allocator};
 use std::io::{Read, Write};
@@ -47,7 +47,7 @@ impl<A: Allocator + Copy> Answerer<A> for ScriptDiagnoser<A> {
         if is_skipped(line) {
             return Ok(Handling::GoesOn);
         }
-        let Some(fault) = malformed(self.alloc, Grammar::Script, line)? else {
+        let Some(fault) = Malformed::find(self.alloc, Grammar::Script, line)? else {
             return Ok(Handling::GoesOn);
         };
         let told = MalformedLine { number, fault };

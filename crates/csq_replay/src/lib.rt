@@ -19,3 +19,4 @@ pub use schedule::closing::{IrpLine, irp_line};
 pub use schedule::outcome::{Outcome, Stop, handle_line};
 pub use schedule::step_line::parse_pass;
 pub use script::answer_script;
+pub use script::call::Call;
