@@ -62,4 +62,14 @@ returns-in_ok-note-in-Accepted g c = λ size W a.
     )
 
 pub returns-in_ok-draw_stopped-in-Stopped : goal.returns-in_ok-draw_stopped-in-Stopped
-returns-in_ok-draw_stopped-in-Stopped g c = ?
+returns-in_ok-draw_stopped-in-Stopped g c = λ size W a.
+    let self = c.args.self.now in
+    let reason = c.in-Stopped.reason in
+    let count = c.in_ok-count-in-Stopped.count in
+    let came = was_stopped size W c.args.number c.args.line.now _ reason (c.in-Stopped.ensures size W a.follows) in
+    let drawn = stopped_same _ c.handle.new.self.passes.items _ self.rows.items _ self.owners.items count c.args.number reason _ _ c.deref-in-Stopped.ensures.value c.deref-in-Stopped-2.ensures.value c.deref-in-Stopped-3.ensures.value
+    c.in_ok-draw_stopped-in-Stopped.ensures in (
+      picture (stopped_picture size W c.args.number reason.stop),
+      stopped_shown size self.rows.items c.handle.new.self.passes.items self.owners.items W came.2.passes a.shows _ _ count c.args.number reason.stop reason c.in_ok-count-in-Stopped.ensures.counted came.1 drawn,
+      (None, (Stopped reason.stop, came.0, refl, refl), tt),
+    )
