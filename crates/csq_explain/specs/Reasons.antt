@@ -9,11 +9,11 @@ use Rattle.irp_core.specs.Runs.{Size}
 use Rattle.irp_core.specs.Texts.{name_text, pass_text, life_text}
 use Rattle.csq_replay.specs.declared.schedule.outcome.Stop.{Stop}
 use Rattle.csq_replay.specs.declared.schedule.outcome.Stop.TheVariants.{TooLong, Malformed, Refused}
-use Rattle.csq_draw.specs.declared.passes.PassNow.{PassNow}
-use Rattle.csq_draw.specs.declared.reasons.Reason.{Reason}
-use Rattle.csq_draw.specs.declared.reasons.Refusal.{Refusal}
 use Rattle.csq_replay.specs.declared.lines.TheConstants.{MAX_LINE}
-use Rattle.csq_draw.specs.Passes.{new_pass_now}
+use Rattle.csq_explain.specs.declared.passes.PassNow.{PassNow}
+use Rattle.csq_explain.specs.declared.reasons.Reason.{Reason}
+use Rattle.csq_explain.specs.declared.reasons.Refusal.{Refusal}
+use Rattle.csq_explain.specs.Passes.{new_pass_now}
 
 -- the pass that a line's end is a matter of: who has the lock, or else who would make the step
 abbrev pub pass_asked : Stop → PassId
@@ -22,13 +22,33 @@ pass_asked Malformed = record { 0 = 0 }
 pass_asked (Refused s (LockHeld q)) = q
 pass_asked (Refused s cause) = s.pass
 
--- how far a pass is in its program
+-- the call that a pass is inside of
+abbrev pub call_name : Inside → List ℕ
+call_name Nothing = codes "no call"
+call_name (Armed i) = codes "an insert"
+call_name (FlagSeen i) = codes "an insert"
+call_name Removing = codes "a removal"
+call_name (Cancelling i) = codes "a cancel"
+
+-- and its next step
+abbrev pub next_step : Inside → List ℕ
+next_step Nothing = codes "the first of a call"
+next_step (Armed i) = codes "test " ++ name_text i
+next_step (FlagSeen i) = codes "disarm " ++ name_text i
+next_step Removing = codes "a disarm or an end"
+next_step (Cancelling i) = codes "take " ++ name_text i
+
+-- the pass is inside of a call since this line
+abbrev pub begun_text : Inside → ℕ → List ℕ
+begun_text x line = codes " has been inside " ++ (call_name x ++ (codes " since line " ++ (decimal line ++ (codes "; its next step is " ++ next_step x))))
+
+-- how far a pass is in its call
 abbrev pub inside_text : Inside → ℕ → List ℕ
-inside_text Nothing line = codes " is inside no program, and none begins so"
-inside_text (Armed i) line = codes " is inside an insert since line " ++ (decimal line ++ (codes ", whose next step is test " ++ name_text i))
-inside_text (FlagSeen i) line = codes " is inside an insert since line " ++ (decimal line ++ (codes ", whose next step is disarm " ++ name_text i))
-inside_text Removing line = codes " is inside a removal since line " ++ (decimal line ++ codes ", which goes on with a disarm or an end")
-inside_text (Cancelling i) line = codes " is inside a cancel since line " ++ (decimal line ++ (codes ", whose next step is take " ++ name_text i))
+inside_text Nothing line = codes " is inside no call, and none begins with a test or a take"
+inside_text (Armed i) line = begun_text (Armed i) line
+inside_text (FlagSeen i) line = begun_text (FlagSeen i) line
+inside_text Removing line = begun_text Removing line
+inside_text (Cancelling i) line = begun_text (Cancelling i) line
 
 abbrev pub progress_text : PassId → PassNow → List ℕ
 progress_text p now = pass_text p ++ inside_text now.inside now.line
@@ -37,7 +57,7 @@ progress_text p now = pass_text p ++ inside_text now.inside now.line
 abbrev pub cause_text : ℕ → ℕ → PassNow → PassId → StepRefused → List ℕ
 cause_text irps passes now p UnknownIrp = codes "an IRP's number is below " ++ decimal irps
 cause_text irps passes now p UnknownPass = codes "a pass's number is 1 to " ++ decimal passes
-cause_text irps passes now p (LockHeld q) = pass_text q ++ (codes " has the lock since line " ++ decimal now.line)
+cause_text irps passes now p (LockHeld q) = pass_text q ++ (codes " has had the lock since line " ++ (decimal now.line ++ (codes ", inside " ++ (call_name now.inside ++ (codes "; its next step is " ++ next_step now.inside)))))
 cause_text irps passes now p NotNext = progress_text p now
 cause_text irps passes now p NotHome = codes "the IRP was armed before in that life"
 cause_text irps passes now p NotListed = codes "the IRP isn't listed in that life"
@@ -53,7 +73,7 @@ refusal_reason r = cause_text r.irps r.passes r.now r.pass r.cause
 -- why a line ends the handling
 abbrev pub stop_reason : ℕ → ℕ → PassNow → Stop → List ℕ
 stop_reason irps passes now TooLong = codes "a line has at most " ++ (decimal MAX_LINE ++ codes " bytes")
-stop_reason irps passes now Malformed = codes "it is no step"
+stop_reason irps passes now Malformed = codes "this is no step, as p1 arm 0: arm, test, disarm, flag, take, out, done or renew, or p1 end"
 stop_reason irps passes now (Refused s cause) = cause_text irps passes now s.pass cause
 
 unfoldable pub reason_text : Reason → List ℕ

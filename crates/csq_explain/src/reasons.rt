@@ -1,6 +1,6 @@
 //! Why a line ends a schedule, in a sentence.
 ghost use Rattle.std.specs.Prelude.{◌≡◌};
-ghost use Rattle.csq_draw.specs.Reasons.{pass_asked};
+ghost use Rattle.csq_explain.specs.Reasons.{pass_asked};
 
 use crate::passes::PassNow;
 use csq_replay::{MAX_LINE, Stop};
@@ -9,12 +9,16 @@ use std::fmt;
 
 /// Why a line ends the handling: the numbers of IRPs and passes, and what is known of the pass that it
 /// comes from.
-#[derive(Clone, Copy, Debug)]
-pub(crate) struct Reason {
-    pub(crate) stop: Stop,
-    pub(crate) irps: u32,
-    pub(crate) passes: u32,
-    pub(crate) now: PassNow,
+#[derive(Clone, Copy, Debug, PartialEq, Eq)]
+pub struct Reason {
+    /// Why the line can't go on.
+    pub stop: Stop,
+    /// How many IRPs there are.
+    pub irps: u32,
+    /// How many passes there are.
+    pub passes: u32,
+    /// Who has the lock, or else the pass of the step.
+    pub now: PassNow,
 }
 
 /// The pass that a line's end is a matter of: who has the lock, or else who would make the step.
@@ -28,39 +32,74 @@ pub(crate) fn pass_asked(stop: Stop) -> PassId
     }
 }
 
-/// How far a pass is in its program.
+/// The call that a pass is inside of.
+#[derive(Clone, Copy, Debug)]
+struct CallName(Inside);
+
+/// As `an insert`.
+impl fmt::Display for CallName {
+    ghost use Rattle.std.specs.Prelude.{Some};
+    ghost use Rattle.csq_explain.specs.Reasons.{call_name};
+
+    ghost output = { λ call. Some (call_name call.0) };
+
+    fn fmt<W: fmt::Write>(&self, f: &mut fmt::Formatter<W>) -> fmt::Result {
+        match self.0 {
+            Inside::Nothing => write!(f, "no call"),
+            Inside::Armed(_) | Inside::FlagSeen(_) => write!(f, "an insert"),
+            Inside::Removing => write!(f, "a removal"),
+            Inside::Cancelling(_) => write!(f, "a cancel"),
+        }
+    }
+}
+
+/// The next step of a pass, by what it is inside of.
+#[derive(Clone, Copy, Debug)]
+struct NextStep(Inside);
+
+/// As `test 0`.
+impl fmt::Display for NextStep {
+    ghost use Rattle.std.specs.Prelude.{Some};
+    ghost use Rattle.csq_explain.specs.Reasons.{next_step};
+
+    ghost output = { λ call. Some (next_step call.0) };
+
+    fn fmt<W: fmt::Write>(&self, f: &mut fmt::Formatter<W>) -> fmt::Result {
+        match self.0 {
+            Inside::Nothing => write!(f, "the first of a call"),
+            Inside::Armed(irp) => write!(f, "test {irp}"),
+            Inside::FlagSeen(irp) => write!(f, "disarm {irp}"),
+            Inside::Removing => write!(f, "a disarm or an end"),
+            Inside::Cancelling(irp) => write!(f, "take {irp}"),
+        }
+    }
+}
+
+/// How far a pass is in its call.
 #[derive(Clone, Copy, Debug)]
 struct Progress {
     pass: PassId,
     now: PassNow,
 }
 
-/// As `p1 is inside an insert since line 3, whose next step is test 0`.
+/// As `p1 has been inside an insert since line 3; its next step is test 0`.
 impl fmt::Display for Progress {
     ghost use Rattle.std.specs.Prelude.{Some};
-    ghost use Rattle.csq_draw.specs.Reasons.{progress_text};
+    ghost use Rattle.csq_explain.specs.Reasons.{progress_text};
 
     ghost output = { λ told. Some (progress_text told.pass told.now) };
 
     fn fmt<W: fmt::Write>(&self, f: &mut fmt::Formatter<W>) -> fmt::Result {
-        let (pass, line) = (self.pass, self.now.line);
-        match self.now.inside {
-            Inside::Nothing => write!(f, "{pass} is inside no program, and none begins so"),
-            Inside::Armed(irp) => write!(
+        let (pass, line, inside) = (self.pass, self.now.line, self.now.inside);
+        let (call, next) = (CallName(inside), NextStep(inside));
+        match inside {
+            Inside::Nothing => write!(
                 f,
-                "{pass} is inside an insert since line {line}, whose next step is test {irp}"
+                "{pass} is inside no call, and none begins with a test or a take"
             ),
-            Inside::FlagSeen(irp) => write!(
+            _ => write!(
                 f,
-                "{pass} is inside an insert since line {line}, whose next step is disarm {irp}"
-            ),
-            Inside::Removing => write!(
-                f,
-                "{pass} is inside a removal since line {line}, which goes on with a disarm or an end"
-            ),
-            Inside::Cancelling(irp) => write!(
-                f,
-                "{pass} is inside a cancel since line {line}, whose next step is take {irp}"
+                "{pass} has been inside {call} since line {line}; its next step is {next}"
             ),
         }
     }
@@ -76,10 +115,10 @@ struct Refusal {
     cause: StepRefused,
 }
 
-/// As `p3 has the lock since line 5`.
+/// As `p3 has had the lock since line 5, inside a removal; its next step is a disarm or an end`.
 impl fmt::Display for Refusal {
     ghost use Rattle.std.specs.Prelude.{Some};
-    ghost use Rattle.csq_draw.specs.Reasons.{refusal_reason};
+    ghost use Rattle.csq_explain.specs.Reasons.{refusal_reason};
 
     ghost output = { λ refusal. Some (refusal_reason refusal) };
 
@@ -89,7 +128,11 @@ impl fmt::Display for Refusal {
             StepRefused::UnknownIrp => write!(f, "an IRP's number is below {}", self.irps),
             StepRefused::UnknownPass => write!(f, "a pass's number is 1 to {}", self.passes),
             StepRefused::LockHeld(owner) => {
-                write!(f, "{owner} has the lock since line {}", self.now.line)
+                let (line, call, next) = (now.line, CallName(now.inside), NextStep(now.inside));
+                write!(
+                    f,
+                    "{owner} has had the lock since line {line}, inside {call}; its next step is {next}"
+                )
             }
             StepRefused::NotNext => write!(f, "{}", Progress { pass, now }),
             StepRefused::NotHome => write!(f, "the IRP was armed before in that life"),
@@ -106,7 +149,7 @@ impl fmt::Display for Refusal {
 /// As `a line has at most 64 bytes`, or as the refusal of a step.
 impl fmt::Display for Reason {
     ghost use Rattle.std.specs.Prelude.{Some};
-    ghost use Rattle.csq_draw.specs.Reasons.{reason_text};
+    ghost use Rattle.csq_explain.specs.Reasons.{reason_text};
 
     ghost output = { λ reason. Some (reason_text reason) };
 
@@ -114,7 +157,10 @@ impl fmt::Display for Reason {
     fn fmt<W: fmt::Write>(&self, f: &mut fmt::Formatter<W>) -> fmt::Result {
         match self.stop {
             Stop::TooLong => write!(f, "a line has at most {MAX_LINE} bytes"),
-            Stop::Malformed => write!(f, "it is no step"),
+            Stop::Malformed => write!(
+                f,
+                "this is no step, as p1 arm 0: arm, test, disarm, flag, take, out, done or renew, or p1 end"
+            ),
             Stop::Refused(step, cause) => {
                 let refusal = Refusal {
                     irps: self.irps,
