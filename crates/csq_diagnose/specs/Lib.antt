@@ -7,3 +7,5 @@ pub mod Malforms
 pub mod Texts
 pub mod LineTexts
 pub mod Diagnoses
+pub mod RefusedTexts
+pub mod Schedules

@@ -9,6 +9,8 @@ mod lines;
 mod malformed;
 mod misfit;
 mod nearest;
+mod refused;
+mod schedule;
 mod script;
 mod texts;
 
@@ -18,4 +20,5 @@ pub use grammar::Grammar;
 pub use malformed::Malformed;
 pub use misfit::Misfit;
 pub use nearest::Near;
+pub use schedule::diagnose_schedule;
 pub use script::diagnose_script;

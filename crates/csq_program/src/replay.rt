@@ -7,15 +7,16 @@ ghost use Rattle.csq_program.specs.declared.program.ProgramFault.TheVariants.{Re
 
 use crate::program::{ProgramFault, REFUSED};
 use crate::source::Source;
+use csq_diagnose::{diagnose_schedule, diagnose_script};
 use csq_draw::draw_schedule;
 use csq_list::{AnyList, ListKind, ListNew, PendingList};
 use csq_replay::{Ended, SimFault, answer_schedule, answer_script, exit_status};
-use std::alloc::{AllocError, Allocator};
-use std::fmt;
+use std::alloc::{AllocError, Allocator, Global};
 use std::rt::Files;
+use std::{fmt, str};
 
 /// Replays a schedule.
-pub(crate) fn run_schedule<R: AllocGlobal + Print + Input + Files>(
+pub(crate) fn run_schedule<R: AllocGlobal + Print + Eprint + Input + Files>(
     rt: &R,
     source: Source<'_>,
     irps: u32,
@@ -28,11 +29,12 @@ pub(crate) fn run_schedule<R: AllocGlobal + Print + Input + Files>(
     let mut reader = input.as_slice();
     let mut text = Vec::new(rt.alloc());
     let ended = answer_schedule(rt.alloc(), irps, passes, claims, &mut reader, &mut text);
-    finish(rt, ended, &text)
+    let told = diagnosis_of_schedule(rt.alloc(), irps, passes, &input, ended)?;
+    finish(rt, source, ended, &text, &told)
 }
 
 /// Draws a schedule.
-pub(crate) fn run_drawing<R: AllocGlobal + Print + Input + Files>(
+pub(crate) fn run_drawing<R: AllocGlobal + Print + Eprint + Input + Files>(
     rt: &R,
     source: Source<'_>,
     irps: u32,
@@ -44,21 +46,70 @@ pub(crate) fn run_drawing<R: AllocGlobal + Print + Input + Files>(
     let mut reader = input.as_slice();
     let mut text = Vec::new(rt.alloc());
     let ended = draw_schedule(rt.alloc(), irps, passes, &mut reader, &mut text);
-    finish(rt, ended, &text)
+    let told = diagnosis_of_schedule(rt.alloc(), irps, passes, &input, ended)?;
+    finish(rt, source, ended, &text, &told)
 }
 
-/// Writes an answer that was kept in memory, and tells its exit status. It was kept so that nothing is
-/// written where memory is refused; where it could not be kept, only memory was.
-fn finish<R: Print>(rt: &R, ended: Result<Ended, SimFault>, text: &[u8]) -> Result<u8, ProgramFault>
+/// Why a schedule ended, if a line ended it.
+fn diagnosis_of_schedule(
+    alloc: Global,
+    irps: u32,
+    passes: u32,
+    input: &[u8],
+    ended: Result<Ended, SimFault>,
+) -> Result<Vec<u8>, AllocError>
+    requires { IsInLimits (record { irps = irps; passes = passes; first = 0 }) }
+{
+    let mut told = Vec::new(alloc);
+    if let Ok(Ended::Stopped) = ended {
+        let mut reader = input;
+        match diagnose_schedule(alloc, irps, passes, &mut reader, &mut told) {
+            Ok(_) => {}
+            Err(_) => return Err(AllocError),
+        }
+    }
+    Ok(told)
+}
+
+/// Why a script ended, if a line ended it.
+fn diagnosis_of_script(
+    alloc: Global,
+    input: &[u8],
+    ended: Result<Ended, SimFault>,
+) -> Result<Vec<u8>, AllocError> {
+    let mut told = Vec::new(alloc);
+    if let Ok(Ended::Stopped) = ended {
+        let mut reader = input;
+        match diagnose_script(alloc, &mut reader, &mut told) {
+            Ok(_) => {}
+            Err(_) => return Err(AllocError),
+        }
+    }
+    Ok(told)
+}
+
+/// Writes an answer, and on standard error why a line ended the handling, and gives the exit status. Both were
+/// kept in memory, so that nothing is written where memory is refused; where the answer could not be kept, only
+/// memory was. Where standard error can't be written, the status is the same.
+fn finish<R: Print + Eprint>(
+    rt: &R,
+    source: Source<'_>,
+    ended: Result<Ended, SimFault>,
+    text: &[u8],
+    told: &[u8],
+) -> Result<u8, ProgramFault>
     ensures memory { IfErr ended (λ _. result ≡ Err (Replay SimFault.Memory)) }
 {
     let Ok(ended) = ended else {
         return Err(ProgramFault::Replay(SimFault::Memory));
     };
-    match rt.write_all(text) {
-        Ok(()) => Ok(exit_status(ended)),
-        Err(_) => Err(ProgramFault::Replay(SimFault::Write)),
+    if rt.write_all(text).is_err() {
+        return Err(ProgramFault::Replay(SimFault::Write));
     }
+    if let (Ended::Stopped, Ok(told)) = (ended, str::from_utf8(told)) {
+        let _ = eprint!(rt; "csqsim: {source}{told}");
+    }
+    Ok(exit_status(ended))
 }
 
 /// The sizes of a script's list.
@@ -129,7 +180,7 @@ fn run_script<L: PendingList + Drop, R: AllocGlobal + Print + Eprint + Input + F
 }
 
 /// Runs a script over a fresh list.
-fn run_list<L: PendingList + Drop, R: AllocGlobal + Print + Input + Files>(
+fn run_list<L: PendingList + Drop, R: AllocGlobal + Print + Eprint + Input + Files>(
     rt: &R,
     source: Source<'_>,
     list: L,
@@ -141,7 +192,8 @@ fn run_list<L: PendingList + Drop, R: AllocGlobal + Print + Input + Files>(
     let mut reader = input.as_slice();
     let mut text = Vec::new(rt.alloc());
     let ended = answer_script(rt.alloc(), list, &mut reader, &mut text);
-    finish(rt, ended, &text)
+    let told = diagnosis_of_script(rt.alloc(), &input, ended)?;
+    finish(rt, source, ended, &text, &told)
 }
 
 /// A limit that is above the number of IRPs.

@@ -6,7 +6,7 @@ use csq_replay::{MAX_INPUT, SimFault};
 use std::alloc::{AllocError, Global};
 use std::io::{ErrorKind, Read};
 use std::rt::Files;
-use std::{fs, io};
+use std::{fmt, fs, io};
 use thiserror::Error;
 
 /// Where a schedule or a script is read from. Own rule.
@@ -16,6 +16,16 @@ pub enum Source<'a> {
     Standard,
     /// From the file of this name.
     File(&'a str),
+}
+
+/// The name of a file and a colon, before what is said of its lines; nothing for standard input.
+impl fmt::Display for Source<'_> {
+    fn fmt<W: fmt::Write>(&self, f: &mut fmt::Formatter<W>) -> fmt::Result {
+        match self {
+            Source::Standard => Ok(()),
+            Source::File(name) => write!(f, "{name}: "),
+        }
+    }
 }
 
 /// Why a source has no bytes.

@@ -1,4 +1,5 @@
 mod commands;
+mod diagnoses;
 mod file_limits;
 mod files;
 mod helps;

@@ -115,6 +115,13 @@ impl Ended {
         assert!(rt; self.told.as_str() == "", "at {at:?}");
     }
 
+    /// Looks for a text on standard output where the status is 2, and compares what standard error tells.
+    pub(crate) fn compare_told(&self, rt: &impl Abort, wanted: &str, told: &str, at: &[&str]) {
+        assert!(rt; self.status == ExitCode::from(2), "at {at:?}");
+        assert!(rt; self.printed.as_str().contains(wanted), "at {at:?}");
+        assert!(rt; self.told.as_str() == told, "at {at:?}");
+    }
+
     /// Looks for a text on standard error. Nothing is printed, and the command line is refused.
     pub(crate) fn look_for_refusal(&self, rt: &impl Abort, wanted: &str, at: &[&str]) {
         assert!(rt; self.status == ExitCode::from(2), "at {at:?}");

@@ -43,7 +43,7 @@ fn options_reach_the_answer(rt: HostRuntime) {
             words: &["csqsim", "schedule"],
             input: "p4 flag 7\np5 flag 7\n",
             output: "p4 flag 7 found 0\nline 2 refused UnknownPass\n",
-            errors: "",
+            errors: "csqsim: line 2: p5 flag 7 is refused: a pass's number is 1 to 4 (--passes 5 allows it)\n",
             status: 2,
         },
         Case {
@@ -65,7 +65,7 @@ fn the_largest_numbers_reach_the_answer(rt: HostRuntime) {
         words: &["csqsim", "schedule", "--irps=1024", "--passes=64"],
         input: "p64 flag 1023\np65 flag 1023\n",
         output: "p64 flag 1023 found 0\nline 2 refused UnknownPass\n",
-        errors: "",
+        errors: "csqsim: line 2: p65 flag 1023 is refused: a pass's number is 1 to 64\n",
         status: 2,
     };
     compare(&rt, &schedule);
@@ -168,14 +168,14 @@ fn a_line_ends_the_handling(rt: HostRuntime) {
             words: &["csqsim", "schedule"],
             input: "p1 end\np1  end\n",
             output: "p1 end found 0\nline 2 malformed\n",
-            errors: "",
+            errors: "csqsim: line 2, column 4: two spaces: words are separated by one\n",
             status: 2,
         },
         Case {
             words: &["csqsim", "script"],
             input: "flag 0\nflag\nflag 0\n",
             output: "0\nline 2 malformed\n",
-            errors: "",
+            errors: "csqsim: line 2, column 5: the line ends before its IRP\n  an IRP is its number, as 0\n",
             status: 2,
         },
     ];
@@ -195,7 +195,7 @@ fn an_input_is_too_long(rt: HostRuntime) -> Result<(), Fail> {
             words: &["csqsim", command],
             input: input.as_str(),
             output: "input too long\n",
-            errors: "",
+            errors: "csqsim: input too long\n",
             status: 2,
         };
         compare(&rt, &case);

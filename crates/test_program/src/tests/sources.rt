@@ -6,7 +6,12 @@ use std::process::Abort;
 use std::sync::Wait;
 use std::thread::Threads;
 
-const FILES: [Stored<'static>; 4] = [
+const FILES: [Stored<'static>; 5] = [
+    Stored {
+        name: "windows.txt",
+        bytes: "flag 0\r\n",
+        fails: None,
+    },
     Stored {
         name: "race.txt",
         bytes: "p1 flag 0\n",
@@ -74,6 +79,18 @@ fn a_file_that_cannot_be_read_is_told(rt: HostRuntime) {
             run_on_files(&rt, &["csqsim", command, name], 1, "", told);
         }
     }
+}
+
+// What is told of a line begins with the name of its file.
+#[test]
+fn a_line_of_a_file_is_told_with_its_name(rt: HostRuntime) {
+    run_on_files(
+        &rt,
+        &["csqsim", "script", "windows.txt"],
+        2,
+        "line 1 malformed\n",
+        "csqsim: windows.txt: line 1, column 7: a carriage return: a line ends in a line feed alone, and in files of Windows in both\n",
+    );
 }
 
 #[test]
