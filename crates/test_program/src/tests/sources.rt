@@ -100,7 +100,19 @@ fn a_hyphen_is_standard_input(rt: HostRuntime) {
     run(process).compare(&rt, 0, "0\nleft none\n", "", &words);
 }
 
-// The exit status is the same where standard error can't be written.
+// Runs the program where standard error can't be written.
+fn run_mute<'a, R: AllocGlobal + Threads + Wait + Abort + Sync>(
+    rt: &'a R,
+    words: &'a [&'a str],
+    input: &'a str,
+    printed: &str,
+    status: u8,
+) {
+    let process = Process::new(rt, words, input, usize::MAX).with_mute_errors();
+    run(process).compare(rt, status, printed, "", words);
+}
+
+// The exit status is the same there.
 #[test]
 fn what_cannot_be_told_keeps_its_status(rt: HostRuntime) {
     let rows: [(&[&str], &str, &str, u8); 5] = [
@@ -111,7 +123,6 @@ fn what_cannot_be_told_keeps_its_status(rt: HostRuntime) {
         (&["csqsim", "script"], "x\n", "line 1 malformed\n", 2),
     ];
     for (words, input, printed, status) in rows {
-        let process = Process::new(&rt, words, input, usize::MAX).with_mute_errors();
-        run(process).compare(&rt, status, printed, "", words);
+        run_mute(&rt, words, input, printed, status);
     }
 }
