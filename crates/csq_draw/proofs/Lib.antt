@@ -1,4 +1,3 @@
-pub mod Tables
 pub mod Growing
 pub mod Showing
 pub mod PictureLaws

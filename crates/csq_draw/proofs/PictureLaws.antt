@@ -22,21 +22,23 @@ use Rattle.csq_draw.specs.declared.marks.Mark.{Mark}
 use Rattle.csq_draw.specs.declared.marks.Number.{Number}
 use Rattle.csq_draw.specs.declared.marks.Shade.{Shade}
 use Rattle.csq_draw.specs.declared.owners.Owner.{Owner}
-use Rattle.csq_draw.specs.declared.passes.PassNow.{PassNow}
-use Rattle.csq_draw.specs.declared.reasons.Reason.{Reason}
+use Rattle.csq_explain.specs.declared.passes.PassNow.{PassNow}
+use Rattle.csq_explain.specs.declared.reasons.Reason.{Reason}
 use Rattle.csq_draw.specs.declared.rows.Row.{Row}
 use Rattle.csq_draw.specs.declared.spans.OpenSpan.{OpenSpan}
 use Rattle.csq_draw.specs.declared.element.Element.{Element}
 use Rattle.csq_draw.specs.Elements.{picture}
 use Rattle.csq_draw.specs.declared.element.Element.TheVariants as element
 use Rattle.csq_draw.specs.Owners.{owners}
-use Rattle.csq_draw.specs.Passes.{new_pass_now, pass_after, pass_now, lock_of, columns, column_of}
+use Rattle.csq_explain.specs.Passes.{new_pass_now, pass_after, pass_now}
+use Rattle.csq_draw.specs.Passes.{lock_of, columns, column_of}
 use Rattle.csq_draw.specs.Pictures.{each, column_element, column_elements, shade_elements, span_elements, number_element, mark_element, row_elements, open_elements, extent, opening_elements, closing_elements, refused_elements, rest_element, shown_elements, closed_picture, drawn_text, DrawsLine, DrawsClosing}
-use Rattle.csq_draw.specs.Rows.{all_passes, row_of, rows_of}
-use Rattle.csq_draw.specs.Reasons.{reason_of}
+use Rattle.csq_explain.specs.Passes.{all_passes}
+use Rattle.csq_draw.specs.Rows.{row_of, rows_of}
+use Rattle.csq_explain.specs.Reasons.{reason_of}
 use Rattle.csq_draw.specs.Laws.{HasOnePicture, picked, added, AddsStepByStep, mark_in, number_in, shade_in, shade_by, EachStepHasOneMark, EachLineHasItsNumber, EachShadeIsOfTheLock, EachPassHasItsColumn, HasItAt, TheShadedPassHasTheLock}
-use Rattle.csq_draw.proofs.Tables.{get-table, position-None, count-more}
-use Rattle.csq_draw.proofs.Showing.{length-passes}
+use Rattle.csq_explain.proofs.Tables.{get-table, position-None, count-more}
+use Rattle.csq_explain.proofs.Following.{length-passes, inside_is}
 
 one_closing : (size : Size) (W : List Numbered) → IsRun size (run_of W) → (t u : List ℕ) → DrawsClosing size W t → DrawsClosing size W u → t ≡ u
 one_closing size W r t u (told, rest, closes, e) (other, otherwise, closes', f) =
@@ -137,7 +139,7 @@ module _ {A : Type 0} (pick : Element → List A) (of_row : List PassNow → Row
       }
 
 abbrev marked : List PassNow → Row → List Mark
-marked passes row = record { row = row.row; column = column_of passes row.made.pass; made = row.made } ∷ []
+marked passes row = record { row = row.row; column = column_of passes row.step.made.pass; step = row.step } ∷ []
 
 abbrev numbered : List PassNow → Row → List Number
 numbered passes row = record { row = row.row; line = row.line } ∷ []
@@ -210,21 +212,6 @@ module _ (size : Size) (W : List Numbered) where
 
   pub each_shade : EachShadeIsOfTheLock size W
   each_shade = all_shown shade_in shaded_on (λ rows n. []) shades size W
-
-  -- what a drawing keeps of a pass is what that is inside of
-  inside_is : (p : PassId) (V : List Numbered) → (pass_now V p).inside ≡ inside (run_of V) p
-  inside_is p [] = refl
-  inside_is p (w ∷ V) = go (same_pass w.step.pass p) refl (inside_is p V)
-    where
-      go : (b : Bool) → same_pass w.step.pass p ≡ b → (pass_now V p).inside ≡ inside (run_of V) p → (pass_now (w ∷ V) p).inside ≡ inside (run_of (w ∷ V)) p
-      go true e h =
-          ap (λ x. (cond x (pass_after (pass_now V p) w) (pass_now V p)).inside) e
-          ∙ ap (λ s. inside_after s w.step.kind w.step.found) h
-          ∙ sym (ap (λ x. cond x (inside_after (inside (run_of V) p) w.step.kind w.step.found) (inside (run_of V) p)) e)
-      go false e h =
-          ap (λ x. (cond x (pass_after (pass_now V p) w) (pass_now V p)).inside) e
-          ∙ h
-          ∙ sym (ap (λ x. cond x (inside_after (inside (run_of V) p) w.step.kind w.step.found) (inside (run_of V) p)) e)
 
   -- a pass that has the lock made a step
   known : (E : List Made) → IsRun size E → (p : PassId) → has_lock (inside E p) ≡ true → p.0 ≤ size.passes

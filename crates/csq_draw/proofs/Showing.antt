@@ -6,26 +6,29 @@ use Rattle.irp_core.specs.declared.ids.PassId.{PassId}
 use Rattle.irp_core.specs.declared.step.Kind.{Kind}
 use Rattle.irp_core.specs.declared.step.Kind.TheVariants.{Arm, Test, Disarm, End, Flag, Take, Out, Done, Renew}
 use Rattle.irp_core.specs.declared.step.Made.{Made}
-use Rattle.irp_core.specs.Steps.{number, same_id, same_pass, by, name_of}
+use Rattle.irp_core.specs.Steps.{number, same_id, name_of}
 use Rattle.irp_core.specs.declared.ids.IrpLife.{IrpLife}
 use Rattle.irp_core.specs.Runs.{Size, OfIrp}
-use Rattle.irp_core.proofs.Names.{same_id-refl, same_id-eq, same_pass-refl, same_pass-eq}
+use Rattle.irp_core.proofs.Names.{same_id-refl, same_id-eq}
 use Rattle.csq_replay.specs.Schedule.{Numbered, run_of}
 use Rattle.csq_replay.specs.declared.schedule.closing.IrpLine.{IrpLine}
 use Rattle.csq_replay.specs.declared.schedule.outcome.Stop.{Stop}
 use Rattle.csq_replay.specs.Lines.{GrewBy}
-use Rattle.csq_draw.specs.declared.reasons.Reason.{Reason}
+use Rattle.csq_explain.specs.declared.passes.PassNow.{PassNow}
+use Rattle.csq_explain.specs.declared.reasons.Reason.{Reason}
+use Rattle.csq_explain.specs.declared.sentences.StepInCall.{StepInCall}
+use Rattle.csq_explain.specs.Passes.{all_passes}
+use Rattle.csq_explain.specs.Reasons.{reason_of}
+use Rattle.csq_explain.specs.Sentences.{in_call}
+use Rattle.csq_explain.proofs.Tables.{length-table, table-same, table-replicate, get-table, set-table}
 use Rattle.csq_draw.specs.Elements.{picture}
 use Rattle.csq_draw.specs.Pictures.{stopped_elements, closed_elements, stopped_picture, closed_picture}
-use Rattle.csq_draw.specs.Reasons.{reason_of}
 use Rattle.csq_draw.specs.declared.owners.Owner.{Owner}
-use Rattle.csq_draw.specs.declared.passes.PassNow.{PassNow}
 use Rattle.csq_draw.specs.declared.rows.Row.{Row}
 use Rattle.csq_draw.specs.Owners.{is_of_irp, owner, owner_after, owner_named, ended_by, owners}
-use Rattle.csq_draw.specs.Passes.{new_pass_now, pass_after, pass_now, passes_now, lock_before}
-use Rattle.csq_draw.specs.Rows.{all_passes, row_of, rows_of}
+use Rattle.csq_draw.specs.Passes.{lock_of, lock_at}
+use Rattle.csq_draw.specs.Rows.{row_of, rows_of}
 use Rattle.csq_draw.specs.Drawings.{owner_in, with_owner, Shows, NotesStep}
-use Rattle.csq_draw.proofs.Tables.{length-table, table-same, table-replicate, get-table, set-table}
 
 pub length-rows : (size : Size) (W : List Numbered) → length (rows_of size W) ≡ length W
 length-rows size [] = refl
@@ -35,20 +38,10 @@ length-run : (W : List Numbered) → length (run_of W) ≡ length W
 length-run [] = refl
 length-run (w ∷ W) = ap (λ n. suc n) (length-run W)
 
-pub length-passes : (size : Size) (W : List Numbered) → length (all_passes size W) ≡ size.passes + 1
-length-passes size W = length-table (λ p. pass_now W (record { 0 = p })) (size.passes + 1)
-
 pub length-owners : (n : ℕ) (E : List Made) → length (owners n E) ≡ n
 length-owners n E = length-table (λ k. owner E (record { 0 = k })) n
 
--- numbers that differ are of passes, and of IRPs, that differ
-other_pass : (p q : PassId) → (q.0 ≡ p.0 → ⊥) → same_pass p q ≡ false
-other_pass p q ne = go (same_pass p q) refl
-  where
-    go : (b : Bool) → same_pass p q ≡ b → b ≡ false
-    go false e = refl
-    go true e = absurd (ne (ap (λ (x : PassId). x.0) (sym (same_pass-eq p q e))))
-
+-- numbers that differ are of IRPs that differ
 other_id : (n m : IrpId) → (m.0 ≡ n.0 → ⊥) → same_id n m ≡ false
 other_id n m ne = go (same_id n m) refl
   where
@@ -57,24 +50,8 @@ other_id n m ne = go (same_id n m) refl
     go true e = absurd (ne (ap (λ (x : IrpId). x.0) (sym (same_id-eq n m e))))
 
 -- before the first step
-pub shows_none : (size : Size) (passes : List PassNow) (os : List (Option Owner)) → passes ≡ replicate (size.passes + 1) new_pass_now → os ≡ replicate size.irps None → Shows size [] passes os []
-shows_none size passes os a b = record {
-  shown_rows = refl;
-  shown_passes = a ∙ sym (table-replicate (λ p. pass_now [] (record { 0 = p })) new_pass_now (size.passes + 1) (λ k. refl));
-  shown_owners = b ∙ sym (table-replicate (λ k. owner [] (record { 0 = k })) None size.irps (λ k. refl));
-}
-
--- the passes after a step of p
-module _ (w : Numbered) (W : List Numbered) (n : ℕ) (known : w.step.pass.0 < n) where
-  passes_more : set (passes_now n W) w.step.pass.0 (pass_after (get_or (passes_now n W) w.step.pass.0 new_pass_now) w) ≡ passes_now n (w ∷ W)
-  passes_more =
-      let before : ℕ → PassNow = λ p. pass_now W (record { 0 = p }) in
-      let after : ℕ → PassNow = λ p. pass_now (w ∷ W) (record { 0 = p }) in
-      let own : cond (by w.step.pass w.step) (pass_after (pass_now W w.step.pass) w) (pass_now W w.step.pass) ≡ pass_after (pass_now W w.step.pass) w =
-      ap (λ b. cond b (pass_after (pass_now W w.step.pass) w) (pass_now W w.step.pass)) (same_pass-refl w.step.pass) in
-      set-table before after n w.step.pass.0 (pass_after (get_or (passes_now n W) w.step.pass.0 new_pass_now) w) known
-      (ap (λ x. pass_after x w) (get-table before n w.step.pass.0 new_pass_now known) ∙ sym own)
-      (λ j ne. sym (ap (λ b. cond b (pass_after (before j) w) (before j)) (other_pass w.step.pass (record { 0 = j }) ne)))
+pub shows_none : (size : Size) (os : List (Option Owner)) → os ≡ replicate size.irps None → Shows size [] os []
+shows_none size os b = record { shown_rows = refl; shown_owners = b ∙ sym (table-replicate (λ k. owner [] (record { 0 = k })) None size.irps (λ k. refl)) }
 
 -- the owners after a step, whose row is the number of steps before it
 module _ (m : Made) (E : List Made) (n : ℕ) where
@@ -136,28 +113,26 @@ module _ (m : Made) (E : List Made) (n : ℕ) where
           ∙ sym (ap (λ (x : Option IrpLife). option_map_or (λ i. owner E i.irp) x None) e)
 
 -- one more step was noted
-module _ (size : Size) (rows : List Row) (passes : List PassNow) (os : List (Option Owner)) (w : Numbered) (W : List Numbered) (h : Shows size rows passes os W) where
-  row_is : OfIrp (λ i. number i < size.irps) w.step.kind
-      → record { row = length rows; line = w.line; made = w.step; lock = lock_before passes w.step; ended = ended_by w.step.kind (owner_in os w.step.kind) } ≡ row_of size w W
-  row_is known =
-      let row : ℕ → List PassNow → Option Owner → Row = λ n ps o. record { row = n; line = w.line; made = w.step; lock = lock_before ps w.step; ended = ended_by w.step.kind o } in
-      ap (λ n. row n passes (owner_in os w.step.kind)) (ap length h.shown_rows ∙ length-rows size W)
-      ∙ ap (λ ps. row (length W) ps (owner_in os w.step.kind)) h.shown_passes
-      ∙ ap (λ o. row (length W) (all_passes size W) o) (ap (λ x. owner_in x w.step.kind) h.shown_owners ∙ owner_is w.step (run_of W) size.irps known)
+module _ (size : Size) (rows : List Row) (os : List (Option Owner)) (w : Numbered) (W : List Numbered) (h : Shows size rows os W) where
+  row_is : (step : StepInCall) (held : Option PassId) → step ≡ in_call (run_of W) w.step → held ≡ lock_of (all_passes size W) → OfIrp (λ i. number i < size.irps) w.step.kind
+      → record { row = length rows; line = w.line; step = step; lock = lock_at held step.made; ended = ended_by step.made.kind (owner_in os step.made.kind) } ≡ row_of size w W
+  row_is step held told lock known =
+      let row : ℕ → StepInCall → Option PassId → Option Owner → Row = λ n s q o. record { row = n; line = w.line; step = s; lock = lock_at q s.made; ended = ended_by s.made.kind o } in
+      ap (λ n. row n step held (owner_in os step.made.kind)) (ap length h.shown_rows ∙ length-rows size W)
+      ∙ ap (λ q. row (length W) step q (owner_in os step.made.kind)) lock
+      ∙ ap (λ (s : StepInCall). row (length W) s (lock_of (all_passes size W)) (owner_in os s.made.kind)) told
+      ∙ ap (λ o. row (length W) (in_call (run_of W) w.step) (lock_of (all_passes size W)) o) (ap (λ x. owner_in x w.step.kind) h.shown_owners ∙ owner_is w.step (run_of W) size.irps known)
 
-  pub shows_more : (rows' : List Row) (passes' : List PassNow) (os' : List (Option Owner)) → NotesStep rows passes os w rows' passes' os' → w.step.pass.0 ≤ size.passes → OfIrp (λ i. number i < size.irps) w.step.kind
-      → Shows size rows' passes' os' (w ∷ W)
-  shows_more rows' passes' os' noted from known = record {
-    shown_rows = noted.noted_rows ∙ ap (λ r. rows ++ r ∷ []) (row_is known) ∙ ap (λ rs. rs ++ row_of size w W ∷ []) h.shown_rows;
-    shown_passes = noted.noted_passes ∙ ap (λ ps. set ps w.step.pass.0 (pass_after (get_or ps w.step.pass.0 new_pass_now) w)) h.shown_passes ∙ passes_more w W (size.passes + 1) (omega (arith, from));
-    shown_owners = noted.noted_owners ∙ ap (λ x. with_owner x w.step (length rows)) h.shown_owners ∙ ap (λ n. with_owner (owners size.irps (run_of W)) w.step n) (ap length h.shown_rows ∙ length-rows size W ∙ sym (length-run W)) ∙ owners_more w.step (run_of W) size.irps known;
+  pub shows_more : (step : StepInCall) (held : Option PassId) (rows' : List Row) (os' : List (Option Owner)) → NotesStep rows os w.line step held rows' os'
+      → step ≡ in_call (run_of W) w.step → held ≡ lock_of (all_passes size W) → OfIrp (λ i. number i < size.irps) w.step.kind → Shows size rows' os' (w ∷ W)
+  shows_more step held rows' os' noted told lock known = record {
+    shown_rows = noted.noted_rows ∙ ap (λ r. rows ++ r ∷ []) (row_is step held told lock known) ∙ ap (λ rs. rs ++ row_of size w W ∷ []) h.shown_rows;
+    shown_owners =
+        noted.noted_owners ∙ ap (λ (s : StepInCall). with_owner os s.made (length rows)) told ∙ ap (λ x. with_owner x w.step (length rows)) h.shown_owners
+        ∙ ap (λ n. with_owner (owners size.irps (run_of W)) w.step n) (ap length h.shown_rows ∙ length-rows size W ∙ sym (length-run W)) ∙ owners_more w.step (run_of W) size.irps known;
   }
 
--- how many passes and owners a drawing has
-module _ (size : Size) (rows : List Row) (passes : List PassNow) (os : List (Option Owner)) (W : List Numbered) (h : Shows size rows passes os W) where
-  pub passes_count : length passes ≡ size.passes + 1
-  passes_count = ap length h.shown_passes ∙ length-passes size W
-
+  -- how many owners a drawing has
   pub owners_count : length os ≡ size.irps
   owners_count = ap length h.shown_owners ∙ length-owners size.irps (run_of W)
 
@@ -175,19 +150,19 @@ closed_same ps qs rs ss xs ys ts us count rest old new a b c d grew =
     grew ∙ ap (λ p. drawn p rs xs ts) a ∙ ap (λ r. drawn qs r xs ts) b ∙ ap (λ x. drawn qs ss x ts) c ∙ ap (λ t. drawn qs ss ys t) d
 
 -- what was drawn of these passes, rows and owners is the picture of the steps that they show
-module _ (size : Size) (rows : List Row) (passes : List PassNow) (os : List (Option Owner)) (W : List Numbered) (h : Shows size rows passes os W) (old new : List ℕ) where
+module _ (size : Size) (rows : List Row) (passes : List PassNow) (os : List (Option Owner)) (W : List Numbered) (kept : passes ≡ all_passes size W) (h : Shows size rows os W) (old new : List ℕ) where
   rows_are : (count : ℕ) → count ≡ length rows → count ≡ length W
   rows_are count is = is ∙ ap length h.shown_rows ∙ length-rows size W
 
-  pub stopped_shown : (count n : ℕ) (stop : Stop) (reason : Reason) → count ≡ length rows → reason ≡ reason_of size passes stop → GrewBy old new (picture (stopped_elements passes rows os count n reason))
+  pub stopped_shown : (count n : ℕ) (stop : Stop) (reason : Reason) → count ≡ length rows → reason ≡ reason_of size (all_passes size W) stop → GrewBy old new (picture (stopped_elements passes rows os count n reason))
       → GrewBy old new (picture (stopped_picture size W n stop))
   stopped_shown count n stop reason is why grew =
       let drawn : List PassNow → List Row → List (Option Owner) → ℕ → Reason → List ℕ = λ ps rs xs k r. old ++ picture (stopped_elements ps rs xs k n r) in
-      grew ∙ ap (drawn passes rows os count) (why ∙ ap (λ ps. reason_of size ps stop) h.shown_passes)
+      grew ∙ ap (drawn passes rows os count) why
       ∙ ap (λ k. drawn passes rows os k (reason_of size (all_passes size W) stop)) (rows_are count is)
       ∙ ap (λ xs. drawn passes rows xs (length W) (reason_of size (all_passes size W) stop)) h.shown_owners
       ∙ ap (λ rs. drawn passes rs (owners size.irps (run_of W)) (length W) (reason_of size (all_passes size W) stop)) h.shown_rows
-      ∙ ap (λ ps. drawn ps (rows_of size W) (owners size.irps (run_of W)) (length W) (reason_of size (all_passes size W) stop)) h.shown_passes
+      ∙ ap (λ ps. drawn ps (rows_of size W) (owners size.irps (run_of W)) (length W) (reason_of size (all_passes size W) stop)) kept
 
   pub closed_shown : (count : ℕ) (told : List IrpLine) (rest : Bool) → count ≡ length rows → GrewBy old new (picture (closed_elements passes rows os count told rest))
       → GrewBy old new (picture (closed_picture size W told rest))
@@ -196,4 +171,4 @@ module _ (size : Size) (rows : List Row) (passes : List PassNow) (os : List (Opt
       grew ∙ ap (drawn passes rows os) (rows_are count is)
       ∙ ap (λ xs. drawn passes rows xs (length W)) h.shown_owners
       ∙ ap (λ rs. drawn passes rs (owners size.irps (run_of W)) (length W)) h.shown_rows
-      ∙ ap (λ ps. drawn ps (rows_of size W) (owners size.irps (run_of W)) (length W)) h.shown_passes
+      ∙ ap (λ ps. drawn ps (rows_of size W) (owners size.irps (run_of W)) (length W)) kept

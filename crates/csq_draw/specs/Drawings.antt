@@ -1,19 +1,20 @@
 -- What a drawing keeps: the private side of its contract.
 use Rattle.std.specs.Prelude.{◌≡◌, ℕ, List, [], ◌∷◌, ◌++◌, length, Option, None, slice_index_or, slice_set}
 use Rattle.std.specs.Option.{option_map_or}
+use Rattle.irp_core.specs.declared.ids.PassId.{PassId}
 use Rattle.irp_core.specs.declared.step.Kind.{Kind}
 use Rattle.irp_core.specs.declared.step.Made.{Made}
-use Rattle.irp_core.specs.MachineState.{Agrees, size_of}
-use Rattle.irp_core.specs.Runs.{Size, IsInLimits}
+use Rattle.irp_core.specs.Runs.{Size}
 use Rattle.irp_core.specs.Steps.{number, name_of}
 use Rattle.csq_replay.specs.Schedule.{Numbered, run_of}
+use Rattle.csq_explain.specs.declared.sentences.StepInCall.{StepInCall}
+use Rattle.csq_explain.specs.Executions.{Follows}
 use Rattle.csq_draw.specs.declared.drawing.Drawing.{Drawing}
 use Rattle.csq_draw.specs.declared.owners.Owner.{Owner}
-use Rattle.csq_draw.specs.declared.passes.PassNow.{PassNow}
 use Rattle.csq_draw.specs.declared.rows.Row.{Row}
 use Rattle.csq_draw.specs.Owners.{owner_after, ended_by, owners}
-use Rattle.csq_draw.specs.Passes.{new_pass_now, pass_after, lock_before}
-use Rattle.csq_draw.specs.Rows.{all_passes, rows_of}
+use Rattle.csq_draw.specs.Passes.{lock_at}
+use Rattle.csq_draw.specs.Rows.{rows_of}
 
 -- of these owners the one of the IRP that a step of this kind names
 abbrev pub owner_in : List (Option Owner) → Kind → Option Owner
@@ -23,27 +24,23 @@ owner_in os k = option_map_or (λ i. slice_index_or os (number i) None) (name_of
 abbrev pub with_owner : List (Option Owner) → Made → ℕ → List (Option Owner)
 with_owner os m row = option_map_or (λ i. slice_set os (number i) (owner_after (slice_index_or os (number i) None) m row)) (name_of m.kind) os
 
--- rows, passes and owners are those of the steps W
-pub record Shows (size : Size) (rows : List Row) (passes : List PassNow) (os : List (Option Owner)) (W : List Numbered) : Type 0 where
+-- rows and owners are those of the steps W
+pub record Shows (size : Size) (rows : List Row) (os : List (Option Owner)) (W : List Numbered) : Type 0 where
   pub shown_rows : rows ≡ rows_of size W
-  pub shown_passes : passes ≡ all_passes size W
   pub shown_owners : os ≡ owners size.irps (run_of W)
 
--- a step that its line names was noted
-pub record NotesStep (rows : List Row) (passes : List PassNow) (os : List (Option Owner)) (w : Numbered) (new_rows : List Row) (new_passes : List PassNow) (new_owners : List (Option Owner)) : Type 0 where
+-- a step that this line names was noted, before which this pass had the lock
+pub record NotesStep (rows : List Row) (os : List (Option Owner)) (line : ℕ) (step : StepInCall) (held : Option PassId) (new_rows : List Row) (new_owners : List (Option Owner)) : Type 0 where
   pub noted_rows : new_rows ≡ rows ++ record {
     row = length rows;
-    line = w.line;
-    made = w.step;
-    lock = lock_before passes w.step;
-    ended = ended_by w.step.kind (owner_in os w.step.kind);
+    line = line;
+    step = step;
+    lock = lock_at held step.made;
+    ended = ended_by step.made.kind (owner_in os step.made.kind);
   } ∷ []
-  pub noted_passes : new_passes ≡ slice_set passes w.step.pass.0 (pass_after (slice_index_or passes w.step.pass.0 new_pass_now) w)
-  pub noted_owners : new_owners ≡ with_owner os w.step (length rows)
+  pub noted_owners : new_owners ≡ with_owner os step.made (length rows)
 
--- a drawing stands after the steps W, of a machine of this size
+-- a drawing stands after the steps W of an execution of this size
 pub record DrawingStandsAfter {A : Type 0} (drawing : Drawing A) (size : Size) (W : List Numbered) : Type 0 where
-  pub same : size_of drawing.machine ≡ size
-  pub limits : IsInLimits size
-  pub agrees : Agrees drawing.machine (run_of W)
-  pub shows : Shows size drawing.rows.items drawing.passes.items drawing.owners.items W
+  pub follows : Follows size drawing.execution W
+  pub shows : Shows size drawing.rows.items drawing.owners.items W

@@ -11,7 +11,7 @@ use Rattle.csq_draw.specs.declared.ending.Because.{Because}
 use Rattle.csq_draw.specs.declared.ending.Closing.{Closing}
 use Rattle.csq_draw.specs.declared.ending.Rest.{Rest}
 use Rattle.csq_draw.specs.Layout.{top}
-use Rattle.csq_draw.specs.Reasons.{reason_text}
+use Rattle.csq_explain.specs.Reasons.{reason_text}
 
 -- the bar of the line that ended the handling
 abbrev pub bar_text : Bar → List ℕ

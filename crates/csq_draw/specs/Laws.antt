@@ -18,10 +18,12 @@ use Rattle.csq_draw.specs.declared.marks.Number.{Number}
 use Rattle.csq_draw.specs.declared.marks.Shade.{Shade}
 use Rattle.csq_draw.specs.declared.owners.Having.{Having}
 use Rattle.csq_draw.specs.declared.owners.Having.TheVariants.{Owes, Holds}
-use Rattle.csq_draw.specs.declared.passes.PassNow.{PassNow}
+use Rattle.csq_explain.specs.declared.passes.PassNow.{PassNow}
 use Rattle.csq_draw.specs.Owners.{owner}
 use Rattle.csq_draw.specs.Passes.{column_of}
-use Rattle.csq_draw.specs.Rows.{all_passes, row_of}
+use Rattle.csq_explain.specs.Passes.{all_passes}
+use Rattle.csq_explain.specs.Sentences.{in_call}
+use Rattle.csq_draw.specs.Rows.{row_of}
 use Rattle.csq_draw.specs.declared.element.Element.{Element}
 use Rattle.csq_draw.specs.declared.element.Element.TheVariants as element
 use Rattle.csq_draw.specs.Pictures.{IsDrawing, stopped_picture, closed_picture}
@@ -62,7 +64,7 @@ shade_in _ = []
 
 -- the mark of a step after the steps W: on the row of its number, in the column of its pass, with the value that it found
 abbrev pub mark_of : List PassNow → Numbered → List Numbered → List Mark
-mark_of passes w W = record { row = length W; column = column_of passes w.step.pass; made = w.step } ∷ []
+mark_of passes w W = record { row = length W; column = column_of passes w.step.pass; step = in_call (run_of W) w.step } ∷ []
 
 -- the number of its line, on that row
 abbrev pub line_number : Numbered → List Numbered → List Number

@@ -1,13 +1,10 @@
-pub mod Tables
 pub mod Layout
-pub mod Sentences
 pub mod Owners
 pub mod Passes
 pub mod Rows
 pub mod Marks
 pub mod Spans
 pub mod Headings
-pub mod Reasons
 pub mod Endings
 pub mod Elements
 pub mod Pictures

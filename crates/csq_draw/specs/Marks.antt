@@ -9,7 +9,7 @@ use Rattle.csq_draw.specs.declared.marks.Number.{Number}
 use Rattle.csq_draw.specs.declared.marks.Shade.{Shade}
 use Rattle.csq_draw.specs.declared.marks.Mark.{Mark}
 use Rattle.csq_draw.specs.Layout.{left, top}
-use Rattle.csq_draw.specs.Sentences.{sentence}
+use Rattle.csq_explain.specs.Sentences.{sentence}
 
 -- the number of a line, at the left of its row
 abbrev pub number_text : Number → List ℕ
@@ -51,6 +51,6 @@ found_text x y value = codes "<text class='v' x='" ++ (decimal x ++ (codes "' y=
 
 -- a step in the column of its pass, told in a sentence too
 abbrev pub mark_text : Mark → List ℕ
-mark_text m = codes "<g class='" ++ (look_text m.made.kind m.made.found ++ (codes "'><title>" ++ (sentence m.made ++ (codes "</title>"
-    ++ (frame_text (left m.column + 8) (top m.row + 4) ++ (label_text (left m.column + 16) (top m.row + 21) m.made.kind
-    ++ (found_text (left m.column + 136) (top m.row + 21) m.made.found ++ codes "</g>")))))))
+mark_text m = codes "<g class='" ++ (look_text m.step.made.kind m.step.made.found ++ (codes "'><title>" ++ (sentence m.step ++ (codes "</title>"
+    ++ (frame_text (left m.column + 8) (top m.row + 4) ++ (label_text (left m.column + 16) (top m.row + 21) m.step.made.kind
+    ++ (found_text (left m.column + 136) (top m.row + 21) m.step.made.found ++ codes "</g>")))))))

@@ -9,7 +9,7 @@ use Rattle.irp_core.specs.declared.step.Made.{Made}
 use Rattle.irp_core.specs.Steps.{same_id, name_of}
 use Rattle.csq_draw.specs.declared.owners.Having.TheVariants.{Owes, Holds}
 use Rattle.csq_draw.specs.declared.owners.Owner.{Owner}
-use Rattle.csq_draw.specs.Tables.{table}
+use Rattle.csq_explain.specs.Tables.{table}
 
 -- whether a step of this kind is of IRP n, in any of its lives
 abbrev pub is_of_irp : IrpId → Kind → Bool

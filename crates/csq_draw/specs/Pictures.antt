@@ -11,13 +11,14 @@ use Rattle.csq_replay.specs.Lines.{IsAnswer, RepliesTo}
 use Rattle.csq_replay.specs.Schedule.{Numbered, run_of, TellsLine, Closes}
 use Rattle.csq_draw.specs.declared.heading.Extent.{Extent}
 use Rattle.csq_draw.specs.declared.owners.Owner.{Owner}
-use Rattle.csq_draw.specs.declared.passes.PassNow.{PassNow}
-use Rattle.csq_draw.specs.declared.reasons.Reason.{Reason}
+use Rattle.csq_explain.specs.declared.passes.PassNow.{PassNow}
+use Rattle.csq_explain.specs.declared.reasons.Reason.{Reason}
 use Rattle.csq_draw.specs.declared.rows.Row.{Row}
 use Rattle.csq_draw.specs.Owners.{owners}
 use Rattle.csq_draw.specs.Passes.{columns, column_of}
-use Rattle.csq_draw.specs.Rows.{all_passes, rows_of}
-use Rattle.csq_draw.specs.Reasons.{reason_of}
+use Rattle.csq_explain.specs.Passes.{all_passes}
+use Rattle.csq_draw.specs.Rows.{rows_of}
+use Rattle.csq_explain.specs.Reasons.{reason_of}
 use Rattle.csq_draw.specs.declared.element.Element.{Element}
 use Rattle.csq_draw.specs.Elements.{picture}
 use Rattle.csq_draw.specs.declared.element.Element.TheVariants as element
@@ -51,7 +52,7 @@ number_element row = element.Number (record { row = row.row; line = row.line })
 
 -- a row's step, in the column of its pass
 abbrev pub mark_element : List PassNow → Row → Element
-mark_element passes row = element.Mark (record { row = row.row; column = column_of passes row.made.pass; made = row.made })
+mark_element passes row = element.Mark (record { row = row.row; column = column_of passes row.step.made.pass; step = row.step })
 
 -- of a step: the number of its line, who has the lock, whose time with its IRP it ends, and its mark
 abbrev pub row_elements : List PassNow → ℕ → Row → List Element

@@ -1,36 +1,28 @@
 //! Schedules, drawn.
-ghost use Rattle.std.specs.Prelude.{◌≡◌, ◌≢◌, ◌+◌, ◌<◌, ◌≤◌, ◌++◌, ◌^◌, List, [], length, vec_len, IfOk, IfErr, OnOk};
+ghost use Rattle.std.specs.Prelude.{◌≡◌, ◌≢◌, ◌<◌, ◌^◌, List, [], length, IfOk, IfErr, OnOk};
 ghost use Rattle.std.specs.Io.KnownBytes.{Keeps};
-ghost use Rattle.irp_core.specs.declared.step.Made.{Made as MadeOf};
-ghost use Rattle.irp_core.specs.Lives.{present};
-ghost use Rattle.irp_core.specs.MachineState.{Agrees, size_of};
 ghost use Rattle.irp_core.specs.Runs.{OfIrp, IsInLimits};
 ghost use Rattle.irp_core.specs.Steps.{number};
-ghost use Rattle.csq_replay.specs.declared.schedule.closing.IrpLine.{IrpLine as IrpLineOf};
-ghost use Rattle.csq_replay.specs.Schedule.{Numbered, AreToldOf, IsToldOf};
-ghost use Rattle.csq_draw.specs.Reasons.{reason_of};
+ghost use Rattle.csq_replay.specs.Schedule.{Numbered};
 ghost use Rattle.csq_draw.specs.Pictures.{DrawsSchedule};
 ghost use Rattle.csq_draw.specs.Drawings.{DrawingStandsAfter, NotesStep};
 
 use crate::owners::{Owner, ended_by, new_owners, note_owner, owner_in};
-use crate::passes::{PassNow, lock_before, new_passes, pass_after};
+use crate::passes::{lock_at, lock_of};
 use crate::picture::{draw_closed, draw_stopped};
-use crate::reasons::{Reason, pass_asked};
 use crate::rows::Row;
-use csq_replay::{
-    Answerer, Ended, Handling, IrpLine, Outcome, SimFault, Stop, handle_line, irp_line, reply,
-};
-use irp_core::{IrpId, Machine, Made};
+use csq_explain::{Execution, Explained, StepInCall};
+use csq_replay::{Answerer, Ended, Handling, SimFault, reply};
+use irp_core::PassId;
 use std::alloc::{AllocError, Allocator};
 use std::io::{Read, Write};
 
-/// A machine, the rows of the steps that it made, and what is known of each pass and of each IRP's owner.
+/// An execution, the rows of the steps that it made, and what is known of each IRP's owner.
 #[derive(Drop)]
 pub(crate) struct Drawing<A: Allocator> {
     pub(crate) alloc: A,
-    pub(crate) machine: Machine<A>,
+    pub(crate) execution: Execution<A>,
     pub(crate) rows: Vec<Row, A>,
-    pub(crate) passes: Vec<PassNow, A>,
     pub(crate) owners: Vec<Option<Owner>, A>,
 }
 
@@ -41,41 +33,37 @@ impl<A: Allocator + Copy> Drawing<A> {
         ensures { IfOk result (λ drawing. DrawingStandsAfter drawing
             (record { irps = irps; passes = passes; first = 0 }) []) }
     {
-        let Ok(machine) = Machine::new(alloc, irps, passes) else {
-            return Err(AllocError);
-        };
         Ok(Drawing {
             alloc,
-            machine,
+            execution: Execution::new(alloc, irps, passes)?,
             rows: Vec::new(alloc),
-            passes: new_passes(alloc, passes as usize + 1)?,
             owners: new_owners(alloc, irps as usize)?,
         })
     }
 
-    /// Notes a step that was made, which this line names.
-    fn note(&mut self, line: usize, made: Made) -> Result<(), AllocError>
-        requires pass { made.pass.0 < length self.old.passes.items }
-        requires irp { OfIrp (λ i. number i < length self.old.owners.items) made.kind }
-        requires few { length self.old.passes.items ≤ 65 }
-        ensures noted { OnOk result
-            (NotesStep self.old.rows.items self.old.passes.items self.old.owners.items
-            (record { line = line; step = made })
-            self.new.rows.items self.new.passes.items self.new.owners.items) }
-        ensures machine { self.new.machine ≡ self.old.machine }
+    /// Notes a step that was made, which this line names, and before which this pass had the lock.
+    fn note(
+        &mut self,
+        line: usize,
+        step: StepInCall,
+        held: Option<PassId>,
+    ) -> Result<(), AllocError>
+        requires { OfIrp (λ i. number i < length self.old.owners.items) step.made.kind }
+        ensures noted { OnOk result (NotesStep self.old.rows.items self.old.owners.items
+            line step held self.new.rows.items self.new.owners.items) }
+        ensures execution { self.new.execution ≡ self.old.execution }
     {
         let row = self.count_rows()?;
-        let lock = lock_before(&self.passes, made);
+        let made = step.made;
+        let lock = lock_at(held, made);
         let ended = ended_by(made.kind, owner_in(&self.owners, made.kind));
         self.rows.push(Row {
             row,
             line,
-            made,
+            step,
             lock,
             ended,
         })?;
-        let at = made.pass.0 as usize;
-        self.passes[at] = pass_after(self.passes[at], line, made);
         note_owner(&mut self.owners, made, row);
         Ok(())
     }
@@ -87,52 +75,6 @@ impl<A: Allocator + Copy> Drawing<A> {
     {
         u32::try_from(self.rows.len()).map_err(|_| AllocError)
     }
-
-    /// What is told of the IRPs in the end.
-    fn told(&self) -> Result<Vec<IrpLine, A>, AllocError>
-        ensures told { IfOk result (λ told. (E : List MadeOf) → Agrees self.now.machine E
-            → AreToldOf (size_of self.now.machine).first E
-            (size_of self.now.machine).irps told.items) }
-        ensures few { IfOk result (λ told. vec_len told ≤ (size_of self.now.machine).irps) }
-    {
-        let mut told = Vec::new(self.alloc);
-        for number in 0..self.machine.irps() {
-            push_told(&self.machine, IrpId(number), &mut told)?;
-        }
-        Ok(told)
-    }
-
-    /// Why a line ends the handling.
-    fn reason(&self, stop: Stop) -> Reason
-        ensures { result ≡ reason_of (size_of self.now.machine) self.now.passes.items stop }
-    {
-        let asked = pass_asked(stop).0 as usize;
-        Reason {
-            stop,
-            irps: self.machine.irps(),
-            passes: self.machine.passes(),
-            now: self.passes.get(asked).copied().unwrap_or(PassNow::NEW),
-        }
-    }
-}
-
-/// Adds what is told of an IRP, if it is told of.
-fn push_told<A: Allocator>(
-    machine: &Machine<A>,
-    irp: IrpId,
-    told: &mut Vec<IrpLine, A>,
-) -> Result<(), AllocError>
-    requires { irp.0 < (size_of machine.now).irps }
-    ensures told { OnOk result ((more : List IrpLineOf) × (told.new.items ≡ told.old.items ++ more)
-        × ((E : List MadeOf) → Agrees machine.now E
-        → IsToldOf E (present (size_of machine.now).first E irp) more)) }
-    ensures few { OnOk result (vec_len told.new ≤ vec_len told.old + 1) }
-{
-    let Some(line) = irp_line(machine, irp) else {
-        return Ok(());
-    };
-    told.push(line)?;
-    Ok(())
 }
 
 impl<A: Allocator + Copy> Answerer<A> for Drawing<A> {
@@ -155,15 +97,16 @@ impl<A: Allocator + Copy> Answerer<A> for Drawing<A> {
         line: &[u8],
         text: &mut String<A>,
     ) -> Result<Handling, AllocError> {
-        match handle_line(&mut self.machine, line) {
-            Outcome::Skipped => Ok(Handling::GoesOn),
-            Outcome::Accepted(made) => {
-                self.note(number, made)?;
+        let held = lock_of(&self.execution.passes);
+        match self.execution.handle(number, line) {
+            Explained::Skipped => Ok(Handling::GoesOn),
+            Explained::Accepted(step) => {
+                self.note(number, step, held)?;
                 Ok(Handling::GoesOn)
             }
-            Outcome::Stopped(stop) => {
-                let (count, reason) = (self.count_rows()?, self.reason(stop));
-                let (passes, rows, owners) = (&self.passes, &self.rows, &self.owners);
+            Explained::Stopped(reason) => {
+                let count = self.count_rows()?;
+                let (passes, rows, owners) = (&self.execution.passes, &self.rows, &self.owners);
                 draw_stopped(passes, rows, owners, count, number, reason, text)?;
                 Ok(Handling::Stops)
             }
@@ -171,10 +114,10 @@ impl<A: Allocator + Copy> Answerer<A> for Drawing<A> {
     }
 
     fn close(&self, text: &mut String<A>) -> Result<(), AllocError> {
-        let (count, told) = (self.count_rows()?, self.told()?);
-        let (passes, rows, owners) = (&self.passes, &self.rows, &self.owners);
-        let rest = self.machine.at_rest();
-        draw_closed(passes, rows, owners, count, &told, rest, text)?;
+        let count = self.count_rows()?;
+        let closing = self.execution.close(self.alloc)?;
+        let (passes, rows, owners) = (&self.execution.passes, &self.rows, &self.owners);
+        draw_closed(passes, rows, owners, count, &closing.told, closing.rest, text)?;
         Ok(())
     }
 }

@@ -1,6 +1,6 @@
 //! What stands below the rows of a picture.
 use crate::layout::top;
-use crate::reasons::Reason;
+use csq_explain::Reason;
 use csq_replay::{IrpLine, Stop};
 use std::fmt;
 

@@ -11,9 +11,7 @@ mod marks;
 mod owners;
 mod passes;
 mod picture;
-mod reasons;
 mod rows;
-mod sentences;
 mod spans;
 
 pub use drawing::draw_schedule;

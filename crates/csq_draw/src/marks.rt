@@ -1,7 +1,7 @@
 //! What is drawn on the row of a step: the number of its line, who has the lock, and the step itself.
 use crate::layout::{left, top};
-use crate::sentences::Sentence;
-use irp_core::{Kind, Made};
+use csq_explain::{Sentence, StepInCall};
+use irp_core::Kind;
 use std::fmt;
 
 /// The number of a line, at the left of its row.
@@ -144,7 +144,7 @@ impl fmt::Display for Found {
 pub(crate) struct Mark {
     pub(crate) row: u32,
     pub(crate) column: u32,
-    pub(crate) made: Made,
+    pub(crate) step: StepInCall,
 }
 
 impl fmt::Display for Mark {
@@ -155,9 +155,9 @@ impl fmt::Display for Mark {
 
     fn fmt<W: fmt::Write>(&self, f: &mut fmt::Formatter<W>) -> fmt::Result {
         let (x, y) = (left(self.column), top(self.row));
-        let (kind, value) = (self.made.kind, self.made.found);
+        let (kind, value) = (self.step.made.kind, self.step.made.found);
         let look = Look { kind, found: value };
-        let sentence = Sentence(self.made);
+        let sentence = Sentence(self.step);
         let frame = Frame { x: x + 8, y: y + 4 };
         let label = Label {
             x: x + 16,

@@ -9,10 +9,10 @@ use crate::ending::{Bar, Because, Closing, Refused, Rest};
 use crate::heading::{Column, Extent};
 use crate::marks::{Mark, Number, Shade};
 use crate::owners::Owner;
-use crate::passes::{PassNow, column_of, columns};
-use crate::reasons::Reason;
+use crate::passes::{column_of, columns};
 use crate::rows::Row;
 use crate::spans::{OpenSpan, Span};
+use csq_explain::{PassNow, Reason};
 use csq_replay::IrpLine;
 use irp_core::PassId;
 use std::alloc::{AllocError, Allocator};
@@ -133,8 +133,8 @@ fn draw_mark<A: Allocator>(
 {
     let mark = Mark {
         row: row.row,
-        column: column_of(passes, row.made.pass),
-        made: row.made,
+        column: column_of(passes, row.step.made.pass),
+        step: row.step,
     };
     draw(Element::Mark(mark), text)
 }

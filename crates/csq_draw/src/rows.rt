@@ -1,6 +1,7 @@
 //! The rows of a picture: one for each step.
 use crate::owners::Owner;
-use irp_core::{Made, PassId};
+use csq_explain::StepInCall;
+use irp_core::PassId;
 
 /// A step that was made: its row, from 0 on, the number of its line, who had the lock then, and whose time
 /// with its IRP it ended.
@@ -8,7 +9,7 @@ use irp_core::{Made, PassId};
 pub(crate) struct Row {
     pub(crate) row: u32,
     pub(crate) line: usize,
-    pub(crate) made: Made,
+    pub(crate) step: StepInCall,
     pub(crate) lock: Option<PassId>,
     pub(crate) ended: Option<Owner>,
 }

@@ -1,7 +1,7 @@
 -- What the program may be asked to do.
-use Rattle.std.specs.Prelude.{◌≡◌, ◌≢◌, ℕ, ◌≤◌, Bool, true, false, List, codes, decimal, Option, None, Some, IfSome}
+use Rattle.std.specs.Prelude.{◌≡◌, ◌≢◌, ◌⊎◌, ℕ, ◌≤◌, Bool, true, false, List, codes, decimal, Option, None, Some, IfSome}
 use Rattle.clap.specs.declared.error.kind.ErrorKind.{ErrorKind}
-use Rattle.clap.specs.Matches.{found_of, one_text}
+use Rattle.clap.specs.Matches.{found_of, first_value, one_text}
 use Rattle.clap.specs.Values.{kind_of}
 use Rattle.clap.specs.declared.parser.matches.ArgMatches.{ArgMatches}
 use Rattle.irp_core.specs.Runs.{IsInLimits}
@@ -10,21 +10,23 @@ use Rattle.csq_device.specs.Plans.{IsPlan}
 use Rattle.csq_device.specs.declared.plan.Plan.{Plan}
 use Rattle.csq_program.specs.declared.command.Job.{Job}
 use Rattle.csq_program.specs.declared.command.Job.TheVariants.{Schedule, Draw, Script, Run}
+use Rattle.csq_program.specs.declared.source.Source.{Source}
+use Rattle.csq_program.specs.declared.source.Source.TheVariants.{Standard, File}
 use Rattle.csq_program.specs.declared.command.CommandFault.{CommandFault}
 use Rattle.csq_program.specs.declared.command.CommandFault.TheVariants.{Memory, Refused}
 
 -- each number is in its range
 abbrev pub IsInRange : Job → Type 0
-IsInRange (Schedule irps passes claims) = IsInLimits (record { irps = irps; passes = passes; first = 0 })
-IsInRange (Draw irps passes) = IsInLimits (record { irps = irps; passes = passes; first = 0 })
-IsInRange (Script irps files limit file_limit list) = ((1 ≤ irps) × (irps ≤ 1024)) × ((1 ≤ files) × (files ≤ 256)) × IfSome limit (λ n. (1 ≤ n) × (n ≤ 1024)) × IfSome file_limit (λ n. (1 ≤ n) × (n ≤ 1024))
+IsInRange (Schedule source irps passes claims) = IsInLimits (record { irps = irps; passes = passes; first = 0 })
+IsInRange (Draw source irps passes) = IsInLimits (record { irps = irps; passes = passes; first = 0 })
+IsInRange (Script source irps files limit file_limit list) = ((1 ≤ irps) × (irps ≤ 1024)) × ((1 ≤ files) × (files ≤ 256)) × IfSome limit (λ n. (1 ≤ n) × (n ≤ 1024)) × IfSome file_limit (λ n. (1 ≤ n) × (n ≤ 1024))
 IsInRange (Run plan list) = IsPlan plan.irps plan.files plan.submitters plan.workers plan.cancellers plan.turns
 
 -- the command of this name, of which any but a picture's, a script's and a run's is a schedule's
 abbrev pub IsJobOf : List ℕ → Job → Type 0
-IsJobOf name (Schedule irps passes claims) = (name ≢ codes "draw") × (name ≢ codes "script") × (name ≢ codes "run")
-IsJobOf name (Draw irps passes) = name ≡ codes "draw"
-IsJobOf name (Script irps files limit file_limit list) = name ≡ codes "script"
+IsJobOf name (Schedule source irps passes claims) = (name ≢ codes "draw") × (name ≢ codes "script") × (name ≢ codes "run")
+IsJobOf name (Draw source irps passes) = name ≡ codes "draw"
+IsJobOf name (Script source irps files limit file_limit list) = name ≡ codes "script"
 IsJobOf name (Run plan list) = name ≡ codes "run"
 
 -- a flag of this name: whether the options have it set
@@ -35,10 +37,22 @@ pub record IsFlag (options : ArgMatches) (name : List ℕ) (flag : Bool) : Type 
 
 -- the job's flag, if it has one, is that of the options
 abbrev pub TellsJobFlag : ArgMatches → Job → Type 0
-TellsJobFlag options (Schedule irps passes claims) = IsFlag options (codes "claims") claims
-TellsJobFlag options (Draw irps passes) = Unit {0}
-TellsJobFlag options (Script irps files limit file_limit list) = IsFlag options (codes "chain") (is_chained list)
+TellsJobFlag options (Schedule source irps passes claims) = IsFlag options (codes "claims") claims
+TellsJobFlag options (Draw source irps passes) = Unit {0}
+TellsJobFlag options (Script source irps files limit file_limit list) = IsFlag options (codes "chain") (is_chained list)
 TellsJobFlag options (Run plan list) = IsFlag options (codes "chain") (is_chained list)
+
+-- the file that is named, other than by a hyphen, or where there is none standard input
+abbrev pub IsSource : ArgMatches → Source → Type 0
+IsSource options Standard = (first_value (found_of options) (codes "file") ≡ None) ⊎ (first_value (found_of options) (codes "file") ≡ Some (codes "-"))
+IsSource options (File name) = (first_value (found_of options) (codes "file") ≡ Some name.now) × (name.now ≢ codes "-")
+
+-- the job's source, if it has one, is that of the options
+abbrev pub TellsSource : ArgMatches → Job → Type 0
+TellsSource options (Schedule source irps passes claims) = IsSource options source
+TellsSource options (Draw source irps passes) = IsSource options source
+TellsSource options (Script source irps files limit file_limit list) = IsSource options source
+TellsSource options (Run plan list) = Unit {0}
 
 -- an option of this name: the number that its text writes, where that is from 1 to `most`, and the default without a text
 pub record IsNumberOption (options : ArgMatches) (name : List ℕ) (most default number : ℕ) : Type 0 where
@@ -61,9 +75,9 @@ pub record ArePlanned (options : ArgMatches) (plan : Plan) : Type 0 where
 
 -- the job's numbers are those of the options
 abbrev pub TellsNumbers : ArgMatches → Job → Type 0
-TellsNumbers options (Schedule irps passes claims) = IsNumberOption options (codes "irps") 1024 8 irps × IsNumberOption options (codes "passes") 64 4 passes
-TellsNumbers options (Draw irps passes) = IsNumberOption options (codes "irps") 1024 8 irps × IsNumberOption options (codes "passes") 64 4 passes
-TellsNumbers options (Script irps files limit file_limit list) = IsNumberOption options (codes "irps") 1024 8 irps × IsNumberOption options (codes "files") 256 4 files × IsLimit options (codes "limit") limit × IsLimit options (codes "file-limit") file_limit
+TellsNumbers options (Schedule source irps passes claims) = IsNumberOption options (codes "irps") 1024 8 irps × IsNumberOption options (codes "passes") 64 4 passes
+TellsNumbers options (Draw source irps passes) = IsNumberOption options (codes "irps") 1024 8 irps × IsNumberOption options (codes "passes") 64 4 passes
+TellsNumbers options (Script source irps files limit file_limit list) = IsNumberOption options (codes "irps") 1024 8 irps × IsNumberOption options (codes "files") 256 4 files × IsLimit options (codes "limit") limit × IsLimit options (codes "file-limit") file_limit
 TellsNumbers options (Run plan list) = ArePlanned options plan
 
 -- the number of a fault

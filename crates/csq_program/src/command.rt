@@ -2,12 +2,13 @@
 ghost use Rattle.std.specs.Prelude.{◌≡◌, ◌≤◌, codes, IfOk, IfSome};
 ghost use Rattle.irp_core.specs.Runs.{IsInLimits};
 ghost use Rattle.csq_list.specs.AnyLists.{is_chained};
-ghost use Rattle.csq_program.specs.Jobs.{IsFlag, IsInRange, IsJobOf, IsLimit, IsNumberOption, IsRefusalOf, TellsJobFlag, TellsNumbers, fault_number};
+ghost use Rattle.csq_program.specs.Jobs.{IsFlag, IsInRange, IsJobOf, IsLimit, IsNumberOption, IsRefusalOf, IsSource, TellsJobFlag, TellsNumbers, TellsSource, fault_number};
 
 use crate::help::{
     ABOUT, DRAW_ABOUT, DRAW_HELP, RUN_ABOUT, RUN_HELP, SCHEDULE_ABOUT, SCHEDULE_HELP, SCRIPT_ABOUT,
     SCRIPT_HELP, VERSION,
 };
+use crate::source::Source;
 use clap::error::ErrorKind;
 use clap::{Arg, ArgAction, ArgMatches, Command, value_parser};
 use csq_device::{MAX_THREADS, MAX_TURNS, Plan};
@@ -19,15 +20,17 @@ use thiserror::Error;
 
 /// What the program is asked to do.
 #[derive(Clone, Copy, Debug, PartialEq, Eq)]
-pub enum Job {
+pub enum Job<'a> {
     /// To replay a schedule over this many IRPs and passes, and to tell its claims or not.
     Schedule {
+        source: Source<'a>,
         irps: u32,
         passes: u32,
         claims: bool,
     },
     /// To draw a schedule over this many IRPs and passes.
     Draw {
+        source: Source<'a>,
         irps: u32,
         passes: u32,
     },
@@ -35,6 +38,7 @@ pub enum Job {
     /// be listed at a time, and `file_limit` for each file object: all, where none is given. The list is
     /// of this kind.
     Script {
+        source: Source<'a>,
         irps: u32,
         files: u32,
         limit: Option<u32>,
@@ -124,7 +128,7 @@ impl<'a> NumberOption<'a> {
 fn irps_option<'a>(default: &'a str) -> NumberOption<'a> {
     NumberOption {
         name: "irps",
-        help: "IRPs, 1 to 1,024",
+        help: "IRPs, 1 to 1024",
         most: MAX_IRPS,
         heading: SIZE,
         default: Some(default),
@@ -191,7 +195,15 @@ fn with_flag<'a>(
     command.arg(flag)
 }
 
-/// A command that is read over a machine, with how many IRPs and passes it has.
+/// The command with the name of the file that it reads.
+fn with_file<'a>(alloc: Global, command: Command<'a>) -> Result<Command<'a>, AllocError> {
+    let file = Arg::new(alloc, "file")
+        .value_name("FILE")
+        .help("File to read; - or none for standard input");
+    command.arg(file)
+}
+
+/// A command that reads a schedule, with how many IRPs and passes there are.
 fn machine_command<'a>(alloc: Global, name: &'a str) -> Result<Command<'a>, AllocError> {
     let passes = NumberOption {
         name: "passes",
@@ -200,7 +212,8 @@ fn machine_command<'a>(alloc: Global, name: &'a str) -> Result<Command<'a>, Allo
         heading: SIZE,
         default: Some("4"),
     };
-    number_command(alloc, name, &[irps_option("8"), passes])
+    let command = number_command(alloc, name, &[irps_option("8"), passes])?;
+    with_file(alloc, command)
 }
 
 /// The command line of a picture.
@@ -218,21 +231,21 @@ fn schedule_command<'a>(alloc: Global) -> Result<Command<'a>, AllocError> {
         alloc,
         command,
         "claims",
-        "Tells each claim: the IRP, the line and the pass",
+        "Tells each claim too: the IRP, the line and the pass",
     )
 }
 
 /// The command line of a script.
 fn script_command<'a>(alloc: Global) -> Result<Command<'a>, AllocError> {
-    let help = "IRPs that may be listed at a time, 1 to the IRPs [default: the IRPs]";
+    let help = "IRPs listed at a time, at most --irps [default: --irps]";
     let limit = limit_option("limit", help);
-    let help =
-        "IRPs that may be listed for one file object at a time, 1 to the IRPs [default: the IRPs]";
+    let help = "The same for each file object [default: --irps]";
     let file_limit = limit_option("file-limit", help);
     let numbers = [irps_option("8"), files_option(), limit, file_limit];
     let command = number_command(alloc, "script", &numbers)?
         .about(SCRIPT_ABOUT)
         .after_help(SCRIPT_HELP);
+    let command = with_file(alloc, command)?;
     with_flag(
         alloc,
         command,
@@ -245,7 +258,7 @@ fn script_command<'a>(alloc: Global) -> Result<Command<'a>, AllocError> {
 fn run_command<'a>(alloc: Global) -> Result<Command<'a>, AllocError> {
     let turns = NumberOption {
         name: "turns",
-        help: "Turns of each, 1 to 100,000",
+        help: "Turns of each, 1 to 100000",
         most: MAX_TURNS,
         heading: THREADS,
         default: Some("64"),
@@ -322,6 +335,16 @@ fn list_kind(options: &ArgMatches<'_>) -> ListKind
     }
 }
 
+/// Where the command reads from: a file that is named, other than by -, or else standard input.
+fn source_in<'a>(options: &ArgMatches<'a>) -> Source<'a>
+    ensures { IsSource options.now result }
+{
+    match options.get_str("file") {
+        Some(name) if name != "-" => Source::File(name),
+        _ => Source::Standard,
+    }
+}
+
 /// How many IRPs and passes a machine has.
 fn machine_size(options: &ArgMatches<'_>) -> (u32, u32)
     ensures range { IsInLimits (record { irps = result.0; passes = result.1; first = 0 }) }
@@ -333,37 +356,46 @@ fn machine_size(options: &ArgMatches<'_>) -> (u32, u32)
     (irps, passes)
 }
 
-fn schedule_job(options: &ArgMatches<'_>) -> Job
+fn schedule_job<'a>(options: &ArgMatches<'a>) -> Job<'a>
     ensures range { IsInRange result }
     ensures command { IsJobOf (codes "schedule") result }
+    ensures source { TellsSource options.now result }
     ensures flag { TellsJobFlag options.now result }
     ensures numbers { TellsNumbers options.now result }
 {
     let (irps, passes) = machine_size(options);
     Job::Schedule {
+        source: source_in(options),
         irps,
         passes,
         claims: options.get_flag("claims"),
     }
 }
 
-fn draw_job(options: &ArgMatches<'_>) -> Job
+fn draw_job<'a>(options: &ArgMatches<'a>) -> Job<'a>
     ensures range { IsInRange result }
     ensures command { IsJobOf (codes "draw") result }
+    ensures source { TellsSource options.now result }
     ensures flag { TellsJobFlag options.now result }
     ensures numbers { TellsNumbers options.now result }
 {
     let (irps, passes) = machine_size(options);
-    Job::Draw { irps, passes }
+    Job::Draw {
+        source: source_in(options),
+        irps,
+        passes,
+    }
 }
 
-fn script_job(options: &ArgMatches<'_>) -> Job
+fn script_job<'a>(options: &ArgMatches<'a>) -> Job<'a>
     ensures range { IsInRange result }
     ensures command { IsJobOf (codes "script") result }
+    ensures source { TellsSource options.now result }
     ensures flag { TellsJobFlag options.now result }
     ensures numbers { TellsNumbers options.now result }
 {
     Job::Script {
+        source: source_in(options),
         irps: number_in(options, "irps", MAX_IRPS, 8),
         files: number_in(options, "files", MAX_FILES, 4),
         limit: limit_in(options, "limit"),
@@ -372,9 +404,10 @@ fn script_job(options: &ArgMatches<'_>) -> Job
     }
 }
 
-fn device_job(options: &ArgMatches<'_>) -> Job
+fn device_job<'a>(options: &ArgMatches<'a>) -> Job<'a>
     ensures range { IsInRange result }
     ensures command { IsJobOf (codes "run") result }
+    ensures source { TellsSource options.now result }
     ensures flag { TellsJobFlag options.now result }
     ensures numbers { TellsNumbers options.now result }
 {
@@ -394,9 +427,10 @@ fn device_job(options: &ArgMatches<'_>) -> Job
 }
 
 /// What the command of this name is asked to do; `schedule` is the one that is left.
-fn job_of(name: &str, options: &ArgMatches<'_>) -> Job
+fn job_of<'a>(name: &str, options: &ArgMatches<'a>) -> Job<'a>
     ensures range { IsInRange result }
     ensures command { IsJobOf name.now result }
+    ensures source { TellsSource options.now result }
     ensures flag { TellsJobFlag options.now result }
     ensures numbers { TellsNumbers options.now result }
 {
@@ -412,7 +446,7 @@ fn job_of(name: &str, options: &ArgMatches<'_>) -> Job
 ///
 /// Refused: 1 Memory; 2 Refused, with `clap`'s error, which also carries the help that was asked for.
 /// Own rule.
-pub fn read_command<S: AsStr>(alloc: Global, words: &[S]) -> Result<Job, CommandFault>
+pub fn read_command<'a, S: AsStr>(alloc: Global, words: &'a [S]) -> Result<Job<'a>, CommandFault>
     ensures { IfOk result IsInRange }
 {
     let matches = program(alloc)?.try_get_matches_from(words)?;

@@ -5,7 +5,10 @@ mod command;
 mod device_run;
 mod help;
 mod program;
+mod replay;
+mod source;
 
 pub use command::{CommandFault, Job, read_command, refuse_bytes};
 pub use device_run::{RunFault, answer_run};
 pub use program::{ProgramFault, run_program, status_of};
+pub use source::{Source, SourceFault};

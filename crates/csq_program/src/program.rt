@@ -1,29 +1,31 @@
-//! What each command of the program does, and its exit status.
-ghost use Rattle.std.specs.Prelude.{◌≡◌, ◌≤◌, Ok, Err, IfOk, IfErr, replicate};
-ghost use Rattle.irp_core.specs.Runs.{IsInLimits};
-ghost use Rattle.csq_list.specs.Listing.{IsFresh};
+//! The program: its exit status, and what each command does.
+ghost use Rattle.std.specs.Prelude.{◌≡◌, Err, IfOk, IfErr};
 ghost use Rattle.csq_device.specs.Plans.{IsListFor};
 ghost use Rattle.csq_program.specs.Jobs.{IsInRange};
-ghost use Rattle.csq_list.specs.declared.refusals.ListNew.TheVariants.{BadSize};
-ghost use Rattle.csq_program.specs.declared.program.ProgramFault.TheVariants.{Replay, Run};
+ghost use Rattle.csq_program.specs.declared.program.ProgramFault.TheVariants.{Run};
 
 use crate::command::{CommandFault, Job, read_command, refuse_bytes};
 use crate::device_run::{RunFault, answer_run};
+use crate::replay::{Limits, run_drawing, run_limited_script, run_schedule};
+use crate::source::SourceFault;
 use csq_device::{Free, Plan};
-use csq_draw::draw_schedule;
-use csq_list::{AnyList, ListKind, ListNew, PendingList};
-use csq_replay::{SimFault, answer_schedule, answer_script, exit_status};
-use std::alloc::{AllocError, Allocator};
+use csq_list::{AnyList, ListNew, PendingList};
+use csq_replay::SimFault;
+use std::alloc::AllocError;
 use std::io;
 use std::io::ErrorKind;
 use std::process::ExitCode;
+use std::rt::{Env, Files};
 use std::sync::Wait;
 use std::thread::Threads;
 use thiserror::Error;
 
 /// Why the program did not do what it was asked for.
-#[derive(Clone, Copy, Debug, PartialEq, Eq, Error)]
+#[derive(Debug, Drop, Error)]
 pub enum ProgramFault {
+    /// A schedule or a script could not be read.
+    #[error(transparent)]
+    Source(#[from] SourceFault),
     /// A schedule or a script has no answer.
     #[error(transparent)]
     Replay(#[from] SimFault),
@@ -50,18 +52,13 @@ const DONE: u8 = 0;
 // The exit status of a fault.
 const FAULTY: u8 = 1;
 
-// The exit status of a refused command line, and of a list whose size is refused.
-const REFUSED: u8 = 2;
+/// The exit status of a refused command line, and of a list whose size is refused.
+pub(crate) const REFUSED: u8 = 2;
 
-/// What the words of this process's command line ask for.
-fn read_job<R: AllocGlobal + std::rt::Env>(rt: &R) -> Result<Job, CommandFault>
-    ensures { IfOk result IsInRange }
-{
+/// The words of this process's command line.
+fn read_words<R: AllocGlobal + Env>(rt: &R) -> Result<Vec<String>, CommandFault> {
     match std::env::args(rt) {
-        Ok(arguments) => {
-            let words: Vec<String> = arguments.collect(rt.alloc())?;
-            read_command(rt.alloc(), words.as_slice())
-        }
+        Ok(arguments) => Ok(arguments.collect(rt.alloc())?),
         Err(error) if error.kind() == ErrorKind::OutOfMemory => Err(CommandFault::Memory),
         Err(_) => Err(refuse_bytes(rt.alloc())),
     }
@@ -70,41 +67,74 @@ fn read_job<R: AllocGlobal + std::rt::Env>(rt: &R) -> Result<Job, CommandFault>
 /// Does what the command line asks for, and answers the exit status.
 fn run_command_line<R>(rt: &R) -> Result<u8, ProgramFault>
 where
-    R: AllocGlobal + Print + Eprint + Input + std::rt::Env + Threads + Wait + Sync,
+    R: AllocGlobal + Print + Eprint + Input + Env + Files + Threads + Wait + Sync,
 {
-    match read_job(rt) {
+    match read_words(rt) {
+        Ok(words) => run_words(rt, words.as_slice()),
+        Err(fault) => tell_command_fault(rt, fault),
+    }
+}
+
+/// Does what these words ask for.
+fn run_words<R>(rt: &R, words: &[String]) -> Result<u8, ProgramFault>
+where
+    R: AllocGlobal + Print + Eprint + Input + Files + Threads + Wait + Sync,
+{
+    match read_command(rt.alloc(), words) {
         Ok(job) => run_job(rt, job),
-        Err(CommandFault::Memory) => Err(ProgramFault::from(AllocError)),
-        Err(CommandFault::Refused(error)) => {
-            error.print(rt).map_err(|_| SimFault::Write)?;
-            Ok(error.exit_code() as u8)
+        Err(fault) => tell_command_fault(rt, fault),
+    }
+}
+
+/// Prints why a command line was refused, or the help that it asks for. A refusal that can't be written is
+/// one all the same; a help that can't be written is a fault.
+fn tell_command_fault<R: Print + Eprint>(rt: &R, fault: CommandFault) -> Result<u8, ProgramFault> {
+    match fault {
+        CommandFault::Memory => Err(ProgramFault::from(AllocError)),
+        CommandFault::Refused(error) => {
+            let printed = error.print(rt);
+            if error.use_stderr() {
+                return Ok(REFUSED);
+            }
+            printed.map_err(|_| SimFault::Write)?;
+            Ok(DONE)
         }
     }
 }
 
-/// Runs a command from standard input to standard output.
-fn run_job<R>(rt: &R, job: Job) -> Result<u8, ProgramFault>
+/// Runs a command to standard output.
+fn run_job<R>(rt: &R, job: Job<'_>) -> Result<u8, ProgramFault>
 where
-    R: AllocGlobal + Print + Eprint + Input + Threads + Wait + Sync,
+    R: AllocGlobal + Print + Eprint + Input + Files + Threads + Wait + Sync,
     requires { IsInRange job }
 {
     match job {
         Job::Schedule {
+            source,
             irps,
             passes,
             claims,
-        } => run_schedule(rt, irps, passes, claims),
-        Job::Draw { irps, passes } => run_drawing(rt, irps, passes),
+        } => run_schedule(rt, source, irps, passes, claims),
+        Job::Draw {
+            source,
+            irps,
+            passes,
+        } => run_drawing(rt, source, irps, passes),
         Job::Script {
+            source,
             irps,
             files,
             limit,
             file_limit,
             list,
         } => {
-            let limit = limit.unwrap_or(irps);
-            let file_limit = file_limit.unwrap_or(irps);
-            run_limited_script(rt, list, irps, files, limit, file_limit)
+            let limits = Limits {
+                irps,
+                files,
+                limit: limit.unwrap_or(irps),
+                file_limit: file_limit.unwrap_or(irps),
+            };
+            run_limited_script(rt, source, list, limits)
         }
         Job::Run { plan, list } => {
             let Plan { irps, files, .. } = plan;
@@ -112,97 +142,6 @@ where
             run_device(rt, plan, list)
         }
     }
-}
-
-/// Replays a schedule.
-fn run_schedule<R: AllocGlobal + Print + Input>(
-    rt: &R,
-    irps: u32,
-    passes: u32,
-    claims: bool,
-) -> Result<u8, ProgramFault>
-    requires { IsInLimits (record { irps = irps; passes = passes; first = 0 }) }
-{
-    let mut reader = rt.reader();
-    let mut writer = io::writer(rt);
-    let ended = answer_schedule(rt.alloc(), irps, passes, claims, &mut reader, &mut writer)?;
-    Ok(exit_status(ended))
-}
-
-/// Draws a schedule.
-fn run_drawing<R: AllocGlobal + Print + Input>(
-    rt: &R,
-    irps: u32,
-    passes: u32,
-) -> Result<u8, ProgramFault>
-    requires { IsInLimits (record { irps = irps; passes = passes; first = 0 }) }
-{
-    let mut reader = rt.reader();
-    let mut writer = io::writer(rt);
-    let ended = draw_schedule(rt.alloc(), irps, passes, &mut reader, &mut writer)?;
-    Ok(exit_status(ended))
-}
-
-/// The limit of each file object.
-fn file_limits_of<A: Allocator>(
-    alloc: A,
-    files: u32,
-    file_limit: u32,
-) -> Result<Vec<u32, A>, AllocError>
-    ensures { IfOk result (λ limits. limits.items ≡ replicate files file_limit) }
-{
-    vec![in alloc; file_limit; files as usize]
-}
-
-/// Runs a script over a list of this kind with these limits, the second one for each file object.
-fn run_limited_script<R: AllocGlobal + Print + Eprint + Input>(
-    rt: &R,
-    kind: ListKind,
-    irps: u32,
-    files: u32,
-    limit: u32,
-    file_limit: u32,
-) -> Result<u8, ProgramFault>
-    requires { (1 ≤ irps) × (irps ≤ 1024) }
-{
-    let file_limits = file_limits_of(rt.alloc(), files, file_limit)?;
-    let list = AnyList::with_file_limits(rt.alloc(), kind, irps, files, limit, &file_limits);
-    run_script(rt, list)
-}
-
-/// Runs a script over a fresh list, if there is one.
-fn run_script<L: PendingList + Drop, R: AllocGlobal + Print + Eprint + Input>(
-    rt: &R,
-    list: Result<L, ListNew>,
-) -> Result<u8, ProgramFault>
-    requires fresh { IfOk list (λ l. IsFresh (L.listing l)) }
-    requires irps { IfOk list (λ l. (1 ≤ (L.listing l).irps) × ((L.listing l).irps ≤ 1024)) }
-    ensures memory { IfErr list
-        (λ refused. refused ≡ ListNew.Memory → result ≡ Err (Replay SimFault.Memory)) }
-    ensures bad_size { IfErr list (λ refused. refused ≡ BadSize → result ≡ Ok 2) }
-{
-    match list {
-        Ok(list) => run_list(rt, list),
-        Err(ListNew::Memory) => Err(ProgramFault::from(AllocError)),
-        Err(ListNew::BadSize) => {
-            let _ = eprintln!(rt; "csqsim: bad size");
-            Ok(REFUSED)
-        }
-    }
-}
-
-/// Runs a script over a fresh list.
-fn run_list<L: PendingList + Drop, R: AllocGlobal + Print + Input>(
-    rt: &R,
-    list: L,
-) -> Result<u8, ProgramFault>
-    requires fresh { IsFresh (L.listing list) }
-    requires irps { (1 ≤ (L.listing list).irps) × ((L.listing list).irps ≤ 1024) }
-{
-    let mut reader = rt.reader();
-    let mut writer = io::writer(rt);
-    let ended = answer_script(rt.alloc(), list, &mut reader, &mut writer)?;
-    Ok(exit_status(ended))
 }
 
 /// Runs a device over a list that fits its plan, if there is memory for one.
@@ -238,7 +177,7 @@ pub fn status_of(ended: &Result<u8, ProgramFault>) -> u8
 /// with a line on standard error where there was a fault. Own rule.
 pub fn run_program<R>(rt: &R) -> ExitCode
 where
-    R: AllocGlobal + Print + Eprint + Input + std::rt::Env + Threads + Wait + Sync,
+    R: AllocGlobal + Print + Eprint + Input + Env + Files + Threads + Wait + Sync,
 {
     let ended = run_command_line(rt);
     if let Err(fault) = &ended {

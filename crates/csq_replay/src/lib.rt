@@ -11,8 +11,12 @@ pub use laws::{
     a_schedule_has_one_answer, a_script_has_one_answer, each_inserted_irp_is_accounted_for,
 };
 pub use lines::answer::{Ended, MAX_INPUT, SimFault, exit_status};
-pub use lines::{Answerer, Handling, MAX_LINE, reply};
+pub use lines::names::parse_name;
+pub use lines::pieces::{parse_number, parse_status, split_piece};
+pub use lines::{Answerer, Handling, MAX_LINE, is_skipped, reply};
 pub use schedule::answer_schedule;
 pub use schedule::closing::{IrpLine, irp_line};
 pub use schedule::outcome::{Outcome, Stop, handle_line};
+pub use schedule::step_line::parse_pass;
 pub use script::answer_script;
+pub use script::call::Call;

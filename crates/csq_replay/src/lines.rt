@@ -26,7 +26,7 @@ pub enum Handling {
 }
 
 /// Whether a line is empty or a comment.
-pub(crate) fn is_skipped(line: &[u8]) -> bool
+pub fn is_skipped(line: &[u8]) -> bool
     ensures { IsTrue result ↔ IsSkipped line.now }
 {
     match line.first() {

@@ -7,7 +7,7 @@ ghost use Rattle.csq_replay.specs.Schedule.{RepliesToSchedule};
 pub(crate) mod closing;
 pub(crate) mod outcome;
 mod replay;
-mod step_line;
+pub(crate) mod step_line;
 
 use crate::lines::answer::{Ended, SimFault};
 use crate::lines::reply;

@@ -1,7 +1,10 @@
 mod commands;
+mod diagnoses;
 mod file_limits;
+mod files;
 mod helps;
 mod pictures;
 mod process;
 mod runs;
 mod shell;
+mod sources;

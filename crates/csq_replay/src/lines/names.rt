@@ -7,7 +7,7 @@ use crate::lines::pieces::{parse_number, split_piece};
 use irp_core::{IrpId, IrpLife, Life};
 
 /// The IRP and life that a word names.
-pub(crate) fn parse_name(word: &[u8]) -> Option<IrpLife>
+pub fn parse_name(word: &[u8]) -> Option<IrpLife>
     ensures { MatchOption result ((i : IrpLife) → ¬ IsNameWord word.now i) (IsNameWord word.now) }
 {
     let (number, life) = split_piece(word, b'@');

@@ -19,7 +19,7 @@ fn first_index(bytes: &[u8], byte: u8) -> Option<usize>
 }
 
 /// The first piece before a byte of this value, and the bytes after that byte, if there is one.
-pub(crate) fn split_piece(bytes: &[u8], byte: u8) -> (&[u8], Option<&[u8]>)
+pub fn split_piece(bytes: &[u8], byte: u8) -> (&[u8], Option<&[u8]>)
     ensures pieces { pieces byte bytes.now
         ≡ result.0.now ∷ option_map_or (λ rest. pieces byte rest.now) result.1 [] }
     ensures shorter { ForSome result.1 (λ rest. length rest.now < length bytes.now) }
@@ -60,7 +60,7 @@ fn is_decimal(word: &[u8], number: u32) -> bool
 }
 
 /// The number of at most nine digits that a word is, with no leading zero.
-pub(crate) fn parse_number(word: &[u8]) -> Option<u32>
+pub fn parse_number(word: &[u8]) -> Option<u32>
     ensures { MatchOption result ((n : ℕ) → ¬ IsNumber word.now n) (IsNumber word.now) }
 {
     let number = parse_decimal(word)?;
@@ -75,7 +75,7 @@ pub(crate) fn parse_number(word: &[u8]) -> Option<u32>
 const STATUS_DIGITS: usize = 8;
 
 /// The status that eight hexadecimal digits write, in either case.
-pub(crate) fn parse_status(word: &[u8]) -> Option<NtStatus>
+pub fn parse_status(word: &[u8]) -> Option<NtStatus>
     ensures { MatchOption result ((status : NtStatus) → ¬ IsHexStatus word.now status.0)
         (λ status. IsHexStatus word.now status.0) }
 {

@@ -11,7 +11,8 @@ use crate::lines::names::parse_name;
 use crate::lines::pieces::{parse_number, split_piece};
 use irp_core::{IrpLife, Kind, PassId, Step};
 
-fn parse_pass(word: &[u8]) -> Option<PassId>
+/// The pass that a word names.
+pub fn parse_pass(word: &[u8]) -> Option<PassId>
     ensures { MatchOption result ((p : PassId) → ¬ IsPassWord word.now p) (IsPassWord word.now) }
 {
     Some(PassId(parse_number(word.strip_prefix(b"p")?)?))

@@ -5,7 +5,7 @@ use std::fmt;
 
 /// A call of the script's one pass. Where it names no life, it is of the IRP's present one.
 #[derive(Clone, Copy, Debug, PartialEq, Eq)]
-pub(crate) enum Call {
+pub enum Call {
     /// `IoCsqInsertIrpEx` of the IRP for the file object, at the place.
     Insert(IrpId, FileId, Place),
     /// `IoCsqRemoveNextIrp` with the peek context.

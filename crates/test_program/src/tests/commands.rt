@@ -1,6 +1,6 @@
 //! Command lines of schedules and scripts.
 use csq_list::ListKind;
-use csq_program::{CommandFault, Job, read_command, refuse_bytes};
+use csq_program::{CommandFault, Job, Source, read_command, refuse_bytes};
 use std::test::Fail;
 
 #[test]
@@ -24,6 +24,7 @@ fn command_lines_are_read(rt: HostRuntime) -> Result<(), Fail> {
     for (words, irps, passes, claims) in jobs {
         let job = read_command(alloc, words).ok();
         let wanted = Job::Schedule {
+            source: Source::Standard,
             irps,
             passes,
             claims,
@@ -61,7 +62,14 @@ fn command_lines_of_pictures_are_read(rt: HostRuntime) -> Result<(), Fail> {
     let most = ["csqsim", "draw", "--irps=1024", "--passes=64"];
     for (words, irps, passes) in [(plain.as_slice(), 8, 4), (most.as_slice(), 1024, 64)] {
         let job = read_command(rt.alloc(), words).ok();
-        assert_eq!(rt; job, Some(Job::Draw { irps, passes }));
+        assert_eq!(rt;
+            job,
+            Some(Job::Draw {
+                source: Source::Standard,
+                irps,
+                passes
+            })
+        );
     }
     for option in ["--irps=1025", "--passes=0", "--passes=65", "--claims"] {
         let words = ["csqsim", "draw", option];
@@ -97,6 +105,7 @@ fn command_lines_of_scripts_are_read(rt: HostRuntime) -> Result<(), Fail> {
     for (words, irps, files, limit, file_limit, list) in jobs {
         let job = read_command(rt.alloc(), words).ok();
         let wanted = Job::Script {
+            source: Source::Standard,
             irps,
             files,
             limit,
@@ -104,6 +113,42 @@ fn command_lines_of_scripts_are_read(rt: HostRuntime) -> Result<(), Fail> {
             list,
         };
         assert_eq!(rt; job, Some(wanted));
+    }
+    Ok(())
+}
+
+// The file that a command reads, if it reads one.
+fn source_of<'a>(job: &Job<'a>) -> Option<Source<'a>> {
+    match job {
+        Job::Schedule { source, .. } | Job::Draw { source, .. } | Job::Script { source, .. } => {
+            Some(*source)
+        }
+        Job::Run { .. } => None,
+    }
+}
+
+// Each command that reads may name a file. A hyphen is standard input, but `./-` is a file.
+#[test]
+fn a_file_is_named(rt: HostRuntime) -> Result<(), Fail> {
+    let rows: [(&[&str], Source<'_>); 4] = [
+        (&["race.txt"], Source::File("race.txt")),
+        (&["--irps=9", "a b"], Source::File("a b")),
+        (&["-"], Source::Standard),
+        (&["./-"], Source::File("./-")),
+    ];
+    for command in ["schedule", "draw", "script"] {
+        for (last, wanted) in rows {
+            let mut words = vec![in rt.alloc(); "csqsim", command]?;
+            words.extend_from_slice(last)?;
+            let job = read_command(rt.alloc(), words.as_slice()).ok();
+            assert_eq!(rt; job.and_then(|job| source_of(&job)), Some(wanted));
+        }
+    }
+    for words in [
+        ["csqsim", "run", "x"].as_slice(),
+        ["csqsim", "schedule", "x", "y"].as_slice(),
+    ] {
+        assert!(rt; read_command(rt.alloc(), words).is_err(), "at {words:?}");
     }
     Ok(())
 }
@@ -120,6 +165,7 @@ fn a_script_has_limits_beside_chains(rt: HostRuntime) -> Result<(), Fail> {
         "3",
     ];
     let wanted = Job::Script {
+        source: Source::Standard,
         irps: 8,
         files: 4,
         limit: Some(8),
@@ -144,6 +190,7 @@ fn a_script_is_as_large_as_it_may_be(rt: HostRuntime) -> Result<(), Fail> {
         "--file-limit=1024",
     ];
     let wanted = Job::Script {
+        source: Source::Standard,
         irps: 1024,
         files: 256,
         limit: Some(1024),

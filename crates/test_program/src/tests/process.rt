@@ -1,4 +1,5 @@
 //! A process of a test's own: its words and its input are given, and what it prints is kept.
+use super::files::Stored;
 use csq_program::run_program;
 use std::alloc::{Allocator, Global};
 use std::env::FillError;
@@ -18,9 +19,12 @@ pub(crate) struct Process<'a, R> {
     // A word after these, which needn't be text.
     last: Option<&'a [u8]>,
     input: &'a [u8],
-    // Whether reading fails once it is given.
-    fails: bool,
+    // Why reading fails once it is given, if it does.
+    fails: Option<ErrorKind>,
+    pub(crate) files: &'a [Stored<'a>],
     room: usize,
+    // Whether nothing can be told on standard error.
+    is_mute: bool,
     output: Mutex<String>,
     errors: Mutex<String>,
 }
@@ -37,8 +41,10 @@ impl<'a, R: AllocGlobal> Process<'a, R> {
             words,
             last: None,
             input: input.as_bytes(),
-            fails: false,
+            fails: None,
+            files: &[],
             room,
+            is_mute: false,
             output: Mutex::new(String::new(rt.alloc())),
             errors: Mutex::new(String::new(rt.alloc())),
         }
@@ -55,7 +61,20 @@ impl<'a, R: AllocGlobal> Process<'a, R> {
     /// Cannot read on once its input is given.
     pub(crate) fn with_failing_input(self) -> Process<'a, R> {
         Process {
-            fails: true,
+            fails: Some(ErrorKind::Other),
+            ..self
+        }
+    }
+
+    /// Has these files.
+    pub(crate) fn with_files(self, files: &'a [Stored<'a>]) -> Process<'a, R> {
+        Process { files, ..self }
+    }
+
+    /// Cannot tell anything on standard error.
+    pub(crate) fn with_mute_errors(self) -> Process<'a, R> {
+        Process {
+            is_mute: true,
             ..self
         }
     }
@@ -94,6 +113,13 @@ impl Ended {
         assert!(rt; self.status == ExitCode::from(status), "at {at:?}");
         assert!(rt; self.printed.as_str().contains(wanted), "at {at:?}");
         assert!(rt; self.told.as_str() == "", "at {at:?}");
+    }
+
+    /// Looks for a text on standard output where the status is 2, and compares what standard error tells.
+    pub(crate) fn compare_told(&self, rt: &impl Abort, wanted: &str, told: &str, at: &[&str]) {
+        assert!(rt; self.status == ExitCode::from(2), "at {at:?}");
+        assert!(rt; self.printed.as_str().contains(wanted), "at {at:?}");
+        assert!(rt; self.told.as_str() == told, "at {at:?}");
     }
 
     /// Looks for a text on standard error. Nothing is printed, and the command line is refused.
@@ -150,17 +176,26 @@ impl<R: AllocGlobal + Wait> Print for Process<'_, R> {
     }
 }
 
+impl<R: AllocGlobal + Wait> Process<'_, R> {
+    /// Tells a text on standard error.
+    fn tell(&self, text: &str) -> io::Result<()> {
+        if self.is_mute {
+            return Err(Error::from(ErrorKind::Other));
+        }
+        self.errors.lock(self.rt).push_str(text)?;
+        Ok(())
+    }
+}
+
 impl<R: AllocGlobal + Wait> Eprint for Process<'_, R> {
     fn eprint<D: Display + Drop>(&self, value: D) -> io::Result<()> {
         let text = format!(in self.alloc(); "{value}")?;
-        self.errors.lock(self.rt).push_str(text.as_str())?;
-        Ok(())
+        self.tell(text.as_str())
     }
 
     fn eprintln<D: Display + Drop>(&self, value: D) -> io::Result<()> {
         let text = format!(in self.alloc(); "{value}\n")?;
-        self.errors.lock(self.rt).push_str(text.as_str())?;
-        Ok(())
+        self.tell(text.as_str())
     }
 }
 
@@ -168,15 +203,22 @@ impl<R: AllocGlobal + Wait> Eprint for Process<'_, R> {
 #[derive(Drop)]
 pub(crate) struct Given<'a> {
     bytes: &'a [u8],
-    fails: bool,
+    fails: Option<ErrorKind>,
+}
+
+impl<'a> Given<'a> {
+    /// These bytes, and then the fault, if there is one.
+    pub(crate) fn new(bytes: &'a [u8], fails: Option<ErrorKind>) -> Given<'a> {
+        Given { bytes, fails }
+    }
 }
 
 impl Read for Given<'_> {
     fn read(&mut self, buf: &mut [u8]) -> io::Result<usize> {
-        if self.fails && self.bytes.is_empty() {
-            return Err(Error::from(ErrorKind::Other));
+        match self.fails {
+            Some(kind) if self.bytes.is_empty() => Err(Error::from(kind)),
+            _ => self.bytes.read(buf),
         }
-        self.bytes.read(buf)
     }
 }
 
@@ -202,10 +244,7 @@ impl<'a, R> Input for Process<'a, R> {
     }
 
     fn reader(&self) -> Given<'a> {
-        Given {
-            bytes: self.input,
-            fails: self.fails,
-        }
+        Given::new(self.input, self.fails)
     }
 }
 

@@ -43,7 +43,7 @@ fn options_reach_the_answer(rt: HostRuntime) {
             words: &["csqsim", "schedule"],
             input: "p4 flag 7\np5 flag 7\n",
             output: "p4 flag 7 found 0\nline 2 refused UnknownPass\n",
-            errors: "",
+            errors: "csqsim: line 2: p5 flag 7 is refused: a pass's number is 1 to 4 (--passes 5 allows it)\n",
             status: 2,
         },
         Case {
@@ -65,7 +65,7 @@ fn the_largest_numbers_reach_the_answer(rt: HostRuntime) {
         words: &["csqsim", "schedule", "--irps=1024", "--passes=64"],
         input: "p64 flag 1023\np65 flag 1023\n",
         output: "p64 flag 1023 found 0\nline 2 refused UnknownPass\n",
-        errors: "",
+        errors: "csqsim: line 2: p65 flag 1023 is refused: a pass's number is 1 to 64\n",
         status: 2,
     };
     compare(&rt, &schedule);
@@ -168,14 +168,14 @@ fn a_line_ends_the_handling(rt: HostRuntime) {
             words: &["csqsim", "schedule"],
             input: "p1 end\np1  end\n",
             output: "p1 end found 0\nline 2 malformed\n",
-            errors: "",
+            errors: "csqsim: line 2, column 4: two spaces: words are separated by one\n",
             status: 2,
         },
         Case {
             words: &["csqsim", "script"],
             input: "flag 0\nflag\nflag 0\n",
             output: "0\nline 2 malformed\n",
-            errors: "",
+            errors: "csqsim: line 2, column 5: the line ends before its IRP\n  an IRP is its number, as 0\n",
             status: 2,
         },
     ];
@@ -195,7 +195,7 @@ fn an_input_is_too_long(rt: HostRuntime) -> Result<(), Fail> {
             words: &["csqsim", command],
             input: input.as_str(),
             output: "input too long\n",
-            errors: "",
+            errors: "csqsim: input too long\n",
             status: 2,
         };
         compare(&rt, &case);
@@ -207,20 +207,54 @@ fn an_input_is_too_long(rt: HostRuntime) -> Result<(), Fail> {
 fn refuse_size<'a, R: AllocGlobal + Threads + Wait + Abort + Sync>(
     rt: &'a R,
     words: &'a [&'a str],
+    told: &str,
 ) {
     let process = Process::new(rt, words, "", usize::MAX).with_failing_input();
-    run(process).compare(rt, 2, "", "csqsim: bad size\n", words);
+    run(process).compare(rt, 2, "", told, words);
 }
+
+const HIGH_LIMIT: &str = "\
+csqsim: bad size
+csqsim: --limit 4 is above the number of IRPs, 3 (--irps 4 allows it)
+";
+
+const HIGH_FILE_LIMIT: &str = "\
+csqsim: bad size
+csqsim: --file-limit 9 is above the number of IRPs, 8 (--irps 9 allows it)
+";
+
+const HIGH_LIMITS: &str = "\
+csqsim: bad size
+csqsim: --limit 5 is above the number of IRPs, 3 (--irps 5 allows it)
+csqsim: --file-limit 4 is above the number of IRPs, 3 (--irps 4 allows it)
+";
 
 #[test]
 fn a_limit_above_the_irps_is_refused(rt: HostRuntime) {
-    for words in [
-        ["csqsim", "script", "--irps=3", "--limit=4"].as_slice(),
-        ["csqsim", "script", "--irps=3", "--limit=4", "--chain"].as_slice(),
-        ["csqsim", "script", "--irps=3", "--file-limit=4"].as_slice(),
-        ["csqsim", "script", "--irps=3", "--file-limit=4", "--chain"].as_slice(),
-    ] {
-        refuse_size(&rt, words);
+    let rows: [(&[&str], &str); 5] = [
+        (&["csqsim", "script", "--irps=3", "--limit=4"], HIGH_LIMIT),
+        (
+            &["csqsim", "script", "--irps=3", "--limit=4", "--chain"],
+            HIGH_LIMIT,
+        ),
+        (&["csqsim", "script", "--file-limit=9"], HIGH_FILE_LIMIT),
+        (
+            &["csqsim", "script", "--file-limit=9", "--chain"],
+            HIGH_FILE_LIMIT,
+        ),
+        (
+            &[
+                "csqsim",
+                "script",
+                "--irps=3",
+                "--limit=5",
+                "--file-limit=4",
+            ],
+            HIGH_LIMITS,
+        ),
+    ];
+    for (words, told) in rows {
+        refuse_size(&rt, words, told);
     }
 }
 
@@ -310,7 +344,7 @@ fn help_is_told_on_standard_output(rt: HostRuntime) {
         (["csqsim", "--help"].as_slice(), "Usage: csqsim <COMMAND>"),
         (
             ["csqsim", "--help"].as_slice(),
-            "Replays and draws the steps of a cancel-safe IRP queue, makes its calls, and runs threads over one\n",
+            "Replays, draws and runs the protocol of the WDK's cancel-safe IRP queue\n",
         ),
         (["csqsim", "help"].as_slice(), "Usage: csqsim <COMMAND>"),
         (["csqsim", "--version"].as_slice(), "csqsim 1.0.0\n"),

@@ -8,10 +8,8 @@ use Rattle.csq_draw.proofs.drawing.Drawing.new.Goals as goal
 pub returns : goal.returns
 returns g c =
     let size : Size = record { irps = c.args.irps; passes = c.args.passes; first = 0 } in
-    let P : List Row → Type 0 = λ rows. Shows size rows c.in_ok-new_passes.field-0.items c.in_ok-new_owners.field-0.items [] in
+    let P : List Row → Type 0 = λ rows. Shows size rows c.in_ok-new_owners.field-0.items [] in
     record {
-      same = c.in-Ok.ensures.size;
-      limits = c.requires;
-      agrees = c.in-Ok.ensures.agrees;
-      shows = subst P (sym c.new-2.ensures.items) (shows_none size _ _ c.in_ok-new_passes.ensures c.in_ok-new_owners.ensures);
+      follows = c.in_ok-new.ensures;
+      shows = subst P (sym c.new-2.ensures.items) (shows_none size _ c.in_ok-new_owners.ensures);
     }

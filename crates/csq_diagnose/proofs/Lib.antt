@@ -1,0 +1,7 @@
+mod Fitting
+mod Beginning
+mod Following
+mod OneOf
+mod Printed
+mod Walking
+mod Nearing

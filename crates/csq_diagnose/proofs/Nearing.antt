@@ -1,0 +1,58 @@
+-- The nearest of more and more words.
+use Rattle.std.proofs.Common.{◌≡◌, ℕ, ◌+◌, ◌<◌, ◌≤◌, Bool, true, false, List, [], ◌∷◌, ◌++◌, take, map, get_or, length, refl, ap, sym, ◌∙◌, inl, inr, subst, arith, Option, Some, None}
+use Rattle.std.specs.Prelude.{nat_le, MatchOption, if◌then◌else◌}
+use Rattle.std.specs.Borrow.{Bor}
+use Rattle.std.specs.List.{All}
+use Rattle.std.proofs.lemmas.List.{map-append, take_more}
+use Rattle.std.proofs.lemmas.List.Elements.{All-push}
+use Rattle.csq_diagnose.specs.declared.nearest.Near.{Near}
+use Rattle.csq_diagnose.specs.Expecting.{IsOneOf}
+use Rattle.csq_diagnose.specs.Nearness.{edits, nearer, IsNearest}
+use Rattle.csq_diagnose.proofs.OneOf.{shown}
+
+one_left : (xs ys : List (List ℕ)) (w : List ℕ) → IsOneOf xs w → IsOneOf (xs ++ ys) w
+one_left [] ys w o = absurd o
+one_left (x ∷ xs) ys w (inl e) = inl e
+one_left (x ∷ xs) ys w (inr o) = inr (one_left xs ys w o)
+
+one_last : (xs : List (List ℕ)) (w : List ℕ) → IsOneOf (xs ++ w ∷ []) w
+one_last [] w = inl refl
+one_last (x ∷ xs) w = inr (one_last xs w)
+
+module _ (w : List ℕ) (x : Near) (edits_are : x.edits ≡ edits w x.word.now) where
+  nearest_one : IsNearest (x.word.now ∷ []) w x
+  nearest_one = record { one = inl refl; edits_are = edits_are; least = All-push (λ other. x.edits ≤ edits w other) [] x.word.now (λ k d lt. absurd (omega (arith, lt))) (omega (arith, edits_are)) }
+
+  first_nearer : (xs : List (List ℕ)) (best : Near) → best.edits ≤ x.edits → IsNearest xs w best → IsNearest (xs ++ x.word.now ∷ []) w best
+  first_nearer xs best le is = record {
+    one = one_left xs _ _ is.one;
+    edits_are = is.edits_are;
+    least = All-push (λ other. best.edits ≤ edits w other) xs x.word.now is.least (omega (arith, le, edits_are));
+  }
+
+  last_nearer : (xs : List (List ℕ)) (best : Near) → x.edits < best.edits → IsNearest xs w best → IsNearest (xs ++ x.word.now ∷ []) w x
+  last_nearer xs best lt is = record {
+    one = one_last xs _;
+    edits_are = edits_are;
+    least = All-push (λ other. x.edits ≤ edits w other) xs x.word.now (λ k d in_range. let least = is.least k d in_range in omega (arith, lt, least)) (omega (arith, edits_are));
+  }
+
+  nearest_push : (xs : List (List ℕ)) (best : Option Near) → MatchOption best (xs ≡ []) (IsNearest xs w) → IsNearest (xs ++ x.word.now ∷ []) w (nearer best x)
+  nearest_push xs None e = subst (λ ys. IsNearest (ys ++ x.word.now ∷ []) w x) (sym e) nearest_one
+  nearest_push xs (Some best) is = go (nat_le best.edits x.edits) refl
+    where
+      go : (b : Bool) → nat_le best.edits x.edits ≡ b → IsNearest (xs ++ x.word.now ∷ []) w (if b then best else x)
+      go true e = first_nearer xs best (grind (arith, e)) is
+      go false e = last_nearer xs best (grind (arith, e)) is
+
+  -- one word more was looked at
+  pub nearest_more : (words : List (Bor (List ℕ))) (k : ℕ) (d : Bor (List ℕ)) (best : Option Near) → k < length words → x.word.now ≡ (get_or words k d).now
+      → MatchOption best (k ≡ 0) (IsNearest (shown (take k words)) w) → IsNearest (shown (take (k + 1) words)) w (nearer best x)
+  nearest_more words k d best lt is so_far =
+      let more : shown (take (k + 1) words) ≡ shown (take k words) ++ x.word.now ∷ [] =
+      ap shown (take_more words k d lt) ∙ map-append (λ (one : Bor (List ℕ)). one.now) (take k words) (get_or words k d ∷ []) ∙ ap (λ y. shown (take k words) ++ y ∷ []) (sym is) in
+      subst (λ ys. IsNearest ys w (nearer best x)) (sym more) (nearest_push (shown (take k words)) best (none best so_far))
+    where
+      none : (o : Option Near) → MatchOption o (k ≡ 0) (IsNearest (shown (take k words)) w) → MatchOption o (shown (take k words) ≡ []) (IsNearest (shown (take k words)) w)
+      none None e = ap (λ n. shown (take n words)) e
+      none (Some best) is = is

@@ -1,0 +1,14 @@
+use Rattle.std.proofs.Common.{subst, sym, List}
+use Rattle.std.specs.Prelude.{MatchOption}
+use Rattle.csq_replay.specs.Pieces.{words_of}
+use Rattle.csq_diagnose.specs.declared.expected.Expected.{Expected}
+use Rattle.csq_diagnose.specs.Grammars.{Fit}
+use Rattle.csq_diagnose.specs.Misfits.{IsFirstMisfit}
+use Rattle.csq_diagnose.proofs.Following.{is_found}
+use Rattle.csq_diagnose.proofs.misfit.Misfit.find.Goals as goal
+
+pub returns : goal.returns
+returns c =
+    let line = c.args.line.now in
+    is_found c.args.grammar line c.first_misfit.result
+    (subst (λ (places : List Expected). MatchOption c.first_misfit.result (Fit places (words_of line)) (IsFirstMisfit places line)) c.places.ensures c.first_misfit.ensures)

@@ -1,0 +1,47 @@
+-- What may stand in a place of a line.
+use Rattle.std.specs.Prelude.{◌≡◌, ◌⊎◌, ℕ, List, [], ◌∷◌, codes}
+use Rattle.irp_core.specs.declared.ids.PassId.{PassId}
+use Rattle.irp_core.specs.declared.ids.IrpLife.{IrpLife}
+use Rattle.irp_core.specs.declared.status.NtStatus.{NtStatus}
+use Rattle.csq_replay.specs.Pieces.{IsNumber}
+use Rattle.csq_replay.specs.StepLine.{IsPassWord, IsNameWord}
+use Rattle.csq_replay.specs.CallLine.{IsHexStatus}
+use Rattle.csq_diagnose.specs.declared.expected.Expected.{Expected}
+use Rattle.csq_diagnose.specs.declared.expected.Expected.TheVariants.{Pass, Step, Call, IrpInLife, Irp, File, Peek, Place, Status, Nothing}
+
+-- the words that begin a step, behind its pass
+abbrev pub step_words : List (List ℕ)
+step_words = codes "arm" ∷ codes "test" ∷ codes "disarm" ∷ codes "end" ∷ codes "flag" ∷ codes "take" ∷ codes "out" ∷ codes "done" ∷ codes "renew" ∷ []
+
+-- the words that begin a call
+abbrev pub call_words : List (List ℕ)
+call_words = codes "insert" ∷ codes "next" ∷ codes "remove" ∷ codes "mark" ∷ codes "routine" ∷ codes "cancel" ∷ codes "complete" ∷ codes "close" ∷ codes "cleanup" ∷ codes "flag" ∷ codes "status" ∷ codes "reuse" ∷ []
+
+-- where an insert puts its IRP
+abbrev pub place_words : List (List ℕ)
+place_words = codes "back" ∷ codes "front" ∷ []
+
+-- the words that may stand there, where they can be listed
+abbrev pub expected_words : Expected → List (List ℕ)
+expected_words Step = step_words
+expected_words Call = call_words
+expected_words Place = place_words
+expected_words _ = []
+
+-- the word is one of these
+abbrev pub IsOneOf : List (List ℕ) → List ℕ → Type 0
+IsOneOf [] word = ⊥
+IsOneOf (one ∷ more) word = (word ≡ one) ⊎ IsOneOf more word
+
+-- the word may stand there
+abbrev pub Admits : Expected → List ℕ → Type 0
+Admits Pass word = (p : PassId) × IsPassWord word p
+Admits Step word = IsOneOf step_words word
+Admits Call word = IsOneOf call_words word
+Admits IrpInLife word = (i : IrpLife) × IsNameWord word i
+Admits Irp word = (n : ℕ) × IsNumber word n
+Admits File word = (n : ℕ) × IsNumber word n
+Admits Peek word = (word ≡ codes "*") ⊎ ((n : ℕ) × IsNumber word n)
+Admits Place word = IsOneOf place_words word
+Admits Status word = (status : NtStatus) × IsHexStatus word status.0
+Admits Nothing word = ⊥

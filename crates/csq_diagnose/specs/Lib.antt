@@ -1,0 +1,11 @@
+pub mod Expecting
+pub mod Grammars
+pub mod Misfits
+pub mod Nearness
+pub mod Founds
+pub mod Malforms
+pub mod Texts
+pub mod LineTexts
+pub mod Diagnoses
+pub mod RefusedTexts
+pub mod Schedules

@@ -1,0 +1,42 @@
+-- Which line ends a schedule, and why.
+use Rattle.std.specs.Prelude.{◌≡◌, ℕ, List, [], ◌++◌, length, codes, Option, Some, None}
+use Rattle.irp_core.specs.Runs.{Size}
+use Rattle.csq_replay.specs.declared.lines.answer.Ended.{Ended}
+use Rattle.csq_replay.specs.declared.schedule.outcome.Outcome.{Outcome}
+use Rattle.csq_replay.specs.declared.schedule.outcome.Outcome.TheVariants.{Skipped, Accepted, Stopped}
+use Rattle.csq_replay.specs.declared.schedule.outcome.Stop.{Stop}
+use Rattle.csq_replay.specs.declared.schedule.outcome.Stop.TheVariants.{TooLong, Malformed as IsNone, Refused}
+use Rattle.csq_replay.specs.Lines.{IsAnswer, RepliesTo}
+use Rattle.csq_replay.specs.Outcomes.{ComesTo}
+use Rattle.csq_replay.specs.Schedule.{Numbered, run_of, grown}
+use Rattle.csq_explain.specs.Passes.{all_passes}
+use Rattle.csq_explain.specs.Reasons.{reason_of}
+use Rattle.csq_explain.specs.declared.reasons.Reason.{Reason}
+use Rattle.csq_diagnose.specs.declared.grammar.Grammar.TheVariants.{Schedule}
+use Rattle.csq_diagnose.specs.declared.malformed.Malformed.{Malformed}
+use Rattle.csq_diagnose.specs.Malforms.{IsMalformed}
+use Rattle.csq_diagnose.specs.LineTexts.{long_text, malformed_line_text}
+use Rattle.csq_diagnose.specs.RefusedTexts.{cure_of, refused_text}
+
+-- the nth line ends the handling for this reason, and is told so
+abbrev pub IsToldStop : ℕ → List ℕ → Reason → Stop → List ℕ → Type 0
+IsToldStop n line reason TooLong text = text ≡ long_text n (length line) ++ codes "\n"
+IsToldStop n line reason IsNone text = (fault : Malformed) × IsMalformed Schedule line fault × (text ≡ malformed_line_text n fault ++ codes "\n")
+IsToldStop n line reason (Refused s cause) text = text ≡ refused_text n s reason (cure_of s reason.stop) ++ codes "\n"
+
+-- after the steps W this is told of the nth line, of which this came
+abbrev pub IsToldOutcome : Size → List Numbered → ℕ → List ℕ → Outcome → List ℕ → Type 0
+IsToldOutcome size W n line (Stopped stop) text = IsToldStop n line (reason_of size (all_passes size W) stop) stop text
+IsToldOutcome size W n line _ text = text ≡ []
+
+-- after the steps W the nth line is told so, by what comes of it, which W grows by
+abbrev pub DiagnosesStep : Size → List Numbered → ℕ → List ℕ → List ℕ → Option (List Numbered) → Type 0
+DiagnosesStep size W n line text more = (comes : Outcome) × ComesTo size (run_of W) line comes × IsToldOutcome size W n line comes text × (more ≡ grown W n comes)
+
+-- a schedule is diagnosed so: by the line that ends it, if there is one
+abbrev pub IsScheduleDiagnosis : Size → List ℕ → List ℕ → Ended → Type 0
+IsScheduleDiagnosis size = IsAnswer (DiagnosesStep size) (λ W text. text ≡ []) []
+
+-- of a reader and a writer that tell their bytes: a schedule was read, and its diagnosis was written
+abbrev pub DiagnosesSchedule : Size → Option (List ℕ) → Option (List ℕ) → Option (List ℕ) → Option (List ℕ) → Ended → Type 0
+DiagnosesSchedule size = RepliesTo (IsScheduleDiagnosis size)

@@ -1,0 +1,69 @@
+-- Diagnoses in words.
+use Rattle.std.specs.Prelude.{ℕ, ◌+◌, ◌==◌, nat_le, Bool, false, List, [], ◌∷◌, ◌++◌, codes, decimal, Option, Some, None, if◌then◌else◌}
+use Rattle.csq_diagnose.specs.declared.expected.Expected.{Expected}
+use Rattle.csq_diagnose.specs.declared.expected.Expected.TheVariants.{Pass, Step, Call, IrpInLife, Irp, File, Peek, Place, Status, Nothing}
+use Rattle.csq_diagnose.specs.declared.found.Found.{Found}
+use Rattle.csq_diagnose.specs.declared.found.Found.TheVariants.{End, FirstSpace, TwoSpaces, LastSpace, Byte, Word}
+use Rattle.csq_diagnose.specs.declared.malformed.Malformed.{Malformed}
+use Rattle.csq_diagnose.specs.declared.nearest.Near.{Near}
+
+-- what is expected, as a noun
+abbrev pub noun_text : Expected → List ℕ
+noun_text Pass = codes "pass"
+noun_text Step = codes "step"
+noun_text Call = codes "call"
+noun_text IrpInLife = codes "IRP"
+noun_text Irp = codes "IRP"
+noun_text File = codes "file object"
+noun_text Peek = codes "file object or *"
+noun_text Place = codes "place"
+noun_text Status = codes "status"
+noun_text Nothing = codes "end"
+
+-- which words are expected
+abbrev pub rule_text : Expected → List ℕ
+rule_text Pass = codes "a pass is the letter p and its number, as p1"
+rule_text Step = codes "a step is arm, test, disarm, end, flag, take, out, done or renew"
+rule_text Call = codes "a call is insert, next, remove, mark, routine, cancel, complete, close,\n  cleanup, flag, status or reuse"
+rule_text IrpInLife = codes "an IRP is its number, as 0, or in its life 1 as 0@1"
+rule_text Irp = codes "an IRP is its number, as 0"
+rule_text File = codes "a file object is its number, as 0"
+rule_text Peek = codes "a file object is its number, as 0, and any is *"
+rule_text Place = codes "a place is back or front"
+rule_text Status = codes "a status is eight hexadecimal digits, as C0000120"
+rule_text Nothing = codes "the line may end before it"
+
+-- a byte that no word has
+abbrev pub strange_text : ℕ → List ℕ
+strange_text byte =
+    if byte == 13 then codes "a carriage return: a line ends in a line feed alone, and in files of Windows in both"
+    else if byte == 9 then codes "a tab: words are separated by one space"
+    else if nat_le 128 byte then codes "byte " ++ (decimal byte ++ codes " is above 127: words are of ASCII letters and digits")
+    else codes "byte " ++ (decimal byte ++ codes " is no letter, digit or sign")
+
+-- the word begins a comment
+abbrev pub is_comment : List ℕ → Bool
+is_comment [] = false
+is_comment (byte ∷ more) = byte == 35
+
+-- a word that may not stand in its place
+abbrev pub misplaced_text : List ℕ → Expected → List ℕ
+misplaced_text word Nothing = if is_comment word then codes "a comment stands on a line of its own" else codes "\"" ++ (word ++ codes "\" is one word too many")
+misplaced_text word e = codes "\"" ++ (word ++ (codes "\" is no " ++ noun_text e))
+
+-- a word that somebody may have meant, where at most two edits lead to it
+abbrev pub hint_text : Option Near → List ℕ
+hint_text (Some near) = if nat_le near.edits 2 then codes "; did you mean \"" ++ (near.word.now ++ codes "\"?") else []
+hint_text None = []
+
+-- what is found where a word is expected
+abbrev pub found_text : Expected → Option Near → Found → List ℕ
+found_text e near End = codes "the line ends before its " ++ (noun_text e ++ (codes "\n  " ++ rule_text e))
+found_text e near FirstSpace = codes "a space begins the line"
+found_text e near TwoSpaces = codes "two spaces: words are separated by one"
+found_text e near LastSpace = codes "a space ends the line"
+found_text e near (Byte byte) = strange_text byte
+found_text e near (Word word) = misplaced_text word.now e ++ (hint_text near ++ (codes "\n  " ++ rule_text e))
+
+abbrev pub malformed_text : Malformed → List ℕ
+malformed_text fault = found_text fault.expected fault.near fault.found

@@ -1,0 +1,95 @@
+//! What may stand in each place of a line.
+ghost use Rattle.std.specs.Prelude.{◌≡◌};
+ghost use Rattle.csq_replay.specs.Pieces.{words_of};
+ghost use Rattle.csq_diagnose.specs.Grammars.{call_places, first_word, places_of, second_word, step_places};
+
+use crate::expected::Expected;
+use crate::expected::Expected::{Call, File, Irp, IrpInLife, Pass, Peek, Place, Status, Step};
+use csq_replay::split_piece;
+
+/// What the lines of a text name. Own rule.
+#[derive(Clone, Copy, Debug, PartialEq, Eq)]
+pub enum Grammar {
+    /// Steps: the text is a schedule.
+    Schedule,
+    /// Calls: the text is a script.
+    Script,
+}
+
+const END: [Expected; 2] = [Pass, Step];
+
+const STEP: [Expected; 3] = [Pass, Step, IrpInLife];
+
+const INSERT: [Expected; 4] = [Call, Irp, File, Place];
+
+const NEXT: [Expected; 2] = [Call, Peek];
+
+const OF_LIFE: [Expected; 2] = [Call, IrpInLife];
+
+const COMPLETE: [Expected; 3] = [Call, Irp, Status];
+
+const OF_FILE: [Expected; 2] = [Call, File];
+
+const OF_IRP: [Expected; 2] = [Call, Irp];
+
+/// The first word of a line.
+fn first_word(line: &[u8]) -> &[u8]
+    ensures { result.now ≡ first_word (words_of line.now) }
+{
+    split_piece(line, b' ').0
+}
+
+/// The second word of a line, or none.
+fn second_word(line: &[u8]) -> &[u8]
+    ensures { result.now ≡ second_word (words_of line.now) }
+{
+    match split_piece(line, b' ').1 {
+        Some(rest) => first_word(rest),
+        None => &[],
+    }
+}
+
+/// What may stand in each place of a step with this second word.
+fn step_places(verb: &[u8]) -> &'static [Expected]
+    ensures { result.now ≡ step_places verb.now }
+{
+    if verb == b"end".as_slice() {
+        &END
+    } else {
+        &STEP
+    }
+}
+
+/// What may stand in each place of a call with this first word.
+fn call_places(name: &[u8]) -> &'static [Expected]
+    ensures { result.now ≡ call_places name.now }
+{
+    if name == b"insert".as_slice() {
+        return &INSERT;
+    }
+    if name == b"next".as_slice() {
+        return &NEXT;
+    }
+    if name == b"complete".as_slice() {
+        return &COMPLETE;
+    }
+    if name == b"remove".as_slice() || name == b"mark".as_slice() || name == b"cancel".as_slice() {
+        return &OF_LIFE;
+    }
+    if name == b"close".as_slice() || name == b"cleanup".as_slice() {
+        return &OF_FILE;
+    }
+    &OF_IRP
+}
+
+impl Grammar {
+    /// What may stand in each place of a line, by the word that says what its step or call does.
+    pub(crate) fn places(self, line: &[u8]) -> &'static [Expected]
+        ensures { result.now ≡ places_of self (words_of line.now) }
+    {
+        match self {
+            Grammar::Schedule => step_places(second_word(line)),
+            Grammar::Script => call_places(first_word(line)),
+        }
+    }
+}

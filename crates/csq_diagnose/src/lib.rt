@@ -1,0 +1,24 @@
+//! Diagnoses of schedules and scripts: which line ended the handling, in which column, what stands there and
+//! what may stand there, or why its step is refused.
+#![tactic(auto)]
+
+mod expected;
+mod found;
+mod grammar;
+mod lines;
+mod malformed;
+mod misfit;
+mod nearest;
+mod refused;
+mod schedule;
+mod script;
+mod texts;
+
+pub use expected::Expected;
+pub use found::Found;
+pub use grammar::Grammar;
+pub use malformed::Malformed;
+pub use misfit::Misfit;
+pub use nearest::Near;
+pub use schedule::diagnose_schedule;
+pub use script::diagnose_script;

@@ -1,0 +1,6 @@
+pub mod Tables
+pub mod Following
+pub mod Statuses
+pub mod Outcomes
+pub mod Closings
+pub mod OneText

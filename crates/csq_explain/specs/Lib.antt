@@ -1,0 +1,9 @@
+pub mod Tables
+pub mod Passes
+pub mod Sentences
+pub mod Reasons
+pub mod Endings
+pub mod Executions
+pub mod Explanations
+pub mod Explaining
+pub mod Laws

@@ -1,0 +1,89 @@
+-- Why a line ends a schedule, in a sentence.
+use Rattle.std.specs.Prelude.{ℕ, List, ◌++◌, codes, decimal, slice_index_or}
+use Rattle.irp_core.specs.declared.ids.PassId.{PassId}
+use Rattle.irp_core.specs.declared.inside.Inside.{Inside}
+use Rattle.irp_core.specs.declared.inside.Inside.TheVariants.{Nothing, Armed, FlagSeen, Removing, Cancelling}
+use Rattle.irp_core.specs.declared.refusals.StepRefused.{StepRefused}
+use Rattle.irp_core.specs.declared.refusals.StepRefused.TheVariants.{UnknownIrp, UnknownPass, LockHeld, NotNext, NotHome, NotListed, NotOwed, NotHeld, Stale, NotCompleted, LivesSpent}
+use Rattle.irp_core.specs.Runs.{Size}
+use Rattle.irp_core.specs.Texts.{name_text, pass_text, life_text}
+use Rattle.csq_replay.specs.declared.schedule.outcome.Stop.{Stop}
+use Rattle.csq_replay.specs.declared.schedule.outcome.Stop.TheVariants.{TooLong, Malformed, Refused}
+use Rattle.csq_replay.specs.declared.lines.TheConstants.{MAX_LINE}
+use Rattle.csq_explain.specs.declared.passes.PassNow.{PassNow}
+use Rattle.csq_explain.specs.declared.reasons.Reason.{Reason}
+use Rattle.csq_explain.specs.declared.reasons.Refusal.{Refusal}
+use Rattle.csq_explain.specs.Passes.{new_pass_now}
+
+-- the pass that a line's end is a matter of: who has the lock, or else who would make the step
+abbrev pub pass_asked : Stop → PassId
+pass_asked TooLong = record { 0 = 0 }
+pass_asked Malformed = record { 0 = 0 }
+pass_asked (Refused s (LockHeld q)) = q
+pass_asked (Refused s cause) = s.pass
+
+-- the call that a pass is inside of
+abbrev pub call_name : Inside → List ℕ
+call_name Nothing = codes "no call"
+call_name (Armed i) = codes "an insert"
+call_name (FlagSeen i) = codes "an insert"
+call_name Removing = codes "a removal"
+call_name (Cancelling i) = codes "a cancel"
+
+-- and its next step
+abbrev pub next_step : Inside → List ℕ
+next_step Nothing = codes "the first of a call"
+next_step (Armed i) = codes "test " ++ name_text i
+next_step (FlagSeen i) = codes "disarm " ++ name_text i
+next_step Removing = codes "a disarm or an end"
+next_step (Cancelling i) = codes "take " ++ name_text i
+
+-- the pass is inside of a call since this line
+abbrev pub begun_text : Inside → ℕ → List ℕ
+begun_text x line = codes " has been inside " ++ (call_name x ++ (codes " since line " ++ (decimal line ++ (codes "; its next step is " ++ next_step x))))
+
+-- how far a pass is in its call
+abbrev pub inside_text : Inside → ℕ → List ℕ
+inside_text Nothing line = codes " is inside no call, and none begins with a test or a take"
+inside_text (Armed i) line = begun_text (Armed i) line
+inside_text (FlagSeen i) line = begun_text (FlagSeen i) line
+inside_text Removing line = begun_text Removing line
+inside_text (Cancelling i) line = begun_text (Cancelling i) line
+
+abbrev pub progress_text : PassId → PassNow → List ℕ
+progress_text p now = pass_text p ++ inside_text now.inside now.line
+
+-- why p's step is refused for this cause
+abbrev pub cause_text : ℕ → ℕ → PassNow → PassId → StepRefused → List ℕ
+cause_text irps passes now p UnknownIrp = codes "an IRP's number is below " ++ decimal irps
+cause_text irps passes now p UnknownPass = codes "a pass's number is 1 to " ++ decimal passes
+cause_text irps passes now p (LockHeld q) = pass_text q ++ (codes " has had the lock since line " ++ (decimal now.line ++ (codes ", inside " ++ (call_name now.inside ++ (codes "; its next step is " ++ next_step now.inside)))))
+cause_text irps passes now p NotNext = progress_text p now
+cause_text irps passes now p NotHome = codes "the IRP was armed before in that life"
+cause_text irps passes now p NotListed = codes "the IRP isn't listed in that life"
+cause_text irps passes now p NotOwed = pass_text p ++ codes " doesn't owe the IRP in that life"
+cause_text irps passes now p NotHeld = pass_text p ++ codes " doesn't hold the IRP in that life"
+cause_text irps passes now p (Stale g) = codes "the IRP is in its life " ++ life_text g
+cause_text irps passes now p NotCompleted = codes "the IRP isn't completed in that life"
+cause_text irps passes now p LivesSpent = codes "the IRP is in its last life"
+
+abbrev pub refusal_reason : Refusal → List ℕ
+refusal_reason r = cause_text r.irps r.passes r.now r.pass r.cause
+
+-- why a line ends the handling
+abbrev pub stop_reason : ℕ → ℕ → PassNow → Stop → List ℕ
+stop_reason irps passes now TooLong = codes "a line has at most " ++ (decimal MAX_LINE ++ codes " bytes")
+stop_reason irps passes now Malformed = codes "this is no step, as p1 arm 0: arm, test, disarm, flag, take, out, done or renew, or p1 end"
+stop_reason irps passes now (Refused s cause) = cause_text irps passes now s.pass cause
+
+unfoldable pub reason_text : Reason → List ℕ
+reason_text reason = stop_reason reason.irps reason.passes reason.now reason.stop
+
+-- why a line ends the handling, by what is known of these passes
+abbrev pub reason_of : Size → List PassNow → Stop → Reason
+reason_of size passes stop = record {
+  stop = stop;
+  irps = size.irps;
+  passes = size.passes;
+  now = slice_index_or passes (pass_asked stop).0 new_pass_now;
+}

@@ -1,0 +1,72 @@
+-- What a step did, in the words of the WDK.
+use Rattle.std.specs.Prelude.{ℕ, ◌==◌, Bool, true, false, List, [], ◌++◌, codes, Option, Some, None, if◌then◌else◌}
+use Rattle.irp_core.specs.declared.ids.IrpLife.{IrpLife}
+use Rattle.irp_core.specs.declared.inside.Inside.{Inside}
+use Rattle.irp_core.specs.declared.status.NtStatus.{NtStatus}
+use Rattle.irp_core.specs.declared.step.Kind.{Kind}
+use Rattle.irp_core.specs.declared.step.Kind.TheVariants.{Arm, Test, Disarm, End, Flag, Take, Out, Done, Renew}
+use Rattle.irp_core.specs.declared.step.Made.{Made}
+use Rattle.irp_core.specs.Completion.{removed, status_due}
+use Rattle.irp_core.specs.Inside.{inside, in_insert}
+use Rattle.irp_core.specs.Texts.{name_text, pass_text, status_text}
+use Rattle.csq_explain.specs.declared.sentences.StepInCall.{StepInCall}
+use Rattle.csq_explain.specs.declared.sentences.DisarmTold.{DisarmTold}
+
+-- the status with which a step of this kind completes its IRP, if it does
+abbrev pub status_at : List Made → Kind → Option NtStatus
+status_at E (Done i) = Some (status_due (removed E i))
+status_at E _ = None
+
+-- a step after the steps E, in the call that its pass is inside of
+abbrev pub in_call : List Made → Made → StepInCall
+in_call E m = record { made = m; inside = inside E m.pass; status = status_at E m.kind }
+
+-- a status by its name in the WDK, or as eight digits
+unfoldable pub status_name : NtStatus → List ℕ
+status_name s = if s.0 == 0 then codes "STATUS_SUCCESS" else if s.0 == 3221225760 then codes "STATUS_CANCELLED" else status_text s
+
+-- with which status, where it is known
+abbrev pub with_status : Option NtStatus → List ℕ
+with_status (Some s) = codes " with " ++ status_name s
+with_status None = []
+
+-- what an exchange of the routine did, by an insert that found the flag set, or by a removal
+abbrev pub disarm_deed : Bool → ℕ → IrpLife → List ℕ
+disarm_deed true found i = if found == 0 then codes " found no cancel routine of IRP " ++ (name_text i ++ codes " (IoSetCancelRoutine(Irp, NULL) in IoCsqInsertIrpEx): a cancel has it, and the insert ends")
+    else codes " took the cancel routine of IRP " ++ (name_text i ++ codes " back (IoSetCancelRoutine(Irp, NULL) in IoCsqInsertIrpEx), and holds it now")
+disarm_deed false found i = if found == 0 then codes " found no cancel routine of IRP " ++ (name_text i ++ codes " (IoSetCancelRoutine(Irp, NULL) in IoCsqRemoveNextIrp): a cancel has it, and the removal goes on")
+    else codes " took the cancel routine of IRP " ++ (name_text i ++ codes " (IoSetCancelRoutine(Irp, NULL) in IoCsqRemoveNextIrp), and holds it now")
+
+abbrev pub disarm_text : DisarmTold → List ℕ
+disarm_text t = disarm_deed (in_insert t.inside) t.found t.irp
+
+-- what a read of the flag told an insert
+abbrev pub test_deed : ℕ → IrpLife → List ℕ
+test_deed found i = if found == 0 then codes " found the Cancel flag of IRP " ++ (name_text i ++ codes " clear (if (Irp->Cancel) in IoCsqInsertIrpEx): the insert ends, and the IRP is pending")
+    else codes " found the Cancel flag of IRP " ++ (name_text i ++ codes " set (if (Irp->Cancel) in IoCsqInsertIrpEx)")
+
+-- what a cancel did to the flag
+abbrev pub flag_deed : ℕ → IrpLife → List ℕ
+flag_deed found i = if found == 0 then codes " set the Cancel flag of IRP " ++ (name_text i ++ codes " (Irp->Cancel = TRUE in IoCancelIrp)")
+    else codes " found the Cancel flag of IRP " ++ (name_text i ++ codes " set already (Irp->Cancel = TRUE in IoCancelIrp)")
+
+-- what an exchange of the routine did, by a cancel
+abbrev pub take_deed : ℕ → IrpLife → List ℕ
+take_deed found i = if found == 0 then codes " found no cancel routine of IRP " ++ (name_text i ++ codes " (IoSetCancelRoutine(Irp, NULL) in IoCancelIrp): the cancel ends, and returns FALSE")
+    else codes " took the cancel routine of IRP " ++ (name_text i ++ codes " (IoSetCancelRoutine(Irp, NULL) in IoCancelIrp), and owes it now")
+
+-- what a pass did by a step of this kind that found this value
+abbrev pub deed : Inside → Option NtStatus → Kind → ℕ → List ℕ
+deed x status (Arm i) found = codes " set the cancel routine of IRP " ++ (name_text i ++ codes " (IoSetCancelRoutine(Irp, routine) in IoCsqInsertIrpEx)")
+deed x status (Test i) found = test_deed found i
+deed x status (Disarm i) found = disarm_deed (in_insert x) found i
+deed x status End found = codes " ended its removal without an IRP (IoCsqRemoveNextIrp returns NULL)"
+deed x status (Flag i) found = flag_deed found i
+deed x status (Take i) found = take_deed found i
+deed x status (Out i) found = codes " took IRP " ++ (name_text i ++ codes " out of the list (CsqRemoveIrp in the cancel routine), and holds it now")
+deed x status (Done i) found = codes " completed IRP " ++ (name_text i ++ (with_status status ++ codes " (IoCompleteRequest)"))
+deed x status (Renew i) found = codes " began the life that comes after IRP " ++ (name_text i ++ codes " (IoReuseIrp)")
+
+-- a step, told in a sentence
+abbrev pub sentence : StepInCall → List ℕ
+sentence s = pass_text s.made.pass ++ deed s.inside s.status s.made.kind s.made.found

@@ -1,0 +1,178 @@
+//! An execution, followed line by line.
+ghost use Rattle.std.specs.Prelude.{◌≡◌, ◌<◌, ◌≤◌, ◌+◌, ◌++◌, List, [], length, slice_index_or, slice_set, vec_len, IfOk, OnOk};
+ghost use Rattle.irp_core.specs.declared.step.Made.{Made as MadeOf};
+ghost use Rattle.irp_core.specs.Lives.{present};
+ghost use Rattle.irp_core.specs.MachineState.{Agrees, size_of};
+ghost use Rattle.irp_core.specs.Runs.{Size, OfIrp, IsInLimits};
+ghost use Rattle.irp_core.specs.Steps.{number};
+ghost use Rattle.csq_replay.specs.declared.schedule.closing.IrpLine.{IrpLine as IrpLineOf};
+ghost use Rattle.csq_replay.specs.Schedule.{Numbered, run_of, AreToldOf, IsToldOf, Closes};
+ghost use Rattle.csq_explain.specs.Executions.{Follows, IsFollowing, Explains, IsStatusAfter};
+ghost use Rattle.csq_explain.specs.Passes.{new_pass_now, pass_after};
+ghost use Rattle.csq_explain.specs.Reasons.{reason_of};
+
+use crate::passes::{PassNow, new_passes, pass_after};
+use crate::reasons::{Reason, pass_asked};
+use crate::sentences::StepInCall;
+use csq_replay::{IrpLine, Outcome, Stop, handle_line, irp_line};
+use irp_core::{Inside, IrpId, IrpPlace, Kind, Machine, Made, NtStatus};
+use std::alloc::{AllocError, Allocator};
+
+/// A machine, and what is known of each pass, by its number; pass 0 makes no step.
+#[derive(Drop)]
+pub struct Execution<A: Allocator> {
+    /// What the steps were made on.
+    pub machine: Machine<A>,
+    /// What each pass is inside of.
+    pub passes: Vec<PassNow, A>,
+}
+
+/// What comes of a line of a schedule, and what is known of it.
+#[derive(Clone, Copy, Debug, PartialEq, Eq)]
+pub enum Explained {
+    /// Nothing: it is empty, or a comment.
+    Skipped,
+    /// Its step was made.
+    Accepted(StepInCall),
+    /// It ends the handling, for this reason.
+    Stopped(Reason),
+}
+
+/// What is told in the end.
+#[derive(Drop)]
+pub struct Closing<A: Allocator> {
+    /// Of each IRP that is told of.
+    pub told: Vec<IrpLine, A>,
+    /// Whether all is at rest.
+    pub rest: bool,
+}
+
+/// The status of an IRP after a step of this kind, where that completed it.
+fn status_after<A: Allocator>(machine: &Machine<A>, kind: Kind) -> Option<NtStatus>
+    requires { OfIrp (λ i. number i < (size_of machine.now).irps) kind }
+    ensures { (E : List MadeOf) → Agrees machine.now E
+        → IsStatusAfter (size_of machine.now) E kind result }
+{
+    let Kind::Done(name) = kind else {
+        return None;
+    };
+    match machine.place(name.irp).unwrap() {
+        IrpPlace::Completed(status, _) => Some(status),
+        _ => None,
+    }
+}
+
+impl<A: Allocator + Copy> Execution<A> {
+    /// An execution without a step, of IRPs 0 to `irps` - 1 and passes 1 to `passes`. Own rule.
+    pub fn new(alloc: A, irps: u32, passes: u32) -> Result<Execution<A>, AllocError>
+        requires { IsInLimits (record { irps = irps; passes = passes; first = 0 }) }
+        ensures { IfOk result (λ execution. Follows
+            (record { irps = irps; passes = passes; first = 0 }) execution []) }
+    {
+        let Ok(machine) = Machine::new(alloc, irps, passes) else {
+            return Err(AllocError);
+        };
+        Ok(Execution {
+            machine,
+            passes: new_passes(alloc, passes as usize + 1)?,
+        })
+    }
+
+    /// Makes the step that the line of this number names, if it may come next, and tells what is known of
+    /// what comes of the line. Own rule.
+    pub fn handle(&mut self, number: usize, line: &[u8]) -> Explained
+        requires { IsFollowing self.old }
+        ensures { (size : Size) (W : List Numbered) → Follows size self.old W
+            → Explains size W number line.now result self.new }
+    {
+        match handle_line(&mut self.machine, line) {
+            Outcome::Skipped => Explained::Skipped,
+            Outcome::Accepted(made) => {
+                let inside = self.note_pass(number, made);
+                let status = status_after(&self.machine, made.kind);
+                Explained::Accepted(StepInCall {
+                    made,
+                    inside,
+                    status,
+                })
+            }
+            Outcome::Stopped(stop) => Explained::Stopped(self.reason(stop)),
+        }
+    }
+
+    /// Notes a step that was made, which this line names. Answers what its pass was inside of before it.
+    fn note_pass(&mut self, line: usize, made: Made) -> Inside
+        requires { made.pass.0 < length self.old.passes.items }
+        ensures inside { result
+            ≡ (slice_index_or self.old.passes.items made.pass.0 new_pass_now).inside }
+        ensures passes { self.new.passes.items ≡ slice_set self.old.passes.items made.pass.0
+            (pass_after (slice_index_or self.old.passes.items made.pass.0 new_pass_now)
+            (record { line = line; step = made })) }
+        ensures machine { self.new.machine ≡ self.old.machine }
+    {
+        let at = made.pass.0 as usize;
+        let before = self.passes[at];
+        self.passes[at] = pass_after(before, line, made);
+        before.inside
+    }
+
+    /// Why a line ends the handling.
+    fn reason(&self, stop: Stop) -> Reason
+        ensures { result ≡ reason_of (size_of self.now.machine) self.now.passes.items stop }
+    {
+        let asked = pass_asked(stop).0 as usize;
+        Reason {
+            stop,
+            irps: self.machine.irps(),
+            passes: self.machine.passes(),
+            now: self.passes.get(asked).copied().unwrap_or(PassNow::NEW),
+        }
+    }
+
+    /// What is told in the end: each IRP but those that are home in life 0 with a clear Cancel flag, by rising
+    /// number, and whether all is at rest. Own rule.
+    pub fn close(&self, alloc: A) -> Result<Closing<A>, AllocError>
+        ensures closes { IfOk result (λ closing. (size : Size) (W : List Numbered)
+            → Follows size self.now W → Closes size (run_of W) closing.told.items closing.rest) }
+        ensures few { IfOk result
+            (λ closing. vec_len closing.told ≤ (size_of self.now.machine).irps) }
+    {
+        Ok(Closing {
+            told: told_irps(alloc, &self.machine)?,
+            rest: self.machine.at_rest(),
+        })
+    }
+}
+
+/// What is told of the IRPs in the end.
+fn told_irps<A: Allocator>(alloc: A, machine: &Machine<A>) -> Result<Vec<IrpLine, A>, AllocError>
+    ensures told { IfOk result (λ told. (E : List MadeOf) → Agrees machine.now E
+        → AreToldOf (size_of machine.now).first E
+        (size_of machine.now).irps told.items) }
+    ensures few { IfOk result (λ told. vec_len told ≤ (size_of machine.now).irps) }
+{
+    let mut told = Vec::new(alloc);
+    for number in 0..machine.irps() {
+        push_told(machine, IrpId(number), &mut told)?;
+    }
+    Ok(told)
+}
+
+/// Adds what is told of an IRP, if it is told of.
+fn push_told<A: Allocator>(
+    machine: &Machine<A>,
+    irp: IrpId,
+    told: &mut Vec<IrpLine, A>,
+) -> Result<(), AllocError>
+    requires { irp.0 < (size_of machine.now).irps }
+    ensures told { OnOk result ((more : List IrpLineOf) × (told.new.items ≡ told.old.items ++ more)
+        × ((E : List MadeOf) → Agrees machine.now E
+        → IsToldOf E (present (size_of machine.now).first E irp) more)) }
+    ensures few { OnOk result (vec_len told.new ≤ vec_len told.old + 1) }
+{
+    let Some(line) = irp_line(machine, irp) else {
+        return Ok(());
+    };
+    told.push(line)?;
+    Ok(())
+}

@@ -1,0 +1,241 @@
+//! Schedules and scripts of the command line: read, answered and written.
+ghost use Rattle.std.specs.Prelude.{◌≡◌, ◌≤◌, Ok, Err, IfOk, IfErr, replicate};
+ghost use Rattle.irp_core.specs.Runs.{IsInLimits};
+ghost use Rattle.csq_list.specs.Listing.{IsFresh};
+ghost use Rattle.csq_list.specs.declared.refusals.ListNew.TheVariants.{BadSize};
+ghost use Rattle.csq_program.specs.declared.program.ProgramFault.TheVariants.{Replay};
+
+use crate::program::{ProgramFault, REFUSED};
+use crate::source::Source;
+use csq_diagnose::{diagnose_schedule, diagnose_script};
+use csq_draw::draw_schedule;
+use csq_list::{AnyList, ListKind, ListNew, PendingList};
+use csq_replay::{Ended, SimFault, answer_schedule, answer_script, exit_status};
+use std::alloc::{AllocError, Allocator, Global};
+use std::rt::Files;
+use std::{fmt, str};
+
+/// Replays a schedule.
+pub(crate) fn run_schedule<R: AllocGlobal + Print + Eprint + Input + Files>(
+    rt: &R,
+    source: Source<'_>,
+    irps: u32,
+    passes: u32,
+    claims: bool,
+) -> Result<u8, ProgramFault>
+    requires { IsInLimits (record { irps = irps; passes = passes; first = 0 }) }
+{
+    let input = source.read(rt)?;
+    let mut reader = input.as_slice();
+    let mut text = Vec::new(rt.alloc());
+    let ended = answer_schedule(rt.alloc(), irps, passes, claims, &mut reader, &mut text);
+    let told = diagnosis_of_schedule(rt.alloc(), irps, passes, &input, ended)?;
+    finish(rt, source, ended, &text, &told)
+}
+
+/// Draws a schedule.
+pub(crate) fn run_drawing<R: AllocGlobal + Print + Eprint + Input + Files>(
+    rt: &R,
+    source: Source<'_>,
+    irps: u32,
+    passes: u32,
+) -> Result<u8, ProgramFault>
+    requires { IsInLimits (record { irps = irps; passes = passes; first = 0 }) }
+{
+    let input = source.read(rt)?;
+    let mut reader = input.as_slice();
+    let mut text = Vec::new(rt.alloc());
+    let ended = draw_schedule(rt.alloc(), irps, passes, &mut reader, &mut text);
+    let told = diagnosis_of_schedule(rt.alloc(), irps, passes, &input, ended)?;
+    finish(rt, source, ended, &text, &told)
+}
+
+/// Why a schedule ended, if a line ended it.
+fn diagnosis_of_schedule(
+    alloc: Global,
+    irps: u32,
+    passes: u32,
+    input: &[u8],
+    ended: Result<Ended, SimFault>,
+) -> Result<Vec<u8>, AllocError>
+    requires { IsInLimits (record { irps = irps; passes = passes; first = 0 }) }
+{
+    let mut told = Vec::new(alloc);
+    if let Ok(Ended::Stopped) = ended {
+        let mut reader = input;
+        match diagnose_schedule(alloc, irps, passes, &mut reader, &mut told) {
+            Ok(_) => {}
+            Err(_) => return Err(AllocError),
+        }
+    }
+    Ok(told)
+}
+
+/// Why a script ended, if a line ended it.
+fn diagnosis_of_script(
+    alloc: Global,
+    input: &[u8],
+    ended: Result<Ended, SimFault>,
+) -> Result<Vec<u8>, AllocError> {
+    let mut told = Vec::new(alloc);
+    if let Ok(Ended::Stopped) = ended {
+        let mut reader = input;
+        match diagnose_script(alloc, &mut reader, &mut told) {
+            Ok(_) => {}
+            Err(_) => return Err(AllocError),
+        }
+    }
+    Ok(told)
+}
+
+/// Writes an answer, and on standard error why a line ended the handling, and gives the exit status. Both were
+/// kept in memory, so that nothing is written where memory is refused; where the answer could not be kept, only
+/// memory was. Where standard error can't be written, the status is the same.
+fn finish<R: Print + Eprint>(
+    rt: &R,
+    source: Source<'_>,
+    ended: Result<Ended, SimFault>,
+    text: &[u8],
+    told: &[u8],
+) -> Result<u8, ProgramFault>
+    ensures memory { IfErr ended (λ _. result ≡ Err (Replay SimFault.Memory)) }
+{
+    let Ok(ended) = ended else {
+        return Err(ProgramFault::Replay(SimFault::Memory));
+    };
+    if rt.write_all(text).is_err() {
+        return Err(ProgramFault::Replay(SimFault::Write));
+    }
+    if let (Ended::Stopped, Ok(told)) = (ended, str::from_utf8(told)) {
+        let _ = eprint!(rt; "csqsim: {source}{told}");
+    }
+    Ok(exit_status(ended))
+}
+
+/// The sizes of a script's list.
+#[derive(Clone, Copy, Debug, PartialEq, Eq)]
+pub(crate) struct Limits {
+    /// The IRPs.
+    pub(crate) irps: u32,
+    /// The file objects.
+    pub(crate) files: u32,
+    /// How many IRPs may be listed at a time.
+    pub(crate) limit: u32,
+    /// How many of one file object.
+    pub(crate) file_limit: u32,
+}
+
+/// The limit of each file object.
+fn file_limits_of<A: Allocator>(
+    alloc: A,
+    files: u32,
+    file_limit: u32,
+) -> Result<Vec<u32, A>, AllocError>
+    ensures { IfOk result (λ limits. limits.items ≡ replicate files file_limit) }
+{
+    vec![in alloc; file_limit; files as usize]
+}
+
+/// Runs a script over a list of this kind and these sizes.
+pub(crate) fn run_limited_script<R: AllocGlobal + Print + Eprint + Input + Files>(
+    rt: &R,
+    source: Source<'_>,
+    kind: ListKind,
+    limits: Limits,
+) -> Result<u8, ProgramFault>
+    requires { (1 ≤ limits.irps) × (limits.irps ≤ 1024) }
+{
+    let Limits {
+        irps,
+        files,
+        limit,
+        file_limit,
+    } = limits;
+    let file_limits = file_limits_of(rt.alloc(), files, file_limit)?;
+    let list = AnyList::with_file_limits(rt.alloc(), kind, irps, files, limit, &file_limits);
+    run_script(rt, source, limits, list)
+}
+
+/// Runs a script over a fresh list, if there is one. Its size is refused before anything is read.
+fn run_script<L: PendingList + Drop, R: AllocGlobal + Print + Eprint + Input + Files>(
+    rt: &R,
+    source: Source<'_>,
+    limits: Limits,
+    list: Result<L, ListNew>,
+) -> Result<u8, ProgramFault>
+    requires fresh { IfOk list (λ l. IsFresh (L.listing l)) }
+    requires irps { IfOk list (λ l. (1 ≤ (L.listing l).irps) × ((L.listing l).irps ≤ 1024)) }
+    ensures memory { IfErr list
+        (λ refused. refused ≡ ListNew.Memory → result ≡ Err (Replay SimFault.Memory)) }
+    ensures bad_size { IfErr list (λ refused. refused ≡ BadSize → result ≡ Ok 2) }
+{
+    match list {
+        Ok(list) => run_list(rt, source, list),
+        Err(ListNew::Memory) => Err(ProgramFault::from(AllocError)),
+        Err(ListNew::BadSize) => {
+            tell_bad_size(rt, limits);
+            Ok(REFUSED)
+        }
+    }
+}
+
+/// Runs a script over a fresh list.
+fn run_list<L: PendingList + Drop, R: AllocGlobal + Print + Eprint + Input + Files>(
+    rt: &R,
+    source: Source<'_>,
+    list: L,
+) -> Result<u8, ProgramFault>
+    requires fresh { IsFresh (L.listing list) }
+    requires irps { (1 ≤ (L.listing list).irps) × ((L.listing list).irps ≤ 1024) }
+{
+    let input = source.read(rt)?;
+    let mut reader = input.as_slice();
+    let mut text = Vec::new(rt.alloc());
+    let ended = answer_script(rt.alloc(), list, &mut reader, &mut text);
+    let told = diagnosis_of_script(rt.alloc(), &input, ended)?;
+    finish(rt, source, ended, &text, &told)
+}
+
+/// A limit that is above the number of IRPs.
+#[derive(Clone, Copy, Debug)]
+struct HighLimit<'a> {
+    option: &'a str,
+    limit: u32,
+    irps: u32,
+}
+
+/// As `--limit 9 is above the number of IRPs, 8 (--irps 9 allows it)`.
+impl fmt::Display for HighLimit<'_> {
+    fn fmt<W: fmt::Write>(&self, f: &mut fmt::Formatter<W>) -> fmt::Result {
+        let HighLimit {
+            option,
+            limit,
+            irps,
+        } = self;
+        write!(
+            f,
+            "{option} {limit} is above the number of IRPs, {irps} (--irps {limit} allows it)"
+        )
+    }
+}
+
+/// Says on standard error that the size is refused, and which limits are above the number of IRPs.
+fn tell_bad_size<R: Eprint>(rt: &R, limits: Limits) {
+    let Limits {
+        irps,
+        limit,
+        file_limit,
+        ..
+    } = limits;
+    let _ = eprintln!(rt; "csqsim: bad size");
+    for (option, limit) in [("--limit", limit), ("--file-limit", file_limit)] {
+        if irps < limit {
+            let high = HighLimit {
+                option,
+                limit,
+                irps,
+            };
+            let _ = eprintln!(rt; "csqsim: {high}");
+        }
+    }
+}
