@@ -32,7 +32,7 @@ impl Read for Opened<'_> {
 
 impl Write for Opened<'_> {
     fn write(&mut self, _buf: &[u8]) -> io::Result<usize> {
-        refuse()
+        Err(Error::from(ErrorKind::Unsupported))
     }
 
     fn flush(&mut self) -> io::Result<()> {
