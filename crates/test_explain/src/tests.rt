@@ -144,7 +144,12 @@ fn a_schedule_is_explained(rt: HostRuntime) -> Result<(), Fail> {
         let mut text = Vec::new(rt.alloc());
         let ended = explain_schedule(rt.alloc(), 8, 4, row.claims, &mut input, &mut text).ok();
         assert_eq!(rt; ended, Some(row.ended), "at {}", row.input);
-        assert_eq!(rt; str::from_utf8(text.as_slice()).ok(), Some(row.text), "at {}", row.input);
+        assert_eq!(rt;
+            str::from_utf8(text.as_slice()).ok(),
+            Some(row.text),
+            "at {}",
+            row.input
+        );
     }
     Ok(())
 }
