@@ -8,7 +8,7 @@ use Rattle.csq_draw.specs.Layout.{left, top}
 
 -- a picture's width, at least that of its longest line of text
 abbrev pub width : Extent → ℕ
-width e = max (left e.columns) 720
+width e = max (left e.columns) 780
 
 -- a picture's height
 abbrev pub height : Extent → ℕ
@@ -20,7 +20,7 @@ area_text w h = codes "width='" ++ (decimal w ++ (codes "' height='" ++ (decimal
 -- the beginning of a picture: its size
 abbrev pub opening_text : Extent → List ℕ
 opening_text e = codes "<svg xmlns='http://www.w3.org/2000/svg' " ++ (area_text (width e) (height e) ++ (codes " viewBox='0 0 " ++ (decimal (width e) ++ (codes " " ++ (decimal (height e)
-    ++ codes "' font-family='ui-monospace,monospace' font-size='12'>")))))
+    ++ codes "' font-family='system-ui,-apple-system,Segoe UI,DejaVu Sans,sans-serif' font-size='12'>")))))
 
 -- the title of a picture
 abbrev pub title_text : Extent → List ℕ
@@ -36,8 +36,8 @@ sheet_text e = codes "<rect class='sheet' " ++ (area_text (width e) (height e) +
 
 -- what the parts of a picture mean
 abbrev pub key_text : List ℕ
-key_text = codes "<text class='key' x='72' y='24'>shaded: has the lock; bold: claims the IRP; dashed line: owes it; solid line: holds it</text>"
+key_text = codes "<text class='s' x='56' y='24'>shade: has the lock; bold: the exchange found the routine, and so claims the IRP; dashed line: owes it; solid line: holds it</text><text class='n s' x='46' y='54'>line</text>"
 
 -- the name of a pass over its column, and a line down this column
 abbrev pub column_text : Column → List ℕ
-column_text c = codes "<path class='g' d='M" ++ (decimal (left c.column + 76) ++ (codes " 64V" ++ (decimal (top c.rows) ++ (codes "'/><text class='p' x='" ++ (decimal (left c.column + 76) ++ (codes "' y='54'>" ++ (pass_text c.pass ++ codes "</text>")))))))
+column_text c = codes "<path class='g' d='M" ++ (decimal (left c.column + 114) ++ (codes " 64V" ++ (decimal (top c.rows) ++ (codes "'/><text class='p' x='" ++ (decimal (left c.column + 114) ++ (codes "' y='54'>" ++ (pass_text c.pass ++ codes "</text>")))))))

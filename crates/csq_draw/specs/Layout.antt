@@ -3,8 +3,8 @@ use Rattle.std.specs.Prelude.{ℕ, ◌+◌, ◌*◌}
 
 -- the left edge of a column
 abbrev pub left : ℕ → ℕ
-left column = 72 + 208 * column
+left column = 56 + 284 * column
 
 -- the upper edge of a row
 abbrev pub top : ℕ → ℕ
-top row = 64 + 32 * row
+top row = 68 + 46 * row

@@ -1,23 +1,25 @@
--- What is drawn on the row of a step: the number of its line, who has the lock, and the step itself.
-use Rattle.std.specs.Prelude.{ℕ, ◌+◌, ◌%◌, ◌==◌, List, ◌++◌, codes, decimal, if◌then◌else◌}
+-- What is drawn on the row of a step: the number of its line, and the step itself; and who has the lock.
+use Rattle.std.specs.Prelude.{ℕ, ◌+◌, ◌%◌, ◌==◌, List, [], ◌++◌, codes, decimal, Option, Some, None, if◌then◌else◌}
 use Rattle.irp_core.specs.declared.step.Kind.{Kind}
 use Rattle.irp_core.specs.declared.step.Kind.TheVariants.{Arm, Test, Disarm, End, Flag, Take, Out, Done, Renew}
+use Rattle.irp_core.specs.declared.status.NtStatus.{NtStatus}
 use Rattle.irp_core.specs.Steps.{number}
 use Rattle.irp_core.specs.declared.ids.IrpLife.{IrpLife}
 use Rattle.irp_core.specs.Texts.{kind_text}
+use Rattle.csq_explain.specs.declared.sentences.StepInCall.{StepInCall}
+use Rattle.csq_explain.specs.Sentences.{sentence, status_name}
 use Rattle.csq_draw.specs.declared.marks.Number.{Number}
 use Rattle.csq_draw.specs.declared.marks.Shade.{Shade}
 use Rattle.csq_draw.specs.declared.marks.Mark.{Mark}
 use Rattle.csq_draw.specs.Layout.{left, top}
-use Rattle.csq_explain.specs.Sentences.{sentence}
 
 -- the number of a line, at the left of its row
 abbrev pub number_text : Number → List ℕ
-number_text n = codes "<text class='n' x='56' y='" ++ (decimal (top n.row + 21) ++ (codes "'>" ++ (decimal n.line ++ codes "</text>")))
+number_text n = codes "<text class='n' x='46' y='" ++ (decimal (top n.row + 27) ++ (codes "'>" ++ (decimal n.line ++ codes "</text>")))
 
--- the shade behind a row, in the column of the pass that has the lock
+-- the shade behind a row, in the column of the pass that has the lock: one pixel higher than the row, so that there is no gap to the next one
 abbrev pub shade_text : Shade → List ℕ
-shade_text s = codes "<rect class='l' x='" ++ (decimal (left s.column) ++ (codes "' y='" ++ (decimal (top s.row) ++ codes "' width='192' height='32'/>")))
+shade_text s = codes "<rect class='l' x='" ++ (decimal (left s.column) ++ (codes "' y='" ++ (decimal (top s.row) ++ codes "' width='228' height='47'/>")))
 
 -- one of eight colours for each IRP
 abbrev pub colour_text : IrpLife → List ℕ
@@ -39,18 +41,50 @@ look_text (Out i) found = colour_text i
 look_text (Done i) found = colour_text i
 look_text (Renew i) found = colour_text i
 
--- the box of a step, what it does, and the value that it found
+-- the call of the WDK that a step of this kind is
+abbrev pub wdk_text : Kind → List ℕ
+wdk_text (Arm i) = codes "IoSetCancelRoutine(Irp, routine)"
+wdk_text (Test i) = codes "if (Irp->Cancel)"
+wdk_text (Disarm i) = codes "IoSetCancelRoutine(Irp, NULL)"
+wdk_text End = codes "return NULL"
+wdk_text (Flag i) = codes "Irp->Cancel = TRUE"
+wdk_text (Take i) = codes "IoSetCancelRoutine(Irp, NULL)"
+wdk_text (Out i) = codes "CsqRemoveIrp"
+wdk_text (Done i) = codes "IoCompleteRequest"
+wdk_text (Renew i) = codes "IoReuseIrp"
+
+-- the status with which an IRP was completed, where it is known
+abbrev pub status_words : Option NtStatus → List ℕ
+status_words (Some s) = status_name s
+status_words None = []
+
+-- what a step of this kind found, in words
+abbrev pub found_words : Kind → ℕ → Option NtStatus → List ℕ
+found_words (Arm i) found status = if found == 0 then codes "was none" else codes "was set"
+found_words (Test i) found status = if found == 0 then codes "is clear" else codes "is set"
+found_words (Disarm i) found status = if found == 0 then codes "found none" else codes "found it"
+found_words End found status = []
+found_words (Flag i) found status = if found == 0 then codes "was clear" else codes "was set"
+found_words (Take i) found status = if found == 0 then codes "found none" else codes "found it"
+found_words (Out i) found status = []
+found_words (Done i) found status = status_words status
+found_words (Renew i) found status = codes "next life"
+
+-- the box of a step, what it does, what it found, and its call of the WDK, at the upper left corner of its row
 abbrev pub frame_text : ℕ → ℕ → List ℕ
-frame_text x y = codes "<rect x='" ++ (decimal x ++ (codes "' y='" ++ (decimal y ++ codes "' width='136' height='24' rx='5'/>")))
+frame_text x y = codes "<rect x='" ++ (decimal (x + 8) ++ (codes "' y='" ++ (decimal (y + 4) ++ codes "' width='212' height='38' rx='6'/>")))
 
 abbrev pub label_text : ℕ → ℕ → Kind → List ℕ
-label_text x y k = codes "<text x='" ++ (decimal x ++ (codes "' y='" ++ (decimal y ++ (codes "'>" ++ (kind_text k ++ codes "</text>")))))
+label_text x y k = codes "<text class='w' x='" ++ (decimal (x + 17) ++ (codes "' y='" ++ (decimal (y + 20) ++ (codes "'>" ++ (kind_text k ++ codes "</text>")))))
 
-abbrev pub found_text : ℕ → ℕ → ℕ → List ℕ
-found_text x y value = codes "<text class='v' x='" ++ (decimal x ++ (codes "' y='" ++ (decimal y ++ (codes "'>" ++ (decimal value ++ codes "</text>")))))
+abbrev pub found_text : ℕ → ℕ → StepInCall → List ℕ
+found_text x y s = codes "<text class='w v' x='" ++ (decimal (x + 211) ++ (codes "' y='" ++ (decimal (y + 20) ++ (codes "'>" ++ (found_words s.made.kind s.made.found s.status ++ codes "</text>")))))
+
+abbrev pub api_text : ℕ → ℕ → Kind → List ℕ
+api_text x y k = codes "<text class='m' x='" ++ (decimal (x + 17) ++ (codes "' y='" ++ (decimal (y + 35) ++ (codes "'>" ++ (wdk_text k ++ codes "</text>")))))
 
 -- a step in the column of its pass, told in a sentence too
 abbrev pub mark_text : Mark → List ℕ
 mark_text m = codes "<g class='" ++ (look_text m.step.made.kind m.step.made.found ++ (codes "'><title>" ++ (sentence m.step ++ (codes "</title>"
-    ++ (frame_text (left m.column + 8) (top m.row + 4) ++ (label_text (left m.column + 16) (top m.row + 21) m.step.made.kind
-    ++ (found_text (left m.column + 136) (top m.row + 21) m.step.made.found ++ codes "</g>")))))))
+    ++ (frame_text (left m.column) (top m.row) ++ (label_text (left m.column) (top m.row) m.step.made.kind ++ (found_text (left m.column) (top m.row) m.step
+    ++ (api_text (left m.column) (top m.row) m.step.made.kind ++ codes "</g>"))))))))

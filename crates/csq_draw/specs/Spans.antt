@@ -12,22 +12,19 @@ abbrev pub having_text : Having → List ℕ
 having_text Owes = codes "owes"
 having_text Holds = codes "holds"
 
--- a line begins at the right edge of the mark by which its owner came to have the IRP, and runs down a lane of the IRP's colour
-abbrev pub edge : ℕ → ℕ
-edge column = left column + 144
-
+-- a line runs down a lane of the IRP's colour, from the row of the step by which its owner came to have the IRP
 abbrev pub lane : ℕ → Owner → ℕ
-lane column owner = left column + 150 + 5 * (owner.irp.0 % 8)
+lane column owner = left column + 236 + 5 * (owner.irp.0 % 8)
 
 abbrev pub span_start : ℕ → Owner → List ℕ
-span_start column owner = codes "<path class='k" ++ (decimal (owner.irp.0 % 8) ++ (codes " " ++ (having_text owner.having ++ (codes "' d='M" ++ (decimal (edge column) ++ (codes " " ++ (decimal (top owner.row + 16) ++ (codes "H" ++ (decimal (lane column owner) ++ codes "V")))))))))
+span_start column owner = codes "<path class='k" ++ (decimal (owner.irp.0 % 8) ++ (codes " " ++ (having_text owner.having ++ (codes "' d='M" ++ (decimal (lane column owner) ++ (codes " " ++ (decimal (top owner.row + 23) ++ codes "V")))))))
 
 abbrev pub span_title : Owner → List ℕ
 span_title owner = codes "<title>" ++ (pass_text owner.pass ++ (codes " " ++ (having_text owner.having ++ (codes " IRP " ++ irp_text owner.irp))))
 
 -- until the row of the step that ends it
 abbrev pub span_text : Span → List ℕ
-span_text s = (span_start s.column s.owner ++ (decimal (top s.to + 16) ++ (codes "H" ++ (decimal (edge s.column) ++ codes "'>"))))
+span_text s = (span_start s.column s.owner ++ (decimal (top s.to + 23) ++ codes "'>"))
     ++ (span_title s.owner ++ codes "</title></path>")
 
 -- until the end

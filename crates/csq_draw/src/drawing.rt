@@ -117,7 +117,15 @@ impl<A: Allocator + Copy> Answerer<A> for Drawing<A> {
         let count = self.count_rows()?;
         let closing = self.execution.close(self.alloc)?;
         let (passes, rows, owners) = (&self.execution.passes, &self.rows, &self.owners);
-        draw_closed(passes, rows, owners, count, &closing.told, closing.rest, text)?;
+        draw_closed(
+            passes,
+            rows,
+            owners,
+            count,
+            &closing.told,
+            closing.rest,
+            text,
+        )?;
         Ok(())
     }
 }

@@ -1,6 +1,6 @@
 //! What stands below the rows of a picture.
 use crate::layout::top;
-use csq_explain::Reason;
+use csq_explain::{IrpSentence, Reason, RestSentence};
 use csq_replay::{IrpLine, Stop};
 use std::fmt;
 
@@ -17,10 +17,10 @@ impl fmt::Display for Bar {
     ghost output = { λ bar. Some (bar_text bar) };
 
     fn fmt<W: fmt::Write>(&self, f: &mut fmt::Formatter<W>) -> fmt::Result {
-        let y = top(self.rows) + 2;
+        let y = top(self.rows) + 4;
         write!(
             f,
-            "<rect class='bad' x='72' y='{y}' width='624' height='28' rx='5'/>"
+            "<rect class='bad' x='64' y='{y}' width='660' height='38' rx='6'/>"
         )
     }
 }
@@ -59,8 +59,8 @@ impl fmt::Display for Refused {
     ghost output = { λ refused. Some (refused_text refused) };
 
     fn fmt<W: fmt::Write>(&self, f: &mut fmt::Formatter<W>) -> fmt::Result {
-        let (y, refusal) = (top(self.rows) + 21, Refusal(self.stop));
-        write!(f, "<text x='88' y='{y}'>{refusal}</text>")
+        let (y, refusal) = (top(self.rows) + 27, Refusal(self.stop));
+        write!(f, "<text x='73' y='{y}'>{refusal}</text>")
     }
 }
 
@@ -78,8 +78,8 @@ impl fmt::Display for Because {
     ghost output = { λ because. Some (because_text because) };
 
     fn fmt<W: fmt::Write>(&self, f: &mut fmt::Formatter<W>) -> fmt::Result {
-        let (y, reason) = (top(self.rows) + 50, self.reason);
-        write!(f, "<text x='88' y='{y}'>{reason}</text>")
+        let (y, reason) = (top(self.rows) + 62, self.reason);
+        write!(f, "<text x='73' y='{y}'>{reason}</text>")
     }
 }
 
@@ -99,8 +99,8 @@ impl fmt::Display for Closing {
 
     fn fmt<W: fmt::Write>(&self, f: &mut fmt::Formatter<W>) -> fmt::Result {
         let y = top(self.rows) + 28 + 20 * u64::from(self.nth);
-        let line = self.line;
-        write!(f, "<text x='72' y='{y}'>{line}</text>")
+        let sentence = IrpSentence(self.line);
+        write!(f, "<text x='56' y='{y}'>{sentence}</text>")
     }
 }
 
@@ -120,10 +120,7 @@ impl fmt::Display for Rest {
 
     fn fmt<W: fmt::Write>(&self, f: &mut fmt::Formatter<W>) -> fmt::Result {
         let y = top(self.rows) + 28 + 20 * u64::from(self.nth);
-        if self.rest {
-            write!(f, "<text x='72' y='{y}'>rest yes</text>")
-        } else {
-            write!(f, "<text x='72' y='{y}'>rest no</text>")
-        }
+        let sentence = RestSentence(self.rest);
+        write!(f, "<text x='56' y='{y}'>{sentence}</text>")
     }
 }

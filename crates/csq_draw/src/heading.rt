@@ -3,29 +3,32 @@ use crate::layout::{left, top};
 use irp_core::PassId;
 use std::fmt;
 
-/// What a picture is, for who can't see it, and the look of all that is drawn, on a light page and on a dark one.
+/// What a picture is, for who can't see it, and the look of all that is drawn, on a light page, on a dark one
+/// and in print.
 pub const PICTURE_HEAD: &str = "\
 <desc>Each column is a pass, and time runs downwards. A row is one atomic step: its line in the schedule, \
-and in the column of its pass what it did, to which IRP, and the value that it found.</desc>
+and in the column of its pass what it did, to which IRP, what it found, and the call of the WDK that it is.</desc>
 <style>
-.sheet{fill:#ffffff}
-.k0{fill:#ddf4ff;stroke:#0969da}.k1{fill:#fff1e5;stroke:#bc4c00}
-.k2{fill:#dafbe1;stroke:#1a7f37}.k3{fill:#fbefff;stroke:#8250df}
-.k4{fill:#fff8c5;stroke:#9a6700}.k5{fill:#ffeff7;stroke:#bf3989}
-.k6{fill:#e6fffa;stroke:#0f766e}.k7{fill:#eef0f2;stroke:#57606a}
-.e{fill:#ffffff;stroke:#57606a}.bad{fill:#ffebe9;stroke:#cf222e}
-.l{fill:#e7eaee}.g{stroke:#d1d9e0}.owes,.holds{fill:none;stroke-width:2}
-.owes{stroke-dasharray:4 3}.c rect{stroke-width:3}.c text{font-weight:bold}
-text{fill:#1f2328;stroke:none}.n,.key{fill:#59636e}
-.n,.v{text-anchor:end}.p{font-weight:bold;text-anchor:middle}
-@media (prefers-color-scheme:dark){.sheet{fill:#0d1117}
-.k0{fill:#0c2d6b;stroke:#58a6ff}.k1{fill:#5a1e02;stroke:#f0883e}
-.k2{fill:#033a16;stroke:#3fb950}.k3{fill:#3c1e70;stroke:#bc8cff}
-.k4{fill:#4b2900;stroke:#d29922}.k5{fill:#5e103e;stroke:#f778ba}
-.k6{fill:#063b38;stroke:#2dd4bf}.k7{fill:#30363d;stroke:#8b949e}
-.e{fill:#0d1117;stroke:#8b949e}.bad{fill:#67060c;stroke:#f85149}
-.l{fill:#21262d}.g{stroke:#30363d}.owes,.holds{fill:none}
-text{fill:#e6edf3}.n,.key{fill:#9198a1}}
+.sheet{fill:#ffffff}.l{fill:#eaeef2}
+.k0{color:#0969da;fill:#ddf4ff}.k1{color:#bc4c00;fill:#fff1e5}
+.k2{color:#1a7f37;fill:#dafbe1}.k3{color:#8250df;fill:#fbefff}
+.k4{color:#9a6700;fill:#fff8c5}.k5{color:#bf3989;fill:#ffeff7}
+.k6{color:#0f766e;fill:#e6fffa}.k7{color:#57606a;fill:#ffffff}
+.e{color:#57606a;fill:#ffffff}.bad{color:#cf222e;fill:#ffebe9}
+.k0,.k1,.k2,.k3,.k4,.k5,.k6,.k7,.e,.bad{stroke:currentColor}
+.c rect{stroke-width:3}.c .w{font-weight:bold}
+.owes,.holds{fill:none;stroke-width:3}.owes{stroke-dasharray:4 3}.g{stroke:#d1d9e0}
+text{fill:#1f2328;stroke:none}.s,.m{font-size:10.5px}.s,.m,.n{fill:#59636e}
+.m{font-family:ui-monospace,SFMono-Regular,Consolas,'DejaVu Sans Mono',monospace;font-size:10px}
+.p{font-weight:bold;text-anchor:middle}.n,.v{text-anchor:end}
+@media screen and (prefers-color-scheme:dark){.sheet{fill:#0d1117}.l{fill:#21262d}
+.k0{color:#58a6ff;fill:#0c2d6b}.k1{color:#f0883e;fill:#5a1e02}
+.k2{color:#3fb950;fill:#033a16}.k3{color:#bc8cff;fill:#3c1e70}
+.k4{color:#d29922;fill:#4b2900}.k5{color:#f778ba;fill:#5e103e}
+.k6{color:#2dd4bf;fill:#063b38}.k7{color:#8b949e;fill:#0d1117}
+.e{color:#8b949e;fill:#0d1117}.bad{color:#f85149;fill:#67060c}
+.owes,.holds{fill:none}.g{stroke:#30363d}
+text{fill:#e6edf3}.s,.m,.n{fill:#b1bac4}}
 </style>";
 
 /// What all pictures share: a description, and the look of what is drawn.
@@ -57,7 +60,7 @@ impl fmt::Display for Key {
     fn fmt<W: fmt::Write>(&self, f: &mut fmt::Formatter<W>) -> fmt::Result {
         write!(
             f,
-            "<text class='key' x='72' y='24'>shaded: has the lock; bold: claims the IRP; dashed line: owes it; solid line: holds it</text>"
+            "<text class='s' x='56' y='24'>shade: has the lock; bold: the exchange found the routine, and so claims the IRP; dashed line: owes it; solid line: holds it</text><text class='n s' x='46' y='54'>line</text>"
         )
     }
 }
@@ -78,7 +81,7 @@ impl Extent {
     fn width(&self) -> u64
         ensures { result ≡ width self.now }
     {
-        left(self.columns).max(720)
+        left(self.columns).max(780)
     }
 
     /// The picture's height.
@@ -123,7 +126,7 @@ impl fmt::Display for Opening {
         let area = Area { width, height };
         write!(
             f,
-            "<svg xmlns='http://www.w3.org/2000/svg' {area} viewBox='0 0 {width} {height}' font-family='ui-monospace,monospace' font-size='12'>"
+            "<svg xmlns='http://www.w3.org/2000/svg' {area} viewBox='0 0 {width} {height}' font-family='system-ui,-apple-system,Segoe UI,DejaVu Sans,sans-serif' font-size='12'>"
         )
     }
 }
@@ -176,7 +179,7 @@ impl fmt::Display for Column {
     ghost output = { λ column. Some (column_text column) };
 
     fn fmt<W: fmt::Write>(&self, f: &mut fmt::Formatter<W>) -> fmt::Result {
-        let (x, bottom, pass) = (left(self.column) + 76, top(self.rows), self.pass);
+        let (x, bottom, pass) = (left(self.column) + 114, top(self.rows), self.pass);
         write!(
             f,
             "<path class='g' d='M{x} 64V{bottom}'/><text class='p' x='{x}' y='54'>{pass}</text>"

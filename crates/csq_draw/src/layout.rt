@@ -6,12 +6,12 @@ ghost use Rattle.csq_draw.specs.Layout.{left, top};
 pub(crate) fn left(column: u32) -> u64
     ensures { result ≡ left column }
 {
-    72 + 208 * u64::from(column)
+    56 + 284 * u64::from(column)
 }
 
 /// The upper edge of a row.
 pub(crate) fn top(row: u32) -> u64
     ensures { result ≡ top row }
 {
-    64 + 32 * u64::from(row)
+    68 + 46 * u64::from(row)
 }

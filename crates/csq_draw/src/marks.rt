@@ -1,7 +1,7 @@
-//! What is drawn on the row of a step: the number of its line, who has the lock, and the step itself.
+//! What is drawn on the row of a step: the number of its line, and the step itself; and who has the lock.
 use crate::layout::{left, top};
-use csq_explain::{Sentence, StepInCall};
-use irp_core::Kind;
+use csq_explain::{Sentence, StatusName, StepInCall};
+use irp_core::{Kind, NtStatus};
 use std::fmt;
 
 /// The number of a line, at the left of its row.
@@ -18,12 +18,13 @@ impl fmt::Display for Number {
     ghost output = { λ number. Some (number_text number) };
 
     fn fmt<W: fmt::Write>(&self, f: &mut fmt::Formatter<W>) -> fmt::Result {
-        let (y, line) = (top(self.row) + 21, self.line);
-        write!(f, "<text class='n' x='56' y='{y}'>{line}</text>")
+        let (y, line) = (top(self.row) + 27, self.line);
+        write!(f, "<text class='n' x='46' y='{y}'>{line}</text>")
     }
 }
 
-/// The shade behind a row, in the column of the pass that has the lock.
+/// The shade behind a row, in the column of the pass that has the lock. It is a pixel higher than the row, so
+/// that there is no gap to the next one.
 #[derive(Clone, Copy, Debug)]
 pub(crate) struct Shade {
     pub(crate) row: u32,
@@ -40,7 +41,7 @@ impl fmt::Display for Shade {
         let (x, y) = (left(self.column), top(self.row));
         write!(
             f,
-            "<rect class='l' x='{x}' y='{y}' width='192' height='32'/>"
+            "<rect class='l' x='{x}' y='{y}' width='228' height='47'/>"
         )
     }
 }
@@ -80,66 +81,171 @@ impl fmt::Display for Look {
     }
 }
 
+/// The call of the WDK that a step of this kind is.
+#[derive(Clone, Copy, Debug)]
+struct WdkCall(Kind);
+
+/// As `IoSetCancelRoutine(Irp, NULL)`.
+impl fmt::Display for WdkCall {
+    ghost use Rattle.std.specs.Prelude.{Some};
+    ghost use Rattle.csq_draw.specs.Marks.{wdk_text};
+
+    ghost output = { λ call. Some (wdk_text call.0) };
+
+    fn fmt<W: fmt::Write>(&self, f: &mut fmt::Formatter<W>) -> fmt::Result {
+        match self.0 {
+            Kind::Arm(_) => write!(f, "IoSetCancelRoutine(Irp, routine)"),
+            Kind::Test(_) => write!(f, "if (Irp->Cancel)"),
+            Kind::Disarm(_) | Kind::Take(_) => write!(f, "IoSetCancelRoutine(Irp, NULL)"),
+            Kind::End => write!(f, "return NULL"),
+            Kind::Flag(_) => write!(f, "Irp->Cancel = TRUE"),
+            Kind::Out(_) => write!(f, "CsqRemoveIrp"),
+            Kind::Done(_) => write!(f, "IoCompleteRequest"),
+            Kind::Renew(_) => write!(f, "IoReuseIrp"),
+        }
+    }
+}
+
+/// The status with which an IRP was completed, where it is known.
+#[derive(Clone, Copy, Debug)]
+struct StatusWords(Option<NtStatus>);
+
+impl fmt::Display for StatusWords {
+    ghost use Rattle.std.specs.Prelude.{Some};
+    ghost use Rattle.csq_draw.specs.Marks.{status_words};
+
+    ghost output = { λ told. Some (status_words told.0) };
+
+    fn fmt<W: fmt::Write>(&self, f: &mut fmt::Formatter<W>) -> fmt::Result {
+        match self.0 {
+            Some(status) => StatusName(status).fmt(f),
+            None => Ok(()),
+        }
+    }
+}
+
+/// What a step found, in words.
+#[derive(Clone, Copy, Debug)]
+struct FoundWords {
+    kind: Kind,
+    found: u64,
+    status: Option<NtStatus>,
+}
+
+/// As `found it`.
+impl fmt::Display for FoundWords {
+    ghost use Rattle.std.specs.Prelude.{Some};
+    ghost use Rattle.csq_draw.specs.Marks.{found_words};
+
+    ghost output = { λ told. Some (found_words told.kind told.found told.status) };
+
+    fn fmt<W: fmt::Write>(&self, f: &mut fmt::Formatter<W>) -> fmt::Result {
+        match self.kind {
+            Kind::Arm(_) if self.found == 0 => write!(f, "was none"),
+            Kind::Test(_) if self.found == 0 => write!(f, "is clear"),
+            Kind::Test(_) => write!(f, "is set"),
+            Kind::Disarm(_) | Kind::Take(_) if self.found == 0 => write!(f, "found none"),
+            Kind::Disarm(_) | Kind::Take(_) => write!(f, "found it"),
+            Kind::Flag(_) if self.found == 0 => write!(f, "was clear"),
+            Kind::Arm(_) | Kind::Flag(_) => write!(f, "was set"),
+            Kind::End | Kind::Out(_) => Ok(()),
+            Kind::Done(_) => StatusWords(self.status).fmt(f),
+            Kind::Renew(_) => write!(f, "next life"),
+        }
+    }
+}
+
 /// The box of a step.
 #[derive(Clone, Copy, Debug)]
 struct Frame {
-    x: u64,
-    y: u64,
+    column: u32,
+    row: u32,
 }
 
 impl fmt::Display for Frame {
     ghost use Rattle.std.specs.Prelude.{Some};
+    ghost use Rattle.csq_draw.specs.Layout.{left, top};
     ghost use Rattle.csq_draw.specs.Marks.{frame_text};
 
-    ghost output = { λ frame. Some (frame_text frame.x frame.y) };
+    ghost output = { λ frame. Some (frame_text (left frame.column) (top frame.row)) };
 
     fn fmt<W: fmt::Write>(&self, f: &mut fmt::Formatter<W>) -> fmt::Result {
-        let (x, y) = (self.x, self.y);
-        write!(f, "<rect x='{x}' y='{y}' width='136' height='24' rx='5'/>")
+        let (x, y) = (left(self.column) + 8, top(self.row) + 4);
+        write!(f, "<rect x='{x}' y='{y}' width='212' height='38' rx='6'/>")
     }
 }
 
 /// What a step does.
 #[derive(Clone, Copy, Debug)]
 struct Label {
-    x: u64,
-    y: u64,
+    column: u32,
+    row: u32,
     kind: Kind,
 }
 
 impl fmt::Display for Label {
     ghost use Rattle.std.specs.Prelude.{Some};
+    ghost use Rattle.csq_draw.specs.Layout.{left, top};
     ghost use Rattle.csq_draw.specs.Marks.{label_text};
 
-    ghost output = { λ label. Some (label_text label.x label.y label.kind) };
+    ghost output = { λ label. Some (label_text (left label.column) (top label.row) label.kind) };
 
     fn fmt<W: fmt::Write>(&self, f: &mut fmt::Formatter<W>) -> fmt::Result {
-        let (x, y, kind) = (self.x, self.y, self.kind);
-        write!(f, "<text x='{x}' y='{y}'>{kind}</text>")
+        let (x, y, kind) = (left(self.column) + 17, top(self.row) + 20, self.kind);
+        write!(f, "<text class='w' x='{x}' y='{y}'>{kind}</text>")
     }
 }
 
-/// The value that a step found.
+/// What a step found.
 #[derive(Clone, Copy, Debug)]
 struct Found {
-    x: u64,
-    y: u64,
-    value: u64,
+    column: u32,
+    row: u32,
+    step: StepInCall,
 }
 
 impl fmt::Display for Found {
     ghost use Rattle.std.specs.Prelude.{Some};
+    ghost use Rattle.csq_draw.specs.Layout.{left, top};
     ghost use Rattle.csq_draw.specs.Marks.{found_text};
 
-    ghost output = { λ found. Some (found_text found.x found.y found.value) };
+    ghost output = { λ told. Some (found_text (left told.column) (top told.row) told.step) };
 
     fn fmt<W: fmt::Write>(&self, f: &mut fmt::Formatter<W>) -> fmt::Result {
-        let (x, y, value) = (self.x, self.y, self.value);
-        write!(f, "<text class='v' x='{x}' y='{y}'>{value}</text>")
+        let (x, y) = (left(self.column) + 211, top(self.row) + 20);
+        let (kind, found, status) = (self.step.made.kind, self.step.made.found, self.step.status);
+        let words = FoundWords {
+            kind,
+            found,
+            status,
+        };
+        write!(f, "<text class='w v' x='{x}' y='{y}'>{words}</text>")
     }
 }
 
-/// A step in the column of its pass, with the value that it found.
+/// The call of the WDK that a step is.
+#[derive(Clone, Copy, Debug)]
+struct Api {
+    column: u32,
+    row: u32,
+    kind: Kind,
+}
+
+impl fmt::Display for Api {
+    ghost use Rattle.std.specs.Prelude.{Some};
+    ghost use Rattle.csq_draw.specs.Layout.{left, top};
+    ghost use Rattle.csq_draw.specs.Marks.{api_text};
+
+    ghost output = { λ api. Some (api_text (left api.column) (top api.row) api.kind) };
+
+    fn fmt<W: fmt::Write>(&self, f: &mut fmt::Formatter<W>) -> fmt::Result {
+        let (x, y) = (left(self.column) + 17, top(self.row) + 35);
+        let call = WdkCall(self.kind);
+        write!(f, "<text class='m' x='{x}' y='{y}'>{call}</text>")
+    }
+}
+
+/// A step in the column of its pass, with what it found and its call of the WDK.
 #[derive(Clone, Copy, Debug)]
 pub(crate) struct Mark {
     pub(crate) row: u32,
@@ -154,24 +260,17 @@ impl fmt::Display for Mark {
     ghost output = { λ mark. Some (mark_text mark) };
 
     fn fmt<W: fmt::Write>(&self, f: &mut fmt::Formatter<W>) -> fmt::Result {
-        let (x, y) = (left(self.column), top(self.row));
-        let (kind, value) = (self.step.made.kind, self.step.made.found);
-        let look = Look { kind, found: value };
-        let sentence = Sentence(self.step);
-        let frame = Frame { x: x + 8, y: y + 4 };
-        let label = Label {
-            x: x + 16,
-            y: y + 21,
-            kind,
-        };
-        let found = Found {
-            x: x + 136,
-            y: y + 21,
-            value,
-        };
+        let (column, row, step) = (self.column, self.row, self.step);
+        let (kind, found) = (step.made.kind, step.made.found);
+        let look = Look { kind, found };
+        let sentence = Sentence(step);
+        let frame = Frame { column, row };
+        let label = Label { column, row, kind };
+        let words = Found { column, row, step };
+        let api = Api { column, row, kind };
         write!(
             f,
-            "<g class='{look}'><title>{sentence}</title>{frame}{label}{found}</g>"
+            "<g class='{look}'><title>{sentence}</title>{frame}{label}{words}{api}</g>"
         )
     }
 }

@@ -37,13 +37,13 @@ impl fmt::Display for Span {
         let colour = irp.0 % 8;
         let (x, from, to) = (
             left(self.column),
-            top(self.owner.row) + 16,
-            top(self.to) + 16,
+            top(self.owner.row) + 23,
+            top(self.to) + 23,
         );
-        let (edge, lane) = (x + 144, x + 150 + 5 * u64::from(colour));
+        let lane = x + 236 + 5 * u64::from(colour);
         write!(
             f,
-            "<path class='k{colour} {having}' d='M{edge} {from}H{lane}V{to}H{edge}'>"
+            "<path class='k{colour} {having}' d='M{lane} {from}V{to}'>"
         )?;
         write!(f, "<title>{pass} {having} IRP {irp}</title></path>")
     }
@@ -66,11 +66,11 @@ impl fmt::Display for OpenSpan {
     fn fmt<W: fmt::Write>(&self, f: &mut fmt::Formatter<W>) -> fmt::Result {
         let (irp, pass, having) = (self.owner.irp, self.owner.pass, self.owner.having);
         let colour = irp.0 % 8;
-        let (x, from, to) = (left(self.column), top(self.owner.row) + 16, top(self.rows));
-        let (edge, lane) = (x + 144, x + 150 + 5 * u64::from(colour));
+        let (x, from, to) = (left(self.column), top(self.owner.row) + 23, top(self.rows));
+        let lane = x + 236 + 5 * u64::from(colour);
         write!(
             f,
-            "<path class='k{colour} {having}' d='M{edge} {from}H{lane}V{to}'>"
+            "<path class='k{colour} {having}' d='M{lane} {from}V{to}'>"
         )?;
         write!(
             f,

@@ -20,29 +20,29 @@ const ROWS: [Row; 4] = [
     Row {
         input: "p1 arm 0\np2 flag 0\np1 test 0\np2 take 0\n",
         before: "\
-<svg xmlns='http://www.w3.org/2000/svg' width='720' height='276' viewBox='0 0 720 276' font-family='ui-monospace,monospace' font-size='12'>
+<svg xmlns='http://www.w3.org/2000/svg' width='780' height='336' viewBox='0 0 780 336' font-family='system-ui,-apple-system,Segoe UI,DejaVu Sans,sans-serif' font-size='12'>
 <title>The steps of a schedule: 4</title>
 ",
         behind: "\
-<rect class='sheet' width='720' height='276'/>
-<text class='key' x='72' y='24'>shaded: has the lock; bold: claims the IRP; dashed line: owes it; solid line: holds it</text>
-<path class='g' d='M148 64V192'/><text class='p' x='148' y='54'>p1</text>
-<path class='g' d='M356 64V192'/><text class='p' x='356' y='54'>p2</text>
-<text class='n' x='56' y='85'>1</text>
-<rect class='l' x='72' y='64' width='192' height='32'/>
-<g class='k0'><title>p1 set the cancel routine of IRP 0</title><rect x='80' y='68' width='136' height='24' rx='5'/><text x='88' y='85'>arm 0</text><text class='v' x='208' y='85'>0</text></g>
-<text class='n' x='56' y='117'>2</text>
-<rect class='l' x='72' y='96' width='192' height='32'/>
-<g class='k0'><title>p2 set the Cancel flag of IRP 0</title><rect x='288' y='100' width='136' height='24' rx='5'/><text x='296' y='117'>flag 0</text><text class='v' x='416' y='117'>0</text></g>
-<text class='n' x='56' y='149'>3</text>
-<rect class='l' x='72' y='128' width='192' height='32'/>
-<g class='k0'><title>p1 found the Cancel flag of IRP 0 set</title><rect x='80' y='132' width='136' height='24' rx='5'/><text x='88' y='149'>test 0</text><text class='v' x='208' y='149'>1</text></g>
-<text class='n' x='56' y='181'>4</text>
-<rect class='l' x='72' y='160' width='192' height='32'/>
-<g class='c k0'><title>p2 took the cancel routine of IRP 0, and owes it now</title><rect x='288' y='164' width='136' height='24' rx='5'/><text x='296' y='181'>take 0</text><text class='v' x='416' y='181'>1</text></g>
-<path class='k0 owes' d='M424 176H430V192'><title>p2 owes IRP 0 in the end</title></path>
-<text x='72' y='220'>irp 0 listed cancel 1</text>
-<text x='72' y='240'>rest no</text>
+<rect class='sheet' width='780' height='336'/>
+<text class='s' x='56' y='24'>shade: has the lock; bold: the exchange found the routine, and so claims the IRP; dashed line: owes it; solid line: holds it</text><text class='n s' x='46' y='54'>line</text>
+<path class='g' d='M170 64V252'/><text class='p' x='170' y='54'>p1</text>
+<path class='g' d='M454 64V252'/><text class='p' x='454' y='54'>p2</text>
+<text class='n' x='46' y='95'>1</text>
+<rect class='l' x='56' y='68' width='228' height='47'/>
+<g class='k0'><title>p1 set the cancel routine of IRP 0 (IoSetCancelRoutine(Irp, routine) in IoCsqInsertIrpEx)</title><rect x='64' y='72' width='212' height='38' rx='6'/><text class='w' x='73' y='88'>arm 0</text><text class='w v' x='267' y='88'>was none</text><text class='m' x='73' y='103'>IoSetCancelRoutine(Irp, routine)</text></g>
+<text class='n' x='46' y='141'>2</text>
+<rect class='l' x='56' y='114' width='228' height='47'/>
+<g class='k0'><title>p2 set the Cancel flag of IRP 0 (Irp->Cancel = TRUE in IoCancelIrp)</title><rect x='348' y='118' width='212' height='38' rx='6'/><text class='w' x='357' y='134'>flag 0</text><text class='w v' x='551' y='134'>was clear</text><text class='m' x='357' y='149'>Irp->Cancel = TRUE</text></g>
+<text class='n' x='46' y='187'>3</text>
+<rect class='l' x='56' y='160' width='228' height='47'/>
+<g class='k0'><title>p1 found the Cancel flag of IRP 0 set (if (Irp->Cancel) in IoCsqInsertIrpEx)</title><rect x='64' y='164' width='212' height='38' rx='6'/><text class='w' x='73' y='180'>test 0</text><text class='w v' x='267' y='180'>is set</text><text class='m' x='73' y='195'>if (Irp->Cancel)</text></g>
+<text class='n' x='46' y='233'>4</text>
+<rect class='l' x='56' y='206' width='228' height='47'/>
+<g class='c k0'><title>p2 took the cancel routine of IRP 0 (IoSetCancelRoutine(Irp, NULL) in IoCancelIrp), and owes it now</title><rect x='348' y='210' width='212' height='38' rx='6'/><text class='w' x='357' y='226'>take 0</text><text class='w v' x='551' y='226'>found it</text><text class='m' x='357' y='241'>IoSetCancelRoutine(Irp, NULL)</text></g>
+<path class='k0 owes' d='M576 229V252'><title>p2 owes IRP 0 in the end</title></path>
+<text x='56' y='280'>IRP 0 is in the list; its Cancel flag is set</text>
+<text x='56' y='300'>not all is at rest: a call is unfinished, or a pass owes or holds an IRP</text>
 </svg>
 ",
         ended: Ended::AllHandled,
@@ -50,30 +50,30 @@ const ROWS: [Row; 4] = [
     Row {
         input: "# p3 is the faster one\np1 arm 0\np1 test 0\np3 disarm 0\np3 done 0\np3 done 0\np1 end\n",
         before: "\
-<svg xmlns='http://www.w3.org/2000/svg' width='720' height='296' viewBox='0 0 720 296' font-family='ui-monospace,monospace' font-size='12'>
+<svg xmlns='http://www.w3.org/2000/svg' width='780' height='356' viewBox='0 0 780 356' font-family='system-ui,-apple-system,Segoe UI,DejaVu Sans,sans-serif' font-size='12'>
 <title>The steps of a schedule: 4</title>
 ",
         behind: "\
-<rect class='sheet' width='720' height='296'/>
-<text class='key' x='72' y='24'>shaded: has the lock; bold: claims the IRP; dashed line: owes it; solid line: holds it</text>
-<path class='g' d='M148 64V192'/><text class='p' x='148' y='54'>p1</text>
-<path class='g' d='M356 64V192'/><text class='p' x='356' y='54'>p3</text>
-<text class='n' x='56' y='85'>2</text>
-<rect class='l' x='72' y='64' width='192' height='32'/>
-<g class='k0'><title>p1 set the cancel routine of IRP 0</title><rect x='80' y='68' width='136' height='24' rx='5'/><text x='88' y='85'>arm 0</text><text class='v' x='208' y='85'>0</text></g>
-<text class='n' x='56' y='117'>3</text>
-<rect class='l' x='72' y='96' width='192' height='32'/>
-<g class='k0'><title>p1 found the Cancel flag of IRP 0 clear</title><rect x='80' y='100' width='136' height='24' rx='5'/><text x='88' y='117'>test 0</text><text class='v' x='208' y='117'>0</text></g>
-<text class='n' x='56' y='149'>4</text>
-<rect class='l' x='280' y='128' width='192' height='32'/>
-<g class='c k0'><title>p3 took the cancel routine of IRP 0, and holds it now</title><rect x='288' y='132' width='136' height='24' rx='5'/><text x='296' y='149'>disarm 0</text><text class='v' x='416' y='149'>1</text></g>
-<text class='n' x='56' y='181'>5</text>
-<path class='k0 holds' d='M424 144H430V176H424'><title>p3 holds IRP 0</title></path>
-<g class='k0'><title>p3 completed IRP 0</title><rect x='288' y='164' width='136' height='24' rx='5'/><text x='296' y='181'>done 0</text><text class='v' x='416' y='181'>0</text></g>
-<rect class='bad' x='72' y='194' width='624' height='28' rx='5'/>
-<text class='n' x='56' y='213'>6</text>
-<text x='88' y='213'>p3 done 0 refused NotHeld</text>
-<text x='88' y='242'>p3 doesn't hold the IRP in that life</text>
+<rect class='sheet' width='780' height='356'/>
+<text class='s' x='56' y='24'>shade: has the lock; bold: the exchange found the routine, and so claims the IRP; dashed line: owes it; solid line: holds it</text><text class='n s' x='46' y='54'>line</text>
+<path class='g' d='M170 64V252'/><text class='p' x='170' y='54'>p1</text>
+<path class='g' d='M454 64V252'/><text class='p' x='454' y='54'>p3</text>
+<text class='n' x='46' y='95'>2</text>
+<rect class='l' x='56' y='68' width='228' height='47'/>
+<g class='k0'><title>p1 set the cancel routine of IRP 0 (IoSetCancelRoutine(Irp, routine) in IoCsqInsertIrpEx)</title><rect x='64' y='72' width='212' height='38' rx='6'/><text class='w' x='73' y='88'>arm 0</text><text class='w v' x='267' y='88'>was none</text><text class='m' x='73' y='103'>IoSetCancelRoutine(Irp, routine)</text></g>
+<text class='n' x='46' y='141'>3</text>
+<rect class='l' x='56' y='114' width='228' height='47'/>
+<g class='k0'><title>p1 found the Cancel flag of IRP 0 clear (if (Irp->Cancel) in IoCsqInsertIrpEx): the insert ends, and the IRP is pending</title><rect x='64' y='118' width='212' height='38' rx='6'/><text class='w' x='73' y='134'>test 0</text><text class='w v' x='267' y='134'>is clear</text><text class='m' x='73' y='149'>if (Irp->Cancel)</text></g>
+<text class='n' x='46' y='187'>4</text>
+<rect class='l' x='340' y='160' width='228' height='47'/>
+<g class='c k0'><title>p3 took the cancel routine of IRP 0 (IoSetCancelRoutine(Irp, NULL) in IoCsqRemoveNextIrp), and holds it now</title><rect x='348' y='164' width='212' height='38' rx='6'/><text class='w' x='357' y='180'>disarm 0</text><text class='w v' x='551' y='180'>found it</text><text class='m' x='357' y='195'>IoSetCancelRoutine(Irp, NULL)</text></g>
+<text class='n' x='46' y='233'>5</text>
+<path class='k0 holds' d='M576 183V229'><title>p3 holds IRP 0</title></path>
+<g class='k0'><title>p3 completed IRP 0 with STATUS_SUCCESS (IoCompleteRequest)</title><rect x='348' y='210' width='212' height='38' rx='6'/><text class='w' x='357' y='226'>done 0</text><text class='w v' x='551' y='226'>STATUS_SUCCESS</text><text class='m' x='357' y='241'>IoCompleteRequest</text></g>
+<rect class='bad' x='64' y='256' width='660' height='38' rx='6'/>
+<text class='n' x='46' y='279'>6</text>
+<text x='73' y='279'>p3 done 0 refused NotHeld</text>
+<text x='73' y='314'>p3 doesn't hold the IRP in that life</text>
 </svg>
 ",
         ended: Ended::Stopped,
@@ -81,13 +81,13 @@ const ROWS: [Row; 4] = [
     Row {
         input: "",
         before: "\
-<svg xmlns='http://www.w3.org/2000/svg' width='720' height='128' viewBox='0 0 720 128' font-family='ui-monospace,monospace' font-size='12'>
+<svg xmlns='http://www.w3.org/2000/svg' width='780' height='132' viewBox='0 0 780 132' font-family='system-ui,-apple-system,Segoe UI,DejaVu Sans,sans-serif' font-size='12'>
 <title>The steps of a schedule: 0</title>
 ",
         behind: "\
-<rect class='sheet' width='720' height='128'/>
-<text class='key' x='72' y='24'>shaded: has the lock; bold: claims the IRP; dashed line: owes it; solid line: holds it</text>
-<text x='72' y='92'>rest yes</text>
+<rect class='sheet' width='780' height='132'/>
+<text class='s' x='56' y='24'>shade: has the lock; bold: the exchange found the routine, and so claims the IRP; dashed line: owes it; solid line: holds it</text><text class='n s' x='46' y='54'>line</text>
+<text x='56' y='96'>all is at rest: no call is unfinished, and nobody owes or holds an IRP</text>
 </svg>
 ",
         ended: Ended::AllHandled,
@@ -95,16 +95,16 @@ const ROWS: [Row; 4] = [
     Row {
         input: "p1  end\n",
         before: "\
-<svg xmlns='http://www.w3.org/2000/svg' width='720' height='168' viewBox='0 0 720 168' font-family='ui-monospace,monospace' font-size='12'>
+<svg xmlns='http://www.w3.org/2000/svg' width='780' height='172' viewBox='0 0 780 172' font-family='system-ui,-apple-system,Segoe UI,DejaVu Sans,sans-serif' font-size='12'>
 <title>The steps of a schedule: 0</title>
 ",
         behind: "\
-<rect class='sheet' width='720' height='168'/>
-<text class='key' x='72' y='24'>shaded: has the lock; bold: claims the IRP; dashed line: owes it; solid line: holds it</text>
-<rect class='bad' x='72' y='66' width='624' height='28' rx='5'/>
-<text class='n' x='56' y='85'>1</text>
-<text x='88' y='85'>malformed</text>
-<text x='88' y='114'>it is no step</text>
+<rect class='sheet' width='780' height='172'/>
+<text class='s' x='56' y='24'>shade: has the lock; bold: the exchange found the routine, and so claims the IRP; dashed line: owes it; solid line: holds it</text><text class='n s' x='46' y='54'>line</text>
+<rect class='bad' x='64' y='72' width='660' height='38' rx='6'/>
+<text class='n' x='46' y='95'>1</text>
+<text x='73' y='95'>malformed</text>
+<text x='73' y='130'>this is no step, as p1 arm 0: arm, test, disarm, flag, take, out, done or renew, or p1 end</text>
 </svg>
 ",
         ended: Ended::Stopped,
@@ -140,15 +140,15 @@ p1 arm 0@1
 
 // What a mark tells of each step of it, in order.
 const TOLD: [&str; 9] = [
-    "p1 set the cancel routine of IRP 0",
-    "p1 found the Cancel flag of IRP 0 clear",
-    "p2 set the Cancel flag of IRP 0",
-    "p2 took the cancel routine of IRP 0, and owes it now",
-    "p2 took IRP 0 out of the list, and holds it now",
-    "p2 completed IRP 0",
-    "p3 ended its removal without an IRP",
-    "p1 began the life that comes after IRP 0",
-    "p1 set the cancel routine of IRP 0@1",
+    "p1 set the cancel routine of IRP 0 (IoSetCancelRoutine(Irp, routine) in IoCsqInsertIrpEx)",
+    "p1 found the Cancel flag of IRP 0 clear (if (Irp->Cancel) in IoCsqInsertIrpEx): the insert ends, and the IRP is pending",
+    "p2 set the Cancel flag of IRP 0 (Irp->Cancel = TRUE in IoCancelIrp)",
+    "p2 took the cancel routine of IRP 0 (IoSetCancelRoutine(Irp, NULL) in IoCancelIrp), and owes it now",
+    "p2 took IRP 0 out of the list (CsqRemoveIrp in the cancel routine), and holds it now",
+    "p2 completed IRP 0 with STATUS_CANCELLED (IoCompleteRequest)",
+    "p3 ended its removal without an IRP (IoCsqRemoveNextIrp returns NULL)",
+    "p1 began the life that comes after IRP 0 (IoReuseIrp)",
+    "p1 set the cancel routine of IRP 0@1 (IoSetCancelRoutine(Irp, routine) in IoCsqInsertIrpEx)",
 ];
 
 #[test]
@@ -172,29 +172,32 @@ fn each_kind_of_step_is_told(rt: HostRuntime) -> Result<(), Fail> {
 const REASONS: [(&str, &str); 16] = [
     (
         "# c\n\np1 arm 0\n\np2 disarm 0\n",
-        "p1 has the lock since line 3",
+        "p1 has had the lock since line 3, inside an insert; its next step is test 0",
     ),
     (
         "p1 arm 0\np1 test 0\np2 flag 0\np2 take 0\np3 disarm 0\np1 arm 1\n",
-        "p3 has the lock since line 5",
+        "p3 has had the lock since line 5, inside a removal; its next step is a disarm or an end",
     ),
     (
         "p1 arm 0\np1 test 0\np2 flag 0\np2 take 0\np3 disarm 0\np3 arm 1\n",
-        "p3 is inside a removal since line 5, which goes on with a disarm or an end",
+        "p3 has been inside a removal since line 5; its next step is a disarm or an end",
     ),
     (
         "p1 arm 0\np1 end\n",
-        "p1 is inside an insert since line 1, whose next step is test 0",
+        "p1 has been inside an insert since line 1; its next step is test 0",
     ),
     (
         "p1 arm 0\np2 flag 0\np1 test 0\np1 end\n",
-        "p1 is inside an insert since line 1, whose next step is disarm 0",
+        "p1 has been inside an insert since line 1; its next step is disarm 0",
     ),
     (
         "p2 flag 0\np2 done 0\n",
-        "p2 is inside a cancel since line 1, whose next step is take 0",
+        "p2 has been inside a cancel since line 1; its next step is take 0",
     ),
-    ("p1 test 0\n", "p1 is inside no program, and none begins so"),
+    (
+        "p1 test 0\n",
+        "p1 is inside no call, and none begins with a test or a take",
+    ),
     ("p9 flag 8\n", "an IRP's number is below 8"),
     ("p5 end\n", "a pass's number is 1 to 4"),
     (
@@ -211,7 +214,10 @@ const REASONS: [(&str, &str); 16] = [
         "p2 doesn't hold the IRP in that life",
     ),
     ("p2 renew 0\n", "the IRP isn't completed in that life"),
-    ("p1 arm 00\n", "it is no step"),
+    (
+        "p1 arm 00\n",
+        "this is no step, as p1 arm 0: arm, test, disarm, flag, take, out, done or renew, or p1 end",
+    ),
     (
         "#################################################################\n",
         "a line has at most 64 bytes",
