@@ -60,5 +60,10 @@ fn a_schedule_is_drawn(rt: HostRuntime) {
 fn pictures_are_as_large_as_they_may_be(rt: HostRuntime) {
     let words = ["csqsim", "draw", "--irps=1024", "--passes=64"];
     let ended = run(Process::new(&rt, &words, "p64 flag 1023\n", usize::MAX));
-    ended.look_for(&rt, 0, "irp 1023 home cancel 1", &words);
+    ended.look_for(
+        &rt,
+        0,
+        "IRP 1023 wasn't inserted; its Cancel flag is set",
+        &words,
+    );
 }
