@@ -5,7 +5,7 @@ use Rattle.csq_replay.specs.declared.lines.answer.Ended.{Ended}
 use Rattle.csq_replay.specs.declared.schedule.outcome.Outcome.{Outcome}
 use Rattle.csq_replay.specs.declared.schedule.outcome.Outcome.TheVariants.{Skipped, Accepted, Stopped}
 use Rattle.csq_replay.specs.declared.schedule.outcome.Stop.{Stop}
-use Rattle.csq_replay.specs.declared.schedule.outcome.Stop.TheVariants.{TooLong, Malformed as Unread, Refused}
+use Rattle.csq_replay.specs.declared.schedule.outcome.Stop.TheVariants.{TooLong, Malformed as NoStep, Refused}
 use Rattle.csq_replay.specs.Lines.{IsAnswer, RepliesTo}
 use Rattle.csq_replay.specs.Outcomes.{ComesTo}
 use Rattle.csq_replay.specs.Schedule.{Numbered, run_of, grown}
@@ -21,7 +21,7 @@ use Rattle.csq_diagnose.specs.RefusedTexts.{cure_of, refused_text}
 -- the nth line ends the handling for this reason, and is told so
 abbrev pub IsToldStop : ℕ → List ℕ → Reason → Stop → List ℕ → Type 0
 IsToldStop n line reason TooLong text = text ≡ long_text n (length line) ++ codes "\n"
-IsToldStop n line reason Unread text = (fault : Malformed) × IsMalformed Schedule line fault × (text ≡ malformed_line_text n fault ++ codes "\n")
+IsToldStop n line reason NoStep text = (fault : Malformed) × IsMalformed Schedule line fault × (text ≡ malformed_line_text n fault ++ codes "\n")
 IsToldStop n line reason (Refused s cause) text = text ≡ refused_text n s reason (cure_of s reason.stop) ++ codes "\n"
 
 -- after the steps W this is told of the nth line, of which this came
