@@ -5,7 +5,7 @@ use std::sync::Wait;
 use std::test::Fail;
 use std::thread::Threads;
 
-const SCHEDULES: [(&str, &str); 19] = [
+const SCHEDULES: &[(&str, &str)] = &[
     (
         "p1 arm 0\np1 tset 0\n",
         "csqsim: line 2, column 4: \"tset\" is no step; did you mean \"test\"?\n  a step is arm, test, disarm, end, flag, take, out, done or renew\n",
@@ -84,7 +84,7 @@ const SCHEDULES: [(&str, &str); 19] = [
     ),
 ];
 
-const SCRIPTS: [(&str, &str); 8] = [
+const SCRIPTS: &[(&str, &str)] = &[
     (
         "insrt 0 0 back\n",
         "csqsim: line 1, column 1: \"insrt\" is no call; did you mean \"insert\"?\n  a call is insert, next, remove, mark, routine, cancel, complete, close,\n  cleanup, flag, status or reuse\n",
