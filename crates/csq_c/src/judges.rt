@@ -62,10 +62,10 @@ fn told(verdict: Option<PeekVerdict>) -> (Option<u32>, Option<u32>)
 
 /// Compares the answer of a driver's `CsqPeekNextIrp` with the queue's list: `answer`, or none by the largest
 /// number, to a peek that went on after `after` (or from the first, by the largest number) for IRPs of a
-/// file object (or of all, by the largest number). Writes a verdict: 0 where it agrees with
-/// `csq_peek_next`; 1 where it is none or a later match, and in `skipped` the match that comes first;
-/// 2 where it is a match, but not after `after`; 3 where it is no match; 4 where it isn't listed.
-/// CSQ_OK, or CSQ_NOT_LISTED where `after` isn't listed. Own rule.
+/// file object (or of all, by the largest number). Writes a verdict, the first that holds: 0 where it
+/// agrees with `csq_peek_next`; 1 where it is none or a later match, and then in `skipped` the match
+/// that comes first; 2 where it is a match, but not after `after`; 3 where it is listed, and no match; 4
+/// where it isn't listed. CSQ_OK, or CSQ_NOT_LISTED where `after` isn't listed. Own rule.
 #[unsafe(no_mangle)]
 pub extern "C" fn csq_judge_peek(
     queue: &mut CsqQueue,

@@ -68,8 +68,8 @@ impl BarePass {
 /// How an idle pass is kept.
 #[derive(Drop)]
 pub(crate) enum IdleForm {
-    /// In the box in which it came back, with its share of the words: it is handed out again without
-    /// memory.
+    /// In the box in which it came back, with its share of the words: so it is handed out again
+    /// without memory (tested, in C).
     Boxed(Box<CheckedPass>),
     /// Without a share, since a close takes the words whole.
     Bare(BarePass),
@@ -217,7 +217,8 @@ impl IdlePasses {
         self.slots[at] = Some(pass);
     }
 
-    /// Takes each idle pass's share of the words from it, so that whoever has the words has them whole.
+    /// Takes each idle pass's share of the words from it, so that a close has them whole (tested: a pass
+    /// is seen here without its share).
     pub(crate) fn let_words_go(&mut self)
         ensures { self.new ≡ self.old }
     {

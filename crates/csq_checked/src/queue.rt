@@ -158,7 +158,7 @@ impl CheckedQueue {
     }
 
     /// A pass: the first that is idle, since it came back, else the next new one, which has seen and done
-    /// nothing. Only the hand-out of a new one takes memory.
+    /// nothing. Only the hand-out of a new one takes memory (tested, in C).
     pub fn take_pass(&mut self, alloc: Global) -> Result<Box<CheckedPass>, PassRefused>
         ensures none { (result ≡ Err PassRefused.NoPass)
             ↔ ((self.old.left ≡ 0) × NoneIsIdle self.old.idle) }
