@@ -19,6 +19,8 @@ typedef struct _IOCSQ_POLICY {
     BOOLEAN AnyOrder;
     /* PeekContext null doesn't mean any IRP to this driver: the whole list can't be looked at. */
     BOOLEAN NoAudit;
+    /* CsqCompleteCanceledIrp may return before the IRP is completed, which the driver does later. */
+    BOOLEAN CompletesLater;
 } IOCSQ_POLICY;
 /* Of one queue, after its IoCsqInitialize[Ex]; for null, of all that are initialized from now on. */
 VOID IocsqSetPolicy(PIO_CSQ Csq, const IOCSQ_POLICY *Policy);
@@ -27,6 +29,11 @@ PDRIVER_OBJECT IocsqLoad(PDRIVER_INITIALIZE DriverEntry); /* null where DriverEn
 PFILE_OBJECT IocsqOpen(PDRIVER_OBJECT Driver);            /* IRP_MJ_CREATE; null where that fails */
 VOID IocsqClose(PFILE_OBJECT File);                       /* IRP_MJ_CLEANUP, then IRP_MJ_CLOSE */
 VOID IocsqUnload(PDRIVER_OBJECT Driver);                  /* and tells each IRP that was never completed */
+
+/* A file object that is open, at random: its IRP_MJ_CLEANUP may be sent meanwhile, as where another thread closes its
+ * handle, but IRP_MJ_CLOSE comes only once it was released. Null: none is open. */
+PFILE_OBJECT IocsqReferenceAny(VOID);
+VOID IocsqRelease(PFILE_OBJECT File);
 
 /* A request that was sent. It stays valid until IocsqFree. IocsqSend and IocsqControl answer null where 4,096 IRPs are
  * under way. The buffer is as the driver has it by METHOD_BUFFERED: in AssociatedIrp.SystemBuffer. */

@@ -37,10 +37,12 @@ struct iocsq_irp {
     _Atomic uint32_t use; /* which of its uses this is: it is sent, allocated, freed */
     UCHAR major;
     PFILE_OBJECT file;
+    uint32_t most; /* bytes that its completion may name: those of its buffer */
     _Atomic int place;
     _Atomic uint64_t stay; /* the queue, slot and life that it has in a reference queue; 0: none */
     uint32_t pass;         /* which holds it there */
     PIO_CSQ_IRP_CONTEXT context;
+    _Atomic bool late; /* it went into the queue once its file object's IRP_MJ_CLEANUP was sent */
     struct iocsq_queue *call_of; /* the queue whose call is to end with the IRP's completion, or null */
     _Atomic uint64_t pending; /* `use` in the upper half, and a bit for each location that was marked pending */
     _Atomic bool passed_on;   /* to a lower driver */
@@ -61,10 +63,13 @@ uint32_t iocsq_irp_count(void);                                     /* none abov
 struct iocsq_irp *iocsq_new_irp(int locations, bool own);           /* null: all are under way */
 const char *iocsq_place_name(const struct iocsq_irp *i);
 NTSTATUS iocsq_dispatch(PDEVICE_OBJECT device, struct iocsq_irp *i); /* calls the driver at the IRP's next location */
-void iocsq_check_pending(const struct iocsq_irp *i); /* its answer and its completion agree; the state's lock is held */
+/* The two hold the state's lock. */
+void iocsq_check_pending(const struct iocsq_irp *i); /* its dispatch routine's answer and its completion agree */
+void iocsq_check_untouched(struct iocsq_irp *i);     /* since its completion */
 
 /* ---- manager.c ---- */
 uint32_t iocsq_file_number(const void *file); /* IOCSQ_FILES: no file object */
+bool iocsq_is_closing(const void *file);      /* its IRP_MJ_CLEANUP was sent */
 bool iocsq_is_cleaned(const void *file);      /* its IRP_MJ_CLEANUP was completed */
 
 /* ---- report.c ---- */
@@ -137,6 +142,8 @@ void iocsq_check_memory_freed(void);
 /* ---- queue.c ---- */
 void iocsq_end_queues_in(const void *from, size_t size, const char *what); /* whose IO_CSQ lies in there */
 void iocsq_end_queues(void);
+/* One that a file object's cleanup should have ended, and that is still in a queue. Null: none. */
+struct iocsq_irp *iocsq_left_in_queues(uint32_t file);
 bool iocsq_cancel_queued(struct iocsq_irp *i);                   /* whether its cancel routine was a queue's */
 void iocsq_complete_held(struct iocsq_irp *i, NTSTATUS status);  /* ends its stay */
 

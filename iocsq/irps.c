@@ -81,9 +81,31 @@ static struct iocsq_irp *find_unused(void) {
     return &irps[irp_count++];
 }
 
-static void begin_irp(struct iocsq_irp *i, int locations) {
-    UNPOISON(&i->irp.Tail, sizeof i->irp.Tail);
+/* ---- What a driver may use until an IRP's completion, or until it frees it ---- */
+static const IO_STATUS_BLOCK gone = { { (NTSTATUS)0xA5A5A5A5 }, (ULONG_PTR)0xA5A5A5A5A5A5A5A5 };
+
+static void take_from_driver(struct iocsq_irp *i) {
+    i->irp.IoStatus = gone;
+    POISON(&i->irp.IoStatus, sizeof i->irp - offsetof(IRP, IoStatus));
+    POISON(i->stack, sizeof i->stack);
+}
+
+static void give_to_driver(struct iocsq_irp *i) {
+    UNPOISON(&i->irp.IoStatus, sizeof i->irp - offsetof(IRP, IoStatus));
     UNPOISON(i->stack, sizeof i->stack);
+}
+
+void iocsq_check_untouched(struct iocsq_irp *i) {
+    give_to_driver(i);
+    if (i->irp.IoStatus.Status != gone.Status || i->irp.IoStatus.Information != gone.Information) {
+        iocsq_disagree(i, "irp %u was written to after it was %s", i->index, i->own ? "freed" : "completed");
+    }
+    take_from_driver(i);
+}
+
+/* ---- Beginning ---- */
+static void begin_irp(struct iocsq_irp *i, int locations) {
+    give_to_driver(i);
     memset(i->stack, 0, sizeof i->stack);
     memset(&i->irp.Tail, 0xA5, sizeof i->irp.Tail);
     i->irp.Type = 6;
@@ -100,6 +122,7 @@ static void begin_irp(struct iocsq_irp *i, int locations) {
     i->answered = false;
     i->context = NULL;
     i->call_of = NULL;
+    i->late = false;
     i->stay = 0;
     iocsq_begin_steps(i);
 }
@@ -108,10 +131,14 @@ struct iocsq_irp *iocsq_new_irp(int locations, bool own) {
     iocsq_lock_state();
     struct iocsq_irp *i = find_unused();
     if (i) {
+        if (i->use > 0) {
+            iocsq_check_untouched(i);
+        }
         i->used = true;
         i->own = own;
         i->use++;
         i->file = NULL;
+        i->most = UINT32_MAX;
         i->status = STATUS_PENDING;
         i->irp.Cancel = FALSE;
         begin_irp(i, locations);
@@ -251,6 +278,10 @@ void iocsq_check_pending(const struct iocsq_irp *i) {
         iocsq_disagree(i, "irp %u is completed with the pending mark, and its dispatch routine answered %08X", i->index,
                        (unsigned)i->answer);
     }
+    if (i->answer != STATUS_PENDING && i->answer != i->status && !i->passed_on) {
+        iocsq_disagree(i, "the dispatch routine answers %08X, and irp %u was completed with %08X", (unsigned)i->answer,
+                       i->index, (unsigned)i->status);
+    }
 }
 
 static void finish(struct iocsq_irp *i) {
@@ -260,12 +291,15 @@ static void finish(struct iocsq_irp *i) {
     }
     i->status = i->irp.IoStatus.Status;
     i->information = i->irp.IoStatus.Information;
+    if (NT_SUCCESS(i->status) && i->information > i->most) {
+        iocsq_disagree(i, "irp %u is completed with %llu bytes, and its buffer has %u", i->index,
+                       (unsigned long long)i->information, (unsigned)i->most);
+    }
     i->pending_returned = i->irp.PendingReturned;
     if (i->answered) {
         iocsq_check_pending(i);
     }
-    POISON(&i->irp.Tail, sizeof i->irp.Tail);
-    POISON(i->stack, sizeof i->stack);
+    take_from_driver(i);
     iocsq_state_changed();
     iocsq_unlock_state();
 }
@@ -297,6 +331,7 @@ PDRIVER_CANCEL NTAPI IoSetCancelRoutine(PIRP Irp, PDRIVER_CANCEL CancelRoutine) 
     if (i->place == IOCSQ_LISTED) {
         iocsq_disagree(i, "IoSetCancelRoutine of irp %u, which is in a cancel-safe queue", i->index);
     }
+    iocsq_point();
     return atomic_exchange(&Irp->CancelRoutine, CancelRoutine);
 }
 
@@ -356,8 +391,7 @@ VOID NTAPI IoFreeIrp(PIRP Irp) {
     i->use++;
     i->pending = (uint64_t)i->use << 32;
     i->place = IOCSQ_DONE;
-    POISON(&i->irp.Tail, sizeof i->irp.Tail);
-    POISON(i->stack, sizeof i->stack);
+    take_from_driver(i);
     i->used = false;
     iocsq_unlock_state();
 }

@@ -3,7 +3,7 @@
 
 #include <stdlib.h>
 
-enum { LOCKS = 16 };
+enum { LOCKS = 16, THREADS = 1024 };
 #define TEN_SECONDS UINT64_C(10000000000)
 
 /* The locks that this thread has, the last one taken last. */
@@ -94,22 +94,53 @@ VOID NTAPI KeLowerIrql(KIRQL NewIrql) {
 }
 
 /* ---- Words that are locks: 0, or the number of the thread that has it ---- */
+static ULONG_PTR owner_of(const ULONG_PTR *word) {
+    return __atomic_load_n(word, __ATOMIC_SEQ_CST);
+}
+
 static bool is_free(void *word) {
-    return __atomic_load_n((ULONG_PTR *)word, __ATOMIC_SEQ_CST) == 0;
+    return owner_of(word) == 0;
+}
+
+static const ULONG_PTR *waited_for[THREADS]; /* in turns: the word that each thread waits for, by the thread's number */
+
+static const ULONG_PTR *awaited_by(ULONG_PTR thread) {
+    return thread < THREADS ? waited_for[thread] : NULL;
+}
+
+/* Whether who has the word waits for a word, and so on until one that this thread has: then none of them goes on. */
+static void check_circle(const ULONG_PTR *word, ULONG_PTR mine, const char *what) {
+    ULONG_PTR first = owner_of(word), last = first;
+    for (const ULONG_PTR *next = word; next && last != mine; next = awaited_by(last)) {
+        ULONG_PTR owner = owner_of(next);
+        if (owner == mine) {
+            iocsq_disagree(NULL, "a deadlock: this thread waits for %s that t%u has, and t%u for a lock that this "
+                                 "thread has", what, (unsigned)first, (unsigned)last);
+        }
+        last = owner;
+    }
+}
+
+static void wait_for_word(ULONG_PTR *word, ULONG_PTR mine, const char *what) {
+    if (!iocsq_in_turns()) {
+        iocsq_yield();
+        return;
+    }
+    check_circle(word, mine, what);
+    waited_for[mine % THREADS] = word;
+    iocsq_wait_in_turns(is_free, word, IOCSQ_FOR_EVER, what);
+    waited_for[mine % THREADS] = NULL;
 }
 
 static void take_word(ULONG_PTR *word, const char *what) {
     ULONG_PTR expected = 0, mine = iocsq_thread();
+    iocsq_point();
     while (!__atomic_compare_exchange_n(word, &expected, mine, 0, __ATOMIC_SEQ_CST, __ATOMIC_SEQ_CST)) {
         if (expected == mine) {
             iocsq_disagree(NULL, "%s is taken again by the thread that has it", what);
         }
         expected = 0;
-        if (iocsq_in_turns()) {
-            iocsq_wait_in_turns(is_free, word, IOCSQ_FOR_EVER, what);
-        } else {
-            iocsq_yield();
-        }
+        wait_for_word(word, mine, what);
     }
     iocsq_note_lock(word);
 }

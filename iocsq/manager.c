@@ -7,9 +7,11 @@
 
 enum { MILLISECOND = 1000000 };
 
-static FILE_OBJECT files[IOCSQ_FILES]; /* with the next, under the state's lock */
+static FILE_OBJECT files[IOCSQ_FILES]; /* with the next four, under the state's lock */
 static bool is_open[IOCSQ_FILES];
-static bool is_cleaned[IOCSQ_FILES];
+static bool is_closing[IOCSQ_FILES]; /* its IRP_MJ_CLEANUP was sent, or its IRP_MJ_CREATE has yet to be completed */
+static bool is_cleaned[IOCSQ_FILES]; /* its IRP_MJ_CLEANUP was completed */
+static uint32_t references[IOCSQ_FILES]; /* of IocsqReferenceAny */
 
 uint32_t iocsq_file_number(const void *file) {
     uintptr_t offset = (uintptr_t)file - (uintptr_t)files;
@@ -17,12 +19,29 @@ uint32_t iocsq_file_number(const void *file) {
     return is_file ? (uint32_t)(offset / sizeof *files) : (uint32_t)IOCSQ_FILES;
 }
 
-bool iocsq_is_cleaned(const void *file) {
+/* The number of one that a test names. */
+static uint32_t number_of(const void *file) {
+    uint32_t number = iocsq_file_number(file);
+    if (number >= IOCSQ_FILES) {
+        iocsq_fail("%p is no file object", file);
+    }
+    return number;
+}
+
+static bool is_noted(const bool *of_files, const void *file) {
     uint32_t number = iocsq_file_number(file);
     iocsq_lock_state();
-    bool cleaned = number < IOCSQ_FILES && is_cleaned[number];
+    bool noted = number < IOCSQ_FILES && of_files[number];
     iocsq_unlock_state();
-    return cleaned;
+    return noted;
+}
+
+bool iocsq_is_closing(const void *file) {
+    return is_noted(is_closing, file);
+}
+
+bool iocsq_is_cleaned(const void *file) {
+    return is_noted(is_cleaned, file);
 }
 
 /* After so many milliseconds a request that should have been completed will never be. */
@@ -97,6 +116,9 @@ IOCSQ_REQUEST *IocsqSend(PFILE_OBJECT File, UCHAR MajorFunction, PVOID Buffer, U
         return NULL;
     }
     IoGetNextIrpStackLocation(&i->irp)->Parameters.Read.Length = Length;
+    if (MajorFunction == IRP_MJ_READ || MajorFunction == IRP_MJ_WRITE) {
+        i->most = Length;
+    }
     return send(i, File);
 }
 
@@ -110,6 +132,7 @@ IOCSQ_REQUEST *IocsqControl(PFILE_OBJECT File, ULONG IoControlCode, PVOID Buffer
     stack->Parameters.DeviceIoControl.IoControlCode = IoControlCode;
     stack->Parameters.DeviceIoControl.InputBufferLength = InputLength;
     stack->Parameters.DeviceIoControl.OutputBufferLength = OutputLength;
+    i->most = OutputLength;
     return send(i, File);
 }
 
@@ -149,6 +172,7 @@ VOID IocsqFree(IOCSQ_REQUEST *Request) {
     if (i->place != IOCSQ_DONE) {
         iocsq_fail("IocsqFree of irp %u, which was not completed", i->index);
     }
+    iocsq_check_untouched(i);
     i->used = false;
     iocsq_unlock_state();
 }
@@ -157,11 +181,12 @@ VOID IocsqComplain(IOCSQ_REQUEST *Request, const char *Text) {
     iocsq_disagree(&Request->irp, "irp %u %s", Request->irp.index, Text);
 }
 
-/* Whether it is a test's request that isn't completed or cancelled, but for a cleanup, which nobody cancels. Then it
- * stays until end_cancel, as a caller of IoCancelIrp has to see to. */
+/* Whether it is a test's request that isn't completed or cancelled, but for a cleanup, which nobody cancels, and for what
+ * a cleanup left: that should be told. Then it stays until end_cancel, as a caller of IoCancelIrp has to see to. */
 static bool begin_cancel(struct iocsq_irp *i) {
     iocsq_lock_state();
-    bool may = i->used && !i->own && i->file && i->place != IOCSQ_DONE && !i->irp.Cancel && i->major != IRP_MJ_CLEANUP;
+    bool may = i->used && !i->own && i->file && i->place != IOCSQ_DONE && !i->irp.Cancel &&
+               i->major != IRP_MJ_CLEANUP && !is_cleaned[number_of(i->file)];
     i->cancels += may;
     iocsq_unlock_state();
     return may;
@@ -203,7 +228,7 @@ static PFILE_OBJECT new_file(void) {
     iocsq_lock_state();
     for (uint32_t at = 0; at < IOCSQ_FILES && !file; at++) {
         if (!is_open[at]) {
-            is_open[at] = true;
+            is_open[at] = is_closing[at] = true;
             is_cleaned[at] = false;
             file = &files[at];
             memset(file, 0, sizeof *file);
@@ -215,7 +240,13 @@ static PFILE_OBJECT new_file(void) {
 
 static void free_file(PFILE_OBJECT file) {
     iocsq_lock_state();
-    is_open[iocsq_file_number(file)] = false;
+    is_open[number_of(file)] = false;
+    iocsq_unlock_state();
+}
+
+static void set_closing(PFILE_OBJECT file, bool closing) {
+    iocsq_lock_state();
+    is_closing[number_of(file)] = closing;
     iocsq_unlock_state();
 }
 
@@ -229,39 +260,89 @@ PFILE_OBJECT IocsqOpen(PDRIVER_OBJECT Driver) {
         free_file(file);
         return NULL;
     }
+    set_closing(file, false);
     return file;
 }
 
-static bool is_of(struct iocsq_irp *i, PFILE_OBJECT file) {
+PFILE_OBJECT IocsqReferenceAny(VOID) {
+    uint32_t from = iocsq_random() % IOCSQ_FILES;
+    PFILE_OBJECT file = NULL;
     iocsq_lock_state();
-    bool is = i->used && !i->own && i->file == file;
+    for (uint32_t at = 0; at < IOCSQ_FILES && !file; at++) {
+        uint32_t number = (from + at) % IOCSQ_FILES;
+        if (is_open[number] && !is_closing[number]) {
+            references[number]++;
+            file = &files[number];
+        }
+    }
     iocsq_unlock_state();
-    return is;
+    iocsq_long_point(2); /* its cleanup may run before it is used */
+    return file;
 }
 
-/* What is still listed, and not being cancelled, was left. */
-static void check_cleaned(PFILE_OBJECT file) {
+VOID IocsqRelease(PFILE_OBJECT File) {
     iocsq_lock_state();
-    is_cleaned[iocsq_file_number(file)] = true;
+    references[number_of(File)]--;
+    iocsq_state_changed();
+    iocsq_unlock_state();
+}
+
+static bool is_released(void *file) {
+    return references[number_of(file)] == 0;
+}
+
+/* An IRP, as one of this file object: it may be another's by the time that it is looked at. */
+struct irp_of_file {
+    struct iocsq_irp *irp;
+    PFILE_OBJECT file;
+};
+
+static bool is_of_file(const struct irp_of_file *of) {
+    return of->irp->used && !of->irp->own && of->irp->file == of->file;
+}
+
+static void check_cleaned(PFILE_OBJECT file) {
+    uint32_t number = number_of(file);
+    iocsq_lock_state();
+    is_cleaned[number] = true;
+    iocsq_unlock_state();
+    const struct iocsq_irp *left = iocsq_left_in_queues(number);
+    if (left) {
+        iocsq_disagree(left, "IRP_MJ_CLEANUP of file %u left irp %u in the queue", number, left->index);
+    }
+}
+
+static bool is_completed(void *irp_of_file) {
+    const struct irp_of_file *of = irp_of_file;
+    return !is_of_file(of) || is_done(of->irp);
+}
+
+/* IRP_MJ_CLOSE comes once the file object is referenced no more, and its IRPs are completed. */
+static void wait_for_close(PFILE_OBJECT file) {
+    iocsq_lock_state();
+    iocsq_await(is_released, file, IOCSQ_FOR_EVER, "a file object's release");
     iocsq_unlock_state();
     for (uint32_t at = 0; at < iocsq_irp_count(); at++) {
-        struct iocsq_irp *i = iocsq_irp_number(at);
-        if (is_of(i, file) && i->place == IOCSQ_LISTED && !i->irp.Cancel) {
-            iocsq_disagree(i, "IRP_MJ_CLEANUP of file %u left irp %u in the queue", iocsq_file_number(file), i->index);
+        struct irp_of_file of = { iocsq_irp_number(at), file };
+        iocsq_lock_state();
+        bool completed = iocsq_await(is_completed, &of, patience() * (uint64_t)MILLISECOND, "a request");
+        iocsq_unlock_state();
+        if (!completed && of.irp->late) {
+            iocsq_disagree(of.irp, "irp %u went into the queue after IRP_MJ_CLEANUP of its file %u began, and was "
+                                   "never completed", at, iocsq_file_number(file));
+        }
+        if (!completed) {
+            iocsq_disagree(of.irp, "irp %u of file %u %s, and was never completed", at, iocsq_file_number(file),
+                           iocsq_place_name(of.irp));
         }
     }
 }
 
 VOID IocsqClose(PFILE_OBJECT File) {
+    set_closing(File, true);
     send_and_wait(File, IRP_MJ_CLEANUP);
     check_cleaned(File);
-    for (uint32_t at = 0; at < iocsq_irp_count(); at++) {
-        struct iocsq_irp *i = iocsq_irp_number(at);
-        if (is_of(i, File) && !wait_for(i, patience())) {
-            iocsq_disagree(i, "irp %u of file %u %s, and was never completed", i->index, iocsq_file_number(File),
-                           iocsq_place_name(i));
-        }
-    }
+    wait_for_close(File);
     send_and_wait(File, IRP_MJ_CLOSE);
     free_file(File);
 }
@@ -329,6 +410,11 @@ static void check_all_completed(void) {
         if (i->used && !i->own && !wait_for(i, patience())) {
             iocsq_disagree(i, "irp %u %s, and was never completed", i->index, iocsq_place_name(i));
         }
+        iocsq_lock_state();
+        if (i->place == IOCSQ_DONE) {
+            iocsq_check_untouched(i);
+        }
+        iocsq_unlock_state();
     }
 }
 

@@ -71,7 +71,7 @@ static void complete_by_driver(struct iocsq_queue *q, struct iocsq_irp *i) {
     iocsq_tell(i, "  CsqCompleteCanceledIrp(irp %u)", i->index);
     i->call_of = q;
     q->csq->CsqCompleteCanceledIrp(q->csq, &i->irp);
-    if (completions == i->completions) {
+    if (completions == i->completions && !q->policy.CompletesLater) {
         iocsq_disagree(i, "CsqCompleteCanceledIrp returned, and irp %u was not completed", i->index);
     }
     IOCSQ_COUNT(Cancelled);
@@ -148,13 +148,15 @@ static NTSTATUS insert_by_driver(PIO_CSQ csq, struct iocsq_irp *i, PIO_CSQ_IRP_C
     return status;
 }
 
-/* A file object's cleanup empties the queue of its IRPs, so none may come after it. */
-static void check_file(struct iocsq_irp *i) {
+/* A request that was on its way as a cleanup began may be queued after it, and has to be completed all the same. What the
+ * driver had before the cleanup, that ends. */
+static void note_file(struct iocsq_irp *i, bool again) {
     PFILE_OBJECT file = iocsq_irp_file(i);
-    if (iocsq_is_cleaned(file)) {
-        iocsq_disagree(i, "irp %u goes into the queue after IRP_MJ_CLEANUP of its file %u", i->index,
+    if (again && iocsq_is_cleaned(file)) {
+        iocsq_disagree(i, "irp %u is put back into the queue after IRP_MJ_CLEANUP of its file %u", i->index,
                        iocsq_file_number(file));
     }
+    i->late = iocsq_is_closing(file);
 }
 
 /* Inserts into the reference what the driver inserted. Whether it is pending; if not it was cancelled before. */
@@ -176,6 +178,7 @@ NTSTATUS NTAPI IoCsqInsertIrpEx(PIO_CSQ Csq, PIRP Irp, PIO_CSQ_IRP_CONTEXT Conte
     struct iocsq_irp *i = iocsq_known(Irp, "IoCsqInsertIrp of");
     struct held held = enter(q);
     iocsq_tell(i, "IoCsqInsertIrp%s(irp %u)", Csq->Type == IO_TYPE_CSQ_EX ? "Ex" : "", i->index);
+    bool again = i->place == IOCSQ_REMOVED;
     check_insert(i);
     check_context(i, Context);
     NTSTATUS status = insert_by_driver(Csq, i, Context, InsertContext);
@@ -186,7 +189,7 @@ NTSTATUS NTAPI IoCsqInsertIrpEx(PIO_CSQ Csq, PIRP Irp, PIO_CSQ_IRP_CONTEXT Conte
         q->calls--;
         return status;
     }
-    check_file(i);
+    note_file(i, again);
     IOCSQ_COUNT(Inserted);
     IoMarkIrpPending(Irp);
     i->context = Context;

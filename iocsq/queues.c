@@ -78,6 +78,16 @@ void iocsq_end_queues(void) {
     queue_count = 0;
 }
 
+struct iocsq_irp *iocsq_left_in_queues(uint32_t file) {
+    struct iocsq_irp *left = NULL;
+    pthread_mutex_lock(&queues_mutex);
+    for (uint32_t at = 0; at < queue_count && !left; at++) {
+        left = iocsq_reference_left(&queues[at]->reference, file);
+    }
+    pthread_mutex_unlock(&queues_mutex);
+    return left;
+}
+
 /* ---- Beginning ---- */
 static struct iocsq_queue *new_queue(void) {
     struct iocsq_queue *q = queue_count < IOCSQ_QUEUES ? calloc(1, sizeof *q) : NULL;

@@ -111,6 +111,18 @@ uint32_t iocsq_reference_len(struct iocsq_reference *r) {
     return len;
 }
 
+struct iocsq_irp *iocsq_reference_left(struct iocsq_reference *r, uint32_t file) {
+    struct csq_irp next = { CSQ_ANY, 0 };
+    struct iocsq_irp *left = NULL;
+    pthread_mutex_lock(&r->mutex);
+    while (!left && csq_peek_next(&r->queue, next.irp, file, &next) == CSQ_OK) {
+        struct iocsq_irp *i = r->by_slot[next.irp];
+        left = i->late || i->irp.Cancel ? NULL : i;
+    }
+    pthread_mutex_unlock(&r->mutex);
+    return left;
+}
+
 struct iocsq_reference *iocsq_reference_of(const struct iocsq_irp *i) {
     uint64_t stay = i->stay;
     return stay ? reference_of(stay) : NULL;

@@ -45,6 +45,9 @@ uint32_t iocsq_reference_next(struct iocsq_reference *r, uint32_t after, uint32_
 uint32_t iocsq_reference_judge(struct iocsq_reference *r, uint32_t after, uint32_t file, uint32_t answer,
                                uint32_t *skipped);
 uint32_t iocsq_reference_len(struct iocsq_reference *r);
+/* An IRP that is listed for a file object's number, though that was cleaned up: not one that came after the cleanup
+ * began, or that is cancelled. Null: none. */
+struct iocsq_irp *iocsq_reference_left(struct iocsq_reference *r, uint32_t file);
 struct iocsq_reference *iocsq_reference_of(const struct iocsq_irp *i); /* in which it stays; null: none */
 uint32_t iocsq_slot_in(const struct iocsq_reference *r, const struct iocsq_irp *i); /* CSQ_ANY: it isn't listed there */
 

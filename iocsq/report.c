@@ -71,6 +71,10 @@ void iocsq_point(void) {
     }
 }
 
+VOID IocsqPoint(VOID) {
+    iocsq_point();
+}
+
 void iocsq_long_point(uint32_t in) {
     if (iocsq_in_turns()) {
         iocsq_long_turn_point(in);

@@ -80,6 +80,7 @@ VOID IocsqPause(ULONG Microseconds) {
 
 /* ---- Events, mutexes, semaphores ---- */
 static LONG set_signal(DISPATCHER_HEADER *header, LONG state) {
+    iocsq_point();
     iocsq_lock_state();
     LONG before = header->SignalState;
     header->SignalState = state;
@@ -240,6 +241,7 @@ NTSTATUS NTAPI KeWaitForMultipleObjects(ULONG Count, PVOID Object[], WAIT_TYPE W
     for (ULONG at = 0; at < Count; at++) {
         objects[at] = Object[at];
     }
+    iocsq_point();
     iocsq_lock_state();
     bool over = iocsq_await(is_over, &wait, nanoseconds, "an object");
     NTSTATUS status = over ? end_wait(&wait) : STATUS_TIMEOUT;

@@ -42,12 +42,15 @@ VOID NTAPI ExInitializeFastMutex(PFAST_MUTEX FastMutex);
 VOID NTAPI ExAcquireFastMutex(PFAST_MUTEX FastMutex);
 VOID NTAPI ExReleaseFastMutex(PFAST_MUTEX FastMutex);
 
-#define InterlockedExchangePointer(Target, Value) __atomic_exchange_n((Target), (Value), __ATOMIC_SEQ_CST)
-#define InterlockedIncrement(Addend) __atomic_add_fetch((Addend), 1, __ATOMIC_SEQ_CST)
-#define InterlockedDecrement(Addend) __atomic_sub_fetch((Addend), 1, __ATOMIC_SEQ_CST)
-#define InterlockedExchange(Target, Value) __atomic_exchange_n((Target), (Value), __ATOMIC_SEQ_CST)
-#define InterlockedExchangeAdd(Addend, Value) __atomic_fetch_add((Addend), (Value), __ATOMIC_SEQ_CST)
-#define InterlockedCompareExchange(Target, Value, Comparand) __sync_val_compare_and_swap((Target), (Comparand), (Value))
+VOID IocsqPoint(VOID); /* another thread may come between here */
+#define InterlockedExchangePointer(Target, Value) \
+    (IocsqPoint(), __atomic_exchange_n((Target), (Value), __ATOMIC_SEQ_CST))
+#define InterlockedIncrement(Addend) (IocsqPoint(), __atomic_add_fetch((Addend), 1, __ATOMIC_SEQ_CST))
+#define InterlockedDecrement(Addend) (IocsqPoint(), __atomic_sub_fetch((Addend), 1, __ATOMIC_SEQ_CST))
+#define InterlockedExchange(Target, Value) (IocsqPoint(), __atomic_exchange_n((Target), (Value), __ATOMIC_SEQ_CST))
+#define InterlockedExchangeAdd(Addend, Value) (IocsqPoint(), __atomic_fetch_add((Addend), (Value), __ATOMIC_SEQ_CST))
+#define InterlockedCompareExchange(Target, Value, Comparand) \
+    (IocsqPoint(), __sync_val_compare_and_swap((Target), (Comparand), (Value)))
 
 /* ---- What threads wait for: each begins with a DISPATCHER_HEADER ---- */
 typedef enum _EVENT_TYPE { NotificationEvent, SynchronizationEvent } EVENT_TYPE;

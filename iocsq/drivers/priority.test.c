@@ -3,4 +3,4 @@
 
 BOOLEAN IsWanted(PIRP Irp, PVOID PeekContext);
 extern const IOCSQ_POLICY DriverPolicy;
-const IOCSQ_POLICY DriverPolicy = { IsWanted, NULL, TRUE, FALSE };
+const IOCSQ_POLICY DriverPolicy = { .Match = IsWanted, .AnyOrder = TRUE };

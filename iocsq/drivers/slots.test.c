@@ -6,4 +6,4 @@ static int Place(PIRP Irp, PVOID InsertContext) {
     return 1;
 }
 extern const IOCSQ_POLICY DriverPolicy;
-const IOCSQ_POLICY DriverPolicy = { NULL, Place, FALSE, FALSE };
+const IOCSQ_POLICY DriverPolicy = { .Place = Place };

@@ -3,4 +3,4 @@
 
 BOOLEAN IsWanted(PIRP Irp, PVOID PeekContext);
 extern const IOCSQ_POLICY DriverPolicy;
-const IOCSQ_POLICY DriverPolicy = { IsWanted, NULL, FALSE, FALSE };
+const IOCSQ_POLICY DriverPolicy = { .Match = IsWanted };

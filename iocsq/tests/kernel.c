@@ -203,13 +203,13 @@ static void complete_kept(NTSTATUS status) {
 
 /* A read that is passed on is pending above too, and its completion goes up. */
 static void passed_on(PFILE_OBJECT file) {
-    UCHAR byte;
-    IOCSQ_REQUEST *read = IocsqSend(file, IRP_MJ_READ, &byte, 1);
+    UCHAR bytes[8];
+    IOCSQ_REQUEST *read = IocsqSend(file, IRP_MJ_READ, bytes, sizeof bytes);
     CHECK(IocsqStatus(read) == STATUS_PENDING && kept->CurrentLocation == 1 && kept->StackCount == 2);
     complete_kept(STATUS_SUCCESS);
     CHECK(IocsqStatus(read) == STATUS_SUCCESS && IocsqInformation(read) == 7);
     IocsqFree(read);
-    CHECK(IocsqStatus(read = IocsqControl(file, 1, &byte, 1, 1)) == STATUS_INVALID_DEVICE_REQUEST);
+    CHECK(IocsqStatus(read = IocsqControl(file, 1, bytes, 1, 1)) == STATUS_INVALID_DEVICE_REQUEST);
     IocsqFree(read);
 }
 
@@ -237,8 +237,10 @@ static void own_irps(void) {
 
 static void devices(void) {
     PDRIVER_OBJECT driver = IocsqLoad(entry);
-    PFILE_OBJECT file = IocsqOpen(driver);
-    passed_on(file);
+    PFILE_OBJECT file = IocsqOpen(driver), same = IocsqReferenceAny();
+    CHECK(file && same == file);
+    passed_on(same);
+    IocsqRelease(same);
     own_irps();
     IocsqClose(file);
     IocsqUnload(driver);

@@ -6,6 +6,7 @@
 #include "iocsq_test.h"
 
 #include <stdatomic.h>
+#include <stdbool.h>
 #include <stdio.h>
 #include <stdlib.h>
 
@@ -29,6 +30,7 @@ static _Atomic int ending;
 struct request {
     IOCSQ_REQUEST *sent; /* null: none */
     PFILE_OBJECT file;
+    bool beside; /* another user's file object */
     unsigned char buffer[BYTES];
 };
 
@@ -72,13 +74,14 @@ static ULONG control_code(struct user *u) {
     return count ? DriverControls[roll(u, count)] : (ULONG)ANY_CONTROL;
 }
 
-static void send(struct user *u, struct request *r, PFILE_OBJECT file) {
+static void send(struct user *u, struct request *r, PFILE_OBJECT file, bool beside) {
     uint32_t act = roll(u, 16);
     ULONG length = 1 + roll(u, LONGEST);
     if (r->sent) {
         return;
     }
     r->file = file;
+    r->beside = beside;
     if (act >= 10 && act < 13) {
         r->sent = IocsqControl(file, control_code(u), r->buffer, length, BYTES);
     } else {
@@ -86,8 +89,18 @@ static void send(struct user *u, struct request *r, PFILE_OBJECT file) {
     }
 }
 
+/* On a file object that its user may be closing. */
+static void send_beside(struct user *u, struct request *r) {
+    PFILE_OBJECT file = IocsqReferenceAny();
+    if (file) {
+        send(u, r, file, true);
+        IocsqRelease(file);
+    }
+}
+
+/* What a cleanup of another user left isn't cancelled, so that it is told. */
 static void cancel(struct user *u, struct request *r) {
-    if (!r->sent) {
+    if (!r->sent || r->beside) {
         return;
     }
     IocsqCancel(r->sent);
@@ -124,8 +137,10 @@ static void take_turn(struct user *u) {
     if (r->sent && IocsqWait(r->sent, 0)) {
         reap(r);
     }
-    if (act < 16) {
-        send(u, r, *file);
+    if (act < 14) {
+        send(u, r, *file, false);
+    } else if (act < 16) {
+        send_beside(u, r);
     } else if (act < 28) {
         cancel(u, r);
     } else if (act == 28) {
