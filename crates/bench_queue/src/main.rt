@@ -299,12 +299,7 @@ where
 }
 
 // Times a turn's shares.
-fn time<L, N, R>(
-    rt: &R,
-    queue: &Csq<L, N>,
-    passes: &mut [Pass<N>],
-    work: Work,
-) -> Result<Totals>
+fn time<L, N, R>(rt: &R, queue: &Csq<L, N>, passes: &mut [Pass<N>], work: Work) -> Result<Totals>
 where
     L: PendingList + Drop + Send,
     N: QueueName + Send + Sync,
@@ -374,6 +369,16 @@ fn new_queue<L: PendingList + Drop>(alloc: Global, list: Option<L>, irps: u32) -
     Ok(blank)
 }
 
+// One turn over a new queue with this list.
+fn turn_over<L, R>(rt: &R, list: Option<L>, work: Work) -> Result<Totals>
+where
+    L: PendingList + Drop + Send,
+    R: Clock + Threads + Wait + AllocGlobal + Sync,
+{
+    let blank = new_queue(rt.alloc(), list, work.irps())?;
+    turn::<_, Brand, _>(rt, blank, work)
+}
+
 // One turn over a list of this kind.
 fn turn_of<R>(rt: &R, work: Work, kind: Kind) -> Result<Totals>
 where
@@ -383,11 +388,11 @@ where
     match kind {
         Kind::Vector => {
             let list = VecList::new(rt.alloc(), irps, MOST_THREADS, irps).ok();
-            turn::<_, Brand, _>(rt, new_queue(rt.alloc(), list, irps)?, work)
+            turn_over(rt, list, work)
         }
         Kind::Chains => {
             let list = ChainList::new(rt.alloc(), irps, MOST_THREADS, irps).ok();
-            turn::<_, Brand, _>(rt, new_queue(rt.alloc(), list, irps)?, work)
+            turn_over(rt, list, work)
         }
     }
 }
