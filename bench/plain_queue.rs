@@ -8,8 +8,10 @@ use std::sync::atomic::{AtomicU64, Ordering::SeqCst};
 use std::thread;
 use std::time::Instant;
 
-const INSERTS: usize = 1024;
+const IRPS: usize = 1024;
 const REUSED_IRPS: usize = 64;
+const REUSES: usize = 1024;
+const MOST_THREADS: usize = 8;
 const SET: u64 = 1 << 32;
 const LAST: u64 = (1 << 30) - 1;
 const CANCELLED: u64 = 0xC000_0120;
@@ -57,7 +59,7 @@ impl Queue {
                 entries: VecDeque::with_capacity(irps),
                 used: vec![false; irps],
                 lives: vec![0; irps],
-                closed: vec![false],
+                closed: vec![false; MOST_THREADS],
                 limit: irps,
             }),
         }
@@ -88,10 +90,13 @@ impl Queue {
         Some(life)
     }
 
-    fn remove_next(&self) -> Option<(usize, u64)> {
+    fn remove_next(&self, wanted: Option<usize>) -> Option<(usize, u64)> {
         let mut list = self.list.lock().unwrap();
         for at in 0..list.entries.len() {
-            let irp = list.entries[at].0;
+            let (irp, file) = list.entries[at];
+            if wanted.is_some_and(|wanted| wanted != file) {
+                continue;
+            }
             let life = list.lives[irp];
             if self.word(irp, Routine).swap(2 * life, SeqCst) % 2 == 1 {
                 list.entries.remove(at);
@@ -148,8 +153,35 @@ impl Queue {
     }
 }
 
-fn end(queue: &Queue, kind: &str, irp: usize, life: u64) -> bool {
-    match kind {
+/// What a turn does: its inserts are shared by so many threads, each with a file object of its own or all with one,
+/// while so many IRPs are listed beside them.
+struct Work {
+    kind: String,
+    threads: usize,
+    listed: usize,
+    owned: bool,
+}
+
+impl Work {
+    fn irps(&self) -> usize {
+        if self.kind == "reuse" { (self.listed + REUSED_IRPS).min(IRPS) } else { IRPS }
+    }
+
+    fn inserted(&self) -> usize {
+        self.irps() - self.listed
+    }
+
+    fn inserts(&self) -> usize {
+        if self.kind == "reuse" { REUSES } else { self.inserted() }
+    }
+
+    fn file(&self, thread: usize) -> usize {
+        if self.owned { thread } else { 0 }
+    }
+}
+
+fn end(queue: &Queue, work: &Work, thread: usize, irp: usize, life: u64) -> bool {
+    match work.kind.as_str() {
         "cancel" => queue.cancel(irp, life),
         "reuse" => {
             let removed = queue.remove(irp, life);
@@ -158,7 +190,7 @@ fn end(queue: &Queue, kind: &str, irp: usize, life: u64) -> bool {
             }
             removed && queue.reuse(irp).is_some()
         }
-        _ => match queue.remove_next() {
+        _ => match queue.remove_next(work.owned.then_some(thread)) {
             None => false,
             Some((irp, life)) => {
                 queue.complete(irp, life, 0);
@@ -168,33 +200,39 @@ fn end(queue: &Queue, kind: &str, irp: usize, life: u64) -> bool {
     }
 }
 
-fn share(queue: &Queue, kind: &str, first: usize, threads: usize) -> usize {
-    let irps = queue.irps;
+fn share(queue: &Queue, work: &Work, thread: usize) -> usize {
     let mut completed = 0;
-    for place in (first..INSERTS).step_by(threads) {
-        let irp = place % irps;
-        let life = queue.insert(irp, 0).expect("home");
-        completed += usize::from(end(queue, kind, irp, life));
+    for nth in 0..work.inserts() / work.threads {
+        let place = nth * work.threads + thread;
+        let irp = place % work.inserted() + work.listed;
+        let life = queue.insert(irp, work.file(thread)).expect("home");
+        completed += usize::from(end(queue, work, thread, irp, life));
     }
     completed
 }
 
 fn main() {
     let words: Vec<String> = std::env::args().collect();
-    let kind = words[1].as_str();
-    let irps = if kind == "reuse" { REUSED_IRPS } else { INSERTS };
-    let threads: usize = words[2].parse().unwrap();
-    let turns: usize = words[3].parse().unwrap();
+    let work = Work {
+        kind: words[1].clone(),
+        threads: words[2].parse().unwrap(),
+        listed: words[3].parse().unwrap(),
+        owned: words[4] == "owned",
+    };
+    let turns: usize = words[5].parse().unwrap();
     let (mut completed, mut nanoseconds) = (0, 0);
     for _ in 0..turns {
-        let queue = Queue::new(irps);
+        let queue = Queue::new(work.irps());
+        for irp in 0..work.listed {
+            queue.insert(irp, work.file(irp % work.threads)).expect("home");
+        }
         let start = Instant::now();
-        completed += if threads == 1 {
-            share(&queue, kind, 0, 1)
+        completed += if work.threads == 1 {
+            share(&queue, &work, 0)
         } else {
             thread::scope(|scope| {
-                let share = |first| share(&queue, kind, first, threads);
-                let handles: Vec<_> = (1..threads).map(|first| scope.spawn(move || share(first))).collect();
+                let share = |thread| share(&queue, &work, thread);
+                let handles: Vec<_> = (1..work.threads).map(|thread| scope.spawn(move || share(thread))).collect();
                 share(0) + handles.into_iter().map(|handle| handle.join().unwrap()).sum::<usize>()
             })
         };

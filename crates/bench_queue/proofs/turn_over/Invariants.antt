@@ -1,4 +1,4 @@
-use Rattle.bench_queue.proofs.run.Given as goal
+use Rattle.bench_queue.proofs.turn_over.Given as goal
 
 -- the queue that was just made
 abbrev pub ghosts-turn : goal.ghosts-turn

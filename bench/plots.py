@@ -1,0 +1,87 @@
+"""The plots of bench/figures, as SVG: lines over the number of threads, and the ratios to plain code."""
+import html
+import math
+
+COLOURS = ('#0969da', '#bc4c00', '#1a7f37', '#8250df', '#9a6700', '#bf3989')
+STYLE = ("<style>.sheet{fill:#fff}text{fill:#1f2328;font:12px system-ui,'DejaVu Sans',sans-serif}.s{fill:#59636e;font-size:11px}"
+         '.g{stroke:#d1d9e0}.one{stroke:#59636e;stroke-dasharray:4 3}'
+         '@media screen and (prefers-color-scheme:dark){.sheet{fill:#0d1117}text{fill:#e6edf3}.s{fill:#b1bac4}.g{stroke:#30363d}}'
+         '</style>')
+
+
+def svg(width, height, title, parts):
+    head = (f"<svg xmlns='http://www.w3.org/2000/svg' width='{width}' height='{height}' viewBox='0 0 {width} {height}'>"
+            f'<title>{html.escape(title)}</title>{STYLE}'
+            f"<rect class='sheet' width='{width}' height='{height}'/><text x='16' y='24'>{html.escape(title)}</text>")
+    return '\n'.join([head, *parts, '</svg>']) + '\n'
+
+
+def panel(left, top, title, series, most):
+    """Lines over 1, 2, 4 and 8 threads, of nanoseconds on a logarithmic scale from 20 to `most`."""
+    width, height, least = 210, 180, 20
+
+    def x_of(threads):
+        return left + math.log2(threads) * width / 3
+
+    def y_of(nanoseconds):
+        return top + height * (1 - math.log(max(nanoseconds, least) / least) / math.log(most / least))
+    parts = [f"<text class='s' x='{left}' y='{top - 8}'>{html.escape(title)}</text>"]
+    tick = least
+    while tick <= most:
+        parts.append(f"<path class='g' d='M{left} {y_of(tick):.1f}h{width}'/>"
+                     f"<text class='s' x='{left - 6}' y='{y_of(tick) + 4:.1f}' text-anchor='end'>{tick}</text>")
+        tick *= 5 if str(tick)[0] == '2' else 2
+    for threads in (1, 2, 4, 8):
+        parts.append(f"<text class='s' x='{x_of(threads):.1f}' y='{top + height + 16}' text-anchor='middle'>{threads}</text>")
+    for (name, points), colour in zip(series.items(), COLOURS):
+        path = 'M' + 'L'.join(f'{x_of(threads):.1f} {y_of(time):.1f}' for threads, time in points)
+        parts.append(f"<path d='{path}' fill='none' stroke='{colour}' stroke-width='2'><title>{html.escape(name)}</title></path>")
+    return parts
+
+
+def legend(left, top, names):
+    parts = []
+    for at, (name, colour) in enumerate(zip(names, COLOURS)):
+        x = left + 190 * at
+        parts.append(f"<path d='M{x} {top}h22' stroke='{colour}' stroke-width='2'/>"
+                     f"<text class='s' x='{x + 28}' y='{top + 4}'>{html.escape(name)}</text>")
+    return parts
+
+
+def scaling(rows):
+    """A panel for each length of the list: its time by threads, over both lists, for one file object or many."""
+    names = {('vector', 'shared'): 'vector, one file object', ('chains', 'shared'): 'chains, one file object',
+             ('vector', 'owned'): 'vector, one for each thread', ('chains', 'owned'): 'chains, one for each thread'}
+    lengths = sorted({row['listed'] for row in rows})
+    most = 20
+    while most < max(row['own'] for row in rows):
+        most *= 10
+    parts = legend(24, 48, names.values())
+    for at, listed in enumerate(lengths):
+        series = {name: [(row['threads'], row['own']) for row in rows
+                         if (row['list'], row['files'], row['listed']) == (*key, listed)] for key, name in names.items()}
+        parts += panel(60 + 270 * at, 96, f'{listed} IRPs are listed', series, most)
+    parts.append("<text class='s' x='24' y='312'>nanoseconds of an insert, a removal and a completion, by threads</text>")
+    return svg(60 + 270 * len(lengths), 328, 'How the cost grows', parts)
+
+
+def ratios(queue, c):
+    """A mark for each comparison, at its ratio, with a line as long as its spread."""
+    rows = ([(f"{row['kind']}, {row['threads']} threads", row) for row in queue]
+            + [(f"from C: {row['kind']}, {row['lock']}, {row['threads']} threads", row) for row in c])
+    least, most, left, width = 0.6, 1.4, 250, 480
+
+    def x_of(ratio):
+        return left + width * (min(max(ratio, least), most) - least) / (most - least)
+    height = 66 + 18 * len(rows) + 24
+    parts = [f"<path class='one' d='M{x_of(1):.1f} 56V{height - 30}'/>"]
+    for tick in (0.6, 0.8, 1.0, 1.2, 1.4):
+        parts.append(f"<text class='s' x='{x_of(tick):.1f}' y='50' text-anchor='middle'>{tick}</text>")
+    for at, (name, row) in enumerate(rows):
+        y, half = 70 + 18 * at, row['ratio'] * row['spread'] / 200
+        colour = COLOURS[2] if row['ratio'] >= 1 else COLOURS[1]
+        parts.append(f"<text class='s' x='{left - 12}' y='{y + 4}' text-anchor='end'>{html.escape(name)}</text>"
+                     f"<path d='M{x_of(row['ratio'] - half):.1f} {y}H{x_of(row['ratio'] + half):.1f}' stroke='{colour}' stroke-width='2'/>"
+                     f"<circle cx='{x_of(row['ratio']):.1f}' cy='{y}' r='4' fill='{colour}'/>")
+    parts.append(f"<text class='s' x='24' y='{height - 8}'>the plain queue's time over the proved one's: above 1 the proved one is faster; the lines go from quartile to quartile</text>")
+    return svg(left + width + 30, height, 'Beside plain code of the same design', parts)
