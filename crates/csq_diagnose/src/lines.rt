@@ -10,7 +10,7 @@ pub(crate) struct LongLine {
     pub(crate) length: usize,
 }
 
-/// As `line 3, column 65: the line has 70 bytes, and at most 64 are allowed, in a comment too`.
+/// As `line 3, column 65: the line has 70 bytes, and at most 64 are allowed`.
 impl fmt::Display for LongLine {
     ghost use Rattle.std.specs.Prelude.{Some};
     ghost use Rattle.csq_diagnose.specs.LineTexts.{long_text};

@@ -23,7 +23,7 @@ fn nearer(best: Option<Near>, other: Near) -> Near
 }
 
 impl Near {
-    /// The one of these words to which the fewest edits lead, the first of several; none where there are no
+    /// One of these words to which the fewest edits lead; none where there are no
     /// words. Own rule.
     pub fn find<A: Allocator + Copy>(
         alloc: A,
