@@ -21,12 +21,14 @@ use thiserror::Error;
 /// What the program is asked to do.
 #[derive(Clone, Copy, Debug, PartialEq, Eq)]
 pub enum Job<'a> {
-    /// To replay a schedule over this many IRPs and passes, and to tell its claims or not.
+    /// To replay a schedule over this many IRPs and passes, and to tell its claims and explain each line
+    /// of the answer, or not.
     Schedule {
         source: Source<'a>,
         irps: u32,
         passes: u32,
         claims: bool,
+        explain: bool,
     },
     /// To draw a schedule over this many IRPs and passes.
     Draw {
@@ -195,6 +197,12 @@ fn with_flag<'a>(
     command.arg(flag)
 }
 
+/// The command with the flag for sentences.
+fn with_explain<'a>(alloc: Global, command: Command<'a>) -> Result<Command<'a>, AllocError> {
+    let help = "Explains each line of the answer in a sentence below it";
+    with_flag(alloc, command, "explain", help)
+}
+
 /// The command with the name of the file that it reads.
 fn with_file<'a>(alloc: Global, command: Command<'a>) -> Result<Command<'a>, AllocError> {
     let file = Arg::new(alloc, "file")
@@ -227,12 +235,9 @@ fn schedule_command<'a>(alloc: Global) -> Result<Command<'a>, AllocError> {
     let command = machine_command(alloc, "schedule")?
         .about(SCHEDULE_ABOUT)
         .after_help(SCHEDULE_HELP);
-    with_flag(
-        alloc,
-        command,
-        "claims",
-        "Tells each claim too: the IRP, the line and the pass",
-    )
+    let help = "Tells each claim too: the IRP, the line and the pass";
+    let command = with_flag(alloc, command, "claims", help)?;
+    with_explain(alloc, command)
 }
 
 /// The command line of a script.
@@ -369,6 +374,7 @@ fn schedule_job<'a>(options: &ArgMatches<'a>) -> Job<'a>
         irps,
         passes,
         claims: options.get_flag("claims"),
+        explain: options.get_flag("explain"),
     }
 }
 

@@ -26,7 +26,8 @@ The steps, as a driver writer knows them:
 The answer is each line with the value that its step found: the flag or the
 routine that was there before, 1 or 0. Then comes each IRP that isn't home, is
 cancelled or is in a later life, and whether all is at rest, which means that no
-call is half done and no pass has an IRP: rest yes, or rest no.
+call is half done and no pass has an IRP: rest yes, or rest no. With --explain a
+sentence stands below each of these lines, two spaces in.
 
 A step that can't come next ends the schedule: line N refused, and the first of
 these that holds. Standard error says more.

@@ -4,31 +4,72 @@ ghost use Rattle.irp_core.specs.Runs.{IsInLimits};
 ghost use Rattle.csq_list.specs.Listing.{IsFresh};
 ghost use Rattle.csq_list.specs.declared.refusals.ListNew.TheVariants.{BadSize};
 ghost use Rattle.csq_program.specs.declared.program.ProgramFault.TheVariants.{Replay};
+ghost use Rattle.csq_program.specs.Replays.{TellsSchedule, limits_or_all};
 
 use crate::program::{ProgramFault, REFUSED};
 use crate::source::Source;
 use csq_diagnose::{diagnose_schedule, diagnose_script};
 use csq_draw::draw_schedule;
+use csq_explain::explain_schedule;
 use csq_list::{AnyList, ListKind, ListNew, PendingList};
 use csq_replay::{Ended, SimFault, answer_schedule, answer_script, exit_status};
 use std::alloc::{AllocError, Allocator, Global};
+use std::io::{Read, Write};
 use std::rt::Files;
 use std::{fmt, str};
+
+/// How large a schedule's machine is, and how the schedule is told.
+#[derive(Clone, Copy, Debug, PartialEq, Eq)]
+pub(crate) struct ScheduleOptions {
+    /// The IRPs.
+    pub(crate) irps: u32,
+    /// The passes.
+    pub(crate) passes: u32,
+    /// Whether each claim is told.
+    pub(crate) claims: bool,
+    /// Whether each line of the answer is explained.
+    pub(crate) explain: bool,
+}
+
+/// Answers a schedule, and explains each line of the answer where that is asked for.
+fn tell_schedule<R: Read, W: Write>(
+    alloc: Global,
+    options: ScheduleOptions,
+    reader: &mut R,
+    writer: &mut W,
+) -> Result<Ended, SimFault>
+    requires { IsInLimits (record { irps = options.irps; passes = options.passes; first = 0 }) }
+    ensures { IfOk result
+        (TellsSchedule (record { irps = options.irps; passes = options.passes; first = 0 })
+        options.claims options.explain
+        (R.remaining reader.old) (R.remaining reader.new) (W.contents writer.old) (W.contents writer.new)) }
+{
+    let ScheduleOptions {
+        irps,
+        passes,
+        claims,
+        explain,
+    } = options;
+    if explain {
+        explain_schedule(alloc, irps, passes, claims, reader, writer)
+    } else {
+        answer_schedule(alloc, irps, passes, claims, reader, writer)
+    }
+}
 
 /// Replays a schedule.
 pub(crate) fn run_schedule<R: AllocGlobal + Print + Eprint + Input + Files>(
     rt: &R,
     source: Source<'_>,
-    irps: u32,
-    passes: u32,
-    claims: bool,
+    options: ScheduleOptions,
 ) -> Result<u8, ProgramFault>
-    requires { IsInLimits (record { irps = irps; passes = passes; first = 0 }) }
+    requires { IsInLimits (record { irps = options.irps; passes = options.passes; first = 0 }) }
 {
+    let ScheduleOptions { irps, passes, .. } = options;
     let input = source.read(rt)?;
     let mut reader = input.as_slice();
     let mut text = Vec::new(rt.alloc());
-    let ended = answer_schedule(rt.alloc(), irps, passes, claims, &mut reader, &mut text);
+    let ended = tell_schedule(rt.alloc(), options, &mut reader, &mut text);
     let told = diagnosis_of_schedule(rt.alloc(), irps, passes, &input, ended)?;
     finish(rt, source, ended, &text, &told)
 }
@@ -123,6 +164,20 @@ pub(crate) struct Limits {
     pub(crate) limit: u32,
     /// How many of one file object.
     pub(crate) file_limit: u32,
+}
+
+impl Limits {
+    /// The sizes with these limits, each of which is the number of IRPs where none is given.
+    pub(crate) fn new(irps: u32, files: u32, limit: Option<u32>, file_limit: Option<u32>) -> Limits
+        ensures { result ≡ limits_or_all irps files limit file_limit }
+    {
+        Limits {
+            irps,
+            files,
+            limit: limit.unwrap_or(irps),
+            file_limit: file_limit.unwrap_or(irps),
+        }
+    }
 }
 
 /// The limit of each file object.

@@ -16,18 +16,23 @@ fn command_lines_are_read(rt: HostRuntime) -> Result<(), Fail> {
         "--passes",
         "64",
     ];
+    let explained = ["csqsim", "schedule", "--explain"];
+    let all_told = ["csqsim", "schedule", "--explain", "--claims"];
     let jobs = [
-        (plain.as_slice(), 8, 4, false),
-        (least.as_slice(), 1, 1, false),
-        (most.as_slice(), 1024, 64, true),
+        (plain.as_slice(), 8, 4, false, false),
+        (least.as_slice(), 1, 1, false, false),
+        (most.as_slice(), 1024, 64, true, false),
+        (explained.as_slice(), 8, 4, false, true),
+        (all_told.as_slice(), 8, 4, true, true),
     ];
-    for (words, irps, passes, claims) in jobs {
+    for (words, irps, passes, claims, explain) in jobs {
         let job = read_command(alloc, words).ok();
         let wanted = Job::Schedule {
             source: Source::Standard,
             irps,
             passes,
             claims,
+            explain,
         };
         assert_eq!(rt; job, Some(wanted));
     }
@@ -71,7 +76,13 @@ fn command_lines_of_pictures_are_read(rt: HostRuntime) -> Result<(), Fail> {
             })
         );
     }
-    for option in ["--irps=1025", "--passes=0", "--passes=65", "--claims"] {
+    for option in [
+        "--irps=1025",
+        "--passes=0",
+        "--passes=65",
+        "--claims",
+        "--explain",
+    ] {
         let words = ["csqsim", "draw", option];
         assert!(rt;
             read_command(rt.alloc(), words.as_slice()).is_err(),

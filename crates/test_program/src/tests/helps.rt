@@ -10,8 +10,9 @@ Arguments:
   [FILE]  File to read; - or none for standard input
 
 Options:
-      --claims  Tells each claim too: the IRP, the line and the pass
-  -h, --help    Print help
+      --claims   Tells each claim too: the IRP, the line and the pass
+      --explain  Explains each line of the answer in a sentence below it
+  -h, --help     Print help
 
 Size:
       --irps <N>    IRPs, 1 to 1024 [default: 8]
@@ -34,7 +35,8 @@ The steps, as a driver writer knows them:
 The answer is each line with the value that its step found: the flag or the
 routine that was there before, 1 or 0. Then comes each IRP that isn't home, is
 cancelled or is in a later life, and whether all is at rest, which means that no
-call is half done and no pass has an IRP: rest yes, or rest no.
+call is half done and no pass has an IRP: rest yes, or rest no. With --explain a
+sentence stands below each of these lines, two spaces in.
 
 A step that can't come next ends the schedule: line N refused, and the first of
 these that holds. Standard error says more.
