@@ -38,7 +38,7 @@ pub enum Job<'a> {
     },
     /// To make the calls of a script over this many IRPs and file objects, of which `limit` IRPs may
     /// be listed at a time, and `file_limit` for each file object: all, where none is given. The list is
-    /// of this kind.
+    /// of this kind. Each line of the answer is explained, or not.
     Script {
         source: Source<'a>,
         irps: u32,
@@ -46,6 +46,7 @@ pub enum Job<'a> {
         limit: Option<u32>,
         file_limit: Option<u32>,
         list: ListKind,
+        explain: bool,
     },
     /// To run a device of this plan. The list is of this kind.
     Run {
@@ -251,12 +252,9 @@ fn script_command<'a>(alloc: Global) -> Result<Command<'a>, AllocError> {
         .about(SCRIPT_ABOUT)
         .after_help(SCRIPT_HELP);
     let command = with_file(alloc, command)?;
-    with_flag(
-        alloc,
-        command,
-        "chain",
-        "Keeps the list in linked chains; the answers are the same",
-    )
+    let help = "Keeps the list in linked chains; the answers are the same";
+    let command = with_flag(alloc, command, "chain", help)?;
+    with_explain(alloc, command)
 }
 
 /// The command line of a run.
@@ -407,6 +405,7 @@ fn script_job<'a>(options: &ArgMatches<'a>) -> Job<'a>
         limit: limit_in(options, "limit"),
         file_limit: limit_in(options, "file-limit"),
         list: list_kind(options),
+        explain: options.get_flag("explain"),
     }
 }
 

@@ -136,9 +136,10 @@ where
             limit,
             file_limit,
             list,
+            explain,
         } => {
             let limits = Limits::new(irps, files, limit, file_limit);
-            run_limited_script(rt, source, list, limits)
+            run_limited_script(rt, source, list, limits, explain)
         }
         Job::Run { plan, list } => {
             let Plan { irps, files, .. } = plan;

@@ -331,3 +331,132 @@ fn options_reach_the_explanation(rt: HostRuntime) {
         compare(&rt, case);
     }
 }
+
+// A script with each kind of call, and refusals.
+const CALLS: &str = "\
+insert 0 1 back
+insert 1 0 front
+insert 2 1 back
+mark 0
+next *
+next 1
+remove 2
+complete 1 00000000
+routine 0
+reuse 1
+cancel 1@1
+insert 1 1 back
+status 1
+flag 3
+close 2
+insert 4 2 back
+insert 4 1 back
+cleanup 0
+insert 5 0 back
+insert 5 1 back
+insert 6 1 back
+mark 4
+";
+
+const REPLIES: &str = "\
+pending
+  IoCsqInsertIrpEx listed IRP 0 for file object 1 at the back, and returned STATUS_PENDING
+pending
+  IoCsqInsertIrpEx listed IRP 1 for file object 0 at the front, and returned STATUS_PENDING
+pending
+  IoCsqInsertIrpEx listed IRP 2 for file object 1 at the back, and returned STATUS_PENDING
+claimed
+  IoCancelIrp set the Cancel flag of IRP 0 and took its cancel routine: the pass owes the IRP now
+irp 1
+  IoCsqRemoveNextIrp took IRP 1 out of the list, and the pass holds it now
+irp 2
+  IoCsqRemoveNextIrp took IRP 2 out of the list, and the pass holds it now
+none
+  IoCsqRemoveIrp returned NULL: IRP 2 isn't listed in that life, or a cancel has it
+completed 00000000
+  IoCompleteRequest completed IRP 1 with STATUS_SUCCESS
+completed C0000120
+  the cancel routine took IRP 0 out of the list (CsqRemoveIrp), and completed it with STATUS_CANCELLED
+life 1
+  IoReuseIrp began life 1 of IRP 1
+false
+  IoCancelIrp returned FALSE: it set the Cancel flag of IRP 1@1, and found no cancel routine
+cancelled
+  IoCsqInsertIrpEx found the Cancel flag of IRP 1 set, completed it with STATUS_CANCELLED (CsqCompleteCanceledIrp), and returned STATUS_PENDING
+C0000120
+  Irp->IoStatus.Status of IRP 1 is STATUS_CANCELLED
+0
+  Irp->Cancel of IRP 3 is FALSE
+closed
+  the driver closed file object 2: inserts for it are refused from now on
+refused FileClosed C0000128
+  file object 2 was closed by a cleanup or a close: STATUS_FILE_CLOSED
+pending
+  IoCsqInsertIrpEx listed IRP 4 for file object 1 at the back, and returned STATUS_PENDING
+cleaned 0
+  IRP_MJ_CLEANUP closed file object 0, and completed 0 of its IRPs with STATUS_CANCELLED
+refused FileClosed C0000128
+  file object 0 was closed by a cleanup or a close: STATUS_FILE_CLOSED
+pending
+  IoCsqInsertIrpEx listed IRP 5 for file object 1 at the back, and returned STATUS_PENDING
+refused FileFull C000009A
+  file object 1 has as many IRPs listed as its limit: STATUS_INSUFFICIENT_RESOURCES
+claimed
+  IoCancelIrp set the Cancel flag of IRP 4 and took its cancel routine: the pass owes the IRP now
+left 4 5
+  2 IRPs are listed, in this order: 4, 5
+held 2
+  the pass holds IRP 2, and must complete it
+owed 4
+  the pass owes IRP 4: its cancel routine must run
+";
+
+// Each kind of call, over both lists: the explanations are the same.
+#[test]
+fn a_script_is_explained_over_both_lists(rt: HostRuntime) {
+    for words in [
+        ["csqsim", "script", "--explain", "--file-limit=2"].as_slice(),
+        ["csqsim", "script", "--explain", "--file-limit=2", "--chain"].as_slice(),
+    ] {
+        let case = Case {
+            words,
+            input: CALLS,
+            output: REPLIES,
+            errors: "",
+            status: 0,
+        };
+        compare(&rt, &case);
+    }
+}
+
+// The sizes are those of the options, and standard error tells more of the line that ends the script.
+#[test]
+fn options_reach_the_explanation_of_a_script(rt: HostRuntime) {
+    let words = [
+        "csqsim",
+        "script",
+        "--explain",
+        "--irps=9",
+        "--files=2",
+        "--limit=1",
+    ];
+    let case = Case {
+        words: &words,
+        input: "flag 9\nclose 2\ninsert 8 1 back\ninsert 0 1 back\nflog 0\n",
+        output: "\
+refused UnknownIrp
+  an IRP's number is below 9
+refused UnknownFile
+  a file object's number is below 2
+pending
+  IoCsqInsertIrpEx listed IRP 8 for file object 1 at the back, and returned STATUS_PENDING
+refused Full C000009A
+  the list has as many IRPs as its limit: STATUS_INSUFFICIENT_RESOURCES
+line 5 malformed
+  this is no call, as insert 0 1 back: insert, next, remove, mark, routine, cancel, complete, close, cleanup, flag, status or reuse
+",
+        errors: "csqsim: line 5, column 1: \"flog\" is no call; did you mean \"flag\"?\n  a call is insert, next, remove, mark, routine, cancel, complete, close,\n  cleanup, flag, status or reuse\n",
+        status: 2,
+    };
+    compare(&rt, &case);
+}
