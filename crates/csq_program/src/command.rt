@@ -21,12 +21,14 @@ use thiserror::Error;
 /// What the program is asked to do.
 #[derive(Clone, Copy, Debug, PartialEq, Eq)]
 pub enum Job<'a> {
-    /// To replay a schedule over this many IRPs and passes, and to tell its claims or not.
+    /// To replay a schedule over this many IRPs and passes, and to tell its claims and explain each line
+    /// of the answer, or not.
     Schedule {
         source: Source<'a>,
         irps: u32,
         passes: u32,
         claims: bool,
+        explain: bool,
     },
     /// To draw a schedule over this many IRPs and passes.
     Draw {
@@ -36,7 +38,7 @@ pub enum Job<'a> {
     },
     /// To make the calls of a script over this many IRPs and file objects, of which `limit` IRPs may
     /// be listed at a time, and `file_limit` for each file object: all, where none is given. The list is
-    /// of this kind.
+    /// of this kind. Each line of the answer is explained, or not.
     Script {
         source: Source<'a>,
         irps: u32,
@@ -44,6 +46,7 @@ pub enum Job<'a> {
         limit: Option<u32>,
         file_limit: Option<u32>,
         list: ListKind,
+        explain: bool,
     },
     /// To run a device of this plan. The list is of this kind.
     Run {
@@ -195,6 +198,12 @@ fn with_flag<'a>(
     command.arg(flag)
 }
 
+/// The command with the flag for sentences.
+fn with_explain<'a>(alloc: Global, command: Command<'a>) -> Result<Command<'a>, AllocError> {
+    let help = "Explains each line of the answer in a sentence below it";
+    with_flag(alloc, command, "explain", help)
+}
+
 /// The command with the name of the file that it reads.
 fn with_file<'a>(alloc: Global, command: Command<'a>) -> Result<Command<'a>, AllocError> {
     let file = Arg::new(alloc, "file")
@@ -227,12 +236,9 @@ fn schedule_command<'a>(alloc: Global) -> Result<Command<'a>, AllocError> {
     let command = machine_command(alloc, "schedule")?
         .about(SCHEDULE_ABOUT)
         .after_help(SCHEDULE_HELP);
-    with_flag(
-        alloc,
-        command,
-        "claims",
-        "Tells each claim too: the IRP, the line and the pass",
-    )
+    let help = "Tells each claim too: the IRP, the line and the pass";
+    let command = with_flag(alloc, command, "claims", help)?;
+    with_explain(alloc, command)
 }
 
 /// The command line of a script.
@@ -246,12 +252,9 @@ fn script_command<'a>(alloc: Global) -> Result<Command<'a>, AllocError> {
         .about(SCRIPT_ABOUT)
         .after_help(SCRIPT_HELP);
     let command = with_file(alloc, command)?;
-    with_flag(
-        alloc,
-        command,
-        "chain",
-        "Keeps the list in linked chains; the answers are the same",
-    )
+    let help = "Keeps the list in linked chains; the answers are the same";
+    let command = with_flag(alloc, command, "chain", help)?;
+    with_explain(alloc, command)
 }
 
 /// The command line of a run.
@@ -369,6 +372,7 @@ fn schedule_job<'a>(options: &ArgMatches<'a>) -> Job<'a>
         irps,
         passes,
         claims: options.get_flag("claims"),
+        explain: options.get_flag("explain"),
     }
 }
 
@@ -401,6 +405,7 @@ fn script_job<'a>(options: &ArgMatches<'a>) -> Job<'a>
         limit: limit_in(options, "limit"),
         file_limit: limit_in(options, "file-limit"),
         list: list_kind(options),
+        explain: options.get_flag("explain"),
     }
 }
 

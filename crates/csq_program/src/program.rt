@@ -6,7 +6,7 @@ ghost use Rattle.csq_program.specs.declared.program.ProgramFault.TheVariants.{Ru
 
 use crate::command::{CommandFault, Job, read_command, refuse_bytes};
 use crate::device_run::{RunFault, answer_run};
-use crate::replay::{Limits, run_drawing, run_limited_script, run_schedule};
+use crate::replay::{Limits, ScheduleOptions, run_drawing, run_limited_script, run_schedule};
 use crate::source::SourceFault;
 use csq_device::{Free, Plan};
 use csq_list::{AnyList, ListNew, PendingList};
@@ -114,7 +114,16 @@ where
             irps,
             passes,
             claims,
-        } => run_schedule(rt, source, irps, passes, claims),
+            explain,
+        } => {
+            let options = ScheduleOptions {
+                irps,
+                passes,
+                claims,
+                explain,
+            };
+            run_schedule(rt, source, options)
+        }
         Job::Draw {
             source,
             irps,
@@ -127,14 +136,10 @@ where
             limit,
             file_limit,
             list,
+            explain,
         } => {
-            let limits = Limits {
-                irps,
-                files,
-                limit: limit.unwrap_or(irps),
-                file_limit: file_limit.unwrap_or(irps),
-            };
-            run_limited_script(rt, source, list, limits)
+            let limits = Limits::new(irps, files, limit, file_limit);
+            run_limited_script(rt, source, list, limits, explain)
         }
         Job::Run { plan, list } => {
             let Plan { irps, files, .. } = plan;

@@ -1,5 +1,6 @@
 mod commands;
 mod diagnoses;
+mod explanations;
 mod file_limits;
 mod files;
 mod helps;

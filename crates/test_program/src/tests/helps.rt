@@ -10,8 +10,9 @@ Arguments:
   [FILE]  File to read; - or none for standard input
 
 Options:
-      --claims  Tells each claim too: the IRP, the line and the pass
-  -h, --help    Print help
+      --claims   Tells each claim too: the IRP, the line and the pass
+      --explain  Explains each line of the answer in a sentence below it
+  -h, --help     Print help
 
 Size:
       --irps <N>    IRPs, 1 to 1024 [default: 8]
@@ -34,7 +35,8 @@ The steps, as a driver writer knows them:
 The answer is each line with the value that its step found: the flag or the
 routine that was there before, 1 or 0. Then comes each IRP that isn't home, is
 cancelled or is in a later life, and whether all is at rest, which means that no
-call is half done and no pass has an IRP: rest yes, or rest no.
+call is half done and no pass has an IRP: rest yes, or rest no. With --explain a
+sentence stands below each line of the answer, two spaces in.
 
 A step that can't come next ends the schedule: line N refused, and the first of
 these that holds. Standard error says more.
@@ -116,8 +118,9 @@ Arguments:
   [FILE]  File to read; - or none for standard input
 
 Options:
-      --chain  Keeps the list in linked chains; the answers are the same
-  -h, --help   Print help
+      --chain    Keeps the list in linked chains; the answers are the same
+      --explain  Explains each line of the answer in a sentence below it
+  -h, --help     Print help
 
 Size:
       --irps <N>   IRPs, 1 to 1024 [default: 8]
@@ -156,7 +159,8 @@ IRPs that it takes out, and the claims of its cancels.
 A remove, mark or cancel names IRP 0 in its life 1 as 0@1, and as 0 in life 0;
 the others are of the present life. In the end the listed IRPs are told in the
 list's order, and those that are held or owed, if there are any: left 2 0 or
-left none, held 1, owed 2.
+left none, held 1, owed 2. With --explain a sentence stands below each line of
+the answer, two spaces in.
 
 A call may be refused, and the script goes on: refused, and the first of these
 that holds:

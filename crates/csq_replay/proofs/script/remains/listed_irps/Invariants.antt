@@ -1,15 +1,14 @@
-use Rattle.std.proofs.Common.{◌≡◌, ◌++◌, map, length, string_bytes}
+use Rattle.std.proofs.Common.{◌≡◌, ◌++◌, map, length}
 use Rattle.csq_list.specs.declared.entry.Entry.{Entry}
 use Rattle.csq_list.specs.Searches.{rest_after, IsStartIn}
-use Rattle.csq_replay.specs.ScriptAnswer.{numbers}
-use Rattle.csq_replay.proofs.script.remains.write_listed.Given as goal
+use Rattle.csq_replay.proofs.script.remains.listed_irps.Given as goal
 
--- the numbers so far and those of the rest are those of all
+-- the IRPs so far and those of the rest are all
 abbrev pub invariant-loop-irp : goal.invariant-loop-irp
 invariant-loop-irp g l =
     let entries = (g.L.PendingList.listing l.list).entries in
     record {
-      told : string_bytes l.text ++ numbers (map (λ (e : Entry). e.irp) (rest_after l.after entries)) ≡ string_bytes l.fn.text ++ numbers (map (λ (e : Entry). e.irp) entries);
+      noted : l.irps.items ++ map (λ (e : Entry). e.irp) (rest_after l.after entries) ≡ map (λ (e : Entry). e.irp) entries;
       place : IsStartIn entries l.after;
     }
 
