@@ -8,3 +8,4 @@ mod process;
 mod runs;
 mod shell;
 mod sources;
+mod totals;
