@@ -9,3 +9,4 @@ mod process;
 mod runs;
 mod shell;
 mod sources;
+mod totals;

@@ -201,8 +201,9 @@ Lets threads race over one queue, and accounts for its IRPs
 Usage: csqsim run [OPTIONS]
 
 Options:
-      --chain  Keeps the list in linked chains
-  -h, --help   Print help
+      --chain   Keeps the list in linked chains
+      --totals  Tells all counts of a run, and its time
+  -h, --help    Print help
 
 Size:
       --irps <N>   IRPs, 1 to 1024 [default: 64]
@@ -213,6 +214,9 @@ Threads:
       --workers <N>     Threads that remove, 1 to 20 [default: 2]
       --cancellers <N>  Threads that cancel, 1 to 20 [default: 2]
       --turns <N>       Turns of each, 1 to 100000 [default: 64]
+
+Runs:
+      --repeat <N>  Runs, one after the other, 1 to 1000 [default: 1]
 
 Each submitter inserts an IRP each turn (IoCsqInsertIrpEx); each worker removes
 the next one (IoCsqRemoveNextIrp) and completes it; each canceller cancels one
@@ -228,11 +232,43 @@ closed, and three lines are written:
 The first two numbers are the same, and the third is 0, however the threads were
 scheduled: that is proved.
 
+With --totals further lines follow:
+  home N                  IRPs that were never queued: no submitter came to
+                          them, or the insert was refused after the cleanup
+  listed N                IRPs that are still queued
+  completed N             IRPs that were completed (IoCompleteRequest)
+  succeeded N             those of them with STATUS_SUCCESS
+  cancelled N             those of them with STATUS_CANCELLED
+  completed by submitters N
+                          IRPs that were cancelled before they were queued
+  completed by workers N  IRPs that were removed
+  completed by cancellers N
+                          IRPs whose cancel routine a cancel called
+  completed by cleanup N  IRPs of the last file object
+  inserts N               calls of IoCsqInsertIrpEx
+  removals N              calls of IoCsqRemoveNextIrp: --workers times --turns
+  removals that found an IRP N
+  cancels N               calls of IoCancelIrp
+  cancels that took the routine N
+                          those that returned TRUE
+  cancels too early or too late N
+                          those that returned FALSE: the IRP wasn't queued yet,
+                          or was removed, cancelled or completed already
+  milliseconds N          how long the run took, with three digits after the
+                          point; or unknown, where the clock failed
+The four counts of completions sum to completed; inserts are --submitters times
+--turns, and cancels --cancellers times --turns, but no more than there are
+IRPs: that is proved too.
+
+With --repeat so many devices run, one after the other, each with a fresh queue,
+and the lines of each are written. The first fault ends it.
+
 Exit status: 0 where the lines were written; 2 where the command line is
 refused; 1 for a fault of memory, of starting a thread or of writing.
 
-Example:
+Examples:
   csqsim run --irps 8 --turns 8
+  csqsim run --totals --repeat 100
 ";
 
 #[test]
