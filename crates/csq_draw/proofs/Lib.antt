@@ -1,3 +1,4 @@
+pub mod Captioning
 pub mod Growing
 pub mod Showing
 pub mod PictureLaws

@@ -1,9 +1,13 @@
 pub mod Layout
 pub mod Owners
 pub mod Passes
+pub mod Words
 pub mod Rows
+pub mod CallTexts
+pub mod Circles
 pub mod Marks
 pub mod Spans
+pub mod Captions
 pub mod Headings
 pub mod Endings
 pub mod Elements

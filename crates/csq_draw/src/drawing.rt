@@ -1,70 +1,93 @@
 //! Schedules, drawn.
-ghost use Rattle.std.specs.Prelude.{◌≡◌, ◌≢◌, ◌<◌, ◌^◌, List, [], length, IfOk, IfErr, OnOk};
+ghost use Rattle.std.specs.Prelude.{◌≡◌, ◌≢◌, ◌<◌, ◌≤◌, ◌^◌, Option, length, string_bytes, IfOk, IfErr, OnOk};
 ghost use Rattle.std.specs.Io.KnownBytes.{Keeps};
+ghost use Rattle.irp_core.specs.MachineState.{size_of};
 ghost use Rattle.irp_core.specs.Runs.{OfIrp, IsInLimits};
 ghost use Rattle.irp_core.specs.Steps.{number};
-ghost use Rattle.csq_replay.specs.Schedule.{Numbered};
-ghost use Rattle.csq_draw.specs.Pictures.{DrawsSchedule};
-ghost use Rattle.csq_draw.specs.Drawings.{DrawingStandsAfter, NotesStep};
+ghost use Rattle.csq_replay.specs.Lines.{GrewBy};
+ghost use Rattle.csq_draw.specs.Captions.{ended_caption, caption_of};
+ghost use Rattle.csq_draw.specs.Passes.{columns};
+ghost use Rattle.csq_draw.specs.Pictures.{picture_head, new_drawn, DrawsSchedule};
+ghost use Rattle.csq_draw.specs.declared.words.Words.{Words as WordsOf};
+ghost use Rattle.csq_draw.specs.Drawings.{owner_in, DrawingStandsAfter, NotesStep};
+ghost use Rattle.csq_draw.specs.Words.{AreWordsNamed};
 
+use crate::caption::Caption;
+use crate::heading::{Extent, Head};
 use crate::owners::{Owner, ended_by, new_owners, note_owner, owner_in};
-use crate::passes::{lock_at, lock_of};
+use crate::passes::{columns, lock_at, lock_of};
 use crate::picture::{draw_closed, draw_stopped};
 use crate::rows::Row;
+use crate::words::words_named;
 use csq_explain::{Execution, Explained, StepInCall};
 use csq_replay::{Answerer, Ended, Handling, SimFault, reply};
 use irp_core::PassId;
 use std::alloc::{AllocError, Allocator};
 use std::io::{Read, Write};
 
-/// An execution, the rows of the steps that it made, and what is known of each IRP's owner.
+/// The caption of a schedule, its execution, the rows of the steps that this made, and what is known of each
+/// IRP's owner.
 #[derive(Drop)]
 pub(crate) struct Drawing<A: Allocator> {
     pub(crate) alloc: A,
+    pub(crate) caption: Caption<A>,
     pub(crate) execution: Execution<A>,
     pub(crate) rows: Vec<Row, A>,
     pub(crate) owners: Vec<Option<Owner>, A>,
 }
 
 impl<A: Allocator + Copy> Drawing<A> {
-    /// A drawing without a step.
+    /// A drawing before the first line.
     fn new(alloc: A, irps: u32, passes: u32) -> Result<Drawing<A>, AllocError>
         requires { IsInLimits (record { irps = irps; passes = passes; first = 0 }) }
         ensures { IfOk result (λ drawing. DrawingStandsAfter drawing
-            (record { irps = irps; passes = passes; first = 0 }) []) }
+            (record { irps = irps; passes = passes; first = 0 }) new_drawn) }
     {
         Ok(Drawing {
             alloc,
+            caption: Caption::new(alloc),
             execution: Execution::new(alloc, irps, passes)?,
             rows: Vec::new(alloc),
             owners: new_owners(alloc, irps as usize)?,
         })
     }
 
-    /// Notes a step that was made, which this line names, and before which this pass had the lock.
+    /// Notes a step that was made, which this line names, and before which this pass had the lock. It ends the
+    /// caption.
     fn note(
         &mut self,
         line: usize,
         step: StepInCall,
         held: Option<PassId>,
     ) -> Result<(), AllocError>
-        requires { OfIrp (λ i. number i < length self.old.owners.items) step.made.kind }
-        ensures noted { OnOk result (NotesStep self.old.rows.items self.old.owners.items
-            line step held self.new.rows.items self.new.owners.items) }
+        requires owner { OfIrp (λ i. number i < length self.old.owners.items) step.made.kind }
+        requires irp { OfIrp (λ i. number i < (size_of self.old.execution.machine).irps)
+            step.made.kind }
+        ensures noted { OnOk result ((words : Option WordsOf)
+            × AreWordsNamed self.old.execution.machine step.made.kind
+            (owner_in self.new.owners.items step.made.kind) words
+            × NotesStep self.old.rows.items self.old.owners.items line step held words
+            self.new.rows.items self.new.owners.items) }
         ensures execution { self.new.execution ≡ self.old.execution }
+        ensures captioned { OnOk result
+            (caption_of self.new.caption ≡ ended_caption (caption_of self.old.caption)) }
     {
         let row = self.count_rows()?;
         let made = step.made;
         let lock = lock_at(held, made);
         let ended = ended_by(made.kind, owner_in(&self.owners, made.kind));
+        note_owner(&mut self.owners, made, row);
+        let owner = owner_in(&self.owners, made.kind);
+        let words = words_named(&self.execution.machine, made.kind, owner);
         self.rows.push(Row {
             row,
             line,
             step,
             lock,
             ended,
+            words,
         })?;
-        note_owner(&mut self.owners, made, row);
+        self.caption.end();
         Ok(())
     }
 
@@ -75,21 +98,43 @@ impl<A: Allocator + Copy> Drawing<A> {
     {
         u32::try_from(self.rows.len()).map_err(|_| AllocError)
     }
+
+    /// Draws the head of a picture of so many rows, with so many lines of text below them.
+    fn draw_head(&self, rows: u32, lines: u32, text: &mut String<A>) -> Result<(), AllocError>
+        requires { length self.now.execution.passes.items ≤ 65 }
+        ensures { OnOk result (GrewBy (string_bytes text.old) (string_bytes text.new)
+            (picture_head (columns self.now.execution.passes.items) rows lines
+            (caption_of self.now.caption))) }
+    {
+        let extent = Extent {
+            columns: columns(&self.execution.passes),
+            rows,
+            lines,
+            caption: self.caption.lines,
+        };
+        let head = Head {
+            extent,
+            title: self.caption.title.as_str(),
+            below: self.caption.below.as_str(),
+        };
+        write!(text, "{head}")?;
+        Ok(())
+    }
 }
 
 impl<A: Allocator + Copy> Answerer<A> for Drawing<A> {
     ghost use Rattle.irp_core.specs.Runs.{Size};
-    ghost use Rattle.csq_draw.specs.Pictures.{DrawsLine, DrawsClosing};
+    ghost use Rattle.csq_draw.specs.Pictures.{Drawn, DrawsLine, DrawsClosing};
 
     ghost Kind = { Size };
 
-    ghost State = { List Numbered };
+    ghost State = { Drawn };
 
-    ghost stands = { λ drawing size W. DrawingStandsAfter drawing size W };
+    ghost stands = { λ drawing size d. DrawingStandsAfter drawing size d };
 
-    ghost answers = { λ size W. DrawsLine size W };
+    ghost answers = { λ size d. DrawsLine size d };
 
-    ghost closes = { λ size W. DrawsClosing size W };
+    ghost closes = { λ size d. DrawsClosing size d };
 
     fn answer_line(
         &mut self,
@@ -99,13 +144,17 @@ impl<A: Allocator + Copy> Answerer<A> for Drawing<A> {
     ) -> Result<Handling, AllocError> {
         let held = lock_of(&self.execution.passes);
         match self.execution.handle(number, line) {
-            Explained::Skipped => Ok(Handling::GoesOn),
+            Explained::Skipped => {
+                self.caption.note(line)?;
+                Ok(Handling::GoesOn)
+            }
             Explained::Accepted(step) => {
                 self.note(number, step, held)?;
                 Ok(Handling::GoesOn)
             }
             Explained::Stopped(reason) => {
                 let count = self.count_rows()?;
+                self.draw_head(count, 3, text)?;
                 let (passes, rows, owners) = (&self.execution.passes, &self.rows, &self.owners);
                 draw_stopped(passes, rows, owners, count, number, reason, text)?;
                 Ok(Handling::Stops)
@@ -116,6 +165,7 @@ impl<A: Allocator + Copy> Answerer<A> for Drawing<A> {
     fn close(&self, text: &mut String<A>) -> Result<(), AllocError> {
         let count = self.count_rows()?;
         let closing = self.execution.close(self.alloc)?;
+        self.draw_head(count, closing.told.len() as u32 + 1, text)?;
         let (passes, rows, owners) = (&self.execution.passes, &self.rows, &self.owners);
         draw_closed(
             passes,
@@ -131,8 +181,9 @@ impl<A: Allocator + Copy> Answerer<A> for Drawing<A> {
 }
 
 /// Reads a schedule, replays its steps over a machine of IRPs 0 to `irps` - 1 and passes 1 to `passes`,
-/// and writes one SVG picture of them: a column for each pass that makes a step, a row for each step with
-/// the value that it found, who has the lock, who owes or holds which IRP; then the line that ended the
+/// and writes one SVG picture of them. The comment before the first step, up to an empty line and up to eight
+/// lines, stands above it: its first line as the title. It has a column for each pass that makes a step, a row
+/// for each step with the value that it found, who has the lock, who owes or holds which IRP; then the line that ended the
 /// handling and why, or where each IRP is and whether all is at rest.
 ///
 /// All of the input is read, up to 1,048,577 bytes; more stays unread, and is answered `input too long`.

@@ -3,7 +3,7 @@
 ghost use Rattle.std.specs.Prelude.{ℕ, List};
 ghost use Rattle.irp_core.specs.Runs.{Size, EachRunFrom};
 ghost use Rattle.csq_replay.specs.Schedule.{Numbered};
-ghost use Rattle.csq_draw.specs.Laws.{HasOnePicture, EachStepHasOneMark, EachLineHasItsNumber, EachShadeIsOfTheLock, EachPassHasItsColumn, TheShadedPassHasTheLock, EachDrawnOwnerOwesOrHolds};
+ghost use Rattle.csq_draw.specs.Laws.{HasOnePicture, EachStepHasOneMark, EachStepShowsItsWords, EachLineHasItsNumber, EachShadeIsOfTheLock, EachPassHasItsColumn, TheShadedPassHasTheLock, EachDrawnOwnerOwesOrHolds};
 
 /// A schedule has at most one picture, so the relation that `draw_schedule` meets names its bytes.
 pub fn a_schedule_has_one_picture()
@@ -14,6 +14,12 @@ pub fn a_schedule_has_one_picture()
 /// the column of its pass, with the value that it found.
 pub fn each_step_has_one_mark()
     ensures { (size : Size) (W : List Numbered) → EachStepHasOneMark size W }
+{}
+
+/// At the right of each step of an IRP stand the two words of that IRP after it, in its present life: by the run,
+/// whether its Cancel flag and its cancel routine are set. A step of no IRP has none.
+pub fn each_step_shows_its_words()
+    ensures { (size : Size) (W : List Numbered) → EachStepShowsItsWords size W }
 {}
 
 /// At the left of each step stands the number of its line, and of the line that ended the handling its own.

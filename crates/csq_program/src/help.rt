@@ -64,12 +64,19 @@ pub(crate) const DRAW_HELP: &str = "\
 A schedule is read as by csqsim schedule, whose help teaches its lines. The
 picture has a column for each pass that makes a step, and time runs downwards. A
 step is a mark on a row of its own, with the number of its line at the left:
-what the pass did, to which IRP, and the value that it found. Each IRP has one
-of eight colours, and its number stands in its marks.
+what the pass did, to which IRP, and the value that it found; the routine of the
+WDK that it calls; and the call that it is of, with what that answers where the
+step ends it. Each IRP has one of eight colours, and its number stands in its
+marks.
   bold         the step claims its IRP: an exchange that found the routine
   shaded       the pass has the lock
   dashed line  the pass owes the IRP, from its claim until it takes the IRP out
   solid line   the pass holds the IRP, until it completes it
+  circles      the Cancel flag and the cancel routine of the IRP after the step:
+               filled where set, bold where the step changed it
+The comment before the first step stands above, its first line as the title; an
+empty line ends it. It has at most eight lines, and a question mark for a byte
+that isn't printable ASCII.
 A browser tells each mark and each line in words where the pointer rests on it,
 if the picture is opened by itself.
 A line that ends the schedule stands last, marked as refused, with its refusal

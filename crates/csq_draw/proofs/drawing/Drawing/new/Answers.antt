@@ -11,5 +11,6 @@ returns g c =
     let P : List Row → Type 0 = λ rows. Shows size rows c.in_ok-new_owners.field-0.items [] in
     record {
       follows = c.in_ok-new.ensures;
-      shows = subst P (sym c.new-2.ensures.items) (shows_none size _ c.in_ok-new_owners.ensures);
+      shows = subst P (sym c.new-3.ensures.items) (shows_none size _ c.in_ok-new_owners.ensures);
+      captioned = c.new.ensures;
     }
