@@ -19,6 +19,7 @@ use Rattle.csq_replay.specs.Outcomes.{ComesTo}
 use Rattle.csq_replay.specs.Schedule.{Numbered, run_of}
 use Rattle.csq_replay.proofs.Answering.{one_input_answer}
 use Rattle.csq_replay.proofs.OneAnswer.{one_close, one_outcome}
+use Rattle.csq_draw.specs.declared.format.Format.{Format}
 use Rattle.csq_draw.specs.declared.heading.Column.{Column}
 use Rattle.csq_draw.specs.declared.marks.Mark.{Mark}
 use Rattle.csq_draw.specs.declared.marks.Number.{Number}
@@ -42,12 +43,12 @@ use Rattle.csq_draw.specs.Laws.{HasOnePicture, picked, added, AddsStepByStep, ma
 use Rattle.csq_explain.proofs.Tables.{get-table, position-None, count-more}
 use Rattle.csq_explain.proofs.Following.{length-passes, inside_is}
 
-module _ (size : Size) where
+module _ (size : Size) (format : Format) where
   -- what is drawn of a line is one
-  one_drawn : (d : Drawn) (n : ℕ) (line t u : List ℕ) (m k : Option Drawn) → IsRun size (run_of d.steps) → DrawsLine size d n line t m → DrawsLine size d n line u k → (t ≡ u) × (m ≡ k)
+  one_drawn : (d : Drawn) (n : ℕ) (line t u : List ℕ) (m k : Option Drawn) → IsRun size (run_of d.steps) → DrawsLine size format d n line t m → DrawsLine size format d n line u k → (t ≡ u) × (m ≡ k)
   one_drawn d n line t u m k r (o, comes, e, f) (p, comes', g, h) =
       let same = one_outcome size (run_of d.steps) line r o p comes comes' in
-      (e ∙ ap (drawn_text size d n) same ∙ sym g, f ∙ ap (drawn_after d n line) same ∙ sym h)
+      (e ∙ ap (drawn_text size format d n) same ∙ sym g, f ∙ ap (drawn_after d n line) same ∙ sym h)
 
   abbrev steps_in : Option Drawn → List Numbered
   steps_in (Some d) = d.steps
@@ -59,18 +60,18 @@ module _ (size : Size) where
   run_after d e n line (Stopped stop) r is same = absurd (cc same)
 
   -- the steps that a line leads to make a run
-  drawn_on : (d e : Drawn) (n : ℕ) (line text : List ℕ) → IsRun size (run_of d.steps) → DrawsLine size d n line text (Some e) → IsRun size (run_of e.steps)
+  drawn_on : (d e : Drawn) (n : ℕ) (line text : List ℕ) → IsRun size (run_of d.steps) → DrawsLine size format d n line text (Some e) → IsRun size (run_of e.steps)
   drawn_on d e n line text r (o, comes, told, same) = run_after d e n line o r comes same
 
-  one_closing : (d : Drawn) → IsRun size (run_of d.steps) → (t u : List ℕ) → DrawsClosing size d t → DrawsClosing size d u → t ≡ u
+  one_closing : (d : Drawn) → IsRun size (run_of d.steps) → (t u : List ℕ) → DrawsClosing size format d t → DrawsClosing size format d u → t ≡ u
   one_closing d r t u (told, rest, closes, e) (other, otherwise, closes', f) =
       let same = one_close size (run_of d.steps) r told other rest otherwise closes closes' in
-      e ∙ ap (λ x. closed_text size d x rest) same.0 ∙ ap (λ x. closed_text size d other x) same.1 ∙ sym f
+      e ∙ ap (λ x. closed_text size format d x rest) same.0 ∙ ap (λ x. closed_text size format d other x) same.1 ∙ sym f
 
-pub one_picture : (size : Size) (input : List ℕ) → HasOnePicture size input
-one_picture size input t u e f is other =
-    one_input_answer (DrawsLine size) (DrawsClosing size) (λ (d : Drawn). IsRun size (run_of d.steps)) (one_drawn size) (drawn_on size)
-    (λ d x y r closed closed'. one_closing size d r x y closed closed') new_drawn (run_none size) input t u e f is other
+pub one_picture : (size : Size) (format : Format) (input : List ℕ) → HasOnePicture size format input
+one_picture size format input t u e f is other =
+    one_input_answer (DrawsLine size format) (DrawsClosing size format) (λ (d : Drawn). IsRun size (run_of d.steps)) (one_drawn size format) (drawn_on size format)
+    (λ d x y r closed closed'. one_closing size format d r x y closed closed') new_drawn (run_none size) input t u e f is other
 
 -- what is picked out of elements
 module _ {A : Type 0} (pick : Element → List A) where

@@ -1,5 +1,5 @@
 -- A drawing shows the run that it was noted of.
-use Rattle.std.proofs.Common.{◌≡◌, ℕ, suc, ◌+◌, ◌<◌, ◌≤◌, Bool, true, false, cond, List, [], ◌∷◌, ◌++◌, length, get_or, set, replicate, Option, Some, None, refl, ap, sym, ◌∙◌, subst, arith, length-append, add-one}
+use Rattle.std.proofs.Common.{◌≡◌, ℕ, suc, ◌+◌, ◌<◌, Bool, true, false, cond, List, [], ◌∷◌, ◌++◌, length, get_or, set, replicate, Option, Some, None, refl, ap, sym, ◌∙◌, subst, length-append, add-one}
 use Rattle.std.specs.Option.{option_map_or}
 use Rattle.irp_core.specs.declared.ids.IrpId.{IrpId}
 use Rattle.irp_core.specs.declared.ids.PassId.{PassId}
@@ -24,6 +24,7 @@ use Rattle.csq_explain.specs.Sentences.{in_call}
 use Rattle.csq_explain.proofs.Tables.{length-table, table-same, table-replicate, get-table, set-table}
 use Rattle.csq_draw.specs.Captions.{CaptionText}
 use Rattle.csq_draw.specs.Elements.{picture}
+use Rattle.csq_draw.specs.Terminal.{stopped_lines, closed_lines}
 use Rattle.csq_draw.specs.Pictures.{picture_head, stopped_elements, closed_elements, stopped_picture, closed_picture}
 use Rattle.csq_draw.specs.declared.owners.Owner.{Owner}
 use Rattle.csq_draw.specs.declared.rows.Row.{Row}
@@ -201,3 +202,17 @@ module _ (size : Size) (rows : List Row) (passes : List PassNow) (os : List (Opt
         ∙ ap (λ xs. drawn passes rows xs (length W)) h.shown_owners
         ∙ ap (λ rs. drawn passes rs (owners size.irps (run_of W)) (length W)) h.shown_rows
         ∙ ap (λ ps. drawn ps (rows_of size W) (owners size.irps (run_of W)) (length W)) kept
+
+-- and so is the text
+module _ (size : Size) (W : List Numbered) (caption wanted : CaptionText) (rows : List Row) (passes : List PassNow) (old new : List ℕ) where
+  pub stopped_written : (n : ℕ) (stop : Stop) (reason : Reason) → caption ≡ wanted → passes ≡ all_passes size W → rows ≡ rows_of size W → reason ≡ reason_of size (all_passes size W) stop
+      → GrewBy old new (stopped_lines caption passes rows n reason) → GrewBy old new (stopped_lines wanted (all_passes size W) (rows_of size W) n (reason_of size (all_passes size W) stop))
+  stopped_written n stop reason same kept shown why grew =
+      let written : List PassNow → List Row → Reason → List ℕ = λ ps rs r. old ++ stopped_lines wanted ps rs n r in
+      grew ∙ ap (λ c. old ++ stopped_lines c passes rows n reason) same ∙ ap (written passes rows) why ∙ ap (λ rs. written passes rs (reason_of size (all_passes size W) stop)) shown ∙ ap (λ ps. written ps (rows_of size W) (reason_of size (all_passes size W) stop)) kept
+
+  pub closed_written : (told : List IrpLine) (rest : Bool) → caption ≡ wanted → passes ≡ all_passes size W → rows ≡ rows_of size W
+      → GrewBy old new (closed_lines caption passes rows told rest) → GrewBy old new (closed_lines wanted (all_passes size W) (rows_of size W) told rest)
+  closed_written told rest same kept shown grew =
+      let written : List PassNow → List Row → List ℕ = λ ps rs. old ++ closed_lines wanted ps rs told rest in
+      grew ∙ ap (λ c. old ++ closed_lines c passes rows told rest) same ∙ ap (written passes) shown ∙ ap (λ ps. written ps (rows_of size W)) kept

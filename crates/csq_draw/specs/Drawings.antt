@@ -10,6 +10,7 @@ use Rattle.csq_replay.specs.Schedule.{Numbered, run_of}
 use Rattle.csq_explain.specs.declared.sentences.StepInCall.{StepInCall}
 use Rattle.csq_explain.specs.Executions.{Follows}
 use Rattle.csq_draw.specs.declared.drawing.Drawing.{Drawing}
+use Rattle.csq_draw.specs.declared.format.Format.{Format}
 use Rattle.csq_draw.specs.declared.owners.Owner.{Owner}
 use Rattle.csq_draw.specs.declared.rows.Row.{Row}
 use Rattle.csq_draw.specs.declared.words.Words.{Words}
@@ -49,3 +50,7 @@ pub record DrawingStandsAfter {A : Type 0} (drawing : Drawing A) (size : Size) (
   pub follows : Follows size drawing.execution d.steps
   pub shows : Shows size drawing.rows.items drawing.owners.items d.steps
   pub captioned : caption_of drawing.caption ≡ d.caption
+
+-- and it is of this format
+abbrev pub StandsInFormat : {A : Type 0} → Drawing A → Size × Format → Drawn → Type 0
+StandsInFormat drawing kind d = DrawingStandsAfter drawing kind.0 d × (drawing.format ≡ kind.1)

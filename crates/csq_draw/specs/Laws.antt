@@ -13,6 +13,7 @@ use Rattle.csq_replay.specs.declared.lines.answer.Ended.{Ended}
 use Rattle.csq_replay.specs.declared.schedule.closing.IrpLine.{IrpLine}
 use Rattle.csq_replay.specs.declared.schedule.outcome.Stop.{Stop}
 use Rattle.csq_replay.specs.Schedule.{Numbered, run_of}
+use Rattle.csq_draw.specs.declared.format.Format.{Format}
 use Rattle.csq_draw.specs.declared.marks.Mark.{Mark}
 use Rattle.csq_draw.specs.declared.marks.Number.{Number}
 use Rattle.csq_draw.specs.declared.marks.Shade.{Shade}
@@ -30,9 +31,9 @@ use Rattle.csq_draw.specs.declared.element.Element.{Element}
 use Rattle.csq_draw.specs.declared.element.Element.TheVariants as element
 use Rattle.csq_draw.specs.Pictures.{IsDrawing, stopped_picture, closed_picture}
 
--- two pictures of one schedule are the same
-abbrev pub HasOnePicture : Size → List ℕ → Type 0
-HasOnePicture size input = (text other : List ℕ) (ended otherwise : Ended) → IsDrawing size input text ended → IsDrawing size input other otherwise → (text ≡ other) × (ended ≡ otherwise)
+-- two pictures of one schedule in one format are the same
+abbrev pub HasOnePicture : Size → Format → List ℕ → Type 0
+HasOnePicture size format input = (text other : List ℕ) (ended otherwise : Ended) → IsDrawing size format input text ended → IsDrawing size format input other otherwise → (text ≡ other) × (ended ≡ otherwise)
 
 -- what is picked out of these elements, in order
 abbrev pub picked : {A : Type 0} → (Element → List A) → List Element → List A

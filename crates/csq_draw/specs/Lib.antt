@@ -10,6 +10,7 @@ pub mod Spans
 pub mod Captions
 pub mod Headings
 pub mod Endings
+pub mod Terminal
 pub mod Elements
 pub mod Pictures
 pub mod Drawings

@@ -12,6 +12,8 @@ use Rattle.csq_replay.specs.Outcomes.{ComesTo}
 use Rattle.csq_replay.specs.Schedule.{Numbered, run_of, Closes}
 use Rattle.csq_draw.specs.Captions.{CaptionText, new_caption, ended_caption, caption_after}
 use Rattle.csq_draw.specs.Headings.{head_text}
+use Rattle.csq_draw.specs.declared.format.Format.{Format}
+use Rattle.csq_draw.specs.declared.format.Format.TheVariants.{Svg, Text}
 use Rattle.csq_draw.specs.declared.owners.Owner.{Owner}
 use Rattle.csq_explain.specs.declared.passes.PassNow.{PassNow}
 use Rattle.csq_explain.specs.declared.reasons.Reason.{Reason}
@@ -23,6 +25,7 @@ use Rattle.csq_draw.specs.Rows.{rows_of}
 use Rattle.csq_explain.specs.Reasons.{reason_of}
 use Rattle.csq_draw.specs.declared.element.Element.{Element}
 use Rattle.csq_draw.specs.Elements.{picture}
+use Rattle.csq_draw.specs.Terminal.{stopped_lines, closed_lines}
 use Rattle.csq_draw.specs.declared.element.Element.TheVariants as element
 
 -- the elements of each, by its place, the first of which is n
@@ -123,24 +126,29 @@ drawn_after d n line (Accepted m) = Some (record { caption = ended_caption d.cap
 drawn_after d n line (Stopped stop) = None
 
 -- a line that ends the handling is answered the picture of the steps before it and of itself, and any other nothing
-abbrev pub drawn_text : Size → Drawn → ℕ → Outcome → List ℕ
-drawn_text size d n (Stopped stop) = picture_head (columns (all_passes size d.steps)) (length d.steps) 3 d.caption ++ picture (stopped_picture size d.steps n stop)
-drawn_text size d n _ = []
+abbrev pub stopped_text : Size → Format → Drawn → ℕ → Stop → List ℕ
+stopped_text size Svg d n stop = picture_head (columns (all_passes size d.steps)) (length d.steps) 3 d.caption ++ picture (stopped_picture size d.steps n stop)
+stopped_text size Text d n stop = stopped_lines d.caption (all_passes size d.steps) (rows_of size d.steps) n (reason_of size (all_passes size d.steps) stop)
 
-abbrev pub DrawsLine : Size → Drawn → ℕ → List ℕ → List ℕ → Option Drawn → Type 0
-DrawsLine size d n line text more = (comes : Outcome) × ComesTo size (run_of d.steps) line comes × (text ≡ drawn_text size d n comes) × (more ≡ drawn_after d n line comes)
+abbrev pub drawn_text : Size → Format → Drawn → ℕ → Outcome → List ℕ
+drawn_text size format d n (Stopped stop) = stopped_text size format d n stop
+drawn_text size format d n _ = []
+
+abbrev pub DrawsLine : Size → Format → Drawn → ℕ → List ℕ → List ℕ → Option Drawn → Type 0
+DrawsLine size format d n line text more = (comes : Outcome) × ComesTo size (run_of d.steps) line comes × (text ≡ drawn_text size format d n comes) × (more ≡ drawn_after d n line comes)
 
 -- where all lines were handled, it is the picture of the steps and of what is told in the end
-abbrev pub closed_text : Size → Drawn → List IrpLine → Bool → List ℕ
-closed_text size d told at_rest = picture_head (columns (all_passes size d.steps)) (length d.steps) (length told + 1) d.caption ++ picture (closed_picture size d.steps told at_rest)
+abbrev pub closed_text : Size → Format → Drawn → List IrpLine → Bool → List ℕ
+closed_text size Svg d told at_rest = picture_head (columns (all_passes size d.steps)) (length d.steps) (length told + 1) d.caption ++ picture (closed_picture size d.steps told at_rest)
+closed_text size Text d told at_rest = closed_lines d.caption (all_passes size d.steps) (rows_of size d.steps) told at_rest
 
-abbrev pub DrawsClosing : Size → Drawn → List ℕ → Type 0
-DrawsClosing size d text = (told : List IrpLine) × (at_rest : Bool) × Closes size (run_of d.steps) told at_rest × (text ≡ closed_text size d told at_rest)
+abbrev pub DrawsClosing : Size → Format → Drawn → List ℕ → Type 0
+DrawsClosing size format d text = (told : List IrpLine) × (at_rest : Bool) × Closes size (run_of d.steps) told at_rest × (text ≡ closed_text size format d told at_rest)
 
--- a schedule is drawn so: of the longest run that its lines make
-abbrev pub IsDrawing : Size → List ℕ → List ℕ → Ended → Type 0
-IsDrawing size = IsAnswer (DrawsLine size) (DrawsClosing size) new_drawn
+-- a schedule is drawn so, in this format: of the longest run that its lines make
+abbrev pub IsDrawing : Size → Format → List ℕ → List ℕ → Ended → Type 0
+IsDrawing size format = IsAnswer (DrawsLine size format) (DrawsClosing size format) new_drawn
 
 -- of a reader and a writer that tell their bytes: a schedule was read, and its picture was written
-abbrev pub DrawsSchedule : Size → Option (List ℕ) → Option (List ℕ) → Option (List ℕ) → Option (List ℕ) → Ended → Type 0
-DrawsSchedule size = RepliesTo (IsDrawing size)
+abbrev pub DrawsSchedule : Size → Format → Option (List ℕ) → Option (List ℕ) → Option (List ℕ) → Option (List ℕ) → Ended → Type 0
+DrawsSchedule size format = RepliesTo (IsDrawing size format)

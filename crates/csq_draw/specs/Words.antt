@@ -1,5 +1,5 @@
 -- The two words of an IRP, as they are drawn beside a step.
-use Rattle.std.specs.Prelude.{◌≡◌, ℕ, ◌==◌, Bool, true, false, List, Option, Some, None}
+use Rattle.std.specs.Prelude.{◌≡◌, ℕ, ◌==◌, Bool, true, false, List, Option, None}
 use Rattle.std.specs.Option.{option_map}
 use Rattle.irp_core.specs.declared.ids.IrpLife.{IrpLife}
 use Rattle.irp_core.specs.declared.standing.IrpPlace.{IrpPlace}

@@ -1,24 +1,37 @@
 //! The comment at the head of a schedule, as it stands above its picture: a title, and a caption.
 ghost use Rattle.std.specs.Prelude.{◌≡◌, ◌<◌, string_bytes, OnOk};
 ghost use Rattle.csq_replay.specs.Lines.{GrewBy};
-ghost use Rattle.csq_draw.specs.Captions.{escaped_byte, escaped, unspaced, line_below};
+ghost use Rattle.csq_draw.specs.Captions.{printable, escaped_byte, escaped, unspaced, line_below, plain_line};
 
 use std::alloc::{AllocError, Allocator};
 
 /// How many lines of a comment stand above a picture at most. Own rule.
 pub(crate) const MAX_LINES: u32 = 8;
 
-/// A caption, as XML writes it: the first line of the comment, the lines below it, how many lines these are,
-/// and whether the comment has ended.
+/// A caption: the first line of the comment and the lines below it, as XML writes them; all lines, as plain text;
+/// how many these are, and whether the comment has ended.
 #[derive(Drop)]
 pub(crate) struct Caption<A: Allocator> {
     pub(crate) title: String<A>,
     pub(crate) below: String<A>,
+    pub(crate) plain: String<A>,
     pub(crate) lines: u32,
     pub(crate) ended: bool,
 }
 
-/// Adds a byte as XML writes it, and a question mark for one that isn't printable ASCII.
+/// A byte that is printable ASCII, and a question mark for any other.
+fn printable(byte: u8) -> char
+    ensures value { result ≡ printable byte }
+    ensures ascii { result < 128 }
+{
+    if byte.is_ascii_graphic() || byte == b' ' {
+        char::from(byte)
+    } else {
+        '?'
+    }
+}
+
+/// Adds a byte as XML writes it.
 fn push_byte<A: Allocator>(byte: u8, text: &mut String<A>) -> Result<(), AllocError>
     ensures { OnOk result (GrewBy (string_bytes text.old) (string_bytes text.new)
         (escaped_byte byte)) }
@@ -27,8 +40,7 @@ fn push_byte<A: Allocator>(byte: u8, text: &mut String<A>) -> Result<(), AllocEr
         b'&' => text.push_str("&amp;"),
         b'<' => text.push_str("&lt;"),
         b'>' => text.push_str("&gt;"),
-        b' '..=b'~' => text.push(char::from(byte)),
-        _ => text.push('?'),
+        _ => text.push(printable(byte)),
     }
 }
 
@@ -54,6 +66,18 @@ fn push_below<A: Allocator>(line: &[u8], text: &mut String<A>) -> Result<(), All
     Ok(())
 }
 
+/// Adds a line as plain text.
+fn push_plain<A: Allocator>(line: &[u8], text: &mut String<A>) -> Result<(), AllocError>
+    ensures { OnOk result (GrewBy (string_bytes text.old) (string_bytes text.new)
+        (plain_line line.now)) }
+{
+    for byte in line {
+        text.push(printable(*byte))?;
+    }
+    text.push('\n')?;
+    Ok(())
+}
+
 /// The text without the space that it may begin with.
 fn unspaced(text: &[u8]) -> &[u8]
     ensures { result.now ≡ unspaced text.now }
@@ -74,6 +98,7 @@ impl<A: Allocator + Copy> Caption<A> {
         Caption {
             title: String::new(alloc),
             below: String::new(alloc),
+            plain: String::new(alloc),
             lines: 0,
             ended: false,
         }
@@ -89,6 +114,7 @@ impl<A: Allocator + Copy> Caption<A> {
         } else {
             push_below(line, &mut self.below)?;
         }
+        push_plain(line, &mut self.plain)?;
         self.lines += 1;
         Ok(())
     }

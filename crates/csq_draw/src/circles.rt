@@ -127,7 +127,7 @@ impl fmt::Display for WordColumns {
 
 /// Whether a word is set.
 #[derive(Clone, Copy, Debug)]
-struct Word(bool);
+pub(crate) struct Word(pub(crate) bool);
 
 /// `set` or `clear`.
 impl fmt::Display for Word {

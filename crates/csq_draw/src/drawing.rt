@@ -2,25 +2,30 @@
 ghost use Rattle.std.specs.Prelude.{◌≡◌, ◌≢◌, ◌<◌, ◌≤◌, ◌^◌, Option, length, string_bytes, IfOk, IfErr, OnOk};
 ghost use Rattle.std.specs.Io.KnownBytes.{Keeps};
 ghost use Rattle.irp_core.specs.MachineState.{size_of};
-ghost use Rattle.irp_core.specs.Runs.{OfIrp, IsInLimits};
+ghost use Rattle.irp_core.specs.Runs.{Size, OfIrp, IsInLimits};
 ghost use Rattle.irp_core.specs.Steps.{number};
 ghost use Rattle.csq_replay.specs.Lines.{GrewBy};
 ghost use Rattle.csq_draw.specs.Captions.{ended_caption, caption_of};
+ghost use Rattle.csq_draw.specs.declared.format.Format.{Format as FormatOf};
 ghost use Rattle.csq_draw.specs.Passes.{columns};
-ghost use Rattle.csq_draw.specs.Pictures.{picture_head, new_drawn, DrawsSchedule};
+ghost use Rattle.csq_explain.specs.Passes.{all_passes};
+ghost use Rattle.csq_explain.specs.Reasons.{reason_of};
+ghost use Rattle.csq_draw.specs.Pictures.{Drawn, picture_head, stopped_text, closed_text, new_drawn, DrawsSchedule};
 ghost use Rattle.csq_draw.specs.declared.words.Words.{Words as WordsOf};
 ghost use Rattle.csq_draw.specs.Drawings.{owner_in, DrawingStandsAfter, NotesStep};
 ghost use Rattle.csq_draw.specs.Words.{AreWordsNamed};
 
 use crate::caption::Caption;
+use crate::format::Format;
 use crate::heading::{Extent, Head};
 use crate::owners::{Owner, ended_by, new_owners, note_owner, owner_in};
 use crate::passes::{columns, lock_at, lock_of};
 use crate::picture::{draw_closed, draw_stopped};
 use crate::rows::Row;
+use crate::terminal::{write_closed, write_stopped};
 use crate::words::words_named;
-use csq_explain::{Execution, Explained, StepInCall};
-use csq_replay::{Answerer, Ended, Handling, SimFault, reply};
+use csq_explain::{Execution, Explained, Reason, StepInCall};
+use csq_replay::{Answerer, Ended, Handling, IrpLine, SimFault, reply};
 use irp_core::PassId;
 use std::alloc::{AllocError, Allocator};
 use std::io::{Read, Write};
@@ -30,6 +35,7 @@ use std::io::{Read, Write};
 #[derive(Drop)]
 pub(crate) struct Drawing<A: Allocator> {
     pub(crate) alloc: A,
+    pub(crate) format: Format,
     pub(crate) caption: Caption<A>,
     pub(crate) execution: Execution<A>,
     pub(crate) rows: Vec<Row, A>,
@@ -38,13 +44,15 @@ pub(crate) struct Drawing<A: Allocator> {
 
 impl<A: Allocator + Copy> Drawing<A> {
     /// A drawing before the first line.
-    fn new(alloc: A, irps: u32, passes: u32) -> Result<Drawing<A>, AllocError>
+    fn new(alloc: A, irps: u32, passes: u32, format: Format) -> Result<Drawing<A>, AllocError>
         requires { IsInLimits (record { irps = irps; passes = passes; first = 0 }) }
-        ensures { IfOk result (λ drawing. DrawingStandsAfter drawing
+        ensures stands { IfOk result (λ drawing. DrawingStandsAfter drawing
             (record { irps = irps; passes = passes; first = 0 }) new_drawn) }
+        ensures format { IfOk result (λ drawing. drawing.format ≡ format) }
     {
         Ok(Drawing {
             alloc,
+            format,
             caption: Caption::new(alloc),
             execution: Execution::new(alloc, irps, passes)?,
             rows: Vec::new(alloc),
@@ -71,6 +79,7 @@ impl<A: Allocator + Copy> Drawing<A> {
         ensures execution { self.new.execution ≡ self.old.execution }
         ensures captioned { OnOk result
             (caption_of self.new.caption ≡ ended_caption (caption_of self.old.caption)) }
+        ensures format { self.new.format ≡ self.old.format }
     {
         let row = self.count_rows()?;
         let made = step.made;
@@ -120,21 +129,103 @@ impl<A: Allocator + Copy> Drawing<A> {
         write!(text, "{head}")?;
         Ok(())
     }
+
+    /// Draws the steps, and the line of this number, which ended the handling, as a picture.
+    fn draw_stop_as_svg(
+        &self,
+        line: usize,
+        reason: Reason,
+        text: &mut String<A>,
+    ) -> Result<(), AllocError>
+        requires { length self.now.execution.passes.items ≤ 65 }
+        ensures { OnOk result ((size : Size) (d : Drawn) → DrawingStandsAfter self.now size d
+            → reason ≡ reason_of size (all_passes size d.steps) reason.stop
+            → GrewBy (string_bytes text.old) (string_bytes text.new)
+            (stopped_text size Format.Svg d line reason.stop)) }
+    {
+        let count = self.count_rows()?;
+        self.draw_head(count, 3, text)?;
+        let (passes, rows, owners) = (&self.execution.passes, &self.rows, &self.owners);
+        draw_stopped(passes, rows, owners, count, line, reason, text)?;
+        Ok(())
+    }
+
+    /// Draws the steps, and what is told in the end, as a picture.
+    fn draw_end_as_svg(
+        &self,
+        told: &[IrpLine],
+        rest: bool,
+        text: &mut String<A>,
+    ) -> Result<(), AllocError>
+        requires few { length self.now.execution.passes.items ≤ 65 }
+        requires told { length told.now ≤ 1024 }
+        ensures { OnOk result ((size : Size) (d : Drawn) → DrawingStandsAfter self.now size d
+            → GrewBy (string_bytes text.old) (string_bytes text.new)
+            (closed_text size Format.Svg d told.now rest)) }
+    {
+        let count = self.count_rows()?;
+        self.draw_head(count, told.len() as u32 + 1, text)?;
+        let (passes, rows, owners) = (&self.execution.passes, &self.rows, &self.owners);
+        draw_closed(passes, rows, owners, count, told, rest, text)?;
+        Ok(())
+    }
+
+    /// Draws the steps, and the line of this number, which ended the handling.
+    fn draw_stop(&self, line: usize, reason: Reason, text: &mut String<A>) -> Result<(), AllocError>
+        requires { length self.now.execution.passes.items ≤ 65 }
+        ensures { OnOk result ((size : Size) (d : Drawn) → DrawingStandsAfter self.now size d
+            → reason ≡ reason_of size (all_passes size d.steps) reason.stop
+            → GrewBy (string_bytes text.old) (string_bytes text.new)
+            (stopped_text size self.now.format d line reason.stop)) }
+    {
+        match self.format {
+            Format::Svg => {
+                self.draw_stop_as_svg(line, reason, text)?;
+                Ok(())
+            }
+            Format::Text => {
+                let (caption, passes) = (&self.caption, &self.execution.passes);
+                write_stopped(caption, passes, &self.rows, line, reason, text)?;
+                Ok(())
+            }
+        }
+    }
+
+    /// Draws the steps, and what is told in the end.
+    fn draw_end(&self, told: &[IrpLine], rest: bool, text: &mut String<A>) -> Result<(), AllocError>
+        requires few { length self.now.execution.passes.items ≤ 65 }
+        requires told { length told.now ≤ 1024 }
+        ensures { OnOk result ((size : Size) (d : Drawn) → DrawingStandsAfter self.now size d
+            → GrewBy (string_bytes text.old) (string_bytes text.new)
+            (closed_text size self.now.format d told.now rest)) }
+    {
+        match self.format {
+            Format::Svg => {
+                self.draw_end_as_svg(told, rest, text)?;
+                Ok(())
+            }
+            Format::Text => {
+                let (caption, passes) = (&self.caption, &self.execution.passes);
+                write_closed(caption, passes, &self.rows, told, rest, text)?;
+                Ok(())
+            }
+        }
+    }
 }
 
 impl<A: Allocator + Copy> Answerer<A> for Drawing<A> {
-    ghost use Rattle.irp_core.specs.Runs.{Size};
-    ghost use Rattle.csq_draw.specs.Pictures.{Drawn, DrawsLine, DrawsClosing};
+    ghost use Rattle.csq_draw.specs.Drawings.{StandsInFormat};
+    ghost use Rattle.csq_draw.specs.Pictures.{DrawsLine, DrawsClosing};
 
-    ghost Kind = { Size };
+    ghost Kind = { Size × FormatOf };
 
     ghost State = { Drawn };
 
-    ghost stands = { λ drawing size d. DrawingStandsAfter drawing size d };
+    ghost stands = { λ drawing k d. StandsInFormat drawing k d };
 
-    ghost answers = { λ size d. DrawsLine size d };
+    ghost answers = { λ k d. DrawsLine k.0 k.1 d };
 
-    ghost closes = { λ size d. DrawsClosing size d };
+    ghost closes = { λ k d. DrawsClosing k.0 k.1 d };
 
     fn answer_line(
         &mut self,
@@ -153,38 +244,25 @@ impl<A: Allocator + Copy> Answerer<A> for Drawing<A> {
                 Ok(Handling::GoesOn)
             }
             Explained::Stopped(reason) => {
-                let count = self.count_rows()?;
-                self.draw_head(count, 3, text)?;
-                let (passes, rows, owners) = (&self.execution.passes, &self.rows, &self.owners);
-                draw_stopped(passes, rows, owners, count, number, reason, text)?;
+                self.draw_stop(number, reason, text)?;
                 Ok(Handling::Stops)
             }
         }
     }
 
     fn close(&self, text: &mut String<A>) -> Result<(), AllocError> {
-        let count = self.count_rows()?;
         let closing = self.execution.close(self.alloc)?;
-        self.draw_head(count, closing.told.len() as u32 + 1, text)?;
-        let (passes, rows, owners) = (&self.execution.passes, &self.rows, &self.owners);
-        draw_closed(
-            passes,
-            rows,
-            owners,
-            count,
-            &closing.told,
-            closing.rest,
-            text,
-        )?;
+        self.draw_end(&closing.told, closing.rest, text)?;
         Ok(())
     }
 }
 
-/// Reads a schedule, replays its steps over a machine of IRPs 0 to `irps` - 1 and passes 1 to `passes`,
-/// and writes one SVG picture of them. The comment before the first step, up to an empty line and up to eight
-/// lines, stands above it: its first line as the title. It has a column for each pass that makes a step, a row
-/// for each step with the value that it found, who has the lock, who owes or holds which IRP; then the line that ended the
-/// handling and why, or where each IRP is and whether all is at rest.
+/// Reads a schedule, replays its steps over a machine of IRPs 0 to `irps` - 1 and passes 1 to `passes`, and
+/// writes one SVG picture of them: the comment before the first step, up to an empty line and up to eight
+/// lines, with its first line as the title, and a question mark for a byte that isn't printable ASCII; a column
+/// for each pass that makes a step; a row for each step with the value that it found, the call that it is of,
+/// who has the lock, who owes or holds which IRP, and the two words of its IRP after it; then the line that
+/// ended the handling and why, or where each IRP is and whether all is at rest.
 ///
 /// All of the input is read, up to 1,048,577 bytes; more stays unread, and is answered `input too long`.
 /// `irps` is 1 to 1,024 and `passes` 1 to 64. Faults: 1 Memory and 2 Read, after which nothing was written;
@@ -197,11 +275,39 @@ pub fn draw_schedule<A: Allocator + Copy, R: Read, W: Write>(
     writer: &mut W,
 ) -> Result<Ended, SimFault>
     requires { IsInLimits (record { irps = irps; passes = passes; first = 0 }) }
-    ensures drawn { IfOk result (DrawsSchedule (record { irps = irps; passes = passes; first = 0 })
+    ensures drawn { IfOk result
+        (DrawsSchedule (record { irps = irps; passes = passes; first = 0 }) Format.Svg
         (R.remaining reader.old) (R.remaining reader.new) (W.contents writer.old) (W.contents writer.new)) }
     ensures unwritten { IfErr result (λ fault. fault ≢ SimFault.Write
         → Keeps (W.contents writer.old) (W.contents writer.new)) }
 {
-    let mut drawing = Drawing::new(alloc, irps, passes)?;
+    let mut drawing = Drawing::new(alloc, irps, passes, Format::Svg)?;
+    reply(alloc, &mut drawing, reader, writer)
+}
+
+/// Reads a schedule as `draw_schedule` does, and writes it as lines of ASCII text for a terminal: a row for
+/// each step, with the number of its line, the pass that has the lock, in the column of its pass what it did
+/// and what it found, with a star before it where it claims its IRP, and the two words of its IRP after it;
+/// then the line that ended the handling and why, or where each IRP is and whether all is at rest. A column is
+/// 26 letters wide. The caption stands above. It doesn't show who owes or holds which IRP.
+///
+/// All of the input is read, up to 1,048,577 bytes; more stays unread, and is answered `input too long`.
+/// `irps` is 1 to 1,024 and `passes` 1 to 64. Faults: 1 Memory and 2 Read, after which nothing was written;
+/// 3 Write. Own rule.
+pub fn draw_schedule_as_text<A: Allocator + Copy, R: Read, W: Write>(
+    alloc: A,
+    irps: u32,
+    passes: u32,
+    reader: &mut R,
+    writer: &mut W,
+) -> Result<Ended, SimFault>
+    requires { IsInLimits (record { irps = irps; passes = passes; first = 0 }) }
+    ensures drawn { IfOk result
+        (DrawsSchedule (record { irps = irps; passes = passes; first = 0 }) Format.Text
+        (R.remaining reader.old) (R.remaining reader.new) (W.contents writer.old) (W.contents writer.new)) }
+    ensures unwritten { IfErr result (λ fault. fault ≢ SimFault.Write
+        → Keeps (W.contents writer.old) (W.contents writer.new)) }
+{
+    let mut drawing = Drawing::new(alloc, irps, passes, Format::Text)?;
     reply(alloc, &mut drawing, reader, writer)
 }

@@ -27,7 +27,7 @@ impl fmt::Display for Bar {
 
 /// A line that ended the handling, as it is told: its step, if it names one, and why it ended it.
 #[derive(Clone, Copy, Debug)]
-struct Refusal(Stop);
+pub(crate) struct Refusal(pub(crate) Stop);
 
 impl fmt::Display for Refusal {
     ghost use Rattle.std.specs.Prelude.{Some};

@@ -3,10 +3,12 @@
 
 mod calls;
 mod caption;
+mod cells;
 mod circles;
 mod drawing;
 mod element;
 mod ending;
+mod format;
 mod heading;
 mod laws;
 mod layout;
@@ -16,9 +18,11 @@ mod passes;
 mod picture;
 mod rows;
 mod spans;
+mod terminal;
 mod words;
 
-pub use drawing::draw_schedule;
+pub use drawing::{draw_schedule, draw_schedule_as_text};
+pub use format::Format;
 pub use heading::PICTURE_HEAD;
 pub use laws::{
     a_schedule_has_one_picture, each_drawn_owner_owes_or_holds, each_line_has_its_number,

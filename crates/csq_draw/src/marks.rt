@@ -129,10 +129,10 @@ impl fmt::Display for StatusWords {
 
 /// What a step found, in words.
 #[derive(Clone, Copy, Debug)]
-struct FoundWords {
-    kind: Kind,
-    found: u64,
-    status: Option<NtStatus>,
+pub(crate) struct FoundWords {
+    pub(crate) kind: Kind,
+    pub(crate) found: u64,
+    pub(crate) status: Option<NtStatus>,
 }
 
 /// As `found it`.

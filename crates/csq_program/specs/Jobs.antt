@@ -18,14 +18,14 @@ use Rattle.csq_program.specs.declared.command.CommandFault.TheVariants.{Memory, 
 -- each number is in its range
 abbrev pub IsInRange : Job → Type 0
 IsInRange (Schedule source irps passes claims) = IsInLimits (record { irps = irps; passes = passes; first = 0 })
-IsInRange (Draw source irps passes) = IsInLimits (record { irps = irps; passes = passes; first = 0 })
+IsInRange (Draw source irps passes text) = IsInLimits (record { irps = irps; passes = passes; first = 0 })
 IsInRange (Script source irps files limit file_limit list) = ((1 ≤ irps) × (irps ≤ 1024)) × ((1 ≤ files) × (files ≤ 256)) × IfSome limit (λ n. (1 ≤ n) × (n ≤ 1024)) × IfSome file_limit (λ n. (1 ≤ n) × (n ≤ 1024))
 IsInRange (Run plan list) = IsPlan plan.irps plan.files plan.submitters plan.workers plan.cancellers plan.turns
 
 -- the command of this name, of which any but a picture's, a script's and a run's is a schedule's
 abbrev pub IsJobOf : List ℕ → Job → Type 0
 IsJobOf name (Schedule source irps passes claims) = (name ≢ codes "draw") × (name ≢ codes "script") × (name ≢ codes "run")
-IsJobOf name (Draw source irps passes) = name ≡ codes "draw"
+IsJobOf name (Draw source irps passes text) = name ≡ codes "draw"
 IsJobOf name (Script source irps files limit file_limit list) = name ≡ codes "script"
 IsJobOf name (Run plan list) = name ≡ codes "run"
 
@@ -38,7 +38,7 @@ pub record IsFlag (options : ArgMatches) (name : List ℕ) (flag : Bool) : Type 
 -- the job's flag, if it has one, is that of the options
 abbrev pub TellsJobFlag : ArgMatches → Job → Type 0
 TellsJobFlag options (Schedule source irps passes claims) = IsFlag options (codes "claims") claims
-TellsJobFlag options (Draw source irps passes) = Unit {0}
+TellsJobFlag options (Draw source irps passes text) = IsFlag options (codes "text") text
 TellsJobFlag options (Script source irps files limit file_limit list) = IsFlag options (codes "chain") (is_chained list)
 TellsJobFlag options (Run plan list) = IsFlag options (codes "chain") (is_chained list)
 
@@ -50,7 +50,7 @@ IsSource options (File name) = (first_value (found_of options) (codes "file") �
 -- the job's source, if it has one, is that of the options
 abbrev pub TellsSource : ArgMatches → Job → Type 0
 TellsSource options (Schedule source irps passes claims) = IsSource options source
-TellsSource options (Draw source irps passes) = IsSource options source
+TellsSource options (Draw source irps passes text) = IsSource options source
 TellsSource options (Script source irps files limit file_limit list) = IsSource options source
 TellsSource options (Run plan list) = Unit {0}
 
@@ -76,7 +76,7 @@ pub record ArePlanned (options : ArgMatches) (plan : Plan) : Type 0 where
 -- the job's numbers are those of the options
 abbrev pub TellsNumbers : ArgMatches → Job → Type 0
 TellsNumbers options (Schedule source irps passes claims) = IsNumberOption options (codes "irps") 1024 8 irps × IsNumberOption options (codes "passes") 64 4 passes
-TellsNumbers options (Draw source irps passes) = IsNumberOption options (codes "irps") 1024 8 irps × IsNumberOption options (codes "passes") 64 4 passes
+TellsNumbers options (Draw source irps passes text) = IsNumberOption options (codes "irps") 1024 8 irps × IsNumberOption options (codes "passes") 64 4 passes
 TellsNumbers options (Script source irps files limit file_limit list) = IsNumberOption options (codes "irps") 1024 8 irps × IsNumberOption options (codes "files") 256 4 files × IsLimit options (codes "limit") limit × IsLimit options (codes "file-limit") file_limit
 TellsNumbers options (Run plan list) = ArePlanned options plan
 

@@ -28,11 +28,12 @@ pub enum Job<'a> {
         passes: u32,
         claims: bool,
     },
-    /// To draw a schedule over this many IRPs and passes.
+    /// To draw a schedule over this many IRPs and passes, as text or as an SVG picture.
     Draw {
         source: Source<'a>,
         irps: u32,
         passes: u32,
+        text: bool,
     },
     /// To make the calls of a script over this many IRPs and file objects, of which `limit` IRPs may
     /// be listed at a time, and `file_limit` for each file object: all, where none is given. The list is
@@ -218,8 +219,15 @@ fn machine_command<'a>(alloc: Global, name: &'a str) -> Result<Command<'a>, Allo
 
 /// The command line of a picture.
 fn draw_command<'a>(alloc: Global) -> Result<Command<'a>, AllocError> {
-    let command = machine_command(alloc, "draw")?;
-    Ok(command.about(DRAW_ABOUT).after_help(DRAW_HELP))
+    let command = machine_command(alloc, "draw")?
+        .about(DRAW_ABOUT)
+        .after_help(DRAW_HELP);
+    with_flag(
+        alloc,
+        command,
+        "text",
+        "Draws for a terminal, in letters alone",
+    )
 }
 
 /// The command line of a schedule.
@@ -384,6 +392,7 @@ fn draw_job<'a>(options: &ArgMatches<'a>) -> Job<'a>
         source: source_in(options),
         irps,
         passes,
+        text: options.get_flag("text"),
     }
 }
 

@@ -119,7 +119,8 @@ where
             source,
             irps,
             passes,
-        } => run_drawing(rt, source, irps, passes),
+            text,
+        } => run_drawing(rt, source, irps, passes, text),
         Job::Script {
             source,
             irps,

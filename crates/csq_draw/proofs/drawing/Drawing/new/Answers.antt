@@ -5,8 +5,8 @@ use Rattle.csq_draw.specs.Drawings.{Shows}
 use Rattle.csq_draw.proofs.Showing.{shows_none}
 use Rattle.csq_draw.proofs.drawing.Drawing.new.Goals as goal
 
-pub returns : goal.returns
-returns g c =
+pub returns-clause-stands : goal.returns-clause-stands
+returns-clause-stands g c =
     let size : Size = record { irps = c.args.irps; passes = c.args.passes; first = 0 } in
     let P : List Row → Type 0 = λ rows. Shows size rows c.in_ok-new_owners.field-0.items [] in
     record {
