@@ -5,7 +5,8 @@ ghost use Rattle.csq_list.specs.AnyLists.{is_chained};
 ghost use Rattle.csq_program.specs.Jobs.{IsFlag, IsInRange, IsJobOf, IsLimit, IsNumberOption, IsRefusalOf, IsSource, TellsJobFlag, TellsNumbers, TellsSource, fault_number};
 
 use crate::help::{
-    ABOUT, DRAW_ABOUT, DRAW_HELP, SCHEDULE_ABOUT, SCHEDULE_HELP, SCRIPT_ABOUT, SCRIPT_HELP, VERSION,
+    ABOUT, DRAW_ABOUT, DRAW_HELP, HELP, SCHEDULE_ABOUT, SCHEDULE_HELP, SCRIPT_ABOUT, SCRIPT_HELP,
+    VERSION,
 };
 use crate::run_options::{device_job, run_command};
 use crate::source::Source;
@@ -30,11 +31,12 @@ pub enum Job<'a> {
         claims: bool,
         explain: bool,
     },
-    /// To draw a schedule over this many IRPs and passes.
+    /// To draw a schedule over this many IRPs and passes, as text or as an SVG picture.
     Draw {
         source: Source<'a>,
         irps: u32,
         passes: u32,
+        text: bool,
     },
     /// To make the calls of a script over this many IRPs and file objects, of which `limit` IRPs may
     /// be listed at a time, and `file_limit` for each file object: all, where none is given. The list is
@@ -217,8 +219,15 @@ fn machine_command<'a>(alloc: Global, name: &'a str) -> Result<Command<'a>, Allo
 
 /// The command line of a picture.
 fn draw_command<'a>(alloc: Global) -> Result<Command<'a>, AllocError> {
-    let command = machine_command(alloc, "draw")?;
-    Ok(command.about(DRAW_ABOUT).after_help(DRAW_HELP))
+    let command = machine_command(alloc, "draw")?
+        .about(DRAW_ABOUT)
+        .after_help(DRAW_HELP);
+    with_flag(
+        alloc,
+        command,
+        "text",
+        "Draws for a terminal, in letters alone",
+    )
 }
 
 /// The command line of a schedule.
@@ -260,6 +269,7 @@ fn program<'a>(alloc: Global) -> Result<Command<'a>, AllocError> {
     let command = Command::new(alloc, "csqsim")
         .bin_name("csqsim")?
         .about(ABOUT)
+        .after_help(HELP)
         .version(VERSION)
         .subcommand_required(true)
         .arg_required_else_help(true);
@@ -355,6 +365,7 @@ fn draw_job<'a>(options: &ArgMatches<'a>) -> Job<'a>
         source: source_in(options),
         irps,
         passes,
+        text: options.get_flag("text"),
     }
 }
 

@@ -6,6 +6,18 @@ pub(crate) const VERSION: &str = "1.0.0";
 pub(crate) const ABOUT: &str =
     "Replays, draws and runs the protocol of the WDK's cancel-safe IRP queue";
 
+pub(crate) const HELP: &str = "\
+A schedule is the protocol, one atomic step a line: csqsim schedule replays it,
+csqsim draw makes a picture of it. A script is calls of the queue, one a line:
+csqsim script makes them. csqsim run lets threads make them.
+Begin with csqsim schedule --help, which teaches the steps, or with csqsim
+script --help, which teaches the calls.
+
+Examples:
+  printf 'p1 arm 0\\np2 flag 0\\np1 test 0\\n' | csqsim schedule --explain
+  csqsim draw race.txt > race.svg
+  csqsim run --totals";
+
 pub(crate) const SCHEDULE_ABOUT: &str = "Replays a schedule: one atomic step a line, in this order";
 
 pub(crate) const SCHEDULE_HELP: &str = "\
@@ -49,7 +61,8 @@ Words are separated by one space, and the case of letters counts. A number has
 at most nine digits, and no zero before them. Empty lines, and lines that begin
 with #, are skipped. A line of more than 64 bytes is too long, and any other
 that is no step is malformed, also where it ends in a carriage return: each ends
-the schedule. An input of more than 1048576 bytes is too long, and no line of it
+the schedule. All of the input is read before it is answered: at a terminal it
+ends with Ctrl-D. One of more than 1048576 bytes is too long, and no line of it
 is handled.
 
 Exit status: 0 where all lines were handled; 2 where one ended the schedule, the
@@ -65,17 +78,30 @@ pub(crate) const DRAW_HELP: &str = "\
 A schedule is read as by csqsim schedule, whose help teaches its lines. The
 picture has a column for each pass that makes a step, and time runs downwards. A
 step is a mark on a row of its own, with the number of its line at the left:
-what the pass did, to which IRP, and the value that it found. Each IRP has one
-of eight colours, and its number stands in its marks.
+what the pass did, to which IRP, and the value that it found; the routine of the
+WDK that it calls; and the call that it is of, with what that answers where the
+step ends it. Each IRP has one of eight colours, and its number stands in its
+marks.
   bold         the step claims its IRP: an exchange that found the routine
   shaded       the pass has the lock
   dashed line  the pass owes the IRP, from its claim until it takes the IRP out
   solid line   the pass holds the IRP, until it completes it
+  circles      the Cancel flag and the cancel routine of the IRP after the step:
+               filled where set, bold where the step changed it
+The comment before the first step stands above, its first line as the title; an
+empty line ends it. It has at most eight lines, and a question mark for a byte
+that isn't printable ASCII.
 A browser tells each mark and each line in words where the pointer rests on it,
 if the picture is opened by itself.
 A line that ends the schedule stands last, marked as refused, with its refusal
 and a sentence why; standard error says it too. Otherwise it is told below where
 each IRP is in the end, and whether all is at rest.
+
+With --text it is drawn for a terminal, in ASCII letters alone: a line for each
+step, with the pass that has the lock, in the column of its pass what it did,
+with a star before it where it claims its IRP, and the two words of the IRP
+after it. Each pass takes 26 letters, the rest 26. The comment before the first
+step stands above. Who owes or holds which IRP is left out.
 
 An input of more than 1048576 bytes is too long, and nothing is drawn.
 
@@ -143,8 +169,9 @@ status's eight hexadecimal digits. Another number has at most nine digits, and
 no zero before them. Empty lines, and lines that begin with #, are skipped. A
 line of more than 64 bytes is too long, and any other that is no call is
 malformed, also where it ends in a carriage return: each ends the script, and
-standard error says more. An input of more than 1048576 bytes is too long, and
-no line of it is handled.
+standard error says more. All of the input is read before it is answered: at a
+terminal it ends with Ctrl-D. One of more than 1048576 bytes is too long, and no
+line of it is handled.
 
 Exit status: 0 where all lines were handled; 2 where one ended the script, the
 input is too long, or the command line or a limit above the IRPs is refused; 1

@@ -10,7 +10,7 @@ ghost use Rattle.csq_program.specs.Replays.{TellsSchedule, TellsScript, limits_o
 use crate::program::{ProgramFault, REFUSED};
 use crate::source::Source;
 use csq_diagnose::{diagnose_schedule, diagnose_script};
-use csq_draw::draw_schedule;
+use csq_draw::{draw_schedule, draw_schedule_as_text};
 use csq_explain::{explain_schedule, explain_script};
 use csq_list::{AnyList, ListKind, ListNew, PendingList};
 use csq_replay::{Ended, SimFault, answer_schedule, answer_script, exit_status};
@@ -75,21 +75,26 @@ pub(crate) fn run_schedule<R: AllocGlobal + Print + Eprint + Input + Files>(
     finish(rt, source, ended, &text, &told)
 }
 
-/// Draws a schedule.
+/// Draws a schedule, as text or as an SVG picture.
 pub(crate) fn run_drawing<R: AllocGlobal + Print + Eprint + Input + Files>(
     rt: &R,
     source: Source<'_>,
     irps: u32,
     passes: u32,
+    text: bool,
 ) -> Result<u8, ProgramFault>
     requires { IsInLimits (record { irps = irps; passes = passes; first = 0 }) }
 {
     let input = source.read(rt)?;
     let mut reader = input.as_slice();
-    let mut text = Vec::new(rt.alloc());
-    let ended = draw_schedule(rt.alloc(), irps, passes, &mut reader, &mut text);
+    let mut drawn = Vec::new(rt.alloc());
+    let ended = if text {
+        draw_schedule_as_text(rt.alloc(), irps, passes, &mut reader, &mut drawn)
+    } else {
+        draw_schedule(rt.alloc(), irps, passes, &mut reader, &mut drawn)
+    };
     let told = diagnosis_of_schedule(rt.alloc(), irps, passes, &input, ended)?;
-    finish(rt, source, ended, &text, &told)
+    finish(rt, source, ended, &drawn, &told)
 }
 
 /// Why a schedule ended, if a line ended it.

@@ -64,15 +64,19 @@ fn other_command_lines_are_refused(rt: HostRuntime) -> Result<(), Fail> {
 #[test]
 fn command_lines_of_pictures_are_read(rt: HostRuntime) -> Result<(), Fail> {
     let plain = ["csqsim", "draw"];
-    let most = ["csqsim", "draw", "--irps=1024", "--passes=64"];
-    for (words, irps, passes) in [(plain.as_slice(), 8, 4), (most.as_slice(), 1024, 64)] {
+    let most = ["csqsim", "draw", "--irps=1024", "--passes=64", "--text"];
+    for (words, irps, passes, text) in [
+        (plain.as_slice(), 8, 4, false),
+        (most.as_slice(), 1024, 64, true),
+    ] {
         let job = read_command(rt.alloc(), words).ok();
         assert_eq!(rt;
             job,
             Some(Job::Draw {
                 source: Source::Standard,
                 irps,
-                passes
+                passes,
+                text
             })
         );
     }

@@ -58,7 +58,8 @@ Words are separated by one space, and the case of letters counts. A number has
 at most nine digits, and no zero before them. Empty lines, and lines that begin
 with #, are skipped. A line of more than 64 bytes is too long, and any other
 that is no step is malformed, also where it ends in a carriage return: each ends
-the schedule. An input of more than 1048576 bytes is too long, and no line of it
+the schedule. All of the input is read before it is answered: at a terminal it
+ends with Ctrl-D. One of more than 1048576 bytes is too long, and no line of it
 is handled.
 
 Exit status: 0 where all lines were handled; 2 where one ended the schedule, the
@@ -78,6 +79,7 @@ Arguments:
   [FILE]  File to read; - or none for standard input
 
 Options:
+      --text  Draws for a terminal, in letters alone
   -h, --help  Print help
 
 Size:
@@ -87,17 +89,30 @@ Size:
 A schedule is read as by csqsim schedule, whose help teaches its lines. The
 picture has a column for each pass that makes a step, and time runs downwards. A
 step is a mark on a row of its own, with the number of its line at the left:
-what the pass did, to which IRP, and the value that it found. Each IRP has one
-of eight colours, and its number stands in its marks.
+what the pass did, to which IRP, and the value that it found; the routine of the
+WDK that it calls; and the call that it is of, with what that answers where the
+step ends it. Each IRP has one of eight colours, and its number stands in its
+marks.
   bold         the step claims its IRP: an exchange that found the routine
   shaded       the pass has the lock
   dashed line  the pass owes the IRP, from its claim until it takes the IRP out
   solid line   the pass holds the IRP, until it completes it
+  circles      the Cancel flag and the cancel routine of the IRP after the step:
+               filled where set, bold where the step changed it
+The comment before the first step stands above, its first line as the title; an
+empty line ends it. It has at most eight lines, and a question mark for a byte
+that isn't printable ASCII.
 A browser tells each mark and each line in words where the pointer rests on it,
 if the picture is opened by itself.
 A line that ends the schedule stands last, marked as refused, with its refusal
 and a sentence why; standard error says it too. Otherwise it is told below where
 each IRP is in the end, and whether all is at rest.
+
+With --text it is drawn for a terminal, in ASCII letters alone: a line for each
+step, with the pass that has the lock, in the column of its pass what it did,
+with a star before it where it claims its IRP, and the two words of the IRP
+after it. Each pass takes 26 letters, the rest 26. The comment before the first
+step stands above. Who owes or holds which IRP is left out.
 
 An input of more than 1048576 bytes is too long, and nothing is drawn.
 
@@ -184,8 +199,9 @@ status's eight hexadecimal digits. Another number has at most nine digits, and
 no zero before them. Empty lines, and lines that begin with #, are skipped. A
 line of more than 64 bytes is too long, and any other that is no call is
 malformed, also where it ends in a carriage return: each ends the script, and
-standard error says more. An input of more than 1048576 bytes is too long, and
-no line of it is handled.
+standard error says more. All of the input is read before it is answered: at a
+terminal it ends with Ctrl-D. One of more than 1048576 bytes is too long, and no
+line of it is handled.
 
 Exit status: 0 where all lines were handled; 2 where one ended the script, the
 input is too long, or the command line or a limit above the IRPs is refused; 1
