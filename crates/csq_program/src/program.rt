@@ -4,7 +4,7 @@ ghost use Rattle.csq_program.specs.Jobs.{IsInRange};
 
 use crate::command::{CommandFault, Job, read_command, refuse_bytes};
 use crate::device_run::{RunFault, answer_runs};
-use crate::replay::{Limits, ScheduleOptions, run_drawing, run_limited_script, run_schedule};
+use crate::replay::{Limits, run_drawing, run_limited_script, run_schedule};
 use crate::source::SourceFault;
 use csq_replay::SimFault;
 use std::alloc::AllocError;
@@ -111,15 +111,7 @@ where
             passes,
             claims,
             explain,
-        } => {
-            let options = ScheduleOptions {
-                irps,
-                passes,
-                claims,
-                explain,
-            };
-            run_schedule(rt, source, options)
-        }
+        } => run_schedule(rt, source, irps, passes, claims, explain),
         Job::Draw {
             source,
             irps,

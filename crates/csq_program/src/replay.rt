@@ -21,15 +21,15 @@ use std::{fmt, str};
 
 /// How large a schedule's machine is, and how the schedule is told.
 #[derive(Clone, Copy, Debug, PartialEq, Eq)]
-pub(crate) struct ScheduleOptions {
+struct ScheduleOptions {
     /// The IRPs.
-    pub(crate) irps: u32,
+    irps: u32,
     /// The passes.
-    pub(crate) passes: u32,
+    passes: u32,
     /// Whether each claim is told.
-    pub(crate) claims: bool,
+    claims: bool,
     /// Whether each line of the answer is explained.
-    pub(crate) explain: bool,
+    explain: bool,
 }
 
 /// Answers a schedule, and explains each line of the answer where that is asked for.
@@ -62,11 +62,19 @@ fn tell_schedule<R: Read, W: Write>(
 pub(crate) fn run_schedule<R: AllocGlobal + Print + Eprint + Input + Files>(
     rt: &R,
     source: Source<'_>,
-    options: ScheduleOptions,
+    irps: u32,
+    passes: u32,
+    claims: bool,
+    explain: bool,
 ) -> Result<u8, ProgramFault>
-    requires { IsInLimits (record { irps = options.irps; passes = options.passes; first = 0 }) }
+    requires { IsInLimits (record { irps = irps; passes = passes; first = 0 }) }
 {
-    let ScheduleOptions { irps, passes, .. } = options;
+    let options = ScheduleOptions {
+        irps,
+        passes,
+        claims,
+        explain,
+    };
     let input = source.read(rt)?;
     let mut reader = input.as_slice();
     let mut text = Vec::new(rt.alloc());
