@@ -176,7 +176,7 @@ fn find_words(rt: &impl Abort, ended: &Ended, time: &str) {
     let mut lines = ended.printed.as_str().lines();
     for words in LINES {
         let is_next = lines.next().is_some_and(|line| line.starts_with(words));
-        assert!(rt; is_next, "no {words}");
+        assert!(rt; is_next);
     }
     assert!(rt; lines.next().is_none());
     assert!(rt; ended.printed.as_str().ends_with(time));
