@@ -15,9 +15,11 @@ use Rattle.csq_words.specs.declared.views.PassRecord.{PassRecord}
 use Rattle.csq_words.specs.Queue.{Limits}
 use Rattle.csq_words.specs.Records.{entries_of}
 use Rattle.csq_queue.specs.Cleanups.{removals, cleanup_calls}
+use Rattle.csq_device.specs.declared.kinds.CallsByKind.{CallsByKind}
 use Rattle.csq_device.specs.declared.plan.Plan.{Plan}
 use Rattle.csq_device.specs.declared.roles.Role.{Role}
 use Rattle.csq_device.specs.declared.roles.Role.TheVariants.{Submitter, Worker, Canceller}
+use Rattle.csq_device.specs.Duties.{completed_by}
 use Rattle.csq_device.specs.Served.{is_reuse, has_reuse, HasServed}
 use Rattle.csq_device.specs.Turns.{last_file, IsInsertOf, AreInserts, IsRemoval, AreRemovals, CancelsOne, CancelsEach, CleansUp, Plays, in_first_life}
 use Rattle.csq_device.specs.Work.{IsIdle, completions, HasCompleted, status_by}
@@ -75,10 +77,10 @@ cancels_none size first step zero old new h g = ap (λ (r : PassRecord). has_reu
 cancels_none size first step (suc turn) old new (mid, count, before, one) g = cancel_none size (in_first_life (first + turn * step)) count mid new one (cancels_none size first step turn old mid before g)
 
 -- a thread's calls
-plays_none : (size : Size) (plan : Plan) (role : Role) (old new : PassRecord) → Plays size plan role old new → has_reuse old.mine ≡ false → has_reuse new.mine ≡ false
-plays_none size plan (Submitter first) old new h g = ap has_reuse h.calls.mine ∙ more_calls old.pass h.events old.mine (none_in_inserts old.pass plan.files first plan.submitters h.events h.inserts) g
-plays_none size plan Worker old new h g = ap has_reuse h.calls.mine ∙ more_calls old.pass h.events old.mine (none_in_removals old.pass h.events h.removals) g
-plays_none size plan (Canceller first) old new h g = cancels_none size first plan.cancellers h.count old new h.cancels g
+plays_none : (size : Size) (plan : Plan) (role : Role) (calls : CallsByKind) (old new : PassRecord) → Plays size plan role calls old new → has_reuse old.mine ≡ false → has_reuse new.mine ≡ false
+plays_none size plan (Submitter first) calls old new h g = ap has_reuse h.calls.mine ∙ more_calls old.pass h.events old.mine (none_in_inserts old.pass plan.files first plan.submitters h.events h.inserts) g
+plays_none size plan Worker calls old new h g = ap has_reuse h.calls.mine ∙ more_calls old.pass h.events old.mine (none_in_removals old.pass h.events h.removals) g
+plays_none size plan (Canceller first) calls old new h g = cancels_none size first plan.cancellers calls.cancels.made old new h.cancels g
 
 -- a thread has one pass
 cancel_pass : (size : Size) (i : IrpLife) (count : ℕ) (old new : PassRecord) → CancelsOne size i count old new → new.pass ≡ old.pass
@@ -91,10 +93,10 @@ cancels_pass : (size : Size) (first step turns : ℕ) (old new : PassRecord) →
 cancels_pass size first step zero old new h = ap (λ (r : PassRecord). r.pass) h
 cancels_pass size first step (suc turn) old new (mid, count, before, one) = cancel_pass size (in_first_life (first + turn * step)) count mid new one ∙ cancels_pass size first step turn old mid before
 
-plays_pass : (size : Size) (plan : Plan) (role : Role) (old new : PassRecord) → Plays size plan role old new → new.pass ≡ old.pass
-plays_pass size plan (Submitter first) old new h = h.calls.pass
-plays_pass size plan Worker old new h = h.calls.pass
-plays_pass size plan (Canceller first) old new h = cancels_pass size first plan.cancellers h.count old new h.cancels
+plays_pass : (size : Size) (plan : Plan) (role : Role) (calls : CallsByKind) (old new : PassRecord) → Plays size plan role calls old new → new.pass ≡ old.pass
+plays_pass size plan (Submitter first) calls old new h = h.calls.pass
+plays_pass size plan Worker calls old new h = h.calls.pass
+plays_pass size plan (Canceller first) calls old new h = cancels_pass size first plan.cancellers calls.cancels.made old new h.cancels
 
 -- how many a pass completed that had completed none
 completed_count_is : (status : NtStatus) (count : ℕ) (old new : PassRecord) → HasCompleted status count old new → old.completed ≡ [] → count ≡ length new.completed
@@ -103,12 +105,12 @@ completed_count_is status count old new h none =
     ∙ ap length (sym (h.completed ∙ (ap (λ cs. completions status h.irps ++ cs) none ∙ append-nil (completions status h.irps)))))
 
 -- what a thread of a role hands back
-pub served : (size : Size) (plan : Plan) (role : Role) (count : ℕ) (old new : PassRecord) → IsIdle old → old.completed ≡ [] → old.mine ≡ [] → HasCompleted (status_by role) count old new → Plays size plan role old new → HasServed old.pass.0 count new
-served size plan role count old new idle none_done none_called completed plays = record {
-  pass = plays_pass size plan role old new plays;
-  count_is = completed_count_is (status_by role) count old new completed none_done;
-  none_reused = plays_none size plan role old new plays (ap has_reuse none_called);
-  rests = (nothing_held (status_by role) count old new idle completed, nothing_owed (status_by role) count old new idle completed);
+pub served : (size : Size) (plan : Plan) (role : Role) (calls : CallsByKind) (old new : PassRecord) → IsIdle old → old.completed ≡ [] → old.mine ≡ [] → HasCompleted (status_by role) (completed_by calls) old new → Plays size plan role calls old new → HasServed old.pass.0 (completed_by calls) new
+served size plan role calls old new idle none_done none_called completed plays = record {
+  pass = plays_pass size plan role calls old new plays;
+  count_is = completed_count_is (status_by role) (completed_by calls) old new completed none_done;
+  none_reused = plays_none size plan role calls old new plays (ap has_reuse none_called);
+  rests = (nothing_held (status_by role) (completed_by calls) old new idle completed, nothing_owed (status_by role) (completed_by calls) old new idle completed);
 }
 
 -- and the one that cleans up

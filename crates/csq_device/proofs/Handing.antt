@@ -90,15 +90,15 @@ done_tally size [] r none = sym (tally_zero (λ n. false) size.irps (λ n. refl)
 done_tally size (m ∷ E) r none = done_step size m.pass m.kind m.found E r (earlier size.first m E none) (done_tally size E (run_less size m E r) (earlier size.first m E none))
 
 -- f from, f (from + 1) and so on, so many, added up
-abbrev sum_from : (ℕ → ℕ) → ℕ → ℕ → ℕ
+abbrev pub sum_from : (ℕ → ℕ) → ℕ → ℕ → ℕ
 sum_from f from zero = 0
 sum_from f from (suc n) = f from + sum_from f (suc from) n
 
-sum_same : (f g : ℕ → ℕ) (from n : ℕ) → ((j : ℕ) → from ≤ j → f j ≡ g j) → sum_from f from n ≡ sum_from g from n
+pub sum_same : (f g : ℕ → ℕ) (from n : ℕ) → ((j : ℕ) → from ≤ j → f j ≡ g j) → sum_from f from n ≡ sum_from g from n
 sum_same f g from zero h = refl
 sum_same f g from (suc n) h = λ k. h from (omega arith) k + sum_same f g (suc from) n (λ j l. h j (omega arith)) k
 
-sum_zero : (from n : ℕ) → sum_from (λ j. 0) from n ≡ 0
+pub sum_zero : (from n : ℕ) → sum_from (λ j. 0) from n ≡ 0
 sum_zero from zero = refl
 sum_zero from (suc n) = zero-add (sum_from (λ j. 0) (suc from) n) ∙ sum_zero (suc from) n
 

@@ -17,14 +17,17 @@ use Rattle.csq_queue.specs.Named.{pass_numbered, queue_size, is_back}
 use Rattle.csq_queue.specs.Rests.{FirstAreBack, IsRestOf}
 use Rattle.csq_queue.proofs.Backing.{found_back}
 use Rattle.csq_queue.proofs.Counting.{by_number}
+use Rattle.csq_device.specs.declared.kinds.CallsByKind.{CallsByKind}
+use Rattle.csq_device.specs.declared.plan.Plan.{Plan}
+use Rattle.csq_device.specs.Duties.{completed_by}
 use Rattle.csq_device.specs.Rests.{completed_count}
 use Rattle.csq_device.specs.Served.{has_reuse, HasServed, AreServed, AreReceipts, completions_of, IsShift}
 use Rattle.csq_device.proofs.Handing.{handed_is_completed}
 
 -- one thread more has ended
-pub completed_by-push : (rs : List PassRecord) (r : PassRecord) → completions_of (rs ++ r ∷ []) ≡ completions_of rs + length r.completed
-completed_by-push [] r = omega arith
-completed_by-push (o ∷ rs) r = let rest = completed_by-push rs r in omega arith
+pub completions_of-push : (rs : List PassRecord) (r : PassRecord) → completions_of (rs ++ r ∷ []) ≡ completions_of rs + length r.completed
+completions_of-push [] r = omega arith
+completions_of-push (o ∷ rs) r = let rest = completions_of-push rs r in omega arith
 
 pub one_more_served : (number completed : ℕ) (rs : List PassRecord) (r : PassRecord) → HasServed number completed r → number ≡ suc (length rs) → AreReceipts rs → AreReceipts (rs ++ r ∷ [])
 one_more_served number completed rs r served next were = λ k o at. ⊎_elim
@@ -48,11 +51,11 @@ each_served q from (r ∷ rs) h =
     )
 
 -- as many are completed as the threads counted
-pub handed_over : (limits : Limits) (handed : ℕ) (receipts : List PassRecord) (pass : PassRecord) (rack taken : ℕ) (listing : Listing) (finals : FinalWords)
-    → IsShift limits handed receipts pass rack → IsRestOf limits pass receipts taken listing finals → handed ≡ completed_count finals limits.irps
-handed_over limits handed receipts pass rack taken listing finals shift rest =
+pub handed_over : (limits : Limits) (plan : Plan) (calls : CallsByKind) (cleaned : ℕ) (receipts : List PassRecord) (pass : PassRecord) (rack taken : ℕ) (listing : Listing) (finals : FinalWords)
+    → IsShift limits plan calls cleaned receipts pass rack → IsRestOf limits pass receipts taken listing finals → completed_by calls + cleaned ≡ completed_count finals limits.irps
+handed_over limits plan calls cleaned receipts pass rack taken listing finals shift rest =
     shift.handed_is
-    ∙ (sym (completed_by-push receipts pass)
+    ∙ (sym (completions_of-push receipts pass)
     ∙ (sym (handed_is_completed (queue_size limits) finals finals.queue rest.irps rest.back.made rest.last (receipts ++ pass ∷ []) all served)
     ∙ ap (completed_count finals) rest.irps))
   where
@@ -85,12 +88,12 @@ here_at (r ∷ rs) zero l = (r, refl)
 here_at (r ∷ rs) (suc k) l = here_at rs k (omega arith)
 
 -- each pass that was taken is the closing one, or has its receipt
-pub all_back : (limits : Limits) (handed : ℕ) (receipts : List PassRecord) (pass : PassRecord) (rack taken : ℕ) → IsShift limits handed receipts pass rack → taken ≤ limits.passes → FirstAreBack taken (pass ∷ receipts)
-all_back limits handed receipts pass rack taken shift few zero low high = absurd (none low)
+pub all_back : (limits : Limits) (plan : Plan) (calls : CallsByKind) (cleaned : ℕ) (receipts : List PassRecord) (pass : PassRecord) (rack taken : ℕ) → IsShift limits plan calls cleaned receipts pass rack → taken ≤ limits.passes → FirstAreBack taken (pass ∷ receipts)
+all_back limits plan calls cleaned receipts pass rack taken shift few zero low high = absurd (none low)
   where
     none : 1 ≤ 0 → ⊥
     none l = omega arith
-all_back limits handed receipts pass rack taken shift few (suc k) low high = by_number (is_back p (pass ∷ receipts) ≡ true) (suc k) limits.passes
+all_back limits plan calls cleaned receipts pass rack taken shift few (suc k) low high = by_number (is_back p (pass ∷ receipts) ≡ true) (suc k) limits.passes
     (λ e. ap (λ b. b || is_back p receipts) (same_pass-is pass.pass p (shift.last.0 ∙ ap pass_numbered (sym e))))
     (λ ne. let at = here_at receipts k (inside ne) in or_right (same_pass pass.pass p) (is_back p receipts) (found_back receipts k at.0 p at.1 (shift.given k at.0 at.1).0))
   where

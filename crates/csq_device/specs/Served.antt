@@ -1,5 +1,5 @@
 -- What the threads of a device hand back.
-use Rattle.std.specs.Prelude.{◌≡◌, ℕ, suc, ◌+◌, ◌<◌, ◌^◌, Bool, true, false, List, [], ◌∷◌, length}
+use Rattle.std.specs.Prelude.{◌≡◌, ℕ, suc, ◌+◌, Bool, true, false, List, [], ◌∷◌, length}
 use Rattle.std.specs.List.{list_any}
 use mathlib.Core.Option.{some}
 use lib.ListN.{get_elem?}
@@ -12,6 +12,9 @@ use Rattle.csq_words.specs.Rule.{HasBack}
 use Rattle.csq_words.specs.Queue.{Limits}
 use Rattle.csq_queue.specs.Named.{pass_numbered}
 use Rattle.csq_queue.specs.Rests.{HoldsNothing}
+use Rattle.csq_device.specs.Duties.{AreCallsOf, completed_by}
+use Rattle.csq_device.specs.declared.kinds.CallsByKind.{CallsByKind}
+use Rattle.csq_device.specs.declared.plan.Plan.{Plan}
 
 -- the event is a reuse
 abbrev pub is_reuse : Event → Bool
@@ -43,10 +46,10 @@ AreServed queue from (r ∷ rs) = (r.pass ≡ pass_numbered from) × HasBack que
 abbrev pub AreReceipts : List PassRecord → Type 0
 AreReceipts rs = (k : ℕ) (r : PassRecord) → get_elem? rs k ≡ some r → (r.pass ≡ pass_numbered (suc k)) × (has_reuse r.mine ≡ false)
 
--- the threads completed so many IRPs, which are those of their passes: of all but the last these are the receipts, the last is the pass, and none is in the rack
-pub record IsShift (limits : Limits) (handed : ℕ) (receipts : List PassRecord) (pass : PassRecord) (rack : ℕ) : Type 0 where
-  pub handed_is : handed ≡ completions_of receipts + length pass.completed
-  pub few : handed < 2 ^ 48
+-- the threads of a plan made these calls and the cleanup completed so many IRPs; what they completed is what their passes did: of all but the last these are the receipts, the last is the pass, and none is in the rack
+pub record IsShift (limits : Limits) (plan : Plan) (calls : CallsByKind) (cleaned : ℕ) (receipts : List PassRecord) (pass : PassRecord) (rack : ℕ) : Type 0 where
+  pub calls_are : AreCallsOf plan calls
+  pub handed_is : completed_by calls + cleaned ≡ completions_of receipts + length pass.completed
   pub given : AreReceipts receipts
   pub last : (pass.pass ≡ pass_numbered limits.passes) × (has_reuse pass.mine ≡ false)
   pub rests : HoldsNothing pass

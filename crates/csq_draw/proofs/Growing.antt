@@ -11,6 +11,10 @@ pub elements-append : (xs ys : List Element) → elements_text (xs ++ ys) ≡ el
 elements-append [] ys = refl
 elements-append (x ∷ xs) ys = ap (λ t. (element_text x ++ codes "\n") ++ t) (elements-append xs ys) ∙ sym (append_assoc (element_text x ++ codes "\n") (elements_text xs) (elements_text ys))
 
+-- a text grew by what is the same
+pub grew_same : {A : Type 0} (old new : List ℕ) (text : A → List ℕ) (x y : A) → x ≡ y → GrewBy old new (text x) → GrewBy old new (text y)
+grew_same old new text x y same grew = grew ∙ ap (λ z. old ++ text z) same
+
 -- a text that grew by these elements, and then by those, grew by all
 pub grew_elements : (old between new : List ℕ) (first second : List Element) → GrewBy old between (elements_text first) → GrewBy between new (elements_text second) → GrewBy old new (elements_text (first ++ second))
 grew_elements old between new first second a b = grew_more old between new (elements_text first) (elements_text second) a b ∙ ap (λ t. old ++ t) (sym (elements-append first second))

@@ -1,4 +1,6 @@
+pub mod Captioning
 pub mod Growing
+pub mod Writing
 pub mod Showing
 pub mod PictureLaws
 pub mod OwnerLaws

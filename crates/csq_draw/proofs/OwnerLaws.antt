@@ -1,5 +1,6 @@
 -- Who is drawn as an IRP's owner is its owner by the run.
 use Rattle.std.proofs.Common.{◌≡◌, ◌≢◌, ◌↔◌, ℕ, ◌==◌, Bool, true, false, cond, List, [], ◌∷◌, length, Option, Some, None, refl, ap, sym, ◌∙◌, subst}
+use Rattle.std.specs.Option.{option_map, option_map_or}
 use Rattle.irp_core.specs.declared.ids.IrpId.{IrpId}
 use Rattle.irp_core.specs.declared.ids.IrpLife.{IrpLife}
 use Rattle.irp_core.specs.declared.ids.Life.{Life}
@@ -14,9 +15,12 @@ use Rattle.irp_core.specs.Inside.{inside}
 use Rattle.irp_core.specs.Lives.{renews, present_life, present, IsPresent}
 use Rattle.irp_core.specs.Owners.{owes, holds, dones}
 use Rattle.irp_core.specs.Runs.{Size, IsRun, EachRunFrom}
-use Rattle.irp_core.specs.Standings.{moved, names, standing_after, is_waiting, is_owed_by, is_held_by}
-use Rattle.irp_core.specs.Steps.{same_irp, same_pass}
-use Rattle.irp_core.specs.Words.{bit, armed}
+use Rattle.irp_core.specs.Standings.{IsStanding, moved, names, standing_after, is_waiting, is_owed_by, is_held_by}
+use Rattle.irp_core.specs.declared.standing.IrpPlace.{IrpPlace}
+use Rattle.irp_core.specs.declared.standing.IrpPlace.TheVariants as place
+use Rattle.irp_core.specs.Completion.{IsPlace}
+use Rattle.irp_core.specs.Steps.{same_irp, same_pass, name_of}
+use Rattle.irp_core.specs.Words.{bit, armed, flagged}
 use Rattle.irp_core.proofs.Growing.{run_less}
 use Rattle.irp_core.proofs.Lives.{life_same, armed_present, owed_present, held_present, Next, renewed_present, renewed_home}
 use Rattle.irp_core.proofs.MachineStates.{is_standing, standing_says, standing_grows}
@@ -26,7 +30,10 @@ use Rattle.csq_draw.specs.declared.owners.Having.{Having}
 use Rattle.csq_draw.specs.declared.owners.Having.TheVariants.{Owes, Holds}
 use Rattle.csq_draw.specs.declared.owners.Owner.{Owner}
 use Rattle.csq_draw.specs.Laws.{EachDrawnOwnerOwesOrHolds}
-use Rattle.csq_draw.specs.Owners.{is_of_irp, owner}
+use Rattle.csq_draw.specs.Owners.{is_of_irp, owner, owner_named}
+use Rattle.csq_draw.specs.declared.words.Words.{Words}
+use Rattle.csq_draw.specs.Words.{words_of, words_named, routine_at}
+use Rattle.csq_replay.proofs.OneAnswer.{one_place}
 
 abbrev drawn_as : PassId → Having → ℕ → IrpId → Option Owner
 drawn_as p having row n = Some (record { irp = n; pass = p; having = having; row = row })
@@ -255,3 +262,30 @@ each_owner size E r = record {
   owed = λ n p. let d = drawn size n E r in let is = owed_is n p (owner E n) d.0 d.2 in (λ a. d.1.owing_is p ∙ is.0 a, λ b. is.1 (sym (d.1.owing_is p) ∙ b));
   held = λ n p. let d = drawn size n E r in let is = held_is n p (owner E n) d.0 d.2 in (λ a. d.1.holding_is p ∙ is.0 a, λ b. is.1 (sym (d.1.holding_is p) ∙ b));
 }
+
+-- the routine is set of an IRP that is listed and that nobody owes
+pub routine_is : (size : Size) (E : List Made) → IsRun size E → (n : IrpId) (p : IrpPlace) → IsPlace E (present size.first E n) p → routine_at p (owner E n) ≡ armed E (present size.first E n)
+routine_is size E r n p is = let d = drawn size n E r in go d.0 (is_standing E (present size.first E n) d.0 d.1) d.2 ∙ sym d.1.set_is
+  where
+    at : (q : IrpPlace) → IsPlace E (present size.first E n) q → routine_at p (owner E n) ≡ routine_at q (owner E n)
+    at q h = ap (λ x. routine_at x (owner E n)) (one_place size E r (present size.first E n) p q is h)
+
+    go : (s : Standing) → IsStanding E (present size.first E n) s → Fits n s (owner E n) → routine_at p (owner E n) ≡ is_waiting s
+    go Home h f = at place.Home h
+    go Waiting h f = at place.Listed h.0 ∙ ap (λ o. routine_at place.Listed o) f
+    go (Owed q) h f = at place.Listed h.0 ∙ ap (λ o. routine_at place.Listed o) f.1
+    go (Held q status) h f = at (place.HeldBy q) h.0
+    go (Finished status q) h f = at (place.Completed status q) h
+
+-- what a machine tells of the IRP that a step names are its words
+pub words_told : (size : Size) (E : List Made) → IsRun size E → (k : Kind) (i : IrpLife) → name_of k ≡ Some i → (life : Life) → life.0 ≡ present_life size.first E i.irp
+    → (flag : Bool) → flag ≡ flagged E (present size.first E i.irp) → (p : IrpPlace) → IsPlace E (present size.first E i.irp) p → (o : Option Owner) → o ≡ owner_named E k
+    → (routine : Bool) → routine ≡ routine_at p o → Some (record { name = record { irp = i.irp; life = life }; flag = flag; routine = routine }) ≡ words_named size.first E k
+words_told size E r k i e life now flag set p at o has routine is =
+    let words : IrpLife → Bool → Bool → Option Words = λ x f b. Some (record { name = x; flag = f; routine = b }) in
+    let j = present size.first E i.irp in
+    let his : o ≡ owner E i.irp = has ∙ ap (λ (x : Option IrpLife). option_map_or (λ y. owner E y.irp) x None) e in
+    ap (λ x. words x flag routine) (named (record { irp = i.irp; life = life }) j refl now)
+    ∙ ap (λ f. words j f routine) set
+    ∙ ap (words j (flagged E j)) (is ∙ ap (routine_at p) his ∙ routine_is size E r i.irp p at)
+    ∙ sym (ap (λ (x : Option IrpLife). option_map (λ y. words_of E (present size.first E y.irp)) x) e)

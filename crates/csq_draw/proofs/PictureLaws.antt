@@ -1,5 +1,5 @@
 -- The laws of pictures.
-use Rattle.std.proofs.Common.{◌≡◌, ◌||◌, inl, inr, ℕ, ◌+◌, ◌<◌, ◌≤◌, Bool, true, false, cond, List, [], ◌∷◌, ◌++◌, length, get_or, Option, Some, None, refl, ap, sym, ◌∙◌, subst, arith, append_assoc, append-nil}
+use Rattle.std.proofs.Common.{◌≡◌, ◌||◌, inl, inr, ℕ, ◌+◌, ◌<◌, ◌≤◌, Bool, true, false, cond, List, [], ◌∷◌, ◌++◌, length, get_or, Option, Some, None, option_to_list, refl, ap, sym, ◌∙◌, subst, arith, append_assoc, append-nil}
 use Rattle.std.specs.List.{position, list_any}
 use Rattle.std.specs.Option.{option_map}
 use Rattle.std.proofs.lemmas.List.Quantifiers.{position-Some}
@@ -13,11 +13,14 @@ use Rattle.irp_core.proofs.Names.{same_pass-eq}
 use Rattle.irp_core.proofs.Growing.{run_none, run_less, run_parted, HasLock-has_lock, has_lock-HasLock}
 use Rattle.irp_core.proofs.Next.{lock_one}
 use Rattle.csq_replay.specs.declared.schedule.closing.IrpLine.{IrpLine}
+use Rattle.csq_replay.specs.declared.schedule.outcome.Outcome.{Outcome}
+use Rattle.csq_replay.specs.declared.schedule.outcome.Outcome.TheVariants.{Skipped, Accepted, Stopped}
+use Rattle.csq_replay.specs.Outcomes.{ComesTo}
 use Rattle.csq_replay.specs.Schedule.{Numbered, run_of}
 use Rattle.csq_replay.proofs.Answering.{one_input_answer}
-use Rattle.csq_replay.proofs.OneAnswer.{one_close, one_line, run_on}
+use Rattle.csq_replay.proofs.OneAnswer.{one_close, one_outcome}
+use Rattle.csq_draw.specs.declared.format.Format.{Format}
 use Rattle.csq_draw.specs.declared.heading.Column.{Column}
-use Rattle.csq_draw.specs.declared.heading.Extent.{Extent}
 use Rattle.csq_draw.specs.declared.marks.Mark.{Mark}
 use Rattle.csq_draw.specs.declared.marks.Number.{Number}
 use Rattle.csq_draw.specs.declared.marks.Shade.{Shade}
@@ -26,29 +29,49 @@ use Rattle.csq_explain.specs.declared.passes.PassNow.{PassNow}
 use Rattle.csq_explain.specs.declared.reasons.Reason.{Reason}
 use Rattle.csq_draw.specs.declared.rows.Row.{Row}
 use Rattle.csq_draw.specs.declared.spans.OpenSpan.{OpenSpan}
+use Rattle.csq_draw.specs.declared.words.Words.{Words}
 use Rattle.csq_draw.specs.declared.element.Element.{Element}
-use Rattle.csq_draw.specs.Elements.{picture}
 use Rattle.csq_draw.specs.declared.element.Element.TheVariants as element
 use Rattle.csq_draw.specs.Owners.{owners}
 use Rattle.csq_explain.specs.Passes.{new_pass_now, pass_after, pass_now}
 use Rattle.csq_draw.specs.Passes.{lock_of, columns, column_of}
-use Rattle.csq_draw.specs.Pictures.{each, column_element, column_elements, shade_elements, span_elements, number_element, mark_element, row_elements, open_elements, extent, opening_elements, closing_elements, refused_elements, rest_element, shown_elements, closed_picture, drawn_text, DrawsLine, DrawsClosing}
+use Rattle.csq_draw.specs.Pictures.{each, column_element, column_elements, shade_elements, span_elements, number_element, mark_element, row_elements, open_elements, closing_elements, refused_elements, rest_element, first_elements, shown_elements, Drawn, new_drawn, drawn_text, drawn_after, closed_text, DrawsLine, DrawsClosing}
 use Rattle.csq_explain.specs.Passes.{all_passes}
 use Rattle.csq_draw.specs.Rows.{row_of, rows_of}
 use Rattle.csq_explain.specs.Reasons.{reason_of}
-use Rattle.csq_draw.specs.Laws.{HasOnePicture, picked, added, AddsStepByStep, mark_in, number_in, shade_in, shade_by, EachStepHasOneMark, EachLineHasItsNumber, EachShadeIsOfTheLock, EachPassHasItsColumn, HasItAt, TheShadedPassHasTheLock}
+use Rattle.csq_draw.specs.Laws.{HasOnePicture, picked, added, AddsStepByStep, mark_in, words_in, number_in, shade_in, shade_by, EachStepHasOneMark, EachStepShowsItsWords, EachLineHasItsNumber, EachShadeIsOfTheLock, EachPassHasItsColumn, HasItAt, TheShadedPassHasTheLock}
 use Rattle.csq_explain.proofs.Tables.{get-table, position-None, count-more}
 use Rattle.csq_explain.proofs.Following.{length-passes, inside_is}
 
-one_closing : (size : Size) (W : List Numbered) → IsRun size (run_of W) → (t u : List ℕ) → DrawsClosing size W t → DrawsClosing size W u → t ≡ u
-one_closing size W r t u (told, rest, closes, e) (other, otherwise, closes', f) =
-    let same = one_close size (run_of W) r told other rest otherwise closes closes' in
-    e ∙ ap (λ x. picture (closed_picture size W x rest)) same.0 ∙ ap (λ x. picture (closed_picture size W other x)) same.1 ∙ sym f
+module _ (size : Size) (format : Format) where
+  -- what is drawn of a line is one
+  one_drawn : (d : Drawn) (n : ℕ) (line t u : List ℕ) (m k : Option Drawn) → IsRun size (run_of d.steps) → DrawsLine size format d n line t m → DrawsLine size format d n line u k → (t ≡ u) × (m ≡ k)
+  one_drawn d n line t u m k r (o, comes, e, f) (p, comes', g, h) =
+      let same = one_outcome size (run_of d.steps) line r o p comes comes' in
+      (e ∙ ap (drawn_text size format d n) same ∙ sym g, f ∙ ap (drawn_after d n line) same ∙ sym h)
 
-pub one_picture : (size : Size) (input : List ℕ) → HasOnePicture size input
-one_picture size input t u e f is other =
-    one_input_answer (DrawsLine size) (DrawsClosing size) (λ W. IsRun size (run_of W)) (one_line (drawn_text size) size) (run_on (drawn_text size) size)
-    (λ W x y r closed closed'. one_closing size W r x y closed closed') [] (run_none size) input t u e f is other
+  abbrev steps_in : Option Drawn → List Numbered
+  steps_in (Some d) = d.steps
+  steps_in None = []
+
+  run_after : (d e : Drawn) (n : ℕ) (line : List ℕ) (o : Outcome) → IsRun size (run_of d.steps) → ComesTo size (run_of d.steps) line o → Some e ≡ drawn_after d n line o → IsRun size (run_of e.steps)
+  run_after d e n line Skipped r is same = let P : List Numbered → Type 0 = λ x. IsRun size (run_of x) in subst P (ap steps_in (sym same)) r
+  run_after d e n line (Accepted m) r is same = let P : List Numbered → Type 0 = λ x. IsRun size (run_of x) in subst P (ap steps_in (sym same)) is.1
+  run_after d e n line (Stopped stop) r is same = absurd (cc same)
+
+  -- the steps that a line leads to make a run
+  drawn_on : (d e : Drawn) (n : ℕ) (line text : List ℕ) → IsRun size (run_of d.steps) → DrawsLine size format d n line text (Some e) → IsRun size (run_of e.steps)
+  drawn_on d e n line text r (o, comes, told, same) = run_after d e n line o r comes same
+
+  one_closing : (d : Drawn) → IsRun size (run_of d.steps) → (t u : List ℕ) → DrawsClosing size format d t → DrawsClosing size format d u → t ≡ u
+  one_closing d r t u (told, rest, closes, e) (other, otherwise, closes', f) =
+      let same = one_close size (run_of d.steps) r told other rest otherwise closes closes' in
+      e ∙ ap (λ x. closed_text size format d x rest) same.0 ∙ ap (λ x. closed_text size format d other x) same.1 ∙ sym f
+
+pub one_picture : (size : Size) (format : Format) (input : List ℕ) → HasOnePicture size format input
+one_picture size format input t u e f is other =
+    one_input_answer (DrawsLine size format) (DrawsClosing size format) (λ (d : Drawn). IsRun size (run_of d.steps)) (one_drawn size format) (drawn_on size format)
+    (λ d x y r closed closed'. one_closing size format d r x y closed closed') new_drawn (run_none size) input t u e f is other
 
 -- what is picked out of elements
 module _ {A : Type 0} (pick : Element → List A) where
@@ -81,7 +104,7 @@ module _ {A : Type 0} (pick : Element → List A) where
 
 -- of which elements something is picked: this of a row, this of the line that ended the handling after so many rows, and nothing else
 record Picks {A : Type 0} (pick : Element → List A) (of_row : List PassNow → Row → List A) (of_line : ℕ → ℕ → List A) : Type 0 where
-  opening : (e : Extent) → picked pick (opening_elements e) ≡ []
+  first : (columns rows : ℕ) → picked pick (first_elements columns rows) ≡ []
   columns : (passes : List PassNow) (rows n : ℕ) (now : PassNow) → picked pick (column_elements passes rows n now) ≡ []
   row : (passes : List PassNow) (n : ℕ) (row : Row) → picked pick (row_elements passes n row) ≡ of_row passes row
   kept : (passes : List PassNow) (rows n : ℕ) (owner : Option Owner) → picked pick (open_elements passes rows n owner) ≡ []
@@ -112,15 +135,15 @@ module _ {A : Type 0} (pick : Element → List A) (of_row : List PassNow → Row
       abbrev passes : List PassNow
       passes = all_passes size W
 
-      abbrev shown : ℕ → List Element
-      shown lines = shown_elements passes (rows_of size W) (owners size.irps (run_of W)) (length W) lines
+      abbrev shown : List Element
+      shown = shown_elements passes (rows_of size W) (owners size.irps (run_of W)) (length W)
 
-      shown_picked : (lines : ℕ) → picked pick (shown lines) ≡ added (of_step passes) W
-      shown_picked lines =
+      shown_picked : picked pick shown ≡ added (of_step passes) W
+      shown_picked =
           let named = each (column_elements passes (length W)) 0 passes in
           let steps = each (row_elements passes) 0 (rows_of size W) in
           let kept = each (open_elements passes (length W)) 0 (owners size.irps (run_of W)) in
-          none_then pick (opening_elements (extent (columns passes) (length W) lines)) (named ++ (steps ++ kept)) _ (is.opening _)
+          none_then pick (first_elements (columns passes) (length W)) (named ++ (steps ++ kept)) _ (is.first (columns passes) (length W))
           (none_then pick named (steps ++ kept) _ (none_picked pick (column_elements passes (length W)) (is.columns passes (length W)) 0 passes)
           (then_none pick steps kept _ (all_picked passes W) (none_picked pick (open_elements passes (length W)) (is.kept passes (length W)) 0 (owners size.irps (run_of W)))))
 
@@ -128,18 +151,21 @@ module _ {A : Type 0} (pick : Element → List A) (of_row : List PassNow → Row
       all_shown = record {
         stopped = λ n stop.
             let reason = reason_of size passes stop in
-            picked-append pick (shown 3) (refused_elements (length W) n reason)
-            ∙ ap (λ t. t ++ picked pick (refused_elements (length W) n reason)) (shown_picked 3)
+            picked-append pick shown (refused_elements (length W) n reason)
+            ∙ ap (λ t. t ++ picked pick (refused_elements (length W) n reason)) shown_picked
             ∙ ap (λ t. added (of_step passes) W ++ t) (is.refused (length W) n reason);
         closed = λ told at_rest.
             let last = rest_element (length W) (length told) at_rest in
-            then_none pick (shown (length told + 1)) (each (closing_elements (length W)) 0 told ++ last ∷ []) _ (shown_picked (length told + 1))
+            then_none pick shown (each (closing_elements (length W)) 0 told ++ last ∷ []) _ shown_picked
             (none_then pick (each (closing_elements (length W)) 0 told) (last ∷ []) [] (none_picked pick (closing_elements (length W)) (is.closing (length W)) 0 told)
             (append-nil (pick last) ∙ is.rest (length W) (length told) at_rest));
       }
 
 abbrev marked : List PassNow → Row → List Mark
-marked passes row = record { row = row.row; column = column_of passes row.step.made.pass; step = row.step } ∷ []
+marked passes row = record { row = row.row; column = column_of passes row.step.made.pass; columns = columns passes; step = row.step; words = row.words } ∷ []
+
+abbrev worded : List PassNow → Row → List Words
+worded passes row = option_to_list row.words
 
 abbrev numbered : List PassNow → Row → List Number
 numbered passes row = record { row = row.row; line = row.line } ∷ []
@@ -153,7 +179,7 @@ elements_with passes row lock ended = number_element row ∷ (shade_elements pas
 
 marks : Picks mark_in marked (λ rows n. [])
 marks = record {
-  opening = λ e. refl;
+  first = λ columns rows. refl;
   columns = no_column mark_in (λ c. refl);
   row = λ passes n row. row_marks passes row row.lock row.ended;
   kept = no_kept mark_in (λ o. refl);
@@ -168,9 +194,26 @@ marks = record {
     row_marks passes row None (Some o) = refl
     row_marks passes row None None = refl
 
+words : Picks words_in worded (λ rows n. [])
+words = record {
+  first = λ columns rows. refl;
+  columns = no_column words_in (λ c. refl);
+  row = λ passes n row. row_words passes row row.lock row.ended;
+  kept = no_kept words_in (λ o. refl);
+  closing = λ rows n line. refl;
+  rest = λ rows n at_rest. refl;
+  refused = λ rows n reason. refl;
+}
+  where
+    row_words : (passes : List PassNow) (row : Row) (lock : Option PassId) (ended : Option Owner) → picked words_in (elements_with passes row lock ended) ≡ option_to_list row.words
+    row_words passes row (Some p) (Some o) = append-nil (option_to_list row.words)
+    row_words passes row (Some p) None = append-nil (option_to_list row.words)
+    row_words passes row None (Some o) = append-nil (option_to_list row.words)
+    row_words passes row None None = append-nil (option_to_list row.words)
+
 numbers : Picks number_in numbered (λ rows n. record { row = rows; line = n } ∷ [])
 numbers = record {
-  opening = λ e. refl;
+  first = λ columns rows. refl;
   columns = no_column number_in (λ c. refl);
   row = λ passes n row. row_numbers passes row row.lock row.ended;
   kept = no_kept number_in (λ o. refl);
@@ -187,7 +230,7 @@ numbers = record {
 
 shades : Picks shade_in shaded_on (λ rows n. [])
 shades = record {
-  opening = λ e. refl;
+  first = λ columns rows. refl;
   columns = no_column shade_in (λ c. refl);
   row = λ passes n row. row_shades passes row row.lock row.ended;
   kept = no_kept shade_in (λ o. refl);
@@ -206,6 +249,9 @@ shades = record {
 module _ (size : Size) (W : List Numbered) where
   pub each_mark : EachStepHasOneMark size W
   each_mark = all_shown mark_in marked (λ rows n. []) marks size W
+
+  pub each_words : EachStepShowsItsWords size W
+  each_words = all_shown words_in worded (λ rows n. []) words size W
 
   pub each_number : EachLineHasItsNumber size W
   each_number = all_shown number_in numbered (λ rows n. record { row = rows; line = n } ∷ []) numbers size W

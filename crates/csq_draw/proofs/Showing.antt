@@ -1,5 +1,5 @@
 -- A drawing shows the run that it was noted of.
-use Rattle.std.proofs.Common.{◌≡◌, ℕ, suc, ◌+◌, ◌<◌, ◌≤◌, Bool, true, false, cond, List, [], ◌∷◌, ◌++◌, length, get_or, set, replicate, Option, Some, None, refl, ap, sym, ◌∙◌, arith, length-append, add-one}
+use Rattle.std.proofs.Common.{◌≡◌, ℕ, suc, ◌+◌, ◌<◌, Bool, true, false, cond, List, [], ◌∷◌, ◌++◌, length, get_or, set, replicate, Option, Some, None, refl, ap, sym, ◌∙◌, subst, length-append, add-one}
 use Rattle.std.specs.Option.{option_map_or}
 use Rattle.irp_core.specs.declared.ids.IrpId.{IrpId}
 use Rattle.irp_core.specs.declared.ids.PassId.{PassId}
@@ -8,6 +8,7 @@ use Rattle.irp_core.specs.declared.step.Kind.TheVariants.{Arm, Test, Disarm, End
 use Rattle.irp_core.specs.declared.step.Made.{Made}
 use Rattle.irp_core.specs.Steps.{number, same_id, name_of}
 use Rattle.irp_core.specs.declared.ids.IrpLife.{IrpLife}
+use Rattle.irp_core.specs.MachineState.{MachineState, Agrees, size_of}
 use Rattle.irp_core.specs.Runs.{Size, OfIrp}
 use Rattle.irp_core.proofs.Names.{same_id-refl, same_id-eq}
 use Rattle.csq_replay.specs.Schedule.{Numbered, run_of}
@@ -21,13 +22,17 @@ use Rattle.csq_explain.specs.Passes.{all_passes}
 use Rattle.csq_explain.specs.Reasons.{reason_of}
 use Rattle.csq_explain.specs.Sentences.{in_call}
 use Rattle.csq_explain.proofs.Tables.{length-table, table-same, table-replicate, get-table, set-table}
+use Rattle.csq_draw.specs.Captions.{CaptionText}
 use Rattle.csq_draw.specs.Elements.{picture}
-use Rattle.csq_draw.specs.Pictures.{stopped_elements, closed_elements, stopped_picture, closed_picture}
+use Rattle.csq_draw.specs.Terminal.{stopped_lines, closed_lines}
+use Rattle.csq_draw.specs.Pictures.{picture_head, stopped_elements, closed_elements, stopped_picture, closed_picture}
 use Rattle.csq_draw.specs.declared.owners.Owner.{Owner}
 use Rattle.csq_draw.specs.declared.rows.Row.{Row}
 use Rattle.csq_draw.specs.Owners.{is_of_irp, owner, owner_after, owner_named, ended_by, owners}
-use Rattle.csq_draw.specs.Passes.{lock_of, lock_at}
+use Rattle.csq_draw.specs.Passes.{lock_of, lock_at, columns}
 use Rattle.csq_draw.specs.Rows.{row_of, rows_of}
+use Rattle.csq_draw.specs.declared.words.Words.{Words}
+use Rattle.csq_draw.specs.Words.{words_named, AreWordsNamed}
 use Rattle.csq_draw.specs.Drawings.{owner_in, with_owner, Shows, NotesStep}
 
 pub length-rows : (size : Size) (W : List Numbered) → length (rows_of size W) ≡ length W
@@ -114,23 +119,40 @@ module _ (m : Made) (E : List Made) (n : ℕ) where
 
 -- one more step was noted
 module _ (size : Size) (rows : List Row) (os : List (Option Owner)) (w : Numbered) (W : List Numbered) (h : Shows size rows os W) where
-  row_is : (step : StepInCall) (held : Option PassId) → step ≡ in_call (run_of W) w.step → held ≡ lock_of (all_passes size W) → OfIrp (λ i. number i < size.irps) w.step.kind
-      → record { row = length rows; line = w.line; step = step; lock = lock_at held step.made; ended = ended_by step.made.kind (owner_in os step.made.kind) } ≡ row_of size w W
-  row_is step held told lock known =
-      let row : ℕ → StepInCall → Option PassId → Option Owner → Row = λ n s q o. record { row = n; line = w.line; step = s; lock = lock_at q s.made; ended = ended_by s.made.kind o } in
-      ap (λ n. row n step held (owner_in os step.made.kind)) (ap length h.shown_rows ∙ length-rows size W)
-      ∙ ap (λ q. row (length W) step q (owner_in os step.made.kind)) lock
-      ∙ ap (λ (s : StepInCall). row (length W) s (lock_of (all_passes size W)) (owner_in os s.made.kind)) told
-      ∙ ap (λ o. row (length W) (in_call (run_of W) w.step) (lock_of (all_passes size W)) o) (ap (λ x. owner_in x w.step.kind) h.shown_owners ∙ owner_is w.step (run_of W) size.irps known)
+  row_is : (step : StepInCall) (held : Option PassId) (words : Option Words) → step ≡ in_call (run_of W) w.step → held ≡ lock_of (all_passes size W) → OfIrp (λ i. number i < size.irps) w.step.kind
+      → words ≡ words_named size.first (run_of (w ∷ W)) w.step.kind
+      → record { row = length rows; line = w.line; step = step; lock = lock_at held step.made; ended = ended_by step.made.kind (owner_in os step.made.kind); words = words } ≡ row_of size w W
+  row_is step held words told lock known are =
+      let row : ℕ → StepInCall → Option PassId → Option Owner → Option Words → Row = λ n s q o x. record { row = n; line = w.line; step = s; lock = lock_at q s.made; ended = ended_by s.made.kind o; words = x } in
+      ap (λ n. row n step held (owner_in os step.made.kind) words) (ap length h.shown_rows ∙ length-rows size W)
+      ∙ ap (λ q. row (length W) step q (owner_in os step.made.kind) words) lock
+      ∙ ap (λ (s : StepInCall). row (length W) s (lock_of (all_passes size W)) (owner_in os s.made.kind) words) told
+      ∙ ap (λ o. row (length W) (in_call (run_of W) w.step) (lock_of (all_passes size W)) o words) (ap (λ x. owner_in x w.step.kind) h.shown_owners ∙ owner_is w.step (run_of W) size.irps known)
+      ∙ ap (row (length W) (in_call (run_of W) w.step) (lock_of (all_passes size W)) (owner_named (run_of W) w.step.kind)) are
 
-  pub shows_more : (step : StepInCall) (held : Option PassId) (rows' : List Row) (os' : List (Option Owner)) → NotesStep rows os w.line step held rows' os'
-      → step ≡ in_call (run_of W) w.step → held ≡ lock_of (all_passes size W) → OfIrp (λ i. number i < size.irps) w.step.kind → Shows size rows' os' (w ∷ W)
-  shows_more step held rows' os' noted told lock known = record {
-    shown_rows = noted.noted_rows ∙ ap (λ r. rows ++ r ∷ []) (row_is step held told lock known) ∙ ap (λ rs. rs ++ row_of size w W ∷ []) h.shown_rows;
-    shown_owners =
+  module _ (step : StepInCall) (held : Option PassId) (words : Option Words) (rows' : List Row) (os' : List (Option Owner)) (noted : NotesStep rows os w.line step held words rows' os')
+      (told : step ≡ in_call (run_of W) w.step) (known : OfIrp (λ i. number i < size.irps) w.step.kind) where
+    owners_then : os' ≡ owners size.irps (run_of (w ∷ W))
+    owners_then =
         noted.noted_owners ∙ ap (λ (s : StepInCall). with_owner os s.made (length rows)) told ∙ ap (λ x. with_owner x w.step (length rows)) h.shown_owners
-        ∙ ap (λ n. with_owner (owners size.irps (run_of W)) w.step n) (ap length h.shown_rows ∙ length-rows size W ∙ sym (length-run W)) ∙ owners_more w.step (run_of W) size.irps known;
-  }
+        ∙ ap (λ n. with_owner (owners size.irps (run_of W)) w.step n) (ap length h.shown_rows ∙ length-rows size W ∙ sym (length-run W)) ∙ owners_more w.step (run_of W) size.irps known
+
+    -- these are the words of its IRP, by the machine that made it
+    words_then : (machine : MachineState) → size_of machine ≡ size → Agrees machine (run_of (w ∷ W)) → AreWordsNamed machine step.made.kind (owner_in os' step.made.kind) words
+        → words ≡ words_named size.first (run_of (w ∷ W)) w.step.kind
+    words_then machine same agrees are =
+        let kinds : step.made.kind ≡ w.step.kind = ap (λ (s : StepInCall). s.made.kind) told in
+        let E = run_of (w ∷ W) in
+        let his : owner_in os' w.step.kind ≡ owner_named E w.step.kind = ap (λ x. owner_in x w.step.kind) owners_then ∙ owner_is w.step E size.irps known in
+        let P : Kind → Type 0 = λ k. AreWordsNamed machine k (owner_in os' k) words in
+        subst P kinds are E agrees his ∙ ap (λ (s : Size). words_named s.first E w.step.kind) same
+
+    pub shows_more : held ≡ lock_of (all_passes size W) → (machine : MachineState) → size_of machine ≡ size → Agrees machine (run_of (w ∷ W)) → AreWordsNamed machine step.made.kind (owner_in os' step.made.kind) words
+        → Shows size rows' os' (w ∷ W)
+    shows_more lock machine same agrees are = record {
+      shown_rows = noted.noted_rows ∙ ap (λ r. rows ++ r ∷ []) (row_is step held words told lock known (words_then machine same agrees are)) ∙ ap (λ rs. rs ++ row_of size w W ∷ []) h.shown_rows;
+      shown_owners = owners_then;
+    }
 
   -- how many owners a drawing has
   pub owners_count : length os ≡ size.irps
@@ -150,25 +172,47 @@ closed_same ps qs rs ss xs ys ts us count rest old new a b c d grew =
     grew ∙ ap (λ p. drawn p rs xs ts) a ∙ ap (λ r. drawn qs r xs ts) b ∙ ap (λ x. drawn qs ss x ts) c ∙ ap (λ t. drawn qs ss ys t) d
 
 -- what was drawn of these passes, rows and owners is the picture of the steps that they show
-module _ (size : Size) (rows : List Row) (passes : List PassNow) (os : List (Option Owner)) (W : List Numbered) (kept : passes ≡ all_passes size W) (h : Shows size rows os W) (old new : List ℕ) where
+module _ (size : Size) (rows : List Row) (passes : List PassNow) (os : List (Option Owner)) (W : List Numbered) (kept : passes ≡ all_passes size W) (h : Shows size rows os W) where
   rows_are : (count : ℕ) → count ≡ length rows → count ≡ length W
   rows_are count is = is ∙ ap length h.shown_rows ∙ length-rows size W
 
-  pub stopped_shown : (count n : ℕ) (stop : Stop) (reason : Reason) → count ≡ length rows → reason ≡ reason_of size (all_passes size W) stop → GrewBy old new (picture (stopped_elements passes rows os count n reason))
-      → GrewBy old new (picture (stopped_picture size W n stop))
-  stopped_shown count n stop reason is why grew =
-      let drawn : List PassNow → List Row → List (Option Owner) → ℕ → Reason → List ℕ = λ ps rs xs k r. old ++ picture (stopped_elements ps rs xs k n r) in
-      grew ∙ ap (drawn passes rows os count) why
-      ∙ ap (λ k. drawn passes rows os k (reason_of size (all_passes size W) stop)) (rows_are count is)
-      ∙ ap (λ xs. drawn passes rows xs (length W) (reason_of size (all_passes size W) stop)) h.shown_owners
-      ∙ ap (λ rs. drawn passes rs (owners size.irps (run_of W)) (length W) (reason_of size (all_passes size W) stop)) h.shown_rows
-      ∙ ap (λ ps. drawn ps (rows_of size W) (owners size.irps (run_of W)) (length W) (reason_of size (all_passes size W) stop)) kept
+  -- and so is its head
+  pub head_shown : (count lines total : ℕ) (caption wanted : CaptionText) (old new : List ℕ) → count ≡ length rows → lines ≡ total → caption ≡ wanted → GrewBy old new (picture_head (columns passes) count lines caption)
+      → GrewBy old new (picture_head (columns (all_passes size W)) (length W) total wanted)
+  head_shown count lines total caption wanted old new is few same grew =
+      let drawn : List PassNow → ℕ → ℕ → CaptionText → List ℕ = λ ps k n x. old ++ picture_head (columns ps) k n x in
+      grew ∙ ap (drawn passes count lines) same ∙ ap (λ n. drawn passes count n wanted) few ∙ ap (λ k. drawn passes k total wanted) (rows_are count is) ∙ ap (λ ps. drawn ps (length W) total wanted) kept
 
-  pub closed_shown : (count : ℕ) (told : List IrpLine) (rest : Bool) → count ≡ length rows → GrewBy old new (picture (closed_elements passes rows os count told rest))
-      → GrewBy old new (picture (closed_picture size W told rest))
-  closed_shown count told rest is grew =
-      let drawn : List PassNow → List Row → List (Option Owner) → ℕ → List ℕ = λ ps rs xs k. old ++ picture (closed_elements ps rs xs k told rest) in
-      grew ∙ ap (drawn passes rows os) (rows_are count is)
-      ∙ ap (λ xs. drawn passes rows xs (length W)) h.shown_owners
-      ∙ ap (λ rs. drawn passes rs (owners size.irps (run_of W)) (length W)) h.shown_rows
-      ∙ ap (λ ps. drawn ps (rows_of size W) (owners size.irps (run_of W)) (length W)) kept
+  module _ (old new : List ℕ) where
+    pub stopped_shown : (count n : ℕ) (stop : Stop) (reason : Reason) → count ≡ length rows → reason ≡ reason_of size (all_passes size W) stop → GrewBy old new (picture (stopped_elements passes rows os count n reason))
+        → GrewBy old new (picture (stopped_picture size W n stop))
+    stopped_shown count n stop reason is why grew =
+        let drawn : List PassNow → List Row → List (Option Owner) → ℕ → Reason → List ℕ = λ ps rs xs k r. old ++ picture (stopped_elements ps rs xs k n r) in
+        grew ∙ ap (drawn passes rows os count) why
+        ∙ ap (λ k. drawn passes rows os k (reason_of size (all_passes size W) stop)) (rows_are count is)
+        ∙ ap (λ xs. drawn passes rows xs (length W) (reason_of size (all_passes size W) stop)) h.shown_owners
+        ∙ ap (λ rs. drawn passes rs (owners size.irps (run_of W)) (length W) (reason_of size (all_passes size W) stop)) h.shown_rows
+        ∙ ap (λ ps. drawn ps (rows_of size W) (owners size.irps (run_of W)) (length W) (reason_of size (all_passes size W) stop)) kept
+
+    pub closed_shown : (count : ℕ) (told : List IrpLine) (rest : Bool) → count ≡ length rows → GrewBy old new (picture (closed_elements passes rows os count told rest))
+        → GrewBy old new (picture (closed_picture size W told rest))
+    closed_shown count told rest is grew =
+        let drawn : List PassNow → List Row → List (Option Owner) → ℕ → List ℕ = λ ps rs xs k. old ++ picture (closed_elements ps rs xs k told rest) in
+        grew ∙ ap (drawn passes rows os) (rows_are count is)
+        ∙ ap (λ xs. drawn passes rows xs (length W)) h.shown_owners
+        ∙ ap (λ rs. drawn passes rs (owners size.irps (run_of W)) (length W)) h.shown_rows
+        ∙ ap (λ ps. drawn ps (rows_of size W) (owners size.irps (run_of W)) (length W)) kept
+
+-- and so is the text
+module _ (size : Size) (W : List Numbered) (caption wanted : CaptionText) (rows : List Row) (passes : List PassNow) (old new : List ℕ) where
+  pub stopped_written : (n : ℕ) (stop : Stop) (reason : Reason) → caption ≡ wanted → passes ≡ all_passes size W → rows ≡ rows_of size W → reason ≡ reason_of size (all_passes size W) stop
+      → GrewBy old new (stopped_lines caption passes rows n reason) → GrewBy old new (stopped_lines wanted (all_passes size W) (rows_of size W) n (reason_of size (all_passes size W) stop))
+  stopped_written n stop reason same kept shown why grew =
+      let written : List PassNow → List Row → Reason → List ℕ = λ ps rs r. old ++ stopped_lines wanted ps rs n r in
+      grew ∙ ap (λ c. old ++ stopped_lines c passes rows n reason) same ∙ ap (written passes rows) why ∙ ap (λ rs. written passes rs (reason_of size (all_passes size W) stop)) shown ∙ ap (λ ps. written ps (rows_of size W) (reason_of size (all_passes size W) stop)) kept
+
+  pub closed_written : (told : List IrpLine) (rest : Bool) → caption ≡ wanted → passes ≡ all_passes size W → rows ≡ rows_of size W
+      → GrewBy old new (closed_lines caption passes rows told rest) → GrewBy old new (closed_lines wanted (all_passes size W) (rows_of size W) told rest)
+  closed_written told rest same kept shown grew =
+      let written : List PassNow → List Row → List ℕ = λ ps rs. old ++ closed_lines wanted ps rs told rest in
+      grew ∙ ap (λ c. old ++ closed_lines c passes rows told rest) same ∙ ap (written passes) shown ∙ ap (λ ps. written ps (rows_of size W)) kept

@@ -10,10 +10,14 @@ use Rattle.csq_replay.specs.Schedule.{Numbered, run_of}
 use Rattle.csq_explain.specs.declared.sentences.StepInCall.{StepInCall}
 use Rattle.csq_explain.specs.Executions.{Follows}
 use Rattle.csq_draw.specs.declared.drawing.Drawing.{Drawing}
+use Rattle.csq_draw.specs.declared.format.Format.{Format}
 use Rattle.csq_draw.specs.declared.owners.Owner.{Owner}
 use Rattle.csq_draw.specs.declared.rows.Row.{Row}
+use Rattle.csq_draw.specs.declared.words.Words.{Words}
 use Rattle.csq_draw.specs.Owners.{owner_after, ended_by, owners}
+use Rattle.csq_draw.specs.Captions.{caption_of}
 use Rattle.csq_draw.specs.Passes.{lock_at}
+use Rattle.csq_draw.specs.Pictures.{Drawn}
 use Rattle.csq_draw.specs.Rows.{rows_of}
 
 -- of these owners the one of the IRP that a step of this kind names
@@ -29,18 +33,24 @@ pub record Shows (size : Size) (rows : List Row) (os : List (Option Owner)) (W :
   pub shown_rows : rows ≡ rows_of size W
   pub shown_owners : os ≡ owners size.irps (run_of W)
 
--- a step that this line names was noted, before which this pass had the lock
-pub record NotesStep (rows : List Row) (os : List (Option Owner)) (line : ℕ) (step : StepInCall) (held : Option PassId) (new_rows : List Row) (new_owners : List (Option Owner)) : Type 0 where
+-- a step that this line names was noted, before which this pass had the lock, and after which its IRP has these words
+pub record NotesStep (rows : List Row) (os : List (Option Owner)) (line : ℕ) (step : StepInCall) (held : Option PassId) (words : Option Words) (new_rows : List Row) (new_owners : List (Option Owner)) : Type 0 where
   pub noted_rows : new_rows ≡ rows ++ record {
     row = length rows;
     line = line;
     step = step;
     lock = lock_at held step.made;
     ended = ended_by step.made.kind (owner_in os step.made.kind);
+    words = words;
   } ∷ []
   pub noted_owners : new_owners ≡ with_owner os step.made (length rows)
 
--- a drawing stands after the steps W of an execution of this size
-pub record DrawingStandsAfter {A : Type 0} (drawing : Drawing A) (size : Size) (W : List Numbered) : Type 0 where
-  pub follows : Follows size drawing.execution W
-  pub shows : Shows size drawing.rows.items drawing.owners.items W
+-- a drawing stands where the lines so far of a schedule of this size led to
+pub record DrawingStandsAfter {A : Type 0} (drawing : Drawing A) (size : Size) (d : Drawn) : Type 0 where
+  pub follows : Follows size drawing.execution d.steps
+  pub shows : Shows size drawing.rows.items drawing.owners.items d.steps
+  pub captioned : caption_of drawing.caption ≡ d.caption
+
+-- and it is of this format
+abbrev pub StandsInFormat : {A : Type 0} → Drawing A → Size × Format → Drawn → Type 0
+StandsInFormat drawing kind d = DrawingStandsAfter drawing kind.0 d × (drawing.format ≡ kind.1)

@@ -2,18 +2,16 @@
 use Rattle.std.specs.Prelude.{ℕ, List, [], ◌∷◌, ◌++◌, codes}
 use Rattle.csq_draw.specs.declared.element.Element.{Element}
 use Rattle.csq_draw.specs.declared.element.Element.TheVariants as element
-use Rattle.csq_draw.specs.Headings.{opening_text, title_text, shared_text, sheet_text, key_text, column_text}
+use Rattle.csq_draw.specs.Circles.{word_columns_text}
+use Rattle.csq_draw.specs.Headings.{key_text, column_text}
 use Rattle.csq_draw.specs.Marks.{number_text, shade_text, mark_text}
 use Rattle.csq_draw.specs.Spans.{span_text, open_span_text}
 use Rattle.csq_draw.specs.Endings.{bar_text, refused_text, because_text, closing_text, rest_line_text}
 
 -- the text of an element
 unfoldable pub element_text : Element → List ℕ
-element_text (element.Opening x) = opening_text x
-element_text (element.Title x) = title_text x
-element_text element.Shared = shared_text
-element_text (element.Sheet x) = sheet_text x
 element_text element.Key = key_text
+element_text (element.WordColumns x) = word_columns_text x
 element_text (element.Column x) = column_text x
 element_text (element.Number x) = number_text x
 element_text (element.Shade x) = shade_text x
@@ -31,6 +29,6 @@ abbrev pub elements_text : List Element → List ℕ
 elements_text [] = []
 elements_text (e ∷ es) = (element_text e ++ codes "\n") ++ elements_text es
 
--- a whole picture of these elements
+-- a picture of these elements, below its head
 abbrev pub picture : List Element → List ℕ
 picture es = elements_text es ++ codes "</svg>\n"

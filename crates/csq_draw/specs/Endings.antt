@@ -15,7 +15,7 @@ use Rattle.csq_explain.specs.Reasons.{reason_text}
 
 -- the bar of the line that ended the handling
 abbrev pub bar_text : Bar → List ℕ
-bar_text b = codes "<rect class='bad' x='64' y='" ++ (decimal (top b.rows + 4) ++ codes "' width='660' height='38' rx='6'/>")
+bar_text b = codes "<rect class='bad' x='64' y='" ++ (decimal (top b.rows + 4) ++ codes "' width='660' height='52' rx='6'/>")
 
 -- a line that ended the handling, as it is told: its step, if it names one, and why it ended it
 unfoldable pub ended_line_text : Stop → List ℕ
@@ -25,11 +25,11 @@ ended_line_text Malformed = stop_text Malformed
 
 -- what is told of it, in its bar
 abbrev pub refused_text : Refused → List ℕ
-refused_text r = codes "<text x='73' y='" ++ (decimal (top r.rows + 27) ++ (codes "'>" ++ (ended_line_text r.stop ++ codes "</text>")))
+refused_text r = codes "<text x='73' y='" ++ (decimal (top r.rows + 34) ++ (codes "'>" ++ (ended_line_text r.stop ++ codes "</text>")))
 
 -- why it ended the handling, below its bar
 abbrev pub because_text : Because → List ℕ
-because_text b = codes "<text x='73' y='" ++ (decimal (top b.rows + 62) ++ (codes "'>" ++ (reason_text b.reason ++ codes "</text>")))
+because_text b = codes "<text x='73' y='" ++ (decimal (top b.rows + 76) ++ (codes "'>" ++ (reason_text b.reason ++ codes "</text>")))
 
 -- the nth line of text below the rows
 abbrev pub text_below : ℕ → ℕ → List ℕ → List ℕ

@@ -1,5 +1,5 @@
 -- What holds of every picture.
-use Rattle.std.specs.Prelude.{◌≡◌, ◌⊎◌, ◌↔◌, ℕ, ◌<◌, Bool, false, List, [], ◌∷◌, ◌++◌, length, Option, Some, None, IsTrue}
+use Rattle.std.specs.Prelude.{◌≡◌, ◌⊎◌, ◌↔◌, ℕ, ◌<◌, Bool, false, List, [], ◌∷◌, ◌++◌, length, Option, Some, None, option_to_list, IsTrue}
 use Rattle.std.specs.List.{list_any}
 use Rattle.irp_core.specs.declared.ids.IrpId.{IrpId}
 use Rattle.irp_core.specs.declared.ids.PassId.{PassId}
@@ -13,24 +13,27 @@ use Rattle.csq_replay.specs.declared.lines.answer.Ended.{Ended}
 use Rattle.csq_replay.specs.declared.schedule.closing.IrpLine.{IrpLine}
 use Rattle.csq_replay.specs.declared.schedule.outcome.Stop.{Stop}
 use Rattle.csq_replay.specs.Schedule.{Numbered, run_of}
+use Rattle.csq_draw.specs.declared.format.Format.{Format}
 use Rattle.csq_draw.specs.declared.marks.Mark.{Mark}
 use Rattle.csq_draw.specs.declared.marks.Number.{Number}
 use Rattle.csq_draw.specs.declared.marks.Shade.{Shade}
 use Rattle.csq_draw.specs.declared.owners.Having.{Having}
+use Rattle.csq_draw.specs.declared.words.Words.{Words}
 use Rattle.csq_draw.specs.declared.owners.Having.TheVariants.{Owes, Holds}
 use Rattle.csq_explain.specs.declared.passes.PassNow.{PassNow}
 use Rattle.csq_draw.specs.Owners.{owner}
-use Rattle.csq_draw.specs.Passes.{column_of}
+use Rattle.csq_draw.specs.Passes.{columns, column_of}
 use Rattle.csq_explain.specs.Passes.{all_passes}
 use Rattle.csq_explain.specs.Sentences.{in_call}
 use Rattle.csq_draw.specs.Rows.{row_of}
+use Rattle.csq_draw.specs.Words.{words_named}
 use Rattle.csq_draw.specs.declared.element.Element.{Element}
 use Rattle.csq_draw.specs.declared.element.Element.TheVariants as element
 use Rattle.csq_draw.specs.Pictures.{IsDrawing, stopped_picture, closed_picture}
 
--- two pictures of one schedule are the same
-abbrev pub HasOnePicture : Size → List ℕ → Type 0
-HasOnePicture size input = (text other : List ℕ) (ended otherwise : Ended) → IsDrawing size input text ended → IsDrawing size input other otherwise → (text ≡ other) × (ended ≡ otherwise)
+-- two pictures of one schedule in one format are the same
+abbrev pub HasOnePicture : Size → Format → List ℕ → Type 0
+HasOnePicture size format input = (text other : List ℕ) (ended otherwise : Ended) → IsDrawing size format input text ended → IsDrawing size format input other otherwise → (text ≡ other) × (ended ≡ otherwise)
 
 -- what is picked out of these elements, in order
 abbrev pub picked : {A : Type 0} → (Element → List A) → List Element → List A
@@ -63,8 +66,23 @@ shade_in (element.Shade s) = s ∷ []
 shade_in _ = []
 
 -- the mark of a step after the steps W: on the row of its number, in the column of its pass, with the value that it found
-abbrev pub mark_of : List PassNow → Numbered → List Numbered → List Mark
-mark_of passes w W = record { row = length W; column = column_of passes w.step.pass; step = in_call (run_of W) w.step } ∷ []
+abbrev pub mark_of : Size → List PassNow → Numbered → List Numbered → List Mark
+mark_of size passes w W = record {
+  row = length W;
+  column = column_of passes w.step.pass;
+  columns = columns passes;
+  step = in_call (run_of W) w.step;
+  words = words_named size.first (run_of (w ∷ W)) w.step.kind;
+} ∷ []
+
+-- the words that a mark shows, if an element is one and shows any
+abbrev pub words_in : Element → List Words
+words_in (element.Mark m) = option_to_list m.words
+words_in _ = []
+
+-- after a step of an IRP: whether the Cancel flag and the cancel routine of its present life are set
+abbrev pub words_after : Size → Numbered → List Numbered → List Words
+words_after size w W = option_to_list (words_named size.first (run_of (w ∷ W)) w.step.kind)
 
 -- the number of its line, on that row
 abbrev pub line_number : Numbered → List Numbered → List Number
@@ -81,7 +99,11 @@ shade_of size passes w W = shade_by passes (length W) (row_of size w W).lock
 
 -- each step has one mark, in order, and nothing else has one
 abbrev pub EachStepHasOneMark : Size → List Numbered → Type 0
-EachStepHasOneMark size W = AddsStepByStep size W mark_in (mark_of (all_passes size W)) (λ n. [])
+EachStepHasOneMark size W = AddsStepByStep size W mark_in (mark_of size (all_passes size W)) (λ n. [])
+
+-- each step of an IRP shows the two words of that after it, by the run, and no other step shows any
+abbrev pub EachStepShowsItsWords : Size → List Numbered → Type 0
+EachStepShowsItsWords size W = AddsStepByStep size W words_in (words_after size) (λ n. [])
 
 -- each step has the number of its line, in order, and then the line that ended the handling has its own
 abbrev pub EachLineHasItsNumber : Size → List Numbered → Type 0

@@ -7,4 +7,4 @@ left column = 56 + 284 * column
 
 -- the upper edge of a row
 abbrev pub top : ℕ → ℕ
-top row = 68 + 46 * row
+top row = 68 + 60 * row

@@ -1,11 +1,16 @@
 pub mod Layout
 pub mod Owners
 pub mod Passes
+pub mod Words
 pub mod Rows
+pub mod CallTexts
+pub mod Circles
 pub mod Marks
 pub mod Spans
+pub mod Captions
 pub mod Headings
 pub mod Endings
+pub mod Terminal
 pub mod Elements
 pub mod Pictures
 pub mod Drawings

@@ -11,15 +11,17 @@ use Rattle.csq_explain.specs.Sentences.{sentence, status_name}
 use Rattle.csq_draw.specs.declared.marks.Number.{Number}
 use Rattle.csq_draw.specs.declared.marks.Shade.{Shade}
 use Rattle.csq_draw.specs.declared.marks.Mark.{Mark}
+use Rattle.csq_draw.specs.CallTexts.{call_text}
+use Rattle.csq_draw.specs.Circles.{circles_text}
 use Rattle.csq_draw.specs.Layout.{left, top}
 
 -- the number of a line, at the left of its row
 abbrev pub number_text : Number → List ℕ
-number_text n = codes "<text class='n' x='46' y='" ++ (decimal (top n.row + 27) ++ (codes "'>" ++ (decimal n.line ++ codes "</text>")))
+number_text n = codes "<text class='n' x='46' y='" ++ (decimal (top n.row + 34) ++ (codes "'>" ++ (decimal n.line ++ codes "</text>")))
 
 -- the shade behind a row, in the column of the pass that has the lock: one pixel higher than the row, so that there is no gap to the next one
 abbrev pub shade_text : Shade → List ℕ
-shade_text s = codes "<rect class='l' x='" ++ (decimal (left s.column) ++ (codes "' y='" ++ (decimal (top s.row) ++ codes "' width='228' height='47'/>")))
+shade_text s = codes "<rect class='l' x='" ++ (decimal (left s.column) ++ (codes "' y='" ++ (decimal (top s.row) ++ codes "' width='228' height='61'/>")))
 
 -- one of eight colours for each IRP
 abbrev pub colour_text : IrpLife → List ℕ
@@ -70,9 +72,9 @@ found_words (Out i) found status = []
 found_words (Done i) found status = status_words status
 found_words (Renew i) found status = codes "next life"
 
--- the box of a step, what it does, what it found, and its call of the WDK, at the upper left corner of its row
+-- the box of a step, what it does, what it found, its call of the WDK, and the call that it is of, at the upper left corner of its row
 abbrev pub frame_text : ℕ → ℕ → List ℕ
-frame_text x y = codes "<rect x='" ++ (decimal (x + 8) ++ (codes "' y='" ++ (decimal (y + 4) ++ codes "' width='212' height='38' rx='6'/>")))
+frame_text x y = codes "<rect x='" ++ (decimal (x + 8) ++ (codes "' y='" ++ (decimal (y + 4) ++ codes "' width='212' height='52' rx='6'/>")))
 
 abbrev pub label_text : ℕ → ℕ → Kind → List ℕ
 label_text x y k = codes "<text class='w' x='" ++ (decimal (x + 17) ++ (codes "' y='" ++ (decimal (y + 20) ++ (codes "'>" ++ (kind_text k ++ codes "</text>")))))
@@ -83,8 +85,14 @@ found_text x y s = codes "<text class='w v' x='" ++ (decimal (x + 211) ++ (codes
 abbrev pub api_text : ℕ → ℕ → Kind → List ℕ
 api_text x y k = codes "<text class='m' x='" ++ (decimal (x + 17) ++ (codes "' y='" ++ (decimal (y + 35) ++ (codes "'>" ++ (wdk_text k ++ codes "</text>")))))
 
--- a step in the column of its pass, told in a sentence too
+abbrev pub call_line_text : ℕ → ℕ → StepInCall → List ℕ
+call_line_text x y s = codes "<text class='s' x='" ++ (decimal (x + 17) ++ (codes "' y='" ++ (decimal (y + 49) ++ (codes "'>" ++ (call_text s.inside s.made.kind s.made.found ++ codes "</text>")))))
+
+abbrev pub mark_lines_text : ℕ → ℕ → StepInCall → List ℕ
+mark_lines_text x y s = label_text x y s.made.kind ++ (found_text x y s ++ (api_text x y s.made.kind ++ call_line_text x y s))
+
+-- a step in the column of its pass, told in a sentence too, and the words of its IRP
 abbrev pub mark_text : Mark → List ℕ
 mark_text m = codes "<g class='" ++ (look_text m.step.made.kind m.step.made.found ++ (codes "'><title>" ++ (sentence m.step ++ (codes "</title>"
-    ++ (frame_text (left m.column) (top m.row) ++ (label_text (left m.column) (top m.row) m.step.made.kind ++ (found_text (left m.column) (top m.row) m.step
-    ++ (api_text (left m.column) (top m.row) m.step.made.kind ++ codes "</g>"))))))))
+    ++ (frame_text (left m.column) (top m.row) ++ (mark_lines_text (left m.column) (top m.row) m.step ++ (codes "</g>"
+    ++ circles_text (record { row = m.row; columns = m.columns; kind = m.step.made.kind; found = m.step.made.found; words = m.words }) m.words)))))))

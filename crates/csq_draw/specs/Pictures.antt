@@ -5,11 +5,15 @@ use Rattle.irp_core.specs.Runs.{Size}
 use Rattle.csq_replay.specs.declared.lines.answer.Ended.{Ended}
 use Rattle.csq_replay.specs.declared.schedule.closing.IrpLine.{IrpLine}
 use Rattle.csq_replay.specs.declared.schedule.outcome.Outcome.{Outcome}
-use Rattle.csq_replay.specs.declared.schedule.outcome.Outcome.TheVariants.{Stopped}
+use Rattle.csq_replay.specs.declared.schedule.outcome.Outcome.TheVariants.{Skipped, Accepted, Stopped}
 use Rattle.csq_replay.specs.declared.schedule.outcome.Stop.{Stop}
 use Rattle.csq_replay.specs.Lines.{IsAnswer, RepliesTo}
-use Rattle.csq_replay.specs.Schedule.{Numbered, run_of, TellsLine, Closes}
-use Rattle.csq_draw.specs.declared.heading.Extent.{Extent}
+use Rattle.csq_replay.specs.Outcomes.{ComesTo}
+use Rattle.csq_replay.specs.Schedule.{Numbered, run_of, Closes}
+use Rattle.csq_draw.specs.Captions.{CaptionText, new_caption, ended_caption, caption_after}
+use Rattle.csq_draw.specs.Headings.{head_text}
+use Rattle.csq_draw.specs.declared.format.Format.{Format}
+use Rattle.csq_draw.specs.declared.format.Format.TheVariants.{Svg, Text}
 use Rattle.csq_draw.specs.declared.owners.Owner.{Owner}
 use Rattle.csq_explain.specs.declared.passes.PassNow.{PassNow}
 use Rattle.csq_explain.specs.declared.reasons.Reason.{Reason}
@@ -21,6 +25,7 @@ use Rattle.csq_draw.specs.Rows.{rows_of}
 use Rattle.csq_explain.specs.Reasons.{reason_of}
 use Rattle.csq_draw.specs.declared.element.Element.{Element}
 use Rattle.csq_draw.specs.Elements.{picture}
+use Rattle.csq_draw.specs.Terminal.{stopped_lines, closed_lines}
 use Rattle.csq_draw.specs.declared.element.Element.TheVariants as element
 
 -- the elements of each, by its place, the first of which is n
@@ -52,7 +57,7 @@ number_element row = element.Number (record { row = row.row; line = row.line })
 
 -- a row's step, in the column of its pass
 abbrev pub mark_element : List PassNow → Row → Element
-mark_element passes row = element.Mark (record { row = row.row; column = column_of passes row.step.made.pass; step = row.step })
+mark_element passes row = element.Mark (record { row = row.row; column = column_of passes row.step.made.pass; columns = columns passes; step = row.step; words = row.words })
 
 -- of a step: the number of its line, who has the lock, whose time with its IRP it ends, and its mark
 abbrev pub row_elements : List PassNow → ℕ → Row → List Element
@@ -63,13 +68,9 @@ abbrev pub open_elements : List PassNow → ℕ → ℕ → Option Owner → Lis
 open_elements passes rows n (Some owner) = element.OpenSpan (record { column = column_of passes owner.pass; owner = owner; rows = rows }) ∷ []
 open_elements passes rows n None = []
 
--- how much a picture shows
-abbrev pub extent : ℕ → ℕ → ℕ → Extent
-extent columns rows lines = record { columns = columns; rows = rows; lines = lines }
-
--- what a picture of this extent begins with
-abbrev pub opening_elements : Extent → List Element
-opening_elements e = element.Opening e ∷ (element.Title e ∷ (element.Shared ∷ (element.Sheet e ∷ (element.Key ∷ []))))
+-- the head of a picture of so many columns and rows, with so many lines of text below them, and this caption
+abbrev pub picture_head : ℕ → ℕ → ℕ → CaptionText → List ℕ
+picture_head columns rows lines c = head_text (record { columns = columns; rows = rows; lines = lines; caption = c.lines }) c.title c.below
 
 -- of the line that ended the handling: its bar, its number, what is told of it, and why it ended it
 abbrev pub refused_elements : ℕ → ℕ → Reason → List Element
@@ -84,18 +85,21 @@ closing_elements rows nth line = element.Closing (record { rows = rows; nth = nt
 abbrev pub rest_element : ℕ → ℕ → Bool → Element
 rest_element rows nth at_rest = element.Rest (record { rows = rows; nth = nth; rest = at_rest })
 
--- of these passes, rows and owners, as many rows as there are, with so many lines of text below them
-abbrev pub shown_elements : List PassNow → List Row → List (Option Owner) → ℕ → ℕ → List Element
-shown_elements passes rows owners count lines = opening_elements (extent (columns passes) count lines)
-    ++ (each (column_elements passes count) 0 passes ++ (each (row_elements passes) 0 rows ++ each (open_elements passes count) 0 owners))
+-- what a picture begins with: what its parts mean, and the columns of the words
+abbrev pub first_elements : ℕ → ℕ → List Element
+first_elements columns rows = element.Key ∷ (element.WordColumns (record { columns = columns; rows = rows }) ∷ [])
+
+-- of these passes, rows and owners, as many rows as there are: the columns, the rows, and the lines that are kept to the end
+abbrev pub shown_elements : List PassNow → List Row → List (Option Owner) → ℕ → List Element
+shown_elements passes rows owners count = first_elements (columns passes) count ++ (each (column_elements passes count) 0 passes ++ (each (row_elements passes) 0 rows ++ each (open_elements passes count) 0 owners))
 
 -- and then of the nth line, which ended the handling for this reason
 abbrev pub stopped_elements : List PassNow → List Row → List (Option Owner) → ℕ → ℕ → Reason → List Element
-stopped_elements passes rows owners count n reason = shown_elements passes rows owners count 3 ++ refused_elements count n reason
+stopped_elements passes rows owners count n reason = shown_elements passes rows owners count ++ refused_elements count n reason
 
 -- and then of what is told in the end
 abbrev pub closed_elements : List PassNow → List Row → List (Option Owner) → ℕ → List IrpLine → Bool → List Element
-closed_elements passes rows owners count told at_rest = shown_elements passes rows owners count (length told + 1)
+closed_elements passes rows owners count told at_rest = shown_elements passes rows owners count
     ++ (each (closing_elements count) 0 told ++ rest_element count (length told) at_rest ∷ [])
 
 -- the picture of the steps W, and of the nth line, which ended the handling
@@ -106,22 +110,45 @@ stopped_picture size W n stop = stopped_elements (all_passes size W) (rows_of si
 abbrev pub closed_picture : Size → List Numbered → List IrpLine → Bool → List Element
 closed_picture size W = closed_elements (all_passes size W) (rows_of size W) (owners size.irps (run_of W)) (length W)
 
+-- what a schedule led to so far: the caption of its picture, and the steps
+pub record Drawn : Type 0 where
+  pub caption : CaptionText
+  pub steps : List Numbered
+
+-- before the first line
+abbrev pub new_drawn : Drawn
+new_drawn = record { caption = new_caption; steps = [] }
+
+-- what it leads to with the nth line, if the handling goes on: a comment before the first step is added to the caption
+abbrev pub drawn_after : Drawn → ℕ → List ℕ → Outcome → Option Drawn
+drawn_after d n line Skipped = Some (record { caption = caption_after d.caption line; steps = d.steps })
+drawn_after d n line (Accepted m) = Some (record { caption = ended_caption d.caption; steps = record { line = n; step = m } ∷ d.steps })
+drawn_after d n line (Stopped stop) = None
+
 -- a line that ends the handling is answered the picture of the steps before it and of itself, and any other nothing
-abbrev pub drawn_text : Size → List Numbered → ℕ → List ℕ → Outcome → List ℕ
-drawn_text size W n line (Stopped stop) = picture (stopped_picture size W n stop)
-drawn_text size W n line _ = []
+abbrev pub stopped_text : Size → Format → Drawn → ℕ → Stop → List ℕ
+stopped_text size Svg d n stop = picture_head (columns (all_passes size d.steps)) (length d.steps) 3 d.caption ++ picture (stopped_picture size d.steps n stop)
+stopped_text size Text d n stop = stopped_lines d.caption (all_passes size d.steps) (rows_of size d.steps) n (reason_of size (all_passes size d.steps) stop)
 
-abbrev pub DrawsLine : Size → List Numbered → ℕ → List ℕ → List ℕ → Option (List Numbered) → Type 0
-DrawsLine size = TellsLine (drawn_text size) size
+abbrev pub drawn_text : Size → Format → Drawn → ℕ → Outcome → List ℕ
+drawn_text size format d n (Stopped stop) = stopped_text size format d n stop
+drawn_text size format d n _ = []
 
--- where all lines were handled, it is the picture of the steps W and of what is told in the end
-abbrev pub DrawsClosing : Size → List Numbered → List ℕ → Type 0
-DrawsClosing size W text = (told : List IrpLine) × (at_rest : Bool) × Closes size (run_of W) told at_rest × (text ≡ picture (closed_picture size W told at_rest))
+abbrev pub DrawsLine : Size → Format → Drawn → ℕ → List ℕ → List ℕ → Option Drawn → Type 0
+DrawsLine size format d n line text more = (comes : Outcome) × ComesTo size (run_of d.steps) line comes × (text ≡ drawn_text size format d n comes) × (more ≡ drawn_after d n line comes)
 
--- a schedule is drawn so: of the longest run that its lines make
-abbrev pub IsDrawing : Size → List ℕ → List ℕ → Ended → Type 0
-IsDrawing size = IsAnswer (DrawsLine size) (DrawsClosing size) []
+-- where all lines were handled, it is the picture of the steps and of what is told in the end
+abbrev pub closed_text : Size → Format → Drawn → List IrpLine → Bool → List ℕ
+closed_text size Svg d told at_rest = picture_head (columns (all_passes size d.steps)) (length d.steps) (length told + 1) d.caption ++ picture (closed_picture size d.steps told at_rest)
+closed_text size Text d told at_rest = closed_lines d.caption (all_passes size d.steps) (rows_of size d.steps) told at_rest
+
+abbrev pub DrawsClosing : Size → Format → Drawn → List ℕ → Type 0
+DrawsClosing size format d text = (told : List IrpLine) × (at_rest : Bool) × Closes size (run_of d.steps) told at_rest × (text ≡ closed_text size format d told at_rest)
+
+-- a schedule is drawn so, in this format: of the longest run that its lines make
+abbrev pub IsDrawing : Size → Format → List ℕ → List ℕ → Ended → Type 0
+IsDrawing size format = IsAnswer (DrawsLine size format) (DrawsClosing size format) new_drawn
 
 -- of a reader and a writer that tell their bytes: a schedule was read, and its picture was written
-abbrev pub DrawsSchedule : Size → Option (List ℕ) → Option (List ℕ) → Option (List ℕ) → Option (List ℕ) → Ended → Type 0
-DrawsSchedule size = RepliesTo (IsDrawing size)
+abbrev pub DrawsSchedule : Size → Format → Option (List ℕ) → Option (List ℕ) → Option (List ℕ) → Option (List ℕ) → Ended → Type 0
+DrawsSchedule size format = RepliesTo (IsDrawing size format)

@@ -7,6 +7,7 @@ use Rattle.csq_explain.specs.Sentences.{in_call}
 use Rattle.csq_draw.specs.declared.rows.Row.{Row}
 use Rattle.csq_draw.specs.Owners.{owner_named, ended_by}
 use Rattle.csq_draw.specs.Passes.{lock_before}
+use Rattle.csq_draw.specs.Words.{words_named}
 
 -- the row of a step after the steps W
 abbrev pub row_of : Size → Numbered → List Numbered → Row
@@ -16,6 +17,7 @@ row_of size w W = record {
   step = in_call (run_of W) w.step;
   lock = lock_before (all_passes size W) w.step;
   ended = ended_by w.step.kind (owner_named (run_of W) w.step.kind);
+  words = words_named size.first (run_of (w ∷ W)) w.step.kind;
 }
 
 -- the rows of the steps W, the oldest first

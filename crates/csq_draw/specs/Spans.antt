@@ -17,14 +17,14 @@ abbrev pub lane : ℕ → Owner → ℕ
 lane column owner = left column + 236 + 5 * (owner.irp.0 % 8)
 
 abbrev pub span_start : ℕ → Owner → List ℕ
-span_start column owner = codes "<path class='k" ++ (decimal (owner.irp.0 % 8) ++ (codes " " ++ (having_text owner.having ++ (codes "' d='M" ++ (decimal (lane column owner) ++ (codes " " ++ (decimal (top owner.row + 23) ++ codes "V")))))))
+span_start column owner = codes "<path class='k" ++ (decimal (owner.irp.0 % 8) ++ (codes " " ++ (having_text owner.having ++ (codes "' d='M" ++ (decimal (lane column owner) ++ (codes " " ++ (decimal (top owner.row + 30) ++ codes "V")))))))
 
 abbrev pub span_title : Owner → List ℕ
 span_title owner = codes "<title>" ++ (pass_text owner.pass ++ (codes " " ++ (having_text owner.having ++ (codes " IRP " ++ irp_text owner.irp))))
 
 -- until the row of the step that ends it
 abbrev pub span_text : Span → List ℕ
-span_text s = (span_start s.column s.owner ++ (decimal (top s.to + 23) ++ codes "'>"))
+span_text s = (span_start s.column s.owner ++ (decimal (top s.to + 30) ++ codes "'>"))
     ++ (span_title s.owner ++ codes "</title></path>")
 
 -- until the end

@@ -1,70 +1,102 @@
 //! Schedules, drawn.
-ghost use Rattle.std.specs.Prelude.{◌≡◌, ◌≢◌, ◌<◌, ◌^◌, List, [], length, IfOk, IfErr, OnOk};
+ghost use Rattle.std.specs.Prelude.{◌≡◌, ◌≢◌, ◌<◌, ◌≤◌, ◌^◌, Option, length, string_bytes, IfOk, IfErr, OnOk};
 ghost use Rattle.std.specs.Io.KnownBytes.{Keeps};
-ghost use Rattle.irp_core.specs.Runs.{OfIrp, IsInLimits};
+ghost use Rattle.irp_core.specs.MachineState.{size_of};
+ghost use Rattle.irp_core.specs.Runs.{Size, OfIrp, IsInLimits};
 ghost use Rattle.irp_core.specs.Steps.{number};
-ghost use Rattle.csq_replay.specs.Schedule.{Numbered};
-ghost use Rattle.csq_draw.specs.Pictures.{DrawsSchedule};
-ghost use Rattle.csq_draw.specs.Drawings.{DrawingStandsAfter, NotesStep};
+ghost use Rattle.csq_replay.specs.Lines.{GrewBy};
+ghost use Rattle.csq_draw.specs.Captions.{ended_caption, caption_of};
+ghost use Rattle.csq_draw.specs.declared.format.Format.{Format as FormatOf};
+ghost use Rattle.csq_draw.specs.Passes.{columns};
+ghost use Rattle.csq_explain.specs.Passes.{all_passes};
+ghost use Rattle.csq_explain.specs.Reasons.{reason_of};
+ghost use Rattle.csq_draw.specs.Pictures.{Drawn, picture_head, stopped_text, closed_text, new_drawn, DrawsSchedule};
+ghost use Rattle.csq_draw.specs.declared.words.Words.{Words as WordsOf};
+ghost use Rattle.csq_draw.specs.Drawings.{owner_in, DrawingStandsAfter, NotesStep};
+ghost use Rattle.csq_draw.specs.Words.{AreWordsNamed};
 
+use crate::caption::Caption;
+use crate::format::Format;
+use crate::heading::{Extent, Head};
 use crate::owners::{Owner, ended_by, new_owners, note_owner, owner_in};
-use crate::passes::{lock_at, lock_of};
+use crate::passes::{columns, lock_at, lock_of};
 use crate::picture::{draw_closed, draw_stopped};
 use crate::rows::Row;
-use csq_explain::{Execution, Explained, StepInCall};
-use csq_replay::{Answerer, Ended, Handling, SimFault, reply};
+use crate::terminal::{write_closed, write_stopped};
+use crate::words::words_named;
+use csq_explain::{Execution, Explained, Reason, StepInCall};
+use csq_replay::{Answerer, Ended, Handling, IrpLine, SimFault, reply};
 use irp_core::PassId;
 use std::alloc::{AllocError, Allocator};
 use std::io::{Read, Write};
 
-/// An execution, the rows of the steps that it made, and what is known of each IRP's owner.
+/// The caption of a schedule, its execution, the rows of the steps that this made, and what is known of each
+/// IRP's owner.
 #[derive(Drop)]
 pub(crate) struct Drawing<A: Allocator> {
     pub(crate) alloc: A,
+    pub(crate) format: Format,
+    pub(crate) caption: Caption<A>,
     pub(crate) execution: Execution<A>,
     pub(crate) rows: Vec<Row, A>,
     pub(crate) owners: Vec<Option<Owner>, A>,
 }
 
 impl<A: Allocator + Copy> Drawing<A> {
-    /// A drawing without a step.
-    fn new(alloc: A, irps: u32, passes: u32) -> Result<Drawing<A>, AllocError>
+    /// A drawing before the first line.
+    fn new(alloc: A, irps: u32, passes: u32, format: Format) -> Result<Drawing<A>, AllocError>
         requires { IsInLimits (record { irps = irps; passes = passes; first = 0 }) }
-        ensures { IfOk result (λ drawing. DrawingStandsAfter drawing
-            (record { irps = irps; passes = passes; first = 0 }) []) }
+        ensures stands { IfOk result (λ drawing. DrawingStandsAfter drawing
+            (record { irps = irps; passes = passes; first = 0 }) new_drawn) }
+        ensures format { IfOk result (λ drawing. drawing.format ≡ format) }
     {
         Ok(Drawing {
             alloc,
+            format,
+            caption: Caption::new(alloc),
             execution: Execution::new(alloc, irps, passes)?,
             rows: Vec::new(alloc),
             owners: new_owners(alloc, irps as usize)?,
         })
     }
 
-    /// Notes a step that was made, which this line names, and before which this pass had the lock.
+    /// Notes a step that was made, which this line names, and before which this pass had the lock. It ends the
+    /// caption.
     fn note(
         &mut self,
         line: usize,
         step: StepInCall,
         held: Option<PassId>,
     ) -> Result<(), AllocError>
-        requires { OfIrp (λ i. number i < length self.old.owners.items) step.made.kind }
-        ensures noted { OnOk result (NotesStep self.old.rows.items self.old.owners.items
-            line step held self.new.rows.items self.new.owners.items) }
+        requires owner { OfIrp (λ i. number i < length self.old.owners.items) step.made.kind }
+        requires irp { OfIrp (λ i. number i < (size_of self.old.execution.machine).irps)
+            step.made.kind }
+        ensures noted { OnOk result ((words : Option WordsOf)
+            × AreWordsNamed self.old.execution.machine step.made.kind
+            (owner_in self.new.owners.items step.made.kind) words
+            × NotesStep self.old.rows.items self.old.owners.items line step held words
+            self.new.rows.items self.new.owners.items) }
         ensures execution { self.new.execution ≡ self.old.execution }
+        ensures captioned { OnOk result
+            (caption_of self.new.caption ≡ ended_caption (caption_of self.old.caption)) }
+        ensures format { self.new.format ≡ self.old.format }
     {
         let row = self.count_rows()?;
         let made = step.made;
         let lock = lock_at(held, made);
         let ended = ended_by(made.kind, owner_in(&self.owners, made.kind));
+        note_owner(&mut self.owners, made, row);
+        let owner = owner_in(&self.owners, made.kind);
+        let words = words_named(&self.execution.machine, made.kind, owner);
         self.rows.push(Row {
             row,
             line,
             step,
             lock,
             ended,
+            words,
         })?;
-        note_owner(&mut self.owners, made, row);
+        self.caption.end();
         Ok(())
     }
 
@@ -75,21 +107,125 @@ impl<A: Allocator + Copy> Drawing<A> {
     {
         u32::try_from(self.rows.len()).map_err(|_| AllocError)
     }
+
+    /// Draws the head of a picture of so many rows, with so many lines of text below them.
+    fn draw_head(&self, rows: u32, lines: u32, text: &mut String<A>) -> Result<(), AllocError>
+        requires { length self.now.execution.passes.items ≤ 65 }
+        ensures { OnOk result (GrewBy (string_bytes text.old) (string_bytes text.new)
+            (picture_head (columns self.now.execution.passes.items) rows lines
+            (caption_of self.now.caption))) }
+    {
+        let extent = Extent {
+            columns: columns(&self.execution.passes),
+            rows,
+            lines,
+            caption: self.caption.lines,
+        };
+        let head = Head {
+            extent,
+            title: self.caption.title.as_str(),
+            below: self.caption.below.as_str(),
+        };
+        write!(text, "{head}")?;
+        Ok(())
+    }
+
+    /// Draws the steps, and the line of this number, which ended the handling, as a picture.
+    fn draw_stop_as_svg(
+        &self,
+        line: usize,
+        reason: Reason,
+        text: &mut String<A>,
+    ) -> Result<(), AllocError>
+        requires { length self.now.execution.passes.items ≤ 65 }
+        ensures { OnOk result ((size : Size) (d : Drawn) → DrawingStandsAfter self.now size d
+            → reason ≡ reason_of size (all_passes size d.steps) reason.stop
+            → GrewBy (string_bytes text.old) (string_bytes text.new)
+            (stopped_text size Format.Svg d line reason.stop)) }
+    {
+        let count = self.count_rows()?;
+        self.draw_head(count, 3, text)?;
+        let (passes, rows, owners) = (&self.execution.passes, &self.rows, &self.owners);
+        draw_stopped(passes, rows, owners, count, line, reason, text)?;
+        Ok(())
+    }
+
+    /// Draws the steps, and what is told in the end, as a picture.
+    fn draw_end_as_svg(
+        &self,
+        told: &[IrpLine],
+        rest: bool,
+        text: &mut String<A>,
+    ) -> Result<(), AllocError>
+        requires few { length self.now.execution.passes.items ≤ 65 }
+        requires told { length told.now ≤ 1024 }
+        ensures { OnOk result ((size : Size) (d : Drawn) → DrawingStandsAfter self.now size d
+            → GrewBy (string_bytes text.old) (string_bytes text.new)
+            (closed_text size Format.Svg d told.now rest)) }
+    {
+        let count = self.count_rows()?;
+        self.draw_head(count, told.len() as u32 + 1, text)?;
+        let (passes, rows, owners) = (&self.execution.passes, &self.rows, &self.owners);
+        draw_closed(passes, rows, owners, count, told, rest, text)?;
+        Ok(())
+    }
+
+    /// Draws the steps, and the line of this number, which ended the handling.
+    fn draw_stop(&self, line: usize, reason: Reason, text: &mut String<A>) -> Result<(), AllocError>
+        requires { length self.now.execution.passes.items ≤ 65 }
+        ensures { OnOk result ((size : Size) (d : Drawn) → DrawingStandsAfter self.now size d
+            → reason ≡ reason_of size (all_passes size d.steps) reason.stop
+            → GrewBy (string_bytes text.old) (string_bytes text.new)
+            (stopped_text size self.now.format d line reason.stop)) }
+    {
+        match self.format {
+            Format::Svg => {
+                self.draw_stop_as_svg(line, reason, text)?;
+                Ok(())
+            }
+            Format::Text => {
+                let (caption, passes) = (&self.caption, &self.execution.passes);
+                write_stopped(caption, passes, &self.rows, line, reason, text)?;
+                Ok(())
+            }
+        }
+    }
+
+    /// Draws the steps, and what is told in the end.
+    fn draw_end(&self, told: &[IrpLine], rest: bool, text: &mut String<A>) -> Result<(), AllocError>
+        requires few { length self.now.execution.passes.items ≤ 65 }
+        requires told { length told.now ≤ 1024 }
+        ensures { OnOk result ((size : Size) (d : Drawn) → DrawingStandsAfter self.now size d
+            → GrewBy (string_bytes text.old) (string_bytes text.new)
+            (closed_text size self.now.format d told.now rest)) }
+    {
+        match self.format {
+            Format::Svg => {
+                self.draw_end_as_svg(told, rest, text)?;
+                Ok(())
+            }
+            Format::Text => {
+                let (caption, passes) = (&self.caption, &self.execution.passes);
+                write_closed(caption, passes, &self.rows, told, rest, text)?;
+                Ok(())
+            }
+        }
+    }
 }
 
 impl<A: Allocator + Copy> Answerer<A> for Drawing<A> {
-    ghost use Rattle.irp_core.specs.Runs.{Size};
+    ghost use Rattle.csq_draw.specs.Drawings.{StandsInFormat};
     ghost use Rattle.csq_draw.specs.Pictures.{DrawsLine, DrawsClosing};
 
-    ghost Kind = { Size };
+    ghost Kind = { Size × FormatOf };
 
-    ghost State = { List Numbered };
+    ghost State = { Drawn };
 
-    ghost stands = { λ drawing size W. DrawingStandsAfter drawing size W };
+    ghost stands = { λ drawing k d. StandsInFormat drawing k d };
 
-    ghost answers = { λ size W. DrawsLine size W };
+    ghost answers = { λ k d. DrawsLine k.0 k.1 d };
 
-    ghost closes = { λ size W. DrawsClosing size W };
+    ghost closes = { λ k d. DrawsClosing k.0 k.1 d };
 
     fn answer_line(
         &mut self,
@@ -99,41 +235,34 @@ impl<A: Allocator + Copy> Answerer<A> for Drawing<A> {
     ) -> Result<Handling, AllocError> {
         let held = lock_of(&self.execution.passes);
         match self.execution.handle(number, line) {
-            Explained::Skipped => Ok(Handling::GoesOn),
+            Explained::Skipped => {
+                self.caption.note(line)?;
+                Ok(Handling::GoesOn)
+            }
             Explained::Accepted(step) => {
                 self.note(number, step, held)?;
                 Ok(Handling::GoesOn)
             }
             Explained::Stopped(reason) => {
-                let count = self.count_rows()?;
-                let (passes, rows, owners) = (&self.execution.passes, &self.rows, &self.owners);
-                draw_stopped(passes, rows, owners, count, number, reason, text)?;
+                self.draw_stop(number, reason, text)?;
                 Ok(Handling::Stops)
             }
         }
     }
 
     fn close(&self, text: &mut String<A>) -> Result<(), AllocError> {
-        let count = self.count_rows()?;
         let closing = self.execution.close(self.alloc)?;
-        let (passes, rows, owners) = (&self.execution.passes, &self.rows, &self.owners);
-        draw_closed(
-            passes,
-            rows,
-            owners,
-            count,
-            &closing.told,
-            closing.rest,
-            text,
-        )?;
+        self.draw_end(&closing.told, closing.rest, text)?;
         Ok(())
     }
 }
 
-/// Reads a schedule, replays its steps over a machine of IRPs 0 to `irps` - 1 and passes 1 to `passes`,
-/// and writes one SVG picture of them: a column for each pass that makes a step, a row for each step with
-/// the value that it found, who has the lock, who owes or holds which IRP; then the line that ended the
-/// handling and why, or where each IRP is and whether all is at rest.
+/// Reads a schedule, replays its steps over a machine of IRPs 0 to `irps` - 1 and passes 1 to `passes`, and
+/// writes one SVG picture of them: the comment before the first step, up to an empty line and up to eight
+/// lines, with its first line as the title, and a question mark for a byte that isn't printable ASCII; a column
+/// for each pass that makes a step; a row for each step with the value that it found, the call that it is of,
+/// who has the lock, who owes or holds which IRP, and the two words of its IRP after it; then the line that
+/// ended the handling and why, or where each IRP is and whether all is at rest.
 ///
 /// All of the input is read, up to 1,048,577 bytes; more stays unread, and is answered `input too long`.
 /// `irps` is 1 to 1,024 and `passes` 1 to 64. Faults: 1 Memory and 2 Read, after which nothing was written;
@@ -146,11 +275,39 @@ pub fn draw_schedule<A: Allocator + Copy, R: Read, W: Write>(
     writer: &mut W,
 ) -> Result<Ended, SimFault>
     requires { IsInLimits (record { irps = irps; passes = passes; first = 0 }) }
-    ensures drawn { IfOk result (DrawsSchedule (record { irps = irps; passes = passes; first = 0 })
+    ensures drawn { IfOk result
+        (DrawsSchedule (record { irps = irps; passes = passes; first = 0 }) Format.Svg
         (R.remaining reader.old) (R.remaining reader.new) (W.contents writer.old) (W.contents writer.new)) }
     ensures unwritten { IfErr result (λ fault. fault ≢ SimFault.Write
         → Keeps (W.contents writer.old) (W.contents writer.new)) }
 {
-    let mut drawing = Drawing::new(alloc, irps, passes)?;
+    let mut drawing = Drawing::new(alloc, irps, passes, Format::Svg)?;
+    reply(alloc, &mut drawing, reader, writer)
+}
+
+/// Reads a schedule as `draw_schedule` does, and writes it as lines of ASCII text for a terminal: a row for
+/// each step, with the number of its line, the pass that has the lock, in the column of its pass what it did
+/// and what it found, with a star before it where it claims its IRP, and the two words of its IRP after it;
+/// then the line that ended the handling and why, or where each IRP is and whether all is at rest. A column is
+/// 26 letters wide. The caption stands above. It doesn't show who owes or holds which IRP.
+///
+/// All of the input is read, up to 1,048,577 bytes; more stays unread, and is answered `input too long`.
+/// `irps` is 1 to 1,024 and `passes` 1 to 64. Faults: 1 Memory and 2 Read, after which nothing was written;
+/// 3 Write. Own rule.
+pub fn draw_schedule_as_text<A: Allocator + Copy, R: Read, W: Write>(
+    alloc: A,
+    irps: u32,
+    passes: u32,
+    reader: &mut R,
+    writer: &mut W,
+) -> Result<Ended, SimFault>
+    requires { IsInLimits (record { irps = irps; passes = passes; first = 0 }) }
+    ensures drawn { IfOk result
+        (DrawsSchedule (record { irps = irps; passes = passes; first = 0 }) Format.Text
+        (R.remaining reader.old) (R.remaining reader.new) (W.contents writer.old) (W.contents writer.new)) }
+    ensures unwritten { IfErr result (λ fault. fault ≢ SimFault.Write
+        → Keeps (W.contents writer.old) (W.contents writer.new)) }
+{
+    let mut drawing = Drawing::new(alloc, irps, passes, Format::Text)?;
     reply(alloc, &mut drawing, reader, writer)
 }

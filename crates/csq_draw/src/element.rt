@@ -1,6 +1,7 @@
 //! The elements of a picture.
+use crate::circles::WordColumns;
 use crate::ending::{Bar, Because, Closing, Refused, Rest};
-use crate::heading::{Column, Extent, Key, Opening, Shared, Sheet, Title};
+use crate::heading::{Column, Key};
 use crate::marks::{Mark, Number, Shade};
 use crate::spans::{OpenSpan, Span};
 use std::fmt;
@@ -8,14 +9,10 @@ use std::fmt;
 /// An element of a picture, which stands on a line of its own.
 #[derive(Clone, Copy, Debug)]
 pub(crate) enum Element {
-    /// The beginning: the picture's size.
-    Opening(Extent),
-    Title(Extent),
-    /// What all pictures share.
-    Shared,
-    Sheet(Extent),
     /// What the parts mean.
     Key,
+    /// The columns of the two words.
+    WordColumns(WordColumns),
     /// The name of a pass over its column.
     Column(Column),
     /// The number of a line.
@@ -49,11 +46,8 @@ impl fmt::Display for Element {
     #[tactic(auto, unfolding(crate::specs::Elements::element_text))]
     fn fmt<W: fmt::Write>(&self, f: &mut fmt::Formatter<W>) -> fmt::Result {
         match *self {
-            Element::Opening(extent) => Opening(extent).fmt(f),
-            Element::Title(extent) => Title(extent).fmt(f),
-            Element::Shared => Shared.fmt(f),
-            Element::Sheet(extent) => Sheet(extent).fmt(f),
             Element::Key => Key.fmt(f),
+            Element::WordColumns(columns) => columns.fmt(f),
             Element::Column(column) => column.fmt(f),
             Element::Number(number) => number.fmt(f),
             Element::Shade(shade) => shade.fmt(f),

@@ -20,14 +20,14 @@ impl fmt::Display for Bar {
         let y = top(self.rows) + 4;
         write!(
             f,
-            "<rect class='bad' x='64' y='{y}' width='660' height='38' rx='6'/>"
+            "<rect class='bad' x='64' y='{y}' width='660' height='52' rx='6'/>"
         )
     }
 }
 
 /// A line that ended the handling, as it is told: its step, if it names one, and why it ended it.
 #[derive(Clone, Copy, Debug)]
-struct Refusal(Stop);
+pub(crate) struct Refusal(pub(crate) Stop);
 
 impl fmt::Display for Refusal {
     ghost use Rattle.std.specs.Prelude.{Some};
@@ -59,7 +59,7 @@ impl fmt::Display for Refused {
     ghost output = { λ refused. Some (refused_text refused) };
 
     fn fmt<W: fmt::Write>(&self, f: &mut fmt::Formatter<W>) -> fmt::Result {
-        let (y, refusal) = (top(self.rows) + 27, Refusal(self.stop));
+        let (y, refusal) = (top(self.rows) + 34, Refusal(self.stop));
         write!(f, "<text x='73' y='{y}'>{refusal}</text>")
     }
 }
@@ -78,7 +78,7 @@ impl fmt::Display for Because {
     ghost output = { λ because. Some (because_text because) };
 
     fn fmt<W: fmt::Write>(&self, f: &mut fmt::Formatter<W>) -> fmt::Result {
-        let (y, reason) = (top(self.rows) + 62, self.reason);
+        let (y, reason) = (top(self.rows) + 76, self.reason);
         write!(f, "<text x='73' y='{y}'>{reason}</text>")
     }
 }

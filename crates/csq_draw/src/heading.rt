@@ -7,7 +7,7 @@ use std::fmt;
 /// and in print.
 pub const PICTURE_HEAD: &str = "\
 <desc>Each column is a pass, and time runs downwards. A row is one atomic step: its line in the schedule, \
-and in the column of its pass what it did, to which IRP, what it found, and the call of the WDK that it is.</desc>
+and in the column of its pass what it did, to which IRP, what it found, and the call of the WDK that it is. At the right stand the Cancel flag and the cancel routine of that IRP after the step.</desc>
 <style>
 .sheet{fill:#ffffff}.l{fill:#eaeef2}
 .k0{color:#0969da;fill:#ddf4ff}.k1{color:#bc4c00;fill:#fff1e5}
@@ -20,20 +20,22 @@ and in the column of its pass what it did, to which IRP, what it found, and the 
 .owes,.holds{fill:none;stroke-width:3}.owes{stroke-dasharray:4 3}.g{stroke:#d1d9e0}
 text{fill:#1f2328;stroke:none}.s,.m{font-size:10.5px}.s,.m,.n{fill:#59636e}
 .m{font-family:ui-monospace,SFMono-Regular,Consolas,'DejaVu Sans Mono',monospace;font-size:10px}
-.p{font-weight:bold;text-anchor:middle}.n,.v{text-anchor:end}
+.t{font-size:16px;font-weight:bold}.t tspan{fill:#59636e;font-size:10.5px;font-weight:normal}
+.p{font-weight:bold;text-anchor:middle}.o{text-anchor:middle}.n,.v{text-anchor:end}
+circle.on{fill:currentColor}circle.off{fill:#ffffff}circle.b{stroke-width:3}
 @media screen and (prefers-color-scheme:dark){.sheet{fill:#0d1117}.l{fill:#21262d}
 .k0{color:#58a6ff;fill:#0c2d6b}.k1{color:#f0883e;fill:#5a1e02}
 .k2{color:#3fb950;fill:#033a16}.k3{color:#bc8cff;fill:#3c1e70}
 .k4{color:#d29922;fill:#4b2900}.k5{color:#f778ba;fill:#5e103e}
 .k6{color:#2dd4bf;fill:#063b38}.k7{color:#8b949e;fill:#0d1117}
 .e{color:#8b949e;fill:#0d1117}.bad{color:#f85149;fill:#67060c}
-.owes,.holds{fill:none}.g{stroke:#30363d}
-text{fill:#e6edf3}.s,.m,.n{fill:#b1bac4}}
+.owes,.holds{fill:none}.g{stroke:#30363d}circle.off{fill:#0d1117}
+text{fill:#e6edf3}.s,.m,.n,.t tspan{fill:#b1bac4}}
 </style>";
 
 /// What all pictures share: a description, and the look of what is drawn.
 #[derive(Clone, Copy, Debug)]
-pub(crate) struct Shared;
+struct Shared;
 
 impl fmt::Display for Shared {
     ghost use Rattle.std.specs.Prelude.{Some};
@@ -60,35 +62,47 @@ impl fmt::Display for Key {
     fn fmt<W: fmt::Write>(&self, f: &mut fmt::Formatter<W>) -> fmt::Result {
         write!(
             f,
-            "<text class='s' x='56' y='24'>shade: has the lock; bold: the exchange found the routine, and so claims the IRP; dashed line: owes it; solid line: holds it</text><text class='n s' x='46' y='54'>line</text>"
+            "<text class='s' x='56' y='15'>shade: has the lock; bold: the exchange found the routine, and so claims the IRP; dashed line: owes it; solid line: holds it</text><text class='s' x='56' y='28'>circles: the two words of the IRP, in its present life, after the step; filled: set; bold: the step changed it; &#8594;: what the call answers</text><text class='n s' x='46' y='54'>line</text>"
         )
     }
 }
 
-/// How much a picture shows: so many columns and rows, and lines of text below them.
+/// How much a picture shows: so many columns and rows, lines of text below them, and lines of a caption above.
 #[derive(Clone, Copy, Debug)]
 pub(crate) struct Extent {
     pub(crate) columns: u32,
     pub(crate) rows: u32,
     pub(crate) lines: u32,
+    pub(crate) caption: u32,
 }
 
 impl Extent {
     ghost use Rattle.std.specs.Prelude.{◌≡◌};
-    ghost use Rattle.csq_draw.specs.Headings.{width, height};
+    ghost use Rattle.csq_draw.specs.Headings.{width, above, height};
 
     /// The picture's width, at least that of its longest line of text.
     fn width(&self) -> u64
         ensures { result ≡ width self.now }
     {
-        left(self.columns).max(780)
+        (left(self.columns) + 120).max(780)
+    }
+
+    /// How much of the picture the caption takes, above all else.
+    fn above(&self) -> u64
+        ensures { result ≡ above self.now }
+    {
+        if self.caption == 0 {
+            0
+        } else {
+            18 * u64::from(self.caption) + 22
+        }
     }
 
     /// The picture's height.
     fn height(&self) -> u64
         ensures { result ≡ height self.now }
     {
-        top(self.rows) + 20 * u64::from(self.lines) + 44
+        self.above() + top(self.rows) + 20 * u64::from(self.lines) + 44
     }
 }
 
@@ -111,9 +125,30 @@ impl fmt::Display for Area {
     }
 }
 
+/// The upper edge of a picture, so far above the one that it has without a caption.
+#[derive(Clone, Copy, Debug)]
+struct Edge(u64);
+
+/// As `-58`, and `0` where it is the same.
+impl fmt::Display for Edge {
+    ghost use Rattle.std.specs.Prelude.{Some};
+    ghost use Rattle.csq_draw.specs.Headings.{edge_text};
+
+    ghost output = { λ edge. Some (edge_text edge.0) };
+
+    fn fmt<W: fmt::Write>(&self, f: &mut fmt::Formatter<W>) -> fmt::Result {
+        let above = self.0;
+        if above == 0 {
+            write!(f, "0")
+        } else {
+            write!(f, "-{above}")
+        }
+    }
+}
+
 /// The beginning of a picture: its size.
 #[derive(Clone, Copy, Debug)]
-pub(crate) struct Opening(pub(crate) Extent);
+struct Opening(Extent);
 
 impl fmt::Display for Opening {
     ghost use Rattle.std.specs.Prelude.{Some};
@@ -122,34 +157,41 @@ impl fmt::Display for Opening {
     ghost output = { λ opening. Some (opening_text opening.0) };
 
     fn fmt<W: fmt::Write>(&self, f: &mut fmt::Formatter<W>) -> fmt::Result {
-        let (width, height) = (self.0.width(), self.0.height());
+        let (width, height, edge) = (self.0.width(), self.0.height(), Edge(self.0.above()));
         let area = Area { width, height };
         write!(
             f,
-            "<svg xmlns='http://www.w3.org/2000/svg' {area} viewBox='0 0 {width} {height}' font-family='system-ui,-apple-system,Segoe UI,DejaVu Sans,sans-serif' font-size='12'>"
+            "<svg xmlns='http://www.w3.org/2000/svg' {area} viewBox='0 {edge} {width} {height}' font-family='system-ui,-apple-system,Segoe UI,DejaVu Sans,sans-serif' font-size='12'>"
         )
     }
 }
 
-/// The title of a picture.
+/// The name of a picture: the title of its caption, and without one how many steps there are.
 #[derive(Clone, Copy, Debug)]
-pub(crate) struct Title(pub(crate) Extent);
+struct Name<'a> {
+    rows: u32,
+    title: &'a str,
+}
 
-impl fmt::Display for Title {
+impl fmt::Display for Name<'_> {
     ghost use Rattle.std.specs.Prelude.{Some};
-    ghost use Rattle.csq_draw.specs.Headings.{title_text};
+    ghost use Rattle.csq_draw.specs.Headings.{name_text};
 
-    ghost output = { λ title. Some (title_text title.0) };
+    ghost output = { λ name. Some (name_text name.rows name.title.now) };
 
     fn fmt<W: fmt::Write>(&self, f: &mut fmt::Formatter<W>) -> fmt::Result {
-        let rows = self.0.rows;
-        write!(f, "<title>The steps of a schedule: {rows}</title>")
+        let (rows, title) = (self.rows, self.title);
+        if title.is_empty() {
+            write!(f, "<title>The steps of a schedule: {rows}</title>")
+        } else {
+            write!(f, "<title>{title}</title>")
+        }
     }
 }
 
 /// The sheet of a picture.
 #[derive(Clone, Copy, Debug)]
-pub(crate) struct Sheet(pub(crate) Extent);
+struct Sheet(Extent);
 
 impl fmt::Display for Sheet {
     ghost use Rattle.std.specs.Prelude.{Some};
@@ -158,9 +200,74 @@ impl fmt::Display for Sheet {
     ghost output = { λ sheet. Some (sheet_text sheet.0) };
 
     fn fmt<W: fmt::Write>(&self, f: &mut fmt::Formatter<W>) -> fmt::Result {
-        let (width, height) = (self.0.width(), self.0.height());
+        let (width, height, edge) = (self.0.width(), self.0.height(), Edge(self.0.above()));
         let area = Area { width, height };
-        write!(f, "<rect class='sheet' {area}/>")
+        write!(f, "<rect class='sheet' y='{edge}' {area}/>")
+    }
+}
+
+/// A caption: its title, and the lines below.
+#[derive(Clone, Copy, Debug)]
+struct Heading<'a> {
+    lines: u32,
+    title: &'a str,
+    below: &'a str,
+}
+
+/// On a line of its own, and nothing where there is none.
+impl fmt::Display for Heading<'_> {
+    ghost use Rattle.std.specs.Prelude.{Some};
+    ghost use Rattle.csq_draw.specs.Headings.{heading_text};
+
+    ghost output = { λ heading. Some (heading_text heading.lines heading.title.now heading.below.now) };
+
+    fn fmt<W: fmt::Write>(&self, f: &mut fmt::Formatter<W>) -> fmt::Result {
+        let Heading {
+            lines,
+            title,
+            below,
+        } = *self;
+        if lines == 0 {
+            return Ok(());
+        }
+        let above = 18 * u64::from(lines) - 8;
+        writeln!(
+            f,
+            "<text class='t' x='56' y='-{above}'>{title}{below}</text>"
+        )
+    }
+}
+
+/// What stands above all elements of a picture and behind them: its size, its name, what all pictures share,
+/// its sheet and its caption.
+#[derive(Clone, Copy, Debug)]
+pub(crate) struct Head<'a> {
+    pub(crate) extent: Extent,
+    pub(crate) title: &'a str,
+    pub(crate) below: &'a str,
+}
+
+impl fmt::Display for Head<'_> {
+    ghost use Rattle.std.specs.Prelude.{Some};
+    ghost use Rattle.csq_draw.specs.Headings.{head_text};
+
+    ghost output = { λ head. Some (head_text head.extent head.title.now head.below.now) };
+
+    fn fmt<W: fmt::Write>(&self, f: &mut fmt::Formatter<W>) -> fmt::Result {
+        let Head {
+            extent,
+            title,
+            below,
+        } = *self;
+        let (rows, lines) = (extent.rows, extent.caption);
+        let (opening, shared, sheet) = (Opening(extent), Shared, Sheet(extent));
+        let name = Name { rows, title };
+        let heading = Heading {
+            lines,
+            title,
+            below,
+        };
+        write!(f, "{opening}\n{name}\n{shared}\n{sheet}\n{heading}")
     }
 }
 

@@ -3,17 +3,25 @@
 ghost use Rattle.std.specs.Prelude.{ℕ, List};
 ghost use Rattle.irp_core.specs.Runs.{Size, EachRunFrom};
 ghost use Rattle.csq_replay.specs.Schedule.{Numbered};
-ghost use Rattle.csq_draw.specs.Laws.{HasOnePicture, EachStepHasOneMark, EachLineHasItsNumber, EachShadeIsOfTheLock, EachPassHasItsColumn, TheShadedPassHasTheLock, EachDrawnOwnerOwesOrHolds};
+ghost use Rattle.csq_draw.specs.declared.format.Format.{Format};
+ghost use Rattle.csq_draw.specs.Laws.{HasOnePicture, EachStepHasOneMark, EachStepShowsItsWords, EachLineHasItsNumber, EachShadeIsOfTheLock, EachPassHasItsColumn, TheShadedPassHasTheLock, EachDrawnOwnerOwesOrHolds};
 
-/// A schedule has at most one picture, so the relation that `draw_schedule` meets names its bytes.
+/// A schedule has at most one picture in each format, so the relation that `draw_schedule` and
+/// `draw_schedule_as_text` meet names its bytes.
 pub fn a_schedule_has_one_picture()
-    ensures { (size : Size) (input : List ℕ) → HasOnePicture size input }
+    ensures { (size : Size) (format : Format) (input : List ℕ) → HasOnePicture size format input }
 {}
 
 /// The marks of a picture are one for each step of its run, in order, each on the row of its number and in
 /// the column of its pass, with the value that it found.
 pub fn each_step_has_one_mark()
     ensures { (size : Size) (W : List Numbered) → EachStepHasOneMark size W }
+{}
+
+/// At the right of each step of an IRP stand the two words of that IRP after it, in its present life: by the run,
+/// whether its Cancel flag and its cancel routine are set. A step of no IRP has none.
+pub fn each_step_shows_its_words()
+    ensures { (size : Size) (W : List Numbered) → EachStepShowsItsWords size W }
 {}
 
 /// At the left of each step stands the number of its line, and of the line that ended the handling its own.

@@ -9,9 +9,9 @@ pub(crate) fn left(column: u32) -> u64
     56 + 284 * u64::from(column)
 }
 
-/// The upper edge of a row.
+/// The upper edge of a row, which is 60 pixels high.
 pub(crate) fn top(row: u32) -> u64
     ensures { result ≡ top row }
 {
-    68 + 46 * u64::from(row)
+    68 + 60 * u64::from(row)
 }

@@ -1,9 +1,14 @@
 //! A schedule of the steps of a cancel-safe IRP queue, drawn: a column for each pass, a row for each step.
 #![tactic(auto)]
 
+mod calls;
+mod caption;
+mod cells;
+mod circles;
 mod drawing;
 mod element;
 mod ending;
+mod format;
 mod heading;
 mod laws;
 mod layout;
@@ -13,11 +18,14 @@ mod passes;
 mod picture;
 mod rows;
 mod spans;
+mod terminal;
+mod words;
 
-pub use drawing::draw_schedule;
+pub use drawing::{draw_schedule, draw_schedule_as_text};
+pub use format::Format;
 pub use heading::PICTURE_HEAD;
 pub use laws::{
     a_schedule_has_one_picture, each_drawn_owner_owes_or_holds, each_line_has_its_number,
     each_pass_has_its_column, each_shade_is_of_the_lock, each_step_has_one_mark,
-    the_shaded_pass_has_the_lock,
+    each_step_shows_its_words, the_shaded_pass_has_the_lock,
 };

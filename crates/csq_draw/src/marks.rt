@@ -1,5 +1,8 @@
 //! What is drawn on the row of a step: the number of its line, and the step itself; and who has the lock.
+use crate::calls::CallOf;
+use crate::circles::Circles;
 use crate::layout::{left, top};
+use crate::words::Words;
 use csq_explain::{Sentence, StatusName, StepInCall};
 use irp_core::{Kind, NtStatus};
 use std::fmt;
@@ -18,7 +21,7 @@ impl fmt::Display for Number {
     ghost output = { λ number. Some (number_text number) };
 
     fn fmt<W: fmt::Write>(&self, f: &mut fmt::Formatter<W>) -> fmt::Result {
-        let (y, line) = (top(self.row) + 27, self.line);
+        let (y, line) = (top(self.row) + 34, self.line);
         write!(f, "<text class='n' x='46' y='{y}'>{line}</text>")
     }
 }
@@ -41,7 +44,7 @@ impl fmt::Display for Shade {
         let (x, y) = (left(self.column), top(self.row));
         write!(
             f,
-            "<rect class='l' x='{x}' y='{y}' width='228' height='47'/>"
+            "<rect class='l' x='{x}' y='{y}' width='228' height='61'/>"
         )
     }
 }
@@ -126,10 +129,10 @@ impl fmt::Display for StatusWords {
 
 /// What a step found, in words.
 #[derive(Clone, Copy, Debug)]
-struct FoundWords {
-    kind: Kind,
-    found: u64,
-    status: Option<NtStatus>,
+pub(crate) struct FoundWords {
+    pub(crate) kind: Kind,
+    pub(crate) found: u64,
+    pub(crate) status: Option<NtStatus>,
 }
 
 /// As `found it`.
@@ -171,7 +174,7 @@ impl fmt::Display for Frame {
 
     fn fmt<W: fmt::Write>(&self, f: &mut fmt::Formatter<W>) -> fmt::Result {
         let (x, y) = (left(self.column) + 8, top(self.row) + 4);
-        write!(f, "<rect x='{x}' y='{y}' width='212' height='38' rx='6'/>")
+        write!(f, "<rect x='{x}' y='{y}' width='212' height='52' rx='6'/>")
     }
 }
 
@@ -245,12 +248,68 @@ impl fmt::Display for Api {
     }
 }
 
-/// A step in the column of its pass, with what it found and its call of the WDK.
+/// The call that a step is of.
+#[derive(Clone, Copy, Debug)]
+struct CallLine {
+    column: u32,
+    row: u32,
+    step: StepInCall,
+}
+
+impl fmt::Display for CallLine {
+    ghost use Rattle.std.specs.Prelude.{Some};
+    ghost use Rattle.csq_draw.specs.Layout.{left, top};
+    ghost use Rattle.csq_draw.specs.Marks.{call_line_text};
+
+    ghost output = { λ line. Some (call_line_text (left line.column) (top line.row) line.step) };
+
+    fn fmt<W: fmt::Write>(&self, f: &mut fmt::Formatter<W>) -> fmt::Result {
+        let (x, y) = (left(self.column) + 17, top(self.row) + 49);
+        let (inside, kind, found) = (self.step.inside, self.step.made.kind, self.step.made.found);
+        let call = CallOf {
+            inside,
+            kind,
+            found,
+        };
+        write!(f, "<text class='s' x='{x}' y='{y}'>{call}</text>")
+    }
+}
+
+/// What stands in the box of a step.
+#[derive(Clone, Copy, Debug)]
+struct MarkLines {
+    column: u32,
+    row: u32,
+    step: StepInCall,
+}
+
+impl fmt::Display for MarkLines {
+    ghost use Rattle.std.specs.Prelude.{Some};
+    ghost use Rattle.csq_draw.specs.Layout.{left, top};
+    ghost use Rattle.csq_draw.specs.Marks.{mark_lines_text};
+
+    ghost output = { λ lines. Some (mark_lines_text (left lines.column) (top lines.row) lines.step) };
+
+    fn fmt<W: fmt::Write>(&self, f: &mut fmt::Formatter<W>) -> fmt::Result {
+        let (column, row, step) = (self.column, self.row, self.step);
+        let kind = step.made.kind;
+        let label = Label { column, row, kind };
+        let found = Found { column, row, step };
+        let api = Api { column, row, kind };
+        let call = CallLine { column, row, step };
+        write!(f, "{label}{found}{api}{call}")
+    }
+}
+
+/// A step in the column of its pass, with what it found, its call of the WDK and the call that it is of, and
+/// right of so many columns the words of its IRP after it.
 #[derive(Clone, Copy, Debug)]
 pub(crate) struct Mark {
     pub(crate) row: u32,
     pub(crate) column: u32,
+    pub(crate) columns: u32,
     pub(crate) step: StepInCall,
+    pub(crate) words: Option<Words>,
 }
 
 impl fmt::Display for Mark {
@@ -265,12 +324,17 @@ impl fmt::Display for Mark {
         let look = Look { kind, found };
         let sentence = Sentence(step);
         let frame = Frame { column, row };
-        let label = Label { column, row, kind };
-        let words = Found { column, row, step };
-        let api = Api { column, row, kind };
+        let lines = MarkLines { column, row, step };
+        let circles = Circles {
+            row,
+            columns: self.columns,
+            kind,
+            found,
+            words: self.words,
+        };
         write!(
             f,
-            "<g class='{look}'><title>{sentence}</title>{frame}{label}{words}{api}</g>"
+            "<g class='{look}'><title>{sentence}</title>{frame}{lines}</g>{circles}"
         )
     }
 }

@@ -2,11 +2,13 @@
 ghost use Rattle.std.specs.Prelude.{◌≡◌, ◌≤◌, ◌∷◌, [], codes, length, string_bytes, OnOk};
 ghost use Rattle.csq_replay.specs.Lines.{GrewBy};
 ghost use Rattle.csq_draw.specs.Elements.{elements_text, picture};
-ghost use Rattle.csq_draw.specs.Pictures.{each, column_element, column_elements, mark_element, shade_elements, span_elements, row_elements, open_elements, closing_elements, opening_elements, shown_elements, refused_elements, rest_element, stopped_elements, closed_elements};
+ghost use Rattle.csq_draw.specs.Passes.{columns};
+ghost use Rattle.csq_draw.specs.Pictures.{each, column_element, column_elements, mark_element, shade_elements, span_elements, row_elements, open_elements, closing_elements, first_elements, shown_elements, refused_elements, rest_element, stopped_elements, closed_elements};
 
+use crate::circles::WordColumns;
 use crate::element::Element;
 use crate::ending::{Bar, Because, Closing, Refused, Rest};
-use crate::heading::{Column, Extent};
+use crate::heading::Column;
 use crate::marks::{Mark, Number, Shade};
 use crate::owners::Owner;
 use crate::passes::{column_of, columns};
@@ -134,7 +136,9 @@ fn draw_mark<A: Allocator>(
     let mark = Mark {
         row: row.row,
         column: column_of(passes, row.step.made.pass),
+        columns: columns(passes),
         step: row.step,
+        words: row.words,
     };
     draw(Element::Mark(mark), text)
 }
@@ -231,38 +235,35 @@ fn draw_told<A: Allocator>(
     Ok(())
 }
 
-/// What a picture of this extent begins with.
-fn draw_beginning<A: Allocator>(extent: Extent, text: &mut String<A>) -> Result<(), AllocError>
+/// What the parts mean, and the columns of the words.
+fn draw_first<A: Allocator>(
+    passes: &[PassNow],
+    rows: u32,
+    text: &mut String<A>,
+) -> Result<(), AllocError>
+    requires { length passes.now ≤ 65 }
     ensures { OnOk result (GrewBy (string_bytes text.old) (string_bytes text.new)
-        (elements_text (opening_elements extent))) }
+        (elements_text (first_elements (columns passes.now) rows))) }
 {
-    draw(Element::Opening(extent), text)?;
-    draw(Element::Title(extent), text)?;
-    draw(Element::Shared, text)?;
-    draw(Element::Sheet(extent), text)?;
-    draw(Element::Key, text)
+    let columns = columns(passes);
+    draw(Element::Key, text)?;
+    draw(Element::WordColumns(WordColumns { columns, rows }), text)
 }
 
-/// The steps: passes, rows and owners, with so many lines of text below them.
+/// What a picture begins with, and the steps: passes, rows and owners.
 fn draw_steps<A: Allocator>(
     passes: &[PassNow],
     rows: &[Row],
     owners: &[Option<Owner>],
     count: u32,
-    lines: u32,
     text: &mut String<A>,
 ) -> Result<(), AllocError>
     requires few { length passes.now ≤ 65 }
     requires count { count ≡ length rows.now }
     ensures { OnOk result (GrewBy (string_bytes text.old) (string_bytes text.new)
-        (elements_text (shown_elements passes.now rows.now owners.now count lines))) }
+        (elements_text (shown_elements passes.now rows.now owners.now count))) }
 {
-    let extent = Extent {
-        columns: columns(passes),
-        rows: count,
-        lines,
-    };
-    draw_beginning(extent, text)?;
+    draw_first(passes, count, text)?;
     draw_columns(passes, count, text)?;
     draw_rows(passes, rows, text)?;
     draw_owners(passes, count, owners, text)?;
@@ -295,7 +296,7 @@ fn draw_foot<A: Allocator>(text: &mut String<A>) -> Result<(), AllocError>
     Ok(())
 }
 
-/// A picture of steps, and of the line that ended the handling.
+/// A picture of steps, and of the line that ended the handling, below its head.
 pub(crate) fn draw_stopped<A: Allocator>(
     passes: &[PassNow],
     rows: &[Row],
@@ -310,13 +311,13 @@ pub(crate) fn draw_stopped<A: Allocator>(
     ensures { OnOk result (GrewBy (string_bytes text.old) (string_bytes text.new)
         (picture (stopped_elements passes.now rows.now owners.now count line reason))) }
 {
-    draw_steps(passes, rows, owners, count, 3, text)?;
+    draw_steps(passes, rows, owners, count, text)?;
     draw_refused(count, line, reason, text)?;
     draw_foot(text)?;
     Ok(())
 }
 
-/// A picture of steps, and of what is told in the end.
+/// A picture of steps, and of what is told in the end, below its head.
 pub(crate) fn draw_closed<A: Allocator>(
     passes: &[PassNow],
     rows: &[Row],
@@ -333,7 +334,7 @@ pub(crate) fn draw_closed<A: Allocator>(
         (picture (closed_elements passes.now rows.now owners.now count told.now rest))) }
 {
     let nth = told.len() as u32;
-    draw_steps(passes, rows, owners, count, nth + 1, text)?;
+    draw_steps(passes, rows, owners, count, text)?;
     draw_told(count, told, text)?;
     let rest = Rest {
         rows: count,

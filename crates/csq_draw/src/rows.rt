@@ -1,10 +1,11 @@
 //! The rows of a picture: one for each step.
 use crate::owners::Owner;
+use crate::words::Words;
 use csq_explain::StepInCall;
 use irp_core::PassId;
 
-/// A step that was made: its row, from 0 on, the number of its line, who had the lock then, and whose time
-/// with its IRP it ended.
+/// A step that was made: its row, from 0 on, the number of its line, who had the lock then, whose time with its
+/// IRP it ended, and the words of that IRP after it.
 #[derive(Clone, Copy, Debug, PartialEq, Eq)]
 pub(crate) struct Row {
     pub(crate) row: u32,
@@ -12,4 +13,5 @@ pub(crate) struct Row {
     pub(crate) step: StepInCall,
     pub(crate) lock: Option<PassId>,
     pub(crate) ended: Option<Owner>,
+    pub(crate) words: Option<Words>,
 }

@@ -37,8 +37,8 @@ impl fmt::Display for Span {
         let colour = irp.0 % 8;
         let (x, from, to) = (
             left(self.column),
-            top(self.owner.row) + 23,
-            top(self.to) + 23,
+            top(self.owner.row) + 30,
+            top(self.to) + 30,
         );
         let lane = x + 236 + 5 * u64::from(colour);
         write!(
@@ -66,7 +66,7 @@ impl fmt::Display for OpenSpan {
     fn fmt<W: fmt::Write>(&self, f: &mut fmt::Formatter<W>) -> fmt::Result {
         let (irp, pass, having) = (self.owner.irp, self.owner.pass, self.owner.having);
         let colour = irp.0 % 8;
-        let (x, from, to) = (left(self.column), top(self.owner.row) + 23, top(self.rows));
+        let (x, from, to) = (left(self.column), top(self.owner.row) + 30, top(self.rows));
         let lane = x + 236 + 5 * u64::from(colour);
         write!(
             f,

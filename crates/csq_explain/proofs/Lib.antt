@@ -4,3 +4,4 @@ pub mod Statuses
 pub mod Outcomes
 pub mod Closings
 pub mod OneText
+pub mod ScriptTexts

@@ -1,5 +1,5 @@
 -- The status with which a step completed its IRP.
-use Rattle.std.proofs.Common.{◌≡◌, ℕ, ◌||◌, true, List, ◌∷◌, Option, Some, refl, ap, sym, ◌∙◌, subst}
+use Rattle.std.proofs.Common.{◌≡◌, ℕ, true, List, ◌∷◌, Option, Some, refl, ap, sym, ◌∙◌, subst}
 use Rattle.irp_core.specs.declared.ids.IrpLife.{IrpLife}
 use Rattle.irp_core.specs.declared.ids.PassId.{PassId}
 use Rattle.irp_core.specs.declared.standing.IrpPlace.{IrpPlace}
@@ -9,9 +9,8 @@ use Rattle.irp_core.specs.declared.step.Kind.{Kind}
 use Rattle.irp_core.specs.declared.step.Kind.TheVariants.{Arm, Test, Disarm, End, Flag, Take, Out, Done, Renew}
 use Rattle.irp_core.specs.declared.step.Made.{Made}
 use Rattle.irp_core.specs.Completion.{completed_by, removed, status_due, IsPlace}
-use Rattle.irp_core.specs.Lives.{present, present_life}
+use Rattle.irp_core.specs.Lives.{present}
 use Rattle.irp_core.specs.Runs.{Size, IsRun}
-use Rattle.irp_core.specs.Steps.{same_irp, same_pass}
 use Rattle.irp_core.proofs.Growing.{run_less}
 use Rattle.irp_core.proofs.Lives.{held_present, life_same}
 use Rattle.irp_core.proofs.Names.{named, same_irp-refl, same_pass-refl}

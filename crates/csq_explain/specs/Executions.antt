@@ -1,5 +1,5 @@
 -- An execution, followed line by line: the contracts of what follows it.
-use Rattle.std.specs.Prelude.{◌≡◌, ℕ, ◌<◌, List, ◌∷◌, Option, Some, None}
+use Rattle.std.specs.Prelude.{◌≡◌, ℕ, List, ◌∷◌, Option, Some, None}
 use Rattle.irp_core.specs.declared.standing.IrpPlace.{IrpPlace}
 use Rattle.irp_core.specs.declared.standing.IrpPlace.TheVariants.{Home, Listed, HeldBy, Completed}
 use Rattle.irp_core.specs.declared.status.NtStatus.{NtStatus}
@@ -10,11 +10,10 @@ use Rattle.irp_core.specs.Completion.{IsPlace}
 use Rattle.irp_core.specs.Lives.{present}
 use Rattle.irp_core.specs.MachineState.{Agrees, size_of}
 use Rattle.irp_core.specs.Runs.{Size, IsInLimits}
-use Rattle.irp_core.specs.Steps.{number}
 use Rattle.csq_replay.specs.declared.schedule.outcome.Outcome.{Outcome}
 use Rattle.csq_replay.specs.declared.schedule.outcome.Outcome.TheVariants.{Skipped, Accepted, Stopped}
 use Rattle.csq_replay.specs.Outcomes.{ComesTo}
-use Rattle.csq_replay.specs.Schedule.{Numbered, run_of, grown}
+use Rattle.csq_replay.specs.Schedule.{Numbered, run_of}
 use Rattle.csq_explain.specs.declared.execution.Execution.{Execution}
 use Rattle.csq_explain.specs.declared.execution.Explained.{Explained}
 use Rattle.csq_explain.specs.declared.execution.Explained.TheVariants as explained

@@ -1,7 +1,6 @@
 -- What a schedule is answered, with a sentence after each line.
-use Rattle.std.specs.Prelude.{◌≡◌, ℕ, ◌==◌, Bool, List, [], ◌∷◌, ◌++◌, codes, decimal, Option, if◌then◌else◌}
+use Rattle.std.specs.Prelude.{◌≡◌, ℕ, Bool, List, [], ◌∷◌, ◌++◌, codes, Option, if◌then◌else◌}
 use Rattle.std.specs.Option.{option_map_or}
-use Rattle.irp_core.specs.declared.ids.IrpLife.{IrpLife}
 use Rattle.irp_core.specs.declared.step.Made.{Made}
 use Rattle.irp_core.specs.Owners.{is_claim}
 use Rattle.irp_core.specs.Runs.{Size}

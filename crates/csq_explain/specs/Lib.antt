@@ -6,4 +6,7 @@ pub mod Endings
 pub mod Executions
 pub mod Explanations
 pub mod Explaining
+pub mod CallSentences
+pub mod ScriptEndings
+pub mod ExplainingCalls
 pub mod Laws

@@ -1,18 +1,23 @@
 //! Schedules and scripts of a cancel-safe IRP queue, explained: each line of their answers in a sentence.
 #![tactic(auto)]
 
+mod call_sentences;
 mod endings;
 mod execution;
 mod explanation;
 mod laws;
 mod passes;
 mod reasons;
+mod script_endings;
+mod script_explanation;
 mod sentences;
 
+pub use call_sentences::{AnsweredCall, CallStopSentence};
 pub use endings::{IrpSentence, RestSentence};
 pub use execution::{Closing, Execution, Explained};
 pub use explanation::explain_schedule;
-pub use laws::a_schedule_has_one_explanation;
+pub use laws::{a_schedule_has_one_explanation, a_script_has_one_explanation};
 pub use passes::PassNow;
 pub use reasons::Reason;
+pub use script_explanation::explain_script;
 pub use sentences::{Sentence, StatusName, StepInCall};

@@ -1,1 +1,3 @@
+mod Appending
 mod Numbers
+mod RunTexts

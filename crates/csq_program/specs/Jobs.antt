@@ -17,17 +17,17 @@ use Rattle.csq_program.specs.declared.command.CommandFault.TheVariants.{Memory, 
 
 -- each number is in its range
 abbrev pub IsInRange : Job → Type 0
-IsInRange (Schedule source irps passes claims) = IsInLimits (record { irps = irps; passes = passes; first = 0 })
-IsInRange (Draw source irps passes) = IsInLimits (record { irps = irps; passes = passes; first = 0 })
-IsInRange (Script source irps files limit file_limit list) = ((1 ≤ irps) × (irps ≤ 1024)) × ((1 ≤ files) × (files ≤ 256)) × IfSome limit (λ n. (1 ≤ n) × (n ≤ 1024)) × IfSome file_limit (λ n. (1 ≤ n) × (n ≤ 1024))
-IsInRange (Run plan list) = IsPlan plan.irps plan.files plan.submitters plan.workers plan.cancellers plan.turns
+IsInRange (Schedule source irps passes claims explain) = IsInLimits (record { irps = irps; passes = passes; first = 0 })
+IsInRange (Draw source irps passes text) = IsInLimits (record { irps = irps; passes = passes; first = 0 })
+IsInRange (Script source irps files limit file_limit list explain) = ((1 ≤ irps) × (irps ≤ 1024)) × ((1 ≤ files) × (files ≤ 256)) × IfSome limit (λ n. (1 ≤ n) × (n ≤ 1024)) × IfSome file_limit (λ n. (1 ≤ n) × (n ≤ 1024))
+IsInRange (Run plan list totals repeat) = IsPlan plan.irps plan.files plan.submitters plan.workers plan.cancellers plan.turns × ((1 ≤ repeat) × (repeat ≤ 1000))
 
 -- the command of this name, of which any but a picture's, a script's and a run's is a schedule's
 abbrev pub IsJobOf : List ℕ → Job → Type 0
-IsJobOf name (Schedule source irps passes claims) = (name ≢ codes "draw") × (name ≢ codes "script") × (name ≢ codes "run")
-IsJobOf name (Draw source irps passes) = name ≡ codes "draw"
-IsJobOf name (Script source irps files limit file_limit list) = name ≡ codes "script"
-IsJobOf name (Run plan list) = name ≡ codes "run"
+IsJobOf name (Schedule source irps passes claims explain) = (name ≢ codes "draw") × (name ≢ codes "script") × (name ≢ codes "run")
+IsJobOf name (Draw source irps passes text) = name ≡ codes "draw"
+IsJobOf name (Script source irps files limit file_limit list explain) = name ≡ codes "script"
+IsJobOf name (Run plan list totals repeat) = name ≡ codes "run"
 
 -- a flag of this name: whether the options have it set
 pub record IsFlag (options : ArgMatches) (name : List ℕ) (flag : Bool) : Type 0 where
@@ -35,12 +35,12 @@ pub record IsFlag (options : ArgMatches) (name : List ℕ) (flag : Bool) : Type 
   pub clear : one_text (found_of options) name ≡ Some (codes "false") → flag ≡ false
   pub absent : one_text (found_of options) name ≡ None → flag ≡ false
 
--- the job's flag, if it has one, is that of the options
+-- the job's flags, if it has some, are those of the options
 abbrev pub TellsJobFlag : ArgMatches → Job → Type 0
-TellsJobFlag options (Schedule source irps passes claims) = IsFlag options (codes "claims") claims
-TellsJobFlag options (Draw source irps passes) = Unit {0}
-TellsJobFlag options (Script source irps files limit file_limit list) = IsFlag options (codes "chain") (is_chained list)
-TellsJobFlag options (Run plan list) = IsFlag options (codes "chain") (is_chained list)
+TellsJobFlag options (Schedule source irps passes claims explain) = IsFlag options (codes "claims") claims × IsFlag options (codes "explain") explain
+TellsJobFlag options (Draw source irps passes text) = IsFlag options (codes "text") text
+TellsJobFlag options (Script source irps files limit file_limit list explain) = IsFlag options (codes "chain") (is_chained list) × IsFlag options (codes "explain") explain
+TellsJobFlag options (Run plan list totals repeat) = IsFlag options (codes "chain") (is_chained list) × IsFlag options (codes "totals") totals
 
 -- the file that is named, other than by a hyphen, or where there is none standard input
 abbrev pub IsSource : ArgMatches → Source → Type 0
@@ -49,10 +49,10 @@ IsSource options (File name) = (first_value (found_of options) (codes "file") �
 
 -- the job's source, if it has one, is that of the options
 abbrev pub TellsSource : ArgMatches → Job → Type 0
-TellsSource options (Schedule source irps passes claims) = IsSource options source
-TellsSource options (Draw source irps passes) = IsSource options source
-TellsSource options (Script source irps files limit file_limit list) = IsSource options source
-TellsSource options (Run plan list) = Unit {0}
+TellsSource options (Schedule source irps passes claims explain) = IsSource options source
+TellsSource options (Draw source irps passes text) = IsSource options source
+TellsSource options (Script source irps files limit file_limit list explain) = IsSource options source
+TellsSource options (Run plan list totals repeat) = Unit {0}
 
 -- an option of this name: the number that its text writes, where that is from 1 to `most`, and the default without a text
 pub record IsNumberOption (options : ArgMatches) (name : List ℕ) (most default number : ℕ) : Type 0 where
@@ -75,10 +75,10 @@ pub record ArePlanned (options : ArgMatches) (plan : Plan) : Type 0 where
 
 -- the job's numbers are those of the options
 abbrev pub TellsNumbers : ArgMatches → Job → Type 0
-TellsNumbers options (Schedule source irps passes claims) = IsNumberOption options (codes "irps") 1024 8 irps × IsNumberOption options (codes "passes") 64 4 passes
-TellsNumbers options (Draw source irps passes) = IsNumberOption options (codes "irps") 1024 8 irps × IsNumberOption options (codes "passes") 64 4 passes
-TellsNumbers options (Script source irps files limit file_limit list) = IsNumberOption options (codes "irps") 1024 8 irps × IsNumberOption options (codes "files") 256 4 files × IsLimit options (codes "limit") limit × IsLimit options (codes "file-limit") file_limit
-TellsNumbers options (Run plan list) = ArePlanned options plan
+TellsNumbers options (Schedule source irps passes claims explain) = IsNumberOption options (codes "irps") 1024 8 irps × IsNumberOption options (codes "passes") 64 4 passes
+TellsNumbers options (Draw source irps passes text) = IsNumberOption options (codes "irps") 1024 8 irps × IsNumberOption options (codes "passes") 64 4 passes
+TellsNumbers options (Script source irps files limit file_limit list explain) = IsNumberOption options (codes "irps") 1024 8 irps × IsNumberOption options (codes "files") 256 4 files × IsLimit options (codes "limit") limit × IsLimit options (codes "file-limit") file_limit
+TellsNumbers options (Run plan list totals repeat) = ArePlanned options plan × IsNumberOption options (codes "repeat") 1000 1 repeat
 
 -- the number of a fault
 abbrev pub fault_number : CommandFault → ℕ

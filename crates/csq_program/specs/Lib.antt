@@ -1,3 +1,4 @@
 pub mod Jobs
 pub mod Totals
 pub mod Sources
+pub mod Replays

@@ -5,13 +5,14 @@ ghost use Rattle.csq_list.specs.AnyLists.{is_chained};
 ghost use Rattle.csq_program.specs.Jobs.{IsFlag, IsInRange, IsJobOf, IsLimit, IsNumberOption, IsRefusalOf, IsSource, TellsJobFlag, TellsNumbers, TellsSource, fault_number};
 
 use crate::help::{
-    ABOUT, DRAW_ABOUT, DRAW_HELP, RUN_ABOUT, RUN_HELP, SCHEDULE_ABOUT, SCHEDULE_HELP, SCRIPT_ABOUT,
-    SCRIPT_HELP, VERSION,
+    ABOUT, DRAW_ABOUT, DRAW_HELP, HELP, SCHEDULE_ABOUT, SCHEDULE_HELP, SCRIPT_ABOUT, SCRIPT_HELP,
+    VERSION,
 };
+use crate::run_options::{device_job, run_command};
 use crate::source::Source;
 use clap::error::ErrorKind;
 use clap::{Arg, ArgAction, ArgMatches, Command, value_parser};
-use csq_device::{MAX_THREADS, MAX_TURNS, Plan};
+use csq_device::Plan;
 use csq_list::{ListKind, MAX_FILES};
 use irp_core::{MAX_IRPS, MAX_PASSES};
 use std::alloc::{AllocError, Global};
@@ -21,22 +22,25 @@ use thiserror::Error;
 /// What the program is asked to do.
 #[derive(Clone, Copy, Debug, PartialEq, Eq)]
 pub enum Job<'a> {
-    /// To replay a schedule over this many IRPs and passes, and to tell its claims or not.
+    /// To replay a schedule over this many IRPs and passes, and to tell its claims and explain each line
+    /// of the answer, or not.
     Schedule {
         source: Source<'a>,
         irps: u32,
         passes: u32,
         claims: bool,
+        explain: bool,
     },
-    /// To draw a schedule over this many IRPs and passes.
+    /// To draw a schedule over this many IRPs and passes, as text or as an SVG picture.
     Draw {
         source: Source<'a>,
         irps: u32,
         passes: u32,
+        text: bool,
     },
     /// To make the calls of a script over this many IRPs and file objects, of which `limit` IRPs may
     /// be listed at a time, and `file_limit` for each file object: all, where none is given. The list is
-    /// of this kind.
+    /// of this kind. Each line of the answer is explained, or not.
     Script {
         source: Source<'a>,
         irps: u32,
@@ -44,11 +48,15 @@ pub enum Job<'a> {
         limit: Option<u32>,
         file_limit: Option<u32>,
         list: ListKind,
+        explain: bool,
     },
-    /// To run a device of this plan. The list is of this kind.
+    /// To run so many devices of this plan, one after the other, and to tell all totals of each or not.
+    /// The lists are of this kind.
     Run {
         plan: Plan,
         list: ListKind,
+        totals: bool,
+        repeat: u32,
     },
 }
 
@@ -96,16 +104,14 @@ const SIZE: &str = "Size";
 
 const LIMITS: &str = "Limits";
 
-const THREADS: &str = "Threads";
-
 /// An option that takes a number from 1 to a limit.
 #[derive(Clone, Copy)]
-struct NumberOption<'a> {
-    name: &'a str,
-    help: &'a str,
-    most: u32,
-    heading: &'a str,
-    default: Option<&'a str>,
+pub(crate) struct NumberOption<'a> {
+    pub(crate) name: &'a str,
+    pub(crate) help: &'a str,
+    pub(crate) most: u32,
+    pub(crate) heading: &'a str,
+    pub(crate) default: Option<&'a str>,
 }
 
 impl<'a> NumberOption<'a> {
@@ -125,7 +131,7 @@ impl<'a> NumberOption<'a> {
 }
 
 /// How many IRPs there are, which each command has to know.
-fn irps_option<'a>(default: &'a str) -> NumberOption<'a> {
+pub(crate) fn irps_option<'a>(default: &'a str) -> NumberOption<'a> {
     NumberOption {
         name: "irps",
         help: "IRPs, 1 to 1024",
@@ -136,7 +142,7 @@ fn irps_option<'a>(default: &'a str) -> NumberOption<'a> {
 }
 
 /// How many file objects there are.
-fn files_option<'a>() -> NumberOption<'a> {
+pub(crate) fn files_option<'a>() -> NumberOption<'a> {
     NumberOption {
         name: "files",
         help: "File objects, 1 to 256",
@@ -157,19 +163,8 @@ fn limit_option<'a>(name: &'a str, help: &'a str) -> NumberOption<'a> {
     }
 }
 
-/// How many threads there are of one kind.
-fn threads_option<'a>(name: &'a str, help: &'a str) -> NumberOption<'a> {
-    NumberOption {
-        name,
-        help,
-        most: MAX_THREADS,
-        heading: THREADS,
-        default: Some("2"),
-    }
-}
-
 /// A command with options that take numbers, in this order.
-fn number_command<'a>(
+pub(crate) fn number_command<'a>(
     alloc: Global,
     name: &'a str,
     numbers: &[NumberOption<'a>],
@@ -182,7 +177,7 @@ fn number_command<'a>(
 }
 
 /// The command with a flag.
-fn with_flag<'a>(
+pub(crate) fn with_flag<'a>(
     alloc: Global,
     command: Command<'a>,
     name: &'a str,
@@ -193,6 +188,12 @@ fn with_flag<'a>(
         .help(help)
         .action(ArgAction::SetTrue);
     command.arg(flag)
+}
+
+/// The command with the flag for sentences.
+fn with_explain<'a>(alloc: Global, command: Command<'a>) -> Result<Command<'a>, AllocError> {
+    let help = "Explains each line of the answer in a sentence below it";
+    with_flag(alloc, command, "explain", help)
 }
 
 /// The command with the name of the file that it reads.
@@ -218,8 +219,15 @@ fn machine_command<'a>(alloc: Global, name: &'a str) -> Result<Command<'a>, Allo
 
 /// The command line of a picture.
 fn draw_command<'a>(alloc: Global) -> Result<Command<'a>, AllocError> {
-    let command = machine_command(alloc, "draw")?;
-    Ok(command.about(DRAW_ABOUT).after_help(DRAW_HELP))
+    let command = machine_command(alloc, "draw")?
+        .about(DRAW_ABOUT)
+        .after_help(DRAW_HELP);
+    with_flag(
+        alloc,
+        command,
+        "text",
+        "Draws for a terminal, in letters alone",
+    )
 }
 
 /// The command line of a schedule.
@@ -227,12 +235,9 @@ fn schedule_command<'a>(alloc: Global) -> Result<Command<'a>, AllocError> {
     let command = machine_command(alloc, "schedule")?
         .about(SCHEDULE_ABOUT)
         .after_help(SCHEDULE_HELP);
-    with_flag(
-        alloc,
-        command,
-        "claims",
-        "Tells each claim too: the IRP, the line and the pass",
-    )
+    let help = "Tells each claim too: the IRP, the line and the pass";
+    let command = with_flag(alloc, command, "claims", help)?;
+    with_explain(alloc, command)
 }
 
 /// The command line of a script.
@@ -246,35 +251,9 @@ fn script_command<'a>(alloc: Global) -> Result<Command<'a>, AllocError> {
         .about(SCRIPT_ABOUT)
         .after_help(SCRIPT_HELP);
     let command = with_file(alloc, command)?;
-    with_flag(
-        alloc,
-        command,
-        "chain",
-        "Keeps the list in linked chains; the answers are the same",
-    )
-}
-
-/// The command line of a run.
-fn run_command<'a>(alloc: Global) -> Result<Command<'a>, AllocError> {
-    let turns = NumberOption {
-        name: "turns",
-        help: "Turns of each, 1 to 100000",
-        most: MAX_TURNS,
-        heading: THREADS,
-        default: Some("64"),
-    };
-    let numbers = [
-        irps_option("64"),
-        files_option(),
-        threads_option("submitters", "Threads that insert, 1 to 20"),
-        threads_option("workers", "Threads that remove, 1 to 20"),
-        threads_option("cancellers", "Threads that cancel, 1 to 20"),
-        turns,
-    ];
-    let command = number_command(alloc, "run", &numbers)?
-        .about(RUN_ABOUT)
-        .after_help(RUN_HELP);
-    with_flag(alloc, command, "chain", "Keeps the list in linked chains")
+    let help = "Keeps the list in linked chains; the answers are the same";
+    let command = with_flag(alloc, command, "chain", help)?;
+    with_explain(alloc, command)
 }
 
 /// The command with one of its own, if there was memory for that.
@@ -290,6 +269,7 @@ fn program<'a>(alloc: Global) -> Result<Command<'a>, AllocError> {
     let command = Command::new(alloc, "csqsim")
         .bin_name("csqsim")?
         .about(ABOUT)
+        .after_help(HELP)
         .version(VERSION)
         .subcommand_required(true)
         .arg_required_else_help(true);
@@ -300,7 +280,7 @@ fn program<'a>(alloc: Global) -> Result<Command<'a>, AllocError> {
 }
 
 /// The number of an option, or the default where its text is no number from 1 to `most`.
-fn number_in(options: &ArgMatches<'_>, name: &str, most: u32, default: u32) -> u32
+pub(crate) fn number_in(options: &ArgMatches<'_>, name: &str, most: u32, default: u32) -> u32
     requires least { 1 ≤ default }
     requires most { default ≤ most }
     ensures least { 1 ≤ result }
@@ -325,7 +305,7 @@ fn limit_in(options: &ArgMatches<'_>, name: &str) -> Option<u32>
 }
 
 /// How the list is kept: in chains where the flag for them is set.
-fn list_kind(options: &ArgMatches<'_>) -> ListKind
+pub(crate) fn list_kind(options: &ArgMatches<'_>) -> ListKind
     ensures { IsFlag options.now (codes "chain") (is_chained result) }
 {
     if options.get_flag("chain") {
@@ -369,6 +349,7 @@ fn schedule_job<'a>(options: &ArgMatches<'a>) -> Job<'a>
         irps,
         passes,
         claims: options.get_flag("claims"),
+        explain: options.get_flag("explain"),
     }
 }
 
@@ -384,6 +365,7 @@ fn draw_job<'a>(options: &ArgMatches<'a>) -> Job<'a>
         source: source_in(options),
         irps,
         passes,
+        text: options.get_flag("text"),
     }
 }
 
@@ -401,28 +383,7 @@ fn script_job<'a>(options: &ArgMatches<'a>) -> Job<'a>
         limit: limit_in(options, "limit"),
         file_limit: limit_in(options, "file-limit"),
         list: list_kind(options),
-    }
-}
-
-fn device_job<'a>(options: &ArgMatches<'a>) -> Job<'a>
-    ensures range { IsInRange result }
-    ensures command { IsJobOf (codes "run") result }
-    ensures source { TellsSource options.now result }
-    ensures flag { TellsJobFlag options.now result }
-    ensures numbers { TellsNumbers options.now result }
-{
-    let plan = Plan::new(
-        number_in(options, "irps", MAX_IRPS, 64),
-        number_in(options, "files", MAX_FILES, 4),
-        number_in(options, "submitters", MAX_THREADS, 2),
-        number_in(options, "workers", MAX_THREADS, 2),
-        number_in(options, "cancellers", MAX_THREADS, 2),
-        number_in(options, "turns", MAX_TURNS, 64),
-    );
-    let list = list_kind(options);
-    match plan {
-        Some(plan) => Job::Run { plan, list },
-        None => unreachable!(),
+        explain: options.get_flag("explain"),
     }
 }
 

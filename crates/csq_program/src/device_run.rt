@@ -1,16 +1,19 @@
-//! A device that the program runs.
-ghost use Rattle.std.specs.Prelude.{◌≡◌, ◌≢◌, ◌++◌, string_bytes, OnOk, IfErr};
-ghost use Rattle.std.specs.Io.KnownBytes.{Appends, Keeps};
+//! Devices that the program runs.
+ghost use Rattle.std.specs.Prelude.{◌≡◌, ◌≢◌, None, OnOk, IfErr};
+ghost use Rattle.std.specs.Io.KnownBytes.{Keeps};
 ghost use Rattle.csq_device.specs.Plans.{IsListFor};
-ghost use Rattle.csq_program.specs.Totals.{totals_text, run_text};
+ghost use Rattle.csq_program.specs.Totals.{WritesRun, WritesRuns, WritesFewerRuns};
 ghost use Rattle.csq_program.specs.declared.device_run.RunFault.TheVariants.{Spawn, NotClosed};
 
-use csq_device::{Device, DeviceCause, Gate, Plan, RunRefused, Totals};
-use csq_list::PendingList;
+use crate::totals_text::write_run;
+use csq_device::{Device, DeviceCause, Free, Gate, Plan, RunRefused};
+use csq_list::{AnyList, ListKind, PendingList};
 use std::alloc::{AllocError, Allocator};
 use std::io::Write;
+use std::rt::Clock;
 use std::sync::Wait;
 use std::thread::Threads;
+use std::time::{Duration, Instant};
 use thiserror::Error;
 
 /// Why a device's totals were not written.
@@ -73,22 +76,17 @@ impl From<RunRefused> for RunFault {
     }
 }
 
-/// The lines of a device's totals.
-fn write_totals<A: Allocator>(totals: &Totals, text: &mut String<A>) -> Result<(), AllocError>
-    ensures { OnOk result (string_bytes text.new
-        ≡ string_bytes text.old ++ totals_text totals.now) }
+/// The time since the clock told this, if it told it and tells the time now.
+fn time_since<R: Clock>(rt: &R, start: Option<Instant>) -> Option<Duration>
+    ensures { start ≡ None → result ≡ None }
 {
-    let irps = totals.irps;
-    let accounted = totals.accounted();
-    let flagged = totals.flagged_listed;
-    writeln!(text, "irps {irps}")?;
-    writeln!(text, "accounted {accounted}")?;
-    writeln!(text, "cancelled and listed {flagged}")
+    start?.elapsed(rt).ok()
 }
 
 /// Runs a device of this plan over a list that fits it, its threads held up by the gate, and writes how
 /// many IRPs there are, how many are home, listed or were completed by a thread's own count, and how many
-/// are cancelled and listed. All memory is of `alloc`.
+/// are cancelled and listed; with `totals` each count by itself too, the calls that the threads made, and
+/// how many milliseconds the run took, or that the clock failed. All memory is of `alloc`.
 ///
 /// Faults: 1 Memory, 2 Spawn where a thread could not be started, 3 NotClosed where the queue was not
 /// closed, after each of which nothing was written; 4 Write. Own rule.
@@ -98,17 +96,18 @@ pub fn answer_run<L, G, R, A, W>(
     plan: Plan,
     list: L,
     gate: G,
+    totals: bool,
     writer: &mut W,
 ) -> Result<(), RunFault>
 where
     L: PendingList + Drop + Send,
     G: Gate + Drop,
-    R: Threads + Wait + Sync,
+    R: Clock + Threads + Wait + Sync,
     A: Allocator + Copy + Send + Sync,
     W: Write,
     requires { IsListFor plan.irps plan.files (L.listing list) }
-    ensures written { OnOk result
-        (Appends (W.contents writer.old) (W.contents writer.new) (run_text plan.irps)) }
+    ensures written { OnOk result (WritesRun plan totals (W.contents writer.old)
+        (W.contents writer.new)) }
     ensures unwritten { IfErr result (λ fault. fault ≢ RunFault.Write
         → Keeps (W.contents writer.old) (W.contents writer.new)) }
 {
@@ -119,11 +118,42 @@ where
             DeviceCause::ListNotFresh => unreachable!(),
         },
     };
-    let totals = device.run(rt, alloc)?;
+    let start = Instant::now(rt).ok();
+    let found = device.run(rt, alloc)?;
+    let took = time_since(rt, start);
     let mut text = String::new(alloc);
-    write_totals(&totals, &mut text)?;
+    write_run(&found, totals, took, &mut text)?;
     match writer.write_all(text.as_bytes()) {
         Ok(()) => Ok(()),
         Err(_) => Err(RunFault::Write),
     }
+}
+
+/// Runs so many devices of this plan, one after the other, each over a fresh list of this kind, and writes
+/// of each what `answer_run` writes. The first fault ends it, which is as there, or Memory where there is
+/// too little for a list; unless it is Write, what was written is all of the devices before.
+pub(crate) fn answer_runs<R, W>(
+    rt: &R,
+    plan: Plan,
+    kind: ListKind,
+    totals: bool,
+    repeat: u32,
+    writer: &mut W,
+) -> Result<(), RunFault>
+where
+    R: AllocGlobal + Clock + Threads + Wait + Sync,
+    W: Write,
+    ensures written { OnOk result (WritesRuns plan totals repeat (W.contents writer.old)
+        (W.contents writer.new)) }
+    ensures unwritten { IfErr result (λ fault. fault ≢ RunFault.Write
+        → WritesFewerRuns plan totals repeat (W.contents writer.old) (W.contents writer.new)) }
+{
+    let Plan { irps, files, .. } = plan;
+    for _run in 0..repeat {
+        let Ok(list) = AnyList::new(rt.alloc(), kind, irps, files, irps) else {
+            return Err(RunFault::Memory);
+        };
+        answer_run(rt, rt.alloc(), plan, list, Free, totals, writer)?;
+    }
+    Ok(())
 }

@@ -6,6 +6,18 @@ pub(crate) const VERSION: &str = "1.0.0";
 pub(crate) const ABOUT: &str =
     "Replays, draws and runs the protocol of the WDK's cancel-safe IRP queue";
 
+pub(crate) const HELP: &str = "\
+A schedule is the protocol, one atomic step a line: csqsim schedule replays it,
+csqsim draw makes a picture of it. A script is calls of the queue, one a line:
+csqsim script makes them. csqsim run lets threads make them.
+Begin with csqsim schedule --help, which teaches the steps, or with csqsim
+script --help, which teaches the calls.
+
+Examples:
+  printf 'p1 arm 0\\np2 flag 0\\np1 test 0\\n' | csqsim schedule --explain
+  csqsim draw race.txt > race.svg
+  csqsim run --totals";
+
 pub(crate) const SCHEDULE_ABOUT: &str = "Replays a schedule: one atomic step a line, in this order";
 
 pub(crate) const SCHEDULE_HELP: &str = "\
@@ -26,7 +38,8 @@ The steps, as a driver writer knows them:
 The answer is each line with the value that its step found: the flag or the
 routine that was there before, 1 or 0. Then comes each IRP that isn't home, is
 cancelled or is in a later life, and whether all is at rest, which means that no
-call is half done and no pass has an IRP: rest yes, or rest no.
+call is half done and no pass has an IRP: rest yes, or rest no. With --explain a
+sentence stands below each line of the answer, two spaces in.
 
 A step that can't come next ends the schedule: line N refused, and the first of
 these that holds. Standard error says more.
@@ -48,7 +61,8 @@ Words are separated by one space, and the case of letters counts. A number has
 at most nine digits, and no zero before them. Empty lines, and lines that begin
 with #, are skipped. A line of more than 64 bytes is too long, and any other
 that is no step is malformed, also where it ends in a carriage return: each ends
-the schedule. An input of more than 1048576 bytes is too long, and no line of it
+the schedule. All of the input is read before it is answered: at a terminal it
+ends with Ctrl-D. One of more than 1048576 bytes is too long, and no line of it
 is handled.
 
 Exit status: 0 where all lines were handled; 2 where one ended the schedule, the
@@ -64,17 +78,30 @@ pub(crate) const DRAW_HELP: &str = "\
 A schedule is read as by csqsim schedule, whose help teaches its lines. The
 picture has a column for each pass that makes a step, and time runs downwards. A
 step is a mark on a row of its own, with the number of its line at the left:
-what the pass did, to which IRP, and the value that it found. Each IRP has one
-of eight colours, and its number stands in its marks.
+what the pass did, to which IRP, and the value that it found; the routine of the
+WDK that it calls; and the call that it is of, with what that answers where the
+step ends it. Each IRP has one of eight colours, and its number stands in its
+marks.
   bold         the step claims its IRP: an exchange that found the routine
   shaded       the pass has the lock
   dashed line  the pass owes the IRP, from its claim until it takes the IRP out
   solid line   the pass holds the IRP, until it completes it
+  circles      the Cancel flag and the cancel routine of the IRP after the step:
+               filled where set, bold where the step changed it
+The comment before the first step stands above, its first line as the title; an
+empty line ends it. It has at most eight lines, and a question mark for a byte
+that isn't printable ASCII.
 A browser tells each mark and each line in words where the pointer rests on it,
 if the picture is opened by itself.
 A line that ends the schedule stands last, marked as refused, with its refusal
 and a sentence why; standard error says it too. Otherwise it is told below where
 each IRP is in the end, and whether all is at rest.
+
+With --text it is drawn for a terminal, in ASCII letters alone: a line for each
+step, with the pass that has the lock, in the column of its pass what it did,
+with a star before it where it claims its IRP, and the two words of the IRP
+after it. Each pass takes 26 letters, the rest 26. The comment before the first
+step stands above. Who owes or holds which IRP is left out.
 
 An input of more than 1048576 bytes is too long, and nothing is drawn.
 
@@ -117,7 +144,8 @@ IRPs that it takes out, and the claims of its cancels.
 A remove, mark or cancel names IRP 0 in its life 1 as 0@1, and as 0 in life 0;
 the others are of the present life. In the end the listed IRPs are told in the
 list's order, and those that are held or owed, if there are any: left 2 0 or
-left none, held 1, owed 2.
+left none, held 1, owed 2. With --explain a sentence stands below each line of
+the answer, two spaces in.
 
 A call may be refused, and the script goes on: refused, and the first of these
 that holds:
@@ -141,8 +169,9 @@ status's eight hexadecimal digits. Another number has at most nine digits, and
 no zero before them. Empty lines, and lines that begin with #, are skipped. A
 line of more than 64 bytes is too long, and any other that is no call is
 malformed, also where it ends in a carriage return: each ends the script, and
-standard error says more. An input of more than 1048576 bytes is too long, and
-no line of it is handled.
+standard error says more. All of the input is read before it is answered: at a
+terminal it ends with Ctrl-D. One of more than 1048576 bytes is too long, and no
+line of it is handled.
 
 Exit status: 0 where all lines were handled; 2 where one ended the script, the
 input is too long, or the command line or a limit above the IRPs is refused; 1
@@ -168,8 +197,40 @@ closed, and three lines are written:
 The first two numbers are the same, and the third is 0, however the threads were
 scheduled: that is proved.
 
+With --totals further lines follow:
+  home N                  IRPs that were never queued: no submitter came to
+                          them, or the insert was refused after the cleanup
+  listed N                IRPs that are still queued
+  completed N             IRPs that were completed (IoCompleteRequest)
+  succeeded N             those of them with STATUS_SUCCESS
+  cancelled N             those of them with STATUS_CANCELLED
+  completed by submitters N
+                          IRPs that were cancelled before they were queued
+  completed by workers N  IRPs that were removed
+  completed by cancellers N
+                          IRPs whose cancel routine a cancel called
+  completed by cleanup N  IRPs of the last file object
+  inserts N               calls of IoCsqInsertIrpEx
+  removals N              calls of IoCsqRemoveNextIrp: --workers times --turns
+  removals that found an IRP N
+  cancels N               calls of IoCancelIrp
+  cancels that took the routine N
+                          those that returned TRUE
+  cancels too early or too late N
+                          those that returned FALSE: the IRP wasn't queued yet,
+                          or was removed, cancelled or completed already
+  milliseconds N          how long the run took, with three digits after the
+                          point; or unknown, where the clock failed
+The four counts of completions sum to completed; inserts are --submitters times
+--turns, and cancels --cancellers times --turns, but no more than there are
+IRPs: that is proved too.
+
+With --repeat so many devices run, one after the other, each with a fresh queue,
+and the lines of each are written. The first fault ends it.
+
 Exit status: 0 where the lines were written; 2 where the command line is
 refused; 1 for a fault of memory, of starting a thread or of writing.
 
-Example:
-  csqsim run --irps 8 --turns 8";
+Examples:
+  csqsim run --irps 8 --turns 8
+  csqsim run --totals --repeat 100";

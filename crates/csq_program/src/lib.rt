@@ -6,7 +6,9 @@ mod device_run;
 mod help;
 mod program;
 mod replay;
+mod run_options;
 mod source;
+mod totals_text;
 
 pub use command::{CommandFault, Job, read_command, refuse_bytes};
 pub use device_run::{RunFault, answer_run};

@@ -1,21 +1,17 @@
 //! The program: its exit status, and what each command does.
-ghost use Rattle.std.specs.Prelude.{◌≡◌, Err, IfOk, IfErr};
-ghost use Rattle.csq_device.specs.Plans.{IsListFor};
+ghost use Rattle.std.specs.Prelude.{◌≡◌, IfOk, IfErr};
 ghost use Rattle.csq_program.specs.Jobs.{IsInRange};
-ghost use Rattle.csq_program.specs.declared.program.ProgramFault.TheVariants.{Run};
 
 use crate::command::{CommandFault, Job, read_command, refuse_bytes};
-use crate::device_run::{RunFault, answer_run};
+use crate::device_run::{RunFault, answer_runs};
 use crate::replay::{Limits, run_drawing, run_limited_script, run_schedule};
 use crate::source::SourceFault;
-use csq_device::{Free, Plan};
-use csq_list::{AnyList, ListNew, PendingList};
 use csq_replay::SimFault;
 use std::alloc::AllocError;
 use std::io;
 use std::io::ErrorKind;
 use std::process::ExitCode;
-use std::rt::{Env, Files};
+use std::rt::{Clock, Env, Files};
 use std::sync::Wait;
 use std::thread::Threads;
 use thiserror::Error;
@@ -67,7 +63,7 @@ fn read_words<R: AllocGlobal + Env>(rt: &R) -> Result<Vec<String>, CommandFault>
 /// Does what the command line asks for, and answers the exit status.
 fn run_command_line<R>(rt: &R) -> Result<u8, ProgramFault>
 where
-    R: AllocGlobal + Print + Eprint + Input + Env + Files + Threads + Wait + Sync,
+    R: AllocGlobal + Print + Eprint + Input + Clock + Env + Files + Threads + Wait + Sync,
 {
     match read_words(rt) {
         Ok(words) => run_words(rt, words.as_slice()),
@@ -78,7 +74,7 @@ where
 /// Does what these words ask for.
 fn run_words<R>(rt: &R, words: &[String]) -> Result<u8, ProgramFault>
 where
-    R: AllocGlobal + Print + Eprint + Input + Files + Threads + Wait + Sync,
+    R: AllocGlobal + Print + Eprint + Input + Clock + Files + Threads + Wait + Sync,
 {
     match read_command(rt.alloc(), words) {
         Ok(job) => run_job(rt, job),
@@ -105,7 +101,7 @@ fn tell_command_fault<R: Print + Eprint>(rt: &R, fault: CommandFault) -> Result<
 /// Runs a command to standard output.
 fn run_job<R>(rt: &R, job: Job<'_>) -> Result<u8, ProgramFault>
 where
-    R: AllocGlobal + Print + Eprint + Input + Files + Threads + Wait + Sync,
+    R: AllocGlobal + Print + Eprint + Input + Clock + Files + Threads + Wait + Sync,
     requires { IsInRange job }
 {
     match job {
@@ -114,12 +110,14 @@ where
             irps,
             passes,
             claims,
-        } => run_schedule(rt, source, irps, passes, claims),
+            explain,
+        } => run_schedule(rt, source, irps, passes, claims, explain),
         Job::Draw {
             source,
             irps,
             passes,
-        } => run_drawing(rt, source, irps, passes),
+            text,
+        } => run_drawing(rt, source, irps, passes, text),
         Job::Script {
             source,
             irps,
@@ -127,37 +125,20 @@ where
             limit,
             file_limit,
             list,
+            explain,
         } => {
-            let limits = Limits {
-                irps,
-                files,
-                limit: limit.unwrap_or(irps),
-                file_limit: file_limit.unwrap_or(irps),
-            };
-            run_limited_script(rt, source, list, limits)
+            let limits = Limits::new(irps, files, limit, file_limit);
+            run_limited_script(rt, source, list, limits, explain)
         }
-        Job::Run { plan, list } => {
-            let Plan { irps, files, .. } = plan;
-            let list = AnyList::new(rt.alloc(), list, irps, files, irps);
-            run_device(rt, plan, list)
-        }
-    }
-}
-
-/// Runs a device over a list that fits its plan, if there is memory for one.
-fn run_device<L, R>(rt: &R, plan: Plan, list: Result<L, ListNew>) -> Result<u8, ProgramFault>
-where
-    L: PendingList + Drop + Send,
-    R: AllocGlobal + Print + Threads + Wait + Sync,
-    requires { IfOk list (λ l. IsListFor plan.irps plan.files (L.listing l)) }
-    ensures memory { IfErr list (λ _. result ≡ Err (Run RunFault.Memory)) }
-{
-    match list {
-        Ok(list) => {
-            answer_run(rt, rt.alloc(), plan, list, Free, &mut io::writer(rt))?;
+        Job::Run {
+            plan,
+            list,
+            totals,
+            repeat,
+        } => {
+            answer_runs(rt, plan, list, totals, repeat, &mut io::writer(rt))?;
             Ok(DONE)
         }
-        Err(_) => Err(ProgramFault::Run(RunFault::Memory)),
     }
 }
 
@@ -177,7 +158,7 @@ pub fn status_of(ended: &Result<u8, ProgramFault>) -> u8
 /// with a line on standard error where there was a fault. Own rule.
 pub fn run_program<R>(rt: &R) -> ExitCode
 where
-    R: AllocGlobal + Print + Eprint + Input + Env + Files + Threads + Wait + Sync,
+    R: AllocGlobal + Print + Eprint + Input + Clock + Env + Files + Threads + Wait + Sync,
 {
     let ended = run_command_line(rt);
     if let Err(fault) = &ended {

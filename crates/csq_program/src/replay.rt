@@ -3,17 +3,60 @@ ghost use Rattle.std.specs.Prelude.{◌≡◌, ◌≤◌, Ok, Err, IfOk, IfErr, 
 ghost use Rattle.irp_core.specs.Runs.{IsInLimits};
 ghost use Rattle.csq_list.specs.Listing.{IsFresh};
 ghost use Rattle.csq_list.specs.declared.refusals.ListNew.TheVariants.{BadSize};
+ghost use Rattle.csq_words.specs.Queue.{limits_of};
 ghost use Rattle.csq_program.specs.declared.program.ProgramFault.TheVariants.{Replay};
+ghost use Rattle.csq_program.specs.Replays.{TellsSchedule, TellsScript, limits_or_all};
 
 use crate::program::{ProgramFault, REFUSED};
 use crate::source::Source;
 use csq_diagnose::{diagnose_schedule, diagnose_script};
-use csq_draw::draw_schedule;
+use csq_draw::{draw_schedule, draw_schedule_as_text};
+use csq_explain::{explain_schedule, explain_script};
 use csq_list::{AnyList, ListKind, ListNew, PendingList};
 use csq_replay::{Ended, SimFault, answer_schedule, answer_script, exit_status};
 use std::alloc::{AllocError, Allocator, Global};
+use std::io::{Read, Write};
 use std::rt::Files;
 use std::{fmt, str};
+
+/// How large a schedule's machine is, and how the schedule is told.
+#[derive(Clone, Copy, Debug, PartialEq, Eq)]
+struct ScheduleOptions {
+    /// The IRPs.
+    irps: u32,
+    /// The passes.
+    passes: u32,
+    /// Whether each claim is told.
+    claims: bool,
+    /// Whether each line of the answer is explained.
+    explain: bool,
+}
+
+/// Answers a schedule, and explains each line of the answer where that is asked for.
+fn tell_schedule<R: Read, W: Write>(
+    alloc: Global,
+    options: ScheduleOptions,
+    reader: &mut R,
+    writer: &mut W,
+) -> Result<Ended, SimFault>
+    requires { IsInLimits (record { irps = options.irps; passes = options.passes; first = 0 }) }
+    ensures { IfOk result
+        (TellsSchedule (record { irps = options.irps; passes = options.passes; first = 0 })
+        options.claims options.explain
+        (R.remaining reader.old) (R.remaining reader.new) (W.contents writer.old) (W.contents writer.new)) }
+{
+    let ScheduleOptions {
+        irps,
+        passes,
+        claims,
+        explain,
+    } = options;
+    if explain {
+        explain_schedule(alloc, irps, passes, claims, reader, writer)
+    } else {
+        answer_schedule(alloc, irps, passes, claims, reader, writer)
+    }
+}
 
 /// Replays a schedule.
 pub(crate) fn run_schedule<R: AllocGlobal + Print + Eprint + Input + Files>(
@@ -22,32 +65,44 @@ pub(crate) fn run_schedule<R: AllocGlobal + Print + Eprint + Input + Files>(
     irps: u32,
     passes: u32,
     claims: bool,
+    explain: bool,
 ) -> Result<u8, ProgramFault>
     requires { IsInLimits (record { irps = irps; passes = passes; first = 0 }) }
 {
+    let options = ScheduleOptions {
+        irps,
+        passes,
+        claims,
+        explain,
+    };
     let input = source.read(rt)?;
     let mut reader = input.as_slice();
     let mut text = Vec::new(rt.alloc());
-    let ended = answer_schedule(rt.alloc(), irps, passes, claims, &mut reader, &mut text);
+    let ended = tell_schedule(rt.alloc(), options, &mut reader, &mut text);
     let told = diagnosis_of_schedule(rt.alloc(), irps, passes, &input, ended)?;
     finish(rt, source, ended, &text, &told)
 }
 
-/// Draws a schedule.
+/// Draws a schedule, as text or as an SVG picture.
 pub(crate) fn run_drawing<R: AllocGlobal + Print + Eprint + Input + Files>(
     rt: &R,
     source: Source<'_>,
     irps: u32,
     passes: u32,
+    text: bool,
 ) -> Result<u8, ProgramFault>
     requires { IsInLimits (record { irps = irps; passes = passes; first = 0 }) }
 {
     let input = source.read(rt)?;
     let mut reader = input.as_slice();
-    let mut text = Vec::new(rt.alloc());
-    let ended = draw_schedule(rt.alloc(), irps, passes, &mut reader, &mut text);
+    let mut drawn = Vec::new(rt.alloc());
+    let ended = if text {
+        draw_schedule_as_text(rt.alloc(), irps, passes, &mut reader, &mut drawn)
+    } else {
+        draw_schedule(rt.alloc(), irps, passes, &mut reader, &mut drawn)
+    };
     let told = diagnosis_of_schedule(rt.alloc(), irps, passes, &input, ended)?;
-    finish(rt, source, ended, &text, &told)
+    finish(rt, source, ended, &drawn, &told)
 }
 
 /// Why a schedule ended, if a line ended it.
@@ -125,6 +180,20 @@ pub(crate) struct Limits {
     pub(crate) file_limit: u32,
 }
 
+impl Limits {
+    /// The sizes with these limits, each of which is the number of IRPs where none is given.
+    pub(crate) fn new(irps: u32, files: u32, limit: Option<u32>, file_limit: Option<u32>) -> Limits
+        ensures { result ≡ limits_or_all irps files limit file_limit }
+    {
+        Limits {
+            irps,
+            files,
+            limit: limit.unwrap_or(irps),
+            file_limit: file_limit.unwrap_or(irps),
+        }
+    }
+}
+
 /// The limit of each file object.
 fn file_limits_of<A: Allocator>(
     alloc: A,
@@ -136,12 +205,33 @@ fn file_limits_of<A: Allocator>(
     vec![in alloc; file_limit; files as usize]
 }
 
+/// Answers a script over a fresh list, and explains each line of the answer where that is asked for.
+fn tell_script<L: PendingList + Drop, R: Read, W: Write>(
+    alloc: Global,
+    list: L,
+    explain: bool,
+    reader: &mut R,
+    writer: &mut W,
+) -> Result<Ended, SimFault>
+    requires fresh { IsFresh (L.listing list) }
+    requires irps { (1 ≤ (L.listing list).irps) × ((L.listing list).irps ≤ 1024) }
+    ensures { IfOk result (TellsScript (limits_of 1 0 (L.listing list)) explain
+        (R.remaining reader.old) (R.remaining reader.new) (W.contents writer.old) (W.contents writer.new)) }
+{
+    if explain {
+        explain_script(alloc, list, reader, writer)
+    } else {
+        answer_script(alloc, list, reader, writer)
+    }
+}
+
 /// Runs a script over a list of this kind and these sizes.
 pub(crate) fn run_limited_script<R: AllocGlobal + Print + Eprint + Input + Files>(
     rt: &R,
     source: Source<'_>,
     kind: ListKind,
     limits: Limits,
+    explain: bool,
 ) -> Result<u8, ProgramFault>
     requires { (1 ≤ limits.irps) × (limits.irps ≤ 1024) }
 {
@@ -153,7 +243,7 @@ pub(crate) fn run_limited_script<R: AllocGlobal + Print + Eprint + Input + Files
     } = limits;
     let file_limits = file_limits_of(rt.alloc(), files, file_limit)?;
     let list = AnyList::with_file_limits(rt.alloc(), kind, irps, files, limit, &file_limits);
-    run_script(rt, source, limits, list)
+    run_script(rt, source, limits, list, explain)
 }
 
 /// Runs a script over a fresh list, if there is one. Its size is refused before anything is read.
@@ -162,6 +252,7 @@ fn run_script<L: PendingList + Drop, R: AllocGlobal + Print + Eprint + Input + F
     source: Source<'_>,
     limits: Limits,
     list: Result<L, ListNew>,
+    explain: bool,
 ) -> Result<u8, ProgramFault>
     requires fresh { IfOk list (λ l. IsFresh (L.listing l)) }
     requires irps { IfOk list (λ l. (1 ≤ (L.listing l).irps) × ((L.listing l).irps ≤ 1024)) }
@@ -170,7 +261,7 @@ fn run_script<L: PendingList + Drop, R: AllocGlobal + Print + Eprint + Input + F
     ensures bad_size { IfErr list (λ refused. refused ≡ BadSize → result ≡ Ok 2) }
 {
     match list {
-        Ok(list) => run_list(rt, source, list),
+        Ok(list) => run_list(rt, source, list, explain),
         Err(ListNew::Memory) => Err(ProgramFault::from(AllocError)),
         Err(ListNew::BadSize) => {
             tell_bad_size(rt, limits);
@@ -184,6 +275,7 @@ fn run_list<L: PendingList + Drop, R: AllocGlobal + Print + Eprint + Input + Fil
     rt: &R,
     source: Source<'_>,
     list: L,
+    explain: bool,
 ) -> Result<u8, ProgramFault>
     requires fresh { IsFresh (L.listing list) }
     requires irps { (1 ≤ (L.listing list).irps) × ((L.listing list).irps ≤ 1024) }
@@ -191,7 +283,7 @@ fn run_list<L: PendingList + Drop, R: AllocGlobal + Print + Eprint + Input + Fil
     let input = source.read(rt)?;
     let mut reader = input.as_slice();
     let mut text = Vec::new(rt.alloc());
-    let ended = answer_script(rt.alloc(), list, &mut reader, &mut text);
+    let ended = tell_script(rt.alloc(), list, explain, &mut reader, &mut text);
     let told = diagnosis_of_script(rt.alloc(), &input, ended)?;
     finish(rt, source, ended, &text, &told)
 }

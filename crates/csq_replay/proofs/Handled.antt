@@ -1,5 +1,5 @@
 -- What a handled script has come to.
-use Rattle.std.proofs.Common.{◌≡◌, ℕ, ◌+◌, List, [], ◌∷◌, ◌++◌, Option, Some, refl, ap, sym, ◌∙◌, append_assoc, subst}
+use Rattle.std.proofs.Common.{◌≡◌, ℕ, ◌+◌, List, [], ◌∷◌, ◌++◌, Some, refl, ap, sym, ◌∙◌, append_assoc, subst}
 use Rattle.csq_words.specs.Queue.{Limits}
 use Rattle.csq_replay.specs.declared.lines.answer.Ended.{Ended}
 use Rattle.csq_replay.specs.declared.lines.answer.Ended.TheVariants.{AllHandled}
@@ -8,29 +8,30 @@ use Rattle.csq_replay.specs.Calls.{Script, new_script}
 use Rattle.csq_replay.specs.Lines.{AnswersAll}
 use Rattle.csq_replay.specs.Lines.AnswersAll.{all_handled, goes_on, stops}
 use Rattle.csq_replay.specs.Lines.IsAnswer.{too_long_input, answered as lines_answered}
-use Rattle.csq_replay.specs.ScriptAnswer.{AnswersCall, IsScriptAnswer, closing_lines}
-use Rattle.csq_replay.specs.ScriptAnswer.AnswersCall.{too_long, skipped, malformed, answered}
+use Rattle.csq_replay.specs.declared.script.outcome.CallOutcome.{CallOutcome}
+use Rattle.csq_replay.specs.declared.script.outcome.CallOutcome.TheVariants.{Skipped, Answered, Stopped}
+use Rattle.csq_replay.specs.CallOutcomes.{CallComesTo}
+use Rattle.csq_replay.specs.ScriptAnswer.{AnswersCall, IsScriptAnswer, going_on, closing_lines}
 use Rattle.csq_replay.specs.Laws.{LeadTo, EndsWith, EachInsertedIrpIsAccountedFor}
 use Rattle.csq_replay.specs.Laws.LeadTo.{at_end, by_nothing, by_call}
 use Rattle.csq_replay.proofs.Accounting.{new_accounts, led_accounts}
 
 module _ (l : Limits) where
   -- a line leads on by its call, or by nothing
-  led_by : (s t : Script) (n : ℕ) (line text : List ℕ) (more : Option Script) (lines : List (List ℕ)) (last : Script) → AnswersCall l s n line text more → more ≡ Some t
+  led_by : (s t u : Script) (line : List ℕ) (lines : List (List ℕ)) (last : Script) (comes : CallOutcome) → CallComesTo l s line comes u → Some t ≡ going_on comes u
       → LeadTo l t lines last → LeadTo l s (line ∷ lines) last
-  led_by s t n line text more lines last (too_long lt) e led = absurd (cc e)
-  led_by s t n line text more lines last (skipped within skip) e led =
-      let same : t ≡ s = cc e in by_nothing s last line lines skip (subst (λ u. LeadTo l u lines last) same led)
-  led_by s t n line text more lines last (malformed within skip no_call) e led = absurd (cc e)
-  led_by s t n line text more lines last (answered c r u is does run) e led =
-      let same : t ≡ u = cc e in by_call s u last line lines c r is does (subst (λ v. LeadTo l v lines last) same led)
+  led_by s t u line lines last Skipped came e led =
+      let same : t ≡ s = cc (e, came.2) in by_nothing s last line lines came.1 (subst (λ v. LeadTo l v lines last) same led)
+  led_by s t u line lines last (Answered c r) came e led =
+      let same : t ≡ u = cc e in by_call s u last line lines c r came.0 came.1 (subst (λ v. LeadTo l v lines last) same led)
+  led_by s t u line lines last (Stopped stop) came e led = absurd (cc e)
 
   lines_end : (s : Script) (n : ℕ) (lines : List (List ℕ)) (text : List ℕ) (ended : Ended) → AnswersAll (AnswersCall l) (λ s text. text ≡ closing_lines l s) s n lines text ended → ended ≡ AllHandled
       → (last : Script) × LeadTo l s lines last × EndsWith text (closing_lines l last)
   lines_end s n lines text ended (all_handled a m told closed) e = (s, at_end s, ([], closed))
-  lines_end s n lines text ended (goes_on a t m line left told rest ended' h answers) e =
+  lines_end s n lines text ended (goes_on a t m line left told rest ended' (comes, u, came, is_told, on) answers) e =
       let (last, led, (front, is)) = lines_end t (n + 1) left rest ended answers e in
-      (last, led_by s t n line told (Some t) left last h refl led, (told ++ front, ap (λ x. told ++ x) is ∙ sym (append_assoc told front (closing_lines l last))))
+      (last, led_by s t u line left last comes came on led, (told ++ front, ap (λ x. told ++ x) is ∙ sym (append_assoc told front (closing_lines l last))))
   lines_end s n lines text ended (stops a m line left told h) e = absurd (cc e)
 
   handled : (input text : List ℕ) (ended : Ended) → IsScriptAnswer l input text ended → ended ≡ AllHandled

@@ -1,5 +1,5 @@
 -- A script has one answer.
-use Rattle.std.proofs.Common.{◌≡◌, ℕ, zero, suc, ◌+◌, ◌<◌, ◌≤◌, ◌==◌, ◌⊎◌, inl, inr, Bool, true, false, cond, List, [], ◌∷◌, ◌++◌, Option, Some, None, ltb, eq-eqb, refl, ap, sym, ◌∙◌, subst, arith, codes}
+use Rattle.std.proofs.Common.{◌≡◌, ℕ, zero, suc, ◌+◌, ◌<◌, ◌≤◌, ◌==◌, ◌⊎◌, inl, inr, Bool, true, false, cond, List, [], ◌∷◌, Option, Some, None, ltb, eq-eqb, refl, ap, sym, ◌∙◌, subst, arith}
 use Rattle.std.proofs.lemmas.Bool.{lt-ltb, le-ltb, ne_eqb}
 use Rattle.irp_core.specs.declared.ids.FileId.{FileId}
 use Rattle.irp_core.specs.declared.ids.IrpId.{IrpId}
@@ -30,9 +30,13 @@ use Rattle.csq_replay.specs.Calls.{Script, script_pass, new_script, present_of, 
 use Rattle.csq_replay.specs.Calls.Calls.{refuses_insert, lists, cancels_insert, removes_next, removes, removes_none, claims, claims_none, runs_routine, has_no_claim, completes, holds_none, refuses_pending, closes, is_stale, reuses, not_completed, lives_spent, tells_flag, tells_status, knows_no_irp, knows_no_file}
 use Rattle.csq_replay.specs.Calls.Cleans.{none_left, one_more}
 use Rattle.csq_replay.specs.Calls.Does.{calls, cancel_claimed, cancel_unclaimed, cleaned}
-use Rattle.csq_replay.specs.ReplyText.{reply_text}
-use Rattle.csq_replay.specs.ScriptAnswer.{AnswersCall, closing_lines}
-use Rattle.csq_replay.specs.ScriptAnswer.AnswersCall.{too_long, skipped, malformed, answered}
+use Rattle.csq_replay.specs.declared.lines.answer.Ended.{Ended}
+use Rattle.csq_replay.specs.declared.script.outcome.CallStop.TheVariants.{TooLong, Malformed}
+use Rattle.csq_replay.specs.declared.script.outcome.CallOutcome.{CallOutcome}
+use Rattle.csq_replay.specs.declared.script.outcome.CallOutcome.TheVariants.{Skipped, Answered, Stopped}
+use Rattle.csq_replay.specs.Lines.{IsAnswer}
+use Rattle.csq_replay.specs.CallOutcomes.{CallComesTo}
+use Rattle.csq_replay.specs.ScriptAnswer.{TellsCall, going_on, call_text, closing_lines}
 use Rattle.csq_replay.specs.Laws.{HasOneScriptAnswer}
 use Rattle.csq_replay.proofs.Answering.{one_input_answer}
 use Rattle.csq_replay.proofs.OneCall.{same_call, call_not_skipped, call_is_within}
@@ -228,28 +232,40 @@ module _ (l : Limits) where
       let more = cleans_one f u t t' n n' cleans (subst P (sym one.1) cleans') in
       (ap Cleaned more.0, more.1)
 
-  one_line : (s : Script) (n : ℕ) (line t u : List ℕ) (m k : Option Script) → AnswersCall l s n line t m → AnswersCall l s n line u k → (t ≡ u) × (m ≡ k)
-  one_line s n line t u m k (too_long lt) (too_long lt') = (refl, refl)
-  one_line s n line t u m k (too_long lt) (skipped w c) = absurd (omega (arith, lt, w))
-  one_line s n line t u m k (too_long lt) (malformed w c no_call) = absurd (omega (arith, lt, w))
-  one_line s n line t u m k (too_long lt) (answered c r v is does run) = absurd (omega (arith, lt, call_is_within line c is))
-  one_line s n line t u m k (skipped w c) (too_long lt) = absurd (omega (arith, lt, w))
-  one_line s n line t u m k (skipped w c) (skipped w' c') = (refl, refl)
-  one_line s n line t u m k (skipped w c) (malformed w' c' no_call) = absurd (c' c)
-  one_line s n line t u m k (skipped w c) (answered d r v is does run) = absurd (call_not_skipped line d is c)
-  one_line s n line t u m k (malformed w c no_call) (too_long lt) = absurd (omega (arith, lt, w))
-  one_line s n line t u m k (malformed w c no_call) (skipped w' c') = absurd (c c')
-  one_line s n line t u m k (malformed w c no_call) (malformed w' c' none') = (refl, refl)
-  one_line s n line t u m k (malformed w c no_call) (answered d r v is does run) = absurd (no_call d is)
-  one_line s n line t u m k (answered c r v is does run) (too_long lt) = absurd (omega (arith, lt, call_is_within line c is))
-  one_line s n line t u m k (answered d r v is does run) (skipped w c) = absurd (call_not_skipped line d is c)
-  one_line s n line t u m k (answered d r v is does run) (malformed w c no_call) = absurd (no_call d is)
-  one_line s n line t u m k (answered c r v is does run) (answered c' r' v' is' does' run') =
-      let P : Call → Type 0 = λ x. Does l s x r' v' in
-      let one = does_one s c r r' v v' does (subst P (same_call line c' c is' is) does') in
-      (ap (λ x. reply_text x ++ codes "\n") one.0, ap (λ x. Some x) one.1)
+  -- what comes of a line is one, and so is the script after it
+  one_outcome : (s : Script) (line : List ℕ) (o p : CallOutcome) (t u : Script) → CallComesTo l s line o t → CallComesTo l s line p u → (o ≡ p) × (t ≡ u)
+  one_outcome s line Skipped Skipped t u a b = (refl, a.2 ∙ sym b.2)
+  one_outcome s line Skipped (Answered d q) t u a b = absurd (call_not_skipped line d b.0 a.1)
+  one_outcome s line Skipped (Stopped TooLong) t u a b = absurd (omega (arith, a.0, b.0))
+  one_outcome s line Skipped (Stopped Malformed) t u a b = absurd (b.1 a.1)
+  one_outcome s line (Answered c r) Skipped t u a b = absurd (call_not_skipped line c a.0 b.1)
+  one_outcome s line (Answered c r) (Answered d q) t u a b =
+      let P : Call → Type 0 = λ x. Does l s x q u in
+      let one = does_one s c r q t u a.1 (subst P (same_call line d c b.0 a.0) b.1) in
+      (ap (λ x. Answered x r) (same_call line c d a.0 b.0) ∙ ap (Answered d) one.0, one.1)
+  one_outcome s line (Answered c r) (Stopped TooLong) t u a b = absurd (omega (arith, b.0, call_is_within line c a.0))
+  one_outcome s line (Answered c r) (Stopped Malformed) t u a b = absurd (b.2 c a.0)
+  one_outcome s line (Stopped TooLong) Skipped t u a b = absurd (omega (arith, a.0, b.0))
+  one_outcome s line (Stopped TooLong) (Answered d q) t u a b = absurd (omega (arith, a.0, call_is_within line d b.0))
+  one_outcome s line (Stopped TooLong) (Stopped TooLong) t u a b = (refl, a.1 ∙ sym b.1)
+  one_outcome s line (Stopped TooLong) (Stopped Malformed) t u a b = absurd (omega (arith, a.0, b.0))
+  one_outcome s line (Stopped Malformed) Skipped t u a b = absurd (a.1 b.1)
+  one_outcome s line (Stopped Malformed) (Answered d q) t u a b = absurd (a.2 d b.0)
+  one_outcome s line (Stopped Malformed) (Stopped TooLong) t u a b = absurd (omega (arith, a.0, b.0))
+  one_outcome s line (Stopped Malformed) (Stopped Malformed) t u a b = (refl, a.3 ∙ sym b.3)
 
-  pub one_script_answer : (input : List ℕ) → HasOneScriptAnswer l input
-  one_script_answer input t u e f is other =
-      one_input_answer (AnswersCall l) (λ s text. text ≡ closing_lines l s) (λ s. Unit {0}) (λ s n line x y m k fits. one_line s n line x y m k) (λ s v n line text fits h. tt)
-      (λ s x y fits closed closed'. closed ∙ sym closed') (new_script l) tt input t u e f is other
+  -- a script is told in one way, however its lines and its end are told
+  module _ (tell : ℕ → CallOutcome → List ℕ) (closing : Script → List ℕ) where
+    one_line : (s : Script) (n : ℕ) (line t u : List ℕ) (m k : Option Script) → TellsCall tell l s n line t m → TellsCall tell l s n line u k → (t ≡ u) × (m ≡ k)
+    one_line s n line t u m k (o, v, comes, e, f) (p, w, comes', g, h) =
+        let same = one_outcome s line o p v w comes comes' in
+        (e ∙ ap (tell n) same.0 ∙ sym g, f ∙ ap (λ x. going_on x v) same.0 ∙ ap (going_on p) same.1 ∙ sym h)
+
+    pub one_telling : (input t u : List ℕ) (e f : Ended) → IsAnswer (TellsCall tell l) (λ s text. text ≡ closing s) (new_script l) input t e
+        → IsAnswer (TellsCall tell l) (λ s text. text ≡ closing s) (new_script l) input u f → (t ≡ u) × (e ≡ f)
+    one_telling input t u e f is other =
+        one_input_answer (TellsCall tell l) (λ s text. text ≡ closing s) (λ s. Unit {0}) (λ s n line x y m k fits. one_line s n line x y m k) (λ s v n line text fits h. tt)
+        (λ s x y fits closed closed'. closed ∙ sym closed') (new_script l) tt input t u e f is other
+
+pub one_script_answer : (l : Limits) (input : List ℕ) → HasOneScriptAnswer l input
+one_script_answer l input = one_telling l call_text (closing_lines l) input

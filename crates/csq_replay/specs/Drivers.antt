@@ -1,4 +1,4 @@
--- What a driver keeps of its script: the private side of its contracts.
+-- What a driver keeps of its script: the contracts of what makes its calls.
 use Rattle.std.specs.Prelude.{◌≡◌, ℕ, ◌<◌, ◌≤◌, true, not, List, [], ◌∷◌, length, Option, None, slice_index_or}
 use Rattle.irp_core.specs.declared.ids.IrpId.{IrpId}
 use Rattle.irp_core.specs.declared.status.NtStatus.{NtStatus}

@@ -10,5 +10,6 @@ pub mod ReplyText
 pub mod CallLine
 pub mod Calls
 pub mod Replies
+pub mod CallOutcomes
 pub mod ScriptAnswer
 pub mod Drivers

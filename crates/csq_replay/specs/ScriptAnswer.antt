@@ -1,29 +1,40 @@
 -- What a script is answered.
-use Rattle.std.specs.Prelude.{◌≡◌, ℕ, zero, suc, Bool, ◌<◌, List, [], ◌∷◌, ◌++◌, filter, map, length, codes, Option, Some, None}
+use Rattle.std.specs.Prelude.{◌≡◌, ℕ, zero, suc, Bool, List, [], ◌∷◌, ◌++◌, filter, map, codes, Option, Some, None}
 use Rattle.irp_core.specs.declared.ids.IrpId.{IrpId}
 use Rattle.irp_core.specs.declared.step.Made.{Made}
 use Rattle.irp_core.specs.Owners.{owes, holds}
-use Rattle.irp_core.specs.Runs.{IsRun}
 use Rattle.irp_core.specs.declared.ids.IrpLife.{IrpLife}
 use Rattle.irp_core.specs.Texts.{irp_text}
 use Rattle.csq_words.specs.Queue.{Queued, Limits}
 use Rattle.csq_replay.specs.declared.lines.answer.Ended.{Ended}
-use Rattle.csq_replay.specs.declared.script.call.Call.{Call}
-use Rattle.csq_replay.specs.declared.script.call.Reply.{Reply}
+use Rattle.csq_replay.specs.declared.script.outcome.CallOutcome.{CallOutcome}
+use Rattle.csq_replay.specs.declared.script.outcome.CallOutcome.TheVariants.{Skipped, Answered, Stopped}
 use Rattle.csq_replay.specs.declared.script.remains.Kept.{Kept}
 use Rattle.csq_replay.specs.declared.script.remains.Kept.TheVariants.{Held, Owed}
-use Rattle.csq_replay.specs.Lines.{of_line, IsWithinLine, IsSkipped, IsAnswer, RepliesTo}
-use Rattle.csq_replay.specs.CallLine.{IsCallLine}
+use Rattle.csq_replay.specs.Lines.{of_line, IsAnswer, RepliesTo}
 use Rattle.csq_replay.specs.ReplyText.{reply_text}
-use Rattle.csq_replay.specs.Calls.{Script, script_pass, script_size, new_script, present_of, Does}
+use Rattle.csq_replay.specs.Calls.{Script, script_pass, new_script, present_of}
+use Rattle.csq_replay.specs.CallOutcomes.{CallComesTo, call_stop_text}
+
+-- the script with which the handling goes on, if it does
+abbrev pub going_on : CallOutcome → Script → Option Script
+going_on Skipped t = Some t
+going_on (Answered c r) t = Some t
+going_on (Stopped stop) t = None
+
+-- after s the nth line is told so: by what comes of it, with which s grows to the script with which the handling goes on
+abbrev pub TellsCall : (ℕ → CallOutcome → List ℕ) → Limits → Script → ℕ → List ℕ → List ℕ → Option Script → Type 0
+TellsCall tell l s n line text more = (comes : CallOutcome) × (t : Script) × CallComesTo l s line comes t × (text ≡ tell n comes) × (more ≡ going_on comes t)
+
+-- the answer to the nth line, of which this came
+abbrev pub call_text : ℕ → CallOutcome → List ℕ
+call_text n Skipped = []
+call_text n (Answered c r) = reply_text r ++ codes "\n"
+call_text n (Stopped stop) = of_line n (call_stop_text stop ++ codes "\n")
 
 -- after s the nth line is answered this text, and s grows to the script with which the handling goes on, if it does
-pub data AnswersCall (l : Limits) (s : Script) (n : ℕ) (line : List ℕ) : List ℕ → Option Script → Type 0 where
-  too_long : 64 < length line → AnswersCall l s n line (of_line n (codes "too long\n")) None
-  skipped : IsWithinLine line → IsSkipped line → AnswersCall l s n line [] (Some s)
-  malformed : IsWithinLine line → ¬ IsSkipped line → ((c : Call) → ¬ IsCallLine line c) → AnswersCall l s n line (of_line n (codes "malformed\n")) None
-  answered : (c : Call) (r : Reply) (t : Script) → IsCallLine line c → Does l s c r t → IsRun (script_size l) t.run
-      → AnswersCall l s n line (reply_text r ++ codes "\n") (Some t)
+abbrev pub AnswersCall : Limits → Script → ℕ → List ℕ → List ℕ → Option Script → Type 0
+AnswersCall = TellsCall call_text
 
 -- the numbers of these IRPs, each after a space
 abbrev pub numbers : List IrpId → List ℕ
@@ -54,13 +65,27 @@ abbrev pub kept_name : Kept → List ℕ
 kept_name Held = codes "held"
 kept_name Owed = codes "owed"
 
--- the line of what the pass keeps so after s: IRPs are told by their numbers, each in its present life
-abbrev pub kept_line : Limits → Script → Kept → List ℕ
-kept_line l s kept = named_line (kept_name kept) (filter (λ n. is_kept kept s.run (present_of s n)) (irps_below l.irps))
+-- the listed IRPs after s, in the list's order. IRPs are told by their numbers, each in its present life
+abbrev pub listed_irps : Script → List IrpId
+listed_irps s = map (λ (e : Queued). e.irp.irp) s.queue.entries
+
+-- the IRPs that the pass keeps so after s, by rising number
+abbrev pub kept_irps : Limits → Script → Kept → List IrpId
+kept_irps l s kept = filter (λ n. is_kept kept s.run (present_of s n)) (irps_below l.irps)
+
+-- so the IRPs are left after s
+pub record AreLeft (l : Limits) (s : Script) (listed held owed : List IrpId) : Type 0 where
+  pub listed_are : listed ≡ listed_irps s
+  pub held_are : held ≡ kept_irps l s Held
+  pub owed_are : owed ≡ kept_irps l s Owed
+
+-- the closing lines, of what is listed, held and owed
+abbrev pub left_lines : List IrpId → List IrpId → List IrpId → List ℕ
+left_lines listed held owed = left_line listed ++ (named_line (kept_name Held) held ++ named_line (kept_name Owed) owed)
 
 -- the closing lines after s
 abbrev pub closing_lines : Limits → Script → List ℕ
-closing_lines l s = left_line (map (λ (e : Queued). e.irp.irp) s.queue.entries) ++ (kept_line l s Held ++ kept_line l s Owed)
+closing_lines l s = left_lines (listed_irps s) (kept_irps l s Held) (kept_irps l s Owed)
 
 -- a script is answered this text
 abbrev pub IsScriptAnswer : Limits → List ℕ → List ℕ → Ended → Type 0

@@ -7,15 +7,15 @@ ghost use Rattle.csq_replay.specs.ScriptAnswer.{RepliesToScript};
 
 pub(crate) mod call;
 mod call_line;
-mod driver;
-mod remains;
+pub(crate) mod driver;
+pub(crate) mod outcome;
+pub(crate) mod remains;
 mod replies;
 
 use crate::lines::answer::{Ended, SimFault};
-use crate::lines::{Answerer, Handling, MAX_LINE, is_skipped, reply};
-use crate::script::call_line::parse_call;
+use crate::lines::{Answerer, Handling, reply};
 use crate::script::driver::Driver;
-use crate::script::remains::{Kept, close_kept, close_left};
+use crate::script::outcome::CallOutcome;
 use csq_list::PendingList;
 use std::alloc::{AllocError, Allocator};
 use std::io::{Read, Write};
@@ -43,26 +43,22 @@ impl<L: PendingList, A: Allocator + Copy> Answerer<A> for Driver<L, A> {
         line: &[u8],
         text: &mut String<A>,
     ) -> Result<Handling, AllocError> {
-        if line.len() > MAX_LINE {
-            writeln!(text, "line {number} too long")?;
-            return Ok(Handling::Stops);
+        match self.handle(line) {
+            CallOutcome::Skipped => Ok(Handling::GoesOn),
+            CallOutcome::Answered(_, reply) => {
+                writeln!(text, "{reply}")?;
+                Ok(Handling::GoesOn)
+            }
+            CallOutcome::Stopped(stop) => {
+                writeln!(text, "line {number} {stop}")?;
+                Ok(Handling::Stops)
+            }
         }
-        if is_skipped(line) {
-            return Ok(Handling::GoesOn);
-        }
-        let Some(call) = parse_call(line) else {
-            writeln!(text, "line {number} malformed")?;
-            return Ok(Handling::Stops);
-        };
-        let reply = self.answer(call);
-        writeln!(text, "{reply}")?;
-        Ok(Handling::GoesOn)
     }
 
     fn close(&self, text: &mut String<A>) -> Result<(), AllocError> {
-        close_left(&self.list, text)?;
-        close_kept(self, Kept::Held, text)?;
-        close_kept(self, Kept::Owed, text)?;
+        let remains = self.remains()?;
+        remains.write_lines(text)?;
         Ok(())
     }
 }

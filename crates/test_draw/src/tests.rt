@@ -1,5 +1,5 @@
 //! Pictures of schedules, byte by byte.
-use csq_draw::{PICTURE_HEAD, draw_schedule};
+use csq_draw::{PICTURE_HEAD, draw_schedule, draw_schedule_as_text};
 use csq_replay::{Ended, MAX_INPUT, SimFault};
 use linked_list_allocator::LocalHeap;
 use std::io;
@@ -20,60 +20,63 @@ const ROWS: [Row; 4] = [
     Row {
         input: "p1 arm 0\np2 flag 0\np1 test 0\np2 take 0\n",
         before: "\
-<svg xmlns='http://www.w3.org/2000/svg' width='780' height='336' viewBox='0 0 780 336' font-family='system-ui,-apple-system,Segoe UI,DejaVu Sans,sans-serif' font-size='12'>
+<svg xmlns='http://www.w3.org/2000/svg' width='780' height='392' viewBox='0 0 780 392' font-family='system-ui,-apple-system,Segoe UI,DejaVu Sans,sans-serif' font-size='12'>
 <title>The steps of a schedule: 4</title>
 ",
         behind: "\
-<rect class='sheet' width='780' height='336'/>
-<text class='s' x='56' y='24'>shade: has the lock; bold: the exchange found the routine, and so claims the IRP; dashed line: owes it; solid line: holds it</text><text class='n s' x='46' y='54'>line</text>
-<path class='g' d='M170 64V252'/><text class='p' x='170' y='54'>p1</text>
-<path class='g' d='M454 64V252'/><text class='p' x='454' y='54'>p2</text>
-<text class='n' x='46' y='95'>1</text>
-<rect class='l' x='56' y='68' width='228' height='47'/>
-<g class='k0'><title>p1 set the cancel routine of IRP 0 (IoSetCancelRoutine(Irp, routine) in IoCsqInsertIrpEx)</title><rect x='64' y='72' width='212' height='38' rx='6'/><text class='w' x='73' y='88'>arm 0</text><text class='w v' x='267' y='88'>was none</text><text class='m' x='73' y='103'>IoSetCancelRoutine(Irp, routine)</text></g>
-<text class='n' x='46' y='141'>2</text>
-<rect class='l' x='56' y='114' width='228' height='47'/>
-<g class='k0'><title>p2 set the Cancel flag of IRP 0 (Irp->Cancel = TRUE in IoCancelIrp)</title><rect x='348' y='118' width='212' height='38' rx='6'/><text class='w' x='357' y='134'>flag 0</text><text class='w v' x='551' y='134'>was clear</text><text class='m' x='357' y='149'>Irp->Cancel = TRUE</text></g>
-<text class='n' x='46' y='187'>3</text>
-<rect class='l' x='56' y='160' width='228' height='47'/>
-<g class='k0'><title>p1 found the Cancel flag of IRP 0 set (if (Irp->Cancel) in IoCsqInsertIrpEx)</title><rect x='64' y='164' width='212' height='38' rx='6'/><text class='w' x='73' y='180'>test 0</text><text class='w v' x='267' y='180'>is set</text><text class='m' x='73' y='195'>if (Irp->Cancel)</text></g>
-<text class='n' x='46' y='233'>4</text>
-<rect class='l' x='56' y='206' width='228' height='47'/>
-<g class='c k0'><title>p2 took the cancel routine of IRP 0 (IoSetCancelRoutine(Irp, NULL) in IoCancelIrp), and owes it now</title><rect x='348' y='210' width='212' height='38' rx='6'/><text class='w' x='357' y='226'>take 0</text><text class='w v' x='551' y='226'>found it</text><text class='m' x='357' y='241'>IoSetCancelRoutine(Irp, NULL)</text></g>
-<path class='k0 owes' d='M576 229V252'><title>p2 owes IRP 0 in the end</title></path>
-<text x='56' y='280'>IRP 0 is in the list; its Cancel flag is set</text>
-<text x='56' y='300'>not all is at rest: a call is unfinished, or a pass owes or holds an IRP</text>
+<rect class='sheet' y='0' width='780' height='392'/>
+<text class='s' x='56' y='15'>shade: has the lock; bold: the exchange found the routine, and so claims the IRP; dashed line: owes it; solid line: holds it</text><text class='s' x='56' y='28'>circles: the two words of the IRP, in its present life, after the step; filled: set; bold: the step changed it; &#8594;: what the call answers</text><text class='n s' x='46' y='54'>line</text>
+<path class='g' d='M648 64V308'/><text class='o s' x='648' y='44'>Cancel</text><text class='o s' x='648' y='57'>flag</text><path class='g' d='M708 64V308'/><text class='o s' x='708' y='44'>cancel</text><text class='o s' x='708' y='57'>routine</text>
+<path class='g' d='M170 64V308'/><text class='p' x='170' y='54'>p1</text>
+<path class='g' d='M454 64V308'/><text class='p' x='454' y='54'>p2</text>
+<text class='n' x='46' y='102'>1</text>
+<rect class='l' x='56' y='68' width='228' height='61'/>
+<g class='k0'><title>p1 set the cancel routine of IRP 0 (IoSetCancelRoutine(Irp, routine) in IoCsqInsertIrpEx)</title><rect x='64' y='72' width='212' height='52' rx='6'/><text class='w' x='73' y='88'>arm 0</text><text class='w v' x='267' y='88'>was none</text><text class='m' x='73' y='103'>IoSetCancelRoutine(Irp, routine)</text><text class='s' x='73' y='117'>insert 0</text></g><g class='k0'><title>IRP 0: the Cancel flag is clear, the cancel routine is set</title><circle class='off' cx='648' cy='98' r='7'/><circle class='on b' cx='708' cy='98' r='7'/></g>
+<text class='n' x='46' y='162'>2</text>
+<rect class='l' x='56' y='128' width='228' height='61'/>
+<g class='k0'><title>p2 set the Cancel flag of IRP 0 (Irp->Cancel = TRUE in IoCancelIrp)</title><rect x='348' y='132' width='212' height='52' rx='6'/><text class='w' x='357' y='148'>flag 0</text><text class='w v' x='551' y='148'>was clear</text><text class='m' x='357' y='163'>Irp->Cancel = TRUE</text><text class='s' x='357' y='177'>cancel 0</text></g><g class='k0'><title>IRP 0: the Cancel flag is set, the cancel routine is set</title><circle class='on b' cx='648' cy='158' r='7'/><circle class='on' cx='708' cy='158' r='7'/></g>
+<text class='n' x='46' y='222'>3</text>
+<rect class='l' x='56' y='188' width='228' height='61'/>
+<g class='k0'><title>p1 found the Cancel flag of IRP 0 set (if (Irp->Cancel) in IoCsqInsertIrpEx)</title><rect x='64' y='192' width='212' height='52' rx='6'/><text class='w' x='73' y='208'>test 0</text><text class='w v' x='267' y='208'>is set</text><text class='m' x='73' y='223'>if (Irp->Cancel)</text><text class='s' x='73' y='237'>insert 0</text></g><g class='k0'><title>IRP 0: the Cancel flag is set, the cancel routine is set</title><circle class='on' cx='648' cy='218' r='7'/><circle class='on' cx='708' cy='218' r='7'/></g>
+<text class='n' x='46' y='282'>4</text>
+<rect class='l' x='56' y='248' width='228' height='61'/>
+<g class='c k0'><title>p2 took the cancel routine of IRP 0 (IoSetCancelRoutine(Irp, NULL) in IoCancelIrp), and owes it now</title><rect x='348' y='252' width='212' height='52' rx='6'/><text class='w' x='357' y='268'>take 0</text><text class='w v' x='551' y='268'>found it</text><text class='m' x='357' y='283'>IoSetCancelRoutine(Irp, NULL)</text><text class='s' x='357' y='297'>cancel 0 &#8594; TRUE</text></g><g class='k0'><title>IRP 0: the Cancel flag is set, the cancel routine is clear</title><circle class='on' cx='648' cy='278' r='7'/><circle class='off b' cx='708' cy='278' r='7'/></g>
+<path class='k0 owes' d='M576 278V308'><title>p2 owes IRP 0 in the end</title></path>
+<text x='56' y='336'>IRP 0 is in the list; its Cancel flag is set</text>
+<text x='56' y='356'>not all is at rest: a call is unfinished, or a pass owes or holds an IRP</text>
 </svg>
 ",
         ended: Ended::AllHandled,
     },
     Row {
-        input: "# p3 is the faster one\np1 arm 0\np1 test 0\np3 disarm 0\np3 done 0\np3 done 0\np1 end\n",
+        input: "# p3 & <p1>\n#\u{e9}\n# C:\tx\n\n# other\np1 arm 0\np1 test 0\np3 disarm 0\np3 done 0\np3 done 0\np1 end\n",
         before: "\
-<svg xmlns='http://www.w3.org/2000/svg' width='780' height='356' viewBox='0 0 780 356' font-family='system-ui,-apple-system,Segoe UI,DejaVu Sans,sans-serif' font-size='12'>
-<title>The steps of a schedule: 4</title>
+<svg xmlns='http://www.w3.org/2000/svg' width='780' height='488' viewBox='0 -76 780 488' font-family='system-ui,-apple-system,Segoe UI,DejaVu Sans,sans-serif' font-size='12'>
+<title>p3 &amp; &lt;p1&gt;</title>
 ",
         behind: "\
-<rect class='sheet' width='780' height='356'/>
-<text class='s' x='56' y='24'>shade: has the lock; bold: the exchange found the routine, and so claims the IRP; dashed line: owes it; solid line: holds it</text><text class='n s' x='46' y='54'>line</text>
-<path class='g' d='M170 64V252'/><text class='p' x='170' y='54'>p1</text>
-<path class='g' d='M454 64V252'/><text class='p' x='454' y='54'>p3</text>
-<text class='n' x='46' y='95'>2</text>
-<rect class='l' x='56' y='68' width='228' height='47'/>
-<g class='k0'><title>p1 set the cancel routine of IRP 0 (IoSetCancelRoutine(Irp, routine) in IoCsqInsertIrpEx)</title><rect x='64' y='72' width='212' height='38' rx='6'/><text class='w' x='73' y='88'>arm 0</text><text class='w v' x='267' y='88'>was none</text><text class='m' x='73' y='103'>IoSetCancelRoutine(Irp, routine)</text></g>
-<text class='n' x='46' y='141'>3</text>
-<rect class='l' x='56' y='114' width='228' height='47'/>
-<g class='k0'><title>p1 found the Cancel flag of IRP 0 clear (if (Irp->Cancel) in IoCsqInsertIrpEx): the insert ends, and the IRP is pending</title><rect x='64' y='118' width='212' height='38' rx='6'/><text class='w' x='73' y='134'>test 0</text><text class='w v' x='267' y='134'>is clear</text><text class='m' x='73' y='149'>if (Irp->Cancel)</text></g>
-<text class='n' x='46' y='187'>4</text>
-<rect class='l' x='340' y='160' width='228' height='47'/>
-<g class='c k0'><title>p3 took the cancel routine of IRP 0 (IoSetCancelRoutine(Irp, NULL) in IoCsqRemoveNextIrp), and holds it now</title><rect x='348' y='164' width='212' height='38' rx='6'/><text class='w' x='357' y='180'>disarm 0</text><text class='w v' x='551' y='180'>found it</text><text class='m' x='357' y='195'>IoSetCancelRoutine(Irp, NULL)</text></g>
-<text class='n' x='46' y='233'>5</text>
-<path class='k0 holds' d='M576 183V229'><title>p3 holds IRP 0</title></path>
-<g class='k0'><title>p3 completed IRP 0 with STATUS_SUCCESS (IoCompleteRequest)</title><rect x='348' y='210' width='212' height='38' rx='6'/><text class='w' x='357' y='226'>done 0</text><text class='w v' x='551' y='226'>STATUS_SUCCESS</text><text class='m' x='357' y='241'>IoCompleteRequest</text></g>
-<rect class='bad' x='64' y='256' width='660' height='38' rx='6'/>
-<text class='n' x='46' y='279'>6</text>
-<text x='73' y='279'>p3 done 0 refused NotHeld</text>
-<text x='73' y='314'>p3 doesn't hold the IRP in that life</text>
+<rect class='sheet' y='-76' width='780' height='488'/>
+<text class='t' x='56' y='-46'>p3 &amp; &lt;p1&gt;<tspan x='56' dy='18'>??</tspan><tspan x='56' dy='18'>C:?x</tspan></text>
+<text class='s' x='56' y='15'>shade: has the lock; bold: the exchange found the routine, and so claims the IRP; dashed line: owes it; solid line: holds it</text><text class='s' x='56' y='28'>circles: the two words of the IRP, in its present life, after the step; filled: set; bold: the step changed it; &#8594;: what the call answers</text><text class='n s' x='46' y='54'>line</text>
+<path class='g' d='M648 64V308'/><text class='o s' x='648' y='44'>Cancel</text><text class='o s' x='648' y='57'>flag</text><path class='g' d='M708 64V308'/><text class='o s' x='708' y='44'>cancel</text><text class='o s' x='708' y='57'>routine</text>
+<path class='g' d='M170 64V308'/><text class='p' x='170' y='54'>p1</text>
+<path class='g' d='M454 64V308'/><text class='p' x='454' y='54'>p3</text>
+<text class='n' x='46' y='102'>6</text>
+<rect class='l' x='56' y='68' width='228' height='61'/>
+<g class='k0'><title>p1 set the cancel routine of IRP 0 (IoSetCancelRoutine(Irp, routine) in IoCsqInsertIrpEx)</title><rect x='64' y='72' width='212' height='52' rx='6'/><text class='w' x='73' y='88'>arm 0</text><text class='w v' x='267' y='88'>was none</text><text class='m' x='73' y='103'>IoSetCancelRoutine(Irp, routine)</text><text class='s' x='73' y='117'>insert 0</text></g><g class='k0'><title>IRP 0: the Cancel flag is clear, the cancel routine is set</title><circle class='off' cx='648' cy='98' r='7'/><circle class='on b' cx='708' cy='98' r='7'/></g>
+<text class='n' x='46' y='162'>7</text>
+<rect class='l' x='56' y='128' width='228' height='61'/>
+<g class='k0'><title>p1 found the Cancel flag of IRP 0 clear (if (Irp->Cancel) in IoCsqInsertIrpEx): the insert ends, and the IRP is pending</title><rect x='64' y='132' width='212' height='52' rx='6'/><text class='w' x='73' y='148'>test 0</text><text class='w v' x='267' y='148'>is clear</text><text class='m' x='73' y='163'>if (Irp->Cancel)</text><text class='s' x='73' y='177'>insert 0 &#8594; pending</text></g><g class='k0'><title>IRP 0: the Cancel flag is clear, the cancel routine is set</title><circle class='off' cx='648' cy='158' r='7'/><circle class='on' cx='708' cy='158' r='7'/></g>
+<text class='n' x='46' y='222'>8</text>
+<rect class='l' x='340' y='188' width='228' height='61'/>
+<g class='c k0'><title>p3 took the cancel routine of IRP 0 (IoSetCancelRoutine(Irp, NULL) in IoCsqRemoveNextIrp), and holds it now</title><rect x='348' y='192' width='212' height='52' rx='6'/><text class='w' x='357' y='208'>disarm 0</text><text class='w v' x='551' y='208'>found it</text><text class='m' x='357' y='223'>IoSetCancelRoutine(Irp, NULL)</text><text class='s' x='357' y='237'>removal &#8594; IRP 0</text></g><g class='k0'><title>IRP 0: the Cancel flag is clear, the cancel routine is clear</title><circle class='off' cx='648' cy='218' r='7'/><circle class='off b' cx='708' cy='218' r='7'/></g>
+<text class='n' x='46' y='282'>9</text>
+<path class='k0 holds' d='M576 218V278'><title>p3 holds IRP 0</title></path>
+<g class='k0'><title>p3 completed IRP 0 with STATUS_SUCCESS (IoCompleteRequest)</title><rect x='348' y='252' width='212' height='52' rx='6'/><text class='w' x='357' y='268'>done 0</text><text class='w v' x='551' y='268'>STATUS_SUCCESS</text><text class='m' x='357' y='283'>IoCompleteRequest</text><text class='s' x='357' y='297'>completion</text></g><g class='k0'><title>IRP 0: the Cancel flag is clear, the cancel routine is clear</title><circle class='off' cx='648' cy='278' r='7'/><circle class='off' cx='708' cy='278' r='7'/></g>
+<rect class='bad' x='64' y='312' width='660' height='52' rx='6'/>
+<text class='n' x='46' y='342'>10</text>
+<text x='73' y='342'>p3 done 0 refused NotHeld</text>
+<text x='73' y='384'>p3 doesn't hold the IRP in that life</text>
 </svg>
 ",
         ended: Ended::Stopped,
@@ -85,26 +88,29 @@ const ROWS: [Row; 4] = [
 <title>The steps of a schedule: 0</title>
 ",
         behind: "\
-<rect class='sheet' width='780' height='132'/>
-<text class='s' x='56' y='24'>shade: has the lock; bold: the exchange found the routine, and so claims the IRP; dashed line: owes it; solid line: holds it</text><text class='n s' x='46' y='54'>line</text>
+<rect class='sheet' y='0' width='780' height='132'/>
+<text class='s' x='56' y='15'>shade: has the lock; bold: the exchange found the routine, and so claims the IRP; dashed line: owes it; solid line: holds it</text><text class='s' x='56' y='28'>circles: the two words of the IRP, in its present life, after the step; filled: set; bold: the step changed it; &#8594;: what the call answers</text><text class='n s' x='46' y='54'>line</text>
+<path class='g' d='M80 64V68'/><text class='o s' x='80' y='44'>Cancel</text><text class='o s' x='80' y='57'>flag</text><path class='g' d='M140 64V68'/><text class='o s' x='140' y='44'>cancel</text><text class='o s' x='140' y='57'>routine</text>
 <text x='56' y='96'>all is at rest: no call is unfinished, and nobody owes or holds an IRP</text>
 </svg>
 ",
         ended: Ended::AllHandled,
     },
     Row {
-        input: "p1  end\n",
+        input: "# p1\np1  end\n",
         before: "\
-<svg xmlns='http://www.w3.org/2000/svg' width='780' height='172' viewBox='0 0 780 172' font-family='system-ui,-apple-system,Segoe UI,DejaVu Sans,sans-serif' font-size='12'>
-<title>The steps of a schedule: 0</title>
+<svg xmlns='http://www.w3.org/2000/svg' width='780' height='212' viewBox='0 -40 780 212' font-family='system-ui,-apple-system,Segoe UI,DejaVu Sans,sans-serif' font-size='12'>
+<title>p1</title>
 ",
         behind: "\
-<rect class='sheet' width='780' height='172'/>
-<text class='s' x='56' y='24'>shade: has the lock; bold: the exchange found the routine, and so claims the IRP; dashed line: owes it; solid line: holds it</text><text class='n s' x='46' y='54'>line</text>
-<rect class='bad' x='64' y='72' width='660' height='38' rx='6'/>
-<text class='n' x='46' y='95'>1</text>
-<text x='73' y='95'>malformed</text>
-<text x='73' y='130'>this is no step, as p1 arm 0: arm, test, disarm, flag, take, out, done or renew, or p1 end</text>
+<rect class='sheet' y='-40' width='780' height='212'/>
+<text class='t' x='56' y='-10'>p1</text>
+<text class='s' x='56' y='15'>shade: has the lock; bold: the exchange found the routine, and so claims the IRP; dashed line: owes it; solid line: holds it</text><text class='s' x='56' y='28'>circles: the two words of the IRP, in its present life, after the step; filled: set; bold: the step changed it; &#8594;: what the call answers</text><text class='n s' x='46' y='54'>line</text>
+<path class='g' d='M80 64V68'/><text class='o s' x='80' y='44'>Cancel</text><text class='o s' x='80' y='57'>flag</text><path class='g' d='M140 64V68'/><text class='o s' x='140' y='44'>cancel</text><text class='o s' x='140' y='57'>routine</text>
+<rect class='bad' x='64' y='72' width='660' height='52' rx='6'/>
+<text class='n' x='46' y='102'>2</text>
+<text x='73' y='102'>malformed</text>
+<text x='73' y='144'>this is no step, as p1 arm 0: arm, test, disarm, flag, take, out, done or renew, or p1 end</text>
 </svg>
 ",
         ended: Ended::Stopped,
@@ -121,6 +127,59 @@ fn a_schedule_is_drawn(rt: HostRuntime) -> Result<(), Fail> {
         let wanted = format!(in rt.alloc(); "{before}{PICTURE_HEAD}\n{behind}")?;
         assert_eq!(rt; ended, Some(row.ended), "at {}", row.input);
         assert_eq!(rt; text.as_slice(), wanted.as_bytes(), "at {}", row.input);
+    }
+    Ok(())
+}
+
+// A schedule, and what it is as text.
+const TEXTS: [(&str, &str, Ended); 3] = [
+    (
+        "# a < b\n#\u{e9}\np1 arm 0\np2 flag 0\np1 test 0\np2 take 0\np1 disarm 0\np2 out 0\np2 done 0\n",
+        "\
+a < b
+??
+line  lock   p1                        p2                       flag   routine
+3     p1     arm 0 was none                                     clear  set
+4     p1                               flag 0 was clear         set    set
+5     p1     test 0 is set                                      set    set
+6     p1                              *take 0 found it          set    clear
+7     p1     disarm 0 found none                                set    clear
+8     p2                               out 0                    set    clear
+9     -                                done 0 STATUS_CANCELLED  set    clear
+IRP 0 was completed by p2 with STATUS_CANCELLED; its Cancel flag is set
+all is at rest: no call is unfinished, and nobody owes or holds an IRP
+",
+        Ended::AllHandled,
+    ),
+    (
+        "p3 end\np1 arm 7\np3 arm 1\n",
+        "\
+line  lock   p1                        p3                       flag   routine
+1     p3                               end                      -      -
+2     p1     arm 7 was none                                     clear  set
+line 3: p3 arm 1 refused LockHeld p1
+  p1 has had the lock since line 2, inside an insert; its next step is test 7
+",
+        Ended::Stopped,
+    ),
+    (
+        "",
+        "\
+line  lock  flag   routine
+all is at rest: no call is unfinished, and nobody owes or holds an IRP
+",
+        Ended::AllHandled,
+    ),
+];
+
+#[test]
+fn a_schedule_is_drawn_as_text(rt: HostRuntime) -> Result<(), Fail> {
+    for (lines, wanted, ended) in TEXTS {
+        let mut input = lines.as_bytes();
+        let mut text = Vec::new(rt.alloc());
+        let answer = draw_schedule_as_text(rt.alloc(), 8, 4, &mut input, &mut text).ok();
+        assert_eq!(rt; answer, Some(ended), "at {lines:?}");
+        assert_eq!(rt; text.as_slice(), wanted.as_bytes(), "at {lines:?}");
     }
     Ok(())
 }

@@ -8,6 +8,9 @@ use std::process::Abort;
 use std::test::Fail;
 use test_heap::RefusingHeap;
 
+mod calls;
+mod scripts;
+
 /// A schedule, whether its claims are asked for, its explanation, and how it ended.
 struct Row {
     input: &'static str,
@@ -235,7 +238,7 @@ fn an_input_that_is_too_long_is_not_explained(rt: HostRuntime) -> Result<(), Fai
 
 /// A reader that fails at once, and a writer that takes nothing.
 #[derive(Drop)]
-struct Closed;
+pub(crate) struct Closed;
 
 impl Read for Closed {
     fn read(&mut self, _: &mut [u8]) -> io::Result<usize> {

@@ -1,5 +1,6 @@
 mod commands;
 mod diagnoses;
+mod explanations;
 mod file_limits;
 mod files;
 mod helps;
@@ -8,3 +9,4 @@ mod process;
 mod runs;
 mod shell;
 mod sources;
+mod totals;

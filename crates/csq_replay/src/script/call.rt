@@ -34,7 +34,7 @@ pub enum Call {
 
 /// Why a call is refused, an insert aside. Own rule.
 #[derive(Clone, Copy, Debug, PartialEq, Eq)]
-pub(crate) enum Refusal {
+pub enum Refusal {
     /// There is no IRP of this number.
     UnknownIrp,
     /// There is no file object of this number.
@@ -64,7 +64,7 @@ pub(crate) enum Inserted {
 
 /// What is told of a call.
 #[derive(Clone, Copy, Debug, PartialEq, Eq)]
-pub(crate) enum Reply {
+pub enum Reply {
     /// The IRP is listed.
     Pending,
     /// The insert found the IRP cancelled, and completed it.

@@ -29,11 +29,15 @@ const PASS: PassId = PassId(1);
 /// A machine with one pass, a list, the statuses of the IRPs that were completed in their present lives,
 /// and where its texts are made.
 #[derive(Drop)]
-pub(crate) struct Driver<L, A: Allocator> {
-    pub(crate) alloc: A,
-    pub(crate) machine: Machine<A>,
-    pub(crate) list: L,
-    pub(crate) statuses: Vec<Option<NtStatus>, A>,
+pub struct Driver<L, A: Allocator> {
+    /// Where its texts are made.
+    pub alloc: A,
+    /// What the steps of its calls are made on.
+    pub machine: Machine<A>,
+    /// The list of the queue.
+    pub list: L,
+    /// With which status each IRP was completed in its present life, if it was.
+    pub statuses: Vec<Option<NtStatus>, A>,
 }
 
 /// Makes a step of the pass, which is one that may come next, and answers the value that it found.
@@ -48,8 +52,9 @@ fn make<A: Allocator>(machine: &mut Machine<A>, kind: Kind) -> u64
 }
 
 impl<L: PendingList, A: Allocator> Driver<L, A> {
-    /// A driver that made no call yet.
-    pub(crate) fn new(alloc: A, list: L) -> Result<Driver<L, A>, AllocError>
+    /// A driver that made no call yet. The list is fresh and has 1 to 1,024 IRPs. Refused where there is too
+    /// little memory. Own rule.
+    pub fn new(alloc: A, list: L) -> Result<Driver<L, A>, AllocError>
     where
         L: Drop,
         A: Copy,

@@ -1,54 +1,32 @@
-//! The closing lines of a script.
-ghost use Rattle.std.specs.Prelude.{◌≡◌, ◌<◌, ◌++◌, List, map, filter, string_bytes, OnOk};
+//! What is left in the end of a script, and its closing lines.
+ghost use Rattle.std.specs.Prelude.{◌≡◌, ◌<◌, ◌++◌, List, map, filter, string_bytes, IfOk, OnOk};
 ghost use Rattle.irp_core.specs.declared.step.Made.{Made};
 ghost use Rattle.irp_core.specs.MachineState.{Agrees, size_of};
-ghost use Rattle.irp_core.specs.declared.ids.IrpId.{IrpId};
 ghost use Rattle.irp_core.specs.Lives.{present};
 ghost use Rattle.csq_words.specs.Queue.{Limits};
 ghost use Rattle.csq_replay.specs.Calls.{Script};
 ghost use Rattle.csq_replay.specs.Drivers.{Keeps, keeping};
-ghost use Rattle.csq_replay.specs.ScriptAnswer.{numbers, left_line, named_line, irps_below, is_kept, kept_name, kept_line};
+ghost use Rattle.csq_replay.specs.ScriptAnswer.{numbers, left_line, named_line, left_lines, irps_below, is_kept, kept_name, AreLeft};
 
 use crate::script::driver::Driver;
 use csq_list::{Peek, PendingList};
 use irp_core::IrpId;
 use std::alloc::{AllocError, Allocator};
 
-/// The numbers of the listed IRPs, in the list's order, each after a space.
-fn write_listed<L: PendingList, A: Allocator>(
-    list: &L,
-    text: &mut String<A>,
-) -> Result<(), AllocError>
-    ensures { OnOk result (string_bytes text.new
-        ≡ string_bytes text.old ++ numbers (map (λ e. e.irp) (L.listing list.now).entries)) }
-{
-    let mut after = None;
-    while let Some(irp) = list.peek_next(after, Peek::Any) {
-        write!(text, " {irp}")?;
-        after = Some(irp);
-    }
-    Ok(())
-}
-
-/// The line of what is listed.
-pub(crate) fn close_left<L: PendingList, A: Allocator>(
-    list: &L,
-    text: &mut String<A>,
-) -> Result<(), AllocError>
-    ensures { OnOk result (string_bytes text.new
-        ≡ string_bytes text.old ++ left_line (map (λ e. e.irp) (L.listing list.now).entries)) }
-{
-    if list.len() == 0 {
-        return writeln!(text, "left none");
-    }
-    write!(text, "left")?;
-    write_listed(list, text)?;
-    writeln!(text)
+/// What is left in the end of a script: IRPs, each in its present life.
+#[derive(Drop)]
+pub struct Remains<A: Allocator> {
+    /// What is listed, in the list's order.
+    pub listed: Vec<IrpId, A>,
+    /// What the pass holds, by rising number.
+    pub held: Vec<IrpId, A>,
+    /// What the pass owes, by rising number.
+    pub owed: Vec<IrpId, A>,
 }
 
 /// How the pass may keep an IRP in its present life.
 #[derive(Clone, Copy, Debug, PartialEq, Eq)]
-pub(crate) enum Kept {
+pub enum Kept {
     /// It removed the IRP, and is to complete it.
     Held,
     /// It claimed the IRP by a mark, and is to run its cancel routine.
@@ -66,6 +44,23 @@ impl Kept {
     }
 }
 
+/// The listed IRPs, in the list's order.
+fn listed_irps<L: PendingList, A: Allocator>(
+    alloc: A,
+    list: &L,
+) -> Result<Vec<IrpId, A>, AllocError>
+    ensures { IfOk result
+        (λ irps. irps.items ≡ map (λ e. e.irp) (L.listing list.now).entries) }
+{
+    let mut irps = Vec::new(alloc);
+    let mut after = None;
+    while let Some(irp) = list.peek_next(after, Peek::Any) {
+        irps.push(irp)?;
+        after = Some(irp);
+    }
+    Ok(irps)
+}
+
 /// Whether the pass keeps the IRP so, in its present life.
 fn is_kept<L: PendingList, A: Allocator>(driver: &Driver<L, A>, kept: Kept, irp: IrpId) -> bool
     requires { irp.0 < (size_of driver.now.machine).irps }
@@ -78,49 +73,91 @@ fn is_kept<L: PendingList, A: Allocator>(driver: &Driver<L, A>, kept: Kept, irp:
     }
 }
 
-/// The numbers of the IRPs that are kept so, by rising number, each after a space.
-fn write_kept<L: PendingList, A: Allocator>(
+/// The IRPs that the pass keeps so, by rising number.
+fn kept_irps<L: PendingList, A: Allocator + Copy>(
     driver: &Driver<L, A>,
     kept: Kept,
-    text: &mut String<A>,
-) -> Result<(), AllocError>
-    ensures { OnOk result ((E : List Made) → Agrees driver.now.machine E
-        → string_bytes text.new ≡ string_bytes text.old
-        ++ numbers (filter (λ n. is_kept kept E
+) -> Result<Vec<IrpId, A>, AllocError>
+    ensures { IfOk result (λ irps. (E : List Made) → Agrees driver.now.machine E
+        → irps.items ≡ filter (λ n. is_kept kept E
         (present (size_of driver.now.machine).first E n))
-        (irps_below (size_of driver.now.machine).irps))) }
+        (irps_below (size_of driver.now.machine).irps)) }
 {
+    let mut irps = Vec::new(driver.alloc);
     for number in 0..driver.machine.irps() {
         let irp = IrpId(number);
         if is_kept(driver, kept, irp) {
-            write!(text, " {irp}")?;
+            irps.push(irp)?;
         }
+    }
+    Ok(irps)
+}
+
+impl<L: PendingList, A: Allocator + Copy> Driver<L, A> {
+    /// What is left after the calls so far. Refused where there is too little memory. Own rule.
+    pub fn remains(&self) -> Result<Remains<A>, AllocError>
+        ensures { IfOk result (λ remains. (l : Limits) (s : Script)
+            → Keeps l (keeping L.listing self.now) s
+            → AreLeft l s remains.listed.items remains.held.items remains.owed.items) }
+    {
+        Ok(Remains {
+            listed: listed_irps(self.alloc, &self.list)?,
+            held: kept_irps(self, Kept::Held)?,
+            owed: kept_irps(self, Kept::Owed)?,
+        })
+    }
+}
+
+/// The numbers of these IRPs, each after a space.
+fn write_numbers<A: Allocator>(irps: &[IrpId], text: &mut String<A>) -> Result<(), AllocError>
+    ensures { OnOk result (string_bytes text.new ≡ string_bytes text.old ++ numbers irps.now) }
+{
+    for irp in irps {
+        write!(text, " {irp}")?;
     }
     Ok(())
 }
 
-/// A line of a name and of numbers, where there are any.
-fn write_named<A: Allocator>(name: &str, irps: &str, text: &mut String<A>) -> Result<(), AllocError>
-    ensures { (named : List IrpId) → irps.now ≡ numbers named
-        → OnOk result (string_bytes text.new ≡ string_bytes text.old ++ named_line name.now named) }
+/// Writes the closing line of what is listed. Refused where there is too little memory. Own rule.
+pub fn write_left<A: Allocator>(irps: &[IrpId], text: &mut String<A>) -> Result<(), AllocError>
+    ensures { OnOk result
+        (string_bytes text.new ≡ string_bytes text.old ++ left_line irps.now) }
+{
+    if irps.is_empty() {
+        return writeln!(text, "left none");
+    }
+    write!(text, "left")?;
+    write_numbers(irps, text)?;
+    writeln!(text)
+}
+
+/// Writes the closing line of what the pass keeps so; none where there is nothing. Refused where there is too
+/// little memory. Own rule.
+pub fn write_kept<A: Allocator>(
+    kept: Kept,
+    irps: &[IrpId],
+    text: &mut String<A>,
+) -> Result<(), AllocError>
+    ensures { OnOk result (string_bytes text.new
+        ≡ string_bytes text.old ++ named_line (kept_name kept) irps.now) }
 {
     if irps.is_empty() {
         return Ok(());
     }
-    writeln!(text, "{name}{irps}")
+    text.push_str(kept.name())?;
+    write_numbers(irps, text)?;
+    writeln!(text)
 }
 
-/// The line of what the pass keeps so, where there is any.
-pub(crate) fn close_kept<L: PendingList, A: Allocator + Copy>(
-    driver: &Driver<L, A>,
-    kept: Kept,
-    text: &mut String<A>,
-) -> Result<(), AllocError>
-    ensures { OnOk result ((l : Limits) (s : Script) → Keeps l (keeping L.listing driver.now) s
-        → string_bytes text.new ≡ string_bytes text.old ++ kept_line l s kept) }
-{
-    let mut irps = String::new(driver.alloc);
-    write_kept(driver, kept, &mut irps)?;
-    write_named(kept.name(), irps.as_str(), text)?;
-    Ok(())
+impl<A: Allocator> Remains<A> {
+    /// Writes the closing lines.
+    pub(crate) fn write_lines(&self, text: &mut String<A>) -> Result<(), AllocError>
+        ensures { OnOk result (string_bytes text.new ≡ string_bytes text.old
+            ++ left_lines self.now.listed.items self.now.held.items self.now.owed.items) }
+    {
+        write_left(&self.listed, text)?;
+        write_kept(Kept::Held, &self.held, text)?;
+        write_kept(Kept::Owed, &self.owed, text)?;
+        Ok(())
+    }
 }

@@ -1,11 +1,16 @@
 //! What is told of each call.
 ghost use Rattle.std.specs.Prelude.{◌≡◌};
-ghost use Rattle.csq_replay.specs.Calls.{status_reply};
-ghost use Rattle.csq_replay.specs.Drivers.{IsKeeping, Did, keeping};
+ghost use Rattle.csq_words.specs.Queue.{Limits};
+ghost use Rattle.csq_replay.specs.Calls.{Script, status_reply};
+ghost use Rattle.csq_replay.specs.CallOutcomes.{CallComesTo};
+ghost use Rattle.csq_replay.specs.Drivers.{Keeps, IsKeeping, Did, keeping};
 ghost use Rattle.csq_replay.specs.Replies.{told, insert_reply, taken_reply, mark_reply};
 
+use crate::lines::{MAX_LINE, is_skipped};
 use crate::script::call::{Call, Inserted, Refusal, Reply};
+use crate::script::call_line::parse_call;
 use crate::script::driver::Driver;
+use crate::script::outcome::{CallOutcome, CallStop};
 use csq_list::{InsertStatus, PendingList};
 use irp_core::{IrpId, NtStatus};
 use std::alloc::Allocator;
@@ -49,8 +54,27 @@ fn status_reply(status: Option<NtStatus>) -> Reply
 }
 
 impl<L: PendingList, A: Allocator> Driver<L, A> {
+    /// Makes the call that a line names, and tells what comes of the line. Own rule.
+    pub fn handle(&mut self, line: &[u8]) -> CallOutcome
+        requires { IsKeeping (keeping L.listing self.old) }
+        ensures { (l : Limits) (s : Script) → Keeps l (keeping L.listing self.old) s → (t : Script)
+            × CallComesTo l s line.now result t × Keeps l (keeping L.listing self.new) t }
+    {
+        if line.len() > MAX_LINE {
+            return CallOutcome::Stopped(CallStop::TooLong);
+        }
+        if is_skipped(line) {
+            return CallOutcome::Skipped;
+        }
+        let Some(call) = parse_call(line) else {
+            return CallOutcome::Stopped(CallStop::Malformed);
+        };
+        let reply = self.answer(call);
+        CallOutcome::Answered(call, reply)
+    }
+
     /// Makes a call, and tells what it answers.
-    pub(crate) fn answer(&mut self, call: Call) -> Reply
+    fn answer(&mut self, call: Call) -> Reply
         requires { IsKeeping (keeping L.listing self.old) }
         ensures { Did (keeping L.listing self.old) call result (keeping L.listing self.new) }
     {

@@ -158,12 +158,19 @@ fn find_all_turns<R: Abort>(rt: &R, counts: &Counts) {
     assert_eq!(rt; counts.of_turns(), TURNS);
 }
 
-// What was removed has succeeded, and what was not inserted is home.
+// What was removed has succeeded, and what was not inserted is home. The calls are those of the turns.
 fn find_totals<R: Abort>(rt: &R, removed: &Count, totals: Totals) {
     let (removed, _) = removed.told();
     let succeeded = u64::from(totals.succeeded);
     let found = (removed, totals.home, totals.listed, totals.accounted());
     assert_eq!(rt; found, (succeeded, 90, 0, 300));
+    let made = [
+        totals.inserts.made,
+        totals.removals.made,
+        totals.cancels.made,
+    ];
+    assert_eq!(rt; made, [210, 210, 280]);
+    assert_eq!(rt; totals.removals.completed, totals.succeeded);
 }
 
 #[test]

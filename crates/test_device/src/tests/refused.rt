@@ -1,6 +1,6 @@
 //! A run in which a file object is cleaned up before most inserts, which are refused then.
 use super::{chains, plan_of, run, vector};
-use csq_device::{Gate, Point, Totals};
+use csq_device::{Calls, Gate, Point, Totals};
 use csq_list::PendingList;
 use irp_core::IrpId;
 use std::process::Abort;
@@ -126,6 +126,19 @@ fn find_totals<R: Abort>(rt: &R, totals: Totals) {
         succeeded: 5,
         cancelled: 5,
         handed: 10,
+        inserts: Calls {
+            made: 14,
+            completed: 0,
+        },
+        removals: Calls {
+            made: 14,
+            completed: 5,
+        },
+        cancels: Calls {
+            made: 7,
+            completed: 5,
+        },
+        cleaned: 0,
     };
     assert_eq!(rt; totals, wanted);
     assert_eq!(rt; totals.accounted(), 20);

@@ -25,6 +25,7 @@ fn check(rt: &impl Abort, totals: Totals, irps: u32) {
         u64::from(totals.flagged_listed),
     ];
     assert_eq!(rt; found, [irps, irps, completed, completed, 0]);
+    assert_eq!(rt; totals.removals.completed, totals.succeeded);
 }
 
 // Runs a device over this list, and finds each of its IRPs.

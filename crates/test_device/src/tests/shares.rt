@@ -1,6 +1,6 @@
 //! A run in which the workers alone complete, each its own share.
 use super::{chains, plan_of, run, vector};
-use csq_device::{Gate, Point, Totals};
+use csq_device::{Calls, Gate, Point, Totals};
 use csq_list::PendingList;
 use irp_core::IrpId;
 use std::process::Abort;
@@ -90,6 +90,19 @@ fn find_shares<R: Abort>(rt: &R, told: &Told, totals: Totals) {
         succeeded: 12,
         cancelled: 0,
         handed: 12,
+        inserts: Calls {
+            made: 12,
+            completed: 0,
+        },
+        removals: Calls {
+            made: 30,
+            completed: 12,
+        },
+        cancels: Calls {
+            made: 10,
+            completed: 0,
+        },
+        cleaned: 0,
     };
     assert_eq!(rt; totals, wanted);
 }

@@ -1,6 +1,6 @@
 //! A run in which each step waits for the one before, so that each total is known.
 use super::{chains, plan_of, run, vector};
-use csq_device::{Gate, Point, Totals};
+use csq_device::{Calls, Gate, Point, Totals};
 use csq_list::PendingList;
 use irp_core::IrpId;
 use std::process::Abort;
@@ -98,9 +98,22 @@ fn find_totals<R: Abort>(rt: &R, told: &Told, totals: Totals) {
         succeeded: 7,
         cancelled: 4,
         handed: 11,
+        inserts: Calls {
+            made: 14,
+            completed: 0,
+        },
+        removals: Calls {
+            made: 7,
+            completed: 7,
+        },
+        cancels: Calls {
+            made: 7,
+            completed: 3,
+        },
+        cleaned: 1,
     };
     assert_eq!(rt; totals, wanted);
-    assert_eq!(rt; totals.accounted(), 20);
+    assert_eq!(rt; (totals.accounted(), totals.cancels.missed()), (20, 4));
 }
 
 #[test]

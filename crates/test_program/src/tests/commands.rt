@@ -16,18 +16,23 @@ fn command_lines_are_read(rt: HostRuntime) -> Result<(), Fail> {
         "--passes",
         "64",
     ];
+    let explained = ["csqsim", "schedule", "--explain"];
+    let all_told = ["csqsim", "schedule", "--explain", "--claims"];
     let jobs = [
-        (plain.as_slice(), 8, 4, false),
-        (least.as_slice(), 1, 1, false),
-        (most.as_slice(), 1024, 64, true),
+        (plain.as_slice(), 8, 4, false, false),
+        (least.as_slice(), 1, 1, false, false),
+        (most.as_slice(), 1024, 64, true, false),
+        (explained.as_slice(), 8, 4, false, true),
+        (all_told.as_slice(), 8, 4, true, true),
     ];
-    for (words, irps, passes, claims) in jobs {
+    for (words, irps, passes, claims, explain) in jobs {
         let job = read_command(alloc, words).ok();
         let wanted = Job::Schedule {
             source: Source::Standard,
             irps,
             passes,
             claims,
+            explain,
         };
         assert_eq!(rt; job, Some(wanted));
     }
@@ -59,19 +64,29 @@ fn other_command_lines_are_refused(rt: HostRuntime) -> Result<(), Fail> {
 #[test]
 fn command_lines_of_pictures_are_read(rt: HostRuntime) -> Result<(), Fail> {
     let plain = ["csqsim", "draw"];
-    let most = ["csqsim", "draw", "--irps=1024", "--passes=64"];
-    for (words, irps, passes) in [(plain.as_slice(), 8, 4), (most.as_slice(), 1024, 64)] {
+    let most = ["csqsim", "draw", "--irps=1024", "--passes=64", "--text"];
+    for (words, irps, passes, text) in [
+        (plain.as_slice(), 8, 4, false),
+        (most.as_slice(), 1024, 64, true),
+    ] {
         let job = read_command(rt.alloc(), words).ok();
         assert_eq!(rt;
             job,
             Some(Job::Draw {
                 source: Source::Standard,
                 irps,
-                passes
+                passes,
+                text
             })
         );
     }
-    for option in ["--irps=1025", "--passes=0", "--passes=65", "--claims"] {
+    for option in [
+        "--irps=1025",
+        "--passes=0",
+        "--passes=65",
+        "--claims",
+        "--explain",
+    ] {
         let words = ["csqsim", "draw", option];
         assert!(rt;
             read_command(rt.alloc(), words.as_slice()).is_err(),
@@ -95,14 +110,12 @@ fn command_lines_of_scripts_are_read(rt: HostRuntime) -> Result<(), Fail> {
         "--limit=1",
         "--file-limit=1",
     ];
-    let chained = ["csqsim", "script", "--chain"];
     let jobs = [
-        (plain.as_slice(), 8, 4, None, None, ListKind::Vector),
-        (sized.as_slice(), 3, 1, Some(2), None, ListKind::Vector),
-        (least.as_slice(), 1, 1, Some(1), Some(1), ListKind::Vector),
-        (chained.as_slice(), 8, 4, None, None, ListKind::Chains),
+        (plain.as_slice(), 8, 4, None, None),
+        (sized.as_slice(), 3, 1, Some(2), None),
+        (least.as_slice(), 1, 1, Some(1), Some(1)),
     ];
-    for (words, irps, files, limit, file_limit, list) in jobs {
+    for (words, irps, files, limit, file_limit) in jobs {
         let job = read_command(rt.alloc(), words).ok();
         let wanted = Job::Script {
             source: Source::Standard,
@@ -110,7 +123,34 @@ fn command_lines_of_scripts_are_read(rt: HostRuntime) -> Result<(), Fail> {
             files,
             limit,
             file_limit,
+            list: ListKind::Vector,
+            explain: false,
+        };
+        assert_eq!(rt; job, Some(wanted));
+    }
+    Ok(())
+}
+
+// Neither flag is taken for the other.
+#[test]
+fn flags_of_scripts_are_read(rt: HostRuntime) -> Result<(), Fail> {
+    let chained = ["csqsim", "script", "--chain"];
+    let explained = ["csqsim", "script", "--explain"];
+    let both = ["csqsim", "script", "--explain", "--chain"];
+    for (words, list, explain) in [
+        (chained.as_slice(), ListKind::Chains, false),
+        (explained.as_slice(), ListKind::Vector, true),
+        (both.as_slice(), ListKind::Chains, true),
+    ] {
+        let job = read_command(rt.alloc(), words).ok();
+        let wanted = Job::Script {
+            source: Source::Standard,
+            irps: 8,
+            files: 4,
+            limit: None,
+            file_limit: None,
             list,
+            explain,
         };
         assert_eq!(rt; job, Some(wanted));
     }
@@ -171,6 +211,7 @@ fn a_script_has_limits_beside_chains(rt: HostRuntime) -> Result<(), Fail> {
         limit: Some(8),
         file_limit: Some(3),
         list: ListKind::Chains,
+        explain: false,
     };
     assert_eq!(rt;
         read_command(rt.alloc(), words.as_slice()).ok(),
@@ -196,6 +237,7 @@ fn a_script_is_as_large_as_it_may_be(rt: HostRuntime) -> Result<(), Fail> {
         limit: Some(1024),
         file_limit: Some(1024),
         list: ListKind::Vector,
+        explain: false,
     };
     assert_eq!(rt;
         read_command(rt.alloc(), words.as_slice()).ok(),

@@ -33,7 +33,12 @@ fn draw<'a, R: AllocGlobal + Threads + Wait + Abort + Sync>(
 #[test]
 fn a_schedule_is_drawn(rt: HostRuntime) {
     let input = "p1 arm 8\np5 flag 8\np1 arm 8\n";
-    let rows: [(&[&str], &str, &str); 3] = [
+    let rows: [(&[&str], &str, &str); 4] = [
+        (
+            &["csqsim", "draw", "--irps=9", "--passes=5", "--text"],
+            "line 3: p1 arm 8 refused NotNext\n  p1 has been inside an insert since line 1",
+            "csqsim: line 3: p1 arm 8 is refused: p1 has been inside an insert since line 1; its next step is test 8\n",
+        ),
         (
             &["csqsim", "draw", "--irps=9", "--passes=5"],
             "p1 arm 8 refused NotNext",

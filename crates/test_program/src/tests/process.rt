@@ -7,9 +7,11 @@ use std::fmt::Display;
 use std::io;
 use std::io::{BufRead, Error, ErrorKind, Lines, Read};
 use std::process::{Abort, ExitCode};
-use std::rt::Env;
+use std::rt::{Clock, Env};
+use std::sync::atomic::{AtomicU64, Ordering};
 use std::sync::{Mutex, Wait};
 use std::thread::Threads;
+use std::time::Duration;
 
 /// A process whose standard output takes so many bytes.
 #[derive(Drop)]
@@ -25,6 +27,8 @@ pub(crate) struct Process<'a, R> {
     room: usize,
     // Whether nothing can be told on standard error.
     is_mute: bool,
+    // How often the clock was read, unless it fails.
+    readings: Option<AtomicU64>,
     output: Mutex<String>,
     errors: Mutex<String>,
 }
@@ -45,6 +49,7 @@ impl<'a, R: AllocGlobal> Process<'a, R> {
             files: &[],
             room,
             is_mute: false,
+            readings: Some(AtomicU64::new(0)),
             output: Mutex::new(String::new(rt.alloc())),
             errors: Mutex::new(String::new(rt.alloc())),
         }
@@ -69,6 +74,14 @@ impl<'a, R: AllocGlobal> Process<'a, R> {
     /// Has these files.
     pub(crate) fn with_files(self, files: &'a [Stored<'a>]) -> Process<'a, R> {
         Process { files, ..self }
+    }
+
+    /// Has no clock.
+    pub(crate) fn without_clock(self) -> Process<'a, R> {
+        Process {
+            readings: None,
+            ..self
+        }
     }
 
     /// Cannot tell anything on standard error.
@@ -245,6 +258,21 @@ impl<'a, R> Input for Process<'a, R> {
 
     fn reader(&self) -> Given<'a> {
         Given::new(self.input, self.fails)
+    }
+}
+
+/// Between two readings, 1,234,567 nanoseconds pass.
+impl<R> Clock for Process<'_, R> {
+    fn monotonic(&self) -> io::Result<Duration> {
+        let Some(readings) = &self.readings else {
+            return Err(Error::from(ErrorKind::Unsupported));
+        };
+        let reading = readings.fetch_add(1, Ordering::SeqCst);
+        Ok(Duration::from_nanos(reading.wrapping_mul(1_234_567)))
+    }
+
+    fn since_1970(&self) -> io::Result<Duration> {
+        Err(Error::from(ErrorKind::Unsupported))
     }
 }
 

@@ -1,14 +1,16 @@
 //! Runs of a device, and their command lines.
 ghost use Rattle.csq_device.specs.Plans.{IsListFor};
 
+use super::totals::number_of;
 use csq_device::{Free, Gate, Plan, Point, RunRefused};
 use csq_list::{ChainList, ListKind, PendingList, VecList};
 use csq_program::{Job, ProgramFault, RunFault, answer_run, read_command, status_of};
 use csq_replay::SimFault;
-use std::alloc::{AllocError, Global};
+use std::alloc::AllocError;
 use std::io;
 use std::io::{Error, ErrorKind, Write};
 use std::process::Abort;
+use std::rt::Clock;
 use std::sync::Wait;
 use std::sync::atomic::{AtomicU64, Ordering};
 use std::test::Fail;
@@ -21,12 +23,12 @@ const USUAL: &str = "irps 64\naccounted 64\ncancelled and listed 0\n";
 fn compare<L, R>(rt: &R, list: L) -> Result<(), Fail>
 where
     L: PendingList + Drop + Send,
-    R: AllocGlobal + Threads + Wait + Abort + Sync,
+    R: AllocGlobal + Clock + Threads + Wait + Abort + Sync,
     requires { IsListFor 64 4 (L.listing list) }
 {
     let plan = Plan::new(64, 4, 2, 2, 2, 64).ok_or("a plan")?;
     let mut text = Vec::new(rt.alloc());
-    assert!(rt; answer_run(rt, rt.alloc(), plan, list, Free, &mut text).is_ok());
+    assert!(rt; answer_run(rt, rt.alloc(), plan, list, Free, false, &mut text).is_ok());
     assert_eq!(rt; text.as_slice(), USUAL.as_bytes());
     Ok(())
 }
@@ -40,34 +42,48 @@ fn ten_runs_of_each_list_are_accounted_for(rt: HostRuntime) -> Result<(), Fail> 
     Ok(())
 }
 
-// Refuses one call for memory of a run. Answers whether it came to that call: then nothing is written.
-fn is_run_refused<L, R>(rt: &R, list: L, call: u64) -> Result<bool, Fail>
+// Refuses one call for memory of a run, of which all is told or not. Answers whether it came to that call: then
+// nothing is written.
+fn is_run_refused<L, R>(rt: &R, list: L, totals: bool, call: u64) -> Result<bool, Fail>
 where
     L: PendingList + Drop + Send,
-    R: AllocGlobal + Threads + Wait + Abort + Sync,
+    R: AllocGlobal + Clock + Threads + Wait + Abort + Sync,
     requires { IsListFor 64 4 (L.listing list) }
 {
     let heap = RefusingHeap::new(rt.alloc(), call);
     let plan = Plan::new(64, 4, 2, 2, 2, 64).ok_or("a plan")?;
     let mut text = Vec::new(rt.alloc());
-    let answered = answer_run(rt, &heap, plan, list, Free, &mut text);
+    let answered = answer_run(rt, &heap, plan, list, Free, totals, &mut text);
     if heap.has_refused() {
         assert_eq!(rt; answered, Err(RunFault::Memory), "at call {call}");
         assert!(rt; text.is_empty(), "at call {call}");
         return Ok(true);
     }
     assert_eq!(rt; answered, Ok(()));
-    assert_eq!(rt; text.as_slice(), USUAL.as_bytes());
+    assert!(rt; text.as_slice().starts_with(USUAL.as_bytes()));
+    assert_eq!(rt; text.len() > USUAL.len(), totals);
     Ok(false)
 }
 
 #[test]
 fn a_run_is_refused_for_want_of_memory(rt: HostRuntime) -> Result<(), Fail> {
     for call in 0..100 {
-        let refused = is_run_refused(&rt, VecList::new(rt.alloc(), 64, 4, 64)?, call)?;
+        let refused = is_run_refused(&rt, VecList::new(rt.alloc(), 64, 4, 64)?, false, call)?;
         let chains = ChainList::new(rt.alloc(), 64, 4, 64)?;
-        assert_eq!(rt; is_run_refused(&rt, chains, call)?, refused);
+        assert_eq!(rt; is_run_refused(&rt, chains, false, call)?, refused);
         if !refused {
+            assert!(rt; call > 0, "no call was refused");
+            return Ok(());
+        }
+    }
+    Err(Fail::from("each call was refused"))
+}
+
+#[test]
+fn a_run_with_its_totals_is_refused_for_want_of_memory(rt: HostRuntime) -> Result<(), Fail> {
+    for call in 0..100 {
+        let list = VecList::new(rt.alloc(), 64, 4, 64)?;
+        if !is_run_refused(&rt, list, true, call)? {
             assert!(rt; call > 0, "no call was refused");
             return Ok(());
         }
@@ -77,51 +93,76 @@ fn a_run_is_refused_for_want_of_memory(rt: HostRuntime) -> Result<(), Fail> {
 
 /// Counts what the threads of a device do.
 #[derive(Drop)]
-struct Counting<'a> {
-    inserts: &'a AtomicU64,
-    removals: &'a AtomicU64,
-    cancels: &'a AtomicU64,
-    cleanups: &'a AtomicU64,
+struct Counts {
+    inserts: AtomicU64,
+    removals: AtomicU64,
+    removed: AtomicU64,
+    cancels: AtomicU64,
+    cleanups: AtomicU64,
 }
+
+#[derive(Clone, Copy)]
+struct Counting<'a>(&'a Counts);
 
 impl Gate for Counting<'_> {
     fn at(&self, point: Point) {
         let counted = match point {
-            Point::Submitted(_) => self.inserts,
-            Point::Working(_) => self.removals,
-            Point::Cancelled(_) => self.cancels,
-            Point::Cleaning(_) => self.cleanups,
-            Point::Removed(_) | Point::Cancelling(_) => return,
+            Point::Submitted(_) => &self.0.inserts,
+            Point::Working(_) => &self.0.removals,
+            Point::Removed(_) => &self.0.removed,
+            Point::Cancelled(_) => &self.0.cancels,
+            Point::Cleaning(_) => &self.0.cleanups,
+            Point::Cancelling(_) => return,
         };
         counted.fetch_add(1, Ordering::SeqCst);
     }
 }
 
+// The calls that were counted are those that the plan has turns for, and those that are told.
+fn find_counts(rt: &impl Abort, counts: &Counts, text: &str) {
+    let rows = [
+        ("inserts", &counts.inserts, Some(2 * 8)),
+        ("removals", &counts.removals, Some(3 * 8)),
+        ("removals that found an IRP", &counts.removed, None),
+        ("cancels", &counts.cancels, Some(4 * 8)),
+    ];
+    for (words, counted, planned) in rows {
+        let counted = counted.load(Ordering::SeqCst);
+        assert_eq!(rt; planned.unwrap_or(counted), counted, "{words}");
+        assert_eq!(rt;
+            number_of(text, words).map(u64::from),
+            Some(counted),
+            "{words}"
+        );
+    }
+    assert_eq!(rt; counts.cleanups.load(Ordering::SeqCst), 1);
+}
+
 // What is told of a device was done by the threads of its plan, in as many turns.
 #[test]
 fn a_run_is_that_of_its_plan(rt: HostRuntime) -> Result<(), Fail> {
-    let inserts = AtomicU64::new(0);
-    let removals = AtomicU64::new(0);
-    let cancels = AtomicU64::new(0);
-    let cleanups = AtomicU64::new(0);
-    let counting = Counting {
-        inserts: &inserts,
-        removals: &removals,
-        cancels: &cancels,
-        cleanups: &cleanups,
+    let counts = Counts {
+        inserts: AtomicU64::new(0),
+        removals: AtomicU64::new(0),
+        removed: AtomicU64::new(0),
+        cancels: AtomicU64::new(0),
+        cleanups: AtomicU64::new(0),
     };
     let plan = Plan::new(64, 4, 2, 3, 4, 8).ok_or("a plan")?;
     let list = VecList::new(rt.alloc(), 64, 4, 64)?;
     let mut text = Vec::new(rt.alloc());
-    assert_eq!(rt;
-        answer_run(&rt, rt.alloc(), plan, list, counting, &mut text),
-        Ok(())
+    let answered = answer_run(
+        &rt,
+        rt.alloc(),
+        plan,
+        list,
+        Counting(&counts),
+        true,
+        &mut text,
     );
-    assert_eq!(rt; text.as_slice(), USUAL.as_bytes());
-    assert_eq!(rt; inserts.load(Ordering::SeqCst), 2 * 8);
-    assert_eq!(rt; removals.load(Ordering::SeqCst), 3 * 8);
-    assert_eq!(rt; cancels.load(Ordering::SeqCst), 4 * 8);
-    assert_eq!(rt; cleanups.load(Ordering::SeqCst), 1);
+    assert_eq!(rt; answered, Ok(()));
+    let text = str::from_utf8(text.as_slice()).map_err(|_| "text")?;
+    find_counts(&rt, &counts, text);
     Ok(())
 }
 
@@ -154,91 +195,84 @@ fn a_failing_writer_of_totals_is_told(rt: HostRuntime) -> Result<(), Fail> {
         let list = VecList::new(rt.alloc(), 1, 1, 1)?;
         let mut writer = FailingWriter { room: 3, fails };
         assert_eq!(rt;
-            answer_run(&rt, rt.alloc(), plan, list, Free, &mut writer),
+            answer_run(&rt, rt.alloc(), plan, list, Free, true, &mut writer),
             Err(RunFault::Write)
         );
     }
     Ok(())
 }
 
-// Reads a command line that asks for a run of these numbers.
-fn read_run(
-    rt: &impl Abort,
-    alloc: Global,
-    words: &[&str],
-    numbers: [u32; 6],
-    list: ListKind,
-) -> Result<(), Fail> {
-    let [irps, files, submitters, workers, cancellers, turns] = numbers;
-    let plan = Plan::new(irps, files, submitters, workers, cancellers, turns).ok_or("a plan")?;
-    let wanted = Job::Run { plan, list };
-    assert_eq!(rt; read_command(alloc, words).ok(), Some(wanted));
-    Ok(())
-}
+// A command line of a run, and what it asks for: the numbers of a plan, how the list is kept, whether all is
+// told, and how many runs there are.
+type Row<'a> = (&'a [&'a str], [u32; 6], ListKind, bool, u32);
+
+const ROWS: [Row<'static>; 5] = [
+    (&[], [64, 4, 2, 2, 2, 64], ListKind::Vector, false, 1),
+    (
+        &["--irps=1024", "--submitters=20", "--workers=20"],
+        [1024, 4, 20, 20, 2, 64],
+        ListKind::Vector,
+        false,
+        1,
+    ),
+    (
+        &["--totals", "--repeat", "1000"],
+        [64, 4, 2, 2, 2, 64],
+        ListKind::Vector,
+        true,
+        1000,
+    ),
+    (
+        &[
+            "--irps=2",
+            "--files=256",
+            "--submitters=3",
+            "--workers=4",
+            "--cancellers=20",
+            "--turns=100000",
+            "--chain",
+        ],
+        [2, 256, 3, 4, 20, 100_000],
+        ListKind::Chains,
+        false,
+        1,
+    ),
+    (
+        &[
+            "--irps=1",
+            "--files=1",
+            "--submitters=1",
+            "--workers=1",
+            "--cancellers=1",
+            "--turns=1",
+            "--repeat=1",
+        ],
+        [1, 1, 1, 1, 1, 1],
+        ListKind::Vector,
+        false,
+        1,
+    ),
+];
 
 #[test]
 fn command_lines_of_runs_are_read(rt: HostRuntime) -> Result<(), Fail> {
-    let plain = ["csqsim", "run"];
-    let most = [
-        "csqsim",
-        "run",
-        "--irps=1024",
-        "--submitters=20",
-        "--workers=20",
-    ];
-    read_run(
-        &rt,
-        rt.alloc(),
-        &plain,
-        [64, 4, 2, 2, 2, 64],
-        ListKind::Vector,
-    )?;
-    read_run(
-        &rt,
-        rt.alloc(),
-        &most,
-        [1024, 4, 20, 20, 2, 64],
-        ListKind::Vector,
-    )
-}
-
-#[test]
-fn each_number_of_a_run_is_read(rt: HostRuntime) -> Result<(), Fail> {
-    let sized = [
-        "csqsim",
-        "run",
-        "--irps=2",
-        "--files=256",
-        "--submitters=3",
-        "--workers=4",
-        "--cancellers=20",
-        "--turns=100000",
-        "--chain",
-    ];
-    let least = [
-        "csqsim",
-        "run",
-        "--irps=1",
-        "--files=1",
-        "--submitters=1",
-        "--workers=1",
-        "--cancellers=1",
-        "--turns=1",
-    ];
-    read_run(
-        &rt,
-        rt.alloc(),
-        &sized,
-        [2, 256, 3, 4, 20, 100_000],
-        ListKind::Chains,
-    )?;
-    read_run(
-        &rt,
-        rt.alloc(),
-        &least,
-        [1, 1, 1, 1, 1, 1],
-        ListKind::Vector,
-    )
+    for (options, numbers, list, totals, repeat) in ROWS {
+        let mut words = vec![in rt.alloc(); "csqsim", "run"]?;
+        words.extend_from_slice(options)?;
+        let [irps, files, submitters, workers, cancellers, turns] = numbers;
+        let plan = Plan::new(irps, files, submitters, workers, cancellers, turns).ok_or("a plan")?;
+        let wanted = Job::Run {
+            plan,
+            list,
+            totals,
+            repeat,
+        };
+        assert_eq!(rt;
+            read_command(rt.alloc(), words.as_slice()).ok(),
+            Some(wanted)
+        );
+    }
+    Ok(())
 }
 
 #[test]
@@ -256,6 +290,10 @@ fn other_command_lines_of_runs_are_refused(rt: HostRuntime) -> Result<(), Fail> 
         "--cancellers=21",
         "--turns=0",
         "--turns=100001",
+        "--repeat=0",
+        "--repeat=1001",
+        "--repeat",
+        "--totals=1",
         "--limit=1",
     ] {
         let words = ["csqsim", "run", option];

@@ -346,6 +346,10 @@ fn help_is_told_on_standard_output(rt: HostRuntime) {
             ["csqsim", "--help"].as_slice(),
             "Replays, draws and runs the protocol of the WDK's cancel-safe IRP queue\n",
         ),
+        (
+            ["csqsim", "--help"].as_slice(),
+            "Begin with csqsim schedule --help, which teaches the steps",
+        ),
         (["csqsim", "help"].as_slice(), "Usage: csqsim <COMMAND>"),
         (["csqsim", "--version"].as_slice(), "csqsim 1.0.0\n"),
         (

@@ -1,8 +1,14 @@
-use Rattle.std.proofs.Common.{[]}
 use Rattle.irp_core.specs.Runs.{Size}
+use Rattle.csq_draw.specs.declared.format.Format.TheVariants.{Svg}
+use Rattle.csq_draw.specs.Pictures.{new_drawn}
 use Rattle.csq_draw.proofs.drawing.draw_schedule.Goals as goal
+
+pub reply-requires : goal.reply-requires
+reply-requires g c =
+    let size : Size = record { irps = c.args.irps; passes = c.args.passes; first = 0 } in
+    ((size, Svg), new_drawn, (c.in_ok-drawing.ensures.stands, c.in_ok-drawing.ensures.format))
 
 pub returns-clause-drawn : goal.returns-clause-drawn
 returns-clause-drawn g c =
     let size : Size = record { irps = c.args.irps; passes = c.args.passes; first = 0 } in
-    c.reply.ensures.answered size [] c.in_ok-drawing.ensures
+    c.reply.ensures.answered (size, Svg) new_drawn (c.in_ok-drawing.ensures.stands, c.in_ok-drawing.ensures.format)

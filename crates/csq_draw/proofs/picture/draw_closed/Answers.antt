@@ -1,4 +1,4 @@
-use Rattle.std.proofs.Common.{◌∷◌, [], ◌++◌, ◌+◌, length}
+use Rattle.std.proofs.Common.{◌∷◌, [], ◌++◌, length}
 use Rattle.csq_draw.specs.Pictures.{each, shown_elements, closing_elements, rest_element}
 use Rattle.csq_draw.proofs.Growing.{grew_elements, grew_picture}
 use Rattle.csq_draw.proofs.picture.draw_closed.Goals as goal
@@ -6,7 +6,7 @@ use Rattle.csq_draw.proofs.picture.draw_closed.Goals as goal
 pub returns : goal.returns
 returns g c =
     let told = c.args.told.now in
-    let shown = shown_elements c.args.passes.now c.args.rows.now c.args.owners.now c.args.count (length told + 1) in
+    let shown = shown_elements c.args.passes.now c.args.rows.now c.args.owners.now c.args.count in
     let lines = each (closing_elements c.args.count) 0 told in
     let rest = rest_element c.args.count (length told) c.args.rest ∷ [] in
     grew_picture _ _ _ (shown ++ (lines ++ rest))

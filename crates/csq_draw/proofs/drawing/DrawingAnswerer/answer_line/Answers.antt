@@ -2,74 +2,91 @@ use Rattle.std.proofs.Common.{ℕ, ◌<◌, ◌∷◌, [], ◌∙◌, Some, None
 use Rattle.irp_core.specs.Runs.{Size, OfIrp}
 use Rattle.irp_core.specs.Steps.{number}
 use Rattle.csq_replay.specs.declared.schedule.outcome.Outcome.TheVariants.{Skipped, Accepted, Stopped}
-use Rattle.csq_replay.specs.Schedule.{Numbered, run_of}
+use Rattle.csq_replay.specs.Schedule.{Numbered}
 use Rattle.csq_explain.specs.declared.execution.Execution.{Execution}
 use Rattle.csq_explain.specs.Executions.{Follows}
 use Rattle.csq_explain.proofs.Following.{length-passes}
 use Rattle.csq_explain.proofs.Outcomes.{was_skipped, was_accepted, was_stopped}
-use Rattle.csq_draw.specs.Elements.{picture}
-use Rattle.csq_draw.specs.Pictures.{stopped_picture}
+use Rattle.csq_draw.specs.Captions.{caption_after, ended_caption}
+use Rattle.csq_draw.specs.declared.format.Format.{Format}
+use Rattle.csq_draw.specs.Drawings.{DrawingStandsAfter}
+use Rattle.csq_draw.specs.Pictures.{stopped_text}
 use Rattle.csq_draw.specs.Passes.{lock_of}
-use Rattle.csq_draw.proofs.Showing.{owners_count, shows_more, stopped_same, stopped_shown}
+use Rattle.csq_draw.proofs.Growing.{grew_same}
+use Rattle.csq_draw.proofs.Showing.{owners_count, shows_more}
 use Rattle.csq_draw.proofs.drawing.DrawingAnswerer.answer_line.Goals as goal
 
 pub lock_of-held-requires : goal.lock_of-held-requires
 lock_of-held-requires g c =
-    let (size, W, a) = c.requires in
-    let most = a.follows.limits.3 in
-    omega (arith, most, ap length c.deref.ensures.value, ap length a.follows.passes, length-passes size W)
+    let (k, d, a) = c.requires in
+    let most = a.0.follows.limits.3 in
+    omega (arith, most, ap length c.deref.ensures.value, ap length a.0.follows.passes, length-passes k.0 d.steps)
 
 pub handle-requires : goal.handle-requires
-handle-requires g c = let (size, W, a) = c.requires in (size, W, a.follows)
+handle-requires g c = let (k, d, a) = c.requires in (k.0, d.steps, a.0.follows)
 
-pub note-requires : goal.note-requires
-note-requires g c =
-    let (size, W, a) = c.requires in
-    let came = was_accepted size W c.args.number c.args.line.now _ c.in-Accepted.step (c.in-Accepted.ensures size W a.follows) in
+pub note-requires-in-Accepted-clause-owner : goal.note-requires-in-Accepted-clause-owner
+note-requires-in-Accepted-clause-owner g c =
+    let (k, d, a) = c.requires in
+    let came = was_accepted k.0 d.steps c.args.number c.args.line.now _ c.in-Accepted.step (c.in-Accepted.ensures k.0 d.steps a.0.follows) in
     let P : ℕ → Type 0 = λ n. OfIrp (λ i. number i < n) c.in-Accepted.step.made.kind in
-    subst P (sym (owners_count size _ _ (record { line = c.args.number; step = c.in-Accepted.step.made }) W a.shows)) came.0.1.known.0.irp
+    subst P (sym (owners_count k.0 _ _ (record { line = c.args.number; step = c.in-Accepted.step.made }) d.steps a.0.shows)) came.0.1.known.0.irp
 
-pub draw_stopped-requires-clause-few : goal.draw_stopped-requires-clause-few
-draw_stopped-requires-clause-few g c =
-    let (size, W, a) = c.requires in
-    let came = was_stopped size W c.args.number c.args.line.now _ c.in-Stopped.reason (c.in-Stopped.ensures size W a.follows) in
-    let most = a.follows.limits.3 in
-    omega (arith, most, ap length came.2.passes, length-passes size W)
+pub note-requires-in-Accepted-clause-irp : goal.note-requires-in-Accepted-clause-irp
+note-requires-in-Accepted-clause-irp g c =
+    let (k, d, a) = c.requires in
+    let came = was_accepted k.0 d.steps c.args.number c.args.line.now _ c.in-Accepted.step (c.in-Accepted.ensures k.0 d.steps a.0.follows) in
+    let P : Size → Type 0 = λ s. OfIrp (λ i. number i < s.irps) c.in-Accepted.step.made.kind in
+    subst P (sym came.2.same) came.0.1.known.0.irp
 
-pub returns-in-Skipped : goal.returns-in-Skipped
-returns-in-Skipped g c = λ size W a.
-    let came = was_skipped size W c.args.number c.args.line.now _ (c.in-Skipped.ensures size W a.follows) in (
-      [],
-      sym (append-nil _),
-      (Some W, (Skipped, came.0, refl, refl), record { follows = came.1; shows = a.shows }),
-    )
+pub draw_stop-requires : goal.draw_stop-requires
+draw_stop-requires g c =
+    let (k, d, a) = c.requires in
+    let came = was_stopped k.0 d.steps c.args.number c.args.line.now _ c.in-Stopped.reason (c.in-Stopped.ensures k.0 d.steps a.0.follows) in
+    let most = a.0.follows.limits.3 in
+    omega (arith, most, ap length came.2.passes, length-passes k.0 d.steps)
 
-pub returns-in_ok-note-in-Accepted : goal.returns-in_ok-note-in-Accepted
-returns-in_ok-note-in-Accepted g c = λ size W a.
-    let step = c.in-Accepted.step in
-    let w : Numbered = record { line = c.args.number; step = step.made } in
-    let came = was_accepted size W c.args.number c.args.line.now _ step (c.in-Accepted.ensures size W a.follows) in
-    let noted = c.in_ok-note-in-Accepted.ensures in
-    let P : Execution _ → Type 0 = λ x. Follows size x (w ∷ W) in
-    let held = c.lock_of-held.ensures ∙ ap lock_of (c.deref.ensures.value ∙ a.follows.passes) in (
+pub returns-in_ok-note-in-Skipped : goal.returns-in_ok-note-in-Skipped
+returns-in_ok-note-in-Skipped g c = λ k d a.
+    let came = was_skipped k.0 d.steps c.args.number c.args.line.now _ (c.in-Skipped.ensures k.0 d.steps a.0.follows) in
+    let captioned = c.in_ok-note-in-Skipped.ensures ∙ ap (λ x. caption_after x c.args.line.now) a.0.captioned in (
       [],
       sym (append-nil _),
       (
-        Some (w ∷ W),
-        (Accepted step.made, came.0, refl, refl),
-        record { follows = subst P (sym noted.execution) came.2; shows = shows_more size _ _ w W a.shows step _ _ _ noted.noted came.1 held came.0.1.known.0.irp },
+        Some (record { caption = caption_after d.caption c.args.line.now; steps = d.steps }),
+        (Skipped, came.0, refl, refl),
+        (record { follows = came.1; shows = a.0.shows; captioned = captioned }, a.1),
       ),
     )
 
-pub returns-in_ok-draw_stopped-in-Stopped : goal.returns-in_ok-draw_stopped-in-Stopped
-returns-in_ok-draw_stopped-in-Stopped g c = λ size W a.
-    let self = c.args.self.now in
+pub returns-in_ok-note-in-Accepted : goal.returns-in_ok-note-in-Accepted
+returns-in_ok-note-in-Accepted g c = λ k d a.
+    let size = k.0 in
+    let W = d.steps in
+    let step = c.in-Accepted.step in
+    let w : Numbered = record { line = c.args.number; step = step.made } in
+    let came = was_accepted size W c.args.number c.args.line.now _ step (c.in-Accepted.ensures size W a.0.follows) in
+    let noted = c.in_ok-note-in-Accepted.ensures in
+    let P : Execution _ → Type 0 = λ x. Follows size x (w ∷ W) in
+    let held = c.lock_of-held.ensures ∙ ap lock_of (c.deref.ensures.value ∙ a.0.follows.passes) in
+    let (words, are, notes) = noted.noted in
+    let shows = shows_more size _ _ w W a.0.shows step _ words _ _ notes came.1 came.0.1.known.0.irp held _ came.2.same came.2.agrees are in (
+      [],
+      sym (append-nil _),
+      (
+        Some (record { caption = ended_caption d.caption; steps = w ∷ W }),
+        (Accepted step.made, came.0, refl, refl),
+        (record { follows = subst P (sym noted.execution) came.2; shows = shows; captioned = noted.captioned ∙ ap ended_caption a.0.captioned }, noted.format ∙ a.1),
+      ),
+    )
+
+pub returns-in_ok-draw_stop-in-Stopped : goal.returns-in_ok-draw_stop-in-Stopped
+returns-in_ok-draw_stop-in-Stopped g c = λ k d a.
+    let (size, format) = k in
     let reason = c.in-Stopped.reason in
-    let count = c.in_ok-count-in-Stopped.count in
-    let came = was_stopped size W c.args.number c.args.line.now _ reason (c.in-Stopped.ensures size W a.follows) in
-    let drawn = stopped_same _ c.handle.new.self.passes.items _ self.rows.items _ self.owners.items count c.args.number reason _ _ c.deref-in-Stopped.ensures.value c.deref-in-Stopped-2.ensures.value c.deref-in-Stopped-3.ensures.value
-    c.in_ok-draw_stopped-in-Stopped.ensures in (
-      picture (stopped_picture size W c.args.number reason.stop),
-      stopped_shown size self.rows.items c.handle.new.self.passes.items self.owners.items W came.2.passes a.shows _ _ count c.args.number reason.stop reason c.in_ok-count-in-Stopped.ensures.counted came.1 drawn,
+    let came = was_stopped size d.steps c.args.number c.args.line.now _ reason (c.in-Stopped.ensures size d.steps a.0.follows) in
+    let stands : DrawingStandsAfter _ size d = record { follows = came.2; shows = a.0.shows; captioned = a.0.captioned } in (
+      stopped_text size format d c.args.number reason.stop,
+      grew_same _ _ (λ (f : Format). stopped_text size f d c.args.number reason.stop) _ _ a.1 (c.in_ok-draw_stop-in-Stopped.ensures size d stands came.1),
       (None, (Stopped reason.stop, came.0, refl, refl), tt),
     )

@@ -1,4 +1,3 @@
-use Rattle.std.proofs.Common.{[]}
 use Rattle.irp_core.specs.Runs.{Size}
 use Rattle.csq_explain.proofs.Following.{passes_none}
 use Rattle.csq_explain.proofs.execution.Execution.new.Goals as goal

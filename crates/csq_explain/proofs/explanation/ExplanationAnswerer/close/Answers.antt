@@ -1,4 +1,4 @@
-use Rattle.std.proofs.Common.{List, ℕ, ◌++◌, ◌∙◌, [], ap, sym, cond, codes, string_bytes, refl}
+use Rattle.std.proofs.Common.{List, ◌++◌, ◌∙◌, [], ap, cond, string_bytes, refl}
 use Rattle.csq_replay.specs.declared.schedule.closing.IrpLine.{IrpLine}
 use Rattle.csq_replay.proofs.Closings.{grew_more}
 use Rattle.csq_explain.specs.Explaining.{explained_irps, explained_rest, explained_claims}

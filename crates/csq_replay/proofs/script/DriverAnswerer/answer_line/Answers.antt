@@ -1,21 +1,18 @@
-use Rattle.std.proofs.Common.{Some, None, sym, append-nil, arith}
-use Rattle.csq_replay.specs.ScriptAnswer.AnswersCall.{too_long, skipped, malformed, answered}
-use Rattle.csq_replay.proofs.Going.{run_for}
+use Rattle.std.proofs.Common.{Some, None, sym, refl, append-nil}
+use Rattle.csq_replay.specs.declared.script.outcome.CallOutcome.TheVariants.{Skipped, Answered, Stopped}
 use Rattle.csq_replay.proofs.script.DriverAnswerer.answer_line.Goals as goal
 
-pub returns-then-line-gt-MAX_LINE : goal.returns-then-line-gt-MAX_LINE
-returns-then-line-gt-MAX_LINE g c = λ l s k.
-    (_, c.in_ok-writeln.ensures.bytes, (None, too_long (omega arith), tt))
+pub returns-in-Skipped : goal.returns-in-Skipped
+returns-in-Skipped g c = λ l s k.
+    let (t, comes, kept) = c.in-Skipped.ensures l s k in
+    (_, sym (append-nil _), (Some t, (Skipped, t, comes, refl, refl), kept))
 
-pub returns-then-is_skipped : goal.returns-then-is_skipped
-returns-then-is_skipped g c = λ l s k.
-    (_, sym (append-nil _), (Some s, skipped (omega arith) (c.is_skipped.ensures.0 c.if-is_skipped.true), k))
+pub returns-in_ok-writeln-in-Answered : goal.returns-in_ok-writeln-in-Answered
+returns-in_ok-writeln-in-Answered g c = λ l s k.
+    let (t, comes, kept) = c.in-Answered.ensures l s k in
+    (_, c.in_ok-writeln-in-Answered.ensures.bytes, (Some t, (Answered c.in-Answered.field-0 c.in-Answered.reply, t, comes, refl, refl), kept))
 
-pub returns-in_default : goal.returns-in_default
-returns-in_default g c = λ l s k.
-    (_, c.in_ok-writeln-2.ensures.bytes, (None, malformed (omega arith) (λ h. let t = c.is_skipped.ensures.1 h in cc (t, c.if-is_skipped.false)) c.in_default.ensures, tt))
-
-pub returns : goal.returns
-returns g c = λ l s k.
-    let (t, does, kept) = c.answer-reply.ensures l s k in
-    (_, c.in_ok-writeln-3.ensures.bytes, (Some t, answered c.in-Some.call c.answer-reply.result t c.in-Some.ensures does (run_for l _ t kept), kept))
+pub returns-in_ok-writeln-in-Stopped : goal.returns-in_ok-writeln-in-Stopped
+returns-in_ok-writeln-in-Stopped g c = λ l s k.
+    let (t, comes, kept) = c.in-Stopped.ensures l s k in
+    (_, c.in_ok-writeln-in-Stopped.ensures.bytes, (None, (Stopped c.in-Stopped.stop, t, comes, refl, refl), tt))

@@ -1,0 +1,44 @@
+//! Calls of one kind.
+ghost use Rattle.std.specs.Prelude.{◌≡◌, ◌+◌, ◌<◌, ◌≤◌, ◌^◌};
+
+/// Calls of one kind. Each completes one IRP or none.
+#[derive(Clone, Copy, Debug, PartialEq, Eq)]
+pub struct Calls {
+    /// How many calls were made.
+    pub made: u32,
+    /// How many of them completed an IRP.
+    pub completed: u32,
+    pub ghost most: { completed ≤ made },
+}
+
+impl Calls {
+    /// No calls.
+    pub(crate) fn none() -> Calls
+        ensures made { result.made ≡ 0 }
+        ensures completed { result.completed ≡ 0 }
+    {
+        Calls {
+            made: 0,
+            completed: 0,
+        }
+    }
+
+    /// The calls that completed no IRP.
+    pub fn missed(&self) -> u32
+        ensures { result + self.now.completed ≡ self.now.made }
+    {
+        self.made - self.completed
+    }
+
+    /// These calls and others.
+    pub(crate) fn plus(self, other: Calls) -> Calls
+        requires { self.made + other.made < 2 ^ 32 }
+        ensures made { result.made ≡ self.made + other.made }
+        ensures completed { result.completed ≡ self.completed + other.completed }
+    {
+        Calls {
+            made: self.made + other.made,
+            completed: self.completed + other.completed,
+        }
+    }
+}

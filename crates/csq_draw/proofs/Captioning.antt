@@ -1,0 +1,17 @@
+-- How a caption grows.
+use Rattle.std.proofs.Common.{◌≡◌, ℕ, ◌+◌, ◌<◌, List, [], ◌∷◌, ◌++◌, take, length, get_or, append_assoc, append-nil, refl, ap, sym, ◌∙◌}
+use Rattle.std.proofs.lemmas.List.{take_more}
+use Rattle.csq_replay.specs.Lines.{GrewBy}
+use Rattle.csq_replay.proofs.Closings.{grew_more}
+use Rattle.csq_draw.specs.Captions.{escaped_byte, escaped}
+
+escaped-append : (xs ys : List ℕ) → escaped (xs ++ ys) ≡ escaped xs ++ escaped ys
+escaped-append [] ys = refl
+escaped-append (x ∷ xs) ys = ap (λ t. escaped_byte x ++ t) (escaped-append xs ys) ∙ sym (append_assoc (escaped_byte x) (escaped xs) (escaped ys))
+
+-- one more byte was added
+pub grew_escaped : (xs : List ℕ) (k d : ℕ) (old between new : List ℕ) → k < length xs → GrewBy old between (escaped (take k xs)) → GrewBy between new (escaped_byte (get_or xs k d)) → GrewBy old new (escaped (take (k + 1) xs))
+grew_escaped xs k d old between new lt a b =
+    let whole : escaped (take (k + 1) xs) ≡ escaped (take k xs) ++ escaped_byte (get_or xs k d) =
+    ap escaped (take_more xs k d lt) ∙ escaped-append (take k xs) (get_or xs k d ∷ []) ∙ ap (λ t. escaped (take k xs) ++ t) (append-nil (escaped_byte (get_or xs k d))) in
+    grew_more old between new (escaped (take k xs)) (escaped_byte (get_or xs k d)) a b ∙ ap (λ t. old ++ t) (sym whole)

@@ -1,0 +1,25 @@
+-- The call that a step is of, and what the call answers where the step ends it, behind an arrow.
+use Rattle.std.specs.Prelude.{ℕ, ◌==◌, Bool, true, false, List, ◌++◌, codes, if◌then◌else◌}
+use Rattle.irp_core.specs.declared.ids.IrpLife.{IrpLife}
+use Rattle.irp_core.specs.declared.inside.Inside.{Inside}
+use Rattle.irp_core.specs.declared.step.Kind.{Kind}
+use Rattle.irp_core.specs.declared.step.Kind.TheVariants.{Arm, Test, Disarm, End, Flag, Take, Out, Done, Renew}
+use Rattle.irp_core.specs.Inside.{in_insert}
+use Rattle.irp_core.specs.Texts.{name_text}
+
+-- of a disarm: it ends an insert, and a removal where it found the routine
+abbrev pub disarm_call_text : Bool → ℕ → IrpLife → List ℕ
+disarm_call_text true found i = if found == 0 then codes "insert " ++ (name_text i ++ codes " &#8594; pending") else codes "insert " ++ (name_text i ++ codes " &#8594; cancelled")
+disarm_call_text false found i = if found == 0 then codes "removal" else codes "removal &#8594; IRP " ++ name_text i
+
+-- of a step of this kind that found this value, whose pass was inside of x
+abbrev pub call_text : Inside → Kind → ℕ → List ℕ
+call_text x (Arm i) found = codes "insert " ++ name_text i
+call_text x (Test i) found = if found == 0 then codes "insert " ++ (name_text i ++ codes " &#8594; pending") else codes "insert " ++ name_text i
+call_text x (Disarm i) found = disarm_call_text (in_insert x) found i
+call_text x End found = codes "removal &#8594; none"
+call_text x (Flag i) found = codes "cancel " ++ name_text i
+call_text x (Take i) found = if found == 0 then codes "cancel " ++ (name_text i ++ codes " &#8594; FALSE") else codes "cancel " ++ (name_text i ++ codes " &#8594; TRUE")
+call_text x (Out i) found = codes "cancel routine"
+call_text x (Done i) found = codes "completion"
+call_text x (Renew i) found = codes "reuse"

@@ -1,0 +1,89 @@
+-- A schedule, drawn for a terminal: a row for each step, with a column for each pass.
+use Rattle.std.specs.Prelude.{ℕ, ◌+◌, ◌-◌, ◌*◌, ◌==◌, Bool, List, [], ◌∷◌, ◌++◌, length, replicate, codes, decimal, Option, Some, None, if◌then◌else◌}
+use Rattle.irp_core.specs.declared.ids.PassId.{PassId}
+use Rattle.irp_core.specs.declared.step.Kind.{Kind}
+use Rattle.irp_core.specs.declared.step.Kind.TheVariants.{Disarm, Take}
+use Rattle.irp_core.specs.Texts.{kind_text, pass_text}
+use Rattle.csq_replay.specs.declared.schedule.closing.IrpLine.{IrpLine}
+use Rattle.csq_explain.specs.declared.passes.PassNow.{PassNow}
+use Rattle.csq_explain.specs.declared.reasons.Reason.{Reason}
+use Rattle.csq_explain.specs.declared.sentences.StepInCall.{StepInCall}
+use Rattle.csq_explain.specs.Endings.{irp_sentence, rest_sentence}
+use Rattle.csq_explain.specs.Reasons.{reason_text}
+use Rattle.csq_draw.specs.declared.cells.Cell.{Cell}
+use Rattle.csq_draw.specs.declared.cells.Cell.TheVariants.{Line, Lock, Pass, Step, Word}
+use Rattle.csq_draw.specs.declared.rows.Row.{Row}
+use Rattle.csq_draw.specs.declared.words.Words.{Words}
+use Rattle.csq_draw.specs.Captions.{CaptionText}
+use Rattle.csq_draw.specs.Circles.{word_text}
+use Rattle.csq_draw.specs.Endings.{ended_line_text}
+use Rattle.csq_draw.specs.Marks.{found_words}
+use Rattle.csq_draw.specs.Passes.{columns, column_of}
+
+-- the texts of each, by its place, the first of which is n
+abbrev pub each_text : {A : Type 0} → (ℕ → A → List ℕ) → ℕ → List A → List ℕ
+each_text of n [] = []
+each_text of n (x ∷ xs) = of n x ++ each_text of (n + 1) xs
+
+abbrev pub spaces : ℕ → List ℕ
+spaces n = replicate n 32
+
+-- a text, and spaces behind it as far as it has fewer letters than this
+abbrev pub in_width : ℕ → List ℕ → List ℕ
+in_width n text = text ++ spaces (n - length text)
+
+-- a star before a step that claims its IRP, and a space before any other
+abbrev pub claim_sign : Kind → ℕ → List ℕ
+claim_sign (Disarm i) found = if found == 1 then codes "*" else codes " "
+claim_sign (Take i) found = if found == 1 then codes "*" else codes " "
+claim_sign _ found = codes " "
+
+-- what a step did, and what it found
+abbrev pub step_cell : StepInCall → List ℕ
+step_cell s = claim_sign s.made.kind s.made.found ++ (kind_text s.made.kind ++ (codes " " ++ found_words s.made.kind s.made.found s.status))
+
+-- a pass that has the lock, and a hyphen where none has it
+abbrev pub lock_cell : Option PassId → List ℕ
+lock_cell (Some p) = pass_text p
+lock_cell None = codes "-"
+
+abbrev pub cell_text : Cell → List ℕ
+cell_text (Line n) = decimal n
+cell_text (Lock p) = lock_cell p
+cell_text (Pass p) = codes " " ++ pass_text p
+cell_text (Step s) = step_cell s
+cell_text (Word set) = word_text set
+
+-- the two words of a step's IRP after it, and hyphens where it names none
+abbrev pub words_cells : Option Words → List ℕ
+words_cells (Some w) = in_width 7 (cell_text (Word w.flag)) ++ in_width 0 (cell_text (Word w.routine))
+words_cells None = codes "-      -"
+
+-- a step: the number of its line, who has the lock, and in the column of its pass what it did; and at the right the words of its IRP
+abbrev pub row_text : List PassNow → Row → List ℕ
+row_text passes row = in_width 6 (cell_text (Line row.line)) ++ (in_width 6 (cell_text (Lock row.lock)) ++ (spaces (26 * column_of passes row.step.made.pass)
+    ++ (in_width (26 * (columns passes - column_of passes row.step.made.pass)) (cell_text (Step row.step)) ++ (words_cells row.words ++ codes "\n"))))
+
+-- the name of a pass that makes a step, over its column
+abbrev pub pass_cell : ℕ → PassNow → List ℕ
+pass_cell n now = if now.makes then in_width 26 (cell_text (Pass (record { 0 = n }))) else []
+
+-- what stands above the rows
+abbrev pub header_text : List PassNow → List ℕ
+header_text passes = codes "line  lock  " ++ (each_text pass_cell 0 passes ++ codes "flag   routine\n")
+
+-- the rows of these passes, below what stands above them
+abbrev pub rows_text : List PassNow → List Row → List ℕ
+rows_text passes rows = header_text passes ++ each_text (λ n row. row_text passes row) 0 rows
+
+-- the caption, the steps, and the nth line, which ended the handling for this reason
+abbrev pub stopped_lines : CaptionText → List PassNow → List Row → ℕ → Reason → List ℕ
+stopped_lines c passes rows n reason = c.plain ++ (rows_text passes rows ++ (codes "line " ++ (decimal n ++ (codes ": " ++ (ended_line_text reason.stop ++ (codes "\n  " ++ (reason_text reason ++ codes "\n")))))))
+
+-- where an IRP is in the end
+abbrev pub irp_line_told : ℕ → IrpLine → List ℕ
+irp_line_told n line = irp_sentence line ++ codes "\n"
+
+-- the caption, the steps, where each IRP is in the end, and whether all is at rest
+abbrev pub closed_lines : CaptionText → List PassNow → List Row → List IrpLine → Bool → List ℕ
+closed_lines c passes rows told at_rest = c.plain ++ (rows_text passes rows ++ (each_text irp_line_told 0 told ++ (rest_sentence at_rest ++ codes "\n")))

@@ -1,0 +1,190 @@
+//! A schedule, drawn for a terminal: a row for each step, with a column for each pass.
+ghost use Rattle.std.specs.Prelude.{◌≡◌, ◌-◌, ◌*◌, ◌≤◌, length, replicate, string_bytes, string_len, OnOk};
+ghost use Rattle.csq_replay.specs.Lines.{GrewBy};
+ghost use Rattle.csq_draw.specs.Captions.{caption_of};
+ghost use Rattle.csq_draw.specs.Passes.{columns, column_of};
+ghost use Rattle.csq_draw.specs.Terminal.{each_text, spaces, in_width, cell_text, words_cells, row_text, pass_cell, rows_text, irp_line_told, stopped_lines, closed_lines};
+
+use crate::caption::Caption;
+use crate::cells::Cell;
+use crate::ending::Refusal;
+use crate::passes::{column_of, columns};
+use crate::rows::Row;
+use crate::words::Words;
+use csq_explain::{IrpSentence, PassNow, Reason, RestSentence};
+use csq_replay::IrpLine;
+use irp_core::PassId;
+use std::alloc::{AllocError, Allocator};
+
+/// How many letters the number of a line takes, and who has the lock.
+const NARROW: usize = 6;
+
+/// How many letters the column of a pass takes.
+const WIDE: usize = 26;
+
+/// Adds so many spaces.
+fn push_spaces<A: Allocator>(count: usize, text: &mut String<A>) -> Result<(), AllocError>
+    ensures { OnOk result (GrewBy (string_bytes text.old) (string_bytes text.new) (spaces count)) }
+{
+    for _ in 0..count {
+        text.push(' ')?;
+    }
+    Ok(())
+}
+
+/// Adds a cell, and spaces behind it as far as it has fewer letters than this.
+fn push_cell<A: Allocator>(cell: Cell, width: usize, text: &mut String<A>) -> Result<(), AllocError>
+    ensures { OnOk result (GrewBy (string_bytes text.old) (string_bytes text.new)
+        (in_width width (cell_text cell))) }
+{
+    let before = text.len();
+    write!(text, "{cell}")?;
+    push_spaces(width.saturating_sub(text.len() - before), text)
+}
+
+/// Adds the words of an IRP.
+fn push_words<A: Allocator>(words: Option<Words>, text: &mut String<A>) -> Result<(), AllocError>
+    ensures { OnOk result (GrewBy (string_bytes text.old) (string_bytes text.new)
+        (words_cells words)) }
+{
+    let Some(words) = words else {
+        return text.push_str("-      -");
+    };
+    push_cell(Cell::Word(words.flag), 7, text)?;
+    push_cell(Cell::Word(words.routine), 0, text)
+}
+
+/// Adds the row of a step: its line, who has the lock, in the column of its pass what it did, and the words.
+fn push_row<A: Allocator>(
+    passes: &[PassNow],
+    row: Row,
+    text: &mut String<A>,
+) -> Result<(), AllocError>
+    requires { length passes.now ≤ 65 }
+    ensures { OnOk result (GrewBy (string_bytes text.old) (string_bytes text.new)
+        (row_text passes.now row)) }
+{
+    let column = column_of(passes, row.step.made.pass) as usize;
+    let columns = columns(passes) as usize;
+    push_cell(Cell::Line(row.line), NARROW, text)?;
+    push_cell(Cell::Lock(row.lock), NARROW, text)?;
+    push_spaces(WIDE * column, text)?;
+    push_cell(
+        Cell::Step(row.step),
+        WIDE * columns.saturating_sub(column),
+        text,
+    )?;
+    push_words(row.words, text)?;
+    text.push('\n')
+}
+
+/// Adds the name of a pass, over its column, if it makes a step.
+fn push_pass<A: Allocator>(
+    pass: PassId,
+    now: PassNow,
+    text: &mut String<A>,
+) -> Result<(), AllocError>
+    ensures { OnOk result (GrewBy (string_bytes text.old) (string_bytes text.new)
+        (pass_cell pass.0 now)) }
+{
+    if now.makes {
+        push_cell(Cell::Pass(pass), WIDE, text)
+    } else {
+        Ok(())
+    }
+}
+
+/// Adds the names of the passes that make steps.
+fn push_passes<A: Allocator>(passes: &[PassNow], text: &mut String<A>) -> Result<(), AllocError>
+    requires { length passes.now ≤ 65 }
+    ensures { OnOk result (GrewBy (string_bytes text.old) (string_bytes text.new)
+        (each_text pass_cell 0 passes.now)) }
+{
+    for (number, now) in passes.iter().enumerate() {
+        push_pass(PassId(number as u32), *now, text)?;
+    }
+    Ok(())
+}
+
+/// Adds the rows of all steps.
+fn push_rows<A: Allocator>(
+    passes: &[PassNow],
+    rows: &[Row],
+    text: &mut String<A>,
+) -> Result<(), AllocError>
+    requires { length passes.now ≤ 65 }
+    ensures { OnOk result (GrewBy (string_bytes text.old) (string_bytes text.new)
+        (each_text (λ n row. row_text passes.now row) 0 rows.now)) }
+{
+    for row in rows {
+        push_row(passes, *row, text)?;
+    }
+    Ok(())
+}
+
+/// Adds what stands above the rows, and the rows.
+fn push_steps<A: Allocator>(
+    passes: &[PassNow],
+    rows: &[Row],
+    text: &mut String<A>,
+) -> Result<(), AllocError>
+    requires { length passes.now ≤ 65 }
+    ensures { OnOk result (GrewBy (string_bytes text.old) (string_bytes text.new)
+        (rows_text passes.now rows.now)) }
+{
+    text.push_str("line  lock  ")?;
+    push_passes(passes, text)?;
+    text.push_str("flag   routine\n")?;
+    push_rows(passes, rows, text)
+}
+
+/// Adds where each IRP is in the end.
+fn push_told<A: Allocator>(told: &[IrpLine], text: &mut String<A>) -> Result<(), AllocError>
+    ensures { OnOk result (GrewBy (string_bytes text.old) (string_bytes text.new)
+        (each_text irp_line_told 0 told.now)) }
+{
+    for line in told {
+        writeln!(text, "{}", IrpSentence(*line))?;
+    }
+    Ok(())
+}
+
+/// Writes the caption, the steps, and the line that ended the handling.
+pub(crate) fn write_stopped<A: Allocator>(
+    caption: &Caption<A>,
+    passes: &[PassNow],
+    rows: &[Row],
+    line: usize,
+    reason: Reason,
+    text: &mut String<A>,
+) -> Result<(), AllocError>
+    requires { length passes.now ≤ 65 }
+    ensures { OnOk result (GrewBy (string_bytes text.old) (string_bytes text.new)
+        (stopped_lines (caption_of caption.now) passes.now rows.now line reason)) }
+{
+    text.push_str(caption.plain.as_str())?;
+    push_steps(passes, rows, text)?;
+    let refusal = Refusal(reason.stop);
+    writeln!(text, "line {line}: {refusal}\n  {reason}")?;
+    Ok(())
+}
+
+/// Writes the caption, the steps, and what is told in the end.
+pub(crate) fn write_closed<A: Allocator>(
+    caption: &Caption<A>,
+    passes: &[PassNow],
+    rows: &[Row],
+    told: &[IrpLine],
+    rest: bool,
+    text: &mut String<A>,
+) -> Result<(), AllocError>
+    requires { length passes.now ≤ 65 }
+    ensures { OnOk result (GrewBy (string_bytes text.old) (string_bytes text.new)
+        (closed_lines (caption_of caption.now) passes.now rows.now told.now rest)) }
+{
+    text.push_str(caption.plain.as_str())?;
+    push_steps(passes, rows, text)?;
+    push_told(told, text)?;
+    writeln!(text, "{}", RestSentence(rest))?;
+    Ok(())
+}

@@ -1,0 +1,70 @@
+//! The two words of an IRP after a step: its Cancel flag, and its cancel routine.
+ghost use Rattle.std.specs.Prelude.{◌≡◌, ◌<◌};
+ghost use Rattle.irp_core.specs.MachineState.{size_of};
+ghost use Rattle.irp_core.specs.Runs.{OfIrp};
+ghost use Rattle.irp_core.specs.Steps.{number};
+ghost use Rattle.csq_draw.specs.Words.{routine_at, AreWordsNamed, changes_flag, changes_routine};
+
+use crate::owners::Owner;
+use irp_core::{IrpLife, IrpPlace, Kind, Machine};
+use std::alloc::Allocator;
+
+/// An IRP in its present life, and whether its Cancel flag and its cancel routine are set.
+#[derive(Clone, Copy, Debug, PartialEq, Eq)]
+pub(crate) struct Words {
+    pub(crate) name: IrpLife,
+    pub(crate) flag: bool,
+    pub(crate) routine: bool,
+}
+
+/// Whether the routine is set of an IRP at this place, which has this owner: as long as it is listed and nobody
+/// owes it.
+fn routine_at(place: IrpPlace, owner: Option<Owner>) -> bool
+    ensures { result ≡ routine_at place owner }
+{
+    match place {
+        IrpPlace::Listed => owner.is_none(),
+        _ => false,
+    }
+}
+
+/// The words of the IRP that a step of this kind names, which has this owner after it.
+pub(crate) fn words_named<A: Allocator>(
+    machine: &Machine<A>,
+    kind: Kind,
+    owner: Option<Owner>,
+) -> Option<Words>
+    requires { OfIrp (λ i. number i < (size_of machine.now).irps) kind }
+    ensures { AreWordsNamed machine.now kind owner result }
+{
+    let irp = kind.name()?.irp;
+    let life = machine.life(irp).unwrap();
+    let place = machine.place(irp).unwrap();
+    Some(Words {
+        name: IrpLife { irp, life },
+        flag: machine.cancelled(irp),
+        routine: routine_at(place, owner),
+    })
+}
+
+/// Whether a step changed the Cancel flag, or began it anew.
+pub(crate) fn changes_flag(kind: Kind, found: u64) -> bool
+    ensures { result ≡ changes_flag kind found }
+{
+    match kind {
+        Kind::Flag(_) => found == 0,
+        Kind::Renew(_) => true,
+        _ => false,
+    }
+}
+
+/// Whether a step changed the cancel routine, or began it anew.
+pub(crate) fn changes_routine(kind: Kind, found: u64) -> bool
+    ensures { result ≡ changes_routine kind found }
+{
+    match kind {
+        Kind::Disarm(_) | Kind::Take(_) => found == 1,
+        Kind::Arm(_) | Kind::Renew(_) => true,
+        _ => false,
+    }
+}

@@ -1,0 +1,11 @@
+use Rattle.std.proofs.Common.{◌≡◌, List, filter}
+use Rattle.irp_core.specs.declared.step.Made.{Made}
+use Rattle.irp_core.specs.MachineState.{Agrees, size_of}
+use Rattle.irp_core.specs.declared.ids.IrpId.{IrpId}
+use Rattle.irp_core.specs.Lives.{present}
+use Rattle.csq_replay.specs.ScriptAnswer.{irps_below, is_kept}
+use Rattle.csq_replay.proofs.script.remains.kept_irps.Given as goal
+
+-- the IRPs so far that are kept so
+abbrev pub invariant-loop-number : goal.invariant-loop-number
+invariant-loop-number g l = (E : List Made) → Agrees l.driver.machine E → l.irps.items ≡ filter (λ (n : IrpId). is_kept l.kept E (present (size_of l.driver.machine).first E n)) (irps_below l.number)
