@@ -16,7 +16,7 @@ pub(crate) struct RefusedLine {
     pub(crate) cure: Cure,
 }
 
-/// As `line 2: p2 arm 0 is refused, since p1 has had the lock since line 1, inside an insert; its next step is
+/// As `line 2: p2 arm 0 is refused: p1 has had the lock since line 1, inside an insert; its next step is
 /// test 0`.
 impl fmt::Display for RefusedLine {
     ghost use Rattle.std.specs.Prelude.{Some};
