@@ -1,0 +1,8 @@
+use Rattle.std.proofs.Common.{◌≡◌, drop}
+use Rattle.std.specs.VecDeque.Iter.{deque_iter_rest}
+use Rattle.csq_list.specs.Searches.{first_match}
+use Rattle.csq_list.proofs.vec_list.first_that_matches.Given as goal
+
+-- the first match is among the rest
+abbrev pub invariant-loop-entry : goal.invariant-loop-entry
+invariant-loop-entry g l = first_match l.peek (deque_iter_rest l.entry-iterator) ≡ first_match l.peek (drop l.from l.entries.items)
