@@ -1,9 +1,7 @@
 -- The beginnings that a line may have.
-use Rattle.std.proofs.Common.{◌≡◌, ℕ, zero, suc, ◌+◌, ◌<◌, ◌≤◌, Bool, true, false, List, [], ◌∷◌, ◌++◌, take, drop, length, refl, ap, sym, ◌∙◌, inl, inr, arith, codes, decimal, subst, append_assoc, append-nil}
-use Rattle.std.specs.Prelude.{◌⊎◌, ◌↔◌}
+use Rattle.std.proofs.Common.{◌≡◌, ℕ, List, [], ◌∷◌, refl, ap, sym, ◌∙◌, inl, inr, codes, subst}
 use Rattle.irp_core.specs.declared.step.Kind.{Kind}
 use Rattle.irp_core.specs.declared.step.Kind.TheVariants.{Arm, Test, Disarm, End, Flag, Take, Out, Done, Renew}
-use Rattle.irp_core.specs.declared.step.Step.{Step as StepOf}
 use Rattle.csq_list.specs.declared.entry.Place.TheVariants.{Back, Front}
 use Rattle.csq_list.specs.declared.entry.Peek.TheVariants.{Any, File as OfFile}
 use Rattle.irp_core.specs.declared.ids.IrpLife.{IrpLife}
@@ -14,10 +12,10 @@ use Rattle.csq_replay.specs.CallLine.{IsNamed, place_word}
 use Rattle.csq_replay.specs.declared.script.call.Call.{Call as CallOf}
 use Rattle.csq_replay.specs.declared.script.call.Call.TheVariants as call
 use Rattle.csq_diagnose.specs.declared.expected.Expected.{Expected}
-use Rattle.csq_diagnose.specs.declared.expected.Expected.TheVariants.{Pass, Step, Call, IrpInLife, Irp, File, Peek, Place, Status}
+use Rattle.csq_diagnose.specs.declared.expected.Expected.TheVariants.{IrpInLife, Irp, File, Peek, Place, Status}
 use Rattle.csq_diagnose.specs.declared.grammar.Grammar.TheVariants.{Schedule, Script}
 use Rattle.csq_diagnose.specs.Expecting.{Admits, IsOneOf, step_words, call_words}
-use Rattle.csq_diagnose.specs.Grammars.{Fit, named, operands, places_of, AreLineWords, MayBegin}
+use Rattle.csq_diagnose.specs.Grammars.{Fit, named, operands, places_of, AreLineWords}
 
 -- the words after the one that says what a step does fit
 kind_fits : (k : Kind) (rest : List (List ℕ)) → AreKindWords rest k → (verb : List ℕ) × (more : List (List ℕ)) × (rest ≡ verb ∷ more) × IsOneOf step_words verb × Fit (named verb) more

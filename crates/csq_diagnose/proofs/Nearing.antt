@@ -1,41 +1,47 @@
 -- The nearest of more and more words.
-use Rattle.std.proofs.Common.{◌≡◌, ℕ, ◌+◌, ◌<◌, ◌≤◌, Bool, true, false, List, [], ◌∷◌, ◌++◌, take, map, get_or, length, refl, ap, sym, ◌∙◌, inl, inr, subst, arith, Option, Some, None}
+use Rattle.std.proofs.Common.{◌≡◌, ℕ, ◌+◌, ◌<◌, ◌≤◌, Bool, true, false, List, [], ◌∷◌, ◌++◌, take, get_or, length, refl, ap, sym, ◌∙◌, subst, arith, Option, Some, None}
 use Rattle.std.specs.Prelude.{nat_le, MatchOption, if◌then◌else◌}
 use Rattle.std.specs.Borrow.{Bor}
 use Rattle.std.specs.List.{All}
-use Rattle.std.proofs.lemmas.List.{map-append, take_more}
-use Rattle.std.proofs.lemmas.List.Elements.{All-push}
+use Rattle.std.proofs.lemmas.List.{append_assoc, map-append, take_more}
+use Rattle.std.proofs.lemmas.List.Elements.{All-nil, All-cons, All-push, All-append, All-weaker}
 use Rattle.csq_diagnose.specs.declared.nearest.Near.{Near}
-use Rattle.csq_diagnose.specs.Expecting.{IsOneOf}
 use Rattle.csq_diagnose.specs.Nearness.{edits, nearer, IsNearest}
 use Rattle.csq_diagnose.proofs.OneOf.{shown}
 
-one_left : (xs ys : List (List ℕ)) (w : List ℕ) → IsOneOf xs w → IsOneOf (xs ++ ys) w
-one_left [] ys w o = absurd o
-one_left (x ∷ xs) ys w (inl e) = inl e
-one_left (x ∷ xs) ys w (inr o) = inr (one_left xs ys w o)
-
-one_last : (xs : List (List ℕ)) (w : List ℕ) → IsOneOf (xs ++ w ∷ []) w
-one_last [] w = inl refl
-one_last (x ∷ xs) w = inr (one_last xs w)
-
 module _ (w : List ℕ) (x : Near) (edits_are : x.edits ≡ edits w x.word.now) where
+  none_else : (R : ℕ → ℕ → Type 0) → All (λ other. R x.edits (edits w other)) []
+  none_else R = All-nil (λ other. R x.edits (edits w other))
+
   nearest_one : IsNearest (x.word.now ∷ []) w x
-  nearest_one = record { one = inl refl; edits_are = edits_are; least = All-push (λ other. x.edits ≤ edits w other) [] x.word.now (λ k d lt. absurd (omega (arith, lt))) (omega (arith, edits_are)) }
+  nearest_one = record { before = []; later = []; one = refl; edits_are = edits_are; first = none_else ◌<◌; least = none_else ◌≤◌ }
 
   first_nearer : (xs : List (List ℕ)) (best : Near) → best.edits ≤ x.edits → IsNearest xs w best → IsNearest (xs ++ x.word.now ∷ []) w best
   first_nearer xs best le is = record {
-    one = one_left xs _ _ is.one;
+    before = is.before;
+    later = is.later ++ x.word.now ∷ [];
+    one = ap (λ ys. ys ++ x.word.now ∷ []) is.one ∙ append_assoc is.before (best.word.now ∷ is.later) (x.word.now ∷ []);
     edits_are = is.edits_are;
-    least = All-push (λ other. best.edits ≤ edits w other) xs x.word.now is.least (omega (arith, le, edits_are));
+    first = is.first;
+    least = All-push (λ other. best.edits ≤ edits w other) is.later x.word.now is.least (omega (arith, le, edits_are));
   }
 
   last_nearer : (xs : List (List ℕ)) (best : Near) → x.edits < best.edits → IsNearest xs w best → IsNearest (xs ++ x.word.now ∷ []) w x
   last_nearer xs best lt is = record {
-    one = one_last xs _;
+    before = xs;
+    later = [];
+    one = refl;
     edits_are = edits_are;
-    least = All-push (λ other. x.edits ≤ edits w other) xs x.word.now (λ k d in_range. let least = is.least k d in_range in omega (arith, lt, least)) (omega (arith, edits_are));
+    first = subst (All (λ other. x.edits < edits w other)) (sym is.one) (All-append (λ other. x.edits < edits w other) is.before (best.word.now ∷ is.later) farther
+        (All-cons (λ other. x.edits < edits w other) best.word.now is.later (omega (arith, lt, is.edits_are)) no_nearer));
+    least = none_else ◌≤◌;
   }
+    where
+      farther : All (λ other. x.edits < edits w other) is.before
+      farther = All-weaker (λ other. best.edits < edits w other) (λ other. x.edits < edits w other) (λ other more. omega (arith, lt, more)) is.before is.first
+
+      no_nearer : All (λ other. x.edits < edits w other) is.later
+      no_nearer = All-weaker (λ other. best.edits ≤ edits w other) (λ other. x.edits < edits w other) (λ other more. omega (arith, lt, more)) is.later is.least
 
   nearest_push : (xs : List (List ℕ)) (best : Option Near) → MatchOption best (xs ≡ []) (IsNearest xs w) → IsNearest (xs ++ x.word.now ∷ []) w (nearer best x)
   nearest_push xs None e = subst (λ ys. IsNearest (ys ++ x.word.now ∷ []) w x) (sym e) nearest_one

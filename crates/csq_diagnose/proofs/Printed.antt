@@ -1,5 +1,5 @@
 -- Bytes that are printed.
-use Rattle.std.proofs.Common.{◌≡◌, ℕ, zero, suc, ◌<◌, ◌≤◌, Bool, true, false, cond, List, [], ◌∷◌, length, get_or, refl, arith, Option, Some, None, ltb, ltb-false}
+use Rattle.std.proofs.Common.{◌≡◌, ℕ, zero, suc, ◌<◌, ◌≤◌, Bool, true, false, cond, List, [], ◌∷◌, length, get_or, refl, arith, Some, None, ltb, ltb-false}
 use Rattle.std.specs.Prelude.{position, not, slice_get, slice_index_or}
 use Rattle.std.specs.Char.{is_ascii_graphic}
 use Rattle.std.specs.List.{position_or_len}

@@ -4,7 +4,7 @@ use Rattle.csq_replay.specs.declared.lines.answer.Ended.{Ended}
 use Rattle.csq_replay.specs.declared.script.call.Call.{Call}
 use Rattle.csq_replay.specs.Lines.{IsWithinLine, IsSkipped, IsAnswer, RepliesTo}
 use Rattle.csq_replay.specs.CallLine.{IsCallLine}
-use Rattle.csq_diagnose.specs.declared.grammar.Grammar.TheVariants.{Schedule, Script}
+use Rattle.csq_diagnose.specs.declared.grammar.Grammar.TheVariants.{Script}
 use Rattle.csq_diagnose.specs.declared.malformed.Malformed.{Malformed}
 use Rattle.csq_diagnose.specs.Malforms.{IsMalformed}
 use Rattle.csq_diagnose.specs.LineTexts.{long_text, malformed_line_text}

@@ -1,5 +1,7 @@
 -- What may stand in a place of a line.
-use Rattle.std.specs.Prelude.{◌≡◌, ◌⊎◌, ℕ, List, [], ◌∷◌, codes}
+use Rattle.std.specs.Prelude.{◌≡◌, ◌⊎◌, ℕ, Bool, List, [], ◌∷◌, codes}
+use Rattle.std.specs.List.{list_any}
+use Rattle.std.specs.Str.{bytes_eq}
 use Rattle.irp_core.specs.declared.ids.PassId.{PassId}
 use Rattle.irp_core.specs.declared.ids.IrpLife.{IrpLife}
 use Rattle.irp_core.specs.declared.status.NtStatus.{NtStatus}
@@ -16,6 +18,10 @@ step_words = codes "arm" ∷ codes "test" ∷ codes "disarm" ∷ codes "end" ∷
 -- the words that begin a call
 abbrev pub call_words : List (List ℕ)
 call_words = codes "insert" ∷ codes "next" ∷ codes "remove" ∷ codes "mark" ∷ codes "routine" ∷ codes "cancel" ∷ codes "complete" ∷ codes "close" ∷ codes "cleanup" ∷ codes "flag" ∷ codes "status" ∷ codes "reuse" ∷ []
+
+-- whether a word begins a call
+abbrev pub is_call_word : List ℕ → Bool
+is_call_word word = list_any (λ one. bytes_eq one word) call_words
 
 -- where an insert puts its IRP
 abbrev pub place_words : List (List ℕ)

@@ -1,5 +1,5 @@
 -- Where a line is no step, or no call.
-use Rattle.std.specs.Prelude.{◌≡◌, ◌↔◌, ℕ, ◌+◌, ◌-◌, ◌^◌, ◌<◌, ◌≤◌, List, [], ◌∷◌, ◌++◌, take, drop, length, Option, Some, None, slice_get, is_none, IfSome, IfNone}
+use Rattle.std.specs.Prelude.{◌≡◌, ◌↔◌, ℕ, ◌+◌, ◌-◌, ◌^◌, ◌<◌, ◌≤◌, List, [], ◌∷◌, ◌++◌, take, drop, length, None, slice_get, is_none, IfSome, IfNone}
 use Rattle.std.specs.List.{join_with_byte}
 use Rattle.std.specs.Option.{option_map}
 use Rattle.csq_replay.specs.Pieces.{words_of}

@@ -1,20 +1,22 @@
 -- How near a word is to others.
-use Rattle.std.specs.Prelude.{◌≡◌, ℕ, ◌≤◌, nat_eq, nat_le, List, length, Option, Some, None, if◌then◌else◌}
+use Rattle.std.specs.Prelude.{◌≡◌, ℕ, ◌<◌, ◌≤◌, nat_eq, nat_le, List, ◌∷◌, ◌++◌, length, Option, Some, None, if◌then◌else◌}
 use Rattle.std.specs.List.{All}
 use Rattle.std.specs.Str.{chars}
 use Rattle.strsim.specs.Edits.{levenshtein_row}
 use Rattle.csq_diagnose.specs.declared.nearest.Near.{Near}
-use Rattle.csq_diagnose.specs.Expecting.{IsOneOf}
 
 -- the fewest edits that lead from one word to the other
 abbrev pub edits : List ℕ → List ℕ → ℕ
 edits from to = levenshtein_row nat_eq (chars from) (chars to) (length (chars to))
 
--- it is one of these words, and no fewer edits lead to another one
+-- it is the first of these words to which no fewer edits lead than to any other
 pub record IsNearest (words : List (List ℕ)) (word : List ℕ) (near : Near) : Type 0 where
-  pub one : IsOneOf words near.word.now
+  pub before : List (List ℕ)
+  pub later : List (List ℕ)
+  pub one : words ≡ before ++ near.word.now ∷ later
   pub edits_are : near.edits ≡ edits word near.word.now
-  pub least : All (λ other. near.edits ≤ edits word other) words
+  pub first : All (λ other. near.edits < edits word other) before
+  pub least : All (λ other. near.edits ≤ edits word other) later
 
 -- the nearer of two, the first one where both are as near
 abbrev pub nearer : Option Near → Near → Near

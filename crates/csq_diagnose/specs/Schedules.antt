@@ -1,9 +1,9 @@
 -- Which line ends a schedule, and why.
-use Rattle.std.specs.Prelude.{◌≡◌, ℕ, List, [], ◌++◌, length, codes, Option, Some, None}
+use Rattle.std.specs.Prelude.{◌≡◌, ℕ, List, [], ◌++◌, length, codes, Option}
 use Rattle.irp_core.specs.Runs.{Size}
 use Rattle.csq_replay.specs.declared.lines.answer.Ended.{Ended}
 use Rattle.csq_replay.specs.declared.schedule.outcome.Outcome.{Outcome}
-use Rattle.csq_replay.specs.declared.schedule.outcome.Outcome.TheVariants.{Skipped, Accepted, Stopped}
+use Rattle.csq_replay.specs.declared.schedule.outcome.Outcome.TheVariants.{Stopped}
 use Rattle.csq_replay.specs.declared.schedule.outcome.Stop.{Stop}
 use Rattle.csq_replay.specs.declared.schedule.outcome.Stop.TheVariants.{TooLong, Malformed as NoStep, Refused}
 use Rattle.csq_replay.specs.Lines.{IsAnswer, RepliesTo}

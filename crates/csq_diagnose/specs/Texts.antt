@@ -1,7 +1,8 @@
 -- Diagnoses in words.
-use Rattle.std.specs.Prelude.{ℕ, ◌+◌, ◌==◌, nat_le, Bool, false, List, [], ◌∷◌, ◌++◌, codes, decimal, Option, Some, None, if◌then◌else◌}
+use Rattle.std.specs.Prelude.{ℕ, ◌==◌, ◌&&◌, nat_le, Bool, false, List, [], ◌∷◌, ◌++◌, codes, decimal, Option, Some, None, if◌then◌else◌}
 use Rattle.csq_diagnose.specs.declared.expected.Expected.{Expected}
 use Rattle.csq_diagnose.specs.declared.expected.Expected.TheVariants.{Pass, Step, Call, IrpInLife, Irp, File, Peek, Place, Status, Nothing}
+use Rattle.csq_diagnose.specs.Expecting.{is_call_word}
 use Rattle.csq_diagnose.specs.declared.found.Found.{Found}
 use Rattle.csq_diagnose.specs.declared.found.Found.TheVariants.{End, FirstSpace, TwoSpaces, LastSpace, Byte, Word}
 use Rattle.csq_diagnose.specs.declared.malformed.Malformed.{Malformed}
@@ -56,6 +57,17 @@ abbrev pub hint_text : Option Near → List ℕ
 hint_text (Some near) = if nat_le near.edits 2 then codes "; did you mean \"" ++ (near.word.now ++ codes "\"?") else []
 hint_text None = []
 
+-- the word is the letter p and a digit, as a pass
+abbrev pub begins_a_step : List ℕ → Bool
+begins_a_step (letter ∷ digit ∷ more) = (letter == 112) && (nat_le 48 digit && nat_le digit 57)
+begins_a_step _ = false
+
+-- a line of the other kind of input, by its first word: a schedule has steps, a script has calls
+abbrev pub other_input_text : Expected → List ℕ → List ℕ
+other_input_text Pass word = if is_call_word word then codes "\n  a script has calls: csqsim script reads it" else []
+other_input_text Call word = if begins_a_step word then codes "\n  a schedule has steps: csqsim schedule reads it" else []
+other_input_text e word = []
+
 -- what is found where a word is expected
 abbrev pub found_text : Expected → Option Near → Found → List ℕ
 found_text e near End = codes "the line ends before its " ++ (noun_text e ++ (codes "\n  " ++ rule_text e))
@@ -63,7 +75,7 @@ found_text e near FirstSpace = codes "a space begins the line"
 found_text e near TwoSpaces = codes "two spaces: words are separated by one"
 found_text e near LastSpace = codes "a space ends the line"
 found_text e near (Byte byte) = strange_text byte
-found_text e near (Word word) = misplaced_text word.now e ++ (hint_text near ++ (codes "\n  " ++ rule_text e))
+found_text e near (Word word) = misplaced_text word.now e ++ (hint_text near ++ (codes "\n  " ++ (rule_text e ++ other_input_text e word.now)))
 
 abbrev pub malformed_text : Malformed → List ℕ
 malformed_text fault = found_text fault.expected fault.near fault.found

@@ -20,11 +20,12 @@ pub struct Malformed<'a> {
     pub found: Found<'a>,
     /// What may stand there.
     pub expected: Expected,
-    /// The nearest word that may stand there, where such words can be listed and a word was found.
+    /// The nearest word that may stand there, where such words can be listed and a word was found. Small
+    /// and capital letters are one here.
     pub near: Option<Near>,
 }
 
-/// The nearest word to what was found.
+/// The nearest word to what was found, written in small letters.
 fn nearest_to<A: Allocator + Copy>(
     alloc: A,
     found: Found<'_>,
@@ -33,7 +34,10 @@ fn nearest_to<A: Allocator + Copy>(
     ensures { IfOk result (IsNearTo expected found.entry) }
 {
     match found {
-        Found::Word(word) => Near::find(alloc, word, expected.words()),
+        Found::Word(word) => {
+            let small = word.to_ascii_lowercase(alloc)?;
+            Near::find(alloc, &small, expected.words())
+        }
         _ => Ok(None),
     }
 }

@@ -1,7 +1,8 @@
 //! Diagnoses of lines that name no step, or no call, in words.
 ghost use Rattle.std.specs.Prelude.{◌≡◌};
+ghost use Rattle.csq_diagnose.specs.Texts.{begins_a_step};
 
-use crate::expected::Expected;
+use crate::expected::{Expected, is_call_word};
 use crate::found::Found;
 use crate::malformed::Malformed;
 use crate::nearest::Near;
@@ -145,6 +146,44 @@ impl fmt::Display for Hint {
     }
 }
 
+/// Whether a word is the letter p and a digit, as a pass.
+fn begins_a_step(word: &[u8]) -> bool
+    ensures { result ≡ begins_a_step word.now }
+{
+    match word {
+        [letter, digit, ..] => *letter == b'p' && *digit >= b'0' && *digit <= b'9',
+        _ => false,
+    }
+}
+
+/// Which command reads a line that begins with this word, where it isn't the one that was given.
+#[derive(Clone, Copy, Debug)]
+struct OtherInput<'a> {
+    word: &'a str,
+    expected: Expected,
+}
+
+/// As a second line, `a script has calls: csqsim script reads it`, or nothing.
+impl fmt::Display for OtherInput<'_> {
+    ghost use Rattle.std.specs.Prelude.{Some};
+    ghost use Rattle.csq_diagnose.specs.Texts.{other_input_text};
+
+    ghost output = { λ line. Some (other_input_text line.expected line.word.now) };
+
+    fn fmt<W: fmt::Write>(&self, f: &mut fmt::Formatter<W>) -> fmt::Result {
+        let word = self.word.as_bytes();
+        match self.expected {
+            Expected::Pass if is_call_word(word) => {
+                write!(f, "\n  a script has calls: csqsim script reads it")
+            }
+            Expected::Call if begins_a_step(word) => {
+                write!(f, "\n  a schedule has steps: csqsim schedule reads it")
+            }
+            _ => write!(f, ""),
+        }
+    }
+}
+
 /// What is wrong, and which words are expected where a word is missing or is another one.
 impl fmt::Display for Malformed<'_> {
     ghost use Rattle.std.specs.Prelude.{Some};
@@ -161,7 +200,10 @@ impl fmt::Display for Malformed<'_> {
             Found::TwoSpaces => write!(f, "two spaces: words are separated by one"),
             Found::LastSpace => write!(f, "a space ends the line"),
             Found::Byte(byte) => write!(f, "{}", Strange(byte)),
-            Found::Word(word) => write!(f, "{}{hint}\n  {rule}", Misplaced { word, expected }),
+            Found::Word(word) => {
+                let other = OtherInput { word, expected };
+                write!(f, "{}{hint}\n  {rule}{other}", Misplaced { word, expected })
+            }
         }
     }
 }

@@ -1,5 +1,5 @@
 -- What a call of a script did, or why it was refused, in the words of the WDK.
-use Rattle.std.specs.Prelude.{ℕ, Bool, true, false, List, [], ◌++◌, codes, decimal, Option, Some, None, if◌then◌else◌}
+use Rattle.std.specs.Prelude.{ℕ, nat_le, Bool, true, false, List, [], ◌++◌, codes, decimal, Option, Some, None, if◌then◌else◌}
 use Rattle.irp_core.specs.declared.ids.FileId.{FileId}
 use Rattle.irp_core.specs.declared.ids.IrpLife.{IrpLife}
 use Rattle.irp_core.specs.Texts.{irp_text, name_text, life_text}
@@ -74,13 +74,18 @@ abbrev pub removed_life : Call → Option IrpLife
 removed_life (Remove i) = Some i
 removed_life _ = None
 
--- why a removal took no IRP: the one that it names, or any of the file object
-abbrev pub none_of : Option IrpLife → Option FileId → List ℕ
-none_of (Some i) file = codes "IRP " ++ (name_text i ++ codes " isn't listed in that life, or a cancel has it")
-none_of None file = codes "nothing is listed for " ++ (file_words file ++ codes " but what a cancel has")
+-- no removal takes an IRP of these
+abbrev pub none_listed : Option FileId → List ℕ
+none_listed file = codes "no IRP is listed for " ++ (file_words file ++ codes ", or a cancel has each of them")
+
+-- why a removal took no IRP: the one that it names, or any of the file object, if there is such a one among so many
+abbrev pub none_of : ℕ → Option IrpLife → Option FileId → List ℕ
+none_of files (Some i) file = codes "IRP " ++ (name_text i ++ codes " isn't listed in that life, or a cancel has it")
+none_of files None (Some f) = if nat_le files f.0 then codes "a file object's number is below " ++ decimal files else none_listed (Some f)
+none_of files None None = none_listed None
 
 abbrev pub none_words : NoneWords → List ℕ
-none_words s = none_of s.irp s.file
+none_words s = none_of s.files s.irp s.file
 
 -- what a call did that completed its IRP
 abbrev pub done_words : Call → List ℕ
@@ -134,7 +139,7 @@ reply_sentence irps files c Pending = routine_name c ++ (codes " listed " ++ (ob
 reply_sentence irps files c Cancelled = routine_name c ++ found_cancelled c
 reply_sentence irps files c (InsertRefused cause) = insert_refusal irps files c cause
 reply_sentence irps files c (Removed n) = routine_name c ++ (codes " took IRP " ++ (irp_text n ++ codes " out of the list, and the pass holds it now"))
-reply_sentence irps files c NoIrp = routine_name c ++ (codes " returned NULL: " ++ none_of (removed_life c) (named_file c))
+reply_sentence irps files c NoIrp = routine_name c ++ (codes " returned NULL: " ++ none_of files (removed_life c) (named_file c))
 reply_sentence irps files c Claimed = routine_name c ++ mark_words c true
 reply_sentence irps files c Unclaimed = routine_name c ++ mark_words c false
 reply_sentence irps files c (Completed status) = routine_name c ++ (done_words c ++ (codes " with " ++ status_name status))

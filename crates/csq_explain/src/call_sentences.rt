@@ -129,25 +129,28 @@ fn removed_life(call: Call) -> Option<IrpLife>
     }
 }
 
-/// Why a removal took no IRP: the one that it names, or any of the file object.
+/// Why a removal took no IRP: the one that it names, or any of the file object, if there is such a one.
 #[derive(Clone, Copy, Debug)]
 struct NoneWords {
+    files: u32,
     irp: Option<IrpLife>,
     file: Option<FileId>,
 }
 
 impl NoneWords {
-    fn new(call: Call) -> NoneWords
-        ensures { result ≡ record { irp = removed_life call; file = named_file call } }
+    fn new(call: Call, files: u32) -> NoneWords
+        ensures { result
+            ≡ record { files = files; irp = removed_life call; file = named_file call } }
     {
         NoneWords {
+            files,
             irp: removed_life(call),
             file: named_file(call),
         }
     }
 }
 
-/// As `nothing is listed for file object 1 but what a cancel has`.
+/// As `no IRP is listed for file object 1, or a cancel has each of them`.
 impl fmt::Display for NoneWords {
     ghost use Rattle.std.specs.Prelude.{Some};
     ghost use Rattle.csq_explain.specs.CallSentences.{none_words};
@@ -155,12 +158,17 @@ impl fmt::Display for NoneWords {
     ghost output = { λ told. Some (none_words told) };
 
     fn fmt<W: fmt::Write>(&self, f: &mut fmt::Formatter<W>) -> fmt::Result {
-        match self.irp {
-            Some(irp) => write!(f, "IRP {irp} isn't listed in that life, or a cancel has it"),
-            None => {
-                let file = FileWords(self.file);
-                write!(f, "nothing is listed for {file} but what a cancel has")
+        let files = self.files;
+        match (self.irp, self.file) {
+            (Some(irp), _) => write!(f, "IRP {irp} isn't listed in that life, or a cancel has it"),
+            (None, Some(file)) if file.0 >= files => {
+                write!(f, "a file object's number is below {files}")
             }
+            (None, file) => write!(
+                f,
+                "no IRP is listed for {}, or a cancel has each of them",
+                FileWords(file)
+            ),
         }
     }
 }
@@ -394,7 +402,8 @@ impl fmt::Display for AnsweredCall {
     ghost output = { λ told. Some (call_sentence told) };
 
     fn fmt<W: fmt::Write>(&self, f: &mut fmt::Formatter<W>) -> fmt::Result {
-        let AnsweredCall { call, reply, .. } = *self;
+        let (call, reply) = (self.call, self.reply);
+        let none = NoneWords::new(call, self.files);
         let (routine, object) = (RoutineName(call), ObjectName(call));
         match reply {
             Reply::Pending => write!(
@@ -408,7 +417,7 @@ impl fmt::Display for AnsweredCall {
                 f,
                 "{routine} took IRP {irp} out of the list, and the pass holds it now"
             ),
-            Reply::NoIrp => write!(f, "{routine} returned NULL: {}", NoneWords::new(call)),
+            Reply::NoIrp => write!(f, "{routine} returned NULL: {none}"),
             Reply::Claimed => write!(f, "{routine}{}", MarkTold(call, true)),
             Reply::Unclaimed => write!(f, "{routine}{}", MarkTold(call, false)),
             Reply::Completed(status) => {

@@ -223,7 +223,8 @@ With --totals further lines follow:
                           point; or unknown, where the clock failed
 The four counts of completions sum to completed; inserts are --submitters times
 --turns, and cancels --cancellers times --turns, but no more than there are
-IRPs: that is proved too.
+IRPs: that is proved too. Each removal that finds an IRP is a completion by a
+worker, and each cancel that takes the routine is one by a canceller.
 
 With --repeat so many devices run, one after the other, each with a fresh queue,
 and the lines of each are written. The first fault ends it.

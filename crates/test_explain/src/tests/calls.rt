@@ -18,7 +18,7 @@ const NEXT_LIFE: IrpLife = IrpLife {
     life: Life(1),
 };
 
-const ANSWERED: [(Call, Reply, &str); 21] = [
+const ANSWERED: [(Call, Reply, &str); 22] = [
     (
         INSERT,
         Reply::Pending,
@@ -42,12 +42,17 @@ const ANSWERED: [(Call, Reply, &str); 21] = [
     (
         Call::Next(Peek::Any),
         Reply::NoIrp,
-        "IoCsqRemoveNextIrp returned NULL: nothing is listed for any file object but what a cancel has",
+        "IoCsqRemoveNextIrp returned NULL: no IRP is listed for any file object, or a cancel has each of them",
     ),
     (
         Call::Next(Peek::File(FileId(1))),
         Reply::NoIrp,
-        "IoCsqRemoveNextIrp returned NULL: nothing is listed for file object 1 but what a cancel has",
+        "IoCsqRemoveNextIrp returned NULL: no IRP is listed for file object 1, or a cancel has each of them",
+    ),
+    (
+        Call::Next(Peek::File(FileId(4))),
+        Reply::NoIrp,
+        "IoCsqRemoveNextIrp returned NULL: a file object's number is below 4",
     ),
     (
         Call::Remove(NEXT_LIFE),

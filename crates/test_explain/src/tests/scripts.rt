@@ -33,7 +33,7 @@ pending
 irp 0
   IoCsqRemoveNextIrp took IRP 0 out of the list, and the pass holds it now
 none
-  IoCsqRemoveNextIrp returned NULL: nothing is listed for file object 1 but what a cancel has
+  IoCsqRemoveNextIrp returned NULL: no IRP is listed for file object 1, or a cancel has each of them
 irp 1
   IoCsqRemoveIrp took IRP 1 out of the list, and the pass holds it now
 completed 00000000

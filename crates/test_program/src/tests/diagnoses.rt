@@ -12,7 +12,15 @@ const SCHEDULES: &[(&str, &str)] = &[
     ),
     (
         "p1 arm 0\np1 ARM 0\n",
-        "csqsim: line 2, column 4: \"ARM\" is no step\n  a step is arm, test, disarm, end, flag, take, out, done or renew\n",
+        "csqsim: line 2, column 4: \"ARM\" is no step; did you mean \"arm\"?\n  a step is arm, test, disarm, end, flag, take, out, done or renew\n",
+    ),
+    (
+        "p1 tag 0\n",
+        "csqsim: line 1, column 4: \"tag\" is no step; did you mean \"flag\"?\n  a step is arm, test, disarm, end, flag, take, out, done or renew\n",
+    ),
+    (
+        "insert 0 0 back\n",
+        "csqsim: line 1, column 1: \"insert\" is no pass\n  a pass is the letter p and its number, as p1\n  a script has calls: csqsim script reads it\n",
     ),
     (
         "p1 arm 0\r\n",
@@ -85,6 +93,10 @@ const SCHEDULES: &[(&str, &str)] = &[
 ];
 
 const SCRIPTS: &[(&str, &str)] = &[
+    (
+        "p1 arm 0\n",
+        "csqsim: line 1, column 1: \"p1\" is no call\n  a call is insert, next, remove, mark, routine, cancel, complete, close,\n  cleanup, flag, status or reuse\n  a schedule has steps: csqsim schedule reads it\n",
+    ),
     (
         "insrt 0 0 back\n",
         "csqsim: line 1, column 1: \"insrt\" is no call; did you mean \"insert\"?\n  a call is insert, next, remove, mark, routine, cancel, complete, close,\n  cleanup, flag, status or reuse\n",

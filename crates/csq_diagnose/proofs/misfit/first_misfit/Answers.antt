@@ -1,4 +1,4 @@
-use Rattle.std.proofs.Common.{◌≡◌, ◌+◌, ◌<◌, ◌≤◌, ◌^◌, length, subst, refl, sym, ap, ◌∙◌, arith, rules}
+use Rattle.std.proofs.Common.{◌+◌, ◌<◌, ◌^◌, length, subst, refl, sym, ap, ◌∙◌, arith, rules}
 use Rattle.csq_diagnose.specs.declared.expected.Expected.{Expected}
 use Rattle.csq_diagnose.specs.Expecting.{Admits}
 use Rattle.csq_diagnose.specs.Grammars.{expected_at}

@@ -1,4 +1,3 @@
-use Rattle.std.proofs.Common.{◌≡◌}
 use Rattle.irp_core.specs.declared.status.NtStatus.{NtStatus}
 use Rattle.csq_replay.specs.CallLine.{IsHexStatus}
 use Rattle.csq_diagnose.proofs.OneOf.{is_read}

@@ -1,4 +1,4 @@
-use Rattle.std.proofs.Common.{subst, sym, List}
+use Rattle.std.proofs.Common.{subst, List}
 use Rattle.std.specs.Prelude.{MatchOption}
 use Rattle.csq_replay.specs.Pieces.{words_of}
 use Rattle.csq_diagnose.specs.declared.expected.Expected.{Expected}

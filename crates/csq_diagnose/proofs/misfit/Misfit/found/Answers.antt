@@ -1,5 +1,4 @@
-use Rattle.std.proofs.Common.{◌≡◌, refl, sym, ◌∙◌, ap, subst, Option, Some}
-use Rattle.std.specs.Prelude.{IsSomeAnd}
+use Rattle.std.proofs.Common.{refl, sym, ◌∙◌}
 use Rattle.csq_diagnose.proofs.Printed.{is_text, got}
 use Rattle.csq_diagnose.proofs.misfit.Misfit.found.Goals as goal
 

@@ -1,4 +1,4 @@
-use Rattle.std.proofs.Common.{refl, sym, ap, ◌∙◌, arith}
+use Rattle.std.proofs.Common.{refl}
 use Rattle.csq_diagnose.proofs.Nearing.{nearest_more}
 use Rattle.csq_diagnose.proofs.nearest.Near.find.Goals as goal
 

@@ -1,4 +1,4 @@
-use Rattle.std.proofs.Common.{ℕ, List, ◌∷◌, [], Some, None, sym, refl, subst, append-nil}
+use Rattle.std.proofs.Common.{◌∷◌, [], Some, None, sym, refl, subst, append-nil}
 use Rattle.csq_replay.specs.declared.schedule.outcome.Outcome.TheVariants.{Skipped, Accepted, Stopped}
 use Rattle.csq_replay.specs.declared.schedule.outcome.Stop.{Stop}
 use Rattle.csq_replay.specs.Outcomes.{ComesTo}

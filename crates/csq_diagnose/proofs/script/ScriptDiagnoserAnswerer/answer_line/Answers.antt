@@ -1,4 +1,4 @@
-use Rattle.std.proofs.Common.{Some, None, sym, append-nil, arith}
+use Rattle.std.proofs.Common.{Some, None, sym, append-nil}
 use Rattle.csq_replay.specs.Lines.{IsSkipped}
 use Rattle.csq_diagnose.specs.Diagnoses.DiagnosesCall.{is_long, is_skipped, is_call, is_malformed}
 use Rattle.csq_diagnose.proofs.script.ScriptDiagnoserAnswerer.answer_line.Goals as goal
