@@ -1,5 +1,5 @@
 -- How a text for a terminal grows.
-use Rattle.std.proofs.Common.{◌≡◌, ℕ, ◌+◌, ◌<◌, List, [], ◌∷◌, ◌++◌, take, length, get_or, append_assoc, append-nil, ap, sym, ◌∙◌, ◌-◌, arith, length-append}
+use Rattle.std.proofs.Common.{◌≡◌, ℕ, ◌+◌, ◌<◌, List, [], ◌∷◌, ◌++◌, take, length, get_or, append_assoc, append-nil, ap, sym, ◌∙◌, ◌-◌, max, arith, length-append}
 use Rattle.std.proofs.lemmas.List.{length-take-le, take_more, replicate-append-replicate}
 use Rattle.csq_replay.specs.Lines.{GrewBy}
 use Rattle.csq_replay.proofs.Closings.{grew_more}
@@ -24,8 +24,8 @@ pub grew_space : (old between new : List ℕ) (k : ℕ) → GrewBy old between (
 grew_space old between new k a b = grew_more old between new (spaces k) (32 ∷ []) a b ∙ ap (λ t. old ++ t) (replicate-append-replicate k 1 32)
 
 -- a cell was added, and spaces behind it
-pub grew_cell : (old between new : List ℕ) (n : ℕ) (cell : List ℕ) → GrewBy old between cell → GrewBy between new (spaces (n - (length between - length old))) → GrewBy old new (in_width n cell)
+pub grew_cell : (old between new : List ℕ) (n : ℕ) (cell : List ℕ) → GrewBy old between cell → GrewBy between new (spaces (max (n - (length between - length old)) 1)) → GrewBy old new (in_width n cell)
 grew_cell old between new n cell a b =
     let more : length between ≡ length old + length cell = ap length a ∙ length-append old cell in
     let count : length between - length old ≡ length cell = omega (arith, more) in
-    grew_more old between new cell (spaces (n - (length between - length old))) a b ∙ ap (λ k. old ++ (cell ++ spaces (n - k))) count
+    grew_more old between new cell (spaces (max (n - (length between - length old)) 1)) a b ∙ ap (λ k. old ++ (cell ++ spaces (max (n - k) 1))) count

@@ -1,5 +1,5 @@
 -- A schedule, drawn for a terminal: a row for each step, with a column for each pass.
-use Rattle.std.specs.Prelude.{ℕ, ◌+◌, ◌-◌, ◌*◌, ◌==◌, Bool, List, [], ◌∷◌, ◌++◌, length, replicate, codes, decimal, Option, Some, None, if◌then◌else◌}
+use Rattle.std.specs.Prelude.{ℕ, ◌+◌, ◌-◌, ◌*◌, ◌==◌, max, Bool, List, [], ◌∷◌, ◌++◌, length, replicate, codes, decimal, Option, Some, None, if◌then◌else◌}
 use Rattle.irp_core.specs.declared.ids.PassId.{PassId}
 use Rattle.irp_core.specs.declared.step.Kind.{Kind}
 use Rattle.irp_core.specs.declared.step.Kind.TheVariants.{Disarm, Take}
@@ -28,9 +28,9 @@ each_text of n (x ∷ xs) = of n x ++ each_text of (n + 1) xs
 abbrev pub spaces : ℕ → List ℕ
 spaces n = replicate n 32
 
--- a text, and spaces behind it as far as it has fewer letters than this
+-- a text, and spaces behind it up to this width, but at least one
 abbrev pub in_width : ℕ → List ℕ → List ℕ
-in_width n text = text ++ spaces (n - length text)
+in_width n text = text ++ spaces (max (n - length text) 1)
 
 -- a star before a step that claims its IRP, and a space before any other
 abbrev pub claim_sign : Kind → ℕ → List ℕ
@@ -56,17 +56,17 @@ cell_text (Word set) = word_text set
 
 -- the two words of a step's IRP after it, and hyphens where it names none
 abbrev pub words_cells : Option Words → List ℕ
-words_cells (Some w) = in_width 7 (cell_text (Word w.flag)) ++ in_width 0 (cell_text (Word w.routine))
+words_cells (Some w) = in_width 7 (cell_text (Word w.flag)) ++ cell_text (Word w.routine)
 words_cells None = codes "-      -"
 
 -- a step: the number of its line, who has the lock, and in the column of its pass what it did; and at the right the words of its IRP
 abbrev pub row_text : List PassNow → Row → List ℕ
-row_text passes row = in_width 6 (cell_text (Line row.line)) ++ (in_width 6 (cell_text (Lock row.lock)) ++ (spaces (26 * column_of passes row.step.made.pass)
-    ++ (in_width (26 * (columns passes - column_of passes row.step.made.pass)) (cell_text (Step row.step)) ++ (words_cells row.words ++ codes "\n"))))
+row_text passes row = in_width 6 (cell_text (Line row.line)) ++ (in_width 6 (cell_text (Lock row.lock)) ++ (spaces (27 * column_of passes row.step.made.pass)
+    ++ (in_width (27 * (columns passes - column_of passes row.step.made.pass)) (cell_text (Step row.step)) ++ (words_cells row.words ++ codes "\n"))))
 
 -- the name of a pass that makes a step, over its column
 abbrev pub pass_cell : ℕ → PassNow → List ℕ
-pass_cell n now = if now.makes then in_width 26 (cell_text (Pass (record { 0 = n }))) else []
+pass_cell n now = if now.makes then in_width 27 (cell_text (Pass (record { 0 = n }))) else []
 
 -- what stands above the rows
 abbrev pub header_text : List PassNow → List ℕ

@@ -289,7 +289,8 @@ pub fn draw_schedule<A: Allocator + Copy, R: Read, W: Write>(
 /// each step, with the number of its line, the pass that has the lock, in the column of its pass what it did
 /// and what it found, with a star before it where it claims its IRP, and the two words of its IRP after it;
 /// then the line that ended the handling and why, or where each IRP is and whether all is at rest. A column is
-/// 26 letters wide. The caption stands above. It doesn't show who owes or holds which IRP.
+/// 27 letters wide; behind a longer text stands one space. The caption stands above. It doesn't show who owes or
+/// holds which IRP.
 ///
 /// All of the input is read, up to 1,048,577 bytes; more stays unread, and is answered `input too long`.
 /// `irps` is 1 to 1,024 and `passes` 1 to 64. Faults: 1 Memory and 2 Read, after which nothing was written;

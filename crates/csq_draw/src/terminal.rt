@@ -20,7 +20,7 @@ use std::alloc::{AllocError, Allocator};
 const NARROW: usize = 6;
 
 /// How many letters the column of a pass takes.
-const WIDE: usize = 26;
+const WIDE: usize = 27;
 
 /// Adds so many spaces.
 fn push_spaces<A: Allocator>(count: usize, text: &mut String<A>) -> Result<(), AllocError>
@@ -32,14 +32,14 @@ fn push_spaces<A: Allocator>(count: usize, text: &mut String<A>) -> Result<(), A
     Ok(())
 }
 
-/// Adds a cell, and spaces behind it as far as it has fewer letters than this.
+/// Adds a cell, and spaces behind it up to this width, but at least one.
 fn push_cell<A: Allocator>(cell: Cell, width: usize, text: &mut String<A>) -> Result<(), AllocError>
     ensures { OnOk result (GrewBy (string_bytes text.old) (string_bytes text.new)
         (in_width width (cell_text cell))) }
 {
     let before = text.len();
     write!(text, "{cell}")?;
-    push_spaces(width.saturating_sub(text.len() - before), text)
+    push_spaces(width.saturating_sub(text.len() - before).max(1), text)
 }
 
 /// Adds the words of an IRP.
@@ -51,7 +51,8 @@ fn push_words<A: Allocator>(words: Option<Words>, text: &mut String<A>) -> Resul
         return text.push_str("-      -");
     };
     push_cell(Cell::Word(words.flag), 7, text)?;
-    push_cell(Cell::Word(words.routine), 0, text)
+    write!(text, "{}", Cell::Word(words.routine))?;
+    Ok(())
 }
 
 /// Adds the row of a step: its line, who has the lock, in the column of its pass what it did, and the words.

@@ -100,7 +100,7 @@ each IRP is in the end, and whether all is at rest.
 With --text it is drawn for a terminal, in ASCII letters alone: a line for each
 step, with the pass that has the lock, in the column of its pass what it did,
 with a star before it where it claims its IRP, and the two words of the IRP
-after it. Each pass takes 26 letters, the rest 26. The comment before the first
+after it. Each pass takes 27 letters, the rest 26. The comment before the first
 step stands above. Who owes or holds which IRP is left out.
 
 An input of more than 1048576 bytes is too long, and nothing is drawn.

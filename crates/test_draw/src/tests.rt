@@ -1,5 +1,7 @@
 //! Pictures of schedules, byte by byte.
-use csq_draw::{PICTURE_HEAD, draw_schedule, draw_schedule_as_text};
+mod texts;
+
+use csq_draw::{PICTURE_HEAD, draw_schedule};
 use csq_replay::{Ended, MAX_INPUT, SimFault};
 use linked_list_allocator::LocalHeap;
 use std::io;
@@ -127,59 +129,6 @@ fn a_schedule_is_drawn(rt: HostRuntime) -> Result<(), Fail> {
         let wanted = format!(in rt.alloc(); "{before}{PICTURE_HEAD}\n{behind}")?;
         assert_eq!(rt; ended, Some(row.ended), "at {}", row.input);
         assert_eq!(rt; text.as_slice(), wanted.as_bytes(), "at {}", row.input);
-    }
-    Ok(())
-}
-
-// A schedule, and what it is as text.
-const TEXTS: [(&str, &str, Ended); 3] = [
-    (
-        "# a < b\n#\u{e9}\np1 arm 0\np2 flag 0\np1 test 0\np2 take 0\np1 disarm 0\np2 out 0\np2 done 0\n",
-        "\
-a < b
-??
-line  lock   p1                        p2                       flag   routine
-3     p1     arm 0 was none                                     clear  set
-4     p1                               flag 0 was clear         set    set
-5     p1     test 0 is set                                      set    set
-6     p1                              *take 0 found it          set    clear
-7     p1     disarm 0 found none                                set    clear
-8     p2                               out 0                    set    clear
-9     -                                done 0 STATUS_CANCELLED  set    clear
-IRP 0 was completed by p2 with STATUS_CANCELLED; its Cancel flag is set
-all is at rest: no call is unfinished, and nobody owes or holds an IRP
-",
-        Ended::AllHandled,
-    ),
-    (
-        "p3 end\np1 arm 7\np3 arm 1\n",
-        "\
-line  lock   p1                        p3                       flag   routine
-1     p3                               end                      -      -
-2     p1     arm 7 was none                                     clear  set
-line 3: p3 arm 1 refused LockHeld p1
-  p1 has had the lock since line 2, inside an insert; its next step is test 7
-",
-        Ended::Stopped,
-    ),
-    (
-        "",
-        "\
-line  lock  flag   routine
-all is at rest: no call is unfinished, and nobody owes or holds an IRP
-",
-        Ended::AllHandled,
-    ),
-];
-
-#[test]
-fn a_schedule_is_drawn_as_text(rt: HostRuntime) -> Result<(), Fail> {
-    for (lines, wanted, ended) in TEXTS {
-        let mut input = lines.as_bytes();
-        let mut text = Vec::new(rt.alloc());
-        let answer = draw_schedule_as_text(rt.alloc(), 8, 4, &mut input, &mut text).ok();
-        assert_eq!(rt; answer, Some(ended), "at {lines:?}");
-        assert_eq!(rt; text.as_slice(), wanted.as_bytes(), "at {lines:?}");
     }
     Ok(())
 }
