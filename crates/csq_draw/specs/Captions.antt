@@ -1,7 +1,6 @@
 -- The comment at the head of a schedule, as it stands above its picture.
 use Rattle.std.specs.Prelude.{ℕ, ◌+◌, ◌==◌, ◌&&◌, Bool, true, false, not, nat_le, nat_lt, List, [], ◌∷◌, ◌++◌, map, codes, string_bytes, if◌then◌else◌}
 use Rattle.csq_draw.specs.declared.caption.Caption.{Caption}
-use Rattle.csq_draw.specs.declared.caption.TheConstants.{MAX_LINES}
 
 -- a byte that is printable ASCII, and a question mark for any other
 abbrev pub printable : ℕ → ℕ
@@ -59,9 +58,9 @@ abbrev pub with_skipped : CaptionText → List ℕ → CaptionText
 with_skipped c [] = ended_caption c
 with_skipped c (sign ∷ text) = with_line c (unspaced text)
 
--- after a line that was skipped, as long as the comment goes on and has few lines
+-- after a line that was skipped, as long as the comment goes on and has fewer than eight lines
 abbrev pub caption_after : CaptionText → List ℕ → CaptionText
-caption_after c line = if not c.ended && nat_lt c.lines MAX_LINES then with_skipped c line else c
+caption_after c line = if not c.ended && nat_lt c.lines 8 then with_skipped c line else c
 
 -- what a caption says
 abbrev pub caption_of : {A : Type 0} → Caption A → CaptionText

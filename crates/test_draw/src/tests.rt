@@ -1,4 +1,5 @@
 //! Pictures of schedules, byte by byte.
+mod marks;
 mod texts;
 
 use csq_draw::{PICTURE_HEAD, draw_schedule};

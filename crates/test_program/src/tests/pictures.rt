@@ -71,4 +71,5 @@ fn pictures_are_as_large_as_they_may_be(rt: HostRuntime) {
         "IRP 1023 wasn't inserted; its Cancel flag is set",
         &words,
     );
+    ended.look_at_begin(&rt, "<svg ", &words);
 }

@@ -128,6 +128,11 @@ impl Ended {
         assert!(rt; self.told.as_str() == "", "at {at:?}");
     }
 
+    /// Looks whether standard output begins with a text.
+    pub(crate) fn look_at_begin(&self, rt: &impl Abort, wanted: &str, at: &[&str]) {
+        assert!(rt; self.printed.as_str().starts_with(wanted), "at {at:?}");
+    }
+
     /// Looks for a text on standard output where the status is 2, and compares what standard error tells.
     pub(crate) fn compare_told(&self, rt: &impl Abort, wanted: &str, told: &str, at: &[&str]) {
         assert!(rt; self.status == ExitCode::from(2), "at {at:?}");
