@@ -4,3 +4,4 @@ pub mod Writing
 pub mod Showing
 pub mod PictureLaws
 pub mod OwnerLaws
+pub mod LaneLaws

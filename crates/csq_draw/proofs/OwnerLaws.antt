@@ -30,23 +30,24 @@ use Rattle.csq_draw.specs.declared.owners.Having.{Having}
 use Rattle.csq_draw.specs.declared.owners.Having.TheVariants.{Owes, Holds}
 use Rattle.csq_draw.specs.declared.owners.Owner.{Owner}
 use Rattle.csq_draw.specs.Laws.{EachDrawnOwnerOwesOrHolds}
-use Rattle.csq_draw.specs.Owners.{is_of_irp, owner, owner_named}
+use Rattle.csq_draw.specs.Lanes.{lane_for}
+use Rattle.csq_draw.specs.Owners.{is_of_irp, owner, owner_named, owners}
 use Rattle.csq_draw.specs.declared.words.Words.{Words}
 use Rattle.csq_draw.specs.Words.{words_of, words_named, routine_at}
 use Rattle.csq_replay.proofs.OneAnswer.{one_place}
 
-abbrev drawn_as : PassId → Having → ℕ → IrpId → Option Owner
-drawn_as p having row n = Some (record { irp = n; pass = p; having = having; row = row })
+abbrev drawn_as : PassId → Having → ℕ → ℕ → IrpId → Option Owner
+drawn_as p having row lane n = Some (record { irp = n; pass = p; having = having; row = row; lane = lane })
 
 -- IRP n, which stands so, is drawn with this owner
 abbrev Fits : IrpId → Standing → Option Owner → Type 0
-Fits n (Owed p) o = (row : ℕ) × (o ≡ drawn_as p Owes row n)
-Fits n (Held p status) o = (row : ℕ) × (o ≡ drawn_as p Holds row n)
+Fits n (Owed p) o = (row : ℕ) × (lane : ℕ) × (o ≡ drawn_as p Owes row lane n)
+Fits n (Held p status) o = (row : ℕ) × (lane : ℕ) × (o ≡ drawn_as p Holds row lane n)
 Fits n _ o = o ≡ None
 
--- IRP n stands in its present life as it is drawn
-abbrev IsDrawn : Size → IrpId → List Made → Type 0
-IsDrawn size n E = (s : Standing) × Stands E (present size.first E n) s × Fits n s (owner E n)
+-- IRP n of so many stands in its present life as it is drawn
+abbrev IsDrawn : Size → ℕ → IrpId → List Made → Type 0
+IsDrawn size irps n E = (s : Standing) × Stands E (present size.first E n) s × Fits n s (owner irps E n)
 
 bit_found : (b : Bool) (v : ℕ) → v ≡ bit b → (v == 1) ≡ b
 bit_found true v e = rw e refl
@@ -115,25 +116,25 @@ module _ (n : IrpId) (j : IrpLife) (p : PassId) (x : Inside) where
   missed_fits false s o w f = f
 
   -- one that found it, and the steps of an owner
-  module _ (row : ℕ) (same : j.irp ≡ n) where
-    taken_fits : (s : Standing) → is_waiting s ≡ true → Fits n (moved (Take j) s p x) (drawn_as p Owes row j.irp)
+  module _ (row lane : ℕ) (same : j.irp ≡ n) where
+    taken_fits : (s : Standing) → is_waiting s ≡ true → Fits n (moved (Take j) s p x) (drawn_as p Owes row lane j.irp)
     taken_fits Home w = absurd (cc w)
-    taken_fits Waiting w = (row, ap (drawn_as p Owes row) same)
+    taken_fits Waiting w = (row, lane, ap (drawn_as p Owes row lane) same)
     taken_fits (Owed q) w = absurd (cc w)
     taken_fits (Held q status) w = absurd (cc w)
     taken_fits (Finished status q) w = absurd (cc w)
 
-    disarmed_fits : (s : Standing) → is_waiting s ≡ true → Fits n (moved (Disarm j) s p x) (drawn_as p Holds row j.irp)
+    disarmed_fits : (s : Standing) → is_waiting s ≡ true → Fits n (moved (Disarm j) s p x) (drawn_as p Holds row lane j.irp)
     disarmed_fits Home w = absurd (cc w)
-    disarmed_fits Waiting w = (row, ap (drawn_as p Holds row) same)
+    disarmed_fits Waiting w = (row, lane, ap (drawn_as p Holds row lane) same)
     disarmed_fits (Owed q) w = absurd (cc w)
     disarmed_fits (Held q status) w = absurd (cc w)
     disarmed_fits (Finished status q) w = absurd (cc w)
 
-    out_fits : (s : Standing) → is_owed_by p s ≡ true → Fits n (moved (Out j) s p x) (drawn_as p Holds row j.irp)
+    out_fits : (s : Standing) → is_owed_by p s ≡ true → Fits n (moved (Out j) s p x) (drawn_as p Holds row lane j.irp)
     out_fits Home w = absurd (cc w)
     out_fits Waiting w = absurd (cc w)
-    out_fits (Owed q) w = (row, ap (drawn_as p Holds row) same)
+    out_fits (Owed q) w = (row, lane, ap (drawn_as p Holds row lane) same)
     out_fits (Held q status) w = absurd (cc w)
     out_fits (Finished status q) w = absurd (cc w)
 
@@ -153,12 +154,15 @@ over_fits n (Held q status) ends o d ne f = absurd (ne d)
 over_fits n (Finished status q) ends o d ne f = f
 
 -- one more step, of IRP n
-module _ (size : Size) (n : IrpId) (p : PassId) (v : ℕ) (E : List Made) (s : Standing) (st : Stands E (present size.first E n) s) (f : Fits n s (owner E n)) where
+module _ (size : Size) (irps : ℕ) (n : IrpId) (p : PassId) (v : ℕ) (E : List Made) (s : Standing) (st : Stands E (present size.first E n) s) (f : Fits n s (owner irps E n)) where
   abbrev now : IrpLife
   now = present size.first E n
 
   abbrev step : Kind → Made
   step k = record { pass = p; kind = k; found = v }
+
+  abbrev lane_now : ℕ
+  lane_now = lane_for (owners irps E) p (owner irps E n)
 
   stands_next : (k : Kind) → IsRun size (step k ∷ E) → Stands (step k ∷ E) now (standing_after E (step k) now s)
   stands_next k r = standing_says size (step k ∷ E) r now _ (standing_grows size (step k) E r now s (is_standing E now s st))
@@ -169,32 +173,32 @@ module _ (size : Size) (n : IrpId) (p : PassId) (v : ℕ) (E : List Made) (s : S
   at_now : (j : IrpLife) → j ≡ now → (b : Bool) → armed E j ≡ b → is_waiting s ≡ b
   at_now j e b a = sym st.set_is ∙ ap (λ (y : IrpLife). armed E y) (sym e) ∙ a
 
-  drawn_next : (k : Kind) → IsRun size (step k ∷ E) → is_of_irp n k ≡ true → IsDrawn size n (step k ∷ E)
-  drawn_next (Arm j) r e = (standing_after E (step (Arm j)) now s, stands_next (Arm j) r, rw e (armed_fits n j p (inside E p) (same_irp j now) s (owner E n) f))
-  drawn_next (Test j) r e = (standing_after E (step (Test j)) now s, stands_next (Test j) r, rw e (tested_fits n j p (inside E p) (same_irp j now) s (owner E n) f))
+  drawn_next : (k : Kind) → IsRun size (step k ∷ E) → is_of_irp n k ≡ true → IsDrawn size irps n (step k ∷ E)
+  drawn_next (Arm j) r e = (standing_after E (step (Arm j)) now s, stands_next (Arm j) r, rw e (armed_fits n j p (inside E p) (same_irp j now) s (owner irps E n) f))
+  drawn_next (Test j) r e = (standing_after E (step (Test j)) now s, stands_next (Test j) r, rw e (tested_fits n j p (inside E p) (same_irp j now) s (owner irps E n) f))
   drawn_next (Disarm j) r e = (standing_after E (step (Disarm j)) now s, stands_next (Disarm j) r, go (armed E j) refl)
     where
-      go : (b : Bool) → armed E j ≡ b → Fits n (standing_after E (step (Disarm j)) now s) (owner (step (Disarm j) ∷ E) n)
+      go : (b : Bool) → armed E j ≡ b → Fits n (standing_after E (step (Disarm j)) now s) (owner irps (step (Disarm j) ∷ E) n)
       go true a =
           let same = same_id-eq j.irp n e in
           let named_now = is_present size n E j same (armed_present size E (run_less size (step (Disarm j)) E r) j a) in
-          rw (e, bit_found (armed E j) v r.found.0 ∙ a, names_now j named_now) (disarmed_fits n j p (inside E p) (length E) same s (at_now j named_now true a))
-      go false a = rw (e, bit_found (armed E j) v r.found.0 ∙ a) (missed_fits n j p (inside E p) (same_irp j now) s (owner E n) (λ t. at_now j (same_irp-eq j now t) false a) f)
+          rw (e, bit_found (armed E j) v r.found.0 ∙ a, names_now j named_now) (disarmed_fits n j p (inside E p) (length E) lane_now same s (at_now j named_now true a))
+      go false a = rw (e, bit_found (armed E j) v r.found.0 ∙ a) (missed_fits n j p (inside E p) (same_irp j now) s (owner irps E n) (λ t. at_now j (same_irp-eq j now t) false a) f)
   drawn_next End r e = absurd (cc e)
-  drawn_next (Flag j) r e = (standing_after E (step (Flag j)) now s, stands_next (Flag j) r, rw e (flagged_fits n j p (inside E p) (same_irp j now) s (owner E n) f))
+  drawn_next (Flag j) r e = (standing_after E (step (Flag j)) now s, stands_next (Flag j) r, rw e (flagged_fits n j p (inside E p) (same_irp j now) s (owner irps E n) f))
   drawn_next (Take j) r e = (standing_after E (step (Take j)) now s, stands_next (Take j) r, go (armed E j) refl)
     where
-      go : (b : Bool) → armed E j ≡ b → Fits n (standing_after E (step (Take j)) now s) (owner (step (Take j) ∷ E) n)
+      go : (b : Bool) → armed E j ≡ b → Fits n (standing_after E (step (Take j)) now s) (owner irps (step (Take j) ∷ E) n)
       go true a =
           let same = same_id-eq j.irp n e in
           let named_now = is_present size n E j same (armed_present size E (run_less size (step (Take j)) E r) j a) in
-          rw (e, bit_found (armed E j) v r.found.0 ∙ a, names_now j named_now) (taken_fits n j p (inside E p) (length E) same s (at_now j named_now true a))
-      go false a = rw (e, bit_found (armed E j) v r.found.0 ∙ a) (untaken_fits n j p (inside E p) (same_irp j now) s (owner E n) (λ t. at_now j (same_irp-eq j now t) false a) f)
+          rw (e, bit_found (armed E j) v r.found.0 ∙ a, names_now j named_now) (taken_fits n j p (inside E p) (length E) lane_now same s (at_now j named_now true a))
+      go false a = rw (e, bit_found (armed E j) v r.found.0 ∙ a) (untaken_fits n j p (inside E p) (same_irp j now) s (owner irps E n) (λ t. at_now j (same_irp-eq j now t) false a) f)
   drawn_next (Out j) r e =
       let same = same_id-eq j.irp n e in
       let named_now = is_present size n E j same (owed_present size E (run_less size (step (Out j)) E r) j p r.owned.0) in
       let mine : is_owed_by p s ≡ true = sym (st.owing_is p) ∙ ap (λ (y : IrpLife). owes E p y) (sym named_now) ∙ r.owned.0 in
-      (standing_after E (step (Out j)) now s, stands_next (Out j) r, rw (e, names_now j named_now) (out_fits n j p (inside E p) (length E) same s mine))
+      (standing_after E (step (Out j)) now s, stands_next (Out j) r, rw (e, names_now j named_now) (out_fits n j p (inside E p) (length E) lane_now same s mine))
   drawn_next (Done j) r e =
       let same = same_id-eq j.irp n e in
       let named_now = is_present size n E j same (held_present size E (run_less size (step (Done j)) E r) j p r.owned.0) in
@@ -205,14 +209,14 @@ module _ (size : Size) (n : IrpId) (p : PassId) (v : ℕ) (E : List Made) (s : S
       let was_now = is_present size n E j same r.owned.0.0 in
       let ended : dones E now ≢ [] = subst (λ (y : IrpLife). dones E y ≢ []) was_now r.owned.0.1 in
       let next = is_present size n (step (Renew j) ∷ E) (Next size p j v E r) same (renewed_present size p j v E r) in
-      (Home, subst (λ (y : IrpLife). Stands (step (Renew j) ∷ E) y Home) next (renewed_home size p j v E r), rw e (over_fits n s (dones E now) (owner E n) st.dones_are ended f))
+      (Home, subst (λ (y : IrpLife). Stands (step (Renew j) ∷ E) y Home) next (renewed_home size p j v E r), rw e (over_fits n s (dones E now) (owner irps E n) st.dones_are ended f))
 
-drawn : (size : Size) (n : IrpId) (E : List Made) → IsRun size E → IsDrawn size n E
-drawn size n [] r = (Home, record { ever_is = refl; set_is = refl; claims_are = refl; owing_is = λ q. refl; holding_is = λ q. refl; done_is = λ q. refl; dones_are = refl; left_is = refl; due = refl }, refl)
-drawn size n (m ∷ E) r = go (is_of_irp n m.kind) refl (drawn size n E (run_less size m E r))
+drawn : (size : Size) (irps : ℕ) (n : IrpId) (E : List Made) → IsRun size E → IsDrawn size irps n E
+drawn size irps n [] r = (Home, record { ever_is = refl; set_is = refl; claims_are = refl; owing_is = λ q. refl; holding_is = λ q. refl; done_is = λ q. refl; dones_are = refl; left_is = refl; due = refl }, refl)
+drawn size irps n (m ∷ E) r = go (is_of_irp n m.kind) refl (drawn size irps n E (run_less size m E r))
   where
-    go : (b : Bool) → is_of_irp n m.kind ≡ b → IsDrawn size n E → IsDrawn size n (m ∷ E)
-    go true e d = drawn_next size n m.pass m.found E d.0 d.1 d.2 m.kind r e
+    go : (b : Bool) → is_of_irp n m.kind ≡ b → IsDrawn size irps n E → IsDrawn size irps n (m ∷ E)
+    go true e d = drawn_next size irps n m.pass m.found E d.0 d.1 d.2 m.kind r e
     go false e d =
         let now = present size.first E n in
         let lived : present size.first E n ≡ present size.first (m ∷ E) n = named _ _ refl (sym (life_same size.first m E n (unrenewed n m.kind e))) in
@@ -237,55 +241,55 @@ owing None = false
 
 -- who is drawn as the owner of an IRP that stands so
 module _ (n : IrpId) (p : PassId) (o : Option Owner) where
-  owed_is : (s : Standing) → Fits n s o → ((row : ℕ) × (o ≡ drawn_as p Owes row n)) ↔ (is_owed_by p s ≡ true)
-  owed_is Home f = (λ d. absurd (cc (f, d.1)), λ w. absurd (cc w))
-  owed_is Waiting f = (λ d. absurd (cc (f, d.1)), λ w. absurd (cc w))
-  owed_is (Owed q) f = (λ d. same_by (sym f.1 ∙ d.1), λ w. (f.0, f.1 ∙ ap (λ y. drawn_as y Owes f.0 n) (same_pass-eq q p w)))
+  owed_is : (s : Standing) → Fits n s o → ((row : ℕ) × (lane : ℕ) × (o ≡ drawn_as p Owes row lane n)) ↔ (is_owed_by p s ≡ true)
+  owed_is Home f = (λ d. absurd (cc (f, d.2)), λ w. absurd (cc w))
+  owed_is Waiting f = (λ d. absurd (cc (f, d.2)), λ w. absurd (cc w))
+  owed_is (Owed q) f = (λ d. same_by (sym f.2 ∙ d.2), λ w. (f.0, f.1, f.2 ∙ ap (λ y. drawn_as y Owes f.0 f.1 n) (same_pass-eq q p w)))
     where
-      same_by : {a b : ℕ} → drawn_as q Owes a n ≡ drawn_as p Owes b n → same_pass q p ≡ true
+      same_by : {a b c d : ℕ} → drawn_as q Owes a b n ≡ drawn_as p Owes c d n → same_pass q p ≡ true
       same_by e = subst (λ (y : PassId). same_pass q y ≡ true) (ap (pass_in q) e) (same_pass-refl q)
-  owed_is (Held q status) f = (λ d. absurd (cc (ap owing (sym f.1 ∙ d.1))), λ w. absurd (cc w))
-  owed_is (Finished status q) f = (λ d. absurd (cc (f, d.1)), λ w. absurd (cc w))
+  owed_is (Held q status) f = (λ d. absurd (cc (ap owing (sym f.2 ∙ d.2))), λ w. absurd (cc w))
+  owed_is (Finished status q) f = (λ d. absurd (cc (f, d.2)), λ w. absurd (cc w))
 
-  held_is : (s : Standing) → Fits n s o → ((row : ℕ) × (o ≡ drawn_as p Holds row n)) ↔ (is_held_by p s ≡ true)
-  held_is Home f = (λ d. absurd (cc (f, d.1)), λ w. absurd (cc w))
-  held_is Waiting f = (λ d. absurd (cc (f, d.1)), λ w. absurd (cc w))
-  held_is (Owed q) f = (λ d. absurd (cc (ap owing (sym f.1 ∙ d.1))), λ w. absurd (cc w))
-  held_is (Held q status) f = (λ d. same_by (sym f.1 ∙ d.1), λ w. (f.0, f.1 ∙ ap (λ y. drawn_as y Holds f.0 n) (same_pass-eq q p w)))
+  held_is : (s : Standing) → Fits n s o → ((row : ℕ) × (lane : ℕ) × (o ≡ drawn_as p Holds row lane n)) ↔ (is_held_by p s ≡ true)
+  held_is Home f = (λ d. absurd (cc (f, d.2)), λ w. absurd (cc w))
+  held_is Waiting f = (λ d. absurd (cc (f, d.2)), λ w. absurd (cc w))
+  held_is (Owed q) f = (λ d. absurd (cc (ap owing (sym f.2 ∙ d.2))), λ w. absurd (cc w))
+  held_is (Held q status) f = (λ d. same_by (sym f.2 ∙ d.2), λ w. (f.0, f.1, f.2 ∙ ap (λ y. drawn_as y Holds f.0 f.1 n) (same_pass-eq q p w)))
     where
-      same_by : {a b : ℕ} → drawn_as q Holds a n ≡ drawn_as p Holds b n → same_pass q p ≡ true
+      same_by : {a b c d : ℕ} → drawn_as q Holds a b n ≡ drawn_as p Holds c d n → same_pass q p ≡ true
       same_by e = subst (λ (y : PassId). same_pass q y ≡ true) (ap (pass_in q) e) (same_pass-refl q)
-  held_is (Finished status q) f = (λ d. absurd (cc (f, d.1)), λ w. absurd (cc w))
+  held_is (Finished status q) f = (λ d. absurd (cc (f, d.2)), λ w. absurd (cc w))
 
 pub each_owner : EachRunFrom EachDrawnOwnerOwesOrHolds
 each_owner size E r = record {
-  owed = λ n p. let d = drawn size n E r in let is = owed_is n p (owner E n) d.0 d.2 in (λ a. d.1.owing_is p ∙ is.0 a, λ b. is.1 (sym (d.1.owing_is p) ∙ b));
-  held = λ n p. let d = drawn size n E r in let is = held_is n p (owner E n) d.0 d.2 in (λ a. d.1.holding_is p ∙ is.0 a, λ b. is.1 (sym (d.1.holding_is p) ∙ b));
+  owed = λ irps n p. let d = drawn size irps n E r in let is = owed_is n p (owner irps E n) d.0 d.2 in (λ a. d.1.owing_is p ∙ is.0 a, λ b. is.1 (sym (d.1.owing_is p) ∙ b));
+  held = λ irps n p. let d = drawn size irps n E r in let is = held_is n p (owner irps E n) d.0 d.2 in (λ a. d.1.holding_is p ∙ is.0 a, λ b. is.1 (sym (d.1.holding_is p) ∙ b));
 }
 
 -- the routine is set of an IRP that is listed and that nobody owes
-pub routine_is : (size : Size) (E : List Made) → IsRun size E → (n : IrpId) (p : IrpPlace) → IsPlace E (present size.first E n) p → routine_at p (owner E n) ≡ armed E (present size.first E n)
-routine_is size E r n p is = let d = drawn size n E r in go d.0 (is_standing E (present size.first E n) d.0 d.1) d.2 ∙ sym d.1.set_is
+pub routine_is : (size : Size) (irps : ℕ) (E : List Made) → IsRun size E → (n : IrpId) (p : IrpPlace) → IsPlace E (present size.first E n) p → routine_at p (owner irps E n) ≡ armed E (present size.first E n)
+routine_is size irps E r n p is = let d = drawn size irps n E r in go d.0 (is_standing E (present size.first E n) d.0 d.1) d.2 ∙ sym d.1.set_is
   where
-    at : (q : IrpPlace) → IsPlace E (present size.first E n) q → routine_at p (owner E n) ≡ routine_at q (owner E n)
-    at q h = ap (λ x. routine_at x (owner E n)) (one_place size E r (present size.first E n) p q is h)
+    at : (q : IrpPlace) → IsPlace E (present size.first E n) q → routine_at p (owner irps E n) ≡ routine_at q (owner irps E n)
+    at q h = ap (λ x. routine_at x (owner irps E n)) (one_place size E r (present size.first E n) p q is h)
 
-    go : (s : Standing) → IsStanding E (present size.first E n) s → Fits n s (owner E n) → routine_at p (owner E n) ≡ is_waiting s
+    go : (s : Standing) → IsStanding E (present size.first E n) s → Fits n s (owner irps E n) → routine_at p (owner irps E n) ≡ is_waiting s
     go Home h f = at place.Home h
     go Waiting h f = at place.Listed h.0 ∙ ap (λ o. routine_at place.Listed o) f
-    go (Owed q) h f = at place.Listed h.0 ∙ ap (λ o. routine_at place.Listed o) f.1
+    go (Owed q) h f = at place.Listed h.0 ∙ ap (λ o. routine_at place.Listed o) f.2
     go (Held q status) h f = at (place.HeldBy q) h.0
     go (Finished status q) h f = at (place.Completed status q) h
 
 -- what a machine tells of the IRP that a step names are its words
 pub words_told : (size : Size) (E : List Made) → IsRun size E → (k : Kind) (i : IrpLife) → name_of k ≡ Some i → (life : Life) → life.0 ≡ present_life size.first E i.irp
-    → (flag : Bool) → flag ≡ flagged E (present size.first E i.irp) → (p : IrpPlace) → IsPlace E (present size.first E i.irp) p → (o : Option Owner) → o ≡ owner_named E k
+    → (flag : Bool) → flag ≡ flagged E (present size.first E i.irp) → (p : IrpPlace) → IsPlace E (present size.first E i.irp) p → (o : Option Owner) → o ≡ owner_named size.irps E k
     → (routine : Bool) → routine ≡ routine_at p o → Some (record { name = record { irp = i.irp; life = life }; flag = flag; routine = routine }) ≡ words_named size.first E k
 words_told size E r k i e life now flag set p at o has routine is =
     let words : IrpLife → Bool → Bool → Option Words = λ x f b. Some (record { name = x; flag = f; routine = b }) in
     let j = present size.first E i.irp in
-    let his : o ≡ owner E i.irp = has ∙ ap (λ (x : Option IrpLife). option_map_or (λ y. owner E y.irp) x None) e in
+    let his : o ≡ owner size.irps E i.irp = has ∙ ap (λ (x : Option IrpLife). option_map_or (λ y. owner size.irps E y.irp) x None) e in
     ap (λ x. words x flag routine) (named (record { irp = i.irp; life = life }) j refl now)
     ∙ ap (λ f. words j f routine) set
-    ∙ ap (words j (flagged E j)) (is ∙ ap (routine_at p) his ∙ routine_is size E r i.irp p at)
+    ∙ ap (words j (flagged E j)) (is ∙ ap (routine_at p) his ∙ routine_is size size.irps E r i.irp p at)
     ∙ sym (ap (λ (x : Option IrpLife). option_map (λ y. words_of E (present size.first E y.irp)) x) e)

@@ -44,7 +44,7 @@ length-run [] = refl
 length-run (w ∷ W) = ap (λ n. suc n) (length-run W)
 
 pub length-owners : (n : ℕ) (E : List Made) → length (owners n E) ≡ n
-length-owners n E = length-table (λ k. owner E (record { 0 = k })) n
+length-owners n E = length-table (λ k. owner n E (record { 0 = k })) n
 
 -- numbers that differ are of IRPs that differ
 other_id : (n m : IrpId) → (m.0 ≡ n.0 → ⊥) → same_id n m ≡ false
@@ -56,28 +56,29 @@ other_id n m ne = go (same_id n m) refl
 
 -- before the first step
 pub shows_none : (size : Size) (os : List (Option Owner)) → os ≡ replicate size.irps None → Shows size [] os []
-shows_none size os b = record { shown_rows = refl; shown_owners = b ∙ sym (table-replicate (λ k. owner [] (record { 0 = k })) None size.irps (λ k. refl)) }
+shows_none size os b = record { shown_rows = refl; shown_owners = b ∙ sym (table-replicate (λ k. owner size.irps [] (record { 0 = k })) None size.irps (λ k. refl)) }
 
 -- the owners after a step, whose row is the number of steps before it
 module _ (m : Made) (E : List Made) (n : ℕ) where
-  owner_if : (k : ℕ) (b : Bool) → is_of_irp (record { 0 = k }) m.kind ≡ b → owner (m ∷ E) (record { 0 = k }) ≡ cond b (owner_after (owner E (record { 0 = k })) m (length E)) (owner E (record { 0 = k }))
-  owner_if k b is = ap (λ x. cond x (owner_after (owner E (record { 0 = k })) m (length E)) (owner E (record { 0 = k }))) is
+  owner_if : (k : ℕ) (b : Bool) → is_of_irp (record { 0 = k }) m.kind ≡ b
+      → owner n (m ∷ E) (record { 0 = k }) ≡ cond b (owner_after (owners n E) (owner n E (record { 0 = k })) m (length E)) (owner n E (record { 0 = k }))
+  owner_if k b is = ap (λ x. cond x (owner_after (owners n E) (owner n E (record { 0 = k })) m (length E)) (owner n E (record { 0 = k }))) is
 
   named_by : (o : Option IrpLife) → name_of m.kind ≡ o → (k : ℕ) → is_of_irp (record { 0 = k }) m.kind ≡ option_map_or (λ i. same_id i.irp (record { 0 = k })) o false
   named_by o e k = ap (λ (x : Option IrpLife). option_map_or (λ i. same_id i.irp (record { 0 = k })) x false) e
 
   -- a step that names no IRP
   owners_same : name_of m.kind ≡ None → owners n E ≡ owners n (m ∷ E)
-  owners_same none = table-same (λ k. owner E (record { 0 = k })) (λ k. owner (m ∷ E) (record { 0 = k })) n (λ k lt. sym (owner_if k false (named_by None none k)))
+  owners_same none = table-same (λ k. owner n E (record { 0 = k })) (λ k. owner n (m ∷ E) (record { 0 = k })) n (λ k lt. sym (owner_if k false (named_by None none k)))
 
   -- a step of i
   owners_set : (i : IrpLife) → name_of m.kind ≡ Some i → number i < n
-      → set (owners n E) (number i) (owner_after (get_or (owners n E) (number i) None) m (length E)) ≡ owners n (m ∷ E)
+      → set (owners n E) (number i) (owner_after (owners n E) (get_or (owners n E) (number i) None) m (length E)) ≡ owners n (m ∷ E)
   owners_set i some lt =
-      let before : ℕ → Option Owner = λ k. owner E (record { 0 = k }) in
-      let after : ℕ → Option Owner = λ k. owner (m ∷ E) (record { 0 = k }) in
-      set-table before after n (number i) (owner_after (get_or (owners n E) (number i) None) m (length E)) lt
-      (ap (λ x. owner_after x m (length E)) (get-table before n (number i) None lt) ∙ sym (owner_if (number i) true (named_by (Some i) some (number i) ∙ same_id-refl i.irp)))
+      let before : ℕ → Option Owner = λ k. owner n E (record { 0 = k }) in
+      let after : ℕ → Option Owner = λ k. owner n (m ∷ E) (record { 0 = k }) in
+      set-table before after n (number i) (owner_after (owners n E) (get_or (owners n E) (number i) None) m (length E)) lt
+      (ap (λ x. owner_after (owners n E) x m (length E)) (get-table before n (number i) None lt) ∙ sym (owner_if (number i) true (named_by (Some i) some (number i) ∙ same_id-refl i.irp)))
       (λ j ne. sym (owner_if j false (named_by (Some i) some j ∙ other_id i.irp (record { 0 = j }) ne)))
 
   -- the IRP that a step names, where it names one, is known
@@ -100,22 +101,22 @@ module _ (m : Made) (E : List Made) (n : ℕ) where
   owners_more h = go (name_of m.kind) refl (named_known m.kind h)
     where
       go : (o : Option IrpLife) → name_of m.kind ≡ o → IsNamed o → with_owner (owners n E) m (length E) ≡ owners n (m ∷ E)
-      go None e known = ap (λ (x : Option IrpLife). option_map_or (λ i. set (owners n E) (number i) (owner_after (get_or (owners n E) (number i) None) m (length E))) x (owners n E)) e ∙ owners_same e
+      go None e known = ap (λ (x : Option IrpLife). option_map_or (λ i. set (owners n E) (number i) (owner_after (owners n E) (get_or (owners n E) (number i) None) m (length E))) x (owners n E)) e ∙ owners_same e
       go (Some i) e known =
-          ap (λ (x : Option IrpLife). option_map_or (λ i. set (owners n E) (number i) (owner_after (get_or (owners n E) (number i) None) m (length E))) x (owners n E)) e ∙ owners_set i e known
+          ap (λ (x : Option IrpLife). option_map_or (λ i. set (owners n E) (number i) (owner_after (owners n E) (get_or (owners n E) (number i) None) m (length E))) x (owners n E)) e ∙ owners_set i e known
 
   -- of these owners, that of the IRP that a step names
-  owner_is : OfIrp (λ i. number i < n) m.kind → owner_in (owners n E) m.kind ≡ owner_named E m.kind
+  owner_is : OfIrp (λ i. number i < n) m.kind → owner_in (owners n E) m.kind ≡ owner_named n E m.kind
   owner_is h = go (name_of m.kind) refl (named_known m.kind h)
     where
-      go : (o : Option IrpLife) → name_of m.kind ≡ o → IsNamed o → owner_in (owners n E) m.kind ≡ owner_named E m.kind
+      go : (o : Option IrpLife) → name_of m.kind ≡ o → IsNamed o → owner_in (owners n E) m.kind ≡ owner_named n E m.kind
       go None e known =
           ap (λ (x : Option IrpLife). option_map_or (λ i. get_or (owners n E) (number i) None) x None) e
-          ∙ sym (ap (λ (x : Option IrpLife). option_map_or (λ i. owner E i.irp) x None) e)
+          ∙ sym (ap (λ (x : Option IrpLife). option_map_or (λ i. owner n E i.irp) x None) e)
       go (Some i) e known =
           ap (λ (x : Option IrpLife). option_map_or (λ i. get_or (owners n E) (number i) None) x None) e
-          ∙ get-table (λ k. owner E (record { 0 = k })) n (number i) None known
-          ∙ sym (ap (λ (x : Option IrpLife). option_map_or (λ i. owner E i.irp) x None) e)
+          ∙ get-table (λ k. owner n E (record { 0 = k })) n (number i) None known
+          ∙ sym (ap (λ (x : Option IrpLife). option_map_or (λ i. owner n E i.irp) x None) e)
 
 -- one more step was noted
 module _ (size : Size) (rows : List Row) (os : List (Option Owner)) (w : Numbered) (W : List Numbered) (h : Shows size rows os W) where
@@ -128,7 +129,7 @@ module _ (size : Size) (rows : List Row) (os : List (Option Owner)) (w : Numbere
       ∙ ap (λ q. row (length W) step q (owner_in os step.made.kind) words) lock
       ∙ ap (λ (s : StepInCall). row (length W) s (lock_of (all_passes size W)) (owner_in os s.made.kind) words) told
       ∙ ap (λ o. row (length W) (in_call (run_of W) w.step) (lock_of (all_passes size W)) o words) (ap (λ x. owner_in x w.step.kind) h.shown_owners ∙ owner_is w.step (run_of W) size.irps known)
-      ∙ ap (row (length W) (in_call (run_of W) w.step) (lock_of (all_passes size W)) (owner_named (run_of W) w.step.kind)) are
+      ∙ ap (row (length W) (in_call (run_of W) w.step) (lock_of (all_passes size W)) (owner_named size.irps (run_of W) w.step.kind)) are
 
   module _ (step : StepInCall) (held : Option PassId) (words : Option Words) (rows' : List Row) (os' : List (Option Owner)) (noted : NotesStep rows os w.line step held words rows' os')
       (told : step ≡ in_call (run_of W) w.step) (known : OfIrp (λ i. number i < size.irps) w.step.kind) where
@@ -143,9 +144,9 @@ module _ (size : Size) (rows : List Row) (os : List (Option Owner)) (w : Numbere
     words_then machine same agrees are =
         let kinds : step.made.kind ≡ w.step.kind = ap (λ (s : StepInCall). s.made.kind) told in
         let E = run_of (w ∷ W) in
-        let his : owner_in os' w.step.kind ≡ owner_named E w.step.kind = ap (λ x. owner_in x w.step.kind) owners_then ∙ owner_is w.step E size.irps known in
+        let his : owner_in os' w.step.kind ≡ owner_named size.irps E w.step.kind = ap (λ x. owner_in x w.step.kind) owners_then ∙ owner_is w.step E size.irps known in
         let P : Kind → Type 0 = λ k. AreWordsNamed machine k (owner_in os' k) words in
-        subst P kinds are E agrees his ∙ ap (λ (s : Size). words_named s.first E w.step.kind) same
+        subst P kinds are E agrees (his ∙ ap (λ (s : Size). owner_named s.irps E w.step.kind) (sym same)) ∙ ap (λ (s : Size). words_named s.first E w.step.kind) same
 
     pub shows_more : held ≡ lock_of (all_passes size W) → (machine : MachineState) → size_of machine ≡ size → Agrees machine (run_of (w ∷ W)) → AreWordsNamed machine step.made.kind (owner_in os' step.made.kind) words
         → Shows size rows' os' (w ∷ W)

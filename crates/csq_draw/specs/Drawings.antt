@@ -26,7 +26,7 @@ owner_in os k = option_map_or (λ i. slice_index_or os (number i) None) (name_of
 
 -- the owners after a step on this row
 abbrev pub with_owner : List (Option Owner) → Made → ℕ → List (Option Owner)
-with_owner os m row = option_map_or (λ i. slice_set os (number i) (owner_after (slice_index_or os (number i) None) m row)) (name_of m.kind) os
+with_owner os m row = option_map_or (λ i. slice_set os (number i) (owner_after os (slice_index_or os (number i) None) m row)) (name_of m.kind) os
 
 -- rows and owners are those of the steps W
 pub record Shows (size : Size) (rows : List Row) (os : List (Option Owner)) (W : List Numbered) : Type 0 where

@@ -1,5 +1,5 @@
 -- What holds of every picture.
-use Rattle.std.specs.Prelude.{◌≡◌, ◌⊎◌, ◌↔◌, ℕ, ◌<◌, Bool, false, List, [], ◌∷◌, ◌++◌, length, Option, Some, None, option_to_list, IsTrue}
+use Rattle.std.specs.Prelude.{◌≡◌, ◌≢◌, ◌⊎◌, ◌↔◌, ℕ, ◌<◌, Bool, false, List, [], ◌∷◌, ◌++◌, length, Option, Some, None, option_to_list, IsTrue}
 use Rattle.std.specs.List.{list_any}
 use Rattle.irp_core.specs.declared.ids.IrpId.{IrpId}
 use Rattle.irp_core.specs.declared.ids.PassId.{PassId}
@@ -18,10 +18,12 @@ use Rattle.csq_draw.specs.declared.marks.Mark.{Mark}
 use Rattle.csq_draw.specs.declared.marks.Number.{Number}
 use Rattle.csq_draw.specs.declared.marks.Shade.{Shade}
 use Rattle.csq_draw.specs.declared.owners.Having.{Having}
+use Rattle.csq_draw.specs.declared.owners.Owner.{Owner}
 use Rattle.csq_draw.specs.declared.words.Words.{Words}
 use Rattle.csq_draw.specs.declared.owners.Having.TheVariants.{Owes, Holds}
 use Rattle.csq_explain.specs.declared.passes.PassNow.{PassNow}
-use Rattle.csq_draw.specs.Owners.{owner}
+use Rattle.csq_draw.specs.Lanes.{is_in_lane, is_taken}
+use Rattle.csq_draw.specs.Owners.{owner, owners}
 use Rattle.csq_draw.specs.Passes.{columns, column_of}
 use Rattle.csq_explain.specs.Passes.{all_passes}
 use Rattle.csq_explain.specs.Sentences.{in_call}
@@ -125,11 +127,19 @@ HasItAt m E p = (IsTrue (needs_lock m.kind) × (m.pass ≡ p)) ⊎ ((needs_lock 
 abbrev pub TheShadedPassHasTheLock : Size → List Numbered → Type 0
 TheShadedPassHasTheLock size W = (w : Numbered) → IsRun size (run_of (w ∷ W)) → (p : PassId) → ((row_of size w W).lock ≡ Some p) ↔ HasItAt w.step (run_of W) p
 
--- after the run E, p is drawn as the owner of IRP n, since some row
-abbrev pub IsDrawnAs : List Made → IrpId → PassId → Having → Type 0
-IsDrawnAs E n p having = (row : ℕ) × (owner E n ≡ Some (record { irp = n; pass = p; having = having; row = row }))
+-- after the run E, p is drawn as the owner of IRP n of so many, since some row and in some lane
+abbrev pub IsDrawnAs : ℕ → List Made → IrpId → PassId → Having → Type 0
+IsDrawnAs irps E n p having = (row : ℕ) × (lane : ℕ) × (owner irps E n ≡ Some (record { irp = n; pass = p; having = having; row = row; lane = lane }))
 
 -- of every run, who is drawn as an IRP's owner is its owner by the run, in its present life, and so the other way round
 pub record EachDrawnOwnerOwesOrHolds (first : ℕ) (E : List Made) : Type 0 where
-  pub owed : (n : IrpId) (p : PassId) → (IsDrawnAs E n p Owes) ↔ IsTrue (owes E p (present first E n))
-  pub held : (n : IrpId) (p : PassId) → (IsDrawnAs E n p Holds) ↔ IsTrue (holds E p (present first E n))
+  pub owed : (irps : ℕ) (n : IrpId) (p : PassId) → (IsDrawnAs irps E n p Owes) ↔ IsTrue (owes E p (present first E n))
+  pub held : (irps : ℕ) (n : IrpId) (p : PassId) → (IsDrawnAs irps E n p Holds) ↔ IsTrue (holds E p (present first E n))
+
+-- of so many IRPs, two that one pass has after the steps E are in lanes of their own, or in the ninth
+abbrev pub NoTwoLinesShareALane : ℕ → List Made → Type 0
+NoTwoLinesShareALane irps E = (n k : IrpId) (a b : Owner) → n.0 < irps → k.0 < irps → n ≢ k → owner irps E n ≡ Some a → owner irps E k ≡ Some b → a.pass ≡ b.pass → a.lane ≡ b.lane → a.lane ≡ 8
+
+-- and one that a pass has in the ninth lane after a step was there before, or the pass had one in each of the eight lanes
+abbrev pub TheNinthLaneIsLast : ℕ → List Made → Type 0
+TheNinthLaneIsLast irps E = (m : Made) (n : IrpId) (a : Owner) → owner irps (m ∷ E) n ≡ Some a → a.lane ≡ 8 → IsTrue (is_in_lane a.pass 8 (owner irps E n)) ⊎ ((lane : ℕ) → lane < 8 → IsTrue (is_taken (owners irps E) a.pass lane))

@@ -1,4 +1,5 @@
 pub mod Layout
+pub mod Lanes
 pub mod Owners
 pub mod Passes
 pub mod Words

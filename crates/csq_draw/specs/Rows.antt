@@ -16,7 +16,7 @@ row_of size w W = record {
   line = w.line;
   step = in_call (run_of W) w.step;
   lock = lock_before (all_passes size W) w.step;
-  ended = ended_by w.step.kind (owner_named (run_of W) w.step.kind);
+  ended = ended_by w.step.kind (owner_named size.irps (run_of W) w.step.kind);
   words = words_named size.first (run_of (w ∷ W)) w.step.kind;
 }
 

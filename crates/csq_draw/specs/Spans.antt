@@ -12,12 +12,13 @@ abbrev pub having_text : Having → List ℕ
 having_text Owes = codes "owes"
 having_text Holds = codes "holds"
 
--- a line runs down a lane of the IRP's colour, from the row of the step by which its owner came to have the IRP
-abbrev pub lane : ℕ → Owner → ℕ
-lane column owner = left column + 236 + 5 * (owner.irp.0 % 8)
+-- where a line runs down its lane, right of its column
+abbrev pub lane_x : ℕ → Owner → ℕ
+lane_x column owner = left column + 236 + 5 * owner.lane
 
+-- a line has the colour of its IRP, and begins on the row of the step by which its owner came to have the IRP
 abbrev pub span_start : ℕ → Owner → List ℕ
-span_start column owner = codes "<path class='k" ++ (decimal (owner.irp.0 % 8) ++ (codes " " ++ (having_text owner.having ++ (codes "' d='M" ++ (decimal (lane column owner) ++ (codes " " ++ (decimal (top owner.row + 30) ++ codes "V")))))))
+span_start column owner = codes "<path class='k" ++ (decimal (owner.irp.0 % 8) ++ (codes " " ++ (having_text owner.having ++ (codes "' d='M" ++ (decimal (lane_x column owner) ++ (codes " " ++ (decimal (top owner.row + 30) ++ codes "V")))))))
 
 abbrev pub span_title : Owner → List ℕ
 span_title owner = codes "<title>" ++ (pass_text owner.pass ++ (codes " " ++ (having_text owner.having ++ (codes " IRP " ++ irp_text owner.irp))))

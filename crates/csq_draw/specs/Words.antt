@@ -30,7 +30,7 @@ routine_at _ _ = false
 
 -- of every run that the machine agrees with, and that has this owner, these are the words of the IRP that such a step names
 abbrev pub AreWordsNamed : MachineState → Kind → Option Owner → Option Words → Type 0
-AreWordsNamed machine k owner words = (E : List Made) → Agrees machine E → owner ≡ owner_named E k → words ≡ words_named (size_of machine).first E k
+AreWordsNamed machine k owner words = (E : List Made) → Agrees machine E → owner ≡ owner_named (size_of machine).irps E k → words ≡ words_named (size_of machine).first E k
 
 -- whether a step of this kind that found this value changed the Cancel flag, or began it anew
 abbrev pub changes_flag : Kind → ℕ → Bool

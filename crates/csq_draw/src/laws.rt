@@ -1,10 +1,11 @@
 //! What holds of every picture. Each function stands for a law: its contract is the law, and there is
 //! nothing to run.
 ghost use Rattle.std.specs.Prelude.{ℕ, List};
+ghost use Rattle.irp_core.specs.declared.step.Made.{Made};
 ghost use Rattle.irp_core.specs.Runs.{Size, EachRunFrom};
 ghost use Rattle.csq_replay.specs.Schedule.{Numbered};
 ghost use Rattle.csq_draw.specs.declared.format.Format.{Format};
-ghost use Rattle.csq_draw.specs.Laws.{HasOnePicture, EachStepHasOneMark, EachStepShowsItsWords, EachLineHasItsNumber, EachShadeIsOfTheLock, EachPassHasItsColumn, TheShadedPassHasTheLock, EachDrawnOwnerOwesOrHolds};
+ghost use Rattle.csq_draw.specs.Laws.{HasOnePicture, EachStepHasOneMark, EachStepShowsItsWords, EachLineHasItsNumber, EachShadeIsOfTheLock, EachPassHasItsColumn, TheShadedPassHasTheLock, EachDrawnOwnerOwesOrHolds, NoTwoLinesShareALane, TheNinthLaneIsLast};
 
 /// A schedule has at most one picture in each format, so the relation that `draw_schedule` and
 /// `draw_schedule_as_text` meet names its bytes.
@@ -51,4 +52,11 @@ pub fn the_shaded_pass_has_the_lock()
 /// drawn, none owes or holds it.
 pub fn each_drawn_owner_owes_or_holds()
     ensures { EachRunFrom EachDrawnOwnerOwesOrHolds }
+{}
+
+/// The lines of two IRPs that a pass owes or holds at one time run in lanes of their own, or both in the ninth.
+/// A line begins in the ninth lane only where the pass has one in each of the eight others.
+pub fn no_two_lines_share_a_lane()
+    ensures apart { (irps : ℕ) (E : List Made) → NoTwoLinesShareALane irps E }
+    ensures last { (irps : ℕ) (E : List Made) → TheNinthLaneIsLast irps E }
 {}

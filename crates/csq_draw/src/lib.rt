@@ -10,6 +10,7 @@ mod element;
 mod ending;
 mod format;
 mod heading;
+mod lanes;
 mod laws;
 mod layout;
 mod marks;
@@ -27,5 +28,5 @@ pub use heading::PICTURE_HEAD;
 pub use laws::{
     a_schedule_has_one_picture, each_drawn_owner_owes_or_holds, each_line_has_its_number,
     each_pass_has_its_column, each_shade_is_of_the_lock, each_step_has_one_mark,
-    each_step_shows_its_words, the_shaded_pass_has_the_lock,
+    each_step_shows_its_words, no_two_lines_share_a_lane, the_shaded_pass_has_the_lock,
 };

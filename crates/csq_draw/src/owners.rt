@@ -1,10 +1,11 @@
-//! Who owes an IRP, or holds it.
+//! Who owes an IRP, or holds it, and in which lane beside the column of that pass its line is drawn.
 ghost use Rattle.std.specs.Prelude.{◌≡◌, ◌<◌, length, replicate, IfOk};
 ghost use Rattle.irp_core.specs.Runs.{OfIrp};
 ghost use Rattle.irp_core.specs.Steps.{number};
 ghost use Rattle.csq_draw.specs.Owners.{owner_after, ended_by};
 ghost use Rattle.csq_draw.specs.Drawings.{owner_in, with_owner};
 
+use crate::lanes::lane_for;
 use irp_core::{IrpId, Kind, Made, PassId};
 use std::alloc::{AllocError, Allocator};
 
@@ -15,13 +16,14 @@ pub(crate) enum Having {
     Holds,
 }
 
-/// An IRP, the pass that owes or holds it, and the row of the step by which it came to.
+/// An IRP, the pass that owes or holds it, the row of the step by which it came to, and the lane of its line.
 #[derive(Clone, Copy, Debug, PartialEq, Eq)]
 pub(crate) struct Owner {
     pub(crate) irp: IrpId,
     pub(crate) pass: PassId,
     pub(crate) having: Having,
     pub(crate) row: u32,
+    pub(crate) lane: u32,
 }
 
 /// So many IRPs that nobody owes or holds.
@@ -34,9 +36,14 @@ pub(crate) fn new_owners<A: Allocator>(
     vec![in alloc; None; count]
 }
 
-/// Who has an IRP after a step of it on this row.
-fn owner_after(before: Option<Owner>, made: Made, row: u32) -> Option<Owner>
-    ensures { result ≡ owner_after before made row }
+/// Who has an IRP after a step of it on this row, before which these were the owners of all IRPs.
+fn owner_after(
+    owners: &[Option<Owner>],
+    before: Option<Owner>,
+    made: Made,
+    row: u32,
+) -> Option<Owner>
+    ensures { result ≡ owner_after owners.now before made row }
 {
     let pass = made.pass;
     match made.kind {
@@ -45,18 +52,21 @@ fn owner_after(before: Option<Owner>, made: Made, row: u32) -> Option<Owner>
             pass,
             having: Having::Owes,
             row,
+            lane: lane_for(owners, pass, before),
         }),
         Kind::Disarm(name) if made.found == 1 => Some(Owner {
             irp: name.irp,
             pass,
             having: Having::Holds,
             row,
+            lane: lane_for(owners, pass, before),
         }),
         Kind::Out(name) => Some(Owner {
             irp: name.irp,
             pass,
             having: Having::Holds,
             row,
+            lane: lane_for(owners, pass, before),
         }),
         Kind::Done(_) => None,
         _ => before,
@@ -87,7 +97,8 @@ pub(crate) fn note_owner(owners: &mut [Option<Owner>], made: Made, row: u32)
     ensures { owners.new ≡ with_owner owners.old made row }
 {
     if let Some(name) = made.kind.name() {
-        let owner = &mut owners[name.irp.0 as usize];
-        *owner = owner_after(*owner, made, row);
+        let number = name.irp.0 as usize;
+        let owner = owner_after(owners, owners[number], made, row);
+        owners[number] = owner;
     }
 }

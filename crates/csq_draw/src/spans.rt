@@ -40,7 +40,7 @@ impl fmt::Display for Span {
             top(self.owner.row) + 30,
             top(self.to) + 30,
         );
-        let lane = x + 236 + 5 * u64::from(colour);
+        let lane = x + 236 + 5 * u64::from(self.owner.lane);
         write!(
             f,
             "<path class='k{colour} {having}' d='M{lane} {from}V{to}'>"
@@ -67,7 +67,7 @@ impl fmt::Display for OpenSpan {
         let (irp, pass, having) = (self.owner.irp, self.owner.pass, self.owner.having);
         let colour = irp.0 % 8;
         let (x, from, to) = (left(self.column), top(self.owner.row) + 30, top(self.rows));
-        let lane = x + 236 + 5 * u64::from(colour);
+        let lane = x + 236 + 5 * u64::from(self.owner.lane);
         write!(
             f,
             "<path class='k{colour} {having}' d='M{lane} {from}V{to}'>"

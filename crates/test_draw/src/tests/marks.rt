@@ -125,8 +125,39 @@ p2 disarm 1
 p2 disarm 7
 ";
 
+// One pass owes two IRPs, and completes the first before it takes the second out.
+const TWO_OWED: &str = "\
+p1 arm 0
+p1 test 0
+p1 arm 1
+p1 test 1
+p2 flag 0
+p2 take 0
+p2 flag 1
+p2 take 1
+p2 out 0
+p2 done 0
+p2 out 1
+";
+
+// One pass has ten IRPs, completes one, and comes to have another.
+const TEN_HELD: &str = "\
+p1 arm 0\np1 test 0\np2 disarm 0
+p1 arm 1\np1 test 1\np2 disarm 1
+p1 arm 2\np1 test 2\np2 disarm 2
+p1 arm 3\np1 test 3\np2 disarm 3
+p1 arm 4\np1 test 4\np2 disarm 4
+p1 arm 5\np1 test 5\np2 disarm 5
+p1 arm 6\np1 test 6\np2 disarm 6
+p1 arm 7\np1 test 7\np2 disarm 7
+p1 arm 8\np1 test 8\np2 disarm 8
+p1 arm 9\np1 test 9\np2 disarm 9
+p2 done 3
+p1 arm 10\np1 test 10\np2 disarm 10
+";
+
 // A schedule, and a part of its picture.
-const PARTS: [(&str, &str); 8] = [
+const PARTS: [(&str, &str); 15] = [
     (
         "# 1\n# 2\n# 3\n# 4\n# 5\n# 6\n# 7\n# 8\n# 9\n",
         "\n<text class='t' x='56' y='-136'>1<tspan x='56' dy='18'>2</tspan><tspan x='56' dy='18'>3</tspan><tspan x='56' dy='18'>4</tspan><tspan x='56' dy='18'>5</tspan><tspan x='56' dy='18'>6</tspan><tspan x='56' dy='18'>7</tspan><tspan x='56' dy='18'>8</tspan></text>\n",
@@ -145,11 +176,11 @@ const PARTS: [(&str, &str); 8] = [
     ),
     (
         TWO_HELD,
-        "\n<path class='k1 holds' d='M581 338V428'><title>p2 holds IRP 1 in the end</title></path>\n",
+        "\n<path class='k1 holds' d='M576 338V428'><title>p2 holds IRP 1 in the end</title></path>\n",
     ),
     (
         TWO_HELD,
-        "\n<path class='k7 holds' d='M611 398V428'><title>p2 holds IRP 7 in the end</title></path>\n",
+        "\n<path class='k7 holds' d='M581 398V428'><title>p2 holds IRP 7 in the end</title></path>\n",
     ),
     (
         TWO_HELD,
@@ -159,6 +190,34 @@ const PARTS: [(&str, &str); 8] = [
         TWO_HELD,
         ">IRP 7 is out of the list, and p2 holds it; its Cancel flag is clear</text>\n",
     ),
+    (
+        TWO_OWED,
+        "\n<path class='k0 owes' d='M576 398V578'><title>p2 owes IRP 0</title></path>\n",
+    ),
+    (
+        TWO_OWED,
+        "\n<path class='k1 owes' d='M581 518V698'><title>p2 owes IRP 1</title></path>\n",
+    ),
+    (
+        TWO_OWED,
+        "\n<path class='k1 holds' d='M581 698V728'><title>p2 holds IRP 1 in the end</title></path>\n",
+    ),
+    (
+        TEN_HELD,
+        "\n<path class='k3 holds' d='M591 758V1898'><title>p2 holds IRP 3</title></path>\n",
+    ),
+    (
+        TEN_HELD,
+        "\n<path class='k0 holds' d='M616 1658V2108'><title>p2 holds IRP 8 in the end</title></path>\n",
+    ),
+    (
+        TEN_HELD,
+        "\n<path class='k1 holds' d='M616 1838V2108'><title>p2 holds IRP 9 in the end</title></path>\n",
+    ),
+    (
+        TEN_HELD,
+        "\n<path class='k2 holds' d='M591 2078V2108'><title>p2 holds IRP 10 in the end</title></path>\n",
+    ),
 ];
 
 #[test]
@@ -166,7 +225,7 @@ fn each_part_is_drawn(rt: HostRuntime) -> Result<(), Fail> {
     for (lines, part) in PARTS {
         let mut input = lines.as_bytes();
         let mut text = Vec::new(rt.alloc());
-        let ended = draw_schedule(rt.alloc(), 8, 2, &mut input, &mut text);
+        let ended = draw_schedule(rt.alloc(), 11, 2, &mut input, &mut text);
         assert_eq!(rt; ended, Ok(Ended::AllHandled), "at {lines:?}");
         let drawn = str::from_utf8(text.as_slice()).map_err(|_| "a text")?;
         assert!(rt; drawn.contains(part), "at {lines:?}");
