@@ -22,25 +22,22 @@ typedef struct _EXTENSION {
     ULONG EventCount;
 } EXTENSION, *PEXTENSION;
 
-DRIVER_INITIALIZE DriverEntry;
-static DRIVER_UNLOAD Unload;
-static DRIVER_DISPATCH DispatchOpen, DispatchControl, DispatchCleanup;
-
-static VOID Finish(PIRP Irp, NTSTATUS Status, ULONG_PTR Information) {
+static NTSTATUS Finish(PIRP Irp, NTSTATUS Status, ULONG_PTR Information) {
     Irp->IoStatus.Status = Status;
     Irp->IoStatus.Information = Information;
     IoCompleteRequest(Irp, IO_NO_INCREMENT);
+    return Status;
 }
 
 /* ---- The queue's callbacks: the framework calls them with the lock, but for the last ---- */
+#define EXTENSION_OF(Csq) CONTAINING_RECORD(Csq, EXTENSION, Queue)
+
 static NTSTATUS NTAPI InsertCall(PIO_CSQ Csq, PIRP Irp, PVOID InsertContext) {
-    PEXTENSION Extension = CONTAINING_RECORD(Csq, EXTENSION, Queue);
     UNREFERENCED_PARAMETER(InsertContext);
-    /* The cleanup of a file object empties the queue of its calls. One that comes later would stay for ever. */
     if (IoGetCurrentIrpStackLocation(Irp)->FileObject->FsContext != NULL) {
-        return STATUS_FILE_CLOSED;
+        return STATUS_FILE_CLOSED; /* its cleanup has begun: a call that came later would stay for ever */
     }
-    InsertTailList(&Extension->Calls, &Irp->Tail.Overlay.ListEntry);
+    InsertTailList(&EXTENSION_OF(Csq)->Calls, &Irp->Tail.Overlay.ListEntry);
     return STATUS_PENDING;
 }
 
@@ -51,7 +48,7 @@ static VOID NTAPI RemoveCall(PIO_CSQ Csq, PIRP Irp) {
 
 /* The framework asks for the next match until it gets one that no canceller has: go on after Irp, if there is one. */
 static PIRP NTAPI PeekCall(PIO_CSQ Csq, PIRP Irp, PVOID PeekContext) {
-    PLIST_ENTRY Head = &CONTAINING_RECORD(Csq, EXTENSION, Queue)->Calls;
+    PLIST_ENTRY Head = &EXTENSION_OF(Csq)->Calls;
     PLIST_ENTRY Entry = Irp != NULL ? Irp->Tail.Overlay.ListEntry.Flink : Head->Flink;
     for (; Entry != Head; Entry = Entry->Flink) {
         PIRP Next = CONTAINING_RECORD(Entry, IRP, Tail.Overlay.ListEntry);
@@ -63,11 +60,11 @@ static PIRP NTAPI PeekCall(PIO_CSQ Csq, PIRP Irp, PVOID PeekContext) {
 }
 
 static VOID NTAPI LockCalls(PIO_CSQ Csq, PKIRQL Irql) {
-    KeAcquireSpinLock(&CONTAINING_RECORD(Csq, EXTENSION, Queue)->QueueLock, Irql);
+    KeAcquireSpinLock(&EXTENSION_OF(Csq)->QueueLock, Irql);
 }
 
 static VOID NTAPI UnlockCalls(PIO_CSQ Csq, KIRQL Irql) {
-    KeReleaseSpinLock(&CONTAINING_RECORD(Csq, EXTENSION, Queue)->QueueLock, Irql);
+    KeReleaseSpinLock(&EXTENSION_OF(Csq)->QueueLock, Irql);
 }
 
 static VOID NTAPI CompleteCanceled(PIO_CSQ Csq, PIRP Irp) {
@@ -76,8 +73,7 @@ static VOID NTAPI CompleteCanceled(PIO_CSQ Csq, PIRP Irp) {
 }
 
 /* ---- Pairs of an event and a call ---- */
-/* Takes the oldest event and the oldest call, if there are both. Under EventLock, so that two threads don't each take
- * one half of a pair. */
+/* Takes the oldest event and call, if there are both. Under EventLock, so that no two threads each take a half. */
 static PIRP TakePair(PEXTENSION Extension, PUCHAR Event) {
     KIRQL Irql;
     PIRP Call = NULL;
@@ -106,38 +102,31 @@ static VOID Deliver(PEXTENSION Extension) {
 }
 
 static NTSTATUS WaitForEvent(PEXTENSION Extension, PIRP Irp) {
-    NTSTATUS Status;
-    if (IoGetCurrentIrpStackLocation(Irp)->Parameters.DeviceIoControl.OutputBufferLength < sizeof(UCHAR)) {
-        Finish(Irp, STATUS_BUFFER_TOO_SMALL, 0);
-        return STATUS_BUFFER_TOO_SMALL;
+    NTSTATUS Status = STATUS_BUFFER_TOO_SMALL;
+    if (IoGetCurrentIrpStackLocation(Irp)->Parameters.DeviceIoControl.OutputBufferLength >= sizeof(UCHAR)) {
+        Status = IoCsqInsertIrpEx(&Extension->Queue, Irp, NULL, NULL);
     }
-    Status = IoCsqInsertIrpEx(&Extension->Queue, Irp, NULL, NULL);
     if (!NT_SUCCESS(Status)) {
-        Finish(Irp, Status, 0);
-        return Status;
+        return Finish(Irp, Status, 0);
     }
-    /* From here on the call isn't ours: it may be completed, and its memory gone. */
-    Deliver(Extension);
-    return STATUS_PENDING;
+    Deliver(Extension); /* the call isn't ours any more: it may be completed, and its memory gone */
+    return Status;
 }
 
 static NTSTATUS RaiseEvent(PEXTENSION Extension, PIRP Irp) {
     NTSTATUS Status = STATUS_SUCCESS;
     KIRQL Irql;
+    KeAcquireSpinLock(&Extension->EventLock, &Irql);
     if (IoGetCurrentIrpStackLocation(Irp)->Parameters.DeviceIoControl.InputBufferLength < sizeof(UCHAR)) {
         Status = STATUS_BUFFER_TOO_SMALL;
+    } else if (Extension->EventCount == MOST_EVENTS) {
+        Status = STATUS_INSUFFICIENT_RESOURCES; /* who raises it hears that nobody listens */
     } else {
-        KeAcquireSpinLock(&Extension->EventLock, &Irql);
-        if (Extension->EventCount == MOST_EVENTS) {
-            Status = STATUS_INSUFFICIENT_RESOURCES; /* who raises it hears that nobody listens */
-        } else {
-            Extension->Events[Extension->EventCount++] = *(PUCHAR)Irp->AssociatedIrp.SystemBuffer;
-        }
-        KeReleaseSpinLock(&Extension->EventLock, Irql);
-        Deliver(Extension);
+        Extension->Events[Extension->EventCount++] = *(PUCHAR)Irp->AssociatedIrp.SystemBuffer;
     }
-    Finish(Irp, Status, 0);
-    return Status;
+    KeReleaseSpinLock(&Extension->EventLock, Irql);
+    Deliver(Extension);
+    return Finish(Irp, Status, 0);
 }
 
 /* ---- The dispatch routines ---- */
@@ -146,14 +135,13 @@ static NTSTATUS NTAPI DispatchControl(PDEVICE_OBJECT DeviceObject, PIRP Irp) {
     switch (IoGetCurrentIrpStackLocation(Irp)->Parameters.DeviceIoControl.IoControlCode) {
     case IOCTL_WAIT_FOR_EVENT: return WaitForEvent(Extension, Irp);
     case IOCTL_RAISE_EVENT: return RaiseEvent(Extension, Irp);
-    default: Finish(Irp, STATUS_INVALID_DEVICE_REQUEST, 0); return STATUS_INVALID_DEVICE_REQUEST;
+    default: return Finish(Irp, STATUS_INVALID_DEVICE_REQUEST, 0);
     }
 }
 
 static NTSTATUS NTAPI DispatchOpen(PDEVICE_OBJECT DeviceObject, PIRP Irp) {
     UNREFERENCED_PARAMETER(DeviceObject);
-    Finish(Irp, STATUS_SUCCESS, 0);
-    return STATUS_SUCCESS;
+    return Finish(Irp, STATUS_SUCCESS, 0);
 }
 
 /* The last handle to a file object is closed: what waits for it is cancelled. */
@@ -168,14 +156,14 @@ static NTSTATUS NTAPI DispatchCleanup(PDEVICE_OBJECT DeviceObject, PIRP Irp) {
     while ((Call = IoCsqRemoveNextIrp(&Extension->Queue, File)) != NULL) {
         Finish(Call, STATUS_CANCELLED, 0);
     }
-    Finish(Irp, STATUS_SUCCESS, 0);
-    return STATUS_SUCCESS;
+    return DispatchOpen(DeviceObject, Irp);
 }
 
 static VOID NTAPI Unload(PDRIVER_OBJECT DriverObject) {
     IoDeleteDevice(DriverObject->DeviceObject);
 }
 
+DRIVER_INITIALIZE DriverEntry;
 NTSTATUS NTAPI DriverEntry(PDRIVER_OBJECT DriverObject, PUNICODE_STRING RegistryPath) {
     PDEVICE_OBJECT DeviceObject;
     PEXTENSION Extension;

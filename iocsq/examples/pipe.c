@@ -1,13 +1,11 @@
 /*
- * A named pipe: two file objects are the two ends of a pipe, and what one end writes the other reads, a message at a
- * time. The first that is opened waits for the second. When one end is closed, the pipe is broken: what waits at the
- * other end is completed with STATUS_PIPE_BROKEN.
+ * A named pipe: two file objects are its ends, and what one writes the other reads, a message at a time. When one is
+ * closed the pipe is broken: what waits at the other end is completed with STATUS_PIPE_BROKEN.
  *
  * What is difficult:
  *
  * - A read and a write have to meet, whichever comes first, and either may be cancelled as they do. So each waits in a
- *   queue of its own, and TakeBoth takes one of each. Where it gets the read and no write, it puts the read back in
- *   front.
+ *   queue of its own, and TakeBoth takes one of each. A read that it gets without a write it puts back in front.
  * - A pipe has to stay for as long as anything of it is used. Its queues are used by cancel routines too, which may
  *   come late. Each file object has a reference to its pipe until IRP_MJ_CLOSE, which comes once all of its IRPs are
  *   completed; and so has a dispatch routine that goes on after it has queued its IRP.
@@ -43,24 +41,23 @@ typedef struct _EXTENSION {
     PPIPE Listening; /* whose second end isn't open yet; under Lock */
 } EXTENSION, *PEXTENSION;
 
-static VOID Finish(PIRP Irp, NTSTATUS Status, ULONG_PTR Information) {
+static NTSTATUS Finish(PIRP Irp, NTSTATUS Status, ULONG_PTR Information) {
     Irp->IoStatus.Status = Status;
     Irp->IoStatus.Information = Information;
     IoCompleteRequest(Irp, IO_NO_INCREMENT);
+    return Status;
 }
 
 static PEND EndOf(PIRP Irp) {
     return IoGetCurrentIrpStackLocation(Irp)->FileObject->FsContext;
 }
 
-/* ---- The callbacks of all queues ---- */
-static PLINE OfQueue(PIO_CSQ Csq) {
-    return CONTAINING_RECORD(Csq, LINE, Queue);
-}
+/* ---- The callbacks of all queues: the framework calls them with the lock, but for the last ---- */
+#define LINE_OF(Csq) CONTAINING_RECORD(Csq, LINE, Queue)
 
 /* With an insert context the IRP goes to the front: it was the first before. */
 static NTSTATUS NTAPI InsertIrp(PIO_CSQ Csq, PIRP Irp, PVOID InsertContext) {
-    PLINE Line = OfQueue(Csq);
+    PLINE Line = LINE_OF(Csq);
     if (Line->Pipe->Broken) {
         return STATUS_PIPE_BROKEN;
     }
@@ -78,18 +75,18 @@ static VOID NTAPI RemoveIrp(PIO_CSQ Csq, PIRP Irp) {
 }
 
 static PIRP NTAPI PeekIrp(PIO_CSQ Csq, PIRP Irp, PVOID PeekContext) {
-    PLIST_ENTRY Head = &OfQueue(Csq)->Irps;
+    PLIST_ENTRY Head = &LINE_OF(Csq)->Irps;
     PLIST_ENTRY Entry = Irp != NULL ? Irp->Tail.Overlay.ListEntry.Flink : Head->Flink;
     UNREFERENCED_PARAMETER(PeekContext); /* all IRPs of a queue are of one file object */
     return Entry == Head ? NULL : CONTAINING_RECORD(Entry, IRP, Tail.Overlay.ListEntry);
 }
 
 static VOID NTAPI LockPipe(PIO_CSQ Csq, PKIRQL Irql) {
-    KeAcquireSpinLock(&OfQueue(Csq)->Pipe->Lock, Irql);
+    KeAcquireSpinLock(&LINE_OF(Csq)->Pipe->Lock, Irql);
 }
 
 static VOID NTAPI UnlockPipe(PIO_CSQ Csq, KIRQL Irql) {
-    KeReleaseSpinLock(&OfQueue(Csq)->Pipe->Lock, Irql);
+    KeReleaseSpinLock(&LINE_OF(Csq)->Pipe->Lock, Irql);
 }
 
 static VOID NTAPI CompleteCanceled(PIO_CSQ Csq, PIRP Irp) {
@@ -98,27 +95,20 @@ static VOID NTAPI CompleteCanceled(PIO_CSQ Csq, PIRP Irp) {
 }
 
 /* ---- A read and a write meet ---- */
-static VOID PutBack(PLINE Line, PIRP Irp) {
-    NTSTATUS Status = IoCsqInsertIrpEx(&Line->Queue, Irp, NULL, Line);
-    if (!NT_SUCCESS(Status)) { /* broken meanwhile */
-        Finish(Irp, Status, 0);
-    }
-}
-
-/* Takes the first read of an end and the first write of the other. A fast mutex, since PutBack may complete an IRP that
- * was cancelled meanwhile, and that is forbidden under a spin lock. */
+/* Takes the first read of an end and the first write of the other. Under a fast mutex, since the insert may complete a
+ * read that was cancelled meanwhile, and that is forbidden under a spin lock. */
 static BOOLEAN TakeBoth(PEND Reader, PIRP *Read, PIRP *Write) {
-    PPIPE Pipe = Reader->Pipe;
-    ExAcquireFastMutex(&Pipe->Meeting);
-    *Write = NULL;
+    NTSTATUS Status = STATUS_SUCCESS;
+    ExAcquireFastMutex(&Reader->Pipe->Meeting);
     *Read = IoCsqRemoveNextIrp(&Reader->Reads.Queue, NULL);
-    if (*Read != NULL) {
-        *Write = IoCsqRemoveNextIrp(&Reader->Other->Writes.Queue, NULL);
-        if (*Write == NULL) {
-            PutBack(&Reader->Reads, *Read);
-        }
+    *Write = *Read != NULL ? IoCsqRemoveNextIrp(&Reader->Other->Writes.Queue, NULL) : NULL;
+    if (*Read != NULL && *Write == NULL) {
+        Status = IoCsqInsertIrpEx(&Reader->Reads.Queue, *Read, NULL, Reader);
     }
-    ExReleaseFastMutex(&Pipe->Meeting);
+    if (!NT_SUCCESS(Status)) { /* the pipe was broken meanwhile */
+        Finish(*Read, Status, 0);
+    }
+    ExReleaseFastMutex(&Reader->Pipe->Meeting);
     return *Write != NULL;
 }
 
@@ -141,9 +131,16 @@ static VOID Begin(PLINE Line, PPIPE Pipe) {
     IoCsqInitializeEx(&Line->Queue, InsertIrp, RemoveIrp, PeekIrp, LockPipe, UnlockPipe, CompleteCanceled);
 }
 
-static PPIPE MakePipe(VOID) {
-    PPIPE Pipe = ExAllocatePoolWithTag(NonPagedPool, sizeof(PIPE), TAG);
+/* Opens an end: the second of the pipe that listens, or the first of a new one. Null: no memory. */
+static PEND Connect(PEXTENSION Extension) {
+    PPIPE Pipe = Extension->Listening;
     int At;
+    if (Pipe != NULL) {
+        Extension->Listening = NULL;
+        InterlockedIncrement(&Pipe->References);
+        return &Pipe->Ends[1];
+    }
+    Pipe = ExAllocatePoolWithTag(NonPagedPool, sizeof(PIPE), TAG);
     if (Pipe == NULL) {
         return NULL;
     }
@@ -157,28 +154,15 @@ static PPIPE MakePipe(VOID) {
         Begin(&Pipe->Ends[At].Reads, Pipe);
         Begin(&Pipe->Ends[At].Writes, Pipe);
     }
-    return Pipe;
+    Extension->Listening = Pipe;
+    InterlockedIncrement(&Pipe->References);
+    return &Pipe->Ends[0];
 }
 
 static VOID Dereference(PPIPE Pipe) {
     if (InterlockedDecrement(&Pipe->References) == 0) {
         ExFreePoolWithTag(Pipe, TAG);
     }
-}
-
-/* The second end of the pipe that listens, or the first of a new one. */
-static PEND Connect(PEXTENSION Extension) {
-    PPIPE Pipe = Extension->Listening;
-    int At = Pipe != NULL ? 1 : 0;
-    if (Pipe == NULL) {
-        Pipe = MakePipe();
-    }
-    Extension->Listening = At == 0 ? Pipe : NULL;
-    if (Pipe == NULL) {
-        return NULL;
-    }
-    InterlockedIncrement(&Pipe->References);
-    return &Pipe->Ends[At];
 }
 
 static VOID Empty(PLINE Line, NTSTATUS Status) {
@@ -192,42 +176,30 @@ static VOID Empty(PLINE Line, NTSTATUS Status) {
 static NTSTATUS NTAPI DispatchCreate(PDEVICE_OBJECT DeviceObject, PIRP Irp) {
     PEXTENSION Extension = DeviceObject->DeviceExtension;
     PEND End;
-    NTSTATUS Status;
     ExAcquireFastMutex(&Extension->Lock);
     End = Connect(Extension);
     ExReleaseFastMutex(&Extension->Lock);
     IoGetCurrentIrpStackLocation(Irp)->FileObject->FsContext = End;
-    Status = End != NULL ? STATUS_SUCCESS : STATUS_INSUFFICIENT_RESOURCES;
-    Finish(Irp, Status, 0);
-    return Status;
+    return Finish(Irp, End != NULL ? STATUS_SUCCESS : STATUS_INSUFFICIENT_RESOURCES, 0);
 }
 
-/* Queues an IRP, and looks whether what it waits for is there already. Once it is queued it may be completed, and its
- * file object closed: so the pipe is referenced for as long as it is used here. */
-static NTSTATUS Queue(PLINE Line, PEND Reader, PIRP Irp) {
-    PPIPE Pipe = Line->Pipe;
+/* Queues a read or a write, and looks whether what it waits for is there. Once queued it may be completed, and its file
+ * object closed: so the pipe is referenced for as long as it is used here. */
+static NTSTATUS NTAPI DispatchReadWrite(PDEVICE_OBJECT DeviceObject, PIRP Irp) {
+    PEND End = EndOf(Irp);
+    PPIPE Pipe = End->Pipe;
+    BOOLEAN Reads = IoGetCurrentIrpStackLocation(Irp)->MajorFunction == IRP_MJ_READ;
     NTSTATUS Status;
+    UNREFERENCED_PARAMETER(DeviceObject);
     InterlockedIncrement(&Pipe->References);
-    Status = IoCsqInsertIrpEx(&Line->Queue, Irp, NULL, NULL);
+    Status = IoCsqInsertIrpEx(Reads ? &End->Reads.Queue : &End->Writes.Queue, Irp, NULL, NULL);
     if (NT_SUCCESS(Status)) {
-        Meet(Reader);
+        Meet(Reads ? End : End->Other);
     } else {
         Finish(Irp, Status, 0);
     }
     Dereference(Pipe);
     return Status;
-}
-
-static NTSTATUS NTAPI DispatchRead(PDEVICE_OBJECT DeviceObject, PIRP Irp) {
-    PEND End = EndOf(Irp);
-    UNREFERENCED_PARAMETER(DeviceObject);
-    return Queue(&End->Reads, End, Irp);
-}
-
-static NTSTATUS NTAPI DispatchWrite(PDEVICE_OBJECT DeviceObject, PIRP Irp) {
-    PEND End = EndOf(Irp);
-    UNREFERENCED_PARAMETER(DeviceObject);
-    return Queue(&End->Writes, End->Other, Irp);
 }
 
 static NTSTATUS NTAPI DispatchCleanup(PDEVICE_OBJECT DeviceObject, PIRP Irp) {
@@ -246,15 +218,13 @@ static NTSTATUS NTAPI DispatchCleanup(PDEVICE_OBJECT DeviceObject, PIRP Irp) {
     Empty(&End->Writes, STATUS_CANCELLED);
     Empty(&End->Other->Reads, STATUS_PIPE_BROKEN);
     Empty(&End->Other->Writes, STATUS_PIPE_BROKEN);
-    Finish(Irp, STATUS_SUCCESS, 0);
-    return STATUS_SUCCESS;
+    return Finish(Irp, STATUS_SUCCESS, 0);
 }
 
 static NTSTATUS NTAPI DispatchClose(PDEVICE_OBJECT DeviceObject, PIRP Irp) {
     UNREFERENCED_PARAMETER(DeviceObject);
     Dereference(EndOf(Irp)->Pipe);
-    Finish(Irp, STATUS_SUCCESS, 0);
-    return STATUS_SUCCESS;
+    return Finish(Irp, STATUS_SUCCESS, 0);
 }
 
 static VOID NTAPI Unload(PDRIVER_OBJECT DriverObject) {
@@ -274,8 +244,8 @@ NTSTATUS NTAPI DriverEntry(PDRIVER_OBJECT DriverObject, PUNICODE_STRING Registry
     DriverObject->DriverUnload = Unload;
     DriverObject->MajorFunction[IRP_MJ_CREATE] = DispatchCreate;
     DriverObject->MajorFunction[IRP_MJ_CLOSE] = DispatchClose;
-    DriverObject->MajorFunction[IRP_MJ_READ] = DispatchRead;
-    DriverObject->MajorFunction[IRP_MJ_WRITE] = DispatchWrite;
+    DriverObject->MajorFunction[IRP_MJ_READ] = DispatchReadWrite;
+    DriverObject->MajorFunction[IRP_MJ_WRITE] = DispatchReadWrite;
     DriverObject->MajorFunction[IRP_MJ_CLEANUP] = DispatchCleanup;
     DeviceObject->Flags &= ~(ULONG)DO_DEVICE_INITIALIZING;
     return STATUS_SUCCESS;
