@@ -1,2 +1,4 @@
 pub mod Standing
 pub mod Judging
+pub mod Leaving
+pub mod Auditing

@@ -1,7 +1,16 @@
-//! What is to be said of a driver's queue callbacks, beside a queue whose list is proved: each answer is compared with
-//! the one that the queue's own list gives.
+//! What is to be said of what a driver does with its queue, beside a queue that is proved: of its answers, of what it
+//! removes, completes and inserts again, and of what a cleanup leaves.
 #![tactic(auto)]
 
+mod cleanup;
+mod laws;
+mod list;
 mod peek;
+mod remove;
+mod uses;
 
+pub use cleanup::{CleanupVerdict, judge_cleanup};
+pub use laws::agreeing_peeks_tell_the_list;
 pub use peek::{PeekVerdict, judge_peek};
+pub use remove::{RemoveVerdict, judge_remove};
+pub use uses::{UseVerdict, judge_complete, judge_insert};

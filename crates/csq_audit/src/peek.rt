@@ -1,11 +1,11 @@
 //! What a driver's `CsqPeekNextIrp` answers, beside the queue's list.
 ghost use Rattle.std.specs.Prelude.{◌≡◌, ◌↔◌, ◌≤◌, Ok, Err, Some, IsOk, IfOk, IsTrue, length};
-ghost use Rattle.irp_core.specs.Steps.{same_id};
 ghost use Rattle.csq_list.specs.Searches.{IsStartIn, first_match, is_listed, rest_after};
 ghost use Rattle.csq_audit.specs.Lists.{listed, matching};
 ghost use Rattle.csq_audit.specs.Peeks.{irp_verdict, peek_verdict, stray_verdict, verdict_beside};
 ghost use Rattle.csq_audit.specs.declared.peek.PeekVerdict.TheVariants.{Agrees};
 
+use crate::list::{is_in_queue, is_same, match_after, next_match};
 use csq_checked::CheckedQueue;
 use csq_list::Peek;
 use csq_queue::NotListed;
@@ -84,38 +84,10 @@ fn judge_stray(queue: &CheckedQueue, peek: Peek, irp: IrpId) -> PeekVerdict
 {
     if stands_after(queue, None, peek, irp) {
         PeekVerdict::Backwards
-    } else if next_match(queue, Some(irp), Peek::Any).is_ok() {
+    } else if is_in_queue(queue, irp) {
         PeekVerdict::NoMatch
     } else {
         PeekVerdict::NotListed
-    }
-}
-
-// The first match after an IRP, or in the whole queue, by its number.
-fn next_match(
-    queue: &CheckedQueue,
-    after: Option<IrpId>,
-    peek: Peek,
-) -> Result<Option<IrpId>, NotListed>
-    ensures start { IsOk result ↔ IsStartIn (listed queue.now) after }
-    ensures first { IfOk result
-        (λ first. first ≡ first_match peek (rest_after after (listed queue.now))) }
-{
-    match queue.peek_next(after, peek) {
-        Ok(Some(next)) => Ok(Some(next.irp)),
-        Ok(None) => Ok(None),
-        Err(refusal) => Err(refusal),
-    }
-}
-
-// The first match after an IRP that is in the queue, or in the whole queue.
-fn match_after(queue: &CheckedQueue, after: Option<IrpId>, peek: Peek) -> Option<IrpId>
-    requires { IsStartIn (listed queue.now) after }
-    ensures { result ≡ first_match peek (rest_after after (listed queue.now)) }
-{
-    match next_match(queue, after, peek) {
-        Ok(first) => first,
-        Err(_) => unreachable!(),
     }
 }
 
@@ -135,12 +107,4 @@ fn stands_after(queue: &CheckedQueue, from: Option<IrpId>, peek: Peek, irp: IrpI
         at = Some(next);
     }
     false
-}
-
-// Whether two numbers are of one IRP.
-#[tactic(auto, unfolding(irp_core::specs::Steps::same_id))]
-fn is_same(one: IrpId, other: IrpId) -> bool
-    ensures { result ≡ same_id one other }
-{
-    one.0 == other.0
 }

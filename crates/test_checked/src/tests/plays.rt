@@ -2,6 +2,7 @@
 ghost use Rattle.csq_checked.specs.Passes.{IsPassIn};
 
 use super::take;
+use csq_audit::{RemoveVerdict, UseVerdict, judge_complete, judge_insert, judge_remove};
 use csq_checked::{
     AnyList, CheckedPass, CheckedQueue, CompleteRefused, ReuseRefused, RoutineRefused,
 };
@@ -31,6 +32,10 @@ pub(super) enum Call {
     Status(IrpId),
     // How many IRPs the pass holds and owes.
     Count,
+    // What a driver does, beside the queue: a completion, an insert of what was in the queue, a removal.
+    JudgeComplete(IrpLife, NtStatus),
+    JudgeInsert(IrpLife),
+    JudgeRemove(IrpLife),
 }
 
 // What a call answers.
@@ -63,6 +68,9 @@ pub(super) enum Answer {
     Unknown,
     // The pass holds and owes so many.
     Counted(u32, u32),
+    // What is said of a completion or an insert, and of a removal.
+    Used(UseVerdict),
+    Removed(RemoveVerdict),
 }
 
 // A call, and what it has to answer.
@@ -149,6 +157,14 @@ impl Begun {
         }
     }
 
+    fn judge_complete(&mut self, irp: IrpLife, status: NtStatus) -> Answer {
+        Answer::Used(judge_complete(&self.queue, &mut self.pass, irp, status))
+    }
+
+    fn judge_insert(&mut self, irp: IrpLife) -> Answer {
+        Answer::Used(judge_insert(&self.queue, &mut self.pass, irp))
+    }
+
     // Makes a call.
     fn make(&mut self, call: Call) -> Answer {
         match call {
@@ -165,6 +181,11 @@ impl Begun {
             Call::IsCancelled(irp) => self.read_flag(irp),
             Call::Status(irp) => self.read_status(irp),
             Call::Count => Answer::Counted(self.pass.tokens(), self.pass.claims()),
+            Call::JudgeComplete(irp, status) => self.judge_complete(irp, status),
+            Call::JudgeInsert(irp) => self.judge_insert(irp),
+            Call::JudgeRemove(irp) => {
+                Answer::Removed(judge_remove(&mut self.queue, &mut self.pass, irp))
+            }
         }
     }
 

@@ -1,0 +1,13 @@
+use Rattle.std.proofs.Common.{◌≡◌, ◌≤◌, ◌+◌, length}
+use Rattle.csq_list.specs.Searches.{IsStartIn, rest_after}
+use Rattle.csq_audit.specs.Lists.{listed}
+use Rattle.csq_audit.specs.Cleanups.{first_left}
+use Rattle.csq_audit.proofs.cleanup.find_left.Given as goal
+
+-- nothing up to the last IRP is left, and each look leaves fewer entries
+abbrev pub invariant-matches : goal.invariant-matches
+invariant-matches l = record {
+  start : IsStartIn (listed l.fn.queue) l.at;
+  same : first_left l.fn.excused l.fn.file (rest_after l.at (listed l.fn.queue)) ≡ first_left l.fn.excused l.fn.file (listed l.fn.queue);
+  nearer : length (rest_after l.at (listed l.fn.queue)) + l.counter ≤ length (listed l.fn.queue);
+}
