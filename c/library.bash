@@ -21,7 +21,7 @@ csq_plain_library() {
   local top=$1 archive=$2 compiler=$3 name
   shift 3
   rm -f "$archive"
-  for name in plain_queue plain_list; do
+  for name in plain_queue plain_judges plain_list; do
     "$compiler" -std=c11 "$@" -I"$top/include" -c "$top/bench/c/$name.c" -o "${archive%.a}.$name.o" || return 1
   done
   ar rcs "$archive" "${archive%.a}".plain_*.o

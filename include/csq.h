@@ -163,6 +163,30 @@ enum csq_peek_verdict {
     CSQ_PEEK_NOT_LISTED = 4
 };
 
+/* What csq_judge_remove says of a removal: */
+enum csq_remove_verdict {
+    /* The queue gives the IRP to the pass too. */
+    CSQ_REMOVE_AGREES = 0,
+    /* It is listed, and a canceller has it. */
+    CSQ_REMOVE_CLAIMED = 1,
+    /* It isn't listed. */
+    CSQ_REMOVE_NOT_LISTED = 2
+};
+
+/* What csq_judge_complete and csq_judge_insert say of an IRP, the first that holds: */
+enum csq_use_verdict {
+    /* The pass holds it, and may do so. */
+    CSQ_USE_AGREES = 0,
+    /* It is listed. */
+    CSQ_USE_LISTED = 1,
+    /* The pass doesn't hold it in the life named: it was completed before, or another pass has it. */
+    CSQ_USE_NOT_HELD = 2,
+    /* The pass got it cancelled: it is completed with STATUS_CANCELLED alone. */
+    CSQ_USE_GOT_CANCELLED = 3,
+    /* STATUS_PENDING is no status to complete with. */
+    CSQ_USE_NOT_FINAL = 4
+};
+
 /* How a queue keeps its list: in one vector, or in chains (one over all listed IRPs, one for each file object). */
 enum { CSQ_VECTOR = 0, CSQ_CHAINS = 1 };
 
@@ -343,6 +367,26 @@ uint32_t csq_close_file(struct csq_queue *queue, struct csq_pass *pass, uint32_t
  * CSQ_LIVES_SPENT. Lock: held. */
 CSQ_NODISCARD uint32_t csq_reuse(struct csq_queue *queue, struct csq_pass *pass, struct csq_irp irp, uint32_t *life);
 
+/* ---- What a driver does, beside this queue, under the lock ---- */
+
+/* Removes an IRP beside a driver that removes it (IoCsqRemoveIrp), as csq_remove does, and tells one of enum
+ * csq_remove_verdict: where it agrees, csq_remove would answer CSQ_OK, and the pass holds the IRP then. Whether another
+ * is listed is told by its number. CSQ_EMPTY_HANDLE; CSQ_OTHER_QUEUE. Lock: held. */
+uint32_t csq_judge_remove(struct csq_queue *queue, struct csq_pass *pass, struct csq_irp irp, uint32_t *verdict);
+
+/* Completes an IRP beside a driver that completes it with this status (IoCompleteRequest), through the pass that holds
+ * it: as csq_complete_cancelled does for STATUS_CANCELLED, and as csq_complete for another. Tells one of enum
+ * csq_use_verdict; nothing is completed unless it agrees. Whether an IRP that the pass doesn't hold is listed is told
+ * by its number. CSQ_EMPTY_HANDLE; CSQ_OTHER_QUEUE. Lock: held. */
+uint32_t csq_judge_complete(struct csq_queue *queue, struct csq_pass *pass, struct csq_irp irp, uint32_t status,
+                            uint32_t *verdict);
+
+/* Judges the insert of an IRP that was in this queue before, in the life that it has there (IoCsqInsertIrpEx). A driver
+ * may insert again what it removed, but not what is listed, or was given to it as cancelled. Tells one of enum
+ * csq_use_verdict, never CSQ_USE_NOT_FINAL. Where it agrees the IRP is completed, so that csq_reuse begins its next
+ * life, in which csq_insert takes it. CSQ_EMPTY_HANDLE; CSQ_OTHER_QUEUE. Lock: held. */
+uint32_t csq_judge_insert(struct csq_queue *queue, struct csq_pass *pass, struct csq_irp irp, uint32_t *verdict);
+
 /* ---- Looks at an open queue, under the lock ---- */
 
 /* Tells the first listed IRP of a file object, or of any for CSQ_ANY, in its present life: from the first on where
@@ -357,6 +401,12 @@ uint32_t csq_peek_next(const struct csq_queue *queue, uint32_t after, uint32_t f
  * CSQ_EMPTY_HANDLE; CSQ_CLOSED; CSQ_NOT_LISTED (`after` isn't listed). Lock: held. */
 uint32_t csq_judge_peek(const struct csq_queue *queue, uint32_t after, uint32_t file, uint32_t answer,
                         uint32_t *verdict, uint32_t *skipped);
+
+/* Judges what a driver's IRP_MJ_CLEANUP left of a file object in this queue's list, but for IRPs of these `count`
+ * numbers, which it may leave: those that a canceller has, and those that came after it began. *left is the first that
+ * is left, or CSQ_ANY where none is. CSQ_EMPTY_HANDLE; CSQ_CLOSED. Lock: held. */
+uint32_t csq_judge_cleanup(const struct csq_queue *queue, uint32_t file, const uint32_t *excused, size_t count,
+                           uint32_t *left);
 
 /* Tells how many IRPs are listed. CSQ_EMPTY_HANDLE; CSQ_CLOSED. Lock: held. */
 uint32_t csq_len(const struct csq_queue *queue, uint32_t *len);

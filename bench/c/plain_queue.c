@@ -486,46 +486,6 @@ uint32_t csq_peek_next(const struct csq_queue *queue, uint32_t after, uint32_t f
     return code;
 }
 
-/* Whether an IRP is among the matches after another one, or from the first on. */
-static bool stands_after(const struct queue *at, uint32_t after, uint32_t file, uint32_t irp) {
-    uint32_t next = plain_list_next(&at->list, after, file);
-    while (next != NOBODY && next != irp) {
-        next = plain_list_next(&at->list, next, file);
-    }
-    return next != NOBODY;
-}
-
-/* The verdict of an answer, where this is the first match after the start, or NOBODY. */
-static uint32_t judge(const struct queue *at, uint32_t first, uint32_t file, uint32_t answer) {
-    if (answer == first) {
-        return CSQ_PEEK_AGREES;
-    }
-    if (first != NOBODY && (answer == NOBODY || stands_after(at, first, file, answer))) {
-        return CSQ_PEEK_SKIPS;
-    }
-    if (stands_after(at, CSQ_ANY, file, answer)) {
-        return CSQ_PEEK_BACKWARDS;
-    }
-    return plain_list_has(&at->list, answer) ? CSQ_PEEK_NO_MATCH : CSQ_PEEK_NOT_LISTED;
-}
-
-uint32_t csq_judge_peek(const struct csq_queue *queue, uint32_t after, uint32_t file, uint32_t answer,
-                        uint32_t *verdict, uint32_t *skipped) {
-    const struct queue *at = queue->at;
-    uint32_t first = NOBODY, code = open_queue(at);
-    if (code == CSQ_OK) {
-        code = next_listed(at, after, file, &first);
-    }
-    if (code != CSQ_OK && code != CSQ_NONE) {
-        return code;
-    }
-    *verdict = judge(at, first, file, answer);
-    if (*verdict == CSQ_PEEK_SKIPS) {
-        *skipped = first;
-    }
-    return CSQ_OK;
-}
-
 uint32_t csq_len(const struct csq_queue *queue, uint32_t *len) {
     const struct queue *at = queue->at;
     uint32_t code = open_queue(at);

@@ -19,6 +19,7 @@ static uint32_t len_of(struct arguments a) { return csq_len(a.queue, &first); }
 static uint32_t file_len_of(struct arguments a) { return csq_file_len(a.queue, 9, &first); }
 static uint32_t peek_of(struct arguments a) { return csq_peek_next(a.queue, 9, 9, &named); }
 static uint32_t judge_of(struct arguments a) { return csq_judge_peek(a.queue, 9, 9, 9, &first, &second); }
+static uint32_t left_by(struct arguments a) { return csq_judge_cleanup(a.queue, 9, NULL, 0, &first); }
 static uint32_t out_of(struct arguments a) { return csq_count_passes_out(a.queue, &first); }
 static uint32_t close_of(struct arguments a) { return csq_close(a.queue); }
 static uint32_t listed_of(struct arguments a) { return csq_read_listed(a.queue, CSQ_ANY, &first); }
@@ -32,6 +33,9 @@ static uint32_t routine_of(struct arguments a) { return csq_cancel_routine(a.que
 static uint32_t owed_of(struct arguments a) { return csq_cancel_owed(a.queue, a.pass, irp_in(9, 0)); }
 static uint32_t file_of(struct arguments a) { return csq_close_file(a.queue, a.pass, 9); }
 static uint32_t reuse_of(struct arguments a) { return csq_reuse(a.queue, a.pass, irp_in(9, 0), &first); }
+static uint32_t judged_removal_of(struct arguments a) { return csq_judge_remove(a.queue, a.pass, named, &first); }
+static uint32_t judged_end_of(struct arguments a) { return csq_judge_complete(a.queue, a.pass, named, 0, &first); }
+static uint32_t judged_insert_of(struct arguments a) { return csq_judge_insert(a.queue, a.pass, named, &first); }
 static uint32_t drop_of(struct arguments a) { return csq_abandon_pass(a.pass); }
 static uint32_t holding_of(struct arguments a) { return csq_count_held(a.pass, &first, &second); }
 static uint32_t mark_of(struct arguments a) { return csq_mark_cancel(a.pass, named, &first); }
@@ -44,9 +48,12 @@ typedef uint32_t (*call)(struct arguments);
 
 /* The calls that take a queue alone, of which some want it open; both; and a pass alone. csq_new and csq_take_pass,
  * which fill one, and csq_free, which takes an empty one, stand apart. */
-static const call of_queue[] = { out_of, close_of, len_of, file_len_of, peek_of, judge_of, listed_of, left_of };
-static const call of_open[] = { out_of, close_of, len_of, file_len_of, peek_of, judge_of };
-static const call of_both[] = { back_of, insert_of, next_of, remove_of, routine_of, owed_of, file_of, reuse_of };
+static const call of_queue[] = { out_of,  close_of, len_of,    file_len_of, peek_of,
+                                 judge_of, left_by,  listed_of, left_of };
+static const call of_open[] = { out_of, close_of, len_of, file_len_of, peek_of, judge_of, left_by };
+static const call of_both[] = { back_of,           insert_of,     next_of,         remove_of,
+                                routine_of,        owed_of,       file_of,         reuse_of,
+                                judged_removal_of, judged_end_of, judged_insert_of };
 static const call of_pass[] = { drop_of, holding_of, mark_of, complete_of, cancelled_of, flag_of, read_of };
 
 #define EACH(calls) (size_t at = 0; at < sizeof(calls) / sizeof *(calls); at++)

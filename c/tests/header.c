@@ -71,7 +71,11 @@ static uint32_t way(void) {
     wrong |= csq_cancel(&queue, &pass, irp, &its_lock, NULL, &number) | csq_insert(&queue, &pass, 1, 0, 0, &irp);
     wrong |= csq_peek_next(&queue, CSQ_ANY, 0, &irp) | csq_len(&queue, &number) | csq_file_len(&queue, 0, &number);
     wrong |= csq_judge_peek(&queue, CSQ_ANY, 0, irp.irp, &number, &other) | (number ^ CSQ_PEEK_AGREES);
+    wrong |= csq_judge_cleanup(&queue, 0, &irp.irp, 1, &number) | (number ^ CSQ_ANY);
     wrong |= csq_mark_cancel(&pass, irp, &number) | csq_cancel_routine(&queue, &pass, irp);
+    wrong |= csq_judge_remove(&queue, &pass, irp, &number) | (number ^ CSQ_REMOVE_NOT_LISTED);
+    wrong |= csq_judge_insert(&queue, &pass, irp, &number) | (number ^ CSQ_USE_GOT_CANCELLED);
+    wrong |= csq_judge_complete(&queue, &pass, irp, CSQ_STATUS_PENDING, &number) | (number ^ CSQ_USE_GOT_CANCELLED);
     wrong |= csq_complete_cancelled(&pass, irp) | (csq_cancel_owed(&queue, &pass, irp) ^ CSQ_NOT_OWED);
     wrong |= csq_drain(&queue, &pass, 0, &its_lock, NULL, &number) | csq_free(NULL);
     wrong |= csq_cleanup(&queue, &pass, 0, &its_lock, NULL, &number) | (csq_version() ^ CSQ_VERSION_NUMBER);

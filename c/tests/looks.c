@@ -19,44 +19,6 @@ static void lens_are(const struct device *device, uint32_t all, uint32_t first, 
     IS(len, second);
 }
 
-/* A peek of a driver, and what is said of its answer. */
-struct judged {
-    uint32_t after, file, answer, verdict, skipped;
-};
-
-static void judge_each(const struct device *device, const struct judged *rows, size_t count) {
-    for (size_t at = 0; at < count; at++) {
-        uint32_t verdict = UNWRITTEN, skipped = UNWRITTEN;
-        IS(csq_judge_peek(&device->queue, rows[at].after, rows[at].file, rows[at].answer, &verdict, &skipped), CSQ_OK);
-        IS(verdict, rows[at].verdict);
-        IS(skipped, rows[at].skipped);
-    }
-}
-
-static void the_peeks_of_a_driver_are_judged(uint32_t list) {
-    /* The list is 0 (file object 0), 1 (1), 2 (0), 3 (1); 4 isn't listed. */
-    static const struct judged rows[] = {
-        { CSQ_ANY, CSQ_ANY, 0, CSQ_PEEK_AGREES, UNWRITTEN },     { 3, CSQ_ANY, CSQ_ANY, CSQ_PEEK_AGREES, UNWRITTEN },
-        { 0, 0, 2, CSQ_PEEK_AGREES, UNWRITTEN },                 { 2, 0, CSQ_ANY, CSQ_PEEK_AGREES, UNWRITTEN },
-        { CSQ_ANY, CSQ_ANY, CSQ_ANY, CSQ_PEEK_SKIPS, 0 },        { CSQ_ANY, CSQ_ANY, 3, CSQ_PEEK_SKIPS, 0 },
-        { CSQ_ANY, 1, 3, CSQ_PEEK_SKIPS, 1 },                    { 0, CSQ_ANY, 2, CSQ_PEEK_SKIPS, 1 },
-        { 2, CSQ_ANY, 1, CSQ_PEEK_BACKWARDS, UNWRITTEN },        { 2, CSQ_ANY, 2, CSQ_PEEK_BACKWARDS, UNWRITTEN },
-        { 3, 1, 1, CSQ_PEEK_BACKWARDS, UNWRITTEN },              { 0, 0, 3, CSQ_PEEK_NO_MATCH, UNWRITTEN },
-        { 2, 7, 2, CSQ_PEEK_NO_MATCH, UNWRITTEN },               { CSQ_ANY, 1, 0, CSQ_PEEK_NO_MATCH, UNWRITTEN },
-        { CSQ_ANY, CSQ_ANY, 4, CSQ_PEEK_NOT_LISTED, UNWRITTEN }, { 1, 1, 1000, CSQ_PEEK_NOT_LISTED, UNWRITTEN },
-    };
-    struct device device = device_of(size_of(5, 2, list));
-    uint32_t verdict = UNWRITTEN, skipped = UNWRITTEN;
-    for (uint32_t irp = 0; irp < 4; irp++) {
-        put(&device, 0, irp, irp % 2);
-    }
-    judge_each(&device, rows, sizeof rows / sizeof *rows);
-    IS(csq_judge_peek(&device.queue, 4, CSQ_ANY, 0, &verdict, &skipped), CSQ_NOT_LISTED);
-    IS(verdict, UNWRITTEN);
-    IS(skipped, UNWRITTEN);
-    end(&device);
-}
-
 static void an_empty_list_has_nothing(uint32_t list) {
     struct device device = device_of(size_of(2, 2, list));
     struct csq_irp irp = { UNWRITTEN, UNWRITTEN };
@@ -155,6 +117,5 @@ int main(void) {
     RUN_BOTH(a_look_changes_nothing);
     RUN_BOTH(what_a_canceller_has_is_listed_until_its_routine_has_run);
     RUN_BOTH(a_peek_tells_the_present_life);
-    RUN_BOTH(the_peeks_of_a_driver_are_judged);
     return DONE();
 }

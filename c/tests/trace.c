@@ -113,6 +113,24 @@ static void make_completion(int by) {
     }
 }
 
+static void make_judgement(int by) {
+    struct csq_irp irp = pick(3) ? got[by] : some_name();
+    uint32_t verdict = 99, code;
+    switch (pick(3)) {
+    case 0:
+        code = csq_judge_remove(&queue, &passes[by], irp, &verdict);
+        tell("remove", code, irp.irp, verdict);
+        break;
+    case 1:
+        code = csq_judge_insert(&queue, &passes[by], irp, &verdict);
+        tell("again", code, irp.irp, verdict);
+        break;
+    default:
+        code = csq_judge_complete(&queue, &passes[by], irp, pick(3) ? pick(5) : CSQ_STATUS_CANCELLED, &verdict);
+        tell("complete", code, irp.irp, verdict);
+    }
+}
+
 static void make_reuse(int by) {
     struct csq_irp irp = some_name();
     uint32_t life = 99, code = csq_reuse(&queue, &passes[by], irp, &life);
@@ -130,6 +148,9 @@ static void make_look(void) {
     uint32_t verdict = 99, skipped = 99, after = pick(2) ? CSQ_ANY : some_irp();
     code = csq_judge_peek(&queue, after, pick(2) ? CSQ_ANY : file, pick(4) ? some_irp() : CSQ_ANY, &verdict, &skipped);
     tell("judge", code, verdict, skipped);
+    uint32_t excused[] = { some_irp(), some_irp() }, left = 99;
+    code = csq_judge_cleanup(&queue, file, excused, pick(3), &left);
+    tell("left", code, file, left);
     code = csq_file_len(&queue, file, &len);
     tell("file len", code, file, len);
     code = csq_len(&queue, &len);
@@ -163,7 +184,8 @@ static void make_read(int by) {
 static void make_call(void) {
     static void (*const kinds[])(int) = { make_insert,     make_insert,  make_insert,  make_removal,
                                           make_cancel,     make_routine, make_routine, make_completion,
-                                          make_completion, make_reuse,   make_reuse,   make_read };
+                                          make_completion, make_reuse,   make_reuse,   make_read,
+                                          make_judgement };
     int by = (int)pick(PASSES);
     if (pick(200) == 0) {
         uint32_t file = some_file();

@@ -1,10 +1,14 @@
--- What a judgement of a driver's peek answers to C.
+-- What a judgement of a driver's peek, or of what its cleanup left, answers to C.
 use Rattle.std.specs.Prelude.{◌≡◌, ℕ, List, Option, Some, None, if◌then◌else◌}
+use Rattle.irp_core.specs.declared.ids.FileId.{FileId}
 use Rattle.irp_core.specs.declared.ids.IrpId.{IrpId}
 use Rattle.csq_list.specs.declared.entry.Entry.{Entry}
 use Rattle.csq_list.specs.declared.entry.Peek.{Peek}
+use Rattle.csq_audit.specs.Cleanups.{cleanup_verdict, first_left}
 use Rattle.csq_audit.specs.Lists.{listed}
 use Rattle.csq_audit.specs.Peeks.{peek_verdict}
+use Rattle.csq_audit.specs.declared.cleanup.CleanupVerdict.{CleanupVerdict}
+use Rattle.csq_audit.specs.declared.cleanup.CleanupVerdict.TheVariants as cleanup
 use Rattle.csq_audit.specs.declared.peek.PeekVerdict.{PeekVerdict}
 use Rattle.csq_audit.specs.declared.peek.PeekVerdict.TheVariants as verdict
 use Rattle.csq_c.specs.Bodies.{QueueBodyState}
@@ -47,3 +51,17 @@ verdict_told (Some v) = Some (verdict_number v)
 abbrev pub skipped_told : Option PeekVerdict → Option ℕ
 skipped_told None = None
 skipped_told (Some v) = skipped_by v
+
+-- an open queue's verdict of what a cleanup of f left, but for the excused
+abbrev pub JudgesCleanupOf : FileId → List ℕ → QueueBodyState → Code → Option CleanupVerdict → Type 0
+JudgesCleanupOf f excused body code told = OnOpen body code (told ≡ None) (λ q. (code ≡ Done) × (told ≡ Some (cleanup_verdict (first_left excused f (listed q)))))
+
+-- the number of the IRP that is left, or the largest one
+abbrev pub left_number : CleanupVerdict → ℕ
+left_number cleanup.Clean = 4294967295
+left_number (cleanup.Leaves i) = i.0
+
+-- where there is a verdict
+abbrev pub left_told : Option CleanupVerdict → Option ℕ
+left_told None = None
+left_told (Some v) = Some (left_number v)

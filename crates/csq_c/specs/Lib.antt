@@ -10,3 +10,4 @@ pub mod Ends
 pub mod Lefts
 pub mod Looks
 pub mod Judges
+pub mod Uses

@@ -1,20 +1,21 @@
 //! What is to be said of a driver's queue callbacks, beside an open queue, under the caller's lock. Before any other
 //! code each answers CSQ_EMPTY_HANDLE where the handle is empty, then CSQ_CLOSED of a closed queue.
 ghost use Rattle.std.specs.Prelude.{◌≡◌, Option};
+ghost use Rattle.csq_audit.specs.declared.cleanup.CleanupVerdict.{CleanupVerdict as Left};
 ghost use Rattle.csq_audit.specs.declared.peek.PeekVerdict.{PeekVerdict as Verdict};
 ghost use Rattle.csq_c.specs.Exports.{IsQueueKept};
-ghost use Rattle.csq_c.specs.Judges.{JudgesPeekOf, skipped_by, skipped_told, verdict_number, verdict_told};
+ghost use Rattle.csq_c.specs.Judges.{JudgesCleanupOf, JudgesPeekOf, left_told, skipped_by, skipped_told, verdict_number, verdict_told};
 ghost use Rattle.csq_c.specs.Lefts.{start_of};
 ghost use Rattle.csq_c.specs.Looks.{OnQueueHandle};
-ghost use Rattle.csq_c.specs.Shapes.{peek_of, set_to};
+ghost use Rattle.csq_c.specs.Shapes.{file_numbered, peek_of, set_to};
 
 use crate::body::QueueBody;
 use crate::codes::Code;
 use crate::handles::CsqQueue;
 use crate::shapes::{peek, start, write};
-use csq_audit::{PeekVerdict, judge_peek};
+use csq_audit::{CleanupVerdict, PeekVerdict, judge_cleanup, judge_peek};
 use csq_list::Peek;
-use irp_core::IrpId;
+use irp_core::{FileId, IrpId};
 
 impl QueueBody {
     /// The verdict of a peek's answer, where the queue is open.
@@ -32,6 +33,16 @@ impl QueueBody {
         match judge_peek(queue, after, peek, answer) {
             Ok(verdict) => (Code::Done, Some(verdict)),
             Err(_) => (Code::NotListed, None),
+        }
+    }
+
+    /// The verdict of what a cleanup left, where the queue is open.
+    fn judge_cleanup(&self, file: FileId, excused: &[u32]) -> (Code, Option<CleanupVerdict>)
+        ensures { JudgesCleanupOf file excused.now self.now result.0 result.1 }
+    {
+        match &self.queue {
+            None => (Code::Closed, None),
+            Some(queue) => (Code::Done, Some(judge_cleanup(queue, file, excused))),
         }
     }
 }
@@ -90,5 +101,38 @@ pub extern "C" fn csq_judge_peek(
     let (number, first) = told(judged);
     write(verdict, number);
     write(skipped, first);
+    code.number()
+}
+
+// The number of the IRP that is left, or the largest one, where there is a verdict.
+fn left_of(verdict: Option<CleanupVerdict>) -> Option<u32>
+    ensures { result ≡ left_told verdict }
+{
+    match verdict? {
+        CleanupVerdict::Clean => Some(u32::MAX),
+        CleanupVerdict::Leaves(irp) => Some(irp.0),
+    }
+}
+
+/// Looks for what a driver's `IRP_MJ_CLEANUP` left of a file object in the list, but for IRPs of these
+/// numbers, which it may leave. Writes the first IRP that is left, or the largest number: CSQ_OK. Own rule.
+#[unsafe(no_mangle)]
+pub extern "C" fn csq_judge_cleanup(
+    queue: &mut CsqQueue,
+    file: u32,
+    excused: &[u32],
+    left: &mut u32,
+) -> u32
+    ensures same { IsQueueKept queue.old queue.new }
+    ensures judged { OnQueueHandle queue.old.boxed.body result (left.new ≡ left.old)
+        (λ body code. (told : Option Left)
+        × JudgesCleanupOf (file_numbered file) excused.now body code told
+        × (left.new ≡ set_to (left_told told) left.old)) }
+{
+    let Some(body) = queue.boxed.lent() else {
+        return Code::Empty.number();
+    };
+    let (code, judged) = body.judge_cleanup(FileId(file), excused);
+    write(left, left_of(judged));
     code.number()
 }

@@ -14,4 +14,5 @@ mod passes;
 mod queues;
 mod shapes;
 mod unlocked;
+mod uses;
 mod version;
