@@ -100,17 +100,16 @@ static void check_insert(struct iocsq_irp *i) {
     if (i->irp.CancelRoutine) {
         iocsq_disagree(i, "IoCsqInsertIrp of irp %u, which has a cancel routine of the driver", i->index);
     }
-    if (i->place == IOCSQ_LISTED) {
-        uint32_t code = iocsq_reference_insert_again(i);
-        iocsq_disagree(i, "IoCsqInsertIrp of irp %u, which is in a queue already (csq_insert answers %s)", i->index,
-                       csq_name(code));
-    }
-    if (i->place == IOCSQ_CANCELLED || i->place == IOCSQ_DONE) {
-        iocsq_disagree(i, "IoCsqInsertIrp of irp %u, which %s", i->index, iocsq_place_name(i));
-    }
     /* A driver may insert again what it removed: one stay ends, and the next begins. */
-    if (i->place == IOCSQ_REMOVED && iocsq_reference_complete(i, STATUS_SUCCESS) != CSQ_OK) {
-        iocsq_fail("a stay was not ended");
+    uint32_t verdict = i->place == IOCSQ_DONE ? CSQ_USE_NOT_HELD : CSQ_USE_AGREES;
+    if (i->stay) {
+        verdict = iocsq_reference_insert_again(i);
+    }
+    switch (verdict) {
+    case CSQ_USE_AGREES: break;
+    case CSQ_USE_LISTED: iocsq_disagree(i, "IoCsqInsertIrp of irp %u, which is in a queue already", i->index);
+    case CSQ_USE_GOT_CANCELLED: iocsq_disagree(i, "IoCsqInsertIrp of irp %u, which was got cancelled", i->index);
+    default: iocsq_disagree(i, "IoCsqInsertIrp of irp %u, which was completed", i->index);
     }
 }
 
@@ -222,11 +221,14 @@ static void tell_peek(const struct iocsq_irp *before, const struct iocsq_irp *an
 
 /* Whether the driver gets the IRP that it answered: not where a canceller has it. */
 static bool take(struct iocsq_queue *q, struct iocsq_irp *answer) {
-    bool taken = iocsq_reference_remove(&q->reference, answer);
-    if (!taken) {
+    uint32_t verdict = iocsq_reference_remove(&q->reference, answer);
+    if (verdict == CSQ_REMOVE_NOT_LISTED) {
+        iocsq_disagree(answer, "irp %u has gone from the list while this thread has its lock", answer->index);
+    }
+    if (verdict == CSQ_REMOVE_CLAIMED) {
         iocsq_tell(answer, "    irp %u is a canceller's", answer->index);
     }
-    return taken;
+    return verdict == CSQ_REMOVE_AGREES;
 }
 
 PIRP NTAPI IoCsqRemoveNextIrp(PIO_CSQ Csq, PVOID PeekContext) {
@@ -283,21 +285,16 @@ PIRP NTAPI IoCsqRemoveIrp(PIO_CSQ Csq, PIO_CSQ_IRP_CONTEXT Context) {
 
 /* ---- Completion, of an IRP that stays in a queue ---- */
 void iocsq_complete_held(struct iocsq_irp *i, NTSTATUS status) {
-    int place = i->place;
     if (i->call_of) {
         i->call_of->calls--;
         i->call_of = NULL;
     }
-    uint32_t code = iocsq_reference_complete(i, status);
-    if (code == CSQ_NOT_REMOVED) {
-        iocsq_disagree(i, "irp %u was got cancelled, and is completed with %08X (csq_complete answers %s)", i->index,
-                       (unsigned)status, csq_name(code));
-    }
-    if (code == CSQ_NOT_HELD) {
-        iocsq_disagree(i, "irp %u is completed %s (csq_complete answers %s)", i->index,
-                       place == IOCSQ_LISTED ? "while it is in the queue" : "by two threads at once", csq_name(code));
-    }
-    if (code != CSQ_OK) {
-        iocsq_fail("csq_complete answered %s", csq_name(code));
+    switch (iocsq_reference_complete(i, status)) {
+    case CSQ_USE_AGREES: return;
+    case CSQ_USE_LISTED: iocsq_disagree(i, "irp %u is completed while it is in the queue", i->index);
+    case CSQ_USE_GOT_CANCELLED:
+        iocsq_disagree(i, "irp %u was got cancelled, and is completed with %08X", i->index, (unsigned)status);
+    case CSQ_USE_NOT_FINAL: iocsq_disagree(i, "irp %u is completed with STATUS_PENDING", i->index);
+    default: iocsq_disagree(i, "irp %u is completed by two threads at once", i->index);
     }
 }

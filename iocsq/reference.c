@@ -111,16 +111,26 @@ uint32_t iocsq_reference_len(struct iocsq_reference *r) {
     return len;
 }
 
-struct iocsq_irp *iocsq_reference_left(struct iocsq_reference *r, uint32_t file) {
-    struct csq_irp next = { CSQ_ANY, 0 };
-    struct iocsq_irp *left = NULL;
-    pthread_mutex_lock(&r->mutex);
-    while (!left && csq_peek_next(&r->queue, next.irp, file, &next) == CSQ_OK) {
-        struct iocsq_irp *i = r->by_slot[next.irp];
-        left = i->late || i->irp.Cancel ? NULL : i;
+/* The listed IRPs that a cleanup may leave: those that came after it began, and those that are cancelled. */
+static size_t excused_in(const struct iocsq_reference *r, uint32_t *slots) {
+    size_t count = 0;
+    for (uint32_t slot = 0; slot < CSQ_MOST_IRPS; slot++) {
+        const struct iocsq_irp *i = r->by_slot[slot];
+        if (i && i->place == IOCSQ_LISTED && (i->late || i->irp.Cancel)) {
+            slots[count++] = slot;
+        }
     }
+    return count;
+}
+
+struct iocsq_irp *iocsq_reference_left(struct iocsq_reference *r, uint32_t file) {
+    uint32_t excused[CSQ_MOST_IRPS], left = CSQ_ANY;
+    pthread_mutex_lock(&r->mutex);
+    size_t count = excused_in(r, excused);
+    expect(csq_judge_cleanup(&r->queue, file, excused, count, &left), CSQ_OK, "csq_judge_cleanup");
+    struct iocsq_irp *i = left == CSQ_ANY ? NULL : r->by_slot[left];
     pthread_mutex_unlock(&r->mutex);
-    return left;
+    return i;
 }
 
 struct iocsq_reference *iocsq_reference_of(const struct iocsq_irp *i) {
@@ -166,35 +176,29 @@ bool iocsq_reference_insert(struct iocsq_reference *r, struct iocsq_irp *i, uint
     return code == CSQ_OK;
 }
 
-uint32_t iocsq_reference_insert_again(struct iocsq_irp *i) {
-    struct iocsq_reference *r = reference_of(i->stay);
-    struct csq_irp context;
+uint32_t iocsq_reference_remove(struct iocsq_reference *r, struct iocsq_irp *i) {
+    uint32_t verdict = CSQ_REMOVE_NOT_LISTED;
     pthread_mutex_lock(&r->mutex);
+    uint64_t stay = i->stay;
+    if (!stay || reference_of(stay) != r) {
+        pthread_mutex_unlock(&r->mutex);
+        return verdict;
+    }
     uint32_t pass = lend_pass(r);
-    uint32_t code = csq_insert(&r->queue, &r->passes[pass].pass, irp_of(i->stay).irp, 0, 0, &context);
+    uint32_t code = csq_judge_remove(&r->queue, &r->passes[pass].pass, irp_of(stay), &verdict);
     return_pass(r, pass);
-    pthread_mutex_unlock(&r->mutex);
-    iocsq_step(i, pass, "arm");
-    return code;
-}
-
-bool iocsq_reference_remove(struct iocsq_reference *r, struct iocsq_irp *i) {
-    pthread_mutex_lock(&r->mutex);
-    uint32_t pass = lend_pass(r);
-    uint32_t code = csq_remove(&r->queue, &r->passes[pass].pass, irp_of(i->stay));
-    return_pass(r, pass);
+    expect(code, CSQ_OK, "csq_judge_remove");
     if (i->place == IOCSQ_LISTED) {
         iocsq_step(i, pass, "disarm");
     }
-    if (code == CSQ_OK) {
+    if (verdict == CSQ_REMOVE_AGREES) {
         i->pass = pass;
         i->place = IOCSQ_REMOVED;
     } else {
-        expect(code, CSQ_NONE, "csq_remove");
         iocsq_step(i, pass, "end");
     }
     pthread_mutex_unlock(&r->mutex);
-    return code == CSQ_OK;
+    return verdict;
 }
 
 bool iocsq_reference_mark(struct iocsq_irp *i, struct iocsq_claim *claim) {
@@ -241,23 +245,48 @@ static void free_slot(struct iocsq_reference *r, struct iocsq_irp *i, struct csq
     r->free_slots[r->free_count++] = irp.irp;
 }
 
-uint32_t iocsq_reference_complete(struct iocsq_irp *i, NTSTATUS status) {
+/* What a driver does with an IRP that stays in a queue. */
+struct use {
+    const char *step;
+    bool inserts; /* else it completes it with this status */
+    NTSTATUS status;
+};
+
+static uint32_t judge_use(struct iocsq_reference *r, uint32_t pass, struct csq_irp irp, struct use use) {
+    struct csq_pass *by = &r->passes[pass].pass;
+    uint32_t verdict = CSQ_USE_NOT_HELD;
+    uint32_t code = use.inserts ? csq_judge_insert(&r->queue, by, irp, &verdict)
+                                : csq_judge_complete(&r->queue, by, irp, (uint32_t)use.status, &verdict);
+    expect(code, CSQ_OK, use.inserts ? "csq_judge_insert" : "csq_judge_complete");
+    return verdict;
+}
+
+/* Ends a stay, through the pass that holds the IRP, if that agrees. */
+static uint32_t end_stay(struct iocsq_irp *i, struct use use) {
     uint64_t stay = i->stay;
     uint32_t pass = i->place == IOCSQ_LISTED ? iocsq_pass_of_thread() : i->pass;
     if (!stay) {
-        return CSQ_NOT_HELD;
+        return CSQ_USE_NOT_HELD;
     }
     struct iocsq_reference *r = reference_of(stay);
-    struct csq_irp irp = irp_of(stay);
     pthread_mutex_lock(&r->mutex);
     lend_this_pass(r, pass);
-    iocsq_step(i, pass, "done");
-    uint32_t code = status == STATUS_CANCELLED ? csq_complete_cancelled(&r->passes[pass].pass, irp)
-                                               : csq_complete(&r->passes[pass].pass, irp, (uint32_t)status);
-    if (code == CSQ_OK) {
-        free_slot(r, i, irp, pass);
+    iocsq_step(i, pass, use.step);
+    uint32_t verdict = judge_use(r, pass, irp_of(stay), use);
+    if (verdict == CSQ_USE_AGREES) {
+        free_slot(r, i, irp_of(stay), pass);
     }
     return_pass(r, pass);
     pthread_mutex_unlock(&r->mutex);
-    return code;
+    return verdict;
+}
+
+uint32_t iocsq_reference_insert_again(struct iocsq_irp *i) {
+    struct use again = { "arm", true, STATUS_SUCCESS };
+    return end_stay(i, again);
+}
+
+uint32_t iocsq_reference_complete(struct iocsq_irp *i, NTSTATUS status) {
+    struct use completion = { "done", false, status };
+    return end_stay(i, completion);
 }

@@ -46,7 +46,7 @@ uint32_t iocsq_reference_judge(struct iocsq_reference *r, uint32_t after, uint32
                                uint32_t *skipped);
 uint32_t iocsq_reference_len(struct iocsq_reference *r);
 /* An IRP that is listed for a file object's number, though that was cleaned up: not one that came after the cleanup
- * began, or that is cancelled. Null: none. */
+ * began, or that is cancelled (csq_judge_cleanup). Null: none. */
 struct iocsq_irp *iocsq_reference_left(struct iocsq_reference *r, uint32_t file);
 struct iocsq_reference *iocsq_reference_of(const struct iocsq_irp *i); /* in which it stays; null: none */
 uint32_t iocsq_slot_in(const struct iocsq_reference *r, const struct iocsq_irp *i); /* CSQ_ANY: it isn't listed there */
@@ -55,15 +55,15 @@ uint32_t iocsq_slot_in(const struct iocsq_reference *r, const struct iocsq_irp *
 void iocsq_reference_join(struct iocsq_reference *r, struct iocsq_irp *i);
 /* Inserts it for a file object's number. Whether it is pending; if not it was cancelled before, and is held. */
 bool iocsq_reference_insert(struct iocsq_reference *r, struct iocsq_irp *i, uint32_t file, bool first);
-/* What an insert of an IRP that stays in a queue answers. */
+/* Ends the stay of an IRP that is to be inserted again. The verdict, of enum csq_use_verdict. */
 uint32_t iocsq_reference_insert_again(struct iocsq_irp *i);
-/* Removes it. Whether it is held then; if not a canceller has it. */
-bool iocsq_reference_remove(struct iocsq_reference *r, struct iocsq_irp *i);
+/* Removes it, so that it is held. The verdict, of enum csq_remove_verdict. */
+uint32_t iocsq_reference_remove(struct iocsq_reference *r, struct iocsq_irp *i);
 /* Sets the flag of an IRP that stays in a queue, and takes its routine. Whether the routine was there. */
 bool iocsq_reference_mark(struct iocsq_irp *i, struct iocsq_claim *claim);
 /* Runs the cancel routine that was taken. The IRP is held then. */
 void iocsq_reference_run_routine(const struct iocsq_claim *claim, struct iocsq_irp *i);
-/* Ends a stay, through the pass that holds the IRP. CSQ_OK; CSQ_NOT_HELD; CSQ_NOT_REMOVED. */
+/* Ends the stay of an IRP that is completed with this status. The verdict, of enum csq_use_verdict. */
 uint32_t iocsq_reference_complete(struct iocsq_irp *i, NTSTATUS status);
 
 uint32_t iocsq_pass_of_thread(void); /* the pass that this thread asks for first */
