@@ -167,7 +167,7 @@ enum csq_peek_verdict {
 enum csq_remove_verdict {
     /* The queue gives the IRP to the pass too. */
     CSQ_REMOVE_AGREES = 0,
-    /* It is listed, and a canceller has it. */
+    /* It is listed, by its number, and not to be had: a canceller has it, or it is in another life. */
     CSQ_REMOVE_CLAIMED = 1,
     /* It isn't listed. */
     CSQ_REMOVE_NOT_LISTED = 2

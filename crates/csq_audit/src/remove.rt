@@ -16,7 +16,7 @@ use irp_core::IrpLife;
 pub enum RemoveVerdict {
     /// The queue gives the IRP to the pass too.
     Agrees,
-    /// It is in the queue, and a canceller has it: nobody else is to get it.
+    /// It is in the queue, by its number, and not to be had: a canceller has it, or it is in another life.
     Claimed,
     /// It isn't in the queue.
     NotListed,

@@ -20,7 +20,8 @@ pub enum UseVerdict {
     Agrees,
     /// It is in the queue.
     Listed,
-    /// The pass doesn't hold it in the life named: it was completed before, or another pass has it.
+    /// The pass doesn't hold it in the life named: it was completed before, another pass has it, it was never
+    /// inserted, or there is no such IRP.
     NotHeld,
     /// It was got cancelled: it has to be completed with STATUS_CANCELLED.
     GotCancelled,
@@ -32,7 +33,8 @@ pub enum UseVerdict {
 /// holds it, or says what is wrong with that; then nothing is completed. The caller has the queue's lock.
 ///
 /// STATUS_CANCELLED ends what the pass got in whatever way, any other final status what it got by a removal.
-/// Whether an IRP is in the queue is told by its number. Own rule.
+/// Whether an IRP is in the queue is told by its number, and of this queue, whatever queue the pass is of. Own
+/// rule.
 pub fn judge_complete(
     queue: &CheckedQueue,
     by: &mut CheckedPass,

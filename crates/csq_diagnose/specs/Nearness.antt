@@ -9,7 +9,7 @@ use Rattle.csq_diagnose.specs.declared.nearest.Near.{Near}
 abbrev pub edits : List ℕ → List ℕ → ℕ
 edits from to = levenshtein_row nat_eq (chars from) (chars to) (length (chars to))
 
--- it is the first of these words to which no fewer edits lead than to any other
+-- it is the first of these words to which the fewest edits lead
 pub record IsNearest (words : List (List ℕ)) (word : List ℕ) (near : Near) : Type 0 where
   pub before : List (List ℕ)
   pub later : List (List ℕ)

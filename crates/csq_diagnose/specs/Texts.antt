@@ -57,7 +57,7 @@ abbrev pub hint_text : Option Near → List ℕ
 hint_text (Some near) = if nat_le near.edits 2 then codes "; did you mean \"" ++ (near.word.now ++ codes "\"?") else []
 hint_text None = []
 
--- the word is the letter p and a digit, as a pass
+-- the word begins with the letter p and a digit, as a pass does
 abbrev pub begins_a_step : List ℕ → Bool
 begins_a_step (letter ∷ digit ∷ more) = (letter == 112) && (nat_le 48 digit && nat_le digit 57)
 begins_a_step _ = false

@@ -23,8 +23,7 @@ fn nearer(best: Option<Near>, other: Near) -> Near
 }
 
 impl Near {
-    /// One of these words to which the fewest edits lead; none where there are no
-    /// words. Own rule.
+    /// The first of these words to which the fewest edits lead; none where there are no words. Own rule.
     pub fn find<A: Allocator + Copy>(
         alloc: A,
         word: &str,

@@ -146,7 +146,7 @@ impl fmt::Display for Hint {
     }
 }
 
-/// Whether a word is the letter p and a digit, as a pass.
+/// Whether a word begins with the letter p and a digit, as a pass does.
 fn begins_a_step(word: &[u8]) -> bool
     ensures { result ≡ begins_a_step word.now }
 {
@@ -163,7 +163,7 @@ struct OtherInput<'a> {
     expected: Expected,
 }
 
-/// As a second line, `a script has calls: csqsim script reads it`, or nothing.
+/// As a further line, `a script has calls: csqsim script reads it`, or nothing.
 impl fmt::Display for OtherInput<'_> {
     ghost use Rattle.std.specs.Prelude.{Some};
     ghost use Rattle.csq_diagnose.specs.Texts.{other_input_text};

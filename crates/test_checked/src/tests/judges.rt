@@ -165,7 +165,8 @@ fn what_a_driver_does_with_a_cancelled_irp_is_judged(rt: HostRuntime) {
 }
 
 // What is listed isn't inserted again. What was removed is, in its next life.
-fn inserts() -> [Row; 8] {
+fn inserts() -> [Row; 9] {
+    let succeeded = Answer::Is(Life(5), Some(NtStatus::SUCCESS));
     [
         (put(ZERO, FILE), Answer::Pending(first(ZERO))),
         (
@@ -181,6 +182,7 @@ fn inserts() -> [Row; 8] {
             Call::JudgeInsert(first(ZERO)),
             Answer::Used(UseVerdict::Agrees),
         ),
+        (Call::Status(ZERO), succeeded),
         (Call::Reuse(first(ZERO)), Answer::Began(Life(6))),
         (put(ZERO, OTHER), Answer::Pending(second(ZERO))),
         (

@@ -94,6 +94,14 @@ const SCHEDULES: &[(&str, &str)] = &[
 
 const SCRIPTS: &[(&str, &str)] = &[
     (
+        "p10 arm 0\n",
+        "csqsim: line 1, column 1: \"p10\" is no call\n  a call is insert, next, remove, mark, routine, cancel, complete, close,\n  cleanup, flag, status or reuse\n  a schedule has steps: csqsim schedule reads it\n",
+    ),
+    (
+        "peek *\n",
+        "csqsim: line 1, column 1: \"peek\" is no call\n  a call is insert, next, remove, mark, routine, cancel, complete, close,\n  cleanup, flag, status or reuse\n",
+    ),
+    (
         "p1 arm 0\n",
         "csqsim: line 1, column 1: \"p1\" is no call\n  a call is insert, next, remove, mark, routine, cancel, complete, close,\n  cleanup, flag, status or reuse\n  a schedule has steps: csqsim schedule reads it\n",
     ),
