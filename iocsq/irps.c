@@ -309,8 +309,9 @@ VOID NTAPI IofCompleteRequest(PIRP Irp, CCHAR PriorityBoost) {
     (void)PriorityBoost;
     check_completion(i);
     NTSTATUS status = Irp->IoStatus.Status;
+    bool stayed = i->stay != 0; /* another thread may end the stay before this one does */
     iocsq_point();
-    if (i->stay) {
+    if (stayed || i->stay) {
         iocsq_complete_held(i, status);
     }
     i->completions++;

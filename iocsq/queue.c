@@ -222,6 +222,8 @@ static void tell_peek(const struct iocsq_irp *before, const struct iocsq_irp *an
 /* Whether the driver gets the IRP that it answered: not where a canceller has it. */
 static bool take(struct iocsq_queue *q, struct iocsq_irp *answer) {
     uint32_t verdict = iocsq_reference_remove(&q->reference, answer);
+    /* A last resort, which no driver was seen to reach: a peek's answer was just found in this queue's list, a context
+     * has its IRP until that is removed, and check_lock ends the program where the lock lets another thread in. */
     if (verdict == CSQ_REMOVE_NOT_LISTED) {
         iocsq_disagree(answer, "irp %u has gone from the list while this thread has its lock", answer->index);
     }
@@ -294,7 +296,8 @@ void iocsq_complete_held(struct iocsq_irp *i, NTSTATUS status) {
     case CSQ_USE_LISTED: iocsq_disagree(i, "irp %u is completed while it is in the queue", i->index);
     case CSQ_USE_GOT_CANCELLED:
         iocsq_disagree(i, "irp %u was got cancelled, and is completed with %08X", i->index, (unsigned)status);
+    /* check_completion has told STATUS_PENDING: here it is one that another thread wrote since, running freely. */
     case CSQ_USE_NOT_FINAL: iocsq_disagree(i, "irp %u is completed with STATUS_PENDING", i->index);
-    default: iocsq_disagree(i, "irp %u is completed by two threads at once", i->index);
+    default: iocsq_disagree(i, "irp %u is completed while another thread completes or inserts it", i->index);
     }
 }

@@ -266,6 +266,7 @@ static uint32_t end_stay(struct iocsq_irp *i, struct use use) {
     uint64_t stay = i->stay;
     uint32_t pass = i->place == IOCSQ_LISTED ? iocsq_pass_of_thread() : i->pass;
     if (!stay) {
+        iocsq_step_again(i, use.step);
         return CSQ_USE_NOT_HELD;
     }
     struct iocsq_reference *r = reference_of(stay);

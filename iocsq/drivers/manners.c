@@ -1,5 +1,6 @@
 /* What a driver owes the I/O manager beside its queue: it leaves an IRP alone that it queued or completed, says no more
- * bytes than there are, answers what it completed with, takes its locks in one order, and refuses before it empties. */
+ * bytes than there are, answers what it completed with, takes its locks in one order, refuses before it empties, and
+ * completes an IRP in one thread. */
 #include "waiting.h"
 
 typedef struct _EXTENSION {
@@ -7,6 +8,7 @@ typedef struct _EXTENSION {
     KSPIN_LOCK Device; /* of Served; taken before Statistics where both are */
     KSPIN_LOCK Statistics;
     ULONG Served, Seen;
+    PIRP Serving; /* of WRONG == 7: the read that a write completes */
 } EXTENSION, *PEXTENSION;
 
 static NTSTATUS NTAPI Read(PDEVICE_OBJECT DeviceObject, PIRP Irp) {
@@ -27,7 +29,13 @@ static VOID Serve(PEXTENSION Extension, PIRP Waiting) {
     Extension->Seen++;
     KeReleaseSpinLockFromDpcLevel(&Extension->Statistics);
     KeReleaseSpinLock(&Extension->Device, Irql);
+#if WRONG == 7
+    Extension->Serving = Waiting;
+#endif
     Finish(Waiting, STATUS_SUCCESS, WRONG == 3 ? 4096 : 1);
+#if WRONG == 7
+    Extension->Serving = NULL;
+#endif
 #if WRONG == 2
     if (Waiting->IoStatus.Information == 0) {
         Extension->Served--; /* by what a completed IRP says */
@@ -49,6 +57,13 @@ static NTSTATUS NTAPI Write(PDEVICE_OBJECT DeviceObject, PIRP Irp) {
 static NTSTATUS NTAPI Control(PDEVICE_OBJECT DeviceObject, PIRP Irp) {
     PEXTENSION Extension = DeviceObject->DeviceExtension;
     KIRQL Irql;
+#if WRONG == 7
+    PIRP Serving = Extension->Serving;
+    Extension->Serving = NULL;
+    if (Serving != NULL) {
+        Finish(Serving, STATUS_CANCELLED, 0); /* as the write does */
+    }
+#endif
 #if WRONG == 5
     KeAcquireSpinLock(&Extension->Statistics, &Irql); /* in the other order */
     KeAcquireSpinLockAtDpcLevel(&Extension->Device);
