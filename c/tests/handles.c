@@ -11,7 +11,7 @@ static uint32_t first, second, third;
 static struct csq_irp named = { 0, 0 };
 static struct csq_left left;
 static const struct csq_size small = { 2, 1, 2, 2, 0, CSQ_CHAINS };
-static const uint32_t one_limit[] = { 1 };
+static const uint32_t one_limit[] = { 1 }, excused[] = { 9 };
 
 static uint32_t new_of(struct arguments a) { return csq_new(a.queue, &small); }
 static uint32_t limited_of(struct arguments a) { return csq_new_with_file_limits(a.queue, &small, one_limit, 1); }
@@ -19,7 +19,7 @@ static uint32_t len_of(struct arguments a) { return csq_len(a.queue, &first); }
 static uint32_t file_len_of(struct arguments a) { return csq_file_len(a.queue, 9, &first); }
 static uint32_t peek_of(struct arguments a) { return csq_peek_next(a.queue, 9, 9, &named); }
 static uint32_t judge_of(struct arguments a) { return csq_judge_peek(a.queue, 9, 9, 9, &first, &second); }
-static uint32_t left_by(struct arguments a) { return csq_judge_cleanup(a.queue, 9, NULL, 0, &first); }
+static uint32_t left_by(struct arguments a) { return csq_judge_cleanup(a.queue, 9, excused, 1, &first); }
 static uint32_t out_of(struct arguments a) { return csq_count_passes_out(a.queue, &first); }
 static uint32_t close_of(struct arguments a) { return csq_close(a.queue); }
 static uint32_t listed_of(struct arguments a) { return csq_read_listed(a.queue, CSQ_ANY, &first); }

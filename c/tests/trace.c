@@ -113,6 +113,12 @@ static void make_completion(int by) {
     }
 }
 
+/* A small one, or one of the two that aren't judged by who holds the IRP alone. */
+static uint32_t some_status(void) {
+    static const uint32_t others[] = { CSQ_STATUS_CANCELLED, CSQ_STATUS_PENDING };
+    return pick(3) ? pick(5) : others[pick(2)];
+}
+
 static void make_judgement(int by) {
     struct csq_irp irp = pick(3) ? got[by] : some_name();
     uint32_t verdict = 99, code;
@@ -120,13 +126,16 @@ static void make_judgement(int by) {
     case 0:
         code = csq_judge_remove(&queue, &passes[by], irp, &verdict);
         tell("remove", code, irp.irp, verdict);
+        if (code == CSQ_OK && verdict == CSQ_REMOVE_AGREES) {
+            got[by] = irp;
+        }
         break;
     case 1:
         code = csq_judge_insert(&queue, &passes[by], irp, &verdict);
         tell("again", code, irp.irp, verdict);
         break;
     default:
-        code = csq_judge_complete(&queue, &passes[by], irp, pick(3) ? pick(5) : CSQ_STATUS_CANCELLED, &verdict);
+        code = csq_judge_complete(&queue, &passes[by], irp, some_status(), &verdict);
         tell("complete", code, irp.irp, verdict);
     }
 }
