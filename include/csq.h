@@ -187,7 +187,9 @@ enum csq_use_verdict {
     CSQ_USE_NOT_FINAL = 4
 };
 
-/* How a queue keeps its list: in one vector, or in chains (one over all listed IRPs, one for each file object). */
+/* How a queue keeps its list: in one vector, which is used as a ring, or in chains (one over all listed IRPs, one for
+ * each file object). The vector is the faster one where the next IRP is removed whatever its file object, the chains
+ * where those of one file object are looked for among many. */
 enum { CSQ_VECTOR = 0, CSQ_CHAINS = 1 };
 
 /* The most IRPs, file objects and passes of a queue, and an IRP's last life. */
