@@ -179,7 +179,8 @@ enum csq_use_verdict {
     CSQ_USE_AGREES = 0,
     /* It is listed. */
     CSQ_USE_LISTED = 1,
-    /* The pass doesn't hold it in the life named: it was completed before, or another pass has it. */
+    /* The pass doesn't hold it in the life named: it was completed before, another pass has it, it was never inserted,
+     * or there is no such IRP. */
     CSQ_USE_NOT_HELD = 2,
     /* The pass got it cancelled: it is completed with STATUS_CANCELLED alone. */
     CSQ_USE_GOT_CANCELLED = 3,

@@ -144,7 +144,8 @@ pub extern "C" fn csq_judge_insert(
 }
 
 /// Removes an IRP beside a driver that removes it, and writes 0; the pass holds it then. Else writes 1 where
-/// it is listed, and a canceller has it, or 2 where it isn't listed. CSQ_OK. As `IoCsqRemoveIrp`.
+/// its number is listed (a canceller has it, or it is in another life), or 2 where it isn't. CSQ_OK. As
+/// `IoCsqRemoveIrp`.
 #[unsafe(no_mangle)]
 pub extern "C" fn csq_judge_remove(
     queue: &mut CsqQueue,
