@@ -1,5 +1,5 @@
 /*
- * A cancel-safe queue of IRPs, the oldest first: the callbacks of all queues of the three drivers in this folder.
+ * A cancel-safe queue of IRPs, the oldest first: the callbacks of all queues of a driver.
  *
  * An IRP that waits may be removed by the driver and cancelled by its sender, both at once. IoCsqXxx decides who gets
  * it: either IoCsqRemoveNextIrp returns it to the driver, which completes it, or the framework's cancel routine removes
@@ -95,7 +95,8 @@ static VOID InitializeQueue(PIRP_QUEUE Queue, PKSPIN_LOCK Lock) {
 }
 
 /* Queues an IRP, or completes it where it is refused, and answers what its dispatch routine has to return. In either
- * case the IRP may be completed by then: the caller must not touch it. */
+ * case the IRP may be completed by then: the caller must not touch it. One that was queued is marked pending by
+ * IoCsqInsertIrpEx: so STATUS_PENDING is the answer, even where it is completed by now. */
 static NTSTATUS Enqueue(PIRP_QUEUE Queue, PIRP Irp, PVOID InsertContext) {
     NTSTATUS Status = IoCsqInsertIrpEx(&Queue->Csq, Irp, NULL, InsertContext);
     return NT_SUCCESS(Status) ? Status : Finish(Irp, Status, 0);

@@ -13,7 +13,7 @@
 
 #define TAG 'epiP'
 
-typedef struct _END {
+typedef struct _END { /* one file object's: all IRPs of its queues are of that */
     struct _PIPE *Pipe;
     struct _END *Other;
     IRP_QUEUE Reads;
@@ -21,16 +21,16 @@ typedef struct _END {
 } END, *PEND;
 
 typedef struct _PIPE {
-    KSPIN_LOCK Lock;    /* of the four queues */
-    BOOLEAN Broken;     /* one end was closed; under Lock */
+    KSPIN_LOCK Lock;    /* of the four queues and of Broken */
+    BOOLEAN Broken;     /* one end was closed */
     FAST_MUTEX Meeting; /* one thread at a time looks for a read and a write */
     LONG References;
     END Ends[2];
 } PIPE, *PPIPE;
 
 typedef struct _EXTENSION {
-    FAST_MUTEX Lock;
-    PEND Listening; /* the second end of a pipe, until it is opened; null: there is none. Under Lock */
+    FAST_MUTEX Lock; /* of Listening */
+    PEND Listening;  /* the second end of a pipe, until it is opened; null: there is none */
 } EXTENSION, *PEXTENSION;
 
 static PEND EndOf(PIRP Irp) {
@@ -41,21 +41,23 @@ static NTSTATUS Admit(PIRP Irp) {
     return EndOf(Irp)->Pipe->Broken ? STATUS_PIPE_BROKEN : STATUS_PENDING;
 }
 
-/* A peek context is a file object, or null for any. */
+/* Each removal asks for any IRP of its queue. */
 BOOLEAN IsWanted(PIRP Irp, PVOID PeekContext) {
-    return PeekContext == NULL || PeekContext == FileOf(Irp);
+    UNREFERENCED_PARAMETER(Irp);
+    return PeekContext == NULL;
 }
 
 /* ---- A read and a write meet ---- */
 /* Takes the first read of an end and the first write of the other. Under a mutex, so that no two threads each take a
- * half; not under a spin lock, since the read that goes back may be completed: it was cancelled, or the pipe broken.
- * (So a completion routine must not send to the same pipe: it would wait for this mutex, which its own thread has.) */
+ * half; not under a spin lock, since the read that goes back may be completed: it was cancelled, or the pipe broken
+ * (then with STATUS_PIPE_BROKEN, even where its own end is closed). So a completion routine must not send to the same
+ * pipe: it would wait for this mutex, which its own thread has. */
 static BOOLEAN TakeBoth(PEND Reader, PIRP *Read, PIRP *Write) {
     ExAcquireFastMutex(&Reader->Pipe->Meeting);
     *Read = IoCsqRemoveNextIrp(&Reader->Reads.Csq, NULL);
     *Write = *Read != NULL ? IoCsqRemoveNextIrp(&Reader->Other->Writes.Csq, NULL) : NULL;
     if (*Read != NULL && *Write == NULL) {
-        Enqueue(&Reader->Reads, *Read, Reader); /* with an insert context: in front, where it was */
+        Enqueue(&Reader->Reads, *Read, Reader); /* in front; its dispatch routine answers STATUS_PENDING in any case */
     }
     ExReleaseFastMutex(&Reader->Pipe->Meeting);
     return *Write != NULL;
@@ -141,8 +143,8 @@ static NTSTATUS NTAPI DispatchCleanup(PDEVICE_OBJECT DeviceObject, PIRP Irp) {
     KeAcquireSpinLock(&End->Pipe->Lock, &Irql);
     End->Pipe->Broken = TRUE; /* from now on nothing is queued, and then the queues are emptied */
     KeReleaseSpinLock(&End->Pipe->Lock, Irql);
-    CompleteAll(&End->Reads, FileOf(Irp), STATUS_CANCELLED);
-    CompleteAll(&End->Writes, FileOf(Irp), STATUS_CANCELLED);
+    CompleteAll(&End->Reads, NULL, STATUS_CANCELLED);
+    CompleteAll(&End->Writes, NULL, STATUS_CANCELLED);
     CompleteAll(&End->Other->Reads, NULL, STATUS_PIPE_BROKEN);
     CompleteAll(&End->Other->Writes, NULL, STATUS_PIPE_BROKEN);
     return Finish(Irp, STATUS_SUCCESS, 0);

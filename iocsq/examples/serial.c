@@ -14,13 +14,14 @@
 enum { ROOM = 16, INTERVAL = 2, TOTAL_CONSTANT = 1, TOTAL_MULTIPLIER = 2 }; /* bytes; ticks */
 
 typedef struct _EXTENSION {
-    KSPIN_LOCK Lock; /* of all that follows, but for the timer and the DPC */
+    KSPIN_LOCK Lock; /* of the lists of both queues, of what follows them to LastByte, and of each FsContext */
     IRP_QUEUE Reads;
     IRP_QUEUE Writes;
     UCHAR Received[ROOM];
-    ULONG Count;
-    LONG Now;      /* ticks */
-    LONG LastByte; /* when it came */
+    ULONG Count;    /* of bytes in Received; only Tick changes it */
+    ULONG Now;      /* ticks; it wraps round, so times are compared by their difference */
+    ULONG LastByte; /* when it came */
+    LONG Ticking;   /* 1: Tick runs; by interlocked calls */
     KTIMER Timer;
     KDPC Dpc;
 } EXTENSION, *PEXTENSION;
@@ -34,16 +35,18 @@ static ULONG LengthOf(PIRP Irp) {
 }
 
 /* ---- What the queues ask, under the lock ---- */
-/* Refuses once the cleanup of the file object has begun. Notes when a read's time is over: DriverContext[0] to [2] are
- * the driver's while it has the IRP, the framework uses [3]. */
+/* Refuses once the cleanup of the file object has begun. Notes when an IRP's time is over, which only reads are asked:
+ * DriverContext[0] to [2] are the driver's while it has the IRP, the framework uses [3]. */
 static NTSTATUS Admit(PIRP Irp) {
-    LONG Deadline = PortOf(Irp)->Now + TOTAL_CONSTANT + TOTAL_MULTIPLIER * (LONG)LengthOf(Irp);
-    Irp->Tail.Overlay.DriverContext[0] = (PVOID)(LONG_PTR)Deadline;
+    ULONG Length = LengthOf(Irp) < ROOM ? LengthOf(Irp) : ROOM; /* for more bytes there is no more time */
+    ULONG Deadline = PortOf(Irp)->Now + TOTAL_CONSTANT + TOTAL_MULTIPLIER * Length;
+    Irp->Tail.Overlay.DriverContext[0] = (PVOID)(ULONG_PTR)Deadline;
     return FileOf(Irp)->FsContext == NULL ? STATUS_PENDING : STATUS_FILE_CLOSED;
 }
 
 static BOOLEAN IsExpired(PIRP Read) {
-    return (LONG)(LONG_PTR)Read->Tail.Overlay.DriverContext[0] <= PortOf(Read)->Now;
+    ULONG Deadline = (ULONG)(ULONG_PTR)Read->Tail.Overlay.DriverContext[0];
+    return (LONG)(PortOf(Read)->Now - Deadline) >= 0;
 }
 
 /* Bytes belong to the oldest read: it is served once they are as many as it asked for, or no more come. */
@@ -91,6 +94,8 @@ static VOID Receive(PEXTENSION Port, PIRP Read) {
     Finish(Read, STATUS_SUCCESS, Length);
 }
 
+/* The DPC may be queued again, and run on another processor, while it runs. That one only counts the tick: so a write's
+ * bytes stand together, and Count is still what IsServed saw when Receive takes the bytes. */
 static VOID NTAPI Tick(PKDPC Dpc, PVOID DeferredContext, PVOID SystemArgument1, PVOID SystemArgument2) {
     PEXTENSION Port = DeferredContext;
     PIRP Irp;
@@ -100,6 +105,9 @@ static VOID NTAPI Tick(PKDPC Dpc, PVOID DeferredContext, PVOID SystemArgument1, 
     KeAcquireSpinLockAtDpcLevel(&Port->Lock);
     Port->Now++;
     KeReleaseSpinLockFromDpcLevel(&Port->Lock);
+    if (InterlockedExchange(&Port->Ticking, 1) != 0) {
+        return;
+    }
     Irp = IoCsqRemoveNextIrp(&Port->Writes.Csq, NULL); /* one write each tick */
     if (Irp != NULL) {
         Send(Port, Irp);
@@ -108,6 +116,7 @@ static VOID NTAPI Tick(PKDPC Dpc, PVOID DeferredContext, PVOID SystemArgument1, 
         Receive(Port, Irp);
     }
     CompleteAll(&Port->Reads, Port, STATUS_TIMEOUT);
+    InterlockedExchange(&Port->Ticking, 0);
 }
 
 /* ---- The dispatch routines ---- */

@@ -4,6 +4,8 @@
 #include <stdlib.h>
 
 extern DRIVER_INITIALIZE DriverEntry;
+/* Of policy.c, where there is one. */
+extern const IOCSQ_POLICY DriverPolicy __attribute__((weak));
 
 static void must(int holds, const char *what) {
     if (!holds) {
@@ -42,7 +44,11 @@ static void a_cleanup_cancels_what_waits(PDRIVER_OBJECT driver) {
 }
 
 int main(void) {
-    PDRIVER_OBJECT driver = IocsqLoad(DriverEntry);
+    PDRIVER_OBJECT driver;
+    if (&DriverPolicy) {
+        IocsqSetPolicy(NULL, &DriverPolicy);
+    }
+    driver = IocsqLoad(DriverEntry);
     must(driver != NULL, "the driver was not loaded");
     a_write_completes_the_oldest_read(driver);
     a_cleanup_cancels_what_waits(driver);
