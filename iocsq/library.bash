@@ -24,13 +24,14 @@ iocsq_objects() {
 
 # Links the storm with a driver: iocsq_build PROGRAM DRIVER WRONG COMPILER FLAG.. DRIVER is a file below iocsq without
 # its ending; beside it NAME.test.c says what its callbacks mean, if it isn't the usual. WRONG is the number of the
-# place where it is wrong, 0 for none, or `planted`.
+# place where it is wrong, 0 for none, `planted` for an example's own fault, or the file of another below iocsq.
 iocsq_build() {
-  local program=$1 driver=$top/iocsq/$2 wrong=$3 objects test=() source=$top/iocsq/$2.c
+  local program=$1 driver=$top/iocsq/$2 wrong=$3 objects test=() fault=() source=$top/iocsq/$2.c
   shift 3
-  if [[ $wrong == planted ]]; then
+  if [[ $wrong == planted || $wrong == *.fault ]]; then
+    if [[ $wrong == *.fault ]]; then fault=("$top/iocsq/$wrong"); fi
     source=$program.planted.c wrong=0
-    "$top/iocsq/examples/plant" "$(basename "$driver")" >"$source" || return 1
+    "$top/iocsq/examples/plant" "$(basename "$driver")" "${fault[@]}" >"$source" || return 1
   fi
   objects=$(iocsq_objects "$@") || return 1
   if [[ -f $driver.test.c ]]; then test=("$driver.test.c"); fi

@@ -10,7 +10,8 @@
 #include <stdio.h>
 #include <stdlib.h>
 
-#define ANY_CONTROL CTL_CODE(FILE_DEVICE_UNKNOWN, 0x801, METHOD_BUFFERED, FILE_ANY_ACCESS)
+#define CONTROL(function) CTL_CODE(FILE_DEVICE_UNKNOWN, function, METHOD_BUFFERED, FILE_ANY_ACCESS)
+#define ANY_CONTROL CONTROL(0x801)
 enum { THREADS = 32, CANCELLERS = 3, OPEN = 6, MINE = 12, BYTES = 16, LONGEST = 4, SECONDS = 100 };
 enum { SHORTEST_PAUSE = 20, LONGEST_PAUSE = 320 }; /* microseconds */
 
@@ -66,12 +67,33 @@ static void reap(struct request *r) {
 }
 
 /* ---- What a user does ---- */
+/* What is odd about a device control, of so many: anyone may send a driver a code that it doesn't know, and buffers of
+ * no bytes. */
+enum oddity { OTHER_CODE, NO_INPUT, NO_OUTPUT, NO_BUFFER, CONTROLS = 32 };
+
 static ULONG control_code(struct user *u) {
     uint32_t count = 0;
     while (DriverControls && DriverControls[count]) {
         count++;
     }
     return count ? DriverControls[roll(u, count)] : (ULONG)ANY_CONTROL;
+}
+
+/* One above all of DriverControls. */
+static ULONG other_code(void) {
+    ULONG most = ANY_CONTROL;
+    for (uint32_t at = 0; DriverControls && DriverControls[at]; at++) {
+        most = DriverControls[at] > most ? DriverControls[at] : most;
+    }
+    return most + CONTROL(1) - CONTROL(0);
+}
+
+static IOCSQ_REQUEST *control(struct user *u, PFILE_OBJECT file, unsigned char *buffer, ULONG length) {
+    uint32_t odd = roll(u, CONTROLS);
+    ULONG code = odd == OTHER_CODE ? other_code() : control_code(u);
+    ULONG input = odd == NO_INPUT || odd == NO_BUFFER ? 0 : length;
+    ULONG output = odd == NO_OUTPUT || odd == NO_BUFFER ? 0 : BYTES;
+    return IocsqControl(file, code, buffer, input, output);
 }
 
 static void send(struct user *u, struct request *r, PFILE_OBJECT file, bool beside) {
@@ -83,7 +105,7 @@ static void send(struct user *u, struct request *r, PFILE_OBJECT file, bool besi
     r->file = file;
     r->beside = beside;
     if (act >= 10 && act < 13) {
-        r->sent = IocsqControl(file, control_code(u), r->buffer, length, BYTES);
+        r->sent = control(u, file, r->buffer, length);
     } else {
         r->sent = IocsqSend(file, act < 10 ? IRP_MJ_READ : IRP_MJ_WRITE, r->buffer, length);
     }
