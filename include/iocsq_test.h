@@ -34,6 +34,9 @@ VOID IocsqUnload(PDRIVER_OBJECT Driver);                  /* and tells each IRP 
  * handle, but IRP_MJ_CLOSE comes only once it was released. Null: none is open. */
 PFILE_OBJECT IocsqReferenceAny(VOID);
 VOID IocsqRelease(PFILE_OBJECT File);
+/* In the place of IocsqRelease: the next request that this thread sends takes the reference over, and releases it with
+ * its completion, as the I/O manager does. So IRP_MJ_CLOSE may come while the dispatch routine still runs. */
+VOID IocsqHandOver(PFILE_OBJECT File);
 
 /* A request that was sent. It stays valid until IocsqFree. IocsqSend and IocsqControl answer null where 4,096 IRPs are
  * under way. The buffer is as the driver has it by METHOD_BUFFERED: in AssociatedIrp.SystemBuffer. */

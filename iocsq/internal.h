@@ -71,6 +71,9 @@ void iocsq_check_untouched(struct iocsq_irp *i);     /* since its completion */
 uint32_t iocsq_file_number(const void *file); /* IOCSQ_FILES: no file object */
 bool iocsq_is_closing(const void *file);      /* its IRP_MJ_CLEANUP was sent */
 bool iocsq_is_cleaned(const void *file);      /* its IRP_MJ_CLEANUP was completed */
+/* In a dispatch routine that has queued its IRP: now and then the thread goes on only after so long that the IRP was
+ * completed meanwhile, and its file object closed, if no more than this request keeps it from that. */
+void iocsq_stay_behind(void);
 
 /* ---- report.c ---- */
 uint32_t iocsq_thread(void); /* this thread's number: 1 and so on */

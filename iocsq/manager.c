@@ -6,12 +6,15 @@
 #include <unistd.h>
 
 enum { MILLISECOND = 1000000 };
+enum { ONCE_IN = 4, BEHIND = 2000, BEHIND_IN_TURNS = 100000 }; /* of iocsq_stay_behind: microseconds */
 
 static FILE_OBJECT files[IOCSQ_FILES]; /* with the next four, under the state's lock */
 static bool is_open[IOCSQ_FILES];
 static bool is_closing[IOCSQ_FILES]; /* its IRP_MJ_CLEANUP was sent, or its IRP_MJ_CREATE has yet to be completed */
 static bool is_cleaned[IOCSQ_FILES]; /* its IRP_MJ_CLEANUP was completed */
 static uint32_t references[IOCSQ_FILES]; /* of IocsqReferenceAny */
+static _Thread_local PFILE_OBJECT handed_over; /* whose reference this thread's next request takes over */
+static _Thread_local bool took_over;           /* this thread's last request took one over */
 
 uint32_t iocsq_file_number(const void *file) {
     uintptr_t offset = (uintptr_t)file - (uintptr_t)files;
@@ -54,6 +57,23 @@ struct _IOCSQ_REQUEST {
     struct iocsq_irp irp;
 };
 
+/* What this thread handed over. An IRP that isn't completed keeps its file object from being closed (wait_for_close).
+ * The state's lock is held. */
+static void take_over_reference(void) {
+    took_over = handed_over != NULL;
+    if (took_over) {
+        references[number_of(handed_over)]--;
+        handed_over = NULL;
+        iocsq_state_changed();
+    }
+}
+
+void iocsq_stay_behind(void) {
+    if (took_over && iocsq_lock_count() == 0 && iocsq_rarely(ONCE_IN)) {
+        IocsqPause(iocsq_in_turns() ? BEHIND_IN_TURNS : BEHIND);
+    }
+}
+
 static PDEVICE_OBJECT top_of(PDEVICE_OBJECT device) {
     while (device->AttachedDevice) {
         device = device->AttachedDevice;
@@ -67,13 +87,16 @@ static struct iocsq_irp *make_irp(PFILE_OBJECT file, UCHAR major, PVOID buffer) 
         iocsq_fail("there is no major function %02x", major);
     }
     struct iocsq_irp *i = iocsq_new_irp(top_of(file->DeviceObject)->StackSize, false);
+    iocsq_lock_state();
+    if (i) {
+        i->file = file;
+        i->major = major;
+    }
+    take_over_reference();
+    iocsq_unlock_state();
     if (!i) {
         return NULL;
     }
-    iocsq_lock_state();
-    i->file = file;
-    i->major = major;
-    iocsq_unlock_state();
     i->irp.AssociatedIrp.SystemBuffer = buffer;
     i->irp.UserBuffer = buffer;
     i->irp.RequestorMode = UserMode;
@@ -285,6 +308,10 @@ VOID IocsqRelease(PFILE_OBJECT File) {
     references[number_of(File)]--;
     iocsq_state_changed();
     iocsq_unlock_state();
+}
+
+VOID IocsqHandOver(PFILE_OBJECT File) {
+    handed_over = File;
 }
 
 static bool is_released(void *file) {

@@ -37,13 +37,17 @@ static struct held enter(struct iocsq_queue *q) {
     return held;
 }
 
-static void leave(struct iocsq_queue *q, struct held held) {
+/* `last`: the call does nothing else. Then it needs the queue no more once the lock is released: a driver may free it,
+ * even before this thread runs again. */
+static void leave(struct iocsq_queue *q, struct held held, bool last) {
+    PIO_CSQ csq = q->csq;
     iocsq_point();
     if (iocsq_end_watch(held.watch_before) > 0) {
         iocsq_disagree(NULL, "a callback of the queue released its lock");
     }
     q->inside = 0;
-    q->csq->CsqReleaseLock(q->csq, held.irql);
+    q->calls -= last;
+    csq->CsqReleaseLock(csq, held.irql);
     if (iocsq_lock_count() != held.locks_before) {
         iocsq_disagree(NULL, "CsqReleaseLock left a lock taken");
     }
@@ -90,7 +94,7 @@ bool iocsq_cancel_queued(struct iocsq_irp *i) {
     struct held held = enter(q);
     iocsq_reference_run_routine(&claim, i);
     remove_by_driver(q, i);
-    leave(q, held);
+    leave(q, held, false);
     complete_by_driver(q, i);
     return true;
 }
@@ -184,8 +188,7 @@ NTSTATUS NTAPI IoCsqInsertIrpEx(PIO_CSQ Csq, PIRP Irp, PIO_CSQ_IRP_CONTEXT Conte
     if (!NT_SUCCESS(status)) {
         IOCSQ_COUNT(Refused);
         iocsq_audit(q, "after an insert that the driver refused");
-        leave(q, held);
-        q->calls--;
+        leave(q, held, true);
         return status;
     }
     note_file(i, again);
@@ -194,13 +197,13 @@ NTSTATUS NTAPI IoCsqInsertIrpEx(PIO_CSQ Csq, PIRP Irp, PIO_CSQ_IRP_CONTEXT Conte
     i->context = Context;
     if (insert_into_reference(q, i, InsertContext)) {
         iocsq_audit(q, "after the insert callback");
-        leave(q, held);
-        q->calls--;
+        leave(q, held, true);
+        iocsq_stay_behind();
         return status;
     }
     iocsq_tell(i, "  irp %u was cancelled before", i->index);
     remove_by_driver(q, i);
-    leave(q, held);
+    leave(q, held, false);
     complete_by_driver(q, i);
     return status;
 }
@@ -249,8 +252,7 @@ PIRP NTAPI IoCsqRemoveNextIrp(PIO_CSQ Csq, PVOID PeekContext) {
         IOCSQ_COUNT(Removed);
         remove_by_driver(q, answer);
     }
-    leave(q, held);
-    q->calls--;
+    leave(q, held, true);
     iocsq_long_point(8); /* the driver has the IRP, and has yet to say so elsewhere */
     return answer ? &answer->irp : NULL;
 }
@@ -279,8 +281,7 @@ PIRP NTAPI IoCsqRemoveIrp(PIO_CSQ Csq, PIO_CSQ_IRP_CONTEXT Context) {
         IOCSQ_COUNT(Removed);
         remove_by_driver(q, i);
     }
-    leave(q, held);
-    q->calls--;
+    leave(q, held, true);
     iocsq_long_point(8);
     return removed ? &i->irp : NULL;
 }

@@ -241,6 +241,8 @@ static void devices(void) {
     CHECK(file && same == file);
     passed_on(same);
     IocsqRelease(same);
+    IocsqHandOver(IocsqReferenceAny());
+    passed_on(file);
     own_irps();
     IocsqClose(file);
     IocsqUnload(driver);

@@ -113,10 +113,10 @@ static void send(struct user *u, struct request *r, PFILE_OBJECT file, bool besi
 
 /* On a file object that its user may be closing. */
 static void send_beside(struct user *u, struct request *r) {
-    PFILE_OBJECT file = IocsqReferenceAny();
+    PFILE_OBJECT file = r->sent ? NULL : IocsqReferenceAny();
     if (file) {
+        IocsqHandOver(file);
         send(u, r, file, true);
-        IocsqRelease(file);
     }
 }
 
