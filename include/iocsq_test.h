@@ -39,7 +39,8 @@ VOID IocsqRelease(PFILE_OBJECT File);
 VOID IocsqHandOver(PFILE_OBJECT File);
 
 /* A request that was sent. It stays valid until IocsqFree. IocsqSend and IocsqControl answer null where 4,096 IRPs are
- * under way. The buffer is as the driver has it by METHOD_BUFFERED: in AssociatedIrp.SystemBuffer. */
+ * under way. The driver has a copy of the buffer, as by METHOD_BUFFERED, in AssociatedIrp.SystemBuffer; null where it has
+ * no bytes. What it fills in is copied back as it completes the IRP: so the buffer has to stay until then. */
 typedef struct _IOCSQ_REQUEST IOCSQ_REQUEST;
 IOCSQ_REQUEST *IocsqSend(PFILE_OBJECT File, UCHAR MajorFunction, PVOID Buffer, ULONG Length);
 IOCSQ_REQUEST *IocsqControl(PFILE_OBJECT File, ULONG IoControlCode, PVOID Buffer, ULONG InputLength,

@@ -38,6 +38,10 @@ struct iocsq_irp {
     UCHAR major;
     PFILE_OBJECT file;
     uint32_t most; /* bytes that its completion may name: those of its buffer */
+    UCHAR *buffer; /* AssociatedIrp.SystemBuffer, which is its own; null: none */
+    uint32_t buffer_size;
+    uint32_t output; /* bytes of the sender's buffer that are filled in at its completion */
+    PVOID sender_buffer;
     _Atomic int place;
     _Atomic uint64_t stay; /* the queue, slot and life that it has in a reference queue; 0: none */
     uint32_t pass;         /* which holds it there */
@@ -62,6 +66,8 @@ struct iocsq_irp *iocsq_irp_number(uint32_t index);
 uint32_t iocsq_irp_count(void);                                     /* none above was ever used */
 struct iocsq_irp *iocsq_new_irp(int locations, bool own);           /* null: all are under way */
 const char *iocsq_place_name(const struct iocsq_irp *i);
+void iocsq_give_buffer(struct iocsq_irp *i, PVOID of_sender, uint32_t input, uint32_t output);
+void iocsq_free_buffer(struct iocsq_irp *i); /* after its completion */
 NTSTATUS iocsq_dispatch(PDEVICE_OBJECT device, struct iocsq_irp *i); /* calls the driver at the IRP's next location */
 /* The two hold the state's lock. */
 void iocsq_check_pending(const struct iocsq_irp *i); /* its dispatch routine's answer and its completion agree */

@@ -2,6 +2,8 @@
  * cancellation. */
 #include "internal.h"
 
+#include <stdlib.h>
+
 #if defined(__SANITIZE_ADDRESS__)
 #define POISONS 1
 #elif defined(__has_feature)
@@ -82,23 +84,79 @@ static struct iocsq_irp *find_unused(void) {
 }
 
 /* ---- What a driver may use until an IRP's completion, or until it frees it ---- */
+enum { GONE = 0xA5 }; /* each byte of what is gone */
 static const IO_STATUS_BLOCK gone = { { (NTSTATUS)0xA5A5A5A5 }, (ULONG_PTR)0xA5A5A5A5A5A5A5A5 };
 
 static void take_from_driver(struct iocsq_irp *i) {
     i->irp.IoStatus = gone;
+    memset(&i->irp.AssociatedIrp, GONE, sizeof i->irp.AssociatedIrp);
+    POISON(&i->irp.AssociatedIrp, sizeof i->irp.AssociatedIrp);
     POISON(&i->irp.IoStatus, sizeof i->irp - offsetof(IRP, IoStatus));
     POISON(i->stack, sizeof i->stack);
 }
 
 static void give_to_driver(struct iocsq_irp *i) {
+    UNPOISON(&i->irp.AssociatedIrp, sizeof i->irp.AssociatedIrp);
     UNPOISON(&i->irp.IoStatus, sizeof i->irp - offsetof(IRP, IoStatus));
     UNPOISON(i->stack, sizeof i->stack);
+}
+
+/* ---- The system buffer, as the I/O manager has it by METHOD_BUFFERED: filled from the sender's, and copied back ---- */
+void iocsq_give_buffer(struct iocsq_irp *i, PVOID of_sender, uint32_t input, uint32_t output) {
+    i->irp.UserBuffer = i->sender_buffer = of_sender;
+    i->output = of_sender ? output : 0;
+    i->buffer_size = input > output ? input : output;
+    if (i->buffer_size == 0) {
+        return;
+    }
+    i->buffer = malloc(i->buffer_size);
+    if (!i->buffer) {
+        iocsq_fail("no memory for a buffer");
+    }
+    memset(i->buffer, GONE, i->buffer_size);
+    if (of_sender) {
+        memcpy(i->buffer, of_sender, input);
+    }
+    i->irp.AssociatedIrp.SystemBuffer = i->buffer;
+}
+
+static void take_buffer(struct iocsq_irp *i) {
+    size_t count = i->information < i->output ? i->information : i->output;
+    if (!i->buffer) {
+        return;
+    }
+    if (NT_SUCCESS(i->status) && count > 0) {
+        memcpy(i->sender_buffer, i->buffer, count);
+    }
+    memset(i->buffer, GONE, i->buffer_size);
+    POISON(i->buffer, i->buffer_size);
+}
+
+void iocsq_free_buffer(struct iocsq_irp *i) {
+    if (i->buffer) {
+        UNPOISON(i->buffer, i->buffer_size);
+    }
+    free(i->buffer);
+    i->buffer = NULL;
+}
+
+static void check_buffer_untouched(const struct iocsq_irp *i) {
+    UNPOISON(i->buffer, i->buffer_size);
+    for (uint32_t at = 0; at < i->buffer_size; at++) {
+        if (i->buffer[at] != GONE) {
+            iocsq_disagree(i, "the buffer of irp %u was written to after it was completed", i->index);
+        }
+    }
+    POISON(i->buffer, i->buffer_size);
 }
 
 void iocsq_check_untouched(struct iocsq_irp *i) {
     give_to_driver(i);
     if (i->irp.IoStatus.Status != gone.Status || i->irp.IoStatus.Information != gone.Information) {
         iocsq_disagree(i, "irp %u was written to after it was %s", i->index, i->own ? "freed" : "completed");
+    }
+    if (i->buffer) {
+        check_buffer_untouched(i);
     }
     take_from_driver(i);
 }
@@ -114,6 +172,7 @@ static void begin_irp(struct iocsq_irp *i, int locations) {
     i->irp.PendingReturned = FALSE;
     i->irp.IoStatus.Status = STATUS_SUCCESS;
     i->irp.IoStatus.Information = 0;
+    i->irp.AssociatedIrp.SystemBuffer = NULL;
     i->irp.StackCount = (CHAR)locations;
     i->irp.CurrentLocation = (CHAR)(locations + 1);
     i->irp.Tail.Overlay.CurrentStackLocation = &i->stack[locations - 1] + 1;
@@ -299,6 +358,7 @@ static void finish(struct iocsq_irp *i) {
     if (i->answered) {
         iocsq_check_pending(i);
     }
+    take_buffer(i);
     take_from_driver(i);
     iocsq_state_changed();
     iocsq_unlock_state();

@@ -82,7 +82,7 @@ static PDEVICE_OBJECT top_of(PDEVICE_OBJECT device) {
 }
 
 /* An IRP whose next stack location is filled in. Null: all are under way. */
-static struct iocsq_irp *make_irp(PFILE_OBJECT file, UCHAR major, PVOID buffer) {
+static struct iocsq_irp *make_irp(PFILE_OBJECT file, UCHAR major) {
     if (major > IRP_MJ_MAXIMUM_FUNCTION) {
         iocsq_fail("there is no major function %02x", major);
     }
@@ -97,8 +97,6 @@ static struct iocsq_irp *make_irp(PFILE_OBJECT file, UCHAR major, PVOID buffer) 
     if (!i) {
         return NULL;
     }
-    i->irp.AssociatedIrp.SystemBuffer = buffer;
-    i->irp.UserBuffer = buffer;
     i->irp.RequestorMode = UserMode;
     i->irp.Tail.Overlay.OriginalFileObject = file;
     PIO_STACK_LOCATION stack = IoGetNextIrpStackLocation(&i->irp);
@@ -134,10 +132,11 @@ static IOCSQ_REQUEST *send(struct iocsq_irp *i, PFILE_OBJECT file) {
 }
 
 IOCSQ_REQUEST *IocsqSend(PFILE_OBJECT File, UCHAR MajorFunction, PVOID Buffer, ULONG Length) {
-    struct iocsq_irp *i = make_irp(File, MajorFunction, Buffer);
+    struct iocsq_irp *i = make_irp(File, MajorFunction);
     if (!i) {
         return NULL;
     }
+    iocsq_give_buffer(i, Buffer, MajorFunction == IRP_MJ_READ ? 0 : Length, MajorFunction == IRP_MJ_WRITE ? 0 : Length);
     IoGetNextIrpStackLocation(&i->irp)->Parameters.Read.Length = Length;
     if (MajorFunction == IRP_MJ_READ || MajorFunction == IRP_MJ_WRITE) {
         i->most = Length;
@@ -147,10 +146,11 @@ IOCSQ_REQUEST *IocsqSend(PFILE_OBJECT File, UCHAR MajorFunction, PVOID Buffer, U
 
 IOCSQ_REQUEST *IocsqControl(PFILE_OBJECT File, ULONG IoControlCode, PVOID Buffer, ULONG InputLength,
                             ULONG OutputLength) {
-    struct iocsq_irp *i = make_irp(File, IRP_MJ_DEVICE_CONTROL, Buffer);
+    struct iocsq_irp *i = make_irp(File, IRP_MJ_DEVICE_CONTROL);
     if (!i) {
         return NULL;
     }
+    iocsq_give_buffer(i, Buffer, InputLength, OutputLength);
     PIO_STACK_LOCATION stack = IoGetNextIrpStackLocation(&i->irp);
     stack->Parameters.DeviceIoControl.IoControlCode = IoControlCode;
     stack->Parameters.DeviceIoControl.InputBufferLength = InputLength;
@@ -196,6 +196,7 @@ VOID IocsqFree(IOCSQ_REQUEST *Request) {
         iocsq_fail("IocsqFree of irp %u, which was not completed", i->index);
     }
     iocsq_check_untouched(i);
+    iocsq_free_buffer(i);
     i->used = false;
     iocsq_unlock_state();
 }

@@ -22,6 +22,7 @@ static NTSTATUS NTAPI Read(PDEVICE_OBJECT DeviceObject, PIRP Irp) {
 }
 
 static VOID Serve(PEXTENSION Extension, PIRP Waiting) {
+    PUCHAR Byte = Waiting->AssociatedIrp.SystemBuffer;
     KIRQL Irql;
     KeAcquireSpinLock(&Extension->Device, &Irql);
     Extension->Served++;
@@ -32,7 +33,13 @@ static VOID Serve(PEXTENSION Extension, PIRP Waiting) {
 #if WRONG == 7
     Extension->Serving = Waiting;
 #endif
+#if WRONG != 8
+    *Byte = 0;
+#endif
     Finish(Waiting, STATUS_SUCCESS, WRONG == 3 ? 4096 : 1);
+#if WRONG == 8
+    *Byte = 0; /* which goes with the IRP */
+#endif
 #if WRONG == 7
     Extension->Serving = NULL;
 #endif

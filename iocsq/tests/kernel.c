@@ -203,11 +203,14 @@ static void complete_kept(NTSTATUS status) {
 
 /* A read that is passed on is pending above too, and its completion goes up. */
 static void passed_on(PFILE_OBJECT file) {
-    UCHAR bytes[8];
+    UCHAR bytes[8] = { '.', '.', '.', '.', '.', '.', '.', '.' };
     IOCSQ_REQUEST *read = IocsqSend(file, IRP_MJ_READ, bytes, sizeof bytes);
     CHECK(IocsqStatus(read) == STATUS_PENDING && kept->CurrentLocation == 1 && kept->StackCount == 2);
+    memcpy(kept->AssociatedIrp.SystemBuffer, "abcdefgh", sizeof bytes);
+    CHECK(memcmp(bytes, "........", sizeof bytes) == 0); /* the system buffer is another */
     complete_kept(STATUS_SUCCESS);
     CHECK(IocsqStatus(read) == STATUS_SUCCESS && IocsqInformation(read) == 7);
+    CHECK(memcmp(bytes, "abcdefg.", sizeof bytes) == 0);
     IocsqFree(read);
     CHECK(IocsqStatus(read = IocsqControl(file, 1, bytes, 1, 1)) == STATUS_INVALID_DEVICE_REQUEST);
     IocsqFree(read);
