@@ -75,6 +75,7 @@ void iocsq_check_untouched(struct iocsq_irp *i);     /* since its completion */
 
 /* ---- manager.c ---- */
 uint32_t iocsq_file_number(const void *file); /* IOCSQ_FILES: no file object */
+uint32_t iocsq_open_files(void);              /* how many are open */
 bool iocsq_is_closing(const void *file);      /* its IRP_MJ_CLEANUP was sent */
 bool iocsq_is_cleaned(const void *file);      /* its IRP_MJ_CLEANUP was completed */
 /* In a dispatch routine that has queued its IRP: now and then the thread goes on only after so long that the IRP was

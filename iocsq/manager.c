@@ -31,6 +31,16 @@ static uint32_t number_of(const void *file) {
     return number;
 }
 
+uint32_t iocsq_open_files(void) {
+    uint32_t count = 0;
+    iocsq_lock_state();
+    for (uint32_t at = 0; at < IOCSQ_FILES; at++) {
+        count += is_open[at];
+    }
+    iocsq_unlock_state();
+    return count;
+}
+
 static bool is_noted(const bool *of_files, const void *file) {
     uint32_t number = iocsq_file_number(file);
     iocsq_lock_state();

@@ -91,7 +91,8 @@ VOID NTAPI ExFreePool(PVOID P) {
 void iocsq_check_memory_freed(void) {
     for (uint32_t at = 0; at < BUCKETS; at++) {
         if (allocations[at]) {
-            iocsq_disagree(NULL, "the driver was unloaded, and %zu bytes with the tag %08X were not freed",
+            iocsq_disagree(NULL, "the driver was unloaded, and %zu bytes with the tag %08X were not freed: a reference "
+                                 "to them was not dropped, or they were lost",
                            allocations[at]->size, allocations[at]->tag);
         }
     }

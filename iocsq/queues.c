@@ -90,9 +90,14 @@ struct iocsq_irp *iocsq_left_in_queues(uint32_t file) {
 
 /* ---- Beginning ---- */
 static struct iocsq_queue *new_queue(void) {
-    struct iocsq_queue *q = queue_count < IOCSQ_QUEUES ? calloc(1, sizeof *q) : NULL;
+    if (queue_count == IOCSQ_QUEUES) {
+        iocsq_disagree(NULL, "IoCsqInitialize beside %u queues, and %u file objects are open: memory with queues in it "
+                             "is never freed, as where a reference to it is never dropped (or else the driver has more "
+                             "queues than iocsq has room for)", queue_count, iocsq_open_files());
+    }
+    struct iocsq_queue *q = calloc(1, sizeof *q);
     if (!q) {
-        iocsq_fail("no memory for a queue, or more than %u of them", (unsigned)IOCSQ_QUEUES);
+        iocsq_fail("no memory for a queue");
     }
     iocsq_reference_begin(&q->reference, queue_count);
     queues[queue_count++] = q;
