@@ -75,7 +75,7 @@ static void free_pool(void *at, const ULONG *tag) {
     }
     iocsq_check_no_deferred(at, found->size, "ExFreePool of memory");
     iocsq_end_queues_in(at, found->size, "ExFreePool of memory");
-    memset(at, 0xA5, found->size);
+    memset(at, 0xA5, found->size); /* for who uses it later: not by chance what it was */
     free(found);
     free(at);
 }
