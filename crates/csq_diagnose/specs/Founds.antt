@@ -1,5 +1,5 @@
 -- What stands where a line is no step, or no call.
-use Rattle.std.specs.Prelude.{◌≡◌, ◌≢◌, ℕ, ◌+◌, ◌==◌, Bool, not, List, [], Some, None, position, slice_get, IsSomeAnd, if◌then◌else◌}
+use Rattle.std.specs.Prelude.{◌≡◌, ◌≢◌, ℕ, ◌+◌, ◌-◌, ◌==◌, Bool, not, List, [], Some, None, position, slice_get, IsSomeAnd, if◌then◌else◌}
 use Rattle.std.specs.Char.{is_ascii_graphic}
 use Rattle.csq_diagnose.specs.declared.found.Found.{Found}
 use Rattle.csq_diagnose.specs.declared.found.Found.TheVariants.{End, FirstSpace, TwoSpaces, LastSpace, Byte, Word}
@@ -21,11 +21,11 @@ space_of m = if m.before == 0 then FirstSpace else if m.is_last then LastSpace e
 abbrev pub IsStrangeAt : List ℕ → ℕ → ℕ → Type 0
 IsStrangeAt word at byte = (position is_strange word ≡ Some at) × (slice_get word at ≡ Some byte)
 
--- in the place of the misfit this stands, in this column
+-- in the place of the misfit this stands, in this column; a space that ends the line stands before it
 abbrev pub IsFoundIn : Misfit → Found → ℕ → Type 0
 IsFoundIn m End column = (m.word ≡ None) × (column ≡ m.column)
 IsFoundIn m FirstSpace column = IsSpace m × (space_of m ≡ FirstSpace) × (column ≡ m.column)
-IsFoundIn m LastSpace column = IsSpace m × (space_of m ≡ LastSpace) × (column ≡ m.column)
+IsFoundIn m LastSpace column = IsSpace m × (space_of m ≡ LastSpace) × (column ≡ m.column - 1)
 IsFoundIn m TwoSpaces column = IsSpace m × (space_of m ≡ TwoSpaces) × (column ≡ m.column)
 IsFoundIn m (Byte byte) column = IsSomeAnd m.word (λ w. (at : ℕ) × IsStrangeAt w.now at byte × (column ≡ m.column + at))
 IsFoundIn m (Word text) column = IsSomeAnd m.word (λ w. (w.now ≡ text.now) × (w.now ≢ []) × (position is_strange w.now ≡ None)) × (column ≡ m.column)

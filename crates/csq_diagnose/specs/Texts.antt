@@ -37,8 +37,10 @@ rule_text Nothing = codes "the line may end before it"
 -- a byte that no word has
 abbrev pub strange_text : ℕ → List ℕ
 strange_text byte =
-    if byte == 13 then codes "a carriage return: a line ends in a line feed alone, and in files of Windows in both"
+    if byte == 13 then codes "a carriage return: a line ends in a line feed alone, so save the file with LF"
     else if byte == 9 then codes "a tab: words are separated by one space"
+    else if byte == 239 then codes "byte 239 is above 127, as of a byte order mark: save the file without one"
+    else if nat_le 254 byte then codes "byte " ++ (decimal byte ++ codes " is above 127, as of UTF-16: save the file as ASCII")
     else if nat_le 128 byte then codes "byte " ++ (decimal byte ++ codes " is above 127: words are of ASCII letters and digits")
     else codes "byte " ++ (decimal byte ++ codes " is no letter, digit or sign")
 

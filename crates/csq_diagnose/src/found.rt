@@ -1,6 +1,6 @@
 //! What stands where a line is no step, or no call.
 ghost use Rattle.std.specs.Prelude.{◌≡◌, ◌+◌, ◌<◌, ◌≤◌, ◌^◌, length, position, IfSome};
-ghost use Rattle.csq_diagnose.specs.Founds.{is_strange, space_of, IsFoundIn};
+ghost use Rattle.csq_diagnose.specs.Founds.{is_strange, IsSpace, IsFoundIn};
 
 use crate::misfit::Misfit;
 use std::str;
@@ -40,7 +40,7 @@ impl<'a> Misfit<'a> {
             return (Found::End, self.column);
         };
         if word.is_empty() {
-            return (self.space(), self.column);
+            return self.space();
         }
         match first_strange(word) {
             Some(at) => (Found::Byte(word[at]), self.column + at),
@@ -51,16 +51,18 @@ impl<'a> Misfit<'a> {
         }
     }
 
-    /// Which space stands there, where the word is empty.
-    fn space(&self) -> Found<'a>
-        ensures { result ≡ space_of self.now }
+    /// Which space stands there, where the word is empty, and its column. One that ends the line has no word
+    /// after it, and stands before the place of that.
+    fn space(&self) -> (Found<'a>, usize)
+        requires { IsSpace self.now }
+        ensures { IsFoundIn self.now result.0 result.1 }
     {
         if self.before == 0 {
-            Found::FirstSpace
+            (Found::FirstSpace, self.column)
         } else if self.is_last {
-            Found::LastSpace
+            (Found::LastSpace, self.column.saturating_sub(1))
         } else {
-            Found::TwoSpaces
+            (Found::TwoSpaces, self.column)
         }
     }
 }

@@ -83,9 +83,17 @@ impl fmt::Display for Strange {
         match byte {
             b'\r' => write!(
                 f,
-                "a carriage return: a line ends in a line feed alone, and in files of Windows in both"
+                "a carriage return: a line ends in a line feed alone, so save the file with LF"
             ),
             b'\t' => write!(f, "a tab: words are separated by one space"),
+            239 => write!(
+                f,
+                "byte 239 is above 127, as of a byte order mark: save the file without one"
+            ),
+            254.. => write!(
+                f,
+                "byte {byte} is above 127, as of UTF-16: save the file as ASCII"
+            ),
             128.. => write!(
                 f,
                 "byte {byte} is above 127: words are of ASCII letters and digits"

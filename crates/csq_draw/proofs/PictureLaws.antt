@@ -32,6 +32,7 @@ use Rattle.csq_draw.specs.declared.spans.OpenSpan.{OpenSpan}
 use Rattle.csq_draw.specs.declared.words.Words.{Words}
 use Rattle.csq_draw.specs.declared.element.Element.{Element}
 use Rattle.csq_draw.specs.declared.element.Element.TheVariants as element
+use Rattle.csq_draw.specs.Marks.{lets_go}
 use Rattle.csq_draw.specs.Owners.{owners}
 use Rattle.csq_explain.specs.Passes.{new_pass_now, pass_after, pass_now}
 use Rattle.csq_draw.specs.Passes.{lock_of, columns, column_of}
@@ -171,11 +172,11 @@ abbrev numbered : List PassNow → Row → List Number
 numbered passes row = record { row = row.row; line = row.line } ∷ []
 
 abbrev shaded_on : List PassNow → Row → List Shade
-shaded_on passes row = shade_by passes row.row row.lock
+shaded_on passes row = shade_by passes row.row (lets_go row.step) row.lock
 
 -- a row's elements, whoever has the lock and whosever time ends
 abbrev elements_with : List PassNow → Row → Option PassId → Option Owner → List Element
-elements_with passes row lock ended = number_element row ∷ (shade_elements passes row.row lock ++ (span_elements passes row.row ended ++ mark_element passes row ∷ []))
+elements_with passes row lock ended = number_element row ∷ (shade_elements passes row.row (lets_go row.step) lock ++ (span_elements passes row.row ended ++ mark_element passes row ∷ []))
 
 marks : Picks mark_in marked (λ rows n. [])
 marks = record {
@@ -239,7 +240,7 @@ shades = record {
   refused = λ rows n reason. refl;
 }
   where
-    row_shades : (passes : List PassNow) (row : Row) (lock : Option PassId) (ended : Option Owner) → picked shade_in (elements_with passes row lock ended) ≡ shade_by passes row.row lock
+    row_shades : (passes : List PassNow) (row : Row) (lock : Option PassId) (ended : Option Owner) → picked shade_in (elements_with passes row lock ended) ≡ shade_by passes row.row (lets_go row.step) lock
     row_shades passes row (Some p) (Some o) = refl
     row_shades passes row (Some p) None = refl
     row_shades passes row None (Some o) = refl

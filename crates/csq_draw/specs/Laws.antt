@@ -23,6 +23,7 @@ use Rattle.csq_draw.specs.declared.words.Words.{Words}
 use Rattle.csq_draw.specs.declared.owners.Having.TheVariants.{Owes, Holds}
 use Rattle.csq_explain.specs.declared.passes.PassNow.{PassNow}
 use Rattle.csq_draw.specs.Lanes.{is_in_lane, is_taken}
+use Rattle.csq_draw.specs.Marks.{lets_go}
 use Rattle.csq_draw.specs.Owners.{owner, owners}
 use Rattle.csq_draw.specs.Passes.{columns, column_of}
 use Rattle.csq_explain.specs.Passes.{all_passes}
@@ -90,14 +91,14 @@ words_after size w W = option_to_list (words_named size.first (run_of (w ∷ W))
 abbrev pub line_number : Numbered → List Numbered → List Number
 line_number w W = record { row = length W; line = w.line } ∷ []
 
--- on this row, of the pass that has the lock: a shade in its column
-abbrev pub shade_by : List PassNow → ℕ → Option PassId → List Shade
-shade_by passes row (Some p) = record { row = row; column = column_of passes p } ∷ []
-shade_by passes row None = []
+-- on this row, of the pass that has the lock, and maybe lets it go there: a shade in its column
+abbrev pub shade_by : List PassNow → ℕ → Bool → Option PassId → List Shade
+shade_by passes row last (Some p) = record { row = row; column = column_of passes p; last = last } ∷ []
+shade_by passes row last None = []
 
--- the shade behind a step
+-- the shade behind a step, which is the last of its time where the step lets the lock go
 abbrev pub shade_of : Size → List PassNow → Numbered → List Numbered → List Shade
-shade_of size passes w W = shade_by passes (length W) (row_of size w W).lock
+shade_of size passes w W = shade_by passes (length W) (lets_go (in_call (run_of W) w.step)) (row_of size w W).lock
 
 -- each step has one mark, in order, and nothing else has one
 abbrev pub EachStepHasOneMark : Size → List Numbered → Type 0

@@ -1,8 +1,10 @@
 -- What is drawn on the row of a step: the number of its line, and the step itself; and who has the lock.
-use Rattle.std.specs.Prelude.{ℕ, ◌+◌, ◌%◌, ◌==◌, List, [], ◌++◌, codes, decimal, Option, Some, None, if◌then◌else◌}
+use Rattle.std.specs.Prelude.{ℕ, ◌+◌, ◌%◌, ◌==◌, ◌&&◌, Bool, true, false, not, List, [], ◌++◌, codes, decimal, Option, Some, None, if◌then◌else◌}
 use Rattle.irp_core.specs.declared.step.Kind.{Kind}
 use Rattle.irp_core.specs.declared.step.Kind.TheVariants.{Arm, Test, Disarm, End, Flag, Take, Out, Done, Renew}
 use Rattle.irp_core.specs.declared.status.NtStatus.{NtStatus}
+use Rattle.irp_core.specs.Inside.{has_lock, inside_after}
+use Rattle.irp_core.specs.Lock.{needs_lock}
 use Rattle.irp_core.specs.Steps.{number}
 use Rattle.irp_core.specs.declared.ids.IrpLife.{IrpLife}
 use Rattle.irp_core.specs.Texts.{kind_text}
@@ -19,9 +21,18 @@ use Rattle.csq_draw.specs.Layout.{left, top}
 abbrev pub number_text : Number → List ℕ
 number_text n = codes "<text class='n' x='46' y='" ++ (decimal (top n.row + 34) ++ (codes "'>" ++ (decimal n.line ++ codes "</text>")))
 
--- the shade behind a row, in the column of the pass that has the lock: one pixel higher than the row, so that there is no gap to the next one
+-- how high a shade is, by whether it is the last of its time
+abbrev pub shade_end : Bool → List ℕ
+shade_end true = codes "' width='228' height='57'/>"
+shade_end false = codes "' width='228' height='61'/>"
+
+-- the shade behind a row, in the column of the pass that has the lock: one pixel higher than the row, so that there is no gap to the next one; or lower, where the pass lets the lock go
 abbrev pub shade_text : Shade → List ℕ
-shade_text s = codes "<rect class='l' x='" ++ (decimal (left s.column) ++ (codes "' y='" ++ (decimal (top s.row) ++ codes "' width='228' height='61'/>")))
+shade_text s = codes "<rect class='l' x='" ++ (decimal (left s.column) ++ (codes "' y='" ++ (decimal (top s.row) ++ shade_end s.last)))
+
+-- whether a step is the last of its pass's time with the lock: it needs the lock, which the pass hasn't got after it
+abbrev pub lets_go : StepInCall → Bool
+lets_go s = needs_lock s.made.kind && not (has_lock (inside_after s.inside s.made.kind s.made.found))
 
 -- one of eight colours for each IRP
 abbrev pub colour_text : IrpLife → List ℕ

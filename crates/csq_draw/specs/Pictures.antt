@@ -18,6 +18,7 @@ use Rattle.csq_draw.specs.declared.owners.Owner.{Owner}
 use Rattle.csq_explain.specs.declared.passes.PassNow.{PassNow}
 use Rattle.csq_explain.specs.declared.reasons.Reason.{Reason}
 use Rattle.csq_draw.specs.declared.rows.Row.{Row}
+use Rattle.csq_draw.specs.Marks.{lets_go}
 use Rattle.csq_draw.specs.Owners.{owners}
 use Rattle.csq_draw.specs.Passes.{columns, column_of}
 use Rattle.csq_explain.specs.Passes.{all_passes}
@@ -41,10 +42,10 @@ column_element passes rows p = element.Column (record { column = column_of passe
 abbrev pub column_elements : List PassNow → ℕ → ℕ → PassNow → List Element
 column_elements passes rows n now = if now.makes then column_element passes rows (record { 0 = n }) ∷ [] else []
 
--- of the pass that has the lock on a row: a shade in its column
-abbrev pub shade_elements : List PassNow → ℕ → Option PassId → List Element
-shade_elements passes row (Some p) = element.Shade (record { row = row; column = column_of passes p }) ∷ []
-shade_elements passes row None = []
+-- of the pass that has the lock on a row, and maybe lets it go there: a shade in its column
+abbrev pub shade_elements : List PassNow → ℕ → Bool → Option PassId → List Element
+shade_elements passes row last (Some p) = element.Shade (record { row = row; column = column_of passes p; last = last }) ∷ []
+shade_elements passes row last None = []
 
 -- of the owner whose time with an IRP ends on a row: a line down its column
 abbrev pub span_elements : List PassNow → ℕ → Option Owner → List Element
@@ -61,7 +62,7 @@ mark_element passes row = element.Mark (record { row = row.row; column = column_
 
 -- of a step: the number of its line, who has the lock, whose time with its IRP it ends, and its mark
 abbrev pub row_elements : List PassNow → ℕ → Row → List Element
-row_elements passes n row = number_element row ∷ (shade_elements passes row.row row.lock ++ (span_elements passes row.row row.ended ++ mark_element passes row ∷ []))
+row_elements passes n row = number_element row ∷ (shade_elements passes row.row (lets_go row.step) row.lock ++ (span_elements passes row.row row.ended ++ mark_element passes row ∷ []))
 
 -- of an owner that has its IRP in the end: a line down its column
 abbrev pub open_elements : List PassNow → ℕ → ℕ → Option Owner → List Element

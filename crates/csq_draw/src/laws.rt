@@ -31,7 +31,7 @@ pub fn each_line_has_its_number()
 {}
 
 /// A shade stands behind a step where a pass has the lock as it is made, in the column of that pass, and
-/// nowhere else.
+/// nowhere else. It is the last of its time where the step lets the lock go.
 pub fn each_shade_is_of_the_lock()
     ensures { (size : Size) (W : List Numbered) → EachShadeIsOfTheLock size W }
 {}

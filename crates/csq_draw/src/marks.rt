@@ -1,4 +1,7 @@
 //! What is drawn on the row of a step: the number of its line, and the step itself; and who has the lock.
+ghost use Rattle.std.specs.Prelude.{◌≡◌};
+ghost use Rattle.csq_draw.specs.Marks.{lets_go};
+
 use crate::calls::CallOf;
 use crate::circles::Circles;
 use crate::layout::{left, top};
@@ -27,11 +30,12 @@ impl fmt::Display for Number {
 }
 
 /// The shade behind a row, in the column of the pass that has the lock. It is a pixel higher than the row, so
-/// that there is no gap to the next one.
+/// that there is no gap to the next one, but lower where the pass lets the lock go.
 #[derive(Clone, Copy, Debug)]
 pub(crate) struct Shade {
     pub(crate) row: u32,
     pub(crate) column: u32,
+    pub(crate) last: bool,
 }
 
 impl fmt::Display for Shade {
@@ -42,11 +46,27 @@ impl fmt::Display for Shade {
 
     fn fmt<W: fmt::Write>(&self, f: &mut fmt::Formatter<W>) -> fmt::Result {
         let (x, y) = (left(self.column), top(self.row));
-        write!(
-            f,
-            "<rect class='l' x='{x}' y='{y}' width='228' height='61'/>"
-        )
+        if self.last {
+            write!(
+                f,
+                "<rect class='l' x='{x}' y='{y}' width='228' height='57'/>"
+            )
+        } else {
+            write!(
+                f,
+                "<rect class='l' x='{x}' y='{y}' width='228' height='61'/>"
+            )
+        }
     }
+}
+
+/// Whether a step is the last of its pass's time with the lock: it needs the lock, which the pass hasn't got
+/// after it.
+pub(crate) fn lets_go(step: StepInCall) -> bool
+    ensures { result ≡ lets_go step }
+{
+    let made = step.made;
+    made.kind.needs_lock() && !step.inside.after(made.kind, made.found).has_lock()
 }
 
 /// How a step looks: in the colour of its IRP, and bold where it claims it.

@@ -3,13 +3,14 @@ ghost use Rattle.std.specs.Prelude.{◌≡◌, ◌≤◌, ◌∷◌, [], codes, 
 ghost use Rattle.csq_replay.specs.Lines.{GrewBy};
 ghost use Rattle.csq_draw.specs.Elements.{elements_text, picture};
 ghost use Rattle.csq_draw.specs.Passes.{columns};
+ghost use Rattle.csq_draw.specs.Marks.{lets_go};
 ghost use Rattle.csq_draw.specs.Pictures.{each, column_element, column_elements, mark_element, shade_elements, span_elements, row_elements, open_elements, closing_elements, first_elements, shown_elements, refused_elements, rest_element, stopped_elements, closed_elements};
 
 use crate::circles::WordColumns;
 use crate::element::Element;
 use crate::ending::{Bar, Because, Closing, Refused, Rest};
 use crate::heading::Column;
-use crate::marks::{Mark, Number, Shade};
+use crate::marks::{Mark, Number, Shade, lets_go};
 use crate::owners::Owner;
 use crate::passes::{column_of, columns};
 use crate::rows::Row;
@@ -90,7 +91,7 @@ fn draw_shade<A: Allocator>(
 ) -> Result<(), AllocError>
     requires { length passes.now ≤ 65 }
     ensures { OnOk result (GrewBy (string_bytes text.old) (string_bytes text.new)
-        (elements_text (shade_elements passes.now row.row row.lock))) }
+        (elements_text (shade_elements passes.now row.row (lets_go row.step) row.lock))) }
 {
     let Some(pass) = row.lock else {
         return Ok(());
@@ -98,6 +99,7 @@ fn draw_shade<A: Allocator>(
     let shade = Shade {
         row: row.row,
         column: column_of(passes, pass),
+        last: lets_go(row.step),
     };
     draw(Element::Shade(shade), text)
 }

@@ -34,8 +34,8 @@ with_status None = []
 abbrev pub disarm_deed : Bool → ℕ → IrpLife → List ℕ
 disarm_deed true found i = if found == 0 then codes " found no cancel routine of IRP " ++ (name_text i ++ codes " (IoSetCancelRoutine(Irp, NULL) in IoCsqInsertIrpEx): a cancel has it, and the insert ends")
     else codes " took the cancel routine of IRP " ++ (name_text i ++ codes " back (IoSetCancelRoutine(Irp, NULL) in IoCsqInsertIrpEx), and holds it now")
-disarm_deed false found i = if found == 0 then codes " found no cancel routine of IRP " ++ (name_text i ++ codes " (IoSetCancelRoutine(Irp, NULL) in IoCsqRemoveNextIrp): a cancel has it, and the removal goes on")
-    else codes " took the cancel routine of IRP " ++ (name_text i ++ codes " (IoSetCancelRoutine(Irp, NULL) in IoCsqRemoveNextIrp), and holds it now")
+disarm_deed false found i = if found == 0 then codes " found no cancel routine of IRP " ++ (name_text i ++ codes " (IoSetCancelRoutine(Irp, NULL) in IoCsqRemoveNextIrp or IoCsqRemoveIrp): a cancel has it, and the removal goes on without it")
+    else codes " took the cancel routine of IRP " ++ (name_text i ++ codes " (IoSetCancelRoutine(Irp, NULL) in IoCsqRemoveNextIrp or IoCsqRemoveIrp), and holds it now")
 
 abbrev pub disarm_text : DisarmTold → List ℕ
 disarm_text t = disarm_deed (in_insert t.inside) t.found t.irp
@@ -60,7 +60,7 @@ abbrev pub deed : Inside → Option NtStatus → Kind → ℕ → List ℕ
 deed x status (Arm i) found = codes " set the cancel routine of IRP " ++ (name_text i ++ codes " (IoSetCancelRoutine(Irp, routine) in IoCsqInsertIrpEx)")
 deed x status (Test i) found = test_deed found i
 deed x status (Disarm i) found = disarm_deed (in_insert x) found i
-deed x status End found = codes " ended its removal without an IRP (IoCsqRemoveNextIrp returns NULL)"
+deed x status End found = codes " ended its removal without an IRP (IoCsqRemoveNextIrp or IoCsqRemoveIrp returns NULL)"
 deed x status (Flag i) found = flag_deed found i
 deed x status (Take i) found = take_deed found i
 deed x status (Out i) found = codes " took IRP " ++ (name_text i ++ codes " out of the list (CsqRemoveIrp in the cancel routine), and holds it now")

@@ -81,11 +81,11 @@ impl fmt::Display for DisarmTold {
             ),
             _ if found => write!(
                 f,
-                " took the cancel routine of IRP {irp} (IoSetCancelRoutine(Irp, NULL) in IoCsqRemoveNextIrp), and holds it now"
+                " took the cancel routine of IRP {irp} (IoSetCancelRoutine(Irp, NULL) in IoCsqRemoveNextIrp or IoCsqRemoveIrp), and holds it now"
             ),
             _ => write!(
                 f,
-                " found no cancel routine of IRP {irp} (IoSetCancelRoutine(Irp, NULL) in IoCsqRemoveNextIrp): a cancel has it, and the removal goes on"
+                " found no cancel routine of IRP {irp} (IoSetCancelRoutine(Irp, NULL) in IoCsqRemoveNextIrp or IoCsqRemoveIrp): a cancel has it, and the removal goes on without it"
             ),
         }
     }
@@ -201,7 +201,7 @@ impl fmt::Display for Sentence {
             Kind::Disarm(irp) => write!(f, "{pass}{}", DisarmTold { inside, irp, found }),
             Kind::End => write!(
                 f,
-                "{pass} ended its removal without an IRP (IoCsqRemoveNextIrp returns NULL)"
+                "{pass} ended its removal without an IRP (IoCsqRemoveNextIrp or IoCsqRemoveIrp returns NULL)"
             ),
             Kind::Flag(irp) => write!(f, "{pass}{}", FlagTold { irp, found }),
             Kind::Take(irp) => write!(f, "{pass}{}", TakeTold { irp, found }),

@@ -21,8 +21,9 @@ Examples:
 pub(crate) const SCHEDULE_ABOUT: &str = "Replays a schedule: one atomic step a line, in this order";
 
 pub(crate) const SCHEDULE_HELP: &str = "\
-A line is a pass, a step and an IRP. A pass is a thread's handle to the queue.
-The steps, as a driver writer knows them:
+A line is a pass, a step and an IRP. A pass is a thread's handle to the queue,
+and p1 is the first of them; IRP 0 is the first IRP. The steps, as a driver
+writer knows them:
   p1 arm 0     IoSetCancelRoutine(Irp, routine), in IoCsqInsertIrpEx
   p1 test 0    if (Irp->Cancel), in IoCsqInsertIrpEx
   p1 disarm 0  IoSetCancelRoutine(Irp, NULL), in IoCsqInsertIrpEx where the test
@@ -34,12 +35,25 @@ The steps, as a driver writer knows them:
   p2 out 0     the queue's cancel routine takes the IRP out (CsqRemoveIrp)
   p2 done 0    IoCompleteRequest
   p1 renew 0   IoReuseIrp. The IRP is now in its life 1, and is named 0@1
+An insert is arm, test and, where the test found the flag, disarm. A removal is
+disarms until one finds the routine, or an end; an IRP_MJ_CLEANUP is removals. A
+cancel is flag and take. The arm lists the IRP, and a disarm that finds the
+routine takes it out. An insert or a removal has the queue's lock from its first
+step to its last, an out or a renew for its one step (a renew changes the queue
+too); flag, take and done need none.
+
+Who finds the routine by a disarm or a take claims the IRP, and will complete
+it: after a take the pass owes the IRP until its out, and then holds it; after a
+disarm it holds it at once. What a removal got is done with STATUS_SUCCESS, and
+what a cancel or an insert got with STATUS_CANCELLED. Flag and routine stand for
+one life, so a late take finds none of the next. An IRP is home until its arm.
 
 The answer is each line with the value that its step found: the flag or the
-routine that was there before, 1 or 0. Then comes each IRP that isn't home, is
-cancelled or is in a later life, and whether all is at rest, which means that no
-call is half done and no pass has an IRP: rest yes, or rest no. With --explain a
-sentence stands below each line of the answer, two spaces in.
+routine that was there before, 1 or 0, and 0 of a step that looks at neither.
+Then comes each IRP that isn't home, is cancelled or is in a later life, and
+whether all is at rest, which means that no call is half done and no pass has an
+IRP: rest yes, or rest no. With --explain a sentence stands below each line of
+the answer, two spaces in.
 
 A step that can't come next ends the schedule: line N refused, and the first of
 these that holds. Standard error says more.
@@ -59,11 +73,11 @@ these that holds. Standard error says more.
 
 Words are separated by one space, and the case of letters counts. A number has
 at most nine digits, and no zero before them. Empty lines, and lines that begin
-with #, are skipped. A line of more than 64 bytes is too long, and any other
-that is no step is malformed, also where it ends in a carriage return: each ends
-the schedule. All of the input is read before it is answered: at a terminal it
-ends with Ctrl-D. One of more than 1048576 bytes is too long, and no line of it
-is handled.
+with #, are skipped. A line of more than 64 bytes, a comment too, is too long,
+and any other that is no step is malformed, also where it ends in a carriage
+return: each ends the schedule. All of the input is read before it is answered:
+at a terminal it ends with Ctrl-D. One of more than 1048576 bytes is too long,
+and no line of it is handled.
 
 Exit status: 0 where all lines were handled; 2 where one ended the schedule, the
 input is too long or the command line is refused; 1 for a fault of memory,
@@ -83,11 +97,11 @@ WDK that it calls; and the call that it is of, with what that answers where the
 step ends it. Each IRP has one of eight colours, and its number stands in its
 marks.
   bold         the step claims its IRP: an exchange that found the routine
-  shaded       the pass has the lock
+  shaded       the pass has the lock; where it lets it go, the shade ends sooner
   dashed line  the pass owes the IRP, from its claim until it takes the IRP out
   solid line   the pass holds the IRP, until it completes it
   circles      the Cancel flag and the cancel routine of the IRP after the step:
-               filled where set, bold where the step changed it
+               filled where set, bold where the step changed it or its life
 The comment before the first step stands above, its first line as the title; an
 empty line ends it. It has at most eight lines, and a question mark for a byte
 that isn't printable ASCII.
@@ -103,7 +117,8 @@ with a star before it where it claims its IRP, and the two words of the IRP
 after it. Each pass takes 27 letters, the rest 26. The comment before the first
 step stands above. Who owes or holds which IRP is left out.
 
-An input of more than 1048576 bytes is too long, and nothing is drawn.
+An input of more than 1048576 bytes is answered input too long, and nothing is
+drawn.
 
 Exit status: 0 where all lines were drawn; 2 where one ended the schedule, the
 input is too long or the command line is refused; 1 for a fault of memory,
@@ -119,8 +134,9 @@ One pass makes the calls, on a model of the queue that makes one atomic step at
 a time. (csqsim run and the libraries use the queue itself.) The pass keeps the
 IRPs that it takes out, and the claims of its cancels.
   insert 0 1 back      IoCsqInsertIrpEx of IRP 0 for file object 1, at the back:
-                       pending; or cancelled, where its Cancel flag was set and
-                       it was completed at once
+                       pending, as its CsqInsertIrpEx answers STATUS_PENDING; or
+                       cancelled, where its Cancel flag was set and it was
+                       completed at once
   insert 0 1 front     the same at the front
   next *               IoCsqRemoveNextIrp of any file object: irp 0, or none
   next 1               the same of file object 1: irp 0, or none, also where
@@ -135,7 +151,8 @@ IRPs that it takes out, and the claims of its cancels.
   cancel 0             IoCancelIrp: true, where it completed IRP 0, or false
   complete 0 00000000  IoCompleteRequest of IRP 0, which was removed, with this
                        status: completed 00000000
-  close 1              refuses inserts for file object 1 from now on: closed
+  close 1              refuses inserts for file object 1 from now on: closed. It
+                       is no IRP_MJ_CLOSE, but what a cleanup begins with
   cleanup 1            IRP_MJ_CLEANUP: closes file object 1 and completes what
                        is queued for it as cancelled: cleaned 1, how many
   flag 0               Irp->Cancel: 0 or 1
@@ -167,11 +184,11 @@ that holds:
 Words are separated by one space, and the case of letters counts, but for a
 status's eight hexadecimal digits. Another number has at most nine digits, and
 no zero before them. Empty lines, and lines that begin with #, are skipped. A
-line of more than 64 bytes is too long, and any other that is no call is
-malformed, also where it ends in a carriage return: each ends the script, and
-standard error says more. All of the input is read before it is answered: at a
-terminal it ends with Ctrl-D. One of more than 1048576 bytes is too long, and no
-line of it is handled.
+line of more than 64 bytes, a comment too, is too long, and any other that is no
+call is malformed, also where it ends in a carriage return: each ends the
+script, and standard error says more. All of the input is read before it is
+answered: at a terminal it ends with Ctrl-D. One of more than 1048576 bytes is
+too long, and no line of it is handled.
 
 Exit status: 0 where all lines were handled; 2 where one ended the script, the
 input is too long, or the command line or a limit above the IRPs is refused; 1
@@ -188,7 +205,8 @@ the next one (IoCsqRemoveNextIrp) and completes it; each canceller cancels one
 (IoCancelIrp); and one more thread cleans the last file object up
 (IRP_MJ_CLEANUP): it completes what is queued for that file as cancelled. Each
 but the last has as many turns as --turns says; a submitter or canceller ends
-earlier where no IRP is left for it. Once all threads have ended the queue is
+earlier where no IRP is left for it. Threads begin one after the other, and many
+of them race more than many turns do. Once all threads have ended the queue is
 closed, and three lines are written:
   irps N                  how many IRPs the device has
   accounted N             how many were never queued, are still listed, or were
@@ -227,11 +245,12 @@ IRPs: that is proved too. Each removal that finds an IRP is a completion by a
 worker, and each cancel that takes the routine is one by a canceller.
 
 With --repeat so many devices run, one after the other, each with a fresh queue,
-and the lines of each are written. The first fault ends it.
+and the lines of each are written, from irps on. The first fault ends it.
 
 Exit status: 0 where the lines were written; 2 where the command line is
 refused; 1 for a fault of memory, of starting a thread or of writing.
 
 Examples:
   csqsim run --irps 8 --turns 8
-  csqsim run --totals --repeat 100";
+  csqsim run --totals --repeat 100
+  csqsim run --totals --irps 1024 --submitters 20 --workers 10 --cancellers 20";

@@ -68,11 +68,11 @@ const ROWS: [Row; 4] = [
 <rect class='l' x='56' y='68' width='228' height='61'/>
 <g class='k0'><title>p1 set the cancel routine of IRP 0 (IoSetCancelRoutine(Irp, routine) in IoCsqInsertIrpEx)</title><rect x='64' y='72' width='212' height='52' rx='6'/><text class='w' x='73' y='88'>arm 0</text><text class='w v' x='267' y='88'>was none</text><text class='m' x='73' y='103'>IoSetCancelRoutine(Irp, routine)</text><text class='s' x='73' y='117'>insert 0</text></g><g class='k0'><title>IRP 0: the Cancel flag is clear, the cancel routine is set</title><circle class='off' cx='648' cy='98' r='7'/><circle class='on b' cx='708' cy='98' r='7'/></g>
 <text class='n' x='46' y='162'>7</text>
-<rect class='l' x='56' y='128' width='228' height='61'/>
+<rect class='l' x='56' y='128' width='228' height='57'/>
 <g class='k0'><title>p1 found the Cancel flag of IRP 0 clear (if (Irp->Cancel) in IoCsqInsertIrpEx): the insert ends, and the IRP is pending</title><rect x='64' y='132' width='212' height='52' rx='6'/><text class='w' x='73' y='148'>test 0</text><text class='w v' x='267' y='148'>is clear</text><text class='m' x='73' y='163'>if (Irp->Cancel)</text><text class='s' x='73' y='177'>insert 0 &#8594; pending</text></g><g class='k0'><title>IRP 0: the Cancel flag is clear, the cancel routine is set</title><circle class='off' cx='648' cy='158' r='7'/><circle class='on' cx='708' cy='158' r='7'/></g>
 <text class='n' x='46' y='222'>8</text>
-<rect class='l' x='340' y='188' width='228' height='61'/>
-<g class='c k0'><title>p3 took the cancel routine of IRP 0 (IoSetCancelRoutine(Irp, NULL) in IoCsqRemoveNextIrp), and holds it now</title><rect x='348' y='192' width='212' height='52' rx='6'/><text class='w' x='357' y='208'>disarm 0</text><text class='w v' x='551' y='208'>found it</text><text class='m' x='357' y='223'>IoSetCancelRoutine(Irp, NULL)</text><text class='s' x='357' y='237'>removal &#8594; IRP 0</text></g><g class='k0'><title>IRP 0: the Cancel flag is clear, the cancel routine is clear</title><circle class='off' cx='648' cy='218' r='7'/><circle class='off b' cx='708' cy='218' r='7'/></g>
+<rect class='l' x='340' y='188' width='228' height='57'/>
+<g class='c k0'><title>p3 took the cancel routine of IRP 0 (IoSetCancelRoutine(Irp, NULL) in IoCsqRemoveNextIrp or IoCsqRemoveIrp), and holds it now</title><rect x='348' y='192' width='212' height='52' rx='6'/><text class='w' x='357' y='208'>disarm 0</text><text class='w v' x='551' y='208'>found it</text><text class='m' x='357' y='223'>IoSetCancelRoutine(Irp, NULL)</text><text class='s' x='357' y='237'>removal &#8594; IRP 0</text></g><g class='k0'><title>IRP 0: the Cancel flag is clear, the cancel routine is clear</title><circle class='off' cx='648' cy='218' r='7'/><circle class='off b' cx='708' cy='218' r='7'/></g>
 <text class='n' x='46' y='282'>9</text>
 <path class='k0 holds' d='M576 218V278'><title>p3 holds IRP 0</title></path>
 <g class='k0'><title>p3 completed IRP 0 with STATUS_SUCCESS (IoCompleteRequest)</title><rect x='348' y='252' width='212' height='52' rx='6'/><text class='w' x='357' y='268'>done 0</text><text class='w v' x='551' y='268'>STATUS_SUCCESS</text><text class='m' x='357' y='283'>IoCompleteRequest</text><text class='s' x='357' y='297'>completion</text></g><g class='k0'><title>IRP 0: the Cancel flag is clear, the cancel routine is clear</title><circle class='off' cx='648' cy='278' r='7'/><circle class='off' cx='708' cy='278' r='7'/></g>
@@ -155,7 +155,7 @@ const TOLD: [&str; 9] = [
     "p2 took the cancel routine of IRP 0 (IoSetCancelRoutine(Irp, NULL) in IoCancelIrp), and owes it now",
     "p2 took IRP 0 out of the list (CsqRemoveIrp in the cancel routine), and holds it now",
     "p2 completed IRP 0 with STATUS_CANCELLED (IoCompleteRequest)",
-    "p3 ended its removal without an IRP (IoCsqRemoveNextIrp returns NULL)",
+    "p3 ended its removal without an IRP (IoCsqRemoveNextIrp or IoCsqRemoveIrp returns NULL)",
     "p1 began the life that comes after IRP 0 (IoReuseIrp)",
     "p1 set the cancel routine of IRP 0@1 (IoSetCancelRoutine(Irp, routine) in IoCsqInsertIrpEx)",
 ];

@@ -64,13 +64,13 @@ p2 flag 0 found 0
 p2 take 0 found 1
   p2 took the cancel routine of IRP 0 (IoSetCancelRoutine(Irp, NULL) in IoCancelIrp), and owes it now
 p3 disarm 0 found 0
-  p3 found no cancel routine of IRP 0 (IoSetCancelRoutine(Irp, NULL) in IoCsqRemoveNextIrp): a cancel has it, and the removal goes on
+  p3 found no cancel routine of IRP 0 (IoSetCancelRoutine(Irp, NULL) in IoCsqRemoveNextIrp or IoCsqRemoveIrp): a cancel has it, and the removal goes on without it
 p3 disarm 1 found 1
-  p3 took the cancel routine of IRP 1 (IoSetCancelRoutine(Irp, NULL) in IoCsqRemoveNextIrp), and holds it now
+  p3 took the cancel routine of IRP 1 (IoSetCancelRoutine(Irp, NULL) in IoCsqRemoveNextIrp or IoCsqRemoveIrp), and holds it now
 p3 done 1 found 0
   p3 completed IRP 1 with STATUS_SUCCESS (IoCompleteRequest)
 p3 end found 0
-  p3 ended its removal without an IRP (IoCsqRemoveNextIrp returns NULL)
+  p3 ended its removal without an IRP (IoCsqRemoveNextIrp or IoCsqRemoveIrp returns NULL)
 irp 0 listed cancel 1
   IRP 0 is in the list; its Cancel flag is set
 irp 1 completed 00000000 by p3 cancel 0

@@ -115,6 +115,9 @@ fn each_mark_tells_its_step(rt: HostRuntime) -> Result<(), Fail> {
     look_for_marks(&rt, drawn)
 }
 
+// One pass has the lock twice, one time after the other.
+const TWO_INSERTS: &str = "p1 arm 0\np1 test 0\np1 arm 1\np1 test 1\n";
+
 // One pass has two IRPs in the end.
 const TWO_HELD: &str = "\
 p1 arm 1
@@ -157,7 +160,15 @@ p1 arm 10\np1 test 10\np2 disarm 10
 ";
 
 // A schedule, and a part of its picture.
-const PARTS: [(&str, &str); 15] = [
+const PARTS: [(&str, &str); 17] = [
+    (
+        TWO_INSERTS,
+        "\n<rect class='l' x='56' y='128' width='228' height='57'/>\n",
+    ),
+    (
+        TWO_INSERTS,
+        "\n<rect class='l' x='56' y='188' width='228' height='61'/>\n",
+    ),
     (
         "# 1\n# 2\n# 3\n# 4\n# 5\n# 6\n# 7\n# 8\n# 9\n",
         "\n<text class='t' x='56' y='-136'>1<tspan x='56' dy='18'>2</tspan><tspan x='56' dy='18'>3</tspan><tspan x='56' dy='18'>4</tspan><tspan x='56' dy='18'>5</tspan><tspan x='56' dy='18'>6</tspan><tspan x='56' dy='18'>7</tspan><tspan x='56' dy='18'>8</tspan></text>\n",

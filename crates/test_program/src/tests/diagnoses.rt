@@ -24,7 +24,7 @@ const SCHEDULES: &[(&str, &str)] = &[
     ),
     (
         "p1 arm 0\r\n",
-        "csqsim: line 1, column 9: a carriage return: a line ends in a line feed alone, and in files of Windows in both\n",
+        "csqsim: line 1, column 9: a carriage return: a line ends in a line feed alone, so save the file with LF\n",
     ),
     (
         "p1\tarm 0\n",
@@ -44,7 +44,7 @@ const SCHEDULES: &[(&str, &str)] = &[
     ),
     (
         "p1 arm 0 \n",
-        "csqsim: line 1, column 10: a space ends the line\n",
+        "csqsim: line 1, column 9: a space ends the line\n",
     ),
     (
         " p1 arm 0\n",

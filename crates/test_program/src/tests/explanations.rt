@@ -95,15 +95,15 @@ p2 flag 0 found 0
 p2 take 0 found 1
   p2 took the cancel routine of IRP 0 (IoSetCancelRoutine(Irp, NULL) in IoCancelIrp), and owes it now
 p3 disarm 0 found 0
-  p3 found no cancel routine of IRP 0 (IoSetCancelRoutine(Irp, NULL) in IoCsqRemoveNextIrp): a cancel has it, and the removal goes on
+  p3 found no cancel routine of IRP 0 (IoSetCancelRoutine(Irp, NULL) in IoCsqRemoveNextIrp or IoCsqRemoveIrp): a cancel has it, and the removal goes on without it
 p3 disarm 1 found 1
-  p3 took the cancel routine of IRP 1 (IoSetCancelRoutine(Irp, NULL) in IoCsqRemoveNextIrp), and holds it now
+  p3 took the cancel routine of IRP 1 (IoSetCancelRoutine(Irp, NULL) in IoCsqRemoveNextIrp or IoCsqRemoveIrp), and holds it now
 p3 done 1 found 0
   p3 completed IRP 1 with STATUS_SUCCESS (IoCompleteRequest)
 p3 disarm 0 found 0
-  p3 found no cancel routine of IRP 0 (IoSetCancelRoutine(Irp, NULL) in IoCsqRemoveNextIrp): a cancel has it, and the removal goes on
+  p3 found no cancel routine of IRP 0 (IoSetCancelRoutine(Irp, NULL) in IoCsqRemoveNextIrp or IoCsqRemoveIrp): a cancel has it, and the removal goes on without it
 p3 end found 0
-  p3 ended its removal without an IRP (IoCsqRemoveNextIrp returns NULL)
+  p3 ended its removal without an IRP (IoCsqRemoveNextIrp or IoCsqRemoveIrp returns NULL)
 p2 out 0 found 0
   p2 took IRP 0 out of the list (CsqRemoveIrp in the cancel routine), and holds it now
 p2 done 0 found 0
@@ -201,7 +201,7 @@ p1 arm 0 found 0
 p1 test 0 found 0
   p1 found the Cancel flag of IRP 0 clear (if (Irp->Cancel) in IoCsqInsertIrpEx): the insert ends, and the IRP is pending
 p3 disarm 0 found 1
-  p3 took the cancel routine of IRP 0 (IoSetCancelRoutine(Irp, NULL) in IoCsqRemoveNextIrp), and holds it now
+  p3 took the cancel routine of IRP 0 (IoSetCancelRoutine(Irp, NULL) in IoCsqRemoveNextIrp or IoCsqRemoveIrp), and holds it now
 p2 flag 0 found 0
   p2 set the Cancel flag of IRP 0 (Irp->Cancel = TRUE in IoCancelIrp)
 p3 done 0 found 0
@@ -251,9 +251,9 @@ p2 flag 0 found 0
 p2 take 0 found 1
   p2 took the cancel routine of IRP 0 (IoSetCancelRoutine(Irp, NULL) in IoCancelIrp), and owes it now
 p3 disarm 0 found 0
-  p3 found no cancel routine of IRP 0 (IoSetCancelRoutine(Irp, NULL) in IoCsqRemoveNextIrp): a cancel has it, and the removal goes on
+  p3 found no cancel routine of IRP 0 (IoSetCancelRoutine(Irp, NULL) in IoCsqRemoveNextIrp or IoCsqRemoveIrp): a cancel has it, and the removal goes on without it
 p3 disarm 1 found 1
-  p3 took the cancel routine of IRP 1 (IoSetCancelRoutine(Irp, NULL) in IoCsqRemoveNextIrp), and holds it now
+  p3 took the cancel routine of IRP 1 (IoSetCancelRoutine(Irp, NULL) in IoCsqRemoveNextIrp or IoCsqRemoveIrp), and holds it now
 p2 out 0 found 0
   p2 took IRP 0 out of the list (CsqRemoveIrp in the cancel routine), and holds it now
 p2 done 0 found 0
@@ -315,7 +315,7 @@ fn options_reach_the_explanation(rt: HostRuntime) {
         Case {
             words: &["csqsim", "schedule", "--explain", "--irps=2"],
             input: "p4 end\np4 flag 2\n",
-            output: "p4 end found 0\n  p4 ended its removal without an IRP (IoCsqRemoveNextIrp returns NULL)\nline 2 refused UnknownIrp\n  an IRP's number is below 2\n",
+            output: "p4 end found 0\n  p4 ended its removal without an IRP (IoCsqRemoveNextIrp or IoCsqRemoveIrp returns NULL)\nline 2 refused UnknownIrp\n  an IRP's number is below 2\n",
             errors: "csqsim: line 2: p4 flag 2 is refused: an IRP's number is below 2 (--irps 3 allows it)\n",
             status: 2,
         },

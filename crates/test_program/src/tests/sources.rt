@@ -89,7 +89,7 @@ fn a_line_of_a_file_is_told_with_its_name(rt: HostRuntime) {
         &["csqsim", "script", "windows.txt"],
         2,
         "line 1 malformed\n",
-        "csqsim: windows.txt: line 1, column 7: a carriage return: a line ends in a line feed alone, and in files of Windows in both\n",
+        "csqsim: windows.txt: line 1, column 7: a carriage return: a line ends in a line feed alone, so save the file with LF\n",
     );
 }
 
