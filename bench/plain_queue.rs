@@ -1,7 +1,8 @@
 //! A plain queue of the same design, to time the proved one against: a mutex round a list of entries,
 //! the IRPs that were used, their lives and the files that were closed, and for each IRP a Cancel flag, a
 //! routine and a status in atomic words, each with the life that it stands for. It refuses what the
-//! proved one refuses, but for a file object's own limit, of which it keeps no count.
+//! proved one refuses, but for a file object's own limit, of which it keeps no count. With the word
+//! `counts` as the last it keeps that too, so that it can be seen what it costs.
 use std::collections::VecDeque;
 use std::sync::Mutex;
 use std::sync::atomic::{AtomicU64, Ordering::SeqCst};
@@ -16,21 +17,50 @@ const SET: u64 = 1 << 32;
 const LAST: u64 = (1 << 30) - 1;
 const CANCELLED: u64 = 0xC000_0120;
 
-struct List {
+struct List<const COUNTS: bool> {
     entries: VecDeque<(usize, usize)>,
     used: Vec<bool>,
     lives: Vec<u64>,
     closed: Vec<bool>,
     limit: usize,
+    // Of each file object, how many entries there are and may be.
+    counts: Vec<u32>,
+    limits: Vec<u32>,
 }
 
-impl List {
+impl<const COUNTS: bool> List<COUNTS> {
     fn refuses(&self, irp: usize, file: usize) -> bool {
         irp >= self.used.len()
             || file >= self.closed.len()
             || self.used[irp]
             || self.closed[file]
             || self.entries.len() == self.limit
+            || (COUNTS && self.counts[file] == self.limits[file])
+    }
+
+    fn push(&mut self, irp: usize, file: usize) {
+        self.entries.push_back((irp, file));
+        if COUNTS {
+            self.counts[file] += 1;
+        }
+    }
+
+    fn remove_at(&mut self, at: usize) {
+        let removed = self.entries.remove(at);
+        if COUNTS {
+            self.counts[removed.expect("there").1] -= 1;
+        }
+    }
+
+    fn remove(&mut self, irp: usize) {
+        let List { entries, counts, .. } = self;
+        entries.retain(|entry| {
+            let stays = entry.0 != irp;
+            if COUNTS && !stays {
+                counts[entry.1] -= 1;
+            }
+            stays
+        });
     }
 }
 
@@ -43,15 +73,15 @@ enum Word {
 }
 use Word::{Cancel, Routine, Status};
 
-struct Queue {
+struct Queue<const COUNTS: bool> {
     irps: usize,
     // Three for each IRP, side by side.
     words: Vec<AtomicU64>,
-    list: Mutex<List>,
+    list: Mutex<List<COUNTS>>,
 }
 
-impl Queue {
-    fn new(irps: usize) -> Queue {
+impl<const COUNTS: bool> Queue<COUNTS> {
+    fn new(irps: usize) -> Self {
         Queue {
             irps,
             words: (0..3 * irps).map(|_| AtomicU64::new(0)).collect(),
@@ -61,6 +91,8 @@ impl Queue {
                 lives: vec![0; irps],
                 closed: vec![false; MOST_THREADS],
                 limit: irps,
+                counts: vec![0; MOST_THREADS],
+                limits: vec![irps as u32; MOST_THREADS],
             }),
         }
     }
@@ -79,11 +111,11 @@ impl Queue {
             return None;
         }
         let life = list.lives[irp];
-        list.entries.push_back((irp, file));
+        list.push(irp, file);
         list.used[irp] = true;
         self.word(irp, Routine).swap(2 * life + 1, SeqCst);
         if self.word(irp, Cancel).load(SeqCst) % 2 == 1 && self.word(irp, Routine).swap(2 * life, SeqCst) % 2 == 1 {
-            list.entries.retain(|entry| entry.0 != irp);
+            list.remove(irp);
             drop(list);
             self.complete(irp, life, CANCELLED);
         }
@@ -99,7 +131,7 @@ impl Queue {
             }
             let life = list.lives[irp];
             if self.word(irp, Routine).swap(2 * life, SeqCst) % 2 == 1 {
-                list.entries.remove(at);
+                list.remove_at(at);
                 return Some((irp, life));
             }
         }
@@ -114,7 +146,7 @@ impl Queue {
         if list.lives[irp] != life || self.word(irp, Routine).swap(2 * life, SeqCst) % 2 == 0 {
             return false;
         }
-        list.entries.remove(at);
+        list.remove_at(at);
         true
     }
 
@@ -131,7 +163,7 @@ impl Queue {
         if self.word(irp, Routine).compare_exchange(set, clear, SeqCst, SeqCst).is_err() {
             return false;
         }
-        self.list.lock().unwrap().entries.retain(|entry| entry.0 != irp);
+        self.list.lock().unwrap().remove(irp);
         self.complete(irp, life, CANCELLED);
         true
     }
@@ -180,7 +212,7 @@ impl Work {
     }
 }
 
-fn end(queue: &Queue, work: &Work, thread: usize, irp: usize, life: u64) -> bool {
+fn end<const COUNTS: bool>(queue: &Queue<COUNTS>, work: &Work, thread: usize, irp: usize, life: u64) -> bool {
     match work.kind.as_str() {
         "cancel" => queue.cancel(irp, life),
         "reuse" => {
@@ -200,7 +232,7 @@ fn end(queue: &Queue, work: &Work, thread: usize, irp: usize, life: u64) -> bool
     }
 }
 
-fn share(queue: &Queue, work: &Work, thread: usize) -> usize {
+fn share<const COUNTS: bool>(queue: &Queue<COUNTS>, work: &Work, thread: usize) -> usize {
     let mut completed = 0;
     for nth in 0..work.inserts() / work.threads {
         let place = nth * work.threads + thread;
@@ -209,6 +241,25 @@ fn share(queue: &Queue, work: &Work, thread: usize) -> usize {
         completed += usize::from(end(queue, work, thread, irp, life));
     }
     completed
+}
+
+/// One turn over a new queue: how many IRPs were completed, and the nanoseconds.
+fn turn<const COUNTS: bool>(work: &Work) -> (usize, u128) {
+    let queue = Queue::<COUNTS>::new(work.irps());
+    for irp in 0..work.listed {
+        queue.insert(irp, work.file(irp % work.threads)).expect("home");
+    }
+    let start = Instant::now();
+    let completed = if work.threads == 1 {
+        share(&queue, work, 0)
+    } else {
+        thread::scope(|scope| {
+            let share = |thread| share(&queue, work, thread);
+            let handles: Vec<_> = (1..work.threads).map(|thread| scope.spawn(move || share(thread))).collect();
+            share(0) + handles.into_iter().map(|handle| handle.join().unwrap()).sum::<usize>()
+        })
+    };
+    (completed, start.elapsed().as_nanos())
 }
 
 fn main() {
@@ -220,23 +271,16 @@ fn main() {
         owned: words[4] == "owned",
     };
     let turns: usize = words[5].parse().unwrap();
+    let turn = match words.get(6).map(String::as_str) {
+        None => turn::<false>,
+        Some("counts") => turn::<true>,
+        Some(word) => panic!("{word} is not the word counts"),
+    };
     let (mut completed, mut nanoseconds) = (0, 0);
     for _ in 0..turns {
-        let queue = Queue::new(work.irps());
-        for irp in 0..work.listed {
-            queue.insert(irp, work.file(irp % work.threads)).expect("home");
-        }
-        let start = Instant::now();
-        completed += if work.threads == 1 {
-            share(&queue, &work, 0)
-        } else {
-            thread::scope(|scope| {
-                let share = |thread| share(&queue, &work, thread);
-                let handles: Vec<_> = (1..work.threads).map(|thread| scope.spawn(move || share(thread))).collect();
-                share(0) + handles.into_iter().map(|handle| handle.join().unwrap()).sum::<usize>()
-            })
-        };
-        nanoseconds += start.elapsed().as_nanos();
+        let (of_turn, took) = turn(&work);
+        completed += of_turn;
+        nanoseconds += took;
     }
     println!("completed {completed}");
     eprintln!("{nanoseconds} ns");

@@ -66,7 +66,7 @@ def scaling(rows):
 
 
 def ratios(queue, c):
-    """A mark for each comparison, at its ratio, with a line as long as its spread."""
+    """A mark for each comparison, at its ratio, with a line as long as its spread; and a ring at the ratio with counts."""
     rows = ([(f"{row['kind']}, {row['threads']} threads", row) for row in queue]
             + [(f"from C: {row['kind']}, {row['lock']}, {row['threads']} threads", row) for row in c])
     least, most, left, width = 0.6, 1.4, 250, 480
@@ -83,5 +83,8 @@ def ratios(queue, c):
         parts.append(f"<text class='s' x='{left - 12}' y='{y + 4}' text-anchor='end'>{html.escape(name)}</text>"
                      f"<path d='M{x_of(row['ratio'] - half):.1f} {y}H{x_of(row['ratio'] + half):.1f}' stroke='{colour}' stroke-width='2'/>"
                      f"<circle cx='{x_of(row['ratio']):.1f}' cy='{y}' r='4' fill='{colour}'/>")
-    parts.append(f"<text class='s' x='24' y='{height - 8}'>the plain queue's time over the proved one's: above 1 the proved one is faster; the lines go from quartile to quartile</text>")
-    return svg(left + width + 30, height, 'Beside plain code of the same design', parts)
+        if 'counts' in row:
+            parts.append(f"<circle cx='{x_of(row['counts']['ratio']):.1f}' cy='{y}' r='4' fill='none' stroke='{COLOURS[3]}'/>")
+    parts.append(f"<text class='s' x='24' y='{height - 8}'>the plain queue's time over the proved one's: above 1 the proved one is faster; the lines go from quartile to quartile;</text>"
+                 f"<text class='s' x='24' y='{height + 8}'>a ring: the plain queue counts the entries of each file object, as the one from C does</text>")
+    return svg(left + width + 30, height + 20, 'Beside plain code of the same design', parts)
