@@ -5,6 +5,7 @@ mod locked;
 mod name;
 mod pass;
 mod rack;
+mod waiting;
 
 pub use csq::Csq;
 pub(crate) use locked::Locked;

@@ -21,6 +21,7 @@ ghost use Rattle.csq_queue.specs.Rests.{FirstAreBack, IsRestOf, HasShown, KeepsR
 ghost use Rattle.csq_queue.specs.Told.{SeesRun, AddsEvents};
 
 use crate::back::Back;
+use crate::named::waiting::wait_for;
 use crate::named::{Locked, Pass, PassRack, QueueName};
 use crate::open::OpenQueue;
 use crate::refusals::{CancelRefused, ReuseRefused, UnknownIrp};
@@ -70,15 +71,8 @@ impl<L: PendingList + Drop, N: QueueName, A: Allocator> Csq<L, N, A> {
     pub(crate) fn lock(&self, rt: &impl Wait) -> MutexGuard<'_, Locked<L, N, A>> {
         match self.locked.try_lock() {
             Some(guard) => guard,
-            None => self.wait(rt),
+            None => wait_for(&self.locked, rt),
         }
-    }
-
-    // The lock, waited for.
-    #[cold]
-    #[inline(never)]
-    fn wait(&self, rt: &impl Wait) -> MutexGuard<'_, Locked<L, N, A>> {
-        self.locked.lock(rt)
     }
 
     // The number of IRPs.

@@ -91,7 +91,12 @@ impl<L: PendingList + Drop, A: Allocator> OpenQueue<L, A> {
             file,
             place,
         );
-        pass.tokens += count_cancelled(&inserted);
+        let cancelled = count_cancelled(&inserted);
+        // Mostly there is none. Then nothing is written between the last atomic step and the one that frees the
+        // lock, which would wait for it.
+        if cancelled > 0 {
+            pass.tokens += cancelled;
+        }
         leave(&mut self.seat, words, &mut pass.seat);
         inserted
     }

@@ -32,7 +32,7 @@ overflow_add-pass g c =
     let p = pass_on c.pass.inside.seat c.pass.inside.irps c.pass.inside.passes c.pass.inside.number c.pass.inside.tokens c.pass.inside.claims w c.args.pass.now c.pass.view_is c.requires.pass c.pass.invariant.0 in
     let most = (on_words w s c.self.inside.seat c.self.inside.back.items c.args.self.now c.self.view_is c.requires.queue c.self.inside.lives c.self.invariant).most in
     let gives = insert_gives (limits_on w s) c.list_irp-inserted.result (end_of w.size.first c.list_irp-inserted.new.seat.queue.history) (joined_record c.enter.new.self) (joined_record c.list_irp-inserted.new.seat) c.list_irp-inserted.ensures.steps c.list_irp-inserted.ensures.new in
-    let room = room_for (limits_on w s) (given_in c.list_irp-inserted.result) false c.enter.new.self c.list_irp-inserted.new.seat c.pass.inside.tokens c.count_cancelled.result c.count_cancelled.ensures gives
+    let room = room_for (limits_on w s) (given_in c.list_irp-inserted.result) false c.enter.new.self c.list_irp-inserted.new.seat c.pass.inside.tokens c.count_cancelled-cancelled.result c.count_cancelled-cancelled.ensures gives
     (pass_record c.pass.inside.seat) (ap joined_record c.enter.ensures.joined) p.tokens_are p.held_apart in
     omega arith
 
