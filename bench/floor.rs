@@ -5,6 +5,7 @@ use std::time::Instant;
 
 const IRPS: usize = 1024;
 const REUSED_IRPS: usize = 64;
+const REUSES: usize = 262_144;
 const SET: u64 = 1 << 32;
 const CANCELLED: u64 = 0xC000_0120;
 
@@ -13,6 +14,20 @@ struct Words {
     cancel: AtomicU64,
     routine: AtomicU64,
     status: AtomicU64,
+}
+
+/// What ends an IRP that was inserted, whether it is used again, and how many IRPs there are.
+#[derive(Clone, Copy)]
+struct Kind {
+    cancels: bool,
+    again: bool,
+    irps: usize,
+}
+
+impl Kind {
+    fn inserts(self) -> usize {
+        if self.again { REUSES } else { self.irps }
+    }
 }
 
 struct Floor {
@@ -61,19 +76,18 @@ impl Floor {
     }
 
     /// What ends an IRP of this life that was inserted. Whether it did.
-    fn end(&self, kind: &str, irp: &Words, life: u64) -> bool {
-        let cancels = kind == "cancel";
-        let ended = if cancels { self.cancel(irp, life) } else { self.remove(irp, life) };
-        irp.status.swap((life << 33) + SET + if cancels { CANCELLED } else { 0 }, SeqCst);
-        if kind == "reuse" {
+    fn end(&self, kind: Kind, irp: &Words, life: u64) -> bool {
+        let ended = if kind.cancels { self.cancel(irp, life) } else { self.remove(irp, life) };
+        irp.status.swap((life << 33) + SET + if kind.cancels { CANCELLED } else { 0 }, SeqCst);
+        if kind.again {
             self.reuse(irp);
         }
         ended
     }
 
-    fn turn(&self, kind: &str) -> usize {
+    fn turn(&self, kind: Kind) -> usize {
         let mut completed = 0;
-        for place in 0..IRPS {
+        for place in 0..kind.inserts() {
             let irp = &self.irps[place % self.irps.len()];
             let life = (place / self.irps.len()) as u64;
             completed += usize::from(self.insert(irp, life) && self.end(kind, irp, life));
@@ -84,11 +98,20 @@ impl Floor {
 
 fn main() {
     let words: Vec<String> = std::env::args().collect();
-    let kind = words[1].as_str();
+    let (cancels, again, irps) = match words[1].as_str() {
+        "remove" => (false, false, IRPS),
+        "cancel" => (true, false, IRPS),
+        // (one thread inserts next what it removed last)
+        "remove-again" => (false, true, 1),
+        "cancel-again" => (true, true, REUSED_IRPS),
+        "reuse" => (false, true, REUSED_IRPS),
+        word => panic!("{word} is no kind"),
+    };
+    let kind = Kind { cancels, again, irps };
     let turns: usize = words[2].parse().unwrap();
     let (mut completed, mut nanoseconds) = (0, 0);
     for _ in 0..turns {
-        let floor = Floor::new(if kind == "reuse" { REUSED_IRPS } else { IRPS });
+        let floor = Floor::new(kind.irps);
         let start = Instant::now();
         completed += floor.turn(kind);
         nanoseconds += start.elapsed().as_nanos();

@@ -2,16 +2,18 @@
 //! the IRPs that were used, their lives and the files that were closed, and for each IRP a Cancel flag, a
 //! routine and a status in atomic words, each with the life that it stands for. It refuses what the
 //! proved one refuses, but for a file object's own limit, of which it keeps no count. With the word
-//! `counts` as the last it keeps that too, so that it can be seen what it costs.
+//! `counts` as the last it keeps that too, so that it can be seen what it costs; with `backoff` it also
+//! waits for its lock as the proved one does, with growing pauses before it sleeps.
 use std::collections::VecDeque;
-use std::sync::Mutex;
+use std::hint::spin_loop;
 use std::sync::atomic::{AtomicU64, Ordering::SeqCst};
+use std::sync::{Mutex, MutexGuard};
 use std::thread;
 use std::time::Instant;
 
 const IRPS: usize = 1024;
 const REUSED_IRPS: usize = 64;
-const REUSES: usize = 1024;
+const REUSES: usize = 262_144;
 const MOST_THREADS: usize = 8;
 const SET: u64 = 1 << 32;
 const LAST: u64 = (1 << 30) - 1;
@@ -45,22 +47,23 @@ impl<const COUNTS: bool> List<COUNTS> {
         }
     }
 
+    /// Takes out the entry at an index: mostly the last or the first, for which there are shorter ways.
     fn remove_at(&mut self, at: usize) {
-        let removed = self.entries.remove(at);
+        let removed = if at + 1 == self.entries.len() {
+            self.entries.pop_back()
+        } else if at == 0 {
+            self.entries.pop_front()
+        } else {
+            self.entries.remove(at)
+        };
         if COUNTS {
             self.counts[removed.expect("there").1] -= 1;
         }
     }
 
     fn remove(&mut self, irp: usize) {
-        let List { entries, counts, .. } = self;
-        entries.retain(|entry| {
-            let stays = entry.0 != irp;
-            if COUNTS && !stays {
-                counts[entry.1] -= 1;
-            }
-            stays
-        });
+        let at = self.entries.iter().position(|entry| entry.0 == irp);
+        self.remove_at(at.expect("listed"));
     }
 }
 
@@ -73,14 +76,14 @@ enum Word {
 }
 use Word::{Cancel, Routine, Status};
 
-struct Queue<const COUNTS: bool> {
+struct Queue<const COUNTS: bool, const BACKOFF: bool> {
     irps: usize,
     // Three for each IRP, side by side.
     words: Vec<AtomicU64>,
     list: Mutex<List<COUNTS>>,
 }
 
-impl<const COUNTS: bool> Queue<COUNTS> {
+impl<const COUNTS: bool, const BACKOFF: bool> Queue<COUNTS, BACKOFF> {
     fn new(irps: usize) -> Self {
         Queue {
             irps,
@@ -97,6 +100,32 @@ impl<const COUNTS: bool> Queue<COUNTS> {
         }
     }
 
+    #[inline(always)]
+    fn lock(&self) -> MutexGuard<'_, List<COUNTS>> {
+        if !BACKOFF {
+            return self.list.lock().unwrap();
+        }
+        match self.list.try_lock() {
+            Ok(list) => list,
+            Err(_) => self.wait(),
+        }
+    }
+
+    /// The lock, after pauses of so many spin-loop hints as the proved queue makes.
+    #[cold]
+    #[inline(never)]
+    fn wait(&self) -> MutexGuard<'_, List<COUNTS>> {
+        for doubled in 7..18u32 {
+            for _ in 0..1u32 << doubled.min(10) {
+                spin_loop();
+            }
+            if let Ok(list) = self.list.try_lock() {
+                return list;
+            }
+        }
+        self.list.lock().unwrap()
+    }
+
     fn word(&self, irp: usize, word: Word) -> &AtomicU64 {
         &self.words[3 * irp + word as usize]
     }
@@ -106,7 +135,7 @@ impl<const COUNTS: bool> Queue<COUNTS> {
     }
 
     fn insert(&self, irp: usize, file: usize) -> Option<u64> {
-        let mut list = self.list.lock().unwrap();
+        let mut list = self.lock();
         if list.refuses(irp, file) {
             return None;
         }
@@ -123,7 +152,7 @@ impl<const COUNTS: bool> Queue<COUNTS> {
     }
 
     fn remove_next(&self, wanted: Option<usize>) -> Option<(usize, u64)> {
-        let mut list = self.list.lock().unwrap();
+        let mut list = self.lock();
         for at in 0..list.entries.len() {
             let (irp, file) = list.entries[at];
             if wanted.is_some_and(|wanted| wanted != file) {
@@ -139,7 +168,7 @@ impl<const COUNTS: bool> Queue<COUNTS> {
     }
 
     fn remove(&self, irp: usize, life: u64) -> bool {
-        let mut list = self.list.lock().unwrap();
+        let mut list = self.lock();
         let Some(at) = list.entries.iter().position(|entry| entry.0 == irp) else {
             return false;
         };
@@ -163,13 +192,16 @@ impl<const COUNTS: bool> Queue<COUNTS> {
         if self.word(irp, Routine).compare_exchange(set, clear, SeqCst, SeqCst).is_err() {
             return false;
         }
-        self.list.lock().unwrap().remove(irp);
+        self.lock().remove(irp);
         self.complete(irp, life, CANCELLED);
         true
     }
 
     fn reuse(&self, irp: usize) -> Option<u64> {
-        let mut list = self.list.lock().unwrap();
+        if irp >= self.irps {
+            return None;
+        }
+        let mut list = self.lock();
         let found = self.word(irp, Status).load(SeqCst);
         let life = found >> 33;
         if (found >> 32) % 2 == 0 || life == LAST {
@@ -185,96 +217,141 @@ impl<const COUNTS: bool> Queue<COUNTS> {
     }
 }
 
+/// How an inserted IRP ends.
+#[derive(Clone, Copy, PartialEq)]
+enum End {
+    /// Whichever IRP is the first is removed and completed.
+    Next,
+    /// It is removed itself and completed.
+    One,
+    /// It is cancelled.
+    Cancel,
+}
+
 /// What a turn does: its inserts are shared by so many threads, each with a file object of its own or all with one,
 /// while so many IRPs are listed beside them.
+#[derive(Clone, Copy)]
 struct Work {
-    kind: String,
+    end: End,
+    /// Whether an IRP is used again, once it was completed.
+    again: bool,
     threads: usize,
     listed: usize,
     owned: bool,
 }
 
 impl Work {
-    fn irps(&self) -> usize {
-        if self.kind == "reuse" { (self.listed + REUSED_IRPS).min(IRPS) } else { IRPS }
-    }
-
+    /// How many IRPs the inserts are of.
     fn inserted(&self) -> usize {
-        self.irps() - self.listed
+        if self.again { REUSED_IRPS } else { IRPS - self.listed }
     }
 
     fn inserts(&self) -> usize {
-        if self.kind == "reuse" { REUSES } else { self.inserted() }
+        if self.again { REUSES } else { self.inserted() }
     }
 
     fn file(&self, thread: usize) -> usize {
         if self.owned { thread } else { 0 }
     }
-}
 
-fn end<const COUNTS: bool>(queue: &Queue<COUNTS>, work: &Work, thread: usize, irp: usize, life: u64) -> bool {
-    match work.kind.as_str() {
-        "cancel" => queue.cancel(irp, life),
-        "reuse" => {
-            let removed = queue.remove(irp, life);
-            if removed {
-                queue.complete(irp, life, 0);
-            }
-            removed && queue.reuse(irp).is_some()
+    /// The IRPs that are a thread's own: the first, and the one behind the last.
+    fn own(&self, thread: usize) -> (usize, usize) {
+        let own = self.inserted() / self.threads;
+        let first = self.listed + thread * own;
+        (first, first + own)
+    }
+
+    /// The IRP that a thread inserts after this one, once one was completed: where any may be removed, the one
+    /// that was, so that each thread has one to insert; else the next of its own.
+    fn next(&self, own: (usize, usize), irp: usize, completed: usize) -> usize {
+        if self.again && self.end == End::Next {
+            completed
+        } else if irp + 1 < own.1 {
+            irp + 1
+        } else {
+            own.0
         }
-        _ => match queue.remove_next(work.owned.then_some(thread)) {
-            None => false,
-            Some((irp, life)) => {
-                queue.complete(irp, life, 0);
-                true
-            }
-        },
     }
 }
 
-fn share<const COUNTS: bool>(queue: &Queue<COUNTS>, work: &Work, thread: usize) -> usize {
-    let mut completed = 0;
-    for nth in 0..work.inserts() / work.threads {
-        let place = nth * work.threads + thread;
-        let irp = place % work.inserted() + work.listed;
-        let life = queue.insert(irp, work.file(thread)).expect("home");
-        completed += usize::from(end(queue, work, thread, irp, life));
+impl<const COUNTS: bool, const BACKOFF: bool> Queue<COUNTS, BACKOFF> {
+    /// Ends an IRP that was inserted. Answers the one that was completed.
+    fn end(&self, work: &Work, thread: usize, irp: usize, life: u64) -> Option<usize> {
+        let (removed, life) = match work.end {
+            End::Cancel => return self.cancel(irp, life).then_some(irp),
+            End::One => self.remove(irp, life).then_some((irp, life))?,
+            End::Next => self.remove_next(work.owned.then_some(thread))?,
+        };
+        self.complete(removed, life, 0);
+        Some(removed)
     }
-    completed
+
+    /// One thread's share of a turn: how many IRPs it completed.
+    fn share(&self, work: &Work, thread: usize) -> usize {
+        let own = work.own(thread);
+        let (mut completed, mut irp) = (0, own.0);
+        for _ in 0..work.inserts() / work.threads {
+            let life = self.insert(irp, work.file(thread)).expect("home");
+            let Some(ended) = self.end(work, thread, irp, life) else {
+                continue;
+            };
+            completed += 1;
+            if work.again {
+                self.reuse(ended).expect("completed");
+            }
+            irp = work.next(own, irp, ended);
+        }
+        completed
+    }
+
+    /// The shares of so many threads, of which the first has this number. They are started by halves, as the proved
+    /// queue's are.
+    fn shares(&self, work: &Work, threads: usize, first: usize) -> usize {
+        if threads == 1 {
+            return self.share(work, first);
+        }
+        let half = threads / 2;
+        thread::scope(|scope| {
+            let others = scope.spawn(|| self.shares(work, half, first + half));
+            self.shares(work, half, first) + others.join().unwrap()
+        })
+    }
 }
 
 /// One turn over a new queue: how many IRPs were completed, and the nanoseconds.
-fn turn<const COUNTS: bool>(work: &Work) -> (usize, u128) {
-    let queue = Queue::<COUNTS>::new(work.irps());
+fn turn<const COUNTS: bool, const BACKOFF: bool>(work: &Work) -> (usize, u128) {
+    let queue = Queue::<COUNTS, BACKOFF>::new(work.listed + work.inserted());
     for irp in 0..work.listed {
         queue.insert(irp, work.file(irp % work.threads)).expect("home");
     }
     let start = Instant::now();
-    let completed = if work.threads == 1 {
-        share(&queue, work, 0)
-    } else {
-        thread::scope(|scope| {
-            let share = |thread| share(&queue, work, thread);
-            let handles: Vec<_> = (1..work.threads).map(|thread| scope.spawn(move || share(thread))).collect();
-            share(0) + handles.into_iter().map(|handle| handle.join().unwrap()).sum::<usize>()
-        })
-    };
+    let completed = queue.shares(work, work.threads, 0);
     (completed, start.elapsed().as_nanos())
+}
+
+fn read_work(words: &[String]) -> Work {
+    let (end, again) = match words[1].as_str() {
+        "remove" => (End::Next, false),
+        "cancel" => (End::Cancel, false),
+        "remove-again" => (End::Next, true),
+        "cancel-again" => (End::Cancel, true),
+        "reuse" => (End::One, true),
+        word => panic!("{word} is no kind"),
+    };
+    let (threads, listed) = (words[2].parse().unwrap(), words[3].parse().unwrap());
+    assert!(matches!(threads, 1 | 2 | 4 | 8) && listed <= IRPS - REUSED_IRPS, "1, 2, 4 or 8 threads, at most 960 listed");
+    Work { end, again, threads, listed, owned: words[4] == "owned" }
 }
 
 fn main() {
     let words: Vec<String> = std::env::args().collect();
-    let work = Work {
-        kind: words[1].clone(),
-        threads: words[2].parse().unwrap(),
-        listed: words[3].parse().unwrap(),
-        owned: words[4] == "owned",
-    };
+    let work = read_work(&words);
     let turns: usize = words[5].parse().unwrap();
     let turn = match words.get(6).map(String::as_str) {
-        None => turn::<false>,
-        Some("counts") => turn::<true>,
-        Some(word) => panic!("{word} is not the word counts"),
+        None => turn::<false, false>,
+        Some("counts") => turn::<true, false>,
+        Some("backoff") => turn::<true, true>,
+        Some(word) => panic!("{word} is neither counts nor backoff"),
     };
     let (mut completed, mut nanoseconds) = (0, 0);
     for _ in 0..turns {

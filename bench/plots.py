@@ -61,30 +61,33 @@ def scaling(rows):
         series = {name: [(row['threads'], row['own']) for row in rows
                          if (row['list'], row['files'], row['listed']) == (*key, listed)] for key, name in names.items()}
         parts += panel(60 + 270 * at, 96, f'{listed} IRPs are listed', series, most)
-    parts.append("<text class='s' x='24' y='312'>nanoseconds of an insert, a removal and a completion, by threads</text>")
+    parts.append("<text class='s' x='24' y='312'>nanoseconds of an insert, a removal, a completion and a reuse, by threads</text>")
     return svg(60 + 270 * len(lengths), 328, 'How the cost grows', parts)
 
 
 def ratios(queue, c):
-    """A mark for each comparison, at its ratio, with a line as long as its spread; and a ring at the ratio with counts."""
+    """A mark for each comparison, at its ratio on a logarithmic scale, with a line as long as its spread and the ratio in
+    numbers; and a ring at the ratio to the plain queue with counts and backoff."""
     rows = ([(f"{row['kind']}, {row['threads']} threads", row) for row in queue]
             + [(f"from C: {row['kind']}, {row['lock']}, {row['threads']} threads", row) for row in c])
-    least, most, left, width = 0.6, 1.4, 250, 480
+    ticks = (0.8, 1, 1.25, 2, 4, 8)
+    least, most, left, width = ticks[0], ticks[-1], 250, 480
 
     def x_of(ratio):
-        return left + width * (min(max(ratio, least), most) - least) / (most - least)
+        return left + width * math.log(min(max(ratio, least), most) / least) / math.log(most / least)
     height = 66 + 18 * len(rows) + 24
     parts = [f"<path class='one' d='M{x_of(1):.1f} 56V{height - 30}'/>"]
-    for tick in (0.6, 0.8, 1.0, 1.2, 1.4):
+    for tick in ticks:
         parts.append(f"<text class='s' x='{x_of(tick):.1f}' y='50' text-anchor='middle'>{tick}</text>")
     for at, (name, row) in enumerate(rows):
         y, half = 70 + 18 * at, row['ratio'] * row['spread'] / 200
         colour = COLOURS[2] if row['ratio'] >= 1 else COLOURS[1]
         parts.append(f"<text class='s' x='{left - 12}' y='{y + 4}' text-anchor='end'>{html.escape(name)}</text>"
                      f"<path d='M{x_of(row['ratio'] - half):.1f} {y}H{x_of(row['ratio'] + half):.1f}' stroke='{colour}' stroke-width='2'/>"
-                     f"<circle cx='{x_of(row['ratio']):.1f}' cy='{y}' r='4' fill='{colour}'/>")
-        if 'counts' in row:
-            parts.append(f"<circle cx='{x_of(row['counts']['ratio']):.1f}' cy='{y}' r='4' fill='none' stroke='{COLOURS[3]}'/>")
+                     f"<circle cx='{x_of(row['ratio']):.1f}' cy='{y}' r='4' fill='{colour}'/>"
+                     f"<text class='s' x='{left + width + 14}' y='{y + 4}'>{row['ratio']:.2f}</text>")
+        if 'backoff' in row:
+            parts.append(f"<circle cx='{x_of(row['backoff']['ratio']):.1f}' cy='{y}' r='4' fill='none' stroke='{COLOURS[3]}'/>")
     parts.append(f"<text class='s' x='24' y='{height - 8}'>the plain queue's time over the proved one's: above 1 the proved one is faster; the lines go from quartile to quartile;</text>"
-                 f"<text class='s' x='24' y='{height + 8}'>a ring: the plain queue counts the entries of each file object, as the one from C does</text>")
-    return svg(left + width + 30, height + 20, 'Beside plain code of the same design', parts)
+                 f"<text class='s' x='24' y='{height + 8}'>a ring: the plain queue also counts the entries of each file object, and waits for its lock with backoff, as the proved one does</text>")
+    return svg(left + width + 60, height + 20, 'Beside plain code of the same design', parts)

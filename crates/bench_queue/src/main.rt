@@ -4,10 +4,13 @@
 
 ghost use Rattle.std.specs.Prelude.{◌≡◌};
 
+mod shares;
+
 use anyhow::{Context, Result, bail};
 use csq_list::{ChainList, Peek, PendingList, Place, VecList};
 use csq_queue::{Blank, Csq, InsertContext, Inserted, Pass, PassRack, QueueName};
-use irp_core::{FileId, FinalStatus, IrpId, Life};
+use irp_core::{FileId, FinalStatus, IrpId};
+use shares::{End, MOST_THREADS, Work};
 use std::alloc::Global;
 use std::env;
 use std::marker::Brand;
@@ -16,81 +19,11 @@ use std::sync::Wait;
 use std::thread::{Threads, join};
 use std::time::Instant;
 
-// How many IRPs there are.
-const IRPS: u32 = 1024;
-
-// How many of them are reused, where they are.
-const REUSED_IRPS: u32 = 64;
-
-// How many inserts a turn makes of IRPs that are reused.
-const REUSES: u32 = 1024;
-
-// How many threads there may be.
-const MOST_THREADS: u32 = 8;
-
-// What ends an inserted IRP.
-#[derive(Clone, Copy)]
-enum End {
-    // It is removed and completed.
-    Remove,
-    // It is cancelled.
-    Cancel,
-    // It is removed and completed, and its next life begins.
-    Reuse,
-}
-
 // The kind of list.
 #[derive(Clone, Copy)]
 enum Kind {
     Vector,
     Chains,
-}
-
-// What a turn does: its inserts are shared by so many threads, each with a file object of its own or all with
-// one, while so many IRPs are listed beside them.
-#[derive(Clone, Copy)]
-struct Work {
-    end: End,
-    threads: u32,
-    listed: u32,
-    owned: bool,
-}
-
-impl Work {
-    // How many IRPs a queue has: one for each insert, unless they are reused.
-    fn irps(self) -> u32 {
-        match self.end {
-            End::Remove | End::Cancel => IRPS,
-            End::Reuse => self.listed.saturating_add(REUSED_IRPS).min(IRPS),
-        }
-    }
-
-    // How many IRPs the inserts are of.
-    fn inserted(self) -> u32 {
-        self.irps().saturating_sub(self.listed)
-    }
-
-    // How many inserts a turn makes.
-    fn inserts(self) -> u32 {
-        match self.end {
-            End::Remove | End::Cancel => self.inserted(),
-            End::Reuse => REUSES,
-        }
-    }
-
-    // The file object of the thread of this number.
-    fn file(self, thread: u32) -> FileId {
-        FileId(if self.owned { thread } else { 0 })
-    }
-
-    // The peek context of the thread of this number.
-    fn peek(self, thread: u32) -> Peek {
-        if self.owned {
-            Peek::File(FileId(thread))
-        } else {
-            Peek::Any
-        }
-    }
 }
 
 // What the turns did: how many IRPs were completed, how many weren't, and the time it took.
@@ -132,45 +65,30 @@ fn insert<L: PendingList + Drop, N: QueueName, R: Wait>(
     }
 }
 
-// Removes an IRP and completes it. Answers how many that were.
-fn remove<L: PendingList + Drop, N: QueueName, R: Wait>(
+// Ends an inserted IRP. Answers the one that was completed.
+fn finish<L: PendingList + Drop, N: QueueName, R: Wait>(
     rt: &R,
     queue: &Csq<L, N>,
     pass: &mut Pass<N>,
+    end: End,
     peek: Peek,
-    success: FinalStatus,
-) -> u32 {
-    match queue.remove_next(rt, pass, peek) {
-        None => 0,
-        Some(token) => {
-            queue.complete(pass, token, success);
-            1
+    irp: IrpId,
+    context: InsertContext<N>,
+) -> Option<IrpId> {
+    let token = match end {
+        End::Cancel => {
+            let cancelled = queue.cancel(rt, pass, irp, context.life()) == Ok(true);
+            return if cancelled { Some(irp) } else { None };
         }
-    }
-}
-
-// Removes the IRP of a context, completes it and begins its next life. Answers how many that were.
-fn reuse<L: PendingList + Drop, N: QueueName, R: Wait>(
-    rt: &R,
-    queue: &Csq<L, N>,
-    pass: &mut Pass<N>,
-    context: Option<InsertContext<N>>,
-    success: FinalStatus,
-) -> u32 {
-    let Some(context) = context else {
-        return 0;
+        End::One => queue.remove(rt, pass, context)?,
+        End::Next => queue.remove_next(rt, pass, peek)?,
     };
-    match queue.remove(rt, pass, context) {
-        None => 0,
-        Some(token) => {
-            let irp = token.irp();
-            queue.complete(pass, token, success);
-            u32::from(queue.reuse(rt, pass, irp).is_ok())
-        }
-    }
+    let removed = token.irp();
+    queue.complete(pass, token, FinalStatus::success());
+    Some(removed)
 }
 
-// Lists the IRPs that stay beside those of the inserts, for each file object as many.
+// Lists so many IRPs before a turn, for one file object after the other.
 fn fill<L: PendingList + Drop, N: QueueName, R: Wait>(
     rt: &R,
     queue: &Csq<L, N>,
@@ -183,8 +101,7 @@ fn fill<L: PendingList + Drop, N: QueueName, R: Wait>(
     }
 }
 
-// One thread's share of a turn: each IRP from its first on, as many apart as there are threads, and round again
-// where there are fewer than inserts, is inserted and ended.
+// One thread's share of a turn. Answers how many IRPs it completed.
 fn share<L: PendingList + Drop, N: QueueName, R: Wait>(
     rt: &R,
     queue: &Csq<L, N>,
@@ -192,19 +109,20 @@ fn share<L: PendingList + Drop, N: QueueName, R: Wait>(
     work: Work,
     thread: u32,
 ) -> u32 {
-    let success = FinalStatus::success();
-    let (file, peek) = (work.file(thread), work.peek(thread));
-    let mut completed = 0u32;
-    for nth in 0..work.inserts().checked_div(work.threads).unwrap_or(0) {
-        let place = nth.wrapping_mul(work.threads).wrapping_add(thread);
-        let number = place.checked_rem(work.inserted()).unwrap_or(0);
-        let irp = IrpId(number.wrapping_add(work.listed));
-        let context = insert(rt, queue, pass, irp, file);
-        completed = completed.wrapping_add(match work.end {
-            End::Remove => remove(rt, queue, pass, peek, success),
-            End::Cancel => u32::from(queue.cancel(rt, pass, irp, Life(0)) == Ok(true)),
-            End::Reuse => reuse(rt, queue, pass, context, success),
-        });
+    let (own, file, peek) = (work.own(thread), work.file(thread), work.peek(thread));
+    let (mut completed, mut irp) = (0u32, IrpId(own.first));
+    for _ in 0..work.share() {
+        let Some(context) = insert(rt, queue, pass, irp, file) else {
+            continue;
+        };
+        let Some(ended) = finish(rt, queue, pass, work.end, peek, irp, context) else {
+            continue;
+        };
+        if work.again && queue.reuse(rt, pass, ended).is_err() {
+            continue;
+        }
+        completed = completed.wrapping_add(1);
+        irp = work.next(own, irp, ended);
     }
     completed
 }
@@ -406,7 +324,7 @@ fn run<R: Clock + Threads + Wait + AllocGlobal + Sync>(rt: &R, asked: Asked) -> 
 }
 
 const USAGE: &str =
-    "usage: bench_queue remove|cancel|reuse vector|chains 1|2|4|8 LISTED shared|owned TURNS";
+    "usage: bench_queue remove|cancel|remove-again|cancel-again|reuse vector|chains 1|2|4|8 LISTED shared|owned TURNS";
 
 // What the command line asks for.
 #[derive(Clone, Copy)]
@@ -416,12 +334,14 @@ struct Asked {
     turns: u32,
 }
 
-// What ends an inserted IRP, from its word.
-fn read_end(word: Option<String>) -> Result<End> {
+// How an inserted IRP ends, and whether it is used again, from a word.
+fn read_end(word: Option<String>) -> Result<(End, bool)> {
     match word.context(USAGE)?.as_str() {
-        "remove" => Ok(End::Remove),
-        "cancel" => Ok(End::Cancel),
-        "reuse" => Ok(End::Reuse),
+        "remove" => Ok((End::Next, false)),
+        "cancel" => Ok((End::Cancel, false)),
+        "remove-again" => Ok((End::Next, true)),
+        "cancel-again" => Ok((End::Cancel, true)),
+        "reuse" => Ok((End::One, true)),
         _ => bail!(USAGE),
     }
 }
@@ -450,14 +370,18 @@ fn read_number(word: Option<String>) -> Result<u32> {
 
 fn read_arguments(rt: &(impl Env + AllocGlobal)) -> Result<Asked> {
     let mut args = env::args(rt)?.skip(1);
-    let end = read_end(args.next())?;
+    let (end, again) = read_end(args.next())?;
     let kind = read_kind(args.next())?;
     let work = Work {
         end,
+        again,
         threads: read_number(args.next())?,
         listed: read_number(args.next())?,
         owned: read_owned(args.next())?,
     };
+    if !work.is_possible() {
+        bail!("1, 2, 4 or 8 threads, and at most 960 listed");
+    }
     let turns = read_number(args.next())?;
     Ok(Asked { work, kind, turns })
 }
@@ -466,5 +390,8 @@ fn main(rt: HostRuntime) -> Result<()> {
     let totals = run(&rt, read_arguments(&rt)?)?;
     println!(rt; "completed {}, left {}", totals.completed, totals.left)?;
     eprintln!(rt; "{} ns", totals.nanoseconds)?;
+    if totals.left > 0 {
+        bail!("not every insert was completed");
+    }
     Ok(())
 }
