@@ -115,13 +115,13 @@ impl<const COUNTS: bool, const BACKOFF: bool> Queue<COUNTS, BACKOFF> {
     #[cold]
     #[inline(never)]
     fn wait(&self) -> MutexGuard<'_, List<COUNTS>> {
-        for doubled in 7..18u32 {
-            for _ in 0..1u32 << doubled.min(10) {
-                spin_loop();
-            }
+        let mut hints = 128;
+        for _ in 0..11 {
+            (0..hints).for_each(|_| spin_loop());
             if let Ok(list) = self.list.try_lock() {
                 return list;
             }
+            hints = (2 * hints).min(1024);
         }
         self.list.lock().unwrap()
     }

@@ -92,8 +92,8 @@ impl<L: PendingList + Drop, A: Allocator> OpenQueue<L, A> {
             place,
         );
         let cancelled = count_cancelled(&inserted);
-        // Mostly there is none. Then nothing is written between the last atomic step and the one that frees the
-        // lock, which would wait for it.
+        // Mostly there is none. Then the count isn't read and written between the last atomic step and the one that
+        // frees the lock, which would wait for that.
         if cancelled > 0 {
             pass.tokens += cancelled;
         }
