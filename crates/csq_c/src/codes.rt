@@ -8,7 +8,7 @@ use csq_queue::{CancelRefused, InsertAnswer, OpenInserted, UnknownIrp};
 use irp_core::{IrpLife, Life, NtStatus};
 
 /// What a call answers. Each has its number and its name in `csq.h`. Own rule.
-#[derive(Clone, Copy, Debug, PartialEq, Eq)]
+#[derive(Clone, Copy)]
 pub(crate) enum Code {
     Done,
     UnknownIrp,

@@ -7,7 +7,7 @@ ghost use Rattle.csq_diagnose.specs.Expecting.{Admits, IsOneOf, expected_words, 
 use csq_replay::{parse_name, parse_number, parse_pass, parse_status};
 
 /// What may stand in a place of a line. Own rule.
-#[derive(Clone, Copy, Debug, PartialEq, Eq)]
+#[derive(Clone, Copy)]
 pub enum Expected {
     /// A pass, as `p1`.
     Pass,

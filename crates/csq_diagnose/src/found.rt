@@ -6,7 +6,7 @@ use crate::misfit::Misfit;
 use std::str;
 
 /// What stands where a line is no step, or no call. Own rule.
-#[derive(Clone, Copy, Debug, PartialEq, Eq)]
+#[derive(Clone, Copy)]
 pub enum Found<'a> {
     /// The line ends.
     End,

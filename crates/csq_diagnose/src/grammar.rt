@@ -8,7 +8,7 @@ use crate::expected::Expected::{Call, File, Irp, IrpInLife, Pass, Peek, Place, S
 use csq_replay::split_piece;
 
 /// What the lines of a text name. Own rule.
-#[derive(Clone, Copy, Debug, PartialEq, Eq)]
+#[derive(Clone, Copy)]
 pub enum Grammar {
     /// Steps: the text is a schedule.
     Schedule,

@@ -4,7 +4,7 @@ use csq_replay::MAX_LINE;
 use std::fmt;
 
 /// A line that is too long.
-#[derive(Clone, Copy, Debug)]
+#[derive(Clone, Copy)]
 pub(crate) struct LongLine {
     pub(crate) number: usize,
     pub(crate) length: usize,
@@ -27,7 +27,7 @@ impl fmt::Display for LongLine {
 }
 
 /// A line that names no step, or no call.
-#[derive(Clone, Copy, Debug)]
+#[derive(Clone, Copy)]
 pub(crate) struct MalformedLine<'a> {
     pub(crate) number: usize,
     pub(crate) fault: Malformed<'a>,

@@ -12,7 +12,7 @@ use crate::nearest::Near;
 use std::alloc::{AllocError, Allocator};
 
 /// Why a line names no step, or no call.
-#[derive(Clone, Copy, Debug, PartialEq, Eq)]
+#[derive(Clone, Copy)]
 pub struct Malformed<'a> {
     /// The column, from 1 on: one more than how many bytes stand before what was found.
     pub column: usize,

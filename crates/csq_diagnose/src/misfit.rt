@@ -10,7 +10,7 @@ use csq_replay::split_piece;
 
 /// Where a line is no step, or no call: its first word that may not stand in its place, or its end, where a
 /// word is missing.
-#[derive(Clone, Copy, Debug)]
+#[derive(Clone, Copy)]
 pub struct Misfit<'a> {
     /// How many words stand before it, each in its place.
     pub before: usize,

@@ -6,7 +6,7 @@ use std::alloc::{AllocError, Allocator};
 use strsim::levenshtein;
 
 /// A word, and how many edits lead to it: letters that are added, taken out or exchanged.
-#[derive(Clone, Copy, Debug, PartialEq, Eq)]
+#[derive(Clone, Copy)]
 pub struct Near {
     pub word: &'static str,
     pub edits: usize,

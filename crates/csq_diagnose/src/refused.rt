@@ -8,7 +8,7 @@ use irp_core::{Kind, MAX_IRPS, MAX_PASSES, PassId, Step, StepRefused};
 use std::fmt;
 
 /// A line whose step is refused.
-#[derive(Clone, Copy, Debug)]
+#[derive(Clone, Copy)]
 pub(crate) struct RefusedLine {
     pub(crate) number: usize,
     pub(crate) step: Step,
@@ -31,7 +31,7 @@ impl fmt::Display for RefusedLine {
 }
 
 /// The option that would allow a step.
-#[derive(Clone, Copy, Debug, PartialEq, Eq)]
+#[derive(Clone, Copy)]
 pub(crate) enum Cure {
     /// No larger size does.
     NoSize,

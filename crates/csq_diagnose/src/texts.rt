@@ -9,7 +9,7 @@ use crate::nearest::Near;
 use std::fmt;
 
 /// What is expected, as a noun.
-#[derive(Clone, Copy, Debug)]
+#[derive(Clone, Copy)]
 struct Noun(Expected);
 
 /// As `step`.
@@ -35,7 +35,7 @@ impl fmt::Display for Noun {
 }
 
 /// Which words are expected.
-#[derive(Clone, Copy, Debug)]
+#[derive(Clone, Copy)]
 struct Rule(Expected);
 
 /// As `a place is back or front`.
@@ -68,7 +68,7 @@ impl fmt::Display for Rule {
 }
 
 /// A byte that no word has.
-#[derive(Clone, Copy, Debug)]
+#[derive(Clone, Copy)]
 struct Strange(u8);
 
 /// As `a tab: words are separated by one space`.
@@ -104,7 +104,7 @@ impl fmt::Display for Strange {
 }
 
 /// A word that may not stand in its place.
-#[derive(Clone, Copy, Debug)]
+#[derive(Clone, Copy)]
 struct Misplaced<'a> {
     word: &'a str,
     expected: Expected,
@@ -133,7 +133,7 @@ impl fmt::Display for Misplaced<'_> {
 const MOST_EDITS: usize = 2;
 
 /// A word that somebody may have meant.
-#[derive(Clone, Copy, Debug)]
+#[derive(Clone, Copy)]
 struct Hint(Option<Near>);
 
 /// As `; did you mean "test"?`, or nothing.
@@ -165,7 +165,7 @@ fn begins_a_step(word: &[u8]) -> bool
 }
 
 /// Which command reads a line that begins with this word, where it isn't the one that was given.
-#[derive(Clone, Copy, Debug)]
+#[derive(Clone, Copy)]
 struct OtherInput<'a> {
     word: &'a str,
     expected: Expected,

@@ -3,7 +3,7 @@ use irp_core::{Inside, IrpLife, Kind};
 use std::fmt;
 
 /// A disarm of an insert or of a removal, and what it found.
-#[derive(Clone, Copy, Debug)]
+#[derive(Clone, Copy)]
 struct DisarmCall {
     inside: Inside,
     found: u64,
@@ -31,7 +31,7 @@ impl fmt::Display for DisarmCall {
 }
 
 /// The call that a step is of, whose pass was inside of this, and what it found.
-#[derive(Clone, Copy, Debug)]
+#[derive(Clone, Copy)]
 pub(crate) struct CallOf {
     pub(crate) inside: Inside,
     pub(crate) kind: Kind,

@@ -6,7 +6,7 @@ use irp_core::{Kind, PassId};
 use std::fmt;
 
 /// What stands in one column of a row.
-#[derive(Clone, Copy, Debug)]
+#[derive(Clone, Copy)]
 pub(crate) enum Cell {
     /// The number of a line.
     Line(usize),
@@ -21,7 +21,7 @@ pub(crate) enum Cell {
 }
 
 /// Who has the lock, and a hyphen where none has it.
-#[derive(Clone, Copy, Debug)]
+#[derive(Clone, Copy)]
 struct Holder(Option<PassId>);
 
 impl fmt::Display for Holder {
@@ -39,7 +39,7 @@ impl fmt::Display for Holder {
 }
 
 /// A star before a step that claims its IRP.
-#[derive(Clone, Copy, Debug)]
+#[derive(Clone, Copy)]
 struct ClaimSign {
     kind: Kind,
     found: u64,
@@ -60,7 +60,7 @@ impl fmt::Display for ClaimSign {
 }
 
 /// What a step did, and what it found.
-#[derive(Clone, Copy, Debug)]
+#[derive(Clone, Copy)]
 struct StepCell(StepInCall);
 
 /// As `*take 0 found it`.

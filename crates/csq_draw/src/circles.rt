@@ -22,7 +22,7 @@ fn routine_x(columns: u32) -> u64
 }
 
 /// A line down the column of a word, over so many rows.
-#[derive(Clone, Copy, Debug)]
+#[derive(Clone, Copy)]
 struct WordLine {
     x: u64,
     rows: u32,
@@ -42,7 +42,7 @@ impl fmt::Display for WordLine {
 }
 
 /// Two lines of text above such a column.
-#[derive(Clone, Copy, Debug)]
+#[derive(Clone, Copy)]
 struct WordName<'a> {
     x: u64,
     first: &'a str,
@@ -66,7 +66,7 @@ impl fmt::Display for WordName<'_> {
 }
 
 /// The column of a word.
-#[derive(Clone, Copy, Debug)]
+#[derive(Clone, Copy)]
 struct WordColumn<'a> {
     x: u64,
     rows: u32,
@@ -95,7 +95,7 @@ impl fmt::Display for WordColumn<'_> {
 }
 
 /// The two columns of the words, right of so many columns of passes, over so many rows.
-#[derive(Clone, Copy, Debug)]
+#[derive(Clone, Copy)]
 pub(crate) struct WordColumns {
     pub(crate) columns: u32,
     pub(crate) rows: u32,
@@ -126,7 +126,7 @@ impl fmt::Display for WordColumns {
 }
 
 /// Whether a word is set.
-#[derive(Clone, Copy, Debug)]
+#[derive(Clone, Copy)]
 pub(crate) struct Word(pub(crate) bool);
 
 /// `set` or `clear`.
@@ -162,7 +162,7 @@ impl fmt::Display for Words {
 }
 
 /// A circle at this place, which is filled where its word is set, and bold where the step changed it.
-#[derive(Clone, Copy, Debug)]
+#[derive(Clone, Copy)]
 struct Circle {
     x: u64,
     y: u64,
@@ -188,7 +188,7 @@ impl fmt::Display for Circle {
 }
 
 /// The circles of a step that names an IRP, in the colour of that.
-#[derive(Clone, Copy, Debug)]
+#[derive(Clone, Copy)]
 pub(crate) struct Circles {
     pub(crate) row: u32,
     pub(crate) columns: u32,

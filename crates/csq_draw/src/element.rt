@@ -7,7 +7,7 @@ use crate::spans::{OpenSpan, Span};
 use std::fmt;
 
 /// An element of a picture, which stands on a line of its own.
-#[derive(Clone, Copy, Debug)]
+#[derive(Clone, Copy)]
 pub(crate) enum Element {
     /// What the parts mean.
     Key,

@@ -5,7 +5,7 @@ use csq_replay::{IrpLine, Stop};
 use std::fmt;
 
 /// The bar of the line that ended the handling, on the row below the last step.
-#[derive(Clone, Copy, Debug)]
+#[derive(Clone, Copy)]
 pub(crate) struct Bar {
     pub(crate) rows: u32,
 }
@@ -26,7 +26,7 @@ impl fmt::Display for Bar {
 }
 
 /// A line that ended the handling, as it is told: its step, if it names one, and why it ended it.
-#[derive(Clone, Copy, Debug)]
+#[derive(Clone, Copy)]
 pub(crate) struct Refusal(pub(crate) Stop);
 
 impl fmt::Display for Refusal {
@@ -46,7 +46,7 @@ impl fmt::Display for Refusal {
 }
 
 /// What is told of the line that ended the handling, in its bar.
-#[derive(Clone, Copy, Debug)]
+#[derive(Clone, Copy)]
 pub(crate) struct Refused {
     pub(crate) rows: u32,
     pub(crate) stop: Stop,
@@ -65,7 +65,7 @@ impl fmt::Display for Refused {
 }
 
 /// Why the line ended the handling, below its bar.
-#[derive(Clone, Copy, Debug)]
+#[derive(Clone, Copy)]
 pub(crate) struct Because {
     pub(crate) rows: u32,
     pub(crate) reason: Reason,
@@ -84,7 +84,7 @@ impl fmt::Display for Because {
 }
 
 /// Where an IRP is in the end, as the nth line below the rows.
-#[derive(Clone, Copy, Debug)]
+#[derive(Clone, Copy)]
 pub(crate) struct Closing {
     pub(crate) rows: u32,
     pub(crate) nth: u32,
@@ -105,7 +105,7 @@ impl fmt::Display for Closing {
 }
 
 /// Whether all is at rest in the end, as the nth line below the rows.
-#[derive(Clone, Copy, Debug)]
+#[derive(Clone, Copy)]
 pub(crate) struct Rest {
     pub(crate) rows: u32,
     pub(crate) nth: u32,

@@ -1,7 +1,7 @@
 //! What a schedule is drawn as.
 
 /// What a schedule is drawn as. Own rule.
-#[derive(Clone, Copy, Debug, PartialEq, Eq)]
+#[derive(Clone, Copy)]
 pub enum Format {
     /// An SVG picture.
     Svg,

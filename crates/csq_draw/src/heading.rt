@@ -34,7 +34,7 @@ text{fill:#e6edf3}.s,.m,.n,.t tspan{fill:#b1bac4}}
 </style>";
 
 /// What all pictures share: a description, and the look of what is drawn.
-#[derive(Clone, Copy, Debug)]
+#[derive(Clone, Copy)]
 struct Shared;
 
 impl fmt::Display for Shared {
@@ -50,7 +50,7 @@ impl fmt::Display for Shared {
 }
 
 /// What the parts of a picture mean.
-#[derive(Clone, Copy, Debug)]
+#[derive(Clone, Copy)]
 pub(crate) struct Key;
 
 impl fmt::Display for Key {
@@ -68,7 +68,7 @@ impl fmt::Display for Key {
 }
 
 /// How much a picture shows: so many columns and rows, lines of text below them, and lines of a caption above.
-#[derive(Clone, Copy, Debug)]
+#[derive(Clone, Copy)]
 pub(crate) struct Extent {
     pub(crate) columns: u32,
     pub(crate) rows: u32,
@@ -107,7 +107,7 @@ impl Extent {
 }
 
 /// A width and a height.
-#[derive(Clone, Copy, Debug)]
+#[derive(Clone, Copy)]
 struct Area {
     width: u64,
     height: u64,
@@ -126,7 +126,7 @@ impl fmt::Display for Area {
 }
 
 /// The upper edge of a picture, so far above the one that it has without a caption.
-#[derive(Clone, Copy, Debug)]
+#[derive(Clone, Copy)]
 struct Edge(u64);
 
 /// As `-58`, and `0` where it is the same.
@@ -147,7 +147,7 @@ impl fmt::Display for Edge {
 }
 
 /// The beginning of a picture: its size.
-#[derive(Clone, Copy, Debug)]
+#[derive(Clone, Copy)]
 struct Opening(Extent);
 
 impl fmt::Display for Opening {
@@ -167,7 +167,7 @@ impl fmt::Display for Opening {
 }
 
 /// The name of a picture: the title of its caption, and without one how many steps there are.
-#[derive(Clone, Copy, Debug)]
+#[derive(Clone, Copy)]
 struct Name<'a> {
     rows: u32,
     title: &'a str,
@@ -190,7 +190,7 @@ impl fmt::Display for Name<'_> {
 }
 
 /// The sheet of a picture.
-#[derive(Clone, Copy, Debug)]
+#[derive(Clone, Copy)]
 struct Sheet(Extent);
 
 impl fmt::Display for Sheet {
@@ -207,7 +207,7 @@ impl fmt::Display for Sheet {
 }
 
 /// A caption: its title, and the lines below.
-#[derive(Clone, Copy, Debug)]
+#[derive(Clone, Copy)]
 struct Heading<'a> {
     lines: u32,
     title: &'a str,
@@ -240,7 +240,7 @@ impl fmt::Display for Heading<'_> {
 
 /// What stands above all elements of a picture and behind them: its size, its name, what all pictures share,
 /// its sheet and its caption.
-#[derive(Clone, Copy, Debug)]
+#[derive(Clone, Copy)]
 pub(crate) struct Head<'a> {
     pub(crate) extent: Extent,
     pub(crate) title: &'a str,
@@ -272,7 +272,7 @@ impl fmt::Display for Head<'_> {
 }
 
 /// The name of a pass over its column, and a line down this column for so many rows.
-#[derive(Clone, Copy, Debug)]
+#[derive(Clone, Copy)]
 pub(crate) struct Column {
     pub(crate) column: u32,
     pub(crate) pass: PassId,

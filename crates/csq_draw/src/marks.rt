@@ -11,7 +11,7 @@ use irp_core::{Kind, NtStatus};
 use std::fmt;
 
 /// The number of a line, at the left of its row.
-#[derive(Clone, Copy, Debug)]
+#[derive(Clone, Copy)]
 pub(crate) struct Number {
     pub(crate) row: u32,
     pub(crate) line: usize,
@@ -31,7 +31,7 @@ impl fmt::Display for Number {
 
 /// The shade behind a row, in the column of the pass that has the lock. It is a pixel higher than the row, so
 /// that there is no gap to the next one, but lower where the pass lets the lock go.
-#[derive(Clone, Copy, Debug)]
+#[derive(Clone, Copy)]
 pub(crate) struct Shade {
     pub(crate) row: u32,
     pub(crate) column: u32,
@@ -70,7 +70,7 @@ pub(crate) fn lets_go(step: StepInCall) -> bool
 }
 
 /// How a step looks: in the colour of its IRP, and bold where it claims it.
-#[derive(Clone, Copy, Debug)]
+#[derive(Clone, Copy)]
 struct Look {
     kind: Kind,
     found: u64,
@@ -105,7 +105,7 @@ impl fmt::Display for Look {
 }
 
 /// The call of the WDK that a step of this kind is.
-#[derive(Clone, Copy, Debug)]
+#[derive(Clone, Copy)]
 struct WdkCall(Kind);
 
 /// As `IoSetCancelRoutine(Irp, NULL)`.
@@ -130,7 +130,7 @@ impl fmt::Display for WdkCall {
 }
 
 /// The status with which an IRP was completed, where it is known.
-#[derive(Clone, Copy, Debug)]
+#[derive(Clone, Copy)]
 struct StatusWords(Option<NtStatus>);
 
 impl fmt::Display for StatusWords {
@@ -148,7 +148,7 @@ impl fmt::Display for StatusWords {
 }
 
 /// What a step found, in words.
-#[derive(Clone, Copy, Debug)]
+#[derive(Clone, Copy)]
 pub(crate) struct FoundWords {
     pub(crate) kind: Kind,
     pub(crate) found: u64,
@@ -179,7 +179,7 @@ impl fmt::Display for FoundWords {
 }
 
 /// The box of a step.
-#[derive(Clone, Copy, Debug)]
+#[derive(Clone, Copy)]
 struct Frame {
     column: u32,
     row: u32,
@@ -199,7 +199,7 @@ impl fmt::Display for Frame {
 }
 
 /// What a step does.
-#[derive(Clone, Copy, Debug)]
+#[derive(Clone, Copy)]
 struct Label {
     column: u32,
     row: u32,
@@ -220,7 +220,7 @@ impl fmt::Display for Label {
 }
 
 /// What a step found.
-#[derive(Clone, Copy, Debug)]
+#[derive(Clone, Copy)]
 struct Found {
     column: u32,
     row: u32,
@@ -247,7 +247,7 @@ impl fmt::Display for Found {
 }
 
 /// The call of the WDK that a step is.
-#[derive(Clone, Copy, Debug)]
+#[derive(Clone, Copy)]
 struct Api {
     column: u32,
     row: u32,
@@ -269,7 +269,7 @@ impl fmt::Display for Api {
 }
 
 /// The call that a step is of.
-#[derive(Clone, Copy, Debug)]
+#[derive(Clone, Copy)]
 struct CallLine {
     column: u32,
     row: u32,
@@ -296,7 +296,7 @@ impl fmt::Display for CallLine {
 }
 
 /// What stands in the box of a step.
-#[derive(Clone, Copy, Debug)]
+#[derive(Clone, Copy)]
 struct MarkLines {
     column: u32,
     row: u32,
@@ -323,7 +323,7 @@ impl fmt::Display for MarkLines {
 
 /// A step in the column of its pass, with what it found, its call of the WDK and the call that it is of, and
 /// right of so many columns the words of its IRP after it.
-#[derive(Clone, Copy, Debug)]
+#[derive(Clone, Copy)]
 pub(crate) struct Mark {
     pub(crate) row: u32,
     pub(crate) column: u32,

@@ -10,14 +10,14 @@ use irp_core::{IrpId, Kind, Made, PassId};
 use std::alloc::{AllocError, Allocator};
 
 /// How a pass has an IRP that it claimed.
-#[derive(Clone, Copy, Debug, PartialEq, Eq)]
+#[derive(Clone, Copy)]
 pub(crate) enum Having {
     Owes,
     Holds,
 }
 
 /// An IRP, the pass that owes or holds it, the row of the step by which it came to, and the lane of its line.
-#[derive(Clone, Copy, Debug, PartialEq, Eq)]
+#[derive(Clone, Copy)]
 pub(crate) struct Owner {
     pub(crate) irp: IrpId,
     pub(crate) pass: PassId,

@@ -6,7 +6,7 @@ use irp_core::PassId;
 
 /// A step that was made: its row, from 0 on, the number of its line, who had the lock then, whose time with its
 /// IRP it ended, and the words of that IRP after it.
-#[derive(Clone, Copy, Debug, PartialEq, Eq)]
+#[derive(Clone, Copy)]
 pub(crate) struct Row {
     pub(crate) row: u32,
     pub(crate) line: usize,

@@ -19,7 +19,7 @@ impl fmt::Display for Having {
 }
 
 /// A line from the row on which an owner came to have an IRP to the row of the step that ended that.
-#[derive(Clone, Copy, Debug)]
+#[derive(Clone, Copy)]
 pub(crate) struct Span {
     pub(crate) column: u32,
     pub(crate) owner: Owner,
@@ -50,7 +50,7 @@ impl fmt::Display for Span {
 }
 
 /// A line from the row on which an owner came to have an IRP to the last of these rows.
-#[derive(Clone, Copy, Debug)]
+#[derive(Clone, Copy)]
 pub(crate) struct OpenSpan {
     pub(crate) column: u32,
     pub(crate) owner: Owner,

@@ -10,7 +10,7 @@ use irp_core::{IrpLife, IrpPlace, Kind, Machine};
 use std::alloc::Allocator;
 
 /// An IRP in its present life, and whether its Cancel flag and its cancel routine are set.
-#[derive(Clone, Copy, Debug, PartialEq, Eq)]
+#[derive(Clone, Copy)]
 pub(crate) struct Words {
     pub(crate) name: IrpLife,
     pub(crate) flag: bool,

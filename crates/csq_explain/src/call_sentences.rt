@@ -9,7 +9,7 @@ use irp_core::{FileId, IrpLife};
 use std::fmt;
 
 /// The routine that a call stands for, or the field that it reads.
-#[derive(Clone, Copy, Debug)]
+#[derive(Clone, Copy)]
 struct RoutineName(Call);
 
 /// As `IoCsqInsertIrpEx`.
@@ -50,7 +50,7 @@ fn named_file(call: Call) -> Option<FileId>
 }
 
 /// The file object that is named, or any.
-#[derive(Clone, Copy, Debug)]
+#[derive(Clone, Copy)]
 struct FileWords(Option<FileId>);
 
 /// As `file object 1`.
@@ -69,7 +69,7 @@ impl fmt::Display for FileWords {
 }
 
 /// What a call is of.
-#[derive(Clone, Copy, Debug)]
+#[derive(Clone, Copy)]
 struct ObjectName(Call);
 
 /// As `IRP 0@1`, or `file object 1`.
@@ -96,7 +96,7 @@ impl fmt::Display for ObjectName {
 }
 
 /// Where an insert puts its IRP.
-#[derive(Clone, Copy, Debug)]
+#[derive(Clone, Copy)]
 struct PlaceWords(Call);
 
 /// As ` for file object 1 at the back`; nothing for another call.
@@ -130,7 +130,7 @@ fn removed_life(call: Call) -> Option<IrpLife>
 }
 
 /// Why a removal took no IRP: the one that it names, or any of the file object, if there is such a one.
-#[derive(Clone, Copy, Debug)]
+#[derive(Clone, Copy)]
 struct NoneWords {
     files: u32,
     irp: Option<IrpLife>,
@@ -174,7 +174,7 @@ impl fmt::Display for NoneWords {
 }
 
 /// What a call did that completed its IRP.
-#[derive(Clone, Copy, Debug)]
+#[derive(Clone, Copy)]
 struct DoneWords(Call);
 
 /// As ` completed IRP 0`.
@@ -196,7 +196,7 @@ impl fmt::Display for DoneWords {
 }
 
 /// What a mark did, which took the cancel routine or didn't.
-#[derive(Clone, Copy, Debug)]
+#[derive(Clone, Copy)]
 struct MarkTold(Call, bool);
 
 /// As ` set the Cancel flag of IRP 0, and found no cancel routine`.
@@ -223,7 +223,7 @@ impl fmt::Display for MarkTold {
 }
 
 /// What a cancel did, which ran the cancel routine or didn't.
-#[derive(Clone, Copy, Debug)]
+#[derive(Clone, Copy)]
 struct CancelTold(Call, bool);
 
 /// As ` returned FALSE: it set the Cancel flag of IRP 0, and found no cancel routine`.
@@ -250,7 +250,7 @@ impl fmt::Display for CancelTold {
 }
 
 /// What an insert did that found its IRP cancelled.
-#[derive(Clone, Copy, Debug)]
+#[derive(Clone, Copy)]
 struct FoundCancelled(Call);
 
 impl fmt::Display for FoundCancelled {
@@ -269,7 +269,7 @@ impl fmt::Display for FoundCancelled {
 }
 
 /// What a cleanup did that completed so many IRPs.
-#[derive(Clone, Copy, Debug)]
+#[derive(Clone, Copy)]
 struct CleanedTold(Call, u32);
 
 /// As ` closed file object 1, and completed 2 of its IRPs with STATUS_CANCELLED`.
@@ -289,7 +289,7 @@ impl fmt::Display for CleanedTold {
 }
 
 /// Whether a Cancel flag is set.
-#[derive(Clone, Copy, Debug)]
+#[derive(Clone, Copy)]
 struct FlagValue(bool);
 
 /// As `TRUE`.
@@ -310,7 +310,7 @@ impl fmt::Display for FlagValue {
 
 /// A call of a script, what it was answered, and how many IRPs and file objects there are. It is printed as a
 /// sentence.
-#[derive(Clone, Copy, Debug, PartialEq, Eq)]
+#[derive(Clone, Copy)]
 pub struct AnsweredCall {
     /// How many IRPs there are.
     pub irps: u32,
@@ -323,7 +323,7 @@ pub struct AnsweredCall {
 }
 
 /// Why an insert that was answered so is refused.
-#[derive(Clone, Copy, Debug)]
+#[derive(Clone, Copy)]
 struct InsertRefusal(AnsweredCall, InsertStatus);
 
 /// As `file object 1 was closed by a cleanup or a close: STATUS_FILE_CLOSED`.
@@ -360,7 +360,7 @@ impl fmt::Display for InsertRefusal {
 }
 
 /// Why another call that was answered so is refused.
-#[derive(Clone, Copy, Debug)]
+#[derive(Clone, Copy)]
 struct CallRefusal(AnsweredCall, Refusal);
 
 /// As `an IRP's number is below 8`.
@@ -445,7 +445,7 @@ impl fmt::Display for AnsweredCall {
 }
 
 /// Why a line ends a script, in a sentence.
-#[derive(Clone, Copy, Debug)]
+#[derive(Clone, Copy)]
 pub struct CallStopSentence(pub CallStop);
 
 /// As `a line has at most 64 bytes`.

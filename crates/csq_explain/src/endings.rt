@@ -5,7 +5,7 @@ use irp_core::IrpPlace;
 use std::fmt;
 
 /// Where an IRP is.
-#[derive(Clone, Copy, Debug)]
+#[derive(Clone, Copy)]
 struct PlaceWords(IrpPlace);
 
 /// As ` was completed by p2 with STATUS_CANCELLED`.
@@ -28,7 +28,7 @@ impl fmt::Display for PlaceWords {
 }
 
 /// A closing line of a schedule, in a sentence.
-#[derive(Clone, Copy, Debug)]
+#[derive(Clone, Copy)]
 pub struct IrpSentence(pub IrpLine);
 
 /// As `IRP 0 was completed by p2 with STATUS_CANCELLED; its Cancel flag is set`.
@@ -50,7 +50,7 @@ impl fmt::Display for IrpSentence {
 }
 
 /// Whether all is at rest, in a sentence.
-#[derive(Clone, Copy, Debug)]
+#[derive(Clone, Copy)]
 pub struct RestSentence(pub bool);
 
 impl fmt::Display for RestSentence {

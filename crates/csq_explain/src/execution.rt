@@ -28,7 +28,7 @@ pub struct Execution<A: Allocator> {
 }
 
 /// What comes of a line of a schedule, and what is known of it.
-#[derive(Clone, Copy, Debug, PartialEq, Eq)]
+#[derive(Clone, Copy)]
 pub enum Explained {
     /// Nothing: it is empty, or a comment.
     Skipped,

@@ -6,7 +6,7 @@ use irp_core::{Inside, Made};
 use std::alloc::{AllocError, Allocator};
 
 /// What a pass is inside of, the line on which that call began, and whether the pass made a step.
-#[derive(Clone, Copy, Debug, PartialEq, Eq)]
+#[derive(Clone, Copy)]
 pub struct PassNow {
     /// The call that the pass has begun, and how far it is.
     pub inside: Inside,

@@ -9,7 +9,7 @@ use std::fmt;
 
 /// Why a line ends the handling: the numbers of IRPs and passes, and what is known of the pass that it
 /// comes from.
-#[derive(Clone, Copy, Debug, PartialEq, Eq)]
+#[derive(Clone, Copy)]
 pub struct Reason {
     /// Why the line can't go on.
     pub stop: Stop,
@@ -33,7 +33,7 @@ pub(crate) fn pass_asked(stop: Stop) -> PassId
 }
 
 /// The call that a pass is inside of.
-#[derive(Clone, Copy, Debug)]
+#[derive(Clone, Copy)]
 struct CallName(Inside);
 
 /// As `an insert`.
@@ -54,7 +54,7 @@ impl fmt::Display for CallName {
 }
 
 /// The next step of a pass, by what it is inside of.
-#[derive(Clone, Copy, Debug)]
+#[derive(Clone, Copy)]
 struct NextStep(Inside);
 
 /// As `test 0`.
@@ -76,7 +76,7 @@ impl fmt::Display for NextStep {
 }
 
 /// How far a pass is in its call.
-#[derive(Clone, Copy, Debug)]
+#[derive(Clone, Copy)]
 struct Progress {
     pass: PassId,
     now: PassNow,
@@ -106,7 +106,7 @@ impl fmt::Display for Progress {
 }
 
 /// Why a step is refused, of the pass that would make it, or that has the lock.
-#[derive(Clone, Copy, Debug)]
+#[derive(Clone, Copy)]
 struct Refusal {
     irps: u32,
     passes: u32,

@@ -8,7 +8,7 @@ use std::alloc::{AllocError, Allocator};
 use std::fmt;
 
 /// How many IRPs are listed, and their numbers.
-#[derive(Clone, Copy, Debug)]
+#[derive(Clone, Copy)]
 struct LeftSentence<'a> {
     count: usize,
     numbers: &'a str,
@@ -32,7 +32,7 @@ impl fmt::Display for LeftSentence<'_> {
 }
 
 /// How many IRPs the pass keeps so, and their numbers.
-#[derive(Clone, Copy, Debug)]
+#[derive(Clone, Copy)]
 struct KeptSentence<'a> {
     kept: Kept,
     count: usize,

@@ -3,7 +3,7 @@ use irp_core::{Inside, IrpLife, Kind, Made, NtStatus};
 use std::fmt;
 
 /// A step that was made, and what is known of it beside the line that names it.
-#[derive(Clone, Copy, Debug, PartialEq, Eq)]
+#[derive(Clone, Copy)]
 pub struct StepInCall {
     /// The step, with the value that it found.
     pub made: Made,
@@ -14,7 +14,7 @@ pub struct StepInCall {
 }
 
 /// A status by its name in the WDK, where a schedule gives it, else as eight hexadecimal digits.
-#[derive(Clone, Copy, Debug)]
+#[derive(Clone, Copy)]
 pub struct StatusName(pub NtStatus);
 
 /// As `STATUS_CANCELLED`.
@@ -36,7 +36,7 @@ impl fmt::Display for StatusName {
 }
 
 /// With which status an IRP was completed, where it is known.
-#[derive(Clone, Copy, Debug)]
+#[derive(Clone, Copy)]
 struct WithStatus(Option<NtStatus>);
 
 /// As ` with STATUS_CANCELLED`, or nothing.
@@ -55,7 +55,7 @@ impl fmt::Display for WithStatus {
 }
 
 /// An exchange of the routine by an insert or a removal.
-#[derive(Clone, Copy, Debug)]
+#[derive(Clone, Copy)]
 struct DisarmTold {
     inside: Inside,
     irp: IrpLife,
@@ -92,7 +92,7 @@ impl fmt::Display for DisarmTold {
 }
 
 /// What a read of the flag told an insert.
-#[derive(Clone, Copy, Debug)]
+#[derive(Clone, Copy)]
 struct TestTold {
     irp: IrpLife,
     found: u64,
@@ -121,7 +121,7 @@ impl fmt::Display for TestTold {
 }
 
 /// What a cancel did to the flag.
-#[derive(Clone, Copy, Debug)]
+#[derive(Clone, Copy)]
 struct FlagTold {
     irp: IrpLife,
     found: u64,
@@ -150,7 +150,7 @@ impl fmt::Display for FlagTold {
 }
 
 /// An exchange of the routine by a cancel.
-#[derive(Clone, Copy, Debug)]
+#[derive(Clone, Copy)]
 struct TakeTold {
     irp: IrpLife,
     found: u64,
@@ -179,7 +179,7 @@ impl fmt::Display for TakeTold {
 }
 
 /// A step, told in a sentence.
-#[derive(Clone, Copy, Debug)]
+#[derive(Clone, Copy)]
 pub struct Sentence(pub StepInCall);
 
 /// As `p2 took the cancel routine of IRP 0 (IoSetCancelRoutine(Irp, NULL) in IoCancelIrp), and owes it now`.

@@ -20,7 +20,7 @@ use std::rt::Files;
 use std::{fmt, str};
 
 /// How large a schedule's machine is, and how the schedule is told.
-#[derive(Clone, Copy, Debug, PartialEq, Eq)]
+#[derive(Clone, Copy)]
 struct ScheduleOptions {
     /// The IRPs.
     irps: u32,
@@ -168,7 +168,7 @@ fn finish<R: Print + Eprint>(
 }
 
 /// The sizes of a script's list.
-#[derive(Clone, Copy, Debug, PartialEq, Eq)]
+#[derive(Clone, Copy)]
 pub(crate) struct Limits {
     /// The IRPs.
     pub(crate) irps: u32,
@@ -289,7 +289,7 @@ fn run_list<L: PendingList + Drop, R: AllocGlobal + Print + Eprint + Input + Fil
 }
 
 /// A limit that is above the number of IRPs.
-#[derive(Clone, Copy, Debug)]
+#[derive(Clone, Copy)]
 struct HighLimit<'a> {
     option: &'a str,
     limit: u32,

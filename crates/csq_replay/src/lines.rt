@@ -17,7 +17,7 @@ use std::io::{Read, Write};
 pub const MAX_LINE: usize = 64;
 
 /// Whether the handling goes on after a line.
-#[derive(Clone, Copy, Debug, PartialEq, Eq)]
+#[derive(Clone, Copy)]
 pub enum Handling {
     /// With the next line, or with the closing lines.
     GoesOn,

@@ -30,7 +30,7 @@ const COMPLETED: u64 = 1 << 32;
 const LIFE_SHIFT: u32 = 33;
 
 /// A word of an IRP.
-#[derive(Clone, Copy, Debug, PartialEq, Eq)]
+#[derive(Clone, Copy)]
 pub(crate) enum Word {
     /// The Cancel flag.
     Cancel,

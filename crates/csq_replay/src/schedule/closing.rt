@@ -12,7 +12,7 @@ use std::alloc::{AllocError, Allocator};
 use std::fmt;
 
 /// What is told of an IRP in the end, in its present life.
-#[derive(Clone, Copy, Debug, PartialEq, Eq)]
+#[derive(Clone, Copy)]
 pub struct IrpLine {
     pub name: IrpLife,
     pub place: IrpPlace,

@@ -11,7 +11,7 @@ use std::alloc::Allocator;
 use std::fmt;
 
 /// Why a line ends the handling of a schedule. Own rule.
-#[derive(Clone, Copy, Debug, PartialEq, Eq)]
+#[derive(Clone, Copy)]
 pub enum Stop {
     /// It has more than 64 bytes.
     TooLong,
@@ -38,7 +38,7 @@ impl fmt::Display for Stop {
 }
 
 /// What comes of a line of a schedule.
-#[derive(Clone, Copy, Debug, PartialEq, Eq)]
+#[derive(Clone, Copy)]
 pub enum Outcome {
     /// Nothing: it is empty, or a comment.
     Skipped,

@@ -4,7 +4,7 @@ use irp_core::{FileId, IrpId, IrpLife, Life, NtStatus};
 use std::fmt;
 
 /// A call of the script's one pass. Where it names no life, it is of the IRP's present one.
-#[derive(Clone, Copy, Debug, PartialEq, Eq)]
+#[derive(Clone, Copy)]
 pub enum Call {
     /// `IoCsqInsertIrpEx` of the IRP for the file object, at the place.
     Insert(IrpId, FileId, Place),
@@ -33,7 +33,7 @@ pub enum Call {
 }
 
 /// Why a call is refused, an insert aside. Own rule.
-#[derive(Clone, Copy, Debug, PartialEq, Eq)]
+#[derive(Clone, Copy)]
 pub enum Refusal {
     /// There is no IRP of this number.
     UnknownIrp,
@@ -54,7 +54,7 @@ pub enum Refusal {
 }
 
 /// What an insert answers that isn't refused.
-#[derive(Clone, Copy, Debug, PartialEq, Eq)]
+#[derive(Clone, Copy)]
 pub(crate) enum Inserted {
     /// The IRP is listed.
     Pending,
@@ -63,7 +63,7 @@ pub(crate) enum Inserted {
 }
 
 /// What is told of a call.
-#[derive(Clone, Copy, Debug, PartialEq, Eq)]
+#[derive(Clone, Copy)]
 pub enum Reply {
     /// The IRP is listed.
     Pending,

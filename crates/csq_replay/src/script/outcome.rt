@@ -3,7 +3,7 @@ use crate::script::call::{Call, Reply};
 use std::fmt;
 
 /// Why a line ends a script. Own rule.
-#[derive(Clone, Copy, Debug, PartialEq, Eq)]
+#[derive(Clone, Copy)]
 pub enum CallStop {
     /// It has more than 64 bytes.
     TooLong,
@@ -27,7 +27,7 @@ impl fmt::Display for CallStop {
 }
 
 /// What comes of a line of a script.
-#[derive(Clone, Copy, Debug, PartialEq, Eq)]
+#[derive(Clone, Copy)]
 pub enum CallOutcome {
     /// Nothing: it is empty, or a comment.
     Skipped,

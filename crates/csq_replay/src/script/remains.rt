@@ -25,7 +25,7 @@ pub struct Remains<A: Allocator> {
 }
 
 /// How the pass may keep an IRP in its present life.
-#[derive(Clone, Copy, Debug, PartialEq, Eq)]
+#[derive(Clone, Copy)]
 pub enum Kept {
     /// It removed the IRP, and is to complete it.
     Held,
