@@ -65,7 +65,7 @@ csq_link() {
   mkdir -p "$lib"
   "$AR" rcsD "$lib/libcsq.a" "$work/csq.o"
   # Calls inside of the library are bound there (-Bsymbolic): what was proved isn't exchanged for a program's own.
-  "$CC" -shared -Wl,-soname,"libcsq.so.$major" -Wl,--version-script="$work/csq.map" -Wl,-Bsymbolic -Wl,-z,defs \
+  "$CC" -shared -Wl,-soname,"libcsq.so.$major" -Xlinker --version-script="$work/csq.map" -Wl,-Bsymbolic -Wl,-z,defs \
     -Wl,-z,relro,-z,now -Wl,--require-defined=csq_new_queue "$work/csq.o" -o "$lib/libcsq.so.$version" ||
     csq_refuse "not linked" "the archives aren't a whole library. Name all that csq_library of c/library.bash prints"
   ln -s "libcsq.so.$version" "$lib/libcsq.so.$major"
@@ -88,13 +88,14 @@ csq_add_iocsq() {
     "library=../../../$LIBDIR/libcsq.a" >"$share/installed"
 }
 
-# Makes the tree WORK/tree: csq_package TOP WORK PREFIX ARCHIVE.., where PREFIX is what csq.pc is to name.
+# Makes the tree WORK/tree: csq_package TOP WORK PREFIX ARCHIVE.., where PREFIX is what csq.pc is to name. pkg-config
+# reads a space in its variables behind a backslash.
 csq_package() {
   local top=$1 work=$2 prefix=$3 version lib=$2/tree/$LIBDIR
   shift 3
   version=$(csq_version "$top")
   csq_link "$top" "$work" "$version" "$@"
-  local values=("VERSION=$version" "MAJOR=${version%%.*}" "LIBDIR=$LIBDIR" "PREFIX=$prefix"
+  local values=("VERSION=$version" "MAJOR=${version%%.*}" "LIBDIR=$LIBDIR" "PREFIX=${prefix// /\\ }"
     "TO_PREFIX=$(realpath -ms --relative-to="/$LIBDIR/cmake/csq" /)")
   install -D -m 644 "$top/include/csq.h" "$work/tree/include/keuvatsi/csq.h"
   csq_add_iocsq "$top" "$work/tree"

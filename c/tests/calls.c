@@ -163,8 +163,8 @@ static void closes_a_file_object_for_good(uint32_t list) {
     end(&device);
 }
 
-static void hands_a_pass_out_again_once_it_is_back(void) {
-    struct csq_size size = { 2, 1, 2, 2, 0, CSQ_VECTOR };
+static void hands_a_pass_out_again_once_it_is_back(uint32_t list) {
+    struct csq_size size = { 2, 1, 2, 2, 0, list };
     struct csq_queue queue = CSQ_EMPTY;
     struct csq_pass one = CSQ_EMPTY, two = CSQ_EMPTY, three = CSQ_EMPTY;
     uint32_t out = UNWRITTEN;
@@ -249,7 +249,7 @@ int main(void) {
     RUN_BOTH(completes_with_any_final_status);
     RUN_BOTH(counts_what_a_pass_holds_and_owes);
     RUN_BOTH(closes_a_file_object_for_good);
-    RUN(hands_a_pass_out_again_once_it_is_back);
+    RUN_BOTH(hands_a_pass_out_again_once_it_is_back);
     RUN_BOTH(a_pass_that_came_back_goes_on);
     RUN(frees_a_pass_that_stays_out);
     return DONE();

@@ -4,13 +4,6 @@
 # What c/tests/header.cpp writes where all is well.
 header_lines=$(printf 'passed %s\n' the_header_names_what_is_there each_code_has_its_name an_insert_has_its_status)
 
-# expect TEST COMMAND..: passes where the command ends well, and shows what it wrote where it doesn't.
-expect() {
-  local test=$1
-  shift
-  if "$@" >"$work/out" 2>"$work/errors"; then pass "$test"; else fail "$test" <(cat "$work/out" "$work/errors"); fi
-}
-
 # only_csq PREFIX VERSION: each library gives csq_* alone to others, both the same names, the shared one versioned.
 only_csq() {
   local lib=$1/lib version=CSQ_${2%%.*}
@@ -30,11 +23,11 @@ has_version() {
 
 # staged ARGUMENT..: all lies below DESTDIR, and nothing in it names that folder.
 staged() {
-  local stage=$work/stage prefix=$work/nowhere
+  local stage=$work/stage prefix="$work/now here"
   rm -rf "$stage"
   DESTDIR=$stage "$top/c/install" "$prefix" "$@" && [[ ! -e $prefix ]] &&
     cmp "$top/include/csq.h" "$stage$prefix/include/keuvatsi/csq.h" && ! grep -rF "$stage" "$stage" &&
-    grep -x "prefix=$prefix" "$stage$prefix/lib/pkgconfig/csq.pc"
+    grep -xF "prefix=${prefix// /\\ }" "$stage$prefix/lib/pkgconfig/csq.pc"
 }
 
 # dist_twice FOLDER ORIGIN ARGUMENT..: the same bytes twice, with their checksum; unpacked, a README with its origin.
@@ -51,15 +44,17 @@ dist_twice() {
 
 # by_pkg_config PREFIX shared|static TEXT COMPILER FLAG.. SOURCE: the program is linked so, and writes this text.
 by_pkg_config() {
-  local prefix=$1 kind=$2 text=$3 flags libs
+  local prefix=$1 kind=$2 text=$3 flags libs libdir
   local -x PKG_CONFIG_PATH=$1/lib/pkgconfig LD_LIBRARY_PATH=
   shift 3
-  read -ra flags <<<"$(pkg-config --cflags csq)"
+  # As the shell of a Makefile's recipe reads them: spaces in paths stand behind backslashes.
+  eval "flags=($(pkg-config --cflags csq))"
   if [[ $kind == shared ]]; then
-    read -ra libs <<<"$(pkg-config --libs csq)"
+    eval "libs=($(pkg-config --libs csq))"
     LD_LIBRARY_PATH=$prefix/lib
   else
-    libs=("$(pkg-config --variable=libdir csq)/libcsq.a")
+    libdir=$(pkg-config --variable=libdir csq)
+    libs=("${libdir//\\ / }/libcsq.a")
   fi
   "$@" "${warnings[@]}" "${flags[@]}" "${libs[@]}" -pthread -o "$work/program" || return 1
   if readelf -d "$work/program" | grep -F '[libcsq.so.'; then [[ $kind == shared ]]; else [[ $kind == static ]]; fi &&
@@ -80,33 +75,35 @@ by_cmake() {
 # run_programs NAME PREFIX VERSION COMPILER: programs in C and C++ find the installation by what there is here.
 run_programs() {
   local name=$1 prefix=$2 version=$3 compiler=$4 kind cxx
-  if command -v pkg-config >"$work/try"; then
+  if need pkg-config "$name: pkg-config"; then
     for kind in shared static; do
       expect "$name: pkg-config, $kind" by_pkg_config "$prefix" $kind "$(<"$top/c/examples/driver.stdout")" \
         "$compiler" -std=c11 "$work/programs/driver.c"
-      for cxx in g++ clang++; do
-        if ! command -v $cxx >"$work/try"; then continue; fi
+      for cxx in "${cxx_compilers[@]}"; do
         expect "$name: pkg-config, $kind, $cxx" by_pkg_config "$prefix" $kind \
-          "$header_lines" $cxx -std=c++17 "$work/programs/header.cpp"
+          "$header_lines" "$cxx" -std=c++17 "$work/programs/header.cpp"
       done
     done
   fi
-  if command -v cmake >"$work/try"; then expect "$name: CMake" by_cmake "$prefix" "$version" "$compiler"; fi
+  if need cmake "$name: CMake" && need make "$name: CMake"; then
+    expect "$name: CMake" by_cmake "$prefix" "$version" "$compiler"
+  fi
 }
 
-# run_install NAME COMPILER ORIGIN ARGUMENT..: what c/install and c/dist make of these arguments.
+# run_install NAME COMPILER ORIGIN ARGUMENT..: what c/install and c/dist make of these arguments, in folders with a
+# space.
 run_install() {
-  local name=$1 compiler=$2 origin=$3 prefix=$work/installed-$1/prefix version
+  local name=$1 compiler=$2 origin=$3 folder="$work/installed $1" version
   local -x CC=$compiler CSQ_KIT="$origin"
   shift 3
   version=$("$compiler" -include "$top/include/csq.h" -E -P -x c - <<<CSQ_VERSION | tail -1 | tr -d '"')
-  expect "$name: c/install" "$top/c/install" "$prefix" "$@"
-  expect "$name: only csq_* is global" only_csq "$prefix" "$version"
-  expect "$name: soname and version" has_version "$prefix" "$version"
+  expect "$name: c/install" "$top/c/install" "$folder/prefix" "$@"
+  expect "$name: only csq_* is global" only_csq "$folder/prefix" "$version"
+  expect "$name: soname and version" has_version "$folder/prefix" "$version"
   expect "$name: DESTDIR" staged "$@"
-  expect "$name: c/dist, twice the same" dist_twice "$work/installed-$name/dist" "$origin" "$@"
-  run_programs "$name, installed" "$prefix" "$version" "$compiler"
-  run_programs "$name, unpacked" "$work/installed-$name/dist/csq" "$version" "$compiler"
+  expect "$name: c/dist, twice the same" dist_twice "$folder/dist" "$origin" "$@"
+  run_programs "$name, installed" "$folder/prefix" "$version" "$compiler"
+  run_programs "$name, unpacked" "$folder/dist/csq" "$version" "$compiler"
 }
 
 # refused ERROR PREFIX ARGUMENT..: ends with the error of this name, and leaves no file.
@@ -116,14 +113,30 @@ refused() {
   ! "$top/c/install" "$@" && grep "^c/install: $error: " "$work/errors" && [[ ! $(find "$prefix" ! -type d) ]]
 }
 
+# Nobody reads what c/install prints: all is installed.
+unread() {
+  "$top/c/install" "$work/unread" --plain | true
+  diff <(cd "$work/installed plain/prefix" && find . ! -type d | sort) <(cd "$work/unread" && find . ! -type d | sort)
+}
+
+# What c/install refuses, before it leaves anything.
+run_refusals() {
+  csq_plain_library "$top" "$work/part.a" "$1" -O2 -fPIC
+  mkdir -p "$work/taken/lib/libcsq.a"
+  touch "$work/file"
+  expect "install: no archive" refused "no archive" "$work/none" "$work/none.a"
+  expect "install: not a whole library" refused "not linked" "$work/none" "$work/part.plain_list.o"
+  expect "install: prefix not writable" refused "prefix not writable" "$work/file/none" --plain
+  expect "install: a folder in a file's place" refused "prefix not writable" "$work/taken" --plain
+  expect "install: a prefix that csq.pc can't name" refused "not a prefix" "$work/\$none" --plain
+  OBJCOPY=no-objcopy expect "install: no tool" refused "no tool" "$work/none" --plain
+}
+
 # run_installs COMPILER: installs the plain C queue, and the archives that are tested; and what refuses to be installed.
 run_installs() {
   local compiler=$1 tool file archives
   for tool in ld objcopy ar nm readelf; do
-    if ! command -v $tool >"$work/try"; then echo "there is no $tool: installing was left out"; return; fi
-  done
-  for tool in pkg-config cmake; do
-    if ! command -v $tool >"$work/try"; then echo "there is no $tool: its programs were left out"; fi
+    need $tool "c/install and c/dist" || return
   done
   mkdir -p "$work/programs"
   for file in examples/driver.c tests/header.c tests/header.cpp tests/CMakeLists.txt; do
@@ -132,12 +145,6 @@ run_installs() {
   mapfile -t archives < <(files_of installed "$compiler" -O2 -fPIC)
   run_install plain "$compiler" "Nothing of it is proved" --plain
   run_install archives "$compiler" "the kit of this test" "${archives[@]}"
-  csq_plain_library "$top" "$work/part.a" "$compiler" -O2 -fPIC
-  mkdir -p "$work/taken/lib/libcsq.a"
-  touch "$work/file"
-  expect "install: no archive" refused "no archive" "$work/none" "$work/none.a"
-  expect "install: not a whole library" refused "not linked" "$work/none" "$work/part.plain_list.o"
-  expect "install: prefix not writable" refused "prefix not writable" "$work/file/none" --plain
-  expect "install: a folder in a file's place" refused "prefix not writable" "$work/taken" --plain
-  OBJCOPY=no-objcopy expect "install: no tool" refused "no tool" "$work/none" --plain
+  expect "install: nobody reads what it prints" unread
+  run_refusals "$compiler"
 }

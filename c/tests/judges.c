@@ -109,6 +109,7 @@ static void what_was_got_cancelled_is_completed_so(uint32_t list) {
     IS(removal(&device, irp_in(0, 0)), CSQ_REMOVE_CLAIMED);
     IS(completion(&device, irp_in(0, 0), CSQ_STATUS_CANCELLED), CSQ_USE_LISTED);
     IS(csq_cancel_routine(&device.queue, &device.passes[0], irp_in(0, 0)), CSQ_OK);
+    IS(removal(&device, irp_in(0, 0)), CSQ_REMOVE_NOT_LISTED);
     IS(completion(&device, irp_in(0, 0), CSQ_STATUS_SUCCESS), CSQ_USE_GOT_CANCELLED);
     IS(completion(&device, irp_in(0, 0), CSQ_STATUS_PENDING), CSQ_USE_GOT_CANCELLED);
     IS(insert(&device, irp_in(0, 0)), CSQ_USE_GOT_CANCELLED);
@@ -125,7 +126,10 @@ static void what_was_removed_is_inserted_again(uint32_t list) {
     IS(insert(&device, irp_in(0, 0)), CSQ_USE_LISTED);
     IS(removal(&device, irp_in(0, 0)), CSQ_REMOVE_AGREES);
     IS(put(&device, 0, 0, 0), CSQ_NOT_HOME);
+    IS(insert(&device, irp_in(0, 1)), CSQ_USE_NOT_HELD);
     IS(insert(&device, irp_in(0, 0)), CSQ_USE_AGREES);
+    status_of(&device, 0, CSQ_STATUS_SUCCESS);
+    IS(removal(&device, irp_in(2, 1)), CSQ_REMOVE_NOT_LISTED);
     IS(csq_reuse(&device.queue, &device.passes[0], irp_in(0, 0), &life), CSQ_OK);
     IS(put(&device, 0, 0, 0), CSQ_OK);
     IS(insert(&device, irp_in(0, 0)), CSQ_USE_LISTED); /* by its number */

@@ -34,6 +34,9 @@ static void a_file_object_has_its_limit(uint32_t list) {
     IS(take(&device, 0, 1), 1);
     IS(put(&device, 0, 4, 0), CSQ_FILE_FULL);
     IS(put(&device, 0, 4, 1), CSQ_OK);
+    IS(csq_remove(&device.queue, &device.passes[0], irp_in(0, 0)), CSQ_OK);
+    IS(put(&device, 0, 5, 0), CSQ_OK);
+    IS(put(&device, 0, 6, 0), CSQ_FILE_FULL);
     end(&device);
 }
 
@@ -77,8 +80,7 @@ static void the_largest_queue_is_filled_and_emptied(uint32_t list) {
     end(&device);
 }
 
-static void a_queue_hands_out_sixty_four_passes(void) {
-    struct csq_size size = { 1, 1, 1, CSQ_MOST_PASSES, 0, CSQ_VECTOR };
+static void hand_out_sixty_four(struct csq_size size) {
     struct csq_queue queue = CSQ_EMPTY;
     struct csq_pass passes[CSQ_MOST_PASSES + 1];
     uint32_t out = UNWRITTEN;
@@ -95,12 +97,23 @@ static void a_queue_hands_out_sixty_four_passes(void) {
     IS(csq_free(&queue), CSQ_OK);
 }
 
+/* The smallest queue, one of the most IRPs for one file object, and the largest. */
+static void a_queue_hands_out_sixty_four_passes(uint32_t list) {
+    struct csq_size size = { 1, 1, 1, CSQ_MOST_PASSES, 0, list };
+    hand_out_sixty_four(size);
+    size.irps = CSQ_MOST_IRPS;
+    hand_out_sixty_four(size);
+    size.files = CSQ_MOST_FILES;
+    size.limit = CSQ_MOST_IRPS;
+    hand_out_sixty_four(size);
+}
+
 int main(void) {
     RUN_BOTH(the_list_has_its_limit);
     RUN_BOTH(a_file_object_has_its_limit);
     RUN_BOTH(a_cancel_frees_its_place_by_its_routine);
     RUN_BOTH(an_insert_that_finds_a_cancel_takes_no_place);
     RUN_BOTH(the_largest_queue_is_filled_and_emptied);
-    RUN(a_queue_hands_out_sixty_four_passes);
+    RUN_BOTH(a_queue_hands_out_sixty_four_passes);
     return DONE();
 }

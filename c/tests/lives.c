@@ -129,6 +129,10 @@ static void contexts_name_the_present_life(uint32_t list) {
     IS(mark(&device, 1, 1, 78), 0);
     IS(csq_insert(&device.queue, &device.passes[0], 1, 0, 0, &context), CSQ_CANCELLED);
     IS(context.life, 78);
+    /* What an insert found cancelled is used again too, with its flag clear. */
+    IS(csq_complete_cancelled(&device.passes[0], context), CSQ_OK);
+    reuse(&device, 1, 79);
+    reads(&device, 1, 79, 0);
     end(&device);
 }
 
@@ -157,6 +161,50 @@ static void the_last_life_is_the_end(uint32_t list) {
     end(&device);
 }
 
+static void not_completed_is_told_before_lives_spent(uint32_t list) {
+    struct csq_size size = size_of(1, 1, list);
+    struct csq_irp last = irp_in(0, CSQ_LAST_LIFE);
+    uint32_t life = UNWRITTEN;
+    size.first_life = CSQ_LAST_LIFE;
+    struct device device = device_of(size);
+    struct csq_pass *by = &device.passes[0];
+    IS(csq_reuse(&device.queue, by, last, &life), CSQ_NOT_COMPLETED);
+    put(&device, 0, 0, 0);
+    IS(csq_reuse(&device.queue, by, last, &life), CSQ_NOT_COMPLETED);
+    IS(take(&device, 0, 0), 0);
+    IS(csq_reuse(&device.queue, by, last, &life), CSQ_NOT_COMPLETED);
+    IS(csq_complete(by, last, 0), CSQ_OK);
+    IS(csq_reuse(&device.queue, by, last, &life), CSQ_LIVES_SPENT);
+    IS(life, UNWRITTEN);
+    end(&device);
+}
+
+/* What a pass held and owed in one life it neither completes nor takes out in the next one, and the other way round. */
+static void what_is_held_or_owed_is_so_in_its_life(uint32_t list) {
+    struct device device = device_of(size_of(2, 1, list));
+    struct csq_pass *by = &device.passes[0];
+    uint32_t held = UNWRITTEN, owed = UNWRITTEN;
+    for (uint32_t life = 0; life < 3; life++) {
+        uint32_t other = life ? life - 1 : 1;
+        put(&device, 0, 0, 0);
+        put(&device, 0, 1, 0);
+        IS(take(&device, 0, 0), 0);
+        IS(mark(&device, 0, 1, life), 1);
+        IS(csq_complete(by, irp_in(0, other), 0), CSQ_NOT_HELD);
+        IS(csq_complete_cancelled(by, irp_in(0, other)), CSQ_NOT_HELD);
+        IS(csq_cancel_routine(&device.queue, by, irp_in(1, other)), CSQ_NOT_OWED);
+        IS(csq_cancel_owed(&device.queue, by, irp_in(1, other)), CSQ_NOT_OWED);
+        IS(csq_count_held(by, &held, &owed), CSQ_OK);
+        IS(held, 1);
+        IS(owed, 1);
+        IS(csq_complete_cancelled(by, irp_in(0, life)), CSQ_OK);
+        IS(csq_cancel_owed(&device.queue, by, irp_in(1, life)), CSQ_OK);
+        reuse(&device, 0, life + 1);
+        reuse(&device, 1, life + 1);
+    }
+    end(&device);
+}
+
 static void lives_of_irps_are_their_own(uint32_t list) {
     struct device device = device_of(size_of(4, 1, list));
     for (uint32_t turn = 0; turn < 24; turn++) {
@@ -182,6 +230,8 @@ int main(void) {
     RUN_BOTH(what_names_another_life_is_refused);
     RUN_BOTH(contexts_name_the_present_life);
     RUN_BOTH(the_last_life_is_the_end);
+    RUN_BOTH(not_completed_is_told_before_lives_spent);
+    RUN_BOTH(what_is_held_or_owed_is_so_in_its_life);
     RUN_BOTH(lives_of_irps_are_their_own);
     return DONE();
 }

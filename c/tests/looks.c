@@ -1,7 +1,7 @@
 /* What an open queue tells of its list. */
 #include "check.h"
 
-/* The number of the IRP that csq_peek_next tells, in the first life; CSQ_ANY where there is none. */
+/* The number of the IRP that csq_peek_next tells, in the first life; CSQ_ANY if there is none. */
 static uint32_t peek(const struct device *device, uint32_t after, uint32_t file) {
     struct csq_irp irp = { UNWRITTEN, UNWRITTEN };
     uint32_t code = csq_peek_next(&device->queue, after, file, &irp);

@@ -1,9 +1,16 @@
 /* Memory: each call for it refused, what is given back, and that no call takes any but those that make something.
- * The linker leads all calls for memory here (--wrap). */
-#include "check.h"
+ * The linker leads all calls for memory here (--wrap). c/run-tests writes calls.h from csq.h: it makes of each call a
+ * macro that notes it, and has the list `calls` of their names. */
+#include "csq.h"
 
 #include <errno.h>
 #include <stdbool.h>
+#include <string.h>
+
+static void note(const char *call);
+#include "calls.h"
+
+#include "check.h"
 
 void *__real_malloc(size_t bytes);
 void *__real_calloc(size_t count, size_t bytes);
@@ -78,6 +85,26 @@ static void refuse(unsigned long which, bool later) {
     and_later = later;
 }
 
+/* Which of the calls were made while none may take memory. */
+static bool forbidden, noted[sizeof calls / sizeof *calls];
+
+static void note(const char *call) {
+    for (size_t at = 0; forbidden && at < sizeof calls / sizeof *calls; at++) {
+        noted[at] = noted[at] || strcmp(calls[at], call) == 0;
+    }
+}
+
+/* Between these two no call may take memory: each is refused, and counted. */
+static void forbid(void) {
+    refuse(1, true);
+    forbidden = true;
+}
+static void allow(void) {
+    IS(asked, 0);
+    refuse(0, false);
+    forbidden = false;
+}
+
 static const uint32_t file_limits[] = { 2, 1 };
 
 static uint32_t make(struct csq_queue *queue, uint32_t list, bool limited) {
@@ -85,7 +112,7 @@ static uint32_t make(struct csq_queue *queue, uint32_t list, bool limited) {
     return limited ? csq_new_with_file_limits(queue, &size, file_limits, 2) : csq_new(queue, &size);
 }
 
-/* Makes a queue while a call for memory is refused, and frees it; answers whether the refusal was met. One that is met
+/* Makes a queue while a call for memory is refused, and frees it; returns whether the refusal was met. One that is met
  * alone may be made good. */
 static bool try_new(uint32_t list, bool limited, unsigned long which, bool later) {
     struct csq_queue queue = CSQ_EMPTY;
@@ -105,7 +132,7 @@ static bool try_new(uint32_t list, bool limited, unsigned long which, bool later
     return met;
 }
 
-/* Refuses each call for memory in turn, until none is met; answers how many there were. */
+/* Refuses each call for memory in turn, until none is met; returns how many there were. */
 static unsigned long refuse_each_of_new(uint32_t list, bool limited, bool later) {
     unsigned long which = 1;
     while (which < 100000 && try_new(list, limited, which, later)) {
@@ -123,7 +150,7 @@ static void a_queue_that_finds_no_memory_keeps_none(uint32_t list) {
     snprintf(check_note, sizeof check_note, " (%lu calls for memory, each refused)", met);
 }
 
-/* The same of a queue's one pass, which is asked for again where it was refused. */
+/* The same of a queue's one pass, which is asked for again if it was refused. */
 static bool try_pass(uint32_t list, unsigned long which, bool later) {
     struct csq_queue queue = CSQ_EMPTY;
     struct csq_pass pass = CSQ_EMPTY;
@@ -202,22 +229,97 @@ static void lead_through_a_life(struct device *device, uint32_t irp, uint32_t li
     IS(next, life + 1);
 }
 
+static void lead_each_through_two_lives(struct device *device) {
+    for (uint32_t turn = 0; turn < 2 * CSQ_MOST_IRPS; turn++) {
+        lead_through_a_life(device, turn % CSQ_MOST_IRPS, turn / CSQ_MOST_IRPS);
+    }
+}
+
+/* What is told of a queue in which all IRPs are listed in their third life, the even ones with a canceller. */
+static void look_at(struct device *device) {
+    static const uint32_t excused[] = { 7 };
+    struct csq_irp irp = irp_in(UNWRITTEN, UNWRITTEN);
+    uint32_t told = UNWRITTEN, skipped = UNWRITTEN;
+    IS(csq_version(), CSQ_VERSION_NUMBER);
+    CHECK(csq_name(CSQ_OK) != NULL);
+    IS(csq_insert_status(CSQ_OK), CSQ_STATUS_PENDING);
+    IS(csq_peek_next(&device->queue, CSQ_ANY, CSQ_ANY, &irp), CSQ_OK);
+    IS(csq_peek_next(&device->queue, irp.irp, 7, &irp), CSQ_OK);
+    IS(irp.irp, 7);
+    IS(csq_peek_next(&device->queue, CSQ_MOST_IRPS - 1, 7, &irp), CSQ_NONE);
+    IS(csq_len(&device->queue, &told), CSQ_OK);
+    IS(told, CSQ_MOST_IRPS);
+    IS(csq_file_len(&device->queue, 7, &told), CSQ_OK);
+    IS(told, CSQ_MOST_IRPS / CSQ_MOST_FILES);
+    IS(csq_judge_peek(&device->queue, CSQ_ANY, 7, 7, &told, &skipped), CSQ_OK);
+    IS(told, CSQ_PEEK_AGREES);
+    IS(csq_judge_peek(&device->queue, CSQ_ANY, 7, CSQ_ANY, &told, &skipped), CSQ_OK);
+    IS(told, CSQ_PEEK_SKIPS);
+    IS(csq_judge_cleanup(&device->queue, 7, excused, 1, &told), CSQ_OK);
+    IS(told, 7 + CSQ_MOST_FILES);
+}
+
+/* What a driver does beside it: a removal and a completion, a removal and an insert; and each of what is listed. */
+static void judge(struct device *device) {
+    struct csq_pass *pass = &device->passes[0];
+    uint32_t verdict = UNWRITTEN;
+    IS(csq_judge_remove(&device->queue, pass, irp_in(1, 2), &verdict), CSQ_OK);
+    IS(verdict, CSQ_REMOVE_AGREES);
+    IS(csq_judge_complete(&device->queue, pass, irp_in(1, 2), 7, &verdict), CSQ_OK);
+    IS(verdict, CSQ_USE_AGREES);
+    IS(csq_remove(&device->queue, pass, irp_in(3, 2)), CSQ_OK);
+    IS(csq_judge_insert(&device->queue, pass, irp_in(3, 2), &verdict), CSQ_OK);
+    IS(verdict, CSQ_USE_AGREES);
+    IS(csq_judge_remove(&device->queue, pass, irp_in(2, 2), &verdict), CSQ_OK);
+    IS(verdict, CSQ_REMOVE_CLAIMED);
+    IS(csq_judge_complete(&device->queue, pass, irp_in(2, 2), 7, &verdict), CSQ_OK);
+    IS(verdict, CSQ_USE_LISTED);
+    IS(csq_judge_insert(&device->queue, pass, irp_in(2, 2), &verdict), CSQ_OK);
+    IS(verdict, CSQ_USE_LISTED);
+}
+
+static void unused(void *context) {
+    (void)context;
+}
+
+/* The calls that take the lock themselves. */
+static void cancel_and_clean_up(struct device *device) {
+    static const struct csq_lock lock = { unused, unused, NULL };
+    struct csq_pass *pass = &device->passes[0];
+    uint32_t completed = UNWRITTEN;
+    IS(csq_cancel(&device->queue, pass, irp_in(5, 2), &lock, NULL, &completed), CSQ_OK);
+    IS(completed, 1);
+    IS(csq_drain(&device->queue, pass, 9, &lock, NULL, &completed), CSQ_OK);
+    IS(completed, CSQ_MOST_IRPS / CSQ_MOST_FILES);
+    IS(csq_cleanup(&device->queue, pass, 11, &lock, NULL, &completed), CSQ_OK);
+    IS(completed, CSQ_MOST_IRPS / CSQ_MOST_FILES);
+}
+
+/* Lists all IRPs, which are in their third life, and then marks the even ones as cancelled. */
+static void insert_each(struct device *device) {
+    for (uint32_t at = 0; at < CSQ_MOST_IRPS; at++) {
+        IS(put(device, 0, at, at % CSQ_MOST_FILES), CSQ_OK);
+        IS(put(device, 0, at, 0), CSQ_NOT_HOME);
+    }
+}
+static void mark_the_even_ones(struct device *device) {
+    for (uint32_t at = 0; at < CSQ_MOST_IRPS; at += 2) {
+        IS(mark(device, 1, at, 2), 1);
+    }
+}
+
 static void no_other_call_takes_memory(uint32_t list) {
     unsigned long before = blocks;
     struct device device = device_of(size_of(CSQ_MOST_IRPS, CSQ_MOST_FILES, list));
     struct csq_left left;
     uint32_t irp = UNWRITTEN, held = UNWRITTEN, owed = UNWRITTEN;
-    refuse(1, true);
-    for (uint32_t turn = 0; turn < 2 * CSQ_MOST_IRPS; turn++) {
-        lead_through_a_life(&device, turn % CSQ_MOST_IRPS, turn / CSQ_MOST_IRPS);
-    }
-    for (uint32_t at = 0; at < CSQ_MOST_IRPS; at++) {
-        IS(put(&device, 0, at, at % CSQ_MOST_FILES), CSQ_OK);
-        IS(put(&device, 0, at, 0), CSQ_NOT_HOME);
-    }
-    for (uint32_t at = 0; at < CSQ_MOST_IRPS; at += 2) {
-        IS(mark(&device, 1, at, 2), 1);
-    }
+    forbid();
+    lead_each_through_two_lives(&device);
+    insert_each(&device);
+    mark_the_even_ones(&device);
+    look_at(&device);
+    judge(&device);
+    cancel_and_clean_up(&device);
     IS(csq_count_held(&device.passes[1], &held, &owed), CSQ_OK);
     IS(csq_count_passes_out(&device.queue, &irp), CSQ_OK);
     IS(csq_close_file(&device.queue, &device.passes[0], 255), CSQ_OK);
@@ -228,8 +330,7 @@ static void no_other_call_takes_memory(uint32_t list) {
     IS(csq_read_listed(&device.queue, CSQ_ANY, &irp), CSQ_OK);
     IS(csq_read_left(&device.queue, irp, &left), CSQ_OK);
     IS(csq_free(&device.queue), CSQ_OK);
-    IS(asked, 0);
-    refuse(0, false);
+    allow();
     IS(blocks, before);
 }
 
@@ -241,10 +342,9 @@ static void a_pass_that_is_freed_keeps_no_memory(uint32_t list) {
     unsigned long before = blocks;
     IS(csq_take_pass(&queues[list], &pass), CSQ_OK);
     CHECK(blocks > before);
-    refuse(1, true);
+    forbid();
     IS(csq_abandon_pass(&pass), CSQ_OK);
-    IS(asked, 0);
-    refuse(0, false);
+    allow();
     IS(blocks, before);
 }
 
@@ -256,16 +356,35 @@ static void a_pass_that_came_back_is_handed_out_without_memory(uint32_t list) {
     IS(make(&queue, list, false), CSQ_OK);
     IS(csq_take_pass(&queue, &pass), CSQ_OK);
     IS(csq_give_back(&queue, &pass), CSQ_OK);
-    refuse(1, true);
+    forbid();
     for (int turn = 0; turn < 100; turn++) {
         IS(csq_take_pass(&queue, &pass), CSQ_OK);
         IS(csq_give_back(&queue, &pass), CSQ_OK);
     }
     IS(csq_close(&queue), CSQ_OK);
-    IS(csq_free(&queue), CSQ_OK);
-    IS(asked, 0);
-    refuse(0, false);
+    IS(csq_free_queue(&queue), CSQ_OK);
+    allow();
     IS(blocks, before);
+}
+
+/* Of a new pass csq_take_pass takes memory too, and of one that came back it takes none. */
+static bool makes_a_queue(const char *call) {
+    static const char *const makers[] = { "csq_new", "csq_new_with_file_limits", "csq_new_queue",
+                                          "csq_new_queue_with_file_limits" };
+    bool found = false;
+    for (size_t at = 0; at < sizeof makers / sizeof *makers; at++) {
+        found = found || strcmp(call, makers[at]) == 0;
+    }
+    return found;
+}
+
+/* The tests before this one leave out no call of csq.h. */
+static void each_call_that_makes_no_queue_was_made_without_memory(void) {
+    for (size_t at = 0; at < sizeof calls / sizeof *calls; at++) {
+        char what[100];
+        snprintf(what, sizeof what, "%s was made while memory was refused", calls[at]);
+        check_that(noted[at] || makes_a_queue(calls[at]), what, __FILE__, __LINE__);
+    }
 }
 
 /* How many bytes a queue takes. */
@@ -291,6 +410,7 @@ int main(void) {
     RUN_BOTH(no_other_call_takes_memory);
     RUN_BOTH(a_pass_that_is_freed_keeps_no_memory);
     RUN_BOTH(a_pass_that_came_back_is_handed_out_without_memory);
+    RUN(each_call_that_makes_no_queue_was_made_without_memory);
     RUN(a_queue_has_the_list_that_was_asked_for);
     return DONE();
 }

@@ -15,6 +15,8 @@ static unsigned long queues = 100;
 /* The pace: how many IRPs the first thread has come to, and how many the second is ready for. */
 static atomic_uint come_to, ready_for;
 static atomic_uint completed[IRPS];
+/* What each is completed with: whoever completes it tells before. */
+static atomic_uint statuses[IRPS];
 static unsigned long by_first, by_cancel, faults_of_first, faults_of_cancel;
 static uint64_t states[2];
 
@@ -39,6 +41,11 @@ static void dally(int who) {
     }
 }
 
+static void note(uint32_t irp, uint32_t status) {
+    atomic_fetch_add(&completed[irp], 1);
+    atomic_store(&statuses[irp], status);
+}
+
 static void *cancel_each(void *unused) {
     for (uint32_t irp = 0; irp < IRPS; irp++) {
         struct csq_irp name = { irp, 0 };
@@ -51,7 +58,7 @@ static void *cancel_each(void *unused) {
             pthread_mutex_lock(&mutex);
             faults_of_cancel += csq_cancel_routine(&device.queue, &device.passes[1], name) != CSQ_OK;
             pthread_mutex_unlock(&mutex);
-            atomic_fetch_add(&completed[irp], 1);
+            note(irp, CSQ_STATUS_CANCELLED);
             faults_of_cancel += csq_complete_cancelled(&device.passes[1], name) != CSQ_OK;
             by_cancel++;
         }
@@ -66,19 +73,21 @@ static void insert_this(uint32_t irp) {
     pthread_mutex_unlock(&mutex);
     faults_of_first += code != CSQ_OK && code != CSQ_CANCELLED;
     if (code == CSQ_CANCELLED) {
-        atomic_fetch_add(&completed[irp], 1);
+        note(irp, CSQ_STATUS_CANCELLED);
         faults_of_first += csq_complete_cancelled(&device.passes[0], context) != CSQ_OK;
         by_first++;
     }
 }
 
+/* An even one by its context, and an odd one as the next one. */
 static void remove_this(uint32_t irp) {
     struct csq_irp name = { irp, 0 };
     pthread_mutex_lock(&mutex);
-    uint32_t code = csq_remove(&device.queue, &device.passes[0], name);
+    uint32_t code = irp % 2 ? csq_remove_next(&device.queue, &device.passes[0], CSQ_ANY, &name)
+                            : csq_remove(&device.queue, &device.passes[0], name);
     pthread_mutex_unlock(&mutex);
     if (code == CSQ_OK) {
-        atomic_fetch_add(&completed[irp], 1);
+        note(name.irp, CSQ_STATUS_SUCCESS);
         faults_of_first += csq_complete(&device.passes[0], name, 0) != CSQ_OK;
         by_first++;
     }
@@ -110,6 +119,7 @@ static void end_of_race(void) {
         IS(left.cancelled, 1);
         IS(left.completed, 1);
         IS(completed[irp], 1);
+        IS(left.status, statuses[irp]);
         completed[irp] = 0;
     }
     IS(csq_free(&device.queue), CSQ_OK);

@@ -3,6 +3,7 @@
 #include "check.h"
 
 #include <pthread.h>
+#include <sched.h>
 #include <stdatomic.h>
 #include <string.h>
 
@@ -297,6 +298,102 @@ static void short_lived_threads_share_the_passes_of_a_queue(uint32_t list) {
     snprintf(check_note, sizeof check_note, " (%lu threads, %d passes)", rounds * AT_A_TIME, CSQ_MOST_PASSES);
 }
 
+enum { SHARE = IRPS / THREADS };
+
+/* Inserts a share of the IRPs, one after the other. */
+static void *insert_share(void *of) {
+    struct csq_pass *pass = (struct csq_pass *)of;
+    uint32_t begin = (uint32_t)(pass - device.passes) * SHARE;
+    for (uint32_t irp = begin; irp < begin + SHARE; irp++) {
+        struct csq_irp context = { 0, 0 };
+        lock(&mutex);
+        fault_unless(csq_insert(&device.queue, pass, irp, 0, 0, &context) == CSQ_OK);
+        unlock(&mutex);
+    }
+    return NULL;
+}
+
+static void inserts_of_four_threads_are_removed_in_order(uint32_t list) {
+    for (unsigned long at = 0; at < turns / 4000 + 10; at++) {
+        uint32_t next[THREADS] = { 0, SHARE, 2 * SHARE, 3 * SHARE };
+        begin_counts();
+        device = device_of(size_of(IRPS, 1, list));
+        serve_all(insert_share);
+        IS(faults, 0);
+        for (int left = IRPS; left > 0 && !check_failed; left--) {
+            uint32_t irp = take(&device, 0, CSQ_ANY);
+            CHECK(irp < IRPS && irp == next[irp / SHARE]);
+            next[irp % IRPS / SHARE]++;
+        }
+        IS(take(&device, 0, CSQ_ANY), CSQ_ANY);
+        end(&device);
+    }
+}
+
+enum { CANCELLERS = 8 };
+
+/* How many of them have come. */
+static atomic_uint come;
+
+/* Waits for the others, cancels the one IRP, and completes it if its cancel routine was there. */
+static void *cancel_the_one(void *of) {
+    struct csq_pass *pass = (struct csq_pass *)of;
+    struct csq_irp name = { 0, 0 };
+    uint32_t found = 0;
+    come++;
+    while (atomic_load(&come) < CANCELLERS) {
+        sched_yield();
+    }
+    fault_unless(csq_mark_cancel(pass, name, &found) == CSQ_OK);
+    if (found) {
+        lock(&mutex);
+        fault_unless(csq_cancel_routine(&device.queue, pass, name) == CSQ_OK);
+        unlock(&mutex);
+        fault_unless(csq_complete_cancelled(pass, name) == CSQ_OK);
+        claimed++;
+    }
+    return NULL;
+}
+
+/* All of them at once, each with a pass of its own. */
+static void cancel_by_eight(struct csq_pass *passes) {
+    pthread_t threads[CANCELLERS];
+    begin_counts();
+    come = 0;
+    for (int at = 0; at < CANCELLERS; at++) {
+        IS(pthread_create(&threads[at], NULL, cancel_the_one, &passes[at]), 0);
+    }
+    for (int at = 0; at < CANCELLERS; at++) {
+        IS(pthread_join(threads[at], NULL), 0);
+    }
+    IS(faults, 0);
+    IS(claimed, 1);
+}
+
+static void one_of_eight_cancels_gets_the_claim(uint32_t list) {
+    struct csq_size size = { 1, 1, 1, CANCELLERS, 0, list };
+    for (unsigned long at = 0; at < turns / 4000 + 10; at++) {
+        struct csq_pass passes[CANCELLERS];
+        struct csq_irp context = { 0, 0 };
+        struct csq_left left = { 0, 0, 0, 0 };
+        memset(&device, 0, sizeof device);
+        memset(passes, 0, sizeof passes);
+        IS(csq_new(&device.queue, &size), CSQ_OK);
+        for (int pass = 0; pass < CANCELLERS; pass++) {
+            IS(csq_take_pass(&device.queue, &passes[pass]), CSQ_OK);
+        }
+        IS(csq_insert(&device.queue, &passes[at % CANCELLERS], 0, 0, 0, &context), CSQ_OK);
+        cancel_by_eight(passes);
+        for (int pass = 0; pass < CANCELLERS; pass++) {
+            IS(csq_give_back(&device.queue, &passes[pass]), CSQ_OK);
+        }
+        IS(csq_close(&device.queue), CSQ_OK);
+        IS(csq_read_left(&device.queue, 0, &left), CSQ_OK);
+        CHECK(left.cancelled && left.completed && left.status == CSQ_STATUS_CANCELLED);
+        IS(csq_free(&device.queue), CSQ_OK);
+    }
+}
+
 int main(int count, char **words) {
     if (count > 1) {
         turns = strtoul(words[1], NULL, 10);
@@ -304,5 +401,7 @@ int main(int count, char **words) {
     RUN_BOTH(each_life_is_completed_once);
     RUN_BOTH(cancels_and_cleanups_complete_each_irp_once);
     RUN_BOTH(short_lived_threads_share_the_passes_of_a_queue);
+    RUN_BOTH(inserts_of_four_threads_are_removed_in_order);
+    RUN_BOTH(one_of_eight_cancels_gets_the_claim);
     return DONE();
 }

@@ -1,0 +1,75 @@
+# The tests of the Rust bindings, for c/run-tests, whose variables and functions they use: source this.
+# shellcheck disable=SC2154 # c/run-tests sets the variables
+
+# cargo_in FOLDER WORD..: cargo there. `told` is the folder that it is told it is in.
+cargo_in() { (cd "$1" && PWD=${told-$PWD} cargo "${@:2}"); }
+
+# refuse_library CASE LIBRARY WORDS: the build refuses this CSQ_LIBRARY in these words.
+refuse_library() {
+  if CSQ_LIBRARY=$2 cargo_in "$bindings" build >"$work/out" 2>"$work/errors"; then
+    fail "rust: $1 was taken"
+  elif grep -qF "CSQ_LIBRARY: $3" "$work/errors"; then
+    pass "rust: $1 is refused in words"
+  else
+    fail "rust: $1" "$work/errors"
+  fi
+}
+
+# What CSQ_LIBRARY may be.
+run_rust_library() {
+  local file names=
+  refuse_library "a missing archive" "$work/libnone.a" "there is no file"
+  refuse_library "a file of another name" "$work/none.so" "\"$work/none.so\" is not named as an archive is"
+  told=/nowhere refuse_library "a relative path of an unknown folder" libnone.a '"libnone.a" is a relative path'
+  mkdir "$work/relative"
+  for file in "${files[@]}"; do
+    ln -s "$file" "$work/relative/"
+    names+=${names:+:}${file##*/}
+  done
+  CSQ_LIBRARY=$names expect "rust: a relative path is of the folder from which the build is started" \
+    cargo_in "$work/relative" test --manifest-path "$bindings/Cargo.toml" --test tokens
+}
+
+# The package has all that its tests need.
+package_tests() {
+  cargo_in "$bindings" package --allow-dirty --no-verify && tar -xzf "$work"/cargo/package/csq-*.crate -C "$work" &&
+    cargo_in "$(echo "$work"/csq-*/)" test --all-targets
+}
+
+# Counts the lines of cargo's tests, and its end if no line reports a fault, or if there is none.
+count_rust_lines() {
+  local status=$1 line
+  local before=$passed failed_before=$failed
+  while IFS= read -r line; do
+    case $line in
+      "test "*" ... ok") line=${line#test }; pass "rust: ${line% ... ok}" ;;
+      "test "*" ... FAILED") line=${line#test }; fail "rust: ${line% ... FAILED}" ;;
+    esac
+  done <"$work/out"
+  if ((failed > failed_before)); then return; fi
+  if ((status != 0)); then
+    fail "rust: cargo ended with status $status" "$work/errors"
+  elif ((passed == before)); then
+    fail "rust: cargo ran no test"
+  fi
+}
+
+# The tests of the bindings, their examples in doc comments too, and how they are written.
+run_rust() {
+  local bindings=$top/bindings/rust IFS=:
+  export CSQ_LIBRARY="${files[*]}" CARGO_TARGET_DIR="$work/cargo" CARGO_NET_OFFLINE=true
+  unset IFS
+  cargo_in "$bindings" test >"$work/out" 2>"$work/errors"
+  count_rust_lines $?
+  if need "cargo clippy" "rust: clippy"; then
+    expect "rust: clippy" cargo_in "$bindings" clippy --all-targets -- -D warnings
+  fi
+  if need "cargo fmt" "rust: format"; then expect "rust: format" cargo_in "$bindings" fmt --check; fi
+  if cargo miri --version >"$work/out" 2>&1; then
+    CSQ_LIBRARY='' expect "rust: miri, over what calls no C" cargo_in "$bindings" miri test --lib
+  else
+    skip_optional "rust: miri" "there is no cargo miri, which no package of Debian has"
+  fi
+  run_rust_library
+  expect "rust: the package's tests" package_tests
+}
