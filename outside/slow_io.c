@@ -8,66 +8,72 @@
 #define _GNU_SOURCE
 #include <dlfcn.h>
 #include <errno.h>
+#include <limits.h>
 #include <stdlib.h>
 #include <unistd.h>
 
-static long given, taken;
-static int was_interrupted;
+typedef ssize_t reader(int, void *, size_t);
+typedef ssize_t writer(int, const void *, size_t);
 
-static int descriptor(const char *name, int usual)
+static reader *real_read;
+static writer *real_write;
+static long reads, writes, fails_read_at, fails_write_at, given, taken;
+static int is_interrupted, takes_nothing, was_interrupted;
+
+static long number_of(const char *name, long usual)
 {
     const char *text = getenv(name);
 
-    return text != NULL ? atoi(text) : usual;
+    return text != NULL ? atol(text) : usual;
 }
 
-/* So many bytes as this variable says, or more, have gone. */
-static int is_at(const char *name, long gone)
+/* An input has up to a million bytes, so the settings are looked up once. */
+__attribute__((constructor)) static void begin(void)
 {
-    const char *text = getenv(name);
-
-    return text != NULL && gone >= atol(text);
+    /* ISO C has no cast from a pointer to an object; POSIX says that this one is right. */
+    *(void **)&real_read = dlsym(RTLD_NEXT, "read");
+    *(void **)&real_write = dlsym(RTLD_NEXT, "write");
+    reads = number_of("READS", STDIN_FILENO);
+    writes = number_of("WRITES", STDOUT_FILENO);
+    fails_read_at = number_of("FAIL_READ", LONG_MAX);
+    fails_write_at = number_of("FAIL_WRITE", LONG_MAX);
+    is_interrupted = getenv("INTERRUPTED") != NULL;
+    takes_nothing = getenv("TAKES_NOTHING") != NULL;
 }
 
 ssize_t read(int file, void *bytes, size_t length)
 {
-    ssize_t (*real)(int, void *, size_t);
     ssize_t got;
 
-    *(void **)&real = dlsym(RTLD_NEXT, "read");
-    if (file != descriptor("READS", 0))
-        return real(file, bytes, length);
-    if (is_at("FAIL_READ", given)) {
+    if (file != reads)
+        return real_read(file, bytes, length);
+    if (given >= fails_read_at) {
         errno = EIO;
         return -1;
     }
-    if (getenv("INTERRUPTED") != NULL) {
-        was_interrupted = !was_interrupted;
-        if (was_interrupted) {
-            errno = EINTR;
-            return -1;
-        }
+    was_interrupted = is_interrupted && !was_interrupted;
+    if (was_interrupted) {
+        errno = EINTR;
+        return -1;
     }
-    got = real(file, bytes, length > 0);
+    got = real_read(file, bytes, length > 0);
     given += got > 0 ? (long)got : 0;
     return got;
 }
 
 ssize_t write(int file, const void *bytes, size_t length)
 {
-    ssize_t (*real)(int, const void *, size_t);
     ssize_t put;
 
-    *(void **)&real = dlsym(RTLD_NEXT, "write");
-    if (file != descriptor("WRITES", 1))
-        return real(file, bytes, length);
-    if (is_at("FAIL_WRITE", taken)) {
-        if (getenv("TAKES_NOTHING") != NULL)
+    if (file != writes)
+        return real_write(file, bytes, length);
+    if (taken >= fails_write_at) {
+        if (takes_nothing)
             return 0;
         errno = EIO;
         return -1;
     }
-    put = real(file, bytes, length > 0);
+    put = real_write(file, bytes, length > 0);
     taken += put > 0 ? (long)put : 0;
     return put;
 }
