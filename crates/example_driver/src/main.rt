@@ -4,13 +4,13 @@
 
 ghost use Rattle.std.specs.Prelude.{◌≡◌};
 
-use anyhow::{Context, Result, bail};
+use anyhow::{Result, bail};
 use csq_list::{InsertStatus, Peek, Place, VecList};
 use csq_queue::{Blank, CancelRefused, Csq, Inserted, Pass, PassRack, QueueName, Rest};
 use irp_core::{FileId, FinalStatus, IrpId, Life};
 use std::marker::Brand;
 use std::sync::Wait;
-use std::thread::{Threads, join};
+use std::thread::{Threads, for_each_mut};
 
 // How many requests are made for each of the two file objects.
 const SHARE: u32 = 8;
@@ -26,23 +26,42 @@ const TOO_LATE: IrpId = IrpId(17);
 
 const IRPS: u32 = 18;
 
-// A pass for each of the four threads.
-#[derive(Drop)]
-struct Passes<N: QueueName> {
-    reads: Pass<N>,
-    writes: Pass<N>,
-    worker: Pass<N>,
-    caller: Pass<N>,
+// What a thread of the driver runs.
+#[derive(Clone, Copy)]
+enum Routine {
+    // A dispatch routine, of the requests for a file object.
+    Dispatch(FileId),
+    Work,
+    // A caller's cancels.
+    Cancel,
 }
 
-// What the driver keeps of its device (the device extension): the queue, the passes of its threads, and
-// the rack that they were taken from.
+const ROUTINES: [Routine; 4] = [
+    Routine::Dispatch(READS),
+    Routine::Dispatch(WRITES),
+    Routine::Work,
+    Routine::Cancel,
+];
+
+// A thread of the driver. It has a pass of its own.
+#[derive(Drop)]
+struct Runner<N: QueueName> {
+    routine: Routine,
+    pass: Pass<N>,
+    refused: bool,
+}
+
+// What the driver keeps of its device (the device extension): the queue, the threads with their passes, and
+// the rack that these were taken from.
 #[derive(Drop)]
 struct Device<N: QueueName> {
     queue: Csq<VecList, N>,
-    passes: Passes<N>,
+    runners: Vec<Runner<N>>,
     rack: PassRack<N>,
 }
+
+// Why the driver ended too early.
+type Cause = &'static str;
 
 // Makes a request pending (`IoMarkIrpPending`) and queues it (`IoCsqInsertIrpEx`).
 fn queue_one<N: QueueName>(
@@ -98,172 +117,180 @@ fn cancel<N: QueueName>(
     Ok(())
 }
 
-// The two dispatch routines, the worker and the caller, each in a thread of its own, with a pass of its own.
+// What one thread does.
+fn run_one<N: QueueName>(rt: &impl Wait, queue: &Csq<VecList, N>, runner: &mut Runner<N>) {
+    let pass = &mut runner.pass;
+    runner.refused = match runner.routine {
+        Routine::Dispatch(file) => dispatch(rt, queue, pass, file).is_err(),
+        Routine::Work => {
+            work(rt, queue, pass);
+            false
+        }
+        Routine::Cancel => cancel(rt, queue, pass).is_err(),
+    };
+}
+
+// The two dispatch routines, the worker and the caller, each in a thread of its own.
 fn serve<N: QueueName + Send + Sync, R: Threads + Wait + Sync>(
     rt: &R,
     queue: &Csq<VecList, N>,
-    passes: &mut Passes<N>,
-) -> Result<()> {
-    let Passes {
-        reads,
-        writes,
-        worker,
-        caller,
-    } = passes;
-    let ((read, written), ((), cancelled)) = join(
+    runners: &mut [Runner<N>],
+) -> Result<(), Cause> {
+    for_each_mut(
         rt,
-        || {
-            join(
-                rt,
-                || dispatch(rt, queue, reads, READS),
-                || dispatch(rt, queue, writes, WRITES),
-            )
-        },
-        || { join(rt, || work(rt, queue, worker), || cancel(rt, queue, caller)) },
+        runners,
+        ROUTINES.len(),
+        &|_, runner| run_one(rt, queue, runner),
     );
-    if read.is_err() || written.is_err() || cancelled.is_err() {
-        bail!("a thread was refused");
+    for runner in runners {
+        if runner.refused {
+            return Err("a thread was refused");
+        }
     }
     Ok(())
 }
 
-// The four threads are through. The rest is done by this one.
-fn finish<N: QueueName>(rt: &impl Wait, queue: &Csq<VecList, N>, pass: &mut Pass<N>) -> Result<()> {
+// The threads are through. The rest is done by this one.
+fn finish<N: QueueName>(
+    rt: &impl Wait,
+    queue: &Csq<VecList, N>,
+    pass: &mut Pass<N>,
+) -> Result<(), Cause> {
     work(rt, queue, pass);
     // The last handle to the file object goes: what is queued for it is cancelled (`IRP_MJ_CLEANUP`).
     if queue.cleanup(rt, pass, WRITES).is_err() {
-        bail!("no such file object");
+        return Err("no such file object");
     }
     // Left on purpose, to show what a closed queue tells: a driver cleans each file object up before that.
     if queue_one(rt, queue, pass, LATE, READS).is_err() {
-        bail!("refused");
+        return Err("a request was refused");
     }
     // For a file object that was cleaned up nothing is queued any more.
     match queue_one(rt, queue, pass, TOO_LATE, WRITES) {
         Err(InsertStatus::FileClosed) => Ok(()),
-        Err(_) => bail!("refused otherwise"),
-        Ok(()) => bail!("not refused"),
+        _ => Err("a late request was not refused"),
     }
 }
 
 // Serves the device, and finishes what its threads left.
 fn run<N: QueueName + Send + Sync, R: Threads + Wait + Sync>(
     rt: &R,
-    device: &mut Device<N>,
-) -> Result<()> {
-    let Device { queue, passes, .. } = device;
-    serve(rt, queue, passes)?;
-    finish(rt, queue, &mut passes.reads)
+    queue: &Csq<VecList, N>,
+    runners: &mut [Runner<N>],
+) -> Result<(), Cause> {
+    serve(rt, queue, runners)?;
+    match runners.first_mut() {
+        Some(first) => finish(rt, queue, &mut first.pass),
+        None => Err("no thread"),
+    }
 }
 
-// The next two passes.
-fn take_two<N: QueueName>(rack: &mut PassRack<N>) -> Option<(Pass<N>, Pass<N>)> {
-    let one = rack.take()?;
-    let two = rack.take()?;
-    Some((one, two))
-}
-
-fn take_passes<N: QueueName>(rack: &mut PassRack<N>) -> Option<Passes<N>> {
-    let (reads, writes) = take_two(rack)?;
-    let (worker, caller) = take_two(rack)?;
-    Some(Passes {
-        reads,
-        writes,
-        worker,
-        caller,
-    })
+// A thread for each routine, with the next pass.
+fn new_runners<N: QueueName>(rt: &impl AllocGlobal, rack: &mut PassRack<N>) -> Vec<Runner<N>> {
+    let mut runners = Vec::new(rt.alloc());
+    for routine in ROUTINES {
+        if let Some(pass) = rack.take() {
+            let refused = false;
+            // If there is no memory for it, the pass is lost, and the queue can't be closed.
+            drop(runners.push(Runner {
+                routine,
+                pass,
+                refused,
+            }));
+        }
+    }
+    runners
 }
 
 // Starts the device: its queue has a name from here on, and its threads have their passes.
-fn start<N: QueueName>(blank: Blank<VecList>) -> Result<Device<N>>
+fn start<N: QueueName>(rt: &impl AllocGlobal, blank: Blank<VecList>) -> Device<N>
     requires { blank ≡ record { table = N.table; limits = N.limits } }
 {
     let (queue, mut rack) = blank.into_queue::<N>();
-    let passes = take_passes(&mut rack).context("a pass")?;
-    Ok(Device {
+    let runners = new_runners(rt, &mut rack);
+    Device {
         queue,
-        passes,
+        runners,
         rack,
-    })
+    }
 }
 
-// Each pass that spent what it took comes back, and then the queue can be closed.
-fn give_back<N: QueueName>(
-    rt: &impl Wait,
-    queue: &Csq<VecList, N>,
-    passes: [Pass<N>; 3],
-) -> Result<()> {
-    for pass in passes {
-        if queue.give_back(rt, pass).is_err() {
-            bail!("a request was not completed");
+// All passes but one come back. One that hasn't spent what it took doesn't, and the queue can't be closed.
+fn give_back<N: QueueName>(rt: &impl Wait, queue: &Csq<VecList, N>, runners: &mut Vec<Runner<N>>) {
+    for _ in 1..runners.len() {
+        if let Some(Runner { pass, .. }) = runners.pop() {
+            drop(queue.give_back(rt, pass));
         }
     }
-    Ok(())
 }
 
 // How many requests were completed, and which one is left.
 fn tell(rest: &Rest<VecList>) -> (u32, Option<IrpId>) {
-    let completed = (0..IRPS).filter(|irp| rest.status(IrpId(*irp)).is_some());
-    (completed.count() as u32, rest.next_listed(None))
+    let mut completed = 0u32;
+    for irp in 0..IRPS {
+        if rest.status(IrpId(irp)).is_some() {
+            completed = completed.wrapping_add(1);
+        }
+    }
+    (completed, rest.next_listed(None))
 }
 
-// Closes the queue, and tells what is left of it.
+// Closes the queue with the pass that is out, and tells what is left of it.
 fn close<N: QueueName>(
     queue: Csq<VecList, N>,
-    pass: Pass<N>,
+    last: Option<Runner<N>>,
     rack: PassRack<N>,
-) -> Result<(u32, Option<IrpId>)> {
-    let Ok(rest) = queue.close(pass, rack) else {
-        bail!("not closed");
-    };
-    Ok(tell(&rest))
+) -> Option<(u32, Option<IrpId>)> {
+    let Runner { pass, .. } = last?;
+    match queue.close(pass, rack) {
+        Ok(rest) => Some(tell(&rest)),
+        Err(_) => None,
+    }
 }
 
-// Ends the device, and tells what is left of its queue. What was refused first is what is reported.
-fn end<N: QueueName>(rt: &impl Wait, device: Device<N>) -> Result<(u32, Option<IrpId>)> {
+// Ends the device, and tells what is left of its queue.
+fn end<N: QueueName>(rt: &impl Wait, device: Device<N>) -> Option<(u32, Option<IrpId>)> {
     let Device {
         queue,
-        passes,
+        mut runners,
         rack,
     } = device;
-    let Passes {
-        reads,
-        writes,
-        worker,
-        caller,
-    } = passes;
-    let given_back = give_back(rt, &queue, [writes, worker, caller]);
-    let left = close(queue, reads, rack);
-    given_back.and(left)
+    give_back(rt, &queue, &mut runners);
+    let last = runners.pop();
+    drop(runners);
+    close(queue, last, rack)
 }
 
 // Runs the driver, and answers what is left of its queue. Its device is ended in any case.
-fn drive<N: QueueName + Send + Sync, R: Threads + Wait + Sync>(
+fn drive<N: QueueName + Send + Sync, R: Threads + Wait + AllocGlobal + Sync>(
     rt: &R,
     blank: Blank<VecList>,
-) -> Result<(u32, Option<IrpId>)>
+) -> Result<(u32, Option<IrpId>), Cause>
     requires { blank ≡ record { table = N.table; limits = N.limits } }
 {
-    let mut device = start::<N>(blank)?;
-    let served = run(rt, &mut device);
+    let mut device = start::<N>(rt, blank);
+    let served = run(rt, &device.queue, &mut device.runners);
     let left = end(rt, device);
-    served.and(left)
+    served.and(left.ok_or("the queue was not closed"))
 }
 
-// A queue without a name: a list of the requests for two file objects, and four passes.
-fn new_queue(rt: &impl AllocGlobal) -> Result<Blank<VecList>> {
-    let Ok(list) = VecList::new(rt.alloc(), IRPS, 2, IRPS) else {
-        bail!("out of memory");
-    };
-    let Ok(blank) = Blank::new(rt.alloc(), list, IRPS, 4) else {
-        bail!("out of memory");
-    };
-    Ok(blank)
+// A queue without a name: a list of the requests for two file objects, and a pass for each thread.
+fn new_queue(rt: &impl AllocGlobal) -> Option<Blank<VecList>> {
+    let list = VecList::new(rt.alloc(), IRPS, 2, IRPS).ok()?;
+    match Blank::new(rt.alloc(), list, IRPS, 4) {
+        Ok(blank) => Some(blank),
+        Err(_) => None,
+    }
 }
 
 fn main(rt: HostRuntime) -> Result<()> {
-    let blank = new_queue(&rt)?;
-    let (completed, left) = drive::<Brand, _>(&rt, blank)?;
+    let Some(blank) = new_queue(&rt) else {
+        bail!("out of memory");
+    };
+    let (completed, left) = match drive::<Brand, _>(&rt, blank) {
+        Ok(told) => told,
+        Err(cause) => bail!(cause),
+    };
     println!(rt; "{completed} requests were completed")?;
     match left {
         Some(irp) => println!(rt; "request {irp} is left in the queue")?,

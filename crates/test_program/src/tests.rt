@@ -1,12 +1,9 @@
-mod commands;
-mod diagnoses;
-mod explanations;
-mod file_limits;
-mod files;
-mod helps;
-mod pictures;
-mod process;
-mod runs;
-mod shell;
-mod sources;
-mod totals;
+//! Two tables, each with what runs a row: answers, which are held up at each byte and at each call for memory, and
+//! devices, whose threads wait for one another. Beside them what no run comes to.
+mod answers;
+mod devices;
+mod gates;
+mod held_up;
+mod plans;
+mod refusals;
+mod streams;

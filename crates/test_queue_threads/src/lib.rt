@@ -1,4 +1,4 @@
-//! Tests of the queue's calls from several threads. There is no other code here.
+//! Tests of a queue's calls from several threads. There is no other code here.
 #![tactic(auto)]
 
 #[cfg(test)]

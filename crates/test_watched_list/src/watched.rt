@@ -5,7 +5,7 @@ use csq_list::{InsertStatus, Peek, PendingList, Place, UnknownFile};
 use irp_core::{FileId, IrpId};
 
 /// What a list is about to do, or has done.
-#[derive(Clone, Copy, Debug, PartialEq, Eq)]
+#[derive(Clone, Copy)]
 pub enum Moment {
     /// An IRP is to be inserted for this file object.
     Inserting(FileId),

@@ -6,16 +6,14 @@ ghost use Rattle.csq_queue.specs.Named.{pass_numbered};
 ghost use Rattle.csq_queue.specs.Inserts.{given_by};
 ghost use Rattle.csq_queue.specs.Owned.{Holds};
 
-use super::calls::{FIRST, ZERO};
-use super::scenario::close;
-use csq_list::{InsertStatus, PendingList, Place, VecList};
+use super::queues::{FIRST, ZERO, blank, take, vector};
+use csq_list::{InsertStatus, PendingList, Place};
 use csq_queue::{Blank, Csq, Inserted, Pass, QueueName};
 use irp_core::{FileId, IrpId};
 use std::alloc::Allocator;
 use std::marker::Brand;
 use std::process::Abort;
 use std::sync::Wait;
-use std::test::Fail;
 
 // An insert into a queue of one pass. Where it finds its IRP cancelled, that pass has set the Cancel
 // flag, since no other could: the contract of the call alone shows it.
@@ -61,19 +59,14 @@ fn find_flag_alone<L: PendingList + Drop, N: QueueName, A: Allocator, R: Wait + 
     requires one { N.limits.passes ≡ 1 }
 {
     let (queue, mut rack) = blank.into_queue::<N>();
-    let Some(mut pass) = rack.take() else {
-        panic!(rt; "no pass");
-    };
+    let mut pass = take(rt, &mut rack);
     find_flag(rt, &queue, &mut pass);
-    close(rt, queue, pass, rack);
+    let _ = queue.close(pass, rack);
 }
 
 #[test]
-fn a_lone_pass_finds_its_own_flag(rt: HostRuntime) -> Result<(), Fail> {
-    let list = VecList::new(rt.alloc(), 4, 2, 4)?;
-    match Blank::new(rt.alloc(), list, 4, 1) {
-        Ok(blank) => find_flag_alone::<VecList, Brand, _, _>(&rt, blank),
-        Err(_) => panic!(rt; "no queue"),
-    }
-    Ok(())
+fn a_lone_pass_finds_its_own_flag(rt: HostRuntime) {
+    let list = vector(&rt, rt.alloc());
+    let blank = blank(&rt, rt.alloc(), list, 1);
+    find_flag_alone::<_, Brand, _, _>(&rt, blank);
 }

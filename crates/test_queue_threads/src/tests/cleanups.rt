@@ -1,7 +1,7 @@
 //! Inserts between two removals of a cleanup.
 ghost use Rattle.std.specs.Prelude.{◌≡◌};
 
-use super::queues::{blank, give_back_and_close, take_two};
+use super::queues::{blank, close, give_back, inserts, take, watched};
 use csq_list::{ChainList, PendingList};
 use csq_queue::{Blank, Csq, Pass, QueueName};
 use irp_core::{FileId, IrpId};
@@ -11,15 +11,14 @@ use std::sync::Wait;
 use std::sync::atomic::{AtomicBool, AtomicU64, Ordering};
 use std::test::Fail;
 use std::thread::{Threads, join};
-use test_queue::insert_pending;
-use test_watched_list::{Moment, Watch, WatchedList, wait_for};
+use test_watched_list::{Moment, Watch, wait_for};
 
 // How many IRPs are cleaned up.
 const SHARE: u32 = 1000;
 
 // How many cleanups there are at most. The lock isn't handed on in turn, so that an insert may find it taken
 // again by each next removal; a lock that is kept for all of them lets no insert in between, ever.
-const ROUNDS: u32 = 20;
+const ROUNDS: u32 = 200;
 
 // What a list and the threads of a test tell each other.
 #[derive(Drop)]
@@ -63,7 +62,7 @@ fn insert_share<L: PendingList + Drop, N: QueueName, R: Wait>(
 ) -> bool {
     let mut all = true;
     for number in 0..SHARE {
-        all &= insert_pending(rt, queue, pass, IrpId(number), FileId(0)).is_some();
+        all &= inserts(rt, queue, pass, IrpId(number), FileId(0));
     }
     all
 }
@@ -72,7 +71,8 @@ fn insert_share<L: PendingList + Drop, N: QueueName, R: Wait>(
 fn clean_up_and_insert<L, N, R>(
     rt: &R,
     queue: &Csq<L, N>,
-    passes: &mut (Pass<N>, Pass<N>),
+    one: &mut Pass<N>,
+    two: &mut Pass<N>,
     counts: &Counts,
 )
 where
@@ -80,7 +80,6 @@ where
     N: QueueName + Send + Sync,
     R: Threads + Wait + Abort + Sync,
 {
-    let (one, two) = passes;
     assert!(rt; insert_share(rt, queue, one));
     let (cleaned, inserted) = join(
         rt,
@@ -88,7 +87,7 @@ where
         || {
             wait_for(&counts.removing, 1, &counts.gave_up);
             counts.inserting.fetch_add(1, Ordering::SeqCst);
-            insert_pending(rt, queue, two, IrpId(SHARE), FileId(1)).is_some()
+            inserts(rt, queue, two, IrpId(SHARE), FileId(1))
         },
     );
     assert!(rt; cleaned == Ok(SHARE));
@@ -103,41 +102,48 @@ where
     requires { blank ≡ record { table = N.table; limits = N.limits } }
 {
     let (queue, mut rack) = blank.into_queue::<N>();
-    let mut passes = take_two(rt, &mut rack);
-    clean_up_and_insert(rt, &queue, &mut passes, counts);
-    give_back_and_close(rt, queue, passes, rack);
+    let mut one = take(rt, &mut rack);
+    let mut two = take(rt, &mut rack);
+    clean_up_and_insert(rt, &queue, &mut one, &mut two, counts);
+    give_back(rt, &queue, two);
+    close(rt, queue, one, rack);
 }
 
-// The same with a new queue over this list.
-fn clean_up_over<L, R>(rt: &R, list: L, counts: &Counts)
+// The same with a new queue over this list, which is watched.
+fn clean_up<L, R>(rt: &R, list: L, counts: &Counts)
 where
     L: PendingList + Drop + Send,
     R: Threads + Wait + AllocGlobal + Abort + Sync,
 {
-    clean_up_beside_an_insert::<L, Brand, R>(rt, blank(rt, list, 2), counts);
+    let list = watched(list, counts);
+    clean_up_beside_an_insert::<_, Brand, R>(rt, blank(rt, list, 2), counts);
+}
+
+// A list in chains, of which a removal is short, so that the lock is free for a larger part of the time.
+fn chains<R: AllocGlobal + Abort>(rt: &R) -> ChainList {
+    match ChainList::new(rt.alloc(), SHARE + 1, 2, SHARE + 1) {
+        Ok(list) => list,
+        Err(_) => panic!(rt; "no list"),
+    }
 }
 
 // Whether an insert came between two removals of a cleanup.
-fn comes_between<R: Threads + Wait + AllocGlobal + Abort + Sync>(rt: &R) -> Result<bool, Fail> {
+fn comes_between<R: Threads + Wait + AllocGlobal + Abort + Sync>(rt: &R) -> bool {
     let counts = Counts {
         removing: AtomicU64::new(0),
         inserting: AtomicU64::new(0),
         between: AtomicBool::new(false),
         gave_up: AtomicBool::new(false),
     };
-    let list = WatchedList {
-        list: ChainList::new(rt.alloc(), SHARE + 1, 2, SHARE + 1)?,
-        watch: &counts,
-    };
-    clean_up_over(rt, list, &counts);
+    clean_up(rt, chains(rt), &counts);
     assert!(rt; !counts.gave_up.load(Ordering::SeqCst));
-    Ok(counts.between.load(Ordering::SeqCst))
+    counts.between.load(Ordering::SeqCst)
 }
 
 #[test]
 fn a_cleanup_lets_others_in(rt: HostRuntime) -> Result<(), Fail> {
     for _ in 0..ROUNDS {
-        if comes_between(&rt)? {
+        if comes_between(&rt) {
             return Ok(());
         }
     }

@@ -1,18 +1,16 @@
 //! A pass is given back while another call has the lock.
 ghost use Rattle.std.specs.Prelude.{◌≡◌};
 
-use super::queues::{blank, close, take};
+use super::queues::{blank, close, take, vector, watched};
 use super::signals::Signals;
-use csq_list::{PendingList, VecList};
+use csq_list::PendingList;
 use csq_queue::{Blank, Csq, Pass, QueueName};
 use irp_core::FileId;
 use std::marker::Brand;
 use std::process::Abort;
 use std::sync::Wait;
 use std::sync::atomic::Ordering;
-use std::test::Fail;
 use std::thread::{Threads, join, yield_now};
-use test_watched_list::WatchedList;
 
 // How often a thread yields, so that another comes to the lock.
 const WHILE: u32 = 1000;
@@ -73,21 +71,18 @@ where
     close(rt, queue, one, rack);
 }
 
-fn give_back_over<L, R>(rt: &R, list: L, signals: &Signals)
+// The same with a new queue over this list, which is watched.
+fn give_back_over<L, R>(rt: &R, list: L)
 where
     L: PendingList + Drop + Send,
     R: Threads + Wait + AllocGlobal + Abort + Sync,
 {
-    give_back_at_the_lock::<L, Brand, R>(rt, blank(rt, list, 2), signals);
+    let signals = Signals::new();
+    let list = watched(list, &signals);
+    give_back_at_the_lock::<_, Brand, R>(rt, blank(rt, list, 2), &signals);
 }
 
 #[test]
-fn a_pass_is_given_back_past_a_held_lock(rt: HostRuntime) -> Result<(), Fail> {
-    let signals = Signals::new();
-    let list = WatchedList {
-        list: VecList::new(rt.alloc(), 1, 1, 1)?,
-        watch: &signals,
-    };
-    give_back_over(&rt, list, &signals);
-    Ok(())
+fn a_pass_is_given_back_past_a_held_lock(rt: HostRuntime) {
+    give_back_over(&rt, vector(&rt, 1, 1));
 }

@@ -1,9 +1,29 @@
 //! New queues and their passes, and what most of these tests do with them.
-use csq_list::{Peek, PendingList};
-use csq_queue::{Blank, Csq, Pass, PassRack, QueueName};
-use irp_core::{FinalStatus, IrpId};
+use csq_list::{PendingList, Place, VecList};
+use csq_queue::{Blank, Csq, Inserted, Pass, PassRack, QueueName};
+use irp_core::{FileId, IrpId, Life};
 use std::process::Abort;
 use std::sync::Wait;
+use test_watched_list::{Watch, WatchedList};
+
+// The life in which all IRPs begin.
+pub(super) const LIFE: Life = Life(1);
+
+// A list of so many IRPs and file objects in a vector.
+pub(super) fn vector<R: AllocGlobal + Abort>(rt: &R, irps: u32, files: u32) -> VecList {
+    match VecList::new(rt.alloc(), irps, files, irps) {
+        Ok(list) => list,
+        Err(_) => panic!(rt; "no list"),
+    }
+}
+
+// A list that tells a watch of its calls.
+pub(super) fn watched<L: PendingList + Drop, W: Watch>(
+    list: L,
+    watch: &W,
+) -> WatchedList<'_, L, W> {
+    WatchedList { list, watch }
+}
 
 // A new queue over this list, with so many passes.
 pub(super) fn blank<L: PendingList + Drop, R: AllocGlobal + Abort>(
@@ -12,7 +32,7 @@ pub(super) fn blank<L: PendingList + Drop, R: AllocGlobal + Abort>(
     passes: u32,
 ) -> Blank<L> {
     let irps = list.irps();
-    match Blank::new(rt.alloc(), list, irps, passes) {
+    match Blank::new_at(rt.alloc(), list, irps, passes, LIFE) {
         Ok(blank) => blank,
         Err(_) => panic!(rt; "no queue"),
     }
@@ -26,34 +46,26 @@ pub(super) fn take<N: QueueName, R: Abort>(rt: &R, rack: &mut PassRack<N>) -> Pa
     }
 }
 
-// The next two passes.
-pub(super) fn take_two<N: QueueName, R: Abort>(
-    rt: &R,
-    rack: &mut PassRack<N>,
-) -> (Pass<N>, Pass<N>) {
-    let one = take(rt, rack);
-    (one, take(rt, rack))
-}
-
-// Removes the first IRP and completes it. None where there is none.
-pub(super) fn complete_next<L: PendingList + Drop, N: QueueName, R: Wait>(
+// Whether an IRP is inserted last, and pending then.
+pub(super) fn inserts<L: PendingList + Drop, N: QueueName, R: Wait>(
     rt: &R,
     queue: &Csq<L, N>,
     pass: &mut Pass<N>,
-    peek: Peek,
-) -> Option<IrpId> {
-    match queue.remove_next(rt, pass, peek) {
-        None => None,
-        Some(token) => {
-            let irp = token.irp();
-            queue.complete(pass, token, FinalStatus::success());
-            Some(irp)
+    irp: IrpId,
+    file: FileId,
+) -> bool {
+    match queue.insert(rt, pass, irp, file, Place::Back) {
+        Err(_) => false,
+        Ok(Inserted::Pending(_)) => true,
+        Ok(Inserted::Cancelled(token)) => {
+            queue.complete_cancelled(pass, token);
+            false
         }
     }
 }
 
 // Gives a pass back that holds and owes nothing.
-fn give_back<L: PendingList + Drop, N: QueueName, R: Wait + Abort>(
+pub(super) fn give_back<L: PendingList + Drop, N: QueueName, R: Wait + Abort>(
     rt: &R,
     queue: &Csq<L, N>,
     pass: Pass<N>,
@@ -61,17 +73,6 @@ fn give_back<L: PendingList + Drop, N: QueueName, R: Wait + Abort>(
     if queue.give_back(rt, pass).is_err() {
         panic!(rt; "not given back");
     }
-}
-
-// Gives two passes back.
-pub(super) fn give_back_two<L: PendingList + Drop, N: QueueName, R: Wait + Abort>(
-    rt: &R,
-    queue: &Csq<L, N>,
-    passes: (Pass<N>, Pass<N>),
-) {
-    let (one, two) = passes;
-    give_back(rt, queue, one);
-    give_back(rt, queue, two);
 }
 
 // Closes a queue with its last pass.
@@ -84,16 +85,4 @@ pub(super) fn close<L: PendingList + Drop, N: QueueName, R: Abort>(
     if queue.close(pass, rack).is_err() {
         panic!(rt; "not closed");
     }
-}
-
-// Gives the second pass back, and closes the queue with the first.
-pub(super) fn give_back_and_close<L: PendingList + Drop, N: QueueName, R: Wait + Abort>(
-    rt: &R,
-    queue: Csq<L, N>,
-    passes: (Pass<N>, Pass<N>),
-    rack: PassRack<N>,
-) {
-    let (one, two) = passes;
-    give_back(rt, &queue, two);
-    close(rt, queue, one, rack);
 }

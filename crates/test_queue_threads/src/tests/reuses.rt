@@ -1,135 +1,111 @@
-//! Two threads lead IRPs through their lives, and two others cancel them.
+//! One thread leads IRPs through their lives, while another one cancels them.
 ghost use Rattle.std.specs.Prelude.{◌≡◌};
 
-use super::queues::{blank, complete_next, give_back_and_close, give_back_two, take_two};
-use csq_list::{Peek, PendingList, Place, VecList};
+use super::queues::{LIFE, blank, close, give_back, take, vector};
+use csq_list::{Peek, PendingList, Place};
 use csq_queue::{Blank, CancelRefused, Csq, Inserted, Pass, QueueName};
-use irp_core::{FileId, IrpId, Life};
+use irp_core::{FileId, FinalStatus, IrpId, Life};
 use std::marker::Brand;
 use std::process::Abort;
 use std::sync::Wait;
-use std::sync::atomic::{AtomicBool, Ordering};
-use std::test::Fail;
+use std::sync::atomic::{AtomicBool, AtomicU64, Ordering};
 use std::thread::{Threads, join, yield_now};
 
-// How many IRPs each of the two submitters has.
-const SHARE: u32 = 8;
+// How many IRPs there are.
+const IRPS: u32 = 16;
 
 // How many lives each IRP has.
 const LIVES: u32 = 10_000;
 
-// How often a thread completed each IRP, and how many answers it got that must not come.
-#[derive(Clone, Copy)]
+// What both threads count.
+#[derive(Drop)]
 struct Counts {
-    completed: [u32; 16],
-    wrong: u32,
+    completed: AtomicU64,
+    // Answers that must not come.
+    wrong: AtomicU64,
+    // All lives are over.
+    done: AtomicBool,
 }
 
 impl Counts {
-    fn new() -> Counts {
-        Counts {
-            completed: [0; 16],
-            wrong: 0,
-        }
+    fn complete(&self) {
+        self.completed.fetch_add(1, Ordering::SeqCst);
     }
 
-    fn complete(&mut self, irp: IrpId) {
-        if let Some(times) = self.completed.get_mut(irp.0 as usize) {
-            *times = times.wrapping_add(1);
-        }
-    }
-
-    fn expect(&mut self, right: bool) {
+    fn expect(&self, right: bool) {
         if !right {
-            self.wrong = self.wrong.wrapping_add(1);
+            self.wrong.fetch_add(1, Ordering::SeqCst);
         }
     }
 }
 
-// Inserts a submitter's IRPs for its file. Each is accepted.
-fn insert_share<L: PendingList + Drop, N: QueueName, R: Wait>(
+// Inserts each. It is pending, or found cancelled.
+fn insert_each<L: PendingList + Drop, N: QueueName, R: Wait>(
     rt: &R,
     queue: &Csq<L, N>,
     pass: &mut Pass<N>,
-    file: FileId,
-    counts: &mut Counts,
+    counts: &Counts,
 ) {
-    for nth in 0..SHARE {
-        let irp = IrpId(file.0.wrapping_mul(SHARE).wrapping_add(nth));
-        match queue.insert(rt, pass, irp, file, Place::Back) {
+    for number in 0..IRPS {
+        match queue.insert(rt, pass, IrpId(number), FileId(0), Place::Back) {
             Err(_) => counts.expect(false),
-            Ok(inserted) => match inserted {
-                Inserted::Pending(_) => {}
-                Inserted::Cancelled(token) => {
-                    queue.complete_cancelled(pass, token);
-                    counts.complete(irp);
-                }
-            },
+            Ok(Inserted::Pending(_)) => {}
+            Ok(Inserted::Cancelled(token)) => {
+                queue.complete_cancelled(pass, token);
+                counts.complete();
+            }
         }
     }
 }
 
 // Removes what is left of them and completes it.
-fn remove_share<L: PendingList + Drop, N: QueueName, R: Wait>(
+fn remove_each<L: PendingList + Drop, N: QueueName, R: Wait>(
     rt: &R,
     queue: &Csq<L, N>,
     pass: &mut Pass<N>,
-    file: FileId,
-    counts: &mut Counts,
+    counts: &Counts,
 ) {
-    for _ in 0..SHARE {
-        if let Some(irp) = complete_next(rt, queue, pass, Peek::File(file)) {
-            counts.complete(irp);
-        }
-    }
-}
-
-// Waits until an IRP is completed in its present life.
-fn wait_for_status<L: PendingList + Drop, N: QueueName, R: Wait>(
-    rt: &R,
-    queue: &Csq<L, N>,
-    pass: &mut Pass<N>,
-    irp: IrpId,
-) {
-    for _ in rt.forever() {
-        match queue.status(pass, irp) {
-            Ok((_, None)) => yield_now(),
-            Ok((_, Some(_))) | Err(_) => return,
+    for _ in 0..IRPS {
+        if let Some(token) = queue.remove_next(rt, pass, Peek::Any) {
+            queue.complete(pass, token, FinalStatus::success());
+            counts.complete();
         }
     }
 }
 
 // Begins the next life of each, once it is completed, by its canceller perhaps.
-fn reuse_share<L: PendingList + Drop, N: QueueName, R: Wait>(
+fn reuse_each<L: PendingList + Drop, N: QueueName, R: Wait>(
     rt: &R,
     queue: &Csq<L, N>,
     pass: &mut Pass<N>,
-    file: FileId,
     next: Life,
-    counts: &mut Counts,
+    counts: &Counts,
 ) {
-    for nth in 0..SHARE {
-        let irp = IrpId(file.0.wrapping_mul(SHARE).wrapping_add(nth));
-        wait_for_status(rt, queue, pass, irp);
-        counts.expect(queue.reuse(rt, pass, irp) == Ok(next));
+    for number in 0..IRPS {
+        for _ in rt.forever() {
+            if !matches!(queue.status(pass, IrpId(number)), Ok((_, None))) {
+                break;
+            }
+            yield_now();
+        }
+        counts.expect(queue.reuse(rt, pass, IrpId(number)) == Ok(next));
     }
 }
 
-// Leads a submitter's IRPs through their lives.
+// Leads all IRPs through their lives.
 fn submit<L: PendingList + Drop, N: QueueName, R: Wait>(
     rt: &R,
     queue: &Csq<L, N>,
     pass: &mut Pass<N>,
-    file: FileId,
-) -> Counts {
-    let mut counts = Counts::new();
+    counts: &Counts,
+) {
     for life in 0..LIVES {
-        insert_share(rt, queue, pass, file, &mut counts);
-        remove_share(rt, queue, pass, file, &mut counts);
-        let next = Life(life.wrapping_add(1));
-        reuse_share(rt, queue, pass, file, next, &mut counts);
+        let next = Life(LIFE.0.wrapping_add(life).wrapping_add(1));
+        insert_each(rt, queue, pass, counts);
+        remove_each(rt, queue, pass, counts);
+        reuse_each(rt, queue, pass, next, counts);
     }
-    counts
+    counts.done.store(true, Ordering::SeqCst);
 }
 
 // Cancels an IRP in the life in which it was just now, or in one behind that, which must be stale.
@@ -139,17 +115,17 @@ fn cancel_one<L: PendingList + Drop, N: QueueName, R: Wait>(
     pass: &mut Pass<N>,
     irp: IrpId,
     behind: u32,
-    counts: &mut Counts,
+    counts: &Counts,
 ) {
-    let Ok((life, _)) = queue.is_cancelled(pass, irp) else {
-        counts.expect(false);
-        return;
+    let life = match queue.is_cancelled(pass, irp) {
+        Ok((life, _)) => life,
+        Err(_) => LIFE,
     };
     let named = Life(life.0.saturating_sub(behind));
     match queue.cancel(rt, pass, irp, named) {
         Ok(true) => {
             counts.expect(named == life);
-            counts.complete(irp);
+            counts.complete();
         }
         Ok(false) => counts.expect(named == life),
         Err(CancelRefused::Stale(found)) => counts.expect(found.0 >= life.0),
@@ -157,76 +133,45 @@ fn cancel_one<L: PendingList + Drop, N: QueueName, R: Wait>(
     }
 }
 
-// Cancels IRPs in a random order, in their present lives and in lives behind them, until it is told
-// to stop.
+// Cancels IRPs in a random order, in their present lives and in lives behind them, until all are over.
 fn cancel_at_random<L: PendingList + Drop, N: QueueName, R: Wait>(
     rt: &R,
     queue: &Csq<L, N>,
     pass: &mut Pass<N>,
-    done: &AtomicBool,
-    seed: u32,
-) -> Counts {
-    let mut counts = Counts::new();
-    let mut random = seed;
+    counts: &Counts,
+) {
+    let mut random = 3u32;
     for _ in rt.forever() {
-        if done.load(Ordering::SeqCst) {
+        if counts.done.load(Ordering::SeqCst) {
             break;
         }
         random = random.wrapping_mul(1_664_525).wrapping_add(1_013_904_223);
-        let irp = IrpId((random >> 28) % (2 * SHARE));
-        cancel_one(rt, queue, pass, irp, (random >> 24) % 4, &mut counts);
-    }
-    counts
-}
-
-// Each life that was inserted was completed once, by one of the four.
-fn judge<R: Abort>(rt: &R, counts: [Counts; 4]) {
-    let [one, two, three, four] = counts;
-    assert_eq!(rt; one.wrong, 0);
-    assert_eq!(rt; two.wrong, 0);
-    assert_eq!(rt; three.wrong, 0);
-    assert_eq!(rt; four.wrong, 0);
-    for irp in 0..16 {
-        let submitted = one.completed[irp].wrapping_add(two.completed[irp]);
-        let cancelled = three.completed[irp].wrapping_add(four.completed[irp]);
-        assert_eq!(rt; submitted.wrapping_add(cancelled), LIVES);
+        let irp = IrpId((random >> 28) % IRPS);
+        cancel_one(rt, queue, pass, irp, (random >> 24) % 4, counts);
     }
 }
 
-// Each submitter has a file object of its own. The cancellers go on until both submitters are done.
+// As many completions are counted as there are lives. No life is followed by another before it was completed.
 fn submit_beside_cancels<L, N, R>(
     rt: &R,
     queue: &Csq<L, N>,
-    submitters: &mut (Pass<N>, Pass<N>),
-    cancellers: &mut (Pass<N>, Pass<N>),
+    one: &mut Pass<N>,
+    two: &mut Pass<N>,
+    counts: &Counts,
 )
 where
     L: PendingList + Drop + Send,
     N: QueueName + Send + Sync,
     R: Threads + Wait + Abort + Sync,
 {
-    let ((one, two), (three, four)) = (submitters, cancellers);
-    let done = AtomicBool::new(false);
-    let ((a, b), (c, d)) = join(
+    join(
         rt,
-        || {
-            let both = join(
-                rt,
-                || submit(rt, queue, one, FileId(0)),
-                || submit(rt, queue, two, FileId(1)),
-            );
-            done.store(true, Ordering::SeqCst);
-            both
-        },
-        || {
-            join(
-                rt,
-                || cancel_at_random(rt, queue, three, &done, 3),
-                || cancel_at_random(rt, queue, four, &done, 4),
-            )
-        },
+        || submit(rt, queue, one, counts),
+        || cancel_at_random(rt, queue, two, counts),
     );
-    judge(rt, [a, b, c, d]);
+    assert!(rt; counts.wrong.load(Ordering::SeqCst) == 0);
+    let lives = u64::from(IRPS) * u64::from(LIVES);
+    assert!(rt; counts.completed.load(Ordering::SeqCst) == lives);
 }
 
 fn submit_and_cancel<L, N, R>(rt: &R, blank: Blank<L>)
@@ -236,25 +181,21 @@ where
     R: Threads + Wait + Abort + Sync,
     requires { blank ≡ record { table = N.table; limits = N.limits } }
 {
+    let counts = Counts {
+        completed: AtomicU64::new(0),
+        wrong: AtomicU64::new(0),
+        done: AtomicBool::new(false),
+    };
     let (queue, mut rack) = blank.into_queue::<N>();
-    let mut submitters = take_two(rt, &mut rack);
-    let mut cancellers = take_two(rt, &mut rack);
-    submit_beside_cancels(rt, &queue, &mut submitters, &mut cancellers);
-    give_back_two(rt, &queue, cancellers);
-    give_back_and_close(rt, queue, submitters, rack);
-}
-
-fn submit_and_cancel_over<L, R>(rt: &R, list: L)
-where
-    L: PendingList + Drop + Send,
-    R: Threads + Wait + AllocGlobal + Abort + Sync,
-{
-    submit_and_cancel::<L, Brand, R>(rt, blank(rt, list, 4));
+    let mut one = take(rt, &mut rack);
+    let mut two = take(rt, &mut rack);
+    submit_beside_cancels(rt, &queue, &mut one, &mut two, &counts);
+    give_back(rt, &queue, two);
+    close(rt, queue, one, rack);
 }
 
 #[test]
-fn each_life_is_completed_once(rt: HostRuntime) -> Result<(), Fail> {
-    let list = VecList::new(rt.alloc(), 2 * SHARE, 2, 2 * SHARE)?;
-    submit_and_cancel_over(&rt, list);
-    Ok(())
+fn each_life_is_completed_once(rt: HostRuntime) {
+    let list = vector(&rt, IRPS, 1);
+    submit_and_cancel::<_, Brand, _>(&rt, blank(&rt, list, 2));
 }

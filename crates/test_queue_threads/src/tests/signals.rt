@@ -42,7 +42,7 @@ impl Signals {
 /// A list waits, as it closes a file object, until it is told to go on.
 impl Watch for Signals {
     fn at(&self, moment: Moment) {
-        if moment == Moment::Closing {
+        if matches!(moment, Moment::Closing) {
             self.give(&self.inside);
             self.wait_for(&self.go_on);
         }

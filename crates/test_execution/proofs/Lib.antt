@@ -1,4 +1,0 @@
-pub mod Owning
-pub mod Flagging
-pub mod Completing
-pub mod Rereading

@@ -1,6 +1,0 @@
-//! Tests of what happens when memory is refused: to a machine, words, the lists and a queue. There is no
-//! other code here.
-#![tactic(auto)]
-
-#[cfg(test)]
-mod tests;

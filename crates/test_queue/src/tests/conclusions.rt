@@ -1,0 +1,115 @@
+//! What a caller can conclude from the contracts of a queue's calls alone: all that its passes see is of one
+//! execution. Each function of the modules makes a few calls, and its contract is the conclusion. The test makes each
+//! once over a queue of two passes.
+ghost use Rattle.std.specs.Prelude.{◌≡◌, ◌≢◌};
+ghost use Rattle.csq_queue.specs.Owned.{HoldsRemoved};
+
+mod flags;
+mod owners;
+mod reads;
+mod statuses;
+
+use super::queues::{FIRST, Rows, SECOND, ZERO, blank, insert, take, vector};
+use csq_list::{Peek, PendingList, Place, VecList};
+use csq_queue::{Blank, Csq, Inserted, Pass, QueueName, Token};
+use irp_core::{FileId, FinalStatus, Life, NtStatus};
+use std::marker::Brand;
+use std::process::Abort;
+use std::sync::Wait;
+
+// The next IRP, which is listed.
+fn remove<L: PendingList + Drop, N: QueueName, R: Wait + Abort>(
+    rt: &R,
+    queue: &Csq<L, N>,
+    pass: &mut Pass<N>,
+) -> Token<N>
+    ensures { HoldsRemoved N.limits.irps pass.new result }
+{
+    match queue.remove_next(rt, pass, Peek::Any) {
+        Some(token) => token,
+        None => panic!(rt; "none is listed"),
+    }
+}
+
+// Whether an insert after a flag finds it.
+fn finds_flag<L: PendingList + Drop, N: QueueName, R: Wait>(
+    rt: &R,
+    queue: &Csq<L, N>,
+    one: &mut Pass<N>,
+    two: &mut Pass<N>,
+) -> bool {
+    match flags::insert_after_flag(queue, rt, one, two, ZERO, FileId(0), Place::Back) {
+        Err(_) => false,
+        Ok(Inserted::Pending(_)) => false,
+        Ok(Inserted::Cancelled(token)) => {
+            queue.complete_cancelled(two, token);
+            true
+        }
+    }
+}
+
+// A reuse after a status that was read, and after a completion that was told.
+fn reuse_twice<L: PendingList + Drop, N: QueueName, R: Wait + Abort>(
+    rt: &R,
+    queue: &Csq<L, N>,
+    one: &mut Pass<N>,
+    two: &mut Pass<N>,
+    rows: &mut Rows,
+) {
+    let (read, again) = statuses::read_and_reuse(queue, rt, one, ZERO);
+    rows.note(read == Ok((FIRST, Some(NtStatus::CANCELLED))));
+    rows.note(again == Ok(SECOND));
+    rows.note(insert(rt, queue, two, ZERO, 0).is_some());
+    let token = remove(rt, queue, one);
+    let again = statuses::complete_and_reuse(queue, rt, one, two, token, FinalStatus::success());
+    rows.note(again == Ok(Life(7)));
+}
+
+// Two reads each, and an IRP that is served.
+fn read_twice<L: PendingList + Drop, N: QueueName, R: Wait>(
+    rt: &R,
+    queue: &Csq<L, N>,
+    pass: &mut Pass<N>,
+    rows: &mut Rows,
+) {
+    let (earlier, later) = reads::read_flags(queue, pass, ZERO);
+    rows.note(earlier == Ok((Life(7), false)) && later == earlier);
+    rows.note(insert(rt, queue, pass, ZERO, 0).is_some());
+    rows.note(reads::serve_next(queue, rt, pass, FinalStatus::success()) == Some(ZERO));
+    let (earlier, later) = reads::read_statuses(queue, pass, ZERO);
+    rows.note(earlier == Ok((Life(7), Some(NtStatus::SUCCESS))) && later == earlier);
+}
+
+// Draws all conclusions with two passes.
+fn draw_each<L: PendingList + Drop, N: QueueName, R: Wait + Abort>(
+    rt: &R,
+    queue: &Csq<L, N>,
+    one: &mut Pass<N>,
+    two: &mut Pass<N>,
+)
+    requires apart { one.old.pass ≢ two.old.pass }
+{
+    let mut rows = Rows::new();
+    owners::meet(queue, rt, one, two);
+    rows.note(queue.cancel(rt, one, ZERO, FIRST) == Ok(false));
+    rows.note(finds_flag(rt, queue, one, two));
+    reuse_twice(rt, queue, one, two, &mut rows);
+    read_twice(rt, queue, two, &mut rows);
+    rows.judge(rt);
+}
+
+// Draws them over a queue of this name.
+fn draw_all<N: QueueName, R: Wait + Abort>(rt: &R, blank: Blank<VecList>)
+    requires { blank ≡ record { table = N.table; limits = N.limits } }
+{
+    let (queue, mut rack) = blank.into_queue::<N>();
+    let mut one = take(rt, &mut rack);
+    let mut two = take(rt, &mut rack);
+    draw_each(rt, &queue, &mut one, &mut two);
+}
+
+#[test]
+fn conclusions_hold_of_a_queue_of_two_passes(rt: HostRuntime) {
+    let list = vector(&rt, rt.alloc());
+    draw_all::<Brand, _>(&rt, blank(&rt, rt.alloc(), list, 2));
+}

@@ -1,6 +1,0 @@
-mod answers;
-mod hostile;
-mod memory;
-mod schedules;
-mod scripts;
-mod streams;
