@@ -35,7 +35,7 @@ ALONE = (b'inserts', b'removals', b'cancelled and listed', b'milliseconds')
 
 
 def ends(answer):
-    """A program whose end, and what the preloaded library reports, this answers, of the settings."""
+    """A program: from the settings, this function makes how it ends and what the preloaded library reports."""
     return SimpleNamespace(run=lambda words, data=b'', library=None, **settings: answer(settings))
 
 
