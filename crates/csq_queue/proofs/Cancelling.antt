@@ -36,4 +36,5 @@ adds_before l history old mid out es i flag found e follows a = record {
   calls = a.calls ∙ ap (λ (r : PassRecord). (with_calls es r).mine) e;
   once = a.once;
   ends = a.ends ∙ ap (λ (r : PassRecord). entries_of r.pass es ++ history) e;
+  since = subst (λ (seen : List Entry). IsExtendedBy seen history) (ap (λ (r : PassRecord). r.seen) e) a.since;
 }

@@ -1,7 +1,8 @@
 -- Two passes that see the same execution.
 use Rattle.csq_words.specs.History.{IsExtendedBy}
-use Rattle.std.proofs.Common.{◌≡◌, Bool, true, false, List, [], ◌∷◌, ◌++◌, length, Some, refl, sym, ap, ◌∙◌, arith}
+use Rattle.std.proofs.Common.{◌≡◌, false, List, [], ◌∷◌, ◌++◌, length, Some, refl, sym, ap, ◌∙◌, arith}
 use Rattle.std.proofs.lemmas.List.{length-append}
+use Rattle.std.proofs.lemmas.List.Elements.{filter-append}
 use Rattle.irp_core.specs.declared.ids.PassId.{PassId}
 use Rattle.irp_core.specs.declared.step.Made.{Made}
 use Rattle.irp_core.specs.declared.inside.Inside.TheVariants.{Nothing}
@@ -18,15 +19,10 @@ use Rattle.csq_queue.proofs.Presence.{sees_run}
 
 -- a pass's steps in a run that goes on
 pub own-append : (p : PassId) (newer run : List Made) → own p (newer ++ run) ≡ own p newer ++ own p run
-own-append p [] run = refl
-own-append p (m ∷ newer) run = go (by p m) refl (own-append p newer run)
-  where
-    go : (b : Bool) → by p m ≡ b → own p (newer ++ run) ≡ own p newer ++ own p run → own p ((m ∷ newer) ++ run) ≡ own p (m ∷ newer) ++ own p run
-    go true e rest = rw e (ap (λ l. m ∷ l) rest)
-    go false e rest = rw e rest
+own-append p newer run = filter-append (by p) newer run
 
 -- nothing was added to a list that is as long as it was
-none_added : {A : Type 0} (newer old : List A) → length (newer ++ old) ≡ length old → newer ≡ []
+pub none_added : {A : Type 0} (newer old : List A) → length (newer ++ old) ≡ length old → newer ≡ []
 none_added [] old e = refl
 none_added (x ∷ newer) old e = let l = length-append newer old in absurd (omega (arith, e, l))
 

@@ -13,7 +13,7 @@ use Rattle.csq_words.specs.Rule.{HasBack}
 use Rattle.csq_words.specs.Finals.{FinalWords, AllBack, IsFinal}
 use Rattle.csq_words.specs.Stories.{Story, SeeOneHistory}
 use Rattle.csq_words.proofs.Stories.{a_story}
-use Rattle.csq_words.proofs.Seen.{recorded_see}
+use Rattle.csq_words.proofs.OneHistory.{recorded_see}
 use Rattle.csq_queue.specs.Named.{queue_size}
 use Rattle.csq_queue.specs.Rests.{IsRestOf, IsClosed}
 use Rattle.csq_queue.proofs.Backing.{still_at}

@@ -25,8 +25,9 @@ use Rattle.csq_words.specs.History.{end_of}
 use Rattle.irp_core.specs.Own.{owes_in, holds_in, removed_in, held_list, owed_list}
 use Rattle.csq_words.specs.Plays.{IsFlagOf, IsStatusOf, flag_read, status_read, shows_flagged, status_recorded}
 use Rattle.csq_words.specs.Queue.{Limits, current, refusal}
-use Rattle.csq_words.specs.Records.{saw, with_step, with_completion}
-use Rattle.csq_words.specs.Rule.{FindsUnset}
+use Rattle.csq_words.specs.declared.views.Prefix.{Prefix}
+use Rattle.csq_words.specs.Records.{saw, saw_prefix, prefix_of, with_step, with_completion}
+use Rattle.csq_words.specs.Rule.{FindsUnset, SeesPrefix}
 use Rattle.csq_queue.specs.declared.refusals.CancelRefused.{CancelRefused}
 use Rattle.csq_queue.specs.declared.refusals.ReuseRefused.{ReuseRefused}
 use Rattle.csq_queue.specs.declared.refusals.ReuseRefused.TheVariants as reuse
@@ -121,3 +122,8 @@ pub record ReadsStatus (irp : IrpId) (answer : Result (Life × Option NtStatus) 
   pub mine : IfOk answer (λ read. (i : IrpLife) (status : NtStatus) → i.irp ≡ irp → status_recorded i p.completed ≡ Some status → (read ≡ (i.life, Some status)) ⊎ (life_of i < read.0.0))
   pub owed : IfOk answer (λ read. (i : IrpLife) → i.irp ≡ irp → owes_in p.steps i ≡ true → read ≡ (i.life, None))
   pub held : IfOk answer (λ read. (i : IrpLife) → i.irp ≡ irp → holds_in p.steps i ≡ true → read ≡ (i.life, None))
+
+-- the pass learned what another had seen: it has then seen a history and an execution that begin with this and with what it had seen itself, and nothing else is new
+pub record Learns (s : Prefix) (size : Size) (p p' : PassRecord) : Type 0 where
+  pub same : p' ≡ saw_prefix (prefix_of p') p
+  pub told : SeesPrefix size s p p'

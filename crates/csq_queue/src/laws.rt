@@ -1,6 +1,7 @@
 //! What happened to each IRP of a queue, and what its passes have seen. Each function stands for a law: its
 //! contract is the law, and there is nothing to run.
 ghost use Rattle.csq_queue.specs.Stories.{EachIrpSeenIsGivenOnce, EachIrpLeftHasAStory, EachIrpOfAnOpenQueueHasAStory, ClosingPassesSeeOneHistory, PassesOfAnOpenQueueSeeOneHistory};
+ghost use Rattle.csq_queue.specs.Order.{CallsAreOrdered, CallsComeAfterWhatWasSeen, StepsComeAfterWhatWasSeen, CallsToldOfCameFirst, EventsLeftStandInOrder, EventsOfAnOpenQueueStandInOrder};
 
 /// Where the history and the run that a pass has seen agree, as after each of its calls under the lock: an IRP,
 /// in each of its lives, was inserted by at most one pass and given to at most one. By that run this one made
@@ -34,4 +35,43 @@ pub fn closing_passes_see_one_history()
 /// The same where `OpenQueue::close` answers, of all passes that came back, and the history that the queue had.
 pub fn passes_of_an_open_queue_see_one_history()
     ensures { PassesOfAnOpenQueueSeeOneHistory }
+{}
+
+/// The calls under the lock that add an event are in one order, that of the history: a call comes before another
+/// that found a history which begins with the one that it left. If a pass learned what another had seen when a call
+/// returned (`Csq::seen`, `Csq::learn`), by however many hands, its calls come after that one; so does a later call
+/// of the same pass. In the history the events of both stand in this order, each where its own call left them. Of
+/// two calls of different passes that stand in one history, one comes before the other.
+pub fn calls_are_ordered()
+    ensures { CallsAreOrdered }
+{}
+
+/// Whatever its pass had seen of the history before it, a call comes after it, and so do the calls of a cleanup.
+/// What was seen may have been handed on by a caller of any call, with the lock or without it.
+pub fn calls_come_after_what_was_seen()
+    ensures { CallsComeAfterWhatWasSeen }
+{}
+
+/// Whatever its pass had seen of the execution before it, the steps of a call under the lock come after it. Of a
+/// call without the lock its own contract says so.
+pub fn steps_come_after_what_was_seen()
+    ensures { StepsComeAfterWhatWasSeen }
+{}
+
+/// If `Csq::close` or `Csq::close_with` returns `Ok`, a call of the closing pass, or of one whose receipt is
+/// shown, stands in the history that is left after each call that it was told of.
+pub fn calls_told_of_came_first()
+    ensures { CallsToldOfCameFirst }
+{}
+
+/// If they do, the history that is left is that of the execution that is left: each of its events stands at a step of
+/// its own pass, in the order of these steps, and each step under the lock has its events there. Only the events
+/// of calls that make no step (a refused insert, a closed file object) stand between two steps.
+pub fn events_left_stand_in_order()
+    ensures { EventsLeftStandInOrder }
+{}
+
+/// The same if `OpenQueue::close` returns, of the history that the queue had.
+pub fn events_of_an_open_queue_stand_in_order()
+    ensures { EventsOfAnOpenQueueStandInOrder }
 {}

@@ -22,6 +22,7 @@ use Rattle.irp_core.specs.Words.{was_armed}
 use Rattle.irp_core.specs.Lives.{present_life}
 use Rattle.irp_core.specs.declared.ids.IrpId.{IrpId}
 use Rattle.csq_words.specs.declared.views.Reusing.{Reusing}
+use Rattle.csq_words.specs.Recorded.{IsPlaced}
 use Rattle.csq_words.specs.Rule.{inserts, in_flight, AreTrueOf, IsReuse, IsHistoryOf, with_done, completed_in, IsPassOf, AreStored, RuleHoldsBy, RecordsAgree, HasObserved}
 use Rattle.csq_words.proofs.PassSteps.{AllWords}
 use Rattle.irp_core.proofs.Own.{own-mine, own-other}
@@ -90,9 +91,9 @@ pub told_kept : (size : Size) (words : List ℕ) (views : List View) (run : List
 told_kept size words views run id q r seat history pass k = (k, record { history_is = history; pass_is = pass; callers = λ p s. (k.agrees.nobody p (nobody_in q.made size.passes p k.agrees.few s)).1; seen = k.agrees.seen })
 
 pub made_kept : (size : Size) (words words' : List ℕ) (views : List View) (run : List Made) (id : ℕ) (q : QueueRecord) (r : PassRecord) (seat : PassId → ℕ) (kind : Kind) (n : ℕ) (es : List Event) (reuse : Reusing)
-    → RuleHoldsBy size words views run id q (Some r) seat → IsMade size words words' run q r kind n es reuse
+    → RuleHoldsBy size words views run id q (Some r) seat → IsMade size words words' run q r kind n es reuse → IsPlaced q.first (record { pass = r.pass; kind = kind; found = n } ∷ run) (entries_of r.pass es ++ q.history)
     → ObservedAfter size words' views id seat q (made_record r es reuse (record { pass = r.pass; kind = kind; found = n } ∷ run) q) (with_calls es (with_step kind n r))
-made_kept size words words' views run id q r seat kind n es reuse k x =
+made_kept size words words' views run id q r seat kind n es reuse k x placed =
     let m : Made = record { pass = r.pass; kind = kind; found = n } in
     let q' = made_record r es reuse (m ∷ run) q in
     let history' = entries_of r.pass es ++ q.history in
@@ -107,6 +108,7 @@ made_kept size words words' views run id q r seat kind n es reuse k x =
       lives_are = x.lives_are;
       true_of = x.true_of;
       orderly = x.orderly;
+      placed = placed;
     } in
     let pass_is : IsPassOf (m ∷ run) history' r' = record {
       seen_is = begins_more r.seen q.history (entries_of r.pass es) was.seen_is;
@@ -139,5 +141,6 @@ made_kept size words words' views run id q r seat kind n es reuse k x =
       };
       elsewhere = λ p ne. (own-other p m run (λ e. ne (sym e)), calls_of-other p r.pass es q.history ne, inside_other m run p ne);
       seen = ([], refl);
+      grows = λ s g. (begins_more s.history q.history (entries_of r.pass es) g.0, extended_more m s.run run g.1);
       mine = record { of_pass = pass_is; stored = x.stored r.completed owner.2.stored; due = due_more m r.steps r.completed owner.2.due; begun = begun_more q.first m run r.lives owner.2.begun };
     }) in (kept.0, record { told = kept.1; follows = extended_more m q.run run k.agrees.seen })

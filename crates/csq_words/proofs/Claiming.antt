@@ -22,9 +22,9 @@ use Rattle.csq_words.specs.Queue.{has_irp}
 use Rattle.csq_words.specs.Rule.{is_done, with_done, completed_in, AreDue}
 use Rattle.csq_words.specs.Plays.{status_recorded}
 use Rattle.csq_words.specs.Stories.{IsOneOf}
-use Rattle.csq_words.proofs.Facts.{off}
+use Rattle.csq_words.proofs.Facts.{off, dones_some}
 use Rattle.csq_words.proofs.Keeping.{none_is}
-use Rattle.irp_core.proofs.Own.{own_made}
+use Rattle.irp_core.proofs.Own.{any_filtered, own_made}
 use Rattle.csq_words.proofs.Truths.{own_any}
 
 -- a removal is a claim, and so is each exchange that took the routine
@@ -149,3 +149,46 @@ recorded_due steps (c ∷ cs) i status h e n = go (recorded_due steps cs i statu
     go : (status_recorded i cs ≡ Some status → removed_in steps i ≡ false → status ≡ CANCELLED) → (b : Bool) → same_irp c.irp i ≡ b → cond b (Some c.status) (status_recorded i cs) ≡ Some status → status ≡ CANCELLED
     go rest true x e = sym (same_some c.status status e) ∙ h.0 (ap (removed_in steps) (same_irp-eq c.irp i x) ∙ n)
     go rest false x e = rest e n
+
+-- an IRP that was completed once, and by a step of p, was completed by p
+pub done_by : (E : List Made) (d : Made) (i : IrpLife) (p : PassId) → dones E i ≡ d ∷ [] → is_done (own p E) i ≡ true → d.pass ≡ p
+done_by [] d i p h o = absurd cc
+done_by (m ∷ E) d i p h o = go (done_by E d i p) (is (Done i) m) (by p m) refl refl h o
+  where
+    go : (dones E i ≡ d ∷ [] → is_done (own p E) i ≡ true → d.pass ≡ p) → (b c : Bool) → is (Done i) m ≡ b → by p m ≡ c
+        → cond b (m ∷ dones E i) (dones E i) ≡ d ∷ [] → is_done (cond c (m ∷ own p E) (own p E)) i ≡ true → d.pass ≡ p
+    go rest false false e f h o = rest h o
+    go rest false true e f h o = rest h (ap (λ b. b || is_done (own p E) i) (sym e) ∙ o)
+    go rest true true e f h o = let same : m ≡ d = cc in ap (λ (x : Made). x.pass) (sym same) ∙ same_pass-eq m.pass p f
+    go rest true false e f h o = let none : dones E i ≡ [] = cc in absurd (dones_some E i (any_filtered (is (Done i)) (by p) E o) none)
+
+-- the IRP of a status that was recorded was completed by a step
+pub recorded_done : (steps : List Made) (cs : List Completion) (i : IrpLife) (status : NtStatus) → map (λ (c : Completion). c.irp) cs ≡ completed_in steps → status_recorded i cs ≡ Some status → is_done steps i ≡ true
+recorded_done steps cs i status are h = has_done steps (ap (λ is. has_irp is i) (sym are) ∙ recorded_has cs h)
+  where
+    recorded_has : (cs : List Completion) → status_recorded i cs ≡ Some status → has_irp (map (λ (c : Completion). c.irp) cs) i ≡ true
+    recorded_has [] h = none_is status h
+    recorded_has (c ∷ cs) h = go (same_irp c.irp i) (recorded_has cs) h
+      where
+        go : (b : Bool) → (status_recorded i cs ≡ Some status → has_irp (map (λ (c : Completion). c.irp) cs) i ≡ true) → cond b (Some c.status) (status_recorded i cs) ≡ Some status → (b || has_irp (map (λ (c : Completion). c.irp) cs) i) ≡ true
+        go true rest h = refl
+        go false rest h = rest h
+
+    has_done : (steps : List Made) → has_irp (completed_in steps) i ≡ true → is_done steps i ≡ true
+    has_done [] h = h
+    has_done (m ∷ steps) h = go m.kind (has_done steps) h
+      where
+        either' : (b : Bool) → (has_irp (completed_in steps) i ≡ true → is_done steps i ≡ true) → (b || has_irp (completed_in steps) i) ≡ true → (b || is_done steps i) ≡ true
+        either' true rest h = refl
+        either' false rest h = rest h
+
+        go : (k : Kind) → (has_irp (completed_in steps) i ≡ true → is_done steps i ≡ true) → has_irp (with_done k (completed_in steps)) i ≡ true → (same_kind k (Done i) || is_done steps i) ≡ true
+        go (Done j) rest h = either' (same_irp j i) rest h
+        go (Arm j) rest h = rest h
+        go (Test j) rest h = rest h
+        go (Disarm j) rest h = rest h
+        go End rest h = rest h
+        go (Flag j) rest h = rest h
+        go (Take j) rest h = rest h
+        go (Out j) rest h = rest h
+        go (Renew j) rest h = rest h

@@ -19,6 +19,7 @@ use Rattle.irp_core.specs.Words.{armed, flagged, cancel, routine, found_by}
 use Rattle.irp_core.specs.Owners.{owes, holds, listed}
 use Rattle.irp_core.specs.Lives.{IsPresent}
 use Rattle.irp_core.specs.Inside.{inside, has_lock}
+use Rattle.irp_core.specs.declared.inside.Inside.TheVariants as inner
 use Rattle.irp_core.specs.Runs.{Size, OfIrp}
 use Rattle.irp_core.proofs.Names.{same_irp-refl}
 use Rattle.irp_core.proofs.Next.{inserted_listed}
@@ -42,7 +43,9 @@ use Rattle.csq_words.specs.Queue.{current, has_entry, has_irp, has_marked}
 use Rattle.csq_words.specs.History.{end_of, MayStand, IsOrderly}
 use Rattle.csq_words.specs.Records.{view_of, queue_in, pass_in, queue_of, entries_of, with_events, with_calls, with_step, with_run, with_back}
 use Rattle.csq_words.specs.Seats.{HasQueue}
-use Rattle.csq_words.specs.Rule.{HasWords, is_done, in_flight, AreTrueOf, IsReuse, IsHistoryOf, IsPassOf, IsRecord, IsResting, IsBack, IsOut, Fits, RuleHoldsBy, RuleHolds}
+use Rattle.csq_words.specs.Recorded.{IsOfCall, IsPlaced}
+use Rattle.csq_words.specs.Recorded.IsPlaced.{recording, noting}
+use Rattle.csq_words.specs.Rule.{HasWords, is_done, in_flight, AreTrueOf, IsReuse, IsHistoryOf, IsPassOf, IsRecord, IsResting, IsBack, IsOut, BackOnce, Fits, RuleHoldsBy, RuleHolds}
 use Rattle.csq_words.specs.Calls.{recorded, MayRemove, MayMake, MayComeBack, MayNote, after_note}
 use Rattle.csq_words.specs.Plays.{SeatView, IsFound, FindsUnmarked, Makes, ObservesNote, Notes}
 use Rattle.csq_words.proofs.Facts.{off, bit_bound, bit_true, set_listed, listed_now, listed_undone, open_now, open_undone}
@@ -155,6 +158,23 @@ record IsStepAt (size : Size) (i : IrpLife) (kind : Kind) (at : ℕ) (f : ℕ �
   bound : (run : List Made) → found_by run kind < 2
   found_is : (words : List ℕ) (run : List Made) (reuse : Reusing) → HasWords size.first words run reuse i.irp → IsPresent size.first run i → is_done run i ≡ false → IsReuse size run reuse → slice_index words at ≡ bit_word (life_of i) (found_by run kind)
 
+of_call : (call : Call) (kind : Kind) (q : QueueRecord) (r : PassRecord) → MayMake call kind q r → IsOfCall call kind (queue_of q)
+of_call (Insert n f place) (Arm j) q r may = may.0
+of_call (Insert n f place) (Test j) q r may = may.0
+of_call (Insert n f place) (Disarm j) q r may = may.0
+of_call (Insert n f place) kind q r may = absurd may
+of_call (RemoveNext k) (Disarm j) q r may = tt
+of_call (RemoveNext k) End q r may = tt
+of_call (RemoveNext k) kind q r may = absurd may
+of_call (Remove i) (Disarm j) q r may = may.0
+of_call (Remove i) End q r may = tt
+of_call (Remove i) kind q r may = absurd may
+of_call (CancelRoutine n) (Out j) q r may = may.0
+of_call (CancelRoutine n) kind q r may = absurd may
+of_call (CloseFile f) kind q r may = absurd may
+of_call (Reuse n) kind q r may = absurd may
+of_call GiveBack kind q r may = absurd may
+
 makes : (size : Size) (slots id : ℕ) (q : QueueRecord) (r : PassRecord) (held : List (ℕ × Unit {0})) (call : Call) (i : IrpLife) (kind : Kind) (at : ℕ) (f : ℕ → ℕ) (a : ℕ) → number i < size.irps → IsStepAt size i kind at f → MayMake call kind q r
     → Allows (RuleHolds size) slots id (view_of q (Some r), held) at f (Makes size call kind (step slots at a 0 none) (view_of q (Some r), held))
 makes size slots id q r held call i kind at f a inside' p may s h _ here _ =
@@ -169,7 +189,7 @@ makes size slots id q r held call i kind at f a inside' p may s h _ here _ =
     let r' = with_calls es (with_step kind found r) in
     let m : Made = record { pass = r.pass; kind = kind; found = found } in
     let q' = made_record r es q.reusing (m ∷ run) q in
-    let kept = made_kept size s.words (words_after kind s.words) s.views run id q r seat kind found es q.reusing k (making size s.words run q r x call kind may p.known found is) in (
+    let kept = made_kept size s.words (words_after kind s.words) s.views run id q r seat kind found es q.reusing k (making size s.words run q r x call kind may p.known found is) (recording call m (of_call call kind q r may) k.agrees.history_is.placed) in (
       view_of q' (Some r'),
       keeps,
       tt,
@@ -232,9 +252,15 @@ module _ (size : Size) (words : List ℕ) (views : List View) (run : List Made) 
   owner : (seat r.pass ≡ id) × IsOut q r.pass × IsRecord q.first words run q.history r
   owner = (k.each_view id (view_of q (Some r)) k.queue_is).pass_here r refl
 
+  -- while the joined pass is inside of nothing, no pass has the lock by the run
+  nobody_locks : inside_of r.steps ≡ inner.Nothing → (p : PassId) → has_lock (inside run p) ≡ false
+  nobody_locks outside p = false_from_ne_true (has_lock (inside run p)) (λ l.
+      let same = only_joined run r k.lock p l in
+      off (sym (ap has_lock outside) ∙ (ap has_lock (inside_is run r words q owner.2) ∙ (ap (λ (x : PassId). has_lock (inside run x)) (sym same) ∙ l))))
+
   -- events without a step
-  noted_kept : (es : List Event) → AreSilent r.pass es → ObservedAfter size words views id seat q (with_events r.pass es (with_run run q)) (with_calls es r)
-  noted_kept es quiet =
+  noted_kept : (es : List Event) → AreSilent r.pass es → IsPlaced q.first run (entries_of r.pass es ++ q.history) → ObservedAfter size words views id seat q (with_events r.pass es (with_run run q)) (with_calls es r)
+  noted_kept es quiet placed =
       let history' = entries_of r.pass es ++ q.history in
       let r' = with_calls es r in
       let was = owner.2.of_pass in
@@ -248,6 +274,7 @@ module _ (size : Size) (words : List ℕ) (views : List View) (run : List Made) 
         used_is = λ i. ap (λ l. has_irp l i) (quiet.used_same q.history q.first) ∙ h.used_is i;
         true_of = quiet.plain q.first run q.history h.true_of;
         orderly = quiet.orderly q.first q.history h.orderly;
+        placed = placed;
       } in
       let pass_is : IsPassOf run history' r' = record {
         seen_is = begins_more r.seen q.history (entries_of r.pass es) was.seen_is;
@@ -280,6 +307,7 @@ module _ (size : Size) (words : List ℕ) (views : List View) (run : List Made) 
         };
         elsewhere = λ p ne. (refl, calls_of-other p r.pass es q.history ne, refl);
         seen = ([], refl);
+        grows = λ s g. (begins_more s.history q.history (entries_of r.pass es) g.0, g.1);
         mine = record { of_pass = pass_is; stored = owner.2.stored; due = owner.2.due; begun = owner.2.begun };
       }) in (kept.0, record { told = kept.1; follows = k.agrees.seen })
 
@@ -304,26 +332,27 @@ module _ (size : Size) (words : List ℕ) (views : List View) (run : List Made) 
         agrees = record {
           wide = flight.wide;
           words_are = flight.words_are;
-          history_is = (let f = flight.history_is in record { is_run = f.is_run; first_is = f.first_is; listed_is = f.listed_is; used_is = f.used_is; lives_are = f.lives_are; true_of = f.true_of; orderly = f.orderly });
+          history_is = (let f = flight.history_is in record { is_run = f.is_run; first_is = f.first_is; listed_is = f.listed_is; used_is = f.used_is; lives_are = f.lives_are; true_of = f.true_of; orderly = f.orderly; placed = f.placed });
           reuse_is = flight.reuse_is;
           shown = λ i o e. let g = flight.shown i o e in (suc g.0, g.1);
           backs = each_back (IsBack words run q') r q.back record { is_record = owner.2; rests = rests may; made = owner.1.to } (λ i o e. let b = flight.backs i o e in record { is_record = b.is_record; rests = b.rests; made = b.made });
+          back_once = once_more r q.back owner.1.not_back flight.back_once;
           few = flight.few;
           nobody = flight.nobody;
           seen = flight.seen;
         };
         queue_is = set_here views id (view_of q' None) (at_below views id (view_of q (Some r)) k.queue_is);
         idle = λ _. idle;
-        lock = λ p l. let same = only_joined run r k.lock p l in
-            off (sym free ∙ (ap has_lock (inside_is run r words q owner.2) ∙ (ap (λ (x : PassId). has_lock (inside run x)) (sym same) ∙ l)));
+        lock = λ p l. off (sym (nobody_locks may.outside p) ∙ l);
         each_view = all_set (Fits words run q' id seat) views id (view_of q' None)
             (λ i v ne e. let f = k.each_view i v e in record {
               queue_here = f.queue_here;
               pass_here = λ o is. let g = f.pass_here o is in
                   (g.0, record { from = g.1.from; to = g.1.to; not_back = each_back (λ u. u.pass ≢ o.pass) r q.back (λ same. ne (sym g.0 ∙ (ap seat (sym same) ∙ owner.0))) g.1.not_back }, g.2);
               back_here = λ o is. let g = f.back_here o is in (suc g.0, g.1);
+              prefix_here = f.prefix_here;
             })
-            record { queue_here = λ _. refl; pass_here = λ o is. none_is o is; back_here = λ o is. none_is o is };
+            record { queue_here = λ _. refl; pass_here = λ o is. none_is o is; back_here = λ o is. none_is o is; prefix_here = λ u is. none_is u is };
         present = λ p o. let ne : p ≢ r.pass = λ e. o.not_back 0 r refl (sym e) in
             let was = k.present p (in' p o) in present_else views id (view_of q' None) (seat p) p (apart_from views id (view_of q (Some r)) r (seat p) p k.queue_is refl ne was) was;
       }
@@ -333,6 +362,13 @@ module _ (size : Size) (words : List ℕ) (views : List View) (run : List Made) 
           → (k : ℕ) (o : PassRecord) → get_elem? (r ∷ back) k ≡ some o → P o
       each_back P r back here others zero o e = subst P (some-injective r o e) here
       each_back P r back here others (suc k) o e = others k o e
+
+      -- a pass that wasn't back is back once
+      once_more : (r : PassRecord) (back : List PassRecord) → ((k : ℕ) (o : PassRecord) → get_elem? back k ≡ some o → o.pass ≢ r.pass) → BackOnce back → BackOnce (r ∷ back)
+      once_more r back out once zero zero o s e e' same = refl
+      once_more r back out once zero (suc k) o s e e' same = absurd (out k s e' (sym same ∙ ap (λ (u : PassRecord). u.pass) (sym (some-injective r o e))))
+      once_more r back out once (suc j) zero o s e e' same = absurd (out j o e (same ∙ ap (λ (u : PassRecord). u.pass) (sym (some-injective r s e'))))
+      once_more r back out once (suc j) (suc k) o s e e' same = ap suc (once j k o s e e' same)
 
   -- what the rule says of the two records after a note
   record Noted (call : Call) (n : Note) : Type 0 where
@@ -346,16 +382,16 @@ module _ (size : Size) (words : List ℕ) (views : List View) (run : List Made) 
   note_kept : (call : Call) (n : Note) → MayNote size.irps call n q r → Noted call n
   note_kept (Insert i f place) (Refused cause) may =
       let es = event.Insert i f place (reply.Refused cause) ∷ [] in
-      let kept = noted_kept es record { listed_same = λ h f. refl; used_same = λ h f. refl; lives_same = λ h f. refl; plain = λ f E h t. (tt, t); orderly = λ f h o. (tt, o) } in
+      let kept = noted_kept es record { listed_same = λ h f. refl; used_same = λ h f. refl; lives_same = λ h f. refl; plain = λ f E h t. (tt, t); orderly = λ f h o. (tt, o) } (noting (Insert i f place) (Refused cause) r.pass (nobody_locks may) k.agrees.history_is.placed) in
       record { left = run; queue = with_events r.pass es (with_run run q); joined = Some (with_calls es r); records = refl; kept = kept.0; told = kept.1 }
   note_kept (CloseFile f) note.Event may =
       let es = event.CloseFile f ∷ [] in
-      let kept = noted_kept es record { listed_same = λ h f. refl; used_same = λ h f. refl; lives_same = λ h f. refl; plain = λ f E h t. (tt, t); orderly = λ f h o. (tt, o) } in
+      let kept = noted_kept es record { listed_same = λ h f. refl; used_same = λ h f. refl; lives_same = λ h f. refl; plain = λ f E h t. (tt, t); orderly = λ f h o. (tt, o) } (noting (CloseFile f) note.Event r.pass (nobody_locks may) k.agrees.history_is.placed) in
       record { left = run; queue = with_events r.pass es (with_run run q); joined = Some (with_calls es r); records = refl; kept = kept.0; told = kept.1 }
   note_kept (RemoveNext k') n may =
       let es = event.RemoveNext k' None ∷ [] in
       let may' : MayMake (RemoveNext k') End q r = removal_may n may in
-      let kept = made_kept size words words views run id q r seat End 0 es q.reusing k (making size words run q r (sees size words views run id q r seat k) (RemoveNext k') End may' tt 0 refl) in
+      let kept = made_kept size words words views run id q r seat End 0 es q.reusing k (making size words run q r (sees size words views run id q r seat k) (RemoveNext k') End may' tt 0 refl) (recording (RemoveNext k') (record { pass = r.pass; kind = End; found = 0 }) tt k.agrees.history_is.placed) in
       let run' : List Made = record { pass = r.pass; kind = End; found = 0 } ∷ run in
       record { left = run'; queue = made_record r es q.reusing run' q; joined = Some (with_calls es (with_step End 0 r)); records = refl; kept = kept.0; told = kept.1 }
     where
@@ -365,7 +401,7 @@ module _ (size : Size) (words : List ℕ) (views : List View) (run : List Made) 
   note_kept (Remove i) n may =
       let es = event.Remove i false ∷ [] in
       let may' : MayMake (Remove i) End q r = removal_may n may in
-      let kept = made_kept size words words views run id q r seat End 0 es q.reusing k (making size words run q r (sees size words views run id q r seat k) (Remove i) End may' tt 0 refl) in
+      let kept = made_kept size words words views run id q r seat End 0 es q.reusing k (making size words run q r (sees size words views run id q r seat k) (Remove i) End may' tt 0 refl) (recording (Remove i) (record { pass = r.pass; kind = End; found = 0 }) tt k.agrees.history_is.placed) in
       let run' : List Made = record { pass = r.pass; kind = End; found = 0 } ∷ run in
       record { left = run'; queue = made_record r es q.reusing run' q; joined = Some (with_calls es (with_step End 0 r)); records = refl; kept = kept.0; told = kept.1 }
     where
@@ -376,7 +412,7 @@ module _ (size : Size) (words : List ℕ) (views : List View) (run : List Made) 
       let i = current (queue_of q) m in
       let es = recorded (CancelRoutine m) (Out i) 0 (queue_of q) in
       let may' : (m.0 < size.irps) × MayMake (CancelRoutine m) (Out i) q r = out_may n may in
-      let kept = made_kept size words words views run id q r seat (Out i) 0 es q.reusing k (making size words run q r (sees size words views run id q r seat k) (CancelRoutine m) (Out i) may'.1 may'.0 0 refl) in
+      let kept = made_kept size words words views run id q r seat (Out i) 0 es q.reusing k (making size words run q r (sees size words views run id q r seat k) (CancelRoutine m) (Out i) may'.1 may'.0 0 refl) (recording (CancelRoutine m) (record { pass = r.pass; kind = Out i; found = 0 }) refl k.agrees.history_is.placed) in
       let run' : List Made = record { pass = r.pass; kind = Out i; found = 0 } ∷ run in
       record { left = run'; queue = made_record r es q.reusing run' q; joined = Some (with_calls es (with_step (Out i) 0 r)); records = refl; kept = kept.0; told = kept.1 }
     where
@@ -413,10 +449,10 @@ notes_as size slots id m q r call n is other sized may = subst (λ (z : View × 
 
 -- a note leaves the queue's seat the queue's record
 pub note_has : (call : Call) (n : Note) (q : QueueRecord) (r : PassRecord) → HasQueue (after_note call n q r)
-note_has (Insert i f place) n q r = (refl, refl)
-note_has (RemoveNext k) n q r = (refl, refl)
-note_has (Remove i) n q r = (refl, refl)
-note_has (CancelRoutine i) n q r = (refl, refl)
-note_has (CloseFile f) n q r = (refl, refl)
-note_has (Reuse m) n q r = (refl, refl)
-note_has GiveBack n q r = (refl, refl)
+note_has (Insert i f place) n q r = (refl, refl, refl)
+note_has (RemoveNext k) n q r = (refl, refl, refl)
+note_has (Remove i) n q r = (refl, refl, refl)
+note_has (CancelRoutine i) n q r = (refl, refl, refl)
+note_has (CloseFile f) n q r = (refl, refl, refl)
+note_has (Reuse m) n q r = (refl, refl, refl)
+note_has GiveBack n q r = (refl, refl, refl)

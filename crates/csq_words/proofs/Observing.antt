@@ -48,9 +48,10 @@ alone_kept size words views run id q seat k =
       agrees = record {
         wide = a.wide;
         words_are = a.words_are;
-        history_is = record { is_run = told.is_run; first_is = told.first_is; listed_is = told.listed_is; used_is = told.used_is; lives_are = told.lives_are; true_of = told.true_of; orderly = told.orderly };
+        history_is = record { is_run = told.is_run; first_is = told.first_is; listed_is = told.listed_is; used_is = told.used_is; lives_are = told.lives_are; true_of = told.true_of; orderly = told.orderly; placed = told.placed };
         reuse_is = a.reuse_is;
         backs = λ i o e. let b = a.backs i o e in record { is_record = b.is_record; rests = b.rests; made = b.made };
+        back_once = a.back_once;
         shown = a.shown;
         few = a.few;
         nobody = a.nobody;
@@ -60,8 +61,8 @@ alone_kept size words views run id q seat k =
       lock = k.lock;
       idle = k.idle;
       each_view = all_set fits views id (view_of q' None)
-          (λ j v away e. let f = k.each_view j v e in record { queue_here = f.queue_here; pass_here = λ o is. let g = f.pass_here o is in (g.0, outside g.1, g.2); back_here = f.back_here })
-          record { queue_here = λ _. refl; pass_here = λ o is. none_is o is; back_here = λ o is. none_is o is };
+          (λ j v away e. let f = k.each_view j v e in record { queue_here = f.queue_here; pass_here = λ o is. let g = f.pass_here o is in (g.0, outside g.1, g.2); back_here = f.back_here; prefix_here = f.prefix_here })
+          record { queue_here = λ _. refl; pass_here = λ o is. none_is o is; back_here = λ o is. none_is o is; prefix_here = λ u is. none_is u is };
       present = λ p out. let was = k.present p (outside' out) in present_else views id (view_of q' None) (seat p) p (apart views id (view_of q None) (seat p) p at refl was) was;
     }
   where

@@ -114,6 +114,7 @@ module _ (size : Size) (words : List ℕ) (run : List Made) (q : QueueRecord) (r
           lives_same = λ n. refl;
           stored = λ o rec. stored_else words (cancel_at i.irp) (bit_word (life_of i) 1) o.completed (λ n. status_cancel n i.irp) rec.stored;
           unlocked = rw same_pass-refl refl;
+          free = refl;
           mine = record {
             of_pass = record { seen_is = rec.of_pass.seen_is; mine_is = rec.of_pass.mine_is; steps_is = ap (λ u. m ∷ u) rec.of_pass.steps_is ∙ sym (own-mine r.pass m run refl); completed_is = rec.of_pass.completed_is; run_is = ([], refl) };
             stored = stored_else words (cancel_at i.irp) (bit_word (life_of i) 1) r.completed (λ n. status_cancel n i.irp) rec.stored;
@@ -146,6 +147,7 @@ module _ (size : Size) (words : List ℕ) (run : List Made) (q : QueueRecord) (r
           elsewhere = λ p ne. (refl, refl);
           unlocked = ap has_lock (sym (inside_is run r words q rec) ∙ outside);
           seen = λ shorter h. h;
+          placed = λ h. h;
           mine = record { of_pass = record { seen_is = rec.of_pass.seen_is; mine_is = rec.of_pass.mine_is; steps_is = rec.of_pass.steps_is; completed_is = rec.of_pass.completed_is; run_is = ([], refl) }; stored = rec.stored; due = rec.due; begun = ((omega (arith, life'), omega (arith, life')), rec.begun) };
         },
         life,
@@ -313,6 +315,7 @@ module _ (size : Size) (words : List ℕ) (run : List Made) (q : QueueRecord) (r
     lives_same = λ n. refl;
     stored = λ o rec. stored_else words (routine_at i.irp) take_next o.completed (λ n. status_routine n i.irp) rec.stored;
     unlocked = rw same_pass-refl refl;
+    free = refl;
     mine = record {
       of_pass = record { seen_is = rec.of_pass.seen_is; mine_is = rec.of_pass.mine_is; steps_is = ap (λ u. take_step ∷ u) rec.of_pass.steps_is ∙ sym (own-mine r.pass take_step run refl); completed_is = rec.of_pass.completed_is; run_is = ([], refl) };
       stored = stored_else words (routine_at i.irp) take_next r.completed (λ n. status_routine n i.irp) rec.stored;
@@ -396,6 +399,7 @@ completes size slots id r held i status v known few_lives small put outside held
               lives_same = λ n. refl;
               stored = λ o rec. stored_put s.words i.irp v o.completed room first' rec.stored;
               unlocked = rw same_pass-refl refl;
+              free = refl;
               mine = record {
                 of_pass = record { seen_is = was.seen_is; mine_is = was.mine_is; steps_is = steps; completed_is = ap (λ xs. i ∷ xs) was.completed_is; run_is = ([], refl) };
                 stored = (

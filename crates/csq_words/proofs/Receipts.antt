@@ -40,6 +40,7 @@ cuts_receipt size id q r back s h at =
         queue_here = λ e. off e;
         pass_here = λ o is. none_is o is;
         back_here = λ o is. let same : r ≡ o = cc is in subst (HasBack q) same (back s.words run k.agrees);
+        prefix_here = λ u is. none_is u is;
       };
       present = λ p out. present_more s.views (receipt_view r) (seat p) p (k.present p out);
     } in
@@ -65,9 +66,10 @@ shows size id other q r s h at ne there' =
         agrees = record {
           wide = a.wide;
           words_are = a.words_are;
-          history_is = record { is_run = told.is_run; first_is = told.first_is; listed_is = told.listed_is; used_is = told.used_is; lives_are = told.lives_are; true_of = told.true_of; orderly = told.orderly };
+          history_is = record { is_run = told.is_run; first_is = told.first_is; listed_is = told.listed_is; used_is = told.used_is; lives_are = told.lives_are; true_of = told.true_of; orderly = told.orderly; placed = told.placed };
           reuse_is = a.reuse_is;
           backs = λ i o e. let b = a.backs i o e in record { is_record = b.is_record; rests = b.rests; made = b.made };
+          back_once = a.back_once;
           shown = each_shown q.shown back a.shown;
           few = a.few;
           nobody = a.nobody;
@@ -78,10 +80,10 @@ shows size id other q r s h at ne there' =
         idle = k.idle;
         each_view = all_set fits both other spent_view
             (λ i v away e. all_set fits s.views id (view_of q' None)
-            (λ j u _ e'. let f = k.each_view j u e' in record { queue_here = f.queue_here; pass_here = λ o is. let g = f.pass_here o is in (g.0, outside g.1, g.2); back_here = f.back_here })
-            record { queue_here = λ _. refl; pass_here = λ o is. none_is o is; back_here = λ o is. none_is o is }
+            (λ j u _ e'. let f = k.each_view j u e' in record { queue_here = f.queue_here; pass_here = λ o is. let g = f.pass_here o is in (g.0, outside g.1, g.2); back_here = f.back_here; prefix_here = f.prefix_here })
+            record { queue_here = λ _. refl; pass_here = λ o is. none_is o is; back_here = λ o is. none_is o is; prefix_here = λ u is. none_is u is }
             i v e)
-            record { queue_here = λ e. off e; pass_here = λ o is. none_is o is; back_here = λ o is. none_is o is };
+            record { queue_here = λ e. off e; pass_here = λ o is. none_is o is; back_here = λ o is. none_is o is; prefix_here = λ u is. none_is u is };
         present = λ p out. let was = k.present p (outside' out) in
             present_else both other spent_view (seat p) p (apart s.views other (receipt_view r) (seat p) p there refl was)
             (present_else s.views id (view_of q' None) (seat p) p (apart s.views id (view_of q None) (seat p) p at refl was) was);
@@ -108,11 +110,11 @@ receipt_as size id v q r right is cut back =
 
 -- the receipt of the pass that came back last
 pub last_receipt_as : (size : Size) (id : ℕ) (v : View) (q : QueueRecord) (r : PassRecord) → v ≡ view_of q None → newest q.back ≡ Some r → Splits (RuleHolds size) id v (without_pass v) (receipt_of v)
-last_receipt_as size id v q r is last = receipt_as size id v q r receipt_of is (λ i. record { queue = None; pass = None; back = last i }) (λ words run a. (0, newest_at q.back r last))
+last_receipt_as size id v q r is last = receipt_as size id v q r receipt_of is (λ i. record { queue = None; pass = None; back = last i; prefix = None }) (λ words run a. (0, newest_at q.back r last))
 
 -- the receipt that has just shown its record
 pub shown_receipt_as : (size : Size) (id : ℕ) (v : View) (q : QueueRecord) (r : PassRecord) → v ≡ view_of q None → newest q.shown ≡ Some r → Splits (RuleHolds size) id v (without_pass v) (shown_receipt v)
-shown_receipt_as size id v q r is last = receipt_as size id v q r shown_receipt is (λ i. record { queue = None; pass = None; back = last i }) (λ words run a. a.shown 0 r (newest_at q.shown r last))
+shown_receipt_as size id v q r is last = receipt_as size id v q r shown_receipt is (λ i. record { queue = None; pass = None; back = last i; prefix = None }) (λ words run a. a.shown 0 r (newest_at q.shown r last))
 
 pub shows_as : (size : Size) (id other : ℕ) (v w : View) (q : QueueRecord) (r : PassRecord) → v ≡ view_of q None → w ≡ receipt_view r → Joins (RuleHolds size) id v other w (shown_by v w) spent_view
 shows_as size id other v w q r is is' = subst (λ (u : View × View). Joins (RuleHolds size) id u.0 other u.1 (shown_by u.0 u.1) spent_view) (λ i. (sym is i, sym is' i)) (shows size id other q r)

@@ -32,6 +32,8 @@ use Rattle.csq_words.specs.declared.views.View.{View}
 use Rattle.csq_words.specs.Words.{cancel_at, routine_at, status_at, bit_word, life_in, unset_word, status_life_in, status_in}
 use Rattle.csq_words.specs.Queue.{current, has_entry, has_irp, begin_next}
 use Rattle.csq_words.specs.Records.{view_of, queue_of, with_calls, with_step, with_reusing, with_run}
+use Rattle.csq_words.specs.declared.calls.Call.TheVariants as call
+use Rattle.csq_words.specs.Recorded.IsPlaced.{recording}
 use Rattle.csq_words.specs.Rule.{next_life, is_done, inserts, in_flight, SaysStatus, HasWords, MayRenew, IsReuse, IsHistoryOf, AreStored, RuleHoldsBy, RuleHolds}
 use Rattle.csq_words.specs.Calls.{after_look, after_renewal}
 use Rattle.csq_words.specs.Plays.{SeatView, status_recorded, SaysStatusOf, Looks, RenewsStatus, RenewsRoutine, RenewsCancel}
@@ -55,7 +57,7 @@ renewal_kept size words words' views run seen id q r seat reuse follows k wide w
     let h = k.agrees.history_is in
     let owner = (k.each_view id (view_of q (Some r)) k.queue_is).pass_here r refl in
     let was = owner.2.of_pass in
-    let history_is : IsHistoryOf size run q' (in_flight (Some r)) = record { is_run = h.is_run; first_is = h.first_is; listed_is = h.listed_is; used_is = h.used_is; lives_are = h.lives_are; true_of = h.true_of; orderly = h.orderly } in told_kept size words' (set views id (view_of q' (Some r))) run id q' r seat history_is was
+    let history_is : IsHistoryOf size run q' (in_flight (Some r)) = record { is_run = h.is_run; first_is = h.first_is; listed_is = h.listed_is; used_is = h.used_is; lives_are = h.lives_are; true_of = h.true_of; orderly = h.orderly; placed = h.placed } in told_kept size words' (set views id (view_of q' (Some r))) run id q' r seat history_is was
     (locked_step size words words' views run run id q q' seat r r k record {
       same_pass = refl;
       same_made = refl;
@@ -68,6 +70,7 @@ renewal_kept size words words' views run seen id q r seat reuse follows k wide w
       others = λ o ne rec. record { of_pass = rec.of_pass; stored = stored o.completed rec.stored; due = rec.due; begun = rec.begun };
       elsewhere = λ p ne. (refl, refl, refl);
       seen = follows;
+      grows = λ s g. g;
       mine = record { of_pass = was; stored = stored r.completed owner.2.stored; due = owner.2.due; begun = owner.2.begun };
     })
 
@@ -278,7 +281,7 @@ module _ (size : Size) (slots id : ℕ) (q : QueueRecord) (r : PassRecord) (held
         let es = event.Reuse i.irp (next_life i).life ∷ [] in
         let run' : List Made = record { pass = r.pass; kind = Renew i; found = 0 } ∷ run in
         let made = cancel_made size s.words s.views run id q r seat k i at outside in
-        let kept = made_kept size s.words (set s.words (cancel_at i.irp) (bit_word (life_of i + 1) 0)) s.views run id q r seat (Renew i) 0 es Nothing k made.0 in (
+        let kept = made_kept size s.words (set s.words (cancel_at i.irp) (bit_word (life_of i + 1) 0)) s.views run id q r seat (Renew i) 0 es Nothing k made.0 (recording (call.Reuse i.irp) (record { pass = r.pass; kind = Renew i; found = 0 }) refl k.agrees.history_is.placed) in (
           after_renewal i (with_run run' q) r,
           keeps,
           tt,

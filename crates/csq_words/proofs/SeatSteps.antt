@@ -13,6 +13,7 @@ use Rattle.irp_core.specs.Owners.{listed}
 use Rattle.irp_core.specs.Runs.{Size, IsRun}
 use Rattle.csq_words.specs.declared.views.PassRecord.{PassRecord}
 use Rattle.csq_words.specs.declared.views.QueueRecord.{QueueRecord}
+use Rattle.csq_words.specs.declared.views.Prefix.{Prefix}
 use Rattle.csq_words.specs.declared.views.View.{View}
 use Rattle.csq_words.specs.History.{calls_of, IsExtendedBy}
 use Rattle.csq_words.specs.Records.{view_of, pass_view}
@@ -24,7 +25,10 @@ use Rattle.irp_core.specs.declared.ids.IrpId.{IrpId}
 use Rattle.irp_core.specs.declared.step.Kind.TheVariants.{Done}
 use Rattle.csq_words.specs.declared.views.Reusing.{Reusing}
 use Rattle.csq_words.specs.declared.views.Reusing.TheVariants.{Nothing, Looked, StatusRenewed, RoutineRenewed}
-use Rattle.csq_words.specs.Rule.{HasWords, is_done, in_flight, AreTrueOf, IsHistoryOf, MayRenew, IsReuse, AreStored, HaveBegun, IsRecord, IsOut, IsNobody, HasBack, Fits, SeatHasRecord, RuleHoldsBy}
+use Rattle.irp_core.specs.Lock.{needs_lock}
+use Rattle.csq_words.specs.Recorded.{IsPlaced}
+use Rattle.csq_words.specs.Recorded.IsPlaced.{unlocked as without}
+use Rattle.csq_words.specs.Rule.{HasWords, is_done, in_flight, AreTrueOf, IsHistoryOf, MayRenew, IsReuse, AreStored, HaveBegun, IsRecord, IsOut, IsNobody, HasBack, BackOnce, IsPrefixOf, Fits, SeatHasRecord, RuleHoldsBy}
 use Rattle.csq_words.proofs.Facts.{off, extended_more}
 use Rattle.irp_core.proofs.Names.{same_pass-not}
 use Rattle.csq_words.proofs.Named.{by_pass}
@@ -49,6 +53,7 @@ pub record OwnStep (size : Size) (words words' : List ℕ) (run run' : List Made
   pub unlocked : has_lock (inside run' r.pass) ≡ false
   pub seen : (shorter : List Made) → IsExtendedBy shorter run → IsExtendedBy shorter run'
   pub mine : IsRecord q.first words' run' q.history r'
+  pub placed : IsPlaced q.first run q.history → IsPlaced q.first run' q.history
 
 renew_more : (size : Size) (m : Made) (run : List Made) → ((n : IrpId) → present_life size.first (m ∷ run) n ≡ present_life size.first run n) → (i : IrpLife) → MayRenew size run i → MayRenew size (m ∷ run) i
 renew_more size m run same i h = record { known = h.known; is_present = h.is_present ∙ sym (same i.irp); done = or_right (is (Done i) m) (is_done run i) h.done; few = h.few }
@@ -90,9 +95,11 @@ own_step size words words' views run run' queue_at queue joined seat id r r' k a
           used_is = λ i. k.agrees.history_is.used_is i ∙ ap (λ b. not (in_flight joined i) && b) (sym (p.armed_same i));
           true_of = p.true_of;
           orderly = k.agrees.history_is.orderly;
+          placed = p.placed k.agrees.history_is.placed;
         };
         reuse_is = p.reuse_is;
         backs = λ i o e. let b = k.agrees.backs i o e in record { is_record = p.others o (mine.1.not_back i o e) b.is_record; rests = b.rests; made = b.made };
+        back_once = k.agrees.back_once;
         shown = k.agrees.shown;
         few = k.agrees.few;
         nobody = λ n s. let u = k.agrees.nobody n s in
@@ -109,6 +116,7 @@ own_step size words words' views run run' queue_at queue joined seat id r r' k a
             queue_here = f.queue_here;
             pass_here = λ o is. let g = f.pass_here o is in (g.0, g.1, p.others o (λ e'. ne (sym g.0 ∙ (ap seat e' ∙ mine.0))) g.2);
             back_here = f.back_here;
+            prefix_here = λ s is. let g = f.prefix_here s is in (g.0, p.seen s.run g.1);
           })
           record {
             queue_here = λ e. off e;
@@ -116,6 +124,7 @@ own_step size words words' views run run' queue_at queue joined seat id r r' k a
                 subst (λ (u : PassRecord). (seat u.pass ≡ id) × IsOut queue u.pass × IsRecord queue.first words' run' queue.history u) same
                 (ap seat p.same_pass ∙ mine.0, subst (IsOut queue) (sym p.same_pass) mine.1, p.mine);
             back_here = λ o is. none_is o is;
+            prefix_here = λ u is. none_is u is;
           };
       present = λ q out. by_pass (SeatHasRecord (set views id (pass_view r')) (seat q) q) q r.pass
           (λ e. (pass_view r', r', ap (get_elem? (set views id (pass_view r'))) (ap seat e ∙ mine.0) ∙ set_here views id (pass_view r') (at_below views id (pass_view r) at), refl, p.same_pass ∙ sym e))
@@ -134,6 +143,7 @@ pub record LongerStep (size : Size) (words words' : List ℕ) (run : List Made) 
   pub lives_same : (n : IrpId) → present_life size.first (m ∷ run) n ≡ present_life size.first run n
   pub stored : (o : PassRecord) → IsRecord q.first words run q.history o → AreStored words' o.completed
   pub unlocked : has_lock (inside (m ∷ run) r.pass) ≡ false
+  pub free : needs_lock m.kind ≡ false
   pub mine : IsRecord q.first words' (m ∷ run) q.history r'
 
 pub longer_step : (size : Size) (words words' : List ℕ) (run : List Made) (m : Made) (q : QueueRecord) (r r' : PassRecord) → AreTrueOf q.first run q.history → IsReuse size run q.reusing
@@ -163,6 +173,7 @@ longer_step size words words' run m q r r' true' reuse p = record {
   elsewhere = λ n ne. (own-other n m run (λ e. ne (sym e ∙ p.by)), inside_other m run n (λ e. ne (e ∙ p.by)));
   unlocked = p.unlocked;
   seen = λ shorter h. extended_more m shorter run h;
+  placed = λ h. without m p.free h;
   mine = p.mine;
 }
 
@@ -179,6 +190,7 @@ pub record LockedStep (size : Size) (words words' : List ℕ) (run run' : List M
   pub others : (o : PassRecord) → o.pass ≢ r.pass → IsRecord q.first words run q.history o → IsRecord q'.first words' run' q'.history o
   pub elsewhere : (p : PassId) → p ≢ r.pass → (own p run' ≡ own p run) × (calls_of p q'.history ≡ calls_of p q.history) × (inside run' p ≡ inside run p)
   pub seen : IsExtendedBy q'.run run'
+  pub grows : (s : Prefix) → IsPrefixOf run q.history s → IsPrefixOf run' q'.history s
   pub mine : IsRecord q'.first words' run' q'.history r'
 
 pub locked_step : (size : Size) (words words' : List ℕ) (views : List View) (run run' : List Made) (id : ℕ) (q q' : QueueRecord) (seat : PassId → ℕ) (r r' : PassRecord)
@@ -200,6 +212,7 @@ locked_step size words words' views run run' id q q' seat r r' k p =
         reuse_is = p.reuse_is;
         backs = λ i o e. let at : get_elem? q.back i ≡ some o = ap (λ l. get_elem? l i) (sym p.same_back) ∙ e in
             let b = k.agrees.backs i o at in record { is_record = p.others o (mine.1.not_back i o at) b.is_record; rests = b.rests; made = rw p.same_made b.made };
+        back_once = subst BackOnce (sym p.same_back) k.agrees.back_once;
         shown = λ i o e. back o (k.agrees.shown i o (ap (λ l. get_elem? l i) (sym p.same_shown) ∙ e));
         few = rw p.same_made few;
         nobody = λ n s. let s' : IsNobody q.made n = subst (λ m. IsNobody m n) p.same_made s in
@@ -217,6 +230,7 @@ locked_step size words words' views run run' id q q' seat r r' k p =
             queue_here = f.queue_here;
             pass_here = λ o is. let g = f.pass_here o is in (g.0, out o.pass g.1, p.others o (λ e'. ne (sym g.0 ∙ (ap seat e' ∙ mine.0))) g.2);
             back_here = λ o is. back o (f.back_here o is);
+            prefix_here = λ s is. p.grows s (f.prefix_here s is);
           })
           record {
             queue_here = λ _. refl;
@@ -224,6 +238,7 @@ locked_step size words words' views run run' id q q' seat r r' k p =
                 subst (λ (u : PassRecord). (seat u.pass ≡ id) × IsOut q' u.pass × IsRecord q'.first words' run' q'.history u) same
                 (ap seat p.same_pass ∙ mine.0, subst (IsOut q') (sym p.same_pass) (out r.pass mine.1), p.mine);
             back_here = λ o is. none_is o is;
+            prefix_here = λ u is. none_is u is;
           };
       present = λ n o. by_pass (SeatHasRecord (set views id v') (seat n) n) n r.pass
           (λ e. (v', r', ap (get_elem? (set views id v')) (ap seat e ∙ mine.0) ∙ here, refl, p.same_pass ∙ sym e))

@@ -9,7 +9,7 @@ use Rattle.csq_words.specs.declared.views.View.{View}
 use Rattle.csq_words.specs.declared.views.PassRecord.{PassRecord}
 use Rattle.csq_words.specs.declared.views.QueueRecord.{QueueRecord}
 use Rattle.csq_words.specs.Words.{bit_in}
-use Rattle.csq_words.specs.Records.{view_of, pass_view, receipt_view, queue_in, pass_in, queue_of, with_run, with_reusing}
+use Rattle.csq_words.specs.Records.{view_of, pass_view, receipt_view, prefix_view, queue_in, pass_in, queue_of, with_run, with_reusing}
 use Rattle.irp_core.specs.declared.ids.IrpId.{IrpId}
 use Rattle.irp_core.specs.Runs.{Size}
 use Rattle.irp_core.specs.declared.ids.IrpLife.{IrpLife}
@@ -18,7 +18,7 @@ use Rattle.csq_words.specs.Queue.{current}
 use Rattle.csq_words.specs.Calls.{after_step, after_look, after_renewal}
 use Rattle.csq_words.specs.Plays.{any_step, SeatView, Makes, IsFound, FindsUnmarked, Looks, RenewsStatus, RenewsRoutine, RenewsCancel}
 use Rattle.csq_words.specs.Rule.{HasObserved}
-use Rattle.csq_words.specs.Seats.{WordSeat, QueueSeatState, PassSeatState, queue_seat_of, HasQueue, IsQueueSeat, pass_seat_of, IsPassSeat, receipt_seat_of, IsReceipt, pass_record, pass_at, IsHere, joined_record, IsJoined, with_view}
+use Rattle.csq_words.specs.Seats.{WordSeat, QueueSeatState, PassSeatState, queue_seat_of, HasQueue, IsQueueSeat, pass_seat_of, IsPassSeat, receipt_seat_of, IsReceipt, SeenState, seen_seat_of, IsSeenSeat, pass_record, pass_at, IsHere, joined_record, IsJoined, with_view}
 
 -- a pass's seat that is here
 pub here : {o : Option WordSeat} {s : WordSeat} {p : Option PassSeatState} {t : TableId} → o ≡ Some s → option_map pass_seat_of o ≡ p → IsPassSeat o → IsHere t p
@@ -38,26 +38,30 @@ receipt_here {o} {s} {p} {t} is view inv at =
     let inner : receipt_seat_of s ≡ record { table = t; pass = pass_record p } = cc in
     (ap (λ z. z.table) inner, inv'.0, inv'.1 ∙ ap (λ z. receipt_view z.pass) inner)
 
+-- what a pass had seen
+pub prefix_here : (s : WordSeat) {x : SeenState} → seen_seat_of s ≡ x → IsSeenSeat s → s.me.0 ≡ prefix_view x.prefix
+prefix_here s {x} view inv = inv.1 ∙ ap (λ z. prefix_view z.prefix) view
+
 -- the queue's seat, joined with no pass
 pub alone : (s : WordSeat) {q : QueueSeatState} → queue_seat_of s ≡ q → IsQueueSeat s → q.joined ≡ None → s.me.0 ≡ view_of q.queue None
 alone s {q} view inv is =
     let queue : s.me.0.queue ≡ Some q.queue = inv.1.0 ∙ ap (λ z. Some z.queue) view in
     let pass : s.me.0.pass ≡ None = ap (λ z. z.joined) view ∙ is in
-    λ i. record { queue = queue i; pass = pass i; back = inv.1.1 i }
+    λ i. record { queue = queue i; pass = pass i; back = inv.1.1 i; prefix = inv.1.2 i }
 
 -- the queue's seat, joined with a pass
 pub joined : (s : WordSeat) {q : QueueSeatState} → queue_seat_of s ≡ q → IsQueueSeat s → IsJoined q → s.me.0 ≡ view_of q.queue (Some (joined_record q))
 joined s {q} view inv is =
     let queue : s.me.0.queue ≡ Some q.queue = inv.1.0 ∙ ap (λ z. Some z.queue) view in
     let pass : s.me.0.pass ≡ Some (joined_record q) = ap (λ z. z.joined) view ∙ is in
-    λ i. record { queue = queue i; pass = pass i; back = inv.1.1 i }
+    λ i. record { queue = queue i; pass = pass i; back = inv.1.1 i; prefix = inv.1.2 i }
 
 -- the queue's seat after a step that leaves it the queue's record
 pub stepped_queue : (s : WordSeat) (v : View) (t : TableId) → s.table_id ≡ t → HasQueue v → s.me ≡ (v, []) → IsQueueSeat s × (queue_seat_of s ≡ record { table = t; queue = queue_in v; joined = v.pass })
 stepped_queue s v t table has me =
     let view : s.me.0 ≡ v = ap (λ m. m.0) me in
     let is : queue_in s.me.0 ≡ queue_in v = ap queue_in view in
-    ((ap (λ m. m.1) me, (ap (λ u. u.queue) view ∙ (has.0 ∙ ap (λ (u : QueueRecord). Some u) (sym is)), ap (λ u. u.back) view ∙ has.1)), λ i. record { table = table i; queue = is i; joined = (view i).pass })
+    ((ap (λ m. m.1) me, (ap (λ u. u.queue) view ∙ (has.0 ∙ ap (λ (u : QueueRecord). Some u) (sym is)), ap (λ u. u.back) view ∙ has.1, ap (λ u. u.prefix) view ∙ has.2)), λ i. record { table = table i; queue = is i; joined = (view i).pass })
 
 -- the queue's seat after a step of the pass that it is joined with
 pub stepped : (s s' : WordSeat) {q : QueueSeatState} (f : QueueRecord → PassRecord → View) → queue_seat_of s ≡ q → IsQueueSeat s → IsJoined q → s'.table_id ≡ s.table_id
@@ -82,7 +86,7 @@ module _ {size : Size} (call : Call) {named kind : Kind} (is : named ≡ kind) (
   made_found = made.1
 
   pub made_seat : IsQueueSeat s' × (queue_seat_of s' ≡ with_view (after_step call kind (bit_in n) (with_run (queue_in s'.me.0).run q.queue) (joined_record q)) q)
-  made_seat = stepped s s' (λ a b. after_step call kind (bit_in n) (with_run (queue_in s'.me.0).run a) b) view inv joins table (λ a b. (refl, refl)) made.0
+  made_seat = stepped s s' (λ a b. after_step call kind (bit_in n) (with_run (queue_in s'.me.0).run a) b) view inv joins table (λ a b. (refl, refl, refl)) made.0
 
   pub made_told : (told : Size) → size ≡ told → HasObserved told q.queue (queue_in s'.me.0) (pass_in s'.me.0)
   made_told told same = subst (λ (z : Size × View × View). HasObserved z.0 (queue_in z.1) (queue_in z.2) (pass_in z.2)) (λ k. (same k, joined s view inv joins k, sym (ap (λ m. m.0) made.0) k)) made.2
@@ -99,7 +103,7 @@ module _ (s s' : WordSeat) {q : QueueSeatState} (view : queue_seat_of s ≡ q) (
   joined_at = (view_of q.queue (Some (joined_record q)), [])
 
   after : (v : QueueRecord) → s'.me ≡ (view_of v (Some (joined_record q)), []) → IsQueueSeat s' × (queue_seat_of s' ≡ record q { queue = v })
-  after v me = let h = stepped_queue s' (view_of v (Some (joined_record q))) q.table (table ∙ ap (λ z. z.table) view) (refl, refl) me in (h.0, h.1 ∙ (λ k. record { table = q.table; queue = v; joined = sym joins k }))
+  after v me = let h = stepped_queue s' (view_of v (Some (joined_record q))) q.table (table ∙ ap (λ z. z.table) view) (refl, refl, refl) me in (h.0, h.1 ∙ (λ k. record { table = q.table; queue = v; joined = sym joins k }))
 
   pub looked : {size : Size} {n m : IrpId} → m ≡ n → Looks size m any_step s.me w s'.me → IsQueueSeat s' × (queue_seat_of s' ≡ record q { queue = after_look (current (queue_of q.queue) n) w (with_run (queue_in s'.me.0).run q.queue) }) × Looks size n any_step joined_at w s'.me
   looked {size} {n} {m} same looks = let x = subst (λ (z : IrpId × SeatView). Looks size z.0 any_step z.1 w s'.me) (λ k. (same k, was k)) looks in let h = after _ x.0 in (h.0, h.1, x)
@@ -114,4 +118,4 @@ module _ (s s' : WordSeat) {q : QueueSeatState} (view : queue_seat_of s ≡ q) (
     pub cancel_renewed : RenewsCancel size j any_step s.me w s'.me → IsQueueSeat s' × (queue_seat_of s' ≡ with_view (after_renewal i (with_run (queue_in s'.me.0).run q.queue) (joined_record q)) q) × RenewsCancel size i any_step joined_at w s'.me
     cancel_renewed renews =
         let x = subst (λ (z : IrpLife × SeatView). RenewsCancel size z.0 any_step z.1 w s'.me) (λ k. (same k, was k)) renews in
-        let h = stepped_queue s' (after_renewal i (with_run (queue_in s'.me.0).run q.queue) (joined_record q)) q.table (table ∙ ap (λ z. z.table) view) (refl, refl) x.0 in (h.0, h.1, x)
+        let h = stepped_queue s' (after_renewal i (with_run (queue_in s'.me.0).run q.queue) (joined_record q)) q.table (table ∙ ap (λ z. z.table) view) (refl, refl, refl) x.0 in (h.0, h.1, x)

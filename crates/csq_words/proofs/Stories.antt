@@ -2,6 +2,8 @@
 use Rattle.std.proofs.Common.{◌≡◌, ◌⊎◌, ℕ, ◌<◌, ◌≤◌, Bool, true, false, cond, not, ◌&&◌, ◌||◌, List, [], ◌∷◌, map, length, Some, None, inl, inr, ⊎_elim, refl, sym, ap, ◌∙◌, subst, arith}
 use Rattle.std.specs.List.{list_any, find}
 use Rattle.std.specs.Option.{option_map}
+use mathlib.Core.Option.{some-injective}
+use lib.ListN.{get_elem?}
 use Rattle.std.proofs.lemmas.Bool.{cases_lt, false_from_ne_true, or_right}
 use Rattle.irp_core.specs.declared.ids.FileId.{FileId}
 use Rattle.irp_core.specs.declared.ids.IrpId.{IrpId}
@@ -18,7 +20,7 @@ use Rattle.irp_core.specs.Words.{flagged, was_armed}
 use Rattle.irp_core.specs.Owners.{claims, dones, listed}
 use Rattle.irp_core.specs.Lives.{present_life, IsPresent, HasBegun}
 use Rattle.irp_core.specs.Runs.{Size, IsRun}
-use Rattle.irp_core.proofs.Names.{same_irp-refl, same_irp-eq, same_pass-refl}
+use Rattle.irp_core.proofs.Names.{same_irp-refl, same_irp-eq, same_pass-refl, same_some}
 use Rattle.irp_core.proofs.Rows.{Row}
 use Rattle.irp_core.proofs.Owning.{stands, rest_flagged}
 use Rattle.irp_core.proofs.Resting.{unknown_stands}
@@ -44,15 +46,16 @@ use Rattle.csq_words.specs.Queue.{Queued, QueueState, current, has_irp, has_entr
 use Rattle.csq_words.specs.History.{end_of, MayStand, IsOrderly}
 use Rattle.csq_words.specs.Records.{queue_of}
 use Rattle.irp_core.specs.Own.{inside_of, removed_in}
+use Rattle.csq_words.specs.Plays.{status_recorded}
 use Rattle.csq_words.specs.Rule.{is_done, IsTrueOf, AreTrueOf, inserts, RecordsAgree}
 use Rattle.csq_words.specs.Finals.{FinalWords, final_status, IsRecordedBack, AllBack, IsFinal, InLife}
-use Rattle.csq_words.specs.Stories.{accepts, gives, inserted_by, given_to, IsOneOf, HasRecorded, Story, IsGivenOnce, NoIrpHasTwoStories}
+use Rattle.csq_words.specs.Stories.{accepts, gives, inserted_by, given_to, IsOneOf, HasRecorded, Story, IsGivenOnce, NoIrpHasTwoStories, StoriesHaveTheStatusRecorded}
 use Rattle.csq_words.proofs.Facts.{off, dones_some, done_over}
 use Rattle.irp_core.proofs.Own.{any_filtered, inside_of-own, removed_in-own}
 use Rattle.csq_words.proofs.Truths.{left}
 use Rattle.csq_words.proofs.Closing.{no_zero, cancelled_is, keeps_records}
 use Rattle.csq_words.proofs.Entries.{has_entry-marking, has_entry-placed, has_entry-without}
-use Rattle.csq_words.proofs.Claiming.{removed_claims, disarmed_claims, one_claim, out_claim, done_own, completed_has, has_status, recorded_due}
+use Rattle.csq_words.proofs.Claiming.{removed_claims, disarmed_claims, one_claim, out_claim, done_own, done_by, recorded_done, completed_has, has_status, recorded_due}
 
 -- what is listed with a mark, or without one, is listed
 any_less : (f g : Queued → Bool) (es : List Queued) → list_any (λ e. f e && g e) es ≡ true → list_any f es ≡ true
@@ -250,7 +253,7 @@ module _ (size : Size) (words : List ℕ) (q : QueueRecord) (f : IsFinal size wo
       let b = (f.agrees.backs k r at).is_record in
       let has : has_irp (map (λ (c : Completion). c.irp) r.completed) i ≡ true = ap (λ l. has_irp l i) b.of_pass.completed_is ∙ completed_has r.steps i (ap (λ t. is_done t i) b.of_pass.steps_is ∙ (ap (λ (x : PassId). is_done (own x q.run) i) same ∙ d)) in
       let s = has_status r.completed i has in
-      record { status = s.0; recorded = (k, r, at, same, s.1); due = λ e. recorded_due r.steps r.completed i s.0 b.due s.1 (false_from_ne_true (removed_in r.steps i) (λ x. off (sym e ∙ removed_in-own r.pass i q.run (subst (λ t. removed_in t i ≡ true) b.of_pass.steps_is x)))); final = (keeps_records size words q f).statuses k r at i s.0 known s.1 }
+      record { status = s.0; recorded = (k, r, at, same, s.1, λ j o there is. let once : j ≡ k = f.agrees.back_once j k o r there at (is ∙ sym same) in some-injective o r (sym there ∙ (ap (get_elem? q.back) once ∙ at))); due = λ e. recorded_due r.steps r.completed i s.0 b.due s.1 (false_from_ne_true (removed_in r.steps i) (λ x. off (sym e ∙ removed_in-own r.pass i q.run (subst (λ t. removed_in t i ≡ true) b.of_pass.steps_is x)))); final = (keeps_records size words q f).statuses k r at i s.0 known s.1 }
 
   -- what was completed is an IRP that there is
   done_known : is_done q.run i ≡ true → number i < size.irps
@@ -302,6 +305,15 @@ module _ (size : Size) (words : List ℕ) (q : QueueRecord) (f : IsFinal size wo
             cancelled = λ shown. s.due (cancelled_is q.first q.run i q.history f.agrees.history_is.true_of shown).not_removed;
             final = s.final;
           })
+
+-- its status is the one that a pass recorded
+pub has_status_recorded : StoriesHaveTheStatusRecorded
+has_status_recorded size words q f finals i story r back status said =
+    let b = (f.agrees.backs back.0 r back.1).is_record.of_pass in
+    let done : is_done (own r.pass q.run) i ≡ true = ap (λ t. is_done t i) (sym b.steps_is) ∙ recorded_done r.steps r.completed i status b.completed_is said in
+    let owner : story.owner ≡ r.pass = sym story.completed.2 ∙ done_by q.run story.completed.0 i r.pass story.completed.1 done in
+    let same : r ≡ story.recorded.1 = story.recorded.5 back.0 r back.1 (sym owner) in
+    (owner, same_some story.status status (sym story.recorded.4 ∙ (ap (λ (o : PassRecord). status_recorded i o.completed) (sym same) ∙ said)))
 
 -- what is in an insert is listed
 in_insert_listed : (s : Inside) (i : IrpLife) → inserts s i ≡ true → growing.inserts i s ≡ true

@@ -21,7 +21,7 @@ use Rattle.csq_words.specs.declared.views.QueueRecord.{QueueRecord}
 use Rattle.csq_words.specs.Queue.{QueueState, current, has_entry}
 use Rattle.csq_words.specs.History.{end_of, calls_of, IsExtendedBy}
 use Rattle.csq_words.specs.Records.{queue_of}
-use Rattle.csq_words.specs.Rule.{RecordsAgree, QueueHasRun}
+use Rattle.csq_words.specs.Rule.{HasBack, RecordsAgree, QueueHasRun}
 use Rattle.csq_words.specs.Plays.{status_recorded}
 use Rattle.csq_words.specs.Finals.{FinalWords, final_status, AllBack, IsFinal, InLife, shows_cancelled}
 
@@ -53,9 +53,10 @@ given_to first i (e ∷ history) = if gives (end_of first history) i e.event the
 abbrev pub IsOneOf : PassId → List Made → Type 0
 IsOneOf p steps = (m : Made) × (steps ≡ m ∷ []) × (m.pass ≡ p)
 
--- p came back, with a record that it completed i with this status
+-- p came back, with the one record that it has, by which it completed i with this status
 abbrev pub HasRecorded : QueueRecord → PassId → IrpLife → NtStatus → Type 0
 HasRecorded q p i status = (k : ℕ) × (r : PassRecord) × (get_elem? q.back k ≡ some r) × (r.pass ≡ p) × (status_recorded i r.completed ≡ Some status)
+    × ((j : ℕ) (s : PassRecord) → get_elem? q.back j ≡ some s → s.pass ≡ p → s ≡ r)
 
 -- i, in its present life, was never inserted: it was given to none, and none claimed or completed it
 pub record NeverInserted (q : QueueRecord) (i : IrpLife) : Type 0 where
@@ -118,6 +119,11 @@ AtMostOne A B C = (A → B → ⊥) × (A → C → ⊥) × (B → C → ⊥)
 -- of the three stories of an IRP no two hold
 abbrev pub NoIrpHasTwoStories : Type 0
 NoIrpHasTwoStories = (finals : FinalWords) (q : QueueRecord) (i : IrpLife) → AtMostOne (NeverInserted q i) (StillListed q i) (HasEnded finals q i)
+
+-- in the story of a life, whichever, the status is the one that a pass recorded, and this is the pass that i was given to
+abbrev pub StoriesHaveTheStatusRecorded : Type 0
+StoriesHaveTheStatusRecorded = (size : Size) (words : List ℕ) (q : QueueRecord) → IsFinal size words q → (finals : FinalWords) (i : IrpLife) (story : HasEnded finals q i)
+    → (r : PassRecord) → HasBack q r → (status : NtStatus) → status_recorded i r.completed ≡ Some status → (story.owner ≡ r.pass) × (story.status ≡ status)
 
 module _ {A : Type 0} where
   -- one of these histories, or executions, goes on from the other

@@ -1,6 +1,7 @@
 //! What happens to each IRP, and what the passes have seen, whatever the run. Each function stands
 //! for a law: its contract is the law, and there is nothing to run.
-ghost use Rattle.csq_words.specs.Stories.{EachIrpHasAStory, EachIrpIsGivenOnce, NoIrpHasTwoStories, JoinedPassesSeeOneHistory, PassesBackSeeOneHistory, PassesAtTheEndSeeOneHistory};
+ghost use Rattle.csq_words.specs.Stories.{EachIrpHasAStory, EachIrpIsGivenOnce, NoIrpHasTwoStories, JoinedPassesSeeOneHistory, PassesBackSeeOneHistory, PassesAtTheEndSeeOneHistory, StoriesHaveTheStatusRecorded};
+ghost use Rattle.csq_words.specs.Recorded.{EventsStandInOrder};
 
 /// At every step, in each of its lives, an IRP was inserted by at most one pass and given to at
 /// most one: this one made its one claim by the run, and none but this one completes it.
@@ -20,6 +21,19 @@ pub fn each_irp_has_a_story()
 /// ended.
 pub fn no_irp_has_two_stories()
     ensures { NoIrpHasTwoStories }
+{}
+
+/// In the story of a life that has ended, whether it is present or over, the status is the one that
+/// a pass recorded, and that pass is the one that the IRP was given to.
+pub fn stories_have_the_status_recorded()
+    ensures { StoriesHaveTheStatusRecorded }
+{}
+
+/// The history is that of the execution: each of its events stands at a step of its own pass, in the
+/// order of these steps, and each step under the lock has its events there. Events of calls that
+/// make no step (a refused insert, a closed file object) stand between two steps.
+pub fn events_stand_in_order()
+    ensures { EventsStandInOrder }
 {}
 
 /// Passes that were joined with the record of a queue have seen one history and one execution:

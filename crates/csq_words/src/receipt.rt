@@ -1,5 +1,12 @@
 //! The receipt of a pass that is back.
-use crate::rule::WordSeat;
+ghost use Rattle.std.specs.Prelude.{◌≡◌};
+ghost use Rattle.csq_words.specs.Records.{prefix_of};
+ghost use Rattle.csq_words.specs.Seats.{pass_record, seen_at, IsHere};
+
+use crate::rule::{CutSeen, WordSeat};
+use crate::seen::Seen;
+use crate::words::Words;
+use std::alloc::Allocator;
 use std::marker::Model;
 
 /// The receipt of a pass that is back. A contract sees the table that it belongs to and the record
@@ -19,4 +26,19 @@ impl Model for Receipt {
     ghost view = { λ r. option_map receipt_seat_of r.seat };
 
     ghost invariant = { λ r. IsReceipt r.seat };
+}
+
+impl Receipt {
+    /// What the pass had seen when it came back, to be handed to other passes.
+    pub fn seen<A: Allocator>(&mut self, words: &Words<A>) -> Seen
+        requires words { IsHere words.now.table self.old }
+        ensures same { self.new ≡ self.old }
+        ensures prefix { result ≡ seen_at words.now.table (prefix_of (pass_record self.old)) }
+    {
+        let Some(seat) = &mut self.seat else {
+            unreachable!()
+        };
+        let seat = words.table.shared.split_seat::<CutSeen>(seat);
+        Seen { seat }
+    }
 }

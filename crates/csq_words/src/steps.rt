@@ -4,12 +4,13 @@
 ghost use Rattle.std.specs.Prelude.{◌≡◌, ◌==◌};
 ghost use prog.Atomic.{either};
 ghost use Rattle.csq_words.specs.Rule.{table_size};
-ghost use Rattle.csq_words.specs.Plays.{MayStep, any_step, Tells, Observes, TellsQueue, TellsBoth, Makes, Notes, Looks, RenewsStatus, RenewsRoutine, RenewsCancel, Flags, Takes, Completes, ReadsCancel, ReadsStatusWord};
+ghost use Rattle.csq_words.specs.Plays.{MayStep, any_step, Tells, Observes, TellsQueue, TellsBoth, SeesAll, Makes, Notes, Looks, RenewsStatus, RenewsRoutine, RenewsCancel, Flags, Takes, Completes, ReadsCancel, ReadsStatusWord};
 
 use crate::calls::{Call, Note};
 use crate::rule::{
     CallNote, CallStep, Complete, Flag, Look, Make, Named, Observe, ReadCancel, ReadStatus, Record,
-    RenewCancel, RenewRoutine, RenewStatus, SharedWords, Take, Tell, TellBoth, TellQueue, WordSeat,
+    RenewCancel, RenewRoutine, RenewStatus, SeeAll, SharedWords, Take, Tell, TellBoth, TellQueue,
+    WordSeat,
 };
 use irp_core::{IrpId, IrpLife, Kind, NtStatus};
 
@@ -99,6 +100,16 @@ pub(crate) fn tell_both<S: Named>(words: &SharedWords, seat: &mut WordSeat) -> u
     ensures told { TellsBoth S.size any_step seat.old.me result seat.new.me }
 {
     words.load::<TellBoth<S>>(seat, 0)
+}
+
+/// Takes in the history and the execution, by a load of the first word.
+pub(crate) fn see_all<S: Named>(words: &SharedWords, seat: &mut WordSeat) -> u64
+    requires { MayStep words.now.table_id (table_size words.now.key) seat.old 0 (λ n. n)
+        (SeesAll S.size any_step seat.old.me) }
+    ensures table { seat.new.table_id ≡ seat.old.table_id }
+    ensures told { SeesAll S.size any_step seat.old.me result seat.new.me }
+{
+    words.load::<SeeAll<S>>(seat, 0)
 }
 
 /// Looks at a status.

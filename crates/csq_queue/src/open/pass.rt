@@ -2,13 +2,15 @@
 ghost use Rattle.std.specs.Prelude.{◌≡◌, ◌≤◌};
 ghost use Rattle.irp_core.specs.declared.status.TheConstants.NtStatus.{CANCELLED};
 ghost use Rattle.irp_core.specs.Own.{held_list, owed_list};
-ghost use Rattle.csq_queue.specs.Calls.{MarksCancel, CompletesOne, ReadsFlag, ReadsStatus};
+ghost use Rattle.csq_words.specs.Records.{prefix_of};
+ghost use Rattle.csq_words.specs.Seats.{seen_at};
+ghost use Rattle.csq_queue.specs.Calls.{MarksCancel, CompletesOne, ReadsFlag, ReadsStatus, Learns};
 ghost use Rattle.csq_queue.specs.Counts.{AreApart, held_count, owed_count};
 ghost use Rattle.csq_queue.specs.Opens.{IsPassOn};
 ghost use Rattle.csq_queue.specs.Owned.{Holds, HoldsRemoved};
 
 use crate::refusals::{CancelRefused, UnknownIrp};
-use csq_words::{PassSeat, Words, bit_word, flag_read};
+use csq_words::{PassSeat, Seen, Words, bit_word, flag_read};
 use irp_core::{FinalStatus, IrpId, IrpLife, Life, NtStatus};
 use std::alloc::Allocator;
 use std::marker::Model;
@@ -169,5 +171,24 @@ impl OpenPass {
             return Err(UnknownIrp);
         }
         Ok(self.seat.read_status(words, irp))
+    }
+
+    /// What the pass has seen, to be handed to other passes, as `Csq::seen` does.
+    pub fn seen<A: Allocator>(&mut self, words: &Words<A>) -> Seen
+        requires { IsPassOn words.now self.old }
+        ensures same { self.new ≡ self.old }
+        ensures prefix { result ≡ seen_at words.now.table (prefix_of self.old.pass) }
+    {
+        self.seat.seen(words)
+    }
+
+    /// Learns what another pass had seen, as `Csq::learn` does.
+    pub fn learn<A: Allocator>(&mut self, words: &Words<A>, seen: Seen)
+        requires pass { IsPassOn words.now self.old }
+        requires table { seen.table ≡ words.now.table }
+        ensures call { Learns seen.prefix words.now.size self.old.pass self.new.pass }
+        ensures place { self.new ≡ record self.old { pass = self.new.pass } }
+    {
+        self.seat.learn(words, seen);
     }
 }

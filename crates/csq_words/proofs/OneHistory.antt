@@ -13,7 +13,7 @@ use Rattle.csq_words.specs.Stories.{AreComparable, SeeOneHistory}
 
 module _ {A : Type 0} where
   -- of two beginnings of one list, whose newest is first, one begins with the other
-  one_begins : (a b h g : List A) → a ++ h ≡ b ++ g → AreComparable h g
+  pub one_begins : (a b h g : List A) → a ++ h ≡ b ++ g → AreComparable h g
   one_begins [] b h g e = inr (b, e)
   one_begins (x ∷ a) [] h g e = inl (x ∷ a, sym e)
   one_begins (x ∷ a) (y ∷ b) h g e = let rest : a ++ h ≡ b ++ g = cc in one_begins a b h g rest
