@@ -1,2 +1,3 @@
+pub mod Excluded
 pub mod Listed
 pub mod Stages

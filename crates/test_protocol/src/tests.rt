@@ -1,4 +1,4 @@
-//! The machine: `definitions` and `every_sequence`. The lists: `lists`, with `list_calls` and `pairs`, and
+//! The machine: `definitions`, `every_sequence` and `excluded`, which is of histories too. The lists: `lists`, with `list_calls` and `pairs`, and
 //! `list_memory`. The words: `orders` and `lives` are lists of actions of three passes, which one interpreter,
 //! `actions`, carries out on the words and on the machine. `sizes` and `numbers` are of all three. A function
 //! that owns only passes on what it owns.
@@ -10,6 +10,7 @@ mod actions;
 mod cancels;
 mod definitions;
 mod every_sequence;
+mod excluded;
 mod fixture;
 mod inserts;
 mod list_calls;

@@ -1,5 +1,5 @@
 //! What a caller can conclude from the contracts of a queue's calls alone: all that its passes see is of one
-//! execution. Each function of the modules makes a few calls, and its contract is the conclusion. The test makes each
+//! execution. Each function of the modules makes a few calls, and its contract is the conclusion. The tests make each
 //! once over a queue of two passes.
 ghost use Rattle.std.specs.Prelude.{◌≡◌, ◌≢◌};
 ghost use Rattle.csq_queue.specs.Owned.{HoldsRemoved};
@@ -8,14 +8,16 @@ mod flags;
 mod owners;
 mod reads;
 mod statuses;
+mod told;
 
 use super::queues::{FIRST, Rows, SECOND, ZERO, blank, insert, take, vector};
 use csq_list::{Peek, PendingList, Place, VecList};
-use csq_queue::{Blank, Csq, Inserted, Pass, QueueName, Token};
+use csq_queue::{Blank, Csq, Inserted, Pass, QueueName, Seen, Token};
 use irp_core::{FileId, FinalStatus, Life, NtStatus};
 use std::marker::Brand;
 use std::process::Abort;
 use std::sync::Wait;
+use std::thread::{Threads, join};
 
 // The next IRP, which is listed.
 fn remove<L: PendingList + Drop, N: QueueName, R: Wait + Abort>(
@@ -112,4 +114,75 @@ fn draw_all<N: QueueName, R: Wait + Abort>(rt: &R, blank: Blank<VecList>)
 fn conclusions_hold_of_a_queue_of_two_passes(rt: HostRuntime) {
     let list = vector(&rt, rt.alloc());
     draw_all::<Brand, _>(&rt, blank(&rt, rt.alloc(), list, 2));
+}
+
+// Whether an insert by a pass that was told of a cancel finds it.
+fn finds_what_was_told<L: PendingList + Drop, N: QueueName, R: Wait>(
+    rt: &R,
+    queue: &Csq<L, N>,
+    pass: &mut Pass<N>,
+    seen: Seen<N>,
+) -> bool {
+    match told::insert_told(queue, rt, pass, seen, ZERO, FileId(0), Place::Back) {
+        Err(_) => false,
+        Ok(Inserted::Pending(_)) => false,
+        Ok(Inserted::Cancelled(token)) => {
+            queue.complete_cancelled(pass, token);
+            true
+        }
+    }
+}
+
+// Whether a removal by a pass that was told finds none.
+fn finds_none<L: PendingList + Drop, N: QueueName, R: Wait>(
+    rt: &R,
+    queue: &Csq<L, N>,
+    pass: &mut Pass<N>,
+    seen: Seen<N>,
+) -> bool {
+    match told::remove_told(queue, rt, pass, seen) {
+        None => true,
+        Some(token) => {
+            queue.complete(pass, token, FinalStatus::success());
+            false
+        }
+    }
+}
+
+// A cancel in one thread, and an insert in another that was told of it: nobody met. Then a removal, told of both.
+fn tell_each<L, N, R>(rt: &R, queue: &Csq<L, N>, one: &mut Pass<N>, two: &mut Pass<N>)
+where
+    L: PendingList + Drop + Send,
+    N: QueueName + Send + Sync,
+    R: Threads + Wait + Abort + Sync,
+{
+    let ((done, mut seen), ()) = join(
+        rt,
+        || told::cancel_and_tell(queue, rt, one, ZERO, FIRST),
+        || (),
+    );
+    let (again, third) = (queue.seen_again(&mut seen), queue.seen_again(&mut seen));
+    told::learn_order(queue, one, third);
+    let (found, ()) = join(rt, || finds_what_was_told(rt, queue, two, seen), || ());
+    let none = finds_none(rt, queue, one, again);
+    assert!(rt; done == Ok(false) && found && none);
+}
+
+// Lets two threads tell each other over a queue of this name.
+fn tell_over<N: QueueName + Send + Sync, R: Threads + Wait + Abort + Sync>(
+    rt: &R,
+    blank: Blank<VecList>,
+)
+    requires { blank ≡ record { table = N.table; limits = N.limits } }
+{
+    let (queue, mut rack) = blank.into_queue::<N>();
+    let mut one = take(rt, &mut rack);
+    let mut two = take(rt, &mut rack);
+    tell_each(rt, &queue, &mut one, &mut two);
+}
+
+#[test]
+fn a_pass_that_learned_of_a_cancel_finds_it(rt: HostRuntime) {
+    let list = vector(&rt, rt.alloc());
+    tell_over::<Brand, _>(&rt, blank(&rt, rt.alloc(), list, 2));
 }

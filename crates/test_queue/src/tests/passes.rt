@@ -175,14 +175,29 @@ fn check_rest<L: PendingList + Drop, A: Allocator, R: Abort>(rt: &R, rest: &Rest
 }
 
 // Closes a queue with the receipts of both other passes.
+// Lets a pass learn what a pass that is back had seen.
+fn learn_from<L: PendingList + Drop, N: QueueName>(
+    queue: &Csq<L, N>,
+    pass: &mut Pass<N>,
+    back: &mut Back<N>,
+) {
+    let seen = queue.seen_by_back(back);
+    queue.learn(pass, seen);
+}
+
 fn close_with_both<L: PendingList + Drop, N: QueueName, R: Wait + Abort>(
     rt: &R,
     closing: Closing<L, N>,
     two: Pass<N>,
     third: Back<N>,
 ) {
-    let Closing { queue, pass, rack } = closing;
-    let second = receipt(rt, &queue, two);
+    let Closing {
+        queue,
+        mut pass,
+        rack,
+    } = closing;
+    let mut second = receipt(rt, &queue, two);
+    learn_from(&queue, &mut pass, &mut second);
     let mut receipts = [second, third];
     match queue.close_with(pass, rack, &mut receipts) {
         Ok(rest) => check_rest(rt, &rest),

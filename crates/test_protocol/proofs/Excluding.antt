@@ -1,0 +1,267 @@
+-- What the fields of a run exclude, and the order in which events stand in it.
+use Rattle.std.proofs.Common.{◌≡◌, ◌≢◌, ℕ, zero, suc, ◌||◌, Bool, true, false, cond, true≢false, Some, None, List, [], ◌∷◌, ◌++◌, append_assoc, refl, sym, ap, ◌∙◌, subst, arith}
+use Rattle.std.proofs.lemmas.Bool.{or_right}
+use Rattle.std.specs.List.{list_any}
+use Rattle.irp_core.specs.declared.ids.FileId.{FileId}
+use Rattle.irp_core.specs.declared.ids.IrpId.{IrpId}
+use Rattle.csq_list.specs.declared.entry.Place.{Place}
+use Rattle.csq_list.specs.declared.entry.Peek.TheVariants.{Any}
+use Rattle.irp_core.specs.declared.ids.IrpLife.{IrpLife}
+use Rattle.irp_core.specs.declared.ids.PassId.{PassId}
+use Rattle.irp_core.specs.declared.step.Kind.{Kind}
+use Rattle.irp_core.specs.declared.step.Kind.TheVariants.{Arm, Test, Disarm, End, Flag, Take, Out, Done, Renew}
+use Rattle.irp_core.specs.declared.step.Made.{Made}
+use Rattle.irp_core.specs.Runs.{Size, IsRun}
+use Rattle.irp_core.specs.Steps.{same_pass, same_irp, same_id, by}
+use Rattle.irp_core.proofs.Growing.{run_last, run_less}
+use Rattle.irp_core.proofs.Names.{same_pass-refl, same_id-refl}
+use Rattle.csq_words.specs.declared.calls.Call.{Call}
+use Rattle.csq_words.specs.declared.calls.Call.TheVariants.{Insert, RemoveNext, Remove, CancelRoutine, CloseFile, Reuse, GiveBack}
+use Rattle.csq_words.specs.declared.views.InsertReply.TheVariants.{Pending}
+use Rattle.csq_words.specs.declared.views.Event.{Event}
+use Rattle.csq_words.specs.declared.views.Event.TheVariants as event
+use Rattle.csq_words.specs.declared.views.Entry.{Entry}
+use Rattle.csq_words.specs.Queue.{QueueState, has_unmarked}
+use Rattle.csq_words.specs.History.{end_of}
+use Rattle.csq_words.specs.Records.{entries_of}
+use Rattle.csq_words.specs.Recorded.{recorded, is_noted, IsOfCall, IsPlaced, HasRecordedAt, StandsAt}
+use Rattle.csq_words.specs.Recorded.StandsAt.{at_step, between}
+use Rattle.csq_words.specs.Rule.{BackOnce}
+use Rattle.csq_words.proofs.Placing.{in_order}
+use Rattle.test_protocol.specs.Excluded.{pass, irp, did, said, inserted, found_none, inserts_of, removed_by_2, completed_with, NoneIsARun, NoneIsAHistory}
+
+late_take_is : (size : Size) → IsRun size (did 3 (Take (irp 0 0)) 1 ∷ did 1 (Test (irp 0 1)) 0 ∷ did 1 (Arm (irp 0 1)) 0 ∷ did 2 (Renew (irp 0 0)) 0 ∷ did 3 (Flag (irp 0 0)) 0 ∷ did 2 (Done (irp 0 0)) 0 ∷ removed_by_2) → ⊥
+unfolding same_pass same_irp
+late_take_is size r = let e : 1 ≡ 0 = r.found.0 in absurd (omega arith)
+
+late_flag_is : IsRun (record { irps = 1; passes = 3; first = 0 }) (did 3 (Flag (irp 0 0)) 0 ∷ did 2 (Renew (irp 0 0)) 0 ∷ did 2 (Done (irp 0 0)) 0 ∷ removed_by_2) → ⊥
+unfolding same_pass same_irp same_id
+late_flag_is r = let e : 0 ≡ 1 = r.owned.0 in absurd (omega arith)
+
+-- none of the executions is a run
+pub none_is_a_run : NoneIsARun
+unfolding same_pass same_irp
+none_is_a_run = record {
+  two_claims = λ size r. (let e : 1 ≡ 0 = r.found.0 in absurd (omega arith));
+  stranger = λ size r. (let e : false ≡ true = r.owned.0 in cc);
+  completed_twice = λ size r. (let e : false ≡ true = r.owned.0 in cc);
+  late_take = late_take_is;
+  late_flag = late_flag_is;
+  lost = λ r. (let e : true ≡ false = r.held (pass 2) (irp 0 0) in cc);
+  unlisted = λ size r. (let e : false ≡ true = r.owned.0 in cc);
+  test_first = λ size r. (let l = run_last size (did 1 (Test (irp 0 0)) 0) [] (run_less size (did 1 (Arm (irp 0 0)) 0) (did 1 (Test (irp 0 0)) 0 ∷ []) r) in let e : false ≡ true = l.next in cc);
+}
+
+-- an event that isn't noted stands at a step
+step_of : {first : ℕ} {e : Entry} {older : List Entry} {now : List Made} → StandsAt first e older now → is_noted e.event ≡ false → (m : Made) × (run : List Made) × (now ≡ m ∷ run) × HasRecordedAt first m e older
+step_of (at_step m {run = run} h) quiet = (m, run, refl, h)
+step_of (between noted) quiet = absurd (true≢false (sym noted ∙ quiet))
+
+-- what is said of a step holds of one of an execution that has it
+any_in : (g : Made → Bool) (newer older : List Made) (m : Made) → g m ≡ true → list_any g (newer ++ (m ∷ older)) ≡ true
+any_in g [] older m h = ap (λ b. b || list_any g older) h
+any_in g (x ∷ newer) older m h = or_right (g x) (list_any g (newer ++ (m ∷ older))) (any_in g newer older m h)
+
+-- an event needs a step that records it
+nowhere : (g : Made → Bool) (run : List Made) → list_any g run ≡ false → (later now : List Made) → run ≡ later ++ now → (m : Made) (older : List Made) → now ≡ m ∷ older → g m ≡ true → ⊥
+nowhere g run none later now at m older is h = true≢false (sym (any_in g later older m h) ∙ (ap (λ (l : List Made). list_any g (later ++ l)) (sym is) ∙ (ap (list_any g) (sym at) ∙ none)))
+
+-- the newest step doesn't record the newer of two events, and no other records the older one
+in_turn : (g g' : Made → Bool) (x : Made) (rest : List Made) → g' x ≡ false → list_any g rest ≡ false
+    → (later now : List Made) → x ∷ rest ≡ later ++ now → (m' : Made) (older' : List Made) → now ≡ m' ∷ older' → g' m' ≡ true → (since was : List Made) → now ≡ since ++ was → (m : Made) (older : List Made) → was ≡ m ∷ older → g m ≡ true → ⊥
+in_turn g g' x rest wrong none [] now at m' older' is' h' since was more m older is h = let same : x ≡ m' = (let whole : x ∷ rest ≡ m' ∷ older' = at ∙ is' in cc) in true≢false (sym h' ∙ (ap g' (sym same) ∙ wrong))
+in_turn g g' x rest wrong none (y ∷ later) now at m' older' is' h' since was more m older is h =
+    let tail : rest ≡ later ++ now = cc in
+    nowhere g rest none (later ++ since) was (tail ∙ (ap (λ (l : List Made). later ++ l) more ∙ sym (append_assoc later since was))) m older is h
+
+-- what is said of an event holds of one of those that its step recorded
+any_said : (f : Event → Bool) (p : PassId) (es : List Event) (newer within : List Entry) (e : Entry) → entries_of p es ≡ newer ++ (e ∷ within) → f e.event ≡ true → list_any f es ≡ true
+any_said f p [] [] within e is h = absurd cc
+any_said f p [] (x ∷ newer) within e is h = absurd cc
+any_said f p (v ∷ es) [] within e is h = let same : record { pass = p; event = v } ≡ e = cc in ap (λ b. b || list_any f es) (ap (λ (x : Entry). f x.event) same ∙ h)
+any_said f p (v ∷ es) (x ∷ newer) within e is h = let rest : entries_of p es ≡ newer ++ (e ∷ within) = cc in or_right (f v) (list_any f es) (any_said f p es newer within e rest h)
+
+-- an insert of IRP n, which is pending
+inserts_irp : IrpId → Event → Bool
+inserts_irp n (event.Insert m f place Pending) = same_id m n
+inserts_irp n _ = false
+
+-- an insert of IRP n ends with a step of this kind
+ends_insert : IrpId → Kind → Bool
+ends_insert n (Test j) = same_id j.irp n
+ends_insert n (Disarm j) = same_id j.irp n
+ends_insert n _ = false
+
+-- a mark
+is_mark : Event → Bool
+is_mark (event.Mark i) = true
+is_mark _ = false
+
+-- a step of this kind may find that a mark is due
+may_mark : Kind → Bool
+may_mark (Disarm j) = true
+may_mark (Out j) = true
+may_mark _ = false
+
+-- a disjunction with false
+or_none : (b : Bool) → (b || false) ≡ true → b ≡ true
+or_none true h = refl
+or_none false h = h
+
+-- a mark that is due is no insert
+due_inserts_none : (n : IrpId) (i : IrpLife) (b : Bool) → list_any (inserts_irp n) (cond b (event.Mark i ∷ []) []) ≡ true → ⊥
+unfolding inserts_irp
+due_inserts_none n i true h = absurd cc
+due_inserts_none n i false h = absurd cc
+
+-- an insert is recorded by a step of its own IRP
+insert_ends : (n : IrpId) (call : Call) (kind : Kind) (v : ℕ) (u : QueueState) → IsOfCall call kind u → list_any (inserts_irp n) (recorded call kind v u) ≡ true → ends_insert n kind ≡ true
+unfolding inserts_irp ends_insert
+insert_ends n (Insert k f place) (Test j) zero u of h = ap (λ (x : IrpLife). same_id x.irp n) of ∙ or_none (same_id k n) h
+insert_ends n (Insert k f place) (Test j) (suc v) u of h = absurd cc
+insert_ends n (Insert k f place) (Disarm j) zero u of h = ap (λ (x : IrpLife). same_id x.irp n) of ∙ or_none (same_id k n) h
+insert_ends n (Insert k f place) (Disarm j) (suc v) u of h = absurd cc
+insert_ends n (Insert k f place) (Arm j) v u of h = absurd cc
+insert_ends n (Insert k f place) End v u of h = absurd cc
+insert_ends n (Insert k f place) (Flag j) v u of h = absurd cc
+insert_ends n (Insert k f place) (Take j) v u of h = absurd cc
+insert_ends n (Insert k f place) (Out j) v u of h = absurd cc
+insert_ends n (Insert k f place) (Done j) v u of h = absurd cc
+insert_ends n (Insert k f place) (Renew j) v u of h = absurd cc
+insert_ends n (RemoveNext k) (Disarm j) zero u of h = absurd (due_inserts_none n j (has_unmarked u.entries j) h)
+insert_ends n (RemoveNext k) (Disarm j) (suc v) u of h = absurd cc
+insert_ends n (RemoveNext k) kind v u of h = absurd cc
+insert_ends n (Remove i) (Disarm j) zero u of h = absurd (due_inserts_none n i (has_unmarked u.entries i) h)
+insert_ends n (Remove i) (Disarm j) (suc v) u of h = absurd cc
+insert_ends n (Remove i) kind v u of h = absurd cc
+insert_ends n (CancelRoutine i) (Out j) v u of h = absurd (due_inserts_none n j (has_unmarked u.entries j) h)
+insert_ends n (CancelRoutine i) kind v u of h = absurd cc
+insert_ends n (CloseFile f) kind v u of h = absurd cc
+insert_ends n (Reuse m) (Renew j) v u of h = absurd cc
+insert_ends n (Reuse m) kind v u of h = absurd cc
+insert_ends n GiveBack kind v u of h = absurd cc
+
+-- a mark is recorded by an exchange under the lock, or by a cancel routine
+mark_needs : (call : Call) (kind : Kind) (v : ℕ) (u : QueueState) → list_any is_mark (recorded call kind v u) ≡ true → may_mark kind ≡ true
+unfolding is_mark may_mark
+mark_needs call (Disarm j) v u h = refl
+mark_needs call (Out j) v u h = refl
+mark_needs (Insert k f place) (Test j) zero u h = absurd cc
+mark_needs (Insert k f place) (Test j) (suc v) u h = absurd cc
+mark_needs (Insert k f place) kind v u h = absurd cc
+mark_needs (RemoveNext k) End v u h = absurd cc
+mark_needs (RemoveNext k) kind v u h = absurd cc
+mark_needs (Remove i) End v u h = absurd cc
+mark_needs (Remove i) kind v u h = absurd cc
+mark_needs (CancelRoutine i) kind v u h = absurd cc
+mark_needs (CloseFile f) kind v u h = absurd cc
+mark_needs (Reuse m) (Renew j) v u h = absurd cc
+mark_needs (Reuse m) kind v u h = absurd cc
+mark_needs GiveBack kind v u h = absurd cc
+
+-- the step of a pass
+by_own : (p : PassId) (m : Made) → m.pass ≡ p → by p m ≡ true
+by_own p m is = ap (λ q. same_pass q p) is ∙ same_pass-refl p
+
+module _ (run : List Made) (history : List Entry) (placed : IsPlaced 0 run history) where
+  -- the one event of a history stands nowhere in an execution that has no such step
+  stands_nowhere : (g : Made → Bool) → list_any g run ≡ false → (newer older : List Entry) (e : Entry) → history ≡ newer ++ (e ∷ older) → is_noted e.event ≡ false → ((m : Made) → HasRecordedAt 0 m e older → g m ≡ true) → ⊥
+  stands_nowhere g none newer older e at quiet owed =
+      let (later, now, run_is, stands, before) = (in_order 0 run history placed).each_event newer older e at in
+      let (m, others, is, h) = step_of stands quiet in
+      nowhere g run none later now run_is m others is (owed m h)
+
+  -- two events whose steps stand in the other order
+  stand_turned : (g g' : Made → Bool) (x : Made) (rest : List Made) → run ≡ x ∷ rest → g' x ≡ false → list_any g rest ≡ false → (o e : Entry) → history ≡ e ∷ o ∷ [] → is_noted e.event ≡ false → is_noted o.event ≡ false
+      → ((m : Made) → HasRecordedAt 0 m e (o ∷ []) → g' m ≡ true) → ((m : Made) → HasRecordedAt 0 m o [] → g m ≡ true) → ⊥
+  stand_turned g g' x rest begins wrong none o e are quiet quiet' owed owed' =
+      let (later, now, run_is, stands, before) = (in_order 0 run history placed).each_event [] (o ∷ []) e are in
+      let (m', others', is', h') = step_of stands quiet in
+      let (since, was, more, there) = before [] [] o refl in
+      let (m, others, is, h) = step_of there quiet' in
+      in_turn g g' x rest wrong none later now (sym begins ∙ run_is) m' others' is' (owed m' h') since was more m others is (owed' m h)
+
+-- a step of an insert of IRP n
+step_of_insert : (p n : ℕ) (m : Made) (older : List Entry) → HasRecordedAt 0 m (inserted p n) older → ends_insert (record { 0 = n }) m.kind ≡ true
+unfolding inserts_irp same_id
+step_of_insert p n m older h = insert_ends (record { 0 = n }) h.call m.kind m.found (end_of 0 h.history) h.of_call
+    (any_said (inserts_irp (record { 0 = n })) m.pass (recorded h.call m.kind m.found (end_of 0 h.history)) h.newer h.within (inserted p n) h.recorded_is (same_id-refl (record { 0 = n })))
+
+turned_is : (placed : IsPlaced 0 (inserts_of 0 (inserts_of 1 [])) (inserted 1 1 ∷ inserted 1 0 ∷ [])) → ⊥
+unfolding ends_insert same_id
+turned_is placed = stand_turned (inserts_of 0 (inserts_of 1 [])) (inserted 1 1 ∷ inserted 1 0 ∷ []) placed
+    (λ m. ends_insert (record { 0 = 0 }) m.kind) (λ m. ends_insert (record { 0 = 1 }) m.kind) (did 1 (Test (irp 0 0)) 0) (did 1 (Arm (irp 0 0)) 0 ∷ inserts_of 1 []) refl refl refl (inserted 1 0) (inserted 1 1) refl refl refl
+    (λ m h. step_of_insert 1 1 m (inserted 1 0 ∷ []) h) (λ m h. step_of_insert 1 0 m [] h)
+
+marked_is : (run : List Made) → run ≡ did 2 (Take (irp 0 0)) 1 ∷ did 2 (Flag (irp 0 0)) 0 ∷ did 1 End 0 ∷ inserts_of 0 [] → IsPlaced 0 run (found_none 1 ∷ said 1 (event.Mark (irp 0 0)) ∷ inserted 1 0 ∷ []) → ⊥
+unfolding may_mark is_mark
+marked_is run is placed = stands_nowhere run (found_none 1 ∷ said 1 (event.Mark (irp 0 0)) ∷ inserted 1 0 ∷ []) placed (λ m. may_mark m.kind) (ap (list_any (λ (m : Made). may_mark m.kind)) is) (found_none 1 ∷ []) (inserted 1 0 ∷ []) (said 1 (event.Mark (irp 0 0))) refl refl
+    (λ m h. mark_needs h.call m.kind m.found (end_of 0 h.history) (any_said is_mark m.pass (recorded h.call m.kind m.found (end_of 0 h.history)) h.newer h.within (said 1 (event.Mark (irp 0 0))) h.recorded_is refl))
+
+-- an end of a removal records an event
+end_says : (call : Call) (u : QueueState) → IsOfCall call End u → recorded call End 0 u ≢ []
+end_says (RemoveNext k) u of none = absurd cc
+end_says (Remove i) u of none = absurd cc
+end_says (Insert n f place) u of none = absurd of
+end_says (CancelRoutine n) u of none = absurd of
+end_says (CloseFile f) u of none = absurd of
+end_says (Reuse n) u of none = absurd of
+end_says GiveBack u of none = absurd of
+
+-- so it is the newest of the history, if it is the last step
+left_out_is : IsPlaced 0 (did 2 End 0 ∷ inserts_of 0 []) (inserted 1 0 ∷ []) → ⊥
+left_out_is placed = let r = (in_order 0 (did 2 End 0 ∷ inserts_of 0 []) (inserted 1 0 ∷ []) placed).each_step [] (inserts_of 0 []) (did 2 End 0) refl refl in go r.newer (recorded r.call End 0 (end_of 0 r.before)) r.before (end_says r.call (end_of 0 r.before) r.of_call) r.history_is
+  where
+    go : (newer : List Entry) (es : List Event) (before : List Entry) → es ≢ [] → inserted 1 0 ∷ [] ≡ newer ++ (entries_of (pass 2) es ++ before) → ⊥
+    go newer [] before says is = says refl
+    go [] (v ∷ es) before says is = let same : inserted 1 0 ≡ record { pass = pass 2; event = v } = cc in let e : 1 ≡ 2 = ap (λ (x : Entry). x.pass.0) same in absurd (omega (arith, e))
+    go (x ∷ []) (v ∷ es) before says is = absurd cc
+    go (x ∷ y ∷ newer) (v ∷ es) before says is = absurd cc
+
+-- a test that finds the flag clear records its insert
+test_says : (call : Call) (u : QueueState) → IsOfCall call (Test (irp 0 0)) u → (n : IrpId) × (f : FileId) × (at : Place) × (recorded call (Test (irp 0 0)) 0 u ≡ event.Insert n f at Pending ∷ [])
+test_says (Insert n f place) u of = (n, f, place, refl)
+test_says (RemoveNext k) u of = absurd of
+test_says (Remove i) u of = absurd of
+test_says (CancelRoutine n) u of = absurd of
+test_says (CloseFile f) u of = absurd of
+test_says (Reuse n) u of = absurd of
+test_says GiveBack u of = absurd of
+
+-- so the insert stands directly after what the steps before its test left: no removal, which comes later
+recorded_late_is : IsPlaced 0 (did 1 End 0 ∷ did 1 (Disarm (irp 0 0)) 0 ∷ did 2 (Take (irp 0 0)) 1 ∷ did 2 (Flag (irp 0 0)) 0 ∷ did 2 End 0 ∷ inserts_of 0 []) (found_none 1 ∷ said 1 (event.Mark (irp 0 0)) ∷ inserted 1 0 ∷ found_none 2 ∷ []) → ⊥
+unfolding same_pass
+recorded_late_is placed =
+    let later = did 1 End 0 ∷ did 1 (Disarm (irp 0 0)) 0 ∷ did 2 (Take (irp 0 0)) 1 ∷ did 2 (Flag (irp 0 0)) 0 ∷ did 2 End 0 ∷ [] in
+    let r = (in_order 0 (later ++ inserts_of 0 []) (found_none 1 ∷ said 1 (event.Mark (irp 0 0)) ∷ inserted 1 0 ∷ found_none 2 ∷ []) placed).each_step later (did 1 (Arm (irp 0 0)) 0 ∷ []) (did 1 (Test (irp 0 0)) 0) refl refl in
+    let said' = test_says r.call (end_of 0 r.before) r.of_call in
+    go r.newer r.before said'.0 said'.1 said'.2 (r.history_is ∙ ap (λ (es : List Event). r.newer ++ (entries_of (pass 1) es ++ r.before)) said'.3) r.placed
+  where
+    go : (newer before : List Entry) (n : IrpId) (f : FileId) (at : Place) → found_none 1 ∷ said 1 (event.Mark (irp 0 0)) ∷ inserted 1 0 ∷ found_none 2 ∷ [] ≡ newer ++ (said 1 (event.Insert n f at Pending) ∷ before) → IsPlaced 0 (did 1 (Arm (irp 0 0)) 0 ∷ []) before → ⊥
+    go [] before n f at is placed' = let h : found_none 1 ≡ said 1 (event.Insert n f at Pending) = cc in let e : event.RemoveNext Any None ≡ event.Insert n f at Pending = ap (λ (x : Entry). x.event) h in absurd cc
+    go (x ∷ []) before n f at is placed' = let h : said 1 (event.Mark (irp 0 0)) ≡ said 1 (event.Insert n f at Pending) = cc in let e : event.Mark (irp 0 0) ≡ event.Insert n f at Pending = ap (λ (x : Entry). x.event) h in absurd cc
+    go (x ∷ y ∷ []) before n f at is placed' = let rest : found_none 2 ∷ [] ≡ before = cc in
+        stands_nowhere (did 1 (Arm (irp 0 0)) 0 ∷ []) before placed' (by (pass 2)) refl [] [] (found_none 2) (sym rest) refl (λ m h. by_own (pass 2) m h.own)
+    go (x ∷ y ∷ z ∷ []) before n f at is placed' = let h : found_none 2 ≡ said 1 (event.Insert n f at Pending) = cc in let e : event.RemoveNext Any None ≡ event.Insert n f at Pending = ap (λ (x : Entry). x.event) h in absurd cc
+    go (x ∷ y ∷ z ∷ w ∷ []) before n f at is placed' = absurd cc
+    go (x ∷ y ∷ z ∷ w ∷ v ∷ newer) before n f at is placed' = absurd cc
+
+-- none of the histories is one of its execution
+pub none_is_a_history : NoneIsAHistory
+unfolding same_pass same_irp
+none_is_a_history = record {
+  overlooked = λ h. stand_turned (did 2 End 0 ∷ inserts_of 0 []) (inserted 1 0 ∷ found_none 2 ∷ []) h.history_is.placed (by (pass 2)) (by (pass 1)) (did 2 End 0) (inserts_of 0 []) refl refl refl (found_none 2) (inserted 1 0) refl refl refl
+      (λ m r. by_own (pass 1) m r.own) (λ m r. by_own (pass 2) m r.own);
+  left_out = λ h. left_out_is h.history_is.placed;
+  recorded_late = λ h. recorded_late_is h.history_is.placed;
+  no_step = λ h. stands_nowhere [] (found_none 2 ∷ []) h.history_is.placed (by (pass 2)) refl [] [] (found_none 2) refl refl (λ m r. by_own (pass 2) m r.own);
+  turned = λ h. turned_is h.history_is.placed;
+  marked_before = λ h. marked_is _ refl h.history_is.placed;
+  removed_first = λ h. (let e : Some (irp 0 0) ≡ None = h.1.0 in cc);
+  inserted_twice = λ h. (let e : true ≡ false = h.0 in cc);
+  another = λ h. (let e : false ≡ true = h.0 in cc);
+  back_twice = λ size words q back f. twice (subst BackOnce back f.agrees.back_once);
+}
+  where
+    twice : BackOnce (completed_with 0 ∷ completed_with 1 ∷ []) → ⊥
+    twice once = let e : 0 ≡ 1 = once 0 1 (completed_with 0) (completed_with 1) refl refl refl in absurd (omega (arith, e))
