@@ -20,7 +20,7 @@ use Rattle.csq_queue.specs.Cleanups.{SeesCalls}
 use Rattle.csq_queue.specs.Rests.{IsClosed, IsRestOf}
 use Rattle.csq_queue.specs.Steps.{made_by}
 
--- a call under the lock, by what its contract says: its pass before it and after it, the history that it found, and the events with which it left this
+-- a call under the lock, by what its contract says: its pass before it and after it, the history that it found, and the events that it added to this
 pub record LockedCall (limits : Limits) : Type 0 where
   pub old : PassRecord
   pub new : PassRecord

@@ -64,9 +64,10 @@ pub fn calls_told_of_came_first()
     ensures { CallsToldOfCameFirst }
 {}
 
-/// If they do, the history that is left is that of the execution that is left: each of its events stands at a step of
-/// its own pass, in the order of these steps, and each step under the lock has its events there. Only the events
-/// of calls that make no step (a refused insert, a closed file object) stand between two steps.
+/// If `Csq::close` or `Csq::close_with` returns `Ok`, the history that is left is that of the execution that is
+/// left: each of its events stands at a step of its own pass, in the order of these steps, and each step under the
+/// lock has its events there. Only the events of calls that make no step (a refused insert, a closed file object)
+/// stand between two steps.
 pub fn events_left_stand_in_order()
     ensures { EventsLeftStandInOrder }
 {}

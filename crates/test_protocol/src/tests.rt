@@ -1,5 +1,5 @@
-//! The machine: `definitions`, `every_sequence` and `excluded`, which is of histories too. The lists: `lists`, with `list_calls` and `pairs`, and
-//! `list_memory`. The words: `orders` and `lives` are lists of actions of three passes, which one interpreter,
+//! The machine: `definitions`, `every_sequence` and `excluded`, which is of histories too. The lists: `lists`, with
+//! `list_calls` and `pairs`, and `list_memory`. The words: `orders` and `lives` are lists of actions of three passes, which one interpreter,
 //! `actions`, carries out on the words and on the machine. `sizes` and `numbers` are of all three. A function
 //! that owns only passes on what it owns.
 use csq_list::Place;

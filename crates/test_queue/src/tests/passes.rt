@@ -174,7 +174,6 @@ fn check_rest<L: PendingList + Drop, A: Allocator, R: Abort>(rt: &R, rest: &Rest
     assert!(rt; rest.status(ONE) == Some(NtStatus::CANCELLED));
 }
 
-// Closes a queue with the receipts of both other passes.
 // Lets a pass learn what a pass that is back had seen.
 fn learn_from<L: PendingList + Drop, N: QueueName>(
     queue: &Csq<L, N>,
@@ -185,6 +184,7 @@ fn learn_from<L: PendingList + Drop, N: QueueName>(
     queue.learn(pass, seen);
 }
 
+// Closes a queue with the receipts of both other passes.
 fn close_with_both<L: PendingList + Drop, N: QueueName, R: Wait + Abort>(
     rt: &R,
     closing: Closing<L, N>,
