@@ -1,18 +1,17 @@
 -- A pass's own steps in a run.
-use Rattle.std.proofs.Common.{◌≡◌, ◌≢◌, Bool, true, false, cond, not, ◌&&◌, ◌||◌, List, [], ◌∷◌, filter, refl, sym, ap, ◌∙◌}
+use Rattle.std.proofs.Common.{◌≡◌, ◌≢◌, Bool, true, false, cond, not, ◌&&◌, ◌||◌, List, [], ◌∷◌, filter, refl, ap, ◌∙◌}
 use Rattle.std.proofs.Math.Bool.{and-false, and-true}
 use Rattle.std.proofs.lemmas.Bool.{or_right}
 use Rattle.std.specs.List.{list_any}
 use Rattle.irp_core.specs.declared.ids.PassId.{PassId}
-use Rattle.irp_core.specs.declared.step.Kind.TheVariants.{Disarm, Flag, Take, Out, Done}
+use Rattle.irp_core.specs.declared.step.Kind.TheVariants.{Disarm, Flag, Take, Out, Done, Rearm}
 use Rattle.irp_core.specs.declared.step.Made.{Made}
 use Rattle.irp_core.specs.Steps.{is, found_one, by, own, since}
 use Rattle.irp_core.specs.declared.ids.IrpLife.{IrpLife}
 use Rattle.irp_core.specs.Words.{flagged}
 use Rattle.irp_core.specs.Inside.{inside, inside_after, in_insert}
 use Rattle.irp_core.specs.Owners.{owes, holds}
-use Rattle.irp_core.specs.Completion.{removed}
-use Rattle.irp_core.proofs.Names.{same_pass-eq, same_pass-is, same_pass-not}
+use Rattle.irp_core.proofs.Names.{same_pass-is, same_pass-not}
 use Rattle.irp_core.specs.Own.{inside_of, owes_in, holds_in, removed_in}
 
 pub own-mine : (p : PassId) (m : Made) (E : List Made) → m.pass ≡ p → own p (m ∷ E) ≡ m ∷ own p E
@@ -69,20 +68,21 @@ pub owes_in-own : (p : PassId) (i : IrpLife) (E : List Made) → owes_in (own p 
 owes_in-own p i E = since_own p (found_one (Take i)) (is (Out i)) E
 
 pub holds_in-own : (p : PassId) (i : IrpLife) (E : List Made) → holds_in (own p E) i ≡ holds E p i
-holds_in-own p i E = since_own p (λ m. found_one (Disarm i) m || is (Out i) m) (is (Done i)) E
+holds_in-own p i E = since_own p (λ m. found_one (Disarm i) m || is (Out i) m) (λ m. is (Done i) m || is (Rearm i) m) E
 
--- what a pass's own steps say of a removal is so
-pub removed_in-own : (p : PassId) (i : IrpLife) (E : List Made) → removed_in (own p E) i ≡ true → removed E i ≡ true
-removed_in-own p i [] h = h
-removed_in-own p i (m ∷ E) h = go (removed_in-own p i E) (by p m) refl h
+-- whether the steps completed i
+abbrev pub done_in : List Made → IrpLife → Bool
+done_in steps i = list_any (is (Done i)) steps
+
+-- what was got by a removal is still held, or was completed
+pub removed_kept : (steps : List Made) (i : IrpLife) → removed_in steps i ≡ true → (holds_in steps i || done_in steps i) ≡ true
+removed_kept [] i h = absurd cc
+removed_kept (m ∷ steps) i h = go (found_one (Disarm i) m) (is (Out i) m) (is (Done i) m) (is (Rearm i) m) (not (in_insert (inside_of steps))) h (removed_kept steps i)
   where
-    either' : (b : Bool) → (removed_in (own p E) i ≡ true → removed E i ≡ true) → (b || removed_in (own p E) i) ≡ true → (b || removed E i) ≡ true
-    either' true rest h = refl
-    either' false rest h = rest h
-
-    go : (removed_in (own p E) i ≡ true → removed E i ≡ true) → (t : Bool) → by p m ≡ t → removed_in (cond t (m ∷ own p E) (own p E)) i ≡ true
-        → ((found_one (Disarm i) m && not (in_insert (inside E m.pass))) || removed E i) ≡ true
-    go rest true e h =
-        let there : inside_of (own p E) ≡ inside E m.pass = inside_of-own p E ∙ ap (inside E) (sym (same_pass-eq m.pass p e)) in
-        either' _ rest (rw there at h)
-    go rest false e h = or_right _ (removed E i) (rest h)
+    go : (d o n r x : Bool) → ((d && x) || (not r && removed_in steps i)) ≡ true → (removed_in steps i ≡ true → (holds_in steps i || done_in steps i) ≡ true)
+        → (((d || o) || (not (n || r) && holds_in steps i)) || (n || done_in steps i)) ≡ true
+    go true o n r x h ih = refl
+    go false true n r x h ih = refl
+    go false false true r x h ih = refl
+    go false false false true x h ih = absurd cc
+    go false false false false x h ih = ih h

@@ -2,7 +2,7 @@
 use Rattle.std.specs.Prelude.{ℕ, ◌==◌, Bool, false, not, ◌&&◌, ◌||◌, List, [], ◌∷◌, filter, if◌then◌else◌}
 use Rattle.std.specs.List.{list_any}
 use Rattle.irp_core.specs.declared.step.Kind.{Kind}
-use Rattle.irp_core.specs.declared.step.Kind.TheVariants.{Disarm, Take, Out, Done, Renew}
+use Rattle.irp_core.specs.declared.step.Kind.TheVariants.{Disarm, Take, Out, Done, Renew, Rearm}
 use Rattle.irp_core.specs.declared.step.Made.{Made}
 use Rattle.irp_core.specs.declared.inside.Inside.{Inside}
 use Rattle.irp_core.specs.declared.inside.Inside.TheVariants.{Nothing}
@@ -19,9 +19,9 @@ inside_of (m ∷ steps) = inside_after (inside_of steps) m.kind m.found
 abbrev pub owes_in : List Made → IrpLife → Bool
 owes_in steps i = since (found_one (Take i)) (is (Out i)) steps
 
--- it holds i: its Disarm of i found 1, or it made an Out of i, and no Done of i since
+-- it holds i: its Disarm of i found 1, or it made an Out of i, and no Done or Rearm of i since
 abbrev pub holds_in : List Made → IrpLife → Bool
-holds_in steps i = since (λ m. found_one (Disarm i) m || is (Out i) m) (is (Done i)) steps
+holds_in steps i = since (λ m. found_one (Disarm i) m || is (Out i) m) (λ m. is (Done i) m || is (Rearm i) m) steps
 
 -- its Disarm of i found 1
 abbrev pub disarmed_in : List Made → IrpLife → Bool
@@ -35,16 +35,22 @@ out_in steps i = list_any (is (Out i)) steps
 abbrev pub renewed_in : List Made → IrpLife → Bool
 renewed_in steps i = list_any (is (Renew i)) steps
 
--- it got i by a removal: its Disarm of i found 1, and not in an insert
+-- it got i by a removal: its Disarm of i found 1, and not in an insert or a put-back, and it didn't put i back since
 abbrev pub removed_in : List Made → IrpLife → Bool
 removed_in [] i = false
-removed_in (m ∷ steps) i = (found_one (Disarm i) m && not (in_insert (inside_of steps))) || removed_in steps i
+removed_in (m ∷ steps) i = (found_one (Disarm i) m && not (in_insert (inside_of steps))) || (not (is (Rearm i) m) && removed_in steps i)
+
+-- it got i by a removal at some time
+abbrev pub was_removed_in : List Made → IrpLife → Bool
+was_removed_in [] i = false
+was_removed_in (m ∷ steps) i = (found_one (Disarm i) m && not (in_insert (inside_of steps))) || was_removed_in steps i
 
 -- the IRPs that a step of this kind and found value adds to what the pass holds, or takes from it
 abbrev pub held_after : Kind → ℕ → List IrpLife → List IrpLife
 held_after (Disarm i) found is = if found == 1 then i ∷ is else is
 held_after (Out i) found is = i ∷ is
 held_after (Done i) found is = filter (λ j. not (same_irp i j)) is
+held_after (Rearm i) found is = filter (λ j. not (same_irp i j)) is
 held_after _ found is = is
 
 -- what the pass holds, what it got last first

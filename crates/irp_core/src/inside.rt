@@ -16,6 +16,10 @@ pub enum Inside {
     Removing,
     /// A cancel that has set the flag.
     Cancelling(IrpLife),
+    /// A put-back that has set the routine again.
+    Rearmed(IrpLife),
+    /// A put-back that has found the Cancel flag set.
+    FlagSeenAgain(IrpLife),
 }
 
 impl Inside {
@@ -32,6 +36,8 @@ impl Inside {
             (Inside::Nothing, _) => true,
             (Inside::Armed(irp), Kind::Test(tested)) => irp == tested,
             (Inside::FlagSeen(irp), Kind::Disarm(disarmed)) => irp == disarmed,
+            (Inside::Rearmed(irp), Kind::Test(tested)) => irp == tested,
+            (Inside::FlagSeenAgain(irp), Kind::Disarm(disarmed)) => irp == disarmed,
             (Inside::Removing, Kind::Disarm(_) | Kind::End) => true,
             (Inside::Cancelling(irp), Kind::Take(taken)) => irp == taken,
             _ => false,
@@ -44,9 +50,14 @@ impl Inside {
     {
         match kind {
             Kind::Arm(irp) => Inside::Armed(irp),
+            Kind::Rearm(irp) => Inside::Rearmed(irp),
+            Kind::Test(irp) if found != 0 && matches!(self, Inside::Rearmed(_)) => {
+                Inside::FlagSeenAgain(irp)
+            }
             Kind::Test(irp) if found != 0 => Inside::FlagSeen(irp),
-            Kind::Disarm(_) if found == 0 && !matches!(self, Inside::FlagSeen(_)) =>
-                Inside::Removing,
+            Kind::Disarm(_)
+                if found == 0 && !matches!(self, Inside::FlagSeen(_) | Inside::FlagSeenAgain(_)) =>
+                { Inside::Removing }
             Kind::Flag(irp) => Inside::Cancelling(irp),
             _ => Inside::Nothing,
         }
@@ -58,7 +69,11 @@ impl Inside {
     {
         matches!(
             self,
-            Inside::Armed(_) | Inside::FlagSeen(_) | Inside::Removing
+            Inside::Armed(_)
+                | Inside::FlagSeen(_)
+                | Inside::Removing
+                | Inside::Rearmed(_)
+                | Inside::FlagSeenAgain(_)
         )
     }
 
@@ -71,6 +86,9 @@ impl Inside {
     pub(crate) fn is_insert(self) -> bool
         ensures { result ≡ in_insert self }
     {
-        matches!(self, Inside::Armed(_) | Inside::FlagSeen(_))
+        matches!(
+            self,
+            Inside::Armed(_) | Inside::FlagSeen(_) | Inside::Rearmed(_) | Inside::FlagSeenAgain(_)
+        )
     }
 }

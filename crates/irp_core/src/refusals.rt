@@ -20,7 +20,8 @@ pub enum StepRefused {
     NotListed,
     /// An Out of an IRP that the pass doesn't owe in the life named.
     NotOwed,
-    /// A Done of an IRP that the pass doesn't hold in the life named.
+    /// A Done of an IRP that the pass doesn't hold in the life named, or a Rearm of one that it doesn't hold or
+    /// didn't get by a removal.
     NotHeld,
     /// An Arm, Flag or Renew of an IRP that is in another life, this one.
     Stale(Life),

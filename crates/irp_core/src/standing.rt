@@ -23,7 +23,7 @@ pub enum Standing {
 
 impl Standing {
     ghost use Rattle.std.specs.Prelude.{◌≡◌};
-    ghost use Rattle.irp_core.specs.Standings.{moved, place_of, is_free, is_finished, is_waiting, stands_home, stands_listed, is_owed_by, is_held_by};
+    ghost use Rattle.irp_core.specs.Standings.{moved, place_of, is_free, is_finished, is_waiting, stands_home, stands_listed, is_owed_by, is_held_by, is_removed_by};
 
     /// Whether the routine is set.
     pub(crate) fn is_waiting(self) -> bool
@@ -83,6 +83,13 @@ impl Standing {
         matches!(self, Standing::Held(holder, _) if holder == pass)
     }
 
+    #[tactic(auto, unfolding(crate::specs::Steps::same_pass))]
+    pub(crate) fn is_removed_by(self, pass: PassId) -> bool
+        ensures { result ≡ is_removed_by pass self }
+    {
+        matches!(self, Standing::Held(holder, status) if holder == pass && status.0 == 0)
+    }
+
     /// How the IRP stands after a step of it, by a pass that is inside of this.
     pub(crate) fn after(self, step: Step, inside: Inside) -> Standing
         ensures { result ≡ moved step.kind self step.pass inside }
@@ -100,6 +107,7 @@ impl Standing {
             (Standing::Waiting, Kind::Take(_)) => Standing::Owed(step.pass),
             (Standing::Owed(_), Kind::Out(_)) => Standing::Held(step.pass, NtStatus::CANCELLED),
             (Standing::Held(_, status), Kind::Done(_)) => Standing::Finished(status, step.pass),
+            (Standing::Held(..), Kind::Rearm(_)) => Standing::Waiting,
             _ => self,
         }
     }
