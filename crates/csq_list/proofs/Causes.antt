@@ -1,16 +1,19 @@
 -- What an insert met that no cause refuses.
-use Rattle.std.proofs.Common.{◌≡◌, ◌<◌, Bool, true, false, cond, List, [], ◌∷◌, length, Some, None, refl, sym, ap, ◌∙◌, arith}
+use Rattle.std.proofs.Common.{◌≡◌, ◌<◌, Bool, true, false, cond, not, ◌&&◌, List, [], ◌∷◌, length, Some, None, refl, sym, ap, ◌∙◌, arith}
 use Rattle.std.specs.List.{find, AllByRecursion}
+use Rattle.std.proofs.lemmas.Bool.{lt-leb}
 use borrow.Author.Tests.{leb-false, eqb-false}
 use Rattle.irp_core.specs.declared.ids.IrpId.{IrpId}
 use Rattle.irp_core.specs.declared.ids.FileId.{FileId}
+use Rattle.irp_core.proofs.Names.{same_id-refl}
 use Rattle.csq_list.specs.declared.entry.Entry.{Entry}
 use Rattle.csq_list.specs.declared.entry.Place.{Place}
 use Rattle.csq_list.specs.declared.refusals.InsertStatus.{InsertStatus}
-use Rattle.csq_list.specs.Causes.{causes, of_each, is_cause, first_cause}
+use Rattle.csq_list.specs.Searches.{is_listed}
+use Rattle.csq_list.specs.Causes.{causes, last_causes, of_each, is_cause, first_cause}
 use Rattle.csq_list.specs.declared.refusals.InsertStatus.TheVariants.{UnknownIrp, UnknownFile, NotHome, FileFull, Full}
-use Rattle.csq_list.specs.Listing.{Listing, IsSound, inserted}
-use Rattle.csq_list.proofs.Keeping.{sound-inserted}
+use Rattle.csq_list.specs.Listing.{Listing, IsSound, inserted, renewed}
+use Rattle.csq_list.proofs.Keeping.{sound-inserted, unused-unlisted}
 
 -- where nothing is found, no element passes the test
 none_found : {X : Type 0} (test : X → Bool) (xs : List X) → find test xs ≡ None → AllByRecursion (λ x. test x ≡ false) xs
@@ -21,6 +24,18 @@ none_found {X} test (x ∷ xs) h = by_case (test x) refl (none_found test xs)
     by_case true e rest = let t = ap (λ b. cond b (Some x) (find test xs)) e in absurd (cc)
     by_case false e rest = (e, rest (sym (ap (λ b. cond b (Some x) (find test xs)) e) ∙ h))
 
+-- of an unused IRP, where both names are known, only the last causes may hold
+pub cause-known : (s : Listing) (i : IrpId) (f : FileId) → i.0 < s.irps → f.0 < s.files → s.used i ≡ false → first_cause s i f ≡ find (is_cause s i f) last_causes
+cause-known s i f irp file unused = rw (lt-leb s.irps i.0 irp, lt-leb s.files f.0 file, unused) refl
+
+-- a renewed IRP is unused
+pub renewed-unused : (s : Listing) (i : IrpId) → (renewed i s).used i ≡ false
+renewed-unused s i = ap (λ b. not b && s.used i) (same_id-refl i)
+
+-- so it is with what is put back
+pub cause-put_back : (s : Listing) (i : IrpId) (f : FileId) → i.0 < s.irps → f.0 < s.files → first_cause (renewed i s) i f ≡ find (is_cause s i f) last_causes
+cause-put_back s i f irp file = cause-known (renewed i s) i f irp file (renewed-unused s i)
+
 -- what was accepted met no cause
 pub no_cause : (s : Listing) (i : IrpId) (f : FileId) → first_cause s i f ≡ None → (cause : InsertStatus) → is_cause s i f cause ≡ false
 no_cause s i f accepted = of_each (λ cause. is_cause s i f cause ≡ false) (none_found (is_cause s i f) causes accepted)
@@ -30,4 +45,11 @@ pub sound-accepted : (s : Listing) → IsSound s → (place : Place) (e : Entry)
 sound-accepted s sound place e accepted =
     let met = no_cause s e.irp e.file accepted in
     let room : length s.entries < s.limit = omega (arith, sound.within_limit, eqb-false (length s.entries) s.limit (met Full)) in
-    sound-inserted s sound place e (leb-false s.irps e.irp.0 (met UnknownIrp)) (leb-false s.files e.file.0 (met UnknownFile)) (met NotHome) room (met FileFull)
+    sound-inserted s sound place e (leb-false s.irps e.irp.0 (met UnknownIrp)) (leb-false s.files e.file.0 (met UnknownFile)) (unused-unlisted s sound e.irp (met NotHome)) room (met FileFull)
+
+-- as what was put back does
+pub sound-put_back : (s : Listing) → IsSound s → (place : Place) (e : Entry) → is_listed s.entries e.irp ≡ false → first_cause (renewed e.irp s) e.irp e.file ≡ None → IsSound (inserted place e s)
+sound-put_back s sound place e absent accepted =
+    let met = no_cause (renewed e.irp s) e.irp e.file accepted in
+    let room : length s.entries < s.limit = omega (arith, sound.within_limit, eqb-false (length s.entries) s.limit (met Full)) in
+    sound-inserted s sound place e (leb-false s.irps e.irp.0 (met UnknownIrp)) (leb-false s.files e.file.0 (met UnknownFile)) absent room (met FileFull)

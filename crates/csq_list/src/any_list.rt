@@ -162,6 +162,13 @@ impl PendingList for AnyList {
         }
     }
 
+    fn put_back_ex(&mut self, irp: IrpId, file: FileId, place: Place) -> Result<(), InsertStatus> {
+        match self {
+            AnyList::Vector(list) => list.put_back_ex(irp, file, place),
+            AnyList::Chains(list) => list.put_back_ex(irp, file, place),
+        }
+    }
+
     fn peek_next(&self, after: Option<IrpId>, peek: Peek) -> Option<IrpId> {
         match self {
             AnyList::Vector(list) => list.peek_next(after, peek),

@@ -1,10 +1,11 @@
 //! What every list keeps beside its entries.
 ghost use Rattle.std.specs.Prelude.{◌≡◌, ◌≤◌, ◌<◌, ◌==◌, ◌↔◌, ◌&&◌, nat_lt, false, not, List, [], length, replicate, slice_index_or, IsTrue, IfOk, OnOk, IsOk};
-ghost use Rattle.std.specs.List.{list_all};
+ghost use Rattle.std.specs.List.{list_all, find};
 ghost use Rattle.std.specs.Result.{result_err};
+ghost use Rattle.irp_core.specs.declared.ids.IrpId.{IrpId};
 ghost use Rattle.csq_list.specs.declared.entry.Entry.{Entry};
-ghost use Rattle.csq_list.specs.Causes.{first_cause};
-ghost use Rattle.csq_list.specs.Listing.{IsListSize, are_file_limits, fresh, is_file_full};
+ghost use Rattle.csq_list.specs.Causes.{is_cause, first_cause, last_causes};
+ghost use Rattle.csq_list.specs.Listing.{IsListSize, are_file_limits, fresh, is_file_full, renewed};
 ghost use Rattle.csq_list.specs.VecParts.{listing_of, HasFileLens};
 
 use crate::file_counts::FileCounts;
@@ -163,6 +164,47 @@ impl<A: Allocator> Pool<A> {
         if self.used[irp.0 as usize] {
             return Err(InsertStatus::NotHome);
         }
+        self.may_list(full, file)
+    }
+
+    /// Refuses a put-back of a known IRP for the first cause that holds of an insert of it once it were
+    /// renewed, where the counts are those of the entries. Whether the list is full is for the caller to
+    /// say.
+    pub(crate) fn may_put_back(&self, full: bool, file: FileId) -> Result<(), InsertStatus>
+        ensures cause { (entries : List Entry) → HasFileLens self.now.counts.lens.items entries
+            → full ≡ (length entries == self.now.limit)
+            → (irp : IrpId) → irp.0 < length self.now.used.items
+            → result_err result ≡ first_cause (renewed irp
+            (listing_of entries self.now.used.items self.now.closed.items self.now.limit
+            self.now.counts.limits.items)) irp file }
+        ensures known { OnOk result (file.0 < length self.now.closed.items) }
+        ensures file_room { (entries : List Entry) → HasFileLens self.now.counts.lens.items entries
+            → OnOk result (is_file_full
+            (listing_of entries self.now.used.items self.now.closed.items self.now.limit
+            self.now.counts.limits.items) file ≡ false) }
+        ensures room { OnOk result (full ≡ false) }
+    {
+        if file.0 as usize >= self.closed.len() {
+            return Err(InsertStatus::UnknownFile);
+        }
+        self.may_list(full, file)
+    }
+
+    // Refuses to list an IRP for a known file object, for the first of the causes that are tested last.
+    #[inline(always)]
+    fn may_list(&self, full: bool, file: FileId) -> Result<(), InsertStatus>
+        requires known { file.0 < length self.now.closed.items }
+        ensures cause { (entries : List Entry) → HasFileLens self.now.counts.lens.items entries
+            → full ≡ (length entries == self.now.limit)
+            → (irp : IrpId) → result_err result ≡ find (is_cause
+            (listing_of entries self.now.used.items self.now.closed.items self.now.limit
+            self.now.counts.limits.items) irp file) last_causes }
+        ensures file_room { (entries : List Entry) → HasFileLens self.now.counts.lens.items entries
+            → OnOk result (is_file_full
+            (listing_of entries self.now.used.items self.now.closed.items self.now.limit
+            self.now.counts.limits.items) file ≡ false) }
+        ensures room { OnOk result (full ≡ false) }
+    {
         if self.closed[file.0 as usize] {
             return Err(InsertStatus::FileClosed);
         }

@@ -78,6 +78,11 @@ impl<'a, L: PendingList + Drop, W: Watch> PendingList for WatchedList<'a, L, W> 
         self.list.insert_ex(irp, file, place)
     }
 
+    fn put_back_ex(&mut self, irp: IrpId, file: FileId, place: Place) -> Result<(), InsertStatus> {
+        self.watch.at(Moment::Inserting(file));
+        self.list.put_back_ex(irp, file, place)
+    }
+
     fn peek_next(&self, after: Option<IrpId>, peek: Peek) -> Option<IrpId> {
         self.list.peek_next(after, peek)
     }

@@ -18,7 +18,7 @@ add-requires-clause-fits g c =
     omega (arith, few, l.sound.within_limit, l.pool.limit_within, l.pool.irps_small)
 
 sound : (g : Over) (c : After-put g) → IsSound (listing_of c.put.new.entries.items (set c.args.self.now.pool.used.items c.args.entry.irp.0 true) c.args.self.now.pool.closed.items c.args.self.now.pool.limit c.args.self.now.pool.counts.limits.items)
-sound g c = let l = c.args.self.now in sound-vec_inserted c.args.place c.args.entry l.entries.items _ l.pool.used.items l.pool.closed.items l.pool.limit l.pool.counts.limits.items l.sound c.requires.irp c.requires.file c.requires.home c.requires.room c.requires.file_room c.put.ensures.put
+sound g c = let l = c.args.self.now in sound-vec_inserted c.args.place c.args.entry l.entries.items _ l.pool.used.items l.pool.closed.items l.pool.limit l.pool.counts.limits.items l.sound c.requires.irp c.requires.file c.requires.unlisted c.requires.room c.requires.file_room c.put.ensures.put
 
 below : (g : Over) (c : After-put g) → c.args.entry.file.0 < length c.args.self.now.pool.counts.lens.items
 below g c = let l = c.args.self.now in omega (arith, l.pool.counts.same_files, l.pool.files_counted, c.requires.file)
