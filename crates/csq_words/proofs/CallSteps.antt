@@ -1,5 +1,5 @@
 -- The steps of a call under the lock keep the rule.
-use Rattle.std.proofs.Common.{◌≡◌, ℕ, ◌*◌, ◌≤◌, not, ◌&&◌, List, [], ◌∷◌, ◌++◌, length, set, Some, refl, sym, ap, ◌∙◌, arith}
+use Rattle.std.proofs.Common.{false, ◌≡◌, ℕ, ◌*◌, ◌≤◌, not, ◌&&◌, List, [], ◌∷◌, ◌++◌, map, length, set, Some, refl, sym, ap, ◌∙◌, arith}
 use Rattle.irp_core.specs.Own.{inside_of}
 use Rattle.irp_core.specs.declared.ids.PassId.{PassId}
 use Rattle.irp_core.specs.declared.step.Kind.{Kind}
@@ -15,7 +15,7 @@ use Rattle.csq_words.specs.declared.views.PassRecord.{PassRecord}
 use Rattle.csq_words.specs.declared.views.QueueRecord.{QueueRecord}
 use Rattle.csq_words.specs.declared.views.View.{View}
 use Rattle.csq_words.specs.Queue.{has_entry, has_irp}
-use Rattle.csq_words.specs.History.{end_of, IsOrderly}
+use Rattle.csq_words.specs.History.{end_of, IsOrderly, given_to}
 use Rattle.csq_words.specs.Records.{view_of, entries_of, with_events, with_calls, with_step, with_run, with_reusing}
 use Rattle.irp_core.specs.Steps.{own}
 use Rattle.irp_core.specs.Words.{was_armed}
@@ -23,12 +23,12 @@ use Rattle.irp_core.specs.Lives.{present_life}
 use Rattle.irp_core.specs.declared.ids.IrpId.{IrpId}
 use Rattle.csq_words.specs.declared.views.Reusing.{Reusing}
 use Rattle.csq_words.specs.Recorded.{IsPlaced}
-use Rattle.csq_words.specs.Rule.{inserts, in_flight, AreTrueOf, IsReuse, IsHistoryOf, with_done, completed_in, IsPassOf, AreStored, RuleHoldsBy, RecordsAgree, HasObserved}
+use Rattle.csq_words.specs.Rule.{inserts, lists, again, in_flight, passes_given, AreDue, AreTrueOf, IsReuse, IsHistoryOf, with_done, completed_in, IsPassOf, AreStored, RuleHoldsBy, RecordsAgree, HasObserved}
 use Rattle.csq_words.proofs.PassSteps.{AllWords}
 use Rattle.irp_core.proofs.Own.{own-mine, own-other}
 use Rattle.csq_words.proofs.Keeping.{inside_is, only_joined, nobody_in}
 use Rattle.csq_words.proofs.SeatSteps.{locked_step, inside_other, begun_more}
-use Rattle.csq_words.proofs.Facts.{due_more, extended_more}
+use Rattle.csq_words.proofs.Facts.{extended_more}
 use Rattle.csq_words.proofs.Entries.{begins_more, calls_of-other, calls_of-mine}
 
 -- the rule, as the joined pass sees it
@@ -39,6 +39,7 @@ pub record Sees (size : Size) (words : List ℕ) (run : List Made) (q : QueueRec
   pub reuse_is : IsReuse size run q.reusing
   pub same : inside_of r.steps ≡ inside run r.pass
   pub steps_is : r.steps ≡ own r.pass run
+  pub completed_is : map (λ (c : Completion). c.irp) r.completed ≡ completed_in r.steps
   pub free : IsFreeFor run r.pass
   pub from : 1 ≤ r.pass.0
   pub to : r.pass.0 ≤ size.passes
@@ -54,6 +55,7 @@ sees size words views run id q r seat k =
       reuse_is = k.agrees.reuse_is;
       same = inside_is run r words q mine.2;
       steps_is = mine.2.of_pass.steps_is;
+      completed_is = mine.2.of_pass.completed_is;
       free = only_joined run r k.lock;
       from = mine.1.from;
       to = omega arith;
@@ -67,11 +69,13 @@ pub record IsMade (size : Size) (words words' : List ℕ) (run : List Made) (q :
   pub reuse_is : IsReuse size (record { pass = r.pass; kind = kind; found = n } ∷ run) reuse
   pub inert : (is : List IrpLife) → with_done kind is ≡ is
   pub stored : (cs : List Completion) → AreStored words cs → AreStored words' cs
-  pub listed_is : (i : IrpLife) → has_entry (end_of q.first (entries_of r.pass es ++ q.history)).entries i ≡ (not (inserts (inside_after (inside_of r.steps) kind n) i) && listed (record { pass = r.pass; kind = kind; found = n } ∷ run) i)
+  pub listed_is : (i : IrpLife) → has_entry (end_of q.first (entries_of r.pass es ++ q.history)).entries i ≡ (not (lists (inside_after (inside_of r.steps) kind n) i) && listed (record { pass = r.pass; kind = kind; found = n } ∷ run) i)
   pub used_is : (i : IrpLife) → has_irp (end_of q.first (entries_of r.pass es ++ q.history)).used i ≡ (not (inserts (inside_after (inside_of r.steps) kind n) i) && was_armed (record { pass = r.pass; kind = kind; found = n } ∷ run) i)
   pub lives_are : (m : IrpId) → (end_of q.first (entries_of r.pass es ++ q.history)).lives m ≡ present_life size.first (record { pass = r.pass; kind = kind; found = n } ∷ run) m
   pub true_of : AreTrueOf q.first (record { pass = r.pass; kind = kind; found = n } ∷ run) (entries_of r.pass es ++ q.history)
   pub orderly : IsOrderly q.first (entries_of r.pass es ++ q.history)
+  pub given_is : (i : IrpLife) → again (inside_after (inside_of r.steps) kind n) i ≡ false → given_to q.first i (entries_of r.pass es ++ q.history) ≡ passes_given (record { pass = r.pass; kind = kind; found = n } ∷ run) i
+  pub due : AreDue r.steps r.completed → AreDue (record { pass = r.pass; kind = kind; found = n } ∷ r.steps) r.completed
 
 -- the queue's record after it, which has observed this execution
 abbrev pub made_record : PassRecord → List Event → Reusing → List Made → QueueRecord → QueueRecord
@@ -108,6 +112,7 @@ made_kept size words words' views run id q r seat kind n es reuse k x placed =
       lives_are = x.lives_are;
       true_of = x.true_of;
       orderly = x.orderly;
+      given_is = x.given_is;
       placed = placed;
     } in
     let pass_is : IsPassOf (m ∷ run) history' r' = record {
@@ -142,5 +147,5 @@ made_kept size words words' views run id q r seat kind n es reuse k x placed =
       elsewhere = λ p ne. (own-other p m run (λ e. ne (sym e)), calls_of-other p r.pass es q.history ne, inside_other m run p ne);
       seen = ([], refl);
       grows = λ s g. (begins_more s.history q.history (entries_of r.pass es) g.0, extended_more m s.run run g.1);
-      mine = record { of_pass = pass_is; stored = x.stored r.completed owner.2.stored; due = due_more m r.steps r.completed owner.2.due; begun = begun_more q.first m run r.lives owner.2.begun };
+      mine = record { of_pass = pass_is; stored = x.stored r.completed owner.2.stored; due = x.due owner.2.due; begun = begun_more q.first m run r.lives owner.2.begun };
     }) in (kept.0, record { told = kept.1; follows = extended_more m q.run run k.agrees.seen })

@@ -1,5 +1,5 @@
 -- The steps of an insert: arm, test, and its own disarm.
-use Rattle.std.proofs.Common.{◌≡◌, ℕ, zero, suc, ◌<◌, Bool, true, false, not, ◌&&◌, ◌||◌, List, ◌∷◌, set, refl, sym, ap, ◌∙◌, subst, arith, length-set}
+use Rattle.std.proofs.Common.{◌≡◌, ℕ, zero, suc, ◌<◌, Bool, true, false, cond, not, ◌&&◌, ◌||◌, List, ◌∷◌, set, refl, sym, ap, ◌∙◌, subst, arith, length-set}
 use Rattle.std.proofs.Math.Bool.{and-false}
 use Rattle.std.proofs.lemmas.Bool.{and_parts, false_from_ne_true}
 use Rattle.irp_core.specs.Own.{inside_of}
@@ -29,10 +29,10 @@ use Rattle.csq_list.specs.Listing.{put_at}
 use Rattle.csq_words.specs.Records.{queue_of}
 use Rattle.csq_words.specs.Words.{routine_at, bit_word}
 use Rattle.irp_core.specs.Words.{was_armed}
-use Rattle.csq_words.specs.Rule.{is_done, inserts}
+use Rattle.csq_words.specs.Rule.{WasCancelled, is_done, inserts, lists, again}
 use Rattle.csq_words.specs.Calls.{recorded}
 use Rattle.csq_words.specs.declared.views.InsertReply.TheVariants.{Pending}
-use Rattle.csq_words.proofs.Facts.{off, fresh, set_listed, listed_undone, done_over, listed_taken, flag_seen, armed_own, seen_own, bit_true, bit_bound}
+use Rattle.csq_words.proofs.Facts.{off, due_more, given_miss, given_hit, fresh, set_listed, listed_undone, done_over, listed_taken, flag_seen, armed_own, seen_own, bit_true, bit_bound}
 use Rattle.irp_core.proofs.Own.{own_made, own_stays}
 use Rattle.csq_words.proofs.Named.{by_irp, same_irp-is}
 use Rattle.csq_words.proofs.Truths.{true_stays, truths_stay}
@@ -44,7 +44,7 @@ use Rattle.csq_words.proofs.SeatSteps.{reuse_more}
 use Rattle.csq_words.proofs.CallSteps.{Sees, IsMade}
 
 -- a list with i in front, of which the rest leaves i out
-joins : (i j : IrpLife) (b l : Bool) → (i ≡ j → l ≡ true) → b ≡ (not (same_irp i j) && l) → (same_irp i j || b) ≡ l
+pub joins : (i j : IrpLife) (b l : Bool) → (i ≡ j → l ≡ true) → b ≡ (not (same_irp i j) && l) → (same_irp i j || b) ≡ l
 joins i j b l here e = by_irp _ i j (λ s. rw (same_irp-is i j s) (sym (here s))) (λ ne. rw (e, ne) refl)
 
 -- what is listed after a disarm that found none, and after one that found the routine
@@ -85,7 +85,7 @@ module _ (size : Size) (words : List ℕ) (run : List Made) (q : QueueRecord) (r
           reuse_is = reuse_more size m run (λ l. refl) q.reusing x.reuse_is;
           inert = λ is. refl;
           stored = λ cs h. stored_else words (routine_at i.irp) (bit_word (life_of i) 1) cs (λ j. status_routine j i.irp) h;
-          listed_is = λ j. x.history_is.listed_is j ∙ (ap (λ s. not (inserts s j) && listed run j) outside ∙ by_irp _ i j
+          listed_is = λ j. x.history_is.listed_is j ∙ (ap (λ s. not (lists s j) && listed run j) outside ∙ by_irp _ i j
               (λ e. rw (same_irp-is i j e) (rw (← e) (fresh size run x.history_is.is_run i never_armed).1))
               (λ ne. rw ne refl));
           used_is = λ j. x.history_is.used_is j ∙ (ap (λ s. not (inserts s j) && was_armed run j) outside ∙ by_irp _ i j
@@ -94,21 +94,23 @@ module _ (size : Size) (words : List ℕ) (run : List Made) (q : QueueRecord) (r
           lives_are = x.history_is.lives_are;
           true_of = truths_stay size m run is_run q.first q.history x.history_is.true_of;
           orderly = x.history_is.orderly;
+          given_is = λ j n. x.history_is.given_is j (ap (λ s. again s j) outside);
+          due = due_more (record { pass = r.pass; kind = Arm i; found = v }) r.steps r.completed (λ j. refl);
         }
 
     pub arm_finds : found_by run (Arm i) ≡ 0
     arm_finds = (fresh size run x.history_is.is_run i never_armed).0
 
   -- what is said of the IRP of an insert in flight
-  module _ (flight : (j : IrpLife) → inserts (inside_of r.steps) j ≡ same_irp i j) (is_listed : listed run i ≡ true) where
+  module _ (flight : (j : IrpLife) → (lists (inside_of r.steps) j ≡ same_irp i j) × (inserts (inside_of r.steps) j ≡ same_irp i j)) (is_listed : listed run i ≡ true) where
     armed_i : was_armed run i ≡ true
     armed_i = (and_parts _ _ is_listed).0
 
     entries_are : (j : IrpLife) → has_entry (queue_of q).entries j ≡ (not (same_irp i j) && listed run j)
-    entries_are j = x.history_is.listed_is j ∙ ap (λ b. not b && listed run j) (flight j)
+    entries_are j = x.history_is.listed_is j ∙ ap (λ b. not b && listed run j) (flight j).0
 
     used_are : (j : IrpLife) → has_irp (queue_of q).used j ≡ (not (same_irp i j) && was_armed run j)
-    used_are j = x.history_is.used_is j ∙ ap (λ b. not b && was_armed run j) (flight j)
+    used_are j = x.history_is.used_is j ∙ ap (λ b. not b && was_armed run j) (flight j).1
 
     -- until its insert is recorded, it isn't used
     unused_yet : has_irp (queue_of q).used i ≡ false
@@ -121,8 +123,8 @@ module _ (size : Size) (words : List ℕ) (run : List Made) (q : QueueRecord) (r
     used_now j = joins i j _ (was_armed run j) (λ e. ap (was_armed run) (sym e) ∙ armed_i) (used_are j)
 
   module _ (after_arm : inside_of r.steps ≡ Armed i) where
-    flight_of_arm : (j : IrpLife) → inserts (inside_of r.steps) j ≡ same_irp i j
-    flight_of_arm j = ap (λ s. inserts s j) after_arm
+    flight_of_arm : (j : IrpLife) → (lists (inside_of r.steps) j ≡ same_irp i j) × (inserts (inside_of r.steps) j ≡ same_irp i j)
+    flight_of_arm j = (ap (λ s. lists s j) after_arm, ap (λ s. inserts s j) after_arm)
 
     listed_of_arm : listed run i ≡ true
     listed_of_arm = inserted_listed size run x.history_is.is_run r.pass i (rw (← x.same, after_arm) (same_irp-refl i))
@@ -140,10 +142,12 @@ module _ (size : Size) (words : List ℕ) (run : List Made) (q : QueueRecord) (r
       lives_are = x.history_is.lives_are;
       inert = λ is. refl;
       stored = λ cs h. h;
-      listed_is = λ j. listed_now flight_of_arm listed_of_arm j;
-      used_is = λ j. used_now flight_of_arm listed_of_arm j;
+      listed_is = λ j. rw after_arm (listed_now flight_of_arm listed_of_arm j);
+      used_is = λ j. rw after_arm (used_now flight_of_arm listed_of_arm j);
       true_of = (true_stays size _ run (test_run 0 is) (queue_of q) r.pass (event.Insert n f place Pending) (armed_own run r.pass i (sym x.same ∙ after_arm)), truths_stay size _ run (test_run 0 is) q.first q.history x.history_is.true_of);
       orderly = (unused_yet flight_of_arm listed_of_arm, x.history_is.orderly);
+      given_is = λ j n. x.history_is.given_is j (ap (λ s. again s j) after_arm);
+      due = due_more (record { pass = r.pass; kind = Test i; found = 0 }) r.steps r.completed (λ j. refl);
     }
     test_made (suc zero) is = record {
       wide = refl;
@@ -153,16 +157,18 @@ module _ (size : Size) (words : List ℕ) (run : List Made) (q : QueueRecord) (r
       lives_are = x.history_is.lives_are;
       inert = λ is. refl;
       stored = λ cs h. h;
-      listed_is = λ j. entries_are flight_of_arm listed_of_arm j;
-      used_is = λ j. used_are flight_of_arm listed_of_arm j;
+      listed_is = λ j. rw after_arm (entries_are flight_of_arm listed_of_arm j);
+      used_is = λ j. rw after_arm (used_are flight_of_arm listed_of_arm j);
       true_of = truths_stay size _ run (test_run 1 is) q.first q.history x.history_is.true_of;
       orderly = x.history_is.orderly;
+      given_is = λ j n. x.history_is.given_is j (ap (λ s. again s j) after_arm);
+      due = due_more (record { pass = r.pass; kind = Test i; found = 1 }) r.steps r.completed (λ j. refl);
     }
     test_made (suc (suc v)) is = let b = bit_bound (flagged run i) in absurd (omega arith)
 
   module _ (seen : inside_of r.steps ≡ FlagSeen i) where
-    flight_of_seen : (j : IrpLife) → inserts (inside_of r.steps) j ≡ same_irp i j
-    flight_of_seen j = ap (λ s. inserts s j) seen
+    flight_of_seen : (j : IrpLife) → (lists (inside_of r.steps) j ≡ same_irp i j) × (inserts (inside_of r.steps) j ≡ same_irp i j)
+    flight_of_seen j = (ap (λ s. lists s j) seen, ap (λ s. inserts s j) seen)
 
     run_seen : inside run r.pass ≡ FlagSeen i
     run_seen = sym x.same ∙ seen
@@ -199,6 +205,8 @@ module _ (size : Size) (words : List ℕ) (run : List Made) (q : QueueRecord) (r
             (true_stays size m run is_run (queue_of q) r.pass (event.Insert n f place Pending) (seen_own size run x.history_is.is_run r.pass i run_seen), truths_stay size m run is_run q.first q.history x.history_is.true_of),
           );
           orderly = (placed_unmarked place i f (queue_of q).entries, (unused_yet flight_of_seen listed_of_seen, x.history_is.orderly));
+          given_is = λ j n. x.history_is.given_is j (ap (λ s. again s j) seen) ∙ given_miss r.pass i j run;
+          due = due_more (record { pass = r.pass; kind = Disarm i; found = 0 }) r.steps r.completed (λ j. refl);
         }
     disarm_made (suc zero) is =
         let m : Made = record { pass = r.pass; kind = Disarm i; found = 1 } in
@@ -206,6 +214,7 @@ module _ (size : Size) (words : List ℕ) (run : List Made) (q : QueueRecord) (r
         let set_i = set_listed size run x.history_is.is_run i (bit_true (armed run i) 1 is (omega arith)) in
         let not_removed : removed (m ∷ run) i ≡ false = rw (run_seen, and-false (found_one (Disarm i) m)) set_i.2 in
         let unlisted : listed (m ∷ run) i ≡ false = listed_hit r.pass i i run ∙ ap (λ b. not b && listed run i) (same_irp-refl i) in
+        let cancelled : WasCancelled (m ∷ run) i = record { armed = set_i.0; unlisted = unlisted; not_removed = not_removed } in
         let wide = x.wide in record {
           wide = length-set words (routine_at i.irp) (bit_word (life_of i) 0);
           is_run = is_run;
@@ -220,10 +229,12 @@ module _ (size : Size) (words : List ℕ) (run : List Made) (q : QueueRecord) (r
             record {
               arm = armed_stays m refl;
               disarm = own_made r.pass m run refl (found_one (Disarm i)) (rw (same_irp-refl i) refl);
-              cancelled = record { armed = set_i.0; unlisted = unlisted; not_removed = not_removed };
+              cancelled = cancelled;
             },
-            (true_stays size m run is_run (queue_of q) r.pass (event.FlagSeen i) (flag_seen size run x.history_is.is_run r.pass i run_seen), truths_stay size m run is_run q.first q.history x.history_is.true_of),
+            ((flag_seen size run x.history_is.is_run r.pass i run_seen, cancelled), truths_stay size m run is_run q.first q.history x.history_is.true_of),
           );
           orderly = ((unused_yet flight_of_seen listed_of_seen, ap (λ b. b || has_irp (queue_of q).flags i) (same_irp-refl i)), (tt, x.history_is.orderly));
+          given_is = λ j n. ap (λ l. cond (same_irp i j) (r.pass ∷ l) l) (x.history_is.given_is j (ap (λ s. again s j) seen)) ∙ given_hit size run x.history_is.is_run r.pass i (bit_true (armed run i) 1 is (omega arith)) j;
+          due = due_more (record { pass = r.pass; kind = Disarm i; found = 1 }) r.steps r.completed (λ j. refl);
         }
     disarm_made (suc (suc v)) is = let b = bit_bound (armed run i) in absurd (omega arith)

@@ -7,12 +7,12 @@ use mathlib.Core.Option.{some, none, some-injective}
 use lib.ListN.{get_elem?}
 use Rattle.atomic_table.specs.Table.{Allows, step, keeps}
 use Rattle.atomic_table.proofs.Lists.{set_here}
-use Rattle.irp_core.specs.Own.{inside_of, owes_in, holds_in}
+use Rattle.irp_core.specs.Own.{inside_of, owes_in, holds_in, removed_in}
 use Rattle.irp_core.specs.declared.ids.PassId.{PassId}
 use Rattle.irp_core.specs.declared.step.Kind.{Kind}
-use Rattle.irp_core.specs.declared.step.Kind.TheVariants.{Arm, Test, Disarm, End, Flag, Take, Out, Done, Renew}
+use Rattle.irp_core.specs.declared.step.Kind.TheVariants.{Arm, Test, Disarm, End, Flag, Take, Out, Done, Renew, Rearm}
 use Rattle.irp_core.specs.declared.step.Made.{Made}
-use Rattle.irp_core.specs.declared.inside.Inside.TheVariants.{Armed, FlagSeen}
+use Rattle.irp_core.specs.declared.inside.Inside.TheVariants.{Armed, FlagSeen, Rearmed, FlagSeenAgain}
 use Rattle.irp_core.specs.Steps.{number, life_of}
 use Rattle.irp_core.specs.declared.ids.IrpLife.{IrpLife}
 use Rattle.irp_core.specs.Words.{armed, flagged, cancel, routine, found_by}
@@ -25,7 +25,7 @@ use Rattle.irp_core.proofs.Names.{same_irp-refl}
 use Rattle.irp_core.proofs.Next.{inserted_listed}
 use Rattle.irp_core.proofs.Resting.{unknown_stands}
 use Rattle.csq_words.specs.declared.calls.Call.{Call}
-use Rattle.csq_words.specs.declared.calls.Call.TheVariants.{Insert, RemoveNext, Remove, CancelRoutine, CloseFile, Reuse, GiveBack}
+use Rattle.csq_words.specs.declared.calls.Call.TheVariants.{Insert, RemoveNext, Remove, CancelRoutine, CloseFile, Reuse, GiveBack, PutBack}
 use Rattle.csq_words.specs.declared.calls.Note.{Note}
 use Rattle.csq_words.specs.declared.calls.Note.TheVariants.{Refused}
 use Rattle.csq_words.specs.declared.calls.Note.TheVariants as note
@@ -40,7 +40,7 @@ use Rattle.csq_words.specs.declared.views.QueueRecord.{QueueRecord}
 use Rattle.csq_words.specs.declared.views.View.{View}
 use Rattle.csq_words.specs.Words.{cancel_at, routine_at, bit_word, life_in, bit_in}
 use Rattle.csq_words.specs.Queue.{current, has_entry, has_irp, has_marked}
-use Rattle.csq_words.specs.History.{end_of, MayStand, IsOrderly}
+use Rattle.csq_words.specs.History.{given_to, end_of, MayStand, IsOrderly}
 use Rattle.csq_words.specs.Records.{view_of, queue_in, pass_in, queue_of, entries_of, with_events, with_calls, with_step, with_run, with_back}
 use Rattle.csq_words.specs.Seats.{HasQueue}
 use Rattle.csq_words.specs.Recorded.{IsOfCall, IsPlaced}
@@ -54,18 +54,20 @@ use Rattle.irp_core.proofs.Own.{owes_in-own, holds_in-own}
 use Rattle.csq_words.proofs.Indexes.{at_below}
 use Rattle.csq_words.proofs.Changes.{present_is}
 use Rattle.csq_words.proofs.PassSteps.{routine_here}
-use Rattle.csq_words.proofs.Keeping.{none_is, all_set, present_else, apart_from, only_joined, at_queue, inside_is, inserts_none, agrees_same}
+use Rattle.csq_words.proofs.Keeping.{none_is, all_set, present_else, apart_from, only_joined, at_queue, inside_is, free_flight, agrees_same}
 use Rattle.csq_words.proofs.SeatSteps.{locked_step}
 use Rattle.csq_words.proofs.Entries.{begins_more, calls_of-other, calls_of-mine}
 use Rattle.csq_words.proofs.Marks.{marked_taken}
 use Rattle.csq_words.proofs.Marking.{next_first, unmarked_else}
 use Rattle.csq_words.proofs.CallSteps.{Sees, sees, IsMade, ObservedAfter, told_kept, made_record, made_kept}
+use Rattle.csq_words.proofs.PutBackSteps.{rearm_made, back_now, rearm_finds, test_again_made, disarm_again_made}
 use Rattle.csq_words.proofs.InsertSteps.{undone, arm_made, arm_finds, test_made, disarm_made}
 use Rattle.csq_words.proofs.RemovalSteps.{TakesOut, next_listed, entries_are, miss_made, hit_made, end_made, out_made}
 
 -- the words after a step of this kind
 abbrev pub words_after : Kind → List ℕ → List ℕ
 words_after (Arm i) words = set words (routine_at i.irp) (bit_word (life_of i) 1)
+words_after (Rearm i) words = set words (routine_at i.irp) (bit_word (life_of i) 1)
 words_after (Disarm i) words = set words (routine_at i.irp) (bit_word (life_of i) 0)
 words_after _ words = words
 
@@ -83,6 +85,7 @@ module _ (size : Size) (words : List ℕ) (run : List Made) (q : QueueRecord) (r
   unmarked (Out i) n is = tt
   unmarked (Done i) n is = tt
   unmarked (Renew i) n is = tt
+  unmarked (Rearm i) n is = tt
 
   -- a removal's disarm, whatever it finds
   removal_disarm : (i : IrpLife) → number i < size.irps → (removes : MayRemove r) → has_entry (queue_of q).entries i ≡ true → (call : Call) (e : Event) → TakesOut i e → (has_marked (queue_of q).entries i ≡ false → MayStand (queue_of q) e)
@@ -108,16 +111,25 @@ module _ (size : Size) (words : List ℕ) (run : List Made) (q : QueueRecord) (r
       subst (λ (l : IrpLife). inside_of r.steps ≡ FlagSeen l → number l < size.irps → n ≡ found_by run (Disarm l) → Made' (Insert m f place) (Disarm l) n) (sym e)
       (λ seen inside' at. disarm_made size words run q r x m f place inside' seen n at) seen known is
   making (RemoveNext k) (Disarm j) (removes, next) known n is =
-      removal_disarm j known removes (next_listed k (queue_of q).entries j next) (RemoveNext k) (event.RemoveNext k (Some j)) record { taken = λ u. refl; says = λ E u p h. h } (next_first k (queue_of q).entries j next) refl refl n is
+      removal_disarm j known removes (next_listed k (queue_of q).entries j next) (RemoveNext k) (event.RemoveNext k (Some j)) record { taken = λ u. refl; says = λ E u p h. h; gives_out = λ f p h j. refl } (next_first k (queue_of q).entries j next) refl refl n is
   making (Remove i) (Disarm j) (e, removes, there) known n is =
       subst (λ (l : IrpLife). number l < size.irps → n ≡ found_by run (Disarm l) → Made' (Remove i) (Disarm l) n) (sym e)
-      (λ inside' at. removal_disarm i inside' removes there (Remove i) (event.Remove i true) record { taken = λ u. refl; says = λ E u p h. h } (λ clear. sym (unmarked_else i (queue_of q).entries there clear)) refl refl n at) known is
+      (λ inside' at. removal_disarm i inside' removes there (Remove i) (event.Remove i true) record { taken = λ u. refl; says = λ E u p h. h; gives_out = λ f p h j. refl } (λ clear. sym (unmarked_else i (queue_of q).entries there clear)) refl refl n at) known is
   making (RemoveNext k) End (removes, none') known n is =
-      subst (λ v. IsMade size words words run q r End v (event.RemoveNext k None ∷ []) q.reusing) (sym is) (end_made size words run q r x removes (event.RemoveNext k None) record { left = λ u. refl; plain = λ E u p. tt } (sym none'))
+      subst (λ v. IsMade size words words run q r End v (event.RemoveNext k None ∷ []) q.reusing) (sym is) (end_made size words run q r x removes (event.RemoveNext k None) record { left = λ u. refl; plain = λ E u p. tt; gives_none = λ f p h j. refl } (sym none'))
   making (Remove i) End (removes, none') known n is =
-      subst (λ v. IsMade size words words run q r End v (event.Remove i false ∷ []) q.reusing) (sym is) (end_made size words run q r x removes (event.Remove i false) record { left = λ u. refl; plain = λ E u p. tt } (sym none'))
+      subst (λ v. IsMade size words words run q r End v (event.Remove i false ∷ []) q.reusing) (sym is) (end_made size words run q r x removes (event.Remove i false) record { left = λ u. refl; plain = λ E u p. tt; gives_none = λ f p h j. refl } (sym none'))
   making (CancelRoutine m) (Out j) (e, outside, owed) known n is =
       subst (λ v. Made' (CancelRoutine m) (Out j) v) (sym is) (out_made size words run q r x j known outside owed)
+  making (PutBack i f place) (Rearm j) (e, outside, held, got) known n is =
+      subst (λ (l : IrpLife). holds_in r.steps l ≡ true → removed_in r.steps l ≡ true → number l < size.irps → n ≡ found_by run (Rearm l) → Made' (PutBack i f place) (Rearm l) n) (sym e)
+      (λ held got inside' at. rearm_made size words run q r x i f place inside' outside held got n at) held got known is
+  making (PutBack i f place) (Test j) (e, after) known n is =
+      subst (λ (l : IrpLife). inside_of r.steps ≡ Rearmed l → number l < size.irps → n ≡ found_by run (Test l) → Made' (PutBack i f place) (Test l) n) (sym e)
+      (λ after inside' at. test_again_made size words run q r x i f place inside' after n at) after known is
+  making (PutBack i f place) (Disarm j) (e, seen) known n is =
+      subst (λ (l : IrpLife). inside_of r.steps ≡ FlagSeenAgain l → number l < size.irps → n ≡ found_by run (Disarm l) → Made' (PutBack i f place) (Disarm l) n) (sym e)
+      (λ seen inside' at. disarm_again_made size words run q r x i f place inside' seen n at) seen known is
   making call kind may known n is = absurd may
 
   at_listed : (i : IrpLife) → listed run i ≡ true → IsPresent size.first run i × (is_done run i ≡ false)
@@ -137,6 +149,9 @@ module _ (size : Size) (words : List ℕ) (run : List Made) (q : QueueRecord) (r
   at_hand (CancelRoutine m) (Out j) (e, outside, owed) known =
       let open' : (owes run r.pass j || holds run r.pass j) ≡ true = rw (sym (ap (λ t. owes_in t j) x.steps_is ∙ owes_in-own r.pass j run) ∙ owed) refl in
       (open_now size run x.history_is.is_run j r.pass open', open_undone size run x.history_is.is_run j r.pass open')
+  at_hand (PutBack i f place) (Rearm j) (e, outside, held, got) known = back_now size words run q r x j f place known outside held got
+  at_hand (PutBack i f place) (Test j) (e, after) known = at_listed j (inserted_listed size run x.history_is.is_run r.pass j (rw (← x.same, after) (same_irp-refl j)))
+  at_hand (PutBack i f place) (Disarm j) (e, seen) known = at_listed j (inserted_listed size run x.history_is.is_run r.pass j (rw (← x.same, seen) (same_irp-refl j)))
   at_hand call kind may known = absurd may
 
   -- what such a step finds
@@ -145,6 +160,7 @@ module _ (size : Size) (words : List ℕ) (run : List Made) (q : QueueRecord) (r
       is ∙ ap (bit_word (life_of j)) (subst (λ (l : IrpLife). has_irp (queue_of q).used l ≡ false → found_by run (Arm l) ≡ 0) (sym e) (λ unused. arm_finds size words run q r x m f place (subst (λ (l : IrpLife). number l < size.irps) e known) outside unused) unused)
   finds call (Test j) may known w is = ap life_in is ∙ life_in-put (life_of j) _ (bit_bound (flagged run j))
   finds call (Disarm j) may known w is = ap life_in is ∙ life_in-put (life_of j) _ (bit_bound (armed run j))
+  finds (PutBack i f place) (Rearm j) (e, outside, held, got) known w is = is ∙ ap (bit_word (life_of j)) (rearm_finds size words run q r x j f place known outside held got)
   finds call End may known w is = tt
   finds call (Out j) may known w is = tt
   finds call kind may known w is = absurd may
@@ -172,6 +188,10 @@ of_call (Remove i) kind q r may = absurd may
 of_call (CancelRoutine n) (Out j) q r may = may.0
 of_call (CancelRoutine n) kind q r may = absurd may
 of_call (CloseFile f) kind q r may = absurd may
+of_call (PutBack i f place) (Rearm j) q r may = may.0
+of_call (PutBack i f place) (Test j) q r may = may.0
+of_call (PutBack i f place) (Disarm j) q r may = may.0
+of_call (PutBack i f place) kind q r may = absurd may
 of_call (Reuse n) kind q r may = absurd may
 of_call GiveBack kind q r may = absurd may
 
@@ -207,6 +227,16 @@ arm_at size i inside' = record {
   found_is = λ words run reuse w now undone may. w.routine_is ∙ ap (λ (j : IrpLife). bit_word (life_of j) (routine run j)) (routine_here size run i now undone reuse may);
 }
 
+rearm_at : (size : Size) (i : IrpLife) → number i < size.irps → IsStepAt size i (Rearm i) (routine_at i.irp) (λ _. bit_word (life_of i) 1)
+rearm_at size i inside' = record {
+  changes = λ words. refl;
+  known = inside';
+  names = λ run h. h;
+  says = λ run w h. h;
+  bound = λ run. bit_bound (armed run i);
+  found_is = λ words run reuse w now undone may. w.routine_is ∙ ap (λ (j : IrpLife). bit_word (life_of j) (routine run j)) (routine_here size run i now undone reuse may);
+}
+
 disarm_at : (size : Size) (i : IrpLife) → number i < size.irps → IsStepAt size i (Disarm i) (routine_at i.irp) (λ _. bit_word (life_of i) 0)
 disarm_at size i inside' = record {
   changes = λ words. refl;
@@ -232,6 +262,10 @@ module _ (size : Size) (slots id : ℕ) (m : SeatView) (q : QueueRecord) (r : Pa
   arms_as place v lies put same may = subst (λ (z : View × Kind × Size × ℕ × ℕ). Allows (RuleHolds size) slots id (z.0, m.1) z.4 (λ _. z.3) (Makes z.2 call z.1 (step slots z.4 z.3 0 none) (z.0, m.1))) (λ k. (sym is k, sym same k, sym sized k, sym put k, sym lies k))
       (makes size slots id q r m.1 call i (Arm i) (routine_at i.irp) (λ _. bit_word (life_of i) 1) (bit_word (life_of i) 1) inside' (arm_at size i inside') may)
 
+  pub rearms_as : (place v : ℕ) → place ≡ routine_at i.irp → v ≡ bit_word (life_of i) 1 → kind ≡ Rearm i → MayMake call (Rearm i) q r → Allows (RuleHolds size) slots id m place (λ _. v) (Makes other call kind (step slots place v 0 none) m)
+  rearms_as place v lies put same may = subst (λ (z : View × Kind × Size × ℕ × ℕ). Allows (RuleHolds size) slots id (z.0, m.1) z.4 (λ _. z.3) (Makes z.2 call z.1 (step slots z.4 z.3 0 none) (z.0, m.1))) (λ k. (sym is k, sym same k, sym sized k, sym put k, sym lies k))
+      (makes size slots id q r m.1 call i (Rearm i) (routine_at i.irp) (λ _. bit_word (life_of i) 1) (bit_word (life_of i) 1) inside' (rearm_at size i inside') may)
+
   pub disarms_as : (place v : ℕ) → place ≡ routine_at i.irp → v ≡ bit_word (life_of i) 0 → kind ≡ Disarm i → MayMake call (Disarm i) q r → Allows (RuleHolds size) slots id m place (λ _. v) (Makes other call kind (step slots place v 0 none) m)
   disarms_as place v lies put same may = subst (λ (z : View × Kind × Size × ℕ × ℕ). Allows (RuleHolds size) slots id (z.0, m.1) z.4 (λ _. z.3) (Makes z.2 call z.1 (step slots z.4 z.3 0 none) (z.0, m.1))) (λ k. (sym is k, sym same k, sym sized k, sym put k, sym lies k))
       (makes size slots id q r m.1 call i (Disarm i) (routine_at i.irp) (λ _. bit_word (life_of i) 0) (bit_word (life_of i) 0) inside' (disarm_at size i inside') may)
@@ -247,6 +281,7 @@ record AreSilent (p : PassId) (es : List Event) : Type 0 where
   lives_same : (history : List Entry) → (first : ℕ) → (end_of first (entries_of p es ++ history)).lives ≡ (end_of first history).lives
   plain : (first : ℕ) (run : List Made) (history : List Entry) → AreTrueOf first run history → AreTrueOf first run (entries_of p es ++ history)
   orderly : (first : ℕ) (history : List Entry) → IsOrderly first history → IsOrderly first (entries_of p es ++ history)
+  given_same : (first : ℕ) (history : List Entry) (i : IrpLife) → given_to first i (entries_of p es ++ history) ≡ given_to first i history
 
 module _ (size : Size) (words : List ℕ) (views : List View) (run : List Made) (id : ℕ) (q : QueueRecord) (r : PassRecord) (seat : PassId → ℕ) (k : RuleHoldsBy size words views run id q (Some r) seat) where
   owner : (seat r.pass ≡ id) × IsOut q r.pass × IsRecord q.first words run q.history r
@@ -274,6 +309,7 @@ module _ (size : Size) (words : List ℕ) (views : List View) (run : List Made) 
         used_is = λ i. ap (λ l. has_irp l i) (quiet.used_same q.history q.first) ∙ h.used_is i;
         true_of = quiet.plain q.first run q.history h.true_of;
         orderly = quiet.orderly q.first q.history h.orderly;
+        given_is = λ i n. quiet.given_same q.first q.history i ∙ h.given_is i n;
         placed = placed;
       } in
       let pass_is : IsPassOf run history' r' = record {
@@ -328,11 +364,11 @@ module _ (size : Size) (words : List ℕ) (views : List View) (run : List Made) 
       let q' = with_back r q in
       let free : has_lock (inside_of r.steps) ≡ false = ap has_lock may.outside in
       let in' : (n : PassId) → IsOut q' n → IsOut q n = λ n o. record { from = o.from; to = o.to; not_back = λ i u e. o.not_back (suc i) u e } in
-      let flight = agrees_same size words run q (in_flight (Some r)) (in_flight None) (λ i. inserts_none (inside_of r.steps) i free) k.agrees in record {
+      let flight = agrees_same size words run q (in_flight (Some r)) (in_flight None) (λ i. free_flight (inside_of r.steps) i free) k.agrees in record {
         agrees = record {
           wide = flight.wide;
           words_are = flight.words_are;
-          history_is = (let f = flight.history_is in record { is_run = f.is_run; first_is = f.first_is; listed_is = f.listed_is; used_is = f.used_is; lives_are = f.lives_are; true_of = f.true_of; orderly = f.orderly; placed = f.placed });
+          history_is = (let f = flight.history_is in record { is_run = f.is_run; first_is = f.first_is; listed_is = f.listed_is; used_is = f.used_is; lives_are = f.lives_are; true_of = f.true_of; orderly = f.orderly; given_is = f.given_is; placed = f.placed });
           reuse_is = flight.reuse_is;
           shown = λ i o e. let g = flight.shown i o e in (suc g.0, g.1);
           backs = each_back (IsBack words run q') r q.back record { is_record = owner.2; rests = rests may; made = owner.1.to } (λ i o e. let b = flight.backs i o e in record { is_record = b.is_record; rests = b.rests; made = b.made });
@@ -382,11 +418,15 @@ module _ (size : Size) (words : List ℕ) (views : List View) (run : List Made) 
   note_kept : (call : Call) (n : Note) → MayNote size.irps call n q r → Noted call n
   note_kept (Insert i f place) (Refused cause) may =
       let es = event.Insert i f place (reply.Refused cause) ∷ [] in
-      let kept = noted_kept es record { listed_same = λ h f. refl; used_same = λ h f. refl; lives_same = λ h f. refl; plain = λ f E h t. (tt, t); orderly = λ f h o. (tt, o) } (noting (Insert i f place) (Refused cause) r.pass (nobody_locks may) k.agrees.history_is.placed) in
+      let kept = noted_kept es record { listed_same = λ h f. refl; used_same = λ h f. refl; lives_same = λ h f. refl; plain = λ f E h t. (tt, t); orderly = λ f h o. (tt, o); given_same = λ f h i. refl } (noting (Insert i f place) (Refused cause) r.pass (nobody_locks may) k.agrees.history_is.placed) in
+      record { left = run; queue = with_events r.pass es (with_run run q); joined = Some (with_calls es r); records = refl; kept = kept.0; told = kept.1 }
+  note_kept (PutBack i f place) (Refused cause) may =
+      let es = event.PutBack i f place (reply.Refused cause) ∷ [] in
+      let kept = noted_kept es record { listed_same = λ h f. refl; used_same = λ h f. refl; lives_same = λ h f. refl; plain = λ f E h t. (tt, t); orderly = λ f h o. (tt, o); given_same = λ f h i. refl } (noting (PutBack i f place) (Refused cause) r.pass (nobody_locks may) k.agrees.history_is.placed) in
       record { left = run; queue = with_events r.pass es (with_run run q); joined = Some (with_calls es r); records = refl; kept = kept.0; told = kept.1 }
   note_kept (CloseFile f) note.Event may =
       let es = event.CloseFile f ∷ [] in
-      let kept = noted_kept es record { listed_same = λ h f. refl; used_same = λ h f. refl; lives_same = λ h f. refl; plain = λ f E h t. (tt, t); orderly = λ f h o. (tt, o) } (noting (CloseFile f) note.Event r.pass (nobody_locks may) k.agrees.history_is.placed) in
+      let kept = noted_kept es record { listed_same = λ h f. refl; used_same = λ h f. refl; lives_same = λ h f. refl; plain = λ f E h t. (tt, t); orderly = λ f h o. (tt, o); given_same = λ f h i. refl } (noting (CloseFile f) note.Event r.pass (nobody_locks may) k.agrees.history_is.placed) in
       record { left = run; queue = with_events r.pass es (with_run run q); joined = Some (with_calls es r); records = refl; kept = kept.0; told = kept.1 }
   note_kept (RemoveNext k') n may =
       let es = event.RemoveNext k' None ∷ [] in
@@ -427,6 +467,7 @@ module _ (size : Size) (words : List ℕ) (views : List View) (run : List Made) 
   note_kept (Reuse m) note.Event may = absurd may
   note_kept (Reuse m) (Refused cause) may = absurd may
   note_kept (Insert i f place) note.Event may = absurd may
+  note_kept (PutBack i f place) note.Event may = absurd may
   note_kept (CloseFile f) (Refused cause) may = absurd may
 
 notes : (size : Size) (slots id : ℕ) (q : QueueRecord) (r : PassRecord) (held : List (ℕ × Unit {0})) (call : Call) (n : Note) → MayNote size.irps call n q r
@@ -455,4 +496,5 @@ note_has (Remove i) n q r = (refl, refl, refl)
 note_has (CancelRoutine i) n q r = (refl, refl, refl)
 note_has (CloseFile f) n q r = (refl, refl, refl)
 note_has (Reuse m) n q r = (refl, refl, refl)
+note_has (PutBack i f place) n q r = (refl, refl, refl)
 note_has GiveBack n q r = (refl, refl, refl)

@@ -13,10 +13,11 @@ use Rattle.csq_words.specs.declared.views.QueueRecord.{QueueRecord}
 use Rattle.csq_words.specs.declared.views.View.{View}
 use Rattle.csq_words.specs.Records.{view_of, with_run}
 use Rattle.irp_core.specs.Own.{inside_of}
+use Rattle.irp_core.specs.declared.inside.Inside.TheVariants as inner
 use Rattle.csq_words.specs.Rule.{in_flight, IsOut, WordsAgree, Fits, RuleHoldsBy, RuleHolds, QueueHasRun}
 use Rattle.csq_words.specs.Plays.{SeatView, Observes, TellsQueue, TellsBoth}
 use Rattle.csq_words.proofs.Indexes.{at_below}
-use Rattle.csq_words.proofs.Keeping.{none_is, all_set, present_else, apart, at_queue, nobody_in, agrees_same, inserts_none, are_back}
+use Rattle.csq_words.proofs.Keeping.{none_is, all_set, present_else, apart, at_queue, nobody_in, agrees_same, free_flight, are_back}
 use Rattle.csq_words.proofs.ReuseSteps.{renewal_kept}
 
 -- the queue's record has the execution so far
@@ -48,7 +49,7 @@ alone_kept size words views run id q seat k =
       agrees = record {
         wide = a.wide;
         words_are = a.words_are;
-        history_is = record { is_run = told.is_run; first_is = told.first_is; listed_is = told.listed_is; used_is = told.used_is; lives_are = told.lives_are; true_of = told.true_of; orderly = told.orderly; placed = told.placed };
+        history_is = record { is_run = told.is_run; first_is = told.first_is; listed_is = told.listed_is; used_is = told.used_is; lives_are = told.lives_are; true_of = told.true_of; orderly = told.orderly; given_is = told.given_is; placed = told.placed };
         reuse_is = a.reuse_is;
         backs = λ i o e. let b = a.backs i o e in record { is_record = b.is_record; rests = b.rests; made = b.made };
         back_once = a.back_once;
@@ -73,8 +74,8 @@ alone_kept size words views run id q seat k =
     outside' o = record { from = o.from; to = o.to; not_back = o.not_back }
 
 -- what the rule tells of the record then, where no insert is in flight
-told_of : (size : Size) (words : List ℕ) (q : QueueRecord) → WordsAgree size words q.run q (λ i. false) → QueueHasRun size q
-told_of size words q a = record { history_is = a.history_is; callers = λ p s. (a.nobody p (nobody_in q.made size.passes p a.few s)).1; backs = are_back size words q.run q (λ i. false) a; shown = a.shown }
+told_of : (size : Size) (words : List ℕ) (q : QueueRecord) → WordsAgree size words q.run q inner.Nothing → QueueHasRun size q
+told_of size words q a = record { history_is = a.history_is; callers = λ p s. (a.nobody p (nobody_in q.made size.passes p a.few s)).1; backs = are_back size words q.run q inner.Nothing a; shown = a.shown }
 
 tells_queue : (size : Size) (slots id : ℕ) (q : QueueRecord) (held : List (ℕ × Unit {0})) → Allows (RuleHolds size) slots id (view_of q None, held) 0 (λ n. n) (TellsQueue size (step slots 0 0 0 none) (view_of q None, held))
 tells_queue size slots id q held s h _ at _ =
@@ -95,7 +96,7 @@ tells_both size slots id q r held done s h _ at _ =
     let (run, seat, k) = at_queue size s id q (Some r) h at in
     let q' = with_run run q in
     let kept = renewal_kept size s.words s.words s.views run run id q r seat q.reusing ([], refl) k refl k.agrees.words_are k.agrees.reuse_is (λ cs h. h) in
-    let free = agrees_same size s.words run q' (in_flight (Some r)) (λ i. false) (λ i. inserts_none (inside_of r.steps) i done) kept.0.agrees in (
+    let free = agrees_same size s.words run q' (in_flight (Some r)) inner.Nothing (λ i. free_flight (inside_of r.steps) i done) kept.0.agrees in (
       view_of q' (Some r),
       keeps,
       tt,

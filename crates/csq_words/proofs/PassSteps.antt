@@ -13,6 +13,7 @@ use Rattle.irp_core.specs.declared.ids.PassId.{PassId}
 use Rattle.irp_core.specs.declared.status.NtStatus.{NtStatus}
 use Rattle.irp_core.specs.declared.step.Kind.TheVariants.{Flag, Take, Done}
 use Rattle.irp_core.specs.declared.step.Made.{Made}
+use Rattle.irp_core.specs.declared.inside.Inside.{Inside}
 use Rattle.irp_core.specs.declared.inside.Inside.TheVariants.{Nothing, Cancelling}
 use Rattle.irp_core.specs.Steps.{number, life_of, same_id}
 use Rattle.irp_core.specs.declared.ids.IrpLife.{IrpLife}
@@ -27,7 +28,7 @@ use Rattle.irp_core.proofs.Lives.{life_bound}
 use Rattle.irp_core.proofs.Next.{grows_by_flag, grows_by_take, grows_by_done}
 use Rattle.csq_words.specs.declared.views.InsertReply.TheVariants.{Pending, Cancelled, Refused}
 use Rattle.csq_words.specs.declared.views.Event.{Event}
-use Rattle.csq_words.specs.declared.views.Event.TheVariants.{Insert, RemoveNext, Remove, Reuse}
+use Rattle.csq_words.specs.declared.views.Event.TheVariants.{Insert, RemoveNext, Remove, Reuse, PutBack}
 use Rattle.csq_words.specs.declared.views.Entry.{Entry}
 use Rattle.csq_words.specs.Queue.{QueueState, after_event}
 use Rattle.csq_words.specs.declared.views.Reusing.{Reusing}
@@ -43,9 +44,10 @@ use Rattle.csq_words.specs.History.{end_of}
 use Rattle.csq_words.specs.Words.{cancel_at, routine_at, status_at, bit_word, life_in, bit_in, unset_word, status_word, status_life_in, status_in}
 use Rattle.csq_words.specs.Rule.{renewed_routine, renewed_status, stands_for, is_done, SaysStatus, HasWords, AreTrueOf, MayRenew, IsReuse, IsStored, in_flight, IsHistoryOf, IsPassOf, IsOut, IsRecord, RuleHoldsBy, RuleHolds}
 use Rattle.csq_words.specs.Plays.{SeatView, life_found, after_flag, SeesFlag, Flags, taken_by, Takes, Completes}
-use Rattle.csq_words.proofs.Facts.{off, due_more, bit_bound, bit_true, set_listed, listed_now, listed_undone, open_now, open_undone}
+use Rattle.csq_words.proofs.Facts.{off, due_more, given_take, bit_bound, bit_true, set_listed, listed_now, listed_undone, open_now, open_undone}
 use Rattle.csq_words.proofs.Named.{by_id, irp_eq, same_id-not}
-use Rattle.irp_core.proofs.Own.{own-mine, holds_in-own, removed_in-own}
+use Rattle.irp_core.proofs.Own.{own-mine, holds_in-own}
+use Rattle.irp_core.proofs.Owning.{removed_in-own}
 use Rattle.csq_words.proofs.Decoding.{life_in-put, bit_in-put, status_life_in-unset, status_life_in-put, status_in-unset, status_in-put}
 use Rattle.csq_words.proofs.Keeping.{inside_is}
 use Rattle.csq_words.proofs.SeatSteps.{OwnStep, own_step, longer_step, begun_more}
@@ -111,6 +113,7 @@ module _ (size : Size) (words : List ℕ) (run : List Made) (q : QueueRecord) (r
           words_are = λ n l. flag_words size.first words run q.reusing r.pass i (bit_in w) n (ws n l) now (omega arith);
           listed_same = λ j. refl;
           armed_same = λ j. refl;
+          given_same = λ j. refl;
           lives_same = λ n. refl;
           stored = λ o rec. stored_else words (cancel_at i.irp) (bit_word (life_of i) 1) o.completed (λ n. status_cancel n i.irp) rec.stored;
           unlocked = rw same_pass-refl refl;
@@ -118,7 +121,7 @@ module _ (size : Size) (words : List ℕ) (run : List Made) (q : QueueRecord) (r
           mine = record {
             of_pass = record { seen_is = rec.of_pass.seen_is; mine_is = rec.of_pass.mine_is; steps_is = ap (λ u. m ∷ u) rec.of_pass.steps_is ∙ sym (own-mine r.pass m run refl); completed_is = rec.of_pass.completed_is; run_is = ([], refl) };
             stored = stored_else words (cancel_at i.irp) (bit_word (life_of i) 1) r.completed (λ n. status_cancel n i.irp) rec.stored;
-            due = due_more m r.steps r.completed rec.due;
+            due = due_more m r.steps r.completed (λ i. refl) rec.due;
             begun = begun_more q.first m run r.lives rec.begun;
           };
         },
@@ -140,6 +143,7 @@ module _ (size : Size) (words : List ℕ) (run : List Made) (q : QueueRecord) (r
           words_are = ws;
           listed_same = λ j. refl;
           armed_same = λ j. refl;
+          given_same = λ j. refl;
           lives_same = λ n. refl;
           true_of = true';
           reuse_is = reuse;
@@ -158,6 +162,9 @@ event_lives : (u : QueueState) (e : Event) (n : IrpId) → u.lives n ≤ (after_
 event_lives u (Insert m f place Pending) n = omega arith
 event_lives u (Insert m f place Cancelled) n = omega arith
 event_lives u (Insert m f place (Refused cause)) n = omega arith
+event_lives u (PutBack i f place Pending) n = omega arith
+event_lives u (PutBack i f place Cancelled) n = omega arith
+event_lives u (PutBack i f place (Refused cause)) n = omega arith
 event_lives u (RemoveNext k None) n = omega arith
 event_lives u (RemoveNext k (Some j)) n = omega arith
 event_lives u (Remove j false) n = omega arith
@@ -174,7 +181,7 @@ lives_more first [] older n = omega arith
 lives_more first (e ∷ newer) older n = let h = lives_more first newer older n in let g = event_lives (end_of first (newer ++ older)) e.event n in omega (arith, h, g)
 
 -- the present lives in what a pass has seen are no later than those of the run
-pub seen_lives : (size : Size) (run : List Made) (q : QueueRecord) (f : IrpLife → Bool) (r : PassRecord) → IsHistoryOf size run q f → IsPassOf run q.history r → (n : IrpId) → (end_of size.first r.seen).lives n ≤ present_life size.first run n
+pub seen_lives : (size : Size) (run : List Made) (q : QueueRecord) (f : Inside) (r : PassRecord) → IsHistoryOf size run q f → IsPassOf run q.history r → (n : IrpId) → (end_of size.first r.seen).lives n ≤ present_life size.first run n
 seen_lives size run q f r h was n =
     let grown = lives_more size.first was.seen_is.0 r.seen n in
     let now : (end_of size.first (was.seen_is.0 ++ r.seen)).lives n ≡ present_life size.first run n = ap (λ l. (end_of size.first l).lives n) (sym was.seen_is.1) ∙ (ap (λ f. (end_of f q.history).lives n) (sym h.first_is) ∙ h.lives_are n) in
@@ -312,6 +319,7 @@ module _ (size : Size) (words : List ℕ) (run : List Made) (q : QueueRecord) (r
     words_are = taken_words (routine_word == bit_word (life_of i) 1) refl;
     listed_same = λ j. refl;
     armed_same = λ j. refl;
+    given_same = given_take size run is_run r.pass i took (take_finds size words run q.reusing i known ws is_run reuse);
     lives_same = λ n. refl;
     stored = λ o rec. stored_else words (routine_at i.irp) take_next o.completed (λ n. status_routine n i.irp) rec.stored;
     unlocked = rw same_pass-refl refl;
@@ -319,7 +327,7 @@ module _ (size : Size) (words : List ℕ) (run : List Made) (q : QueueRecord) (r
     mine = record {
       of_pass = record { seen_is = rec.of_pass.seen_is; mine_is = rec.of_pass.mine_is; steps_is = ap (λ u. take_step ∷ u) rec.of_pass.steps_is ∙ sym (own-mine r.pass take_step run refl); completed_is = rec.of_pass.completed_is; run_is = ([], refl) };
       stored = stored_else words (routine_at i.irp) take_next r.completed (λ n. status_routine n i.irp) rec.stored;
-      due = due_more take_step r.steps r.completed rec.due;
+      due = due_more take_step r.steps r.completed (λ i. refl) rec.due;
       begun = begun_more q.first take_step run r.lives rec.begun;
     };
   }
@@ -374,7 +382,7 @@ completes size slots id r held i status v known few_lives small put outside held
     let wide = k.agrees.wide in
     let room : status_at i.irp < length s.words = omega arith in
     let longer = grows_by_done size run is_run r.pass mine.1.from (omega (arith, to, few)) i known (sym (inside_is run r s.words queue mine.2) ∙ outside) holds' in
-    let due' : removed run i ≡ false → status ≡ CANCELLED = λ e. due (false_from_ne_true (removed_in r.steps i) (λ x. off (sym e ∙ removed_in-own r.pass i run (subst (λ t. removed_in t i ≡ true) was.steps_is x)))) in
+    let due' : removed run i ≡ false → status ≡ CANCELLED = λ e. due (false_from_ne_true (removed_in r.steps i) (λ x. off (sym e ∙ removed_in-own size r.pass i run is_run (subst (λ t. removed_in t i ≡ true) was.steps_is x)))) in
     let steps = ap (λ u. m ∷ u) was.steps_is ∙ sym (own-mine r.pass m run refl) in
     let first' : (c : Completion) → IsStored found c → IsStored v c = λ c x. stored_first found v c (ap status_in unset ∙ status_in-unset (life_of i)) (ap status_life_in unset ∙ (status_life_in-unset (life_of i) ∙ sym (ap status_life_in v_is ∙ status_life_in-put (life_of i) status small))) x in (
       pass_view r',
@@ -396,6 +404,7 @@ completes size slots id r held i status v known few_lives small put outside held
                   (done_words size.first s.words run queue.reusing r.pass i 0 status n (k.agrees.words_are n l) small due' room at);
               listed_same = λ j. refl;
               armed_same = λ j. refl;
+              given_same = λ j. refl;
               lives_same = λ n. refl;
               stored = λ o rec. stored_put s.words i.irp v o.completed room first' rec.stored;
               unlocked = rw same_pass-refl refl;
@@ -409,7 +418,7 @@ completes size slots id r held i status v known few_lives small put outside held
                   ),
                   stored_put s.words i.irp v r.completed room first' mine.2.stored,
                 );
-                due = (due, due_more m r.steps r.completed mine.2.due);
+                due = (due, due_more m r.steps r.completed (λ i. refl) mine.2.due);
                 begun = begun_more queue.first m run r.lives mine.2.begun;
               };
             }),

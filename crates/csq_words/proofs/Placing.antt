@@ -4,7 +4,7 @@ use Rattle.irp_core.specs.Lock.{needs_lock}
 use Rattle.irp_core.specs.declared.ids.PassId.{PassId}
 use Rattle.irp_core.specs.declared.step.Made.{Made}
 use Rattle.csq_words.specs.declared.calls.Call.{Call}
-use Rattle.csq_words.specs.declared.calls.Call.TheVariants.{Insert, RemoveNext, Remove, CancelRoutine, CloseFile, Reuse, GiveBack}
+use Rattle.csq_words.specs.declared.calls.Call.TheVariants.{Insert, RemoveNext, Remove, CancelRoutine, CloseFile, Reuse, GiveBack, PutBack}
 use Rattle.csq_words.specs.declared.calls.Note.{Note}
 use Rattle.csq_words.specs.declared.calls.Note.TheVariants.{Refused}
 use Rattle.csq_words.specs.declared.calls.Note.TheVariants as note
@@ -52,8 +52,10 @@ nothing (x ∷ newer) within e is = absurd cc
 -- what is noted is of a call that makes no step
 noted_is : (call : Call) (n : Note) (p : PassId) (newer within : List Entry) (e : Entry) → entries_of p (noted call n) ≡ newer ++ (e ∷ within) → is_noted e.event ≡ true
 noted_is (Insert i f place) (Refused cause) p newer within e is = only (record { pass = p; event = event.Insert i f place (reply.Refused cause) }) newer within e is refl
+noted_is (PutBack i f place) (Refused cause) p newer within e is = only (record { pass = p; event = event.PutBack i f place (reply.Refused cause) }) newer within e is refl
 noted_is (CloseFile f) note.Event p newer within e is = only (record { pass = p; event = event.CloseFile f }) newer within e is refl
 noted_is (Insert i f place) note.Event p newer within e is = nothing newer within e is
+noted_is (PutBack i f place) note.Event p newer within e is = nothing newer within e is
 noted_is (CloseFile f) (Refused cause) p newer within e is = nothing newer within e is
 noted_is (RemoveNext k) n p newer within e is = nothing newer within e is
 noted_is (Remove i) n p newer within e is = nothing newer within e is

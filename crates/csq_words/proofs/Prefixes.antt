@@ -1,11 +1,10 @@
 -- What a pass has seen: cutting it off, and joining it to another pass's record, keeps the rule, by which that pass then has seen more.
-use Rattle.std.proofs.Common.{◌≡◌, ℕ, Bool, List, [], ◌∷◌, ◌++◌, set, refl, sym, ap, ◌∙◌, subst}
+use Rattle.std.proofs.Common.{◌≡◌, ℕ, List, [], ◌∷◌, ◌++◌, set, refl, sym, ap, ◌∙◌, subst}
 use Rattle.std.proofs.lemmas.List.{set-get_or}
 use mathlib.Core.Option.{some, none}
 use lib.ListN.{get_elem?}
 use Rattle.atomic_table.specs.Table.{Allows, Splits, Joins, step, keeps}
 use Rattle.atomic_table.proofs.Lists.{set_here, set_else, set_again, at_longer}
-use Rattle.irp_core.specs.declared.ids.IrpLife.{IrpLife}
 use Rattle.irp_core.specs.declared.ids.PassId.{PassId}
 use Rattle.irp_core.specs.declared.step.Made.{Made}
 use Rattle.irp_core.specs.Runs.{Size}
@@ -15,6 +14,7 @@ use Rattle.csq_words.specs.declared.views.Prefix.{Prefix}
 use Rattle.csq_words.specs.declared.views.View.{View}
 use Rattle.csq_words.specs.Records.{view_of, pass_view, receipt_view, prefix_view, spent_view, pass_prefix_view, prefix_of, saw_prefix, same_view, prefix_view_of, with_prefix_of}
 use Rattle.csq_words.specs.History.{IsOrderly}
+use Rattle.irp_core.specs.declared.inside.Inside.{Inside}
 use Rattle.csq_words.specs.Recorded.{IsPlaced}
 use Rattle.csq_words.specs.Rule.{AreTrueOf, IsPrefixOf, IsRecord, IsOut, WordsAgree, in_flight, Fits, SeatHasRecord, RuleHoldsBy, RuleHolds}
 use Rattle.csq_words.specs.Plays.{SeatView, SeesAll}
@@ -25,7 +25,7 @@ use Rattle.csq_words.proofs.Keeping.{none_is, all_set, all_push, present_else, p
 
 -- a prefix that the seat's view tells of is cut off
 cuts_seen : (size : Size) (id : ℕ) (v : View) (s : Prefix)
-    → ((words : List ℕ) (run : List Made) (q : QueueRecord) (queue_at : ℕ) (seat : PassId → ℕ) (flight : IrpLife → Bool) → WordsAgree size words run q flight → Fits words run q queue_at seat id v → IsPrefixOf run q.history s)
+    → ((words : List ℕ) (run : List Made) (q : QueueRecord) (queue_at : ℕ) (seat : PassId → ℕ) (flight : Inside) → WordsAgree size words run q flight → Fits words run q queue_at seat id v → IsPrefixOf run q.history s)
     → Splits (RuleHolds size) id v v (prefix_view s)
 cuts_seen size id v s shown st (run, queue_at, queue, joined, seat, k) at =
     let fits : ℕ → View → Type 0 = Fits st.words run queue queue_at seat in

@@ -2,7 +2,7 @@
 use Rattle.std.proofs.Common.{◌≡◌, ℕ, ◌<◌, Bool, true, false, cond, not, ◌&&◌, List, [], ◌∷◌, ◌++◌, set, refl, sym, ap, ◌∙◌, subst, arith, length-set}
 use Rattle.std.proofs.Math.Bool.{and-false}
 use Rattle.std.proofs.lemmas.Bool.{or_right}
-use Rattle.irp_core.specs.Own.{inside_of, owes_in, removed_in}
+use Rattle.irp_core.specs.Own.{inside_of, owes_in, was_removed_in}
 use Rattle.irp_core.specs.declared.ids.PassId.{PassId}
 use Rattle.irp_core.specs.declared.step.Kind.TheVariants.{Disarm, End, Out}
 use Rattle.irp_core.specs.declared.step.Made.{Made}
@@ -12,7 +12,7 @@ use Rattle.irp_core.specs.Steps.{number, life_of, same_irp, is, own}
 use Rattle.irp_core.specs.declared.ids.IrpLife.{IrpLife}
 use Rattle.irp_core.specs.Lives.{present}
 use Rattle.irp_core.specs.declared.ids.IrpId.{IrpId}
-use Rattle.irp_core.specs.Words.{found_by}
+use Rattle.irp_core.specs.Words.{armed, found_by}
 use Rattle.irp_core.specs.Inside.{after_disarm, follows, in_insert}
 use Rattle.irp_core.specs.Owners.{owes, listed}
 use Rattle.irp_core.specs.Completion.{removed}
@@ -26,14 +26,15 @@ use Rattle.csq_words.specs.declared.views.Event.TheVariants as event
 use Rattle.csq_words.specs.declared.views.PassRecord.{PassRecord}
 use Rattle.csq_words.specs.declared.views.QueueRecord.{QueueRecord}
 use Rattle.csq_words.specs.Queue.{Queued, QueueState, has_entry, has_unmarked, has_irp, marking, without, after_event}
-use Rattle.csq_words.specs.History.{end_of, MayStand, IsOrderly}
+use Rattle.csq_words.specs.History.{end_of, MayStand, IsOrderly, given_to}
+use Rattle.csq_words.specs.declared.views.Entry.{Entry}
 use Rattle.csq_words.specs.Records.{queue_of, entries_of}
 use Rattle.csq_words.specs.Words.{routine_at, bit_word}
 use Rattle.irp_core.specs.Owners.{taken}
 use Rattle.irp_core.specs.Words.{was_armed}
-use Rattle.csq_words.specs.Rule.{inserts, WasCancelled, IsTrueOf, AreTrueOf}
+use Rattle.csq_words.specs.Rule.{inserts, lists, again, passes_given, WasCancelled, IsTrueOf, AreTrueOf}
 use Rattle.csq_words.specs.Calls.{due_mark, IsNextMatch, MayRemove}
-use Rattle.csq_words.proofs.Facts.{off, owed_listed, listed_taken, listed_now, listed_undone}
+use Rattle.csq_words.proofs.Facts.{off, due_more, given_hit, given_miss, given_out, bit_true, owed_listed, listed_taken, listed_now, listed_undone}
 use Rattle.irp_core.proofs.Own.{own-mine, own_made, owes_in-own}
 use Rattle.csq_words.proofs.Truths.{true_stays, truths_stay}
 use Rattle.csq_words.proofs.Changes.{routine_of, disarm_words, end_words, out_words, stored_else, status_routine}
@@ -44,20 +45,20 @@ use Rattle.csq_words.proofs.SeatSteps.{reuse_more}
 use Rattle.csq_words.proofs.CallSteps.{Sees, IsMade}
 use Rattle.csq_words.proofs.InsertSteps.{listed_miss, listed_hit}
 
--- a removal is no insert
-removal_inserts : (s : Inside) (j : IrpLife) → follows s End ≡ true → inserts s j ≡ false
-removal_inserts Nothing j h = refl
-removal_inserts Removing j h = refl
-removal_inserts s j h = off h
+-- a removal is no insert and no put-back
+removal_flight : (s : Inside) (j : IrpLife) → follows s End ≡ true → (lists s j ≡ false) × (inserts s j ≡ false) × (again s j ≡ false)
+removal_flight Nothing j h = (refl, refl, refl)
+removal_flight Removing j h = (refl, refl, refl)
+removal_flight s j h = off h
 
-removal_after : (s : Inside) (j : IrpLife) → follows s End ≡ true → inserts (after_disarm s 0) j ≡ false
-removal_after Nothing j h = refl
-removal_after Removing j h = refl
+removal_after : (s : Inside) (j : IrpLife) → follows s End ≡ true → (lists (after_disarm s 0) j ≡ false) × (inserts (after_disarm s 0) j ≡ false)
+removal_after Nothing j h = (refl, refl)
+removal_after Removing j h = (refl, refl)
 removal_after s j h = off h
 
-removal_ended : (s : Inside) (j : IrpLife) → follows s End ≡ true → inserts (after_disarm s 1) j ≡ false
-removal_ended Nothing j h = refl
-removal_ended Removing j h = refl
+removal_ended : (s : Inside) (j : IrpLife) → follows s End ≡ true → (lists (after_disarm s 1) j ≡ false) × (inserts (after_disarm s 1) j ≡ false)
+removal_ended Nothing j h = (refl, refl)
+removal_ended Removing j h = (refl, refl)
 removal_ended s j h = off h
 
 -- a removal's Disarm isn't that of an insert
@@ -69,12 +70,14 @@ removal_no_insert s h = off h
 -- the event takes i out of the list, and says that its pass got it by a removal
 pub record TakesOut (i : IrpLife) (e : Event) : Type 0 where
   pub taken : (q : QueueState) → after_event q e ≡ record q { entries = without i q.entries }
-  pub says : (run : List Made) (u : QueueState) (p : PassId) → removed_in (own p run) i ≡ true → IsTrueOf run u p e
+  pub says : (run : List Made) (u : QueueState) (p : PassId) → was_removed_in (own p run) i ≡ true → IsTrueOf run u p e
+  pub gives_out : (first : ℕ) (p : PassId) (history : List Entry) (j : IrpLife) → given_to first j (record { pass = p; event = e } ∷ history) ≡ cond (same_irp i j) (p ∷ given_to first j history) (given_to first j history)
 
 -- the event leaves the queue as it is
 pub record Leaves (e : Event) : Type 0 where
   pub left : (q : QueueState) → after_event q e ≡ q
   pub plain : (run : List Made) (u : QueueState) (p : PassId) → IsTrueOf run u p e
+  pub gives_none : (first : ℕ) (p : PassId) (history : List Entry) (j : IrpLife) → given_to first j (record { pass = p; event = e } ∷ history) ≡ given_to first j history
 
 -- the next match is listed
 pub next_listed : (k : Peek) (es : List Queued) (i : IrpLife) → IsNextMatch k es i → has_entry es i ≡ true
@@ -94,10 +97,13 @@ listed_out p i j run = go (same_irp i j) refl
 module _ (size : Size) (words : List ℕ) (run : List Made) (q : QueueRecord) (r : PassRecord) (x : Sees size words run q r) where
   module _ (removes : MayRemove r) where
     pub entries_are : (j : IrpLife) → has_entry (queue_of q).entries j ≡ listed run j
-    entries_are j = x.history_is.listed_is j ∙ ap (λ b. not b && listed run j) (removal_inserts (inside_of r.steps) j removes)
+    entries_are j = x.history_is.listed_is j ∙ ap (λ b. not b && listed run j) (removal_flight (inside_of r.steps) j removes).0
 
     used_are : (j : IrpLife) → has_irp (queue_of q).used j ≡ was_armed run j
-    used_are j = x.history_is.used_is j ∙ ap (λ b. not b && was_armed run j) (removal_inserts (inside_of r.steps) j removes)
+    used_are j = x.history_is.used_is j ∙ ap (λ b. not b && was_armed run j) (removal_flight (inside_of r.steps) j removes).1
+
+    given_are : (j : IrpLife) → given_to q.first j q.history ≡ passes_given run j
+    given_are j = x.history_is.given_is j (removal_flight (inside_of r.steps) j removes).2
 
     module _ (i : IrpLife) (inside' : number i < size.irps) (there : has_entry (queue_of q).entries i ≡ true) where
       listed_i : listed run i ≡ true
@@ -119,8 +125,9 @@ module _ (size : Size) (words : List ℕ) (run : List Made) (q : QueueRecord) (r
               → ((l : IrpId) → (end_of q.first (entries_of r.pass es ++ q.history)).lives l ≡ (queue_of q).lives l)
               → AreTrueOf q.first (record { pass = r.pass; kind = Disarm i; found = 0 } ∷ run) (entries_of r.pass es ++ q.history)
               → IsOrderly q.first (entries_of r.pass es ++ q.history)
+              → ((j : IrpLife) → given_to q.first j (entries_of r.pass es ++ q.history) ≡ given_to q.first j q.history)
               → IsMade size words (set words (routine_at i.irp) (bit_word (life_of i) 0)) run q r (Disarm i) 0 es q.reusing
-          made es listed' used' lives' true' orderly' = let wide = x.wide in record {
+          made es listed' used' lives' true' orderly' given' = let wide = x.wide in record {
             wide = length-set words (routine_at i.irp) (bit_word (life_of i) 0);
             is_run = disarm_run 0 is;
             words_are = λ j l. disarm_words size.first words run q.reusing r.pass i 0 j (x.words_are j l) 0 (omega arith) here refl;
@@ -128,23 +135,25 @@ module _ (size : Size) (words : List ℕ) (run : List Made) (q : QueueRecord) (r
             lives_are = λ l. lives' l ∙ x.history_is.lives_are l;
             inert = λ is. refl;
             stored = λ cs h. stored_else words (routine_at i.irp) (bit_word (life_of i) 0) cs (λ j. status_routine j i.irp) h;
-            listed_is = λ j. listed' j ∙ (entries_are j ∙ (sym (listed_miss r.pass i j run) ∙ ap (λ b. not b && listed (record { pass = r.pass; kind = Disarm i; found = 0 } ∷ run) j) (sym (removal_after (inside_of r.steps) j removes))));
-            used_is = λ j. used' j ∙ (used_are j ∙ ap (λ b. not b && was_armed run j) (sym (removal_after (inside_of r.steps) j removes)));
+            listed_is = λ j. listed' j ∙ (entries_are j ∙ (sym (listed_miss r.pass i j run) ∙ ap (λ b. not b && listed (record { pass = r.pass; kind = Disarm i; found = 0 } ∷ run) j) (sym (removal_after (inside_of r.steps) j removes).0)));
+            used_is = λ j. used' j ∙ (used_are j ∙ ap (λ b. not b && was_armed run j) (sym (removal_after (inside_of r.steps) j removes).1));
             true_of = true';
             orderly = orderly';
+            given_is = λ j n. given' j ∙ (given_are j ∙ given_miss r.pass i j run);
+            due = due_more (record { pass = r.pass; kind = Disarm i; found = 0 }) r.steps r.completed (λ j. refl);
           }
 
           stay : AreTrueOf q.first (record { pass = r.pass; kind = Disarm i; found = 0 } ∷ run) q.history
           stay = truths_stay size _ run (disarm_run 0 is) q.first q.history x.history_is.true_of
 
           go : (b : Bool) → has_unmarked (queue_of q).entries i ≡ b → IsMade size words (set words (routine_at i.irp) (bit_word (life_of i) 0)) run q r (Disarm i) 0 (cond b (Mark i ∷ []) []) q.reusing
-          go false e = made [] (λ j. refl) (λ j. refl) (λ l. refl) stay x.history_is.orderly
+          go false e = made [] (λ j. refl) (λ j. refl) (λ l. refl) stay x.history_is.orderly (λ j. refl)
           go true e = made (Mark i ∷ []) (λ j. has_entry-marking i (queue_of q).entries j) (λ j. refl) (λ l. refl)
               (true_stays size _ run (disarm_run 0 is) (queue_of q) r.pass (Mark i) (listed_taken size run x.history_is.is_run i listed_i (sym is)), stay)
-              (e, x.history_is.orderly)
+              (e, x.history_is.orderly) (λ j. refl)
 
-      removed_now : removed_in (own r.pass (record { pass = r.pass; kind = Disarm i; found = 1 } ∷ run)) i ≡ true
-      removed_now = ap (λ s. removed_in s i) (own-mine r.pass _ run refl) ∙ rw (same_irp-refl i, ap in_insert (ap inside_of (sym x.steps_is)) ∙ removal_no_insert (inside_of r.steps) removes) refl
+      removed_now : was_removed_in (own r.pass (record { pass = r.pass; kind = Disarm i; found = 1 } ∷ run)) i ≡ true
+      removed_now = ap (λ s. was_removed_in s i) (own-mine r.pass _ run refl) ∙ rw (same_irp-refl i, ap in_insert (ap inside_of (sym x.steps_is)) ∙ removal_no_insert (inside_of r.steps) removes) refl
 
       -- the removal finds the routine: the IRP is its
       pub hit_made : 1 ≡ found_by run (Disarm i) → (e : Event) → TakesOut i e → MayStand (queue_of q) e → IsMade size words (set words (routine_at i.irp) (bit_word (life_of i) 0)) run q r (Disarm i) 1 (e ∷ []) q.reusing
@@ -157,10 +166,12 @@ module _ (size : Size) (words : List ℕ) (run : List Made) (q : QueueRecord) (r
         inert = λ is. refl;
         stored = λ cs h. stored_else words (routine_at i.irp) (bit_word (life_of i) 0) cs (λ j. status_routine j i.irp) h;
         listed_is = λ j. ap (λ (u : QueueState). has_entry u.entries j) (t.taken (queue_of q)) ∙ (has_entry-without i (queue_of q).entries j
-            ∙ (ap (λ b. not (same_irp i j) && b) (entries_are j) ∙ (sym (listed_hit r.pass i j run) ∙ ap (λ b. not b && listed (record { pass = r.pass; kind = Disarm i; found = 1 } ∷ run) j) (sym (removal_ended (inside_of r.steps) j removes)))));
-        used_is = λ j. ap (λ (u : QueueState). has_irp u.used j) (t.taken (queue_of q)) ∙ (used_are j ∙ ap (λ b. not b && was_armed run j) (sym (removal_ended (inside_of r.steps) j removes)));
+            ∙ (ap (λ b. not (same_irp i j) && b) (entries_are j) ∙ (sym (listed_hit r.pass i j run) ∙ ap (λ b. not b && listed (record { pass = r.pass; kind = Disarm i; found = 1 } ∷ run) j) (sym (removal_ended (inside_of r.steps) j removes).0))));
+        used_is = λ j. ap (λ (u : QueueState). has_irp u.used j) (t.taken (queue_of q)) ∙ (used_are j ∙ ap (λ b. not b && was_armed run j) (sym (removal_ended (inside_of r.steps) j removes).1));
         true_of = (t.says (record { pass = r.pass; kind = Disarm i; found = 1 } ∷ run) (queue_of q) r.pass removed_now, truths_stay size _ run (disarm_run 1 is) q.first q.history x.history_is.true_of);
         orderly = (stands, x.history_is.orderly);
+        given_is = λ j n. t.gives_out q.first r.pass q.history j ∙ (ap (λ l. cond (same_irp i j) (r.pass ∷ l) l) (given_are j) ∙ given_hit size run x.history_is.is_run r.pass i (bit_true (armed run i) 1 is (omega arith)) j);
+        due = due_more (record { pass = r.pass; kind = Disarm i; found = 1 }) r.steps r.completed (λ j. refl);
       }
 
     -- the removal ends with none
@@ -178,6 +189,8 @@ module _ (size : Size) (words : List ℕ) (run : List Made) (q : QueueRecord) (r
           used_is = λ j. ap (λ (u : QueueState). has_irp u.used j) (l.left (queue_of q)) ∙ used_are j;
           true_of = (l.plain (record { pass = r.pass; kind = End; found = 0 } ∷ run) (queue_of q) r.pass, truths_stay size _ run is_run q.first q.history x.history_is.true_of);
           orderly = (stands, x.history_is.orderly);
+          given_is = λ j n. l.gives_none q.first r.pass q.history j ∙ given_are j;
+          due = due_more (record { pass = r.pass; kind = End; found = 0 }) r.steps r.completed (λ j. refl);
         }
 
   module _ (i : IrpLife) (inside' : number i < size.irps) (outside : inside_of r.steps ≡ Nothing) (owed : owes_in r.steps i ≡ true) where
@@ -213,8 +226,9 @@ module _ (size : Size) (words : List ℕ) (run : List Made) (q : QueueRecord) (r
             → ((l : IrpId) → (end_of q.first (entries_of r.pass es ++ q.history)).lives l ≡ (queue_of q).lives l)
             → AreTrueOf q.first (record { pass = r.pass; kind = Out i; found = 0 } ∷ run) (entries_of r.pass es ++ q.history)
             → IsOrderly q.first (entries_of r.pass (event.Out i ∷ es) ++ q.history)
+            → ((j : IrpLife) → given_to q.first j (entries_of r.pass es ++ q.history) ≡ given_to q.first j q.history)
             → IsMade size words words run q r (Out i) 0 (event.Out i ∷ es) q.reusing
-        made es listed' used' lives' true' orderly' = record {
+        made es listed' used' lives' true' orderly' given' = record {
           wide = refl;
           is_run = out_run;
           words_are = λ j l. out_words size.first words run q.reusing r.pass i 0 j (x.words_are j l);
@@ -226,13 +240,15 @@ module _ (size : Size) (words : List ℕ) (run : List Made) (q : QueueRecord) (r
           used_is = λ j. used' j ∙ used_are removing j;
           true_of = (record { out = own_made r.pass _ run refl (is (Out i)) (same_irp-refl i); cancelled = was_cancelled }, true');
           orderly = orderly';
+          given_is = λ j n. ap (λ l. cond (same_irp i j) (r.pass ∷ l) l) (given' j ∙ given_are removing j) ∙ given_out size run x.history_is.is_run r.pass i owed_run j;
+          due = due_more (record { pass = r.pass; kind = Out i; found = 0 }) r.steps r.completed (λ j. refl);
         }
 
         stay : AreTrueOf q.first (record { pass = r.pass; kind = Out i; found = 0 } ∷ run) q.history
         stay = truths_stay size _ run out_run q.first q.history x.history_is.true_of
 
         go : (b : Bool) → has_unmarked (queue_of q).entries i ≡ b → IsMade size words words run q r (Out i) 0 (event.Out i ∷ cond b (Mark i ∷ []) []) q.reusing
-        go false e = made [] (λ j. has_entry-without i (queue_of q).entries j) (λ j. refl) (λ l. refl) stay (marked_else i (queue_of q).entries out_listed e, x.history_is.orderly)
+        go false e = made [] (λ j. has_entry-without i (queue_of q).entries j) (λ j. refl) (λ l. refl) stay (marked_else i (queue_of q).entries out_listed e, x.history_is.orderly) (λ j. refl)
         go true e = made (Mark i ∷ []) (λ j. has_entry-without i (marking i (queue_of q).entries) j ∙ ap (λ b. not (same_irp i j) && b) (has_entry-marking i (queue_of q).entries j)) (λ j. refl) (λ l. refl)
             (true_stays size _ run out_run (queue_of q) r.pass (Mark i) facts.3, stay)
-            (one_marked i (queue_of q).entries out_listed, (e, x.history_is.orderly))
+            (one_marked i (queue_of q).entries out_listed, (e, x.history_is.orderly)) (λ j. refl)

@@ -34,10 +34,10 @@ use Rattle.csq_words.specs.Queue.{current, has_entry, has_irp, begin_next}
 use Rattle.csq_words.specs.Records.{view_of, queue_of, with_calls, with_step, with_reusing, with_run}
 use Rattle.csq_words.specs.declared.calls.Call.TheVariants as call
 use Rattle.csq_words.specs.Recorded.IsPlaced.{recording}
-use Rattle.csq_words.specs.Rule.{next_life, is_done, inserts, in_flight, SaysStatus, HasWords, MayRenew, IsReuse, IsHistoryOf, AreStored, RuleHoldsBy, RuleHolds}
+use Rattle.csq_words.specs.Rule.{next_life, is_done, inserts, lists, again, in_flight, SaysStatus, HasWords, MayRenew, IsReuse, IsHistoryOf, AreStored, RuleHoldsBy, RuleHolds}
 use Rattle.csq_words.specs.Calls.{after_look, after_renewal}
 use Rattle.csq_words.specs.Plays.{SeatView, status_recorded, SaysStatusOf, Looks, RenewsStatus, RenewsRoutine, RenewsCancel}
-use Rattle.csq_words.proofs.Facts.{off, bit_bound, IsNew, later_new, dones_some, done_over}
+use Rattle.csq_words.proofs.Facts.{off, due_more, bit_bound, IsNew, later_new, dones_some, done_over}
 use Rattle.csq_words.proofs.Named.{irp_eq}
 use Rattle.csq_words.proofs.Decoding.{life_in-put, status_life_in-unset, status_in-unset}
 use Rattle.csq_words.proofs.Truths.{truths_stay}
@@ -57,7 +57,7 @@ renewal_kept size words words' views run seen id q r seat reuse follows k wide w
     let h = k.agrees.history_is in
     let owner = (k.each_view id (view_of q (Some r)) k.queue_is).pass_here r refl in
     let was = owner.2.of_pass in
-    let history_is : IsHistoryOf size run q' (in_flight (Some r)) = record { is_run = h.is_run; first_is = h.first_is; listed_is = h.listed_is; used_is = h.used_is; lives_are = h.lives_are; true_of = h.true_of; orderly = h.orderly; placed = h.placed } in told_kept size words' (set views id (view_of q' (Some r))) run id q' r seat history_is was
+    let history_is : IsHistoryOf size run q' (in_flight (Some r)) = record { is_run = h.is_run; first_is = h.first_is; listed_is = h.listed_is; used_is = h.used_is; lives_are = h.lives_are; true_of = h.true_of; orderly = h.orderly; given_is = h.given_is; placed = h.placed } in told_kept size words' (set views id (view_of q' (Some r))) run id q' r seat history_is was
     (locked_step size words words' views run run id q q' seat r r k record {
       same_pass = refl;
       same_made = refl;
@@ -157,7 +157,7 @@ module _ (size : Size) (words : List ℕ) (views : List View) (run : List Made) 
       let over = done_over size run is_run i may.done in
       let here : (j : IrpLife) → j ≡ i → (has_irp (queue_of q).used j ≡ true) × (has_entry (queue_of q).entries j ≡ false) = λ j e. (
         x.history_is.used_is j ∙ (ap (λ s. not (inserts s j) && was_armed run j) outside ∙ (ap (was_armed run) e ∙ over.0)),
-        x.history_is.listed_is j ∙ (ap (λ s. not (inserts s j) && listed run j) outside ∙ (ap (listed run) e ∙ over.2)),
+        x.history_is.listed_is j ∙ (ap (λ s. not (lists s j) && listed run j) outside ∙ (ap (listed run) e ∙ over.2)),
       ) in
       let now : current (queue_of q) i.irp ≡ i = (let g : (queue_of q).lives i.irp ≡ life_of i = k.agrees.history_is.lives_are i.irp ∙ sym may.is_present in irp_eq (current (queue_of q) i.irp) i refl g) in
       let both = here (current (queue_of q) i.irp) now in (
@@ -168,11 +168,13 @@ module _ (size : Size) (words : List ℕ) (views : List View) (run : List Made) 
           reuse_is = tt;
           inert = λ is. refl;
           stored = λ cs h. stored_else words (cancel_at i.irp) (bit_word (life_of i + 1) 0) cs (λ n. status_cancel n i.irp) h;
-          listed_is = λ j. x.history_is.listed_is j ∙ ap (λ s. not (inserts s j) && listed run j) outside;
+          listed_is = λ j. x.history_is.listed_is j ∙ ap (λ s. not (lists s j) && listed run j) outside;
           used_is = λ j. x.history_is.used_is j ∙ ap (λ s. not (inserts s j) && was_armed run j) outside;
           lives_are = λ m. lives_next m (x.history_is.lives_are m);
           true_of = (record { done = ap (is_done run) now ∙ may.done; renew = own_made r.pass _ run refl (is (Renew (current (queue_of q) i.irp))) (ap (same_irp i) now ∙ same_irp-refl i) }, truths_stay size (record { pass = r.pass; kind = Renew i; found = 0 }) run grown q.first q.history x.history_is.true_of);
           orderly = ((both.0, both.1, ap (λ (j : IrpLife). life_of j + 1) (sym now)), x.history_is.orderly);
+          given_is = λ j n. x.history_is.given_is j (ap (λ s. again s j) outside);
+          due = due_more (record { pass = r.pass; kind = Renew i; found = 0 }) r.steps r.completed (λ j. refl);
         },
         ap life_in (ws i.irp known).cancel_is ∙ (life_in-put (present_life size.first run i.irp) _ (bit_bound (flagged run (present size.first run i.irp))) ∙ sym may.is_present),
       )

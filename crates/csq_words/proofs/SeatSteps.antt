@@ -28,7 +28,7 @@ use Rattle.csq_words.specs.declared.views.Reusing.TheVariants.{Nothing, Looked, 
 use Rattle.irp_core.specs.Lock.{needs_lock}
 use Rattle.csq_words.specs.Recorded.{IsPlaced}
 use Rattle.csq_words.specs.Recorded.IsPlaced.{unlocked as without}
-use Rattle.csq_words.specs.Rule.{HasWords, is_done, in_flight, AreTrueOf, IsHistoryOf, MayRenew, IsReuse, AreStored, HaveBegun, IsRecord, IsOut, IsNobody, HasBack, BackOnce, IsPrefixOf, Fits, SeatHasRecord, RuleHoldsBy}
+use Rattle.csq_words.specs.Rule.{inserts, lists, passes_given, HasWords, is_done, in_flight, AreTrueOf, IsHistoryOf, MayRenew, IsReuse, AreStored, HaveBegun, IsRecord, IsOut, IsNobody, HasBack, BackOnce, IsPrefixOf, Fits, SeatHasRecord, RuleHoldsBy}
 use Rattle.csq_words.proofs.Facts.{off, extended_more}
 use Rattle.irp_core.proofs.Names.{same_pass-not}
 use Rattle.csq_words.proofs.Named.{by_pass}
@@ -45,6 +45,7 @@ pub record OwnStep (size : Size) (words words' : List ℕ) (run run' : List Made
   pub words_are : (n : IrpId) → n.0 < size.irps → HasWords size.first words' run' q.reusing n
   pub listed_same : (i : IrpLife) → listed run' i ≡ listed run i
   pub armed_same : (i : IrpLife) → was_armed run' i ≡ was_armed run i
+  pub given_same : (i : IrpLife) → passes_given run' i ≡ passes_given run i
   pub lives_same : (n : IrpId) → present_life size.first run' n ≡ present_life size.first run n
   pub true_of : AreTrueOf q.first run' q.history
   pub reuse_is : IsReuse size run' q.reusing
@@ -91,10 +92,11 @@ own_step size words words' views run run' queue_at queue joined seat id r r' k a
           is_run = p.is_run;
           first_is = k.agrees.history_is.first_is;
           lives_are = λ n. k.agrees.history_is.lives_are n ∙ sym (p.lives_same n);
-          listed_is = λ i. k.agrees.history_is.listed_is i ∙ ap (λ b. not (in_flight joined i) && b) (sym (p.listed_same i));
-          used_is = λ i. k.agrees.history_is.used_is i ∙ ap (λ b. not (in_flight joined i) && b) (sym (p.armed_same i));
+          listed_is = λ i. k.agrees.history_is.listed_is i ∙ ap (λ b. not (lists (in_flight joined) i) && b) (sym (p.listed_same i));
+          used_is = λ i. k.agrees.history_is.used_is i ∙ ap (λ b. not (inserts (in_flight joined) i) && b) (sym (p.armed_same i));
           true_of = p.true_of;
           orderly = k.agrees.history_is.orderly;
+          given_is = λ i n. k.agrees.history_is.given_is i n ∙ sym (p.given_same i);
           placed = p.placed k.agrees.history_is.placed;
         };
         reuse_is = p.reuse_is;
@@ -140,6 +142,7 @@ pub record LongerStep (size : Size) (words words' : List ℕ) (run : List Made) 
   pub words_are : (n : IrpId) → n.0 < size.irps → HasWords size.first words' (m ∷ run) q.reusing n
   pub listed_same : (i : IrpLife) → listed (m ∷ run) i ≡ listed run i
   pub armed_same : (i : IrpLife) → was_armed (m ∷ run) i ≡ was_armed run i
+  pub given_same : (i : IrpLife) → passes_given (m ∷ run) i ≡ passes_given run i
   pub lives_same : (n : IrpId) → present_life size.first (m ∷ run) n ≡ present_life size.first run n
   pub stored : (o : PassRecord) → IsRecord q.first words run q.history o → AreStored words' o.completed
   pub unlocked : has_lock (inside (m ∷ run) r.pass) ≡ false
@@ -155,6 +158,7 @@ longer_step size words words' run m q r r' true' reuse p = record {
   words_are = p.words_are;
   listed_same = p.listed_same;
   armed_same = p.armed_same;
+  given_same = p.given_same;
   lives_same = p.lives_same;
   true_of = truths_stay size m run p.is_run q.first q.history true';
   reuse_is = reuse_more size m run p.lives_same q.reusing reuse;

@@ -10,7 +10,7 @@ use Rattle.irp_core.specs.declared.ids.IrpId.{IrpId}
 use Rattle.irp_core.specs.declared.ids.PassId.{PassId}
 use Rattle.irp_core.specs.declared.status.NtStatus.{NtStatus}
 use Rattle.irp_core.specs.declared.status.TheConstants.NtStatus.{CANCELLED}
-use Rattle.irp_core.specs.declared.step.Kind.TheVariants.{Done}
+use Rattle.irp_core.specs.declared.step.Kind.TheVariants.{Arm, Done, Rearm}
 use Rattle.irp_core.specs.declared.step.Made.{Made}
 use Rattle.irp_core.specs.declared.standing.Standing.{Standing}
 use Rattle.irp_core.specs.declared.standing.Standing.TheVariants.{Home, Waiting, Owed, Held, Finished}
@@ -28,7 +28,7 @@ use Rattle.irp_core.proofs.Next.{inserted_listed}
 use Rattle.irp_core.proofs.Next as growing
 use Rattle.irp_core.specs.Inside.{inside}
 use Rattle.irp_core.specs.declared.inside.Inside.{Inside}
-use Rattle.irp_core.specs.declared.inside.Inside.TheVariants.{Nothing, Armed, FlagSeen, Removing, Cancelling}
+use Rattle.irp_core.specs.declared.inside.Inside.TheVariants.{Nothing, Armed, FlagSeen, Removing, Cancelling, Rearmed, FlagSeenAgain}
 use Rattle.irp_core.specs.Completion.{removed}
 use Rattle.csq_list.specs.declared.entry.Place.{Place}
 use Rattle.csq_list.specs.declared.entry.Peek.{Peek}
@@ -37,25 +37,26 @@ use Rattle.csq_list.specs.Searches.{matches}
 use Rattle.csq_words.specs.declared.views.InsertReply.TheVariants.{Pending, Cancelled, Refused}
 use Rattle.csq_words.specs.declared.views.Event.{Event}
 use Rattle.csq_words.specs.declared.views.Event.TheVariants as event
-use Rattle.csq_words.specs.declared.views.Event.TheVariants.{FlagSeen, Mark, Insert, RemoveNext, Remove, CloseFile, Reuse}
+use Rattle.csq_words.specs.declared.views.Event.TheVariants.{FlagSeen, Mark, Insert, RemoveNext, Remove, CloseFile, Reuse, PutBack}
 use Rattle.csq_words.specs.declared.views.Entry.{Entry}
 use Rattle.csq_words.specs.declared.views.Completion.{Completion}
 use Rattle.csq_words.specs.declared.views.PassRecord.{PassRecord}
 use Rattle.csq_words.specs.declared.views.QueueRecord.{QueueRecord}
 use Rattle.csq_words.specs.Queue.{Queued, QueueState, current, has_irp, has_entry, first_unmarked, without, new_entry, after_event}
-use Rattle.csq_words.specs.History.{end_of, MayStand, IsOrderly}
+use Rattle.csq_words.specs.History.{end_of, MayStand, IsOrderly, IsGone, puts_back, gives, given_to}
 use Rattle.csq_words.specs.Records.{queue_of}
 use Rattle.irp_core.specs.Own.{inside_of, removed_in}
 use Rattle.csq_words.specs.Plays.{status_recorded}
-use Rattle.csq_words.specs.Rule.{is_done, IsTrueOf, AreTrueOf, inserts, RecordsAgree}
+use Rattle.csq_words.specs.Rule.{is_done, was_set, was_put_back, IsTrueOf, AreTrueOf, inserts, lists, again, RecordsAgree}
 use Rattle.csq_words.specs.Finals.{FinalWords, final_status, IsRecordedBack, AllBack, IsFinal, InLife}
-use Rattle.csq_words.specs.Stories.{accepts, gives, inserted_by, given_to, IsOneOf, HasRecorded, Story, IsGivenOnce, NoIrpHasTwoStories, StoriesHaveTheStatusRecorded}
-use Rattle.csq_words.proofs.Facts.{off, dones_some, done_over}
-use Rattle.irp_core.proofs.Own.{any_filtered, inside_of-own, removed_in-own}
+use Rattle.csq_words.specs.Stories.{accepts, inserted_by, IsOneOf, HasRecorded, Story, IsGivenOnce, NoIrpHasTwoStories, StoriesHaveTheStatusRecorded}
+use Rattle.csq_words.proofs.Facts.{off, given_claim, dones_some, done_over}
+use Rattle.irp_core.proofs.Own.{any_filtered, inside_of-own}
+use Rattle.irp_core.proofs.Owning.{removed_in-own}
 use Rattle.csq_words.proofs.Truths.{left}
 use Rattle.csq_words.proofs.Closing.{no_zero, cancelled_is, keeps_records}
 use Rattle.csq_words.proofs.Entries.{has_entry-marking, has_entry-placed, has_entry-without}
-use Rattle.csq_words.proofs.Claiming.{removed_claims, disarmed_claims, one_claim, out_claim, done_own, done_by, recorded_done, completed_has, has_status, recorded_due}
+use Rattle.csq_words.proofs.Claiming.{done_own, done_by, recorded_done, completed_has, has_status, recorded_due}
 
 -- what is listed with a mark, or without one, is listed
 any_less : (f g : Queued → Bool) (es : List Queued) → list_any (λ e. f e && g e) es ≡ true → list_any f es ≡ true
@@ -75,6 +76,28 @@ first_listed k (e ∷ es) j h = go (not e.marked && matches k e.file) (first_lis
     go true rest h = let same : j ≡ e.irp = cc in rw (sym same, same_irp-refl) refl
     go false rest h = or_right (same_irp e.irp j) (has_entry es j) (rest h)
 
+-- what a put-back of i ends
+abbrev kept : IrpLife → Event → List PassId → List PassId
+kept i e ps = cond (puts_back i e) [] ps
+
+-- what was armed has its routine set
+set_by_arm : (i : IrpLife) (steps : List Made) → was_armed steps i ≡ true → was_set steps i ≡ true
+set_by_arm i [] h = h
+set_by_arm i (m ∷ steps) h = go (is (Arm i) m) (is (Rearm i) m) (set_by_arm i steps) h
+  where
+    go : (a b : Bool) → (was_armed steps i ≡ true → was_set steps i ≡ true) → (a || was_armed steps i) ≡ true → ((a || b) || was_set steps i) ≡ true
+    go true b rest h = refl
+    go false b rest h = or_right b (was_set steps i) (rest h)
+
+set_by_rearm : (i : IrpLife) (steps : List Made) → was_put_back steps i ≡ true → was_set steps i ≡ true
+set_by_rearm i [] h = h
+set_by_rearm i (m ∷ steps) h = go (is (Arm i) m) (is (Rearm i) m) (set_by_rearm i steps) h
+  where
+    go : (a b : Bool) → (was_put_back steps i ≡ true → was_set steps i ≡ true) → (b || was_put_back steps i) ≡ true → ((a || b) || was_set steps i) ≡ true
+    go true b rest h = refl
+    go false true rest h = refl
+    go false false rest h = rest h
+
 -- no insert accepted it yet
 record Unused (used entry : Bool) (inserted given : List PassId) : Type 0 where
   unused : used ≡ false
@@ -88,7 +111,7 @@ record Waits (run : List Made) (i : IrpLife) (used entry : Bool) (inserted given
   listed_is : entry ≡ true
   inserter : PassId
   one : inserted ≡ inserter ∷ []
-  armed : was_armed (own inserter run) i ≡ true
+  armed : was_set (own inserter run) i ≡ true
   to_none : given ≡ []
 
 -- it was given to one pass, which claimed it
@@ -97,10 +120,9 @@ record IsGiven (run : List Made) (i : IrpLife) (used entry : Bool) (inserted giv
   unlisted : entry ≡ false
   inserter : PassId
   one : inserted ≡ inserter ∷ []
-  armed : was_armed (own inserter run) i ≡ true
+  armed : was_set (own inserter run) i ≡ true
   owner : PassId
   to_one : given ≡ owner ∷ []
-  claimed : IsOneOf owner (claims run i)
 
 -- how far the story of i is
 abbrev SoFar : List Made → IrpLife → Bool → Bool → List PassId → List PassId → Type 0
@@ -125,7 +147,7 @@ module _ (run : List Made) (i : IrpLife) (used entry : Bool) (inserted given : L
 module _ (size : Size) (run : List Made) (r : IsRun size run) (i : IrpLife) (u : QueueState) (inserted given : List PassId) (s : SoFar run i (has_irp u.used i) (has_entry u.entries i) inserted given) where
   -- after an event of p
   abbrev Next : PassId → Event → Type 0
-  Next p e = SoFar run i (has_irp (after_event u e).used i) (has_entry (after_event u e).entries i) (cond (accepts u i e) (p ∷ inserted) inserted) (cond (gives u i e) (p ∷ given) given)
+  Next p e = SoFar run i (has_irp (after_event u e).used i) (has_entry (after_event u e).entries i) (cond (accepts u i e) (p ∷ kept i e inserted) (kept i e inserted)) (cond (gives u i e) (p ∷ kept i e given) (kept i e given))
 
   pending : (p : PassId) (n : IrpId) (f : FileId) (place : Place) → has_irp u.used (current u n) ≡ false → was_armed (own p run) (current u n) ≡ true → Next p (Insert n f place Pending)
   pending p n f place fresh armed = go (same_irp (current u n) i) refl
@@ -139,12 +161,12 @@ module _ (size : Size) (run : List Made) (r : IsRun size run) (i : IrpLife) (u :
             listed_is = has_entry-placed place (new_entry (current u n) f) u.entries i ∙ ap (λ b. b || has_entry u.entries i) e;
             inserter = p;
             one = ap (λ l. p ∷ l) h.none;
-            armed = ap (was_armed (own p run)) (sym same) ∙ armed;
+            armed = set_by_arm i (own p run) (ap (was_armed (own p run)) (sym same) ∙ armed);
             to_none = h.to_none;
           })
 
-  took_back : (p : PassId) (n : IrpId) (f : FileId) (place : Place) → has_irp u.used (current u n) ≡ false → was_armed (own p run) (current u n) ≡ true → IsOneOf p (claims run (current u n)) → Next p (Insert n f place Cancelled)
-  took_back p n f place fresh armed claim = go (same_irp (current u n) i) refl
+  took_back : (p : PassId) (n : IrpId) (f : FileId) (place : Place) → has_irp u.used (current u n) ≡ false → was_armed (own p run) (current u n) ≡ true → Next p (Insert n f place Cancelled)
+  took_back p n f place fresh armed = go (same_irp (current u n) i) refl
     where
       go : (b : Bool) → same_irp (current u n) i ≡ b → SoFar run i (b || has_irp u.used i) (has_entry u.entries i) (cond b (p ∷ inserted) inserted) (cond b (p ∷ given) given)
       go false e = s
@@ -155,14 +177,13 @@ module _ (size : Size) (run : List Made) (r : IsRun size run) (i : IrpLife) (u :
             unlisted = h.unlisted;
             inserter = p;
             one = ap (λ l. p ∷ l) h.none;
-            armed = ap (was_armed (own p run)) (sym same) ∙ armed;
+            armed = set_by_arm i (own p run) (ap (was_armed (own p run)) (sym same) ∙ armed);
             owner = p;
             to_one = ap (λ l. p ∷ l) h.to_none;
-            claimed = subst (λ x. IsOneOf p (claims run x)) same claim;
           })
 
-  leaves : (p : PassId) (j : IrpLife) → has_entry u.entries j ≡ true → IsOneOf p (claims run j) → SoFar run i (has_irp u.used i) (has_entry (without j u.entries) i) inserted (cond (same_irp j i) (p ∷ given) given)
-  leaves p j there claim = go (same_irp j i) refl
+  leaves : (p : PassId) (j : IrpLife) → has_entry u.entries j ≡ true → SoFar run i (has_irp u.used i) (has_entry (without j u.entries) i) inserted (cond (same_irp j i) (p ∷ given) given)
+  leaves p j there = go (same_irp j i) refl
     where
       go : (b : Bool) → same_irp j i ≡ b → SoFar run i (has_irp u.used i) (has_entry (without j u.entries) i) inserted (cond b (p ∷ given) given)
       go false e = subst (λ x. SoFar run i (has_irp u.used i) x inserted given) (sym (has_entry-without j u.entries i ∙ ap (λ b. not b && has_entry u.entries i) e)) s
@@ -176,22 +197,55 @@ module _ (size : Size) (run : List Made) (r : IsRun size run) (i : IrpLife) (u :
             armed = h.armed;
             owner = p;
             to_one = ap (λ l. p ∷ l) h.to_none;
-            claimed = subst (λ x. IsOneOf p (claims run x)) same claim;
+          })
+
+  put_back : (p : PassId) (j : IrpLife) (f : FileId) (place : Place) → IsGone u j → was_put_back (own p run) j ≡ true → Next p (PutBack j f place Pending)
+  put_back p j f place gone back = go (same_irp j i) refl
+    where
+      go : (b : Bool) → same_irp j i ≡ b → SoFar run i (has_irp u.used i) (has_entry (put_at place (new_entry j f) u.entries) i) (cond b (p ∷ cond b [] inserted) (cond b [] inserted)) (cond b [] given)
+      go false e = subst (λ x. SoFar run i (has_irp u.used i) x inserted given) (sym (has_entry-placed place (new_entry j f) u.entries i ∙ ap (λ b. b || has_entry u.entries i) e)) s
+      go true e =
+          let same = same_irp-eq j i e in inr (inl record {
+            used_is = ap (has_irp u.used) (sym same) ∙ gone.0;
+            listed_is = has_entry-placed place (new_entry j f) u.entries i ∙ ap (λ b. b || has_entry u.entries i) e;
+            inserter = p;
+            one = refl;
+            armed = set_by_rearm i (own p run) (ap (was_put_back (own p run)) (sym same) ∙ back);
+            to_none = refl;
+          })
+
+  took_again : (p : PassId) (j : IrpLife) (f : FileId) (place : Place) → IsGone u j → was_put_back (own p run) j ≡ true → Next p (PutBack j f place Cancelled)
+  took_again p j f place gone back = go (same_irp j i) refl
+    where
+      go : (b : Bool) → same_irp j i ≡ b → SoFar run i (has_irp u.used i) (has_entry u.entries i) (cond b (p ∷ cond b [] inserted) (cond b [] inserted)) (cond b (p ∷ cond b [] given) (cond b [] given))
+      go false e = s
+      go true e =
+          let same = same_irp-eq j i e in inr (inr record {
+            used_is = ap (has_irp u.used) (sym same) ∙ gone.0;
+            unlisted = ap (has_entry u.entries) (sym same) ∙ gone.1;
+            inserter = p;
+            one = refl;
+            armed = set_by_rearm i (own p run) (ap (was_put_back (own p run)) (sym same) ∙ back);
+            owner = p;
+            to_one = refl;
           })
 
   next : (p : PassId) (e : Event) → MayStand u e → IsTrueOf run u p e → Next p e
   next p (FlagSeen j) may t = s
   next p (Mark j) may t = subst (λ x. SoFar run i (has_irp u.used i) x inserted given) (sym (has_entry-marking j u.entries i)) s
   next p (Insert n f place Pending) may t = pending p n f place may t
-  next p (Insert n f place Cancelled) may t = took_back p n f place may.0 t.arm (one_claim size run r p (current u n) (disarmed_claims (own p run) (current u n) t.disarm))
+  next p (Insert n f place Cancelled) may t = took_back p n f place may.0 t.arm
   next p (Insert n f place (Refused cause)) may t = s
   next p (RemoveNext k None) may t = s
-  next p (RemoveNext k (Some j)) may t = leaves p j (first_listed k u.entries j may) (one_claim size run r p j (removed_claims (own p run) j t))
+  next p (RemoveNext k (Some j)) may t = leaves p j (first_listed k u.entries j may)
   next p (Remove j false) may t = s
-  next p (Remove j true) may t = leaves p j (any_less _ (λ (e : Queued). not e.marked) u.entries (sym may)) (one_claim size run r p j (removed_claims (own p run) j t))
-  next p (event.Out j) may t = leaves p j (any_less _ (λ (e : Queued). e.marked) u.entries may) (out_claim size run r p j t.out)
+  next p (Remove j true) may t = leaves p j (any_less _ (λ (e : Queued). not e.marked) u.entries (sym may))
+  next p (event.Out j) may t = leaves p j (any_less _ (λ (e : Queued). e.marked) u.entries may)
   next p (CloseFile f) may t = s
   next p (Reuse n life) may t = s
+  next p (PutBack j f place Pending) may t = put_back p j f place may t
+  next p (PutBack j f place Cancelled) may t = took_again p j f place may.0 t.rearm
+  next p (PutBack j f place (Refused cause)) may t = s
 
 -- how far the story of i is at the end of a history
 so_far : (size : Size) (run : List Made) → IsRun size run → (i : IrpLife) (first : ℕ) (history : List Entry) → IsOrderly first history → AreTrueOf first run history
@@ -253,7 +307,7 @@ module _ (size : Size) (words : List ℕ) (q : QueueRecord) (f : IsFinal size wo
       let b = (f.agrees.backs k r at).is_record in
       let has : has_irp (map (λ (c : Completion). c.irp) r.completed) i ≡ true = ap (λ l. has_irp l i) b.of_pass.completed_is ∙ completed_has r.steps i (ap (λ t. is_done t i) b.of_pass.steps_is ∙ (ap (λ (x : PassId). is_done (own x q.run) i) same ∙ d)) in
       let s = has_status r.completed i has in
-      record { status = s.0; recorded = (k, r, at, same, s.1, λ j o there is. let once : j ≡ k = f.agrees.back_once j k o r there at (is ∙ sym same) in some-injective o r (sym there ∙ (ap (get_elem? q.back) once ∙ at))); due = λ e. recorded_due r.steps r.completed i s.0 b.due s.1 (false_from_ne_true (removed_in r.steps i) (λ x. off (sym e ∙ removed_in-own r.pass i q.run (subst (λ t. removed_in t i ≡ true) b.of_pass.steps_is x)))); final = (keeps_records size words q f).statuses k r at i s.0 known s.1 }
+      record { status = s.0; recorded = (k, r, at, same, s.1, λ j o there is. let once : j ≡ k = f.agrees.back_once j k o r there at (is ∙ sym same) in some-injective o r (sym there ∙ (ap (get_elem? q.back) once ∙ at))); due = λ e. recorded_due r.steps r.completed i s.0 b.due s.1 (false_from_ne_true (removed_in r.steps i) (λ x. off (sym e ∙ removed_in-own size r.pass i q.run is_run (subst (λ t. removed_in t i ≡ true) b.of_pass.steps_is x)))); final = (keeps_records size words q f).statuses k r at i s.0 known s.1 }
 
   -- what was completed is an IRP that there is
   done_known : is_done q.run i ≡ true → number i < size.irps
@@ -285,8 +339,9 @@ module _ (size : Size) (words : List ℕ) (q : QueueRecord) (f : IsFinal size wo
       go (inr (inr h)) =
           let gone : listed q.run i ≡ false = rw (h.0, h.1) refl in
           let u = only_given q.run i _ _ _ _ told (f.agrees.history_is.used_is i ∙ h.0) (f.agrees.history_is.listed_is i ∙ gone) in
-          let same_claim : u.claimed.0 ≡ h.2.one_claim'.0 = cc (u.claimed.1, h.2.one_claim'.1) in
-          let owner : h.2.owner ≡ u.owner = sym h.2.one_claim'.2 ∙ (ap (λ (m : Made). m.pass) (sym same_claim) ∙ u.claimed.2) in
+          let claimed = given_claim q.run i u.owner (sym (f.agrees.history_is.given_is i refl) ∙ u.to_one) in
+          let same_claim : claimed.0 ≡ h.2.one_claim'.0 = cc (claimed.1, h.2.one_claim'.1) in
+          let owner : h.2.owner ≡ u.owner = sym h.2.one_claim'.2 ∙ (ap (λ (m : Made). m.pass) (sym same_claim) ∙ claimed.2) in
           let done : IsOneOf u.owner (dones q.run i) = subst (λ p. IsOneOf p (dones q.run i)) owner h.2.one_done in
           let d : is_done (own u.owner q.run) i ≡ true = ap (λ (p : PassId). is_done (own p q.run) i) (sym done.2) ∙ done_own q.run done.0 i done.1 in
           let d' : is_done q.run i ≡ true = any_filtered (is (Done i)) (by u.owner) q.run d in
@@ -298,7 +353,7 @@ module _ (size : Size) (words : List ℕ) (q : QueueRecord) (f : IsFinal size wo
             armed = u.armed;
             owner = u.owner;
             given = u.to_one;
-            claimed = u.claimed;
+            claimed = claimed;
             completed = done;
             status = s.status;
             recorded = s.recorded;
@@ -315,13 +370,20 @@ has_status_recorded size words q f finals i story r back status said =
     let same : r ≡ story.recorded.1 = story.recorded.5 back.0 r back.1 (sym owner) in
     (owner, same_some story.status status (sym story.recorded.4 ∙ (ap (λ (o : PassRecord). status_recorded i o.completed) (sym same) ∙ said)))
 
--- what is in an insert is listed
-in_insert_listed : (s : Inside) (i : IrpLife) → inserts s i ≡ true → growing.inserts i s ≡ true
+-- what is in an insert or a put-back is listed
+in_insert_listed : (s : Inside) (i : IrpLife) → lists s i ≡ true → growing.inserts i s ≡ true
 in_insert_listed (Armed j) i h = h
 in_insert_listed (FlagSeen j) i h = h
+in_insert_listed (Rearmed j) i h = h
+in_insert_listed (FlagSeenAgain j) i h = h
 in_insert_listed Nothing i h = off h
 in_insert_listed Removing i h = off h
 in_insert_listed (Cancelling j) i h = off h
+
+insert_lists : (s : Inside) (i : IrpLife) → lists s i ≡ false → inserts s i ≡ false
+insert_lists (Armed j) i h = h
+insert_lists (FlagSeen j) i h = h
+insert_lists s i h = refl
 
 module _ (ever set : Bool) (cl : List Made) (ow ho dn : PassId → Bool) (ends : List Made) (left byr : Bool) (i : IrpLife) where
   -- who completed an IRP made its one claim
@@ -345,12 +407,7 @@ module _ (run : List Made) (i : IrpLife) (used entry : Bool) (inserted given : L
   given_once (inr (inl h)) = rw h.to_none (omega arith)
   given_once (inr (inr h)) = rw h.to_one (omega arith)
 
-  given_claimed : SoFar run i used entry inserted given → (p : PassId) → given ≡ p ∷ [] → IsOneOf p (claims run i)
-  given_claimed (inl h) p e = absurd (cc (e, h.to_none))
-  given_claimed (inr (inl h)) p e = absurd (cc (e, h.to_none))
-  given_claimed (inr (inr h)) p e = let same : h.owner ≡ p = cc (e, h.to_one) in subst (λ x. IsOneOf x (claims run i)) same h.claimed
-
-module _ (size : Size) (q : QueueRecord) (r : PassRecord) (run : List Made) (told : RecordsAgree size run q r) (i : IrpLife) where
+module _ (size : Size) (q : QueueRecord) (r : PassRecord) (run : List Made) (told : RecordsAgree size run q r) (i : IrpLife) (quiet : again (inside_of r.steps) i ≡ false) where
   is_run' : IsRun size run
   is_run' = told.history_is.is_run
 
@@ -358,8 +415,8 @@ module _ (size : Size) (q : QueueRecord) (r : PassRecord) (run : List Made) (tol
   far = so_far size run is_run' i q.first q.history told.history_is.orderly told.history_is.true_of
 
   -- what was completed is in no insert
-  no_insert : listed run i ≡ false → inserts (inside_of r.steps) i ≡ false
-  no_insert gone = false_from_ne_true _ (λ h. off (sym gone ∙ inserted_listed size run is_run' r.pass i (in_insert_listed (inside run r.pass) i (ap (λ s. inserts s i) (sym (inside_of-own r.pass run)) ∙ (ap (λ t. inserts (inside_of t) i) (sym told.pass_is.steps_is) ∙ h)))))
+  no_insert : listed run i ≡ false → lists (inside_of r.steps) i ≡ false
+  no_insert gone = false_from_ne_true _ (λ h. off (sym gone ∙ inserted_listed size run is_run' r.pass i (in_insert_listed (inside run r.pass) i (ap (λ s. lists s i) (sym (inside_of-own r.pass run)) ∙ (ap (λ t. lists (inside_of t) i) (sym told.pass_is.steps_is) ∙ h)))))
 
   done_given : (p : PassId) → IsOneOf p (dones run i) → given_to q.first i q.history ≡ p ∷ []
   done_given p d =
@@ -367,16 +424,18 @@ module _ (size : Size) (q : QueueRecord) (r : PassRecord) (run : List Made) (tol
       let claim = row_done_claim _ _ _ _ _ _ _ _ _ i s.0 s.1 p d in
       let over = done_over size run is_run' i (any_filtered (is (Done i)) (by d.0.pass) run (done_own run d.0 i d.1)) in
       let out = no_insert over.2 in
-      let u = only_given run i _ _ _ _ far (told.history_is.used_is i ∙ rw (out, over.0) refl) (told.history_is.listed_is i ∙ rw (out, over.2) refl) in
-      let same : u.claimed.0 ≡ claim.0 = cc (u.claimed.1, claim.1) in
-      let owner : u.owner ≡ p = sym u.claimed.2 ∙ (ap (λ (m : Made). m.pass) same ∙ claim.2) in
+      let none = insert_lists (inside_of r.steps) i out in
+      let u = only_given run i _ _ _ _ far (told.history_is.used_is i ∙ rw (none, over.0) refl) (told.history_is.listed_is i ∙ rw (out, over.2) refl) in
+      let claimed = given_claim run i u.owner (sym (told.history_is.given_is i quiet) ∙ u.to_one) in
+      let same : claimed.0 ≡ claim.0 = cc (claimed.1, claim.1) in
+      let owner : u.owner ≡ p = sym claimed.2 ∙ (ap (λ (m : Made). m.pass) same ∙ claim.2) in
       u.to_one ∙ ap (λ (x : PassId). x ∷ []) owner
 
   pub is_given_once : IsGivenOnce q run i
   is_given_once = record {
     inserted = inserted_once run i _ _ _ _ far;
     given = given_once run i _ _ _ _ far;
-    claimed = given_claimed run i _ _ _ _ far;
+    claimed = λ p e. given_claim run i p (sym (told.history_is.given_is i quiet) ∙ e);
     completed = done_given;
   }
 

@@ -7,10 +7,10 @@ use Rattle.irp_core.specs.declared.ids.IrpLife.{IrpLife}
 use Rattle.irp_core.specs.declared.ids.PassId.{PassId}
 use Rattle.irp_core.specs.declared.step.Made.{Made}
 use Rattle.irp_core.specs.declared.step.Kind.{Kind}
-use Rattle.irp_core.specs.declared.step.Kind.TheVariants.{Arm, Test, Disarm, End, Renew}
+use Rattle.irp_core.specs.declared.step.Kind.TheVariants.{Arm, Test, Disarm, End, Renew, Rearm}
 use Rattle.irp_core.specs.declared.step.Kind.TheVariants as step
 use Rattle.csq_words.specs.declared.calls.Call.{Call}
-use Rattle.csq_words.specs.declared.calls.Call.TheVariants.{Insert, RemoveNext, Remove, CancelRoutine, CloseFile, Reuse}
+use Rattle.csq_words.specs.declared.calls.Call.TheVariants.{Insert, RemoveNext, Remove, CancelRoutine, CloseFile, Reuse, PutBack}
 use Rattle.csq_words.specs.declared.calls.Note.{Note}
 use Rattle.csq_words.specs.declared.calls.Note.TheVariants.{Refused}
 use Rattle.csq_words.specs.declared.calls.Note.TheVariants as note
@@ -44,12 +44,16 @@ recorded (Remove i) (Disarm j) zero u = due_mark i u
 recorded (Remove i) (Disarm j) (suc n) u = event.Remove i true ∷ []
 recorded (Remove i) End found u = event.Remove i false ∷ []
 recorded (CancelRoutine n) (step.Out j) found u = Out j ∷ due_mark j u
+recorded (PutBack i f place) (Test j) zero u = event.PutBack i f place Pending ∷ []
+recorded (PutBack i f place) (Disarm j) zero u = Mark j ∷ event.PutBack i f place Pending ∷ []
+recorded (PutBack i f place) (Disarm j) (suc k) u = event.PutBack i f place Cancelled ∷ FlagSeen j ∷ []
 recorded (Reuse n) (Renew j) found u = event.Reuse n (next_life j).life ∷ []
 recorded _ _ _ u = []
 
 -- what is noted of a call without any step
 abbrev pub noted : Call → Note → List Event
 noted (Insert n f place) (Refused cause) = event.Insert n f place (reply.Refused cause) ∷ []
+noted (PutBack i f place) (Refused cause) = event.PutBack i f place (reply.Refused cause) ∷ []
 noted (CloseFile f) note.Event = event.CloseFile f ∷ []
 noted _ _ = []
 
@@ -63,19 +67,23 @@ IsOfCall (RemoveNext k) End u = Unit {0}
 IsOfCall (Remove i) (Disarm j) u = j ≡ i
 IsOfCall (Remove i) End u = Unit {0}
 IsOfCall (CancelRoutine n) (step.Out j) u = j ≡ current u n
+IsOfCall (PutBack i f place) (Rearm j) u = j ≡ i
+IsOfCall (PutBack i f place) (Test j) u = j ≡ i
+IsOfCall (PutBack i f place) (Disarm j) u = j ≡ i
 IsOfCall (Reuse n) (Renew j) u = j.irp ≡ n
 IsOfCall _ _ u = ⊥
 
--- the history is that of the execution: each step under the lock is one of a call, and adds what that step of the call records beside the queue that the history before it leaves. A refused insert and a closed file object are added while no call under the lock is on its way, and nothing else is
+-- the history is that of the execution: each step under the lock is one of a call, and adds what that step of the call records beside the queue that the history before it leaves. A refused insert or put-back and a closed file object are added while no call under the lock is on its way, and nothing else is
 pub data IsPlaced (first : ℕ) : List Made → List Entry → Type 0 where
   at_start : IsPlaced first [] []
   unlocked : (m : Made) {run : List Made} {history : List Entry} → needs_lock m.kind ≡ false → IsPlaced first run history → IsPlaced first (m ∷ run) history
   recording : (call : Call) (m : Made) {run : List Made} {history : List Entry} → IsOfCall call m.kind (end_of first history) → IsPlaced first run history → IsPlaced first (m ∷ run) (entries_of m.pass (recorded call m.kind m.found (end_of first history)) ++ history)
   noting : (call : Call) (n : Note) (p : PassId) {run : List Made} {history : List Entry} → ((q : PassId) → has_lock (inside run q) ≡ false) → IsPlaced first run history → IsPlaced first run (entries_of p (noted call n) ++ history)
 
--- the event is of a call that makes no step: a refused insert, or a closed file object
+-- the event is of a call that makes no step: a refused insert or put-back, or a closed file object
 abbrev pub is_noted : Event → Bool
 is_noted (event.Insert n f place (reply.Refused cause)) = true
+is_noted (event.PutBack i f place (reply.Refused cause)) = true
 is_noted (event.CloseFile f) = true
 is_noted _ = false
 

@@ -4,7 +4,7 @@ use mathlib.Core.Option.{some}
 use lib.ListN.{get_elem?}
 use Rattle.irp_core.specs.Steps.{same_irp, own}
 use Rattle.irp_core.specs.declared.ids.IrpLife.{IrpLife}
-use Rattle.irp_core.specs.Words.{flagged, was_armed}
+use Rattle.irp_core.specs.Words.{flagged}
 use Rattle.irp_core.specs.Owners.{claims, dones}
 use Rattle.irp_core.specs.Lives.{IsPresent, HasBegun}
 use Rattle.irp_core.specs.Runs.{Size}
@@ -14,40 +14,31 @@ use Rattle.irp_core.specs.declared.status.TheConstants.NtStatus.{CANCELLED}
 use Rattle.irp_core.specs.declared.step.Made.{Made}
 use Rattle.csq_words.specs.declared.views.InsertReply.TheVariants.{Pending, Cancelled}
 use Rattle.csq_words.specs.declared.views.Event.{Event}
-use Rattle.csq_words.specs.declared.views.Event.TheVariants.{Insert, RemoveNext, Remove, Out}
+use Rattle.csq_words.specs.declared.views.Event.TheVariants.{Insert, PutBack}
 use Rattle.csq_words.specs.declared.views.Entry.{Entry}
 use Rattle.csq_words.specs.declared.views.PassRecord.{PassRecord}
 use Rattle.csq_words.specs.declared.views.QueueRecord.{QueueRecord}
 use Rattle.csq_words.specs.Queue.{QueueState, current, has_entry}
-use Rattle.csq_words.specs.History.{end_of, calls_of, IsExtendedBy}
+use Rattle.csq_words.specs.History.{end_of, puts_back, given_to, calls_of, IsExtendedBy}
 use Rattle.csq_words.specs.Records.{queue_of}
-use Rattle.csq_words.specs.Rule.{HasBack, RecordsAgree, QueueHasRun}
+use Rattle.csq_words.specs.Rule.{was_set, again, HasBack, RecordsAgree, QueueHasRun}
+use Rattle.irp_core.specs.Own.{inside_of}
 use Rattle.csq_words.specs.Plays.{status_recorded}
 use Rattle.csq_words.specs.Finals.{FinalWords, final_status, AllBack, IsFinal, InLife, shows_cancelled}
 
--- the event, which finds the queue so, is an insert that accepted i
+-- the event, which finds the queue so, is an insert or a put-back that accepted i
 abbrev pub accepts : QueueState → IrpLife → Event → Bool
 accepts u i (Insert n f place Pending) = same_irp (current u n) i
 accepts u i (Insert n f place Cancelled) = same_irp (current u n) i
+accepts u i (PutBack j f place Pending) = same_irp j i
+accepts u i (PutBack j f place Cancelled) = same_irp j i
 accepts u i _ = false
 
--- it gave i to its pass: by a removal, by a cancel routine, or by an insert that found it cancelled
-abbrev pub gives : QueueState → IrpLife → Event → Bool
-gives u i (Insert n f place Cancelled) = same_irp (current u n) i
-gives u i (RemoveNext k (Some j)) = same_irp j i
-gives u i (Remove j true) = same_irp j i
-gives u i (Out j) = same_irp j i
-gives u i _ = false
-
--- the passes whose inserts accepted i, the newest first
+-- the passes whose inserts accepted i, the newest first; if it was put back, the pass that did so last
 abbrev pub inserted_by : ℕ → IrpLife → List Entry → List PassId
 inserted_by first i [] = []
-inserted_by first i (e ∷ history) = if accepts (end_of first history) i e.event then e.pass ∷ inserted_by first i history else inserted_by first i history
-
--- the passes that i was given to
-abbrev pub given_to : ℕ → IrpLife → List Entry → List PassId
-given_to first i [] = []
-given_to first i (e ∷ history) = if gives (end_of first history) i e.event then e.pass ∷ given_to first i history else given_to first i history
+inserted_by first i (e ∷ history) =
+    let rest = if puts_back i e.event then [] else inserted_by first i history in if accepts (end_of first history) i e.event then e.pass ∷ rest else rest
 
 -- the steps are one, of p
 abbrev pub IsOneOf : PassId → List Made → Type 0
@@ -73,7 +64,7 @@ pub record StillListed (q : QueueRecord) (i : IrpLife) : Type 0 where
   pub clear : flagged q.run i ≡ false
   pub inserter : PassId
   pub inserted : inserted_by q.first i q.history ≡ inserter ∷ []
-  pub armed : was_armed (own inserter q.run) i ≡ true
+  pub armed : was_set (own inserter q.run) i ≡ true
   pub given : given_to q.first i q.history ≡ []
   pub claimed : claims q.run i ≡ []
   pub completed : dones q.run i ≡ []
@@ -83,7 +74,7 @@ pub record HasEnded (finals : FinalWords) (q : QueueRecord) (i : IrpLife) : Type
   pub unlisted : has_entry (queue_of q).entries i ≡ false
   pub inserter : PassId
   pub inserted : inserted_by q.first i q.history ≡ inserter ∷ []
-  pub armed : was_armed (own inserter q.run) i ≡ true
+  pub armed : was_set (own inserter q.run) i ≡ true
   pub owner : PassId
   pub given : given_to q.first i q.history ≡ owner ∷ []
   pub claimed : IsOneOf owner (claims q.run i)
@@ -110,7 +101,7 @@ pub record IsGivenOnce (q : QueueRecord) (run : List Made) (i : IrpLife) : Type 
 
 -- at every step, each life of each IRP is given out at most once
 abbrev pub EachIrpIsGivenOnce : Type 0
-EachIrpIsGivenOnce = (size : Size) (q : QueueRecord) (r : PassRecord) (run : List Made) → RecordsAgree size run q r → (i : IrpLife) → IsGivenOnce q run i
+EachIrpIsGivenOnce = (size : Size) (q : QueueRecord) (r : PassRecord) (run : List Made) → RecordsAgree size run q r → (i : IrpLife) → again (inside_of r.steps) i ≡ false → IsGivenOnce q run i
 
 -- no two of these hold
 abbrev pub AtMostOne : Type 0 → Type 0 → Type 0 → Type 0
