@@ -14,7 +14,7 @@ use Rattle.irp_core.specs.declared.ids.IrpId.{IrpId}
 use Rattle.irp_core.specs.declared.ids.PassId.{PassId}
 use Rattle.irp_core.specs.declared.status.NtStatus.{NtStatus}
 use Rattle.irp_core.specs.declared.step.Kind.{Kind}
-use Rattle.irp_core.specs.declared.step.Kind.TheVariants.{Arm, Test, Disarm, End, Flag, Take, Out, Done, Renew}
+use Rattle.irp_core.specs.declared.step.Kind.TheVariants.{Arm, Test, Disarm, End, Flag, Take, Out, Done, Renew, Rearm}
 use Rattle.irp_core.specs.declared.step.Made.{Made}
 use Rattle.irp_core.proofs.Names.{same_irp-refl, other_irp, same_pass-refl}
 use Rattle.irp_core.proofs.Lives.{life_grows}
@@ -22,7 +22,7 @@ use Rattle.irp_core.proofs.Growing.{run_less, run_last}
 use Rattle.csq_words.specs.declared.views.Completion.{Completion}
 use Rattle.csq_words.specs.declared.views.Entry.{Entry}
 use Rattle.csq_words.specs.declared.views.Event.{Event}
-use Rattle.csq_words.specs.declared.views.Event.TheVariants.{FlagSeen, Mark, Insert, RemoveNext, Remove, CloseFile, Reuse}
+use Rattle.csq_words.specs.declared.views.Event.TheVariants.{FlagSeen, Mark, Insert, RemoveNext, Remove, CloseFile, Reuse, PutBack}
 use Rattle.csq_words.specs.declared.views.Event.TheVariants as event
 use Rattle.csq_words.specs.declared.views.InsertReply.TheVariants.{Pending, Cancelled, Refused}
 use Rattle.csq_words.specs.declared.views.PassRecord.{PassRecord}
@@ -83,6 +83,7 @@ done_step size p (Flag i) v E r none less = less
 done_step size p (Take i) v E r none less = less
 done_step size p (Out i) v E r none less = less
 done_step size p (Renew i) v E r none less = less
+done_step size p (Rearm i) v E r none less = less
 
 -- a run of first lives has as many completions as completed IRPs
 done_tally : (size : Size) (E : List Made) → IsRun size E → NoneEnded size.first E → done_steps E ≡ tally (λ n. is_done E (in_first size.first n)) size.irps
@@ -146,6 +147,7 @@ pass_step n p (Flag i) v E from to less = less ∙ sum_same _ _ 1 n (λ j l. kep
 pass_step n p (Take i) v E from to less = less ∙ sum_same _ _ 1 n (λ j l. kept (same_pass p (pass_numbered j)) p (Take i) v (own (pass_numbered j) E) refl)
 pass_step n p (Out i) v E from to less = less ∙ sum_same _ _ 1 n (λ j l. kept (same_pass p (pass_numbered j)) p (Out i) v (own (pass_numbered j) E) refl)
 pass_step n p (Renew i) v E from to less = less ∙ sum_same _ _ 1 n (λ j l. kept (same_pass p (pass_numbered j)) p (Renew i) v (own (pass_numbered j) E) refl)
+pass_step n p (Rearm i) v E from to less = less ∙ sum_same _ _ 1 n (λ j l. kept (same_pass p (pass_numbered j)) p (Rearm i) v (own (pass_numbered j) E) refl)
 
 -- each completion is of one pass
 pass_sum : (size : Size) (E : List Made) → Each (λ m before. IsKnown size m) E → done_steps E ≡ sum_from (by_pass_of E) 1 size.passes
@@ -162,6 +164,7 @@ reuse_is_call (RemoveNext k reply) h = refl
 reuse_is_call (Remove i reply) h = refl
 reuse_is_call (event.Out i) h = refl
 reuse_is_call (CloseFile f) h = refl
+reuse_is_call (PutBack i f place reply) h = refl
 
 -- so some pass called it
 reuse_called : (history : List Entry) → has_reuse history ≡ true → (p : PassId) × (has_reuse (calls_of p history) ≡ true)
@@ -201,6 +204,9 @@ lives_stay first (e ∷ history) h n =
     stays u (Remove i true) h = refl
     stays u (event.Out i) h = refl
     stays u (CloseFile f) h = refl
+    stays u (PutBack i f place Pending) h = refl
+    stays u (PutBack i f place Cancelled) h = refl
+    stays u (PutBack i f place (Refused cause)) h = refl
     stays u (Reuse m life) h = absurd (true≢false h)
 
 status_done : (w life : ℕ) (d by_removal : Bool) → SaysStatus w life d by_removal → is_some (status_in w) ≡ d

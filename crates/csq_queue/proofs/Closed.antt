@@ -10,16 +10,16 @@ use Rattle.csq_list.specs.declared.entry.Peek.{Peek}
 use Rattle.csq_list.specs.declared.entry.Peek.TheVariants.{File}
 use Rattle.csq_list.specs.declared.entry.Place.{Place}
 use Rattle.csq_list.specs.declared.entry.Place.TheVariants.{Back, Front}
-use Rattle.csq_list.specs.Listing.{put_at}
+use Rattle.csq_list.specs.Listing.{put_at, renewed}
 use Rattle.csq_list.specs.Searches.{same_file}
 use Rattle.csq_list.specs.declared.refusals.InsertStatus.TheVariants.{FileClosed}
 use Rattle.csq_list.proofs.Causes.{no_cause}
 use Rattle.csq_words.specs.declared.views.Entry.{Entry}
 use Rattle.csq_words.specs.declared.views.Event.{Event}
-use Rattle.csq_words.specs.declared.views.Event.TheVariants.{FlagSeen, Mark, Insert, RemoveNext, Remove, Out, CloseFile, Reuse}
+use Rattle.csq_words.specs.declared.views.Event.TheVariants.{FlagSeen, Mark, Insert, RemoveNext, Remove, Out, CloseFile, Reuse, PutBack}
 use Rattle.csq_words.specs.declared.views.InsertReply.TheVariants.{Pending, Cancelled, Refused}
 use Rattle.csq_words.specs.History.{IsLegal, MayCome, end_of}
-use Rattle.csq_words.specs.Queue.{Queued, QueueState, Limits, current, has_irp, has_file, marking, without, first_unmarked, refusal, after_event, new_entry, plain_listing}
+use Rattle.csq_words.specs.Queue.{Queued, QueueState, Limits, current, has_irp, has_file, marking, without, first_unmarked, refusal, back_refusal, after_event, new_entry, plain_listing}
 use Rattle.csq_queue.proofs.Crowding.{pending_none}
 use Rattle.csq_words.proofs.Marking.{none_head, none_both, none_marking}
 
@@ -34,6 +34,9 @@ closed_after q (Mark i) f h = h
 closed_after q (Insert n g place Pending) f h = h
 closed_after q (Insert n g place Cancelled) f h = h
 closed_after q (Insert n g place (Refused cause)) f h = h
+closed_after q (PutBack i g place Pending) f h = h
+closed_after q (PutBack i g place Cancelled) f h = h
+closed_after q (PutBack i g place (Refused cause)) f h = h
 closed_after q (RemoveNext k None) f h = h
 closed_after q (RemoveNext k (Some i)) f h = h
 closed_after q (Remove i false) f h = h
@@ -57,6 +60,13 @@ other_file l q n g f accepted c = at (g.0 == f.0) refl
     at true e = absurd (true≢false (sym c ∙ (sym (same_closed q.closed f g e) ∙ no_cause (plain_listing l q) n g accepted FileClosed)))
     at false e = refl
 
+other_again : (l : Limits) (q : QueueState) (i : IrpLife) (g f : FileId) → back_refusal l q i g ≡ None → has_file q.closed f ≡ true → (g.0 == f.0) ≡ false
+other_again l q i g f accepted c = at (g.0 == f.0) refl
+  where
+    at : (b : Bool) → (g.0 == f.0) ≡ b → b ≡ false
+    at true e = absurd (true≢false (sym c ∙ (sym (same_closed q.closed f g e) ∙ no_cause (renewed i.irp (plain_listing l q)) i.irp g accepted FileClosed)))
+    at false e = refl
+
 none_without : (k : Peek) (i : IrpLife) (es : List Queued) → first_unmarked k es ≡ None → first_unmarked k (without i es) ≡ None
 none_without k i [] h = refl
 none_without k i (e ∷ es) h = at (none_without k i es) (same_irp e.irp i) refl
@@ -76,6 +86,9 @@ none_after l q (Mark i) f may c h = none_marking (File f) i q.entries h
 none_after l q (Insert n g place Pending) f may c h = none_put_at f g place (current q n) q.entries (other_file l q n g f (pending_none (refusal l q n g) (has_irp q.flags (current q n)) may) c) h
 none_after l q (Insert n g place Cancelled) f may c h = h
 none_after l q (Insert n g place (Refused cause)) f may c h = h
+none_after l q (PutBack i g place Pending) f may c h = none_put_at f g place i q.entries (other_again l q i g f (pending_none (back_refusal l q i g) (has_irp q.flags i) may.2) c) h
+none_after l q (PutBack i g place Cancelled) f may c h = h
+none_after l q (PutBack i g place (Refused cause)) f may c h = h
 none_after l q (RemoveNext k None) f may c h = h
 none_after l q (RemoveNext k (Some i)) f may c h = none_without (File f) i q.entries h
 none_after l q (Remove i false) f may c h = h
@@ -147,6 +160,10 @@ count_after l q (Insert n g place Pending) f may c =
     let same = count_placed f place (new_entry (current q n) g) q.entries (other_file l q n g f (pending_none (refusal l q n g) (has_irp q.flags (current q n)) may) c) in omega arith
 count_after l q (Insert n g place Cancelled) f may c = omega arith
 count_after l q (Insert n g place (Refused cause)) f may c = omega arith
+count_after l q (PutBack i g place Pending) f may c =
+    let same = count_placed f place (new_entry i g) q.entries (other_again l q i g f (pending_none (back_refusal l q i g) (has_irp q.flags i) may.2) c) in omega arith
+count_after l q (PutBack i g place Cancelled) f may c = omega arith
+count_after l q (PutBack i g place (Refused cause)) f may c = omega arith
 count_after l q (RemoveNext k None) f may c = omega arith
 count_after l q (RemoveNext k (Some i)) f may c = count_without f i q.entries
 count_after l q (Remove i false) f may c = omega arith

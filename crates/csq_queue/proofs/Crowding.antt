@@ -11,17 +11,18 @@ use Rattle.csq_list.specs.declared.entry.Place.{Place}
 use Rattle.csq_list.specs.declared.refusals.InsertStatus.{InsertStatus}
 use Rattle.csq_list.specs.declared.refusals.InsertStatus.TheVariants.{NotHome}
 use Rattle.csq_list.proofs.Causes.{no_cause, sound-accepted}
-use Rattle.csq_list.specs.Listing.{IsSound, inserted}
+use Rattle.csq_list.specs.Listing.{IsSound, inserted, renewed}
 use Rattle.csq_list.specs.Searches.{is_listed, is_distinct}
 use Rattle.csq_list.proofs.Keeping.{filter-none, unused-unlisted, sound-fresh, sound-removed, sound-renewed}
 use Rattle.csq_words.specs.declared.views.Entry.{Entry}
 use Rattle.csq_words.specs.declared.views.Event.{Event}
-use Rattle.csq_words.specs.declared.views.Event.TheVariants.{FlagSeen, Mark, Insert, RemoveNext, Remove, Out, CloseFile, Reuse}
+use Rattle.csq_words.specs.declared.views.Event.TheVariants.{FlagSeen, Mark, Insert, RemoveNext, Remove, Out, CloseFile, Reuse, PutBack}
 use Rattle.csq_words.specs.declared.views.InsertReply.TheVariants.{Pending, Cancelled, Refused}
-use Rattle.csq_words.specs.History.{IsLegal, MayCome, end_of}
-use Rattle.csq_words.specs.Queue.{Queued, QueueState, Limits, current, has_irp, has_file, has_entry, without, plain, new_entry, plain_listing, refusal, reply_to_insert, after_event}
+use Rattle.csq_words.proofs.Named.{irp_eq}
+use Rattle.csq_words.specs.History.{IsLegal, IsGone, MayCome, end_of}
+use Rattle.csq_words.specs.Queue.{Queued, QueueState, Limits, current, has_irp, has_file, has_entry, without, plain, new_entry, plain_listing, refusal, reply_to_insert, after_event, back_refusal}
 use Rattle.csq_words.proofs.Lives.{ArePresent, HasSoundLives, legal_lives}
-use Rattle.csq_words.proofs.Listings.{is_listed-plain, listing-inserted, listing-marked, listing-removed, listing-taken_back, listing-renewed}
+use Rattle.csq_words.proofs.Listings.{is_listed-plain, listing-inserted, listing-marked, listing-removed, listing-taken_back, listing-renewed, listing-put_back}
 use Rattle.csq_queue.specs.Counts.{has_life, AreApart}
 use Rattle.csq_queue.proofs.Counting.{apart_most}
 
@@ -70,6 +71,14 @@ module _ (l : Limits) (u : QueueState) (lives : HasSoundLives u) (sound : IsSoun
       let accepted = cancelled_none (refusal l u n f) (has_irp u.flags (current u n)) may in
       subst IsSound (listing-taken_back l u n f place lives.entries (absent n f accepted place)) (sound-removed (inserted place (plain (new_entry (current u n) f)) (plain_listing l u)) (sound_listed n f accepted place) n)
   sound_event (Insert n f place (Refused cause)) may = sound
+  sound_event (PutBack i f place Pending) may =
+      let accepted = pending_none (back_refusal l u i f) (has_irp u.flags i) may.2 in
+      let gone : IsGone u i = may.0 in
+      let same : current u i.irp ≡ i = irp_eq (current u i.irp) i refl (sym gone.2) in
+      let unlisted = is_listed-plain u.lives (current u i.irp) refl u.entries lives.entries ∙ (ap (has_entry u.entries) same ∙ gone.1) in
+      subst IsSound (listing-put_back l u i f place same gone.0) (sound-accepted (renewed i.irp (plain_listing l u)) (sound-renewed (plain_listing l u) sound i.irp unlisted) place (plain (new_entry i f)) accepted)
+  sound_event (PutBack i f place Cancelled) may = sound
+  sound_event (PutBack i f place (Refused cause)) may = sound
   sound_event (RemoveNext k None) may = sound
   sound_event (RemoveNext k (Some i)) may = sound_without i
   sound_event (Remove i false) may = sound

@@ -8,7 +8,9 @@ use Rattle.csq_words.specs.declared.views.PassRecord.{PassRecord}
 use Rattle.csq_words.specs.Records.{with_run, caught_up}
 use Rattle.csq_words.specs.Seats.{WordsState, QueueSeatState, PassSeatState, joined_record, pass_record}
 use Rattle.irp_core.specs.declared.ids.IrpLife.{IrpLife}
-use Rattle.csq_queue.specs.Named.{queue_size, IsLockedOf, IsPassSeatOf}
+use Rattle.irp_core.specs.Own.{inside_of}
+use Rattle.irp_core.specs.declared.inside.Inside.TheVariants.{Nothing}
+use Rattle.csq_queue.specs.Named.{IrpNumbers, queue_size, IsLockedOf, IsPassSeatOf}
 use Rattle.csq_words.specs.declared.views.Event.{Event}
 use Rattle.csq_words.specs.Rule.{RecordsAgree, SomeRunAgrees}
 use Rattle.csq_queue.specs.Told.{AddsEvents, IsNew}
@@ -21,12 +23,12 @@ abbrev pub seen_of : Listing → QueueSeatState → List Bool → OpenState
 seen_of s seat flags = record { table = seat.table; limits = limits_of (length flags) seat.queue.first s; queue = seat.queue }
 
 -- a queue's parts, seen by its own words
-abbrev pub IsOpen : Listing → List ℕ → QueueSeatState → List Bool → Type 0
-IsOpen s lives seat flags = IsLockedOf seat.table (limits_of (length flags) seat.queue.first s) s lives seat flags
+abbrev pub IsOpen : Listing → IrpNumbers → QueueSeatState → List Bool → Type 0
+IsOpen s kept seat flags = IsLockedOf seat.table (limits_of (length flags) seat.queue.first s) s kept seat flags
 
 -- the same, by the words that a call is handed
-abbrev pub IsOpenOn : WordsState → Listing → Listing → List ℕ → QueueSeatState → List Bool → Type 0
-IsOpenOn w first s lives seat flags = IsLockedOf w.table (limits_on w first) s lives seat flags
+abbrev pub IsOpenOn : WordsState → Listing → Listing → IrpNumbers → QueueSeatState → List Bool → Type 0
+IsOpenOn w first s kept seat flags = IsLockedOf w.table (limits_on w first) s kept seat flags
 
 module _ (w : WordsState) (s : Listing) (seat : QueueSeatState) (flags : List Bool) (q : OpenState) (is : seen_of s seat flags ≡ q) (on : IsQueueOn w q) where
   size_is : queue_size (limits_of (length flags) seat.queue.first s) ≡ w.size
@@ -42,8 +44,8 @@ module _ (w : WordsState) (s : Listing) (seat : QueueSeatState) (flags : List Bo
   pub table_is : seat.table ≡ w.table
   table_is = ap (λ (z : OpenState). z.table) is ∙ on.table
 
-  pub on_words : (lives : List ℕ) → IsOpen s lives seat flags → IsOpenOn w s s lives seat flags
-  on_words lives h = subst (λ (z : TableId × Limits). IsLockedOf z.0 z.1 s lives seat flags) (λ k. (table_is k, limits_at k)) h
+  pub on_words : (kept : IrpNumbers) → IsOpen s kept seat flags → IsOpenOn w s s kept seat flags
+  on_words kept h = subst (λ (z : TableId × Limits). IsLockedOf z.0 z.1 s kept seat flags) (λ k. (table_is k, limits_at k)) h
 
   -- what a call gave out is new to the pass, by the limits of its own words
   pub own_new : (given : Option IrpLife) (r : PassRecord) (entered : QueueSeatState) → joined_record entered ≡ r → IfSome given (IsNew (limits_on w s) (joined_record entered)) → IfSome given (IsNew q.limits r)
@@ -52,13 +54,13 @@ module _ (w : WordsState) (s : Listing) (seat : QueueSeatState) (flags : List Bo
   -- and the events of a call, as its pass sees them once it has left
   pub own_adds : (r new : PassRecord) (entered seat' : QueueSeatState) → entered ≡ record seat { joined = Some r } → SomeRunAgrees w.size seat.queue r → new ≡ caught_up (with_run new.run seat'.queue) (joined_record seat')
       → RecordsAgree w.size new.run (with_run new.run seat'.queue) (joined_record seat')
-      → (events : List Event) (s' : Listing) (lives : List ℕ) → Adds (limits_on w s) entered events s' lives seat' → AddsEvents q.limits q.queue.history r new events
-  own_adds r new entered seat' e told new_is look events s' lives a =
+      → inside_of (joined_record seat').steps ≡ Nothing → (events : List Event) (s' : Listing) (kept : IrpNumbers) → Adds (limits_on w s) entered events s' kept seat' → AddsEvents q.limits q.queue.history r new events
+  own_adds r new entered seat' e told new_is look outside events s' kept a =
       subst (λ (l : Limits). AddsEvents l q.queue.history r new events) limits_are
-      (left_adds (limits_on w s) q.queue r entered seat' (ap (λ (z : QueueSeatState). z.queue) e ∙ ap (λ (z : OpenState). z.queue) is) (ap joined_record e) events s' lives a
-      (sym (ap (λ (z : OpenState). z.queue.first) is) ∙ ap (λ (l : Limits). l.first) limits_at) (subst (λ (z : OpenState). SomeRunAgrees w.size z.queue r) is told) new new_is look)
+      (left_adds (limits_on w s) q.queue r entered seat' (ap (λ (z : QueueSeatState). z.queue) e ∙ ap (λ (z : OpenState). z.queue) is) (ap joined_record e) events s' kept a
+      (sym (ap (λ (z : OpenState). z.queue.first) is) ∙ ap (λ (l : Limits). l.first) limits_at) (subst (λ (z : OpenState). SomeRunAgrees w.size z.queue r) is told) new new_is look outside)
 
-module _ (t : TableId) (l : Limits) (s : Listing) (lives : List ℕ) (seat : QueueSeatState) (flags : List Bool) (h : IsLockedOf t l s lives seat flags) where
+module _ (t : TableId) (l : Limits) (s : Listing) (kept : IrpNumbers) (seat : QueueSeatState) (flags : List Bool) (h : IsLockedOf t l s kept seat flags) where
   own_limits : limits_of (length flags) seat.queue.first s ≡ l
   own_limits = λ k. limits_of (h.flags_are.one_each k) (h.first_is k) (h.list_is.listing_is k)
 
@@ -67,8 +69,8 @@ module _ (t : TableId) (l : Limits) (s : Listing) (lives : List ℕ) (seat : Que
   seen_at = λ k. record { table = h.here k; limits = own_limits k; queue = seat.queue }
 
   -- its parts, seen by its own words
-  pub own_words : IsOpen s lives seat flags
-  own_words = subst (λ (z : TableId × Limits). IsLockedOf z.0 z.1 s lives seat flags) (λ k. (sym h.here k, sym own_limits k)) h
+  pub own_words : IsOpen s kept seat flags
+  own_words = subst (λ (z : TableId × Limits). IsLockedOf z.0 z.1 s kept seat flags) (λ k. (sym h.here k, sym own_limits k)) h
 
 module _ (seat : Option PassSeatState) (irps passes number tokens claims : ℕ) where
   -- a pass, by the words that a call is handed

@@ -139,7 +139,7 @@ pub steps_after_seen : StepsComeAfterWhatWasSeen
 steps_after_seen limits d acts pass made own_is run told =
     let p = d.old.pass in
     let newer = d.adds.follows.0 in
-    let whole : d.new.steps ≡ own p newer ++ own p d.old.run = d.adds.sees.pass_is.steps_is ∙ (ap (λ q. own q d.new.run) pass ∙ (ap (own p) d.adds.follows.1 ∙ own-append p newer d.old.run)) in
+    let whole : d.new.steps ≡ own p newer ++ own p d.old.run = d.adds.sees.agrees.pass_is.steps_is ∙ (ap (λ q. own q d.new.run) pass ∙ (ap (own p) d.adds.follows.1 ∙ own-append p newer d.old.run)) in
     let mine : own p newer ≡ made_by p acts = append_cancel_right (own p newer) (made_by p acts) d.old.steps (ap (λ (l : List Made). own p newer ++ l) own_is ∙ (sym whole ∙ made)) in
     (newer, told.0, d.adds.follows.1 ∙ ap (λ (l : List Made). newer ++ l) told.1, mine)
 

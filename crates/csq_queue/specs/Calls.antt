@@ -17,14 +17,14 @@ use Rattle.csq_list.specs.declared.refusals.InsertStatus.{InsertStatus}
 use Rattle.csq_list.specs.declared.refusals.UnknownFile.{UnknownFile}
 use Rattle.csq_words.specs.declared.views.Entry.{Entry}
 use Rattle.csq_words.specs.declared.views.Event.{Event}
-use Rattle.csq_words.specs.declared.views.Event.TheVariants.{CloseFile, Insert, RemoveNext, Remove, Out}
+use Rattle.csq_words.specs.declared.views.Event.TheVariants.{CloseFile, Insert, RemoveNext, Remove, Out, PutBack}
 use Rattle.csq_words.specs.declared.views.InsertReply.TheVariants.{Refused}
 use Rattle.csq_words.specs.declared.views.PassRecord.{PassRecord}
 use Rattle.csq_words.specs.Calls.{due_mark}
 use Rattle.csq_words.specs.History.{end_of}
 use Rattle.irp_core.specs.Own.{owes_in, holds_in, removed_in, held_list, owed_list}
 use Rattle.csq_words.specs.Plays.{IsFlagOf, IsStatusOf, flag_read, status_read, shows_flagged, status_recorded}
-use Rattle.csq_words.specs.Queue.{Limits, current, refusal}
+use Rattle.csq_words.specs.Queue.{Limits, current, refusal, back_refusal}
 use Rattle.csq_words.specs.declared.views.Prefix.{Prefix}
 use Rattle.csq_words.specs.Records.{saw, saw_prefix, prefix_of, with_step, with_completion}
 use Rattle.csq_words.specs.Rule.{FindsUnset, SeesPrefix}
@@ -34,13 +34,17 @@ use Rattle.csq_queue.specs.declared.refusals.ReuseRefused.TheVariants as reuse
 use Rattle.csq_queue.specs.declared.refusals.UnknownIrp.{UnknownIrp}
 use Rattle.csq_queue.specs.declared.tokens.InsertAnswer.{InsertAnswer}
 use Rattle.csq_queue.specs.Counts.{has_life}
-use Rattle.csq_queue.specs.Inserts.{IsInsert, given_by, given_in}
+use Rattle.csq_queue.specs.Inserts.{IsInsert, IsPutBack, given_by, given_in}
 use Rattle.csq_queue.specs.Named.{named}
 use Rattle.csq_queue.specs.Owned.{Holds, HoldsRemoved, Owes, EndsWithTake, MissedTheRoutine}
 use Rattle.csq_queue.specs.Refusals.{reuse_events, IsReuseRefusal, IsCancelRefusal}
 use Rattle.csq_queue.specs.Searches.{marked}
-use Rattle.csq_queue.specs.Steps.{MakesSteps, insert_steps, remove_next_steps, remove_steps, reuse_steps}
+use Rattle.csq_queue.specs.Steps.{MakesSteps, insert_steps, put_back_steps, remove_next_steps, remove_steps, reuse_steps}
 use Rattle.csq_queue.specs.Told.{AddsEvents, IsNew, count_given}
+
+-- the file object that i was accepted for, at the end of this history
+abbrev pub file_at : Limits → List Entry → IrpLife → FileId
+file_at limits history i = (end_of limits.first history).file_of i.irp
 
 -- an insert: it queued the IRP, or found it cancelled and gave it back, which the pass holds then, or refused it for the first cause
 pub record Inserts (irp : IrpId) (file : FileId) (place : Place) (answer : Result (InsertAnswer IrpLife IrpLife) InsertStatus) (limits : Limits) (history : List Entry) (p p' : PassRecord) : Type 0 where
@@ -50,6 +54,17 @@ pub record Inserts (irp : IrpId) (file : FileId) (place : Place) (answer : Resul
   pub token : IfOk answer (λ inserted. IfSome (given_by inserted) (Holds limits.irps p'))
   pub refused : IfErr answer (λ cause. AddsEvents limits history p p' (Insert irp file place (Refused cause) ∷ []))
   pub cause : IfErr answer (λ cause. refusal limits (end_of limits.first history) irp file ≡ Some cause)
+
+-- a put-back of i, which the pass got by a removal, for the file object that it was accepted for: it queued i, which the pass then holds no longer, or found it cancelled, so that the pass holds it as cancelled, or refused it for the first cause, so that the pass holds it as before
+pub record PutsBack (i : IrpLife) (place : Place) (answer : Result (InsertAnswer IrpLife IrpLife) InsertStatus) (limits : Limits) (history : List Entry) (p p' : PassRecord) : Type 0 where
+  pub accepted : IfOk answer (λ inserted. (events : List Event) × IsPutBack i (file_at limits history i) place inserted events × AddsEvents limits history p p' events)
+  pub steps : MakesSteps (put_back_steps answer (end_of limits.first p'.seen)) p p'
+  pub token : IfOk answer (λ inserted. IfSome (given_by inserted) (Holds limits.irps p'))
+  pub spent : OnOk answer (removed_in p'.steps i ≡ false)
+  pub none_held : IfOk answer (λ inserted. given_by inserted ≡ None → has_life (held_list p'.steps) i.irp ≡ false)
+  pub refused : IfErr answer (λ cause. AddsEvents limits history p p' (PutBack i (file_at limits history i) place (Refused cause) ∷ []))
+  pub cause : IfErr answer (λ cause. back_refusal limits (end_of limits.first history) i (file_at limits history i) ≡ Some cause)
+  pub kept : OnErr answer (HoldsRemoved limits.irps p' i)
 
 -- a removal of the first match that no canceller has: the pass holds it then
 pub record RemovesNext (peek : Peek) (taken : Option IrpLife) (limits : Limits) (history : List Entry) (p p' : PassRecord) : Type 0 where

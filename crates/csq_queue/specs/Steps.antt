@@ -7,7 +7,8 @@ use Rattle.irp_core.specs.declared.ids.IrpId.{IrpId}
 use Rattle.irp_core.specs.declared.ids.Life.{Life}
 use Rattle.irp_core.specs.declared.ids.PassId.{PassId}
 use Rattle.irp_core.specs.declared.inside.Inside.TheVariants.{Nothing}
-use Rattle.irp_core.specs.declared.step.Kind.TheVariants.{Arm, Test, Disarm, End, Renew}
+use Rattle.irp_core.specs.declared.step.Kind.TheVariants.{Arm, Test, Disarm, End, Renew, Rearm}
+use Rattle.irp_core.specs.declared.step.Kind.{Kind}
 use Rattle.irp_core.specs.declared.step.Made.{Made}
 use Rattle.csq_list.specs.declared.entry.Peek.{Peek}
 use Rattle.csq_list.specs.declared.refusals.InsertStatus.{InsertStatus}
@@ -31,11 +32,19 @@ pub record MakesSteps (acts : List Act) (old new : PassRecord) : Type 0 where
   pub completed : new.completed ≡ old.completed
   pub found : new.lives ≡ old.lives
 
--- an insert that answered so and left this queue: it arms the IRP and tests its flag. Where that is set it disarms the IRP, and takes it back or leaves it, marked, to a canceller
+-- an insert or a put-back that returned so and left this queue, of which the first step is of this kind: it sets the routine and tests the flag. If that is set it disarms the IRP, and takes it back or leaves it, marked, to a canceller
+abbrev pub listing_steps : (IrpLife → Kind) → Result (InsertAnswer IrpLife IrpLife) InsertStatus → QueueState → List Act
+listing_steps set (Err cause) u = []
+listing_steps set (Ok (Cancelled i)) u = (Disarm i, 1) ∷ (Test i, 1) ∷ (set i, 0) ∷ []
+listing_steps set (Ok (Pending i)) u = if has_marked u.entries i then (Disarm i, 0) ∷ (Test i, 1) ∷ (set i, 0) ∷ [] else (Test i, 0) ∷ (set i, 0) ∷ []
+
+-- an insert arms the IRP
 abbrev pub insert_steps : Result (InsertAnswer IrpLife IrpLife) InsertStatus → QueueState → List Act
-insert_steps (Err cause) u = []
-insert_steps (Ok (Cancelled i)) u = (Disarm i, 1) ∷ (Test i, 1) ∷ (Arm i, 0) ∷ []
-insert_steps (Ok (Pending i)) u = if has_marked u.entries i then (Disarm i, 0) ∷ (Test i, 1) ∷ (Arm i, 0) ∷ [] else (Test i, 0) ∷ (Arm i, 0) ∷ []
+insert_steps answer u = listing_steps Arm answer u
+
+-- a put-back rearms it
+abbrev pub put_back_steps : Result (InsertAnswer IrpLife IrpLife) InsertStatus → QueueState → List Act
+put_back_steps answer u = listing_steps Rearm answer u
 
 -- whether the call gave out this IRP
 abbrev pub gave : Option IrpLife → IrpLife → Bool

@@ -6,11 +6,11 @@ ghost use Rattle.irp_core.specs.declared.inside.Inside.TheVariants.{Nothing};
 ghost use Rattle.irp_core.specs.declared.step.Kind.TheVariants.{Out as StepOut};
 ghost use Rattle.csq_list.specs.Searches.{is_listed};
 ghost use Rattle.csq_words.specs.declared.views.Event.{Event};
-ghost use Rattle.csq_words.specs.declared.views.Event.TheVariants.{Insert, RemoveNext, Remove, Out};
+ghost use Rattle.csq_words.specs.declared.views.Event.TheVariants.{Insert, RemoveNext, Remove, Out, PutBack};
 ghost use Rattle.csq_words.specs.declared.views.InsertReply.TheVariants.{Refused};
 ghost use Rattle.irp_core.specs.Own.{inside_of, owes_in};
 ghost use Rattle.csq_words.specs.Calls.{due_mark};
-ghost use Rattle.csq_words.specs.Queue.{current, refusal};
+ghost use Rattle.csq_words.specs.Queue.{current, refusal, back_refusal};
 ghost use Rattle.csq_words.specs.History.{end_of};
 ghost use Rattle.csq_words.specs.Records.{queue_of, caught_up, with_run, with_step};
 ghost use Rattle.csq_words.specs.Seats.{IsJoined, joined_record, pass_at, pass_record};
@@ -18,15 +18,16 @@ ghost use Rattle.csq_words.specs.Rule.{RecordsAgree};
 ghost use Rattle.csq_words.specs.declared.views.Reusing.TheVariants.{Nothing as IdleQueue};
 ghost use Rattle.irp_core.specs.Inside.{has_lock};
 ghost use Rattle.csq_queue.specs.Told.{IsNew};
-ghost use Rattle.csq_queue.specs.Steps.{MakesSteps, insert_steps, remove_next_steps, remove_steps, reuse_steps};
+ghost use Rattle.csq_queue.specs.Steps.{MakesSteps, insert_steps, put_back_steps, remove_next_steps, remove_steps, reuse_steps};
 ghost use Rattle.csq_queue.specs.Opens.{limits_on};
 ghost use Rattle.csq_queue.specs.Adding.{IsEntered, Adds};
-ghost use Rattle.csq_queue.specs.Inserts.{IsInsert, given_in};
+ghost use Rattle.csq_queue.specs.Inserts.{IsInsert, IsPutBack, given_in};
+ghost use Rattle.csq_queue.specs.Owned.{HoldsRemoved};
 ghost use Rattle.irp_core.specs.Lives.{last_life};
 ghost use Rattle.csq_queue.specs.Refusals.{reuse_events, IsLookRefusal};
 ghost use Rattle.csq_queue.specs.Searches.{marked};
 
-use crate::lives::Lives;
+use crate::irp_table::IrpTable;
 use crate::open::OpenInserted;
 use crate::refusals::ReuseRefused;
 use crate::tokens::InsertAnswer;
@@ -60,25 +61,25 @@ pub(crate) fn leave<A: Allocator>(seat: &mut QueueSeat, words: &Words<A>, pass: 
 pub(crate) fn list_irp<L: PendingList, A: Allocator>(
     list: &mut L,
     seat: &mut QueueSeat,
-    lives: &Lives<A>,
+    kept: &mut IrpTable<A>,
     words: &Words<A>,
     irp: IrpId,
     file: FileId,
     place: Place,
 ) -> Result<OpenInserted, InsertStatus>
     requires entered { IsEntered words.now.table (limits_on words.now (L.listing list.old))
-        (L.listing list.old) lives.now seat.old }
+        (L.listing list.old) kept.old seat.old }
     ensures accepted { IfOk result (λ inserted. (events : List Event)
         × IsInsert (current (queue_of seat.old.queue) irp) file place inserted events
         × Adds (limits_on words.now (L.listing list.old)) seat.old events (L.listing list.new)
-        lives.now seat.new) }
+        kept.new seat.new) }
     ensures steps { MakesSteps (insert_steps result
         (end_of words.now.size.first seat.new.queue.history)) (joined_record seat.old)
         (joined_record seat.new) }
     ensures new { IfSome (given_in result) (IsNew (limits_on words.now (L.listing list.old))
         (joined_record seat.old)) }
     ensures refused { IfErr result (λ cause. Adds (limits_on words.now (L.listing list.old))
-        seat.old (Insert irp file place (Refused cause) ∷ []) (L.listing list.new) lives.now
+        seat.old (Insert irp file place (Refused cause) ∷ []) (L.listing list.new) kept.new
         seat.new) }
     ensures cause { IfErr result (λ cause. refusal (limits_on words.now (L.listing list.old))
         (queue_of seat.old.queue) irp file ≡ Some cause) }
@@ -92,7 +93,9 @@ pub(crate) fn list_irp<L: PendingList, A: Allocator>(
         seat.note(words, call, Note::Refused(cause));
         return Err(cause);
     }
-    let current = lives.present(irp);
+    let current = kept.present(irp);
+    // So that a put-back finds the file object, which the list forgets when the IRP leaves it.
+    kept.set_file(irp, file);
     // The insert arms, then tests; a canceller flags, then takes. Each writes its word before it looks
     // at the other's (Dekker's pattern), so that at least one of the two sees what the other wrote.
     seat.arm(words, call, current);
@@ -112,19 +115,73 @@ pub(crate) fn list_irp<L: PendingList, A: Allocator>(
     Ok(InsertAnswer::Cancelled(current))
 }
 
+// Lists an IRP again that the joined pass got by a removal, for the file object that it was accepted for:
+// an insert's own steps, in the same life.
+pub(crate) fn relist_irp<L: PendingList, A: Allocator>(
+    list: &mut L,
+    seat: &mut QueueSeat,
+    kept: &IrpTable<A>,
+    words: &Words<A>,
+    irp: IrpLife,
+    place: Place,
+) -> Result<OpenInserted, InsertStatus>
+    requires entered { IsEntered words.now.table (limits_on words.now (L.listing list.old))
+        (L.listing list.old) kept.now seat.old }
+    requires held { HoldsRemoved words.now.size.irps (joined_record seat.old) irp }
+    ensures accepted { IfOk result (λ answer. (events : List Event)
+        × IsPutBack irp ((queue_of seat.old.queue).file_of irp.irp) place answer events
+        × Adds (limits_on words.now (L.listing list.old)) seat.old events (L.listing list.new)
+        kept.now seat.new) }
+    ensures steps { MakesSteps (put_back_steps result
+        (end_of words.now.size.first seat.new.queue.history)) (joined_record seat.old)
+        (joined_record seat.new) }
+    ensures refused { IfErr result (λ cause. Adds (limits_on words.now (L.listing list.old))
+        seat.old (PutBack irp ((queue_of seat.old.queue).file_of irp.irp) place (Refused cause)
+        ∷ []) (L.listing list.new) kept.now seat.new) }
+    ensures cause { IfErr result (λ cause. back_refusal
+        (limits_on words.now (L.listing list.old)) (queue_of seat.old.queue) irp
+        ((queue_of seat.old.queue).file_of irp.irp) ≡ Some cause) }
+    ensures told { RecordsAgree words.now.size seat.new.queue.run seat.new.queue
+        (joined_record seat.new) }
+    ensures outside { inside_of (joined_record seat.new).steps ≡ Nothing }
+{
+    let file = kept.file(irp.irp);
+    let call = Call::PutBack(irp, file, place);
+    if let Err(cause) = list.put_back_ex(irp.irp, file, place) {
+        // Linearization point: this load. The list is as it was, and the pass still holds the IRP.
+        seat.note(words, call, Note::Refused(cause));
+        return Err(cause);
+    }
+    // As an insert does, the put-back sets the routine, then tests. The Cancel flag is never cleared in a
+    // life: a cancel that came while the pass held the IRP found no routine, and the test sees its flag.
+    seat.rearm(words, call, irp);
+    // Linearization point if the flag is clear. A cancel that comes later finds the routine.
+    if !is_set(seat.test(words, call, irp.irp)) {
+        return Ok(InsertAnswer::Pending(irp));
+    }
+    // The exchange decides between the put-back and a second cancel, whose take came after the rearm, and is
+    // the linearization point either way.
+    if !is_set(seat.disarm(words, call, irp)) {
+        return Ok(InsertAnswer::Pending(irp));
+    }
+    // The cancel that came before is not lost: this pass has to complete the IRP as cancelled.
+    list.remove(irp.irp);
+    Ok(InsertAnswer::Cancelled(irp))
+}
+
 // Takes out the first match that no canceller has. Those before it are marked.
 pub(crate) fn take_match<L: PendingList, A: Allocator>(
     list: &mut L,
     seat: &mut QueueSeat,
-    lives: &Lives<A>,
+    kept: &IrpTable<A>,
     words: &Words<A>,
     peek: Peek,
 ) -> Option<IrpLife>
     requires entered { IsEntered words.now.table (limits_on words.now (L.listing list.old))
-        (L.listing list.old) lives.now seat.old }
+        (L.listing list.old) kept.now seat.old }
     ensures adds { (marks : List IrpLife)
         × Adds (limits_on words.now (L.listing list.old)) seat.old
-        (RemoveNext peek result ∷ marked marks) (L.listing list.new) lives.now seat.new }
+        (RemoveNext peek result ∷ marked marks) (L.listing list.new) kept.now seat.new }
     ensures steps { MakesSteps (remove_next_steps peek result (queue_of seat.old.queue))
         (joined_record seat.old) (joined_record seat.new) }
     ensures new { IfSome result (IsNew (limits_on words.now (L.listing list.old))
@@ -136,7 +193,7 @@ pub(crate) fn take_match<L: PendingList, A: Allocator>(
     let call = Call::RemoveNext(peek);
     let mut after = None;
     'search: while let Some(next) = list.peek_next(after, peek) {
-        let current = lives.present(next);
+        let current = kept.present(next);
         // Linearization point where this finds the routine: no cancel can get the IRP any more.
         if is_set(seat.disarm(words, call, current)) {
             list.remove(next);
@@ -152,29 +209,29 @@ pub(crate) fn take_match<L: PendingList, A: Allocator>(
 }
 
 // Whether an IRP is listed in the life named.
-fn is_here<L: PendingList, A: Allocator>(list: &L, lives: &Lives<A>, irp: IrpLife) -> bool
+fn is_here<L: PendingList, A: Allocator>(list: &L, kept: &IrpTable<A>, irp: IrpLife) -> bool
     requires { is_listed (L.listing list.now).entries irp.irp ≡ true
-        → irp.irp.0 < length lives.now }
+        → irp.irp.0 < length kept.now.lives }
     ensures { result ≡ (is_listed (L.listing list.now).entries irp.irp
-        && (slice_index lives.now irp.irp.0 == irp.life.0)) }
+        && (slice_index kept.now.lives irp.irp.0 == irp.life.0)) }
 {
-    list.is_listed(irp.irp) && lives.is_present(irp)
+    list.is_listed(irp.irp) && kept.is_present(irp)
 }
 
 // Takes out this IRP, unless it isn't listed in the life named or a canceller has it.
 pub(crate) fn take_one<L: PendingList, A: Allocator>(
     list: &mut L,
     seat: &mut QueueSeat,
-    lives: &Lives<A>,
+    kept: &IrpTable<A>,
     words: &Words<A>,
     irp: IrpLife,
 ) -> Option<IrpLife>
     requires entered { IsEntered words.now.table (limits_on words.now (L.listing list.old))
-        (L.listing list.old) lives.now seat.old }
+        (L.listing list.old) kept.now seat.old }
     ensures irp { IfSome result (λ taken. taken ≡ irp) }
     ensures adds { (marks : List IrpLife)
         × Adds (limits_on words.now (L.listing list.old)) seat.old
-        (Remove irp (is_some result) ∷ marked marks) (L.listing list.new) lives.now seat.new }
+        (Remove irp (is_some result) ∷ marked marks) (L.listing list.new) kept.now seat.new }
     ensures steps { MakesSteps (remove_steps irp result (queue_of seat.old.queue))
         (joined_record seat.old) (joined_record seat.new) }
     ensures new { IfSome result (IsNew (limits_on words.now (L.listing list.old))
@@ -184,7 +241,7 @@ pub(crate) fn take_one<L: PendingList, A: Allocator>(
     ensures outside { inside_of (joined_record seat.new).steps ≡ Nothing }
 {
     let call = Call::Remove(irp);
-    if !is_here(list, lives, irp) {
+    if !is_here(list, kept, irp) {
         // No exchange: it would write a life that may be over. Linearization point: this load.
         seat.note(words, call, Note::Event);
         return None;
@@ -203,15 +260,15 @@ pub(crate) fn take_one<L: PendingList, A: Allocator>(
 pub(crate) fn take_owed<L: PendingList, A: Allocator>(
     list: &mut L,
     seat: &mut QueueSeat,
-    lives: &Lives<A>,
+    kept: &IrpTable<A>,
     words: &Words<A>,
     irp: IrpLife,
 )
     requires entered { IsEntered words.now.table (limits_on words.now (L.listing list.old))
-        (L.listing list.old) lives.now seat.old }
+        (L.listing list.old) kept.now seat.old }
     requires owed { owes_in (joined_record seat.old).steps irp ≡ true }
     ensures adds { Adds (limits_on words.now (L.listing list.old)) seat.old
-        (Out irp ∷ due_mark irp (queue_of seat.old.queue)) (L.listing list.new) lives.now seat.new }
+        (Out irp ∷ due_mark irp (queue_of seat.old.queue)) (L.listing list.new) kept.now seat.new }
     ensures steps { (joined_record seat.new).steps
         ≡ (with_step (StepOut irp) 0 (joined_record seat.old)).steps }
     ensures known { irp.irp.0 < words.now.size.irps }
@@ -229,16 +286,16 @@ pub(crate) fn take_owed<L: PendingList, A: Allocator>(
 pub(crate) fn renew_irp<L: PendingList, A: Allocator>(
     list: &mut L,
     seat: &mut QueueSeat,
-    lives: &mut Lives<A>,
+    kept: &mut IrpTable<A>,
     words: &Words<A>,
     irp: IrpId,
 ) -> Result<Life, ReuseRefused>
     requires first { words.now.size.first ≤ last_life }
     requires entered { IsEntered words.now.table (limits_on words.now (L.listing list.old))
-        (L.listing list.old) lives.old seat.old }
+        (L.listing list.old) kept.old seat.old }
     requires known { irp.0 < words.now.size.irps }
     ensures adds { Adds (limits_on words.now (L.listing list.old)) seat.old
-        (reuse_events irp result) (L.listing list.new) lives.new seat.new }
+        (reuse_events irp result) (L.listing list.new) kept.new seat.new }
     ensures steps { MakesSteps (reuse_steps irp result) (joined_record seat.old)
         (joined_record seat.new) }
     ensures refused { IfErr result (IsLookRefusal (current (queue_of seat.new.queue) irp)
@@ -264,6 +321,6 @@ pub(crate) fn renew_irp<L: PendingList, A: Allocator>(
     seat.renew_cancel(words, call, current);
     // Still under the lock, so no call that takes it sees list, lives and words apart.
     list.renew(irp);
-    lives.begin_next(irp);
+    kept.begin_next(irp);
     Ok(Life(life.0 + 1))
 }

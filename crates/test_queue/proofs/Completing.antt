@@ -42,9 +42,9 @@ reuse_later size i old new answer done follows sees refused e = go answer e refu
     begun : life_of i ≤ (end_of size.first new.seen).lives i.irp
     begun =
         let now = done_stays i old.run new.run follows done in
-        let over = done_over size new.run sees.history_is.is_run i now in
-        let b = used_begun size new.run sees.history_is.is_run i (or_right (flagged new.run i) (was_armed new.run i) over.0) in
-        let lives = sees.history_is.lives_are i.irp in
+        let over = done_over size new.run sees.agrees.history_is.is_run i now in
+        let b = used_begun size new.run sees.agrees.history_is.is_run i (or_right (flagged new.run i) (was_armed new.run i) over.0) in
+        let lives = sees.agrees.history_is.lives_are i.irp in
         omega (arith, b.1, lives)
 
     go : (answer : Result Life ReuseRefused) → answer ≡ Err NotCompleted → IfErr answer (IsReuseRefusal here old new) → life_of i < (end_of size.first new.seen).lives i.irp

@@ -15,7 +15,7 @@ use Rattle.csq_words.specs.declared.views.Event.TheVariants.{RemoveNext}
 use Rattle.csq_words.specs.declared.views.PassRecord.{PassRecord}
 use Rattle.csq_words.specs.Queue.{Queued, Limits, has_entry, has_marked, first_unmarked}
 use Rattle.csq_words.specs.History.{IsLegal, IsExtendedBy, end_of}
-use Rattle.csq_words.specs.Rule.{inserts}
+use Rattle.csq_words.specs.Rule.{lists}
 use Rattle.csq_words.proofs.Facts.{off}
 use Rattle.csq_words.proofs.Marking.{none_head}
 use Rattle.csq_words.proofs.Marks.{marked_taken}
@@ -46,6 +46,6 @@ pub all_taken : (l : Limits) (old new : PassRecord) (history : List Entry) (mark
 all_taken l old new history marks i a outside h =
     let legal = subst (IsLegal l) a.ends a.legal in
     let none : first_unmarked Any (end_of l.first new.seen).entries ≡ None = ap (λ (x : List Entry). first_unmarked Any (end_of l.first x).entries) a.ends ∙ sym legal.0 in
-    let told = a.sees.history_is in
-    let entry : has_entry (end_of l.first new.seen).entries i ≡ true = told.listed_is i ∙ (ap (λ s. not (inserts s i) && listed new.run i) outside ∙ h) in
+    let told = a.sees.agrees.history_is in
+    let entry : has_entry (end_of l.first new.seen).entries i ≡ true = told.listed_is i ∙ (ap (λ s. not (lists s i) && listed new.run i) outside ∙ h) in
     marked_taken l.first new.run new.seen i told.true_of (all_marked (end_of l.first new.seen).entries i none entry)

@@ -9,7 +9,7 @@ use Rattle.irp_core.specs.Words.{bit, flagged, found_by}
 use Rattle.irp_core.specs.Owners.{taken}
 use Rattle.irp_core.specs.Runs.{Size, IsRun}
 use Rattle.irp_core.specs.declared.step.Kind.{Kind}
-use Rattle.irp_core.specs.declared.step.Kind.TheVariants.{Arm, Test, Disarm, End, Flag, Take, Out, Done, Renew}
+use Rattle.irp_core.specs.declared.step.Kind.TheVariants.{Arm, Test, Disarm, End, Flag, Take, Out, Done, Renew, Rearm}
 use Rattle.irp_core.specs.declared.step.Made.{Made}
 use Rattle.irp_core.proofs.Names.{same_irp-eq, same_irp-refl}
 use Rattle.irp_core.proofs.Growing.{run_less, run_last}
@@ -58,6 +58,7 @@ none_clear size i older (m ∷ newer) set r =
     head (Out j) n e on = refl
     head (Done j) n e on = refl
     head (Renew j) n e on = refl
+    head (Rearm j) n e on = refl
 
 -- an insert that leaves a flagged IRP pending was made where a canceller has its routine
 pub pending_taken : (size : Size) (i : IrpLife) (old new : PassRecord) → new.pass ≡ old.pass → flagged old.run i ≡ true → IsExtendedBy old.run new.run → old.steps ≡ own old.pass old.run → SeesRun size new
@@ -65,12 +66,12 @@ pub pending_taken : (size : Size) (i : IrpLife) (old new : PassRecord) → new.p
 pending_taken size i old new same set follows steps sees made = go (has_marked (end_of size.first new.seen).entries i) refl
   where
     go : (b : Bool) → has_marked (end_of size.first new.seen).entries i ≡ b → taken new.run i ≡ true
-    go true e = marked_taken size.first new.run new.seen i sees.history_is.true_of e
+    go true e = marked_taken size.first new.run new.seen i sees.agrees.history_is.true_of e
     go false e =
         let newer = follows.0 in
-        let whole : new.steps ≡ own old.pass newer ++ own old.pass old.run = sees.pass_is.steps_is ∙ (ap (λ p. own p new.run) same ∙ (ap (own old.pass) follows.1 ∙ own-append old.pass newer old.run)) in
+        let whole : new.steps ≡ own old.pass newer ++ own old.pass old.run = sees.agrees.pass_is.steps_is ∙ (ap (λ p. own p new.run) same ∙ (ap (own old.pass) follows.1 ∙ own-append old.pass newer old.run)) in
         let acts : new.steps ≡ made_by old.pass ((Test i, 0) ∷ (Arm i, 0) ∷ []) ++ old.steps = made ∙ rw e refl in
         let mine : own old.pass newer ≡ made_by old.pass ((Test i, 0) ∷ (Arm i, 0) ∷ []) = append_cancel_right (own old.pass newer) (made_by old.pass ((Test i, 0) ∷ (Arm i, 0) ∷ [])) old.steps (ap (λ l. own old.pass newer ++ l) steps ∙ (sym whole ∙ acts)) in
         let clear : list_any (finds_clear i) (own old.pass newer) ≡ true = ap (list_any (finds_clear i)) mine ∙ ap (λ b. (b && true) || false) (same_irp-refl i) in
-        let none' = none_clear size i old.run newer set (subst (IsRun size) follows.1 sees.history_is.is_run) in
+        let none' = none_clear size i old.run newer set (subst (IsRun size) follows.1 sees.agrees.history_is.is_run) in
         absurd (true≢false (sym (any_filtered (finds_clear i) (by old.pass) newer clear) ∙ none'))

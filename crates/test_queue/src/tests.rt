@@ -6,5 +6,6 @@ mod making;
 mod memory;
 mod open;
 mod passes;
+mod put_backs;
 mod queues;
 mod single_pass;

@@ -8,22 +8,21 @@ ghost use Rattle.csq_words.specs.declared.views.Event.TheVariants.{Out};
 ghost use Rattle.csq_words.specs.declared.views.PassRecord.{PassRecord};
 ghost use Rattle.csq_words.specs.Calls.{due_mark};
 ghost use Rattle.csq_words.specs.History.{IsLegal, IsExtendedBy, calls_of, end_of};
-ghost use Rattle.csq_words.specs.Records.{saw, with_step, with_completion, with_shown};
+ghost use Rattle.csq_words.specs.Records.{saw, with_step, with_completion};
 ghost use Rattle.csq_words.specs.Rule.{FindsUnset};
-ghost use Rattle.csq_queue.specs.Calls.{Inserts, RemovesNext, RemovesOne, RunsRoutine, ClosesFile, Reuses, MarksCancel, CompletesOne, ReadsFlag, ReadsStatus};
+ghost use Rattle.csq_queue.specs.Calls.{Inserts, PutsBack, RemovesNext, RemovesOne, RunsRoutine, ClosesFile, Reuses, MarksCancel, CompletesOne, ReadsFlag, ReadsStatus};
 ghost use Rattle.csq_queue.specs.Cleanups.{cancelled_by, cleanup_calls, SeesCalls, CompletesAll, NothingIsLeft};
 ghost use Rattle.csq_queue.specs.Counts.{held_count, owed_count};
+ghost use Rattle.csq_queue.specs.Inserts.{without_token};
 ghost use Rattle.csq_queue.specs.Named.{named, queue_size};
-ghost use Rattle.csq_queue.specs.Opens.{IsQueueOn};
 ghost use Rattle.csq_queue.specs.Owned.{Holds, HoldsRemoved, Owes, EndsWithTake, MissedTheRoutine};
 ghost use Rattle.csq_queue.specs.Refusals.{IsCancelRefusal};
-ghost use Rattle.csq_queue.specs.Rests.{FirstAreBack, IsRestOf, HasShown, KeepsRecord, HoldsNothing, IsCloseCause};
+ghost use Rattle.csq_queue.specs.Rests.{FirstAreBack, IsRestOf, KeepsRecord, HoldsNothing, IsCloseCause};
 ghost use Rattle.csq_queue.specs.Told.{SeesRun, AddsEvents};
 
-use crate::back::Back;
+use crate::back::{Back, see};
 use crate::named::waiting::wait_for;
 use crate::named::{Locked, Pass, PassRack, QueueName};
-use crate::open::OpenQueue;
 use crate::refusals::{CancelRefused, ReuseRefused, UnknownIrp};
 use crate::rest::{CloseCause, CloseRefused, Holding, Rest};
 use crate::tokens::{CancelToken, Claim, InsertContext, Inserted, Token};
@@ -103,6 +102,36 @@ impl<L: PendingList + Drop, N: QueueName, A: Allocator> Csq<L, N, A> {
             .open
             .insert(&self.words, &mut pass.open, irp, file, place)?;
         Ok(Inserted::of(inserted))
+    }
+
+    /// Puts back an IRP that the pass removed and couldn't serve, last or first, for the file object that
+    /// it was inserted for, in the same life (`IoCsqInsertIrpEx` once more). As an insert it lists the IRP,
+    /// sets its cancel routine and tests its Cancel flag. The flag is never cleared in a life, so no cancel
+    /// is lost that came while the pass had the IRP: the put-back then returns `Cancelled`, unless a later
+    /// cancel has the IRP. After `Pending` the contexts and the name of the IRP are as good as before. A
+    /// refusal is the first of `FileClosed`, `FileFull` and `Full` that holds, and the token comes back:
+    /// the pass still has the IRP. The token has to be spent through the pass that got it.
+    pub fn put_back(
+        &self,
+        rt: &impl Wait,
+        pass: &mut Pass<N>,
+        token: Token<N>,
+        place: Place,
+    ) -> Result<Inserted<N>, (InsertStatus, Token<N>)>
+        requires token { HoldsRemoved N.limits.irps pass.old token }
+        ensures call { (history : List Entry) × PutsBack token place (without_token result)
+            N.limits history pass.old pass.new }
+        ensures kept { IfErr result (λ refused. refused.1 ≡ token) }
+    {
+        let irp = token.spend();
+        let mut locked = self.lock(rt);
+        match locked
+            .open
+            .put_back(&self.words, &mut pass.open, irp, place)
+        {
+            Ok(back) => Ok(Inserted::of(back)),
+            Err(cause) => Err((cause, Token::new(irp))),
+        }
     }
 
     /// Removes the first match that no canceller has (`IoCsqRemoveNextIrp`). None where no match is
@@ -447,38 +476,4 @@ impl<L: PendingList + Drop, N: QueueName, A: Allocator> Csq<L, N, A> {
         open.give_back(&words, last);
         Ok(open.close(words, rack))
     }
-}
-
-// Takes in what the receipts show.
-fn see<L: PendingList + Drop, N: QueueName, A: Allocator>(
-    queue: &mut OpenQueue<L, A>,
-    words: &Words<A>,
-    receipts: &mut [Back<N>],
-)
-    requires queue { IsQueueOn words.now queue.old }
-    requires table { words.now.table ≡ N.table }
-    ensures queue { queue.new ≡ record queue.old {
-      queue
-          = record queue.old.queue { shown = queue.new.queue.shown };
-    } }
-    ensures kept { receipts.new ≡ receipts.old }
-    ensures shown { HasShown queue.new.queue receipts.old }
-{
-    'receipts: for next in 0..receipts.len() {
-        see_one::<L, N, A>(queue, words, &mut receipts[next]);
-    }
-}
-
-// Takes in what a receipt shows.
-fn see_one<L: PendingList + Drop, N: QueueName, A: Allocator>(
-    queue: &mut OpenQueue<L, A>,
-    words: &Words<A>,
-    back: &mut Back<N>,
-)
-    requires queue { IsQueueOn words.now queue.old }
-    requires table { words.now.table ≡ N.table }
-    ensures queue { queue.new ≡ record queue.old { queue = with_shown back.old queue.old.queue } }
-    ensures kept { back.new ≡ back.old }
-{
-    queue.see(words, &mut back.receipt);
 }

@@ -43,7 +43,7 @@ impl<L: PendingList + Drop, A: Allocator> OpenQueue<L, A> {
         let Some(irp) = self.list.peek_next(after, peek) else {
             return Ok(None);
         };
-        Ok(Some(self.lives.present(irp)))
+        Ok(Some(self.kept.present(irp)))
     }
 }
 

@@ -7,19 +7,20 @@ ghost use Rattle.csq_words.specs.Finals.{AllBack, IsFinal, IsLeft, KeepsRecords}
 ghost use Rattle.csq_words.specs.History.{IsLegal, IsExtendedBy, calls_of, end_of};
 ghost use Rattle.csq_words.specs.Queue.{current, plain_listing};
 ghost use Rattle.csq_words.specs.Records.{caught_up, queue_of, with_run, with_back, with_shown};
+ghost use Rattle.irp_core.specs.declared.inside.Inside.TheVariants as inner;
 ghost use Rattle.csq_words.specs.Rule.{IsHistoryOf, QueueAndPassHaveRun};
 ghost use Rattle.csq_words.specs.Seats.{pass_at, pass_record, IsHere};
-ghost use Rattle.csq_queue.specs.Calls.{Inserts, RemovesNext, RemovesOne, RunsRoutine, ClosesFile, Reuses};
+ghost use Rattle.csq_queue.specs.Calls.{Inserts, PutsBack, RemovesNext, RemovesOne, RunsRoutine, ClosesFile, Reuses};
 ghost use Rattle.csq_queue.specs.Named.{named, queue_size, out_count};
 ghost use Rattle.csq_queue.specs.Opens.{IsQueueOn, IsPassOn, IsRackOn, after_call};
-ghost use Rattle.csq_queue.specs.Owned.{Owes};
+ghost use Rattle.csq_queue.specs.Owned.{HoldsRemoved, Owes};
 ghost use Rattle.csq_queue.specs.Rests.{HoldsNothing, FirstAreBack, GivenBack, IsClosed};
 ghost use Rattle.csq_queue.specs.Told.{SeesRun, count_given};
-ghost use Rattle.csq_queue.specs.Inserts.{given_in};
+ghost use Rattle.csq_queue.specs.Inserts.{given_in, count_spent};
 
-use crate::lives::Lives;
+use crate::irp_table::IrpTable;
 use crate::open::{OpenInserted, OpenPass, OpenRack};
-use crate::protocol::{leave, list_irp, renew_irp, take_match, take_one, take_owed};
+use crate::protocol::{leave, list_irp, relist_irp, renew_irp, take_match, take_one, take_owed};
 use crate::refusals::ReuseRefused;
 use crate::rest::Rest;
 use crate::tokens::InsertAnswer;
@@ -35,8 +36,8 @@ use std::marker::Model;
 pub struct OpenQueue<L: PendingList + Drop, A: Allocator = Global> {
     pub(crate) list: L,
     pub(crate) seat: QueueSeat,
-    // The present life of each IRP.
-    pub(crate) lives: Lives<A>,
+    // The present life and the file object of each IRP.
+    pub(crate) kept: IrpTable<A>,
     // Which passes are back.
     pub(crate) back: Vec<bool, A>,
 }
@@ -59,7 +60,7 @@ impl<L: PendingList + Drop, A: Allocator> Model for OpenQueue<L, A> {
 
     ghost invariant = { λ q. IsLockedOf q.seat.table
         (limits_of (length q.back.items) q.seat.queue.first (L.listing q.list)) (L.listing q.list)
-        q.lives q.seat q.back.items };
+        q.kept q.seat q.back.items };
 }
 
 impl<L: PendingList + Drop, A: Allocator> OpenQueue<L, A> {
@@ -85,7 +86,7 @@ impl<L: PendingList + Drop, A: Allocator> OpenQueue<L, A> {
         let inserted = list_irp::<L, A>(
             &mut self.list,
             &mut self.seat,
-            &self.lives,
+            &mut self.kept,
             words,
             irp,
             file,
@@ -99,6 +100,37 @@ impl<L: PendingList + Drop, A: Allocator> OpenQueue<L, A> {
         }
         leave(&mut self.seat, words, &mut pass.seat);
         inserted
+    }
+
+    /// Puts an IRP back that the pass got by a removal, last or first, or returns the first cause why not, as
+    /// `Csq::put_back` does.
+    pub fn put_back(
+        &mut self,
+        words: &Words<A>,
+        pass: &mut OpenPass,
+        irp: IrpLife,
+        place: Place,
+    ) -> Result<OpenInserted, InsertStatus>
+        requires queue { IsQueueOn words.now self.old }
+        requires pass { IsPassOn words.now pass.old }
+        requires held { HoldsRemoved self.old.limits.irps pass.old.pass irp }
+        ensures call { PutsBack irp place result self.old.limits self.old.queue.history
+            pass.old.pass pass.new.pass }
+        ensures seen { self.new ≡ after_call pass.new.pass self.old }
+        ensures place { pass.new ≡ record pass.old { pass = pass.new.pass } }
+    {
+        self.seat.enter(words, &mut pass.seat);
+        let back = relist_irp::<L, A>(
+            &mut self.list,
+            &mut self.seat,
+            &self.kept,
+            words,
+            irp,
+            place,
+        );
+        pass.tokens -= count_spent(&back);
+        leave(&mut self.seat, words, &mut pass.seat);
+        back
     }
 
     /// Removes the first match that no canceller has, as `Csq::remove_next` does. The pass holds it then.
@@ -116,7 +148,7 @@ impl<L: PendingList + Drop, A: Allocator> OpenQueue<L, A> {
         ensures place { pass.new ≡ record pass.old { pass = pass.new.pass } }
     {
         self.seat.enter(words, &mut pass.seat);
-        let taken = take_match::<L, A>(&mut self.list, &mut self.seat, &self.lives, words, peek);
+        let taken = take_match::<L, A>(&mut self.list, &mut self.seat, &self.kept, words, peek);
         pass.tokens += count(taken);
         leave(&mut self.seat, words, &mut pass.seat);
         taken
@@ -133,7 +165,7 @@ impl<L: PendingList + Drop, A: Allocator> OpenQueue<L, A> {
         ensures place { pass.new ≡ record pass.old { pass = pass.new.pass } }
     {
         self.seat.enter(words, &mut pass.seat);
-        let taken = take_one::<L, A>(&mut self.list, &mut self.seat, &self.lives, words, irp);
+        let taken = take_one::<L, A>(&mut self.list, &mut self.seat, &self.kept, words, irp);
         pass.tokens += count(taken);
         leave(&mut self.seat, words, &mut pass.seat);
         taken
@@ -150,7 +182,7 @@ impl<L: PendingList + Drop, A: Allocator> OpenQueue<L, A> {
         ensures place { pass.new ≡ record pass.old { pass = pass.new.pass } }
     {
         self.seat.enter(words, &mut pass.seat);
-        take_owed::<L, A>(&mut self.list, &mut self.seat, &self.lives, words, irp);
+        take_owed::<L, A>(&mut self.list, &mut self.seat, &self.kept, words, irp);
         pass.claims -= 1;
         pass.tokens += 1;
         leave(&mut self.seat, words, &mut pass.seat);
@@ -198,7 +230,7 @@ impl<L: PendingList + Drop, A: Allocator> OpenQueue<L, A> {
             return Err(ReuseRefused::UnknownIrp);
         }
         self.seat.enter(words, &mut pass.seat);
-        let life = renew_irp::<L, A>(&mut self.list, &mut self.seat, &mut self.lives, words, irp);
+        let life = renew_irp::<L, A>(&mut self.list, &mut self.seat, &mut self.kept, words, irp);
         leave(&mut self.seat, words, &mut pass.seat);
         life
     }
@@ -210,7 +242,7 @@ impl<L: PendingList + Drop, A: Allocator> OpenQueue<L, A> {
         ensures present { IfSome result (λ life. named irp life
             ≡ current (end_of self.now.limits.first self.now.queue.history) irp) }
     {
-        self.lives.get(irp)
+        self.kept.get(irp)
     }
 
     /// Lets a pass see the whole history, and the execution so far.
@@ -221,7 +253,7 @@ impl<L: PendingList + Drop, A: Allocator> OpenQueue<L, A> {
             { queue = with_run pass.new.pass.run self.old.queue } }
         ensures legal { IsLegal self.old.limits self.old.queue.history }
         ensures agrees { IsHistoryOf (queue_size self.old.limits) self.new.queue.run self.new.queue
-            (λ i. false) }
+            inner.Nothing }
         ensures sees { SeesRun (queue_size self.old.limits) pass.new.pass }
         ensures shown { pass.new ≡ record pass.old
             { pass = caught_up self.new.queue pass.old.pass } }
@@ -243,7 +275,7 @@ impl<L: PendingList + Drop, A: Allocator> OpenQueue<L, A> {
         requires steps { pass.old.pass.steps ≡ own pass.old.pass.pass pass.old.pass.run }
         requires since { IsExtendedBy pass.old.pass.run self.old.queue.run }
         requires agrees { IsHistoryOf (queue_size self.old.limits) self.old.queue.run self.old.queue
-            (λ i. false) }
+            inner.Nothing }
         ensures same { self.new ≡ self.old }
         ensures shown { pass.new ≡ record pass.old
             { pass = caught_up self.old.queue pass.old.pass } }
@@ -374,6 +406,16 @@ fn count(taken: Option<IrpLife>) -> u32
     match taken {
         Some(_) => 1,
         None => 0,
+    }
+}
+
+// How many IRPs the pass holds no longer after a put-back.
+fn count_spent(answer: &Result<OpenInserted, InsertStatus>) -> u32
+    ensures { result ≡ count_spent answer.now }
+{
+    match answer {
+        Ok(InsertAnswer::Pending(_)) => 1,
+        Ok(InsertAnswer::Cancelled(_)) | Err(_) => 0,
     }
 }
 

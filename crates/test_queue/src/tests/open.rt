@@ -45,6 +45,21 @@ impl<L: PendingList + Drop, A: Allocator> Open<L, A> {
         Some(irp)
     }
 
+    // Removes the first listed IRP and puts it back at the front, and returns which.
+    fn return_first(&mut self) -> Option<IrpLife> {
+        let irp = self
+            .queue
+            .remove_next(&self.words, &mut self.pass, Peek::Any)?;
+        match self
+            .queue
+            .put_back(&self.words, &mut self.pass, irp, Place::Front)
+        {
+            Ok(InsertAnswer::Pending(again)) => Some(again),
+            Ok(InsertAnswer::Cancelled(_)) => None,
+            Err(_) => None,
+        }
+    }
+
     // Removes this one and completes it.
     fn serve_named(&mut self, irp: IrpLife) -> Option<IrpLife> {
         let irp = self.queue.remove(&self.words, &mut self.pass, irp)?;
@@ -113,6 +128,7 @@ fn look_through<L: PendingList + Drop, A: Allocator>(open: &mut Open<L, A>, rows
     look_at_three(&open.queue, rows);
     rows.note(open.cancel(first(ONE)) == Some(3));
     rows.note(open.serve_named(first(TWO)) == Some(first(TWO)));
+    rows.note(open.return_first() == Some(first(ZERO)));
     rows.note(open.serve() == Some(first(ZERO)));
     rows.note(open.reuse(ZERO));
     rows.note(open.insert(ZERO, 1));

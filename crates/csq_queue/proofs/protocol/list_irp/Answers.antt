@@ -1,4 +1,4 @@
-use Rattle.std.proofs.Common.{◌≡◌, ℕ, ◌+◌, ◌*◌, ◌%◌, [], ◌∷◌, None, Ok, inl, inr, refl, sym, ap, ◌∙◌, subst, arith, rules}
+use Rattle.std.proofs.Common.{◌≡◌, [], ◌∷◌, None, Ok, inl, inr, refl, sym, ap, ◌∙◌, subst, rules}
 use Rattle.irp_core.specs.declared.ids.IrpLife.{IrpLife}
 use Rattle.irp_core.specs.declared.step.Kind.TheVariants.{Arm, Disarm}
 use Rattle.csq_list.specs.Listing.{Listing}
@@ -12,19 +12,19 @@ use Rattle.csq_words.specs.Queue.{refusal}
 use Rattle.csq_words.specs.History.{end_of}
 use Rattle.csq_words.specs.Records.{queue_of, with_run}
 use Rattle.csq_words.specs.Seats.{joined_record, with_view}
-use Rattle.csq_words.specs.Words.{bit_in, bit_word}
+use Rattle.csq_words.specs.Words.{bit_in}
 use Rattle.csq_queue.specs.Opens.{limits_on}
 use Rattle.csq_queue.specs.declared.tokens.InsertAnswer.TheVariants as answer
 use Rattle.csq_queue.specs.Steps.{MakesSteps, insert_steps}
 use Rattle.csq_queue.specs.Told.{IsNew}
 use Rattle.csq_queue.proofs.Presence.{present_is}
-use Rattle.csq_queue.proofs.Inserting.{it, armed, tested, disarmed, accepted_irp, insert_pending, insert_missed, insert_cancelled, pending_makes, missed_makes, cancelled_makes, cancelled_new}
+use Rattle.csq_queue.proofs.Inserting.{it, armed, tested, disarmed, accepted_irp, insert_pending, insert_missed, insert_cancelled, pending_makes, missed_makes, cancelled_makes, cancelled_new, was_clear}
 use Rattle.csq_queue.proofs.protocol.list_irp.Goals as goal
 
 pub returns-then-not-is_set-clause-accepted : goal.returns-then-not-is_set-clause-accepted
 returns-then-not-is_set-clause-accepted g c =
     let old = c.args.seat.now in
-    let v = c.args.lives.now in
+    let v = c.args.kept.now in
     let s = g.L.PendingList.listing c.args.list.now in
     let l = limits_on c.args.words.now s in
     let n = c.args.irp in
@@ -34,13 +34,13 @@ returns-then-not-is_set-clause-accepted g c =
     let to_y : c.test.new.self ≡ tested n c.args.file c.args.place (bit_in c.test.result) c.test.new.self.queue.run c.arm.new.self = c.test.ensures.step in (
       Insert n c.args.file c.args.place Pending ∷ [],
       (cur, inl refl),
-      insert_pending c.requires.entered n c.args.file c.args.place none' (g.L.PendingList.listing c.insert_ex.new.self) (search rules) (bit_in c.arm.result) c.arm.new.self c.test.new.self to_z (bit_in c.test.result) (c.is_set.ensures.clear c.if-not-is_set.true) to_y (c.test.new.self.queue.run, c.test.ensures.told.told),
+      insert_pending c.requires.entered n c.args.file c.args.place none' (g.L.PendingList.listing c.insert_ex.new.self) (search rules) c.set_file.new.self c.set_file.ensures (bit_in c.arm.result) c.arm.new.self c.test.new.self to_z (bit_in c.test.result) (c.is_set.ensures.clear c.if-not-is_set.true) to_y (c.test.new.self.queue.run, c.test.ensures.told.told),
     )
 
 pub returns-then-not-is_set-2-clause-accepted : goal.returns-then-not-is_set-2-clause-accepted
 returns-then-not-is_set-2-clause-accepted g c =
     let old = c.args.seat.now in
-    let v = c.args.lives.now in
+    let v = c.args.kept.now in
     let s = g.L.PendingList.listing c.args.list.now in
     let l = limits_on c.args.words.now s in
     let n = c.args.irp in
@@ -52,13 +52,13 @@ returns-then-not-is_set-2-clause-accepted g c =
     let to_x : c.disarm.new.self ≡ disarmed n (it old n) c.args.file c.args.place (bit_in c.disarm.result) c.disarm.new.self.queue.run c.test.new.self = c.disarm.ensures.step ∙ (λ k. with_view (after_step (InsertCall n c.args.file c.args.place) (Disarm (cur k)) (bit_in c.disarm.result) (with_run c.disarm.new.self.queue.run c.test.new.self.queue) (joined_record c.test.new.self)) c.test.new.self) in (
       Mark (it old n) ∷ Insert n c.args.file c.args.place Pending ∷ [],
       (cur, inr refl),
-      insert_missed c.requires.entered n c.args.file c.args.place none' (g.L.PendingList.listing c.insert_ex.new.self) (search rules) (bit_in c.arm.result) c.arm.new.self c.test.new.self to_z (bit_in c.test.result) one to_y c.disarm.new.self (bit_in c.disarm.result) (c.is_set-2.ensures.clear c.if-not-is_set-2.true) to_x (c.disarm.new.self.queue.run, c.disarm.ensures.told.told),
+      insert_missed c.requires.entered n c.args.file c.args.place none' (g.L.PendingList.listing c.insert_ex.new.self) (search rules) c.set_file.new.self c.set_file.ensures (bit_in c.arm.result) c.arm.new.self c.test.new.self to_z (bit_in c.test.result) one to_y c.disarm.new.self (bit_in c.disarm.result) (c.is_set-2.ensures.clear c.if-not-is_set-2.true) to_x (c.disarm.new.self.queue.run, c.disarm.ensures.told.told),
     )
 
 pub returns-clause-accepted : goal.returns-clause-accepted
 returns-clause-accepted g c =
     let old = c.args.seat.now in
-    let v = c.args.lives.now in
+    let v = c.args.kept.now in
     let s = g.L.PendingList.listing c.args.list.now in
     let l = limits_on c.args.words.now s in
     let n = c.args.irp in
@@ -70,20 +70,13 @@ returns-clause-accepted g c =
     let to_x : c.disarm.new.self ≡ disarmed n (it old n) c.args.file c.args.place (bit_in c.disarm.result) c.disarm.new.self.queue.run c.test.new.self = c.disarm.ensures.step ∙ (λ k. with_view (after_step (InsertCall n c.args.file c.args.place) (Disarm (cur k)) (bit_in c.disarm.result) (with_run c.disarm.new.self.queue.run c.test.new.self.queue) (joined_record c.test.new.self)) c.test.new.self) in (
       Insert n c.args.file c.args.place Cancelled ∷ FlagSeen (it old n) ∷ [],
       (cur, refl),
-      insert_cancelled c.requires.entered n c.args.file c.args.place none' (g.L.PendingList.listing c.insert_ex.new.self) (search rules) (bit_in c.arm.result) c.arm.new.self c.test.new.self to_z (bit_in c.test.result) one to_y c.disarm.new.self (g.met.L.PendingList.sound c.args.list.now) (g.L.PendingList.listing c.remove.new.self) c.remove.ensures (bit_in c.disarm.result) (c.is_set-2.ensures.set c.if-not-is_set-2.false) to_x (c.disarm.new.self.queue.run, c.disarm.ensures.told.told),
+      insert_cancelled c.requires.entered n c.args.file c.args.place none' (g.L.PendingList.listing c.insert_ex.new.self) (search rules) c.set_file.new.self c.set_file.ensures (bit_in c.arm.result) c.arm.new.self c.test.new.self to_z (bit_in c.test.result) one to_y c.disarm.new.self (g.met.L.PendingList.sound c.args.list.now) (g.L.PendingList.listing c.remove.new.self) c.remove.ensures (bit_in c.disarm.result) (c.is_set-2.ensures.set c.if-not-is_set-2.false) to_x (c.disarm.new.self.queue.run, c.disarm.ensures.told.told),
     )
-
--- the word of a routine that wasn't set
-was_clear : (life w : ℕ) → w ≡ bit_word life 0 → bit_in w ≡ 0
-was_clear life w e = ap bit_in e ∙ even life
-  where
-    even : (m : ℕ) → (2 * m + 0) % 2 ≡ 0
-    even m = omega arith
 
 pub returns-then-not-is_set-clause-steps : goal.returns-then-not-is_set-clause-steps
 returns-then-not-is_set-clause-steps g c =
     let old = c.args.seat.now in
-    let v = c.args.lives.now in
+    let v = c.args.kept.now in
     let s = g.L.PendingList.listing c.args.list.now in
     let l = limits_on c.args.words.now s in
     let n = c.args.irp in
@@ -97,7 +90,7 @@ returns-then-not-is_set-clause-steps g c =
 pub returns-then-not-is_set-2-clause-steps : goal.returns-then-not-is_set-2-clause-steps
 returns-then-not-is_set-2-clause-steps g c =
     let old = c.args.seat.now in
-    let v = c.args.lives.now in
+    let v = c.args.kept.now in
     let s = g.L.PendingList.listing c.args.list.now in
     let l = limits_on c.args.words.now s in
     let n = c.args.irp in
@@ -113,7 +106,7 @@ returns-then-not-is_set-2-clause-steps g c =
 pub returns-clause-steps : goal.returns-clause-steps
 returns-clause-steps g c =
     let old = c.args.seat.now in
-    let v = c.args.lives.now in
+    let v = c.args.kept.now in
     let s = g.L.PendingList.listing c.args.list.now in
     let l = limits_on c.args.words.now s in
     let n = c.args.irp in
@@ -129,7 +122,7 @@ returns-clause-steps g c =
 pub returns-clause-new : goal.returns-clause-new
 returns-clause-new g c =
     let old = c.args.seat.now in
-    let v = c.args.lives.now in
+    let v = c.args.kept.now in
     let s = g.L.PendingList.listing c.args.list.now in
     let l = limits_on c.args.words.now s in
     let n = c.args.irp in

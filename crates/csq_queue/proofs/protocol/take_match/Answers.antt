@@ -24,13 +24,13 @@ use Rattle.csq_queue.proofs.protocol.take_match.Goals as goal
 use Rattle.csq_queue.proofs.protocol.take_match.Goals.{After-remove}
 
 pub search-init : goal.search-init
-search-init g c = search_start c.args.words.now.table (limits_on c.args.words.now (g.L.PendingList.listing c.args.list.now)) (g.L.PendingList.listing c.args.list.now) c.args.lives.now c.args.peek c.args.seat.now c.requires.entered
+search-init g c = search_start c.args.words.now.table (limits_on c.args.words.now (g.L.PendingList.listing c.args.list.now)) (g.L.PendingList.listing c.args.list.now) c.args.kept.now c.args.peek c.args.seat.now c.requires.entered
 
 pub disarm-requires-clause-next : goal.disarm-requires-clause-next
 disarm-requires-clause-next g c =
     let l = limits_on c.args.words.now (g.L.PendingList.listing c.args.list.now) in
     let s = g.L.PendingList.listing c.search.list in
-    let v = c.args.lives.now in
+    let v = c.args.kept.now in
     let u = queue_of c.search.seat.queue in
     let x = c.search.invariant in
     let i = c.present-current.result in
@@ -40,13 +40,13 @@ disarm-requires-clause-next g c =
     (x.removes, next_match x (g.met.L.PendingList.sound c.search.list) i now (ap (λ (m : IrpId). Some m) named ∙ c.in-Some.ensures.found))
 
 -- the removal found the routine of the next match
-hit : (g : Over) (c : After-remove g) → ((marks : List IrpLife) × Adds (limits_on c.args.words.now (g.L.PendingList.listing c.args.list.now)) c.args.seat.now (RemoveNext c.args.peek (Some c.present-current.result) ∷ marked marks) (g.L.PendingList.listing c.remove.new.self) c.args.lives.now c.disarm.new.self)
+hit : (g : Over) (c : After-remove g) → ((marks : List IrpLife) × Adds (limits_on c.args.words.now (g.L.PendingList.listing c.args.list.now)) c.args.seat.now (RemoveNext c.args.peek (Some c.present-current.result) ∷ marked marks) (g.L.PendingList.listing c.remove.new.self) c.args.kept.now c.disarm.new.self)
     × MakesSteps (remove_next_steps c.args.peek (Some c.present-current.result) (queue_of c.args.seat.now.queue)) (joined_record c.args.seat.now) (joined_record c.disarm.new.self)
     × IsNew (limits_on c.args.words.now (g.L.PendingList.listing c.args.list.now)) (joined_record c.args.seat.now) c.present-current.result
 hit g c =
     let l = limits_on c.args.words.now (g.L.PendingList.listing c.args.list.now) in
     let s = g.L.PendingList.listing c.search.list in
-    let v = c.args.lives.now in
+    let v = c.args.kept.now in
     let z = c.search.seat in
     let i = c.present-current.result in
     let u = queue_of z.queue in
@@ -77,7 +77,7 @@ pub search-preserved : goal.search-preserved
 search-preserved g c =
     let l = limits_on c.args.words.now (g.L.PendingList.listing c.args.list.now) in
     let s = g.L.PendingList.listing c.search.list in
-    let v = c.args.lives.now in
+    let v = c.args.kept.now in
     let z = c.search.seat in
     let i = c.present-current.result in
     let u = queue_of z.queue in
@@ -101,7 +101,7 @@ pub returns-clause-adds : goal.returns-clause-adds
 returns-clause-adds g c =
     let l = limits_on c.args.words.now (g.L.PendingList.listing c.args.list.now) in
     let s = g.L.PendingList.listing c.search.list in
-    let v = c.args.lives.now in
+    let v = c.args.kept.now in
     let is : c.note.new.self ≡ with_made End 0 (RemoveNext c.args.peek None ∷ []) c.note.new.self.queue.run c.search.seat = c.note.ensures.noted in
     let end = search_end c.search.invariant c.note.new.self.queue.run (search rules) (subst (λ (z : QueueSeatState). SomeRunAgrees c.args.words.now.size z.queue (joined_record z)) is (c.note.new.self.queue.run, c.note.ensures.told.told)) in
     (end.0.0, subst (λ (z : QueueSeatState). Adds l c.args.seat.now (RemoveNext c.args.peek None ∷ marked end.0.0) s v z) (sym is) end.0.1)

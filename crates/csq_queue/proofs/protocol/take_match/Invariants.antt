@@ -6,7 +6,7 @@ use Rattle.csq_queue.proofs.protocol.take_match.Given as goal
 
 -- the matches that were passed are marked
 abbrev pub invariant-search : goal.invariant-search
-invariant-search g l = IsSearch (limits_on l.fn.words (g.L.PendingList.listing l.fn.list)) l.fn.seat l.peek l.after (g.L.PendingList.listing l.list) l.lives l.seat
+invariant-search g l = IsSearch (limits_on l.fn.words (g.L.PendingList.listing l.fn.list)) l.fn.seat l.peek l.after (g.L.PendingList.listing l.list) l.kept l.seat
 
 -- and each look comes nearer to the list's end
 abbrev pub decreases-search : goal.decreases-search

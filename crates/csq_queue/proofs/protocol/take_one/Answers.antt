@@ -26,9 +26,9 @@ use Rattle.csq_queue.proofs.protocol.take_one.Goals.{After-remove}
 pub note-requires-clause-may : goal.note-requires-clause-may
 note-requires-clause-may g c =
     let s = g.L.PendingList.listing c.args.list.now in
-    let v = c.args.lives.now in
+    let v = c.args.kept.now in
     let i = c.args.irp in
-    let away : (is_listed s.entries i.irp && (slice_index v i.irp.0 == life_of i)) ≡ false = sym c.is_here.ensures ∙ c.if-not-is_here.true in (
+    let away : (is_listed s.entries i.irp && (slice_index v.lives i.irp.0 == life_of i)) ≡ false = sym c.is_here.ensures ∙ c.if-not-is_here.true in (
       removes c.requires.entered i,
       one_absent c.requires.entered i (one_away c.requires.entered i (g.met.L.PendingList.sound c.args.list.now) away),
     )
@@ -37,10 +37,10 @@ pub returns-then-not-is_here-clause-adds : goal.returns-then-not-is_here-clause-
 returns-then-not-is_here-clause-adds g c =
     let l = limits_on c.args.words.now (g.L.PendingList.listing c.args.list.now) in
     let s = g.L.PendingList.listing c.args.list.now in
-    let v = c.args.lives.now in
+    let v = c.args.kept.now in
     let z = c.args.seat.now in
     let i = c.args.irp in
-    let away : (is_listed s.entries i.irp && (slice_index v i.irp.0 == life_of i)) ≡ false = sym c.is_here.ensures ∙ c.if-not-is_here.true in
+    let away : (is_listed s.entries i.irp && (slice_index v.lives i.irp.0 == life_of i)) ≡ false = sym c.is_here.ensures ∙ c.if-not-is_here.true in
     let is : c.note.new.self ≡ with_made End 0 (Remove i false ∷ []) c.note.new.self.queue.run z = c.note.ensures.noted in
     let end = one_none c.requires.entered i c.note.new.self.queue.run (one_away c.requires.entered i (g.met.L.PendingList.sound c.args.list.now) away) (subst (λ (y : QueueSeatState). SomeRunAgrees c.args.words.now.size y.queue (joined_record y)) is (c.note.new.self.queue.run, c.note.ensures.told.told)) in
     ([], subst (λ (y : QueueSeatState). Adds l z (Remove i false ∷ []) s v y) (sym is) end.0)
@@ -48,10 +48,10 @@ returns-then-not-is_here-clause-adds g c =
 pub returns-then-not-is_here-clause-steps : goal.returns-then-not-is_here-clause-steps
 returns-then-not-is_here-clause-steps g c =
     let s = g.L.PendingList.listing c.args.list.now in
-    let v = c.args.lives.now in
+    let v = c.args.kept.now in
     let z = c.args.seat.now in
     let i = c.args.irp in
-    let away : (is_listed s.entries i.irp && (slice_index v i.irp.0 == life_of i)) ≡ false = sym c.is_here.ensures ∙ c.if-not-is_here.true in
+    let away : (is_listed s.entries i.irp && (slice_index v.lives i.irp.0 == life_of i)) ≡ false = sym c.is_here.ensures ∙ c.if-not-is_here.true in
     let is : c.note.new.self ≡ with_made End 0 (Remove i false ∷ []) c.note.new.self.queue.run z = c.note.ensures.noted in
     let end = one_none c.requires.entered i c.note.new.self.queue.run (one_away c.requires.entered i (g.met.L.PendingList.sound c.args.list.now) away) (subst (λ (y : QueueSeatState). SomeRunAgrees c.args.words.now.size y.queue (joined_record y)) is (c.note.new.self.queue.run, c.note.ensures.told.told)) in
     subst (λ (y : QueueSeatState). MakesSteps (remove_steps i None (queue_of z.queue)) (joined_record z) (joined_record y)) (sym is) end.1
@@ -63,12 +63,12 @@ disarm-requires-clause-next g c =
     (refl, removes c.requires.entered i, one_listed c.requires.entered i here.1 here.0)
 
 -- the removal found its routine
-hit : (g : Over) (c : After-remove g) → Adds (limits_on c.args.words.now (g.L.PendingList.listing c.args.list.now)) c.args.seat.now (Remove c.args.irp true ∷ []) (g.L.PendingList.listing c.remove.new.self) c.args.lives.now c.disarm.new.self
+hit : (g : Over) (c : After-remove g) → Adds (limits_on c.args.words.now (g.L.PendingList.listing c.args.list.now)) c.args.seat.now (Remove c.args.irp true ∷ []) (g.L.PendingList.listing c.remove.new.self) c.args.kept.now c.disarm.new.self
     × MakesSteps (remove_steps c.args.irp (Some c.args.irp) (queue_of c.args.seat.now.queue)) (joined_record c.args.seat.now) (joined_record c.disarm.new.self)
     × IsNew (limits_on c.args.words.now (g.L.PendingList.listing c.args.list.now)) (joined_record c.args.seat.now) c.args.irp
 hit g c =
     let l = limits_on c.args.words.now (g.L.PendingList.listing c.args.list.now) in
-    let v = c.args.lives.now in
+    let v = c.args.kept.now in
     let z = c.args.seat.now in
     let i = c.args.irp in
     let sound = g.met.L.PendingList.sound c.args.list.now in
@@ -101,7 +101,7 @@ pub returns-clause-adds : goal.returns-clause-adds
 returns-clause-adds g c =
     let l = limits_on c.args.words.now (g.L.PendingList.listing c.args.list.now) in
     let s = g.L.PendingList.listing c.args.list.now in
-    let v = c.args.lives.now in
+    let v = c.args.kept.now in
     let z = c.args.seat.now in
     let i = c.args.irp in
     let is : c.disarm.new.self ≡ with_made (Disarm i) 0 (due_mark i (queue_of c.args.seat.now.queue)) c.disarm.new.self.queue.run c.args.seat.now = c.disarm.ensures.step ∙ ap (λ w. with_view (after_step (RemoveCall i) (Disarm i) w (with_run c.disarm.new.self.queue.run c.args.seat.now.queue) (joined_record c.args.seat.now)) c.args.seat.now) (c.is_set.ensures.clear c.if-is_set.false) in

@@ -40,7 +40,7 @@ remove-requires g c = owed_is_listed c.requires.entered c.args.irp c.requires.ow
 
 pub returns-clause-adds : goal.returns-clause-adds
 returns-clause-adds g c =
-    let v = c.args.lives.now in
+    let v = c.args.kept.now in
     let new = Out c.args.irp ∷ due_mark c.args.irp (queue_of c.args.seat.now.queue) in
     let is = noted g c in
     let out = owed_out c.requires.entered c.args.irp c.note.new.self.queue.run c.requires.owed (subst (λ (z : QueueSeatState). SomeRunAgrees c.args.words.now.size z.queue (joined_record z)) is (c.note.new.self.queue.run, c.note.ensures.told.told)) in

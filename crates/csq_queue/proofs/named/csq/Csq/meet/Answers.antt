@@ -1,5 +1,6 @@
+use Rattle.irp_core.specs.declared.inside.Inside.TheVariants as inner
 use Rattle.csq_words.specs.History.{IsExtendedBy}
-use Rattle.std.proofs.Common.{◌≡◌, false, sym, subst, ◌∙◌, rules}
+use Rattle.std.proofs.Common.{◌≡◌, sym, subst, ◌∙◌, rules}
 use Rattle.csq_words.specs.Rule.{IsHistoryOf}
 use Rattle.csq_words.proofs.Facts.{extended_on}
 use Rattle.csq_queue.specs.Named.{queue_size}
@@ -10,8 +11,8 @@ pub catch_up-requires-clause-agrees : goal.catch_up-requires-clause-agrees
 catch_up-requires-clause-agrees g c =
     let open' : c.behind-locked-3.inside.open ≡ c.show-2.new.self = search rules in
     let limits : c.behind-locked-2.inside.open.limits ≡ c.behind-locked-3.inside.open.limits = search rules in
-    subst (λ (z : OpenState). IsHistoryOf (queue_size c.behind-locked-3.inside.open.limits) z.queue.run z.queue (λ i. false)) (sym open')
-    (subst (λ l. IsHistoryOf (queue_size l) c.show-2.new.self.queue.run c.show-2.new.self.queue (λ i. false)) limits c.show-2.ensures.agrees)
+    subst (λ (z : OpenState). IsHistoryOf (queue_size c.behind-locked-3.inside.open.limits) z.queue.run z.queue inner.Nothing) (sym open')
+    (subst (λ l. IsHistoryOf (queue_size l) c.show-2.new.self.queue.run c.show-2.new.self.queue inner.Nothing) limits c.show-2.ensures.agrees)
 
 pub returns-clause-one_follows : goal.returns-clause-one_follows
 returns-clause-one_follows g c =

@@ -36,7 +36,7 @@ overflow_add-pass g c =
     let new : has_life (held_list r.steps) c.args.irp.irp ≡ false = owed_no_other _ _ r c.args.irp c.enter.ensures.told owed in
     let room = out_room c.args.words.now.size.irps r.pass c.args.irp r.steps c.take_owed.ensures.known owed new p.held_apart p.owed_apart in
     let tokens = p.tokens_are in
-    let most = (on_words c.args.words.now (g.L.PendingList.listing c.self.inside.list) c.self.inside.seat c.self.inside.back.items c.args.self.now c.self.view_is c.requires.queue c.self.inside.lives c.self.invariant).most in
+    let most = (on_words c.args.words.now (g.L.PendingList.listing c.self.inside.list) c.self.inside.seat c.self.inside.back.items c.args.self.now c.self.view_is c.requires.queue c.self.inside.kept c.self.invariant).most in
     omega arith
 
 pub invariant_of-pass : goal.invariant_of-pass
@@ -78,7 +78,7 @@ returns-clause-call g c =
     record {
       call = subst (λ (u : QueueState). AddsEvents c.args.self.now.limits c.args.self.now.queue.history c.args.pass.now.pass (pass_record c.leave.new.pass) (Out i ∷ due_mark i u)) queue_is
           (own_adds c.args.words.now (g.L.PendingList.listing c.self.inside.list) c.self.inside.seat c.self.inside.back.items c.args.self.now c.self.view_is c.requires.queue
-          c.args.pass.now.pass (pass_record c.leave.new.pass) c.enter.new.self c.take_owed.new.seat (search rules) (search rules) (search rules) c.leave.ensures.run _ _ _ c.take_owed.ensures.adds);
+          c.args.pass.now.pass (pass_record c.leave.new.pass) c.enter.new.self c.take_owed.new.seat (search rules) (search rules) (search rules) c.leave.ensures.run (search rules) _ _ _ c.take_owed.ensures.adds);
       step = search rules;
       token = out_holds c.args.self.now.limits i r (pass_record c.leave.new.pass) (subst (λ (z : Size). number i < z.irps) (sym c.requires.queue.size) c.take_owed.ensures.known) steps;
       cancelled = ap (λ m. removed_in m i) steps ∙ owed_not_removed _ _ r i c.enter.ensures.told owed;

@@ -22,7 +22,7 @@ pub invariant_of-self : goal.invariant_of-self
 invariant_of-self g c =
     let w = c.args.words.now in
     let s = g.L.PendingList.listing c.self.inside.list in
-    let was = on_words w s c.self.inside.seat c.self.inside.back.items c.args.self.now c.self.view_is c.requires.queue c.self.inside.lives c.self.invariant in
+    let was = on_words w s c.self.inside.seat c.self.inside.back.items c.args.self.now c.self.view_is c.requires.queue c.self.inside.kept c.self.invariant in
     let p = pass_on c.pass.inside.seat c.pass.inside.irps c.pass.inside.passes c.pass.inside.number c.pass.inside.tokens c.pass.inside.claims w c.args.pass c.pass.view_is c.requires.pass c.pass.invariant.0 in
     let flags = slice_set c.self.inside.back.items (c.pass.inside.number - 1) true in
     let back = c.self.inside.seat.queue.back in
@@ -30,7 +30,7 @@ invariant_of-self g c =
     let more = flags_more c.self.inside.back.items w.size.passes c.pass.inside.number r back p.pass_is p.from p.to was.flags_are in
     let noted : c.note.new.self.queue.back ≡ r ∷ back = search rules in
     let is : c.receipt.new.self.queue.back ≡ r ∷ back = ap (λ z. z.queue.back) c.receipt.ensures.same ∙ noted in
-    let now : IsOpenOn w s s c.self.inside.lives c.receipt.new.self flags = record {
+    let now : IsOpenOn w s s c.self.inside.kept c.receipt.new.self flags = record {
       here = search rules;
       alone = search rules;
       legal = search rules;
@@ -43,4 +43,4 @@ invariant_of-self g c =
       most = was.most;
       flags_are = subst (λ (z : List PassRecord). AreFlags flags w.size.passes z) (sym is) more;
     } in
-    own_words w.table (limits_on w s) s c.self.inside.lives c.receipt.new.self flags now
+    own_words w.table (limits_on w s) s c.self.inside.kept c.receipt.new.self flags now

@@ -30,24 +30,24 @@ overflow_add-pass g c =
     let w = c.args.words.now in
     let s = g.L.PendingList.listing c.self.inside.list in
     let p = pass_on c.pass.inside.seat c.pass.inside.irps c.pass.inside.passes c.pass.inside.number c.pass.inside.tokens c.pass.inside.claims w c.args.pass.now c.pass.view_is c.requires.pass c.pass.invariant.0 in
-    let most = (on_words w s c.self.inside.seat c.self.inside.back.items c.args.self.now c.self.view_is c.requires.queue c.self.inside.lives c.self.invariant).most in
+    let most = (on_words w s c.self.inside.seat c.self.inside.back.items c.args.self.now c.self.view_is c.requires.queue c.self.inside.kept c.self.invariant).most in
     let gives = insert_gives (limits_on w s) c.list_irp-inserted.result (end_of w.size.first c.list_irp-inserted.new.seat.queue.history) (joined_record c.enter.new.self) (joined_record c.list_irp-inserted.new.seat) c.list_irp-inserted.ensures.steps c.list_irp-inserted.ensures.new in
     let room = room_for (limits_on w s) (given_in c.list_irp-inserted.result) false c.enter.new.self c.list_irp-inserted.new.seat c.pass.inside.tokens c.count_cancelled-cancelled.result c.count_cancelled-cancelled.ensures gives
     (pass_record c.pass.inside.seat) (ap joined_record c.enter.ensures.joined) p.tokens_are p.held_apart in
     omega arith
 
 -- the events of an insert, as its pass sees them
-adds : (g : Over) (c : After-leave g) (events : List Event) → Adds (limits_on c.args.words.now (g.L.PendingList.listing c.self.inside.list)) c.enter.new.self events (g.L.PendingList.listing c.list_irp-inserted.new.list) c.self.inside.lives c.list_irp-inserted.new.seat
+adds : (g : Over) (c : After-leave g) (events : List Event) → Adds (limits_on c.args.words.now (g.L.PendingList.listing c.self.inside.list)) c.enter.new.self events (g.L.PendingList.listing c.list_irp-inserted.new.list) c.list_irp-inserted.new.kept c.list_irp-inserted.new.seat
     → AddsEvents c.args.self.now.limits c.args.self.now.queue.history c.args.pass.now.pass (pass_record c.leave.new.pass) events
 adds g c events a =
     own_adds c.args.words.now (g.L.PendingList.listing c.self.inside.list) c.self.inside.seat c.self.inside.back.items c.args.self.now c.self.view_is c.requires.queue
     c.args.pass.now.pass (pass_record c.leave.new.pass) c.enter.new.self c.list_irp-inserted.new.seat (search rules)
-    (subst (λ (z : OpenPassState). SomeRunAgrees c.args.words.now.size c.self.inside.seat.queue z.pass) c.pass.view_is c.enter.ensures.told) (search rules) c.leave.ensures.run events (g.L.PendingList.listing c.list_irp-inserted.new.list) c.self.inside.lives a
+    (subst (λ (z : OpenPassState). SomeRunAgrees c.args.words.now.size c.self.inside.seat.queue z.pass) c.pass.view_is c.enter.ensures.told) (search rules) c.leave.ensures.run (search rules) events (g.L.PendingList.listing c.list_irp-inserted.new.list) c.list_irp-inserted.new.kept a
 
 -- what is told of an accepted insert, of the queue that it was made of
 abbrev Accepted : (g : Over) (c : After-leave g) → QueueState → Type 0
 Accepted g c u = IfOk c.list_irp-inserted.result (λ inserted. (events : List Event) × IsInsert (current u c.args.irp) c.args.file c.args.place inserted events
-    × Adds (limits_on c.args.words.now (g.L.PendingList.listing c.self.inside.list)) c.enter.new.self events (g.L.PendingList.listing c.list_irp-inserted.new.list) c.self.inside.lives c.list_irp-inserted.new.seat)
+    × Adds (limits_on c.args.words.now (g.L.PendingList.listing c.self.inside.list)) c.enter.new.self events (g.L.PendingList.listing c.list_irp-inserted.new.list) c.list_irp-inserted.new.kept c.list_irp-inserted.new.seat)
 
 -- an accepted insert, as its pass sees it
 accepted : (g : Over) (c : After-leave g) → IfOk c.list_irp-inserted.result (λ inserted. (events : List Event) × IsInsert (current (end_of c.args.self.now.limits.first c.args.self.now.queue.history) c.args.irp) c.args.file c.args.place inserted events
@@ -62,7 +62,7 @@ accepted g c = go c.list_irp-inserted.result (subst (λ (u : QueueState). Accept
 
     go : (answer : Result (InsertAnswer IrpLife IrpLife) InsertStatus)
         → IfOk answer (λ inserted. (events : List Event) × IsInsert (current now c.args.irp) c.args.file c.args.place inserted events
-        × Adds (limits_on c.args.words.now (g.L.PendingList.listing c.self.inside.list)) c.enter.new.self events (g.L.PendingList.listing c.list_irp-inserted.new.list) c.self.inside.lives c.list_irp-inserted.new.seat)
+        × Adds (limits_on c.args.words.now (g.L.PendingList.listing c.self.inside.list)) c.enter.new.self events (g.L.PendingList.listing c.list_irp-inserted.new.list) c.list_irp-inserted.new.kept c.list_irp-inserted.new.seat)
         → IfOk answer (λ inserted. (events : List Event) × IsInsert (current now c.args.irp) c.args.file c.args.place inserted events × AddsEvents c.args.self.now.limits c.args.self.now.queue.history c.args.pass.now.pass (pass_record c.leave.new.pass) events)
     go (Ok inserted) h = (h.0, h.1, adds g c h.0 h.2)
     go (Err cause) h = h
@@ -75,7 +75,7 @@ refused g c = go c.list_irp-inserted.result c.list_irp-inserted.ensures.refused
     went cause = Insert c.args.irp c.args.file c.args.place (Refused cause) ∷ []
 
     go : (answer : Result (InsertAnswer IrpLife IrpLife) InsertStatus)
-        → IfErr answer (λ cause. Adds (limits_on c.args.words.now (g.L.PendingList.listing c.self.inside.list)) c.enter.new.self (went cause) (g.L.PendingList.listing c.list_irp-inserted.new.list) c.self.inside.lives c.list_irp-inserted.new.seat)
+        → IfErr answer (λ cause. Adds (limits_on c.args.words.now (g.L.PendingList.listing c.self.inside.list)) c.enter.new.self (went cause) (g.L.PendingList.listing c.list_irp-inserted.new.list) c.list_irp-inserted.new.kept c.list_irp-inserted.new.seat)
         → IfErr answer (λ cause. AddsEvents c.args.self.now.limits c.args.self.now.queue.history c.args.pass.now.pass (pass_record c.leave.new.pass) (went cause))
     go (Ok inserted) h = h
     go (Err cause) h = adds g c (went cause) h

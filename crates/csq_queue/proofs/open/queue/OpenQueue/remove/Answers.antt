@@ -19,7 +19,7 @@ overflow_add-pass g c =
     let w = c.args.words.now in
     let s = g.L.PendingList.listing c.self.inside.list in
     let p = pass_on c.pass.inside.seat c.pass.inside.irps c.pass.inside.passes c.pass.inside.number c.pass.inside.tokens c.pass.inside.claims w c.args.pass.now c.pass.view_is c.requires.pass c.pass.invariant.0 in
-    let most = (on_words w s c.self.inside.seat c.self.inside.back.items c.args.self.now c.self.view_is c.requires.queue c.self.inside.lives c.self.invariant).most in
+    let most = (on_words w s c.self.inside.seat c.self.inside.back.items c.args.self.now c.self.view_is c.requires.queue c.self.inside.kept c.self.invariant).most in
     let gives = remove_gives (limits_on w s) c.args.irp c.take_one-taken.result (queue_of c.enter.new.self.queue) (joined_record c.enter.new.self) (joined_record c.take_one-taken.new.seat) c.take_one-taken.ensures.steps c.take_one-taken.ensures.new in
     let room = room_for (limits_on w s) c.take_one-taken.result true c.enter.new.self c.take_one-taken.new.seat c.pass.inside.tokens c.count.result c.count.ensures gives
     (pass_record c.pass.inside.seat) (ap joined_record c.enter.ensures.joined) p.tokens_are p.held_apart in
@@ -44,7 +44,7 @@ returns-clause-call g c = record {
   call = (
     c.take_one-taken.ensures.adds.0,
     own_adds c.args.words.now (g.L.PendingList.listing c.self.inside.list) c.self.inside.seat c.self.inside.back.items c.args.self.now c.self.view_is c.requires.queue
-        c.args.pass.now.pass (pass_record c.leave.new.pass) c.enter.new.self c.take_one-taken.new.seat (search rules) (search rules) (search rules) c.leave.ensures.run _ _ _ c.take_one-taken.ensures.adds.1,
+        c.args.pass.now.pass (pass_record c.leave.new.pass) c.enter.new.self c.take_one-taken.new.seat (search rules) (search rules) (search rules) c.leave.ensures.run (search rules) _ _ _ c.take_one-taken.ensures.adds.1,
   );
   steps = made g c;
   new = new_to_it g c;

@@ -17,7 +17,7 @@ returns-clause-call g c = record { known = search rules; unknown = search rules;
     adds : AddsEvents c.args.self.now.limits c.args.self.now.queue.history c.args.pass.now.pass (pass_record c.leave.new.pass) (reuse_events c.args.irp c.renew_irp-life.result)
     adds =
         own_adds c.args.words.now (g.L.PendingList.listing c.self.inside.list) c.self.inside.seat c.self.inside.back.items c.args.self.now c.self.view_is c.requires.queue
-        c.args.pass.now.pass (pass_record c.leave.new.pass) c.enter.new.self c.renew_irp-life.new.seat (search rules) (search rules) (search rules) c.leave.ensures.run _ _ _ c.renew_irp-life.ensures.adds
+        c.args.pass.now.pass (pass_record c.leave.new.pass) c.enter.new.self c.renew_irp-life.new.seat (search rules) (search rules) (search rules) c.leave.ensures.run (search rules) _ _ _ c.renew_irp-life.ensures.adds
 
     refused : IfErr c.renew_irp-life.result (IsReuseRefusal (current (end_of c.args.self.now.limits.first (pass_record c.leave.new.pass).seen) c.args.irp) c.args.pass.now.pass (pass_record c.leave.new.pass))
     refused =

@@ -33,7 +33,7 @@ returns g c = record {
       subst (λ (r : Result (InsertAnswer IrpLife IrpLife) InsertStatus). IfOk r (λ inserted. (events : List Event) × IsInsert (current (end_of l.first history) c.args.irp) c.args.file c.args.place inserted events × AddsEvents l history old new events))
       answer c.insert.ensures.call.1.accepted in
       let steps = ap (λ (r : PassRecord). r.steps) met.one_kept in
-      let own' = met.one_sees.pass_is.steps_is in
+      let own' = met.one_sees.agrees.pass_is.steps_is in
       let seen : flagged c.meet.new.one.run i ≡ true = flagged_own c.meet.new.one.pass c.meet.new.one.run i (ap (λ s. flagged s i) (sym own' ∙ steps) ∙ was) in
-      pending_taken (queue_size l) i old new made.pass (ap (λ run. flagged run i) (sym met.run) ∙ seen) told.2.follows met.other_sees.pass_is.steps_is told.2.sees made.steps;
+      pending_taken (queue_size l) i old new made.pass (ap (λ run. flagged run i) (sym met.run) ∙ seen) told.2.follows met.other_sees.agrees.pass_is.steps_is told.2.sees made.steps;
 }

@@ -7,7 +7,7 @@ use Rattle.csq_words.specs.Records.{with_shown}
 use Rattle.csq_words.proofs.Indexes.{at_below}
 use Rattle.csq_queue.specs.Opens.{OpenState}
 use Rattle.csq_queue.proofs.Backing.{seen_more}
-use Rattle.csq_queue.proofs.named.csq.see.Goals as goal
+use Rattle.csq_queue.proofs.back.see.Goals as goal
 
 pub receipts-preserved : goal.receipts-preserved
 receipts-preserved g c =
