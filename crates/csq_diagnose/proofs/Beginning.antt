@@ -1,7 +1,7 @@
 -- The beginnings that a line may have.
 use Rattle.std.proofs.Common.{◌≡◌, ℕ, List, [], ◌∷◌, refl, ap, sym, ◌∙◌, inl, inr, codes, subst}
 use Rattle.irp_core.specs.declared.step.Kind.{Kind}
-use Rattle.irp_core.specs.declared.step.Kind.TheVariants.{Arm, Test, Disarm, End, Flag, Take, Out, Done, Renew}
+use Rattle.irp_core.specs.declared.step.Kind.TheVariants.{Arm, Test, Disarm, End, Flag, Take, Out, Done, Renew, Rearm}
 use Rattle.csq_list.specs.declared.entry.Place.TheVariants.{Back, Front}
 use Rattle.csq_list.specs.declared.entry.Peek.TheVariants.{Any, File as OfFile}
 use Rattle.irp_core.specs.declared.ids.IrpLife.{IrpLife}
@@ -28,6 +28,7 @@ kind_fits (Take i) rest (names, is, (word, one, n)) = (codes "take", names, is, 
 kind_fits (Out i) rest (names, is, (word, one, n)) = (codes "out", names, is, inr (inr (inr (inr (inr (inr (inl refl)))))), subst (λ ws. Fit (IrpInLife ∷ []) ws) (sym one) ((i, n), tt))
 kind_fits (Done i) rest (names, is, (word, one, n)) = (codes "done", names, is, inr (inr (inr (inr (inr (inr (inr (inl refl))))))), subst (λ ws. Fit (IrpInLife ∷ []) ws) (sym one) ((i, n), tt))
 kind_fits (Renew i) rest (names, is, (word, one, n)) = (codes "renew", names, is, inr (inr (inr (inr (inr (inr (inr (inr (inl refl)))))))), subst (λ ws. Fit (IrpInLife ∷ []) ws) (sym one) ((i, n), tt))
+kind_fits (Rearm i) rest (names, is, (word, one, n)) = (codes "rearm", names, is, inr (inr (inr (inr (inr (inr (inr (inr (inr (inl refl))))))))), subst (λ ws. Fit (IrpInLife ∷ []) ws) (sym one) ((i, n), tt))
 
 -- words that fit one IRP name it
 one_irp : (more : List (List ℕ)) → Fit (IrpInLife ∷ []) more → (i : IrpLife) × (word : List ℕ) × (more ≡ word ∷ []) × IsNameWord word i
@@ -50,7 +51,8 @@ kind_named verb more (inr (inr (inr (inr (inr (inl e)))))) f = let n = one_irp m
 kind_named verb more (inr (inr (inr (inr (inr (inr (inl e))))))) f = let n = one_irp more (subst (λ v. Fit (named v) more) e f) in (Out n.0, (more, ap (λ v. v ∷ more) e, (n.1, n.2, n.3)))
 kind_named verb more (inr (inr (inr (inr (inr (inr (inr (inl e)))))))) f = let n = one_irp more (subst (λ v. Fit (named v) more) e f) in (Done n.0, (more, ap (λ v. v ∷ more) e, (n.1, n.2, n.3)))
 kind_named verb more (inr (inr (inr (inr (inr (inr (inr (inr (inl e))))))))) f = let n = one_irp more (subst (λ v. Fit (named v) more) e f) in (Renew n.0, (more, ap (λ v. v ∷ more) e, (n.1, n.2, n.3)))
-kind_named verb more (inr (inr (inr (inr (inr (inr (inr (inr (inr x))))))))) f = absurd x
+kind_named verb more (inr (inr (inr (inr (inr (inr (inr (inr (inr (inl e)))))))))) f = let n = one_irp more (subst (λ v. Fit (named v) more) e f) in (Rearm n.0, (more, ap (λ v. v ∷ more) e, (n.1, n.2, n.3)))
+kind_named verb more (inr (inr (inr (inr (inr (inr (inr (inr (inr (inr x)))))))))) f = absurd x
 
 -- the words of a step fit its places
 pub step_fits : (ws : List (List ℕ)) → AreLineWords Schedule ws → Fit (places_of Schedule ws) ws
@@ -84,6 +86,7 @@ call_fits (call.Cleanup f) name rest (e, (word, is, n)) = subst (λ v. IsOneOf c
 call_fits (call.Flag i) name rest (e, (word, is, n)) = subst (λ v. IsOneOf call_words v × Fit (operands v) rest) (sym e) (inr (inr (inr (inr (inr (inr (inr (inr (inr (inl refl))))))))), subst (λ ws. Fit (Irp ∷ []) ws) (sym is) ((i.0, n), tt))
 call_fits (call.Status i) name rest (e, (word, is, n)) = subst (λ v. IsOneOf call_words v × Fit (operands v) rest) (sym e) (inr (inr (inr (inr (inr (inr (inr (inr (inr (inr (inl refl)))))))))), subst (λ ws. Fit (Irp ∷ []) ws) (sym is) ((i.0, n), tt))
 call_fits (call.Reuse i) name rest (e, (word, is, n)) = subst (λ v. IsOneOf call_words v × Fit (operands v) rest) (sym e) (inr (inr (inr (inr (inr (inr (inr (inr (inr (inr (inr (inl refl))))))))))), subst (λ ws. Fit (Irp ∷ []) ws) (sym is) ((i.0, n), tt))
+call_fits (call.PutBack i place) name rest (e, (irp, is, n)) = subst (λ v. IsOneOf call_words v × Fit (operands v) rest) (sym e) (inr (inr (inr (inr (inr (inr (inr (inr (inr (inr (inr (inr (inl refl)))))))))))), subst (λ ws. Fit (Irp ∷ Place ∷ []) ws) (sym is) ((i.0, n), (place_fits place, tt)))
 
 -- words that fit one number name it
 one_number : (e : Expected) → ((w : List ℕ) → Admits e w → (n : ℕ) × IsNumber w n) → (rest : List (List ℕ)) → Fit (e ∷ []) rest → (n : ℕ) × (word : List ℕ) × (rest ≡ word ∷ []) × IsNumber word n
@@ -118,6 +121,17 @@ complete_named (a ∷ []) f = absurd f.1
 complete_named (a ∷ b ∷ x ∷ more) f = absurd f.1.1
 complete_named (a ∷ b ∷ []) f = (call.Complete (record { 0 = f.0.0 }) f.1.0.0, (refl, (a, b, refl, f.0.1, f.1.0.1)))
 
+put_back_named : (rest : List (List ℕ)) → Fit (Irp ∷ Place ∷ []) rest → (c : CallOf) × IsNamed (codes "put_back") rest c
+put_back_named [] f = absurd f
+put_back_named (a ∷ []) f = absurd f.1
+put_back_named (a ∷ b ∷ x ∷ more) f = absurd f.1.1
+put_back_named (a ∷ b ∷ []) f = go f.1.0
+  where
+    go : Admits Place b → (c : CallOf) × IsNamed (codes "put_back") (a ∷ b ∷ []) c
+    go (inl e) = (call.PutBack (record { 0 = f.0.0 }) Back, (refl, (a, ap (λ w. a ∷ w ∷ []) e, f.0.1)))
+    go (inr (inl e)) = (call.PutBack (record { 0 = f.0.0 }) Front, (refl, (a, ap (λ w. a ∷ w ∷ []) e, f.0.1)))
+    go (inr (inr none)) = absurd none
+
 -- operands that fit name a call
 call_named : (name : List ℕ) (rest : List (List ℕ)) → IsOneOf call_words name → Fit (operands name) rest → (c : CallOf) × IsNamed name rest c
 call_named name rest (inl e) f = let c = insert_named rest (subst (λ v. Fit (operands v) rest) e f) in (c.0, subst (λ v. IsNamed v rest c.0) (sym e) c.1)
@@ -132,7 +146,8 @@ call_named name rest (inr (inr (inr (inr (inr (inr (inr (inr (inl e))))))))) f =
 call_named name rest (inr (inr (inr (inr (inr (inr (inr (inr (inr (inl e)))))))))) f = let n = one_number Irp (λ w a. a) rest (subst (λ v. Fit (operands v) rest) e f) in (call.Flag (record { 0 = n.0 }), (e, (n.1, n.2, n.3)))
 call_named name rest (inr (inr (inr (inr (inr (inr (inr (inr (inr (inr (inl e))))))))))) f = let n = one_number Irp (λ w a. a) rest (subst (λ v. Fit (operands v) rest) e f) in (call.Status (record { 0 = n.0 }), (e, (n.1, n.2, n.3)))
 call_named name rest (inr (inr (inr (inr (inr (inr (inr (inr (inr (inr (inr (inl e)))))))))))) f = let n = one_number Irp (λ w a. a) rest (subst (λ v. Fit (operands v) rest) e f) in (call.Reuse (record { 0 = n.0 }), (e, (n.1, n.2, n.3)))
-call_named name rest (inr (inr (inr (inr (inr (inr (inr (inr (inr (inr (inr (inr x)))))))))))) f = absurd x
+call_named name rest (inr (inr (inr (inr (inr (inr (inr (inr (inr (inr (inr (inr (inl e))))))))))))) f = let c = put_back_named rest (subst (λ v. Fit (operands v) rest) e f) in (c.0, subst (λ v. IsNamed v rest c.0) (sym e) c.1)
+call_named name rest (inr (inr (inr (inr (inr (inr (inr (inr (inr (inr (inr (inr (inr x))))))))))))) f = absurd x
 
 -- the words of a call fit its places
 pub call_line_fits : (ws : List (List ℕ)) → AreLineWords Script ws → Fit (places_of Script ws) ws

@@ -94,10 +94,12 @@ fillable_operands name =
     let is = λ (word : List ℕ). bytes_eq name word in
     let numbers = if is (codes "close") || is (codes "cleanup") then File ∷ [] else Irp ∷ [] in
     let lives = if is (codes "remove") || is (codes "mark") || is (codes "cancel") then IrpInLife ∷ [] else numbers in
-    let statuses = if is (codes "complete") then Irp ∷ Status ∷ [] else lives in
+    let places = if is (codes "put_back") then Irp ∷ Place ∷ [] else lives in
+    let statuses = if is (codes "complete") then Irp ∷ Status ∷ [] else places in
     let peeks = if is (codes "next") then Peek ∷ [] else statuses in
     fillable_if (is (codes "insert")) (Irp ∷ File ∷ Place ∷ []) peeks (irp_sample, (irp_sample, (inl refl, tt)))
     (fillable_if (is (codes "next")) (Peek ∷ []) statuses (inl refl, tt)
-    (fillable_if (is (codes "complete")) (Irp ∷ Status ∷ []) lives (irp_sample, (status_sample, tt))
+    (fillable_if (is (codes "complete")) (Irp ∷ Status ∷ []) places (irp_sample, (status_sample, tt))
+    (fillable_if (is (codes "put_back")) (Irp ∷ Place ∷ []) lives (irp_sample, (inl refl, tt))
     (fillable_if (is (codes "remove") || is (codes "mark") || is (codes "cancel")) (IrpInLife ∷ []) numbers (life_sample, tt)
-    (fillable_if (is (codes "close") || is (codes "cleanup")) (File ∷ []) (Irp ∷ []) (irp_sample, tt) (irp_sample, tt)))))
+    (fillable_if (is (codes "close") || is (codes "cleanup")) (File ∷ []) (Irp ∷ []) (irp_sample, tt) (irp_sample, tt))))))

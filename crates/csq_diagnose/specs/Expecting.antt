@@ -13,17 +13,17 @@ use Rattle.csq_diagnose.specs.declared.expected.Expected.TheVariants.{Pass, Step
 
 -- the words that begin a step, behind its pass
 abbrev pub step_words : List (List ℕ)
-step_words = codes "arm" ∷ codes "test" ∷ codes "disarm" ∷ codes "end" ∷ codes "flag" ∷ codes "take" ∷ codes "out" ∷ codes "done" ∷ codes "renew" ∷ []
+step_words = codes "arm" ∷ codes "test" ∷ codes "disarm" ∷ codes "end" ∷ codes "flag" ∷ codes "take" ∷ codes "out" ∷ codes "done" ∷ codes "renew" ∷ codes "rearm" ∷ []
 
 -- the words that begin a call
 abbrev pub call_words : List (List ℕ)
-call_words = codes "insert" ∷ codes "next" ∷ codes "remove" ∷ codes "mark" ∷ codes "routine" ∷ codes "cancel" ∷ codes "complete" ∷ codes "close" ∷ codes "cleanup" ∷ codes "flag" ∷ codes "status" ∷ codes "reuse" ∷ []
+call_words = codes "insert" ∷ codes "next" ∷ codes "remove" ∷ codes "mark" ∷ codes "routine" ∷ codes "cancel" ∷ codes "complete" ∷ codes "close" ∷ codes "cleanup" ∷ codes "flag" ∷ codes "status" ∷ codes "reuse" ∷ codes "put_back" ∷ []
 
 -- whether a word begins a call
 abbrev pub is_call_word : List ℕ → Bool
 is_call_word word = list_any (λ one. bytes_eq one word) call_words
 
--- where an insert puts its IRP
+-- where an insert or a put-back puts its IRP
 abbrev pub place_words : List (List ℕ)
 place_words = codes "back" ∷ codes "front" ∷ []
 

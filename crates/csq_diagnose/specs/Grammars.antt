@@ -34,6 +34,7 @@ operands name =
     if bytes_eq name (codes "insert") then Irp ∷ File ∷ Place ∷ []
     else if bytes_eq name (codes "next") then Peek ∷ []
     else if bytes_eq name (codes "complete") then Irp ∷ Status ∷ []
+    else if bytes_eq name (codes "put_back") then Irp ∷ Place ∷ []
     else if bytes_eq name (codes "remove") || bytes_eq name (codes "mark") || bytes_eq name (codes "cancel") then IrpInLife ∷ []
     else if bytes_eq name (codes "close") || bytes_eq name (codes "cleanup") then File ∷ []
     else Irp ∷ []

@@ -24,8 +24,8 @@ noun_text Nothing = codes "end"
 -- which words are expected
 abbrev pub rule_text : Expected → List ℕ
 rule_text Pass = codes "a pass is the letter p and its number, as p1"
-rule_text Step = codes "a step is arm, test, disarm, end, flag, take, out, done or renew"
-rule_text Call = codes "a call is insert, next, remove, mark, routine, cancel, complete, close,\n  cleanup, flag, status or reuse"
+rule_text Step = codes "a step is arm, test, disarm, end, flag, take, out, done, renew or rearm"
+rule_text Call = codes "a call is insert, next, remove, mark, routine, cancel, complete, close,\n  cleanup, flag, status, reuse or put_back"
 rule_text IrpInLife = codes "an IRP is its number, as 0, or in its life 1 as 0@1"
 rule_text Irp = codes "an IRP is its number, as 0"
 rule_text File = codes "a file object is its number, as 0"

@@ -32,17 +32,17 @@ pub enum Expected {
 }
 
 // The words that begin a step, behind its pass.
-const STEPS: [&str; 9] = [
-    "arm", "test", "disarm", "end", "flag", "take", "out", "done", "renew",
+const STEPS: [&str; 10] = [
+    "arm", "test", "disarm", "end", "flag", "take", "out", "done", "renew", "rearm",
 ];
 
 // The words that begin a call.
-const CALLS: [&str; 12] = [
+const CALLS: [&str; 13] = [
     "insert", "next", "remove", "mark", "routine", "cancel", "complete", "close", "cleanup",
-    "flag", "status", "reuse",
+    "flag", "status", "reuse", "put_back",
 ];
 
-// Where an insert puts its IRP.
+// Where an insert or a put-back puts its IRP.
 const PLACES: [&str; 2] = ["back", "front"];
 
 const NO_WORDS: [&str; 0] = [];

@@ -28,6 +28,8 @@ const OF_LIFE: [Expected; 2] = [Call, IrpInLife];
 
 const COMPLETE: [Expected; 3] = [Call, Irp, Status];
 
+const PUT_BACK: [Expected; 3] = [Call, Irp, Place];
+
 const OF_FILE: [Expected; 2] = [Call, File];
 
 const OF_IRP: [Expected; 2] = [Call, Irp];
@@ -72,6 +74,9 @@ fn call_places(name: &[u8]) -> &'static [Expected]
     }
     if name == b"complete".as_slice() {
         return &COMPLETE;
+    }
+    if name == b"put_back".as_slice() {
+        return &PUT_BACK;
     }
     if name == b"remove".as_slice() || name == b"mark".as_slice() || name == b"cancel".as_slice() {
         return &OF_LIFE;

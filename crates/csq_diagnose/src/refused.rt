@@ -30,15 +30,17 @@ impl fmt::Display for RefusedLine {
     }
 }
 
-/// The option that would allow a step.
+/// The option that would allow a step, or the step that may be meant.
 #[derive(Clone, Copy)]
 pub(crate) enum Cure {
-    /// No larger size does.
-    NoSize,
+    /// There is none.
+    Nothing,
     /// So many IRPs.
     Irps(u32),
     /// So many passes.
     Passes(u32),
+    /// A rearm, in the place of a second arm.
+    Rearm,
 }
 
 /// As ` (--irps 9 allows it)`, or nothing.
@@ -50,23 +52,25 @@ impl fmt::Display for Cure {
 
     fn fmt<W: fmt::Write>(&self, f: &mut fmt::Formatter<W>) -> fmt::Result {
         match self {
-            Cure::NoSize => write!(f, ""),
+            Cure::Nothing => write!(f, ""),
             Cure::Irps(irps) => write!(f, " (--irps {irps} allows it)"),
             Cure::Passes(passes) => write!(f, " (--passes {passes} allows it)"),
+            Cure::Rearm => write!(f, " (rearm puts back what a removal got)"),
         }
     }
 }
 
 impl Cure {
-    /// The option that would allow a step that ends a schedule so: where it names an IRP or a pass that there
-    /// isn't, and can be.
+    /// The option that would allow a step that ends a schedule so, where it names an IRP or a pass that there
+    /// isn't, and can be; of an arm of what was armed before, the step that may be meant.
     pub(crate) fn of(step: Step, stop: Stop) -> Cure
         ensures { result ≡ cure_of step stop }
     {
         match stop {
             Stop::Refused(_, StepRefused::UnknownIrp) => irps_for(step.kind),
             Stop::Refused(_, StepRefused::UnknownPass) => passes_for(step.pass),
-            _ => Cure::NoSize,
+            Stop::Refused(_, StepRefused::NotHome) => Cure::Rearm,
+            _ => Cure::Nothing,
         }
     }
 }
@@ -77,7 +81,7 @@ fn irps_for(kind: Kind) -> Cure
 {
     match kind.name() {
         Some(name) if name.irp.0 < MAX_IRPS => Cure::Irps(name.irp.0 + 1),
-        _ => Cure::NoSize,
+        _ => Cure::Nothing,
     }
 }
 
@@ -88,6 +92,6 @@ fn passes_for(pass: PassId) -> Cure
     if 1 <= pass.0 && pass.0 <= MAX_PASSES {
         Cure::Passes(pass.0)
     } else {
-        Cure::NoSize
+        Cure::Nothing
     }
 }

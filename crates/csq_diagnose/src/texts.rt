@@ -50,11 +50,11 @@ impl fmt::Display for Rule {
             Expected::Pass => write!(f, "a pass is the letter p and its number, as p1"),
             Expected::Step => write!(
                 f,
-                "a step is arm, test, disarm, end, flag, take, out, done or renew"
+                "a step is arm, test, disarm, end, flag, take, out, done, renew or rearm"
             ),
             Expected::Call => write!(
                 f,
-                "a call is insert, next, remove, mark, routine, cancel, complete, close,\n  cleanup, flag, status or reuse"
+                "a call is insert, next, remove, mark, routine, cancel, complete, close,\n  cleanup, flag, status, reuse or put_back"
             ),
             Expected::IrpInLife => write!(f, "an IRP is its number, as 0, or in its life 1 as 0@1"),
             Expected::Irp => write!(f, "an IRP is its number, as 0"),

@@ -7,7 +7,7 @@ use Rattle.irp_core.specs.declared.ids.IrpId.{IrpId}
 use Rattle.irp_core.specs.declared.ids.IrpLife.{IrpLife}
 use Rattle.irp_core.specs.declared.ids.PassId.{PassId}
 use Rattle.irp_core.specs.declared.step.Kind.{Kind}
-use Rattle.irp_core.specs.declared.step.Kind.TheVariants.{Arm, Test, Disarm, End, Flag, Take, Out, Done, Renew}
+use Rattle.irp_core.specs.declared.step.Kind.TheVariants.{Arm, Test, Disarm, End, Flag, Take, Out, Done, Renew, Rearm}
 use Rattle.irp_core.specs.declared.step.Made.{Made}
 use Rattle.irp_core.specs.Steps.{same_id, same_pass, name_of}
 use Rattle.irp_core.proofs.Names.{same_id-eq, same_pass-eq, same_pass-refl}
@@ -110,6 +110,7 @@ module _ (found : ℕ) (p : PassId) (row lane : ℕ) (before : Option Owner) (a 
   came (Out i) e = by_claim i Holds true e
   came (Done i) e = absurd (cc e)
   came (Renew i) e = inl e
+  came (Rearm i) e = absurd (cc e)
 
 -- a step names one IRP
 named_one : (k : Kind) (n m : IrpId) → is_of_irp n k ≡ true → is_of_irp m k ≡ true → n ≡ m

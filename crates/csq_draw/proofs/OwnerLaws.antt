@@ -1,6 +1,7 @@
 -- Who is drawn as an IRP's owner is its owner by the run.
 use Rattle.std.proofs.Common.{◌≡◌, ◌≢◌, ◌↔◌, ℕ, ◌==◌, Bool, true, false, cond, List, [], ◌∷◌, length, Option, Some, None, refl, ap, sym, ◌∙◌, subst}
 use Rattle.std.specs.Option.{option_map, option_map_or}
+use Rattle.std.proofs.lemmas.Bool.{and_parts}
 use Rattle.irp_core.specs.declared.ids.IrpId.{IrpId}
 use Rattle.irp_core.specs.declared.ids.IrpLife.{IrpLife}
 use Rattle.irp_core.specs.declared.ids.Life.{Life}
@@ -9,7 +10,7 @@ use Rattle.irp_core.specs.declared.inside.Inside.{Inside}
 use Rattle.irp_core.specs.declared.standing.Standing.{Standing}
 use Rattle.irp_core.specs.declared.standing.Standing.TheVariants.{Home, Waiting, Owed, Held, Finished}
 use Rattle.irp_core.specs.declared.step.Kind.{Kind}
-use Rattle.irp_core.specs.declared.step.Kind.TheVariants.{Arm, Test, Disarm, End, Flag, Take, Out, Done, Renew}
+use Rattle.irp_core.specs.declared.step.Kind.TheVariants.{Arm, Test, Disarm, End, Flag, Take, Out, Done, Renew, Rearm}
 use Rattle.irp_core.specs.declared.step.Made.{Made}
 use Rattle.irp_core.specs.Inside.{inside}
 use Rattle.irp_core.specs.Lives.{renews, present_life, present, IsPresent}
@@ -18,7 +19,7 @@ use Rattle.irp_core.specs.Runs.{Size, IsRun, EachRunFrom}
 use Rattle.irp_core.specs.Standings.{IsStanding, moved, names, standing_after, is_waiting, is_owed_by, is_held_by}
 use Rattle.irp_core.specs.declared.standing.IrpPlace.{IrpPlace}
 use Rattle.irp_core.specs.declared.standing.IrpPlace.TheVariants as place
-use Rattle.irp_core.specs.Completion.{IsPlace}
+use Rattle.irp_core.specs.Completion.{removed, IsPlace}
 use Rattle.irp_core.specs.Steps.{same_irp, same_pass, name_of}
 use Rattle.irp_core.specs.Words.{bit, armed, flagged}
 use Rattle.irp_core.proofs.Growing.{run_less}
@@ -64,6 +65,7 @@ unnamed n l (Take j) e = other_irp j (record { irp = n; life = l }) e
 unnamed n l (Out j) e = other_irp j (record { irp = n; life = l }) e
 unnamed n l (Done j) e = other_irp j (record { irp = n; life = l }) e
 unnamed n l (Renew j) e = other_irp j (record { irp = n; life = l }) e
+unnamed n l (Rearm j) e = other_irp j (record { irp = n; life = l }) e
 
 unrenewed : (n : IrpId) (k : Kind) → is_of_irp n k ≡ false → renews n k ≡ false
 unrenewed n (Arm j) e = refl
@@ -75,6 +77,7 @@ unrenewed n (Take j) e = refl
 unrenewed n (Out j) e = refl
 unrenewed n (Done j) e = refl
 unrenewed n (Renew j) e = e
+unrenewed n (Rearm j) e = refl
 
 -- a name of the present life
 is_present : (size : Size) (n : IrpId) (E : List Made) (j : IrpLife) → j.irp ≡ n → IsPresent size.first E j → j ≡ present size.first E n
@@ -145,6 +148,13 @@ module _ (n : IrpId) (j : IrpLife) (p : PassId) (x : Inside) where
   done_fits (Held q status) w = refl
   done_fits (Finished status q) w = absurd (cc w)
 
+  rearmed_fits : (s : Standing) → is_held_by p s ≡ true → Fits n (moved (Rearm j) s p x) None
+  rearmed_fits Home w = absurd (cc w)
+  rearmed_fits Waiting w = absurd (cc w)
+  rearmed_fits (Owed q) w = absurd (cc w)
+  rearmed_fits (Held q status) w = refl
+  rearmed_fits (Finished status q) w = absurd (cc w)
+
 -- nobody is drawn as the owner of what was completed
 over_fits : (n : IrpId) (s : Standing) (ends : List Made) (o : Option Owner) → DonesAre s ends → ends ≢ [] → Fits n s o → o ≡ None
 over_fits n Home ends o d ne f = f
@@ -204,6 +214,12 @@ module _ (size : Size) (irps : ℕ) (n : IrpId) (p : PassId) (v : ℕ) (E : List
       let named_now = is_present size n E j same (held_present size E (run_less size (step (Done j)) E r) j p r.owned.0) in
       let mine : is_held_by p s ≡ true = sym (st.holding_is p) ∙ ap (λ (y : IrpLife). holds E p y) (sym named_now) ∙ r.owned.0 in
       (standing_after E (step (Done j)) now s, stands_next (Done j) r, rw (e, names_now j named_now) (done_fits n j p (inside E p) s mine))
+  drawn_next (Rearm j) r e =
+      let same = same_id-eq j.irp n e in
+      let held = (and_parts (holds E p j) (removed E j) r.owned.0).0 in
+      let named_now = is_present size n E j same (held_present size E (run_less size (step (Rearm j)) E r) j p held) in
+      let mine : is_held_by p s ≡ true = sym (st.holding_is p) ∙ ap (λ (y : IrpLife). holds E p y) (sym named_now) ∙ held in
+      (standing_after E (step (Rearm j)) now s, stands_next (Rearm j) r, rw (e, names_now j named_now) (rearmed_fits n j p (inside E p) s mine))
   drawn_next (Renew j) r e =
       let same = same_id-eq j.irp n e in
       let was_now = is_present size n E j same r.owned.0.0 in

@@ -4,7 +4,7 @@ use Rattle.std.specs.Option.{option_map_or}
 use Rattle.irp_core.specs.declared.ids.IrpId.{IrpId}
 use Rattle.irp_core.specs.declared.ids.PassId.{PassId}
 use Rattle.irp_core.specs.declared.step.Kind.{Kind}
-use Rattle.irp_core.specs.declared.step.Kind.TheVariants.{Arm, Test, Disarm, End, Flag, Take, Out, Done, Renew}
+use Rattle.irp_core.specs.declared.step.Kind.TheVariants.{Arm, Test, Disarm, End, Flag, Take, Out, Done, Renew, Rearm}
 use Rattle.irp_core.specs.declared.step.Made.{Made}
 use Rattle.irp_core.specs.Steps.{number, same_id, name_of}
 use Rattle.irp_core.specs.declared.ids.IrpLife.{IrpLife}
@@ -96,6 +96,7 @@ module _ (m : Made) (E : List Made) (n : ℕ) where
   named_known (Out i) h = h
   named_known (Done i) h = h
   named_known (Renew i) h = h
+  named_known (Rearm i) h = h
 
   owners_more : OfIrp (λ i. number i < n) m.kind → with_owner (owners n E) m (length E) ≡ owners n (m ∷ E)
   owners_more h = go (name_of m.kind) refl (named_known m.kind h)

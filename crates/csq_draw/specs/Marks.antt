@@ -1,7 +1,7 @@
 -- What is drawn on the row of a step: the number of its line, and the step itself; and who has the lock.
 use Rattle.std.specs.Prelude.{ℕ, ◌+◌, ◌%◌, ◌==◌, ◌&&◌, Bool, true, false, not, List, [], ◌++◌, codes, decimal, Option, Some, None, if◌then◌else◌}
 use Rattle.irp_core.specs.declared.step.Kind.{Kind}
-use Rattle.irp_core.specs.declared.step.Kind.TheVariants.{Arm, Test, Disarm, End, Flag, Take, Out, Done, Renew}
+use Rattle.irp_core.specs.declared.step.Kind.TheVariants.{Arm, Test, Disarm, End, Flag, Take, Out, Done, Renew, Rearm}
 use Rattle.irp_core.specs.declared.status.NtStatus.{NtStatus}
 use Rattle.irp_core.specs.Inside.{has_lock, inside_after}
 use Rattle.irp_core.specs.Lock.{needs_lock}
@@ -53,6 +53,7 @@ look_text (Take i) found = exchange_look i found
 look_text (Out i) found = colour_text i
 look_text (Done i) found = colour_text i
 look_text (Renew i) found = colour_text i
+look_text (Rearm i) found = colour_text i
 
 -- the call of the WDK that a step of this kind is
 abbrev pub wdk_text : Kind → List ℕ
@@ -65,6 +66,7 @@ wdk_text (Take i) = codes "IoSetCancelRoutine(Irp, NULL)"
 wdk_text (Out i) = codes "CsqRemoveIrp"
 wdk_text (Done i) = codes "IoCompleteRequest"
 wdk_text (Renew i) = codes "IoReuseIrp"
+wdk_text (Rearm i) = codes "IoSetCancelRoutine(Irp, routine)"
 
 -- the status with which an IRP was completed, where it is known
 abbrev pub status_words : Option NtStatus → List ℕ
@@ -82,6 +84,7 @@ found_words (Take i) found status = if found == 0 then codes "found none" else c
 found_words (Out i) found status = []
 found_words (Done i) found status = status_words status
 found_words (Renew i) found status = codes "next life"
+found_words (Rearm i) found status = if found == 0 then codes "was none" else codes "was set"
 
 -- the box of a step, what it does, what it found, its call of the WDK, and the call that it is of, at the upper left corner of its row
 abbrev pub frame_text : ℕ → ℕ → List ℕ

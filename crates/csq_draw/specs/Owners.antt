@@ -4,7 +4,7 @@ use Rattle.std.specs.Option.{option_map_or}
 use Rattle.irp_core.specs.declared.ids.IrpId.{IrpId}
 use Rattle.irp_core.specs.declared.ids.PassId.{PassId}
 use Rattle.irp_core.specs.declared.step.Kind.{Kind}
-use Rattle.irp_core.specs.declared.step.Kind.TheVariants.{Disarm, Take, Out, Done}
+use Rattle.irp_core.specs.declared.step.Kind.TheVariants.{Disarm, Take, Out, Done, Rearm}
 use Rattle.irp_core.specs.declared.step.Made.{Made}
 use Rattle.irp_core.specs.Steps.{same_id, name_of}
 use Rattle.csq_draw.specs.declared.owners.Having.TheVariants.{Owes, Holds}
@@ -16,12 +16,13 @@ use Rattle.csq_explain.specs.Tables.{table}
 abbrev pub is_of_irp : IrpId → Kind → Bool
 is_of_irp n k = option_map_or (λ i. same_id i.irp n) (name_of k) false
 
--- who has an IRP after this kind of step of it, by p on this row: who claimed it or took it out, in this lane, and nobody once it is completed
+-- who has an IRP after this kind of step of it, by p on this row: who claimed it or took it out, in this lane, and nobody once it is completed or put back
 abbrev pub owner_by : Kind → ℕ → PassId → ℕ → ℕ → Option Owner → Option Owner
 owner_by (Take i) found p row lane before = if found == 1 then Some (record { irp = i.irp; pass = p; having = Owes; row = row; lane = lane }) else before
 owner_by (Disarm i) found p row lane before = if found == 1 then Some (record { irp = i.irp; pass = p; having = Holds; row = row; lane = lane }) else before
 owner_by (Out i) found p row lane before = Some (record { irp = i.irp; pass = p; having = Holds; row = row; lane = lane })
 owner_by (Done i) found p row lane before = None
+owner_by (Rearm i) found p row lane before = None
 owner_by _ found p row lane before = before
 
 -- and so after a step on this row, before which all IRPs had these owners
@@ -37,6 +38,7 @@ owner irps (m ∷ E) n = if is_of_irp n m.kind then owner_after (table (λ k. ow
 abbrev pub ended_by : Kind → Option Owner → Option Owner
 ended_by (Out i) before = before
 ended_by (Done i) before = before
+ended_by (Rearm i) before = before
 ended_by _ before = None
 
 -- who had the IRP that a step of this kind names

@@ -5,7 +5,7 @@ use Rattle.irp_core.specs.declared.ids.IrpLife.{IrpLife}
 use Rattle.irp_core.specs.declared.standing.IrpPlace.{IrpPlace}
 use Rattle.irp_core.specs.declared.standing.IrpPlace.TheVariants.{Listed}
 use Rattle.irp_core.specs.declared.step.Kind.{Kind}
-use Rattle.irp_core.specs.declared.step.Kind.TheVariants.{Arm, Disarm, Flag, Take, Renew}
+use Rattle.irp_core.specs.declared.step.Kind.TheVariants.{Arm, Disarm, Flag, Take, Renew, Rearm}
 use Rattle.irp_core.specs.declared.step.Made.{Made}
 use Rattle.irp_core.specs.Lives.{present}
 use Rattle.irp_core.specs.MachineState.{MachineState, Agrees, size_of}
@@ -44,4 +44,5 @@ changes_routine (Arm i) found = true
 changes_routine (Disarm i) found = found == 1
 changes_routine (Take i) found = found == 1
 changes_routine (Renew i) found = true
+changes_routine (Rearm i) found = true
 changes_routine _ found = false

@@ -1,8 +1,49 @@
 //! The call that a step is of, and what the call answers where the step ends it.
+use csq_explain::InsertWord;
 use irp_core::{Inside, IrpLife, Kind};
 use std::fmt;
 
-/// A disarm of an insert or of a removal, and what it found.
+/// An insert or a put-back, by what its pass is inside of.
+#[derive(Clone, Copy)]
+struct InsertOf(Inside, IrpLife);
+
+/// As `insert 0`, or `put-back 0`.
+impl fmt::Display for InsertOf {
+    ghost use Rattle.std.specs.Prelude.{Some};
+    ghost use Rattle.csq_draw.specs.CallTexts.{insert_text};
+
+    ghost output = { λ told. Some (insert_text told.0 told.1) };
+
+    fn fmt<W: fmt::Write>(&self, f: &mut fmt::Formatter<W>) -> fmt::Result {
+        write!(f, "{} {}", InsertWord(self.0), self.1)
+    }
+}
+
+/// The end of an insert or a put-back by its own exchange, and what it found.
+#[derive(Clone, Copy)]
+struct InsertEnd {
+    inside: Inside,
+    found: u64,
+    name: IrpLife,
+}
+
+impl fmt::Display for InsertEnd {
+    ghost use Rattle.std.specs.Prelude.{Some};
+    ghost use Rattle.csq_draw.specs.CallTexts.{insert_end_text};
+
+    ghost output = { λ call. Some (insert_end_text call.inside call.found call.name) };
+
+    fn fmt<W: fmt::Write>(&self, f: &mut fmt::Formatter<W>) -> fmt::Result {
+        let insert = InsertOf(self.inside, self.name);
+        if self.found == 0 {
+            write!(f, "{insert} &#8594; pending")
+        } else {
+            write!(f, "{insert} &#8594; cancelled")
+        }
+    }
+}
+
+/// A disarm of an insert, a put-back or a removal, and what it found.
 #[derive(Clone, Copy)]
 struct DisarmCall {
     inside: Inside,
@@ -15,17 +56,30 @@ impl fmt::Display for DisarmCall {
     ghost use Rattle.irp_core.specs.Inside.{in_insert};
     ghost use Rattle.csq_draw.specs.CallTexts.{disarm_call_text};
 
-    ghost output = { λ call. Some (disarm_call_text (in_insert call.inside) call.found call.name) };
+    ghost output = { λ call. Some
+        (disarm_call_text call.inside (in_insert call.inside) call.found call.name) };
 
     fn fmt<W: fmt::Write>(&self, f: &mut fmt::Formatter<W>) -> fmt::Result {
-        let name = self.name;
-        match self.inside {
-            Inside::Armed(_) | Inside::FlagSeen(_) if self.found == 0 => {
-                write!(f, "insert {name} &#8594; pending")
+        let DisarmCall {
+            inside,
+            found,
+            name,
+        } = *self;
+        match inside {
+            Inside::Nothing | Inside::Removing | Inside::Cancelling(_) if found == 0 => {
+                write!(f, "removal")
             }
-            Inside::Armed(_) | Inside::FlagSeen(_) => write!(f, "insert {name} &#8594; cancelled"),
-            _ if self.found == 0 => write!(f, "removal"),
-            _ => write!(f, "removal &#8594; IRP {name}"),
+            Inside::Nothing | Inside::Removing | Inside::Cancelling(_) => {
+                write!(f, "removal &#8594; IRP {name}")
+            }
+            _ => {
+                let end = InsertEnd {
+                    inside,
+                    found,
+                    name,
+                };
+                end.fmt(f)
+            }
         }
     }
 }
@@ -48,8 +102,12 @@ impl fmt::Display for CallOf {
     fn fmt<W: fmt::Write>(&self, f: &mut fmt::Formatter<W>) -> fmt::Result {
         let (inside, found) = (self.inside, self.found);
         match self.kind {
-            Kind::Test(name) if found == 0 => write!(f, "insert {name} &#8594; pending"),
-            Kind::Arm(name) | Kind::Test(name) => write!(f, "insert {name}"),
+            Kind::Arm(name) => write!(f, "insert {name}"),
+            Kind::Rearm(name) => write!(f, "{}", InsertOf(Inside::Rearmed(name), name)),
+            Kind::Test(name) if found == 0 => {
+                write!(f, "{} &#8594; pending", InsertOf(inside, name))
+            }
+            Kind::Test(name) => write!(f, "{}", InsertOf(inside, name)),
             Kind::Disarm(name) => {
                 let disarm = DisarmCall {
                     inside,

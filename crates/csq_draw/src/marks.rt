@@ -95,7 +95,8 @@ impl fmt::Display for Look {
             | Kind::Take(name)
             | Kind::Out(name)
             | Kind::Done(name)
-            | Kind::Renew(name) => {
+            | Kind::Renew(name)
+            | Kind::Rearm(name) => {
                 let colour = name.irp.0 % 8;
                 write!(f, "k{colour}")
             }
@@ -117,7 +118,7 @@ impl fmt::Display for WdkCall {
 
     fn fmt<W: fmt::Write>(&self, f: &mut fmt::Formatter<W>) -> fmt::Result {
         match self.0 {
-            Kind::Arm(_) => write!(f, "IoSetCancelRoutine(Irp, routine)"),
+            Kind::Arm(_) | Kind::Rearm(_) => write!(f, "IoSetCancelRoutine(Irp, routine)"),
             Kind::Test(_) => write!(f, "if (Irp->Cancel)"),
             Kind::Disarm(_) | Kind::Take(_) => write!(f, "IoSetCancelRoutine(Irp, NULL)"),
             Kind::End => write!(f, "return NULL"),
@@ -164,13 +165,13 @@ impl fmt::Display for FoundWords {
 
     fn fmt<W: fmt::Write>(&self, f: &mut fmt::Formatter<W>) -> fmt::Result {
         match self.kind {
-            Kind::Arm(_) if self.found == 0 => write!(f, "was none"),
+            Kind::Arm(_) | Kind::Rearm(_) if self.found == 0 => write!(f, "was none"),
             Kind::Test(_) if self.found == 0 => write!(f, "is clear"),
             Kind::Test(_) => write!(f, "is set"),
             Kind::Disarm(_) | Kind::Take(_) if self.found == 0 => write!(f, "found none"),
             Kind::Disarm(_) | Kind::Take(_) => write!(f, "found it"),
             Kind::Flag(_) if self.found == 0 => write!(f, "was clear"),
-            Kind::Arm(_) | Kind::Flag(_) => write!(f, "was set"),
+            Kind::Arm(_) | Kind::Rearm(_) | Kind::Flag(_) => write!(f, "was set"),
             Kind::End | Kind::Out(_) => Ok(()),
             Kind::Done(_) => StatusWords(self.status).fmt(f),
             Kind::Renew(_) => write!(f, "next life"),

@@ -68,7 +68,7 @@ fn owner_after(
             row,
             lane: lane_for(owners, pass, before),
         }),
-        Kind::Done(_) => None,
+        Kind::Done(_) | Kind::Rearm(_) => None,
         _ => before,
     }
 }
@@ -78,7 +78,7 @@ pub(crate) fn ended_by(kind: Kind, before: Option<Owner>) -> Option<Owner>
     ensures { result ≡ ended_by kind before }
 {
     match kind {
-        Kind::Out(_) | Kind::Done(_) => before,
+        Kind::Out(_) | Kind::Done(_) | Kind::Rearm(_) => before,
         _ => None,
     }
 }

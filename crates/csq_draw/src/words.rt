@@ -64,7 +64,7 @@ pub(crate) fn changes_routine(kind: Kind, found: u64) -> bool
 {
     match kind {
         Kind::Disarm(_) | Kind::Take(_) => found == 1,
-        Kind::Arm(_) | Kind::Renew(_) => true,
+        Kind::Arm(_) | Kind::Rearm(_) | Kind::Renew(_) => true,
         _ => false,
     }
 }

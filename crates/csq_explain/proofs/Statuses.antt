@@ -6,7 +6,7 @@ use Rattle.irp_core.specs.declared.standing.IrpPlace.{IrpPlace}
 use Rattle.irp_core.specs.declared.standing.IrpPlace.TheVariants.{Completed}
 use Rattle.irp_core.specs.declared.status.NtStatus.{NtStatus}
 use Rattle.irp_core.specs.declared.step.Kind.{Kind}
-use Rattle.irp_core.specs.declared.step.Kind.TheVariants.{Arm, Test, Disarm, End, Flag, Take, Out, Done, Renew}
+use Rattle.irp_core.specs.declared.step.Kind.TheVariants.{Arm, Test, Disarm, End, Flag, Take, Out, Done, Renew, Rearm}
 use Rattle.irp_core.specs.declared.step.Made.{Made}
 use Rattle.irp_core.specs.Completion.{completed_by, removed, status_due, IsPlace}
 use Rattle.irp_core.specs.Lives.{present}
@@ -41,3 +41,4 @@ module _ (size : Size) (p : PassId) (v : ℕ) (E : List Made) where
   status_is (Out i) r status h = h
   status_is (Done i) r status (place, is, e) = e ∙ done_place i r place is
   status_is (Renew i) r status h = h
+  status_is (Rearm i) r status h = h

@@ -8,7 +8,7 @@ use Rattle.csq_list.specs.declared.entry.Peek.TheVariants.{File}
 use Rattle.csq_list.specs.declared.refusals.InsertStatus.{InsertStatus}
 use Rattle.csq_list.specs.declared.refusals.InsertStatus.TheVariants as insert
 use Rattle.csq_replay.specs.declared.script.call.Call.{Call}
-use Rattle.csq_replay.specs.declared.script.call.Call.TheVariants.{Insert, Next, Remove, Mark, Routine, Cancel, Complete, Close, Cleanup, Flag, Status, Reuse}
+use Rattle.csq_replay.specs.declared.script.call.Call.TheVariants.{Insert, Next, Remove, Mark, Routine, Cancel, Complete, Close, Cleanup, Flag, Status, Reuse, PutBack}
 use Rattle.csq_replay.specs.declared.script.call.Refusal.{Refusal}
 use Rattle.csq_replay.specs.declared.script.call.Refusal.TheVariants.{UnknownIrp, UnknownFile, NoClaim, NotHeld, StatusPending, Stale, NotCompleted, LivesSpent}
 use Rattle.csq_replay.specs.declared.script.call.Reply.{Reply}
@@ -35,6 +35,7 @@ routine_name (Cleanup f) = codes "IRP_MJ_CLEANUP"
 routine_name (Flag n) = codes "Irp->Cancel"
 routine_name (Status n) = codes "Irp->IoStatus.Status"
 routine_name (Reuse n) = codes "IoReuseIrp"
+routine_name (PutBack n place) = codes "IoCsqInsertIrpEx"
 
 -- the file object that a call names
 abbrev pub named_file : Call → Option FileId
@@ -62,11 +63,14 @@ object_name (Cleanup f) = file_words (Some f)
 object_name (Flag n) = codes "IRP " ++ irp_text n
 object_name (Status n) = codes "IRP " ++ irp_text n
 object_name (Reuse n) = codes "IRP " ++ irp_text n
+object_name (PutBack n place) = codes "IRP " ++ irp_text n
 
 -- where an insert puts its IRP
 abbrev pub place_words : Call → List ℕ
 place_words (Insert n f Back) = codes " for file object " ++ (decimal f.0 ++ codes " at the back")
 place_words (Insert n f Front) = codes " for file object " ++ (decimal f.0 ++ codes " at the front")
+place_words (PutBack n Back) = codes " again at the back"
+place_words (PutBack n Front) = codes " again at the front"
 place_words c = []
 
 -- the IRP in its life that a removal names
@@ -102,7 +106,7 @@ abbrev pub cancel_words : Call → Bool → List ℕ
 cancel_words c true = codes " returned TRUE: it set the Cancel flag of " ++ (object_name c ++ codes " and ran the cancel routine, which completed the IRP with STATUS_CANCELLED")
 cancel_words c false = codes " returned FALSE: it set the Cancel flag of " ++ (object_name c ++ codes ", and found no cancel routine")
 
--- what an insert did that found its IRP cancelled
+-- what an insert or a put-back did that found its IRP cancelled
 abbrev pub found_cancelled : Call → List ℕ
 found_cancelled c = codes " found the Cancel flag of " ++ (object_name c ++ codes " set, completed it with STATUS_CANCELLED (CsqCompleteCanceledIrp), and returned STATUS_PENDING")
 
@@ -113,13 +117,18 @@ cleaned_words c count = codes " closed " ++ (object_name c ++ (codes ", and comp
 abbrev pub flag_value : Bool → List ℕ
 flag_value set = if set then codes "TRUE" else codes "FALSE"
 
--- why an insert is refused, where there are so many IRPs and file objects
+-- the file object of an insert or a put-back, which names none
+abbrev pub refused_file : Call → List ℕ
+refused_file (PutBack n place) = codes "the file object of IRP " ++ irp_text n
+refused_file c = file_words (named_file c)
+
+-- why an insert or a put-back is refused, where there are so many IRPs and file objects
 abbrev pub insert_refusal : ℕ → ℕ → Call → InsertStatus → List ℕ
 insert_refusal irps files c insert.UnknownIrp = codes "an IRP's number is below " ++ decimal irps
 insert_refusal irps files c insert.UnknownFile = codes "a file object's number is below " ++ decimal files
 insert_refusal irps files c insert.NotHome = object_name c ++ codes " was inserted before in its present life"
-insert_refusal irps files c insert.FileClosed = file_words (named_file c) ++ codes " was closed by a cleanup or a close: STATUS_FILE_CLOSED"
-insert_refusal irps files c insert.FileFull = file_words (named_file c) ++ codes " has as many IRPs listed as its limit: STATUS_INSUFFICIENT_RESOURCES"
+insert_refusal irps files c insert.FileClosed = refused_file c ++ codes " was closed by a cleanup or a close: STATUS_FILE_CLOSED"
+insert_refusal irps files c insert.FileFull = refused_file c ++ codes " has as many IRPs listed as its limit: STATUS_INSUFFICIENT_RESOURCES"
 insert_refusal irps files c insert.Full = codes "the list has as many IRPs as its limit: STATUS_INSUFFICIENT_RESOURCES"
 
 -- why another call is
@@ -127,7 +136,7 @@ abbrev pub call_refusal : ℕ → ℕ → Call → Refusal → List ℕ
 call_refusal irps files c UnknownIrp = codes "an IRP's number is below " ++ decimal irps
 call_refusal irps files c UnknownFile = codes "a file object's number is below " ++ decimal files
 call_refusal irps files c NoClaim = codes "the pass doesn't owe " ++ (object_name c ++ codes ": no mark claimed it, or its cancel routine has run")
-call_refusal irps files c NotHeld = codes "the pass doesn't hold " ++ (object_name c ++ codes ": no removal took it, or it is completed")
+call_refusal irps files c NotHeld = codes "the pass doesn't hold " ++ (object_name c ++ codes ": no removal took it, or it was completed or put back since")
 call_refusal irps files c StatusPending = codes "no IRP is completed with STATUS_PENDING"
 call_refusal irps files c (Stale g) = codes "the IRP is in its life " ++ life_text g
 call_refusal irps files c NotCompleted = object_name c ++ codes " isn't completed in its present life"
@@ -159,4 +168,4 @@ call_sentence a = reply_sentence a.irps a.files a.call a.reply
 -- why a line ends a script, in a sentence
 abbrev pub call_stop_sentence : CallStop → List ℕ
 call_stop_sentence TooLong = codes "a line has at most " ++ (decimal MAX_LINE ++ codes " bytes")
-call_stop_sentence Malformed = codes "this is no call, as insert 0 1 back: insert, next, remove, mark, routine, cancel, complete, close, cleanup, flag, status or reuse"
+call_stop_sentence Malformed = codes "this is no call, as insert 0 1 back: insert, next, remove, mark, routine, cancel, complete, close, cleanup, flag, status, reuse or put_back"

@@ -2,8 +2,10 @@
 use Rattle.std.specs.Prelude.{ℕ, List, ◌++◌, codes, decimal, slice_index_or}
 use Rattle.irp_core.specs.declared.ids.PassId.{PassId}
 use Rattle.irp_core.specs.declared.inside.Inside.{Inside}
-use Rattle.irp_core.specs.declared.inside.Inside.TheVariants.{Nothing, Armed, FlagSeen, Removing, Cancelling}
+use Rattle.irp_core.specs.declared.inside.Inside.TheVariants.{Nothing, Armed, FlagSeen, Removing, Cancelling, Rearmed, FlagSeenAgain}
 use Rattle.irp_core.specs.declared.refusals.StepRefused.{StepRefused}
+use Rattle.irp_core.specs.declared.step.Kind.{Kind}
+use Rattle.irp_core.specs.declared.step.Kind.TheVariants.{Rearm}
 use Rattle.irp_core.specs.declared.refusals.StepRefused.TheVariants.{UnknownIrp, UnknownPass, LockHeld, NotNext, NotHome, NotListed, NotOwed, NotHeld, Stale, NotCompleted, LivesSpent}
 use Rattle.irp_core.specs.Runs.{Size}
 use Rattle.irp_core.specs.Texts.{name_text, pass_text, life_text}
@@ -29,6 +31,8 @@ call_name (Armed i) = codes "an insert"
 call_name (FlagSeen i) = codes "an insert"
 call_name Removing = codes "a removal"
 call_name (Cancelling i) = codes "a cancel"
+call_name (Rearmed i) = codes "a put-back"
+call_name (FlagSeenAgain i) = codes "a put-back"
 
 -- and its next step
 abbrev pub next_step : Inside → List ℕ
@@ -37,6 +41,8 @@ next_step (Armed i) = codes "test " ++ name_text i
 next_step (FlagSeen i) = codes "disarm " ++ name_text i
 next_step Removing = codes "a disarm or an end"
 next_step (Cancelling i) = codes "take " ++ name_text i
+next_step (Rearmed i) = codes "test " ++ name_text i
+next_step (FlagSeenAgain i) = codes "disarm " ++ name_text i
 
 -- the pass is inside of a call since this line
 abbrev pub begun_text : Inside → ℕ → List ℕ
@@ -45,36 +51,38 @@ begun_text x line = codes " has been inside " ++ (call_name x ++ (codes " since 
 -- how far a pass is in its call
 abbrev pub inside_text : Inside → ℕ → List ℕ
 inside_text Nothing line = codes " is inside no call, and none begins with a test or a take"
-inside_text (Armed i) line = begun_text (Armed i) line
-inside_text (FlagSeen i) line = begun_text (FlagSeen i) line
-inside_text Removing line = begun_text Removing line
-inside_text (Cancelling i) line = begun_text (Cancelling i) line
+inside_text x line = begun_text x line
 
 abbrev pub progress_text : PassId → PassNow → List ℕ
 progress_text p now = pass_text p ++ inside_text now.inside now.line
 
--- why p's step is refused for this cause
-abbrev pub cause_text : ℕ → ℕ → PassNow → PassId → StepRefused → List ℕ
-cause_text irps passes now p UnknownIrp = codes "an IRP's number is below " ++ decimal irps
-cause_text irps passes now p UnknownPass = codes "a pass's number is 1 to " ++ decimal passes
-cause_text irps passes now p (LockHeld q) = pass_text q ++ (codes " has had the lock since line " ++ (decimal now.line ++ (codes ", inside " ++ (call_name now.inside ++ (codes "; its next step is " ++ next_step now.inside)))))
-cause_text irps passes now p NotNext = progress_text p now
-cause_text irps passes now p NotHome = codes "the IRP was armed before in that life"
-cause_text irps passes now p NotListed = codes "the IRP isn't listed in that life"
-cause_text irps passes now p NotOwed = pass_text p ++ codes " doesn't owe the IRP in that life"
-cause_text irps passes now p NotHeld = pass_text p ++ codes " doesn't hold the IRP in that life"
-cause_text irps passes now p (Stale g) = codes "the IRP is in its life " ++ life_text g
-cause_text irps passes now p NotCompleted = codes "the IRP isn't completed in that life"
-cause_text irps passes now p LivesSpent = codes "the IRP is in its last life"
+-- that the pass of a step of this kind doesn't hold its IRP, or not by a removal
+abbrev pub unheld_text : Kind → List ℕ
+unheld_text (Rearm i) = codes " got the IRP by no removal in that life, or holds it no longer"
+unheld_text _ = codes " doesn't hold the IRP in that life"
+
+-- why p's step of this kind is refused for this cause
+abbrev pub cause_text : ℕ → ℕ → PassNow → PassId → Kind → StepRefused → List ℕ
+cause_text irps passes now p k UnknownIrp = codes "an IRP's number is below " ++ decimal irps
+cause_text irps passes now p k UnknownPass = codes "a pass's number is 1 to " ++ decimal passes
+cause_text irps passes now p k (LockHeld q) = pass_text q ++ (codes " has had the lock since line " ++ (decimal now.line ++ (codes ", inside " ++ (call_name now.inside ++ (codes "; its next step is " ++ next_step now.inside)))))
+cause_text irps passes now p k NotNext = progress_text p now
+cause_text irps passes now p k NotHome = codes "the IRP was armed before in that life"
+cause_text irps passes now p k NotListed = codes "the IRP isn't listed in that life"
+cause_text irps passes now p k NotOwed = pass_text p ++ codes " doesn't owe the IRP in that life"
+cause_text irps passes now p k NotHeld = pass_text p ++ unheld_text k
+cause_text irps passes now p k (Stale g) = codes "the IRP is in its life " ++ life_text g
+cause_text irps passes now p k NotCompleted = codes "the IRP isn't completed in that life"
+cause_text irps passes now p k LivesSpent = codes "the IRP is in its last life"
 
 abbrev pub refusal_reason : Refusal → List ℕ
-refusal_reason r = cause_text r.irps r.passes r.now r.pass r.cause
+refusal_reason r = cause_text r.irps r.passes r.now r.step.pass r.step.kind r.cause
 
 -- why a line ends the handling
 abbrev pub stop_reason : ℕ → ℕ → PassNow → Stop → List ℕ
 stop_reason irps passes now TooLong = codes "a line has at most " ++ (decimal MAX_LINE ++ codes " bytes")
-stop_reason irps passes now Malformed = codes "this is no step, as p1 arm 0: arm, test, disarm, flag, take, out, done or renew, or p1 end"
-stop_reason irps passes now (Refused s cause) = cause_text irps passes now s.pass cause
+stop_reason irps passes now Malformed = codes "this is no step, as p1 arm 0: arm, test, disarm, flag, take, out, done, renew or rearm, or p1 end"
+stop_reason irps passes now (Refused s cause) = cause_text irps passes now s.pass s.kind cause
 
 unfoldable pub reason_text : Reason → List ℕ
 reason_text reason = stop_reason reason.irps reason.passes reason.now reason.stop

@@ -21,7 +21,7 @@ impl fmt::Display for RoutineName {
 
     fn fmt<W: fmt::Write>(&self, f: &mut fmt::Formatter<W>) -> fmt::Result {
         match self.0 {
-            Call::Insert(..) => write!(f, "IoCsqInsertIrpEx"),
+            Call::Insert(..) | Call::PutBack(..) => write!(f, "IoCsqInsertIrpEx"),
             Call::Next(_) => write!(f, "IoCsqRemoveNextIrp"),
             Call::Remove(_) => write!(f, "IoCsqRemoveIrp"),
             Call::Mark(_) | Call::Cancel(_) => write!(f, "IoCancelIrp"),
@@ -87,7 +87,8 @@ impl fmt::Display for ObjectName {
             | Call::Complete(irp, _)
             | Call::Flag(irp)
             | Call::Status(irp)
-            | Call::Reuse(irp) => write!(f, "IRP {irp}"),
+            | Call::Reuse(irp)
+            | Call::PutBack(irp, _) => write!(f, "IRP {irp}"),
             Call::Next(_) | Call::Close(_) | Call::Cleanup(_) => {
                 write!(f, "{}", FileWords(named_file(self.0)))
             }
@@ -95,11 +96,11 @@ impl fmt::Display for ObjectName {
     }
 }
 
-/// Where an insert puts its IRP.
+/// Where an insert or a put-back puts its IRP.
 #[derive(Clone, Copy)]
 struct PlaceWords(Call);
 
-/// As ` for file object 1 at the back`; nothing for another call.
+/// As ` for file object 1 at the back`, or ` again at the back`; nothing for another call.
 impl fmt::Display for PlaceWords {
     ghost use Rattle.std.specs.Prelude.{Some};
     ghost use Rattle.csq_explain.specs.CallSentences.{place_words};
@@ -114,6 +115,8 @@ impl fmt::Display for PlaceWords {
             Call::Insert(_, file, Place::Front) => {
                 write!(f, " for file object {} at the front", file.0)
             }
+            Call::PutBack(_, Place::Back) => write!(f, " again at the back"),
+            Call::PutBack(_, Place::Front) => write!(f, " again at the front"),
             _ => Ok(()),
         }
     }
@@ -249,7 +252,7 @@ impl fmt::Display for CancelTold {
     }
 }
 
-/// What an insert did that found its IRP cancelled.
+/// What an insert or a put-back did that found its IRP cancelled.
 #[derive(Clone, Copy)]
 struct FoundCancelled(Call);
 
@@ -322,7 +325,26 @@ pub struct AnsweredCall {
     pub reply: Reply,
 }
 
-/// Why an insert that was answered so is refused.
+/// The file object of an insert or a put-back, which names none.
+#[derive(Clone, Copy)]
+struct RefusedFile(Call);
+
+/// As `file object 1`, or `the file object of IRP 0`.
+impl fmt::Display for RefusedFile {
+    ghost use Rattle.std.specs.Prelude.{Some};
+    ghost use Rattle.csq_explain.specs.CallSentences.{refused_file};
+
+    ghost output = { λ told. Some (refused_file told.0) };
+
+    fn fmt<W: fmt::Write>(&self, f: &mut fmt::Formatter<W>) -> fmt::Result {
+        match self.0 {
+            Call::PutBack(irp, _) => write!(f, "the file object of IRP {irp}"),
+            call => write!(f, "{}", FileWords(named_file(call))),
+        }
+    }
+}
+
+/// Why an insert or a put-back that was answered so is refused.
 #[derive(Clone, Copy)]
 struct InsertRefusal(AnsweredCall, InsertStatus);
 
@@ -336,7 +358,7 @@ impl fmt::Display for InsertRefusal {
     fn fmt<W: fmt::Write>(&self, f: &mut fmt::Formatter<W>) -> fmt::Result {
         let InsertRefusal(answered, cause) = *self;
         let irp = ObjectName(answered.call);
-        let file = FileWords(named_file(answered.call));
+        let file = RefusedFile(answered.call);
         match cause {
             InsertStatus::UnknownIrp => write!(f, "an IRP's number is below {}", answered.irps),
             InsertStatus::UnknownFile => {
@@ -384,7 +406,7 @@ impl fmt::Display for CallRefusal {
             ),
             Refusal::NotHeld => write!(
                 f,
-                "the pass doesn't hold {irp}: no removal took it, or it is completed"
+                "the pass doesn't hold {irp}: no removal took it, or it was completed or put back since"
             ),
             Refusal::StatusPending => write!(f, "no IRP is completed with STATUS_PENDING"),
             Refusal::Stale(life) => write!(f, "the IRP is in its life {life}"),
@@ -460,7 +482,7 @@ impl fmt::Display for CallStopSentence {
             CallStop::TooLong => write!(f, "a line has at most {MAX_LINE} bytes"),
             CallStop::Malformed => write!(
                 f,
-                "this is no call, as insert 0 1 back: insert, next, remove, mark, routine, cancel, complete, close, cleanup, flag, status or reuse"
+                "this is no call, as insert 0 1 back: insert, next, remove, mark, routine, cancel, complete, close, cleanup, flag, status, reuse or put_back"
             ),
         }
     }

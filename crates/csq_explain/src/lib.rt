@@ -20,4 +20,4 @@ pub use laws::{a_schedule_has_one_explanation, a_script_has_one_explanation};
 pub use passes::PassNow;
 pub use reasons::Reason;
 pub use script_explanation::explain_script;
-pub use sentences::{Sentence, StatusName, StepInCall};
+pub use sentences::{InsertWord, Sentence, StatusName, StepInCall};

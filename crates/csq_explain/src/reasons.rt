@@ -4,7 +4,7 @@ ghost use Rattle.csq_explain.specs.Reasons.{pass_asked};
 
 use crate::passes::PassNow;
 use csq_replay::{MAX_LINE, Stop};
-use irp_core::{Inside, PassId, StepRefused};
+use irp_core::{Inside, Kind, PassId, Step, StepRefused};
 use std::fmt;
 
 /// Why a line ends the handling: the numbers of IRPs and passes, and what is known of the pass that it
@@ -49,6 +49,7 @@ impl fmt::Display for CallName {
             Inside::Armed(_) | Inside::FlagSeen(_) => write!(f, "an insert"),
             Inside::Removing => write!(f, "a removal"),
             Inside::Cancelling(_) => write!(f, "a cancel"),
+            Inside::Rearmed(_) | Inside::FlagSeenAgain(_) => write!(f, "a put-back"),
         }
     }
 }
@@ -67,8 +68,8 @@ impl fmt::Display for NextStep {
     fn fmt<W: fmt::Write>(&self, f: &mut fmt::Formatter<W>) -> fmt::Result {
         match self.0 {
             Inside::Nothing => write!(f, "the first of a call"),
-            Inside::Armed(irp) => write!(f, "test {irp}"),
-            Inside::FlagSeen(irp) => write!(f, "disarm {irp}"),
+            Inside::Armed(irp) | Inside::Rearmed(irp) => write!(f, "test {irp}"),
+            Inside::FlagSeen(irp) | Inside::FlagSeenAgain(irp) => write!(f, "disarm {irp}"),
             Inside::Removing => write!(f, "a disarm or an end"),
             Inside::Cancelling(irp) => write!(f, "take {irp}"),
         }
@@ -105,13 +106,34 @@ impl fmt::Display for Progress {
     }
 }
 
+/// That the pass of a step of this kind doesn't hold its IRP, or not by a removal.
+#[derive(Clone, Copy)]
+struct UnheldWords(Kind);
+
+impl fmt::Display for UnheldWords {
+    ghost use Rattle.std.specs.Prelude.{Some};
+    ghost use Rattle.csq_explain.specs.Reasons.{unheld_text};
+
+    ghost output = { λ told. Some (unheld_text told.0) };
+
+    fn fmt<W: fmt::Write>(&self, f: &mut fmt::Formatter<W>) -> fmt::Result {
+        match self.0 {
+            Kind::Rearm(_) => write!(
+                f,
+                " got the IRP by no removal in that life, or holds it no longer"
+            ),
+            _ => write!(f, " doesn't hold the IRP in that life"),
+        }
+    }
+}
+
 /// Why a step is refused, of the pass that would make it, or that has the lock.
 #[derive(Clone, Copy)]
 struct Refusal {
     irps: u32,
     passes: u32,
     now: PassNow,
-    pass: PassId,
+    step: Step,
     cause: StepRefused,
 }
 
@@ -123,7 +145,7 @@ impl fmt::Display for Refusal {
     ghost output = { λ refusal. Some (refusal_reason refusal) };
 
     fn fmt<W: fmt::Write>(&self, f: &mut fmt::Formatter<W>) -> fmt::Result {
-        let (pass, now) = (self.pass, self.now);
+        let (Step { pass, kind }, now) = (self.step, self.now);
         match self.cause {
             StepRefused::UnknownIrp => write!(f, "an IRP's number is below {}", self.irps),
             StepRefused::UnknownPass => write!(f, "a pass's number is 1 to {}", self.passes),
@@ -137,8 +159,8 @@ impl fmt::Display for Refusal {
             StepRefused::NotNext => write!(f, "{}", Progress { pass, now }),
             StepRefused::NotHome => write!(f, "the IRP was armed before in that life"),
             StepRefused::NotListed => write!(f, "the IRP isn't listed in that life"),
-            StepRefused::NotOwed => write!(f, "{} doesn't owe the IRP in that life", self.pass),
-            StepRefused::NotHeld => write!(f, "{} doesn't hold the IRP in that life", self.pass),
+            StepRefused::NotOwed => write!(f, "{pass} doesn't owe the IRP in that life"),
+            StepRefused::NotHeld => write!(f, "{pass}{}", UnheldWords(kind)),
             StepRefused::Stale(life) => write!(f, "the IRP is in its life {life}"),
             StepRefused::NotCompleted => write!(f, "the IRP isn't completed in that life"),
             StepRefused::LivesSpent => write!(f, "the IRP is in its last life"),
@@ -159,14 +181,14 @@ impl fmt::Display for Reason {
             Stop::TooLong => write!(f, "a line has at most {MAX_LINE} bytes"),
             Stop::Malformed => write!(
                 f,
-                "this is no step, as p1 arm 0: arm, test, disarm, flag, take, out, done or renew, or p1 end"
+                "this is no step, as p1 arm 0: arm, test, disarm, flag, take, out, done, renew or rearm, or p1 end"
             ),
             Stop::Refused(step, cause) => {
                 let refusal = Refusal {
                     irps: self.irps,
                     passes: self.passes,
                     now: self.now,
-                    pass: step.pass,
+                    step,
                     cause,
                 };
                 write!(f, "{refusal}")

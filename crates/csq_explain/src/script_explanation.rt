@@ -22,7 +22,7 @@ impl<L: PendingList, A: Allocator + Copy> Answerer<A> for ScriptExplanation<L, A
     ghost use Rattle.std.specs.Prelude.{◌≡◌};
     ghost use Rattle.csq_words.specs.Queue.{Limits};
     ghost use Rattle.csq_replay.specs.Calls.{Script};
-    ghost use Rattle.csq_replay.specs.Drivers.{Keeps, keeping};
+    ghost use Rattle.csq_replay.specs.Drivers.{StandsAt, keeping};
     ghost use Rattle.csq_explain.specs.ExplainingCalls.{ExplainsCall};
     ghost use Rattle.csq_explain.specs.ScriptEndings.{explained_closing};
 
@@ -30,7 +30,7 @@ impl<L: PendingList, A: Allocator + Copy> Answerer<A> for ScriptExplanation<L, A
 
     ghost State = { Script };
 
-    ghost stands = { λ explanation l s. Keeps l (keeping L.listing explanation.driver) s };
+    ghost stands = { λ explanation l s. StandsAt l (keeping L.listing explanation.driver) s };
 
     ghost answers = { λ l s. ExplainsCall l s };
 

@@ -54,7 +54,56 @@ impl fmt::Display for WithStatus {
     }
 }
 
-/// An exchange of the routine by an insert or a removal.
+/// The call of an insert's steps, which a put-back makes too, by what the pass is inside of.
+#[derive(Clone, Copy)]
+pub struct InsertWord(pub Inside);
+
+/// As `insert`, or `put-back`.
+impl fmt::Display for InsertWord {
+    ghost use Rattle.std.specs.Prelude.{Some};
+    ghost use Rattle.csq_explain.specs.Sentences.{insert_word};
+
+    ghost output = { λ told. Some (insert_word told.0) };
+
+    fn fmt<W: fmt::Write>(&self, f: &mut fmt::Formatter<W>) -> fmt::Result {
+        match self.0 {
+            Inside::Rearmed(_) | Inside::FlagSeenAgain(_) => write!(f, "put-back"),
+            _ => write!(f, "insert"),
+        }
+    }
+}
+
+/// An exchange of the routine by an insert or a put-back that found the flag set.
+#[derive(Clone, Copy)]
+struct TakeBackTold {
+    inside: Inside,
+    irp: IrpLife,
+    found: u64,
+}
+
+impl fmt::Display for TakeBackTold {
+    ghost use Rattle.std.specs.Prelude.{Some};
+    ghost use Rattle.csq_explain.specs.Sentences.{take_back_deed};
+
+    ghost output = { λ told. Some (take_back_deed told.inside told.found told.irp) };
+
+    fn fmt<W: fmt::Write>(&self, f: &mut fmt::Formatter<W>) -> fmt::Result {
+        let (irp, insert) = (self.irp, InsertWord(self.inside));
+        if self.found == 0 {
+            write!(
+                f,
+                " found no cancel routine of IRP {irp} (IoSetCancelRoutine(Irp, NULL) in IoCsqInsertIrpEx): a cancel has it, and the {insert} ends"
+            )
+        } else {
+            write!(
+                f,
+                " took the cancel routine of IRP {irp} back (IoSetCancelRoutine(Irp, NULL) in IoCsqInsertIrpEx), and holds it now"
+            )
+        }
+    }
+}
+
+/// An exchange of the routine by an insert, a put-back or a removal.
 #[derive(Clone, Copy)]
 struct DisarmTold {
     inside: Inside,
@@ -69,31 +118,25 @@ impl fmt::Display for DisarmTold {
     ghost output = { λ told. Some (disarm_text told) };
 
     fn fmt<W: fmt::Write>(&self, f: &mut fmt::Formatter<W>) -> fmt::Result {
-        let (irp, found) = (self.irp, self.found != 0);
-        match self.inside {
-            Inside::Armed(_) | Inside::FlagSeen(_) if found => write!(
-                f,
-                " took the cancel routine of IRP {irp} back (IoSetCancelRoutine(Irp, NULL) in IoCsqInsertIrpEx), and holds it now"
-            ),
-            Inside::Armed(_) | Inside::FlagSeen(_) => write!(
-                f,
-                " found no cancel routine of IRP {irp} (IoSetCancelRoutine(Irp, NULL) in IoCsqInsertIrpEx): a cancel has it, and the insert ends"
-            ),
-            _ if found => write!(
+        let DisarmTold { inside, irp, found } = *self;
+        match inside {
+            Inside::Nothing | Inside::Removing | Inside::Cancelling(_) if found != 0 => write!(
                 f,
                 " took the cancel routine of IRP {irp} (IoSetCancelRoutine(Irp, NULL) in IoCsqRemoveNextIrp or IoCsqRemoveIrp), and holds it now"
             ),
-            _ => write!(
+            Inside::Nothing | Inside::Removing | Inside::Cancelling(_) => write!(
                 f,
                 " found no cancel routine of IRP {irp} (IoSetCancelRoutine(Irp, NULL) in IoCsqRemoveNextIrp or IoCsqRemoveIrp): a cancel has it, and the removal goes on without it"
             ),
+            _ => write!(f, "{}", TakeBackTold { inside, irp, found }),
         }
     }
 }
 
-/// What a read of the flag told an insert.
+/// What a read of the flag told an insert or a put-back.
 #[derive(Clone, Copy)]
 struct TestTold {
+    inside: Inside,
     irp: IrpLife,
     found: u64,
 }
@@ -102,14 +145,14 @@ impl fmt::Display for TestTold {
     ghost use Rattle.std.specs.Prelude.{Some};
     ghost use Rattle.csq_explain.specs.Sentences.{test_deed};
 
-    ghost output = { λ told. Some (test_deed told.found told.irp) };
+    ghost output = { λ told. Some (test_deed told.inside told.found told.irp) };
 
     fn fmt<W: fmt::Write>(&self, f: &mut fmt::Formatter<W>) -> fmt::Result {
-        let irp = self.irp;
+        let (irp, insert) = (self.irp, InsertWord(self.inside));
         if self.found == 0 {
             write!(
                 f,
-                " found the Cancel flag of IRP {irp} clear (if (Irp->Cancel) in IoCsqInsertIrpEx): the insert ends, and the IRP is pending"
+                " found the Cancel flag of IRP {irp} clear (if (Irp->Cancel) in IoCsqInsertIrpEx): the {insert} ends, and the IRP is pending"
             )
         } else {
             write!(
@@ -197,7 +240,7 @@ impl fmt::Display for Sentence {
                 f,
                 "{pass} set the cancel routine of IRP {irp} (IoSetCancelRoutine(Irp, routine) in IoCsqInsertIrpEx)"
             ),
-            Kind::Test(irp) => write!(f, "{pass}{}", TestTold { irp, found }),
+            Kind::Test(irp) => write!(f, "{pass}{}", TestTold { inside, irp, found }),
             Kind::Disarm(irp) => write!(f, "{pass}{}", DisarmTold { inside, irp, found }),
             Kind::End => write!(
                 f,
@@ -216,6 +259,10 @@ impl fmt::Display for Sentence {
             Kind::Renew(irp) => write!(
                 f,
                 "{pass} began the life that comes after IRP {irp} (IoReuseIrp)"
+            ),
+            Kind::Rearm(irp) => write!(
+                f,
+                "{pass} put IRP {irp} back and set its cancel routine again (IoSetCancelRoutine(Irp, routine) in IoCsqInsertIrpEx), and holds it no longer"
             ),
         }
     }

@@ -35,18 +35,22 @@ writer knows them:
   p2 out 0     the queue's cancel routine takes the IRP out (CsqRemoveIrp)
   p2 done 0    IoCompleteRequest
   p1 renew 0   IoReuseIrp. The IRP is now in its life 1, and is named 0@1
-An insert is arm, test and, where the test found the flag, disarm. A removal is
-disarms until one finds the routine, or an end; an IRP_MJ_CLEANUP is removals. A
-cancel is flag and take. The arm lists the IRP, and a disarm that finds the
-routine takes it out. An insert or a removal has the queue's lock from its first
-step to its last, an out or a renew for its one step (a renew changes the queue
-too); flag, take and done need none.
+  p1 rearm 0   IoSetCancelRoutine(Irp, routine), in IoCsqInsertIrpEx once more,
+               of an IRP that a removal got and the pass holds: it is put back
+An insert is arm, test and, where the test found the flag, disarm; a put-back is
+the same with rearm. A removal is disarms until one finds the routine, or an
+end; an IRP_MJ_CLEANUP is removals. A cancel is flag and take. The arm or rearm
+lists the IRP, and a disarm that finds the routine takes it out. An insert, a
+put-back or a removal has the queue's lock from its first step to its last, an
+out or a renew for its one step (a renew changes the queue too); flag, take and
+done need none.
 
 Who finds the routine by a disarm or a take claims the IRP, and will complete
 it: after a take the pass owes the IRP until its out, and then holds it; after a
-disarm it holds it at once. What a removal got is done with STATUS_SUCCESS, and
-what a cancel or an insert got with STATUS_CANCELLED. Flag and routine stand for
-one life, so a late take finds none of the next. An IRP is home until its arm.
+disarm it holds it at once. What a removal got is done with STATUS_SUCCESS or is
+put back, and what a cancel, an insert or a put-back got is done with
+STATUS_CANCELLED. Flag and routine stand for one life, so a late take finds none
+of the next. An IRP is home until its arm.
 
 The answer is each line with the value that its step found: the flag or the
 routine that was there before, 1 or 0, and 0 of a step that looks at neither.
@@ -60,13 +64,14 @@ these that holds. Standard error says more.
   UnknownIrp    there is no such IRP: see --irps
   UnknownPass   there is no such pass: see --passes
   LockHeld p1   the step needs the lock, and this other pass has it, since it is
-                inside an insert or a removal
+                inside an insert, a put-back or a removal
   NotNext       the pass is inside a call that goes on otherwise, or it is
                 inside none, and no call begins so
   NotHome       an arm of an IRP that was armed in that life
   NotListed     a disarm of an IRP that isn't listed
   NotOwed       an out of an IRP that the pass hasn't claimed by a take
-  NotHeld       a done of an IRP that the pass doesn't hold
+  NotHeld       a done of an IRP that the pass doesn't hold, or a rearm of one
+                that it doesn't hold or didn't get by a removal
   Stale 1       an arm, flag or renew of an IRP in another life, this one
   NotCompleted  a renew of an IRP that isn't completed
   LivesSpent    a renew of an IRP in its last life, 1073741823
@@ -99,7 +104,7 @@ marks.
   bold         the step claims its IRP: an exchange that found the routine
   shaded       the pass has the lock; where it lets it go, the shade ends sooner
   dashed line  the pass owes the IRP, from its claim until it takes the IRP out
-  solid line   the pass holds the IRP, until it completes it
+  solid line   the pass holds the IRP, until it completes it or puts it back
   circles      the Cancel flag and the cancel routine of the IRP after the step:
                filled where set, bold where the step changed it or its life
 The comment before the first step stands above, its first line as the title; an
@@ -158,6 +163,10 @@ IRPs that it takes out, and the claims of its cancels.
   flag 0               Irp->Cancel: 0 or 1
   status 0             Irp->IoStatus.Status, or unset
   reuse 0              IoReuseIrp of IRP 0, which was completed: life 1
+  put_back 0 back      IoCsqInsertIrpEx once more, of IRP 0, which was removed,
+                       for the file object of its insert, at the back: pending,
+                       or cancelled, as an insert
+  put_back 0 front     the same at the front
 A remove, mark or cancel names IRP 0 in its life 1 as 0@1, and as 0 in life 0;
 the others are of the present life. In the end the listed IRPs are told in the
 list's order, and those that are held or owed, if there are any: left 2 0 or
@@ -169,14 +178,15 @@ that holds:
   UnknownIrp, UnknownFile  there is no such IRP, or no such file object: see
                            --irps, --files
   NotHome                  an insert of an IRP that was inserted in this life
-  FileClosed C0000128      an insert for a file object that was closed
-  FileFull C000009A        an insert for a file object that has as many IRPs
-                           listed as its limit
-  Full C000009A            an insert into a list that has as many IRPs as its
-                           limit
+  NotHeld                  a complete or a put_back of an IRP that wasn't
+                           removed, or was completed or put back since
+  FileClosed C0000128      an insert or a put_back for a file object that was
+                           closed
+  FileFull C000009A        one for a file object that has as many IRPs listed as
+                           its limit
+  Full C000009A            one into a list that has as many IRPs as its limit
   Stale 1                  a mark or a cancel of an IRP in another life, this
   NoClaim                  a routine of an IRP that no mark claimed
-  NotHeld                  a complete of an IRP that wasn't removed
   StatusPending            a complete with 00000103
   NotCompleted             a reuse of an IRP that isn't completed
   LivesSpent               a reuse of an IRP in its last life, 1073741823

@@ -7,7 +7,7 @@ use Rattle.irp_core.specs.declared.ids.IrpId.{IrpId}
 use Rattle.irp_core.specs.declared.status.NtStatus.{NtStatus}
 use Rattle.irp_core.specs.declared.status.TheConstants.NtStatus.{CANCELLED}
 use Rattle.irp_core.specs.declared.step.Kind.{Kind}
-use Rattle.irp_core.specs.declared.step.Kind.TheVariants.{Arm, Test, Disarm, End, Flag, Take, Out, Done, Renew}
+use Rattle.irp_core.specs.declared.step.Kind.TheVariants.{Arm, Test, Disarm, End, Flag, Take, Out, Done, Renew, Rearm}
 use Rattle.irp_core.specs.declared.step.Made.{Made}
 use Rattle.irp_core.specs.Steps.{same_irp, same_pass}
 use Rattle.irp_core.specs.declared.ids.IrpLife.{IrpLife}
@@ -16,19 +16,18 @@ use Rattle.irp_core.specs.Owners.{holds}
 use Rattle.irp_core.proofs.Names.{same_irp-refl, same_irp-eq, same_pass-refl}
 use Rattle.csq_words.specs.Plays.{status_recorded}
 use Rattle.csq_list.specs.declared.entry.Place.{Place}
-use Rattle.csq_list.specs.declared.entry.Place.TheVariants.{Back, Front}
 use Rattle.csq_list.specs.declared.entry.Peek.{Peek}
 use Rattle.csq_list.specs.declared.entry.Peek.TheVariants.{File}
 use Rattle.csq_list.specs.declared.refusals.InsertStatus.{InsertStatus}
 use Rattle.csq_list.specs.declared.refusals.InsertStatus.TheVariants.{NotHome}
 use Rattle.csq_list.proofs.Causes.{no_cause}
-use Rattle.csq_list.specs.Listing.{put_at}
 use Rattle.csq_words.specs.declared.views.InsertReply.{InsertReply}
 use Rattle.csq_words.specs.declared.views.InsertReply.TheVariants as insert
 use Rattle.csq_words.specs.declared.views.Event.TheVariants as event
 use Rattle.csq_list.specs.Searches.{matches}
 use Rattle.csq_words.specs.declared.views.Completion.{Completion}
 use Rattle.csq_words.specs.Queue.{Queued, Limits, plain_listing, refusal, reply_to_insert, first_unmarked, has_irp, has_entry, has_unmarked, has_marked, marking, without, new_entry}
+use Rattle.csq_words.specs.History.{IsGone}
 use Rattle.csq_words.proofs.Entries.{has_entry-marking, has_entry-placed, has_entry-without}
 use Rattle.csq_words.proofs.Facts.{bit_false}
 use Rattle.csq_replay.specs.declared.script.call.Call.{Call}
@@ -36,13 +35,13 @@ use Rattle.csq_replay.specs.declared.script.call.Call.TheVariants.{Next, Mark, R
 use Rattle.csq_replay.specs.declared.script.call.Reply.{Reply}
 use Rattle.csq_replay.specs.declared.script.call.Reply.TheVariants.{Removed, NoIrp, Claimed, Unclaimed, Completed, Closed}
 use Rattle.csq_replay.specs.Calls.{Script, script_pass, new_script, present_of, after_reuse, next_step, after_steps, removal_steps, named_removal_steps, doing, completing, after_mark, Calls, Cleans, Does}
-use Rattle.csq_replay.specs.Calls.Calls.{refuses_insert, lists, cancels_insert, removes_next, removes, removes_none, claims, claims_none, runs_routine, has_no_claim, completes, holds_none, refuses_pending, closes, is_stale, reuses, not_completed, lives_spent, tells_flag, tells_status, knows_no_irp, knows_no_file}
+use Rattle.csq_replay.specs.Calls.Calls.{refuses_insert, lists, cancels_insert, removes_next, removes, removes_none, claims, claims_none, runs_routine, has_no_claim, completes, holds_none, refuses_pending, refuses_put_back, puts_back, cancels_put_back, closes, is_stale, reuses, not_completed, lives_spent, tells_flag, tells_status, knows_no_irp, knows_no_file}
 use Rattle.csq_replay.specs.Calls.Cleans.{none_left, one_more}
 use Rattle.csq_replay.specs.Calls.Does.{calls, cancel_claimed, cancel_unclaimed, cleaned}
 use Rattle.csq_replay.specs.Laws.{LeadTo}
 use Rattle.csq_replay.specs.Laws.LeadTo.{at_end, by_nothing, by_call}
 use Rattle.csq_replay.specs.Drivers.{AreMarked}
-use Rattle.csq_replay.proofs.Queueing.{marks_stay, marks_without, marks_marking, marked_is, taken_routine, other_entry}
+use Rattle.csq_replay.proofs.Queueing.{marks_stay, marks_placed, marks_without, marks_marking, marked_is, taken_routine, other_entry}
 use Rattle.csq_replay.proofs.Cleaning.{removal_holds}
 
 -- listed, held or completed
@@ -55,12 +54,13 @@ pub record Accounts (s : Script) : Type 0 where
   pub used : (i : IrpLife) → has_entry s.queue.entries i ≡ true → has_irp s.queue.used i ≡ true
   pub each : (i : IrpLife) → has_irp s.queue.used i ≡ true → Accounted s i
 
--- a step that completes nothing takes nothing from what is held
-abbrev is_done : Kind → Bool
-is_done (Done i) = true
-is_done _ = false
+-- a step that completes nothing and puts nothing back takes nothing from what is held
+abbrev gives_up : Kind → Bool
+gives_up (Done i) = true
+gives_up (Rearm i) = true
+gives_up _ = false
 
-holds_more : (E : List Made) (k : Kind) (i : IrpLife) → is_done k ≡ false → holds E script_pass i ≡ true → holds (next_step E k) script_pass i ≡ true
+holds_more : (E : List Made) (k : Kind) (i : IrpLife) → gives_up k ≡ false → holds E script_pass i ≡ true → holds (next_step E k) script_pass i ≡ true
 holds_more E (Arm j) i n h = h
 holds_more E (Test j) i n h = h
 holds_more E (Disarm j) i n h = or_right (((same_irp j i && bit (armed E j) == 1) || false) && same_pass script_pass script_pass) (holds E script_pass i) h
@@ -70,6 +70,7 @@ holds_more E (Take j) i n h = h
 holds_more E (Out j) i n h = or_right (same_irp j i && same_pass script_pass script_pass) (holds E script_pass i) h
 holds_more E (Done j) i n h = absurd cc
 holds_more E (Renew j) i n h = h
+holds_more E (Rearm j) i n h = absurd cc
 
 -- what an IRP was completed with stays, and one more is completed
 told_more : (completed : List Completion) (j : IrpLife) (status : NtStatus) (i : IrpLife) → (x : NtStatus) × (status_recorded i completed ≡ Some x) → (x : NtStatus) × (status_recorded i (record { irp = j; status = status } ∷ completed) ≡ Some x)
@@ -103,11 +104,6 @@ unused_unlisted s a i none = go (has_entry s.queue.entries i) refl
     go : (b : Bool) → has_entry s.queue.entries i ≡ b → b ≡ false
     go false e = refl
     go true e = let used = a.used i e in absurd (cc (used, none))
-
-marks_put : (E : List Made) (place : Place) (e : Queued) (es : List Queued) → e.marked ≡ not (armed E e.irp) → AreMarked E es → AreMarked E (put_at place e es)
-marks_put E Front e es here h = (here, h)
-marks_put E Back e [] here h = (here, tt)
-marks_put E Back e (x ∷ es) here h = (h.0, marks_put E Back e es here h.1)
 
 -- the entries after a removal that answers this
 abbrev left_after : Option IrpLife → List Queued → List Queued
@@ -158,20 +154,20 @@ holds_removal k (e ∷ es) E i h = go (λ F. holds_removal k es F i) (matches k 
 module _ (s : Script) (a : Accounts s) (F : List Made) (closed : List FileId) (flags : List IrpLife) (lives : IrpId → ℕ) (kept : (j : IrpLife) → holds s.run script_pass j ≡ true → holds F script_pass j ≡ true) where
   -- a script with another run, whose entries stay
   stays : List Queued → Script
-  stays es = record { run = F; queue = record { entries = es; closed = closed; used = s.queue.used; flags = flags; lives = lives }; completed = s.completed }
+  stays es = record { run = F; queue = record { entries = es; closed = closed; used = s.queue.used; flags = flags; lives = lives; file_of = s.queue.file_of }; completed = s.completed }
 
   pub stays_accounts : (es : List Queued) → ((j : IrpLife) → has_entry es j ≡ has_entry s.queue.entries j) → AreMarked F es
-      → Accounts (record { run = F; queue = record { entries = es; closed = closed; used = s.queue.used; flags = flags; lives = lives }; completed = s.completed })
+      → Accounts (record { run = F; queue = record { entries = es; closed = closed; used = s.queue.used; flags = flags; lives = lives; file_of = s.queue.file_of }; completed = s.completed })
   stays_accounts es same marks = record { marks = marks; used = λ j h. a.used j (sym (same j) ∙ h); each = λ j h. go j (a.each j h) }
     where
-      go : (j : IrpLife) → Accounted s j → Accounted (record { run = F; queue = record { entries = es; closed = closed; used = s.queue.used; flags = flags; lives = lives }; completed = s.completed }) j
+      go : (j : IrpLife) → Accounted s j → Accounted (record { run = F; queue = record { entries = es; closed = closed; used = s.queue.used; flags = flags; lives = lives; file_of = s.queue.file_of }; completed = s.completed }) j
       go j (inl h) = inl (same j ∙ h)
       go j (inr (inl h)) = inr (inl (kept j h))
       go j (inr (inr h)) = inr (inr h)
 
   -- one whose IRP leaves, and is held
   pub leaves_accounts : (i : IrpLife) → AreMarked F (without i s.queue.entries) → holds F script_pass i ≡ true
-      → Accounts (record { run = F; queue = record { entries = without i s.queue.entries; closed = closed; used = s.queue.used; flags = flags; lives = lives }; completed = s.completed })
+      → Accounts (record { run = F; queue = record { entries = without i s.queue.entries; closed = closed; used = s.queue.used; flags = flags; lives = lives; file_of = s.queue.file_of }; completed = s.completed })
   leaves_accounts i marks mine = record { marks = marks; used = λ j h. a.used j (still j (same_irp i j) (sym (has_entry-without i s.queue.entries j) ∙ h)); each = λ j h. go j (a.each j h) }
     where
       still : (j : IrpLife) (b : Bool) → (not b && has_entry s.queue.entries j) ≡ true → has_entry s.queue.entries j ≡ true
@@ -179,11 +175,11 @@ module _ (s : Script) (a : Accounts s) (F : List Made) (closed : List FileId) (f
       still j false h = h
 
       left : (j : IrpLife) (b : Bool) → same_irp i j ≡ b → has_entry s.queue.entries j ≡ true
-          → Accounted (record { run = F; queue = record { entries = without i s.queue.entries; closed = closed; used = s.queue.used; flags = flags; lives = lives }; completed = s.completed }) j
+          → Accounted (record { run = F; queue = record { entries = without i s.queue.entries; closed = closed; used = s.queue.used; flags = flags; lives = lives; file_of = s.queue.file_of }; completed = s.completed }) j
       left j true e h = inr (inl (ap (holds F script_pass) (sym (same_irp-eq i j e)) ∙ mine))
       left j false e h = inl (has_entry-without i s.queue.entries j ∙ rw (e, h) refl)
 
-      go : (j : IrpLife) → Accounted s j → Accounted (record { run = F; queue = record { entries = without i s.queue.entries; closed = closed; used = s.queue.used; flags = flags; lives = lives }; completed = s.completed }) j
+      go : (j : IrpLife) → Accounted s j → Accounted (record { run = F; queue = record { entries = without i s.queue.entries; closed = closed; used = s.queue.used; flags = flags; lives = lives; file_of = s.queue.file_of }; completed = s.completed }) j
       go j (inl h) = left j (same_irp i j) refl h
       go j (inr (inl h)) = inr (inl (kept j h))
       go j (inr (inr h)) = inr (inr h)
@@ -203,8 +199,8 @@ module _ (l : Limits) (s : Script) (a : Accounts s) (n : IrpId) (f : FileId) whe
   module _ (place : Place) (absent : has_entry s.queue.entries i ≡ false) where
     pub lists_accounts : Accounts (doing (Arm i ∷ Test i ∷ []) (event.Insert n f place insert.Pending) s)
     lists_accounts = record {
-      marks = marks_put (after_steps (Arm i ∷ Test i ∷ []) s.run) place (new_entry i f) s.queue.entries (rw same_irp-refl refl)
-          (marks_stay s.run (after_steps (Arm i ∷ Test i ∷ []) s.run) s.queue.entries (λ j there. ap (λ b. b || armed s.run j) (other_entry s.queue.entries i j absent there)) a.marks);
+      marks = marks_placed (after_steps (Arm i ∷ Test i ∷ []) s.run) place (new_entry i f) s.queue.entries (rw same_irp-refl refl)
+          (marks_stay s.run (after_steps (Arm i ∷ Test i ∷ []) s.run) s.queue.entries (λ j there. ap (λ b. (b || false) || armed s.run j) (other_entry s.queue.entries i j absent there)) a.marks);
       used = λ j h. used_more j (same_irp i j) (sym (has_entry-placed place (new_entry i f) s.queue.entries j) ∙ h);
       each = λ j h. each_more j (same_irp i j) refl h;
     }
@@ -238,11 +234,47 @@ module _ (l : Limits) (s : Script) (a : Accounts s) (n : IrpId) (f : FileId) whe
         each_more j true e h = inr (inl (rw (e, same_irp-refl, same_pass-refl) refl))
         each_more j false e h = old j (a.each j (rw e at h))
 
+module _ (s : Script) (a : Accounts s) (i : IrpLife) (f : FileId) (place : Place) (gone : IsGone s.queue i) where
+  -- what else is held stays held
+  still_held : (E : List Made) (j : IrpLife) → same_irp i j ≡ false → holds E script_pass j ≡ true → holds (next_step E (Rearm i)) script_pass j ≡ true
+  still_held E j other h = rw (other, h) refl
+
+  puts_back_accounts : Accounts (doing (Rearm i ∷ Test i ∷ []) (event.PutBack i f place insert.Pending) s)
+  puts_back_accounts = record {
+    marks = marks_placed (after_steps (Rearm i ∷ Test i ∷ []) s.run) place (new_entry i f) s.queue.entries (rw same_irp-refl refl)
+        (marks_stay s.run (after_steps (Rearm i ∷ Test i ∷ []) s.run) s.queue.entries (λ j there. ap (λ b. b || armed s.run j) (other_entry s.queue.entries i j gone.1 there)) a.marks);
+    used = λ j h. used_more j (same_irp i j) refl (sym (has_entry-placed place (new_entry i f) s.queue.entries j) ∙ h);
+    each = λ j h. each_more j (same_irp i j) refl (a.each j h);
+  }
+    where
+      used_more : (j : IrpLife) (b : Bool) → same_irp i j ≡ b → (b || has_entry s.queue.entries j) ≡ true → has_irp s.queue.used j ≡ true
+      used_more j true e h = ap (has_irp s.queue.used) (sym (same_irp-eq i j e)) ∙ gone.0
+      used_more j false e h = a.used j h
+
+      each_more : (j : IrpLife) (b : Bool) → same_irp i j ≡ b → Accounted s j → Accounted (doing (Rearm i ∷ Test i ∷ []) (event.PutBack i f place insert.Pending) s) j
+      each_more j true e h = inl (has_entry-placed place (new_entry i f) s.queue.entries j ∙ or_left (same_irp i j) (has_entry s.queue.entries j) e)
+      each_more j false e (inl h) = inl (has_entry-placed place (new_entry i f) s.queue.entries j ∙ or_right (same_irp i j) (has_entry s.queue.entries j) h)
+      each_more j false e (inr (inl h)) = inr (inl (still_held s.run j e h))
+      each_more j false e (inr (inr h)) = inr (inr h)
+
+  cancels_back_accounts : Accounts (doing (Rearm i ∷ Test i ∷ Disarm i ∷ []) (event.PutBack i f place insert.Cancelled) s)
+  cancels_back_accounts = record {
+    marks = marks_stay s.run (after_steps (Rearm i ∷ Test i ∷ Disarm i ∷ []) s.run) s.queue.entries (λ j there. rw (other_entry s.queue.entries i j gone.1 there) refl) a.marks;
+    used = a.used;
+    each = λ j h. each_more j (same_irp i j) refl (a.each j h);
+  }
+    where
+      each_more : (j : IrpLife) (b : Bool) → same_irp i j ≡ b → Accounted s j → Accounted (doing (Rearm i ∷ Test i ∷ Disarm i ∷ []) (event.PutBack i f place insert.Cancelled) s) j
+      each_more j true e h = inr (inl (rw (e, same_irp-refl, same_pass-refl) refl))
+      each_more j false e (inl h) = inl h
+      each_more j false e (inr (inl h)) = inr (inl (holds_more (after_steps (Rearm i ∷ Test i ∷ []) s.run) (Disarm i) j refl (still_held s.run j e h)))
+      each_more j false e (inr (inr h)) = inr (inr h)
+
 module _ (s : Script) (a : Accounts s) (i : IrpLife) where
   removed_one : true ≡ has_unmarked s.queue.entries i → Accounts (doing (named_removal_steps i s.queue.entries) (event.Remove i true) s)
   removed_one may =
       let set : armed s.run i ≡ true = (and_parts (has_entry s.queue.entries i) (armed s.run i) (sym (marked_is s.run s.queue.entries a.marks i).0 ∙ sym may)).1 in
-      let P : List Made → Type 0 = λ E. Accounts (record { run = E; queue = record { entries = without i s.queue.entries; closed = s.queue.closed; used = s.queue.used; flags = s.queue.flags; lives = s.queue.lives }; completed = s.completed }) in
+      let P : List Made → Type 0 = λ E. Accounts (record { run = E; queue = record { entries = without i s.queue.entries; closed = s.queue.closed; used = s.queue.used; flags = s.queue.flags; lives = s.queue.lives; file_of = s.queue.file_of }; completed = s.completed }) in
       let steps : next_step s.run (Disarm i) ≡ after_steps (named_removal_steps i s.queue.entries) s.run = rw (← may) refl in
       subst P steps (leaves_accounts s a (next_step s.run (Disarm i)) s.queue.closed s.queue.flags s.queue.lives (λ j. holds_more s.run (Disarm i) j refl) i (marks_leave s.run i s.queue.entries a.marks)
       (rw (set, same_irp-refl, same_pass-refl) refl))
@@ -306,8 +338,11 @@ calls_account l s t c r (is_stale c' i names known stale) a = a
 calls_account l s t c r (runs_routine n known owed may) a = done_accounts _ (present_of s n) CANCELLED (taken_out s a (present_of s n))
 calls_account l s t c r (has_no_claim n known none) a = a
 calls_account l s t c r (completes n status known held final) a = done_accounts s (present_of s n) status a
-calls_account l s t c r (holds_none n status known none) a = a
+calls_account l s t c r (holds_none c' n takes known none) a = a
 calls_account l s t c r (refuses_pending n known held) a = a
+calls_account l s t c r (refuses_put_back n place cause known held may) a = a
+calls_account l s t c r (puts_back n place known held may) a = puts_back_accounts s a (present_of s n) (s.queue.file_of n) place may.0
+calls_account l s t c r (cancels_put_back n place known held may) a = done_accounts _ (present_of s n) CANCELLED (cancels_back_accounts s a (present_of s n) (s.queue.file_of n) place may.0)
 calls_account l s t c r (closes f known) a = record { marks = a.marks; used = a.used; each = a.each }
 calls_account l s t c r (tells_flag n known) a = a
 calls_account l s t c r (tells_status n known) a = a

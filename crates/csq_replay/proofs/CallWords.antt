@@ -7,7 +7,7 @@ use Rattle.irp_core.specs.declared.ids.IrpLife.{IrpLife}
 use Rattle.csq_list.specs.declared.entry.Place.{Place}
 use Rattle.csq_list.specs.declared.entry.Peek.TheVariants.{Any, File}
 use Rattle.csq_replay.specs.declared.script.call.Call.{Call}
-use Rattle.csq_replay.specs.declared.script.call.Call.TheVariants.{Insert, Next, Remove, Mark, Routine, Cancel, Complete, Close, Cleanup, Flag, Status, Reuse}
+use Rattle.csq_replay.specs.declared.script.call.Call.TheVariants.{Insert, Next, Remove, Mark, Routine, Cancel, Complete, Close, Cleanup, Flag, Status, Reuse, PutBack}
 use Rattle.csq_replay.specs.Pieces.{words_of, IsShort, IsNumber}
 use Rattle.csq_replay.specs.CallLine.{call_name, named_life, place_word, IsLifeName, IsHexStatus, IsOne, IsNamed}
 use Rattle.csq_replay.specs.StepLine.{IsNameWord}
@@ -25,17 +25,16 @@ module _ (operands irp rest file place : List ℕ) (cut : words_of operands ≡ 
       let (first, second, words, is_irp, is_file) = h.1 in
       let last : words_of place ≡ place_word p ∷ [] = cc (cut, cut_file, words) in
       none p (alone place (place_word p) last)
-  insert_no_place none (Next k) h = let e = ap letters h.0 in absurd (omega (arith, e))
-  insert_no_place none (Remove i) h = let e = ap letters h.0 in absurd (omega (arith, e))
-  insert_no_place none (Mark i) h = let e = ap letters h.0 in absurd (omega (arith, e))
-  insert_no_place none (Routine i) h = let e = ap letters h.0 in absurd (omega (arith, e))
-  insert_no_place none (Cancel i) h = let e = ap letters h.0 in absurd (omega (arith, e))
-  insert_no_place none (Complete i status) h = let e = ap letters h.0 in absurd (omega (arith, e))
-  insert_no_place none (Close f) h = let e = ap letters h.0 in absurd (omega (arith, e))
-  insert_no_place none (Cleanup f) h = let e = ap letters h.0 in absurd (omega (arith, e))
-  insert_no_place none (Flag i) h = let e = ap letters h.0 in absurd (omega (arith, e))
-  insert_no_place none (Status i) h = let e = ap letters h.0 in absurd (omega (arith, e))
-  insert_no_place none (Reuse i) h = let e = ap letters h.0 in absurd (omega (arith, e))
+  insert_no_place none c h = let e = ap letters h.0 in absurd (omega (arith, e))
+
+module _ (operands irp place : List ℕ) (cut : words_of operands ≡ irp ∷ words_of place) where
+  -- where the second word is no place, no put-back is named
+  pub put_back_no_place : ((p : Place) → ¬ (place ≡ place_word p)) → (c : Call) → ¬ IsNamed (codes "put_back") (words_of operands) c
+  put_back_no_place none (PutBack i p) h =
+      let (first, words, is_irp) = h.1 in
+      let last : words_of place ≡ place_word p ∷ [] = cc (cut, words) in
+      none p (alone place (place_word p) last)
+  put_back_no_place none c h = let e = ap letters h.0 in absurd (omega (arith, e))
 
 module _ (operands irp status : List ℕ) (cut : words_of operands ≡ irp ∷ words_of status) where
   -- where the second word is no status, no completion is named
@@ -45,17 +44,7 @@ module _ (operands irp status : List ℕ) (cut : words_of operands ≡ irp ∷ w
       let last : words_of status ≡ digits ∷ [] = cc (cut, words) in
       let P : List ℕ → Type 0 = λ w. IsHexStatus w code.0 in
       none code (subst P (sym (alone status digits last)) is_status)
-  complete_no_status none (Insert i f p) h = let e = ap letters h.0 in absurd (omega (arith, e))
-  complete_no_status none (Next k) h = let e = ap letters h.0 in absurd (omega (arith, e))
-  complete_no_status none (Remove i) h = let e = ap letters h.0 in absurd (omega (arith, e))
-  complete_no_status none (Mark i) h = let e = ap letters h.0 in absurd (omega (arith, e))
-  complete_no_status none (Routine i) h = let e = ap letters h.0 in absurd (omega (arith, e))
-  complete_no_status none (Cancel i) h = let e = ap letters h.0 in absurd (omega (arith, e))
-  complete_no_status none (Close f) h = let e = ap letters h.0 in absurd (omega (arith, e))
-  complete_no_status none (Cleanup f) h = let e = ap letters h.0 in absurd (omega (arith, e))
-  complete_no_status none (Flag i) h = let e = ap letters h.0 in absurd (omega (arith, e))
-  complete_no_status none (Status i) h = let e = ap letters h.0 in absurd (omega (arith, e))
-  complete_no_status none (Reuse i) h = let e = ap letters h.0 in absurd (omega (arith, e))
+  complete_no_status none c h = let e = ap letters h.0 in absurd (omega (arith, e))
 
   pub complete_named : (n : ℕ) (code : NtStatus) → IsNumber irp n → IsHexStatus status code.0 → IsNamed (codes "complete") (words_of operands) (Complete (record { 0 = n }) code)
   complete_named n code is_irp is_status = (refl, (irp, status, cut ∙ ap (λ words. irp ∷ words) (words_of-digits status is_status.1), is_irp, is_status))
@@ -66,17 +55,7 @@ module _ (operand : List ℕ) where
   next_no_number none star (Next Any) h = star (alone operand (codes "*") h.1)
   next_no_number none star (Next (File f)) h =
       let (name, (word, words, is)) = h in none f.0 (alone operand word words ∙ is.0, is.1)
-  next_no_number none star (Insert i f p) h = let e = ap letters h.0 in absurd (omega (arith, e))
-  next_no_number none star (Remove i) h = let e = ap letters h.0 in absurd (omega (arith, e))
-  next_no_number none star (Mark i) h = let e = ap letters h.0 in absurd (omega (arith, e))
-  next_no_number none star (Routine i) h = let e = ap letters h.0 in absurd (omega (arith, e))
-  next_no_number none star (Cancel i) h = let e = ap letters h.0 in absurd (omega (arith, e))
-  next_no_number none star (Complete i status) h = let e = ap letters h.0 in absurd (omega (arith, e))
-  next_no_number none star (Close f) h = let e = ap letters h.0 in absurd (omega (arith, e))
-  next_no_number none star (Cleanup f) h = let e = ap letters h.0 in absurd (omega (arith, e))
-  next_no_number none star (Flag i) h = let e = ap letters h.0 in absurd (omega (arith, e))
-  next_no_number none star (Status i) h = let e = ap letters h.0 in absurd (omega (arith, e))
-  next_no_number none star (Reuse i) h = let e = ap letters h.0 in absurd (omega (arith, e))
+  next_no_number none star c h = let e = ap letters h.0 in absurd (omega (arith, e))
 
   number_word : (n : ℕ) → IsNumber operand n → words_of operand ≡ operand ∷ []
   number_word n is = ap words_of is.0 ∙ words_of-decimal n (omega (arith, is.1)) ∙ ap (λ w. w ∷ []) (sym is.0)
@@ -88,19 +67,20 @@ module _ (operand : List ℕ) where
   is_number none n h = let (word, words, is) = h in none n (alone operand word words ∙ is.0, is.1)
 
   -- where it is no number, no call of one operand is named that names no life
-  pub no_call : (name : List ℕ) → (name ≡ codes "insert" → ⊥) → (name ≡ codes "next" → ⊥) → (name ≡ codes "complete" → ⊥) → ¬ IsLifeName name → ((n : ℕ) → ¬ IsNumber operand n) → (c : Call) → ¬ IsNamed name (words_of operand) c
-  no_call name insert next complete life none (Insert i f p) h = insert h.0
-  no_call name insert next complete life none (Next k) h = next h.0
-  no_call name insert next complete life none (Complete i status) h = complete h.0
-  no_call name insert next complete life none (Remove i) h = life (inl h.0)
-  no_call name insert next complete life none (Mark i) h = life (inr (inl h.0))
-  no_call name insert next complete life none (Cancel i) h = life (inr (inr h.0))
-  no_call name insert next complete life none (Routine i) h = is_number none i.0 h.1
-  no_call name insert next complete life none (Close f) h = is_number none f.0 h.1
-  no_call name insert next complete life none (Cleanup f) h = is_number none f.0 h.1
-  no_call name insert next complete life none (Flag i) h = is_number none i.0 h.1
-  no_call name insert next complete life none (Status i) h = is_number none i.0 h.1
-  no_call name insert next complete life none (Reuse i) h = is_number none i.0 h.1
+  pub no_call : (name : List ℕ) → (name ≡ codes "insert" → ⊥) → (name ≡ codes "next" → ⊥) → (name ≡ codes "complete" → ⊥) → (name ≡ codes "put_back" → ⊥) → ¬ IsLifeName name → ((n : ℕ) → ¬ IsNumber operand n) → (c : Call) → ¬ IsNamed name (words_of operand) c
+  no_call name insert next complete back life none (Insert i f p) h = insert h.0
+  no_call name insert next complete back life none (Next k) h = next h.0
+  no_call name insert next complete back life none (Complete i status) h = complete h.0
+  no_call name insert next complete back life none (PutBack i p) h = back h.0
+  no_call name insert next complete back life none (Remove i) h = life (inl h.0)
+  no_call name insert next complete back life none (Mark i) h = life (inr (inl h.0))
+  no_call name insert next complete back life none (Cancel i) h = life (inr (inr h.0))
+  no_call name insert next complete back life none (Routine i) h = is_number none i.0 h.1
+  no_call name insert next complete back life none (Close f) h = is_number none f.0 h.1
+  no_call name insert next complete back life none (Cleanup f) h = is_number none f.0 h.1
+  no_call name insert next complete back life none (Flag i) h = is_number none i.0 h.1
+  no_call name insert next complete back life none (Status i) h = is_number none i.0 h.1
+  no_call name insert next complete back life none (Reuse i) h = is_number none i.0 h.1
 
   -- a call of such a name names a life
   life_named : (name : List ℕ) → IsLifeName name → (c : Call) → IsNamed name (words_of operand) c → (i : IrpLife) × (named_life c ≡ Some i) × IsOne (λ word. IsNameWord word i) (words_of operand)

@@ -14,19 +14,19 @@ use Rattle.irp_core.specs.declared.standing.IrpPlace.TheVariants.{Home, Listed, 
 use Rattle.irp_core.specs.declared.standing.IrpPlace.TheVariants.{Completed as PlaceCompleted}
 use Rattle.irp_core.specs.Completion.{IsPlace}
 use Rattle.csq_replay.proofs.OneAnswer.{one_place}
-use Rattle.irp_core.specs.Steps.{number, same_irp, same_pass}
+use Rattle.irp_core.specs.Steps.{number, same_id, same_irp, same_pass}
 use Rattle.irp_core.specs.declared.ids.IrpLife.{IrpLife}
 use Rattle.irp_core.specs.Words.{bit, armed, flagged}
 use Rattle.irp_core.specs.Owners.{owes, holds, listed, dones}
 use Rattle.irp_core.specs.Lives.{present}
 use Rattle.irp_core.specs.Runs.{Size, IsRun}
 use Rattle.irp_core.specs.MachineState.{MachineState, Agrees, size_of}
-use Rattle.irp_core.proofs.Names.{same_irp-refl, same_irp-eq, same_irp-ne, same_pass-refl, same_pass-eq}
+use Rattle.irp_core.proofs.Names.{same_id-eq, same_id-ne, same_irp-refl, same_irp-eq, same_irp-ne, same_pass-refl, same_pass-eq}
 use Rattle.csq_words.specs.Plays.{status_recorded}
 use Rattle.csq_list.specs.Searches.{is_listed}
 use Rattle.csq_list.specs.Listing.{Listing, with_closed, without_irp}
 use Rattle.csq_words.specs.declared.views.Event.TheVariants as event
-use Rattle.csq_words.specs.Queue.{Limits, after_event, has_entry, has_marked, has_unmarked}
+use Rattle.csq_words.specs.Queue.{Limits, with_file, after_event, has_entry, has_marked, has_unmarked}
 use Rattle.csq_words.proofs.Named.{id_eq}
 use Rattle.csq_words.proofs.Listings.{is_listed-plain, listing-removed, listing-marked}
 use Rattle.csq_replay.specs.declared.script.call.Call.{Call}
@@ -34,7 +34,7 @@ use Rattle.csq_replay.specs.declared.script.call.Call.TheVariants.{Mark, Routine
 use Rattle.csq_replay.specs.declared.script.call.Refusal.TheVariants.{UnknownIrp, UnknownFile, NoClaim, NotHeld, StatusPending, Stale}
 use Rattle.csq_replay.specs.declared.script.call.Reply.TheVariants.{Claimed, Unclaimed, Closed, Refused}
 use Rattle.csq_replay.specs.declared.script.call.Reply.TheVariants as reply
-use Rattle.csq_replay.specs.Calls.{Script, script_pass, script_size, present_of, IsNow, next_step, doing, completing, after_mark, status_reply, irp_of, cancelled_life, file_of, Calls}
+use Rattle.csq_replay.specs.Calls.{Script, script_pass, script_size, present_of, IsNow, next_step, doing, completing, after_mark, status_reply, irp_of, token_of, cancelled_life, file_of, Calls}
 use Rattle.csq_replay.specs.Calls.Calls.{has_no_claim, holds_none, refuses_pending, closes, tells_flag, tells_status, knows_no_irp, knows_no_file, claims_none, is_stale}
 use Rattle.csq_replay.specs.Calls.Calls.{claims as claims_it}
 use Rattle.csq_replay.specs.Drivers.{Keeping, Keeps, IsOfRun}
@@ -93,6 +93,8 @@ module _ (l : Limits) (kept : Keeping) (s : Script) (k : Keeps l kept s) where
       told = k.told;
       statuses = k.statuses;
       statuses_size = k.statuses_size;
+      files = k.files;
+      files_size = k.files_size;
     },
   )
 
@@ -117,6 +119,8 @@ module _ (l : Limits) (kept : Keeping) (s : Script) (k : Keeps l kept s) where
     told = λ i none. untold i (same_irp (present_of s n) i) refl none;
     statuses = λ j in_range. ap (λ x. slice_index_or x j.0 None) is ∙ told j in_range (same_irp (present_of s n) (present_of s j)) refl;
     statuses_size = ap length is ∙ length-set kept.statuses n.0 (Some status) ∙ k.statuses_size;
+    files = k.files;
+    files_size = k.files_size;
   }
     where
       told : (j : IrpId) → j.0 < l.irps → (b : Bool) → same_irp (present_of s n) (present_of s j) ≡ b
@@ -151,6 +155,8 @@ module _ (l : Limits) (kept : Keeping) (s : Script) (k : Keeps l kept s) where
       told = k.told;
       statuses = k.statuses;
       statuses_size = k.statuses_size;
+      files = k.files;
+      files_size = k.files_size;
     },
   )
 
@@ -173,6 +179,8 @@ module _ (l : Limits) (kept : Keeping) (s : Script) (k : Keeps l kept s) where
           told = k.told;
           statuses = k.statuses;
           statuses_size = k.statuses_size;
+          files = k.files;
+          files_size = k.files_size;
         },
       )
 
@@ -205,6 +213,8 @@ module _ (l : Limits) (kept : Keeping) (s : Script) (k : Keeps l kept s) where
     told = k.told;
     statuses = k.statuses;
     statuses_size = k.statuses_size;
+    files = k.files;
+    files_size = k.files_size;
   }
 
   pub out_may_come : (i : IrpLife) → owes s.run script_pass i ≡ true → has_marked s.queue.entries i ≡ true
@@ -212,9 +222,9 @@ module _ (l : Limits) (kept : Keeping) (s : Script) (k : Keeps l kept s) where
       let h = owed_listed (size_of kept.machine) s.run k.agrees.run i owed in
       (marked_is s.run s.queue.entries k.queue.marks i).1 ∙ rw (k.queue.entries i ∙ h.0, h.1) refl
 
-  pub not_held_keeps : (n : IrpId) → n.0 < (size_of kept.machine).irps → (status : NtStatus) → holds s.run script_pass (present_of s n) ≡ false
-      → (t : Script) × Calls l s (Complete n status) (Refused NotHeld) t × Keeps l kept t
-  not_held_keeps n known status none = (s, holds_none n status (omega (arith, known, irps_are)) none, k)
+  pub not_held_keeps : (c : Call) (n : IrpId) → token_of c ≡ Some n → n.0 < (size_of kept.machine).irps → holds s.run script_pass (present_of s n) ≡ false
+      → (t : Script) × Calls l s c (Refused NotHeld) t × Keeps l kept t
+  not_held_keeps c n takes known none = (s, holds_none c n takes (omega (arith, known, irps_are)) none, k)
 
   pub pending_keeps : (n : IrpId) → n.0 < (size_of kept.machine).irps → (status : NtStatus) → holds s.run script_pass (present_of s n) ≡ true → status ≡ PENDING
       → (t : Script) × Calls l s (Complete n status) (Refused StatusPending) t × Keeps l kept t
@@ -224,6 +234,28 @@ module _ (l : Limits) (kept : Keeping) (s : Script) (k : Keeps l kept s) where
 
   pub no_claim_keeps : (n : IrpId) → n.0 < (size_of kept.machine).irps → owes s.run script_pass (present_of s n) ≡ false → (t : Script) × Calls l s (Routine n) (Refused NoClaim) t × Keeps l kept t
   no_claim_keeps n known none = (s, has_no_claim n (omega (arith, known, irps_are)) none, k)
+
+  -- of an IRP that an insert accepts the file object is kept
+  pub filed_keeps : (n : IrpId) (f : FileId) → n.0 < l.irps → (files : List FileId) → files ≡ slice_set kept.files n.0 f
+      → Keeps l (record kept { files = files }) (record s { queue = record s.queue { file_of = with_file n f s.queue.file_of } })
+  filed_keeps n f known files is = record {
+    agrees = k.agrees;
+    size = k.size;
+    few = k.few;
+    listing = k.listing;
+    queue = record { lives = k.queue.lives; used = k.queue.used; entries = k.queue.entries; flags = k.queue.flags; marks = k.queue.marks };
+    outside = k.outside;
+    told = k.told;
+    statuses = k.statuses;
+    statuses_size = k.statuses_size;
+    files = λ m in_range. ap (λ x. slice_index_or x m.0 (record { 0 = 0 })) is ∙ noted m in_range (same_id n m) refl;
+    files_size = ap length is ∙ length-set kept.files n.0 f ∙ k.files_size;
+  }
+    where
+      noted : (m : IrpId) → m.0 < l.irps → (b : Bool) → same_id n m ≡ b → slice_index_or (slice_set kept.files n.0 f) m.0 (record { 0 = 0 }) ≡ with_file n f s.queue.file_of m
+      noted m in_range true e =
+          rw e (ap (λ (x : IrpId). slice_index_or (slice_set kept.files n.0 f) x.0 (record { 0 = 0 })) (sym (same_id-eq n m e)) ∙ get_or-set_same kept.files n.0 f (record { 0 = 0 }) (omega (arith, known, k.files_size)))
+      noted m in_range false e = rw e (get_or-set_other kept.files n.0 m.0 f (record { 0 = 0 }) (λ same. same_id-ne n m e (sym same)) ∙ k.files m in_range)
 
   -- whether the list has it
   pub listed_there : (n : IrpId) → is_listed kept.listing.entries n ≡ listed s.run (present_of s n)
@@ -235,12 +267,13 @@ module _ (l : Limits) (kept : Keeping) (s : Script) (k : Keeps l kept s) where
   owed_there n owed = listed_there n ∙ (owed_listed (size_of kept.machine) s.run k.agrees.run (present_of s n) owed).0
 
 -- the same parts are kept
-pub keeps_as : (l : Limits) (a b : Keeping) (s : Script) → Keeps l a s → b.machine ≡ a.machine → b.listing ≡ a.listing → b.statuses ≡ a.statuses → Keeps l b s
-keeps_as l a b s k machine listing statuses =
-    let M : MachineState → Type 0 = λ x. Keeps l (record { machine = x; listing = b.listing; statuses = b.statuses }) s in
-    let G : Listing → Type 0 = λ x. Keeps l (record { machine = a.machine; listing = x; statuses = b.statuses }) s in
-    let S : List (Option NtStatus) → Type 0 = λ x. Keeps l (record { machine = a.machine; listing = a.listing; statuses = x }) s in
-    subst M (sym machine) (subst G (sym listing) (subst S (sym statuses) k))
+pub keeps_as : (l : Limits) (a b : Keeping) (s : Script) → Keeps l a s → b.machine ≡ a.machine → b.listing ≡ a.listing → b.statuses ≡ a.statuses → b.files ≡ a.files → Keeps l b s
+keeps_as l a b s k machine listing statuses files =
+    let M : MachineState → Type 0 = λ x. Keeps l (record { machine = x; listing = b.listing; statuses = b.statuses; files = b.files }) s in
+    let G : Listing → Type 0 = λ x. Keeps l (record { machine = a.machine; listing = x; statuses = b.statuses; files = b.files }) s in
+    let S : List (Option NtStatus) → Type 0 = λ x. Keeps l (record { machine = a.machine; listing = a.listing; statuses = x; files = b.files }) s in
+    let F : List FileId → Type 0 = λ x. Keeps l (record { machine = a.machine; listing = a.listing; statuses = a.statuses; files = x }) s in
+    subst M (sym machine) (subst G (sym listing) (subst S (sym statuses) (subst F (sym files) k)))
 
 -- where an IRP is says whether the pass holds it
 abbrev pub held_there : IrpPlace → Bool

@@ -29,7 +29,7 @@ use Rattle.csq_replay.specs.declared.script.call.Refusal.{Refusal}
 use Rattle.csq_replay.specs.declared.script.call.Reply.{Reply}
 use Rattle.csq_replay.specs.declared.script.call.Reply.TheVariants.{Removed, NoIrp, Refused}
 use Rattle.csq_replay.specs.Calls.{Script, script_pass, present_of, completing, next_step, after_steps, removal_steps, Calls, Cleans, Does}
-use Rattle.csq_replay.specs.Calls.Calls.{removes_next, completes, is_stale, knows_no_irp, knows_no_file}
+use Rattle.csq_replay.specs.Calls.Calls.{removes_next, completes, holds_none, is_stale, knows_no_irp, knows_no_file}
 use Rattle.csq_replay.specs.Calls.Cleans.{none_left, one_more}
 use Rattle.csq_replay.specs.Calls.Does.{calls}
 use Rattle.csq_replay.specs.Drivers.{Keeping, Keeps, AreMarked}
@@ -41,10 +41,12 @@ pub cancel_refused : (l : Limits) (s t : Script) (i : IrpLife) (refusal : Refusa
 cancel_refused l s t i refusal (is_stale c k names known stale) = calls (Cancel i) (Refused refusal) t (is_stale (Cancel i) k names known stale)
 cancel_refused l s t i refusal (knows_no_irp c k names le) = calls (Cancel i) (Refused refusal) t (knows_no_irp (Cancel i) k names le)
 cancel_refused l s t i refusal (knows_no_file c f names le) = absurd (cc names)
+cancel_refused l s t i refusal (holds_none c n takes lt none) = absurd (cc takes)
 
 -- a close that is refused refuses the cleanup
 pub cleanup_refused : (l : Limits) (s t : Script) (f : FileId) (refusal : Refusal) → Calls l s (Close f) (Refused refusal) t → Does l s (Cleanup f) (Refused refusal) t
 cleanup_refused l s t f refusal (is_stale c j names known stale) = absurd (cc names)
+cleanup_refused l s t f refusal (holds_none c n takes lt none) = absurd (cc takes)
 cleanup_refused l s t f refusal (knows_no_irp c j names le) = absurd (cc names)
 cleanup_refused l s t f refusal (knows_no_file c g names le) = calls (Cleanup f) (Refused refusal) t (knows_no_file (Cleanup f) g names le)
 
@@ -99,6 +101,7 @@ pub next_removed : (l : Limits) (s t : Script) (k : Peek) (n : IrpId) (r : Reply
 next_removed l s t k n r is (removes_next k' (Some j) may) = let same : j.irp ≡ n = cc is in (j, same, sym may, refl, refl)
 next_removed l s t k n r is (removes_next k' None may) = absurd (cc is)
 next_removed l s t k n r is (is_stale c j names known stale) = absurd (cc names)
+next_removed l s t k n r is (holds_none c j takes lt none) = absurd (cc takes)
 next_removed l s t k n r is (knows_no_irp c j names le) = absurd (cc names)
 next_removed l s t k n r is (knows_no_file c f names le) = absurd (cc names)
 

@@ -3,20 +3,21 @@ use Rattle.std.proofs.Common.{◌≡◌, ◌≢◌, ℕ, ◌<◌, ◌≤◌, Boo
 use Rattle.irp_core.specs.declared.ids.IrpId.{IrpId}
 use Rattle.irp_core.specs.declared.ids.PassId.{PassId}
 use Rattle.irp_core.specs.declared.step.Kind.{Kind}
-use Rattle.irp_core.specs.declared.step.Kind.TheVariants.{Arm, Test, Disarm, End, Flag, Take, Out, Done, Renew}
+use Rattle.irp_core.specs.declared.step.Kind.TheVariants.{Arm, Test, Disarm, End, Flag, Take, Out, Done, Renew, Rearm}
 use Rattle.irp_core.specs.declared.step.Made.{Made}
 use Rattle.irp_core.specs.declared.inside.Inside.{Inside}
-use Rattle.irp_core.specs.declared.inside.Inside.TheVariants.{Nothing, Armed, FlagSeen, Cancelling}
+use Rattle.irp_core.specs.declared.inside.Inside.TheVariants.{Nothing, Armed, FlagSeen, Cancelling, Rearmed, FlagSeenAgain}
 use Rattle.irp_core.specs.Steps.{number, life_of, same_irp, same_pass, Each}
 use Rattle.irp_core.specs.declared.ids.IrpLife.{IrpLife}
 use Rattle.irp_core.specs.Words.{was_armed, found_by}
 use Rattle.irp_core.specs.Inside.{inside, inside_after, follows, has_lock}
 use Rattle.irp_core.specs.Owners.{owes, holds, listed, dones}
+use Rattle.irp_core.specs.Completion.{removed, holds_removed}
 use Rattle.irp_core.specs.Lives.{last_life, present_life, present, IsPresent}
 use Rattle.irp_core.specs.Runs.{Size, IsKnown, IsRun}
 use Rattle.irp_core.specs.MachineState.{MachineState, Agrees, size_of}
 use Rattle.irp_core.proofs.Names.{same_irp-eq, same_pass-refl, same_pass-eq}
-use Rattle.irp_core.proofs.Next.{IsFreeFor, grows_by_arm, grows_by_test, grows_by_insert_disarm, grows_by_removal_disarm, grows_by_end, grows_by_flag, grows_by_take, grows_by_out, grows_by_done, grows_by_renew}
+use Rattle.irp_core.proofs.Next.{IsFreeFor, grows_by_arm, grows_by_test, grows_by_insert_disarm, grows_by_removal_disarm, grows_by_end, grows_by_flag, grows_by_take, grows_by_out, grows_by_done, grows_by_renew, grows_by_rearm, grows_by_test_again, grows_by_disarm_again}
 use Rattle.csq_words.specs.Queue.{Limits}
 use Rattle.csq_replay.specs.Calls.{Script, script_pass, script_size, present_of, IsNow, next_step}
 use Rattle.csq_replay.specs.Drivers.{Keeping, Keeps}
@@ -112,6 +113,17 @@ module _ (state : MachineState) (E : List Made) (x : Inside) (g : Goes state E x
 
   pub may_renew : (i : IrpLife) → x ≡ Nothing → number i < (size_of state).irps → IsPresent (size_of state).first E i → dones E i ≢ [] → life_of i < last_life → May state (Renew i)
   may_renew i at known now over room = (E, g.agrees, grows_by_renew (size_of state) E g.agrees.run script_pass (lit≤ tt) to i known (g.at ∙ at) free now over room)
+
+  pub may_rearm : (i : IrpLife) → x ≡ Nothing → number i < (size_of state).irps → holds E script_pass i ≡ true → removed E i ≡ true → May state (Rearm i)
+  may_rearm i at known held back =
+      let both : holds_removed E script_pass i ≡ true = rw (held, back) refl in
+      (E, g.agrees, grows_by_rearm (size_of state) E g.agrees.run script_pass (lit≤ tt) to i known (g.at ∙ at) free both)
+
+  pub may_test_again : (i : IrpLife) → x ≡ Rearmed i → number i < (size_of state).irps → May state (Test i)
+  may_test_again i at known = (E, g.agrees, grows_by_test_again (size_of state) E g.agrees.run script_pass (lit≤ tt) to i known (g.at ∙ at))
+
+  pub may_disarm_again : (i : IrpLife) → x ≡ FlagSeenAgain i → number i < (size_of state).irps → May state (Disarm i)
+  may_disarm_again i at known = (E, g.agrees, grows_by_disarm_again (size_of state) E g.agrees.run script_pass (lit≤ tt) to i known (g.at ∙ at))
 
 pub done_as : (new : MachineState) (E : List Made) (x i : IrpLife) → x ≡ i → Agrees new (next_step E (Done x)) → Agrees new (next_step E (Done i))
 done_as new E x i e h = let P : IrpLife → Type 0 = λ y. Agrees new (next_step E (Done y)) in subst P e h

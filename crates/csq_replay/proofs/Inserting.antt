@@ -1,5 +1,6 @@
 -- Inserts: what the driver keeps in the end.
 use Rattle.std.proofs.Common.{◌≡◌, ℕ, ◌<◌, Bool, true, false, List, [], ◌∷◌, Option, Some, None, refl, ap, sym, ◌∙◌, subst, arith}
+use Rattle.std.specs.Prelude.{slice_set}
 use borrow.Author.Tests.{leb-false}
 use Rattle.irp_core.specs.declared.ids.FileId.{FileId}
 use Rattle.irp_core.specs.declared.ids.IrpId.{IrpId}
@@ -22,7 +23,7 @@ use Rattle.csq_list.proofs.Causes.{no_cause}
 use Rattle.csq_list.proofs.Keeping.{filter-put_at}
 use Rattle.csq_words.specs.declared.views.InsertReply.TheVariants as reply
 use Rattle.csq_words.specs.declared.views.Event.TheVariants as event
-use Rattle.csq_words.specs.Queue.{Queued, QueueState, Limits, plain_listing, refusal, reply_to_insert, has_irp, without, after_event, new_entry}
+use Rattle.csq_words.specs.Queue.{Queued, QueueState, Limits, plain_listing, refusal, reply_to_insert, has_irp, without, with_file, after_event, new_entry}
 use Rattle.csq_words.proofs.Listings.{listing-taken_back, listing-inserted}
 use Rattle.csq_replay.specs.declared.script.call.Call.TheVariants.{Insert}
 use Rattle.csq_replay.specs.declared.script.call.Reply.TheVariants.{Pending, InsertRefused}
@@ -32,12 +33,13 @@ use Rattle.csq_replay.specs.Drivers.{Keeping, Keeps, IsOfRun}
 use Rattle.csq_replay.proofs.Going.{Goes, May, starts, run_for, now_present, went, may_arm, may_test, may_disarm}
 use Rattle.csq_replay.proofs.Queueing.{queue_arm, queue_test, queue_hit, unlisted, sound_lives, found_then}
 use Rattle.csq_replay.proofs.Removing.{keeps_run}
+use Rattle.csq_replay.proofs.Calling.{irps_are, filed_keeps}
 
-zero_is : (b : Bool) (v : ℕ) → v ≡ bit b → v ≡ 0 → b ≡ false
+pub zero_is : (b : Bool) (v : ℕ) → v ≡ bit b → v ≡ 0 → b ≡ false
 zero_is true v is e = absurd (omega arith)
 zero_is false v is e = refl
 
-one_is : (b : Bool) (v : ℕ) → v ≡ bit b → (v ≡ 0 → ⊥) → b ≡ true
+pub one_is : (b : Bool) (v : ℕ) → v ≡ bit b → (v ≡ 0 → ⊥) → b ≡ true
 one_is true v is e = refl
 one_is false v is e = absurd (e is)
 
@@ -89,7 +91,8 @@ module _ (l : Limits) (kept : Keeping) (s : Script) (k : Keeps l kept s) (n : Ir
       queue1 = queue_arm (script_size l) s.run (run_for l kept s k) s.queue k.queue n f place home
 
       module _ (m2 : MachineState) (a2 : Agrees m2 (next_step (next_step s.run (Arm i)) (Test i))) (same2 : size_of m2 ≡ size_of m1)
-          (v : ℕ) (value : v ≡ found_by (next_step s.run (Arm i)) (Test i)) (listing : Listing) (is : listing ≡ inserted place (record { irp = n; file = f }) kept.listing) where
+          (v : ℕ) (value : v ≡ found_by (next_step s.run (Arm i)) (Test i)) (listing : Listing) (is : listing ≡ inserted place (record { irp = n; file = f }) kept.listing)
+          (files : List FileId) (filed : files ≡ slice_set kept.files n.0 f) where
         goes2 : Goes m2 (next_step (next_step s.run (Arm i)) (Test i)) (inside_after (Armed i) (Test i) (bit (flagged s.run i)))
         goes2 = went m1 (next_step s.run (Arm i)) (Armed i) goes1 m2 (Test i) a2 same2
 
@@ -99,13 +102,16 @@ module _ (l : Limits) (kept : Keeping) (s : Script) (k : Keeps l kept s) (n : Ir
         listing_is : listing ≡ plain_listing l (after_event s.queue (event.Insert n f place reply.Pending))
         listing_is = is ∙ ap (inserted place (record { irp = n; file = f })) k.listing ∙ listing-inserted l s.queue n f place
 
-        pub pending_keeps : v ≡ 0 → (t : Script) × Calls l s (Insert n f place) Pending t × Keeps l (record kept { machine = m2; listing = listing }) t
+        in_range : n.0 < l.irps
+        in_range = omega (arith, known, irps_are l kept s k)
+
+        pub pending_keeps : v ≡ 0 → (t : Script) × Calls l s (Insert n f place) Pending t × Keeps l (record kept { machine = m2; listing = listing; files = files }) t
         pending_keeps clear =
             let flag : flagged s.run i ≡ false = zero_is (flagged s.run i) v value clear in (
               doing (Arm i ∷ Test i ∷ []) (event.Insert n f place reply.Pending) s,
               lists n f place (replies None accepted false flag),
-              keeps_run l kept s k m2 listing (next_step (next_step s.run (Arm i)) (Test i)) (after_event s.queue (event.Insert n f place reply.Pending)) a2 (same2 ∙ same1) listing_is queue2
-                  (goes2.at ∙ ap (λ b. inside_after (Armed i) (Test i) (bit b)) flag) (λ j. refl) (λ j. refl),
+              keeps_run l _ _ (filed_keeps l kept s k n f in_range files filed) m2 listing (next_step (next_step s.run (Arm i)) (Test i)) (after_event s.queue (event.Insert n f place reply.Pending)) a2 (same2 ∙ same1)
+                  listing_is queue2 (goes2.at ∙ ap (λ b. inside_after (Armed i) (Test i) (bit b)) flag) (λ j. refl) (λ j. refl) (λ j. refl),
             )
 
         module _ (set : v ≡ 0 → ⊥) where
@@ -144,7 +150,7 @@ module _ (l : Limits) (kept : Keeping) (s : Script) (k : Keeps l kept s) (n : Ir
             entries_back = filter-put_at (λ (e : Queued). same_irp e.irp i) place (new_entry i f) s.queue.entries (same_irp-refl i) (unlisted (script_size l) s.run (run_for l kept s k) s.queue k.queue i home)
 
             with_these : List Queued → QueueState
-            with_these es = record { entries = es; closed = s.queue.closed; used = i ∷ s.queue.used; flags = s.queue.flags; lives = s.queue.lives }
+            with_these es = record { entries = es; closed = s.queue.closed; used = i ∷ s.queue.used; flags = s.queue.flags; lives = s.queue.lives; file_of = with_file n f s.queue.file_of }
 
             queue3 : IsOfRun l.first (next_step (next_step (next_step s.run (Arm i)) (Test i)) (Disarm i)) (after_event s.queue (event.Insert n f place reply.Cancelled))
             unfolding with_these
@@ -159,9 +165,9 @@ module _ (l : Limits) (kept : Keeping) (s : Script) (k : Keeps l kept s) (n : Ir
                 ∙ listing-taken_back l s.queue n f place (sound_lives (script_size l) s.run (run_for l kept s k) s.queue k.queue).entries
                 (unlisted (script_size l) s.run (run_for l kept s k) s.queue k.queue i home)
 
-            pub taken_keeps : Keeps l (record kept { machine = m3; listing = last }) (doing (Arm i ∷ Test i ∷ Disarm i ∷ []) (event.Insert n f place reply.Cancelled) s)
-            taken_keeps = keeps_run l kept s k m3 last (next_step (next_step (next_step s.run (Arm i)) (Test i)) (Disarm i)) (after_event s.queue (event.Insert n f place reply.Cancelled)) a3 (same3 ∙ same2 ∙ same1)
-                last_is queue3 at3 (λ j. refl) (λ j. refl)
+            pub taken_keeps : Keeps l (record kept { machine = m3; listing = last; files = files }) (doing (Arm i ∷ Test i ∷ Disarm i ∷ []) (event.Insert n f place reply.Cancelled) s)
+            taken_keeps = keeps_run l _ _ (filed_keeps l kept s k n f in_range files filed) m3 last (next_step (next_step (next_step s.run (Arm i)) (Test i)) (Disarm i)) (after_event s.queue (event.Insert n f place reply.Cancelled)) a3
+                (same3 ∙ same2 ∙ same1) last_is queue3 at3 (λ j. refl) (λ j. refl) (λ j. refl)
 
             pub cancel_reply : reply.Cancelled ≡ reply_to_insert (refusal l s.queue n f) (has_irp s.queue.flags i)
             cancel_reply = replies None accepted true flag

@@ -3,7 +3,7 @@ use Rattle.std.proofs.Common.{length, ◌≡◌, ◌≢◌, ℕ, List, [], ◌�
 use Rattle.std.specs.Prelude.{◌==◌, MatchOption}
 use Rattle.std.proofs.lemmas.List.Splits.{length-slice_split}
 use Rattle.irp_core.specs.declared.step.Kind.{Kind}
-use Rattle.irp_core.specs.declared.step.Kind.TheVariants.{Arm, Test, Disarm, End, Flag, Take, Out, Done, Renew}
+use Rattle.irp_core.specs.declared.step.Kind.TheVariants.{Arm, Test, Disarm, End, Flag, Take, Out, Done, Renew, Rearm}
 use Rattle.irp_core.specs.declared.step.Step.{Step}
 use Rattle.irp_core.specs.Steps.{name_of}
 use Rattle.irp_core.specs.declared.ids.IrpLife.{IrpLife}
@@ -51,6 +51,7 @@ no_operand text verb cut ne (Take i) h = let e : h.0 ≡ [] = cc (cut, h.1) in l
 no_operand text verb cut ne (Out i) h = let e : h.0 ≡ [] = cc (cut, h.1) in let f = h.2.1 in cc
 no_operand text verb cut ne (Done i) h = let e : h.0 ≡ [] = cc (cut, h.1) in let f = h.2.1 in cc
 no_operand text verb cut ne (Renew i) h = let e : h.0 ≡ [] = cc (cut, h.1) in let f = h.2.1 in cc
+no_operand text verb cut ne (Rearm i) h = let e : h.0 ≡ [] = cc (cut, h.1) in let f = h.2.1 in cc
 
 pub end_alone : (text verb : List ℕ) → words_of text ≡ verb ∷ [] → verb ≡ codes "end" → AreKindWords (words_of text) End
 end_alone text verb cut e = ([], cut ∙ ap (λ w. w ∷ []) e, refl)

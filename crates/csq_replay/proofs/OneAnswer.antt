@@ -1,9 +1,9 @@
 -- A schedule has one answer.
-use Rattle.std.proofs.Common.{◌≡◌, ℕ, zero, suc, ◌<◌, Bool, true, false, cond, not, ◌&&◌, ◌||◌, List, [], ◌∷◌, ◌++◌, Option, Some, refl, ap, sym, ◌∙◌, arith, subst, codes}
+use Rattle.std.proofs.Common.{◌≡◌, ℕ, zero, suc, ◌<◌, Bool, true, false, cond, not, ◌&&◌, List, [], ◌∷◌, ◌++◌, Option, Some, refl, ap, sym, ◌∙◌, arith, subst, codes}
 use Rattle.irp_core.specs.declared.ids.Life.{Life}
 use Rattle.irp_core.specs.declared.ids.PassId.{PassId}
 use Rattle.irp_core.specs.declared.step.Kind.{Kind}
-use Rattle.irp_core.specs.declared.step.Kind.TheVariants.{Arm, Disarm, Flag, Out, Renew}
+use Rattle.irp_core.specs.declared.step.Kind.TheVariants.{Arm, Flag, Renew}
 use Rattle.irp_core.specs.declared.step.Made.{Made}
 use Rattle.irp_core.specs.declared.step.Step.{Step}
 use Rattle.irp_core.specs.declared.refusals.StepRefused.{StepRefused}
@@ -12,13 +12,12 @@ use Rattle.irp_core.specs.declared.standing.IrpPlace.{IrpPlace}
 use Rattle.irp_core.specs.declared.standing.IrpPlace.TheVariants as place
 use Rattle.irp_core.specs.declared.standing.Standing.{Standing}
 use Rattle.irp_core.specs.declared.standing.Standing.TheVariants.{Home, Waiting, Owed, Held, Finished}
-use Rattle.irp_core.specs.Steps.{is, found_one, made}
+use Rattle.irp_core.specs.Steps.{made}
 use Rattle.irp_core.specs.declared.ids.IrpLife.{IrpLife}
 use Rattle.irp_core.specs.Words.{flagged, was_armed, found_by}
 use Rattle.irp_core.specs.Runs.{Size, IsRun}
 use Rattle.irp_core.specs.Refusals.{refusal_number, IsCause, IsFirstCause}
-use Rattle.irp_core.specs.Owners.{holds}
-use Rattle.std.specs.List.{list_any}
+use Rattle.irp_core.specs.Owners.{holds, has_gone}
 use Rattle.irp_core.specs.Standings.{place_of, stands_home, is_held_by}
 use Rattle.irp_core.specs.Completion.{IsPlace, completed_by, removed, status_due}
 use Rattle.irp_core.proofs.Names.{same_pass-eq}
@@ -71,7 +70,7 @@ module _ (ever left : Bool) (ho dn : PassId → Bool) (byr : Bool) where
 
 -- as IsPlace is by the values
 places : (E : List Made) (i : IrpLife) (p : IrpPlace) → IsPlace E i p
-    → Places (was_armed E i) (list_any (λ m. found_one (Disarm i) m || is (Out i) m) E) (λ q. holds E q i) (λ q. completed_by E q i) (removed E i) p
+    → Places (was_armed E i) (has_gone E i) (λ q. holds E q i) (λ q. completed_by E q i) (removed E i) p
 places E i place.Home e = e
 places E i place.Listed e = e
 places E i (place.HeldBy p) e = e

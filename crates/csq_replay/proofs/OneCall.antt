@@ -13,7 +13,7 @@ use Rattle.csq_list.specs.declared.entry.Place.{Place}
 use Rattle.csq_list.specs.declared.entry.Place.TheVariants.{Back, Front}
 use Rattle.csq_list.specs.declared.entry.Peek.TheVariants.{Any, File}
 use Rattle.csq_replay.specs.declared.script.call.Call.{Call}
-use Rattle.csq_replay.specs.declared.script.call.Call.TheVariants.{Insert, Next, Remove, Mark, Routine, Cancel, Complete, Close, Cleanup, Flag, Status, Reuse}
+use Rattle.csq_replay.specs.declared.script.call.Call.TheVariants.{Insert, Next, Remove, Mark, Routine, Cancel, Complete, Close, Cleanup, Flag, Status, Reuse, PutBack}
 use Rattle.csq_replay.specs.Pieces.{words_of, IsShort}
 use Rattle.csq_replay.specs.CallLine.{call_name, place_word, IsIrpWord, IsFileWord, IsHexStatus, IsOne, AreOperands, IsCallLine}
 use Rattle.csq_replay.specs.Lines.{IsSkipped, IsWithinLine}
@@ -97,6 +97,11 @@ module _ (words : List (List ℕ)) where
   same_operands (Flag i) (Flag j) e a b = ap Flag (both_irps i j a b)
   same_operands (Status i) (Status j) e a b = ap Status (both_irps i j a b)
   same_operands (Reuse i) (Reuse j) e a b = ap Reuse (both_irps i j a b)
+  same_operands (PutBack i p) (PutBack j q) e (irp, is, first) (irp', is', first') =
+      let same : irp' ≡ irp = cc (is, is') in
+      let last : place_word p ≡ place_word q = cc (is, is') in
+      let P : List ℕ → Type 0 = λ w. IsIrpWord w j in
+      ap (λ x. PutBack x p) (one_irp irp i j first (subst P same first')) ∙ ap (PutBack j) (one_place p q last)
   same_operands c d e a b = let names = ap letters e in absurd (omega (arith, names))
 
 pub same_call : (line : List ℕ) (c d : Call) → IsCallLine line c → IsCallLine line d → c ≡ d
@@ -136,6 +141,8 @@ no_comment (Status i) [] h = absurd (omega (arith, h))
 no_comment (Status i) (w ∷ ws) h = absurd (omega (arith, h))
 no_comment (Reuse i) [] h = absurd (omega (arith, h))
 no_comment (Reuse i) (w ∷ ws) h = absurd (omega (arith, h))
+no_comment (PutBack i p) [] h = absurd (omega (arith, h))
+no_comment (PutBack i p) (w ∷ ws) h = absurd (omega (arith, h))
 
 -- a line that names a call is no comment
 pub call_not_skipped : (line : List ℕ) (c : Call) → IsCallLine line c → ¬ IsSkipped line
@@ -173,6 +180,8 @@ operands_short words (Cleanup f) h = omega (arith, one_file_short words f h)
 operands_short words (Flag i) h = omega (arith, one_irp_short words i h)
 operands_short words (Status i) h = omega (arith, one_irp_short words i h)
 operands_short words (Reuse i) h = omega (arith, one_irp_short words i h)
+operands_short words (PutBack i p) (irp, is, first) =
+    rw is (omega (arith, length-append irp (32 ∷ place_word p), ap length first.0, short_number i.0 first.1, place_short p))
 
 name_short : (c : Call) → length (call_name c) ≤ 8
 name_short (Insert i f p) = lit≤ tt
@@ -187,6 +196,7 @@ name_short (Cleanup f) = lit≤ tt
 name_short (Flag i) = lit≤ tt
 name_short (Status i) = lit≤ tt
 name_short (Reuse i) = lit≤ tt
+name_short (PutBack i p) = lit≤ tt
 
 joined_short : (name : List ℕ) (words : List (List ℕ)) → length name ≤ 8 → length (join_with_byte 32 words) ≤ 25 → length (join_with_byte 32 (name ∷ words)) ≤ 64
 joined_short name [] a b = omega (arith, a)

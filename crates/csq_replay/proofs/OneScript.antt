@@ -19,15 +19,15 @@ use Rattle.csq_list.specs.declared.entry.Peek.TheVariants.{File}
 use Rattle.csq_words.specs.declared.views.InsertReply.{InsertReply}
 use Rattle.csq_words.specs.declared.views.InsertReply.TheVariants as insert
 use Rattle.csq_words.specs.declared.views.Event.TheVariants as event
-use Rattle.csq_words.specs.Queue.{Limits, has_irp, has_unmarked, first_unmarked, refusal, reply_to_insert}
+use Rattle.csq_words.specs.Queue.{Limits, has_irp, has_unmarked, first_unmarked, refusal, back_refusal, reply_to_insert}
 use Rattle.csq_replay.specs.declared.script.call.Call.{Call}
-use Rattle.csq_replay.specs.declared.script.call.Call.TheVariants.{Insert, Next, Remove, Mark, Routine, Cancel, Complete, Close, Cleanup, Flag, Status, Reuse}
+use Rattle.csq_replay.specs.declared.script.call.Call.TheVariants.{Insert, Next, Remove, Mark, Routine, Cancel, Complete, Close, Cleanup, Flag, Status, Reuse, PutBack}
 use Rattle.csq_replay.specs.declared.script.call.Refusal.TheVariants.{UnknownIrp, UnknownFile, NoClaim, NotHeld, StatusPending, Stale, NotCompleted, LivesSpent}
 use Rattle.csq_replay.specs.declared.script.call.Reply.{Reply}
 use Rattle.csq_replay.specs.declared.script.call.Reply.TheVariants.{Pending, Cancelled, InsertRefused, Removed, NoIrp, Claimed, Unclaimed, Completed, Closed, Cleaned, Begun, Refused}
 use Rattle.csq_replay.specs.declared.script.call.Reply.TheVariants as reply
-use Rattle.csq_replay.specs.Calls.{Script, script_pass, new_script, present_of, IsNow, life_now, life_after, after_reuse, cancelled_life, doing, completing, removal_steps, named_removal_steps, removal_reply, status_reply, irp_of, file_of, after_mark, Calls, Cleans, Does}
-use Rattle.csq_replay.specs.Calls.Calls.{refuses_insert, lists, cancels_insert, removes_next, removes, removes_none, claims, claims_none, runs_routine, has_no_claim, completes, holds_none, refuses_pending, closes, is_stale, reuses, not_completed, lives_spent, tells_flag, tells_status, knows_no_irp, knows_no_file}
+use Rattle.csq_replay.specs.Calls.{Script, script_pass, new_script, present_of, IsNow, life_now, life_after, after_reuse, cancelled_life, doing, completing, removal_steps, named_removal_steps, removal_reply, status_reply, irp_of, token_of, file_of, after_mark, Calls, Cleans, Does}
+use Rattle.csq_replay.specs.Calls.Calls.{refuses_insert, lists, cancels_insert, removes_next, removes, removes_none, claims, claims_none, runs_routine, has_no_claim, completes, holds_none, refuses_pending, refuses_put_back, puts_back, cancels_put_back, closes, is_stale, reuses, not_completed, lives_spent, tells_flag, tells_status, knows_no_irp, knows_no_file}
 use Rattle.csq_replay.specs.Calls.Cleans.{none_left, one_more}
 use Rattle.csq_replay.specs.Calls.Does.{calls, cancel_claimed, cancel_unclaimed, cleaned}
 use Rattle.csq_replay.specs.declared.lines.answer.Ended.{Ended}
@@ -51,6 +51,12 @@ inserted n f place s insert.Cancelled =
     (Cancelled, completing (present_of s n) CANCELLED (doing (step.Arm (present_of s n) ∷ step.Test (present_of s n) ∷ step.Disarm (present_of s n) ∷ []) (event.Insert n f place insert.Cancelled) s))
 inserted n f place s (insert.Refused cause) = (InsertRefused cause, s)
 
+abbrev put_back : IrpId → Place → Script → InsertReply → Outcome
+put_back n place s insert.Pending = (Pending, doing (step.Rearm (present_of s n) ∷ step.Test (present_of s n) ∷ []) (event.PutBack (present_of s n) (s.queue.file_of n) place insert.Pending) s)
+put_back n place s insert.Cancelled =
+    (Cancelled, completing (present_of s n) CANCELLED (doing (step.Rearm (present_of s n) ∷ step.Test (present_of s n) ∷ step.Disarm (present_of s n) ∷ []) (event.PutBack (present_of s n) (s.queue.file_of n) place insert.Cancelled) s))
+put_back n place s (insert.Refused cause) = (InsertRefused cause, s)
+
 abbrev removed_next : Peek → Script → Option IrpLife → Outcome
 removed_next k s got = (removal_reply got, doing (removal_steps k s.queue.entries) (event.RemoveNext k got) s)
 
@@ -66,15 +72,17 @@ abbrev routine_run : IrpId → Script → Bool → Outcome
 routine_run n s true = (Completed CANCELLED, completing (present_of s n) CANCELLED (doing (step.Out (present_of s n) ∷ []) (event.Out (present_of s n)) s))
 routine_run n s false = (Refused NoClaim, s)
 
-abbrev completed_with : IrpId → NtStatus → Script → Bool → Bool → Outcome
-completed_with n status s true true = (Refused StatusPending, s)
-completed_with n status s true false = (Completed status, completing (present_of s n) status s)
-completed_with n status s false pending = (Refused NotHeld, s)
+abbrev completed_with : IrpId → NtStatus → Script → Bool → Outcome
+completed_with n status s true = (Refused StatusPending, s)
+completed_with n status s false = (Completed status, completing (present_of s n) status s)
 
 abbrev reused : IrpId → Script → Option NtStatus → Bool → Outcome
 reused n s None room = (Refused NotCompleted, s)
 reused n s (Some status) true = (Begun (life_after s n), after_reuse n s)
 reused n s (Some status) false = (Refused LivesSpent, s)
+
+abbrev if_held : Script → Bool → Outcome → Outcome
+if_held s held outcome = cond held outcome (Refused NotHeld, s)
 
 abbrev of_known : Limits → Script → IrpId → Outcome → Outcome
 of_known l s n outcome = cond (ltb n.0 l.irps) outcome (Refused UnknownIrp, s)
@@ -90,12 +98,14 @@ outcome l s (Remove i) = of_known l s i.irp (removed i s (has_unmarked s.queue.e
 outcome l s (Mark i) = of_known l s i.irp (if_now s i (marked i s (found_by s.run (step.Take i))))
 outcome l s (Routine n) = of_known l s n (routine_run n s (owes s.run script_pass (present_of s n)))
 outcome l s (Cancel i) = of_known l s i.irp (Refused (Stale (life_now s i.irp)), s)
-outcome l s (Complete n status) = of_known l s n (completed_with n status s (holds s.run script_pass (present_of s n)) (status.0 == PENDING.0))
+outcome l s (Complete n status) = of_known l s n (if_held s (holds s.run script_pass (present_of s n)) (completed_with n status s (status.0 == PENDING.0)))
 outcome l s (Close f) = cond (ltb f.0 l.files) (Closed, doing [] (event.CloseFile f) s) (Refused UnknownFile, s)
 outcome l s (Cleanup f) = (Refused UnknownFile, s)
 outcome l s (Flag n) = of_known l s n (reply.Flag (flagged s.run (present_of s n)), s)
 outcome l s (Status n) = of_known l s n (status_reply (status_recorded (present_of s n) s.completed), s)
 outcome l s (Reuse n) = of_known l s n (reused n s (status_recorded (present_of s n) s.completed) (ltb (s.queue.lives n) last_life))
+outcome l s (PutBack n place) =
+    of_known l s n (if_held s (holds s.run script_pass (present_of s n)) (put_back n place s (reply_to_insert (back_refusal l s.queue (present_of s n) (s.queue.file_of n)) (has_irp s.queue.flags (present_of s n)))))
 
 module _ (l : Limits) (s : Script) where
   known : (n : IrpId) → n.0 < l.irps → (x y : Outcome) → x ≡ y → x ≡ of_known l s n y
@@ -121,6 +131,20 @@ module _ (l : Limits) (s : Script) where
       subst P same (known i.irp lt _ _ refl)
   stale_call c i e lt stale = absurd (cc e)
 
+  held_is : (b : Bool) → b ≡ true → (x y : Outcome) → x ≡ y → x ≡ if_held s b y
+  held_is b held x y e = rw held e
+
+  not_held : (c : Call) (n : IrpId) → token_of c ≡ Some n → n.0 < l.irps → holds s.run script_pass (present_of s n) ≡ false → (Refused NotHeld, s) ≡ outcome l s c
+  not_held (Complete m status) n e lt none =
+      let same : n ≡ m = cc e in
+      let P : IrpId → Type 0 = λ x. (Refused NotHeld, s) ≡ outcome l s (Complete x status) in
+      subst P same (known n lt _ _ (rw none refl))
+  not_held (PutBack m place) n e lt none =
+      let same : n ≡ m = cc e in
+      let P : IrpId → Type 0 = λ x. (Refused NotHeld, s) ≡ outcome l s (PutBack x place) in
+      subst P same (known n lt _ _ (rw none refl))
+  not_held c n e lt none = absurd (cc e)
+
   unknown_irp : (c : Call) (n : IrpId) → irp_of c ≡ Some n → l.irps ≤ n.0 → (Refused UnknownIrp, s) ≡ outcome l s c
   unknown_irp (Remove j) n e le = beyond j.irp n (cc e) le _
   unknown_irp (Mark j) n e le = beyond j.irp n (cc e) le _
@@ -130,6 +154,7 @@ module _ (l : Limits) (s : Script) where
   unknown_irp (Flag j) n e le = beyond j n (cc e) le _
   unknown_irp (Status j) n e le = beyond j n (cc e) le _
   unknown_irp (Reuse j) n e le = beyond j n (cc e) le _
+  unknown_irp (PutBack j place) n e le = beyond j n (cc e) le _
   unknown_irp c n e le = absurd (cc e)
 
   unknown_file : (c : Call) (f : FileId) → file_of c ≡ Some f → l.files ≤ f.0 → (Refused UnknownFile, s) ≡ outcome l s c
@@ -151,10 +176,12 @@ module _ (l : Limits) (s : Script) where
   calls_outcome c r t (has_no_claim i lt none) = known i lt _ _ (ap (routine_run i s) (sym none))
   calls_outcome c r t (completes i status lt held final) =
       let differ : (status.0 == PENDING.0) ≡ false = ne_eqb status.0 PENDING.0 (λ e. let named : ℕ → NtStatus = λ n. record { 0 = n } in final (ap named e)) in
-      known i lt _ _ (ap (completed_with i status s true) (sym differ) ∙ ap (λ h. completed_with i status s h (status.0 == PENDING.0)) (sym held))
-  calls_outcome c r t (holds_none i status lt none) = known i lt _ _ (ap (λ h. completed_with i status s h (status.0 == PENDING.0)) (sym none))
-  calls_outcome c r t (refuses_pending i lt held) =
-      known i lt _ _ (ap (completed_with i PENDING s true) (sym (eq-eqb PENDING.0 PENDING.0 refl)) ∙ ap (λ h. completed_with i PENDING s h (PENDING.0 == PENDING.0)) (sym held))
+      known i lt _ _ (held_is _ held _ _ (ap (completed_with i status s) (sym differ)))
+  calls_outcome c r t (holds_none c' i takes lt none) = not_held c i takes lt none
+  calls_outcome c r t (refuses_pending i lt held) = known i lt _ _ (held_is _ held _ _ (ap (completed_with i PENDING s) (sym (eq-eqb PENDING.0 PENDING.0 refl))))
+  calls_outcome c r t (refuses_put_back i place cause lt held may) = known i lt _ _ (held_is _ held _ _ (ap (put_back i place s) may.2))
+  calls_outcome c r t (puts_back i place lt held may) = known i lt _ _ (held_is _ held _ _ (ap (put_back i place s) may.2))
+  calls_outcome c r t (cancels_put_back i place lt held may) = known i lt _ _ (held_is _ held _ _ (ap (put_back i place s) may.2))
   calls_outcome c r t (closes f lt) = rw (lt-ltb f.0 l.files lt) refl
   calls_outcome c r t (tells_flag i lt) = known i lt _ _ refl
   calls_outcome c r t (tells_status i lt) = known i lt _ _ refl
@@ -176,9 +203,11 @@ module _ (l : Limits) (s : Script) where
   cancel_unknown i r t (knows_no_irp c j names le) = let same : i.irp ≡ j = cc names in inl (omega (arith, le, ap (λ (x : IrpId). x.0) same))
   cancel_unknown i r t (is_stale c j names known stale) = let same : j ≡ i = cc names in inr (let P : IrpLife → Type 0 = λ x. ¬ IsNow s x in subst P same stale)
   cancel_unknown i r t (knows_no_file c f names le) = absurd (cc names)
+  cancel_unknown i r t (holds_none c n takes lt none) = absurd (cc takes)
 
   cleanup_unknown : (f : FileId) (r : Reply) (t : Script) → Calls l s (Cleanup f) r t → l.files ≤ f.0
   cleanup_unknown f r t (is_stale c i names known stale) = absurd (cc names)
+  cleanup_unknown f r t (holds_none c n takes lt none) = absurd (cc takes)
   cleanup_unknown f r t (knows_no_irp c i names le) = absurd (cc names)
   cleanup_unknown f r t (knows_no_file c g names le) = let same : f ≡ g = cc names in omega (arith, le, ap (λ (x : FileId). x.0) same)
 

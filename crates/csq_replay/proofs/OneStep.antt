@@ -2,7 +2,7 @@
 use Rattle.std.proofs.Common.{◌≡◌, ℕ, List, ◌∷◌, slice_index, Option, Some, None, refl, ap, sym, ◌∙◌, arith, decimal, length-append, subst}
 use Rattle.irp_core.specs.declared.ids.PassId.{PassId}
 use Rattle.irp_core.specs.declared.step.Kind.{Kind}
-use Rattle.irp_core.specs.declared.step.Kind.TheVariants.{Arm, Test, Disarm, End, Flag, Take, Out, Done, Renew}
+use Rattle.irp_core.specs.declared.step.Kind.TheVariants.{Arm, Test, Disarm, End, Flag, Take, Out, Done, Renew, Rearm}
 use Rattle.irp_core.specs.declared.step.Step.{Step}
 use Rattle.irp_core.specs.Steps.{name_of}
 use Rattle.irp_core.specs.declared.ids.IrpLife.{IrpLife}
@@ -19,7 +19,7 @@ same_passes p q a b e =
     let named : ℕ → PassId = λ n. record { 0 = n } in
     ap named (number_by_text p.0 q.0 a b digits)
 
--- the first two letters of its verb tell a kind
+-- the first three letters of its verb tell a kind
 same_verbs : (k l : Kind) (i : IrpLife) → name_of k ≡ Some i → name_of l ≡ Some i → verb_of k ≡ verb_of l → k ≡ l
 same_verbs (Arm i) (Arm j) n e f v = cc (e, f)
 same_verbs (Test i) (Test j) n e f v = cc (e, f)
@@ -29,9 +29,10 @@ same_verbs (Take i) (Take j) n e f v = cc (e, f)
 same_verbs (Out i) (Out j) n e f v = cc (e, f)
 same_verbs (Done i) (Done j) n e f v = cc (e, f)
 same_verbs (Renew i) (Renew j) n e f v = cc (e, f)
+same_verbs (Rearm i) (Rearm j) n e f v = cc (e, f)
 same_verbs End l n e f v = absurd cc
 same_verbs k End n e f v = absurd cc
-same_verbs k l n e f v = let first = ap (λ w. slice_index w 0) v in let second = ap (λ w. slice_index w 1) v in absurd (omega (arith, first, second))
+same_verbs k l n e f v = let first = ap (λ w. slice_index w 0) v in let second = ap (λ w. slice_index w 1) v in let third = ap (λ w. slice_index w 2) v in absurd (omega (arith, first, second, third))
 
 -- a kind that names nothing is End
 nameless : (k : Kind) → name_of k ≡ None → k ≡ End

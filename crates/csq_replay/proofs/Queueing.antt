@@ -5,24 +5,23 @@ use Rattle.std.proofs.lemmas.Bool.{or_right}
 use Rattle.irp_core.specs.declared.ids.PassId.{PassId}
 use Rattle.irp_core.specs.declared.ids.FileId.{FileId}
 use Rattle.irp_core.specs.declared.step.Kind.{Kind}
-use Rattle.irp_core.specs.declared.step.Kind.TheVariants.{Arm, Test, Disarm, End, Flag, Take, Out, Done, Renew}
+use Rattle.irp_core.specs.declared.step.Kind.TheVariants.{Arm, Test, Disarm, End, Flag, Take, Out, Done, Renew, Rearm}
 use Rattle.irp_core.specs.declared.step.Made.{Made}
 use Rattle.irp_core.specs.declared.standing.Standing.{Standing}
-use Rattle.irp_core.specs.declared.standing.Standing.TheVariants.{Home, Waiting, Owed}
+use Rattle.irp_core.specs.declared.standing.Standing.TheVariants.{Home, Waiting, Owed, Held}
 use Rattle.irp_core.specs.declared.ids.IrpId.{IrpId}
 use Rattle.irp_core.specs.declared.ids.Life.{Life}
-use Rattle.irp_core.specs.Steps.{life_of, same_id, same_irp, is, found_one}
+use Rattle.irp_core.specs.Steps.{life_of, same_id, same_irp}
 use Rattle.irp_core.specs.declared.ids.IrpLife.{IrpLife}
 use Rattle.irp_core.specs.Lives.{present_life, present, IsPresent}
 use Rattle.irp_core.proofs.Lives.{life_same, life_next, listed_present, used_begun}
 use Rattle.csq_words.proofs.Lives.{ArePresent, AreBegun, HasSoundLives}
 use Rattle.irp_core.specs.Words.{armed, flagged, was_armed}
-use Rattle.irp_core.specs.Owners.{owes, listed}
+use Rattle.irp_core.specs.Owners.{owes, holds, has_gone, listed}
 use Rattle.irp_core.specs.Runs.{Size, IsRun}
 use Rattle.irp_core.proofs.Names.{same_irp-refl, same_irp-eq}
 use Rattle.irp_core.proofs.Rows.{Row}
 use Rattle.irp_core.proofs.Owning.{stands}
-use Rattle.std.specs.List.{list_any}
 use Rattle.csq_list.specs.declared.entry.Place.{Place}
 use Rattle.csq_list.specs.declared.entry.Place.TheVariants.{Back, Front}
 use Rattle.csq_list.specs.Listing.{put_at}
@@ -32,10 +31,6 @@ use Rattle.csq_words.specs.Queue.{Queued, QueueState, current, begin_next, has_i
 use Rattle.csq_words.proofs.Entries.{has_entry-marking, has_entry-placed, has_entry-without}
 use Rattle.csq_replay.specs.Calls.{script_pass, next_step}
 use Rattle.csq_replay.specs.Drivers.{AreMarked, IsOfRun}
-
--- i left the list
-abbrev left : List Made → IrpLife → Bool
-left E i = list_any (λ m. found_one (Disarm i) m || is (Out i) m) E
 
 module _ (ever set : Bool) (cl : List Made) (ow ho dn : PassId → Bool) (ends : List Made) (gone byr : Bool) (i : IrpLife) where
   row_home : (s : Standing) → Row ever set cl ow ho dn ends gone byr i s → ever ≡ false → gone ≡ false
@@ -50,8 +45,12 @@ module _ (ever set : Bool) (cl : List Made) (ow ho dn : PassId → Bool) (ends :
   row_owed (Owed q) h p e = ((h.ever_is, h.left_is), h.set_is)
   row_owed s h p e = absurd (cc (e, h.owing_is p))
 
+  row_held : (s : Standing) → Row ever set cl ow ho dn ends gone byr i s → (p : PassId) → ho p ≡ true → (ever ≡ true) × (gone ≡ true)
+  row_held (Held q status) h p e = (h.ever_is, h.left_is)
+  row_held s h p e = absurd (cc (e, h.holding_is p))
+
 module _ (size : Size) (E : List Made) (r : IsRun size E) (i : IrpLife) where
-  pub home_left : was_armed E i ≡ false → left E i ≡ false
+  pub home_left : was_armed E i ≡ false → has_gone E i ≡ false
   home_left h = let s = stands size E r i in row_home _ _ _ _ _ _ _ _ _ i s.0 s.1 h
 
   -- who has its routine is listed
@@ -62,6 +61,10 @@ module _ (size : Size) (E : List Made) (r : IsRun size E) (i : IrpLife) where
   pub owed_listed : owes E script_pass i ≡ true → (listed E i ≡ true) × (armed E i ≡ false)
   owed_listed h = let s = stands size E r i in let f = row_owed _ _ _ _ _ _ _ _ _ i s.0 s.1 script_pass h in (rw (f.0.0, f.0.1) refl, f.1)
 
+  -- what is held was armed, and isn't listed
+  pub held_gone : holds E script_pass i ≡ true → (was_armed E i ≡ true) × (listed E i ≡ false)
+  held_gone h = let s = stands size E r i in let f = row_held _ _ _ _ _ _ _ _ _ i s.0 s.1 script_pass h in (f.0, rw (f.0, f.1) refl)
+
 -- entries are marked as before, where their routines stand as before
 pub marks_stay : (E F : List Made) (es : List Queued) → ((j : IrpLife) → has_entry es j ≡ true → armed F j ≡ armed E j) → AreMarked E es → AreMarked F es
 marks_stay E F [] same h = tt
@@ -69,6 +72,12 @@ marks_stay E F (e ∷ es) same h = (
   h.0 ∙ ap not (sym (same e.irp (ap (λ b. b || has_entry es e.irp) (same_irp-refl e.irp)))),
   marks_stay E F es (λ j there. same j (ap (λ b. same_irp e.irp j || b) there ∙ or-true (same_irp e.irp j))) h.1,
 )
+
+-- an entry that is put among others, and is marked where its routine is gone
+pub marks_placed : (E : List Made) (place : Place) (e : Queued) (es : List Queued) → e.marked ≡ not (armed E e.irp) → AreMarked E es → AreMarked E (put_at place e es)
+marks_placed E Front e es here h = (here, h)
+marks_placed E Back e [] here h = (here, tt)
+marks_placed E Back e (x ∷ es) here h = (h.0, marks_placed E Back e es here h.1)
 
 -- another IRP than one that isn't listed
 pub other_entry : (es : List Queued) (i j : IrpLife) → has_entry es i ≡ false → has_entry es j ≡ true → same_irp i j ≡ false
@@ -163,22 +172,34 @@ module _ (size : Size) (E : List Made) (r : IsRun size E) (q : QueueState) (h : 
     lives = h.lives;
     used = λ j. ap (λ b. same_irp (current q n) j || b) (h.used j);
     entries = λ j. has_entry-placed place (new_entry (current q n) f) q.entries j ∙ ap (λ b. same_irp (current q n) j || b) (h.entries j)
-        ∙ sym (joins (same_irp (current q n) j) (was_armed E j) (left E j) (λ e. ap (left E) (sym (same_irp-eq (current q n) j e)) ∙ home_left size E r (current q n) home));
+        ∙ sym (joins (same_irp (current q n) j) (was_armed E j) (has_gone E j) (λ e. ap (has_gone E) (sym (same_irp-eq (current q n) j e)) ∙ home_left size E r (current q n) home));
     flags = h.flags;
-    marks = put place q.entries (marks_stay E (next_step E (Arm (current q n))) q.entries (λ j there. ap (λ b. b || armed E j) (other_entry q.entries (current q n) j (unlisted (current q n) home) there)) h.marks);
+    marks = marks_placed (next_step E (Arm (current q n))) place (new_entry (current q n) f) q.entries (rw same_irp-refl refl)
+        (marks_stay E (next_step E (Arm (current q n))) q.entries (λ j there. ap (λ b. (b || false) || armed E j) (other_entry q.entries (current q n) j (unlisted (current q n) home) there)) h.marks);
   }
     where
       joins : (b w x : Bool) → (b ≡ true → x ≡ false) → ((b || w) && not x) ≡ (b || (w && not x))
       joins true w x e = ap not (e refl)
       joins false w x e = refl
 
-      here : false ≡ not (armed (next_step E (Arm (current q n))) (current q n))
-      here = rw same_irp-refl refl
+  -- a Rearm lists its IRP again
+  pub queue_rearm : (i : IrpLife) (f : FileId) (place : Place) → holds E script_pass i ≡ true → IsOfRun size.first (next_step E (Rearm i)) (after_event q (event.PutBack i f place Pending))
+  queue_rearm i f place held = record {
+    lives = h.lives;
+    used = h.used;
+    entries = λ j. has_entry-placed place (new_entry i f) q.entries j ∙ ap (λ b. same_irp i j || b) (h.entries j)
+        ∙ joins (same_irp i j) (was_armed E j) (has_gone E j) (λ e. ap (was_armed E) (sym (same_irp-eq i j e)) ∙ (held_gone size E r i held).0);
+    flags = h.flags;
+    marks = marks_placed (next_step E (Rearm i)) place (new_entry i f) q.entries (rw same_irp-refl refl)
+        (marks_stay E (next_step E (Rearm i)) q.entries (λ j there. ap (λ b. b || armed E j) (other_entry q.entries i j absent there)) h.marks);
+  }
+    where
+      joins : (b w x : Bool) → (b ≡ true → w ≡ true) → (b || (w && not x)) ≡ (w && not (not b && x))
+      joins true w x e = rw (e refl) refl
+      joins false w x e = refl
 
-      put : (place : Place) (es : List Queued) → AreMarked (next_step E (Arm (current q n))) es → AreMarked (next_step E (Arm (current q n))) (put_at place (new_entry (current q n) f) es)
-      put Front es m = (here, m)
-      put Back [] m = (here, tt)
-      put Back (e ∷ es) m = (m.0, put Back es m.1)
+      absent : has_entry q.entries i ≡ false
+      absent = h.entries i ∙ (held_gone size E r i held).1
 
   -- a Renew begins the next life
   pub queue_renew : (n : IrpId) (life : Life) → IsOfRun size.first (next_step E (Renew (current q n))) (after_event q (event.Reuse n life))
@@ -237,13 +258,13 @@ module _ {first : ℕ} (E : List Made) (q : QueueState) (h : IsOfRun first E q) 
   abbrev leaving : QueueState
   leaving = record q { entries = without i q.entries }
 
-  leaves : (F : List Made) → ((j : IrpLife) → was_armed F j ≡ was_armed E j) → ((j : IrpLife) → flagged F j ≡ flagged E j) → ((j : IrpLife) → left F j ≡ (same_irp i j || left E j))
+  leaves : (F : List Made) → ((j : IrpLife) → was_armed F j ≡ was_armed E j) → ((j : IrpLife) → flagged F j ≡ flagged E j) → ((j : IrpLife) → has_gone F j ≡ (same_irp i j || has_gone E j))
       → ((j : IrpLife) → same_irp i j ≡ false → armed F j ≡ armed E j) → ((n : IrpId) → present_life first F n ≡ present_life first E n) → IsOfRun first F leaving
   leaves F arms flags gone routines lives = record {
     lives = λ n. h.lives n ∙ sym (lives n);
     used = λ j. h.used j ∙ sym (arms j);
-    entries = λ j. has_entry-without i q.entries j ∙ ap (λ b. not (same_irp i j) && b) (h.entries j) ∙ go (same_irp i j) (was_armed E j) (left E j)
-        ∙ ap (λ b. was_armed E j && not b) (sym (gone j)) ∙ ap (λ b. b && not (left F j)) (sym (arms j));
+    entries = λ j. has_entry-without i q.entries j ∙ ap (λ b. not (same_irp i j) && b) (h.entries j) ∙ go (same_irp i j) (was_armed E j) (has_gone E j)
+        ∙ ap (λ b. was_armed E j && not b) (sym (gone j)) ∙ ap (λ b. b && not (has_gone F j)) (sym (arms j));
     flags = λ j. h.flags j ∙ sym (flags j);
     marks = marks_stay E F (without i q.entries) (λ j there. routines j (stays j (same_irp i j) (sym (has_entry-without i q.entries j) ∙ there))) (marks_without E i q.entries h.marks);
   }
@@ -258,7 +279,7 @@ module _ {first : ℕ} (E : List Made) (q : QueueState) (h : IsOfRun first E q) 
       stays j false e = refl
 
   pub queue_hit : IsOfRun first (found_then E (Disarm i) 1) leaving
-  queue_hit = leaves (found_then E (Disarm i) 1) (λ j. refl) (λ j. refl) (λ j. gone (same_irp i j) (left E j)) (λ j other. ap (λ b. not (b || false) && armed E j) other) (λ n. refl)
+  queue_hit = leaves (found_then E (Disarm i) 1) (λ j. refl) (λ j. refl) (λ j. gone (same_irp i j) (has_gone E j)) (λ j other. ap (λ b. not (b || false) && armed E j) other) (λ n. refl)
     where
       gone : (b x : Bool) → (((b && true) || false) || x) ≡ (b || x)
       gone true x = refl
@@ -271,7 +292,7 @@ module _ {first : ℕ} (E : List Made) (q : QueueState) (h : IsOfRun first E q) 
   queue_miss none = record {
     lives = h.lives;
     used = h.used;
-    entries = λ j. h.entries j ∙ ap (λ b. was_armed E j && not b) (sym (gone (same_irp i j) (left E j)));
+    entries = λ j. h.entries j ∙ ap (λ b. was_armed E j && not b) (sym (gone (same_irp i j) (has_gone E j)));
     flags = h.flags;
     marks = marks_stay E (found_then E (Disarm i) 0) q.entries (λ j there. taken_routine E i j (same_irp i j || false) (or-false (same_irp i j)) none) h.marks;
   }

@@ -6,7 +6,7 @@ use Rattle.irp_core.specs.declared.ids.IrpId.{IrpId}
 use Rattle.irp_core.specs.declared.step.Kind.TheVariants.{Disarm, End}
 use Rattle.irp_core.specs.declared.step.Made.{Made}
 use Rattle.irp_core.specs.declared.inside.Inside.{Inside}
-use Rattle.irp_core.specs.declared.inside.Inside.TheVariants.{Nothing, Armed, FlagSeen, Removing, Cancelling}
+use Rattle.irp_core.specs.declared.inside.Inside.TheVariants.{Nothing, Armed, FlagSeen, Removing, Cancelling, Rearmed, FlagSeenAgain}
 use Rattle.irp_core.specs.Steps.{number, life_of, same_irp}
 use Rattle.irp_core.specs.declared.ids.IrpLife.{IrpLife}
 use Rattle.irp_core.specs.Words.{bit, armed, found_by}
@@ -110,6 +110,8 @@ after_hit (Armed j) i = refl
 after_hit (FlagSeen j) i = refl
 after_hit Removing i = refl
 after_hit (Cancelling j) i = refl
+after_hit (Rearmed j) i = refl
+after_hit (FlagSeenAgain j) i = refl
 
 -- the run E of a removal that has looked at all entries but the rest
 pub record Seeks (begin : ℕ) (k : Peek) (s : Script) (listing : Listing) (machine : MachineState) (after : Option IrpId) : Type 0 where
@@ -138,9 +140,9 @@ module _ (l : Limits) (kept : Keeping) (s : Script) (k : Keeps l kept s) where
   -- a script goes on by steps that claim, complete and renew nothing
   pub keeps_run : (machine : MachineState) (listing : Listing) (E : List Made) (q : QueueState) → Agrees machine E → size_of machine ≡ size_of kept.machine
       → listing ≡ plain_listing l q → IsOfRun l.first E q → inside E script_pass ≡ Nothing
-      → ((j : IrpLife) → dones E j ≡ dones s.run j) → ((n : IrpId) → q.lives n ≡ s.queue.lives n)
+      → ((j : IrpLife) → dones E j ≡ dones s.run j) → ((n : IrpId) → q.lives n ≡ s.queue.lives n) → ((n : IrpId) → q.file_of n ≡ s.queue.file_of n)
       → Keeps l (record kept { machine = machine; listing = listing }) (record s { run = E; queue = q })
-  keeps_run machine listing E q a same is queue outside over lives = record {
+  keeps_run machine listing E q a same is queue outside over lives files = record {
     agrees = a;
     size = same ∙ k.size;
     few = k.few;
@@ -150,6 +152,8 @@ module _ (l : Limits) (kept : Keeping) (s : Script) (k : Keeps l kept s) where
     told = λ i none. k.told i (sym (over i) ∙ none);
     statuses = λ n in_range. k.statuses n in_range ∙ ap (λ (y : IrpLife). status_recorded y s.completed) (sym (still n));
     statuses_size = k.statuses_size;
+    files = λ n in_range. k.files n in_range ∙ sym (files n);
+    files_size = k.files_size;
   }
     where
       still : (n : IrpId) → current q n ≡ present_of s n
@@ -276,7 +280,7 @@ module _ (l : Limits) (kept : Keeping) (s : Script) (k : Keeps l kept s) where
             subst KeepsAt steps (keeps_run new listing (next_step h.run (Disarm i)) q a same (without_i ∙ ap (without_irp n) k.listing ∙ listing-removed l s.queue i refl present)
                 (subst IsQueue (ap F (sym one_found)) (queue_hit h.run s.queue h.queue i))
                 ((went machine h.run h.at h.goes new (Disarm i) a (same ∙ sym size_now)).at ∙ ap (inside_after h.at (Disarm i)) one_found ∙ after_hit h.at i)
-                h.over (λ j. refl)),
+                h.over (λ j. refl) (λ j. refl)),
           )
 
     -- none is left
@@ -288,7 +292,7 @@ module _ (l : Limits) (kept : Keeping) (s : Script) (k : Keeps l kept s) where
         let KeepsAt : List Made → Type 0 = λ E. Keeps l (record kept { machine = new }) (record s { run = E }) in (
           doing (removal_steps peek s.queue.entries) (event.RemoveNext peek None) s,
           removes_next peek None (sym (sym h.first ∙ none.1)),
-          subst KeepsAt steps (keeps_run new kept.listing (next_step h.run End) s.queue a same k.listing (queue_end h.run s.queue h.queue) (rw same_pass-refl refl) h.over (λ j. refl)),
+          subst KeepsAt steps (keeps_run new kept.listing (next_step h.run End) s.queue a same k.listing (queue_end h.run s.queue h.queue) (rw same_pass-refl refl) h.over (λ j. refl) (λ j. refl)),
         )
 
   -- a removal of one IRP
@@ -309,7 +313,7 @@ module _ (l : Limits) (kept : Keeping) (s : Script) (k : Keeps l kept s) where
         removes i (omega (arith, known, ap (λ (n : Size). n.irps) k.size)) (sym unmarked),
         subst KeepsAt steps (keeps_run new listing (next_step s.run (Disarm i)) q a same (without_i ∙ ap (without_irp i.irp) k.listing ∙ listing-removed l s.queue i life present)
             (subst IsQueue (ap F (sym one_found)) (queue_hit s.run s.queue k.queue i))
-            ((went kept.machine s.run Nothing (starts l kept s k) new (Disarm i) a same).at ∙ ap (inside_after Nothing (Disarm i)) one_found) (λ j. refl) (λ j. refl)),
+            ((went kept.machine s.run Nothing (starts l kept s k) new (Disarm i) a same).at ∙ ap (inside_after Nothing (Disarm i)) one_found) (λ j. refl) (λ j. refl) (λ j. refl)),
       )
 
   none_removed : (i : IrpLife) → number i < (size_of kept.machine).irps → has_unmarked s.queue.entries i ≡ false → (E : List Made) → E ≡ after_steps (named_removal_steps i s.queue.entries) s.run
@@ -320,7 +324,7 @@ module _ (l : Limits) (kept : Keeping) (s : Script) (k : Keeps l kept s) where
       let KeepsAt : List Made → Type 0 = λ F. Keeps l (record kept { machine = new }) (record s { run = F }) in (
         doing (named_removal_steps i s.queue.entries) (event.Remove i false) s,
         removes_none i (omega (arith, known, ap (λ (n : Size). n.irps) k.size)) (sym marked),
-        subst KeepsAt steps (keeps_run new kept.listing E s.queue a same k.listing queue outside over (λ j. refl)),
+        subst KeepsAt steps (keeps_run new kept.listing E s.queue a same k.listing queue outside over (λ j. refl) (λ j. refl)),
       )
 
   -- of an IRP that is claimed

@@ -133,5 +133,7 @@ module _ (l : Limits) (kept : Keeping) (s : Script) (k : Keeps l kept s) (n : Ir
           told = k.told;
           statuses = λ m in_range. ap (λ x. slice_index_or x m.0 None) told ∙ status_now m in_range (same_id n m) refl;
           statuses_size = ap length told ∙ length-set kept.statuses n.0 None ∙ k.statuses_size;
+          files = k.files;
+          files_size = k.files_size;
         },
       )

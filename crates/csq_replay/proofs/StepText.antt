@@ -9,7 +9,7 @@ use Rattle.std.proofs.lemmas.Str.{IsAscii-append}
 use Rattle.std.proofs.lemmas.Str.Ascii.{IsAscii-from_all}
 use Rattle.std.proofs.lemmas.Fmt.{IsAscii-decimal}
 use Rattle.irp_core.specs.declared.step.Kind.{Kind}
-use Rattle.irp_core.specs.declared.step.Kind.TheVariants.{Arm, Test, Disarm, End, Flag, Take, Out, Done, Renew}
+use Rattle.irp_core.specs.declared.step.Kind.TheVariants.{Arm, Test, Disarm, End, Flag, Take, Out, Done, Renew, Rearm}
 use Rattle.irp_core.specs.declared.step.Step.{Step}
 use Rattle.irp_core.specs.Steps.{number, life_of, name_of}
 use Rattle.irp_core.specs.declared.ids.IrpLife.{IrpLife}
@@ -48,6 +48,7 @@ plain_verb (Take i) = plain_literal 6 (codes "take") refl (lit≤ tt)
 plain_verb (Out i) = plain_literal 6 (codes "out") refl (lit≤ tt)
 plain_verb (Done i) = plain_literal 6 (codes "done") refl (lit≤ tt)
 plain_verb (Renew i) = plain_literal 6 (codes "renew") refl (lit≤ tt)
+plain_verb (Rearm i) = plain_literal 6 (codes "rearm") refl (lit≤ tt)
 
 -- the words of a kind, joined behind those of a pass
 kind_tail : (pass : List ℕ) (k : Kind) (names : List (List ℕ)) (o : Option IrpLife) → AreNameWords names o

@@ -9,7 +9,7 @@ use Rattle.csq_list.specs.declared.entry.Place.{Place}
 use Rattle.csq_list.specs.declared.entry.Place.TheVariants.{Back, Front}
 use Rattle.csq_list.specs.declared.entry.Peek.TheVariants.{Any, File}
 use Rattle.csq_replay.specs.declared.script.call.Call.{Call}
-use Rattle.csq_replay.specs.declared.script.call.Call.TheVariants.{Insert, Next, Remove, Mark, Routine, Cancel, Complete, Close, Cleanup, Flag, Status, Reuse}
+use Rattle.csq_replay.specs.declared.script.call.Call.TheVariants.{Insert, Next, Remove, Mark, Routine, Cancel, Complete, Close, Cleanup, Flag, Status, Reuse, PutBack}
 use Rattle.csq_replay.specs.Pieces.{words_of, IsShort}
 use Rattle.csq_replay.specs.StepLine.{IsNameWord}
 
@@ -27,6 +27,7 @@ call_name (Cleanup f) = codes "cleanup"
 call_name (Flag i) = codes "flag"
 call_name (Status i) = codes "status"
 call_name (Reuse i) = codes "reuse"
+call_name (PutBack i place) = codes "put_back"
 
 abbrev pub place_word : Place → List ℕ
 place_word Back = codes "back"
@@ -74,6 +75,7 @@ AreOperands words (Cleanup f) = IsOne (λ word. IsFileWord word f) words
 AreOperands words (Flag i) = IsOne (λ word. IsIrpWord word i) words
 AreOperands words (Status i) = IsOne (λ word. IsIrpWord word i) words
 AreOperands words (Reuse i) = IsOne (λ word. IsIrpWord word i) words
+AreOperands words (PutBack i place) = (irp : List ℕ) × (words ≡ irp ∷ place_word place ∷ []) × IsIrpWord irp i
 
 -- this name and these operands are of this call
 abbrev pub IsNamed : List ℕ → List (List ℕ) → Call → Type 0

@@ -28,7 +28,7 @@ use Rattle.csq_words.specs.Queue.{Queued, QueueState, Limits, empty_queue, curre
 use Rattle.csq_words.specs.History.{MayCome}
 use Rattle.csq_words.specs.Plays.{status_recorded}
 use Rattle.csq_replay.specs.declared.script.call.Call.{Call}
-use Rattle.csq_replay.specs.declared.script.call.Call.TheVariants.{Insert, Next, Remove, Mark, Routine, Cancel, Complete, Close, Cleanup, Flag, Status, Reuse}
+use Rattle.csq_replay.specs.declared.script.call.Call.TheVariants.{Insert, Next, Remove, Mark, Routine, Cancel, Complete, Close, Cleanup, Flag, Status, Reuse, PutBack}
 use Rattle.csq_replay.specs.declared.script.call.Refusal.TheVariants.{UnknownIrp, UnknownFile, NoClaim, NotHeld, StatusPending, Stale, NotCompleted, LivesSpent}
 use Rattle.csq_replay.specs.declared.script.call.Reply.{Reply}
 use Rattle.csq_replay.specs.declared.script.call.Reply.TheVariants.{Pending, Cancelled, InsertRefused, Removed, NoIrp, Claimed, Unclaimed, Completed, CancelAnswered, Closed, Cleaned, Unset, Begun, Refused}
@@ -112,7 +112,14 @@ irp_of (Complete n status) = Some n
 irp_of (Flag n) = Some n
 irp_of (Status n) = Some n
 irp_of (Reuse n) = Some n
+irp_of (PutBack n place) = Some n
 irp_of _ = None
+
+-- the IRP whose token a call takes
+abbrev pub token_of : Call → Option IrpId
+token_of (Complete n status) = Some n
+token_of (PutBack n place) = Some n
+token_of _ = None
 
 -- the life that a call is to cancel
 abbrev pub cancelled_life : Call → Option IrpLife
@@ -164,8 +171,16 @@ pub data Calls (l : Limits) (s : Script) : Call → Reply → Script → Type 0 
   has_no_claim : (n : IrpId) → n.0 < l.irps → owes s.run script_pass (present_of s n) ≡ false → Calls l s (Routine n) (Refused NoClaim) s
   completes : (n : IrpId) (status : NtStatus) → n.0 < l.irps → holds s.run script_pass (present_of s n) ≡ true → status ≢ PENDING
       → Calls l s (Complete n status) (Completed status) (completing (present_of s n) status s)
-  holds_none : (n : IrpId) (status : NtStatus) → n.0 < l.irps → holds s.run script_pass (present_of s n) ≡ false → Calls l s (Complete n status) (Refused NotHeld) s
+  holds_none : (c : Call) (n : IrpId) → token_of c ≡ Some n → n.0 < l.irps → holds s.run script_pass (present_of s n) ≡ false → Calls l s c (Refused NotHeld) s
   refuses_pending : (n : IrpId) → n.0 < l.irps → holds s.run script_pass (present_of s n) ≡ true → Calls l s (Complete n PENDING) (Refused StatusPending) s
+  refuses_put_back : (n : IrpId) (place : Place) (cause : InsertStatus) → n.0 < l.irps → holds s.run script_pass (present_of s n) ≡ true
+      → MayCome l s.queue (event.PutBack (present_of s n) (s.queue.file_of n) place (insert.Refused cause)) → Calls l s (PutBack n place) (InsertRefused cause) s
+  puts_back : (n : IrpId) (place : Place) → n.0 < l.irps → holds s.run script_pass (present_of s n) ≡ true → MayCome l s.queue (event.PutBack (present_of s n) (s.queue.file_of n) place insert.Pending)
+      → Calls l s (PutBack n place) Pending (doing (step.Rearm (present_of s n) ∷ step.Test (present_of s n) ∷ []) (event.PutBack (present_of s n) (s.queue.file_of n) place insert.Pending) s)
+  cancels_put_back : (n : IrpId) (place : Place) → n.0 < l.irps → holds s.run script_pass (present_of s n) ≡ true → MayCome l s.queue (event.PutBack (present_of s n) (s.queue.file_of n) place insert.Cancelled)
+      → Calls l s (PutBack n place) Cancelled
+      (completing (present_of s n) CANCELLED
+      (doing (step.Rearm (present_of s n) ∷ step.Test (present_of s n) ∷ step.Disarm (present_of s n) ∷ []) (event.PutBack (present_of s n) (s.queue.file_of n) place insert.Cancelled) s))
   closes : (f : FileId) → MayCome l s.queue (event.CloseFile f) → Calls l s (Close f) Closed (doing [] (event.CloseFile f) s)
   tells_flag : (n : IrpId) → n.0 < l.irps → Calls l s (Flag n) (reply.Flag (flagged s.run (present_of s n))) s
   tells_status : (n : IrpId) → n.0 < l.irps → Calls l s (Status n) (status_reply (status_recorded (present_of s n) s.completed)) s

@@ -1,5 +1,6 @@
 -- What a driver keeps of its script: the contracts of what makes its calls.
 use Rattle.std.specs.Prelude.{◌≡◌, ℕ, ◌<◌, ◌≤◌, true, not, List, [], ◌∷◌, length, Option, None, slice_index_or}
+use Rattle.irp_core.specs.declared.ids.FileId.{FileId}
 use Rattle.irp_core.specs.declared.ids.IrpId.{IrpId}
 use Rattle.irp_core.specs.declared.status.NtStatus.{NtStatus}
 use Rattle.irp_core.specs.declared.step.Made.{Made}
@@ -8,6 +9,7 @@ use Rattle.irp_core.specs.declared.ids.IrpLife.{IrpLife}
 use Rattle.irp_core.specs.Words.{armed, flagged, was_armed}
 use Rattle.irp_core.specs.Inside.{inside}
 use Rattle.irp_core.specs.Owners.{owes, holds, listed, dones}
+use Rattle.irp_core.specs.Completion.{removed}
 use Rattle.irp_core.specs.Lives.{present_life}
 use Rattle.irp_core.specs.MachineState.{MachineState, Agrees, size_of}
 use Rattle.csq_words.specs.Plays.{status_recorded}
@@ -31,15 +33,16 @@ pub record IsOfRun (first : ℕ) (E : List Made) (q : QueueState) : Type 0 where
   pub flags : (i : IrpLife) → has_irp q.flags i ≡ flagged E i
   pub marks : AreMarked E q.entries
 
--- what a driver keeps: its machine, what its list means, and the status of each IRP in its present life
+-- what a driver keeps: its machine, what its list means, the status of each IRP in its present life, and the file object that an insert last accepted it for
 pub record Keeping : Type 0 where
   pub machine : MachineState
   pub listing : Listing
   pub statuses : List (Option NtStatus)
+  pub files : List FileId
 
 -- what a driver keeps, by what its list means
 abbrev pub keeping : {L A : Type 0} → (L → Listing) → Driver L A → Keeping
-keeping listing driver = record { machine = driver.machine; listing = listing driver.list; statuses = driver.statuses.items }
+keeping listing driver = record { machine = driver.machine; listing = listing driver.list; statuses = driver.statuses.items; files = driver.files.items }
 
 -- so it keeps the script s
 pub record Keeps (l : Limits) (kept : Keeping) (s : Script) : Type 0 where
@@ -53,10 +56,24 @@ pub record Keeps (l : Limits) (kept : Keeping) (s : Script) : Type 0 where
   pub told : (i : IrpLife) → dones s.run i ≡ [] → status_recorded i s.completed ≡ None
   pub statuses : (n : IrpId) → n.0 < l.irps → slice_index_or kept.statuses n.0 None ≡ status_recorded (present_of s n) s.completed
   pub statuses_size : length kept.statuses ≡ l.irps
+  pub files : (n : IrpId) → n.0 < l.irps → slice_index_or kept.files n.0 (record { 0 = 0 }) ≡ s.queue.file_of n
+  pub files_size : length kept.files ≡ l.irps
+
+-- what the pass holds it got by removals, since what a cancel routine, an insert or a put-back gives it is completed in that call
+abbrev pub HoldsRemoved : List Made → Type 0
+HoldsRemoved E = (i : IrpLife) → holds E script_pass i ≡ true → removed E i ≡ true
+
+-- so it stands at the script s, between two calls
+abbrev pub StandsAt : Limits → Keeping → Script → Type 0
+StandsAt l kept s = Keeps l kept s × HoldsRemoved s.run
 
 -- it keeps some script
 abbrev pub IsKeeping : Keeping → Type 0
 IsKeeping kept = (l : Limits) × (s : Script) × Keeps l kept s
+
+-- it stands at some script
+abbrev pub IsStanding : Keeping → Type 0
+IsStanding kept = (l : Limits) × (s : Script) × StandsAt l kept s
 
 -- it keeps some script in which the pass owes IRP n
 abbrev pub IsOwing : Keeping → IrpId → Type 0
@@ -73,3 +90,7 @@ Called old c r new = (l : Limits) (s : Script) → Keeps l old s → (t : Script
 -- the same, where the call may be made of others
 abbrev pub Did : Keeping → Call → Reply → Keeping → Type 0
 Did old c r new = (l : Limits) (s : Script) → Keeps l old s → (t : Script) × Does l s c r t × Keeps l new t
+
+-- the same, of a driver that stood between two calls
+abbrev pub DidNext : Keeping → Call → Reply → Keeping → Type 0
+DidNext old c r new = (l : Limits) (s : Script) → StandsAt l old s → (t : Script) × Does l s c r t × Keeps l new t

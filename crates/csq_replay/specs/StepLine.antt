@@ -2,7 +2,7 @@
 use Rattle.std.specs.Prelude.{◌≡◌, ◌⊎◌, List, [], ◌∷◌, ◌++◌, ℕ, codes, Option, Some, None}
 use Rattle.irp_core.specs.declared.ids.PassId.{PassId}
 use Rattle.irp_core.specs.declared.step.Kind.{Kind}
-use Rattle.irp_core.specs.declared.step.Kind.TheVariants.{Arm, Test, Disarm, End, Flag, Take, Out, Done, Renew}
+use Rattle.irp_core.specs.declared.step.Kind.TheVariants.{Arm, Test, Disarm, End, Flag, Take, Out, Done, Renew, Rearm}
 use Rattle.irp_core.specs.declared.step.Step.{Step}
 use Rattle.irp_core.specs.Steps.{number, life_of, name_of}
 use Rattle.irp_core.specs.declared.ids.IrpLife.{IrpLife}
@@ -20,6 +20,7 @@ verb_of (Take i) = codes "take"
 verb_of (Out i) = codes "out"
 verb_of (Done i) = codes "done"
 verb_of (Renew i) = codes "renew"
+verb_of (Rearm i) = codes "rearm"
 
 -- the word names this pass
 abbrev pub IsPassWord : List ℕ → PassId → Type 0

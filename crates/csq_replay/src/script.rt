@@ -24,14 +24,14 @@ impl<L: PendingList, A: Allocator + Copy> Answerer<A> for Driver<L, A> {
     ghost use Rattle.std.specs.Prelude.{◌≡◌};
     ghost use Rattle.csq_words.specs.Queue.{Limits};
     ghost use Rattle.csq_replay.specs.Calls.{Script};
-    ghost use Rattle.csq_replay.specs.Drivers.{Keeps, keeping};
+    ghost use Rattle.csq_replay.specs.Drivers.{StandsAt, keeping};
     ghost use Rattle.csq_replay.specs.ScriptAnswer.{AnswersCall, closing_lines};
 
     ghost Kind = { Limits };
 
     ghost State = { Script };
 
-    ghost stands = { λ driver l s. Keeps l (keeping L.listing driver) s };
+    ghost stands = { λ driver l s. StandsAt l (keeping L.listing driver) s };
 
     ghost answers = { λ l s. AnswersCall l s };
 

@@ -33,6 +33,7 @@ fn kind_named(verb: &[u8], name: IrpLife) -> Option<Kind>
         b"out" => Some(Kind::Out(name)),
         b"done" => Some(Kind::Done(name)),
         b"renew" => Some(Kind::Renew(name)),
+        b"rearm" => Some(Kind::Rearm(name)),
         _ => None,
     }
 }

@@ -30,9 +30,12 @@ pub enum Call {
     Status(IrpId),
     /// `IoReuseIrp`: begins the next life.
     Reuse(IrpId),
+    /// `IoCsqInsertIrpEx` once more, of an IRP that a removal got and the pass holds: at the place, for
+    /// the file object that it was inserted for.
+    PutBack(IrpId, Place),
 }
 
-/// Why a call is refused, an insert aside. Own rule.
+/// Why a call is refused, what an insert or a put-back of the list is refused for aside. Own rule.
 #[derive(Clone, Copy)]
 pub enum Refusal {
     /// There is no IRP of this number.
@@ -53,7 +56,7 @@ pub enum Refusal {
     LivesSpent,
 }
 
-/// What an insert answers that isn't refused.
+/// What an insert or a put-back answers that isn't refused.
 #[derive(Clone, Copy)]
 pub(crate) enum Inserted {
     /// The IRP is listed.
@@ -67,9 +70,9 @@ pub(crate) enum Inserted {
 pub enum Reply {
     /// The IRP is listed.
     Pending,
-    /// The insert found the IRP cancelled, and completed it.
+    /// The insert or the put-back found the IRP cancelled, and completed it.
     Cancelled,
-    /// The insert is refused.
+    /// The insert or the put-back is refused.
     InsertRefused(InsertStatus),
     /// The removal took this IRP, and the pass holds it.
     Removed(IrpId),

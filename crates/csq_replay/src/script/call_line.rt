@@ -33,6 +33,15 @@ fn parse_insert(operands: &[u8]) -> Option<Call>
     Some(Call::Insert(irp, file, parse_place(place?)?))
 }
 
+/// Of an IRP and a place.
+fn parse_put_back(operands: &[u8]) -> Option<Call>
+    ensures { MatchOption result ((c : Call) → ¬ IsNamed (codes "put_back") (words_of operands.now) c) (IsNamed (codes "put_back") (words_of operands.now)) }
+{
+    let (irp, place) = split_piece(operands, b' ');
+    let irp = IrpId(parse_number(irp)?);
+    Some(Call::PutBack(irp, parse_place(place?)?))
+}
+
 /// Of a file object, or of any.
 fn parse_next(operand: &[u8]) -> Option<Call>
     ensures { MatchOption result ((c : Call) → ¬ IsNamed (codes "next") (words_of operand.now) c) (IsNamed (codes "next") (words_of operand.now)) }
@@ -104,6 +113,9 @@ fn parse_operands(name: &[u8], operands: &[u8]) -> Option<Call>
     }
     if name == b"complete".as_slice() {
         return parse_complete(operands);
+    }
+    if name == b"put_back".as_slice() {
+        return parse_put_back(operands);
     }
     if names_life(name) {
         return call_of_life(name, parse_name(operands)?);

@@ -13,7 +13,7 @@ ghost use Rattle.csq_words.specs.Queue.{Limits, limits_of};
 ghost use Rattle.csq_replay.specs.declared.script.call.Call.TheVariants as call;
 ghost use Rattle.csq_replay.specs.declared.script.call.Reply.TheVariants as reply;
 ghost use Rattle.csq_replay.specs.Calls.{Script, script_pass, new_script, next_step, present_of, completing, after_routine, status_reply, Cleans};
-ghost use Rattle.csq_replay.specs.Drivers.{Keeps, IsKeeping, IsOwing, IsHolding, Called, Did, keeping};
+ghost use Rattle.csq_replay.specs.Drivers.{Keeps, IsKeeping, StandsAt, IsStanding, IsOwing, IsHolding, Called, Did, DidNext, keeping};
 ghost use Rattle.csq_replay.specs.Replies.{told, insert_reply, taken_reply, mark_reply};
 
 use crate::script::call::{Inserted, Refusal};
@@ -27,7 +27,7 @@ use std::alloc::{AllocError, Allocator};
 const PASS: PassId = PassId(1);
 
 /// A machine with one pass, a list, the statuses of the IRPs that were completed in their present lives,
-/// and where its texts are made.
+/// the file objects of those that were inserted, and where its texts are made.
 #[derive(Drop)]
 pub struct Driver<L, A: Allocator> {
     /// Where its texts are made.
@@ -38,6 +38,8 @@ pub struct Driver<L, A: Allocator> {
     pub list: L,
     /// With which status each IRP was completed in its present life, if it was.
     pub statuses: Vec<Option<NtStatus>, A>,
+    /// The file object that an insert last accepted each IRP for; 0 where none did.
+    pub files: Vec<FileId, A>,
 }
 
 /// Makes a step of the pass, which is one that may come next, and answers the value that it found.
@@ -60,7 +62,7 @@ impl<L: PendingList, A: Allocator> Driver<L, A> {
         A: Copy,
         requires fresh { IsFresh (L.listing list) }
         requires irps { (1 ≤ (L.listing list).irps) × ((L.listing list).irps ≤ 1024) }
-        ensures { IfOk result (λ driver. Keeps (limits_of 1 0 (L.listing list))
+        ensures { IfOk result (λ driver. StandsAt (limits_of 1 0 (L.listing list))
             (keeping L.listing driver) (new_script (limits_of 1 0 (L.listing list)))) }
     {
         let irps = list.irps();
@@ -72,6 +74,7 @@ impl<L: PendingList, A: Allocator> Driver<L, A> {
             machine,
             list,
             statuses: vec![in alloc; None; irps as usize]?,
+            files: vec![in alloc; FileId(0); irps as usize]?,
         })
     }
 
@@ -160,6 +163,7 @@ impl<L: PendingList, A: Allocator> Driver<L, A> {
             (insert_reply result) (keeping L.listing self.new) }
     {
         self.list.insert_ex(irp, file, place)?;
+        self.files[irp.0 as usize] = file;
         let name = self.current(irp);
         make(&mut self.machine, Kind::Arm(name));
         if make(&mut self.machine, Kind::Test(name)) == 0 {
@@ -169,6 +173,38 @@ impl<L: PendingList, A: Allocator> Driver<L, A> {
         self.list.remove(irp);
         self.finish(irp, FinalStatus::cancelled());
         Ok(Inserted::Cancelled)
+    }
+
+    /// Lists an IRP again that the pass got by a removal and holds, for the file object that it was inserted
+    /// for, or completes it where it is found cancelled.
+    pub(crate) fn put_back(
+        &mut self,
+        irp: IrpId,
+        place: Place,
+    ) -> Result<Result<Inserted, InsertStatus>, Refusal>
+        requires { IsStanding (keeping L.listing self.old) }
+        ensures { DidNext (keeping L.listing self.old) (call.PutBack irp place)
+            (told insert_reply result) (keeping L.listing self.new) }
+    {
+        if !self.is_known(irp) {
+            return Err(Refusal::UnknownIrp);
+        }
+        if !self.holds(irp) {
+            return Err(Refusal::NotHeld);
+        }
+        let file = self.files[irp.0 as usize];
+        if let Err(cause) = self.list.put_back_ex(irp, file, place) {
+            return Ok(Err(cause));
+        }
+        let name = self.current(irp);
+        make(&mut self.machine, Kind::Rearm(name));
+        if make(&mut self.machine, Kind::Test(name)) == 0 {
+            return Ok(Ok(Inserted::Pending));
+        }
+        make(&mut self.machine, Kind::Disarm(name));
+        self.list.remove(irp);
+        self.finish(irp, FinalStatus::cancelled());
+        Ok(Ok(Inserted::Cancelled))
     }
 
     /// Removes the first match that no cancel claimed.

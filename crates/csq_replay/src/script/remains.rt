@@ -5,7 +5,7 @@ ghost use Rattle.irp_core.specs.MachineState.{Agrees, size_of};
 ghost use Rattle.irp_core.specs.Lives.{present};
 ghost use Rattle.csq_words.specs.Queue.{Limits};
 ghost use Rattle.csq_replay.specs.Calls.{Script};
-ghost use Rattle.csq_replay.specs.Drivers.{Keeps, keeping};
+ghost use Rattle.csq_replay.specs.Drivers.{StandsAt, keeping};
 ghost use Rattle.csq_replay.specs.ScriptAnswer.{numbers, left_line, named_line, left_lines, irps_below, is_kept, kept_name, AreLeft};
 
 use crate::script::driver::Driver;
@@ -97,7 +97,7 @@ impl<L: PendingList, A: Allocator + Copy> Driver<L, A> {
     /// What is left after the calls so far. Refused where there is too little memory. Own rule.
     pub fn remains(&self) -> Result<Remains<A>, AllocError>
         ensures { IfOk result (λ remains. (l : Limits) (s : Script)
-            → Keeps l (keeping L.listing self.now) s
+            → StandsAt l (keeping L.listing self.now) s
             → AreLeft l s remains.listed.items remains.held.items remains.owed.items) }
     {
         Ok(Remains {

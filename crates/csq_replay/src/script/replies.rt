@@ -1,9 +1,9 @@
 //! What is told of each call.
 ghost use Rattle.std.specs.Prelude.{◌≡◌};
 ghost use Rattle.csq_words.specs.Queue.{Limits};
-ghost use Rattle.csq_replay.specs.Calls.{Script, status_reply};
+ghost use Rattle.csq_replay.specs.Calls.{Script, Does, status_reply};
 ghost use Rattle.csq_replay.specs.CallOutcomes.{CallComesTo};
-ghost use Rattle.csq_replay.specs.Drivers.{Keeps, IsKeeping, Did, keeping};
+ghost use Rattle.csq_replay.specs.Drivers.{StandsAt, IsStanding, DidNext, keeping};
 ghost use Rattle.csq_replay.specs.Replies.{told, insert_reply, taken_reply, mark_reply};
 
 use crate::lines::{MAX_LINE, is_skipped};
@@ -56,9 +56,10 @@ fn status_reply(status: Option<NtStatus>) -> Reply
 impl<L: PendingList, A: Allocator> Driver<L, A> {
     /// Makes the call that a line names, and tells what comes of the line. Own rule.
     pub fn handle(&mut self, line: &[u8]) -> CallOutcome
-        requires { IsKeeping (keeping L.listing self.old) }
-        ensures { (l : Limits) (s : Script) → Keeps l (keeping L.listing self.old) s → (t : Script)
-            × CallComesTo l s line.now result t × Keeps l (keeping L.listing self.new) t }
+        requires { IsStanding (keeping L.listing self.old) }
+        ensures { (l : Limits) (s : Script) → StandsAt l (keeping L.listing self.old) s
+            → (t : Script) × CallComesTo l s line.now result t
+            × StandsAt l (keeping L.listing self.new) t }
     {
         if line.len() > MAX_LINE {
             return CallOutcome::Stopped(CallStop::TooLong);
@@ -75,8 +76,9 @@ impl<L: PendingList, A: Allocator> Driver<L, A> {
 
     /// Makes a call, and tells what it answers.
     fn answer(&mut self, call: Call) -> Reply
-        requires { IsKeeping (keeping L.listing self.old) }
-        ensures { Did (keeping L.listing self.old) call result (keeping L.listing self.new) }
+        requires { IsStanding (keeping L.listing self.old) }
+        ensures { (l : Limits) (s : Script) → StandsAt l (keeping L.listing self.old) s
+            → (t : Script) × Does l s call result t × StandsAt l (keeping L.listing self.new) t }
     {
         match self.tell(call) {
             Ok(reply) => reply,
@@ -86,8 +88,8 @@ impl<L: PendingList, A: Allocator> Driver<L, A> {
 
     /// Makes a call, and tells what it answers where it isn't refused.
     fn tell(&mut self, call: Call) -> Result<Reply, Refusal>
-        requires { IsKeeping (keeping L.listing self.old) }
-        ensures { Did (keeping L.listing self.old) call (told (λ reply. reply) result)
+        requires { IsStanding (keeping L.listing self.old) }
+        ensures { DidNext (keeping L.listing self.old) call (told (λ reply. reply) result)
             (keeping L.listing self.new) }
     {
         match call {
@@ -106,6 +108,7 @@ impl<L: PendingList, A: Allocator> Driver<L, A> {
             Call::Flag(irp) => Ok(Reply::Flag(self.flag(irp)?)),
             Call::Status(irp) => Ok(status_reply(self.status(irp)?)),
             Call::Reuse(irp) => Ok(Reply::Begun(self.reuse(irp)?)),
+            Call::PutBack(irp, place) => Ok(insert_reply(self.put_back(irp, place)?)),
         }
     }
 }

@@ -169,7 +169,7 @@ refused UnknownIrp
 refused UnknownFile
   a file object's number is below 4
 line 4 malformed
-  this is no call, as insert 0 1 back: insert, next, remove, mark, routine, cancel, complete, close, cleanup, flag, status or reuse
+  this is no call, as insert 0 1 back: insert, next, remove, mark, routine, cancel, complete, close, cleanup, flag, status, reuse or put_back
 ",
     ),
     // Removals; and cancels.

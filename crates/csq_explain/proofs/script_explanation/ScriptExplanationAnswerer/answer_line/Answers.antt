@@ -19,8 +19,8 @@ returns-in_ok-writeln-in-Answered g c = λ l s k.
     let (t, comes, kept) = c.in-Answered.ensures l s k in
     let call = c.in-Answered.call in
     let reply = c.in-Answered.reply in
-    let irps = c.irps.ensures ∙ ap (λ (n : Size). n.irps) kept.size in
-    let files = c.files.ensures ∙ ap (λ (x : Listing). x.files) kept.listing in (
+    let irps = c.irps.ensures ∙ ap (λ (n : Size). n.irps) kept.0.size in
+    let files = c.files.ensures ∙ ap (λ (x : Listing). x.files) kept.0.listing in (
       explained_call l c.args.number (Answered call reply),
       c.in_ok-writeln-in-Answered.ensures.bytes ∙ ap (λ t. string_bytes c.args.text.now ++ t) (answered_text l c.args.number call reply _ _ irps files),
       (Some t, (Answered call reply, t, comes, refl, refl), kept),

@@ -14,7 +14,7 @@ pub returns-then-not-holds : goal.returns-then-not-holds
 returns-then-not-holds g c = λ l s k.
     let known = c.is_known.ensures.0 c.if-not-is_known.false in
     let held = c.holds.ensures s.run k.agrees ∙ ap (holds s.run script_pass) (present_is l _ s k c.args.irp) in
-    not_held_keeps l _ s k c.args.irp known c.args.status (sym held ∙ c.if-not-holds.true)
+    not_held_keeps l _ s k (Complete c.args.irp c.args.status) c.args.irp refl known (sym held ∙ c.if-not-holds.true)
 
 pub returns-in_default : goal.returns-in_default
 returns-in_default g c = λ l s k.

@@ -14,4 +14,4 @@ returns-in_default g c = λ l s k. (s, (omega arith, (λ h. let t = c.is_skipped
 pub returns : goal.returns
 returns g c = λ l s k.
     let (t, does, kept) = c.answer-reply.ensures l s k in
-    (t, (c.in-Some.ensures, does, run_for l _ t kept), kept)
+    (t, (c.in-Some.ensures, does, run_for l _ t kept.0), kept)

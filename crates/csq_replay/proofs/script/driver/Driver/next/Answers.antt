@@ -11,7 +11,7 @@ use Rattle.csq_replay.proofs.Removing.{seeks_first, seeks_name, listed_known, ma
 use Rattle.csq_replay.proofs.script.driver.Driver.next.Goals as goal
 
 pub loop-irp-init : goal.loop-irp-init
-loop-irp-init g c = record { list = refl; statuses = refl; size = refl; place = tt; seeks = λ l s k. seeks_first l _ s k c.args.peek }
+loop-irp-init g c = record { list = refl; statuses = refl; files = refl; size = refl; place = tt; seeks = λ l s k. seeks_first l _ s k c.args.peek }
 
 pub current-name-requires : goal.current-name-requires
 current-name-requires g c =
@@ -41,7 +41,7 @@ returns-then-make-eq1 g c = λ l s k.
     let e = c.current-name.ensures h.run h.goes.agrees ∙ seeks_name l _ s k c.args.peek _ c.loop-irp.after h i.size c.in-Some.irp in
     let made = made_as _ _ h.run Disarm _ (present_of s c.in-Some.irp) e (c.make.ensures.made h.run h.goes.agrees) in
     let hit = seeks_hit l _ s k c.args.peek _ c.loop-irp.after h c.in-Some.irp found i.size _ _ made.0 (c.make.ensures.size ∙ i.size) made.1 c.if-make-eq1.true _ (c.remove.ensures ∙ ap (without_irp c.in-Some.irp) same) in
-    (hit.0, hit.1, keeps_as l _ _ hit.0 hit.2 refl refl (ap (λ v. v.items) i.statuses))
+    (hit.0, hit.1, keeps_as l _ _ hit.0 hit.2 refl refl (ap (λ v. v.items) i.statuses) (ap (λ v. v.items) i.files))
 
 pub loop-irp-preserved : goal.loop-irp-preserved
 loop-irp-preserved g c =
@@ -52,6 +52,7 @@ loop-irp-preserved g c =
     record {
       list = i.list;
       statuses = i.statuses;
+      files = i.files;
       size = c.make.ensures.size ∙ i.size;
       place = there;
       seeks = λ l s k.
@@ -75,4 +76,4 @@ returns g c = λ l s k.
     let same = ap g.L.PendingList.listing i.list in
     let none = subst (λ (x : Listing). None ≡ plainly.first_match c.args.peek (rest_after c.loop-irp.after x.entries)) same c.in_default.ensures.found in
     let ended = seeks_end l _ s k c.args.peek _ c.loop-irp.after h none _ made.0 (c.make-2.ensures.size ∙ i.size) in
-    (ended.0, ended.1, keeps_as l _ _ ended.0 ended.2 refl (ap g.L.PendingList.listing i.list) (ap (λ v. v.items) i.statuses))
+    (ended.0, ended.1, keeps_as l _ _ ended.0 ended.2 refl (ap g.L.PendingList.listing i.list) (ap (λ v. v.items) i.statuses) (ap (λ v. v.items) i.files))
