@@ -8,6 +8,7 @@
  *     IoCsqInsertIrpEx                         csq_insert
  *     IoCsqRemoveNextIrp                       csq_remove_next
  *     IoCsqRemoveIrp, IO_CSQ_IRP_CONTEXT       csq_remove, struct csq_irp
+ *     IoCsqInsertIrpEx of what was removed     csq_put_back
  *     IoCancelIrp                              csq_cancel; its halves are csq_mark_cancel and csq_cancel_owed
  *     CsqPeekNextIrp                           csq_peek_next
  *     CsqCompleteCanceledIrp                   csq_complete_cancelled; struct csq_callback is told before it
@@ -22,8 +23,9 @@
  * - A queue is over the IRPs 0 to irps - 1 and the file objects 0 to files - 1. An IRP is home until an
  *   insert accepts it. Then it is listed, until a removal or a cancel takes it out of the list, and whoever
  *   took it out holds it until the completion; one that its insert found cancelled (CSQ_CANCELLED) is held by
- *   that pass at once. An IRP that an insert accepted is completed at most once, and once no pass is out it is
- *   listed or was completed.
+ *   that pass at once. What a pass got by a removal it may put back (csq_put_back): the IRP is listed again, and is
+ *   removed or cancelled again. An IRP that an insert accepted is completed at most once, and once no pass is out it
+ *   is listed or was completed.
  * - A completed IRP may be used again (csq_reuse): its next life begins, of which all this holds anew. A
  *   caller names an IRP in one of its lives (struct csq_irp), so that what comes late for an old life is refused
  *   and takes nothing of a newer one.
@@ -39,9 +41,9 @@
  *
  * Allocation: csq_new, csq_new_with_file_limits and csq_take_pass of a new pass take memory. No other call does.
  *
- * Memory order: what a thread wrote before csq_insert is seen by whoever removes the IRP or runs its cancel routine,
- * since both have the lock; and by whoever takes its cancel routine (csq_mark_cancel with *found 1, and the callback of
- * csq_cancel), without the lock. What a thread wrote before csq_complete, csq_complete_cancelled or csq_cancel_owed is
+ * Memory order: what a thread wrote before csq_insert or csq_put_back is seen by whoever removes the IRP or runs its
+ * cancel routine, since both have the lock; and by whoever takes its cancel routine (csq_mark_cancel with *found 1, and
+ * the callback of csq_cancel), without the lock. What a thread wrote before csq_complete, csq_complete_cancelled or csq_cancel_owed is
  * seen by whoever learns of that completion from csq_read_status or csq_reuse. For the last two the library's steps on
  * its words are atomic and sequentially consistent. (The thread sanitizer doesn't see them in the library, and may
  * report a race there.)
@@ -50,9 +52,9 @@
  * whether handles are filled or empty, in the order of the parameters; whether the pass is this queue's; whether the
  * queue is closed; then the causes in the order in which the call's comment names them. A closed queue has no pass, so
  * a call that takes a queue and a filled pass answers CSQ_OTHER_QUEUE of it. A refusal, which is any answer but CSQ_OK
- * and csq_insert's CSQ_CANCELLED, changes nothing and writes nothing, but for the life that csq_read_status tells.
- * (csq_drain and csq_cleanup are made of several calls: what they did before a refusal stays done.) CSQ_EMPTY_HANDLE of
- * a handle that is filled says that two calls had it at once: the lock is missing somewhere.
+ * and the CSQ_CANCELLED of csq_insert and csq_put_back, changes nothing and writes nothing, but for the life that
+ * csq_read_status tells. (csq_drain and csq_cleanup are made of several calls: what they did before a refusal stays
+ * done.) CSQ_EMPTY_HANDLE of a handle that is filled says that two calls had it at once: the lock is missing somewhere.
  *
  * What the caller must uphold, which nothing checks:
  *
@@ -107,7 +109,7 @@ enum csq_code {
     CSQ_FULL = 5,
     /* As many are listed for this file object as its own limit allows. */
     CSQ_FILE_FULL = 6,
-    /* The insert found the IRP cancelled: the pass holds it, and completes it as cancelled. */
+    /* The insert, or the put-back, found the IRP cancelled: the pass holds it, and completes it as cancelled. */
     CSQ_CANCELLED = 7,
     /* There is none: no IRP to remove, no status yet, no further listed IRP. */
     CSQ_NONE = 8,
@@ -121,7 +123,7 @@ enum csq_code {
     CSQ_NOT_HELD = 12,
     /* The pass doesn't owe the IRP in the life named. */
     CSQ_NOT_OWED = 13,
-    /* The pass got the IRP cancelled, so it completes it by csq_complete_cancelled alone. */
+    /* The pass got the IRP cancelled: it completes it by csq_complete_cancelled alone, and can't put it back. */
     CSQ_NOT_REMOVED = 14,
     /* STATUS_PENDING is no status to complete with. */
     CSQ_NOT_FINAL = 15,
@@ -349,6 +351,18 @@ CSQ_NODISCARD uint32_t csq_remove_next(struct csq_queue *queue, struct csq_pass 
  * CSQ_EMPTY_HANDLE; CSQ_OTHER_QUEUE; CSQ_NONE. Lock: held. */
 CSQ_NODISCARD uint32_t csq_remove(struct csq_queue *queue, struct csq_pass *pass, struct csq_irp irp);
 
+/* Puts an IRP back that the pass got by a removal in this life (IoCsqInsertIrpEx of an IRP that was removed): lists it
+ * for the file object that it was inserted for, at the list's end, or at its front where `front` isn't 0, and sets its
+ * cancel routine. For a worker that can't serve it now, as while its device is busy. CSQ_OK: it is pending, and the pass
+ * holds it no longer. CSQ_CANCELLED: it was cancelled while a pass held it, so that no canceller has it; it isn't
+ * listed, the pass holds it as cancelled, and csq_complete_cancelled is due. In both cases *context names the IRP as
+ * `irp` does, since its life goes on: the context of its insert names it too. After a refusal the pass holds it as
+ * before. Whoever removes and puts back in turns, and waits for nothing in between, may go on for ever.
+ * CSQ_EMPTY_HANDLE; CSQ_OTHER_QUEUE; CSQ_UNKNOWN_IRP; CSQ_NOT_HELD; CSQ_NOT_REMOVED; CSQ_FILE_CLOSED; CSQ_FILE_FULL
+ * or CSQ_FULL (others were inserted in the meantime). Lock: held. */
+CSQ_NODISCARD uint32_t csq_put_back(struct csq_queue *queue, struct csq_pass *pass, struct csq_irp irp, uint32_t front,
+                                    struct csq_irp *context);
+
 /* Runs the cancel routine of an IRP that the pass owes in this life: takes it out of the list. The pass holds it then,
  * and csq_complete_cancelled is due.
  * CSQ_EMPTY_HANDLE; CSQ_OTHER_QUEUE; CSQ_UNKNOWN_IRP; CSQ_NOT_OWED. Lock: held. */
@@ -421,8 +435,8 @@ uint32_t csq_file_len(const struct csq_queue *queue, uint32_t file, uint32_t *le
 
 /* What IoCancelIrp does first: sets the Cancel flag of an IRP in the life named, then exchanges its cancel routine
  * for none. *found is 1 where the routine was there: the pass owes the IRP, and csq_cancel_owed is due. It is 0
- * where the IRP isn't listed, or a pass, perhaps this one, has it. An insert that comes later finds the flag, and
- * answers CSQ_CANCELLED unless another canceller has the IRP by then.
+ * where the IRP isn't listed, or a pass, perhaps this one, has it. An insert or a put-back that comes later finds the
+ * flag, and answers CSQ_CANCELLED unless another canceller has the IRP by then.
  * CSQ_EMPTY_HANDLE; CSQ_UNKNOWN_IRP; CSQ_STALE. Lock: not needed. */
 CSQ_NODISCARD uint32_t csq_mark_cancel(struct csq_pass *pass, struct csq_irp irp, uint32_t *found);
 

@@ -75,9 +75,10 @@ uint32_t plain_list_refusal(const struct plain_list *list, uint32_t irp, uint32_
     if (file >= list->files) {
         return CSQ_UNKNOWN_FILE;
     }
-    if (list->used[irp]) {
-        return CSQ_NOT_HOME;
-    }
+    return list->used[irp] ? (uint32_t)CSQ_NOT_HOME : plain_list_no_room(list, file);
+}
+
+uint32_t plain_list_no_room(const struct plain_list *list, uint32_t file) {
     if (list->closed[file]) {
         return CSQ_FILE_CLOSED;
     }

@@ -42,6 +42,9 @@ void plain_list_free(struct plain_list *list);
 /* Why an insert is refused, or CSQ_OK. */
 uint32_t plain_list_refusal(const struct plain_list *list, uint32_t irp, uint32_t file);
 
+/* Why a put-back for this file object is refused, or CSQ_OK: the last of those causes. */
+uint32_t plain_list_no_room(const struct plain_list *list, uint32_t file);
+
 /* Lists an IRP whose insert isn't refused. */
 void plain_list_insert(struct plain_list *list, uint32_t irp, uint32_t file, bool front);
 

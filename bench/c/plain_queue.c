@@ -28,11 +28,12 @@ struct queue {
     bool closed;
 };
 
-/* How a pass has an IRP, and in which life. */
+/* How a pass has an IRP, and in which life; of one that it removed, for which file object it was inserted. */
 enum { NOT_HERE, OWED, REMOVED, GOT_CANCELLED };
 struct slot {
     uint32_t life;
     uint32_t has;
+    uint32_t file;
 };
 
 struct pass {
@@ -333,16 +334,66 @@ uint32_t csq_count_held(const struct csq_pass *pass, uint32_t *held, uint32_t *o
     return CSQ_OK;
 }
 
-/* ---- Under the lock ---- */
+/* ---- What a pass holds ---- */
 
-static void hold(struct pass *by, uint32_t irp, uint32_t life, uint32_t has) {
-    by->slots[irp] = (struct slot){ life, has };
+static uint32_t knows(struct csq_pass *pass, uint32_t irp) {
+    const struct pass *by = pass_in(pass);
+    if (!by) {
+        return CSQ_EMPTY_HANDLE;
+    }
+    return irp < by->irps ? CSQ_OK : CSQ_UNKNOWN_IRP;
+}
+
+static uint32_t holds(struct csq_pass *pass, struct csq_irp irp) {
+    const struct pass *by = pass_in(pass);
+    uint32_t code = knows(pass, irp.irp);
+    if (code != CSQ_OK) {
+        return code;
+    }
+    struct slot slot = by->slots[irp.irp];
+    return (slot.has == REMOVED || slot.has == GOT_CANCELLED) && slot.life == irp.life ? CSQ_OK : CSQ_NOT_HELD;
+}
+
+/* Whether it got the IRP by a removal. */
+static uint32_t holds_removed(struct csq_pass *pass, struct csq_irp irp) {
+    const struct pass *by = pass_in(pass);
+    uint32_t code = holds(pass, irp);
+    if (code != CSQ_OK) {
+        return code;
+    }
+    return by->slots[irp.irp].has == REMOVED ? CSQ_OK : CSQ_NOT_REMOVED;
+}
+
+static void hold(struct pass *by, uint32_t irp, struct slot slot) {
+    by->slots[irp] = slot;
     by->held++;
 }
+
+static void let_go(struct pass *by, uint32_t irp) {
+    by->slots[irp].has = NOT_HERE;
+    by->held--;
+}
+
+/* ---- Under the lock ---- */
 
 /* Exchanges the routine of an IRP for none, and answers whether it was there. */
 static bool disarm(struct queue *at, uint32_t irp) {
     return atomic_exchange(word_of(at->words, irp, ROUTINE), clear(at->lives[irp])) % 2;
+}
+
+/* Lists an IRP and sets its routine. If it was cancelled before, the pass holds it. */
+static uint32_t list_irp(struct queue *at, struct pass *by, uint32_t irp, uint32_t file, uint32_t front,
+                         struct csq_irp *context) {
+    uint32_t life = at->lives[irp], code = CSQ_OK;
+    plain_list_insert(&at->list, irp, file, front != 0);
+    atomic_exchange(word_of(at->words, irp, ROUTINE), clear(life) + 1);
+    if (atomic_load(word_of(at->words, irp, FLAG)) % 2 && disarm(at, irp)) {
+        plain_list_remove(&at->list, irp);
+        hold(by, irp, (struct slot){ life, GOT_CANCELLED, NOBODY });
+        code = CSQ_CANCELLED;
+    }
+    *context = (struct csq_irp){ irp, life };
+    return code;
 }
 
 uint32_t csq_insert(struct csq_queue *queue, struct csq_pass *pass, uint32_t irp, uint32_t file, uint32_t front,
@@ -352,24 +403,32 @@ uint32_t csq_insert(struct csq_queue *queue, struct csq_pass *pass, uint32_t irp
     if (code == CSQ_OK) {
         code = plain_list_refusal(&at->list, irp, file);
     }
+    return code == CSQ_OK ? list_irp(at, pass->at, irp, file, front, context) : code;
+}
+
+uint32_t csq_put_back(struct csq_queue *queue, struct csq_pass *pass, struct csq_irp irp, uint32_t front,
+                      struct csq_irp *context) {
+    struct queue *at = queue_in(queue);
+    struct pass *by = pass_in(pass);
+    uint32_t file = NOBODY, code = may_call(queue, pass);
+    if (code == CSQ_OK) {
+        code = holds_removed(pass, irp);
+    }
+    if (code == CSQ_OK) {
+        file = by->slots[irp.irp].file;
+        code = plain_list_no_room(&at->list, file);
+    }
     if (code != CSQ_OK) {
         return code;
     }
-    uint32_t life = at->lives[irp];
-    plain_list_insert(&at->list, irp, file, front != 0);
-    atomic_exchange(word_of(at->words, irp, ROUTINE), clear(life) + 1);
-    if (atomic_load(word_of(at->words, irp, FLAG)) % 2 && disarm(at, irp)) {
-        plain_list_remove(&at->list, irp);
-        hold(pass->at, irp, life, GOT_CANCELLED);
-        code = CSQ_CANCELLED;
-    }
-    *context = (struct csq_irp){ irp, life };
-    return code;
+    let_go(by, irp.irp);
+    return list_irp(at, by, irp.irp, file, front, context);
 }
 
 static void take_removed(struct queue *at, struct pass *by, uint32_t irp) {
+    uint32_t file = at->list.file_of[irp];
     plain_list_remove(&at->list, irp);
-    hold(by, irp, at->lives[irp], REMOVED);
+    hold(by, irp, (struct slot){ at->lives[irp], REMOVED, file });
 }
 
 uint32_t csq_remove_next(struct csq_queue *queue, struct csq_pass *pass, uint32_t file, struct csq_irp *irp) {
@@ -418,7 +477,7 @@ uint32_t csq_cancel_routine(struct csq_queue *queue, struct csq_pass *pass, stru
     }
     plain_list_remove(&at->list, irp.irp);
     by->owed--;
-    hold(by, irp.irp, irp.life, GOT_CANCELLED);
+    hold(by, irp.irp, (struct slot){ irp.life, GOT_CANCELLED, NOBODY });
     return CSQ_OK;
 }
 
@@ -510,14 +569,6 @@ uint32_t csq_file_len(const struct csq_queue *queue, uint32_t file, uint32_t *le
 
 /* ---- Without the lock ---- */
 
-static uint32_t knows(struct csq_pass *pass, uint32_t irp) {
-    const struct pass *by = pass_in(pass);
-    if (!by) {
-        return CSQ_EMPTY_HANDLE;
-    }
-    return irp < by->irps ? CSQ_OK : CSQ_UNKNOWN_IRP;
-}
-
 uint32_t csq_mark_cancel(struct csq_pass *pass, struct csq_irp irp, uint32_t *found) {
     struct pass *by = pass_in(pass);
     uint32_t code = knows(pass, irp.irp);
@@ -531,7 +582,7 @@ uint32_t csq_mark_cancel(struct csq_pass *pass, struct csq_irp irp, uint32_t *fo
     }
     *found = atomic_compare_exchange_strong(word_of(by->words, irp.irp, ROUTINE), &routine, none);
     if (*found) {
-        by->slots[irp.irp] = (struct slot){ irp.life, OWED };
+        by->slots[irp.irp] = (struct slot){ irp.life, OWED, NOBODY };
         by->owed++;
     }
     return CSQ_OK;
@@ -539,33 +590,18 @@ uint32_t csq_mark_cancel(struct csq_pass *pass, struct csq_irp irp, uint32_t *fo
 
 static void set_status(struct pass *by, uint32_t irp, uint32_t status) {
     atomic_exchange(word_of(by->words, irp, STATUS), unset(by->slots[irp].life) + STATUS_SET + status);
-    by->slots[irp].has = NOT_HERE;
-    by->held--;
-}
-
-static uint32_t holds(struct csq_pass *pass, struct csq_irp irp) {
-    const struct pass *by = pass_in(pass);
-    uint32_t code = knows(pass, irp.irp);
-    if (code != CSQ_OK) {
-        return code;
-    }
-    struct slot slot = by->slots[irp.irp];
-    return (slot.has == REMOVED || slot.has == GOT_CANCELLED) && slot.life == irp.life ? CSQ_OK : CSQ_NOT_HELD;
+    let_go(by, irp);
 }
 
 uint32_t csq_complete(struct csq_pass *pass, struct csq_irp irp, uint32_t status) {
-    struct pass *by = pass_in(pass);
-    uint32_t code = holds(pass, irp);
+    uint32_t code = holds_removed(pass, irp);
     if (code != CSQ_OK) {
         return code;
-    }
-    if (by->slots[irp.irp].has != REMOVED) {
-        return CSQ_NOT_REMOVED;
     }
     if (status == CSQ_STATUS_PENDING) {
         return CSQ_NOT_FINAL;
     }
-    set_status(by, irp.irp, status);
+    set_status(pass->at, irp.irp, status);
     return CSQ_OK;
 }
 

@@ -129,6 +129,15 @@ static inline uint32_t take(struct device *device, int pass, uint32_t file) {
     return code == CSQ_OK ? irp.irp : CSQ_ANY;
 }
 
+/* Puts an IRP back, and answers the code. An answer that tells the IRP tells it by the name that it has. */
+static inline uint32_t put_back(struct device *device, int pass, struct csq_irp irp, uint32_t front) {
+    struct csq_irp context = { UNWRITTEN, UNWRITTEN };
+    uint32_t code = csq_put_back(&device->queue, &device->passes[pass], irp, front, &context);
+    int told = code == CSQ_OK || code == CSQ_CANCELLED;
+    CHECK(context.irp == (told ? irp.irp : UNWRITTEN) && context.life == (told ? irp.life : UNWRITTEN));
+    return code;
+}
+
 /* What csq_mark_cancel finds of an IRP in a life; 2 where it is refused. */
 static inline uint32_t mark(struct device *device, int pass, uint32_t irp, uint32_t life) {
     uint32_t found = 2;

@@ -27,6 +27,7 @@ static uint32_t left_of(struct arguments a) { return csq_read_left(a.queue, 0, &
 static uint32_t pass_of(struct arguments a) { return csq_take_pass(a.queue, a.pass); }
 static uint32_t back_of(struct arguments a) { return csq_give_back(a.queue, a.pass); }
 static uint32_t insert_of(struct arguments a) { return csq_insert(a.queue, a.pass, 9, 9, 0, &named); }
+static uint32_t put_back_of(struct arguments a) { return csq_put_back(a.queue, a.pass, irp_in(9, 0), 0, &named); }
 static uint32_t next_of(struct arguments a) { return csq_remove_next(a.queue, a.pass, CSQ_ANY, &named); }
 static uint32_t remove_of(struct arguments a) { return csq_remove(a.queue, a.pass, named); }
 static uint32_t routine_of(struct arguments a) { return csq_cancel_routine(a.queue, a.pass, irp_in(9, 0)); }
@@ -51,9 +52,8 @@ typedef uint32_t (*call)(struct arguments);
 static const call of_queue[] = { out_of,  close_of, len_of,    file_len_of, peek_of,
                                  judge_of, left_by,  listed_of, left_of };
 static const call of_open[] = { out_of, close_of, len_of, file_len_of, peek_of, judge_of, left_by };
-static const call of_both[] = { back_of,           insert_of,     next_of,         remove_of,
-                                routine_of,        owed_of,       file_of,         reuse_of,
-                                judged_removal_of, judged_end_of, judged_insert_of };
+static const call of_both[] = { back_of,  insert_of, put_back_of,       next_of,       remove_of,       routine_of,
+                                owed_of,  file_of,   judged_removal_of, judged_end_of, judged_insert_of, reuse_of };
 static const call of_pass[] = { drop_of, holding_of, mark_of, complete_of, cancelled_of, flag_of, read_of };
 
 #define EACH(calls) (size_t at = 0; at < sizeof(calls) / sizeof *(calls); at++)
@@ -180,7 +180,11 @@ static void a_pass_of_another_queue_is_refused_before_anything_else(void) {
         IS(of_both[at](crossed), CSQ_OTHER_QUEUE);
         IS(of_both[at](other), CSQ_OTHER_QUEUE);
     }
-    /* Also of an IRP that the pass owes in its own queue. */
+    /* Also of an IRP that the pass holds, or owes, in its own queue. */
+    IS(csq_remove(&pair.queues[0], &pair.passes[0], irp), CSQ_OK);
+    IS(csq_put_back(&pair.queues[1], &pair.passes[0], irp, 0, &named), CSQ_OTHER_QUEUE);
+    no_out_was_written();
+    IS(csq_put_back(&pair.queues[0], &pair.passes[0], irp, 0, &irp), CSQ_OK);
     IS(csq_mark_cancel(&pair.passes[0], irp, &first), CSQ_OK);
     IS(first, 1);
     begin_outs();

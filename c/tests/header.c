@@ -66,7 +66,8 @@ static uint32_t way(void) {
     struct csq_lock its_lock = { lock, unlock, &held };
     uint32_t wrong = csq_new(&queue, &size) | csq_free(&queue);
     wrong |= csq_new_with_file_limits(&queue, &size, limits, 1) | csq_take_pass(&queue, &pass);
-    wrong |= csq_insert(&queue, &pass, 0, 0, 1, &irp) | csq_remove(&queue, &pass, irp) | csq_complete(&pass, irp, 0);
+    wrong |= csq_insert(&queue, &pass, 0, 0, 1, &irp) | csq_remove(&queue, &pass, irp);
+    wrong |= csq_put_back(&queue, &pass, irp, 1, &irp) | csq_remove(&queue, &pass, irp) | csq_complete(&pass, irp, 0);
     wrong |= csq_reuse(&queue, &pass, irp, &number) | csq_insert(&queue, &pass, 0, 0, 0, &irp);
     wrong |= csq_cancel(&queue, &pass, irp, &its_lock, NULL, &number) | csq_insert(&queue, &pass, 1, 0, 0, &irp);
     wrong |= csq_peek_next(&queue, CSQ_ANY, 0, &irp) | csq_len(&queue, &number) | csq_file_len(&queue, 0, &number);

@@ -203,7 +203,8 @@ static void other_refusals_come_before_that_of_memory(uint32_t list) {
     refuse(0, false);
 }
 
-/* One life of each IRP: by turns removed, removed by its context, cancelled before and after its insert. */
+/* One life of each IRP: by turns removed, put back and removed again; removed by its context; cancelled before and
+ * after its insert. */
 static void lead_through_a_life(struct device *device, uint32_t irp, uint32_t life) {
     struct csq_irp name = { irp, life };
     uint32_t way = irp % 4, next = UNWRITTEN, found = UNWRITTEN, value = UNWRITTEN;
@@ -213,6 +214,8 @@ static void lead_through_a_life(struct device *device, uint32_t irp, uint32_t li
     IS(csq_insert(&device->queue, &device->passes[0], irp, irp % 256, irp % 3, &name),
        way == 3 ? CSQ_CANCELLED : CSQ_OK);
     if (way == 0) {
+        IS(csq_remove_next(&device->queue, &device->passes[0], irp % 256, &name), CSQ_OK);
+        IS(csq_put_back(&device->queue, &device->passes[0], name, irp % 8, &name), CSQ_OK);
         IS(csq_remove_next(&device->queue, &device->passes[0], irp % 256, &name), CSQ_OK);
     } else if (way == 1) {
         IS(csq_remove(&device->queue, &device->passes[0], name), CSQ_OK);

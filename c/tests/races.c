@@ -1,5 +1,5 @@
-/* Two threads that go for the same IRPs, one after the other: one inserts or removes them, the other cancels each at
- * about the same moment. The argument is the number of queues. */
+/* Two threads that go for the same IRPs, one after the other: one inserts or removes them, or removes them and puts them
+ * back, the other cancels each at about the same moment. The argument is the number of queues. */
 #include "check.h"
 
 #include <pthread.h>
@@ -93,6 +93,28 @@ static void remove_this(uint32_t irp) {
     }
 }
 
+/* An odd one at the front. It is left lying there, so that its cancel has to find it: nobody else takes it. */
+static void put_back_this(uint32_t irp) {
+    struct csq_irp name = { irp, 0 };
+    uint32_t code = CSQ_OK;
+    for (int turn = 0; turn < 2 && code == CSQ_OK; turn++) {
+        pthread_mutex_lock(&mutex);
+        code = csq_remove(&device.queue, &device.passes[0], name);
+        pthread_mutex_unlock(&mutex);
+        if (code == CSQ_OK) {
+            pthread_mutex_lock(&mutex);
+            code = csq_put_back(&device.queue, &device.passes[0], name, irp % 2, &name);
+            pthread_mutex_unlock(&mutex);
+        }
+    }
+    faults_of_first += code != CSQ_OK && code != CSQ_NONE && code != CSQ_CANCELLED;
+    if (code == CSQ_CANCELLED) {
+        note(irp, CSQ_STATUS_CANCELLED);
+        faults_of_first += csq_complete_cancelled(&device.passes[0], name) != CSQ_OK;
+        by_first++;
+    }
+}
+
 static void race(void (*call)(uint32_t)) {
     pthread_t canceller;
     come_to = ready_for = 0;
@@ -150,11 +172,19 @@ static void a_removal_and_a_cancel(uint32_t list) {
     race_in_each_queue(list, remove_this, 1);
 }
 
+static void a_put_back_and_a_cancel(uint32_t list) {
+    race_in_each_queue(list, put_back_this, 1);
+    snprintf(check_note, sizeof check_note,
+             " (%lu queues of %d IRPs: the cancel found %lu listed, the put-back found %lu cancelled)", queues, IRPS,
+             by_cancel, by_first);
+}
+
 int main(int count, char **words) {
     if (count > 1) {
         queues = strtoul(words[1], NULL, 10);
     }
     RUN_BOTH(an_insert_and_a_cancel);
     RUN_BOTH(a_removal_and_a_cancel);
+    RUN_BOTH(a_put_back_and_a_cancel);
     return DONE();
 }

@@ -15,7 +15,7 @@ static unsigned long turns = 400000;
 
 /* By IRP: how many of its lives were completed. The next one begins only after that. */
 static atomic_uint completed[IRPS];
-static atomic_ulong removed, claimed, found_cancelled, stale, missed, faults;
+static atomic_ulong removed, claimed, found_cancelled, went_back, stale, missed, faults;
 
 static void lock(void *of) {
     pthread_mutex_lock((pthread_mutex_t *)of);
@@ -94,6 +94,26 @@ static void insert_one(struct csq_pass *pass, uint32_t irp, uint64_t *state) {
     }
 }
 
+/* A worker that can't serve an IRP: it takes one and puts it back. */
+static void put_one_back(struct csq_pass *pass, uint32_t file, uint32_t front) {
+    struct csq_irp irp = { 0, 0 };
+    lock(&mutex);
+    uint32_t code = csq_remove_next(&device.queue, pass, file, &irp);
+    unlock(&mutex);
+    if (code == CSQ_OK) {
+        lock(&mutex);
+        code = csq_put_back(&device.queue, pass, irp, front, &irp);
+        unlock(&mutex);
+        fault_unless(code == CSQ_OK || code == CSQ_CANCELLED);
+        went_back++;
+    }
+    if (code == CSQ_CANCELLED) {
+        note(irp.irp, irp.life);
+        fault_unless(csq_complete_cancelled(pass, irp) == CSQ_OK);
+        found_cancelled++;
+    }
+}
+
 /* Cancels an IRP in the life that it has or has just left. */
 static void cancel_one(struct csq_pass *pass, uint32_t irp, uint32_t back) {
     uint32_t life = atomic_load(&completed[irp]), found = 0;
@@ -135,6 +155,9 @@ static void *serve(void *of) {
         if (pick(&state, 4) == 0) {
             remove_one(pass, pick(&state, 2) ? CSQ_ANY : pick(&state, FILES));
         }
+        if (pick(&state, 2)) {
+            put_one_back(pass, pick(&state, 2) ? CSQ_ANY : pick(&state, FILES), pick(&state, 2));
+        }
         read_one(pass, pick(&state, IRPS), lives);
     }
     return NULL;
@@ -154,7 +177,7 @@ static void begin_counts(void) {
     for (int irp = 0; irp < IRPS; irp++) {
         completed[irp] = 0;
     }
-    removed = claimed = found_cancelled = stale = missed = faults = 0;
+    removed = claimed = found_cancelled = went_back = stale = missed = faults = 0;
 }
 
 /* At the end the passes are back with this thread, and each IRP is home or was completed in its present life. */
@@ -177,9 +200,9 @@ static void end_of_lives(void) {
     IS(faults, 0);
     IS(sum, removed + claimed + found_cancelled);
     snprintf(check_note, sizeof check_note,
-             " (%lu completions: %lu removed, %lu by a cancel, %lu found cancelled; %lu cancels came late, %lu for "
-             "another life)",
-             sum, removed, claimed, found_cancelled, missed, stale);
+             " (%lu completions: %lu removed, %lu by a cancel, %lu found cancelled; %lu put back; %lu cancels came late, "
+             "%lu for another life)",
+             sum, removed, claimed, found_cancelled, went_back, missed, stale);
 }
 
 static void each_life_is_completed_once(uint32_t list) {

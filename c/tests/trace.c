@@ -78,6 +78,15 @@ static void make_removal(int by) {
     }
 }
 
+static void make_put_back(int by) {
+    struct csq_irp irp = pick(5) ? got[by] : some_name(), context = { 99, 99 };
+    uint32_t code = csq_put_back(&queue, &passes[by], irp, pick(2), &context);
+    if (code == CSQ_CANCELLED) {
+        got[by] = context;
+    }
+    tell("put back", code, context.irp, context.life);
+}
+
 static void make_cancel(int by) {
     struct csq_irp irp = some_name();
     uint32_t found = 99;
@@ -192,9 +201,9 @@ static void make_read(int by) {
 
 static void make_call(void) {
     static void (*const kinds[])(int) = { make_insert,     make_insert,  make_insert,  make_removal,
-                                          make_cancel,     make_routine, make_routine, make_completion,
-                                          make_completion, make_reuse,   make_reuse,   make_read,
-                                          make_judgement };
+                                          make_removal,    make_put_back, make_cancel, make_routine,
+                                          make_routine,    make_completion, make_completion, make_reuse,
+                                          make_reuse,      make_read,    make_judgement };
     int by = (int)pick(PASSES);
     if (pick(200) == 0) {
         uint32_t file = some_file();

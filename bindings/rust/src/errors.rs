@@ -75,6 +75,47 @@ refusal!(InsertError {
     Full => "the queue has as many IRPs listed as it may",
 });
 
+/// Why what was removed isn't put back, in the order in which the causes are tested.
+#[derive(Clone, Copy, Debug, PartialEq, Eq, Hash)]
+pub enum PutBackError {
+    /// The file object was closed in the meantime. Its cleanup would have cancelled the IRP.
+    FileClosed,
+    /// As many IRPs are listed for the file object as its own limit allows: others were inserted in the meantime.
+    FileFull,
+    /// As many IRPs are listed as the limit allows.
+    Full,
+}
+
+refusal!(PutBackError {
+    FileClosed => "the file object was closed",
+    FileFull => "the file object has as many IRPs listed as it may",
+    Full => "the queue has as many IRPs listed as it may",
+});
+
+/// What wasn't put back: a token ([`Removed`](crate::Removed)) or a request ([`Request`](crate::Request)). It comes back.
+pub struct NotPutBack<R> {
+    /// What the pass holds as before. Dropped, it is completed with `STATUS_CANCELLED`.
+    pub held: R,
+    /// Why it wasn't put back.
+    pub cause: PutBackError,
+}
+
+impl<R> fmt::Debug for NotPutBack<R> {
+    fn fmt(&self, f: &mut fmt::Formatter<'_>) -> fmt::Result {
+        f.debug_struct("NotPutBack")
+            .field("cause", &self.cause)
+            .finish_non_exhaustive()
+    }
+}
+
+impl<R> fmt::Display for NotPutBack<R> {
+    fn fmt(&self, f: &mut fmt::Formatter<'_>) -> fmt::Result {
+        self.cause.fmt(f)
+    }
+}
+
+impl<R> Error for NotPutBack<R> {}
+
 /// Why a cancel changed nothing, in the order in which the causes are tested.
 #[derive(Clone, Copy, Debug, PartialEq, Eq, Hash)]
 pub enum CancelError {
@@ -254,7 +295,8 @@ pub enum Missed {
     OtherQueue,
     /// The request was completed.
     Completed,
-    /// Somebody else has the request. Who took it is told ([`Request::is_cancelled`](crate::Request::is_cancelled)).
+    /// Somebody else has the request. Who took it is told ([`Request::is_cancelled`](crate::Request::is_cancelled)), and
+    /// can't put it back any more ([`PutBack::Cancelled`](crate::PutBack::Cancelled)).
     Taken,
 }
 

@@ -4,8 +4,8 @@
 //!
 //! A [`Queue`] hands out a [`Pass`] for each thread that inserts, removes, cancels or completes. What a pass has to
 //! complete is a token ([`Removed`], [`Cancelled`], [`Claim`]): it borrows its pass, and one that is dropped completes
-//! its IRP with `STATUS_CANCELLED`. So once a queue is closed, each IRP that an insert accepted was completed once or
-//! is listed.
+//! its IRP with `STATUS_CANCELLED`. What was removed may be put back instead ([`Removed::put_back`]). So once a queue is
+//! closed, each IRP that an insert accepted was completed once or is listed.
 //!
 //! [`Requests`] is such a queue of values: it takes an IRP for each, and hands each value over once.
 //!
@@ -99,12 +99,12 @@ mod token;
 mod words;
 
 pub use errors::{
-    CancelError, Holding, InsertError, Missed, NewError, NotListed, PassError, PassesOut, Refused,
-    ReuseError, SubmitError, UnknownFile, UnknownIrp,
+    CancelError, Holding, InsertError, Missed, NewError, NotListed, NotPutBack, PassError,
+    PassesOut, PutBackError, Refused, ReuseError, SubmitError, UnknownFile, UnknownIrp,
 };
 pub use pass::Pass;
 pub use queue::{Closed, Listed, Queue};
-pub use requests::{Request, RequestId, RequestPass, Requests};
+pub use requests::{PutBack, Request, RequestId, RequestPass, Requests};
 pub use token::{Cancelled, Claim, Inserted, Removed};
 pub use words::{FinalStatus, Irp, Left, List, Peek, Place, Size, LAST_LIFE};
 

@@ -1,7 +1,7 @@
 //! Passes, and the calls that are made through them.
 
 use crate::errors::{
-    CancelError, Holding, InsertError, PassError, ReuseError, UnknownFile, UnknownIrp,
+    CancelError, Holding, InsertError, PassError, PutBackError, ReuseError, UnknownFile, UnknownIrp,
 };
 use crate::queue::{file_of, Shared};
 use crate::raw::{self, RawIrp, RawPass, RawQueue};
@@ -82,7 +82,7 @@ impl Pass {
     /// Inserts an IRP for a file object (`IoCsqInsertIrpEx`). Takes the lock.
     pub fn insert(&self, irp: u32, file: u32, place: Place) -> Result<Inserted<'_>, InsertError> {
         let mut context = RawIrp::default();
-        let front = u32::from(place == Place::Front);
+        let front = front_of(place);
         // SAFETY: the queue is locked, and this thread alone has the pass.
         match self.locked(|queue, pass| unsafe {
             raw::csq_insert(queue, pass, irp, file, front, &mut context)
@@ -255,7 +255,25 @@ impl Pass {
         }
     }
 
-    // The halves of tokens. None is refused, since a token is of what its pass holds or owes.
+    // The halves of tokens. A token is of what its pass holds or owes, so none is refused but for what the list says.
+
+    pub(crate) fn put_back(&self, irp: Irp, place: Place) -> Result<Inserted<'_>, PutBackError> {
+        let mut context = RawIrp::default();
+        // SAFETY: the queue is locked, and this thread alone has the pass.
+        match self.locked(|queue, pass| unsafe {
+            raw::csq_put_back(queue, pass, irp.raw(), front_of(place), &mut context)
+        }) {
+            raw::OK => Ok(Inserted::Pending(Irp::of(context))),
+            raw::CANCELLED => Ok(Inserted::Cancelled(Cancelled {
+                pass: self,
+                irp: Irp::of(context),
+            })),
+            raw::FILE_CLOSED => Err(PutBackError::FileClosed),
+            raw::FILE_FULL => Err(PutBackError::FileFull),
+            raw::FULL => Err(PutBackError::Full),
+            code => unreachable!("csq_put_back answered {code}"),
+        }
+    }
 
     pub(crate) fn complete(&self, irp: Irp, status: FinalStatus) {
         // SAFETY: this thread alone has the pass.
@@ -293,6 +311,11 @@ impl Pass {
             unsafe { raw::csq_complete_cancelled(self.handle.get(), irp) };
         }
     }
+}
+
+// A place as the library numbers it.
+fn front_of(place: Place) -> u32 {
+    u32::from(place == Place::Front)
 }
 
 impl Drop for Pass {

@@ -112,6 +112,13 @@ extern "C" {
         irp: *mut RawIrp,
     ) -> u32;
     pub(crate) fn csq_remove(queue: *mut RawQueue, pass: *mut RawPass, irp: RawIrp) -> u32;
+    pub(crate) fn csq_put_back(
+        queue: *mut RawQueue,
+        pass: *mut RawPass,
+        irp: RawIrp,
+        front: u32,
+        context: *mut RawIrp,
+    ) -> u32;
     pub(crate) fn csq_cancel_routine(queue: *mut RawQueue, pass: *mut RawPass, irp: RawIrp) -> u32;
     pub(crate) fn csq_cancel_owed(queue: *mut RawQueue, pass: *mut RawPass, irp: RawIrp) -> u32;
     pub(crate) fn csq_close_file(queue: *mut RawQueue, pass: *mut RawPass, file: u32) -> u32;

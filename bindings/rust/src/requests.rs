@@ -5,7 +5,7 @@ mod request;
 mod slots;
 
 pub use pass::RequestPass;
-pub use request::{Request, RequestId};
+pub use request::{PutBack, Request, RequestId};
 
 use crate::errors::{NewError, PassError, PassesOut, UnknownFile};
 use crate::queue::Queue;

@@ -4,8 +4,9 @@
 //! has no values that must be spent; so a token that is let go, at a `?` or in a panic, completes its IRP with
 //! `STATUS_CANCELLED`, which fits however the pass got it.
 
+use crate::errors::NotPutBack;
 use crate::pass::Pass;
-use crate::words::{FinalStatus, Irp};
+use crate::words::{FinalStatus, Irp, Place};
 use std::fmt;
 use std::mem;
 
@@ -36,11 +37,41 @@ pub struct Removed<'pass> {
 
 token!(Removed);
 
-impl Removed<'_> {
+impl<'pass> Removed<'pass> {
     /// Completes the IRP with this status (`IoCompleteRequest`).
     pub fn complete(self, status: FinalStatus) {
         self.pass.complete(self.irp, status);
         mem::forget(self);
+    }
+
+    /// Puts the IRP back into the list, for the file object that it was inserted for (`IoCsqInsertIrpEx` of an IRP that
+    /// was removed): for a worker that can't serve it now. Its life goes on, so the context of its insert still names it.
+    /// One that was cancelled while a pass held it isn't listed, but has to be completed ([`Inserted::Cancelled`]). A
+    /// refusal hands the token back. Takes the lock.
+    ///
+    /// ```
+    /// # fn main() -> Result<(), Box<dyn std::error::Error>> {
+    /// # use csq::{Inserted, Peek, Place, Queue, Size};
+    /// let queue = Queue::new(&Size::new(1, 1, 2))?;
+    /// let (worker, caller) = (queue.pass()?, queue.pass()?);
+    /// let _pending = worker.insert(0, 0, Place::Back)?;
+    /// let removed = worker.remove_next(Peek::Any).expect("the IRP");
+    /// // The device is busy, so it goes back, to be the next one again.
+    /// if let Ok(Inserted::Pending(irp)) = removed.put_back(Place::Front) {
+    ///     assert!(caller.cancel(irp)?);
+    /// }
+    /// # Ok(())
+    /// # }
+    /// ```
+    pub fn put_back(self, place: Place) -> Result<Inserted<'pass>, NotPutBack<Removed<'pass>>> {
+        let pass = self.pass;
+        match pass.put_back(self.irp, place) {
+            Ok(back) => {
+                mem::forget(self);
+                Ok(back)
+            }
+            Err(cause) => Err(NotPutBack { held: self, cause }),
+        }
     }
 }
 
@@ -50,8 +81,8 @@ impl Drop for Removed<'_> {
     }
 }
 
-/// An IRP that the pass got cancelled: an insert found it cancelled, or the cancel routine took it out. Dropped, it is
-/// completed.
+/// An IRP that the pass got cancelled: an insert or a put-back found it cancelled, or the cancel routine took it out.
+/// Dropped, it is completed.
 #[must_use = "a cancelled IRP has to be completed, and is where it is dropped"]
 pub struct Cancelled<'pass> {
     pub(crate) pass: &'pass Pass,
@@ -99,7 +130,7 @@ impl Drop for Claim<'_> {
     }
 }
 
-/// What an accepted insert answers.
+/// What an accepted insert or put-back answers.
 #[must_use = "the IRP may have been cancelled before, and is completed then where this is dropped"]
 #[derive(Debug)]
 pub enum Inserted<'pass> {

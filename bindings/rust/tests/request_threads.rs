@@ -71,9 +71,16 @@ impl<'a> Worker<'a> {
 
     fn serve(&mut self) {
         if let Some(request) = self.pass.next(Peek::Any) {
-            match pick(&mut self.state, 3) {
+            match pick(&mut self.state, 4) {
                 0 => drop(request.complete()),
                 1 => drop(request),
+                2 => match request.put_back(Place::Front) {
+                    Ok(PutBack::Pending) => {}
+                    Ok(PutBack::Cancelled(value)) => {
+                        assert_eq!(self.drops[*value.number as usize].load(SeqCst), 0);
+                    }
+                    Err(refused) => assert_eq!(refused.cause, PutBackError::FileClosed),
+                },
                 _ => {
                     let panicked = catch_unwind(AssertUnwindSafe(|| {
                         let _request = request;

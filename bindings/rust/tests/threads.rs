@@ -56,6 +56,17 @@ fn serve(pass: &Pass, completed: &Completed, seed: u32) {
                 token.complete(FinalStatus::SUCCESS);
             }
         }
+        if pick(&mut state, 4) == 0 {
+            if let Some(token) = pass.remove_next(Peek::File(pick(&mut state, FILES))) {
+                match token.put_back(Place::Front).expect("a place") {
+                    Inserted::Pending(_) => {}
+                    Inserted::Cancelled(token) => {
+                        completed.note(token.irp());
+                        token.complete();
+                    }
+                }
+            }
+        }
         let irp = pick(&mut state, IRPS);
         let (life, _) = pass.is_cancelled(irp).unwrap();
         let _ = pass.reuse(Irp { irp, life });

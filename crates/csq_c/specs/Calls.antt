@@ -10,12 +10,13 @@ use Rattle.csq_list.specs.declared.refusals.InsertStatus.{InsertStatus}
 use Rattle.csq_list.specs.declared.refusals.UnknownFile.{UnknownFile}
 use Rattle.csq_queue.specs.declared.tokens.InsertAnswer.{InsertAnswer}
 use Rattle.csq_queue.specs.Calls.{Inserts, RemovesNext, RemovesOne}
-use Rattle.csq_checked.specs.Calls.{MakesCall, RunsOwedRoutine, CancelsOwed, ClosesKnownFile, ReusesPresentLife}
+use Rattle.csq_checked.specs.Calls.{MakesCall, PutsBackRemoved, RunsOwedRoutine, CancelsOwed, ClosesKnownFile, ReusesPresentLife}
 use Rattle.csq_checked.specs.Passes.{CheckedPassState}
+use Rattle.csq_checked.specs.declared.calls.PutBackRefused.{PutBackRefused}
 use Rattle.csq_checked.specs.declared.calls.ReuseRefused.{ReuseRefused}
 use Rattle.csq_checked.specs.declared.unlocked.RoutineRefused.{RoutineRefused}
 use Rattle.csq_c.specs.Bodies.{QueueBodyState}
-use Rattle.csq_c.specs.Codes.{insert_code, inserted_irp, removal_code, routine_code, close_file_code, reuse_code, life_told}
+use Rattle.csq_c.specs.Codes.{insert_code, inserted_irp, put_back_code, put_back_irp, removal_code, routine_code, close_file_code, reuse_code, life_told}
 use Rattle.csq_c.specs.Exports.{OnQueue}
 use Rattle.csq_c.specs.declared.codes.Code.{Code}
 
@@ -23,6 +24,11 @@ use Rattle.csq_c.specs.declared.codes.Code.{Code}
 abbrev pub InsertsInto : IrpId → FileId → Place → QueueBodyState → QueueBodyState → CheckedPassState → CheckedPassState → Code → Option IrpLife → Type 0
 InsertsInto irp file place body body' p p' code told = OnQueue body body' p p' code (told ≡ None)
     (λ q q'. (answer : Result (InsertAnswer IrpLife IrpLife) InsertStatus) × MakesCall (Inserts irp file place answer) q p q' p' × (code ≡ insert_code answer) × (told ≡ inserted_irp answer))
+
+-- a put-back answers this code, and tells of this IRP
+abbrev pub PutsBackInto : IrpLife → Place → QueueBodyState → QueueBodyState → CheckedPassState → CheckedPassState → Code → Option IrpLife → Type 0
+PutsBackInto i place body body' p p' code told = OnQueue body body' p p' code (told ≡ None)
+    (λ q q'. (answer : Result (InsertAnswer IrpLife IrpLife) PutBackRefused) × PutsBackRemoved i place answer q p q' p' × (code ≡ put_back_code answer) × (told ≡ put_back_irp answer))
 
 -- so does a removal of the next match
 abbrev pub RemovesNextFrom : Peek → QueueBodyState → QueueBodyState → CheckedPassState → CheckedPassState → Code → Option IrpLife → Type 0

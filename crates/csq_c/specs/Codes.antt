@@ -11,6 +11,8 @@ use Rattle.csq_queue.specs.declared.tokens.InsertAnswer.TheVariants as inserted
 use Rattle.csq_queue.specs.declared.refusals.CancelRefused.{CancelRefused}
 use Rattle.csq_queue.specs.declared.refusals.CancelRefused.TheVariants as cancel
 use Rattle.csq_queue.specs.declared.refusals.UnknownIrp.{UnknownIrp as NoIrp}
+use Rattle.csq_checked.specs.declared.calls.PutBackRefused.{PutBackRefused}
+use Rattle.csq_checked.specs.declared.calls.PutBackRefused.TheVariants as back
 use Rattle.csq_checked.specs.declared.calls.ReuseRefused.{ReuseRefused}
 use Rattle.csq_checked.specs.declared.calls.ReuseRefused.TheVariants as reuse
 use Rattle.csq_checked.specs.declared.unlocked.CompleteRefused.{CompleteRefused}
@@ -74,6 +76,21 @@ abbrev pub inserted_irp : Result (InsertAnswer IrpLife IrpLife) InsertStatus →
 inserted_irp (Ok (inserted.Pending context)) = Some context
 inserted_irp (Ok (inserted.Cancelled token)) = Some token
 inserted_irp (Err cause) = None
+
+-- what a put-back returned
+abbrev pub put_back_code : Result (InsertAnswer IrpLife IrpLife) PutBackRefused → Code
+put_back_code (Ok answer) = insert_code (Ok answer)
+put_back_code (Err back.UnknownIrp) = UnknownIrp
+put_back_code (Err back.NotHeld) = NotHeld
+put_back_code (Err back.NotRemoved) = NotRemoved
+put_back_code (Err back.FileClosed) = FileClosed
+put_back_code (Err back.FileFull) = FileFull
+put_back_code (Err back.Full) = Full
+
+-- which IRP a put-back told of
+abbrev pub put_back_irp : Result (InsertAnswer IrpLife IrpLife) PutBackRefused → Option IrpLife
+put_back_irp (Ok answer) = inserted_irp (Ok answer)
+put_back_irp (Err cause) = None
 
 -- whether a removal got an IRP
 abbrev pub removal_code : Option IrpLife → Code

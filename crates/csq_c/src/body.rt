@@ -1,9 +1,9 @@
 //! What the handle of a queue stands for, and the calls of it.
 ghost use Rattle.std.specs.Prelude.{◌≡◌};
 ghost use Rattle.csq_c.specs.Bodies.{IsPassFor};
-ghost use Rattle.csq_c.specs.Calls.{InsertsInto, RemovesNextFrom, RemovesFrom, RunsRoutineOn, CancelsOwedOn, ClosesFileOf, ReusesOf};
+ghost use Rattle.csq_c.specs.Calls.{InsertsInto, PutsBackInto, RemovesNextFrom, RemovesFrom, RunsRoutineOn, CancelsOwedOn, ClosesFileOf, ReusesOf};
 
-use crate::codes::{Code, of_close_file, of_insert, of_removal, of_reuse, of_routine};
+use crate::codes::{Code, of_close_file, of_insert, of_put_back, of_removal, of_reuse, of_routine};
 use csq_checked::{AnyList, CheckedPass, CheckedQueue};
 use csq_list::{Peek, PendingList, Place};
 use csq_queue::Rest;
@@ -45,6 +45,22 @@ impl QueueBody {
         match &mut self.queue {
             None => (Code::Closed, None),
             Some(queue) => of_insert(queue.insert(by, irp, file, place)),
+        }
+    }
+
+    /// Puts an IRP back that the pass got by a removal, where the queue is open.
+    pub(crate) fn put_back(
+        &mut self,
+        by: &mut CheckedPass,
+        irp: IrpLife,
+        place: Place,
+    ) -> (Code, Option<IrpLife>)
+        requires { IsPassFor self.old by.old }
+        ensures { PutsBackInto irp place self.old self.new by.old by.new result.0 result.1 }
+    {
+        match &mut self.queue {
+            None => (Code::Closed, None),
+            Some(queue) => of_put_back(queue.put_back(by, irp, place)),
         }
     }
 

@@ -1,8 +1,10 @@
 //! The codes that calls answer.
 ghost use Rattle.std.specs.Prelude.{◌≡◌};
-ghost use Rattle.csq_c.specs.Codes.{number_of, refusal_code, insert_code, inserted_irp, removal_code, routine_code, close_file_code, reuse_code, life_told, mark_code, claim_told, complete_code, flag_code, flag_life_told, flag_told, status_code, status_life_told, status_told, new_code, pass_code};
+ghost use Rattle.csq_c.specs.Codes.{number_of, refusal_code, insert_code, inserted_irp, put_back_code, put_back_irp, removal_code, routine_code, close_file_code, reuse_code, life_told, mark_code, claim_told, complete_code, flag_code, flag_life_told, flag_told, status_code, status_life_told, status_told, new_code, pass_code};
 
-use csq_checked::{CompleteRefused, NewRefused, PassRefused, ReuseRefused, RoutineRefused};
+use csq_checked::{
+    CompleteRefused, NewRefused, PassRefused, PutBackRefused, ReuseRefused, RoutineRefused,
+};
 use csq_list::{InsertStatus, UnknownFile};
 use csq_queue::{CancelRefused, InsertAnswer, OpenInserted, UnknownIrp};
 use irp_core::{IrpLife, Life, NtStatus};
@@ -98,6 +100,21 @@ pub(crate) fn of_insert(answer: Result<OpenInserted, InsertStatus>) -> (Code, Op
         Ok(InsertAnswer::Pending(context)) => (Code::Done, Some(context)),
         Ok(InsertAnswer::Cancelled(token)) => (Code::Cancelled, Some(token)),
         Err(cause) => (refusal(cause), None),
+    }
+}
+
+/// What a put-back returned, and the IRP that it told of.
+pub(crate) fn of_put_back(answer: Result<OpenInserted, PutBackRefused>) -> (Code, Option<IrpLife>)
+    ensures { result ≡ (put_back_code answer, put_back_irp answer) }
+{
+    match answer {
+        Ok(back) => of_insert(Ok(back)),
+        Err(PutBackRefused::UnknownIrp) => (Code::UnknownIrp, None),
+        Err(PutBackRefused::NotHeld) => (Code::NotHeld, None),
+        Err(PutBackRefused::NotRemoved) => (Code::NotRemoved, None),
+        Err(PutBackRefused::FileClosed) => (Code::FileClosed, None),
+        Err(PutBackRefused::FileFull) => (Code::FileFull, None),
+        Err(PutBackRefused::Full) => (Code::Full, None),
     }
 }
 

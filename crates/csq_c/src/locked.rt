@@ -3,7 +3,7 @@
 //! another queue's, then CSQ_CLOSED of a closed queue.
 ghost use Rattle.std.specs.Prelude.{◌≡◌, ℕ, Option};
 ghost use Rattle.irp_core.specs.declared.ids.IrpLife.{IrpLife};
-ghost use Rattle.csq_c.specs.Calls.{InsertsInto, RemovesNextFrom, RemovesFrom, RunsRoutineOn, CancelsOwedOn, ClosesFileOf, ReusesOf};
+ghost use Rattle.csq_c.specs.Calls.{InsertsInto, PutsBackInto, RemovesNextFrom, RemovesFrom, RunsRoutineOn, CancelsOwedOn, ClosesFileOf, ReusesOf};
 ghost use Rattle.csq_c.specs.Exports.{OnHandles, ArePaired};
 ghost use Rattle.csq_c.specs.Shapes.{irp_numbered, file_numbered, irp_named, place_numbered, peek_of, written, set_to};
 
@@ -43,6 +43,41 @@ pub extern "C" fn csq_insert(
         return Code::OtherQueue.number();
     }
     let (code, told) = body.insert(by, IrpId(irp), FileId(file), place(front));
+    context.write(told);
+    code.number()
+}
+
+/// Puts an IRP back that the pass got by a removal in the life named, first unless `front` is 0, and
+/// writes its insert context: CSQ_OK where it is pending, and the pass holds it no longer then,
+/// CSQ_CANCELLED where it was found cancelled, and the pass holds it as cancelled then. Else
+/// CSQ_UNKNOWN_IRP, CSQ_NOT_HELD or CSQ_NOT_REMOVED, as `csq_complete` answers, or CSQ_FILE_CLOSED,
+/// CSQ_FILE_FULL or CSQ_FULL, as `csq_insert` does. As `IoCsqInsertIrpEx` of an IRP that
+/// `IoCsqRemoveNextIrp` or `IoCsqRemoveIrp` returned.
+#[unsafe(no_mangle)]
+pub extern "C" fn csq_put_back(
+    queue: &mut CsqQueue,
+    pass: &mut CsqPass,
+    irp: CsqIrp,
+    front: u32,
+    context: &mut CsqIrp,
+) -> u32
+    requires { ArePaired queue.old pass.old }
+    ensures { OnHandles queue.old queue.new pass.old pass.new result
+        (context.new ≡ context.old)
+        (λ body body' p p' code. (told : Option IrpLife)
+        × PutsBackInto (irp_named irp) (place_numbered front) body body' p p' code told
+        × (context.new ≡ written told context.old)) }
+{
+    let Some(body) = queue.boxed.lent() else {
+        return Code::Empty.number();
+    };
+    let Some(by) = pass.boxed.lent() else {
+        return Code::Empty.number();
+    };
+    if pass.queue != queue.number {
+        return Code::OtherQueue.number();
+    }
+    let (code, told) = body.put_back(by, irp.named(), place(front));
     context.write(told);
     code.number()
 }

@@ -1,5 +1,5 @@
 -- A pass's slots still tell what it holds and owes, after each of its calls.
-use Rattle.std.proofs.Common.{◌≡◌, ℕ, ◌<◌, ◌==◌, Bool, true, false, true≢false, List, Option, Some, None, IfSome, refl, sym, ap, ◌∙◌, subst, eqb-true, eq-eqb}
+use Rattle.std.proofs.Common.{◌≡◌, ℕ, ◌<◌, ◌==◌, Bool, true, false, true≢false, List, Option, Some, None, Ok, IfSome, refl, sym, ap, ◌∙◌, subst, eqb-true, eq-eqb}
 use Rattle.std.specs.Prelude.{slice_set}
 use Rattle.irp_core.specs.Runs.{Size}
 use Rattle.irp_core.specs.Steps.{number}
@@ -10,15 +10,22 @@ use Rattle.irp_core.specs.declared.step.Kind.TheVariants.{Out, Done}
 use Rattle.irp_core.specs.Own.{holds_in, owes_in, removed_in, held_list, owed_list}
 use Rattle.csq_words.specs.Records.{saw, with_step, with_completion}
 use Rattle.csq_words.specs.Seats.{WordsState}
+use Rattle.csq_words.specs.Queue.{QueueState}
+use Rattle.csq_queue.specs.declared.tokens.InsertAnswer.{InsertAnswer}
+use Rattle.csq_queue.specs.declared.tokens.InsertAnswer.TheVariants.{Pending, Cancelled}
 use Rattle.csq_queue.specs.Counts.{has_life, AreApart}
+use Rattle.csq_queue.specs.Inserts.{given_by}
+use Rattle.csq_queue.specs.Steps.{MakesSteps, put_back_steps}
 use Rattle.csq_queue.specs.Opens.{OpenState, OpenPassState, IsQueueOn, IsPassOn}
-use Rattle.csq_queue.specs.Owned.{Holds, Owes}
+use Rattle.csq_queue.specs.Owned.{Holds, HoldsRemoved, Owes}
 use Rattle.csq_queue.proofs.Giving.{GivesOut}
+use Rattle.csq_queue.proofs.Returning.{IsOfIrp, returns}
 use Rattle.csq_checked.specs.declared.slots.Held.{Held}
-use Rattle.csq_checked.specs.Slots.{KnowsItsOwn, slot_at, with_held}
+use Rattle.csq_checked.specs.Slots.{KnowsItsOwn, slot_at, with_held, held_after_back}
 use Rattle.csq_checked.specs.Passes.{IsCheckedPass}
 use Rattle.csq_checked.proofs.Knowing.{holds_told, owes_told, not_held, not_owed}
-use Rattle.csq_checked.proofs.Keeping.{kept_done, kept_out, kept_given}
+use Rattle.csq_checked.proofs.Relisting.{others_removed}
+use Rattle.csq_checked.proofs.Keeping.{kept_done, kept_out, kept_back, kept_given}
 
 module _ (words : WordsState) (pass : OpenPassState) (held : List (Option Held)) (owed : List (Option Life)) (was : IsCheckedPass words pass held owed) where
   -- the call made no step but on what is known of the pass
@@ -59,7 +66,7 @@ module _ (words : WordsState) (pass : OpenPassState) (held : List (Option Held))
     completion_keeps status pass' held' step gone slots =
         let steps' = (with_step (Done i) 0 pass.pass).steps in
         let left = subst (λ (p : OpenPassState). has_life (held_list p.pass.steps) i.irp ≡ false) step gone in
-        let kept = kept_done words.size.irps pass.pass.steps steps' held owed was.own i known (λ j. refl) refl refl left in
+        let kept = kept_done words.size.irps pass.pass.steps steps' held owed was.own i known (λ j ne. refl) refl refl left in
         subst (λ (p : OpenPassState). IsCheckedPass words p held' owed) (sym step) (record {
           on = record { table = was.on.table; irps = was.on.irps; passes = was.on.passes };
           own = subst (λ hs. KnowsItsOwn words.size.irps steps' hs owed) (sym slots) kept;
@@ -71,12 +78,27 @@ module _ (words : WordsState) (pass : OpenPassState) (held : List (Option Held))
         → held' ≡ with_held false (Some i) held → owed' ≡ slice_set owed (number i) None → IsCheckedPass words pass' held' owed'
     routine_keeps pass' held' owed' place steps cancelled gone holds owes =
         let steps' = (with_step (Out i) 0 pass.pass).steps in
-        let kept = kept_out words.size.irps pass.pass.steps steps' held owed was.own i known (λ j. refl) refl refl
+        let kept = kept_out words.size.irps pass.pass.steps steps' held owed was.own i known (λ j ne. refl) refl refl
         (subst (λ s. removed_in s i ≡ false) steps cancelled) (subst (λ s. has_life (owed_list s) i.irp ≡ false) steps gone) in
         record {
           on = moved pass' place;
           own = subst (λ s. KnowsItsOwn words.size.irps s held' owed') (sym steps) (subst (λ hs. KnowsItsOwn words.size.irps steps' hs owed') (sym holds) (subst (λ os. KnowsItsOwn words.size.irps steps' (with_held false (Some i) held) os) (sym owes) kept));
         }
+
+    -- it put i back
+    pub back_keeps : (answer : InsertAnswer IrpLife IrpLife) (u : QueueState) (pass' : OpenPassState) (held' : List (Option Held)) → MakesSteps (put_back_steps (Ok answer) u) pass.pass pass'.pass → IsOfIrp i (Ok answer) → HoldsRemoved words.size.irps pass.pass i
+        → (given_by answer ≡ None → has_life (held_list pass'.pass.steps) i.irp ≡ false) → pass' ≡ record pass { pass = pass'.pass } → held' ≡ slice_set held (number i) (held_after_back answer) → IsCheckedPass words pass' held' owed
+    back_keeps answer u pass' held' made of_i removed gone place slots = record { on = moved pass' place; own = subst (λ hs. KnowsItsOwn words.size.irps pass'.pass.steps hs owed) (sym slots) (own answer made of_i gone) }
+      where
+        own : (a : InsertAnswer IrpLife IrpLife) → MakesSteps (put_back_steps (Ok a) u) pass.pass pass'.pass → IsOfIrp i (Ok a) → (given_by a ≡ None → has_life (held_list pass'.pass.steps) i.irp ≡ false)
+            → KnowsItsOwn words.size.irps pass'.pass.steps (slice_set held (number i) (held_after_back a)) owed
+        own (Pending context) m of g =
+            let r = returns words.size.irps i (Ok (Pending context)) u pass.pass pass'.pass m of removed in
+            kept_done words.size.irps pass.pass.steps pass'.pass.steps held owed was.own i known (others_removed i (Pending context) u pass.pass pass'.pass m of) r.holding r.owing (g refl)
+        own (Cancelled token) m of g =
+            let r = returns words.size.irps i (Ok (Cancelled token)) u pass.pass pass'.pass m of removed in
+            subst (λ (life : Life). KnowsItsOwn words.size.irps pass'.pass.steps (slice_set held (number i) (Some (record { removed = false; life = life }))) owed) (ap (λ (j : IrpLife). j.life) (sym of))
+            (kept_back words.size.irps pass.pass.steps pass'.pass.steps held owed was.own i known (others_removed i (Cancelled token) u pass.pass pass'.pass m of) r.holding r.owing r.spent_is)
 
   -- a call gave this out, or nothing
   pub giving_keeps : (queue : OpenState) → IsQueueOn words queue → (given : Option IrpLife) (by_removal : Bool) (pass' : OpenPassState) (held' : List (Option Held)) → GivesOut queue.limits given by_removal pass.pass pass'.pass

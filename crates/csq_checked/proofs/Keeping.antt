@@ -25,17 +25,28 @@ module _ (irps : ℕ) (steps steps' : List Made) (held : List (Option Held)) (ow
   in_owed : number i < length owed
   in_owed = subst (λ (n : ℕ). number i < n) (sym was.owed_for) known
 
-  module _ (same : (j : IrpLife) → removed_in steps' j ≡ removed_in steps j) where
-    -- the pass completed i
+  -- of the other IRPs the same were got by removals
+  module _ (same : (j : IrpLife) → number j ≢ number i → removed_in steps' j ≡ removed_in steps j) where
+    others_same : (n : ℕ) → n ≢ number i → held_at steps' (held_list steps) n ≡ held_at steps (held_list steps) n
+    others_same n ne = held_same steps steps' (held_list steps) n (λ j e. same j (λ f. ne (sym e ∙ f)))
+
+    -- the pass completed i, or put it back
     pub kept_done : held_list steps' ≡ spent i (held_list steps) → owed_list steps' ≡ owed_list steps → has_life (held_list steps') i.irp ≡ false → KnowsItsOwn irps steps' (slice_set held (number i) None) owed
     kept_done now owing gone = record {
       held_for = length-set held (number i) None ∙ was.held_for;
       owed_for = was.owed_for;
       held_is = λ n k. by_number (slot_at (slice_set held (number i) None) n ≡ held_at steps' (held_list steps') n) n (number i)
           (λ e. slot_set held (number i) None in_held n e ∙ sym (ap (held_at steps' (held_list steps')) e ∙ held_none steps' (held_list steps') i gone))
-          (λ ne. slot_kept held (number i) None in_held n ne ∙ (was.held_is n k ∙ sym (ap (λ is. held_at steps' is n) now ∙ (held_spent i n ne steps' (held_list steps) ∙ held_same steps steps' (held_list steps) n (λ j e. same j)))));
+          (λ ne. slot_kept held (number i) None in_held n ne ∙ (was.held_is n k ∙ sym (ap (λ is. held_at steps' is n) now ∙ (held_spent i n ne steps' (held_list steps) ∙ others_same n ne))));
       owed_is = λ n k. was.owed_is n k ∙ ap (λ is. owed_at is n) (sym owing);
     }
+
+    -- it got i as cancelled beside these
+    held_cancelled : (others : List IrpLife) → held_list steps' ≡ i ∷ others → ((n : ℕ) → n ≢ number i → held_at steps' others n ≡ held_at steps (held_list steps) n) → removed_in steps' i ≡ false
+        → (n : ℕ) → n < irps → slot_at (with_held false (Some i) held) n ≡ held_at steps' (held_list steps') n
+    held_cancelled others now alike not_removed n k = by_number (slot_at (with_held false (Some i) held) n ≡ held_at steps' (held_list steps') n) n (number i)
+        (λ e. slot_set held (number i) (Some (record { removed = false; life = i.life })) in_held n e ∙ sym (ap (λ is. held_at steps' is n) now ∙ (ap (λ b. cond b (Some (record { removed = removed_in steps' i; life = i.life })) (held_at steps' others n)) (eq-eqb (number i) n (sym e)) ∙ ap (λ (r : Bool). Some (record { removed = r; life = i.life })) not_removed)))
+        (λ ne. slot_kept held (number i) (Some (record { removed = false; life = i.life })) in_held n ne ∙ (was.held_is n k ∙ sym (ap (λ is. held_at steps' is n) now ∙ (ap (λ b. cond b (Some (record { removed = removed_in steps' i; life = i.life })) (held_at steps' others n)) (ne_eqb (number i) n (λ e. ne (sym e))) ∙ alike n ne))))
 
     -- it took i out, which it owed
     pub kept_out : held_list steps' ≡ i ∷ held_list steps → owed_list steps' ≡ spent i (owed_list steps) → removed_in steps' i ≡ false → has_life (owed_list steps') i.irp ≡ false
@@ -43,12 +54,19 @@ module _ (irps : ℕ) (steps steps' : List Made) (held : List (Option Held)) (ow
     kept_out now owing not_removed gone = record {
       held_for = length-set held (number i) (Some (record { removed = false; life = i.life })) ∙ was.held_for;
       owed_for = length-set owed (number i) None ∙ was.owed_for;
-      held_is = λ n k. by_number (slot_at (with_held false (Some i) held) n ≡ held_at steps' (held_list steps') n) n (number i)
-          (λ e. slot_set held (number i) (Some (record { removed = false; life = i.life })) in_held n e ∙ sym (ap (λ is. held_at steps' is n) now ∙ (ap (λ b. cond b (Some (record { removed = removed_in steps' i; life = i.life })) (held_at steps' (held_list steps) n)) (eq-eqb (number i) n (sym e)) ∙ ap (λ (r : Bool). Some (record { removed = r; life = i.life })) not_removed)))
-          (λ ne. slot_kept held (number i) (Some (record { removed = false; life = i.life })) in_held n ne ∙ (was.held_is n k ∙ sym (ap (λ is. held_at steps' is n) now ∙ (ap (λ b. cond b (Some (record { removed = removed_in steps' i; life = i.life })) (held_at steps' (held_list steps) n)) (ne_eqb (number i) n (λ e. ne (sym e))) ∙ held_same steps steps' (held_list steps) n (λ j e. same j)))));
+      held_is = held_cancelled (held_list steps) now others_same not_removed;
       owed_is = λ n k. by_number (slot_at (slice_set owed (number i) None) n ≡ owed_at (owed_list steps') n) n (number i)
           (λ e. slot_set owed (number i) None in_owed n e ∙ sym (ap (owed_at (owed_list steps')) e ∙ owed_none (owed_list steps') i gone))
           (λ ne. slot_kept owed (number i) None in_owed n ne ∙ (was.owed_is n k ∙ sym (ap (λ is. owed_at is n) owing ∙ owed_spent i n ne (owed_list steps))));
+    }
+
+    -- it put i back, and got it as cancelled
+    pub kept_back : held_list steps' ≡ i ∷ spent i (held_list steps) → owed_list steps' ≡ owed_list steps → removed_in steps' i ≡ false → KnowsItsOwn irps steps' (with_held false (Some i) held) owed
+    kept_back now owing not_removed = record {
+      held_for = length-set held (number i) (Some (record { removed = false; life = i.life })) ∙ was.held_for;
+      owed_for = was.owed_for;
+      held_is = held_cancelled (spent i (held_list steps)) now (λ n ne. held_spent i n ne steps' (held_list steps) ∙ others_same n ne) not_removed;
+      owed_is = λ n k. was.owed_is n k ∙ ap (λ is. owed_at is n) (sym owing);
     }
 
 and_false : (b : Bool) → (b && false) ≡ false

@@ -1,4 +1,6 @@
 pub mod Knowing
 pub mod Idling
 pub mod Keeping
+pub mod Relisting
+pub mod Placing
 pub mod Checking

@@ -8,6 +8,9 @@ use Rattle.irp_core.specs.declared.ids.IrpLife.{IrpLife}
 use Rattle.irp_core.specs.declared.ids.Life.{Life}
 use Rattle.irp_core.specs.declared.status.NtStatus.{NtStatus}
 use Rattle.irp_core.specs.declared.status.TheConstants.NtStatus.{CANCELLED}
+use Rattle.csq_list.specs.declared.entry.Place.{Place}
+use Rattle.csq_list.specs.declared.refusals.InsertStatus.{InsertStatus}
+use Rattle.csq_list.specs.declared.refusals.InsertStatus.TheVariants as insert
 use Rattle.csq_list.specs.declared.refusals.UnknownFile.{UnknownFile}
 use Rattle.csq_words.specs.declared.views.Entry.{Entry}
 use Rattle.csq_words.specs.declared.views.PassRecord.{PassRecord}
@@ -15,14 +18,17 @@ use Rattle.csq_words.specs.History.{end_of}
 use Rattle.csq_words.specs.Queue.{Limits, current}
 use Rattle.csq_queue.specs.declared.refusals.ReuseRefused.{ReuseRefused as QueueRefused}
 use Rattle.csq_queue.specs.declared.refusals.ReuseRefused.TheVariants as of_queue
-use Rattle.csq_queue.specs.Calls.{RunsRoutine, ClosesFile, Reuses, CompletesOne}
+use Rattle.csq_queue.specs.declared.tokens.InsertAnswer.{InsertAnswer}
+use Rattle.csq_queue.specs.Calls.{PutsBack, RunsRoutine, ClosesFile, Reuses, CompletesOne}
 use Rattle.csq_queue.specs.Opens.{OpenState, after_call}
 use Rattle.csq_queue.specs.Owned.{Holds, HoldsRemoved, Owes}
+use Rattle.csq_checked.specs.declared.calls.PutBackRefused.{PutBackRefused}
+use Rattle.csq_checked.specs.declared.calls.PutBackRefused.TheVariants as back
 use Rattle.csq_checked.specs.declared.calls.ReuseRefused.{ReuseRefused}
 use Rattle.csq_checked.specs.declared.calls.ReuseRefused.TheVariants.{UnknownIrp, Stale, NotCompleted, LivesSpent}
 use Rattle.csq_checked.specs.declared.unlocked.CompleteRefused.{CompleteRefused}
 use Rattle.csq_checked.specs.declared.unlocked.RoutineRefused.{RoutineRefused}
-use Rattle.csq_checked.specs.Causes.{complete_cause, cancelled_cause, routine_cause}
+use Rattle.csq_checked.specs.Causes.{complete_cause, cancelled_cause, put_back_cause, routine_cause}
 use Rattle.csq_checked.specs.Passes.{CheckedPassState, CheckedState}
 
 -- the pass is of the same words, and has seen the queue's history and the execution, which alone are new of the queue
@@ -43,6 +49,23 @@ pub record MakesCall (call_is : Limits → List Entry → PassRecord → PassRec
 pub record MakesOwnCall (call_is : Size → PassRecord → PassRecord → Type 0) (p p' : CheckedPassState) : Type 0 where
   pub call : call_is p.words.size p.pass p'.pass
   pub words : p'.words ≡ p.words
+
+-- what the open queue returned, if it was asked to put an IRP back
+abbrev pub asked_back : Result (InsertAnswer IrpLife IrpLife) PutBackRefused → Option (Result (InsertAnswer IrpLife IrpLife) InsertStatus)
+asked_back (Ok inserted) = Some (Ok inserted)
+asked_back (Err back.FileClosed) = Some (Err insert.FileClosed)
+asked_back (Err back.FileFull) = Some (Err insert.FileFull)
+asked_back (Err back.Full) = Some (Err insert.Full)
+asked_back (Err back.UnknownIrp) = None
+asked_back (Err back.NotHeld) = None
+asked_back (Err back.NotRemoved) = None
+
+-- a put-back of i, which a removal got, or the first cause why not
+pub record PutsBackRemoved (i : IrpLife) (place : Place) (answer : Result (InsertAnswer IrpLife IrpLife) PutBackRefused) (q : CheckedState) (p : CheckedPassState) (q' : CheckedState) (p' : CheckedPassState) : Type 0 where
+  pub cause : asked_back answer ≡ None → result_err answer ≡ put_back_cause q.queue.limits.irps p.pass.steps i
+  pub held : IfSome (asked_back answer) (λ a. HoldsRemoved q.queue.limits.irps p.pass i)
+  pub call : IfSome (asked_back answer) (λ a. MakesCall (PutsBack i place a) q p q' p')
+  pub kept : asked_back answer ≡ None → AreKept q p q' p'
 
 -- the cancel routine of i, which the pass owes, or the first cause why not
 pub record RunsOwedRoutine (i : IrpLife) (answer : Result (Unit {0}) RoutineRefused) (q : CheckedState) (p : CheckedPassState) (q' : CheckedState) (p' : CheckedPassState) : Type 0 where

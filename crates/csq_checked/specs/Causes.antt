@@ -6,6 +6,8 @@ use Rattle.irp_core.specs.declared.status.NtStatus.{NtStatus}
 use Rattle.irp_core.specs.declared.status.TheConstants.NtStatus.{PENDING}
 use Rattle.irp_core.specs.declared.step.Made.{Made}
 use Rattle.irp_core.specs.Own.{holds_in, owes_in, removed_in}
+use Rattle.csq_checked.specs.declared.calls.PutBackRefused.{PutBackRefused}
+use Rattle.csq_checked.specs.declared.calls.PutBackRefused.TheVariants as back
 use Rattle.csq_checked.specs.declared.unlocked.CompleteRefused.{CompleteRefused}
 use Rattle.csq_checked.specs.declared.unlocked.CompleteRefused.TheVariants.{UnknownIrp, NotHeld, NotRemoved, NotFinal}
 use Rattle.csq_checked.specs.declared.unlocked.RoutineRefused.{RoutineRefused}
@@ -22,6 +24,10 @@ complete_cause irps steps i status = if nat_lt (number i) irps then (if holds_in
 -- why i isn't completed as cancelled by the pass with these steps
 abbrev pub cancelled_cause : ℕ → List Made → IrpLife → Option CompleteRefused
 cancelled_cause irps steps i = if nat_lt (number i) irps then (if holds_in steps i then None else Some NotHeld) else Some UnknownIrp
+
+-- why the pass with these steps doesn't put i back, before the queue is asked
+abbrev pub put_back_cause : ℕ → List Made → IrpLife → Option PutBackRefused
+put_back_cause irps steps i = if nat_lt (number i) irps then (if holds_in steps i then (if removed_in steps i then None else Some back.NotRemoved) else Some back.NotHeld) else Some back.UnknownIrp
 
 -- why the pass with these steps doesn't take i out
 abbrev pub routine_cause : ℕ → List Made → IrpLife → Option RoutineRefused

@@ -1,10 +1,12 @@
 -- What a pass knows of the IRPs that it holds and owes.
-use Rattle.std.specs.Prelude.{◌≡◌, ℕ, ◌<◌, ◌==◌, if◌then◌else◌, List, [], ◌∷◌, length, Bool, Option, Some, None, slice_index_or, slice_set}
+use Rattle.std.specs.Prelude.{◌≡◌, ℕ, ◌<◌, ◌==◌, if◌then◌else◌, false, List, [], ◌∷◌, length, Bool, Option, Some, None, slice_index_or, slice_set}
 use Rattle.irp_core.specs.Steps.{number}
 use Rattle.irp_core.specs.declared.ids.IrpLife.{IrpLife}
 use Rattle.irp_core.specs.declared.ids.Life.{Life}
 use Rattle.irp_core.specs.declared.step.Made.{Made}
 use Rattle.irp_core.specs.Own.{removed_in, held_list, owed_list}
+use Rattle.csq_queue.specs.declared.tokens.InsertAnswer.{InsertAnswer}
+use Rattle.csq_queue.specs.declared.tokens.InsertAnswer.TheVariants.{Pending, Cancelled}
 use Rattle.csq_checked.specs.declared.slots.Held.{Held}
 
 -- the slot of IRP n, which is empty where there is none
@@ -32,3 +34,8 @@ pub record KnowsItsOwn (irps : ℕ) (steps : List Made) (held : List (Option Hel
 abbrev pub with_held : Bool → Option IrpLife → List (Option Held) → List (Option Held)
 with_held by_removal None held = held
 with_held by_removal (Some i) held = slice_set held (number i) (Some (record { removed = by_removal; life = i.life }))
+
+-- how the pass holds an IRP after a put-back of it that returned this: no longer, or as cancelled
+abbrev pub held_after_back : InsertAnswer IrpLife IrpLife → Option Held
+held_after_back (Pending context) = None
+held_after_back (Cancelled token) = Some (record { removed = false; life = token.life })

@@ -1,9 +1,9 @@
 //! The calls that take the queue.
 ghost use Rattle.std.specs.Prelude.{◌≡◌, ◌<◌, length, IfSome, true};
 ghost use Rattle.csq_queue.specs.Calls.{Inserts, RemovesNext, RemovesOne};
-ghost use Rattle.csq_checked.specs.Calls.{MakesCall, RunsOwedRoutine, CancelsOwed, ClosesKnownFile, ReusesPresentLife};
+ghost use Rattle.csq_checked.specs.Calls.{MakesCall, PutsBackRemoved, RunsOwedRoutine, CancelsOwed, ClosesKnownFile, ReusesPresentLife};
 ghost use Rattle.csq_checked.specs.Passes.{IsPassIn};
-ghost use Rattle.csq_checked.specs.Slots.{with_held};
+ghost use Rattle.csq_checked.specs.Slots.{held_after_back, with_held};
 
 use crate::pass::CheckedPass;
 use crate::queue::CheckedQueue;
@@ -12,6 +12,23 @@ use crate::unlocked::RoutineRefused;
 use csq_list::{InsertStatus, Peek, Place, UnknownFile};
 use csq_queue::{InsertAnswer, OpenInserted};
 use irp_core::{FileId, IrpId, IrpLife, Life};
+
+/// Why an IRP was not put back, in the order in which the causes are tested. Own rule.
+#[derive(Clone, Copy, Debug, PartialEq, Eq)]
+pub enum PutBackRefused {
+    /// There is no such IRP.
+    UnknownIrp,
+    /// The pass doesn't hold it in the life named.
+    NotHeld,
+    /// The pass holds it, but got it cancelled: it is completed as cancelled alone.
+    NotRemoved,
+    /// Its file object was closed.
+    FileClosed,
+    /// As many IRPs are listed for its file object as that one's limit allows.
+    FileFull,
+    /// As many IRPs are listed as the limit allows.
+    Full,
+}
 
 /// Why an IRP was not given its next life, in the order in which the causes are tested. Own rule.
 #[derive(Clone, Copy, Debug, PartialEq, Eq)]
@@ -52,6 +69,39 @@ impl CheckedQueue {
             );
         }
         Ok(inserted)
+    }
+
+    /// Puts an IRP back that the pass got by a removal, in the life in which it got it, last or first, as
+    /// `Csq::put_back` does. The pass holds it no longer then, or holds it as cancelled. A refusal is the
+    /// first cause that holds, and the pass holds what it held.
+    pub fn put_back(
+        &mut self,
+        by: &mut CheckedPass,
+        irp: IrpLife,
+        place: Place,
+    ) -> Result<OpenInserted, PutBackRefused>
+        requires { IsPassIn self.old.queue by.old }
+        ensures call { PutsBackRemoved irp place result self.old by.old self.new by.new }
+    {
+        if !by.held.knows(irp.irp) {
+            return Err(PutBackRefused::UnknownIrp);
+        }
+        let held = by.holding(irp).ok_or(PutBackRefused::NotHeld)?;
+        if !held.removed {
+            return Err(PutBackRefused::NotRemoved);
+        }
+        match self.queue.put_back(&by.words, &mut by.pass, irp, place) {
+            Ok(back) => {
+                by.held.set(irp.irp, held_after(&back));
+                Ok(back)
+            }
+            Err(InsertStatus::FileClosed) => Err(PutBackRefused::FileClosed),
+            Err(InsertStatus::FileFull) => Err(PutBackRefused::FileFull),
+            Err(InsertStatus::Full) => Err(PutBackRefused::Full),
+            Err(InsertStatus::UnknownIrp) => unreachable!(),
+            Err(InsertStatus::UnknownFile) => unreachable!(),
+            Err(InsertStatus::NotHome) => unreachable!(),
+        }
     }
 
     /// Removes the first match that no canceller has, as `Csq::remove_next` does. The pass holds it then.
@@ -157,5 +207,18 @@ fn note_removed(held: &mut Slots<Held>, taken: Option<IrpLife>)
                 life,
             }),
         );
+    }
+}
+
+// How the pass holds an IRP after a put-back of it that returned this.
+fn held_after(back: &OpenInserted) -> Option<Held>
+    ensures { result ≡ held_after_back back.now }
+{
+    match back {
+        InsertAnswer::Pending(_) => None,
+        InsertAnswer::Cancelled(named) => Some(Held {
+            removed: false,
+            life: named.life,
+        }),
     }
 }

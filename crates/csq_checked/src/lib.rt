@@ -11,7 +11,7 @@ mod size;
 mod slots;
 mod unlocked;
 
-pub use calls::ReuseRefused;
+pub use calls::{PutBackRefused, ReuseRefused};
 pub use csq_list::{AnyList, ListKind};
 pub use pass::CheckedPass;
 pub use queue::CheckedQueue;

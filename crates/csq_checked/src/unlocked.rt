@@ -60,7 +60,7 @@ impl CheckedPass {
     }
 
     // How the pass holds an IRP in the life named, if it does.
-    fn holding(&self, irp: IrpLife) -> Option<Held>
+    pub(crate) fn holding(&self, irp: IrpLife) -> Option<Held>
         requires { irp.irp.0 < self.now.words.size.irps }
         ensures held { IsSome result ↔ (holds_in self.now.pass.steps irp ≡ true) }
         ensures removed { IfSome result (λ held. held.removed

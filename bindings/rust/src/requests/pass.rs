@@ -1,9 +1,9 @@
 //! Passes of a queue of requests.
 
-use super::request::{Request, RequestId};
+use super::request::{PutBack, Request, RequestId};
 use super::slots::Number;
 use super::Shared;
-use crate::errors::{Missed, Refused, ReuseError, SubmitError, UnknownFile};
+use crate::errors::{Missed, NotPutBack, Refused, ReuseError, SubmitError, UnknownFile};
 use crate::pass::Pass;
 use crate::token::{Inserted, Removed};
 use crate::words::{FinalStatus, Irp, Peek, Place};
@@ -115,6 +115,32 @@ impl<T> RequestPass<T> {
         let irp = token.irp();
         token.complete(status);
         self.release(irp, number);
+    }
+
+    /// Puts a request back that this pass took, with its value. A refusal hands all back.
+    pub(super) fn put_back<'a>(
+        &self,
+        token: Removed<'a>,
+        mut number: Number,
+        value: T,
+        place: Place,
+    ) -> Result<PutBack<T>, (NotPutBack<Removed<'a>>, Number, T)> {
+        // Before the IRP is listed, since whoever gets it then has the slot.
+        *self.shared.slots.slot(&mut number) = Some(value);
+        match token.put_back(place) {
+            // The number went with it to the queue.
+            Ok(Inserted::Pending(_)) => Ok(PutBack::Pending),
+            Ok(Inserted::Cancelled(token)) => {
+                let (value, irp) = (self.take_value(&mut number), token.irp());
+                token.complete();
+                self.release(irp, number);
+                Ok(PutBack::Cancelled(value))
+            }
+            Err(refused) => {
+                let value = self.take_value(&mut number);
+                Err((refused, number, value))
+            }
+        }
     }
 
     /// Whether a cancel named this request, in its life.

@@ -2,8 +2,9 @@
 
 use super::pass::RequestPass;
 use super::slots::Number;
+use crate::errors::NotPutBack;
 use crate::token::Removed;
-use crate::words::{FinalStatus, Irp};
+use crate::words::{FinalStatus, Irp, Place};
 use std::fmt;
 
 /// Names a request that was submitted to a cancel: this one, in its own queue, and none that comes after it.
@@ -57,7 +58,7 @@ impl<'pass, T> Request<'pass, T> {
     }
 
     /// Whether a cancel named it and came too late ([`Missed::Taken`](crate::Missed::Taken)): nobody waits for it, so it
-    /// may be given up. Takes no lock.
+    /// may be given up, and it isn't put back any more. Takes no lock.
     pub fn is_cancelled(&self) -> bool {
         self.taken.pass.is_cancelled(self.id)
     }
@@ -68,13 +69,57 @@ impl<'pass, T> Request<'pass, T> {
         self.value
     }
 
+    /// Puts the request back into the list with its value, for the file object that it was submitted for: for a worker
+    /// that can't serve it now. It keeps its name. One that a cancel named in the meantime is completed with
+    /// `STATUS_CANCELLED`, and its value handed over. A refusal hands the request back. Takes the lock.
+    ///
+    /// ```
+    /// # fn main() -> Result<(), Box<dyn std::error::Error>> {
+    /// # use csq::{Peek, Place, PutBack, Requests, Size};
+    /// let reads = Requests::new(&Size::new(2, 1, 1))?;
+    /// let pass = reads.pass()?;
+    /// pass.submit("read", 0, Place::Back)?;
+    /// match pass.next(Peek::Any).expect("the request").put_back(Place::Front) {
+    ///     Ok(PutBack::Pending) => assert_eq!(reads.len(), 1),
+    ///     Ok(PutBack::Cancelled(value)) => println!("{value}: nobody waits for it"),
+    ///     Err(refused) => drop(refused.held), // its file object was closed: completed as cancelled
+    /// }
+    /// # Ok(())
+    /// # }
+    /// ```
+    pub fn put_back(self, place: Place) -> Result<PutBack<T>, NotPutBack<Request<'pass, T>>> {
+        let Request {
+            mut taken,
+            id,
+            value,
+        } = self;
+        let pass = taken.pass;
+        let (token, number) = taken.held.take().expect("a request that isn't completed");
+        pass.put_back(token, number, value, place)
+            .map_err(|(refused, number, value)| NotPutBack {
+                held: Request::new(pass, refused.held, number, id, value),
+                cause: refused.cause,
+            })
+    }
+
     /// Completes it with `STATUS_CANCELLED`, and hands its value over.
     pub(super) fn cancelled(self) -> T {
         self.value
     }
 }
 
-/// The IRP of a request that a pass took, until it is completed.
+/// What became of a request that was put back.
+#[must_use = "a request that was cancelled in the meantime hands its value over"]
+#[derive(Clone, Copy, Debug, PartialEq, Eq)]
+pub enum PutBack<T> {
+    /// It is listed again, with its value.
+    Pending,
+    /// A cancel had named it in the meantime ([`Missed::Taken`](crate::Missed::Taken)): it is completed with
+    /// `STATUS_CANCELLED`, and this is its value.
+    Cancelled(T),
+}
+
+/// The IRP of a request that a pass took, until it is completed or put back.
 struct Taken<'pass, T> {
     pass: &'pass RequestPass<T>,
     held: Option<(Removed<'pass>, Number)>,

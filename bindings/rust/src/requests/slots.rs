@@ -7,7 +7,7 @@ use std::sync::{Mutex, MutexGuard, PoisonError};
 
 /// An IRP's number, which is with whoever has the IRP, and so the IRP's slot. There is at most one of each: it is free;
 /// or a submit has it, until its insert is accepted; or the queue has the IRP, and there is none; or a pass has it that
-/// the queue gave the IRP, until the IRP is completed and has begun its next life.
+/// the queue gave the IRP, until the IRP is put back, or is completed and has begun its next life.
 pub(crate) struct Number(u32);
 
 impl Number {
@@ -17,7 +17,8 @@ impl Number {
     ///
     /// The queue gave the IRP to the caller by a removal or a cancel routine. The caller still has the token, and makes
     /// this once for it. Then it is the only one, by what is proved of the queue: "in every execution, in each life of a
-    /// request, at most one exchange claims it, at most one pass owes or holds it" (`docs/PROOFS.md`, "One owner").
+    /// request, at most one exchange claims it since it was last put back, at most one pass owes or holds it"
+    /// (`docs/PROOFS.md`, "One owner").
     pub(crate) unsafe fn given_out(irp: Irp) -> Number {
         Number(irp.irp)
     }
@@ -41,8 +42,8 @@ pub(crate) struct Slots<T> {
 }
 
 // SAFETY: a slot is reached by whoever has its number alone, and the number goes from one thread to the next by a lock:
-// that of the free ones, or the queue's, under which an insert gives it up and a removal or a cancel routine gets it. So a
-// slot sends a value from thread to thread, and never shares one.
+// that of the free ones, or the queue's, under which an insert or a put-back gives it up and a removal or a cancel routine
+// gets it. So a slot sends a value from thread to thread, and never shares one.
 unsafe impl<T: Send> Sync for Slots<T> {}
 
 impl<T> Slots<T> {

@@ -1,0 +1,105 @@
+-- A put-back of what a pass holds is refused for its file object or for the list alone.
+use Rattle.std.proofs.Common.{◌≡◌, ◌<◌, ◌||◌, ◌&&◌, not, cond, Bool, true, false, true≢false, List, [], ◌∷◌, Option, Some, None, Err, refl, sym, ap, ◌∙◌, subst}
+use Rattle.std.proofs.lemmas.Bool.{false_from_ne_true, leb-false, lt-leb}
+use Rattle.irp_core.specs.Runs.{Size}
+use Rattle.irp_core.specs.Steps.{number, same_id, same_irp}
+use Rattle.irp_core.specs.declared.ids.IrpLife.{IrpLife}
+use Rattle.irp_core.specs.declared.ids.IrpId.{IrpId}
+use Rattle.irp_core.specs.declared.ids.FileId.{FileId}
+use Rattle.irp_core.proofs.Names.{same_irp-eq, same_id-refl}
+use Rattle.csq_list.specs.Causes.{is_cause, first_cause}
+use Rattle.csq_list.specs.Listing.{Listing, renewed}
+use Rattle.csq_list.specs.declared.entry.Place.{Place}
+use Rattle.csq_list.specs.declared.refusals.InsertStatus.{InsertStatus}
+use Rattle.csq_list.specs.declared.refusals.InsertStatus.TheVariants.{UnknownIrp, UnknownFile, NotHome, FileClosed, FileFull, Full}
+use Rattle.csq_list.proofs.Causes.{no_cause}
+use Rattle.csq_words.specs.declared.views.Entry.{Entry}
+use Rattle.csq_words.specs.declared.views.Event.{Event}
+use Rattle.csq_words.specs.declared.views.Event.TheVariants.{FlagSeen, Mark, Insert, RemoveNext, Remove, Out, CloseFile, Reuse, PutBack}
+use Rattle.csq_words.specs.declared.views.InsertReply.TheVariants.{Pending, Cancelled, Refused}
+use Rattle.csq_words.specs.declared.views.PassRecord.{PassRecord}
+use Rattle.csq_words.specs.History.{IsLegal, MayCome, end_of}
+use Rattle.csq_words.specs.Queue.{Limits, QueueState, current, has_irp, plain_listing, refusal, reply_to_insert, with_file, after_event}
+use Rattle.csq_words.specs.Seats.{WordsState}
+use Rattle.csq_queue.specs.Calls.{PutsBack, file_at}
+use Rattle.csq_queue.specs.Opens.{OpenState, IsQueueOn}
+use Rattle.csq_queue.proofs.Crowding.{pending_none}
+
+-- the cause is the file object's or the list's
+abbrev pub is_of_place : InsertStatus → Bool
+is_of_place UnknownIrp = false
+is_of_place UnknownFile = false
+is_of_place NotHome = false
+is_of_place FileClosed = true
+is_of_place FileFull = true
+is_of_place Full = true
+
+cancelled_none : (o : Option InsertStatus) (b : Bool) → Cancelled ≡ reply_to_insert o b → o ≡ None
+cancelled_none None b h = refl
+cancelled_none (Some cause) b h = absurd (cc)
+
+module _ (l : Limits) (u : QueueState) (n : IrpId) (f : FileId) (i : IrpLife) (before : has_irp u.used i ≡ true → (u.file_of i.irp).0 < l.files) where
+  -- the file object of what an insert accepts is known
+  inserted_known : refusal l u n f ≡ None → has_irp (current u n ∷ u.used) i ≡ true → (with_file n f u.file_of i.irp).0 < l.files
+  inserted_known accepted used = at (same_id n i.irp) refl
+    where
+      unlike : same_id n i.irp ≡ false → same_irp (current u n) i ≡ false
+      unlike e = false_from_ne_true (same_irp (current u n) i) (λ s. true≢false (sym (same_id-refl i.irp) ∙ (ap (λ (m : IrpId). same_id m i.irp) (sym (ap (λ (j : IrpLife). j.irp) (same_irp-eq (current u n) i s))) ∙ e)))
+
+      at : (b : Bool) → same_id n i.irp ≡ b → (cond b f (u.file_of i.irp)).0 < l.files
+      at true e = leb-false l.files f.0 (no_cause (plain_listing l u) n f accepted UnknownFile)
+      at false e = before (sym (ap (λ b. b || has_irp u.used i) (unlike e)) ∙ used)
+
+-- so that of an IRP that was accepted is
+file_known : (l : Limits) (h : List Entry) → IsLegal l h → (i : IrpLife) → has_irp (end_of l.first h).used i ≡ true → ((end_of l.first h).file_of i.irp).0 < l.files
+file_known l [] legal i used = absurd (true≢false (sym used))
+file_known l (e ∷ h) legal i used = at (end_of l.first h) e.event legal.0 (file_known l h legal.1 i) used
+  where
+    at : (u : QueueState) (event : Event) → MayCome l u event → (has_irp u.used i ≡ true → (u.file_of i.irp).0 < l.files) → has_irp (after_event u event).used i ≡ true → ((after_event u event).file_of i.irp).0 < l.files
+    at u (FlagSeen j) may before now = before now
+    at u (Mark j) may before now = before now
+    at u (Insert n f place Pending) may before now = inserted_known l u n f i before (pending_none (refusal l u n f) (has_irp u.flags (current u n)) may) now
+    at u (Insert n f place Cancelled) may before now = inserted_known l u n f i before (cancelled_none (refusal l u n f) (has_irp u.flags (current u n)) may) now
+    at u (Insert n f place (Refused cause)) may before now = before now
+    at u (PutBack j f place Pending) may before now = before now
+    at u (PutBack j f place Cancelled) may before now = before now
+    at u (PutBack j f place (Refused cause)) may before now = before now
+    at u (RemoveNext k None) may before now = before now
+    at u (RemoveNext k (Some j)) may before now = before now
+    at u (Remove j false) may before now = before now
+    at u (Remove j true) may before now = before now
+    at u (Out j) may before now = before now
+    at u (CloseFile f) may before now = before now
+    at u (Reuse n life) may before now = before now
+
+-- of an IRP and a file object that there are, where the IRP is home
+place_cause : (s : Listing) (i : IrpId) (f : FileId) (cause : InsertStatus) → is_cause s i f UnknownIrp ≡ false → is_cause s i f UnknownFile ≡ false → is_cause s i f NotHome ≡ false → first_cause s i f ≡ Some cause → is_of_place cause ≡ true
+place_cause s i f cause known file home first = at (is_cause s i f FileClosed) (is_cause s i f FileFull) (is_cause s i f Full) (sym skipped ∙ first)
+  where
+    left : Option InsertStatus
+    left = cond (is_cause s i f FileClosed) (Some FileClosed) (cond (is_cause s i f FileFull) (Some FileFull) (cond (is_cause s i f Full) (Some Full) None))
+
+    skipped : first_cause s i f ≡ left
+    skipped = λ k. cond (known k) (Some UnknownIrp) (cond (file k) (Some UnknownFile) (cond (home k) (Some NotHome) left))
+
+    at : (closed file_full full : Bool) → cond closed (Some FileClosed) (cond file_full (Some FileFull) (cond full (Some Full) None)) ≡ Some cause → is_of_place cause ≡ true
+    at true b d e = let is : FileClosed ≡ cause = cc in ap is_of_place (sym is)
+    at false true d e = let is : FileFull ≡ cause = cc in ap is_of_place (sym is)
+    at false false true e = let is : Full ≡ cause = cc in ap is_of_place (sym is)
+    at false false false e = absurd (cc)
+
+-- why a put-back of an IRP that there is, is refused
+refused_place : (i : IrpLife) (place : Place) (cause : InsertStatus) (l : Limits) (h : List Entry) (p p' : PassRecord) → number i < l.irps → PutsBack i place (Err cause) l h p p' → is_of_place cause ≡ true
+refused_place i place cause l h p p' known back =
+    let f = file_at l h i in
+    let u = end_of l.first h in
+    let legal : IsLegal l (record { pass = p.pass; event = PutBack i f place (Refused cause) } ∷ h) = subst (IsLegal l) back.refused.ends back.refused.legal in
+    place_cause (renewed i.irp (plain_listing l u)) i.irp f cause
+    (lt-leb l.irps i.irp.0 known) (lt-leb l.files f.0 (file_known l h legal.1 i legal.0.0.0))
+    (ap (λ b. not b && has_irp u.used (current u i.irp)) (same_id-refl i.irp)) back.cause
+
+-- of an open queue of these words none is refused for another cause
+pub not_refused : (words : WordsState) (queue : OpenState) → IsQueueOn words queue → (i : IrpLife) (place : Place) (cause other : InsertStatus) (p p' : PassRecord) → number i < words.size.irps → PutsBack i place (Err cause) queue.limits queue.queue.history p p' → cause ≡ other → is_of_place other ≡ false → ⊥
+not_refused words queue on i place cause other p p' known back same unlike =
+    let inside = subst (λ (s : Size). number i < s.irps) (sym on.size) known in
+    true≢false (sym (refused_place i place cause queue.limits queue.queue.history p p' inside back) ∙ (ap is_of_place same ∙ unlike))
