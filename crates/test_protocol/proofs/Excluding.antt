@@ -1,34 +1,33 @@
 -- What the fields of a run exclude, and the order in which events stand in it.
-use Rattle.std.proofs.Common.{◌≡◌, ◌≢◌, ℕ, zero, suc, ◌||◌, Bool, true, false, cond, true≢false, Some, None, List, [], ◌∷◌, ◌++◌, append_assoc, refl, sym, ap, ◌∙◌, subst, arith}
+use Rattle.std.proofs.Common.{◌≡◌, ◌≢◌, ℕ, zero, suc, ◌||◌, Bool, true, false, cond, true≢false, Option, Some, None, List, [], ◌∷◌, ◌++◌, append_assoc, refl, sym, ap, ◌∙◌, subst, arith}
 use Rattle.std.proofs.lemmas.Bool.{or_right}
 use Rattle.std.specs.List.{list_any}
 use Rattle.irp_core.specs.declared.ids.FileId.{FileId}
 use Rattle.irp_core.specs.declared.ids.IrpId.{IrpId}
-use Rattle.csq_list.specs.declared.entry.Place.{Place}
-use Rattle.csq_list.specs.declared.entry.Peek.TheVariants.{Any}
 use Rattle.irp_core.specs.declared.ids.IrpLife.{IrpLife}
 use Rattle.irp_core.specs.declared.ids.PassId.{PassId}
 use Rattle.irp_core.specs.declared.step.Kind.{Kind}
-use Rattle.irp_core.specs.declared.step.Kind.TheVariants.{Arm, Test, Disarm, End, Flag, Take, Out, Done, Renew}
+use Rattle.irp_core.specs.declared.step.Kind.TheVariants.{Arm, Test, Disarm, End, Flag, Take, Out, Done, Renew, Rearm}
 use Rattle.irp_core.specs.declared.step.Made.{Made}
 use Rattle.irp_core.specs.Runs.{Size, IsRun}
 use Rattle.irp_core.specs.Steps.{same_pass, same_irp, same_id, by}
 use Rattle.irp_core.proofs.Growing.{run_last, run_less}
 use Rattle.irp_core.proofs.Names.{same_pass-refl, same_id-refl}
 use Rattle.csq_words.specs.declared.calls.Call.{Call}
-use Rattle.csq_words.specs.declared.calls.Call.TheVariants.{Insert, RemoveNext, Remove, CancelRoutine, CloseFile, Reuse, GiveBack}
+use Rattle.csq_words.specs.declared.calls.Call.TheVariants.{Insert, RemoveNext, Remove, CancelRoutine, CloseFile, Reuse, PutBack, GiveBack}
+use Rattle.csq_list.specs.declared.refusals.InsertStatus.{InsertStatus}
 use Rattle.csq_words.specs.declared.views.InsertReply.TheVariants.{Pending}
 use Rattle.csq_words.specs.declared.views.Event.{Event}
 use Rattle.csq_words.specs.declared.views.Event.TheVariants as event
 use Rattle.csq_words.specs.declared.views.Entry.{Entry}
-use Rattle.csq_words.specs.Queue.{QueueState, has_unmarked}
+use Rattle.csq_words.specs.Queue.{QueueState, has_unmarked, reply_to_insert}
 use Rattle.csq_words.specs.History.{end_of}
 use Rattle.csq_words.specs.Records.{entries_of}
 use Rattle.csq_words.specs.Recorded.{recorded, is_noted, IsOfCall, IsPlaced, HasRecordedAt, StandsAt}
 use Rattle.csq_words.specs.Recorded.StandsAt.{at_step, between}
 use Rattle.csq_words.specs.Rule.{BackOnce}
 use Rattle.csq_words.proofs.Placing.{in_order}
-use Rattle.test_protocol.specs.Excluded.{pass, irp, did, said, inserted, found_none, inserts_of, removed_by_2, completed_with, NoneIsARun, NoneIsAHistory}
+use Rattle.test_protocol.specs.Excluded.{pass, irp, did, said, inserted, removed, found_none, inserts_of, removed_by_2, completed_with, NoneIsARun, NoneIsAHistory}
 
 late_take_is : (size : Size) → IsRun size (did 3 (Take (irp 0 0)) 1 ∷ did 1 (Test (irp 0 1)) 0 ∷ did 1 (Arm (irp 0 1)) 0 ∷ did 2 (Renew (irp 0 0)) 0 ∷ did 3 (Flag (irp 0 0)) 0 ∷ did 2 (Done (irp 0 0)) 0 ∷ removed_by_2) → ⊥
 unfolding same_pass same_irp
@@ -48,6 +47,8 @@ none_is_a_run = record {
   late_take = late_take_is;
   late_flag = late_flag_is;
   lost = λ r. (let e : true ≡ false = r.held (pass 2) (irp 0 0) in cc);
+  cancelled_put_back = λ size r. (let e : false ≡ true = r.owned.0 in cc);
+  flag_missed = λ size r. (let e : 0 ≡ 1 = r.found.0 in absurd (omega arith));
   unlisted = λ size r. (let e : false ≡ true = r.owned.0 in cc);
   test_first = λ size r. (let l = run_last size (did 1 (Test (irp 0 0)) 0) [] (run_less size (did 1 (Arm (irp 0 0)) 0) (did 1 (Test (irp 0 0)) 0 ∷ []) r) in let e : false ≡ true = l.next in cc);
 }
@@ -128,6 +129,7 @@ insert_ends n (Insert k f place) (Take j) v u of h = absurd cc
 insert_ends n (Insert k f place) (Out j) v u of h = absurd cc
 insert_ends n (Insert k f place) (Done j) v u of h = absurd cc
 insert_ends n (Insert k f place) (Renew j) v u of h = absurd cc
+insert_ends n (Insert k f place) (Rearm j) v u of h = absurd cc
 insert_ends n (RemoveNext k) (Disarm j) zero u of h = absurd (due_inserts_none n j (has_unmarked u.entries j) h)
 insert_ends n (RemoveNext k) (Disarm j) (suc v) u of h = absurd cc
 insert_ends n (RemoveNext k) kind v u of h = absurd cc
@@ -139,6 +141,11 @@ insert_ends n (CancelRoutine i) kind v u of h = absurd cc
 insert_ends n (CloseFile f) kind v u of h = absurd cc
 insert_ends n (Reuse m) (Renew j) v u of h = absurd cc
 insert_ends n (Reuse m) kind v u of h = absurd cc
+insert_ends n (PutBack i f place) (Test j) zero u of h = absurd cc
+insert_ends n (PutBack i f place) (Test j) (suc v) u of h = absurd cc
+insert_ends n (PutBack i f place) (Disarm j) zero u of h = absurd cc
+insert_ends n (PutBack i f place) (Disarm j) (suc v) u of h = absurd cc
+insert_ends n (PutBack i f place) kind v u of h = absurd cc
 insert_ends n GiveBack kind v u of h = absurd cc
 
 -- a mark is recorded by an exchange under the lock, or by a cancel routine
@@ -157,6 +164,9 @@ mark_needs (CancelRoutine i) kind v u h = absurd cc
 mark_needs (CloseFile f) kind v u h = absurd cc
 mark_needs (Reuse m) (Renew j) v u h = absurd cc
 mark_needs (Reuse m) kind v u h = absurd cc
+mark_needs (PutBack i f place) (Test j) zero u h = absurd cc
+mark_needs (PutBack i f place) (Test j) (suc v) u h = absurd cc
+mark_needs (PutBack i f place) kind v u h = absurd cc
 mark_needs GiveBack kind v u h = absurd cc
 
 -- the step of a pass
@@ -206,6 +216,7 @@ end_says (Insert n f place) u of none = absurd of
 end_says (CancelRoutine n) u of none = absurd of
 end_says (CloseFile f) u of none = absurd of
 end_says (Reuse n) u of none = absurd of
+end_says (PutBack i f place) u of none = absurd of
 end_says GiveBack u of none = absurd of
 
 -- so it is the newest of the history, if it is the last step
@@ -218,9 +229,17 @@ left_out_is placed = let r = (in_order 0 (did 2 End 0 ∷ inserts_of 0 []) (inse
     go (x ∷ []) (v ∷ es) before says is = absurd cc
     go (x ∷ y ∷ newer) (v ∷ es) before says is = absurd cc
 
--- a test that finds the flag clear records its insert
-test_says : (call : Call) (u : QueueState) → IsOfCall call (Test (irp 0 0)) u → (n : IrpId) × (f : FileId) × (at : Place) × (recorded call (Test (irp 0 0)) 0 u ≡ event.Insert n f at Pending ∷ [])
-test_says (Insert n f place) u of = (n, f, place, refl)
+-- an insert or a put-back that is pending
+is_pending : Event → Bool
+is_pending (event.Insert n f place Pending) = true
+is_pending (event.PutBack i f place Pending) = true
+is_pending _ = false
+
+-- a test that finds the flag clear records one
+test_says : (call : Call) (u : QueueState) → IsOfCall call (Test (irp 0 0)) u → (v : Event) × (is_pending v ≡ true) × (recorded call (Test (irp 0 0)) 0 u ≡ v ∷ [])
+unfolding is_pending
+test_says (Insert n f place) u of = (event.Insert n f place Pending, refl, refl)
+test_says (PutBack i f place) u of = (event.PutBack i f place Pending, refl, refl)
 test_says (RemoveNext k) u of = absurd of
 test_says (Remove i) u of = absurd of
 test_says (CancelRoutine n) u of = absurd of
@@ -228,37 +247,64 @@ test_says (CloseFile f) u of = absurd of
 test_says (Reuse n) u of = absurd of
 test_says GiveBack u of = absurd of
 
--- so the insert stands directly after what the steps before its test left: no removal, which comes later
+-- it is none of the other events
+other_event : (e : Entry) (p : ℕ) (v : Event) → is_pending v ≡ true → is_pending e.event ≡ false → e ≡ said p v → ⊥
+other_event e p v pending not_pending is = true≢false (sym pending ∙ (sym (ap (λ (x : Entry). is_pending x.event) is) ∙ not_pending))
+
+-- it is the newest of the history, if its test is the last step
+unrecorded_is : IsPlaced 0 (did 2 (Test (irp 0 0)) 0 ∷ did 2 (Rearm (irp 0 0)) 0 ∷ removed_by_2) (removed 2 ∷ inserted 1 0 ∷ []) → ⊥
+unfolding is_pending
+unrecorded_is placed =
+    let earlier = did 2 (Rearm (irp 0 0)) 0 ∷ removed_by_2 in
+    let r = (in_order 0 (did 2 (Test (irp 0 0)) 0 ∷ earlier) (removed 2 ∷ inserted 1 0 ∷ []) placed).each_step [] earlier (did 2 (Test (irp 0 0)) 0) refl refl in
+    let said' = test_says r.call (end_of 0 r.before) r.of_call in go r.newer r.before said'.0 said'.1 (r.history_is ∙ ap (λ (es : List Event). r.newer ++ (entries_of (pass 2) es ++ r.before)) said'.2)
+  where
+    go : (newer before : List Entry) (v : Event) → is_pending v ≡ true → removed 2 ∷ inserted 1 0 ∷ [] ≡ newer ++ (said 2 v ∷ before) → ⊥
+    go [] before v pending is = other_event (removed 2) 2 v pending refl cc
+    go (x ∷ []) before v pending is = let same : inserted 1 0 ≡ said 2 v = cc in let e : 1 ≡ 2 = ap (λ (y : Entry). y.pass.0) same in absurd (omega (arith, e))
+    go (x ∷ y ∷ []) before v pending is = absurd cc
+    go (x ∷ y ∷ z ∷ newer) before v pending is = absurd cc
+
+-- it stands directly after what the steps before its test left: no removal, which comes later
 recorded_late_is : IsPlaced 0 (did 1 End 0 ∷ did 1 (Disarm (irp 0 0)) 0 ∷ did 2 (Take (irp 0 0)) 1 ∷ did 2 (Flag (irp 0 0)) 0 ∷ did 2 End 0 ∷ inserts_of 0 []) (found_none 1 ∷ said 1 (event.Mark (irp 0 0)) ∷ inserted 1 0 ∷ found_none 2 ∷ []) → ⊥
-unfolding same_pass
+unfolding same_pass is_pending
 recorded_late_is placed =
     let later = did 1 End 0 ∷ did 1 (Disarm (irp 0 0)) 0 ∷ did 2 (Take (irp 0 0)) 1 ∷ did 2 (Flag (irp 0 0)) 0 ∷ did 2 End 0 ∷ [] in
     let r = (in_order 0 (later ++ inserts_of 0 []) (found_none 1 ∷ said 1 (event.Mark (irp 0 0)) ∷ inserted 1 0 ∷ found_none 2 ∷ []) placed).each_step later (did 1 (Arm (irp 0 0)) 0 ∷ []) (did 1 (Test (irp 0 0)) 0) refl refl in
     let said' = test_says r.call (end_of 0 r.before) r.of_call in
-    go r.newer r.before said'.0 said'.1 said'.2 (r.history_is ∙ ap (λ (es : List Event). r.newer ++ (entries_of (pass 1) es ++ r.before)) said'.3) r.placed
+    go r.newer r.before said'.0 said'.1 (r.history_is ∙ ap (λ (es : List Event). r.newer ++ (entries_of (pass 1) es ++ r.before)) said'.2) r.placed
   where
-    go : (newer before : List Entry) (n : IrpId) (f : FileId) (at : Place) → found_none 1 ∷ said 1 (event.Mark (irp 0 0)) ∷ inserted 1 0 ∷ found_none 2 ∷ [] ≡ newer ++ (said 1 (event.Insert n f at Pending) ∷ before) → IsPlaced 0 (did 1 (Arm (irp 0 0)) 0 ∷ []) before → ⊥
-    go [] before n f at is placed' = let h : found_none 1 ≡ said 1 (event.Insert n f at Pending) = cc in let e : event.RemoveNext Any None ≡ event.Insert n f at Pending = ap (λ (x : Entry). x.event) h in absurd cc
-    go (x ∷ []) before n f at is placed' = let h : said 1 (event.Mark (irp 0 0)) ≡ said 1 (event.Insert n f at Pending) = cc in let e : event.Mark (irp 0 0) ≡ event.Insert n f at Pending = ap (λ (x : Entry). x.event) h in absurd cc
-    go (x ∷ y ∷ []) before n f at is placed' = let rest : found_none 2 ∷ [] ≡ before = cc in
+    go : (newer before : List Entry) (v : Event) → is_pending v ≡ true → found_none 1 ∷ said 1 (event.Mark (irp 0 0)) ∷ inserted 1 0 ∷ found_none 2 ∷ [] ≡ newer ++ (said 1 v ∷ before) → IsPlaced 0 (did 1 (Arm (irp 0 0)) 0 ∷ []) before → ⊥
+    go [] before v pending is placed' = other_event (found_none 1) 1 v pending refl cc
+    go (x ∷ []) before v pending is placed' = other_event (said 1 (event.Mark (irp 0 0))) 1 v pending refl cc
+    go (x ∷ y ∷ []) before v pending is placed' = let rest : found_none 2 ∷ [] ≡ before = cc in
         stands_nowhere (did 1 (Arm (irp 0 0)) 0 ∷ []) before placed' (by (pass 2)) refl [] [] (found_none 2) (sym rest) refl (λ m h. by_own (pass 2) m h.own)
-    go (x ∷ y ∷ z ∷ []) before n f at is placed' = let h : found_none 2 ≡ said 1 (event.Insert n f at Pending) = cc in let e : event.RemoveNext Any None ≡ event.Insert n f at Pending = ap (λ (x : Entry). x.event) h in absurd cc
-    go (x ∷ y ∷ z ∷ w ∷ []) before n f at is placed' = absurd cc
-    go (x ∷ y ∷ z ∷ w ∷ v ∷ newer) before n f at is placed' = absurd cc
+    go (x ∷ y ∷ z ∷ []) before v pending is placed' = other_event (found_none 2) 1 v pending refl cc
+    go (x ∷ y ∷ z ∷ w ∷ []) before v pending is placed' = absurd cc
+    go (x ∷ y ∷ z ∷ w ∷ t ∷ newer) before v pending is placed' = absurd cc
+
+-- of what was found flagged no put-back is pending
+none_pending : (refused : Option InsertStatus) → Pending ≡ reply_to_insert refused true → ⊥
+none_pending (Some cause) is = absurd cc
+none_pending None is = absurd cc
 
 -- none of the histories is one of its execution
 pub none_is_a_history : NoneIsAHistory
-unfolding same_pass same_irp
+unfolding same_pass same_irp same_id
 none_is_a_history = record {
   overlooked = λ h. stand_turned (did 2 End 0 ∷ inserts_of 0 []) (inserted 1 0 ∷ found_none 2 ∷ []) h.history_is.placed (by (pass 2)) (by (pass 1)) (did 2 End 0) (inserts_of 0 []) refl refl refl (found_none 2) (inserted 1 0) refl refl refl
       (λ m r. by_own (pass 1) m r.own) (λ m r. by_own (pass 2) m r.own);
   left_out = λ h. left_out_is h.history_is.placed;
   recorded_late = λ h. recorded_late_is h.history_is.placed;
   no_step = λ h. stands_nowhere [] (found_none 2 ∷ []) h.history_is.placed (by (pass 2)) refl [] [] (found_none 2) refl refl (λ m r. by_own (pass 2) m r.own);
+  put_back_left_out = λ h. unrecorded_is h.history_is.placed;
   turned = λ h. turned_is h.history_is.placed;
   marked_before = λ h. marked_is _ refl h.history_is.placed;
   removed_first = λ h. (let e : Some (irp 0 0) ≡ None = h.1.0 in cc);
   inserted_twice = λ h. (let e : true ≡ false = h.0 in cc);
+  never_removed = λ h. (let e : true ≡ false = h.0.1 in cc);
+  other_file = λ l h. (let e : 1 ≡ 0 = ap (λ (f : FileId). f.0) h.0.1 in absurd (omega arith));
+  flag_ignored = λ l h. none_pending _ h.0.2;
   another = λ h. (let e : false ≡ true = h.0 in cc);
   back_twice = λ size words q back f. twice (subst BackOnce back f.agrees.back_once);
 }

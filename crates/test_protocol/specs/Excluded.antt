@@ -3,20 +3,21 @@ use Rattle.std.specs.Prelude.{◌≡◌, ℕ, List, [], ◌∷◌, Some, None}
 use Rattle.irp_core.specs.declared.ids.IrpLife.{IrpLife}
 use Rattle.irp_core.specs.declared.ids.PassId.{PassId}
 use Rattle.irp_core.specs.declared.step.Kind.{Kind}
-use Rattle.irp_core.specs.declared.step.Kind.TheVariants.{Arm, Test, Disarm, End, Flag, Take, Done, Renew}
+use Rattle.irp_core.specs.declared.step.Kind.TheVariants.{Arm, Test, Disarm, End, Flag, Take, Done, Renew, Rearm}
 use Rattle.irp_core.specs.declared.step.Made.{Made}
 use Rattle.irp_core.specs.Runs.{Size, IsRun, IsAtRest}
 use Rattle.irp_core.specs.Steps.{own}
 use Rattle.csq_list.specs.declared.entry.Place.TheVariants.{Back}
 use Rattle.csq_list.specs.declared.entry.Peek.TheVariants.{Any}
-use Rattle.csq_words.specs.declared.views.InsertReply.TheVariants.{Pending}
+use Rattle.csq_words.specs.declared.views.InsertReply.TheVariants.{Pending, Cancelled}
 use Rattle.csq_words.specs.declared.views.Event.{Event}
-use Rattle.csq_words.specs.declared.views.Event.TheVariants.{Insert, RemoveNext, Mark}
+use Rattle.csq_words.specs.declared.views.Event.TheVariants.{FlagSeen, Insert, RemoveNext, Mark, PutBack}
 use Rattle.csq_words.specs.declared.views.Entry.{Entry}
 use Rattle.csq_words.specs.declared.views.Completion.{Completion}
 use Rattle.csq_words.specs.declared.views.PassRecord.{PassRecord}
 use Rattle.csq_words.specs.declared.views.QueueRecord.{QueueRecord}
-use Rattle.csq_words.specs.History.{calls_of, IsOrderly}
+use Rattle.csq_words.specs.Queue.{Limits}
+use Rattle.csq_words.specs.History.{calls_of, IsLegal, IsOrderly}
 use Rattle.csq_words.specs.Records.{new_queue}
 use Rattle.csq_words.specs.Rule.{RecordsAgree, AreTrueOf}
 use Rattle.csq_words.specs.Finals.{IsFinal}
@@ -40,6 +41,14 @@ said p e = record { pass = pass p; event = e }
 -- p's insert of IRP n, which is pending
 abbrev pub inserted : ℕ → ℕ → Entry
 inserted p n = said p (Insert (record { 0 = n }) (record { 0 = 0 }) Back Pending)
+
+-- p's removal of IRP 0
+abbrev pub removed : ℕ → Entry
+removed p = said p (RemoveNext Any (Some (irp 0 0)))
+
+-- p's put-back of IRP 0 for this file object, which is pending
+abbrev pub put_back : ℕ → ℕ → Entry
+put_back p f = said p (PutBack (irp 0 0) (record { 0 = f }) Back Pending)
 
 -- p's removal, which found none
 abbrev pub found_none : ℕ → Entry
@@ -69,6 +78,10 @@ pub record NoneIsARun : Type 0 where
   pub lost : IsAtRest removed_by_2 → ⊥
   -- a removal before its insert
   pub unlisted : (size : Size) → IsRun size (did 2 (Disarm (irp 0 0)) 0 ∷ []) → ⊥
+  -- a pass puts back what its insert found cancelled
+  pub cancelled_put_back : (size : Size) → IsRun size (did 1 (Rearm (irp 0 0)) 0 ∷ did 1 (Disarm (irp 0 0)) 1 ∷ did 1 (Test (irp 0 0)) 1 ∷ did 1 (Arm (irp 0 0)) 0 ∷ did 3 (Take (irp 0 0)) 0 ∷ did 3 (Flag (irp 0 0)) 0 ∷ []) → ⊥
+  -- a cancel comes while pass 2 has the IRP, and the put-back doesn't find the flag
+  pub flag_missed : (size : Size) → IsRun size (did 2 (Test (irp 0 0)) 0 ∷ did 2 (Rearm (irp 0 0)) 0 ∷ did 3 (Take (irp 0 0)) 0 ∷ did 3 (Flag (irp 0 0)) 0 ∷ removed_by_2) → ⊥
   -- a test before the arm
   pub test_first : (size : Size) → IsRun size (did 1 (Arm (irp 0 0)) 0 ∷ did 1 (Test (irp 0 0)) 0 ∷ []) → ⊥
 
@@ -102,15 +115,23 @@ pub record NoneIsAHistory : Type 0 where
   pub recorded_late : Agree (found_none 1 ∷ said 1 (Mark (irp 0 0)) ∷ inserted 1 0 ∷ found_none 2 ∷ []) (did 1 End 0 ∷ did 1 (Disarm (irp 0 0)) 0 ∷ did 2 (Take (irp 0 0)) 1 ∷ did 2 (Flag (irp 0 0)) 0 ∷ did 2 End 0 ∷ inserts_of 0 []) → ⊥
   -- a removal without any step
   pub no_step : Agree (found_none 2 ∷ []) [] → ⊥
+  -- pass 2 put back what it removed, which isn't in the history at all
+  pub put_back_left_out : Agree (removed 2 ∷ inserted 1 0 ∷ []) (did 2 (Test (irp 0 0)) 0 ∷ did 2 (Rearm (irp 0 0)) 0 ∷ removed_by_2) → ⊥
   -- two calls of one caller, in the other order
   pub turned : Agree (inserted 1 1 ∷ inserted 1 0 ∷ []) (inserts_of 0 (inserts_of 1 [])) → ⊥
   -- a removal found none since the IRP was marked, by a cancel that came later
   pub marked_before : Agree (found_none 1 ∷ said 1 (Mark (irp 0 0)) ∷ inserted 1 0 ∷ []) (did 2 (Take (irp 0 0)) 1 ∷ did 2 (Flag (irp 0 0)) 0 ∷ did 1 End 0 ∷ inserts_of 0 []) → ⊥
   -- a removal before its insert
-  pub removed_first : IsOrderly 0 (inserted 1 0 ∷ said 2 (RemoveNext Any (Some (irp 0 0))) ∷ []) → ⊥
+  pub removed_first : IsOrderly 0 (inserted 1 0 ∷ removed 2 ∷ []) → ⊥
   -- two inserts of one life
   pub inserted_twice : IsOrderly 0 (inserted 2 0 ∷ inserted 1 0 ∷ []) → ⊥
+  -- a put-back of what was never removed
+  pub never_removed : IsOrderly 0 (put_back 1 0 ∷ inserted 1 0 ∷ []) → ⊥
+  -- one for another file object than the insert's
+  pub other_file : (l : Limits) → IsLegal l (put_back 2 1 ∷ removed 2 ∷ inserted 1 0 ∷ []) → ⊥
+  -- one that is pending, although the flag was seen
+  pub flag_ignored : (l : Limits) → IsLegal l (put_back 1 0 ∷ said 1 (Insert (record { 0 = 0 }) (record { 0 = 0 }) Back Cancelled) ∷ said 1 (FlagSeen (irp 0 0)) ∷ []) → ⊥
   -- pass 2 was given what pass 3 removed
-  pub another : AreTrueOf 0 (did 3 (Disarm (irp 0 0)) 1 ∷ inserts_of 0 []) (said 2 (RemoveNext Any (Some (irp 0 0))) ∷ inserted 1 0 ∷ []) → ⊥
+  pub another : AreTrueOf 0 (did 3 (Disarm (irp 0 0)) 1 ∷ inserts_of 0 []) (removed 2 ∷ inserted 1 0 ∷ []) → ⊥
   -- a pass is back twice, with two statuses of one life
   pub back_twice : (size : Size) (words : List ℕ) (q : QueueRecord) → q.back ≡ completed_with 0 ∷ completed_with 1 ∷ [] → IsFinal size words q → ⊥

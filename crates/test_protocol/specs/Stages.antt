@@ -13,7 +13,7 @@ use Rattle.csq_words.specs.declared.views.Reusing.{Reusing}
 use Rattle.csq_words.specs.declared.views.Reusing.TheVariants as reusing
 use Rattle.test_protocol.specs.Listed.{IsHome, IsInserted, IsIrpZero, only_entry}
 use Rattle.test_protocol.specs.declared.states.Stage.{Stage}
-use Rattle.test_protocol.specs.declared.states.Stage.TheVariants.{Home, Armed, FlagSeen, Listed, Removed, Taken, Looked, StatusRenewed, RoutineRenewed, Ended}
+use Rattle.test_protocol.specs.declared.states.Stage.TheVariants.{Home, Armed, FlagSeen, Listed, Removed, Rearmed, FlagSeenAgain, Taken, Looked, StatusRenewed, RoutineRenewed, Ended}
 use Rattle.test_protocol.specs.declared.states.Doing.{Doing}
 use Rattle.test_protocol.specs.declared.states.Doing.TheVariants.{Nothing, Cancelling, Owing, Holding, HoldingRemoved}
 use Rattle.test_protocol.specs.declared.states.Hand.{Hand}
@@ -23,7 +23,7 @@ use Rattle.test_protocol.specs.declared.states.Hand.TheVariants.{Away, Here}
 abbrev pub irp_in : Life → IrpLife
 irp_in l = record { irp = record { 0 = 0 }; life = l }
 
--- pass 1 is under the lock, inside of this
+-- a pass is under the lock, inside of this
 abbrev pub IsUnderLock : Inside → QueueSeatState → Type 0
 IsUnderLock inside q = IsJoined q × (inside_of (joined_record q).steps ≡ inside)
 
@@ -38,6 +38,8 @@ HasStage Armed i q = IsUnderLock (inner.Armed i) q × IsHome i q.queue
 HasStage FlagSeen i q = IsUnderLock (inner.FlagSeen i) q × IsHome i q.queue
 HasStage Listed i q = (q.joined ≡ None) × IsInserted i (only_entry i) q.queue
 HasStage Removed i q = (q.joined ≡ None) × IsInserted i [] q.queue
+HasStage Rearmed i q = IsUnderLock (inner.Rearmed i) q × IsInserted i [] q.queue
+HasStage FlagSeenAgain i q = IsUnderLock (inner.FlagSeenAgain i) q × IsInserted i [] q.queue
 HasStage Taken i q = (q.joined ≡ None) × IsIrpZero i q.queue × (q.queue.reusing ≡ reusing.Nothing)
 HasStage Looked i q = IsReusing (reusing.Looked i) i q
 HasStage StatusRenewed i q = IsReusing (reusing.StatusRenewed i) i q

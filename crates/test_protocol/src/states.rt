@@ -16,7 +16,11 @@ pub enum Stage {
     Listed,
     /// It was removed.
     Removed,
-    /// An exchange found its routine taken, or the inserting pass took it back.
+    /// Pass 3 puts it back: its routine is set again.
+    Rearmed,
+    /// The put-back found the flag set then.
+    FlagSeenAgain,
+    /// An exchange found its routine taken, or an insert or a put-back took it back.
     Taken,
     /// Pass 1 reuses it, and looked at its status.
     Looked,
@@ -37,7 +41,7 @@ pub enum Doing {
     Cancelling(Life),
     /// It took the routine.
     Owing(Life),
-    /// It holds the IRP, which its insert took back.
+    /// It holds the IRP, which its insert or its put-back took back.
     Holding(Life),
     /// It holds the IRP, which it removed.
     HoldingRemoved(Life),

@@ -20,6 +20,7 @@ mod lives;
 mod numbers;
 mod orders;
 mod pairs;
+mod put_backs;
 mod removals;
 mod reuses;
 mod sizes;

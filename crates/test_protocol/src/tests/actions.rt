@@ -45,6 +45,18 @@ pub(super) enum Action {
     FindTaken,
     // It completes what it removed, with this status.
     Complete(NtStatus),
+    // It puts back what it removed, whose routine it sets again.
+    Rearm,
+    // It finds the flag clear, and the IRP is pending.
+    FindClearAgain,
+    // It finds the flag set.
+    FindSetAgain,
+    // It exchanges the routine, and finds this word.
+    TakeBackAgain(u64),
+    // It completes what it took back.
+    CompleteTakenBack,
+    // A whole put-back, of which the IRP is pending.
+    PutBack,
     // A pass reads this life and Cancel flag, and this life and status.
     Find(By, (Life, bool), Status),
     // It reads this life of both, a clear Cancel flag, and this status.
@@ -92,6 +104,12 @@ impl Case {
             Action::Remove => self.remove(rt),
             Action::FindTaken => self.find_taken(rt),
             Action::Complete(status) => self.complete(rt, status),
+            Action::Rearm => self.rearm(rt),
+            Action::FindClearAgain => self.find_clear_again(rt),
+            Action::FindSetAgain => self.find_set_again(rt),
+            Action::TakeBackAgain(word) => self.take_back_again(rt, word),
+            Action::CompleteTakenBack => self.complete_taken_back(rt),
+            Action::PutBack => self.put_back(rt),
             Action::Find(by, flag, status) => self.find(rt, by, flag, status),
             Action::FindUnflagged(by, life, status) => {
                 self.find(rt, by, (life, false), (life, status))

@@ -44,11 +44,11 @@ pub(super) fn has(run: &[Made], kind: Kind) -> bool {
     false
 }
 
-/// Whether the IRP's routine is set: of the steps that exchange it the last is an Arm.
+/// Whether the IRP's routine is set: of the steps that exchange it the last is an Arm or a Rearm.
 fn is_armed(run: &[Made], irp: IrpLife) -> bool {
     let mut armed = false;
     for made in run {
-        if made.kind == Kind::Arm(irp) {
+        if made.kind == Kind::Arm(irp) || made.kind == Kind::Rearm(irp) {
             armed = true;
         }
         if made.kind == Kind::Disarm(irp) || made.kind == Kind::Take(irp) {
@@ -77,22 +77,31 @@ fn owes(run: &[Made], pass: PassId, irp: IrpLife) -> bool {
     owes
 }
 
-/// The status with which the IRP is completed: cancelled where its cancel routine took it out of the list, or
-/// its insert found the flag.
-fn final_status(run: &[Made], irp: IrpLife) -> NtStatus {
+/// Whether the IRP's cancel routine took it out of the list, or its insert or a put-back found the flag. What
+/// a pass holds otherwise it got by a removal.
+fn is_cancelled(run: &[Made], irp: IrpLife) -> bool {
     for made in run {
         if made.kind == Kind::Out(irp) || (made.kind == Kind::Test(irp) && made.found == 1) {
-            return NtStatus::CANCELLED;
+            return true;
         }
     }
-    NtStatus::SUCCESS
+    false
+}
+
+/// The status with which the IRP is completed.
+fn final_status(run: &[Made], irp: IrpLife) -> NtStatus {
+    if is_cancelled(run, irp) {
+        NtStatus::CANCELLED
+    } else {
+        NtStatus::SUCCESS
+    }
 }
 
 /// Where the IRP is after the run.
 pub(super) fn place(run: &[Made], irp: IrpLife) -> IrpPlace {
     let mut place = IrpPlace::Home;
     for made in run {
-        if made.kind == Kind::Arm(irp) {
+        if made.kind == Kind::Arm(irp) || made.kind == Kind::Rearm(irp) {
             place = IrpPlace::Listed;
         }
         if delists(made, irp) {
@@ -130,7 +139,7 @@ fn removal_len(word: &[Made]) -> Option<usize>
     None
 }
 
-/// The length of the insert that the word begins with, if that is whole.
+/// The length of the insert or put-back that the word begins with, if that is whole.
 fn insert_len(irp: IrpLife, word: &[Made]) -> Option<usize>
     ensures { IfSome result (λ len. len ≤ length word.now) }
 {
@@ -149,7 +158,7 @@ fn program_len(word: &[Made]) -> Option<usize>
     ensures { IfSome result (λ len. len ≤ length word.now) }
 {
     match word.first()?.kind {
-        Kind::Arm(irp) => insert_len(irp, word),
+        Kind::Arm(irp) | Kind::Rearm(irp) => insert_len(irp, word),
         Kind::Disarm(_) | Kind::End => removal_len(word),
         Kind::Flag(irp) => match word {
             [_, take, ..] if take.kind == Kind::Take(irp) => Some(2),
@@ -179,9 +188,9 @@ fn is_missing(word: &[Made]) -> bool {
 /// Whether the word is the beginning of a program, and not the whole.
 fn is_begun(word: &[Made]) -> bool {
     match word {
-        [first] if matches!(first.kind, Kind::Arm(_) | Kind::Flag(_)) => true,
-        [arm, test]
-            if matches!((arm.kind, test.kind), (Kind::Arm(armed), Kind::Test(tested)) if armed == tested) =>
+        [first] if matches!(first.kind, Kind::Arm(_) | Kind::Rearm(_) | Kind::Flag(_)) => true,
+        [set, test]
+            if matches!(set.kind, Kind::Arm(irp) | Kind::Rearm(irp) if test.kind == Kind::Test(irp)) =>
             { test.found == 1 }
         misses => is_missing(misses),
     }
@@ -224,7 +233,7 @@ fn end_of(rt: &(impl Abort + AllocGlobal), run: &[Made], pass: PassId) -> Ending
     ending_of(word(rt, run, pass).as_slice())
 }
 
-/// A pass beside this one that has the lock: it is inside an insert or a removal.
+/// A pass beside this one that has the lock: it is inside an insert, a removal or a put-back.
 fn other_holder(
     rt: &(impl Abort + AllocGlobal),
     size: Size,
@@ -234,7 +243,12 @@ fn other_holder(
     for number in 1..=size.passes {
         let other = PassId(number);
         let end = end_of(rt, run, other);
-        if other != pass && matches!(end, Ending::Begun(Kind::Arm(_) | Kind::Disarm(_))) {
+        if other != pass
+            && matches!(
+                end,
+                Ending::Begun(Kind::Arm(_) | Kind::Disarm(_) | Kind::Rearm(_))
+            )
+        {
             return Some(other);
         }
     }
@@ -246,6 +260,7 @@ fn named(kind: Kind) -> Option<IrpLife> {
     match kind {
         Kind::Arm(irp) | Kind::Test(irp) | Kind::Disarm(irp) | Kind::Flag(irp) => Some(irp),
         Kind::Take(irp) | Kind::Out(irp) | Kind::Done(irp) | Kind::Renew(irp) => Some(irp),
+        Kind::Rearm(irp) => Some(irp),
         Kind::End => None,
     }
 }
@@ -253,7 +268,9 @@ fn named(kind: Kind) -> Option<IrpLife> {
 /// What a step of this kind finds.
 pub(super) fn found(run: &[Made], kind: Kind) -> u64 {
     match kind {
-        Kind::Arm(irp) | Kind::Disarm(irp) | Kind::Take(irp) => u64::from(is_armed(run, irp)),
+        Kind::Arm(irp) | Kind::Disarm(irp) | Kind::Take(irp) | Kind::Rearm(irp) => {
+            u64::from(is_armed(run, irp))
+        }
         Kind::Test(irp) | Kind::Flag(irp) => u64::from(has(run, Kind::Flag(irp))),
         Kind::End | Kind::Out(_) | Kind::Done(_) | Kind::Renew(_) => 0,
     }
@@ -276,9 +293,10 @@ fn irp_refusal(run: &[Made], first: u32, step: Step) -> Option<StepRefused> {
         Kind::Arm(irp) if has(run, Kind::Arm(irp)) => Some(StepRefused::NotHome),
         Kind::Disarm(irp) if place(run, irp) != IrpPlace::Listed => Some(StepRefused::NotListed),
         Kind::Out(irp) if !owes(run, step.pass, irp) => Some(StepRefused::NotOwed),
-        Kind::Done(irp) if place(run, irp) != IrpPlace::HeldBy(step.pass) => {
+        Kind::Done(irp) | Kind::Rearm(irp) if place(run, irp) != IrpPlace::HeldBy(step.pass) => {
             Some(StepRefused::NotHeld)
         }
+        Kind::Rearm(irp) if is_cancelled(run, irp) => Some(StepRefused::NotHeld),
         Kind::Arm(irp) | Kind::Flag(irp) | Kind::Renew(irp) => {
             let present = present(run, first, irp.irp);
             if irp != present {

@@ -1,5 +1,5 @@
 //! One IRP in the words, with the machine beside them: the queue's seat, and those of three passes,
-//! of which the first inserts and reuses, the second cancels and the third removes.
+//! of which the first inserts and reuses, the second cancels and the third removes and puts back.
 ghost use Rattle.std.specs.Prelude.{◌≡◌, ◌<◌, ◌∷◌, None};
 ghost use Rattle.csq_words.specs.Records.{new_queue};
 ghost use Rattle.csq_words.specs.Seats.{new_seats, pass_record, IsHere};

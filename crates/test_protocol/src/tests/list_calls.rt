@@ -9,6 +9,8 @@ use irp_core::{FileId, IrpId};
 #[derive(Clone, Copy)]
 pub(super) enum Call {
     Insert(IrpId, FileId, Place),
+    // Lists the IRP again, if it was used and isn't listed.
+    PutBack(IrpId, FileId, Place),
     // Takes the IRP out, if it is listed.
     Remove(IrpId),
     // Makes the IRP home, if it was used and isn't listed.
@@ -34,7 +36,7 @@ pub(super) enum Answer {
     Made,
     // It wasn't made: the IRP isn't as the call wants it, or there is no such file object.
     Unmade,
-    // An insert was refused.
+    // An insert or a put-back was refused.
     Refused(InsertStatus),
     // A look found this IRP, or none.
     Found(Option<IrpId>),
@@ -49,6 +51,21 @@ fn is_renewable<L: PendingList>(list: &L, irp: IrpId) -> bool
     ensures unlisted { result ≡ true → is_listed (L.listing list.now).entries irp ≡ false }
 {
     irp.0 < list.irps() && !list.is_home(irp) && !list.is_listed(irp)
+}
+
+// An insert's or a put-back's answer.
+fn listed(reply: Result<(), InsertStatus>) -> Answer {
+    match reply {
+        Ok(()) => Answer::Made,
+        Err(cause) => Answer::Refused(cause),
+    }
+}
+
+fn put_back<L: PendingList>(list: &mut L, irp: IrpId, file: FileId, place: Place) -> Answer {
+    if !is_renewable(list, irp) {
+        return Answer::Unmade;
+    }
+    listed(list.put_back_ex(irp, file, place))
 }
 
 fn remove<L: PendingList>(list: &mut L, irp: IrpId) -> Answer {
@@ -82,10 +99,8 @@ fn peek_next<L: PendingList>(list: &L, after: Option<IrpId>, peek: Peek) -> Answ
 // Makes a call.
 pub(super) fn make<L: PendingList>(list: &mut L, call: Call) -> Answer {
     match call {
-        Call::Insert(irp, file, place) => match list.insert_ex(irp, file, place) {
-            Ok(()) => Answer::Made,
-            Err(cause) => Answer::Refused(cause),
-        },
+        Call::Insert(irp, file, place) => listed(list.insert_ex(irp, file, place)),
+        Call::PutBack(irp, file, place) => put_back(list, irp, file, place),
         Call::Remove(irp) => remove(list, irp),
         Call::Renew(irp) => renew(list, irp),
         Call::CloseFile(file) => match list.close_file(file) {

@@ -28,7 +28,8 @@ const SIZES: [Size<'static>; 2] = [
     },
 ];
 
-// Fills a list from both ends, empties it again and renews what was used. It takes no memory.
+// Fills a list from both ends, where it takes out and puts back each, empties it again and renews what was
+// used. It takes no memory.
 fn use_without_memory<L: PendingList>(rt: &impl Abort, heap: &LocalHeap, list: &mut L) {
     let used = heap.used();
     for number in 0..IRPS {
@@ -41,6 +42,8 @@ fn use_without_memory<L: PendingList>(rt: &impl Abort, heap: &LocalHeap, list: &
         let insert = Call::Insert(irp, file, place);
         assert!(rt; make(list, insert) == Answer::Made);
         assert!(rt; make(list, insert) == Answer::Refused(InsertStatus::NotHome));
+        assert!(rt; make(list, Call::Remove(irp)) == Answer::Made);
+        assert!(rt; make(list, Call::PutBack(irp, file, place)) == Answer::Made);
     }
     assert!(rt; make(list, Call::CloseFile(FileId(0))) == Answer::Made);
     for number in 0..IRPS {

@@ -113,7 +113,7 @@ const SMALL: Size<'static> = Size {
     file_limits: Some(&[1, 3]),
 };
 
-const CALLS: u32 = 24;
+const CALLS: u32 = 28;
 
 // One of the calls of such a list, with known numbers and unknown ones.
 fn numbered(number: u32) -> Call {
@@ -128,6 +128,8 @@ fn numbered(number: u32) -> Call {
         17..20 => Call::Renew(irp),
         20..22 => Call::CloseFile(file),
         22 => Call::CloseFile(FileId(2)),
+        23..25 => Call::PutBack(irp, file, Place::Back),
+        25..27 => Call::PutBack(irp, file, Place::Front),
         _ => Call::Remove(IrpId(3)),
     }
 }
@@ -150,7 +152,7 @@ fn play(rt: &impl Abort, lists: &mut Lists<'_>, length: u32, digits: u32) -> boo
 fn every_short_sequence_is_answered_as_by_pairs(rt: HostRuntime) {
     let mut full = false;
     // How many calls are tried one after another, and how many sequences of so many there are.
-    for (length, sequences) in [(1, 24), (2, 576), (3, 13_824), (4, 331_776)] {
+    for (length, sequences) in [(1, 28), (2, 784), (3, 21_952), (4, 614_656)] {
         for digits in 0..sequences {
             full |= play(&rt, &mut lists_of(&rt, SMALL), length, digits);
         }
@@ -176,15 +178,17 @@ const MANY_CALLS: u32 = 2048;
 
 const SEED: u64 = 0x5eed_0f11_57c0_9a1e;
 
-// A call of such a list: more inserts than removals, as many renewals, and few closings.
+// A call of such a list: more inserts than removals, as many renewals, fewer put-backs, and few closings.
 fn drawn<G: Rng>(rng: &mut G) -> Call {
     let irp = IrpId(rng.next_u32() % 257);
     let file = FileId(rng.next_u32() % 9);
-    match rng.next_u32() % 512 {
+    match rng.next_u32() % 576 {
         0 => Call::CloseFile(file),
         1..160 => Call::Insert(irp, file, Place::Back),
         160..320 => Call::Insert(irp, file, Place::Front),
         320..416 => Call::Renew(irp),
+        416..448 => Call::PutBack(irp, file, Place::Back),
+        448..480 => Call::PutBack(irp, file, Place::Front),
         _ => Call::Remove(irp),
     }
 }

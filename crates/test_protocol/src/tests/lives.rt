@@ -155,6 +155,22 @@ const EACH_PASS_READS_THE_STATUS_OF_A_COMPLETION: &[Action] = &[
     Action::FindUnflagged(By::Remover, SECOND, None),
 ];
 
+// What was put back is in the same life, and has no status. Its next life begins by a reuse, as ever.
+const A_PUT_BACK_BEGINS_NO_LIFE: &[Action] = &[
+    Action::Insert,
+    Action::Remove,
+    Action::PutBack,
+    Action::FlagStale(SIXTH, false),
+    Action::FindUnflagged(By::Canceller, FIFTH, None),
+    Action::Remove,
+    Action::Complete(SUCCESS),
+    Action::FindUnflagged(By::Canceller, FIFTH, Some(SUCCESS)),
+    Action::Reuse(false),
+    Action::Insert,
+    Action::FlagStale(FIFTH, false),
+    Action::FindUnflagged(By::Canceller, SIXTH, None),
+];
+
 // No status word is larger than that of the largest status in the last life.
 const THE_LARGEST_STATUS_IS_READ_IN_THE_LAST_LIFE: &[Action] = &[
     Action::Insert,
@@ -173,6 +189,7 @@ const LIVES: &[(Life, &[Action])] = &[
     (FIRST, A_LATE_TAKE_LEAVES_THE_NEXT_LIFE_ALONE),
     (FIRST, A_LATE_TAKE_COMES_BEFORE_THE_INSERT),
     (FIRST, EACH_PASS_READS_THE_STATUS_OF_A_COMPLETION),
+    (FIFTH, A_PUT_BACK_BEGINS_NO_LIFE),
     (LAST, THE_LARGEST_STATUS_IS_READ_IN_THE_LAST_LIFE),
 ];
 

@@ -1,6 +1,6 @@
-//! Every order of an insert's arm and test with a cancel's flag and take, and of a removal's disarm
-//! with them. Each goes on to its end: the IRP is completed once, by the pass whose exchange found
-//! the routine.
+//! Every order of an insert's arm and test with a cancel's flag and take, of a removal's disarm with
+//! them, and of a removal's disarm and a put-back's rearm and test with them. Each goes on to its end:
+//! the IRP is completed once, by the pass whose exchange found the routine last.
 
 use super::FIRST;
 use super::actions::{Action, play};
@@ -13,6 +13,8 @@ const CANCELLED: Action = Action::FindCompleted(By::Canceller, NtStatus::CANCELL
 const TAKEN_BACK: Action = Action::FindCompleted(By::Inserter, NtStatus::CANCELLED);
 
 const REMOVED: Action = Action::FindCompleted(By::Remover, NtStatus::SUCCESS);
+
+const TAKEN_BACK_AGAIN: Action = Action::FindCompleted(By::Remover, NtStatus::CANCELLED);
 
 // The insert is pending, and the canceller gets the IRP.
 const ARM_TEST_FLAG_TAKE: &[Action] = &[
@@ -131,6 +133,203 @@ const FLAG_TAKE_DISARM: &[Action] = &[
     CANCELLED,
 ];
 
+// The cancel finds that pass 3 has the IRP, and the put-back finds the flag.
+const FLAG_DISARM_TAKE_REARM_TEST: &[Action] = &[
+    Action::Insert,
+    Action::Flag,
+    Action::Remove,
+    Action::Take(0),
+    Action::Rearm,
+    Action::FindSetAgain,
+    Action::TakeBackAgain(1),
+    Action::CompleteTakenBack,
+    TAKEN_BACK_AGAIN,
+];
+
+// The flag comes before the removal, and the canceller gets the IRP before the put-back looks.
+const FLAG_DISARM_REARM_TAKE_TEST: &[Action] = &[
+    Action::Insert,
+    Action::Flag,
+    Action::Remove,
+    Action::Rearm,
+    Action::Take(1),
+    Action::FindSetAgain,
+    Action::TakeBackAgain(0),
+    Action::Finish,
+    CANCELLED,
+];
+
+// The flag comes before the removal, and the canceller is faster.
+const FLAG_DISARM_REARM_TEST_TAKE: &[Action] = &[
+    Action::Insert,
+    Action::Flag,
+    Action::Remove,
+    Action::Rearm,
+    Action::FindSetAgain,
+    Action::Take(1),
+    Action::TakeBackAgain(0),
+    Action::Finish,
+    CANCELLED,
+];
+
+// The flag comes before the removal, and the put-back is faster.
+const FLAG_DISARM_REARM_TEST_DISARM: &[Action] = &[
+    Action::Insert,
+    Action::Flag,
+    Action::Remove,
+    Action::Rearm,
+    Action::FindSetAgain,
+    Action::TakeBackAgain(1),
+    Action::Take(0),
+    Action::CompleteTakenBack,
+    TAKEN_BACK_AGAIN,
+];
+
+// The cancel comes while pass 3 has the IRP, and the put-back finds the flag.
+const DISARM_FLAG_TAKE_REARM_TEST: &[Action] = &[
+    Action::Insert,
+    Action::Remove,
+    Action::Flag,
+    Action::Take(0),
+    Action::Rearm,
+    Action::FindSetAgain,
+    Action::TakeBackAgain(1),
+    Action::CompleteTakenBack,
+    TAKEN_BACK_AGAIN,
+];
+
+// The flag comes while pass 3 has the IRP, and the canceller gets it before the put-back looks.
+const DISARM_FLAG_REARM_TAKE_TEST: &[Action] = &[
+    Action::Insert,
+    Action::Remove,
+    Action::Flag,
+    Action::Rearm,
+    Action::Take(1),
+    Action::FindSetAgain,
+    Action::TakeBackAgain(0),
+    Action::Finish,
+    CANCELLED,
+];
+
+// The flag comes while pass 3 has the IRP, and the canceller is faster.
+const DISARM_FLAG_REARM_TEST_TAKE: &[Action] = &[
+    Action::Insert,
+    Action::Remove,
+    Action::Flag,
+    Action::Rearm,
+    Action::FindSetAgain,
+    Action::Take(1),
+    Action::TakeBackAgain(0),
+    Action::Finish,
+    CANCELLED,
+];
+
+// The flag comes while pass 3 has the IRP, and the put-back is faster.
+const DISARM_FLAG_REARM_TEST_DISARM: &[Action] = &[
+    Action::Insert,
+    Action::Remove,
+    Action::Flag,
+    Action::Rearm,
+    Action::FindSetAgain,
+    Action::TakeBackAgain(1),
+    Action::Take(0),
+    Action::CompleteTakenBack,
+    TAKEN_BACK_AGAIN,
+];
+
+// The canceller gets the IRP before the put-back looks.
+const REARM_FLAG_TAKE_TEST: &[Action] = &[
+    Action::Insert,
+    Action::Remove,
+    Action::Rearm,
+    Action::Flag,
+    Action::Take(1),
+    Action::FindSetAgain,
+    Action::TakeBackAgain(0),
+    Action::Finish,
+    CANCELLED,
+];
+
+// The put-back finds the flag, and the canceller is faster.
+const REARM_FLAG_TEST_TAKE: &[Action] = &[
+    Action::Insert,
+    Action::Remove,
+    Action::Rearm,
+    Action::Flag,
+    Action::FindSetAgain,
+    Action::Take(1),
+    Action::TakeBackAgain(0),
+    Action::Finish,
+    CANCELLED,
+];
+
+// The put-back finds the flag, and is faster.
+const REARM_FLAG_TEST_DISARM: &[Action] = &[
+    Action::Insert,
+    Action::Remove,
+    Action::Rearm,
+    Action::Flag,
+    Action::FindSetAgain,
+    Action::TakeBackAgain(1),
+    Action::Take(0),
+    Action::CompleteTakenBack,
+    TAKEN_BACK_AGAIN,
+];
+
+// The put-back is pending, and the canceller gets the IRP, which was left lying.
+const REARM_TEST_FLAG_TAKE: &[Action] = &[
+    Action::Insert,
+    Action::Remove,
+    Action::Rearm,
+    Action::FindClearAgain,
+    Action::FindRest,
+    Action::Flag,
+    Action::Take(1),
+    Action::Finish,
+    CANCELLED,
+];
+
+// It was put back twice before.
+const PUT_BACK_TWICE_FLAG_TAKE: &[Action] = &[
+    Action::Insert,
+    Action::Remove,
+    Action::PutBack,
+    Action::Remove,
+    Action::PutBack,
+    Action::FindRest,
+    Action::Flag,
+    Action::Take(1),
+    Action::Finish,
+    CANCELLED,
+];
+
+// The cancel comes while pass 3 has the IRP again, and its second put-back finds the flag.
+const PUT_BACK_DISARM_FLAG_TAKE_REARM_TEST: &[Action] = &[
+    Action::Insert,
+    Action::Remove,
+    Action::PutBack,
+    Action::Remove,
+    Action::Flag,
+    Action::Take(0),
+    Action::Rearm,
+    Action::FindSetAgain,
+    Action::TakeBackAgain(1),
+    Action::CompleteTakenBack,
+    TAKEN_BACK_AGAIN,
+];
+
+// Pass 3 removes what it put back, and the cancel comes too late.
+const PUT_BACK_DISARM_FLAG_TAKE: &[Action] = &[
+    Action::Insert,
+    Action::Remove,
+    Action::PutBack,
+    Action::Remove,
+    Action::Flag,
+    Action::Take(0),
+    Action::Complete(NtStatus::SUCCESS),
+    REMOVED,
+];
+
 const ORDERS: &[(Life, &[Action])] = &[
     (FIRST, ARM_TEST_FLAG_TAKE),
     (FIRST, ARM_FLAG_TEST_TAKE),
@@ -143,6 +342,21 @@ const ORDERS: &[(Life, &[Action])] = &[
     (FIRST, DISARM_FLAG_TAKE),
     (FIRST, FLAG_DISARM_TAKE),
     (FIRST, FLAG_TAKE_DISARM),
+    (FIRST, FLAG_DISARM_TAKE_REARM_TEST),
+    (FIRST, FLAG_DISARM_REARM_TAKE_TEST),
+    (FIRST, FLAG_DISARM_REARM_TEST_TAKE),
+    (FIRST, FLAG_DISARM_REARM_TEST_DISARM),
+    (FIRST, DISARM_FLAG_TAKE_REARM_TEST),
+    (FIRST, DISARM_FLAG_REARM_TAKE_TEST),
+    (FIRST, DISARM_FLAG_REARM_TEST_TAKE),
+    (FIRST, DISARM_FLAG_REARM_TEST_DISARM),
+    (FIRST, REARM_FLAG_TAKE_TEST),
+    (FIRST, REARM_FLAG_TEST_TAKE),
+    (FIRST, REARM_FLAG_TEST_DISARM),
+    (FIRST, REARM_TEST_FLAG_TAKE),
+    (FIRST, PUT_BACK_TWICE_FLAG_TAKE),
+    (FIRST, PUT_BACK_DISARM_FLAG_TAKE_REARM_TEST),
+    (FIRST, PUT_BACK_DISARM_FLAG_TAKE),
 ];
 
 #[test]

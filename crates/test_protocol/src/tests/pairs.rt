@@ -122,6 +122,18 @@ impl<'a> Pairs<'a> {
         Answer::Made
     }
 
+    // An insert, as if the IRP were renewed. A refusal leaves it used.
+    fn put_back(&mut self, rt: &impl Abort, irp: IrpId, file: FileId, place: Place) -> Answer {
+        if self.renew(irp) == Answer::Unmade {
+            return Answer::Unmade;
+        }
+        let answer = self.try_insert(rt, irp, file, place);
+        if answer != Answer::Made && self.used.push(irp).is_err() {
+            panic!(rt; "no memory");
+        }
+        answer
+    }
+
     fn close_file(&mut self, rt: &impl Abort, file: FileId) -> Answer {
         if file.0 >= self.size.files {
             return Answer::Unmade;
@@ -151,6 +163,7 @@ impl<'a> Pairs<'a> {
     pub(super) fn answer(&mut self, rt: &impl Abort, call: Call) -> Answer {
         match call {
             Call::Insert(irp, file, place) => self.try_insert(rt, irp, file, place),
+            Call::PutBack(irp, file, place) => self.put_back(rt, irp, file, place),
             Call::CloseFile(file) => self.close_file(rt, file),
             Call::Remove(irp) => self.remove(irp),
             Call::Renew(irp) => self.renew(irp),

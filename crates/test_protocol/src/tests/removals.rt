@@ -141,6 +141,17 @@ impl Case {
         self.remover = FREE;
     }
 
+    // It completes what its put-back took back.
+    pub(super) fn complete_taken_back(&mut self, rt: &impl Abort) {
+        let Hand::Here(Doing::Holding(life)) = self.remover else {
+            panic!(rt; "pass 3 holds nothing that it took back");
+        };
+        let name = IrpLife { irp: ZERO, life };
+        self.three.done(&self.words, name, FinalStatus::cancelled());
+        compare(rt, &mut self.machine, 3, Kind::Done(name), 0);
+        self.remover = FREE;
+    }
+
     // Pass 1 completes what its insert took back.
     pub(super) fn complete_own(&mut self, rt: &impl Abort) {
         let Hand::Here(Doing::Holding(life)) = self.inserter else {
