@@ -4,8 +4,9 @@ ghost use Rattle.csq_queue.specs.Stories.{EachIrpSeenIsGivenOnce, EachIrpLeftHas
 ghost use Rattle.csq_queue.specs.Order.{CallsAreOrdered, CallsComeAfterWhatWasSeen, StepsComeAfterWhatWasSeen, CallsToldOfCameFirst, EventsLeftStandInOrder, EventsOfAnOpenQueueStandInOrder};
 
 /// Where the history and the run that a pass has seen agree, as after each of its calls under the lock: an IRP,
-/// in each of its lives, was inserted by at most one pass and given to at most one. By that run this one made
-/// the one exchange that took its routine, and none but this one completed it.
+/// in each of its lives, was inserted by at most one pass and given to at most one, since it was last put
+/// back. By that run this one made the one exchange that took its routine since then, and none but this one
+/// completed it.
 pub fn each_irp_seen_is_given_once()
     ensures { EachIrpSeenIsGivenOnce }
 {}
@@ -14,7 +15,8 @@ pub fn each_irp_seen_is_given_once()
 /// passes, which are left, tell one story of each IRP in each life that has begun. It was never inserted. Or
 /// one pass inserted it, and it is listed. Or one pass inserted it, and one pass was given it, by a removal, by
 /// a cancel or by its own insert: that pass made the one exchange that took its routine and the one completion,
-/// with the status that it recorded. In the present life that is the status that is left.
+/// with the status that it recorded. In the present life that is the status that is left. If the IRP was put
+/// back, this is the story since then, and whoever put it back last stands for whoever inserted it.
 pub fn each_irp_left_has_a_story()
     ensures { EachIrpLeftHasAStory }
 {}

@@ -57,7 +57,7 @@ pub record NeverInserted (q : QueueRecord) (i : IrpLife) : Type 0 where
   pub claimed : claims q.run i ≡ []
   pub completed : dones q.run i ≡ []
 
--- i, in its present life, was inserted by one pass, and is listed with its flag clear: it was given to none, and none claimed or completed it
+-- i, in its present life, was inserted by one pass, or put back last by it, and is listed with its flag clear: it was given to none, and none claimed or completed it
 pub record StillListed (q : QueueRecord) (i : IrpLife) : Type 0 where
   pub is_present : IsPresent q.first q.run i
   pub listed : has_entry (queue_of q).entries i ≡ true
@@ -69,7 +69,7 @@ pub record StillListed (q : QueueRecord) (i : IrpLife) : Type 0 where
   pub claimed : claims q.run i ≡ []
   pub completed : dones q.run i ≡ []
 
--- i was inserted by one pass and given to one, which made its one claim and its one completion, with the status that it recorded: STATUS_CANCELLED where the history says that i was cancelled. In the present life this is the final status
+-- i was inserted by one pass, or put back last by it, and since then given to one, which made its one claim since then and its one completion, with the status that it recorded: STATUS_CANCELLED where the history says that i was cancelled. In the present life this is the final status
 pub record HasEnded (finals : FinalWords) (q : QueueRecord) (i : IrpLife) : Type 0 where
   pub unlisted : has_entry (queue_of q).entries i ≡ false
   pub inserter : PassId
@@ -92,14 +92,14 @@ Story finals i = NeverInserted finals.queue i ⊎ StillListed finals.queue i ⊎
 abbrev pub EachIrpHasAStory : Type 0
 EachIrpHasAStory = (size : Size) (words : List ℕ) (q : QueueRecord) → IsFinal size words q → AllBack q → (i : IrpLife) → HasBegun size.first q.run i → Story (record { irps = size.irps; words = words; queue = q }) i
 
--- of a history with which a run agrees: at most one pass inserted i, and at most one was given i. This one made the one claim of i, and who completed i was given it
+-- of a history with which a run agrees: at most one pass inserted i, and at most one was given i, since it was last put back. This one made the one claim of i since then, and whoever completed i was given it
 pub record IsGivenOnce (q : QueueRecord) (run : List Made) (i : IrpLife) : Type 0 where
   pub inserted : length (inserted_by q.first i q.history) ≤ 1
   pub given : length (given_to q.first i q.history) ≤ 1
   pub claimed : (p : PassId) → given_to q.first i q.history ≡ p ∷ [] → IsOneOf p (claims run i)
   pub completed : (p : PassId) → IsOneOf p (dones run i) → given_to q.first i q.history ≡ p ∷ []
 
--- at every step, each life of each IRP is given out at most once
+-- at every step, each life of each IRP is given out at most once since it was last put back, if the pass that the record is joined with isn't just putting it back
 abbrev pub EachIrpIsGivenOnce : Type 0
 EachIrpIsGivenOnce = (size : Size) (q : QueueRecord) (r : PassRecord) (run : List Made) → RecordsAgree size run q r → (i : IrpLife) → again (inside_of r.steps) i ≡ false → IsGivenOnce q run i
 

@@ -3,8 +3,9 @@
 ghost use Rattle.csq_words.specs.Stories.{EachIrpHasAStory, EachIrpIsGivenOnce, NoIrpHasTwoStories, JoinedPassesSeeOneHistory, PassesBackSeeOneHistory, PassesAtTheEndSeeOneHistory, StoriesHaveTheStatusRecorded};
 ghost use Rattle.csq_words.specs.Recorded.{EventsStandInOrder};
 
-/// At every step, in each of its lives, an IRP was inserted by at most one pass and given to at
-/// most one: this one made its one claim by the run, and none but this one completes it.
+/// At every step, in each of its lives, an IRP that isn't just being put back was inserted by at most
+/// one pass and given to at most one, since it was last put back: this one made its one claim since
+/// then by the run, and none but this one completes it.
 pub fn each_irp_is_given_once()
     ensures { EachIrpIsGivenOnce }
 {}
@@ -12,7 +13,8 @@ pub fn each_irp_is_given_once()
 /// Where every pass is back, each IRP has one story in each life that has begun: it was never
 /// inserted; or one pass inserted it, and it is listed; or one pass inserted it, and it was given
 /// to one pass, which made its one claim by the run and its one completion, with the status that it
-/// recorded.
+/// recorded. If it was put back, this is the story since then, and whoever put it back last stands
+/// for whoever inserted it.
 pub fn each_irp_has_a_story()
     ensures { EachIrpHasAStory }
 {}
@@ -31,7 +33,7 @@ pub fn stories_have_the_status_recorded()
 
 /// The history is that of the execution: each of its events stands at a step of its own pass, in the
 /// order of these steps, and each step under the lock has its events there. Events of calls that
-/// make no step (a refused insert, a closed file object) stand between two steps.
+/// make no step (a refused insert or put-back, a closed file object) stand between two steps.
 pub fn events_stand_in_order()
     ensures { EventsStandInOrder }
 {}
