@@ -347,5 +347,8 @@ void iocsq_end_deferred(void) {
     }
     for (int at = 0; at < WORKERS && workers[at]; at++) {
         IocsqJoin(workers[at]);
+        workers[at] = NULL;
     }
+    processor = NULL; /* another driver, loaded after this one, begins anew */
+    ending = false;
 }

@@ -43,7 +43,7 @@ struct iocsq_irp {
     uint32_t output; /* bytes of the sender's buffer that are filled in at its completion */
     PVOID sender_buffer;
     _Atomic int place;
-    _Atomic uint64_t stay; /* the queue, slot and life that it has in a reference queue; 0: none */
+    _Atomic uint64_t stay; /* the queue, slot and life that it has in a reference queue; 0: none. A put-back keeps it */
     uint32_t pass;         /* which holds it there */
     PIO_CSQ_IRP_CONTEXT context;
     _Atomic bool late; /* it went into the queue once its file object's IRP_MJ_CLEANUP was sent */
@@ -58,6 +58,7 @@ struct iocsq_irp {
     bool pending_returned;
     struct iocsq_step steps[IOCSQ_STEPS]; /* of its present stay */
     uint32_t step_count;
+    uint32_t put_backs_left_out; /* of the steps, since there were too many */
 };
 
 struct iocsq_irp *iocsq_irp_at(const void *irp);                    /* null: no IRP */

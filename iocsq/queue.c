@@ -100,20 +100,21 @@ bool iocsq_cancel_queued(struct iocsq_irp *i) {
 }
 
 /* ---- Insertion ---- */
+/* A driver may insert an IRP again that a removal got, and that isn't completed. */
 static void check_insert(struct iocsq_irp *i) {
     if (i->irp.CancelRoutine) {
         iocsq_disagree(i, "IoCsqInsertIrp of irp %u, which has a cancel routine of the driver", i->index);
     }
-    /* A driver may insert again what it removed: one stay ends, and the next begins. */
-    uint32_t verdict = i->place == IOCSQ_DONE ? CSQ_USE_NOT_HELD : CSQ_USE_AGREES;
-    if (i->stay) {
-        verdict = iocsq_reference_insert_again(i);
-    }
-    switch (verdict) {
+    switch (iocsq_reference_judge_again(i)) {
     case CSQ_USE_AGREES: break;
-    case CSQ_USE_LISTED: iocsq_disagree(i, "IoCsqInsertIrp of irp %u, which is in a queue already", i->index);
-    case CSQ_USE_GOT_CANCELLED: iocsq_disagree(i, "IoCsqInsertIrp of irp %u, which was got cancelled", i->index);
-    default: iocsq_disagree(i, "IoCsqInsertIrp of irp %u, which was completed", i->index);
+    case CSQ_USE_LISTED:
+        iocsq_disagree(i, "IoCsqInsertIrp of irp %u, which is in a queue already: only what was removed may be "
+                          "inserted again", i->index);
+    case CSQ_USE_GOT_CANCELLED:
+        iocsq_disagree(i, "IoCsqInsertIrp of irp %u, which was got cancelled: what CsqCompleteCanceledIrp gets has to "
+                          "be completed", i->index);
+    default:
+        iocsq_disagree(i, "IoCsqInsertIrp of irp %u, which was completed: it isn't the driver's any more", i->index);
     }
 }
 
@@ -153,26 +154,49 @@ static NTSTATUS insert_by_driver(PIO_CSQ csq, struct iocsq_irp *i, PIO_CSQ_IRP_C
 
 /* A request that was on its way as a cleanup began may be queued after it, and has to be completed all the same. What the
  * driver had before the cleanup, that ends. */
-static void note_file(struct iocsq_irp *i, bool again) {
+static void note_file(const struct iocsq_queue *q, struct iocsq_irp *i, bool again) {
     PFILE_OBJECT file = iocsq_irp_file(i);
+    uint32_t number = iocsq_file_number(file);
     if (again && iocsq_is_cleaned(file)) {
-        iocsq_disagree(i, "irp %u is put back into the queue after IRP_MJ_CLEANUP of its file %u", i->index,
-                       iocsq_file_number(file));
+        if (iocsq_reference_goes_on(&q->reference, i, number)) {
+            iocsq_step(i, i->pass, "rearm");
+        }
+        iocsq_disagree(i, "irp %u is put back into the queue after IRP_MJ_CLEANUP of its file %u", i->index, number);
     }
     i->late = iocsq_is_closing(file);
 }
 
-/* Inserts into the reference what the driver inserted. Whether it is pending; if not it was cancelled before. */
-static bool insert_into_reference(struct iocsq_queue *q, struct iocsq_irp *i, PVOID insert_context) {
+static void expect_held(const struct iocsq_irp *i, bool held) {
+    if (!held) {
+        iocsq_disagree(i, "irp %u is put back while another thread completes or inserts it", i->index);
+    }
+}
+
+static bool put_back_into_reference(struct iocsq_reference *r, struct iocsq_irp *i, bool first) {
+    uint32_t code = iocsq_reference_put_back(r, i, first);
+    expect_held(i, code != CSQ_NOT_HELD);
+    return code == CSQ_OK;
+}
+
+/* Inserts into the reference what the driver inserted; `again`: a removal got it before. Whether it is pending; if not
+ * it was cancelled before. */
+static bool insert_into_reference(struct iocsq_queue *q, struct iocsq_irp *i, PVOID insert_context, bool again) {
     struct iocsq_claim none;
+    uint32_t file = iocsq_file_number(iocsq_irp_file(i));
     bool first = q->policy.Place && q->policy.Place(&i->irp, insert_context) != 0;
-    iocsq_reference_join(&q->reference, i);
+    bool goes_on = again && iocsq_reference_goes_on(&q->reference, i, file);
+    if (!goes_on) {
+        expect_held(i, !again || iocsq_reference_leave(i));
+        iocsq_reference_join(&q->reference, i);
+    }
     iocsq_point();
+    expect_held(i, i->stay != 0);
     /* A cancel sets the IRP's flag, then looks for its stay; here the stay comes first. So one of the two sees it. */
     if (i->irp.Cancel) {
         iocsq_reference_mark(i, &none); /* takes nothing: no routine is set yet */
     }
-    return iocsq_reference_insert(&q->reference, i, iocsq_file_number(iocsq_irp_file(i)), first);
+    return goes_on ? put_back_into_reference(&q->reference, i, first)
+                   : iocsq_reference_insert(&q->reference, i, file, first);
 }
 
 NTSTATUS NTAPI IoCsqInsertIrpEx(PIO_CSQ Csq, PIRP Irp, PIO_CSQ_IRP_CONTEXT Context, PVOID InsertContext) {
@@ -181,9 +205,9 @@ NTSTATUS NTAPI IoCsqInsertIrpEx(PIO_CSQ Csq, PIRP Irp, PIO_CSQ_IRP_CONTEXT Conte
     struct iocsq_irp *i = iocsq_known(Irp, "IoCsqInsertIrp of");
     struct held held = enter(q);
     iocsq_tell(i, "IoCsqInsertIrp%s(irp %u)", Csq->Type == IO_TYPE_CSQ_EX ? "Ex" : "", i->index);
-    bool again = i->place == IOCSQ_REMOVED;
     check_insert(i);
     check_context(i, Context);
+    bool again = i->place == IOCSQ_REMOVED;
     NTSTATUS status = insert_by_driver(Csq, i, Context, InsertContext);
     if (!NT_SUCCESS(status)) {
         IOCSQ_COUNT(Refused);
@@ -191,11 +215,11 @@ NTSTATUS NTAPI IoCsqInsertIrpEx(PIO_CSQ Csq, PIRP Irp, PIO_CSQ_IRP_CONTEXT Conte
         leave(q, held, true);
         return status;
     }
-    note_file(i, again);
+    note_file(q, i, again);
     IOCSQ_COUNT(Inserted);
     IoMarkIrpPending(Irp);
     i->context = Context;
-    if (insert_into_reference(q, i, InsertContext)) {
+    if (insert_into_reference(q, i, InsertContext, again)) {
         iocsq_audit(q, "after the insert callback");
         leave(q, held, true);
         iocsq_stay_behind();

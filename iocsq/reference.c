@@ -156,24 +156,55 @@ void iocsq_reference_join(struct iocsq_reference *r, struct iocsq_irp *i) {
     pthread_mutex_unlock(&r->mutex);
 }
 
-bool iocsq_reference_insert(struct iocsq_reference *r, struct iocsq_irp *i, uint32_t file, bool first) {
-    struct csq_irp context;
-    pthread_mutex_lock(&r->mutex);
-    uint32_t pass = lend_pass(r);
-    uint32_t code = csq_insert(&r->queue, &r->passes[pass].pass, irp_of(i->stay).irp, file, first, &context);
-    return_pass(r, pass);
-    if (code != CSQ_CANCELLED) {
-        expect(code, CSQ_OK, "csq_insert");
-    }
-    iocsq_step(i, pass, "arm");
+/* What an insert or a put-back did that was accepted. The queue's mutex is held. */
+static void settle(struct iocsq_irp *i, uint32_t pass, const char *step, uint32_t code) {
+    iocsq_step(i, pass, step);
     iocsq_step(i, pass, "test");
     if (code == CSQ_CANCELLED) {
         iocsq_step(i, pass, "disarm");
         i->pass = pass;
     }
     i->place = code == CSQ_OK ? IOCSQ_LISTED : IOCSQ_CANCELLED;
+}
+
+bool iocsq_reference_insert(struct iocsq_reference *r, struct iocsq_irp *i, uint32_t file, bool first) {
+    struct csq_irp context, irp = irp_of(i->stay);
+    pthread_mutex_lock(&r->mutex);
+    uint32_t pass = lend_pass(r);
+    uint32_t code = csq_insert(&r->queue, &r->passes[pass].pass, irp.irp, file, first, &context);
+    return_pass(r, pass);
+    if (code != CSQ_CANCELLED) {
+        expect(code, CSQ_OK, "csq_insert");
+    }
+    r->files[irp.irp] = file;
+    settle(i, pass, "arm", code);
     pthread_mutex_unlock(&r->mutex);
     return code == CSQ_OK;
+}
+
+bool iocsq_reference_goes_on(const struct iocsq_reference *r, const struct iocsq_irp *i, uint32_t file) {
+    uint64_t stay = i->stay;
+    return stay && reference_of(stay) == r && r->files[irp_of(stay).irp] == file;
+}
+
+uint32_t iocsq_reference_put_back(struct iocsq_reference *r, struct iocsq_irp *i, bool first) {
+    struct csq_irp context;
+    uint32_t code = CSQ_NOT_HELD;
+    pthread_mutex_lock(&r->mutex);
+    uint32_t pass = i->pass;
+    uint64_t stay = i->stay;
+    if (stay) {
+        lend_this_pass(r, pass);
+        code = csq_put_back(&r->queue, &r->passes[pass].pass, irp_of(stay), first, &context);
+        return_pass(r, pass);
+    }
+    if (code == CSQ_OK || code == CSQ_CANCELLED) {
+        settle(i, pass, "rearm", code);
+    } else {
+        expect(code, CSQ_NOT_HELD, "csq_put_back");
+    }
+    pthread_mutex_unlock(&r->mutex);
+    return code;
 }
 
 uint32_t iocsq_reference_remove(struct iocsq_reference *r, struct iocsq_irp *i) {
@@ -282,9 +313,17 @@ static uint32_t end_stay(struct iocsq_irp *i, struct use use) {
     return verdict;
 }
 
-uint32_t iocsq_reference_insert_again(struct iocsq_irp *i) {
-    struct use again = { "arm", true, STATUS_SUCCESS };
-    return end_stay(i, again);
+/* An insert of an IRP that stays in a queue, or stayed there: right or wrong, it sets the routine again. */
+static const struct use again = { "rearm", true, STATUS_SUCCESS };
+
+uint32_t iocsq_reference_judge_again(struct iocsq_irp *i) {
+    int place = i->place;
+    bool may = place == IOCSQ_REMOVED || (place == IOCSQ_HOME && !i->stay);
+    return may ? (uint32_t)CSQ_USE_AGREES : end_stay(i, again); /* which ends nothing: no pass holds it by a removal */
+}
+
+bool iocsq_reference_leave(struct iocsq_irp *i) {
+    return end_stay(i, again) == CSQ_USE_AGREES;
 }
 
 uint32_t iocsq_reference_complete(struct iocsq_irp *i, NTSTATUS status) {

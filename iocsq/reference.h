@@ -21,8 +21,9 @@ struct iocsq_reference {
     struct csq_queue queue;
     struct iocsq_lent_pass passes[IOCSQ_PASSES];
     /* An IRP has a slot while it stays in the queue: from its insert until its completion, or until the driver inserts
-     * it again. Each stay is one life of the slot, so a cancel that comes late names an old life. */
+     * it elsewhere. Each stay is one life of the slot, so a cancel that comes late names an old life. */
     struct iocsq_irp *by_slot[CSQ_MOST_IRPS];
+    uint32_t files[CSQ_MOST_IRPS]; /* for which the IRP was inserted */
     uint32_t lives[CSQ_MOST_IRPS];
     uint32_t free_slots[CSQ_MOST_IRPS];
     uint32_t free_count;
@@ -55,8 +56,17 @@ uint32_t iocsq_slot_in(const struct iocsq_reference *r, const struct iocsq_irp *
 void iocsq_reference_join(struct iocsq_reference *r, struct iocsq_irp *i);
 /* Inserts it for a file object's number. Whether it is pending; if not it was cancelled before, and is held. */
 bool iocsq_reference_insert(struct iocsq_reference *r, struct iocsq_irp *i, uint32_t file, bool first);
-/* Ends the stay of an IRP that is to be inserted again. The verdict, of enum csq_use_verdict. */
-uint32_t iocsq_reference_insert_again(struct iocsq_irp *i);
+/* Whether the driver may insert an IRP again, before it does: one that stays in a queue has to be what a removal got.
+ * The verdict, of enum csq_use_verdict; nothing is changed. */
+uint32_t iocsq_reference_judge_again(struct iocsq_irp *i);
+/* Whether such an insert is a put-back: into the queue in which the IRP stays, and for the same file object. Its stay
+ * goes on then. Else it ends, and another begins. */
+bool iocsq_reference_goes_on(const struct iocsq_reference *r, const struct iocsq_irp *i, uint32_t file);
+/* Puts it back, through the pass that holds it, whichever thread that was. CSQ_OK: it is pending; CSQ_CANCELLED: it was
+ * cancelled before, and is held; CSQ_NOT_HELD: another thread completed or inserted it meanwhile. */
+uint32_t iocsq_reference_put_back(struct iocsq_reference *r, struct iocsq_irp *i, bool first);
+/* Ends the stay of an IRP that a removal got, and that is inserted elsewhere. Whether it was still so. */
+bool iocsq_reference_leave(struct iocsq_irp *i);
 /* Removes it, so that it is held. The verdict, of enum csq_remove_verdict. */
 uint32_t iocsq_reference_remove(struct iocsq_reference *r, struct iocsq_irp *i);
 /* Sets the flag of an IRP that stays in a queue, and takes its routine. Whether the routine was there. */

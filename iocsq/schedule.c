@@ -5,11 +5,37 @@
 void iocsq_begin_steps(struct iocsq_irp *i) {
     if (iocsq_in_turns()) {
         i->step_count = 0;
+        i->put_backs_left_out = 0;
+    }
+}
+
+static bool is_step(const struct iocsq_step *step, uint32_t pass, const char *name) {
+    return step->pass == pass && strcmp(step->name, name) == 0;
+}
+
+/* Makes room where an IRP is put back often: leaves out the first removal that was followed by a put-back at once. No
+ * cancel stands between them, so the IRP is listed before these three steps as it is after them. */
+static void leave_out_put_back(struct iocsq_irp *i) {
+    for (uint32_t at = 0; at + 2 < IOCSQ_STEPS; at++) {
+        struct iocsq_step *step = &i->steps[at];
+        if (is_step(step, step->pass, "disarm") && is_step(step + 1, step->pass, "rearm") &&
+            is_step(step + 2, step->pass, "test")) {
+            memmove(step, step + 3, (IOCSQ_STEPS - at - 3) * sizeof *step);
+            i->step_count -= 3;
+            i->put_backs_left_out++;
+            return;
+        }
     }
 }
 
 void iocsq_step(struct iocsq_irp *i, uint32_t pass, const char *name) {
-    uint32_t at = iocsq_in_turns() ? i->step_count++ : IOCSQ_STEPS;
+    if (!iocsq_in_turns()) {
+        return;
+    }
+    if (i->step_count == IOCSQ_STEPS) {
+        leave_out_put_back(i);
+    }
+    uint32_t at = i->step_count++;
     if (at < IOCSQ_STEPS) {
         i->steps[at].name = name;
         i->steps[at].pass = pass;
@@ -38,7 +64,11 @@ void iocsq_show_schedule(const struct iocsq_irp *i) {
     if (count == 0 || count > IOCSQ_STEPS) {
         return;
     }
-    fprintf(stderr, "  As a schedule, for csqsim:\n");
+    if (i->put_backs_left_out > 0) {
+        fprintf(stderr, "  As a schedule, for csqsim, without %u put-backs before:\n", i->put_backs_left_out);
+    } else {
+        fprintf(stderr, "  As a schedule, for csqsim:\n");
+    }
     for (uint32_t at = 0; at < count; at++) {
         const char *irp = strcmp(i->steps[at].name, "end") == 0 ? "" : " 0"; /* a removal's end names none */
         fprintf(stderr, "    p%u %s%s\n", name_of_pass(names, &passes, i->steps[at].pass), i->steps[at].name, irp);

@@ -1,5 +1,5 @@
-/* What the drivers of this folder share that show one thing each: a queue of IRPs in the order in which they came, one
- * lock, and the usual peek context (any IRP, or one of a file object). */
+/* What the drivers of this folder share that show one thing each: a queue of IRPs in the order in which they came, but
+ * for those that are put in front, one lock, and the usual peek context (any IRP, or one of a file object). */
 #ifndef WAITING_H
 #define WAITING_H
 #include <ntddk.h>
@@ -27,11 +27,15 @@ static inline PFILE_OBJECT FileOf(PIRP Irp) {
 
 /* ---- The queue's callbacks ---- */
 static NTSTATUS NTAPI InsertWaiting(PIO_CSQ Csq, PIRP Irp, PVOID InsertContext) {
-    UNREFERENCED_PARAMETER(InsertContext);
+    PLIST_ENTRY Head = &CONTAINING_RECORD(Csq, WAITING, Queue)->Irps;
     if (FileOf(Irp) != NULL && FileOf(Irp)->FsContext != NULL) {
         return STATUS_FILE_CLOSED;
     }
-    InsertTailList(&CONTAINING_RECORD(Csq, WAITING, Queue)->Irps, &Irp->Tail.Overlay.ListEntry);
+    if (InsertContext != NULL) {
+        InsertHeadList(Head, &Irp->Tail.Overlay.ListEntry);
+    } else {
+        InsertTailList(Head, &Irp->Tail.Overlay.ListEntry);
+    }
     return STATUS_PENDING;
 }
 
@@ -79,6 +83,14 @@ static inline NTSTATUS Wait(PWAITING Waiting, PIRP Irp) {
         Finish(Irp, Status, 0);
     }
     return Status;
+}
+
+/* Puts an IRP in front that was removed: it is the first again. */
+static inline VOID PutBackInFront(PWAITING Waiting, PIRP Irp) {
+    NTSTATUS Status = IoCsqInsertIrpEx(&Waiting->Queue, Irp, NULL, Waiting);
+    if (!NT_SUCCESS(Status)) {
+        Finish(Irp, Status, 0);
+    }
 }
 
 /* The first half of a cleanup: from now on InsertWaiting refuses. */

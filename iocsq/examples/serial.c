@@ -1,6 +1,7 @@
 /*
- * A serial port whose transmitter is wired to its receiver: what is written comes back to be read. Writes wait until
- * the transmitter has sent them, reads until they are full, or until their time is over:
+ * A serial port whose transmitter is wired to its receiver: what is written comes back to be read. A write waits until
+ * the transmitter has sent it, which it does once the receiver has room: until then the write is put back in front of
+ * the others. Reads wait until they are full, or until their time is over:
  *
  * - the interval: no byte came for so long after the last one. The oldest read is completed with what there is.
  * - the total time: a constant, and so much for each byte that was asked for (ReadTotalTimeoutConstant and
@@ -11,7 +12,7 @@
  */
 #include "irp_queue.h"
 
-enum { ROOM = 16, INTERVAL = 2, TOTAL_CONSTANT = 1, TOTAL_MULTIPLIER = 2 }; /* bytes; ticks */
+enum { ROOM = 4, INTERVAL = 2, TOTAL_CONSTANT = 1, TOTAL_MULTIPLIER = 2 }; /* bytes; ticks */
 
 typedef struct _EXTENSION {
     KSPIN_LOCK Lock; /* of the lists of both queues, of what follows them to LastByte, and of each FsContext */
@@ -68,18 +69,24 @@ BOOLEAN IsWanted(PIRP Irp, PVOID PeekContext) {
 }
 
 /* ---- The clock: transmitter, receiver, and reads whose time is over ---- */
-/* Sends a write's bytes to the receiver, as many as there is room for: what doesn't fit is lost, as on a wire. */
-static VOID Send(PEXTENSION Port, PIRP Write) {
-    const UCHAR *Bytes = Write->AssociatedIrp.SystemBuffer;
-    ULONG Length = LengthOf(Write), At;
+/* Sends a write's bytes to the receiver, of a long one as many as it has room for when it is empty. FALSE: there is no
+ * room for them now, and none was sent. */
+static BOOLEAN Send(PEXTENSION Port, PIRP Write) {
+    ULONG Length = LengthOf(Write) < ROOM ? LengthOf(Write) : ROOM;
+    BOOLEAN HasRoom;
     KIRQL Irql;
     KeAcquireSpinLock(&Port->Lock, &Irql);
-    for (At = 0; At < Length && Port->Count < ROOM; At++) {
-        Port->Received[Port->Count++] = Bytes[At];
+    HasRoom = Length <= ROOM - Port->Count;
+    if (HasRoom) {
+        RtlCopyMemory(&Port->Received[Port->Count], Write->AssociatedIrp.SystemBuffer, Length);
+        Port->Count += Length;
+        Port->LastByte = Port->Now;
     }
-    Port->LastByte = Port->Now;
     KeReleaseSpinLock(&Port->Lock, Irql);
-    Finish(Write, STATUS_SUCCESS, Length);
+    if (HasRoom) {
+        Finish(Write, STATUS_SUCCESS, Length);
+    }
+    return HasRoom;
 }
 
 static VOID Receive(PEXTENSION Port, PIRP Read) {
@@ -109,8 +116,8 @@ static VOID NTAPI Tick(PKDPC Dpc, PVOID DeferredContext, PVOID SystemArgument1, 
         return;
     }
     Irp = IoCsqRemoveNextIrp(&Port->Writes.Csq, NULL); /* one write each tick */
-    if (Irp != NULL) {
-        Send(Port, Irp);
+    if (Irp != NULL && !Send(Port, Irp)) {
+        Enqueue(&Port->Writes, Irp, Port); /* in front; a cancel that came meanwhile is found by this insert */
     }
     while ((Irp = IoCsqRemoveNextIrp(&Port->Reads.Csq, Port->Received)) != NULL) {
         Receive(Port, Irp);

@@ -1,6 +1,10 @@
-/* What the callbacks of serial.c mean: a peek context of their own. */
+/* What the callbacks of serial.c mean: a peek context of their own, and an insert context puts an IRP first. */
 #include "iocsq_test.h"
 
 BOOLEAN IsWanted(PIRP Irp, PVOID PeekContext);
+static int Place(PIRP Irp, PVOID InsertContext) {
+    (void)Irp;
+    return InsertContext != NULL;
+}
 extern const IOCSQ_POLICY DriverPolicy;
-const IOCSQ_POLICY DriverPolicy = { .Match = IsWanted };
+const IOCSQ_POLICY DriverPolicy = { .Match = IsWanted, .Place = Place };

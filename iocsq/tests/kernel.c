@@ -1,6 +1,7 @@
 /* What stands for the kernel, call by call: kernel [turns]. */
 #include "iocsq_test.h"
 
+#include <stdbool.h>
 #include <stdlib.h>
 
 static const char *test;
@@ -251,6 +252,161 @@ static void devices(void) {
     IocsqUnload(driver);
 }
 
+/* ---- Two queues, and what goes back into them ---- */
+struct line {
+    IO_CSQ queue;
+    LIST_ENTRY irps;
+    KSPIN_LOCK lock;
+    BOOLEAN full;
+    LONG completed; /* as cancelled */
+};
+static struct line lines[2];
+
+static struct line *line_of(PIO_CSQ csq) {
+    return CONTAINING_RECORD(csq, struct line, queue);
+}
+
+static NTSTATUS NTAPI insert(PIO_CSQ csq, PIRP irp, PVOID front) {
+    if (line_of(csq)->full) {
+        return STATUS_INSUFFICIENT_RESOURCES;
+    }
+    (front ? InsertHeadList : InsertTailList)(&line_of(csq)->irps, &irp->Tail.Overlay.ListEntry);
+    return STATUS_PENDING;
+}
+
+static int place(PIRP irp, PVOID front) {
+    (void)irp;
+    return front != NULL;
+}
+
+static VOID NTAPI take_out(PIO_CSQ csq, PIRP irp) {
+    (void)csq;
+    RemoveEntryList(&irp->Tail.Overlay.ListEntry);
+}
+
+static PIRP NTAPI peek(PIO_CSQ csq, PIRP irp, PVOID file) {
+    PLIST_ENTRY head = &line_of(csq)->irps, entry = irp ? irp->Tail.Overlay.ListEntry.Flink : head->Flink;
+    for (; entry != head; entry = entry->Flink) {
+        PIRP next = CONTAINING_RECORD(entry, IRP, Tail.Overlay.ListEntry);
+        if (!file || file == IoGetCurrentIrpStackLocation(next)->FileObject) {
+            return next;
+        }
+    }
+    return NULL;
+}
+
+static VOID NTAPI lock_line(PIO_CSQ csq, PKIRQL irql) {
+    KeAcquireSpinLock(&line_of(csq)->lock, irql);
+}
+
+static VOID NTAPI unlock_line(PIO_CSQ csq, KIRQL irql) {
+    KeReleaseSpinLock(&line_of(csq)->lock, irql);
+}
+
+static VOID finish(PIRP irp, NTSTATUS status) {
+    irp->IoStatus.Status = status;
+    irp->IoStatus.Information = 0;
+    IoCompleteRequest(irp, IO_NO_INCREMENT);
+}
+
+static VOID NTAPI complete_cancelled(PIO_CSQ csq, PIRP irp) {
+    line_of(csq)->completed++;
+    finish(irp, STATUS_CANCELLED);
+}
+
+static NTSTATUS NTAPI queue_read(PDEVICE_OBJECT device, PIRP irp) {
+    (void)device;
+    if (IoGetCurrentIrpStackLocation(irp)->MajorFunction == IRP_MJ_READ) {
+        return IoCsqInsertIrpEx(&lines[0].queue, irp, NULL, NULL);
+    }
+    finish(irp, STATUS_SUCCESS);
+    return STATUS_SUCCESS;
+}
+
+static VOID NTAPI unload_lines(PDRIVER_OBJECT driver) {
+    IoDeleteDevice(driver->DeviceObject);
+}
+
+static NTSTATUS NTAPI enter_lines(PDRIVER_OBJECT driver, PUNICODE_STRING path) {
+    static const UCHAR majors[] = { IRP_MJ_CREATE, IRP_MJ_CLOSE, IRP_MJ_CLEANUP, IRP_MJ_READ };
+    static const IOCSQ_POLICY policy = { .Place = place };
+    (void)path;
+    for (size_t at = 0; at < sizeof majors; at++) {
+        driver->MajorFunction[majors[at]] = queue_read;
+    }
+    for (size_t at = 0; at < 2; at++) {
+        struct line none = { .completed = 0 };
+        lines[at] = none;
+        InitializeListHead(&lines[at].irps);
+        KeInitializeSpinLock(&lines[at].lock);
+        IoCsqInitializeEx(&lines[at].queue, insert, take_out, peek, lock_line, unlock_line, complete_cancelled);
+        IocsqSetPolicy(&lines[at].queue, &policy);
+    }
+    driver->DriverUnload = unload_lines;
+    return IoCreateDevice(driver, 0, NULL, FILE_DEVICE_UNKNOWN, 0, FALSE, &lower);
+}
+
+static NTSTATUS put(PIRP irp, int line, bool first) {
+    return IoCsqInsertIrpEx(&lines[line].queue, irp, NULL, first ? lines : NULL);
+}
+
+static PIRP take(int line, PFILE_OBJECT file) {
+    return IoCsqRemoveNextIrp(&lines[line].queue, file);
+}
+
+/* In front, last, refused and put back after that, and into the other queue. */
+static void put_back_in_order(PIRP first) {
+    PIRP second;
+    CHECK(put(first, 0, true) == STATUS_PENDING && take(0, NULL) == first);
+    CHECK(put(first, 0, false) == STATUS_PENDING);
+    second = take(0, NULL);
+    CHECK(second && second != first);
+    lines[0].full = TRUE;
+    CHECK(put(second, 0, true) == STATUS_INSUFFICIENT_RESOURCES && take(0, NULL) == first);
+    lines[0].full = FALSE;
+    CHECK(put(first, 0, true) == STATUS_PENDING && put(second, 0, true) == STATUS_PENDING);
+    CHECK(take(0, NULL) == second && take(0, NULL) == first && take(0, NULL) == NULL);
+    CHECK(put(second, 1, false) == STATUS_PENDING && put(first, 0, false) == STATUS_PENDING);
+    CHECK(take(0, NULL) == first && take(1, NULL) == second && put(second, 0, false) == STATUS_PENDING);
+    CHECK(put(first, 0, true) == STATUS_PENDING);
+}
+
+/* A cancel finds no routine while the driver has the IRP: the put-back finds that cancel. One that comes after a
+ * put-back finds the routine. */
+static void cancel_round_a_put_back(IOCSQ_REQUEST *first, IOCSQ_REQUEST *second) {
+    PIRP irp = take(0, NULL);
+    CHECK(!IocsqCancel(first) && IocsqStatus(first) == STATUS_PENDING && lines[0].completed == 0);
+    CHECK(put(irp, 0, true) == STATUS_PENDING && IocsqStatus(first) == STATUS_CANCELLED && lines[0].completed == 1);
+    irp = take(0, NULL);
+    CHECK(put(irp, 0, true) == STATUS_PENDING && IocsqCancel(second) && IocsqStatus(second) == STATUS_CANCELLED);
+    CHECK(lines[0].completed == 2 && take(0, NULL) == NULL);
+    IocsqFree(first);
+    IocsqFree(second);
+}
+
+/* The driver files an IRP as it likes: this one goes back for another file object. */
+static void put_back_elsewhere(IOCSQ_REQUEST *read, PFILE_OBJECT file, PFILE_OBJECT other) {
+    PIRP irp = take(0, file);
+    IoGetCurrentIrpStackLocation(irp)->FileObject = other;
+    CHECK(put(irp, 0, false) == STATUS_PENDING && take(0, file) == NULL && take(0, other) == irp);
+    IoGetCurrentIrpStackLocation(irp)->FileObject = file;
+    finish(irp, STATUS_SUCCESS);
+    CHECK(IocsqStatus(read) == STATUS_SUCCESS);
+    IocsqFree(read);
+}
+
+static void put_backs(void) {
+    PDRIVER_OBJECT driver = IocsqLoad(enter_lines);
+    PFILE_OBJECT file = IocsqOpen(driver), other = IocsqOpen(driver);
+    IOCSQ_REQUEST *first = IocsqSend(file, IRP_MJ_READ, NULL, 0), *second = IocsqSend(file, IRP_MJ_READ, NULL, 0);
+    put_back_in_order(take(0, NULL));
+    cancel_round_a_put_back(first, second);
+    put_back_elsewhere(IocsqSend(file, IRP_MJ_READ, NULL, 0), file, other);
+    IocsqClose(file);
+    IocsqClose(other);
+    IocsqUnload(driver);
+}
+
 int main(int argc, char **argv) {
     IocsqLimit(100);
     if (argc > 1 && strcmp(argv[1], "turns") == 0) {
@@ -265,5 +421,6 @@ int main(int argc, char **argv) {
     RUN(work_items);
     RUN(memory);
     RUN(devices);
+    RUN(put_backs);
     return failures > 0;
 }
