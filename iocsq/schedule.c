@@ -2,6 +2,8 @@
  * Only in turns they are kept: where threads run freely, the order of two steps of different threads isn't known. */
 #include "reference.h"
 
+enum { CSQSIM_PASSES = 4 }; /* unless it is told otherwise */
+
 void iocsq_begin_steps(struct iocsq_irp *i) {
     if (iocsq_in_turns()) {
         i->step_count = 0;
@@ -49,28 +51,48 @@ void iocsq_step_again(struct iocsq_irp *i, const char *name) {
 }
 
 /* The passes are numbered as they come, since csqsim has few. */
-static uint32_t name_of_pass(uint32_t *names, uint32_t *count, uint32_t pass) {
-    for (uint32_t at = 0; at < *count; at++) {
-        if (names[at] == pass) {
+struct names {
+    uint32_t count;
+    uint32_t passes[IOCSQ_STEPS];
+};
+
+static uint32_t name_of_pass(struct names *names, uint32_t pass) {
+    for (uint32_t at = 0; at < names->count; at++) {
+        if (names->passes[at] == pass) {
             return at + 1;
         }
     }
-    names[(*count)++] = pass;
-    return *count;
+    names->passes[names->count++] = pass;
+    return names->count;
+}
+
+static struct names names_of_steps(const struct iocsq_irp *i) {
+    struct names names = { 0, { 0 } };
+    for (uint32_t at = 0; at < i->step_count; at++) {
+        name_of_pass(&names, i->steps[at].pass);
+    }
+    return names;
+}
+
+static void show_heading(const struct iocsq_irp *i, uint32_t passes) {
+    fprintf(stderr, "  As a schedule, for csqsim");
+    if (passes > CSQSIM_PASSES) {
+        fprintf(stderr, " with --passes %u", passes);
+    }
+    if (i->put_backs_left_out > 0) {
+        fprintf(stderr, ", without %u put-backs before", i->put_backs_left_out);
+    }
+    fprintf(stderr, ":\n");
 }
 
 void iocsq_show_schedule(const struct iocsq_irp *i) {
-    uint32_t names[IOCSQ_STEPS], passes = 0, count = i->step_count;
-    if (count == 0 || count > IOCSQ_STEPS) {
+    if (i->step_count == 0 || i->step_count > IOCSQ_STEPS) {
         return;
     }
-    if (i->put_backs_left_out > 0) {
-        fprintf(stderr, "  As a schedule, for csqsim, without %u put-backs before:\n", i->put_backs_left_out);
-    } else {
-        fprintf(stderr, "  As a schedule, for csqsim:\n");
-    }
-    for (uint32_t at = 0; at < count; at++) {
+    struct names names = names_of_steps(i);
+    show_heading(i, names.count);
+    for (uint32_t at = 0; at < i->step_count; at++) {
         const char *irp = strcmp(i->steps[at].name, "end") == 0 ? "" : " 0"; /* a removal's end names none */
-        fprintf(stderr, "    p%u %s%s\n", name_of_pass(names, &passes, i->steps[at].pass), i->steps[at].name, irp);
+        fprintf(stderr, "    p%u %s%s\n", name_of_pass(&names, i->steps[at].pass), i->steps[at].name, irp);
     }
 }
