@@ -199,15 +199,22 @@ static bool insert_into_reference(struct iocsq_queue *q, struct iocsq_irp *i, PV
                    : iocsq_reference_insert(&q->reference, i, file, first);
 }
 
+/* The reference knows of a cancel that came before. The framework reads the IRP's flag alone. */
+static void check_flag_stays(const struct iocsq_irp *i) {
+    if (!i->irp.Cancel) {
+        iocsq_disagree(i, "irp %u was cancelled, and the driver cleared its Cancel flag before it put it back", i->index);
+    }
+}
+
 NTSTATUS NTAPI IoCsqInsertIrpEx(PIO_CSQ Csq, PIRP Irp, PIO_CSQ_IRP_CONTEXT Context, PVOID InsertContext) {
     struct iocsq_queue *q = iocsq_queue_of(Csq);
     q->calls++;
     struct iocsq_irp *i = iocsq_known(Irp, "IoCsqInsertIrp of");
     struct held held = enter(q);
     iocsq_tell(i, "IoCsqInsertIrp%s(irp %u)", Csq->Type == IO_TYPE_CSQ_EX ? "Ex" : "", i->index);
+    bool again = i->stay != 0; /* looked at first: another thread may end the stay meanwhile */
     check_insert(i);
     check_context(i, Context);
-    bool again = i->place == IOCSQ_REMOVED;
     NTSTATUS status = insert_by_driver(Csq, i, Context, InsertContext);
     if (!NT_SUCCESS(status)) {
         IOCSQ_COUNT(Refused);
@@ -226,6 +233,7 @@ NTSTATUS NTAPI IoCsqInsertIrpEx(PIO_CSQ Csq, PIRP Irp, PIO_CSQ_IRP_CONTEXT Conte
         return status;
     }
     iocsq_tell(i, "  irp %u was cancelled before", i->index);
+    check_flag_stays(i);
     remove_by_driver(q, i);
     leave(q, held, false);
     complete_by_driver(q, i);

@@ -193,7 +193,7 @@ uint32_t iocsq_reference_put_back(struct iocsq_reference *r, struct iocsq_irp *i
     pthread_mutex_lock(&r->mutex);
     uint32_t pass = i->pass;
     uint64_t stay = i->stay;
-    if (stay) {
+    if (stay && reference_of(stay) == r) {
         lend_this_pass(r, pass);
         code = csq_put_back(&r->queue, &r->passes[pass].pass, irp_of(stay), first, &context);
         return_pass(r, pass);

@@ -58,6 +58,9 @@ static VOID Start(PEXTENSION Extension) {
 #if WRONG == 2
     IoCsqInsertIrpEx(&Extension->Reads.Queue, Next, NULL, Extension); /* which may be refused */
 #else
+#if WRONG == 5
+    Next->Cancel = FALSE; /* so that it is queued in any case */
+#endif
     PutBackInFront(&Extension->Reads, Next);
 #endif
 }

@@ -8,9 +8,11 @@ typedef struct _EXTENSION {
     LIST_ENTRY Handed; /* to the work item; under HandedLock */
     KSPIN_LOCK HandedLock;
     PIO_WORKITEM Item;
-    LONG Queued;  /* whether the work item is, or has yet to look at Handed; with the next two by interlocked calls */
+    LONG Queued;  /* whether the work item is, or has yet to look at Handed; with the next three by interlocked calls */
+    LONG Users;   /* 1 for the device, and 1 for each time that the work item was queued and hasn't ended */
     LONG Control; /* whether a device control is under way */
     LONG Turn;
+    KEVENT Unused; /* signaled once there are no users */
     IO_CSQ_IRP_CONTEXT Context; /* the device control's */
 } EXTENSION, *PEXTENSION;
 
@@ -46,6 +48,12 @@ static NTSTATUS Insert(PEXTENSION Extension, PIRP Irp) {
 }
 
 /* ---- The work item ---- */
+static VOID Leave(PEXTENSION Extension) {
+    if (InterlockedDecrement(&Extension->Users) == 0) {
+        KeSetEvent(&Extension->Unused, IO_NO_INCREMENT, FALSE);
+    }
+}
+
 static VOID ServeOrPutBack(PEXTENSION Extension, PIRP Irp) {
     if (InterlockedExchangeAdd(&Extension->Turn, 1) % 2 == 0) {
         Complete(Irp, STATUS_SUCCESS);
@@ -93,6 +101,7 @@ static VOID NTAPI Work(PDEVICE_OBJECT DeviceObject, PVOID Context) {
     if (Irp != NULL) {
         ServeOrPutBack(Extension, Irp);
     }
+    Leave(Extension);
 }
 
 static VOID HandOver(PEXTENSION Extension, PIRP Irp) {
@@ -101,6 +110,7 @@ static VOID HandOver(PEXTENSION Extension, PIRP Irp) {
     InsertTailList(&Extension->Handed, &Irp->Tail.Overlay.ListEntry);
     KeReleaseSpinLock(&Extension->HandedLock, Irql);
     if (InterlockedExchange(&Extension->Queued, TRUE) == FALSE) {
+        InterlockedIncrement(&Extension->Users);
         IoQueueWorkItem(Extension->Item, Work, DelayedWorkQueue, Extension);
     }
 }
@@ -142,7 +152,10 @@ static NTSTATUS NTAPI Cleanup(PDEVICE_OBJECT DeviceObject, PIRP Irp) {
 }
 
 static VOID NTAPI Unload(PDRIVER_OBJECT DriverObject) {
-    IoFreeWorkItem(((PEXTENSION)DriverObject->DeviceObject->DeviceExtension)->Item);
+    PEXTENSION Extension = DriverObject->DeviceObject->DeviceExtension;
+    Leave(Extension);
+    KeWaitForSingleObject(&Extension->Unused, Executive, KernelMode, FALSE, NULL);
+    IoFreeWorkItem(Extension->Item);
     IoDeleteDevice(DriverObject->DeviceObject);
 }
 
@@ -163,6 +176,8 @@ NTSTATUS NTAPI DriverEntry(PDRIVER_OBJECT DriverObject, PUNICODE_STRING Registry
         IoDeleteDevice(DeviceObject);
         return STATUS_INSUFFICIENT_RESOURCES;
     }
+    Extension->Users = 1;
+    KeInitializeEvent(&Extension->Unused, NotificationEvent, FALSE);
     InitializeWaiting(&Extension->Irps, CompleteCanceled);
     DriverObject->DriverUnload = Unload;
     DriverObject->MajorFunction[IRP_MJ_READ] = Read;
