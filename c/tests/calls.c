@@ -10,7 +10,7 @@ static void inserts_at_the_back_and_at_the_front(uint32_t list) {
     IS(context.irp, 2);
     IS(context.life, 0);
     /* Any number but 0 is the front. */
-    IS(csq_insert(&device.queue, &device.passes[0], 3, 1, 0x100, &context), CSQ_OK);
+    IS(csq_insert(&device.queue, &device.passes[0], 3, 1, 1u << 31, &context), CSQ_OK);
     IS(put(&device, 0, 4, 0), CSQ_OK);
     IS(take(&device, 2, CSQ_ANY), 3);
     IS(take(&device, 2, 0), 2);

@@ -94,7 +94,7 @@ struct placed {
 
 static void it_stands_at_the_front_or_at_the_end(uint32_t list) {
     static const struct placed rows[] = {
-        { 0, 1, { 0, 1, 2, 3 } }, { 0, 0, { 1, 2, 3, 0 } }, { 1, 1, { 1, 0, 2, 3 } }, { 2, 0x100, { 2, 0, 1, 3 } },
+        { 0, 1, { 0, 1, 2, 3 } }, { 0, 0, { 1, 2, 3, 0 } }, { 1, 1, { 1, 0, 2, 3 } }, { 2, 1u << 31, { 2, 0, 1, 3 } },
         { 2, 0, { 0, 1, 3, 2 } }, { 3, 0, { 0, 1, 2, 3 } }, { 3, 1, { 3, 0, 1, 2 } },
     };
     for (size_t row = 0; row < sizeof rows / sizeof *rows; row++) {

@@ -98,9 +98,13 @@ fn a_refusal_hands_the_token_back() {
         let refused = first.put_back(Place::Back).unwrap_err();
         assert_eq!(refused.cause, PutBackError::FileFull);
         assert_eq!(format!("{refused:?}"), "NotPutBack { cause: FileFull, .. }");
+        let text = "the file object has as many IRPs listed as it may";
+        assert_eq!(refused.to_string(), text);
         pending(pass.insert(3, 1, Place::Back).unwrap());
         let held = second.put_back(Place::Front).unwrap_err();
         assert_eq!(held.cause, PutBackError::Full);
+        let text = "the queue has as many IRPs listed as it may";
+        assert_eq!(held.to_string(), text);
         // The pass holds both as before. What is dropped is completed, and what has a place is put back.
         assert_eq!((pass.holding(), queue.len()), ((2, 0), 2));
         drop(refused);
@@ -168,6 +172,31 @@ fn a_value_stays_in_and_comes_out_once() {
         drop((pass, caller));
         assert_eq!(queue.close().unwrap()[0].0, 3);
         assert_eq!(drops.get(), 3);
+    }
+}
+
+#[test]
+fn a_value_stands_at_the_front_or_at_the_end() {
+    for size in sizes(3, 1) {
+        for (place, order) in [
+            (Place::Front, ["b", "a", "c"]),
+            (Place::Back, ["a", "c", "b"]),
+        ] {
+            let queue = Requests::new(&size).unwrap();
+            let (pass, other) = (queue.pass().unwrap(), queue.pass().unwrap());
+            for value in ["a", "b", "c"] {
+                pass.submit(value, 0, Place::Back).unwrap();
+            }
+            let first = pass.next(Peek::Any).unwrap();
+            let second = pass.next(Peek::Any).unwrap();
+            assert_eq!(first.put_back(Place::Front).unwrap(), PutBack::Pending);
+            assert_eq!(second.put_back(place).unwrap(), PutBack::Pending);
+            // Each is listed, so the IRP of none is free.
+            let refused = pass.submit("d", 0, Place::Back).unwrap_err();
+            assert_eq!(refused.cause, SubmitError::NoIrp);
+            let next = || other.next(Peek::Any).map(Request::complete);
+            assert_eq!(std::iter::from_fn(next).collect::<Vec<_>>(), order);
+        }
     }
 }
 
