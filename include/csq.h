@@ -43,10 +43,10 @@
  *
  * Memory order: what a thread wrote before csq_insert or csq_put_back is seen by whoever removes the IRP or runs its
  * cancel routine, since both have the lock; and by whoever takes its cancel routine (csq_mark_cancel with *found 1, and
- * the callback of csq_cancel), without the lock. What a thread wrote before csq_complete, csq_complete_cancelled or csq_cancel_owed is
- * seen by whoever learns of that completion from csq_read_status or csq_reuse. For the last two the library's steps on
- * its words are atomic and sequentially consistent. (The thread sanitizer doesn't see them in the library, and may
- * report a race there.)
+ * the callback of csq_cancel), without the lock. What a thread wrote before csq_complete, csq_complete_cancelled or
+ * csq_cancel_owed is seen by whoever learns of that completion from csq_read_status or csq_reuse. For the last two the
+ * library's steps on its words are atomic and sequentially consistent. (The thread sanitizer doesn't see them in the
+ * library, and may report a race there.)
  *
  * The answer of a call is a code of the one table below. Where several would fit it is the first one tested:
  * whether handles are filled or empty, in the order of the parameters; whether the pass is this queue's; whether the
@@ -538,8 +538,9 @@ CSQ_NODISCARD static inline uint32_t csq_cancel(struct csq_queue *queue, struct 
 
 /* Removes each IRP that is listed for a file object, or each for CSQ_ANY, and completes it as cancelled; before that
  * the callback, which may be NULL, is told of it, when it isn't listed any more. The file object stays open. *completed
- * is how many. What a canceller has is left to that canceller, and is listed until then (csq_file_len). It ends once it
- * finds none, so it may go on for as long as others insert.
+ * is how many. What a canceller has is left to that canceller, and is listed until then (csq_file_len). What was
+ * removed before isn't listed, and is for this file object again if it is put back. It ends once it finds none, so it
+ * may go on for as long as others insert or put back.
  * CSQ_EMPTY_HANDLE; CSQ_OTHER_QUEUE; CSQ_UNKNOWN_FILE. Lock: not held; it is taken for each removal, and free between
  * two of them. */
 CSQ_NODISCARD static inline uint32_t csq_drain(struct csq_queue *queue, struct csq_pass *pass, uint32_t file,

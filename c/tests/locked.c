@@ -163,6 +163,33 @@ static void a_drained_file_object_is_used_again(uint32_t list) {
     end(&device);
 }
 
+/* A drain ends what is listed. What was removed before is for the file object still, and so for its next owner, unless
+ * a cleanup has closed it. */
+static void a_drain_leaves_what_was_removed_before(uint32_t list) {
+    static const uint32_t told[] = { 1 };
+    struct device device = device_of(size_of(2, 1, list));
+    struct watch watch = watch_of(&device);
+    struct csq_lock lock = { lock_it, unlock_it, &watch };
+    struct csq_callback callback = { note_it, &watch };
+    uint32_t completed = UNWRITTEN, len = UNWRITTEN;
+    put(&device, 0, 0, 0);
+    put(&device, 0, 1, 0);
+    IS(take(&device, 2, 0), 0);
+    IS(csq_drain(&device.queue, &device.passes[1], 0, &lock, &callback, &completed), CSQ_OK);
+    IS(completed, 1);
+    was_told_of(&watch, told, 1);
+    IS(csq_file_len(&device.queue, 0, &len), CSQ_OK);
+    IS(len, 0);
+    IS(put_back(&device, 2, irp_in(0, 0), 0), CSQ_OK);
+    IS(csq_file_len(&device.queue, 0, &len), CSQ_OK);
+    IS(len, 1);
+    IS(take(&device, 2, 0), 0);
+    IS(csq_cleanup(&device.queue, &device.passes[1], 0, &lock, &callback, &completed), CSQ_OK);
+    IS(completed, 0);
+    IS(put_back(&device, 2, irp_in(0, 0), 0), CSQ_FILE_CLOSED);
+    end(&device);
+}
+
 static void drains_every_file_object(uint32_t list) {
     static const uint32_t told[] = { 0, 1, 2, 3, 4 };
     struct device device = device_of(size_of(5, 2, list));
@@ -236,6 +263,7 @@ int main(void) {
     RUN_BOTH(cancels_what_is_owed_in_one_call);
     RUN_BOTH(cleans_up_through_the_callers_lock);
     RUN_BOTH(a_drained_file_object_is_used_again);
+    RUN_BOTH(a_drain_leaves_what_was_removed_before);
     RUN_BOTH(drains_every_file_object);
     RUN_BOTH(another_queue_is_refused_before_the_cancel_flag_is_set);
     RUN_BOTH(an_irp_is_listed_until_its_cancel_routine_has_run);

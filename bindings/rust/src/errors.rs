@@ -295,8 +295,8 @@ pub enum Missed {
     OtherQueue,
     /// The request was completed.
     Completed,
-    /// Somebody else has the request. Who took it is told ([`Request::is_cancelled`](crate::Request::is_cancelled)), and
-    /// can't put it back any more ([`PutBack::Cancelled`](crate::PutBack::Cancelled)).
+    /// Somebody else has the request. Who took it is told ([`Request::is_cancelled`](crate::Request::is_cancelled)), also
+    /// by a put-back ([`PutBack::Cancelled`](crate::PutBack::Cancelled)), unless another cancel gets it then.
     Taken,
 }
 

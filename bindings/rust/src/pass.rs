@@ -153,9 +153,9 @@ impl Pass {
     }
 
     /// Removes each IRP that is listed for a file object, or for any, and completes it with `STATUS_CANCELLED`. Answers
-    /// how many. The file object stays open, so this may go on for as long as others insert. What a canceller has is left
-    /// to that canceller, and is listed until then ([`Queue::file_len`](crate::Queue::file_len)). The lock is free
-    /// between two of them.
+    /// how many. The file object stays open, so this may go on for as long as others insert or put back. What a canceller
+    /// has is left to that canceller, and is listed until then ([`Queue::file_len`](crate::Queue::file_len)). What was
+    /// removed before is for the file object again if it is put back. The lock is free between two of them.
     pub fn drain(&self, peek: Peek) -> Result<u32, UnknownFile> {
         self.drain_with(peek, |_| ())
     }

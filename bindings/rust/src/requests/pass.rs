@@ -96,8 +96,9 @@ impl<T> RequestPass<T> {
     }
 
     /// Cancels each request that is listed for a file object, or for any, and hands their values over, in the list's
-    /// order. The file object stays open, so this may go on for as long as others submit. What a canceller has is left to
-    /// that canceller. The lock is free between two of them.
+    /// order. The file object stays open, so this may go on for as long as others submit or put back. What a canceller has
+    /// is left to that canceller. What was taken before is for the file object again if it is put back. The lock is free
+    /// between two of them.
     pub fn drain(&self, peek: Peek) -> Result<Vec<T>, UnknownFile> {
         if let Peek::File(file) = peek {
             self.pass.file_len(file)?;

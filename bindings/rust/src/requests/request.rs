@@ -58,7 +58,7 @@ impl<'pass, T> Request<'pass, T> {
     }
 
     /// Whether a cancel named it and came too late ([`Missed::Taken`](crate::Missed::Taken)): nobody waits for it, so it
-    /// may be given up, and it isn't put back any more. Takes no lock.
+    /// may be given up, and a put-back doesn't leave it to another worker. Takes no lock.
     pub fn is_cancelled(&self) -> bool {
         self.taken.pass.is_cancelled(self.id)
     }
@@ -112,7 +112,7 @@ impl<'pass, T> Request<'pass, T> {
 #[must_use = "a request that was cancelled in the meantime hands its value over"]
 #[derive(Clone, Copy, Debug, PartialEq, Eq)]
 pub enum PutBack<T> {
-    /// It is listed again, with its value.
+    /// It is listed again, with its value; or a cancel, perhaps a second one, has it already.
     Pending,
     /// A cancel had named it in the meantime ([`Missed::Taken`](crate::Missed::Taken)): it is completed with
     /// `STATUS_CANCELLED`, and this is its value.
