@@ -10,7 +10,8 @@ pub enum StepRefused {
     UnknownIrp,
     /// The pass isn't one of 1 to the machine's number of passes.
     UnknownPass,
-    /// The step is made under the lock, and this other pass has it: it is inside an insert or a removal.
+    /// The step is made under the lock, and this other pass has it: it is inside an insert, a
+    /// put-back or a removal.
     LockHeld(PassId),
     /// The pass is inside a program that has another next step, or inside none, and no program begins so.
     NotNext,
