@@ -50,6 +50,29 @@ fn finds_flag<L: PendingList + Drop, N: QueueName, R: Wait>(
     }
 }
 
+// Whether a put-back after a flag finds it.
+fn finds_flag_again<L: PendingList + Drop, N: QueueName, R: Wait + Abort>(
+    rt: &R,
+    queue: &Csq<L, N>,
+    one: &mut Pass<N>,
+    two: &mut Pass<N>,
+) -> bool {
+    let token = remove(rt, queue, two);
+    let (irp, life) = (token.irp(), token.life());
+    let missed = queue.cancel(rt, one, irp, life) == Ok(false);
+    match flags::put_back_after_flag(queue, rt, one, two, token, Place::Front) {
+        Err((_, token)) => {
+            queue.complete(two, token, FinalStatus::success());
+            false
+        }
+        Ok(Inserted::Pending(_)) => false,
+        Ok(Inserted::Cancelled(token)) => {
+            queue.complete_cancelled(two, token);
+            missed
+        }
+    }
+}
+
 // A reuse after a status that was read, and after a completion that was told.
 fn reuse_twice<L: PendingList + Drop, N: QueueName, R: Wait + Abort>(
     rt: &R,
@@ -97,6 +120,8 @@ fn draw_each<L: PendingList + Drop, N: QueueName, R: Wait + Abort>(
     rows.note(finds_flag(rt, queue, one, two));
     reuse_twice(rt, queue, one, two, &mut rows);
     read_twice(rt, queue, two, &mut rows);
+    rows.note(queue.reuse(rt, two, ZERO).is_ok() && insert(rt, queue, one, ZERO, 0).is_some());
+    rows.note(finds_flag_again(rt, queue, one, two));
     rows.judge(rt);
 }
 

@@ -1,9 +1,9 @@
 use Rattle.std.proofs.Common.{◌≡◌, true, List, Ok, Result, sym, ap, subst, ◌∙◌}
 use Rattle.std.specs.Prelude.{IfOk}
 use Rattle.irp_core.specs.declared.ids.IrpLife.{IrpLife}
+use Rattle.irp_core.specs.declared.step.Kind.TheVariants.{Arm}
 use Rattle.irp_core.specs.Words.{flagged}
 use Rattle.csq_list.specs.declared.refusals.InsertStatus.{InsertStatus}
-use Rattle.csq_words.specs.declared.views.Entry.{Entry}
 use Rattle.csq_words.specs.declared.views.Event.{Event}
 use Rattle.csq_words.specs.declared.views.PassRecord.{PassRecord}
 use Rattle.csq_words.specs.Queue.{current}
@@ -35,5 +35,5 @@ returns g c = record {
       let steps = ap (λ (r : PassRecord). r.steps) met.one_kept in
       let own' = met.one_sees.agrees.pass_is.steps_is in
       let seen : flagged c.meet.new.one.run i ≡ true = flagged_own c.meet.new.one.pass c.meet.new.one.run i (ap (λ s. flagged s i) (sym own' ∙ steps) ∙ was) in
-      pending_taken (queue_size l) i old new made.pass (ap (λ run. flagged run i) (sym met.run) ∙ seen) told.2.follows met.other_sees.agrees.pass_is.steps_is told.2.sees made.steps;
+      pending_taken Arm (queue_size l) i old new made.pass (ap (λ run. flagged run i) (sym met.run) ∙ seen) told.2.follows met.other_sees.agrees.pass_is.steps_is told.2.sees made.steps;
 }

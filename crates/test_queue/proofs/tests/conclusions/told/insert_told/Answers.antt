@@ -1,6 +1,7 @@
 use Rattle.std.proofs.Common.{◌≡◌, true, List, Ok, Result, subst}
 use Rattle.std.specs.Prelude.{IfOk}
 use Rattle.irp_core.specs.declared.ids.IrpLife.{IrpLife}
+use Rattle.irp_core.specs.declared.step.Kind.TheVariants.{Arm}
 use Rattle.irp_core.specs.Words.{flagged}
 use Rattle.csq_list.specs.declared.refusals.InsertStatus.{InsertStatus}
 use Rattle.csq_words.specs.declared.views.Event.{Event}
@@ -30,5 +31,5 @@ returns g c = record {
       subst (λ (r : Result (InsertAnswer IrpLife IrpLife) InsertStatus). IfOk r (λ inserted. (events : List Event) × IsInsert (current (end_of l.first history) c.args.irp) c.args.file c.args.place inserted events × AddsEvents l history old new events))
       answer c.insert.ensures.call.1.accepted in
       let seen : flagged old.run i ≡ true = flag_stays i c.args.seen.run old.run told.run was in
-      pending_taken (queue_size l) i old new made.pass seen adds.2.follows told.sees.steps_are adds.2.sees made.steps;
+      pending_taken Arm (queue_size l) i old new made.pass seen adds.2.follows told.sees.steps_are adds.2.sees made.steps;
 }
