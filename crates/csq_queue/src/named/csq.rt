@@ -293,8 +293,8 @@ impl<L: PendingList + Drop, N: QueueName, A: Allocator> Csq<L, N, A> {
         Ok(completed)
     }
 
-    /// Closes a file object for good: from then on inserts for it are refused. What is listed for it
-    /// stays.
+    /// Closes a file object for good: from then on inserts and put-backs for it are refused. What is listed
+    /// for it stays.
     pub fn close_file(
         &self,
         rt: &impl Wait,

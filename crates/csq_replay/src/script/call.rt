@@ -20,7 +20,7 @@ pub enum Call {
     Cancel(IrpLife),
     /// The completion of an IRP that is held, with this status.
     Complete(IrpId, NtStatus),
-    /// Refuses inserts for the file object from now on.
+    /// Refuses inserts and put-backs for the file object from now on.
     Close(FileId),
     /// `IRP_MJ_CLEANUP`: closes the file object, and completes what is queued for it as cancelled.
     Cleanup(FileId),
