@@ -48,6 +48,10 @@ none_is_a_run = record {
   late_flag = late_flag_is;
   lost = λ r. (let e : true ≡ false = r.held (pass 2) (irp 0 0) in cc);
   cancelled_put_back = λ size r. (let e : false ≡ true = r.owned.0 in cc);
+  put_back_by_another = λ size r. (let e : false ≡ true = r.owned.0 in cc);
+  taken_out_put_back = λ size r. (let e : false ≡ true = r.owned.0 in cc);
+  put_back_twice = λ size r. (let e : false ≡ true = r.owned.0 in cc);
+  completed_put_back = λ size r. (let e : false ≡ true = r.owned.0 in cc);
   flag_missed = λ size r. (let e : 0 ≡ 1 = r.found.0 in absurd (omega arith));
   unlisted = λ size r. (let e : false ≡ true = r.owned.0 in cc);
   test_first = λ size r. (let l = run_last size (did 1 (Test (irp 0 0)) 0) [] (run_less size (did 1 (Arm (irp 0 0)) 0) (did 1 (Test (irp 0 0)) 0 ∷ []) r) in let e : false ≡ true = l.next in cc);
@@ -305,6 +309,7 @@ none_is_a_history = record {
   never_removed = λ h. (let e : true ≡ false = h.0.1 in cc);
   other_file = λ l h. (let e : 1 ≡ 0 = ap (λ (f : FileId). f.0) h.0.1 in absurd (omega arith));
   flag_ignored = λ l h. none_pending _ h.0.2;
+  put_back_of_another = λ h. (let e : false ≡ true = h.0 in cc);
   another = λ h. (let e : false ≡ true = h.0 in cc);
   back_twice = λ size words q back f. twice (subst BackOnce back f.agrees.back_once);
 }

@@ -3,7 +3,7 @@ use Rattle.std.specs.Prelude.{◌≡◌, ℕ, List, [], ◌∷◌, Some, None}
 use Rattle.irp_core.specs.declared.ids.IrpLife.{IrpLife}
 use Rattle.irp_core.specs.declared.ids.PassId.{PassId}
 use Rattle.irp_core.specs.declared.step.Kind.{Kind}
-use Rattle.irp_core.specs.declared.step.Kind.TheVariants.{Arm, Test, Disarm, End, Flag, Take, Done, Renew, Rearm}
+use Rattle.irp_core.specs.declared.step.Kind.TheVariants.{Arm, Test, Disarm, End, Flag, Take, Out, Done, Renew, Rearm}
 use Rattle.irp_core.specs.declared.step.Made.{Made}
 use Rattle.irp_core.specs.Runs.{Size, IsRun, IsAtRest}
 use Rattle.irp_core.specs.Steps.{own}
@@ -80,6 +80,14 @@ pub record NoneIsARun : Type 0 where
   pub unlisted : (size : Size) → IsRun size (did 2 (Disarm (irp 0 0)) 0 ∷ []) → ⊥
   -- a pass puts back what its insert found cancelled
   pub cancelled_put_back : (size : Size) → IsRun size (did 1 (Rearm (irp 0 0)) 0 ∷ did 1 (Disarm (irp 0 0)) 1 ∷ did 1 (Test (irp 0 0)) 1 ∷ did 1 (Arm (irp 0 0)) 0 ∷ did 3 (Take (irp 0 0)) 0 ∷ did 3 (Flag (irp 0 0)) 0 ∷ []) → ⊥
+  -- a pass puts back what another one removed
+  pub put_back_by_another : (size : Size) → IsRun size (did 3 (Rearm (irp 0 0)) 0 ∷ removed_by_2) → ⊥
+  -- it puts back what its cancel routine took out
+  pub taken_out_put_back : (size : Size) → IsRun size (did 3 (Rearm (irp 0 0)) 0 ∷ did 3 (Out (irp 0 0)) 0 ∷ did 3 (Take (irp 0 0)) 1 ∷ did 3 (Flag (irp 0 0)) 0 ∷ inserts_of 0 []) → ⊥
+  -- a second put-back after one removal
+  pub put_back_twice : (size : Size) → IsRun size (did 2 (Rearm (irp 0 0)) 0 ∷ did 2 (Test (irp 0 0)) 0 ∷ did 2 (Rearm (irp 0 0)) 0 ∷ removed_by_2) → ⊥
+  -- one after the completion
+  pub completed_put_back : (size : Size) → IsRun size (did 2 (Rearm (irp 0 0)) 0 ∷ did 2 (Done (irp 0 0)) 0 ∷ removed_by_2) → ⊥
   -- a cancel comes while pass 2 has the IRP, and the put-back doesn't find the flag
   pub flag_missed : (size : Size) → IsRun size (did 2 (Test (irp 0 0)) 0 ∷ did 2 (Rearm (irp 0 0)) 0 ∷ did 3 (Take (irp 0 0)) 0 ∷ did 3 (Flag (irp 0 0)) 0 ∷ removed_by_2) → ⊥
   -- a test before the arm
@@ -131,6 +139,8 @@ pub record NoneIsAHistory : Type 0 where
   pub other_file : (l : Limits) → IsLegal l (put_back 2 1 ∷ removed 2 ∷ inserted 1 0 ∷ []) → ⊥
   -- one that is pending, although the flag was seen
   pub flag_ignored : (l : Limits) → IsLegal l (put_back 1 0 ∷ said 1 (Insert (record { 0 = 0 }) (record { 0 = 0 }) Back Cancelled) ∷ said 1 (FlagSeen (irp 0 0)) ∷ []) → ⊥
+  -- pass 3 put back what pass 2 removed and put back
+  pub put_back_of_another : AreTrueOf 0 (did 2 (Test (irp 0 0)) 0 ∷ did 2 (Rearm (irp 0 0)) 0 ∷ removed_by_2) (put_back 3 0 ∷ removed 2 ∷ inserted 1 0 ∷ []) → ⊥
   -- pass 2 was given what pass 3 removed
   pub another : AreTrueOf 0 (did 3 (Disarm (irp 0 0)) 1 ∷ inserts_of 0 []) (removed 2 ∷ inserted 1 0 ∷ []) → ⊥
   -- a pass is back twice, with two statuses of one life
