@@ -18,10 +18,10 @@ use Rattle.csq_queue.specs.Cleanups.{removals, cleanup_calls}
 use Rattle.csq_device.specs.declared.kinds.CallsByKind.{CallsByKind}
 use Rattle.csq_device.specs.declared.plan.Plan.{Plan}
 use Rattle.csq_device.specs.declared.roles.Role.{Role}
-use Rattle.csq_device.specs.declared.roles.Role.TheVariants.{Submitter, Worker, Canceller}
+use Rattle.csq_device.specs.declared.roles.Role.TheVariants.{Submitter, Worker, Canceller, BusyWorker}
 use Rattle.csq_device.specs.Duties.{completed_by}
 use Rattle.csq_device.specs.Served.{is_reuse, has_reuse, HasServed}
-use Rattle.csq_device.specs.Turns.{last_file, IsInsertOf, AreInserts, IsRemoval, AreRemovals, CancelsOne, CancelsEach, CleansUp, Plays, in_first_life}
+use Rattle.csq_device.specs.Turns.{last_file, IsInsertOf, AreInserts, IsRemoval, AreRemovals, CancelsOne, CancelsEach, PutsOneBack, PutsEachBack, CleansUp, Plays, in_first_life}
 use Rattle.csq_device.specs.Work.{IsIdle, completions, HasCompleted, status_by}
 use Rattle.csq_device.proofs.Working.{nothing_held, nothing_owed}
 
@@ -76,11 +76,20 @@ cancels_none : (size : Size) (first step turns : ℕ) (old new : PassRecord) →
 cancels_none size first step zero old new h g = ap (λ (r : PassRecord). has_reuse r.mine) h ∙ g
 cancels_none size first step (suc turn) old new (mid, count, before, one) g = cancel_none size (in_first_life (first + turn * step)) count mid new one (cancels_none size first step turn old mid before g)
 
+-- nor is a busy worker's turn
+one_back_none : (count : ℕ) (old new : PassRecord) → PutsOneBack count old new → has_reuse old.mine ≡ false → has_reuse new.mine ≡ false
+one_back_none count old new h g = ⊎_elim (λ none_got. ap has_reuse none_got.1.mine ∙ g) (λ got. ap has_reuse got.4.mine ∙ g) h
+
+backs_none : (turns made : ℕ) (old new : PassRecord) → PutsEachBack turns made old new → has_reuse old.mine ≡ false → has_reuse new.mine ≡ false
+backs_none zero made old new h g = ap (λ (r : PassRecord). has_reuse r.mine) h.1 ∙ g
+backs_none (suc turn) made old new (mid, before, count, sum, earlier, last) g = one_back_none count mid new last (backs_none turn before old mid earlier g)
+
 -- a thread's calls
 plays_none : (size : Size) (plan : Plan) (role : Role) (calls : CallsByKind) (old new : PassRecord) → Plays size plan role calls old new → has_reuse old.mine ≡ false → has_reuse new.mine ≡ false
 plays_none size plan (Submitter first) calls old new h g = ap has_reuse h.calls.mine ∙ more_calls old.pass h.events old.mine (none_in_inserts old.pass plan.files first plan.submitters h.events h.inserts) g
 plays_none size plan Worker calls old new h g = ap has_reuse h.calls.mine ∙ more_calls old.pass h.events old.mine (none_in_removals old.pass h.events h.removals) g
 plays_none size plan (Canceller first) calls old new h g = cancels_none size first plan.cancellers calls.cancels.made old new h.cancels g
+plays_none size plan BusyWorker calls old new h g = backs_none plan.turns calls.put_backs.made old new h g
 
 -- a thread has one pass
 cancel_pass : (size : Size) (i : IrpLife) (count : ℕ) (old new : PassRecord) → CancelsOne size i count old new → new.pass ≡ old.pass
@@ -93,10 +102,18 @@ cancels_pass : (size : Size) (first step turns : ℕ) (old new : PassRecord) →
 cancels_pass size first step zero old new h = ap (λ (r : PassRecord). r.pass) h
 cancels_pass size first step (suc turn) old new (mid, count, before, one) = cancel_pass size (in_first_life (first + turn * step)) count mid new one ∙ cancels_pass size first step turn old mid before
 
+one_back_pass : (count : ℕ) (old new : PassRecord) → PutsOneBack count old new → new.pass ≡ old.pass
+one_back_pass count old new h = ⊎_elim (λ none_got. none_got.1.pass) (λ got. got.4.pass) h
+
+backs_pass : (turns made : ℕ) (old new : PassRecord) → PutsEachBack turns made old new → new.pass ≡ old.pass
+backs_pass zero made old new h = ap (λ (r : PassRecord). r.pass) h.1
+backs_pass (suc turn) made old new (mid, before, count, sum, earlier, last) = one_back_pass count mid new last ∙ backs_pass turn before old mid earlier
+
 plays_pass : (size : Size) (plan : Plan) (role : Role) (calls : CallsByKind) (old new : PassRecord) → Plays size plan role calls old new → new.pass ≡ old.pass
 plays_pass size plan (Submitter first) calls old new h = h.calls.pass
 plays_pass size plan Worker calls old new h = h.calls.pass
 plays_pass size plan (Canceller first) calls old new h = cancels_pass size first plan.cancellers calls.cancels.made old new h.cancels
+plays_pass size plan BusyWorker calls old new h = backs_pass plan.turns calls.put_backs.made old new h
 
 -- how many a pass completed that had completed none
 completed_count_is : (status : NtStatus) (count : ℕ) (old new : PassRecord) → HasCompleted status count old new → old.completed ≡ [] → count ≡ length new.completed

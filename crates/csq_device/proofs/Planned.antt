@@ -12,9 +12,9 @@ use Rattle.csq_queue.specs.Counts.{tally}
 use Rattle.csq_device.specs.declared.plan.Plan.{Plan}
 use Rattle.csq_device.specs.declared.kinds.CallsByKind.{CallsByKind}
 use Rattle.csq_device.specs.declared.roles.Role.{Role}
-use Rattle.csq_device.specs.declared.roles.Role.TheVariants.{Submitter, Worker, Canceller}
-use Rattle.csq_device.specs.Duties.{turns_with_irp, inserts_by, removals_by, cancels_by, total_by, AreFew, AreCallsOfAll, duties_from, AreNumbered, AreCallsOf}
-use Rattle.csq_device.specs.Turns.{IsTurns, Submits, Works, Cancels, roles_in}
+use Rattle.csq_device.specs.declared.roles.Role.TheVariants.{Submitter, Worker, Canceller, BusyWorker}
+use Rattle.csq_device.specs.Duties.{turns_with_irp, inserts_by, removals_by, cancels_by, put_backs_by, total_by, AreFew, AreCallsOfAll, duties_from, AreNumbered, AreCallsOf}
+use Rattle.csq_device.specs.Turns.{IsTurns, Submits, Works, Cancels, PutsOneBack, PutsEachBack, roles_in}
 use Rattle.csq_device.proofs.Handing.{sum_from, sum_same, sum_zero}
 
 -- where just the first `count` numbers below n pass, so many do
@@ -71,6 +71,17 @@ worker_calls plan made old new h = h.made_is ∙ h.turns
 
 pub canceller_calls : (size : Size) (plan : Plan) (first made : ℕ) (old new : PassRecord) → Cancels size plan first made old new → made ≡ turns_with_irp plan first plan.cancellers
 canceller_calls size plan first made old new h = sym (turns_are plan.irps plan.turns first plan.cancellers made h.turns)
+
+-- and a busy worker at most
+one_back_count : (count : ℕ) (old new : PassRecord) → PutsOneBack count old new → count ≤ 1
+one_back_count count old new h = ⊎_elim (λ none_got. let zero' = none_got.0 in omega arith) (λ got. let one = got.0 in omega arith) h
+
+pub busy_worker_calls : (turns made : ℕ) (old new : PassRecord) → PutsEachBack turns made old new → made ≤ turns
+busy_worker_calls zero made old new h = let zero' = h.0 in omega arith
+busy_worker_calls (suc turn) made old new (mid, before, count, sum, earlier, last) =
+    let less = busy_worker_calls turn before old mid earlier in
+    let one = one_back_count count mid new last in
+    omega (arith, sum, less, one)
 
 sum_both : (f g : ℕ → ℕ) (from n : ℕ) → sum_from (λ k. f k + g k) from n ≡ sum_from f from n + sum_from g from n
 sum_both f g from zero = omega arith
@@ -172,15 +183,17 @@ sum_roles-same f role zero = omega arith
 sum_roles-same f role (suc n) = let less = sum_roles-same f role n in let more = suc-mul n (f role) in omega arith
 
 -- the roles of a plan, kind by kind
-sum_roles-in : (f : Role → ℕ) (plan : Plan) (inserts removals cancels : ℕ) → sum_from (λ k. f (Submitter k)) 0 plan.submitters ≡ inserts → plan.workers * f Worker ≡ removals → sum_from (λ k. f (Canceller k)) 0 plan.cancellers ≡ cancels
-    → sum_roles f (roles_in plan) ≡ inserts + removals + cancels
-sum_roles-in f plan inserts removals cancels a b c =
+sum_roles-in : (f : Role → ℕ) (plan : Plan) (inserts removals cancels put_backs : ℕ) → sum_from (λ k. f (Submitter k)) 0 plan.submitters ≡ inserts → plan.workers * f Worker ≡ removals → sum_from (λ k. f (Canceller k)) 0 plan.cancellers ≡ cancels → plan.busy_workers * f BusyWorker ≡ put_backs
+    → sum_roles f (roles_in plan) ≡ inserts + removals + cancels + put_backs
+sum_roles-in f plan inserts removals cancels put_backs a b c d =
     let submitters = map (λ n. Submitter n) (range_with_len 0 plan.submitters) in
     let workers = replicate plan.workers Worker in
     let cancellers = map (λ n. Canceller n) (range_with_len 0 plan.cancellers) in
-    sum_roles-append f (submitters ++ workers) cancellers
-    ∙ ((λ k. sum_roles-append f submitters workers k + sum_roles f cancellers)
-    ∙ (λ k. (sum_roles-range f (λ n. Submitter n) 0 plan.submitters ∙ a) k + (sum_roles-same f Worker plan.workers ∙ b) k + (sum_roles-range f (λ n. Canceller n) 0 plan.cancellers ∙ c) k))
+    let busy_workers = replicate plan.busy_workers BusyWorker in
+    sum_roles-append f (submitters ++ workers ++ cancellers) busy_workers
+    ∙ ((λ k. sum_roles-append f (submitters ++ workers) cancellers k + sum_roles f busy_workers)
+    ∙ ((λ k. sum_roles-append f submitters workers k + sum_roles f cancellers + sum_roles f busy_workers)
+    ∙ (λ k. (sum_roles-range f (λ n. Submitter n) 0 plan.submitters ∙ a) k + (sum_roles-same f Worker plan.workers ∙ b) k + (sum_roles-range f (λ n. Canceller n) 0 plan.cancellers ∙ c) k + (sum_roles-same f BusyWorker plan.busy_workers ∙ d) k)))
 
 -- the duties of these roles
 duties-total : (kind : Plan → Role → ℕ) (plan : Plan) (from : ℕ) (roles : List Role) → total_by kind (duties_from plan from roles) ≡ sum_roles (kind plan) roles
@@ -194,28 +207,37 @@ duties-numbered plan from (r ∷ rs) = (refl, duties-numbered plan (suc from) rs
 inserts_in : (plan : Plan) → total_by inserts_by (duties_from plan 1 (roles_in plan)) ≡ min plan.irps (plan.submitters * plan.turns)
 inserts_in plan =
     duties-total inserts_by plan 1 (roles_in plan)
-    ∙ (sum_roles-in (inserts_by plan) plan (min plan.irps (plan.submitters * plan.turns)) 0 0 (shared_turns plan.irps plan.submitters plan.turns) (omega arith) (sum_zero 0 plan.cancellers)
+    ∙ (sum_roles-in (inserts_by plan) plan (min plan.irps (plan.submitters * plan.turns)) 0 0 0 (shared_turns plan.irps plan.submitters plan.turns) (omega arith) (sum_zero 0 plan.cancellers) (omega arith)
     ∙ alone (min plan.irps (plan.submitters * plan.turns)))
   where
-    alone : (n : ℕ) → n + 0 + 0 ≡ n
+    alone : (n : ℕ) → n + 0 + 0 + 0 ≡ n
     alone n = omega arith
 
 removals_in : (plan : Plan) → total_by removals_by (duties_from plan 1 (roles_in plan)) ≡ plan.workers * plan.turns
 removals_in plan =
     duties-total removals_by plan 1 (roles_in plan)
-    ∙ (sum_roles-in (removals_by plan) plan 0 (plan.workers * plan.turns) 0 (sum_zero 0 plan.submitters) refl (sum_zero 0 plan.cancellers)
+    ∙ (sum_roles-in (removals_by plan) plan 0 (plan.workers * plan.turns) 0 0 (sum_zero 0 plan.submitters) refl (sum_zero 0 plan.cancellers) (omega arith)
     ∙ alone (plan.workers * plan.turns))
   where
-    alone : (n : ℕ) → 0 + n + 0 ≡ n
+    alone : (n : ℕ) → 0 + n + 0 + 0 ≡ n
     alone n = omega arith
 
 cancels_in : (plan : Plan) → total_by cancels_by (duties_from plan 1 (roles_in plan)) ≡ min plan.irps (plan.cancellers * plan.turns)
 cancels_in plan =
     duties-total cancels_by plan 1 (roles_in plan)
-    ∙ (sum_roles-in (cancels_by plan) plan 0 0 (min plan.irps (plan.cancellers * plan.turns)) (sum_zero 0 plan.submitters) (omega arith) (shared_turns plan.irps plan.cancellers plan.turns)
+    ∙ (sum_roles-in (cancels_by plan) plan 0 0 (min plan.irps (plan.cancellers * plan.turns)) 0 (sum_zero 0 plan.submitters) (omega arith) (shared_turns plan.irps plan.cancellers plan.turns) (omega arith)
     ∙ alone (min plan.irps (plan.cancellers * plan.turns)))
   where
-    alone : (n : ℕ) → 0 + 0 + n ≡ n
+    alone : (n : ℕ) → 0 + 0 + n + 0 ≡ n
+    alone n = omega arith
+
+put_backs_in : (plan : Plan) → total_by put_backs_by (duties_from plan 1 (roles_in plan)) ≡ plan.busy_workers * plan.turns
+put_backs_in plan =
+    duties-total put_backs_by plan 1 (roles_in plan)
+    ∙ (sum_roles-in (put_backs_by plan) plan 0 0 0 (plan.busy_workers * plan.turns) (sum_zero 0 plan.submitters) (omega arith) (sum_zero 0 plan.cancellers) refl
+    ∙ alone (plan.busy_workers * plan.turns))
+  where
+    alone : (n : ℕ) → 0 + 0 + 0 + n ≡ n
     alone n = omega arith
 
 -- what the threads of a plan did in all
@@ -224,6 +246,7 @@ calls_in plan calls h = record {
   inserts = h.inserts ∙ inserts_in plan;
   removals = h.removals ∙ removals_in plan;
   cancels = h.cancels ∙ cancels_in plan;
+  put_backs = let most = h.put_backs in let all = put_backs_in plan in omega arith;
 }
 
 pub calls_few : (plan : Plan) → AreFew (duties_from plan 1 (roles_in plan))
@@ -231,4 +254,5 @@ calls_few plan = record {
   inserts = let e = inserts_in plan in let l = min-le_left plan.irps (plan.submitters * plan.turns) in let r = plan.in_range.irps_in_range.1 in omega arith;
   removals = let e = removals_in plan in let l = mul-le plan.workers plan.turns 20 100000 plan.in_range.workers_in_range.1 plan.in_range.turns_in_range.1 in omega arith;
   cancels = let e = cancels_in plan in let l = min-le_left plan.irps (plan.cancellers * plan.turns) in let r = plan.in_range.irps_in_range.1 in omega arith;
+  put_backs = let e = put_backs_in plan in let l = mul-le plan.busy_workers plan.turns 20 100000 plan.room.most plan.in_range.turns_in_range.1 in omega arith;
 }

@@ -23,6 +23,15 @@ impl Calls {
         }
     }
 
+    /// One call, which completed so many IRPs: one or none.
+    pub(crate) fn one(completed: u32) -> Calls
+        requires { completed ≤ 1 }
+        ensures made { result.made ≡ 1 }
+        ensures completed { result.completed ≡ completed }
+    {
+        Calls { made: 1, completed }
+    }
+
     /// The calls that completed no IRP.
     pub fn missed(&self) -> u32
         ensures { result + self.now.completed ≡ self.now.made }

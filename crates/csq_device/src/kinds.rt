@@ -4,12 +4,14 @@ ghost use Rattle.csq_device.specs.Duties.{AddsUp, completed_by};
 
 use crate::calls::Calls;
 
-/// The calls of submitters, workers and cancellers.
+/// The calls of submitters, workers, cancellers and busy workers. What a busy worker removes it puts back: its
+/// removals aren't among the others.
 #[derive(Clone, Copy)]
 pub(crate) struct CallsByKind {
     pub(crate) inserts: Calls,
     pub(crate) removals: Calls,
     pub(crate) cancels: Calls,
+    pub(crate) put_backs: Calls,
 }
 
 impl CallsByKind {
@@ -18,12 +20,14 @@ impl CallsByKind {
         ensures inserts { result.inserts.made ≡ 0 }
         ensures removals { result.removals.made ≡ 0 }
         ensures cancels { result.cancels.made ≡ 0 }
+        ensures put_backs { result.put_backs.made ≡ 0 }
         ensures completed { completed_by result ≡ 0 }
     {
         CallsByKind {
             inserts: Calls::none(),
             removals: Calls::none(),
             cancels: Calls::none(),
+            put_backs: Calls::none(),
         }
     }
 
@@ -32,6 +36,7 @@ impl CallsByKind {
         ensures inserts { result.inserts ≡ inserts }
         ensures removals { result.removals.made ≡ 0 }
         ensures cancels { result.cancels.made ≡ 0 }
+        ensures put_backs { result.put_backs.made ≡ 0 }
         ensures completed { completed_by result ≡ inserts.completed }
     {
         CallsByKind {
@@ -45,6 +50,7 @@ impl CallsByKind {
         ensures inserts { result.inserts.made ≡ 0 }
         ensures removals { result.removals ≡ removals }
         ensures cancels { result.cancels.made ≡ 0 }
+        ensures put_backs { result.put_backs.made ≡ 0 }
         ensures completed { completed_by result ≡ removals.completed }
     {
         CallsByKind {
@@ -58,10 +64,25 @@ impl CallsByKind {
         ensures inserts { result.inserts.made ≡ 0 }
         ensures removals { result.removals.made ≡ 0 }
         ensures cancels { result.cancels ≡ cancels }
+        ensures put_backs { result.put_backs.made ≡ 0 }
         ensures completed { completed_by result ≡ cancels.completed }
     {
         CallsByKind {
             cancels,
+            ..CallsByKind::none()
+        }
+    }
+
+    /// These put-backs alone.
+    pub(crate) fn put_backs(put_backs: Calls) -> CallsByKind
+        ensures inserts { result.inserts.made ≡ 0 }
+        ensures removals { result.removals.made ≡ 0 }
+        ensures cancels { result.cancels.made ≡ 0 }
+        ensures put_backs { result.put_backs ≡ put_backs }
+        ensures completed { completed_by result ≡ put_backs.completed }
+    {
+        CallsByKind {
+            put_backs,
             ..CallsByKind::none()
         }
     }
@@ -74,6 +95,7 @@ impl CallsByKind {
         u64::from(self.inserts.completed)
             + u64::from(self.removals.completed)
             + u64::from(self.cancels.completed)
+            + u64::from(self.put_backs.completed)
     }
 
     /// These calls and others.
@@ -81,14 +103,17 @@ impl CallsByKind {
         requires inserts { self.inserts.made + other.inserts.made < 2 ^ 32 }
         requires removals { self.removals.made + other.removals.made < 2 ^ 32 }
         requires cancels { self.cancels.made + other.cancels.made < 2 ^ 32 }
+        requires put_backs { self.put_backs.made + other.put_backs.made < 2 ^ 32 }
         ensures inserts { AddsUp self.inserts other.inserts result.inserts }
         ensures removals { AddsUp self.removals other.removals result.removals }
         ensures cancels { AddsUp self.cancels other.cancels result.cancels }
+        ensures put_backs { AddsUp self.put_backs other.put_backs result.put_backs }
     {
         CallsByKind {
             inserts: self.inserts.plus(other.inserts),
             removals: self.removals.plus(other.removals),
             cancels: self.cancels.plus(other.cancels),
+            put_backs: self.put_backs.plus(other.put_backs),
         }
     }
 }

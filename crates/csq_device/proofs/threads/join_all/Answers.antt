@@ -1,6 +1,6 @@
 use Rattle.std.proofs.Common.{◌≡◌, ◌+◌, [], ◌∷◌, ◌++◌, ◌∙◌, length, suc, vec_items, vec_len, sym, ap, subst, arith, rules}
 use Rattle.std.specs.Vec.Iter.{into_iter_items}
-use Rattle.csq_device.specs.Duties.{AreNumbered, cancels_by, completed_by, duties_of, inserts_by, removals_by, total_by}
+use Rattle.csq_device.specs.Duties.{AreNumbered, cancels_by, completed_by, duties_of, inserts_by, put_backs_by, removals_by, total_by}
 use Rattle.csq_device.specs.Served.{AreReceipts, completions_of}
 use Rattle.csq_device.proofs.Shifts.{completions_of-push, one_more_served}
 use Rattle.csq_device.proofs.threads.join_all.Goals as goal
@@ -41,13 +41,20 @@ loop-handle-preserved g c =
           let one = kept.0.cancels in
           let rest = ap (λ hs. total_by cancels_by (duties_of hs (λ h. h.promise))) step.0 in
           omega (arith, before, more, one, rest);
+      put_backs =
+          let before = was.put_backs in
+          let more = plus.put_backs.made in
+          let one = kept.0.put_backs in
+          let rest = ap (λ hs. total_by put_backs_by (duties_of hs (λ h. h.promise))) step.0 in
+          omega (arith, before, more, one, rest);
       handed =
           let before = was.handed in
           let inserts = plus.inserts.completed in
           let removals = plus.removals.completed in
           let cancels = plus.cancels.completed in
+          let put_backs = plus.put_backs.completed in
           let one = kept.1.count_is in
-          let all : completed_by c.plus-calls.result ≡ completions_of old + length receipt.completed = omega (arith, before, inserts, removals, cancels, one) in
+          let all : completed_by c.plus-calls.result ≡ completions_of old + length receipt.completed = omega (arith, before, inserts, removals, cancels, put_backs, one) in
           all ∙ (sym (completions_of-push old receipt) ∙ ap completions_of (sym pushed));
       receipts = subst AreReceipts (sym pushed) (one_more_served c.in-Some.handle.promise.number (completed_by c.join-receipt.result.calls) old receipt kept.1 number was.receipts);
     }
