@@ -30,6 +30,11 @@ cancels too early or too late 57
 milliseconds 1.234
 '''
 
+# The same with busy workers.
+BUSY = TEXT.replace(b'completed 60', b'completed 64').replace(b'cancelled 10', b'cancelled 14').replace(
+    b'irps 64\naccounted 64', b'irps 68\naccounted 68').replace(
+    b'by cleanup 2\n', b'by cleanup 2\ncompleted by busy workers 4\n').replace(b'late 57\n', b'late 57\nput-backs 9\n')
+
 # The lines of which no sum is known: those of the calls, which rows of cases/ count, and the time.
 ALONE = (b'inserts', b'removals', b'cancelled and listed', b'milliseconds')
 
@@ -63,6 +68,7 @@ def right_ends():
     """Tests that find nothing."""
     yield 'totals', wrong_totals(always(TEXT), 1, [], 128)
     yield 'totals of two runs', wrong_totals(always(TEXT * 2), 2, [], 128)
+    yield 'totals of busy workers', wrong_totals(always(BUSY), 1, ['--busy-workers=1'], 128)
     yield 'a time', wrong_time(always(TEXT), b'milliseconds 1.234', {})
     yield 'a block', wrong_block(always(b'', reported=b'8 49152'), [], True)
     yield 'no block', wrong_block(always(b'', reported=b'8 49151'), [], False)
@@ -81,6 +87,10 @@ def wrong_ends():
                      (b'1.234', b'120000.000'), (TEXT, b''), (b'inserts 64\n', b'')]:
         changed = TEXT.replace(old, new, 1)
         yield f'totals with {new.decode()} for {old.decode()}', wrong_totals(always(changed), 1, [], 128)
+    yield 'totals of busy workers that there are not', wrong_totals(always(BUSY), 1, [], 128)
+    yield 'totals without busy workers', wrong_totals(always(TEXT), 1, ['--busy-workers=1'], 128)
+    uncounted = BUSY.replace(b'workers 4\n', b'workers 3\n')
+    yield 'totals of fewer put-backs', wrong_totals(always(uncounted), 1, ['--busy-workers=1'], 128)
     second = wrong_totals(always(TEXT + TEXT.replace(b'home 1', b'home 2')), 2, [], 128)
     yield 'totals of which the second are wrong', second
     yield 'totals of one run more', wrong_totals(always(TEXT * 2), 1, [], 128)

@@ -11,9 +11,17 @@ TOTALS = [rb'irps \d+', rb'accounted \d+', rb'cancelled and listed 0', rb'home \
           rb'removals that found an IRP \d+', rb'cancels \d+', rb'cancels that took the routine \d+',
           rb'cancels too early or too late \d+', rb'milliseconds \d+\.\d{3}']
 
+# With busy workers there are two lines more, each behind one of these.
+BUSY = {rb'completed by cleanup \d+': rb'completed by busy workers \d+',
+        rb'cancels too early or too late \d+': rb'put-backs \d+'}
+BUSY_TOTALS = [line for it in TOTALS for line in ([it, BUSY[it]] if it in BUSY else [it])]
+
+# The line of what busy workers completed, 0 without such a line.
+BY_BUSY = 'completed by busy workers'
+
 # A line of a run's totals, and the lines whose numbers sum to its own.
 SUMS = [('irps', ['accounted']), ('irps', ['home', 'listed', 'completed']), ('completed', ['succeeded', 'cancelled']),
-        ('completed', [f'completed by {it}' for it in ('submitters', 'workers', 'cancellers', 'cleanup')]),
+        ('completed', [f'completed by {it}' for it in ('submitters', 'workers', 'cancellers', 'cleanup')] + [BY_BUSY]),
         ('succeeded', ['completed by workers']), ('succeeded', ['removals that found an IRP']),
         ('cancels', ['cancels that took the routine', 'cancels too early or too late']),
         ('cancels that took the routine', ['completed by cancellers'])]
@@ -56,7 +64,8 @@ def test_shades(program, results):
 
 def wrong_sums(lines):
     """In the totals of one run, each number is the sum of others."""
-    numbers = {words.decode(): int(number) for words, _, number in (it.rpartition(b' ') for it in lines[:-1])}
+    numbers = {BY_BUSY: 0}
+    numbers |= {words.decode(): int(number) for words, _, number in (it.rpartition(b' ') for it in lines[:-1])}
     for words, parts in SUMS:
         found = sum(numbers[part] for part in parts)
         if numbers[words] != found:
@@ -64,21 +73,22 @@ def wrong_sums(lines):
 
 
 def wrong_totals(program, runs, options, removals):
-    """Each run has all lines in order, and so many removals; by the real clock it takes some time, and less than the
-    test may."""
+    """Each run has all lines in order, those of busy workers if there are some, and so many removals; by the real clock
+    it takes some time, and less than the test may."""
     got, _ = program.run(['run', '--totals', f'--repeat={runs}', *options])
     lines = got.output.splitlines()
-    if (got.errors, got.status, len(lines)) != (b'', 0, runs * len(TOTALS)):
+    totals = BUSY_TOTALS if any(it.startswith('--busy-workers=') for it in options) else TOTALS
+    if (got.errors, got.status, len(lines)) != (b'', 0, runs * len(totals)):
         yield f'{len(lines)} lines; {got}'
-    for line, pattern in zip(lines, TOTALS * runs):
+    for line, pattern in zip(lines, totals * runs):
         if not re.fullmatch(pattern, line):
             yield f'{shown(line)} in place of {pattern.decode()}'
         if line.startswith(b'milliseconds') and not 0 < float(line.split()[1]) < SECONDS * 1000:
             yield f'{shown(line)} is no time of a run'
         if pattern == rb'removals \d+' and line != f'removals {removals}'.encode():
             yield f'{shown(line)} in place of {removals}'
-    for first in range(0, len(lines), len(TOTALS)):
-        yield from wrong_sums(lines[first:first + len(TOTALS)])
+    for first in range(0, len(lines), len(totals)):
+        yield from wrong_sums(lines[first:first + len(totals)])
 
 
 def test_totals(program, results):
@@ -90,7 +100,9 @@ def test_totals(program, results):
     rows = [('each_total_has_its_line', 1, [], 128), ('five runs tell their times', 5, [], 128),
             ('each_run_has_its_totals', 20, [], 128), ('each_irp_is_accounted_for', 10, [], 128),
             ('one_irp_is_accounted_for', 1, least, 1), ('the_most_threads_run', 1, threads, 2_000),
-            ('the_most_turns_are_taken', 1, turns, 200_000)]
+            ('the_most_turns_are_taken', 1, turns, 200_000), ('put_backs_are_counted', 20, ['--busy-workers=2'], 128),
+            ('the_most_threads_run_with_busy_workers', 1, [*threads, '--busy-workers=3'], 2_000),
+            ('the_most_busy_workers_run', 5, ['--busy-workers=20', '--files=1'], 128)]
     for (name, runs, options, removals), chain in itertools.product(rows, ([], ['--chain'])):
         name = ' '.join([name, *chain])
         results.test(f'{program.name}: totals: {name}', wrong_totals, program, runs, [*options, *chain], removals)

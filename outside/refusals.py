@@ -42,6 +42,7 @@ MEMORY = [
 THREADS = [
     ([], 7),
     (['--chain', '--submitters=20', '--workers=19', '--cancellers=18'], 58),
+    (['--submitters=19', '--workers=18', '--cancellers=17', '--busy-workers=9'], 64),
     (['--submitters=1', '--workers=1', '--cancellers=1'], 4),
 ]
 

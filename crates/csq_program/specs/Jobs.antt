@@ -1,26 +1,26 @@
 -- What the program may be asked to do.
-use Rattle.std.specs.Prelude.{◌≡◌, ◌≢◌, ◌⊎◌, ℕ, ◌≤◌, Bool, true, false, List, codes, decimal, Option, None, Some, IfSome}
+use Rattle.std.specs.Prelude.{◌≡◌, ◌≢◌, ◌⊎◌, ℕ, ◌+◌, ◌<◌, ◌≤◌, Bool, true, false, List, codes, decimal, Option, None, Some, IfSome}
 use Rattle.clap.specs.declared.error.kind.ErrorKind.{ErrorKind}
 use Rattle.clap.specs.Matches.{found_of, first_value, one_text}
 use Rattle.clap.specs.Values.{kind_of}
 use Rattle.clap.specs.declared.parser.matches.ArgMatches.{ArgMatches}
 use Rattle.irp_core.specs.Runs.{IsInLimits}
 use Rattle.csq_list.specs.AnyLists.{is_chained}
-use Rattle.csq_device.specs.Plans.{IsPlan}
+use Rattle.csq_device.specs.Plans.{AreBusyWorkers, IsPlan}
 use Rattle.csq_device.specs.declared.plan.Plan.{Plan}
 use Rattle.csq_program.specs.declared.command.Job.{Job}
 use Rattle.csq_program.specs.declared.command.Job.TheVariants.{Schedule, Draw, Script, Run}
 use Rattle.csq_program.specs.declared.source.Source.{Source}
 use Rattle.csq_program.specs.declared.source.Source.TheVariants.{Standard, File}
 use Rattle.csq_program.specs.declared.command.CommandFault.{CommandFault}
-use Rattle.csq_program.specs.declared.command.CommandFault.TheVariants.{Memory, Refused}
+use Rattle.csq_program.specs.declared.command.CommandFault.TheVariants.{Memory, Refused, BusyWorkers}
 
 -- each number is in its range
 abbrev pub IsInRange : Job → Type 0
 IsInRange (Schedule source irps passes claims explain) = IsInLimits (record { irps = irps; passes = passes; first = 0 })
 IsInRange (Draw source irps passes text) = IsInLimits (record { irps = irps; passes = passes; first = 0 })
 IsInRange (Script source irps files limit file_limit list explain) = ((1 ≤ irps) × (irps ≤ 1024)) × ((1 ≤ files) × (files ≤ 256)) × IfSome limit (λ n. (1 ≤ n) × (n ≤ 1024)) × IfSome file_limit (λ n. (1 ≤ n) × (n ≤ 1024))
-IsInRange (Run plan list totals repeat) = IsPlan plan.irps plan.files plan.submitters plan.workers plan.cancellers plan.turns × ((1 ≤ repeat) × (repeat ≤ 1000))
+IsInRange (Run plan list totals repeat) = IsPlan plan.irps plan.files plan.submitters plan.workers plan.cancellers plan.turns × AreBusyWorkers plan.submitters plan.workers plan.cancellers plan.busy_workers × ((1 ≤ repeat) × (repeat ≤ 1000))
 
 -- the command of this name, of which any but a picture's, a script's and a run's is a schedule's
 abbrev pub IsJobOf : List ℕ → Job → Type 0
@@ -59,19 +59,38 @@ pub record IsNumberOption (options : ArgMatches) (name : List ℕ) (most default
   pub given : (n : ℕ) → 1 ≤ n → n ≤ most → one_text (found_of options) name ≡ Some (decimal n) → number ≡ n
   pub absent : one_text (found_of options) name ≡ None → number ≡ default
 
+-- an option of this name, which may be 0: the number that its text writes, where that is up to `most`, and 0 without a text
+pub record IsCountOption (options : ArgMatches) (name : List ℕ) (most number : ℕ) : Type 0 where
+  pub given : (n : ℕ) → n ≤ most → one_text (found_of options) name ≡ Some (decimal n) → number ≡ n
+  pub absent : one_text (found_of options) name ≡ None → number ≡ 0
+
 -- a limit of this name: the number that its text writes, where that is from 1 to 1,024, and none without a text
 pub record IsLimit (options : ArgMatches) (name : List ℕ) (limit : Option ℕ) : Type 0 where
   pub given : (n : ℕ) → 1 ≤ n → n ≤ 1024 → one_text (found_of options) name ≡ Some (decimal n) → limit ≡ Some n
   pub absent : one_text (found_of options) name ≡ None → limit ≡ None
 
+-- the numbers of threads of each kind are those of the options
+pub record AreThreads (options : ArgMatches) (submitters workers cancellers busy_workers : ℕ) : Type 0 where
+  pub submitters_are : IsNumberOption options (codes "submitters") 20 2 submitters
+  pub workers_are : IsNumberOption options (codes "workers") 20 2 workers
+  pub cancellers_are : IsNumberOption options (codes "cancellers") 20 2 cancellers
+  pub busy_workers_are : IsCountOption options (codes "busy-workers") 20 busy_workers
+
 -- the numbers of a plan are those of the options
 pub record ArePlanned (options : ArgMatches) (plan : Plan) : Type 0 where
   pub irps : IsNumberOption options (codes "irps") 1024 64 plan.irps
   pub files : IsNumberOption options (codes "files") 256 4 plan.files
-  pub submitters : IsNumberOption options (codes "submitters") 20 2 plan.submitters
-  pub workers : IsNumberOption options (codes "workers") 20 2 plan.workers
-  pub cancellers : IsNumberOption options (codes "cancellers") 20 2 plan.cancellers
+  pub threads : AreThreads options plan.submitters plan.workers plan.cancellers plan.busy_workers
   pub turns : IsNumberOption options (codes "turns") 100000 64 plan.turns
+
+-- the busy workers of the options are more than the passes that the other threads leave, 63 in all
+pub record AreTooMany (options : ArgMatches) (busy_workers left : ℕ) : Type 0 where
+  pub submitters : ℕ
+  pub workers : ℕ
+  pub cancellers : ℕ
+  pub threads : AreThreads options submitters workers cancellers busy_workers
+  pub left_is : submitters + workers + cancellers + left ≡ 63
+  pub more : left < busy_workers
 
 -- the job's numbers are those of the options
 abbrev pub TellsNumbers : ArgMatches → Job → Type 0
@@ -84,8 +103,10 @@ TellsNumbers options (Run plan list totals repeat) = ArePlanned options plan × 
 abbrev pub fault_number : CommandFault → ℕ
 fault_number Memory = 1
 fault_number (Refused error) = 2
+fault_number (BusyWorkers refused) = 3
 
 -- of a command line that was refused for a reason of this kind, or there is too little memory
 abbrev pub IsRefusalOf : ErrorKind → CommandFault → Type 0
 IsRefusalOf kind Memory = Unit
 IsRefusalOf kind (Refused error) = kind_of error ≡ kind
+IsRefusalOf kind (BusyWorkers refused) = ⊥

@@ -1,5 +1,5 @@
 -- What a run of a device is answered.
-use Rattle.std.specs.Prelude.{◌≡◌, ℕ, zero, suc, ◌+◌, ◌*◌, ◌/◌, ◌%◌, ◌-◌, ◌<◌, ◌≤◌, min, Bool, true, false, List, [], ◌++◌, length, replicate, codes, decimal, Option, Some, None}
+use Rattle.std.specs.Prelude.{◌≡◌, ℕ, nat_lt, zero, suc, ◌+◌, ◌*◌, ◌/◌, ◌%◌, ◌-◌, ◌<◌, ◌≤◌, min, Bool, true, false, List, [], ◌++◌, length, replicate, codes, decimal, Option, Some, None}
 use Rattle.std.specs.Io.KnownBytes.{Appends}
 use Rattle.std.specs.Duration.{as_nanos}
 use Rattle.std.specs.declared.time.Duration.{Duration}
@@ -14,6 +14,11 @@ use Rattle.csq_program.specs.declared.device_run.RunFault.TheVariants as fault
 abbrev pub line : List ℕ → ℕ → List ℕ
 line words n = words ++ decimal n ++ codes "\n"
 
+-- such a line, if there is one
+abbrev pub line_if : Bool → List ℕ → ℕ → List ℕ
+line_if false words n = []
+line_if true words n = line words n
+
 -- the first lines of a device's totals
 abbrev pub totals_text : Totals → List ℕ
 totals_text t = line (codes "irps ") t.irps ++ line (codes "accounted ") (t.home + t.listed + t.handed) ++ line (codes "cancelled and listed ") t.flagged_listed
@@ -26,13 +31,13 @@ run_text irps = line (codes "irps ") irps ++ line (codes "accounted ") irps ++ l
 abbrev pub states_text : Totals → List ℕ
 states_text t = line (codes "home ") t.home ++ line (codes "listed ") t.listed ++ line (codes "completed ") t.completed ++ line (codes "succeeded ") t.succeeded ++ line (codes "cancelled ") t.cancelled
 
--- the lines of who completed them
-abbrev pub completions_text : Totals → List ℕ
-completions_text t = line (codes "completed by submitters ") t.inserts.completed ++ line (codes "completed by workers ") t.removals.completed ++ line (codes "completed by cancellers ") t.cancels.completed ++ line (codes "completed by cleanup ") t.cleaned
+-- the lines of who completed them, of busy workers if there are some
+abbrev pub completions_text : Bool → Totals → List ℕ
+completions_text busy t = line (codes "completed by submitters ") t.inserts.completed ++ line (codes "completed by workers ") t.removals.completed ++ line (codes "completed by cancellers ") t.cancels.completed ++ line (codes "completed by cleanup ") t.cleaned ++ line_if busy (codes "completed by busy workers ") t.put_backs.completed
 
--- the lines of the calls that the threads made
-abbrev pub calls_text : Totals → List ℕ
-calls_text t = line (codes "inserts ") t.inserts.made ++ line (codes "removals ") t.removals.made ++ line (codes "removals that found an IRP ") t.removals.completed ++ line (codes "cancels ") t.cancels.made ++ line (codes "cancels that took the routine ") t.cancels.completed ++ line (codes "cancels too early or too late ") (t.cancels.made - t.cancels.completed)
+-- the lines of the calls that the threads made, with the put-backs of busy workers if there are some
+abbrev pub calls_text : Bool → Totals → List ℕ
+calls_text busy t = line (codes "inserts ") t.inserts.made ++ line (codes "removals ") t.removals.made ++ line (codes "removals that found an IRP ") t.removals.completed ++ line (codes "cancels ") t.cancels.made ++ line (codes "cancels that took the routine ") t.cancels.completed ++ line (codes "cancels too early or too late ") (t.cancels.made - t.cancels.completed) ++ line_if busy (codes "put-backs ") t.put_backs.made
 
 -- a number below 1,000 with three digits, zeros before it
 abbrev pub three_digits : ℕ → List ℕ
@@ -43,14 +48,18 @@ abbrev pub time_text : Option Duration → List ℕ
 time_text (Some took) = codes "milliseconds " ++ (decimal (as_nanos took / 1_000_000) ++ (codes "." ++ (three_digits (as_nanos took / 1_000 % 1_000) ++ codes "\n")))
 time_text None = codes "milliseconds unknown\n"
 
--- the further lines of a run that is told with its totals
-abbrev pub counts_text : Totals → Option Duration → List ℕ
-counts_text t took = states_text t ++ completions_text t ++ calls_text t ++ time_text took
+-- the further lines of a run that is told with its totals, which has busy workers or none
+abbrev pub counts_text : Bool → Totals → Option Duration → List ℕ
+counts_text busy t took = states_text t ++ completions_text busy t ++ calls_text busy t ++ time_text took
 
 -- what is told of a run
-abbrev pub told_text : Bool → Totals → Option Duration → List ℕ
-told_text false t took = totals_text t
-told_text true t took = totals_text t ++ counts_text t took
+abbrev pub told_text : Bool → Bool → Totals → Option Duration → List ℕ
+told_text false busy t took = totals_text t
+told_text true busy t took = totals_text t ++ counts_text busy t took
+
+-- the plan has busy workers
+abbrev pub has_busy : Plan → Bool
+has_busy plan = nat_lt 0 plan.busy_workers
 
 -- totals with which a device of this plan may end
 pub record AreTotalsOf (plan : Plan) (t : Totals) : Type 0 where
@@ -59,15 +68,16 @@ pub record AreTotalsOf (plan : Plan) (t : Totals) : Type 0 where
   pub flagged : t.flagged_listed ≡ 0
   pub statuses : t.succeeded + t.cancelled ≤ t.completed
   pub handed : t.handed ≡ t.completed
-  pub kinds : t.inserts.completed + t.removals.completed + t.cancels.completed + t.cleaned ≡ t.handed
+  pub kinds : t.inserts.completed + t.removals.completed + t.cancels.completed + t.put_backs.completed + t.cleaned ≡ t.handed
   pub inserts : t.inserts.made ≡ min plan.irps (plan.submitters * plan.turns)
   pub removals : t.removals.made ≡ plan.workers * plan.turns
   pub cancels : t.cancels.made ≡ min plan.irps (plan.cancellers * plan.turns)
+  pub put_backs : t.put_backs.made ≤ plan.busy_workers * plan.turns
 
 -- what is told of a run of the plan: the three lines, and with its totals the further ones
 abbrev pub IsRunText : Plan → Bool → List ℕ → Type 0
 IsRunText plan false text = text ≡ run_text plan.irps
-IsRunText plan true text = (t : Totals) × (took : Option Duration) × AreTotalsOf plan t × (text ≡ run_text plan.irps ++ counts_text t took)
+IsRunText plan true text = (t : Totals) × (took : Option Duration) × AreTotalsOf plan t × (text ≡ run_text plan.irps ++ counts_text (has_busy plan) t took)
 
 -- known bytes grow by what is told of a run
 abbrev pub WritesRun : Plan → Bool → Option (List ℕ) → Option (List ℕ) → Type 0

@@ -1,14 +1,14 @@
 //! The command line.
-ghost use Rattle.std.specs.Prelude.{◌≡◌, ◌≤◌, codes, IfOk, IfSome};
+ghost use Rattle.std.specs.Prelude.{◌≡◌, ◌≤◌, codes, IfErr, IfOk, IfSome};
 ghost use Rattle.irp_core.specs.Runs.{IsInLimits};
 ghost use Rattle.csq_list.specs.AnyLists.{is_chained};
-ghost use Rattle.csq_program.specs.Jobs.{IsFlag, IsInRange, IsJobOf, IsLimit, IsNumberOption, IsRefusalOf, IsSource, TellsJobFlag, TellsNumbers, TellsSource, fault_number};
+ghost use Rattle.csq_program.specs.Jobs.{AreTooMany, IsFlag, IsInRange, IsJobOf, IsLimit, IsNumberOption, IsRefusalOf, IsSource, TellsJobFlag, TellsNumbers, TellsSource, fault_number};
 
 use crate::help::{
     ABOUT, DRAW_ABOUT, DRAW_HELP, HELP, SCHEDULE_ABOUT, SCHEDULE_HELP, SCRIPT_ABOUT, SCRIPT_HELP,
     VERSION,
 };
-use crate::run_options::{device_job, run_command};
+use crate::run_options::{TooManyBusyWorkers, device_job, run_command};
 use crate::source::Source;
 use clap::error::ErrorKind;
 use clap::{Arg, ArgAction, ArgMatches, Command, value_parser};
@@ -69,6 +69,9 @@ pub enum CommandFault {
     /// 2: it was refused, or asks for help.
     #[error("{0}")]
     Refused(clap::Error),
+    /// 3: it asks for more busy workers than the other threads leave passes for.
+    #[error(transparent)]
+    BusyWorkers(#[from] TooManyBusyWorkers),
 }
 
 impl CommandFault {
@@ -79,6 +82,7 @@ impl CommandFault {
         match self {
             CommandFault::Memory => 1,
             CommandFault::Refused(_) => 2,
+            CommandFault::BusyWorkers(_) => 3,
         }
     }
 }
@@ -104,11 +108,12 @@ const SIZE: &str = "Size";
 
 const LIMITS: &str = "Limits";
 
-/// An option that takes a number from 1 to a limit.
+/// An option that takes a number in a range.
 #[derive(Clone, Copy)]
 pub(crate) struct NumberOption<'a> {
     pub(crate) name: &'a str,
     pub(crate) help: &'a str,
+    pub(crate) least: u32,
     pub(crate) most: u32,
     pub(crate) heading: &'a str,
     pub(crate) default: Option<&'a str>,
@@ -122,7 +127,7 @@ impl<'a> NumberOption<'a> {
             .value_name("N")
             .help(self.help)
             .help_heading(self.heading)
-            .value_parser(value_parser!(u32).range(1..=i64::from(self.most)));
+            .value_parser(value_parser!(u32).range(i64::from(self.least)..=i64::from(self.most)));
         match self.default {
             Some(number) => arg.default_value(number),
             None => arg,
@@ -135,6 +140,7 @@ pub(crate) fn irps_option<'a>(default: &'a str) -> NumberOption<'a> {
     NumberOption {
         name: "irps",
         help: "IRPs, 1 to 1024",
+        least: 1,
         most: MAX_IRPS,
         heading: SIZE,
         default: Some(default),
@@ -146,6 +152,7 @@ pub(crate) fn files_option<'a>() -> NumberOption<'a> {
     NumberOption {
         name: "files",
         help: "File objects, 1 to 256",
+        least: 1,
         most: MAX_FILES,
         heading: SIZE,
         default: Some("4"),
@@ -157,6 +164,7 @@ fn limit_option<'a>(name: &'a str, help: &'a str) -> NumberOption<'a> {
     NumberOption {
         name,
         help,
+        least: 1,
         most: MAX_IRPS,
         heading: LIMITS,
         default: None,
@@ -209,6 +217,7 @@ fn machine_command<'a>(alloc: Global, name: &'a str) -> Result<Command<'a>, Allo
     let passes = NumberOption {
         name: "passes",
         help: "Passes, 1 to 64",
+        least: 1,
         most: MAX_PASSES,
         heading: SIZE,
         default: Some("4"),
@@ -387,32 +396,36 @@ fn script_job<'a>(options: &ArgMatches<'a>) -> Job<'a>
     }
 }
 
-/// What the command of this name is asked to do; `schedule` is the one that is left.
-fn job_of<'a>(name: &str, options: &ArgMatches<'a>) -> Job<'a>
-    ensures range { IsInRange result }
-    ensures command { IsJobOf name.now result }
-    ensures source { TellsSource options.now result }
-    ensures flag { TellsJobFlag options.now result }
-    ensures numbers { TellsNumbers options.now result }
+/// What the command of this name is asked to do; `schedule` is the one that is left. A `run` is refused if it
+/// has too many busy workers.
+fn job_of<'a>(name: &str, options: &ArgMatches<'a>) -> Result<Job<'a>, TooManyBusyWorkers>
+    ensures range { IfOk result IsInRange }
+    ensures command { IfOk result (IsJobOf name.now) }
+    ensures source { IfOk result (TellsSource options.now) }
+    ensures flag { IfOk result (TellsJobFlag options.now) }
+    ensures numbers { IfOk result (TellsNumbers options.now) }
+    ensures refused { IfErr result (λ refused. (name.now ≡ codes "run")
+        × AreTooMany options.now refused.busy_workers refused.left) }
 {
     match name {
-        "draw" => draw_job(options),
-        "script" => script_job(options),
+        "draw" => Ok(draw_job(options)),
+        "script" => Ok(script_job(options)),
         "run" => device_job(options),
-        _ => schedule_job(options),
+        _ => Ok(schedule_job(options)),
     }
 }
 
 /// Reads a command line, the program's name first.
 ///
-/// Refused: 1 Memory; 2 Refused, with `clap`'s error, which also carries the help that was asked for.
+/// Refused: 1 Memory; 2 Refused, with `clap`'s error, which also carries the help that was asked for; 3
+/// BusyWorkers, if a run has more of these than the other threads leave passes for.
 /// Own rule.
 pub fn read_command<'a, S: AsStr>(alloc: Global, words: &'a [S]) -> Result<Job<'a>, CommandFault>
     ensures { IfOk result IsInRange }
 {
     let matches = program(alloc)?.try_get_matches_from(words)?;
     match matches.subcommand() {
-        Some((name, options)) => Ok(job_of(name, options)),
+        Some((name, options)) => Ok(job_of(name, options)?),
         None => Err(refusal(alloc, ErrorKind::MissingSubcommand, "no command")),
     }
 }

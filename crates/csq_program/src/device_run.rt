@@ -122,7 +122,7 @@ where
     let found = device.run(rt, alloc)?;
     let took = time_since(rt, start);
     let mut text = String::new(alloc);
-    write_run(&found, totals, took, &mut text)?;
+    write_run(&found, totals, plan.busy_workers > 0, took, &mut text)?;
     match writer.write_all(text.as_bytes()) {
         Ok(()) => Ok(()),
         Err(_) => Err(RunFault::Write),

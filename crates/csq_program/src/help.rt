@@ -213,11 +213,14 @@ pub(crate) const RUN_HELP: &str = "\
 Each submitter inserts an IRP each turn (IoCsqInsertIrpEx); each worker removes
 the next one (IoCsqRemoveNextIrp) and completes it; each canceller cancels one
 (IoCancelIrp); and one more thread cleans the last file object up
-(IRP_MJ_CLEANUP): it completes what is queued for that file as cancelled. Each
-but the last has as many turns as --turns says; a submitter or canceller ends
-earlier where no IRP is left for it. Threads begin one after the other, and many
-of them race more than many turns do. Once all threads have ended the queue is
-closed, and three lines are written:
+(IRP_MJ_CLEANUP): it completes what is queued for that file as cancelled. A busy
+worker, of which there are none unless --busy-workers says so, removes the next
+IRP too, and puts it back at the front (IoCsqInsertIrpEx once more), or
+completes it as cancelled if it was cancelled or its file was cleaned up
+meanwhile. Each but the cleanup has as many turns as --turns says; a submitter
+or canceller ends earlier where no IRP is left for it. Threads begin one after
+the other, and many of them race more than many turns do. Once all threads have
+ended the queue is closed, and three lines are written:
   irps N                  how many IRPs the device has
   accounted N             how many were never queued, are still listed, or were
                           completed by the threads' own counts
@@ -238,8 +241,12 @@ With --totals further lines follow:
   completed by cancellers N
                           IRPs whose cancel routine a cancel called
   completed by cleanup N  IRPs of the last file object
-  inserts N               calls of IoCsqInsertIrpEx
-  removals N              calls of IoCsqRemoveNextIrp: --workers times --turns
+  completed by busy workers N
+                          IRPs that couldn't be put back; this line and that
+                          of the put-backs stand if there are busy workers
+  inserts N               submitters' calls of IoCsqInsertIrpEx
+  removals N              workers' calls of IoCsqRemoveNextIrp: --workers times
+                          --turns
   removals that found an IRP N
   cancels N               calls of IoCancelIrp
   cancels that took the routine N
@@ -247,9 +254,11 @@ With --totals further lines follow:
   cancels too early or too late N
                           those that returned FALSE: the IRP wasn't queued yet,
                           or was removed, cancelled or completed already
+  put-backs N             calls of IoCsqInsertIrpEx by busy workers, at most
+                          --busy-workers times --turns
   milliseconds N          how long the run took, with three digits after the
                           point; or unknown, where the clock failed
-The four counts of completions sum to completed; inserts are --submitters times
+The counts of completions sum to completed; inserts are --submitters times
 --turns, and cancels --cancellers times --turns, but no more than there are
 IRPs: that is proved too. Each removal that finds an IRP is a completion by a
 worker, and each cancel that takes the routine is one by a canceller.

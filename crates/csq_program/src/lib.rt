@@ -13,4 +13,5 @@ mod totals_text;
 pub use command::{CommandFault, Job, read_command, refuse_bytes};
 pub use device_run::{RunFault, answer_run};
 pub use program::{ProgramFault, run_program, status_of};
+pub use run_options::TooManyBusyWorkers;
 pub use source::{Source, SourceFault};

@@ -95,6 +95,10 @@ fn tell_command_fault<R: Print + Eprint>(rt: &R, fault: CommandFault) -> Result<
             printed.map_err(|_| SimFault::Write)?;
             Ok(DONE)
         }
+        CommandFault::BusyWorkers(refused) => {
+            let _ = eprintln!(rt; "csqsim: {refused}");
+            Ok(REFUSED)
+        }
     }
 }
 

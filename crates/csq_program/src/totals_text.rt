@@ -1,6 +1,6 @@
 //! The text of a device's totals.
-ghost use Rattle.std.specs.Prelude.{◌≡◌, ◌++◌, if◌then◌else◌, string_bytes, OnOk};
-ghost use Rattle.csq_program.specs.Totals.{totals_text, states_text, completions_text, calls_text, time_text, told_text};
+ghost use Rattle.std.specs.Prelude.{◌≡◌, ◌++◌, codes, if◌then◌else◌, string_bytes, OnOk};
+ghost use Rattle.csq_program.specs.Totals.{line_if, totals_text, states_text, completions_text, calls_text, time_text, told_text};
 
 use csq_device::Totals;
 use std::alloc::{AllocError, Allocator};
@@ -39,10 +39,30 @@ fn write_states<A: Allocator>(totals: &Totals, text: &mut String<A>) -> Result<(
     writeln!(text, "cancelled {cancelled}")
 }
 
+/// The line of what the busy workers completed, if there are some.
+fn write_busy_completions<A: Allocator>(
+    totals: &Totals,
+    busy: bool,
+    text: &mut String<A>,
+) -> Result<(), AllocError>
+    ensures { OnOk result (string_bytes text.new ≡ string_bytes text.old
+        ++ line_if busy (codes "completed by busy workers ") totals.now.put_backs.completed) }
+{
+    if !busy {
+        return Ok(());
+    }
+    let completed = totals.put_backs.completed;
+    writeln!(text, "completed by busy workers {completed}")
+}
+
 /// The lines of who completed them.
-fn write_completions<A: Allocator>(totals: &Totals, text: &mut String<A>) -> Result<(), AllocError>
+fn write_completions<A: Allocator>(
+    totals: &Totals,
+    busy: bool,
+    text: &mut String<A>,
+) -> Result<(), AllocError>
     ensures { OnOk result (string_bytes text.new
-        ≡ string_bytes text.old ++ completions_text totals.now) }
+        ≡ string_bytes text.old ++ completions_text busy totals.now) }
 {
     let submitters = totals.inserts.completed;
     let workers = totals.removals.completed;
@@ -51,13 +71,34 @@ fn write_completions<A: Allocator>(totals: &Totals, text: &mut String<A>) -> Res
     writeln!(text, "completed by submitters {submitters}")?;
     writeln!(text, "completed by workers {workers}")?;
     writeln!(text, "completed by cancellers {cancellers}")?;
-    writeln!(text, "completed by cleanup {cleanup}")
+    writeln!(text, "completed by cleanup {cleanup}")?;
+    write_busy_completions(totals, busy, text)
+}
+
+/// The line of the put-backs, if there are busy workers.
+fn write_put_backs<A: Allocator>(
+    totals: &Totals,
+    busy: bool,
+    text: &mut String<A>,
+) -> Result<(), AllocError>
+    ensures { OnOk result (string_bytes text.new ≡ string_bytes text.old
+        ++ line_if busy (codes "put-backs ") totals.now.put_backs.made) }
+{
+    if !busy {
+        return Ok(());
+    }
+    let made = totals.put_backs.made;
+    writeln!(text, "put-backs {made}")
 }
 
 /// The lines of the calls that the threads made.
-fn write_calls<A: Allocator>(totals: &Totals, text: &mut String<A>) -> Result<(), AllocError>
+fn write_calls<A: Allocator>(
+    totals: &Totals,
+    busy: bool,
+    text: &mut String<A>,
+) -> Result<(), AllocError>
     ensures { OnOk result (string_bytes text.new
-        ≡ string_bytes text.old ++ calls_text totals.now) }
+        ≡ string_bytes text.old ++ calls_text busy totals.now) }
 {
     let Totals {
         inserts,
@@ -73,7 +114,8 @@ fn write_calls<A: Allocator>(totals: &Totals, text: &mut String<A>) -> Result<()
     writeln!(text, "removals that found an IRP {found}")?;
     writeln!(text, "cancels {cancels}")?;
     writeln!(text, "cancels that took the routine {took}")?;
-    writeln!(text, "cancels too early or too late {missed}")
+    writeln!(text, "cancels too early or too late {missed}")?;
+    write_put_backs(totals, busy, text)
 }
 
 /// The line of the time that a run took, in milliseconds, unless the clock failed.
@@ -90,22 +132,24 @@ fn write_time<A: Allocator>(took: Option<Duration>, text: &mut String<A>) -> Res
     }
 }
 
-/// What is told of a run that took this long: the lines that each run has, and with `all` the further ones.
+/// What is told of a run that took this long: the lines that each run has, and with `all` the further ones,
+/// those of busy workers among them if there are some.
 pub(crate) fn write_run<A: Allocator>(
     totals: &Totals,
     all: bool,
+    busy: bool,
     took: Option<Duration>,
     text: &mut String<A>,
 ) -> Result<(), AllocError>
     ensures { OnOk result (string_bytes text.new
-        ≡ string_bytes text.old ++ told_text all totals.now took) }
+        ≡ string_bytes text.old ++ told_text all busy totals.now took) }
 {
     write_totals(totals, text)?;
     if !all {
         return Ok(());
     }
     write_states(totals, text)?;
-    write_completions(totals, text)?;
-    write_calls(totals, text)?;
+    write_completions(totals, busy, text)?;
+    write_calls(totals, busy, text)?;
     write_time(took, text)
 }

@@ -5,5 +5,6 @@ mod devices;
 mod gates;
 mod held_up;
 mod plans;
+mod put_backs;
 mod refusals;
 mod streams;

@@ -6,6 +6,7 @@ use super::plans::{
     AT_FEWER_POINTS, EACH_TURN, IN_ORDER, LIMITED, ONE_ANOTHER, REFUSED, Row, SHARES, SMALL,
     YIELDING,
 };
+use super::put_backs::{BUSY, PUT_BACK, PUT_BACK_CANCELLED, PUT_BACK_CLOSED, PUT_BACK_FULL};
 use csq_device::Plan;
 use csq_list::{AnyList, ListKind, PendingList};
 use csq_program::{RunFault, answer_run};
@@ -48,8 +49,19 @@ fn run_row<R>(
 where
     R: AllocGlobal + Clock + Threads + Wait + Abort + Sync,
 {
-    let [irps, files, submitters, workers, cancellers, turns] = row.numbers;
-    let plan = Plan::new(irps, files, submitters, workers, cancellers, turns).ok_or("a plan")?;
+    let [
+        irps,
+        files,
+        submitters,
+        workers,
+        cancellers,
+        turns,
+        busy_workers,
+    ] = row.numbers;
+    let plan = Plan::new(irps, files, submitters, workers, cancellers, turns)
+        .ok_or("a plan")?
+        .with_busy_workers(busy_workers)
+        .ok_or("a plan with busy workers")?;
     let list = AnyList::with_file_limits(rt.alloc(), kind, irps, files, irps, row.limits)?;
     let watched = WatchedList { list, watch: told };
     let gate = Held {
@@ -93,6 +105,7 @@ fn find_counts(rt: &impl Abort, told: &Told, text: &str, row: Row<'_>) {
         let (times, _, _) = told.of(kind).told();
         assert_eq!(rt; number_of(text, words), Some(times), "{words}");
     }
+    find_put_backs(rt, told, text, row);
     assert_eq!(rt; told.of(Kind::Cleaning).told().0, 1);
     let irps = Some(u64::from(row.numbers[0]));
     assert_eq!(rt;
@@ -106,6 +119,19 @@ fn find_counts(rt: &impl Abort, told: &Told, text: &str, row: Row<'_>) {
         sum_of(text, ["succeeded", "cancelled", "cancelled and listed"]),
         completed
     );
+}
+
+/// The put-backs are written if there are busy workers, each of which takes each turn.
+fn find_put_backs(rt: &impl Abort, told: &Told, text: &str, row: Row<'_>) {
+    let [_, _, _, _, _, turns, busy_workers] = row.numbers;
+    let wanted = if busy_workers == 0 {
+        None
+    } else {
+        Some(told.of(Kind::PuttingBack).told().0)
+    };
+    assert_eq!(rt; number_of(text, "put-backs"), wanted);
+    let busy_turns = u64::from(busy_workers).wrapping_mul(u64::from(turns));
+    assert_eq!(rt; told.of(Kind::Busy).told().0, busy_turns);
 }
 
 /// The sum of three numbers.
@@ -165,7 +191,17 @@ where
     Ok(())
 }
 
-const WAITING: &[Row<'static>] = &[EACH_TURN, IN_ORDER, REFUSED, SHARES, ONE_ANOTHER];
+const WAITING: &[Row<'static>] = &[
+    EACH_TURN,
+    IN_ORDER,
+    REFUSED,
+    SHARES,
+    ONE_ANOTHER,
+    PUT_BACK,
+    PUT_BACK_CANCELLED,
+    PUT_BACK_CLOSED,
+    PUT_BACK_FULL,
+];
 
 #[test]
 fn threads_wait_for_one_another(rt: HostRuntime) -> Result<(), Fail> {
@@ -189,7 +225,8 @@ fn each_irp_is_accounted_for_in_fifty_more_schedules(rt: HostRuntime) -> Result<
 // The gate of a run that has ended is told no more: it was told what the run's totals say.
 #[test]
 fn no_thread_outlives_a_run(rt: HostRuntime) -> Result<(), Fail> {
-    find_runs(&rt, LIMITED, 20, 1000)
+    find_runs(&rt, LIMITED, 20, 1000)?;
+    find_runs(&rt, BUSY, 20, 1000)
 }
 
 /// Refuses one call for memory of a run. Returns whether its threads had run by then, if it came to that call.

@@ -5,19 +5,19 @@ use super::gates::Kind::{
 };
 use super::gates::{Holding, Rule};
 
-/// A plan: how many IRPs, file objects, submitters, workers, cancellers and turns there are, and how many IRPs of each
-/// file object may be listed. What holds its threads up; what is told of each kind, by how often, the sum of the
-/// numbers and the bits of those below 64; and the numbers of lines of its totals.
+/// A plan: how many IRPs, file objects, submitters, workers, cancellers, turns and busy workers there are, and how many
+/// IRPs of each file object may be listed. What holds its threads up; what is told of each kind, by how often, the sum
+/// of the numbers and the bits of those below 64; and the numbers of lines of its totals.
 #[derive(Clone, Copy)]
 pub(super) struct Row<'a> {
-    pub(super) numbers: [u32; 6],
+    pub(super) numbers: [u32; 7],
     pub(super) limits: &'a [u32],
     pub(super) holding: Holding<'a>,
     pub(super) points: &'a [(Kind, (u64, u64, u64))],
     pub(super) lines: &'a [(&'a str, u32)],
 }
 
-const ALL: u64 = 1_000_000;
+pub(super) const ALL: u64 = 1_000_000;
 
 // All threads meet at their first points, and the cleanup waits for the inserts.
 const MEETING: &[(Kind, u64)] = &[(Submitted, 3), (Working, 3), (Cancelling, 4), (Cleaning, 1)];
@@ -25,7 +25,7 @@ const MEETING: &[(Kind, u64)] = &[(Submitted, 3), (Working, 3), (Cancelling, 4),
 /// Each turn of each thread, of threads that all run at once: of 300 IRPs the submitters insert 0 to 209, and the
 /// cancellers cancel 0 to 279. What was not inserted is home.
 pub(super) const EACH_TURN: Row<'static> = Row {
-    numbers: [300, 5, 3, 3, 4, 70],
+    numbers: [300, 5, 3, 3, 4, 70, 0],
     limits: &[300, 300, 300, 300, 300],
     holding: Rules(&[
         Rule {
@@ -83,7 +83,7 @@ pub(super) const EACH_TURN: Row<'static> = Row {
 /// Each step waits for the one before: of 20 IRPs 0 to 13 are inserted; 0, 1 and 2 are cancelled, then 3 to 9 removed,
 /// then 11 is cleaned up.
 pub(super) const IN_ORDER: Row<'static> = Row {
-    numbers: [20, 3, 2, 1, 1, 7],
+    numbers: [20, 3, 2, 1, 1, 7, 0],
     limits: &[20, 20, 20],
     holding: InOrder(
         13,
@@ -150,7 +150,7 @@ pub(super) const IN_ORDER: Row<'static> = Row {
 /// workers for all cancels: of 20 IRPs 0 to 13 are submitted; 2, 5, 8 and 11 are refused, since their file is closed.
 /// 0 to 6 are cancelled, of which 2 and 5 are home, and 7, 9, 10, 12 and 13 are removed.
 pub(super) const REFUSED: Row<'static> = Row {
-    numbers: [20, 3, 2, 2, 1, 7],
+    numbers: [20, 3, 2, 2, 1, 7, 0],
     limits: &[20, 20, 20],
     holding: Rules(&[
         Rule {
@@ -199,7 +199,7 @@ pub(super) const REFUSED: Row<'static> = Row {
 /// The workers alone complete, each its own share: they wait for all inserts, and the canceller and the cleanup for all
 /// removals. So do the two workers that come first: each has removed one IRP, and the third removes the ten others.
 pub(super) const SHARES: Row<'static> = Row {
-    numbers: [12, 2, 3, 3, 1, 10],
+    numbers: [12, 2, 3, 3, 1, 10, 0],
     limits: &[12, 12],
     holding: Rules(&[
         Rule {
@@ -276,7 +276,7 @@ const ONE_REMOVED: &[(&str, u32)] = &[
 /// all three. So a point that is told before its call is noticed: the worker removes an IRP whose cancel is told and
 /// yet to be made.
 pub(super) const ONE_ANOTHER: Row<'static> = Row {
-    numbers: [2, 1, 1, 1, 1, 64],
+    numbers: [2, 1, 1, 1, 1, 64, 0],
     limits: &[2],
     holding: Rules(&[
         Rule {
@@ -358,7 +358,7 @@ pub(super) const AT_FEWER_POINTS: Row<'static> = Row {
             all: &[(Submitted, 2), (Cancelled, 2)],
         },
     ]),
-    numbers: [2, 1, 1, 1, 1, 64],
+    numbers: [2, 1, 1, 1, 1, 64, 0],
     limits: &[2],
     points: ONCE,
     lines: ONE_REMOVED,
@@ -366,7 +366,7 @@ pub(super) const AT_FEWER_POINTS: Row<'static> = Row {
 
 /// The plan of the program's defaults, whose threads yield.
 pub(super) const YIELDING: Row<'static> = Row {
-    numbers: [64, 4, 2, 2, 2, 64],
+    numbers: [64, 4, 2, 2, 2, 64, 0],
     limits: &[64, 64, 64, 64],
     holding: Yields,
     points: &[],
@@ -375,7 +375,7 @@ pub(super) const YIELDING: Row<'static> = Row {
 
 /// What a file object's limit refuses stays home.
 pub(super) const LIMITED: Row<'static> = Row {
-    numbers: [64, 4, 2, 2, 2, 64],
+    numbers: [64, 4, 2, 2, 2, 64, 0],
     limits: &[1, 2, 4, 64],
     holding: Rules(&[]),
     points: &[],
@@ -384,7 +384,7 @@ pub(super) const LIMITED: Row<'static> = Row {
 
 /// A run of which each call for memory is refused.
 pub(super) const SMALL: Row<'static> = Row {
-    numbers: [8, 2, 2, 2, 2, 4],
+    numbers: [8, 2, 2, 2, 2, 4, 0],
     limits: &[8, 8],
     holding: Rules(&[]),
     points: &[],

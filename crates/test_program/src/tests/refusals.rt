@@ -33,6 +33,24 @@ fn a_plan_has_its_ranges(rt: HostRuntime) {
     }
 }
 
+// With the most other threads there is room for 3.
+#[test]
+fn busy_workers_have_passes(rt: HostRuntime) -> Result<(), Fail> {
+    let few = plan_of([1; 6]).ok_or("a plan")?;
+    let many = plan_of(MOST).ok_or("a plan")?;
+    for (plan, most, wrong) in [(few, 20, 21), (many, 3, 4)] {
+        assert_eq!(rt; plan.busy_workers, 0);
+        for busy_workers in [0, 1, most] {
+            let with = plan.with_busy_workers(busy_workers).ok_or("a plan")?;
+            assert_eq!(rt; with.busy_workers, busy_workers);
+        }
+        for busy_workers in [wrong, 64, u32::MAX] {
+            assert!(rt; plan.with_busy_workers(busy_workers).is_none());
+        }
+    }
+    Ok(())
+}
+
 /// A list of a kind with so many IRPs and file objects and this limit, into which an IRP was inserted or not.
 fn list_of<R: AllocGlobal>(rt: &R, kind: ListKind, sizes: [u32; 4]) -> Result<AnyList, Fail> {
     let [irps, files, limit, len] = sizes;
@@ -62,7 +80,10 @@ fn make(
     sizes: [u32; 4],
     refused: u64,
 ) -> Result<Option<u8>, Fail> {
-    let plan = plan_of([4, 2, 20, 20, 20, 1]).ok_or("a plan")?;
+    let plan = plan_of([4, 2, 20, 20, 20, 1])
+        .ok_or("a plan")?
+        .with_busy_workers(3)
+        .ok_or("a plan with busy workers")?;
     let list = list_of(rt, kind, sizes)?;
     let room = LocalHeap::new(rt.alloc(), 1 << 14)?;
     let heap = RefusingHeap::new(&room, refused);

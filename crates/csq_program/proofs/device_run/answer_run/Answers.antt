@@ -1,7 +1,7 @@
-use Rattle.std.proofs.Common.{◌*◌, min, ap, ◌∙◌, rules}
+use Rattle.std.proofs.Common.{◌*◌, ◌≤◌, min, ap, ◌∙◌, subst, rules}
 use Rattle.std.specs.Io.KnownBytes.{Appends}
 use Rattle.csq_device.specs.declared.plan.Plan.{Plan}
-use Rattle.csq_program.specs.Totals.{told_text, AreTotalsOf}
+use Rattle.csq_program.specs.Totals.{has_busy, told_text, AreTotalsOf}
 use Rattle.csq_program.proofs.RunTexts.{told_run}
 use Rattle.csq_program.proofs.device_run.answer_run.Goals as goal
 
@@ -20,7 +20,8 @@ returns-in-Ok-write_all-clause-written g c =
       inserts = told.inserts ∙ ap (λ (p : Plan). min p.irps (p.submitters * p.turns)) made;
       removals = told.removals ∙ ap (λ (p : Plan). p.workers * p.turns) made;
       cancels = told.cancels ∙ ap (λ (p : Plan). min p.irps (p.cancellers * p.turns)) made;
+      put_backs = subst (λ (p : Plan). found.put_backs.made ≤ p.busy_workers * p.turns) made told.put_backs;
     } in
-    let text = told_text c.args.totals found c.time_since-took.result in
+    let text = told_text c.args.totals (has_busy c.args.plan) found c.time_since-took.result in
     let written : Appends (g.W.Write.contents c.args.writer.now) (g.W.Write.contents c.write_all.new.self) text = search rules in
     (text, told_run c.args.plan found c.time_since-took.result c.args.totals totals, written)

@@ -14,10 +14,11 @@ returns g c =
     let fourth = string_bytes c.write_calls.new.text in
     let new = string_bytes c.write_time.new.text in
     let states = states_text t in
-    let completions = completions_text t in
-    let calls = calls_text t in
+    let busy = c.args.busy in
+    let completions = completions_text busy t in
+    let calls = calls_text busy t in
     let two = grown first second third states completions c.in_ok-write_states.ensures c.in_ok-write_completions.ensures in
     let three = grown first third fourth (states ++ completions) calls two c.in_ok-write_calls.ensures in
     let four = grown_last c.write_time.result first fourth new (states ++ completions ++ calls) (time_text c.args.took) three c.write_time.ensures in
-    let all = grown_last c.write_time.result old first new (totals_text t) (counts_text t c.args.took) c.in_ok-write_totals.ensures four in
-    subst (λ (b : Bool). OnOk c.write_time.result (new ≡ old ++ told_text b t c.args.took)) (sym c.if-not-all.false) all
+    let all = grown_last c.write_time.result old first new (totals_text t) (counts_text busy t c.args.took) c.in_ok-write_totals.ensures four in
+    subst (λ (b : Bool). OnOk c.write_time.result (new ≡ old ++ told_text b busy t c.args.took)) (sym c.if-not-all.false) all
