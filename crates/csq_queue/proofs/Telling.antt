@@ -3,6 +3,7 @@ use Rattle.std.proofs.Common.{◌≡◌, ℕ, zero, suc, List, ◌∷◌, ap, �
 use mathlib.Core.Option.{some, some-injective}
 use lib.ListN.{get_elem?}
 use Rattle.irp_core.specs.declared.ids.IrpLife.{IrpLife}
+use Rattle.irp_core.specs.declared.inside.Inside.TheVariants.{Nothing}
 use Rattle.irp_core.specs.Lives.{HasBegun}
 use Rattle.csq_list.specs.Listing.{Listing}
 use Rattle.csq_words.specs.declared.views.Entry.{Entry}
@@ -11,8 +12,8 @@ use Rattle.csq_words.specs.declared.views.QueueRecord.{QueueRecord}
 use Rattle.csq_words.specs.Queue.{Limits}
 use Rattle.csq_words.specs.Rule.{HasBack}
 use Rattle.csq_words.specs.Finals.{FinalWords, AllBack, IsFinal}
-use Rattle.csq_words.specs.Stories.{Story, SeeOneHistory}
-use Rattle.csq_words.proofs.Stories.{a_story}
+use Rattle.csq_words.specs.Stories.{Story, StaysHaveStories, SeeOneHistory}
+use Rattle.csq_words.proofs.Stories.{a_story, stay_story}
 use Rattle.csq_words.proofs.OneHistory.{recorded_see}
 use Rattle.csq_queue.specs.Named.{queue_size}
 use Rattle.csq_queue.specs.Rests.{IsRestOf, IsClosed}
@@ -21,6 +22,15 @@ use Rattle.csq_queue.proofs.Backing.{still_at}
 -- the words are of as many IRPs as the limits say
 pub story_left : (limits : Limits) (finals : FinalWords) → finals.irps ≡ limits.irps → IsFinal (queue_size limits) finals.words finals.queue → AllBack finals.queue → (i : IrpLife) → HasBegun limits.first finals.queue.run i → Story finals i
 story_left limits finals irps last all i begun = subst (λ (f : FinalWords). Story f i) (λ k. record { irps = sym irps k; words = finals.words; queue = finals.queue }) (a_story (queue_size limits) finals.words finals.queue last all i begun)
+
+pub stay_left : (limits : Limits) (pass : PassRecord) (receipts : List PassRecord) (taken : ℕ) (listing : Listing) (finals : FinalWords)
+    → IsRestOf limits pass receipts taken listing finals → StaysHaveStories limits.first finals.queue.run finals.queue.history
+stay_left limits pass receipts taken listing finals rest =
+    subst (λ (first : ℕ). StaysHaveStories first finals.queue.run finals.queue.history) rest.first_is (stay_story (queue_size limits) finals.queue.run finals.queue Nothing rest.last.agrees.history_is)
+
+pub stay_in_open : (limits : Limits) (taken : ℕ) (old : QueueRecord) (listing : Listing) (finals : FinalWords) → IsClosed limits taken old listing finals → StaysHaveStories limits.first finals.queue.run old.history
+stay_in_open limits taken old listing finals closed =
+    subst (λ (z : ℕ × List Entry). StaysHaveStories z.0 finals.queue.run z.1) (λ k. (closed.first_is k, closed.given.history k)) (stay_story (queue_size limits) finals.queue.run finals.queue Nothing closed.last.agrees.history_is)
 
 pub closing_see : (limits : Limits) (pass : PassRecord) (receipts : List PassRecord) (taken : ℕ) (listing : Listing) (finals : FinalWords)
     → IsRestOf limits pass receipts taken listing finals → SeeOneHistory finals.queue.history finals.queue.run (pass ∷ receipts)

@@ -7,7 +7,7 @@ use Rattle.csq_words.specs.declared.views.PassRecord.{PassRecord}
 use Rattle.csq_words.specs.declared.views.QueueRecord.{QueueRecord}
 use Rattle.csq_words.specs.Queue.{Limits}
 use Rattle.csq_words.specs.Finals.{FinalWords}
-use Rattle.csq_words.specs.Stories.{Story, IsGivenOnce, SeeOneHistory}
+use Rattle.csq_words.specs.Stories.{Story, IsGivenOnce, StaysHaveStories, SeeOneHistory}
 use Rattle.csq_queue.specs.Named.{queue_size}
 use Rattle.csq_queue.specs.Told.{queue_with, SeesRun}
 use Rattle.csq_queue.specs.Rests.{IsClosed, IsRestOf}
@@ -21,6 +21,16 @@ EachIrpLeftHasAStory = (limits : Limits) (pass : PassRecord) (receipts : List Pa
 abbrev pub EachIrpOfAnOpenQueueHasAStory : Type 0
 EachIrpOfAnOpenQueueHasAStory = (limits : Limits) (taken : ℕ) (old : QueueRecord) (listing : Listing) (finals : FinalWords)
     → IsClosed limits taken old listing finals → (i : IrpLife) → HasBegun limits.first finals.queue.run i → Story finals i
+
+-- in what is left of a closed queue, each stay of an IRP that a put-back ended has its story
+abbrev pub EachStayLeftHasAStory : Type 0
+EachStayLeftHasAStory = (limits : Limits) (pass : PassRecord) (receipts : List PassRecord) (taken : ℕ) (listing : Listing) (finals : FinalWords)
+    → IsRestOf limits pass receipts taken listing finals → StaysHaveStories limits.first finals.queue.run finals.queue.history
+
+-- so it has in what is left of an open queue, by the history that this had
+abbrev pub EachStayInAnOpenQueueHasAStory : Type 0
+EachStayInAnOpenQueueHasAStory = (limits : Limits) (taken : ℕ) (old : QueueRecord) (listing : Listing) (finals : FinalWords)
+    → IsClosed limits taken old listing finals → StaysHaveStories limits.first finals.queue.run old.history
 
 -- in what a pass has seen, each life of each IRP was given out at most once
 abbrev pub EachIrpSeenIsGivenOnce : Type 0

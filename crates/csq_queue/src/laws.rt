@@ -1,6 +1,6 @@
 //! What happened to each IRP of a queue, and what its passes have seen. Each function stands for a law: its
 //! contract is the law, and there is nothing to run.
-ghost use Rattle.csq_queue.specs.Stories.{EachIrpSeenIsGivenOnce, EachIrpLeftHasAStory, EachIrpOfAnOpenQueueHasAStory, ClosingPassesSeeOneHistory, PassesOfAnOpenQueueSeeOneHistory};
+ghost use Rattle.csq_queue.specs.Stories.{EachIrpSeenIsGivenOnce, EachIrpLeftHasAStory, EachIrpOfAnOpenQueueHasAStory, EachStayLeftHasAStory, EachStayInAnOpenQueueHasAStory, ClosingPassesSeeOneHistory, PassesOfAnOpenQueueSeeOneHistory};
 ghost use Rattle.csq_queue.specs.Order.{CallsAreOrdered, CallsComeAfterWhatWasSeen, StepsComeAfterWhatWasSeen, CallsToldOfCameFirst, EventsLeftStandInOrder, EventsOfAnOpenQueueStandInOrder};
 
 /// Where the history and the run that a pass has seen agree, as after each of its calls under the lock: an IRP,
@@ -24,6 +24,18 @@ pub fn each_irp_left_has_a_story()
 /// The same where `OpenQueue::close` answers, of the history that the queue had.
 pub fn each_irp_of_an_open_queue_has_a_story()
     ensures { EachIrpOfAnOpenQueueHasAStory }
+{}
+
+/// If `Csq::close` or `Csq::close_with` returns `Ok`, so has each earlier stay of an IRP in the queue, which a
+/// put-back ended: one pass had inserted the IRP, or put it back before, and it was given to one pass, which put
+/// it back.
+pub fn each_stay_left_has_a_story()
+    ensures { EachStayLeftHasAStory }
+{}
+
+/// The same if `OpenQueue::close` returns, of the history that the queue had.
+pub fn each_stay_in_an_open_queue_has_a_story()
+    ensures { EachStayInAnOpenQueueHasAStory }
 {}
 
 /// Where `Csq::close` or `Csq::close_with` answers `Ok`, the closing pass and those of the receipts have seen

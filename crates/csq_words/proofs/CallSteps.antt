@@ -1,5 +1,6 @@
 -- The steps of a call under the lock keep the rule.
-use Rattle.std.proofs.Common.{false, ◌≡◌, ℕ, ◌*◌, ◌≤◌, not, ◌&&◌, List, [], ◌∷◌, ◌++◌, map, length, set, Some, refl, sym, ap, ◌∙◌, arith}
+use Rattle.csq_words.proofs.Named.{by_pass}
+use Rattle.std.proofs.Common.{true, false, cond, ◌≡◌, ℕ, ◌*◌, ◌≤◌, not, ◌&&◌, List, [], ◌∷◌, ◌++◌, map, length, set, Some, refl, sym, ap, ◌∙◌, subst, arith}
 use Rattle.irp_core.specs.Own.{inside_of}
 use Rattle.irp_core.specs.declared.ids.PassId.{PassId}
 use Rattle.irp_core.specs.declared.step.Kind.{Kind}
@@ -8,6 +9,7 @@ use Rattle.irp_core.specs.declared.ids.IrpLife.{IrpLife}
 use Rattle.irp_core.specs.Inside.{inside, inside_after}
 use Rattle.irp_core.specs.Owners.{listed}
 use Rattle.irp_core.specs.Runs.{Size, IsRun}
+use Rattle.irp_core.proofs.Names.{same_pass-refl}
 use Rattle.irp_core.proofs.Next.{IsFreeFor}
 use Rattle.csq_words.specs.declared.views.Event.{Event}
 use Rattle.csq_words.specs.declared.views.Completion.{Completion}
@@ -15,7 +17,7 @@ use Rattle.csq_words.specs.declared.views.PassRecord.{PassRecord}
 use Rattle.csq_words.specs.declared.views.QueueRecord.{QueueRecord}
 use Rattle.csq_words.specs.declared.views.View.{View}
 use Rattle.csq_words.specs.Queue.{has_entry, has_irp}
-use Rattle.csq_words.specs.History.{end_of, IsOrderly, given_to}
+use Rattle.csq_words.specs.History.{end_of, IsOrderly, given_to, OwnersPutBack}
 use Rattle.csq_words.specs.Records.{view_of, entries_of, with_events, with_calls, with_step, with_run, with_reusing}
 use Rattle.irp_core.specs.Steps.{own}
 use Rattle.irp_core.specs.Words.{was_armed}
@@ -27,7 +29,7 @@ use Rattle.csq_words.specs.Rule.{inserts, lists, again, in_flight, passes_given,
 use Rattle.csq_words.proofs.PassSteps.{AllWords}
 use Rattle.irp_core.proofs.Own.{own-mine, own-other}
 use Rattle.csq_words.proofs.Keeping.{inside_is, only_joined, nobody_in}
-use Rattle.csq_words.proofs.SeatSteps.{locked_step, inside_other, begun_more}
+use Rattle.csq_words.proofs.SeatSteps.{locked_step, again_locks, inside_other, begun_more}
 use Rattle.csq_words.proofs.Facts.{extended_more}
 use Rattle.csq_words.proofs.Entries.{begins_more, calls_of-other, calls_of-mine}
 
@@ -75,6 +77,8 @@ pub record IsMade (size : Size) (words words' : List ℕ) (run : List Made) (q :
   pub true_of : AreTrueOf q.first (record { pass = r.pass; kind = kind; found = n } ∷ run) (entries_of r.pass es ++ q.history)
   pub orderly : IsOrderly q.first (entries_of r.pass es ++ q.history)
   pub given_is : (i : IrpLife) → again (inside_after (inside_of r.steps) kind n) i ≡ false → given_to q.first i (entries_of r.pass es ++ q.history) ≡ passes_given (record { pass = r.pass; kind = kind; found = n } ∷ run) i
+  pub given_back : (i : IrpLife) → again (inside_after (inside_of r.steps) kind n) i ≡ true → given_to q.first i (entries_of r.pass es ++ q.history) ≡ r.pass ∷ []
+  pub owners : OwnersPutBack q.first (entries_of r.pass es ++ q.history)
   pub due : AreDue r.steps r.completed → AreDue (record { pass = r.pass; kind = kind; found = n } ∷ r.steps) r.completed
 
 -- the queue's record after it, which has observed this execution
@@ -104,6 +108,8 @@ made_kept size words words' views run id q r seat kind n es reuse k x placed =
     let r' = with_calls es (with_step kind n r) in
     let owner = (k.each_view id (view_of q (Some r)) k.queue_is).pass_here r refl in
     let was = owner.2.of_pass in
+    let inside_mine : inside (m ∷ run) r.pass ≡ inside_after (inside_of r.steps) kind n =
+    ap (λ b. cond b (inside_after (inside run r.pass) kind n) (inside run r.pass)) (same_pass-refl r.pass) ∙ ap (λ s. inside_after s kind n) (sym (inside_is run r words q owner.2)) in
     let history_is : IsHistoryOf size (m ∷ run) q' (in_flight (Some r')) = record {
       is_run = x.is_run;
       first_is = k.agrees.history_is.first_is;
@@ -113,6 +119,10 @@ made_kept size words words' views run id q r seat kind n es reuse k x placed =
       true_of = x.true_of;
       orderly = x.orderly;
       given_is = x.given_is;
+      given_back = λ p i h. by_pass (given_to q.first i history' ≡ p ∷ []) p r.pass
+          (λ same. subst (λ (o : PassId). given_to q.first i history' ≡ o ∷ []) (sym same) (x.given_back i (ap (λ s. again s i) (sym inside_mine) ∙ (ap (λ (o : PassId). again (inside (m ∷ run) o) i) (sym same) ∙ h))))
+          (λ ne. absurd (ne (only_joined run r k.lock p (again_locks (inside run p) i (ap (λ s. again s i) (sym (inside_other m run p ne)) ∙ h)))));
+      owners = x.owners;
       placed = placed;
     } in
     let pass_is : IsPassOf (m ∷ run) history' r' = record {

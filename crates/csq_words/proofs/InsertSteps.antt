@@ -32,7 +32,7 @@ use Rattle.irp_core.specs.Words.{was_armed}
 use Rattle.csq_words.specs.Rule.{WasCancelled, is_done, inserts, lists, again}
 use Rattle.csq_words.specs.Calls.{recorded}
 use Rattle.csq_words.specs.declared.views.InsertReply.TheVariants.{Pending}
-use Rattle.csq_words.proofs.Facts.{off, due_more, given_miss, given_hit, fresh, set_listed, listed_undone, done_over, listed_taken, flag_seen, armed_own, seen_own, bit_true, bit_bound}
+use Rattle.csq_words.proofs.Facts.{off, due_more, given_miss, given_hit, fresh, set_listed, listed_undone, done_over, listed_taken, flag_seen, armed_own, seen_own, bit_true, bit_bound, again_disarm}
 use Rattle.irp_core.proofs.Own.{own_made, own_stays}
 use Rattle.csq_words.proofs.Named.{by_irp, same_irp-is}
 use Rattle.csq_words.proofs.Truths.{true_stays, truths_stay}
@@ -95,6 +95,8 @@ module _ (size : Size) (words : List ℕ) (run : List Made) (q : QueueRecord) (r
           true_of = truths_stay size m run is_run q.first q.history x.history_is.true_of;
           orderly = x.history_is.orderly;
           given_is = λ j n. x.history_is.given_is j (ap (λ s. again s j) outside);
+          given_back = λ j n. off n;
+          owners = x.history_is.owners;
           due = due_more (record { pass = r.pass; kind = Arm i; found = v }) r.steps r.completed (λ j. refl);
         }
 
@@ -147,6 +149,8 @@ module _ (size : Size) (words : List ℕ) (run : List Made) (q : QueueRecord) (r
       true_of = (true_stays size _ run (test_run 0 is) (queue_of q) r.pass (event.Insert n f place Pending) (armed_own run r.pass i (sym x.same ∙ after_arm)), truths_stay size _ run (test_run 0 is) q.first q.history x.history_is.true_of);
       orderly = (unused_yet flight_of_arm listed_of_arm, x.history_is.orderly);
       given_is = λ j n. x.history_is.given_is j (ap (λ s. again s j) after_arm);
+      given_back = λ j n. off (rw after_arm at n);
+      owners = ((λ j n. off n), x.history_is.owners);
       due = due_more (record { pass = r.pass; kind = Test i; found = 0 }) r.steps r.completed (λ j. refl);
     }
     test_made (suc zero) is = record {
@@ -162,6 +166,8 @@ module _ (size : Size) (words : List ℕ) (run : List Made) (q : QueueRecord) (r
       true_of = truths_stay size _ run (test_run 1 is) q.first q.history x.history_is.true_of;
       orderly = x.history_is.orderly;
       given_is = λ j n. x.history_is.given_is j (ap (λ s. again s j) after_arm);
+      given_back = λ j n. off (rw after_arm at n);
+      owners = x.history_is.owners;
       due = due_more (record { pass = r.pass; kind = Test i; found = 1 }) r.steps r.completed (λ j. refl);
     }
     test_made (suc (suc v)) is = let b = bit_bound (flagged run i) in absurd (omega arith)
@@ -206,6 +212,8 @@ module _ (size : Size) (words : List ℕ) (run : List Made) (q : QueueRecord) (r
           );
           orderly = (placed_unmarked place i f (queue_of q).entries, (unused_yet flight_of_seen listed_of_seen, x.history_is.orderly));
           given_is = λ j n. x.history_is.given_is j (ap (λ s. again s j) seen) ∙ given_miss r.pass i j run;
+          given_back = λ j n. off (sym (again_disarm (inside_of r.steps) 0 j) ∙ n);
+          owners = ((λ j n. off n), ((λ j n. off n), x.history_is.owners));
           due = due_more (record { pass = r.pass; kind = Disarm i; found = 0 }) r.steps r.completed (λ j. refl);
         }
     disarm_made (suc zero) is =
@@ -235,6 +243,8 @@ module _ (size : Size) (words : List ℕ) (run : List Made) (q : QueueRecord) (r
           );
           orderly = ((unused_yet flight_of_seen listed_of_seen, ap (λ b. b || has_irp (queue_of q).flags i) (same_irp-refl i)), (tt, x.history_is.orderly));
           given_is = λ j n. ap (λ l. cond (same_irp i j) (r.pass ∷ l) l) (x.history_is.given_is j (ap (λ s. again s j) seen)) ∙ given_hit size run x.history_is.is_run r.pass i (bit_true (armed run i) 1 is (omega arith)) j;
+          given_back = λ j n. off (sym (again_disarm (inside_of r.steps) 1 j) ∙ n);
+          owners = ((λ j n. off n), ((λ j n. off n), x.history_is.owners));
           due = due_more (record { pass = r.pass; kind = Disarm i; found = 1 }) r.steps r.completed (λ j. refl);
         }
     disarm_made (suc (suc v)) is = let b = bit_bound (armed run i) in absurd (omega arith)

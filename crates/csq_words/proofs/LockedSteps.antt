@@ -40,7 +40,7 @@ use Rattle.csq_words.specs.declared.views.QueueRecord.{QueueRecord}
 use Rattle.csq_words.specs.declared.views.View.{View}
 use Rattle.csq_words.specs.Words.{cancel_at, routine_at, bit_word, life_in, bit_in}
 use Rattle.csq_words.specs.Queue.{current, has_entry, has_irp, has_marked}
-use Rattle.csq_words.specs.History.{given_to, end_of, MayStand, IsOrderly}
+use Rattle.csq_words.specs.History.{given_to, end_of, MayStand, IsOrderly, OwnersPutBack}
 use Rattle.csq_words.specs.Records.{view_of, queue_in, pass_in, queue_of, entries_of, with_events, with_calls, with_step, with_run, with_back}
 use Rattle.csq_words.specs.Seats.{HasQueue}
 use Rattle.csq_words.specs.Recorded.{IsOfCall, IsPlaced}
@@ -111,14 +111,14 @@ module _ (size : Size) (words : List ℕ) (run : List Made) (q : QueueRecord) (r
       subst (λ (l : IrpLife). inside_of r.steps ≡ FlagSeen l → number l < size.irps → n ≡ found_by run (Disarm l) → Made' (Insert m f place) (Disarm l) n) (sym e)
       (λ seen inside' at. disarm_made size words run q r x m f place inside' seen n at) seen known is
   making (RemoveNext k) (Disarm j) (removes, next) known n is =
-      removal_disarm j known removes (next_listed k (queue_of q).entries j next) (RemoveNext k) (event.RemoveNext k (Some j)) record { taken = λ u. refl; says = λ E u p h. h; gives_out = λ f p h j. refl } (next_first k (queue_of q).entries j next) refl refl n is
+      removal_disarm j known removes (next_listed k (queue_of q).entries j next) (RemoveNext k) (event.RemoveNext k (Some j)) record { taken = λ u. refl; says = λ E u p h. h; gives_out = λ f p h j. refl; stays_out = λ j. refl } (next_first k (queue_of q).entries j next) refl refl n is
   making (Remove i) (Disarm j) (e, removes, there) known n is =
       subst (λ (l : IrpLife). number l < size.irps → n ≡ found_by run (Disarm l) → Made' (Remove i) (Disarm l) n) (sym e)
-      (λ inside' at. removal_disarm i inside' removes there (Remove i) (event.Remove i true) record { taken = λ u. refl; says = λ E u p h. h; gives_out = λ f p h j. refl } (λ clear. sym (unmarked_else i (queue_of q).entries there clear)) refl refl n at) known is
+      (λ inside' at. removal_disarm i inside' removes there (Remove i) (event.Remove i true) record { taken = λ u. refl; says = λ E u p h. h; gives_out = λ f p h j. refl; stays_out = λ j. refl } (λ clear. sym (unmarked_else i (queue_of q).entries there clear)) refl refl n at) known is
   making (RemoveNext k) End (removes, none') known n is =
-      subst (λ v. IsMade size words words run q r End v (event.RemoveNext k None ∷ []) q.reusing) (sym is) (end_made size words run q r x removes (event.RemoveNext k None) record { left = λ u. refl; plain = λ E u p. tt; gives_none = λ f p h j. refl } (sym none'))
+      subst (λ v. IsMade size words words run q r End v (event.RemoveNext k None ∷ []) q.reusing) (sym is) (end_made size words run q r x removes (event.RemoveNext k None) record { left = λ u. refl; plain = λ E u p. tt; gives_none = λ f p h j. refl; stays_out = λ j. refl } (sym none'))
   making (Remove i) End (removes, none') known n is =
-      subst (λ v. IsMade size words words run q r End v (event.Remove i false ∷ []) q.reusing) (sym is) (end_made size words run q r x removes (event.Remove i false) record { left = λ u. refl; plain = λ E u p. tt; gives_none = λ f p h j. refl } (sym none'))
+      subst (λ v. IsMade size words words run q r End v (event.Remove i false ∷ []) q.reusing) (sym is) (end_made size words run q r x removes (event.Remove i false) record { left = λ u. refl; plain = λ E u p. tt; gives_none = λ f p h j. refl; stays_out = λ j. refl } (sym none'))
   making (CancelRoutine m) (Out j) (e, outside, owed) known n is =
       subst (λ v. Made' (CancelRoutine m) (Out j) v) (sym is) (out_made size words run q r x j known outside owed)
   making (PutBack i f place) (Rearm j) (e, outside, held, got) known n is =
@@ -282,6 +282,7 @@ record AreSilent (p : PassId) (es : List Event) : Type 0 where
   plain : (first : ℕ) (run : List Made) (history : List Entry) → AreTrueOf first run history → AreTrueOf first run (entries_of p es ++ history)
   orderly : (first : ℕ) (history : List Entry) → IsOrderly first history → IsOrderly first (entries_of p es ++ history)
   given_same : (first : ℕ) (history : List Entry) (i : IrpLife) → given_to first i (entries_of p es ++ history) ≡ given_to first i history
+  owners : (first : ℕ) (history : List Entry) → OwnersPutBack first history → OwnersPutBack first (entries_of p es ++ history)
 
 module _ (size : Size) (words : List ℕ) (views : List View) (run : List Made) (id : ℕ) (q : QueueRecord) (r : PassRecord) (seat : PassId → ℕ) (k : RuleHoldsBy size words views run id q (Some r) seat) where
   owner : (seat r.pass ≡ id) × IsOut q r.pass × IsRecord q.first words run q.history r
@@ -310,6 +311,8 @@ module _ (size : Size) (words : List ℕ) (views : List View) (run : List Made) 
         true_of = quiet.plain q.first run q.history h.true_of;
         orderly = quiet.orderly q.first q.history h.orderly;
         given_is = λ i n. quiet.given_same q.first q.history i ∙ h.given_is i n;
+        given_back = λ p i n. quiet.given_same q.first q.history i ∙ h.given_back p i n;
+        owners = quiet.owners q.first q.history h.owners;
         placed = placed;
       } in
       let pass_is : IsPassOf run history' r' = record {
@@ -368,7 +371,7 @@ module _ (size : Size) (words : List ℕ) (views : List View) (run : List Made) 
         agrees = record {
           wide = flight.wide;
           words_are = flight.words_are;
-          history_is = (let f = flight.history_is in record { is_run = f.is_run; first_is = f.first_is; listed_is = f.listed_is; used_is = f.used_is; lives_are = f.lives_are; true_of = f.true_of; orderly = f.orderly; given_is = f.given_is; placed = f.placed });
+          history_is = (let f = flight.history_is in record { is_run = f.is_run; first_is = f.first_is; listed_is = f.listed_is; used_is = f.used_is; lives_are = f.lives_are; true_of = f.true_of; orderly = f.orderly; given_is = f.given_is; given_back = f.given_back; owners = f.owners; placed = f.placed });
           reuse_is = flight.reuse_is;
           shown = λ i o e. let g = flight.shown i o e in (suc g.0, g.1);
           backs = each_back (IsBack words run q') r q.back record { is_record = owner.2; rests = rests may; made = owner.1.to } (λ i o e. let b = flight.backs i o e in record { is_record = b.is_record; rests = b.rests; made = b.made });
@@ -418,15 +421,15 @@ module _ (size : Size) (words : List ℕ) (views : List View) (run : List Made) 
   note_kept : (call : Call) (n : Note) → MayNote size.irps call n q r → Noted call n
   note_kept (Insert i f place) (Refused cause) may =
       let es = event.Insert i f place (reply.Refused cause) ∷ [] in
-      let kept = noted_kept es record { listed_same = λ h f. refl; used_same = λ h f. refl; lives_same = λ h f. refl; plain = λ f E h t. (tt, t); orderly = λ f h o. (tt, o); given_same = λ f h i. refl } (noting (Insert i f place) (Refused cause) r.pass (nobody_locks may) k.agrees.history_is.placed) in
+      let kept = noted_kept es record { listed_same = λ h f. refl; used_same = λ h f. refl; lives_same = λ h f. refl; plain = λ f E h t. (tt, t); orderly = λ f h o. (tt, o); given_same = λ f h i. refl; owners = λ f h o. ((λ i n. off n), o) } (noting (Insert i f place) (Refused cause) r.pass (nobody_locks may) k.agrees.history_is.placed) in
       record { left = run; queue = with_events r.pass es (with_run run q); joined = Some (with_calls es r); records = refl; kept = kept.0; told = kept.1 }
   note_kept (PutBack i f place) (Refused cause) may =
       let es = event.PutBack i f place (reply.Refused cause) ∷ [] in
-      let kept = noted_kept es record { listed_same = λ h f. refl; used_same = λ h f. refl; lives_same = λ h f. refl; plain = λ f E h t. (tt, t); orderly = λ f h o. (tt, o); given_same = λ f h i. refl } (noting (PutBack i f place) (Refused cause) r.pass (nobody_locks may) k.agrees.history_is.placed) in
+      let kept = noted_kept es record { listed_same = λ h f. refl; used_same = λ h f. refl; lives_same = λ h f. refl; plain = λ f E h t. (tt, t); orderly = λ f h o. (tt, o); given_same = λ f h i. refl; owners = λ f h o. ((λ i n. off n), o) } (noting (PutBack i f place) (Refused cause) r.pass (nobody_locks may) k.agrees.history_is.placed) in
       record { left = run; queue = with_events r.pass es (with_run run q); joined = Some (with_calls es r); records = refl; kept = kept.0; told = kept.1 }
   note_kept (CloseFile f) note.Event may =
       let es = event.CloseFile f ∷ [] in
-      let kept = noted_kept es record { listed_same = λ h f. refl; used_same = λ h f. refl; lives_same = λ h f. refl; plain = λ f E h t. (tt, t); orderly = λ f h o. (tt, o); given_same = λ f h i. refl } (noting (CloseFile f) note.Event r.pass (nobody_locks may) k.agrees.history_is.placed) in
+      let kept = noted_kept es record { listed_same = λ h f. refl; used_same = λ h f. refl; lives_same = λ h f. refl; plain = λ f E h t. (tt, t); orderly = λ f h o. (tt, o); given_same = λ f h i. refl; owners = λ f h o. ((λ i n. off n), o) } (noting (CloseFile f) note.Event r.pass (nobody_locks may) k.agrees.history_is.placed) in
       record { left = run; queue = with_events r.pass es (with_run run q); joined = Some (with_calls es r); records = refl; kept = kept.0; told = kept.1 }
   note_kept (RemoveNext k') n may =
       let es = event.RemoveNext k' None ∷ [] in

@@ -49,7 +49,7 @@ alone_kept size words views run id q seat k =
       agrees = record {
         wide = a.wide;
         words_are = a.words_are;
-        history_is = record { is_run = told.is_run; first_is = told.first_is; listed_is = told.listed_is; used_is = told.used_is; lives_are = told.lives_are; true_of = told.true_of; orderly = told.orderly; given_is = told.given_is; placed = told.placed };
+        history_is = record { is_run = told.is_run; first_is = told.first_is; listed_is = told.listed_is; used_is = told.used_is; lives_are = told.lives_are; true_of = told.true_of; orderly = told.orderly; given_is = told.given_is; given_back = told.given_back; owners = told.owners; placed = told.placed };
         reuse_is = a.reuse_is;
         backs = λ i o e. let b = a.backs i o e in record { is_record = b.is_record; rests = b.rests; made = b.made };
         back_once = a.back_once;

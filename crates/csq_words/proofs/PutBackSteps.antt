@@ -33,7 +33,7 @@ use Rattle.csq_words.specs.Records.{queue_of}
 use Rattle.csq_words.specs.Words.{routine_at, bit_word}
 use Rattle.csq_words.specs.Rule.{WasCancelled, is_done, was_put_back, inserts, lists, again, passes_given}
 use Rattle.csq_words.specs.Calls.{recorded}
-use Rattle.csq_words.proofs.Facts.{off, due_more, due_rearm, given_miss, given_hit, held_gone, here_not_gone, undone_own, completed_in_done, open_now, open_undone, set_listed, listed_now, listed_undone, listed_taken, flag_seen_again, rearmed_own, seen_again_own, bit_true, bit_bound}
+use Rattle.csq_words.proofs.Facts.{off, due_more, due_rearm, given_miss, given_hit, held_gone, here_not_gone, undone_own, completed_in_done, open_now, open_undone, set_listed, listed_now, listed_undone, listed_taken, flag_seen_again, rearmed_own, seen_again_own, bit_true, bit_bound, again_disarm, held_given}
 use Rattle.csq_words.proofs.Named.{by_irp, same_irp-is}
 use Rattle.csq_words.proofs.Truths.{true_stays, truths_stay}
 use Rattle.csq_words.proofs.Changes.{routine_of, rearm_words, disarm_words, test_words, stored_else, status_routine}
@@ -91,6 +91,8 @@ module _ (size : Size) (words : List ℕ) (run : List Made) (q : QueueRecord) (r
           true_of = truths_stay size m run longer q.first q.history x.history_is.true_of;
           orderly = x.history_is.orderly;
           given_is = λ j n. x.history_is.given_is j (ap (λ s. again s j) outside) ∙ rw n refl;
+          given_back = λ j n. x.history_is.given_is j (ap (λ s. again s j) outside) ∙ (ap (passes_given run) (sym (same_irp-eq i j n)) ∙ held_given size run is_run i r.pass held_run);
+          owners = x.history_is.owners;
           due = due_rearm m i r.steps r.completed (λ j ne. ne) not_completed;
         }
 
@@ -112,6 +114,10 @@ module _ (size : Size) (words : List ℕ) (run : List Made) (q : QueueRecord) (r
 
     placed_now : (j : IrpLife) → has_entry (put_at place (new_entry i f) (queue_of q).entries) j ≡ listed run j
     placed_now j = has_entry-placed place (new_entry i f) (queue_of q).entries j ∙ joins i j _ (listed run j) (λ e. ap (listed run) (sym e) ∙ is_listed) (entries_are j)
+
+    -- whoever puts it back was given it
+    given_mine : (j : IrpLife) → same_irp i j ≡ true → given_to q.first j q.history ≡ r.pass ∷ []
+    given_mine j e = x.history_is.given_back r.pass j (ap (λ s. again s j) (sym x.same) ∙ ((flight j).2 ∙ e))
 
     -- whom it was given to before has it no more
     given_now : (j : IrpLife) → cond (same_irp i j) [] (given_to q.first j q.history) ≡ passes_given run j
@@ -146,6 +152,8 @@ module _ (size : Size) (words : List ℕ) (run : List Made) (q : QueueRecord) (r
       true_of = (true_stays size _ run (test_run 0 is) (queue_of q) r.pass (event.PutBack i f place Pending) (rearmed_own run r.pass i (sym x.same ∙ after_rearm)), truths_stay size _ run (test_run 0 is) q.first q.history x.history_is.true_of);
       orderly = (is_gone flight_of_rearm listed_of_rearm, x.history_is.orderly);
       given_is = λ j n. given_now flight_of_rearm listed_of_rearm j;
+      given_back = λ j n. off (rw after_rearm at n);
+      owners = (given_mine flight_of_rearm listed_of_rearm, x.history_is.owners);
       due = due_more (record { pass = r.pass; kind = Test i; found = 0 }) r.steps r.completed (λ j. refl);
     }
     test_again_made (suc zero) is = record {
@@ -161,6 +169,8 @@ module _ (size : Size) (words : List ℕ) (run : List Made) (q : QueueRecord) (r
       true_of = truths_stay size _ run (test_run 1 is) q.first q.history x.history_is.true_of;
       orderly = x.history_is.orderly;
       given_is = λ j n. x.history_is.given_is j (ap (λ s. again s j) after_rearm ∙ (rw after_rearm at n));
+      given_back = λ j n. given_mine flight_of_rearm listed_of_rearm j (rw after_rearm at n);
+      owners = x.history_is.owners;
       due = due_more (record { pass = r.pass; kind = Test i; found = 1 }) r.steps r.completed (λ j. refl);
     }
     test_again_made (suc (suc v)) is = let b = bit_bound (flagged run i) in absurd (omega arith)
@@ -205,6 +215,8 @@ module _ (size : Size) (words : List ℕ) (run : List Made) (q : QueueRecord) (r
           );
           orderly = (placed_unmarked place i f (queue_of q).entries, (is_gone flight_of_seen listed_of_seen, x.history_is.orderly));
           given_is = λ j n. given_now flight_of_seen listed_of_seen j ∙ given_miss r.pass i j run;
+          given_back = λ j n. off (sym (again_disarm (inside_of r.steps) 0 j) ∙ n);
+          owners = ((λ j n. off n), (given_mine flight_of_seen listed_of_seen, x.history_is.owners));
           due = due_more (record { pass = r.pass; kind = Disarm i; found = 0 }) r.steps r.completed (λ j. refl);
         }
     disarm_again_made (suc zero) is =
@@ -235,6 +247,8 @@ module _ (size : Size) (words : List ℕ) (run : List Made) (q : QueueRecord) (r
           );
           orderly = ((is_gone flight_of_seen listed_of_seen, ap (λ b. b || has_irp (queue_of q).flags i) (same_irp-refl i)), (tt, x.history_is.orderly));
           given_is = λ j n. ap (λ l. cond (same_irp i j) (r.pass ∷ l) l) (given_now flight_of_seen listed_of_seen j) ∙ given_hit size run is_run r.pass i armed_i j;
+          given_back = λ j n. off (sym (again_disarm (inside_of r.steps) 1 j) ∙ n);
+          owners = (given_mine flight_of_seen listed_of_seen, ((λ j n. off n), x.history_is.owners));
           due = due_more (record { pass = r.pass; kind = Disarm i; found = 1 }) r.steps r.completed (λ j. refl);
         }
     disarm_again_made (suc (suc v)) is = let b = bit_bound (armed run i) in absurd (omega arith)

@@ -26,7 +26,7 @@ use Rattle.csq_words.specs.declared.views.Event.TheVariants as event
 use Rattle.csq_words.specs.declared.views.PassRecord.{PassRecord}
 use Rattle.csq_words.specs.declared.views.QueueRecord.{QueueRecord}
 use Rattle.csq_words.specs.Queue.{Queued, QueueState, has_entry, has_unmarked, has_irp, marking, without, after_event}
-use Rattle.csq_words.specs.History.{end_of, MayStand, IsOrderly, given_to}
+use Rattle.csq_words.specs.History.{end_of, MayStand, IsOrderly, given_to, puts_back, OwnersPutBack}
 use Rattle.csq_words.specs.declared.views.Entry.{Entry}
 use Rattle.csq_words.specs.Records.{queue_of, entries_of}
 use Rattle.csq_words.specs.Words.{routine_at, bit_word}
@@ -34,7 +34,7 @@ use Rattle.irp_core.specs.Owners.{taken}
 use Rattle.irp_core.specs.Words.{was_armed}
 use Rattle.csq_words.specs.Rule.{inserts, lists, again, passes_given, WasCancelled, IsTrueOf, AreTrueOf}
 use Rattle.csq_words.specs.Calls.{due_mark, IsNextMatch, MayRemove}
-use Rattle.csq_words.proofs.Facts.{off, due_more, given_hit, given_miss, given_out, bit_true, owed_listed, listed_taken, listed_now, listed_undone}
+use Rattle.csq_words.proofs.Facts.{off, due_more, given_hit, given_miss, given_out, bit_true, owed_listed, listed_taken, listed_now, listed_undone, again_disarm}
 use Rattle.irp_core.proofs.Own.{own-mine, own_made, owes_in-own}
 use Rattle.csq_words.proofs.Truths.{true_stays, truths_stay}
 use Rattle.csq_words.proofs.Changes.{routine_of, disarm_words, end_words, out_words, stored_else, status_routine}
@@ -72,12 +72,14 @@ pub record TakesOut (i : IrpLife) (e : Event) : Type 0 where
   pub taken : (q : QueueState) → after_event q e ≡ record q { entries = without i q.entries }
   pub says : (run : List Made) (u : QueueState) (p : PassId) → was_removed_in (own p run) i ≡ true → IsTrueOf run u p e
   pub gives_out : (first : ℕ) (p : PassId) (history : List Entry) (j : IrpLife) → given_to first j (record { pass = p; event = e } ∷ history) ≡ cond (same_irp i j) (p ∷ given_to first j history) (given_to first j history)
+  pub stays_out : (j : IrpLife) → puts_back j e ≡ false
 
 -- the event leaves the queue as it is
 pub record Leaves (e : Event) : Type 0 where
   pub left : (q : QueueState) → after_event q e ≡ q
   pub plain : (run : List Made) (u : QueueState) (p : PassId) → IsTrueOf run u p e
   pub gives_none : (first : ℕ) (p : PassId) (history : List Entry) (j : IrpLife) → given_to first j (record { pass = p; event = e } ∷ history) ≡ given_to first j history
+  pub stays_out : (j : IrpLife) → puts_back j e ≡ false
 
 -- the next match is listed
 pub next_listed : (k : Peek) (es : List Queued) (i : IrpLife) → IsNextMatch k es i → has_entry es i ≡ true
@@ -126,8 +128,9 @@ module _ (size : Size) (words : List ℕ) (run : List Made) (q : QueueRecord) (r
               → AreTrueOf q.first (record { pass = r.pass; kind = Disarm i; found = 0 } ∷ run) (entries_of r.pass es ++ q.history)
               → IsOrderly q.first (entries_of r.pass es ++ q.history)
               → ((j : IrpLife) → given_to q.first j (entries_of r.pass es ++ q.history) ≡ given_to q.first j q.history)
+              → OwnersPutBack q.first (entries_of r.pass es ++ q.history)
               → IsMade size words (set words (routine_at i.irp) (bit_word (life_of i) 0)) run q r (Disarm i) 0 es q.reusing
-          made es listed' used' lives' true' orderly' given' = let wide = x.wide in record {
+          made es listed' used' lives' true' orderly' given' owners' = let wide = x.wide in record {
             wide = length-set words (routine_at i.irp) (bit_word (life_of i) 0);
             is_run = disarm_run 0 is;
             words_are = λ j l. disarm_words size.first words run q.reusing r.pass i 0 j (x.words_are j l) 0 (omega arith) here refl;
@@ -140,6 +143,8 @@ module _ (size : Size) (words : List ℕ) (run : List Made) (q : QueueRecord) (r
             true_of = true';
             orderly = orderly';
             given_is = λ j n. given' j ∙ (given_are j ∙ given_miss r.pass i j run);
+            given_back = λ j n. off (sym (again_disarm (inside_of r.steps) 0 j) ∙ n);
+            owners = owners';
             due = due_more (record { pass = r.pass; kind = Disarm i; found = 0 }) r.steps r.completed (λ j. refl);
           }
 
@@ -147,10 +152,10 @@ module _ (size : Size) (words : List ℕ) (run : List Made) (q : QueueRecord) (r
           stay = truths_stay size _ run (disarm_run 0 is) q.first q.history x.history_is.true_of
 
           go : (b : Bool) → has_unmarked (queue_of q).entries i ≡ b → IsMade size words (set words (routine_at i.irp) (bit_word (life_of i) 0)) run q r (Disarm i) 0 (cond b (Mark i ∷ []) []) q.reusing
-          go false e = made [] (λ j. refl) (λ j. refl) (λ l. refl) stay x.history_is.orderly (λ j. refl)
+          go false e = made [] (λ j. refl) (λ j. refl) (λ l. refl) stay x.history_is.orderly (λ j. refl) x.history_is.owners
           go true e = made (Mark i ∷ []) (λ j. has_entry-marking i (queue_of q).entries j) (λ j. refl) (λ l. refl)
               (true_stays size _ run (disarm_run 0 is) (queue_of q) r.pass (Mark i) (listed_taken size run x.history_is.is_run i listed_i (sym is)), stay)
-              (e, x.history_is.orderly) (λ j. refl)
+              (e, x.history_is.orderly) (λ j. refl) ((λ j n. off n), x.history_is.owners)
 
       removed_now : was_removed_in (own r.pass (record { pass = r.pass; kind = Disarm i; found = 1 } ∷ run)) i ≡ true
       removed_now = ap (λ s. was_removed_in s i) (own-mine r.pass _ run refl) ∙ rw (same_irp-refl i, ap in_insert (ap inside_of (sym x.steps_is)) ∙ removal_no_insert (inside_of r.steps) removes) refl
@@ -171,6 +176,8 @@ module _ (size : Size) (words : List ℕ) (run : List Made) (q : QueueRecord) (r
         true_of = (t.says (record { pass = r.pass; kind = Disarm i; found = 1 } ∷ run) (queue_of q) r.pass removed_now, truths_stay size _ run (disarm_run 1 is) q.first q.history x.history_is.true_of);
         orderly = (stands, x.history_is.orderly);
         given_is = λ j n. t.gives_out q.first r.pass q.history j ∙ (ap (λ l. cond (same_irp i j) (r.pass ∷ l) l) (given_are j) ∙ given_hit size run x.history_is.is_run r.pass i (bit_true (armed run i) 1 is (omega arith)) j);
+        given_back = λ j n. off (sym (again_disarm (inside_of r.steps) 1 j) ∙ n);
+        owners = ((λ j n. off (sym (t.stays_out j) ∙ n)), x.history_is.owners);
         due = due_more (record { pass = r.pass; kind = Disarm i; found = 1 }) r.steps r.completed (λ j. refl);
       }
 
@@ -190,6 +197,8 @@ module _ (size : Size) (words : List ℕ) (run : List Made) (q : QueueRecord) (r
           true_of = (l.plain (record { pass = r.pass; kind = End; found = 0 } ∷ run) (queue_of q) r.pass, truths_stay size _ run is_run q.first q.history x.history_is.true_of);
           orderly = (stands, x.history_is.orderly);
           given_is = λ j n. l.gives_none q.first r.pass q.history j ∙ given_are j;
+          given_back = λ j n. off n;
+          owners = ((λ j n. off (sym (l.stays_out j) ∙ n)), x.history_is.owners);
           due = due_more (record { pass = r.pass; kind = End; found = 0 }) r.steps r.completed (λ j. refl);
         }
 
@@ -227,8 +236,9 @@ module _ (size : Size) (words : List ℕ) (run : List Made) (q : QueueRecord) (r
             → AreTrueOf q.first (record { pass = r.pass; kind = Out i; found = 0 } ∷ run) (entries_of r.pass es ++ q.history)
             → IsOrderly q.first (entries_of r.pass (event.Out i ∷ es) ++ q.history)
             → ((j : IrpLife) → given_to q.first j (entries_of r.pass es ++ q.history) ≡ given_to q.first j q.history)
+            → OwnersPutBack q.first (entries_of r.pass es ++ q.history)
             → IsMade size words words run q r (Out i) 0 (event.Out i ∷ es) q.reusing
-        made es listed' used' lives' true' orderly' given' = record {
+        made es listed' used' lives' true' orderly' given' owners' = record {
           wide = refl;
           is_run = out_run;
           words_are = λ j l. out_words size.first words run q.reusing r.pass i 0 j (x.words_are j l);
@@ -241,6 +251,8 @@ module _ (size : Size) (words : List ℕ) (run : List Made) (q : QueueRecord) (r
           true_of = (record { out = own_made r.pass _ run refl (is (Out i)) (same_irp-refl i); cancelled = was_cancelled }, true');
           orderly = orderly';
           given_is = λ j n. ap (λ l. cond (same_irp i j) (r.pass ∷ l) l) (given' j ∙ given_are removing j) ∙ given_out size run x.history_is.is_run r.pass i owed_run j;
+          given_back = λ j n. off n;
+          owners = ((λ j n. off n), owners');
           due = due_more (record { pass = r.pass; kind = Out i; found = 0 }) r.steps r.completed (λ j. refl);
         }
 
@@ -248,7 +260,7 @@ module _ (size : Size) (words : List ℕ) (run : List Made) (q : QueueRecord) (r
         stay = truths_stay size _ run out_run q.first q.history x.history_is.true_of
 
         go : (b : Bool) → has_unmarked (queue_of q).entries i ≡ b → IsMade size words words run q r (Out i) 0 (event.Out i ∷ cond b (Mark i ∷ []) []) q.reusing
-        go false e = made [] (λ j. has_entry-without i (queue_of q).entries j) (λ j. refl) (λ l. refl) stay (marked_else i (queue_of q).entries out_listed e, x.history_is.orderly) (λ j. refl)
+        go false e = made [] (λ j. has_entry-without i (queue_of q).entries j) (λ j. refl) (λ l. refl) stay (marked_else i (queue_of q).entries out_listed e, x.history_is.orderly) (λ j. refl) x.history_is.owners
         go true e = made (Mark i ∷ []) (λ j. has_entry-without i (marking i (queue_of q).entries) j ∙ ap (λ b. not (same_irp i j) && b) (has_entry-marking i (queue_of q).entries j)) (λ j. refl) (λ l. refl)
             (true_stays size _ run out_run (queue_of q) r.pass (Mark i) facts.3, stay)
-            (one_marked i (queue_of q).entries out_listed, (e, x.history_is.orderly)) (λ j. refl)
+            (one_marked i (queue_of q).entries out_listed, (e, x.history_is.orderly)) (λ j. refl) ((λ j n. off n), x.history_is.owners)

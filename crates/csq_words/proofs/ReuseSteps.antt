@@ -57,7 +57,7 @@ renewal_kept size words words' views run seen id q r seat reuse follows k wide w
     let h = k.agrees.history_is in
     let owner = (k.each_view id (view_of q (Some r)) k.queue_is).pass_here r refl in
     let was = owner.2.of_pass in
-    let history_is : IsHistoryOf size run q' (in_flight (Some r)) = record { is_run = h.is_run; first_is = h.first_is; listed_is = h.listed_is; used_is = h.used_is; lives_are = h.lives_are; true_of = h.true_of; orderly = h.orderly; given_is = h.given_is; placed = h.placed } in told_kept size words' (set views id (view_of q' (Some r))) run id q' r seat history_is was
+    let history_is : IsHistoryOf size run q' (in_flight (Some r)) = record { is_run = h.is_run; first_is = h.first_is; listed_is = h.listed_is; used_is = h.used_is; lives_are = h.lives_are; true_of = h.true_of; orderly = h.orderly; given_is = h.given_is; given_back = h.given_back; owners = h.owners; placed = h.placed } in told_kept size words' (set views id (view_of q' (Some r))) run id q' r seat history_is was
     (locked_step size words words' views run run id q q' seat r r k record {
       same_pass = refl;
       same_made = refl;
@@ -174,6 +174,8 @@ module _ (size : Size) (words : List ℕ) (views : List View) (run : List Made) 
           true_of = (record { done = ap (is_done run) now ∙ may.done; renew = own_made r.pass _ run refl (is (Renew (current (queue_of q) i.irp))) (ap (same_irp i) now ∙ same_irp-refl i) }, truths_stay size (record { pass = r.pass; kind = Renew i; found = 0 }) run grown q.first q.history x.history_is.true_of);
           orderly = ((both.0, both.1, ap (λ (j : IrpLife). life_of j + 1) (sym now)), x.history_is.orderly);
           given_is = λ j n. x.history_is.given_is j (ap (λ s. again s j) outside);
+          given_back = λ j n. off n;
+          owners = ((λ j n. off n), x.history_is.owners);
           due = due_more (record { pass = r.pass; kind = Renew i; found = 0 }) r.steps r.completed (λ j. refl);
         },
         ap life_in (ws i.irp known).cancel_is ∙ (life_in-put (present_life size.first run i.irp) _ (bit_bound (flagged run (present size.first run i.irp))) ∙ sym may.is_present),

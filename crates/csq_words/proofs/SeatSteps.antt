@@ -1,5 +1,5 @@
 -- The two general lemmas: a step of a pass's own seat, and a step of the queue's seat while it is joined with a pass, keep the rule.
-use Rattle.std.proofs.Common.{◌≡◌, ◌≢◌, ℕ, ◌<◌, ◌≤◌, false, cond, not, ◌&&◌, List, [], ◌∷◌, length, set, Option, Some, refl, sym, ap, ◌∙◌, subst, ⊎_elim, arith}
+use Rattle.std.proofs.Common.{◌≡◌, ◌≢◌, ℕ, ◌<◌, ◌≤◌, false, cond, not, ◌&&◌, List, [], ◌∷◌, length, set, Option, Some, refl, sym, ap, ◌∙◌, subst, ⊎_elim, arith, true}
 use Rattle.std.proofs.lemmas.Bool.{or_right}
 use mathlib.Core.Option.{some}
 use lib.ListN.{get_elem?}
@@ -8,6 +8,8 @@ use Rattle.irp_core.specs.declared.ids.PassId.{PassId}
 use Rattle.irp_core.specs.declared.step.Made.{Made}
 use Rattle.irp_core.specs.Steps.{is}
 use Rattle.irp_core.specs.declared.ids.IrpLife.{IrpLife}
+use Rattle.irp_core.specs.declared.inside.Inside.{Inside}
+use Rattle.irp_core.specs.declared.inside.Inside.TheVariants.{Rearmed, FlagSeenAgain}
 use Rattle.irp_core.specs.Inside.{inside, inside_after, has_lock}
 use Rattle.irp_core.specs.Owners.{listed}
 use Rattle.irp_core.specs.Runs.{Size, IsRun}
@@ -28,7 +30,7 @@ use Rattle.csq_words.specs.declared.views.Reusing.TheVariants.{Nothing, Looked, 
 use Rattle.irp_core.specs.Lock.{needs_lock}
 use Rattle.csq_words.specs.Recorded.{IsPlaced}
 use Rattle.csq_words.specs.Recorded.IsPlaced.{unlocked as without}
-use Rattle.csq_words.specs.Rule.{inserts, lists, passes_given, HasWords, is_done, in_flight, AreTrueOf, IsHistoryOf, MayRenew, IsReuse, AreStored, HaveBegun, IsRecord, IsOut, IsNobody, HasBack, BackOnce, IsPrefixOf, Fits, SeatHasRecord, RuleHoldsBy}
+use Rattle.csq_words.specs.Rule.{inserts, lists, passes_given, HasWords, is_done, in_flight, AreTrueOf, IsHistoryOf, MayRenew, IsReuse, AreStored, HaveBegun, IsRecord, IsOut, IsNobody, HasBack, BackOnce, IsPrefixOf, Fits, SeatHasRecord, RuleHoldsBy, again}
 use Rattle.csq_words.proofs.Facts.{off, extended_more}
 use Rattle.irp_core.proofs.Names.{same_pass-not}
 use Rattle.csq_words.proofs.Named.{by_pass}
@@ -71,6 +73,12 @@ reuse_more size m run same (Looked i) h = renew_more size m run same i h
 reuse_more size m run same (StatusRenewed i) h = renew_more size m run same i h
 reuse_more size m run same (RoutineRenewed i) h = renew_more size m run same i h
 
+-- whoever puts an IRP back has the lock
+pub again_locks : (s : Inside) (i : IrpLife) → again s i ≡ true → has_lock s ≡ true
+again_locks (Rearmed j) i h = refl
+again_locks (FlagSeenAgain j) i h = refl
+again_locks s i h = off h
+
 -- what another pass is inside of stays
 pub inside_other : (m : Made) (run : List Made) (p : PassId) → p ≢ m.pass → inside (m ∷ run) p ≡ inside run p
 inside_other m run p ne = ap (λ b. cond b (inside_after (inside run p) m.kind m.found) (inside run p)) (same_pass-not m.pass p (λ e. ne (sym e)))
@@ -97,6 +105,10 @@ own_step size words words' views run run' queue_at queue joined seat id r r' k a
           true_of = p.true_of;
           orderly = k.agrees.history_is.orderly;
           given_is = λ i n. k.agrees.history_is.given_is i n ∙ sym (p.given_same i);
+          given_back = λ n i h. k.agrees.history_is.given_back n i (by_pass (again (inside run n) i ≡ true) n r.pass
+              (λ e. off (sym p.unlocked ∙ (ap (λ (x : PassId). has_lock (inside run' x)) (sym e) ∙ again_locks (inside run' n) i h)))
+              (λ ne. ap (λ s. again s i) (sym (p.elsewhere n ne).1) ∙ h));
+          owners = k.agrees.history_is.owners;
           placed = p.placed k.agrees.history_is.placed;
         };
         reuse_is = p.reuse_is;

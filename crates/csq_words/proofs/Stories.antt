@@ -1,5 +1,5 @@
 -- Where every pass is back, each life that has begun has a story.
-use Rattle.std.proofs.Common.{◌≡◌, ◌⊎◌, ℕ, ◌<◌, ◌≤◌, Bool, true, false, cond, not, ◌&&◌, ◌||◌, List, [], ◌∷◌, map, length, Some, None, inl, inr, ⊎_elim, refl, sym, ap, ◌∙◌, subst, arith}
+use Rattle.std.proofs.Common.{◌≡◌, ◌⊎◌, ℕ, ◌<◌, ◌≤◌, Bool, true, false, cond, not, ◌&&◌, ◌||◌, List, [], ◌∷◌, ◌++◌, map, length, Some, None, inl, inr, ⊎_elim, refl, sym, ap, ◌∙◌, subst, arith}
 use Rattle.std.specs.List.{list_any, find}
 use Rattle.std.specs.Option.{option_map}
 use mathlib.Core.Option.{some-injective}
@@ -43,13 +43,13 @@ use Rattle.csq_words.specs.declared.views.Completion.{Completion}
 use Rattle.csq_words.specs.declared.views.PassRecord.{PassRecord}
 use Rattle.csq_words.specs.declared.views.QueueRecord.{QueueRecord}
 use Rattle.csq_words.specs.Queue.{Queued, QueueState, current, has_irp, has_entry, first_unmarked, without, new_entry, after_event}
-use Rattle.csq_words.specs.History.{end_of, MayStand, IsOrderly, IsGone, puts_back, gives, given_to}
+use Rattle.csq_words.specs.History.{end_of, MayStand, IsOrderly, OwnersPutBack, IsGone, puts_back, gives, given_to}
 use Rattle.csq_words.specs.Records.{queue_of}
 use Rattle.irp_core.specs.Own.{inside_of, removed_in}
 use Rattle.csq_words.specs.Plays.{status_recorded}
 use Rattle.csq_words.specs.Rule.{is_done, was_set, was_put_back, IsTrueOf, AreTrueOf, inserts, lists, again, RecordsAgree}
 use Rattle.csq_words.specs.Finals.{FinalWords, final_status, IsRecordedBack, AllBack, IsFinal, InLife}
-use Rattle.csq_words.specs.Stories.{accepts, inserted_by, IsOneOf, HasRecorded, Story, IsGivenOnce, NoIrpHasTwoStories, StoriesHaveTheStatusRecorded}
+use Rattle.csq_words.specs.Stories.{accepts, inserted_by, IsOneOf, HasRecorded, Story, IsGivenOnce, EachStayHasAStory, NoIrpHasTwoStories, StoriesHaveTheStatusRecorded}
 use Rattle.csq_words.proofs.Facts.{off, given_claim, dones_some, done_over}
 use Rattle.irp_core.proofs.Own.{any_filtered, inside_of-own}
 use Rattle.irp_core.proofs.Owning.{removed_in-own}
@@ -438,6 +438,25 @@ module _ (size : Size) (q : QueueRecord) (r : PassRecord) (run : List Made) (tol
     claimed = λ p e. given_claim run i p (sym (told.history_is.given_is i quiet) ∙ e);
     completed = done_given;
   }
+
+-- what stands before an event of a history, and the event itself
+before_event : (first : ℕ) (run : List Made) (newer before : List Entry) (e : Entry) → IsOrderly first (newer ++ (e ∷ before)) → AreTrueOf first run (newer ++ (e ∷ before)) → OwnersPutBack first (newer ++ (e ∷ before))
+    → IsOrderly first (e ∷ before) × AreTrueOf first run (e ∷ before) × OwnersPutBack first (e ∷ before)
+before_event first run [] before e o t w = (o, t, w)
+before_event first run (x ∷ newer) before e o t w = before_event first run newer before e o.1 t.1 w.1
+
+-- what a put-back found, and did
+put_back_found : (run : List Made) (u : QueueState) (p : PassId) (v : Event) (i : IrpLife) → MayStand u v → IsTrueOf run u p v → puts_back i v ≡ true → IsGone u i × (was_put_back (own p run) i ≡ true)
+put_back_found run u p (PutBack j f place Pending) i may t h = let same = same_irp-eq j i h in (subst (IsGone u) same may, ap (was_put_back (own p run)) (sym same) ∙ t)
+put_back_found run u p (PutBack j f place Cancelled) i may t h = let same = same_irp-eq j i h in (subst (IsGone u) same may.0, ap (was_put_back (own p run)) (sym same) ∙ t.rearm)
+put_back_found run u p v i may t h = off h
+
+pub stay_story : EachStayHasAStory
+stay_story size run q flight h newer before e is i back =
+    let b = before_event q.first run newer before e (subst (IsOrderly q.first) is h.orderly) (subst (AreTrueOf q.first run) is h.true_of) (subst (OwnersPutBack q.first) is h.owners) in
+    let found = put_back_found run (end_of q.first before) e.pass e.event i b.0.0 b.1.0 back in
+    let u = only_given run i _ _ _ _ (so_far size run h.is_run i q.first before b.0.1 b.1.1) found.0.0 found.0.1 in
+    record { inserter = u.inserter; inserted = u.one; armed = u.armed; given = b.2.0 i back; rearmed = found.1 }
 
 -- of the three stories of an IRP no two hold
 pub no_two_stories : NoIrpHasTwoStories

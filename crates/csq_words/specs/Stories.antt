@@ -1,5 +1,5 @@
 -- The story of an IRP in one of its lives: who inserted it, who was given it, who claimed it, and who completed it. And the one history and execution that all passes have seen.
-use Rattle.std.specs.Prelude.{◌≡◌, ◌≤◌, ◌⊎◌, ℕ, Bool, true, false, List, [], ◌∷◌, length, Some, if◌then◌else◌}
+use Rattle.std.specs.Prelude.{◌≡◌, ◌≤◌, ◌⊎◌, ℕ, Bool, true, false, List, [], ◌∷◌, ◌++◌, length, Some, if◌then◌else◌}
 use mathlib.Core.Option.{some}
 use lib.ListN.{get_elem?}
 use Rattle.irp_core.specs.Steps.{same_irp, own}
@@ -12,6 +12,7 @@ use Rattle.irp_core.specs.declared.ids.PassId.{PassId}
 use Rattle.irp_core.specs.declared.status.NtStatus.{NtStatus}
 use Rattle.irp_core.specs.declared.status.TheConstants.NtStatus.{CANCELLED}
 use Rattle.irp_core.specs.declared.step.Made.{Made}
+use Rattle.irp_core.specs.declared.inside.Inside.{Inside}
 use Rattle.csq_words.specs.declared.views.InsertReply.TheVariants.{Pending, Cancelled}
 use Rattle.csq_words.specs.declared.views.Event.{Event}
 use Rattle.csq_words.specs.declared.views.Event.TheVariants.{Insert, PutBack}
@@ -21,7 +22,7 @@ use Rattle.csq_words.specs.declared.views.QueueRecord.{QueueRecord}
 use Rattle.csq_words.specs.Queue.{QueueState, current, has_entry}
 use Rattle.csq_words.specs.History.{end_of, puts_back, given_to, calls_of, IsExtendedBy}
 use Rattle.csq_words.specs.Records.{queue_of}
-use Rattle.csq_words.specs.Rule.{was_set, again, HasBack, RecordsAgree, QueueHasRun}
+use Rattle.csq_words.specs.Rule.{was_set, was_put_back, again, IsHistoryOf, HasBack, RecordsAgree, QueueHasRun}
 use Rattle.irp_core.specs.Own.{inside_of}
 use Rattle.csq_words.specs.Plays.{status_recorded}
 use Rattle.csq_words.specs.Finals.{FinalWords, final_status, AllBack, IsFinal, InLife, shows_cancelled}
@@ -102,6 +103,22 @@ pub record IsGivenOnce (q : QueueRecord) (run : List Made) (i : IrpLife) : Type 
 -- at every step, each life of each IRP is given out at most once since it was last put back, if the pass that the record is joined with isn't just putting it back
 abbrev pub EachIrpIsGivenOnce : Type 0
 EachIrpIsGivenOnce = (size : Size) (q : QueueRecord) (r : PassRecord) (run : List Made) → RecordsAgree size run q r → (i : IrpLife) → again (inside_of r.steps) i ≡ false → IsGivenOnce q run i
+
+-- how a stay of i in the queue came to an end that p put back, by the events before that: one pass had inserted i, or put it back before, and one was given it, p
+pub record StayEnded (first : ℕ) (run : List Made) (before : List Entry) (i : IrpLife) (p : PassId) : Type 0 where
+  pub inserter : PassId
+  pub inserted : inserted_by first i before ≡ inserter ∷ []
+  pub armed : was_set (own inserter run) i ≡ true
+  pub given : given_to first i before ≡ p ∷ []
+  pub rearmed : was_put_back (own p run) i ≡ true
+
+-- so ended each stay of this history that a put-back ended
+abbrev pub StaysHaveStories : ℕ → List Made → List Entry → Type 0
+StaysHaveStories first run history = (newer before : List Entry) (e : Entry) → history ≡ newer ++ (e ∷ before) → (i : IrpLife) → puts_back i e.event ≡ true → StayEnded first run before i e.pass
+
+-- at every step, each stay that a put-back ended has its story
+abbrev pub EachStayHasAStory : Type 0
+EachStayHasAStory = (size : Size) (run : List Made) (q : QueueRecord) (flight : Inside) → IsHistoryOf size run q flight → StaysHaveStories q.first run q.history
 
 -- no two of these hold
 abbrev pub AtMostOne : Type 0 → Type 0 → Type 0 → Type 0

@@ -1,6 +1,6 @@
 //! What happens to each IRP, and what the passes have seen, whatever the run. Each function stands
 //! for a law: its contract is the law, and there is nothing to run.
-ghost use Rattle.csq_words.specs.Stories.{EachIrpHasAStory, EachIrpIsGivenOnce, NoIrpHasTwoStories, JoinedPassesSeeOneHistory, PassesBackSeeOneHistory, PassesAtTheEndSeeOneHistory, StoriesHaveTheStatusRecorded};
+ghost use Rattle.csq_words.specs.Stories.{EachIrpHasAStory, EachIrpIsGivenOnce, EachStayHasAStory, NoIrpHasTwoStories, JoinedPassesSeeOneHistory, PassesBackSeeOneHistory, PassesAtTheEndSeeOneHistory, StoriesHaveTheStatusRecorded};
 ghost use Rattle.csq_words.specs.Recorded.{EventsStandInOrder};
 
 /// At every step, in each of its lives, an IRP that isn't just being put back was inserted by at most
@@ -8,6 +8,12 @@ ghost use Rattle.csq_words.specs.Recorded.{EventsStandInOrder};
 /// then by the run, and none but this one completes it.
 pub fn each_irp_is_given_once()
     ensures { EachIrpIsGivenOnce }
+{}
+
+/// At every step, each stay of an IRP in the queue that a put-back ended has its story: one pass had
+/// inserted the IRP, or put it back before, and it was given to one pass, which put it back.
+pub fn each_stay_has_a_story()
+    ensures { EachStayHasAStory }
 {}
 
 /// Where every pass is back, each IRP has one story in each life that has begun: it was never

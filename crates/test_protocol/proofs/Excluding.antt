@@ -302,6 +302,7 @@ none_is_a_history = record {
   recorded_late = λ h. recorded_late_is h.history_is.placed;
   no_step = λ h. stands_nowhere [] (found_none 2 ∷ []) h.history_is.placed (by (pass 2)) refl [] [] (found_none 2) refl refl (λ m r. by_own (pass 2) m r.own);
   put_back_left_out = λ h. unrecorded_is h.history_is.placed;
+  another_put_back = λ run h. (let e : pass 2 ∷ [] ≡ pass 1 ∷ [] = h.history_is.owners.0 (irp 0 0) refl in let same : pass 2 ≡ pass 1 = cc in let n : 2 ≡ 1 = ap (λ (p : PassId). p.0) same in absurd (omega arith));
   turned = λ h. turned_is h.history_is.placed;
   marked_before = λ h. marked_is _ refl h.history_is.placed;
   removed_first = λ h. (let e : Some (irp 0 0) ≡ None = h.1.0 in cc);

@@ -125,6 +125,8 @@ pub record NoneIsAHistory : Type 0 where
   pub no_step : Agree (found_none 2 ∷ []) [] → ⊥
   -- pass 2 put back what it removed, which isn't in the history at all
   pub put_back_left_out : Agree (removed 2 ∷ inserted 1 0 ∷ []) (did 2 (Test (irp 0 0)) 0 ∷ did 2 (Rearm (irp 0 0)) 0 ∷ removed_by_2) → ⊥
+  -- pass 1 put back what pass 2 had removed, whatever the execution
+  pub another_put_back : (run : List Made) → Agree (put_back 1 0 ∷ removed 2 ∷ inserted 1 0 ∷ []) run → ⊥
   -- two calls of one caller, in the other order
   pub turned : Agree (inserted 1 1 ∷ inserted 1 0 ∷ []) (inserts_of 0 (inserts_of 1 [])) → ⊥
   -- a removal found none since the IRP was marked, by a cancel that came later
