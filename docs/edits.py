@@ -64,6 +64,15 @@ def innermost(found, line):
     return next((it for it in reversed(found) if it.has(line)), None)
 
 
+def span_of(path, text, name):
+    """Where the function of this name, as the prover writes it behind its module, begins and ends in a file's text."""
+    found = [it for it in functions(path, text) if it.name == name]
+    if len(found) != 1:
+        raise ValueError(f'{path} has {len(found)} functions that are named {name}, and not one')
+    lines = [0, *(at.end() for at in re.finditer('\n', text)), len(text)]
+    return lines[found[0].head - 1], lines[found[0].end]
+
+
 def overlap(one, two):
     """Whether the old texts of two pairs overlap."""
     return one[0] == two[0] and one[1] < two[1] + len(two[2]) and two[1] < one[1] + len(one[2])
@@ -75,13 +84,15 @@ class Edit:
     def __init__(self, file, folder):
         self.name, self.refusal, self.fault, self.function, self.pairs = file.stem, None, None, None, []
         try:
-            for path, old, new in self.read(file.read_text()):
+            for path, within, old, new in self.read(file.read_text()):
                 if not SOURCE.fullmatch(path):
                     raise ValueError(f'{path} is no source of the crate')
                 text = (folder / path).read_text()
-                if text.count(old) != 1:
-                    raise ValueError(f'its old text stands {text.count(old)} times in {path}, and not once: {old}')
-                self.pairs.append((path, text.index(old), old, new))
+                span = span_of(path, text, within) if within else (0, len(text))
+                if text.count(old, *span) != 1:
+                    raise ValueError(f'its old text stands {text.count(old, *span)} times in {within or path}, '
+                                     f'and not once: {old}')
+                self.pairs.append((path, text.index(old, *span), old, new))
             if all(old == new for _, _, old, new in self.pairs):
                 raise ValueError('it changes nothing')
             if any(overlap(*both) for both in itertools.combinations(self.pairs, 2)):
@@ -92,16 +103,19 @@ class Edit:
 
     @staticmethod
     def read(text):
-        """Its pairs: a file, an old text of it, and the new text in its place."""
-        path = old = None
+        """Its pairs: a file, the function in which the old text is to be found (or None: anywhere), that old text, and
+        the new text in its place."""
+        path = within = old = None
         for line in filter(None, text.splitlines()):
             word, _, rest = line.partition(':')
             if word == 'file' and not old:
-                path = rest.strip()
+                path, within = rest.strip(), None
+            elif word == 'fn' and path and not old:
+                within = rest.strip()
             elif word == 'old' and path and not old:
                 old = rest.removeprefix(' ')
             elif word == 'new' and old:
-                yield path, old, rest.removeprefix(' ')
+                yield path, within, old, rest.removeprefix(' ')
                 old = None
             else:
                 raise ValueError(f'this line is out of place: {line}')

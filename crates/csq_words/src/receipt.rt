@@ -36,6 +36,7 @@ impl Receipt {
         ensures prefix { result ≡ seen_at words.now.table (prefix_of (pass_record self.old)) }
     {
         let Some(seat) = &mut self.seat else {
+            // The seat of a receipt is away only while it is shown.
             unreachable!()
         };
         let seat = words.table.shared.split_seat::<CutSeen>(seat);

@@ -4,8 +4,8 @@ use Rattle.csq_words.proofs.PassSteps.{completes_as}
 use Rattle.csq_words.proofs.SeatValues.{here}
 use Rattle.csq_words.proofs.pass_seat.PassSeat.done.Goals as goal
 
-pub complete-requires : goal.complete-requires
-complete-requires g c =
+pub swap-requires : goal.swap-requires
+swap-requires g c =
     let words = c.words.inside in
     let table = ap (λ w. w.table) c.words.view_is in
     let irps = ap (λ w. w.size.irps) c.words.view_is in

@@ -4,8 +4,8 @@ use Rattle.csq_words.proofs.PassSteps.{flags_as}
 use Rattle.csq_words.proofs.SeatValues.{here}
 use Rattle.csq_words.proofs.pass_seat.PassSeat.flag.Goals as goal
 
-pub flag-requires : goal.flag-requires
-flag-requires g c =
+pub compare_exchange-requires : goal.compare_exchange-requires
+compare_exchange-requires g c =
     let words = c.words.inside in
     let table = ap (λ w. w.table) c.words.view_is in
     let irps = ap (λ w. w.size.irps) c.words.view_is in

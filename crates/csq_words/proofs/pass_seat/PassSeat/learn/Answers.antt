@@ -18,8 +18,8 @@ join_seat-requires g c =
       joins_seen_as (table_size words.table.shared.key) c.in-Some.seat.id c.seen.inside.seat.id c.in-Some.seat.me.0 c.seen.inside.seat.me.0 _ _ pass.2 prefix,
     )
 
-pub see_all-requires : goal.see_all-requires
-see_all-requires g c =
+pub load-requires : goal.load-requires
+load-requires g c =
     let words = c.words.inside in
     let table = ap (λ w. w.table) c.words.view_is in
     let pass = here c.in-Some.is c.self.view_is c.self.invariant c.requires.words in

@@ -4,8 +4,8 @@ use Rattle.csq_words.proofs.Reading.{reads_cancel_as}
 use Rattle.csq_words.proofs.SeatValues.{here}
 use Rattle.csq_words.proofs.pass_seat.PassSeat.read_cancel.Goals as goal
 
-pub read_cancel-found-requires : goal.read_cancel-found-requires
-read_cancel-found-requires g c =
+pub load-found-requires : goal.load-found-requires
+load-found-requires g c =
     let words = c.words.inside in
     let table = ap (λ w. w.table) c.words.view_is in
     let irps = ap (λ w. w.size.irps) c.words.view_is in

@@ -4,8 +4,8 @@ use Rattle.csq_words.proofs.Reading.{reads_status_as}
 use Rattle.csq_words.proofs.SeatValues.{here}
 use Rattle.csq_words.proofs.pass_seat.PassSeat.read_status.Goals as goal
 
-pub read_status-found-requires : goal.read_status-found-requires
-read_status-found-requires g c =
+pub load-found-requires : goal.load-found-requires
+load-found-requires g c =
     let words = c.words.inside in
     let table = ap (λ w. w.table) c.words.view_is in
     let irps = ap (λ w. w.size.irps) c.words.view_is in

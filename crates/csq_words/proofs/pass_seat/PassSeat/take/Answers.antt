@@ -4,8 +4,8 @@ use Rattle.csq_words.proofs.PassSteps.{takes_as}
 use Rattle.csq_words.proofs.SeatValues.{here}
 use Rattle.csq_words.proofs.pass_seat.PassSeat.take.Goals as goal
 
-pub take-requires : goal.take-requires
-take-requires g c =
+pub compare_exchange-requires : goal.compare_exchange-requires
+compare_exchange-requires g c =
     let words = c.words.inside in
     let table = ap (λ w. w.table) c.words.view_is in
     let irps = ap (λ w. w.size.irps) c.words.view_is in

@@ -7,8 +7,8 @@ use Rattle.csq_words.proofs.ReuseSteps.{looks_as}
 use Rattle.csq_words.proofs.SeatValues.{joined, looked}
 use Rattle.csq_words.proofs.queue_seat.QueueSeat.look.Goals as goal
 
-pub look-requires : goal.look-requires
-look-requires g c =
+pub load-requires : goal.load-requires
+load-requires g c =
     let words = c.words.inside in
     let queue = joined c.self.inside.seat c.self.view_is c.self.invariant c.requires.joined in
     let irps = ap (λ w. w.size.irps) c.words.view_is in (
@@ -18,21 +18,21 @@ look-requires g c =
     )
 
 pub invariant_of-self : goal.invariant_of-self
-invariant_of-self g c = (looked c.self.inside.seat c.look.new.seat c.self.view_is c.self.invariant c.requires.joined c.look.ensures.table c.look.result refl c.look.ensures.told).0
+invariant_of-self g c = (looked c.self.inside.seat c.load.new.seat c.self.view_is c.self.invariant c.requires.joined c.load.ensures.table c.load.result refl c.load.ensures.told).0
 
 pub returns-clause-found : goal.returns-clause-found
-returns-clause-found g c = (looked c.self.inside.seat c.look.new.seat c.self.view_is c.self.invariant c.requires.joined c.look.ensures.table c.look.result refl c.look.ensures.told).2.1
+returns-clause-found g c = (looked c.self.inside.seat c.load.new.seat c.self.view_is c.self.invariant c.requires.joined c.load.ensures.table c.load.result refl c.load.ensures.told).2.1
 
 pub returns-clause-step : goal.returns-clause-step
-returns-clause-step g c = (looked c.self.inside.seat c.look.new.seat c.self.view_is c.self.invariant c.requires.joined c.look.ensures.table c.look.result refl c.look.ensures.told).1
+returns-clause-step g c = (looked c.self.inside.seat c.load.new.seat c.self.view_is c.self.invariant c.requires.joined c.load.ensures.table c.load.result refl c.load.ensures.told).1
 
 pub returns-clause-told : goal.returns-clause-told
 returns-clause-told g c =
-    let look = (looked c.self.inside.seat c.look.new.seat c.self.view_is c.self.invariant c.requires.joined c.look.ensures.table c.look.result refl c.look.ensures.told).2 in
+    let look = (looked c.self.inside.seat c.load.new.seat c.self.view_is c.self.invariant c.requires.joined c.load.ensures.table c.load.result refl c.load.ensures.told).2 in
     subst (λ (z : Size × View). HasObserved z.0 c.args.self.now.queue (queue_in z.1) (pass_in z.1)) (λ k. (ap (λ w. w.size) c.words.view_is k, sym (ap (λ m. m.0) look.0) k)) look.2
 
 pub returns-clause-done : goal.returns-clause-done
-returns-clause-done g c = (looked c.self.inside.seat c.look.new.seat c.self.view_is c.self.invariant c.requires.joined c.look.ensures.table c.look.result refl c.look.ensures.told).2.3
+returns-clause-done g c = (looked c.self.inside.seat c.load.new.seat c.self.view_is c.self.invariant c.requires.joined c.load.ensures.table c.load.result refl c.load.ensures.told).2.3
 
 pub returns-clause-unset : goal.returns-clause-unset
-returns-clause-unset g c = (looked c.self.inside.seat c.look.new.seat c.self.view_is c.self.invariant c.requires.joined c.look.ensures.table c.look.result refl c.look.ensures.told).2.4
+returns-clause-unset g c = (looked c.self.inside.seat c.load.new.seat c.self.view_is c.self.invariant c.requires.joined c.load.ensures.table c.load.result refl c.load.ensures.told).2.4

@@ -10,8 +10,8 @@ use Rattle.csq_words.proofs.LockedSteps.{notes_as, note_has}
 use Rattle.csq_words.proofs.SeatValues.{joined, stepped}
 use Rattle.csq_words.proofs.queue_seat.QueueSeat.note.Goals as goal
 
-pub note-requires : goal.note-requires
-note-requires g c =
+pub load-requires : goal.load-requires
+load-requires g c =
     let words = c.words.inside in
     let queue = joined c.self.inside.seat c.self.view_is c.self.invariant c.requires.joined in
     let may = subst (λ n. MayNote n c.args.call c.args.note c.args.self.now.queue (joined_record c.args.self.now)) (sym (ap (λ w. w.size.irps) c.words.view_is)) c.requires.may in (
@@ -22,14 +22,14 @@ note-requires g c =
 
 pub invariant_of-self : goal.invariant_of-self
 invariant_of-self g c =
-    (stepped c.self.inside.seat c.note.new.seat (λ a b. after_note c.args.call c.args.note (with_run (queue_in c.note.new.seat.me.0).run a) b) c.self.view_is c.self.invariant c.requires.joined c.note.ensures.table (λ a b. note_has c.args.call c.args.note (with_run (queue_in c.note.new.seat.me.0).run a) b) c.note.ensures.told.0).0
+    (stepped c.self.inside.seat c.load.new.seat (λ a b. after_note c.args.call c.args.note (with_run (queue_in c.load.new.seat.me.0).run a) b) c.self.view_is c.self.invariant c.requires.joined c.load.ensures.table (λ a b. note_has c.args.call c.args.note (with_run (queue_in c.load.new.seat.me.0).run a) b) c.load.ensures.told.0).0
 
 pub returns-clause-noted : goal.returns-clause-noted
 returns-clause-noted g c =
-    (stepped c.self.inside.seat c.note.new.seat (λ a b. after_note c.args.call c.args.note (with_run (queue_in c.note.new.seat.me.0).run a) b) c.self.view_is c.self.invariant c.requires.joined c.note.ensures.table (λ a b. note_has c.args.call c.args.note (with_run (queue_in c.note.new.seat.me.0).run a) b) c.note.ensures.told.0).1
+    (stepped c.self.inside.seat c.load.new.seat (λ a b. after_note c.args.call c.args.note (with_run (queue_in c.load.new.seat.me.0).run a) b) c.self.view_is c.self.invariant c.requires.joined c.load.ensures.table (λ a b. note_has c.args.call c.args.note (with_run (queue_in c.load.new.seat.me.0).run a) b) c.load.ensures.told.0).1
 
 pub returns-clause-told : goal.returns-clause-told
 returns-clause-told g c =
-    let x = c.note.ensures.told in
+    let x = c.load.ensures.told in
     let was = joined c.self.inside.seat c.self.view_is c.self.invariant c.requires.joined in
     subst (λ (z : Size × View × View). ObservesNote z.0 c.args.call (queue_in z.1) (queue_in z.2) (pass_in z.2)) (λ k. (ap (λ w. w.size) c.words.view_is k, was k, sym (ap (λ m. m.0) x.0) k)) x.1

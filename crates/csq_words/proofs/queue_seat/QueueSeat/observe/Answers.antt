@@ -4,8 +4,8 @@ use Rattle.csq_words.proofs.Observing.{observes_as}
 use Rattle.csq_words.proofs.SeatValues.{joined}
 use Rattle.csq_words.proofs.queue_seat.QueueSeat.observe.Goals as goal
 
-pub observe-requires : goal.observe-requires
-observe-requires g c =
+pub load-requires : goal.load-requires
+load-requires g c =
     let words = c.words.inside in
     let queue = joined c.self.inside.seat c.self.view_is c.self.invariant c.requires.joined in (
       ap (λ z. z.table) c.self.view_is ∙ (c.requires.words ∙ sym (ap (λ w. w.table) c.words.view_is)),

@@ -4,8 +4,8 @@ use Rattle.csq_words.proofs.LockedSteps.{rearms_as}
 use Rattle.csq_words.proofs.SeatValues.{joined, made_found, made_seat, made_told}
 use Rattle.csq_words.proofs.queue_seat.QueueSeat.rearm.Goals as goal
 
-pub exchange-requires : goal.exchange-requires
-exchange-requires g c =
+pub swap-requires : goal.swap-requires
+swap-requires g c =
     let words = c.words.inside in
     let queue = joined c.self.inside.seat c.self.view_is c.self.invariant c.requires.joined in
     let irps = ap (λ w. w.size.irps) c.words.view_is in (
@@ -16,16 +16,16 @@ exchange-requires g c =
 
 pub invariant_of-self : goal.invariant_of-self
 invariant_of-self g c =
-    (made_seat c.args.call refl c.self.inside.seat c.exchange.new.seat c.exchange.result c.self.view_is c.self.invariant c.requires.joined c.exchange.ensures.table c.exchange.ensures.told).0
+    (made_seat c.args.call refl c.self.inside.seat c.swap.new.seat c.swap.result c.self.view_is c.self.invariant c.requires.joined c.swap.ensures.table c.swap.ensures.told).0
 
 pub returns-clause-found : goal.returns-clause-found
 returns-clause-found g c =
-    made_found c.args.call refl c.self.inside.seat c.exchange.new.seat c.exchange.result c.self.view_is c.self.invariant c.requires.joined c.exchange.ensures.table c.exchange.ensures.told
+    made_found c.args.call refl c.self.inside.seat c.swap.new.seat c.swap.result c.self.view_is c.self.invariant c.requires.joined c.swap.ensures.table c.swap.ensures.told
 
 pub returns-clause-step : goal.returns-clause-step
 returns-clause-step g c =
-    (made_seat c.args.call refl c.self.inside.seat c.exchange.new.seat c.exchange.result c.self.view_is c.self.invariant c.requires.joined c.exchange.ensures.table c.exchange.ensures.told).1
+    (made_seat c.args.call refl c.self.inside.seat c.swap.new.seat c.swap.result c.self.view_is c.self.invariant c.requires.joined c.swap.ensures.table c.swap.ensures.told).1
 
 pub returns-clause-told : goal.returns-clause-told
 returns-clause-told g c =
-    made_told c.args.call refl c.self.inside.seat c.exchange.new.seat c.exchange.result c.self.view_is c.self.invariant c.requires.joined c.exchange.ensures.table c.exchange.ensures.told _ (ap (λ w. w.size) c.words.view_is)
+    made_told c.args.call refl c.self.inside.seat c.swap.new.seat c.swap.result c.self.view_is c.self.invariant c.requires.joined c.swap.ensures.table c.swap.ensures.told _ (ap (λ w. w.size) c.words.view_is)

@@ -1,6 +1,7 @@
 use Rattle.csq_words.specs.Rule.{table_size}
+use Rattle.csq_words.specs.Plays.{any_step, Makes}
 use Rattle.csq_words.proofs.queue_seat.QueueSeat.rearm.Given as goal
 
--- what the step is of
-abbrev pub ghosts-exchange : goal.ghosts-exchange
-ghosts-exchange g a = record { call = a._call; kind = a._kind; size = table_size a.words.now.key }
+-- what the step reports
+abbrev pub ghosts-swap : goal.ghosts-swap
+ghosts-swap g a = record { then = Makes (table_size a.words.now.key) a._of.0 a._of.1 any_step }

@@ -7,8 +7,8 @@ use Rattle.csq_words.proofs.ReuseSteps.{renews_routine_as}
 use Rattle.csq_words.proofs.SeatValues.{joined, routine_renewed}
 use Rattle.csq_words.proofs.queue_seat.QueueSeat.renew_routine.Goals as goal
 
-pub renew_routine-requires : goal.renew_routine-requires
-renew_routine-requires g c =
+pub swap-requires : goal.swap-requires
+swap-requires g c =
     let words = c.words.inside in
     let queue = joined c.self.inside.seat c.self.view_is c.self.invariant c.requires.joined in
     let irps = ap (λ w. w.size.irps) c.words.view_is in (
@@ -18,13 +18,13 @@ renew_routine-requires g c =
     )
 
 pub invariant_of-self : goal.invariant_of-self
-invariant_of-self g c = (routine_renewed c.self.inside.seat c.renew_routine.new.seat c.self.view_is c.self.invariant c.requires.joined c.renew_routine.ensures.table c.renew_routine.result refl c.renew_routine.ensures.told).0
+invariant_of-self g c = (routine_renewed c.self.inside.seat c.swap.new.seat c.self.view_is c.self.invariant c.requires.joined c.swap.ensures.table c.swap.result refl c.swap.ensures.told).0
 
 pub returns-clause-found : goal.returns-clause-found
-returns-clause-found g c = (routine_renewed c.self.inside.seat c.renew_routine.new.seat c.self.view_is c.self.invariant c.requires.joined c.renew_routine.ensures.table c.renew_routine.result refl c.renew_routine.ensures.told).2.1
+returns-clause-found g c = (routine_renewed c.self.inside.seat c.swap.new.seat c.self.view_is c.self.invariant c.requires.joined c.swap.ensures.table c.swap.result refl c.swap.ensures.told).2.1
 
 pub returns-clause-step : goal.returns-clause-step
-returns-clause-step g c = (routine_renewed c.self.inside.seat c.renew_routine.new.seat c.self.view_is c.self.invariant c.requires.joined c.renew_routine.ensures.table c.renew_routine.result refl c.renew_routine.ensures.told).1
+returns-clause-step g c = (routine_renewed c.self.inside.seat c.swap.new.seat c.self.view_is c.self.invariant c.requires.joined c.swap.ensures.table c.swap.result refl c.swap.ensures.told).1
 
 pub returns-clause-told : goal.returns-clause-told
-returns-clause-told g c = let x = c.renew_routine.ensures.told in subst (λ (z : Size × View). SomeRunAgrees z.0 (queue_in z.1) (pass_in z.1)) (λ k. (ap (λ w. w.size) c.words.view_is k, sym (ap (λ m. m.0) x.0) k)) x.2
+returns-clause-told g c = let x = c.swap.ensures.told in subst (λ (z : Size × View). SomeRunAgrees z.0 (queue_in z.1) (pass_in z.1)) (λ k. (ap (λ w. w.size) c.words.view_is k, sym (ap (λ m. m.0) x.0) k)) x.2

@@ -7,8 +7,8 @@ use Rattle.csq_words.proofs.Observing.{tells_queue_as}
 use Rattle.csq_words.proofs.SeatValues.{alone}
 use Rattle.csq_words.proofs.queue_seat.QueueSeat.tell.Goals as goal
 
-pub tell_queue-requires : goal.tell_queue-requires
-tell_queue-requires g c =
+pub load-requires : goal.load-requires
+load-requires g c =
     let words = c.words.inside in
     let queue = alone c.self.inside.seat c.self.view_is c.self.invariant c.requires.alone in (
       ap (λ z. z.table) c.self.view_is ∙ (c.requires.words ∙ sym (ap (λ w. w.table) c.words.view_is)),
@@ -17,4 +17,4 @@ tell_queue-requires g c =
     )
 
 pub returns-clause-rule : goal.returns-clause-rule
-returns-clause-rule g c = subst (λ (z : Size × QueueRecord). RuleHoldsWith z.0 z.1) (λ k. (ap (λ w. w.size) c.words.view_is k, sym (ap (λ m. queue_in m.0) c.tell_queue.ensures.told.0) k)) c.tell_queue.ensures.told.2
+returns-clause-rule g c = subst (λ (z : Size × QueueRecord). RuleHoldsWith z.0 z.1) (λ k. (ap (λ w. w.size) c.words.view_is k, sym (ap (λ m. queue_in m.0) c.load.ensures.told.0) k)) c.load.ensures.told.2

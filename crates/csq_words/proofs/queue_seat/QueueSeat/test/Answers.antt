@@ -6,8 +6,8 @@ use Rattle.csq_words.proofs.LockedSteps.{tests_as}
 use Rattle.csq_words.proofs.SeatValues.{test_is, joined, made_found, made_seat, made_told}
 use Rattle.csq_words.proofs.queue_seat.QueueSeat.test.Goals as goal
 
-pub test-requires : goal.test-requires
-test-requires g c =
+pub load-requires : goal.load-requires
+load-requires g c =
     let words = c.words.inside in
     let queue = joined c.self.inside.seat c.self.view_is c.self.invariant c.requires.joined in
     let irps = ap (λ w. w.size.irps) c.words.view_is in (
@@ -18,16 +18,16 @@ test-requires g c =
 
 pub invariant_of-self : goal.invariant_of-self
 invariant_of-self g c =
-    (made_seat c.args.call (test_is c.self.inside.seat c.self.view_is c.args.irp) c.self.inside.seat c.test.new.seat c.test.result c.self.view_is c.self.invariant c.requires.joined c.test.ensures.table c.test.ensures.told).0
+    (made_seat c.args.call (test_is c.self.inside.seat c.self.view_is c.args.irp) c.self.inside.seat c.load.new.seat c.load.result c.self.view_is c.self.invariant c.requires.joined c.load.ensures.table c.load.ensures.told).0
 
 pub returns-clause-found : goal.returns-clause-found
 returns-clause-found g c =
-    made_found c.args.call (test_is c.self.inside.seat c.self.view_is c.args.irp) c.self.inside.seat c.test.new.seat c.test.result c.self.view_is c.self.invariant c.requires.joined c.test.ensures.table c.test.ensures.told
+    made_found c.args.call (test_is c.self.inside.seat c.self.view_is c.args.irp) c.self.inside.seat c.load.new.seat c.load.result c.self.view_is c.self.invariant c.requires.joined c.load.ensures.table c.load.ensures.told
 
 pub returns-clause-step : goal.returns-clause-step
 returns-clause-step g c =
-    (made_seat c.args.call (test_is c.self.inside.seat c.self.view_is c.args.irp) c.self.inside.seat c.test.new.seat c.test.result c.self.view_is c.self.invariant c.requires.joined c.test.ensures.table c.test.ensures.told).1
+    (made_seat c.args.call (test_is c.self.inside.seat c.self.view_is c.args.irp) c.self.inside.seat c.load.new.seat c.load.result c.self.view_is c.self.invariant c.requires.joined c.load.ensures.table c.load.ensures.told).1
 
 pub returns-clause-told : goal.returns-clause-told
 returns-clause-told g c =
-    made_told c.args.call (test_is c.self.inside.seat c.self.view_is c.args.irp) c.self.inside.seat c.test.new.seat c.test.result c.self.view_is c.self.invariant c.requires.joined c.test.ensures.table c.test.ensures.told _ (ap (λ w. w.size) c.words.view_is)
+    made_told c.args.call (test_is c.self.inside.seat c.self.view_is c.args.irp) c.self.inside.seat c.load.new.seat c.load.result c.self.view_is c.self.invariant c.requires.joined c.load.ensures.table c.load.ensures.told _ (ap (λ w. w.size) c.words.view_is)
