@@ -105,10 +105,10 @@ enum csq_code {
     CSQ_NOT_HOME = 3,
     /* The file object was closed (STATUS_FILE_CLOSED in a driver). */
     CSQ_FILE_CLOSED = 4,
-    /* As many IRPs are listed as the limit allows (STATUS_INSUFFICIENT_RESOURCES in a driver). */
-    CSQ_FULL = 5,
-    /* As many are listed for this file object as its own limit allows. */
+    /* As many IRPs are listed for this file object as its own limit allows, which is tested before the queue's. */
     CSQ_FILE_FULL = 6,
+    /* As many IRPs are listed as the limit allows (STATUS_INSUFFICIENT_RESOURCES in a driver, as of CSQ_FILE_FULL). */
+    CSQ_FULL = 5,
     /* The insert, or the put-back, found the IRP cancelled: the pass holds it, and completes it as cancelled. */
     CSQ_CANCELLED = 7,
     /* There is none: no IRP to remove, no status yet, no further listed IRP. */
@@ -376,7 +376,7 @@ CSQ_NODISCARD uint32_t csq_cancel_owed(struct csq_queue *queue, struct csq_pass 
 /* Closes a file object for good: the first half of IRP_MJ_CLEANUP. The second is to remove each IRP that is listed
  * for it (csq_remove_next) and to complete it as cancelled; csq_cleanup does both. Closing it again is no fault.
  * CSQ_EMPTY_HANDLE; CSQ_OTHER_QUEUE; CSQ_UNKNOWN_FILE. Lock: held. */
-uint32_t csq_close_file(struct csq_queue *queue, struct csq_pass *pass, uint32_t file);
+CSQ_NODISCARD uint32_t csq_close_file(struct csq_queue *queue, struct csq_pass *pass, uint32_t file);
 
 /* Begins the next life of an IRP that is completed in the life named, its present one (IoReuseIrp). It is home then.
  * Tells that next life.
@@ -447,7 +447,7 @@ CSQ_NODISCARD uint32_t csq_complete(struct csq_pass *pass, struct csq_irp irp, u
 
 /* Completes an IRP that the pass holds in this life, however it got it, with STATUS_CANCELLED (IoCompleteRequest).
  * CSQ_EMPTY_HANDLE; CSQ_UNKNOWN_IRP; CSQ_NOT_HELD. Lock: not needed. */
-uint32_t csq_complete_cancelled(struct csq_pass *pass, struct csq_irp irp);
+CSQ_NODISCARD uint32_t csq_complete_cancelled(struct csq_pass *pass, struct csq_irp irp);
 
 /* Reads the Cancel flag of an IRP (Irp->Cancel): the life that it stands for, and 1 where it is set there, else 0.
  * CSQ_EMPTY_HANDLE; CSQ_UNKNOWN_IRP. Lock: not needed. */

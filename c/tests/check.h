@@ -99,7 +99,8 @@ static inline void settle(struct device *device) {
             struct csq_irp name = present(pass, irp);
             uint32_t code = csq_cancel_owed(&device->queue, pass, name);
             CHECK(code == CSQ_OK || code == CSQ_NOT_OWED);
-            csq_complete_cancelled(pass, name);
+            code = csq_complete_cancelled(pass, name);
+            CHECK(code == CSQ_OK || code == CSQ_NOT_HELD);
         }
         if (pass->at) {
             IS(csq_count_held(pass, &held, &owed), CSQ_OK);

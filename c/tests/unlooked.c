@@ -1,0 +1,33 @@
+/* Each call whose answer has to be looked at, unlooked-at: each is a warning, and none is one without a call here. */
+#include <csq.h>
+
+void ignore(struct csq_queue *queue, struct csq_pass *pass, const struct csq_size *size, const struct csq_lock *lock,
+            const struct csq_callback *callback, struct csq_irp *irp, uint32_t *out);
+
+void ignore(struct csq_queue *queue, struct csq_pass *pass, const struct csq_size *size, const struct csq_lock *lock,
+            const struct csq_callback *callback, struct csq_irp *irp, uint32_t *out) {
+    csq_new_queue(queue, size);
+    csq_new_queue_with_file_limits(queue, size, out, 1);
+    csq_new(queue, size);
+    csq_new_with_file_limits(queue, size, out, 1);
+    csq_free_queue(queue);
+    csq_free(queue);
+    csq_close(queue);
+    csq_take_pass(queue, pass);
+    csq_give_back(queue, pass);
+    csq_abandon_pass(pass);
+    csq_insert(queue, pass, 0, 0, 0, irp);
+    csq_remove_next(queue, pass, CSQ_ANY, irp);
+    csq_remove(queue, pass, *irp);
+    csq_put_back(queue, pass, *irp, 1, irp);
+    csq_cancel_routine(queue, pass, *irp);
+    csq_cancel_owed(queue, pass, *irp);
+    csq_close_file(queue, pass, 0);
+    csq_reuse(queue, pass, *irp, out);
+    csq_mark_cancel(pass, *irp, out);
+    csq_complete(pass, *irp, 0);
+    csq_complete_cancelled(pass, *irp);
+    csq_cancel(queue, pass, *irp, lock, callback, out);
+    csq_drain(queue, pass, CSQ_ANY, lock, callback, out);
+    csq_cleanup(queue, pass, 0, lock, callback, out);
+}
