@@ -33,6 +33,7 @@ pub(crate) fn match_after(queue: &CheckedQueue, after: Option<IrpId>, peek: Peek
 {
     match next_match(queue, after, peek) {
         Ok(first) => first,
+        // The search starts at an IRP that is listed, or at the head: no start is refused.
         Err(_) => unreachable!(),
     }
 }

@@ -41,6 +41,7 @@ impl<T> Hold<T> {
         if at.is_null() {
             return None;
         }
+        // SAFETY: `at` is the address of a box that `of` was given, and this is its only holder: nobody frees it twice.
         Some(unsafe { Box::from_raw(alloc, at) })
     }
 }

@@ -98,6 +98,8 @@ impl CheckedQueue {
             Err(InsertStatus::FileClosed) => Err(PutBackRefused::FileClosed),
             Err(InsertStatus::FileFull) => Err(PutBackRefused::FileFull),
             Err(InsertStatus::Full) => Err(PutBackRefused::Full),
+            // The pass holds the IRP, so there is such an IRP, an insert has accepted it for a known file object, and a
+            // put-back asks for none that is home.
             Err(InsertStatus::UnknownIrp) => unreachable!(),
             Err(InsertStatus::UnknownFile) => unreachable!(),
             Err(InsertStatus::NotHome) => unreachable!(),
@@ -161,6 +163,7 @@ impl CheckedQueue {
     {
         self.cancel_routine(by, irp)?;
         if by.complete_cancelled(irp).is_err() {
+            // What a cancel routine takes out the pass holds, and no removal got it: this completion is never refused.
             unreachable!()
         }
         Ok(())
@@ -188,6 +191,7 @@ impl CheckedQueue {
             Ok(life) => Ok(life),
             Err(csq_queue::ReuseRefused::NotCompleted) => Err(ReuseRefused::NotCompleted),
             Err(csq_queue::ReuseRefused::LivesSpent) => Err(ReuseRefused::LivesSpent),
+            // Its life was found above.
             Err(csq_queue::ReuseRefused::UnknownIrp) => unreachable!(),
         }
     }

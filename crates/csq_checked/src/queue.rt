@@ -196,6 +196,7 @@ impl CheckedQueue {
         ensures kept { OnErr result (self.new ≡ self.old) }
     {
         let Some(pass) = self.idle.take(at) else {
+            // An idle pass lies at this place.
             unreachable!()
         };
         match pass.into_box(alloc, words) {
@@ -228,6 +229,7 @@ impl CheckedQueue {
             return Err(PassRefused::Memory);
         };
         let Some(pass) = self.rack.take() else {
+            // The caller has seen that a pass is left.
             unreachable!()
         };
         let pass = CheckedPass {

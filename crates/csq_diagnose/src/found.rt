@@ -46,6 +46,7 @@ impl<'a> Misfit<'a> {
             Some(at) => (Found::Byte(word[at]), self.column + at),
             None => match str::from_utf8(word) {
                 Ok(text) => (Found::Word(text), self.column),
+                // A word without a strange byte is ASCII.
                 Err(_) => unreachable!(),
             },
         }

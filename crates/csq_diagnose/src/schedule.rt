@@ -55,6 +55,7 @@ fn tell_malformed<A: Allocator + Copy>(
         (malformed_line_text number fault ++ codes "\n")) }
 {
     let Some(fault) = Malformed::find(alloc, Grammar::Schedule, line)? else {
+        // A line that is no step breaks the grammar somewhere.
         unreachable!()
     };
     writeln!(text, "{}", MalformedLine { number, fault })?;

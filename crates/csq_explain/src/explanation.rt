@@ -109,6 +109,7 @@ impl<A: Allocator + Copy> Answerer<A> for Explanation<A> {
             Explained::Skipped => Ok(Handling::GoesOn),
             Explained::Accepted(step) => {
                 let Ok(written) = str::from_utf8(line) else {
+                    // A line that was accepted is ASCII, as its grammar is.
                     unreachable!()
                 };
                 let (found, sentence) = (step.made.found, Sentence(step));

@@ -9,7 +9,6 @@ use Rattle.irp_core.proofs.Names.{same_id-refl}
 use Rattle.csq_list.specs.declared.entry.Entry.{Entry}
 use Rattle.csq_list.specs.declared.entry.Place.{Place}
 use Rattle.csq_list.specs.declared.refusals.InsertStatus.{InsertStatus}
-use Rattle.csq_list.specs.Searches.{is_listed}
 use Rattle.csq_list.specs.Causes.{causes, last_causes, of_each, is_cause, first_cause}
 use Rattle.csq_list.specs.declared.refusals.InsertStatus.TheVariants.{UnknownIrp, UnknownFile, NotHome, FileFull, Full}
 use Rattle.csq_list.specs.Listing.{Listing, IsSound, inserted, renewed}
@@ -46,10 +45,3 @@ sound-accepted s sound place e accepted =
     let met = no_cause s e.irp e.file accepted in
     let room : length s.entries < s.limit = omega (arith, sound.within_limit, eqb-false (length s.entries) s.limit (met Full)) in
     sound-inserted s sound place e (leb-false s.irps e.irp.0 (met UnknownIrp)) (leb-false s.files e.file.0 (met UnknownFile)) (unused-unlisted s sound e.irp (met NotHome)) room (met FileFull)
-
--- as what was put back does
-pub sound-put_back : (s : Listing) → IsSound s → (place : Place) (e : Entry) → is_listed s.entries e.irp ≡ false → first_cause (renewed e.irp s) e.irp e.file ≡ None → IsSound (inserted place e s)
-sound-put_back s sound place e absent accepted =
-    let met = no_cause (renewed e.irp s) e.irp e.file accepted in
-    let room : length s.entries < s.limit = omega (arith, sound.within_limit, eqb-false (length s.entries) s.limit (met Full)) in
-    sound-inserted s sound place e (leb-false s.irps e.irp.0 (met UnknownIrp)) (leb-false s.files e.file.0 (met UnknownFile)) absent room (met FileFull)

@@ -18,6 +18,8 @@ impl QueueBox {
         if at.is_null() {
             return None;
         }
+        // SAFETY: only this library writes `at`: null, or the address of a box that it made and that is taken out only by
+        // a call that writes null. Two calls at a time have no handle, as the header asks, so none borrows it twice.
         Some(unsafe { &mut *at })
     }
 
@@ -44,6 +46,7 @@ impl PassBox {
         if at.is_null() {
             return None;
         }
+        // SAFETY: as of a queue's handle; a pass has one thread at a time.
         Some(unsafe { &mut *at })
     }
 

@@ -368,6 +368,7 @@ impl<L: PendingList + Drop, A: Allocator> OpenQueue<L, A> {
     {
         'rest: for _ in 0..rack.left() {
             let Some(pass) = rack.take() else {
+                // The rack has as many passes left as there are turns.
                 unreachable!()
             };
             self.give_back(words, pass);

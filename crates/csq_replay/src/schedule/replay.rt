@@ -62,6 +62,7 @@ impl<A: Allocator> Answerer<A> for Replay<A> {
             Outcome::Skipped => Ok(Handling::GoesOn),
             Outcome::Accepted(made) => {
                 let Ok(written) = str::from_utf8(line) else {
+                    // A line that was accepted is ASCII, as its grammar is.
                     unreachable!()
                 };
                 let found = made.found;
