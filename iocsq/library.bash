@@ -1,5 +1,6 @@
 # Builds tests of drivers with the checker, for iocsq/run-tests: source this. `top` is the repository, `work` a folder
 # for what is made, `library` the files of csq.h's library, or empty for the plain queue.
+# shellcheck disable=SC2154 # these are set by the script
 warnings=(-Wall -Wextra -Wpedantic -Wshadow -Wconversion -Wno-multichar -Werror)
 
 # Compiles the checker once for each compiler and flags, and prints the folder with its objects; those of the tests are

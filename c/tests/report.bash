@@ -1,6 +1,6 @@
 # What c/run-tests and iocsq/run-tests share: the lines that they print, the folder for what they make, and the
 # compilers that there are. Source this, with `top` set to the repository's top.
-# shellcheck disable=SC2034 # the scripts use what is set here
+# shellcheck disable=SC2034,SC2154 # the scripts use what is set here, and set `top`
 #
 # A test whose tool is missing is skipped. With GATE=1 in the environment it has failed: the gate is green only if
 # everything ran. The last line is 'N passed, M failed', with ', K skipped' if some were.
