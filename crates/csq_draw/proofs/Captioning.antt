@@ -1,9 +1,6 @@
 -- How a caption grows.
 use Rattle.std.proofs.Common.{◌≡◌, ℕ, ◌+◌, ◌<◌, List, [], ◌∷◌, ◌++◌, take, length, get_or, append_assoc, append-nil, refl, ap, sym, ◌∙◌}
-use Rattle.std.proofs.lemmas.List.{take_more}
-use Rattle.csq_replay.specs.Lines.{GrewBy}
-use Rattle.csq_replay.proofs.Closings.{grew_more}
-use Rattle.csq_draw.specs.Captions.{escaped_byte, escaped}
+use Rattle.csq_draw.proofs.Imports.{take_more, GrewBy, grew_more, escaped_byte, escaped}
 
 escaped-append : (xs ys : List ℕ) → escaped (xs ++ ys) ≡ escaped xs ++ escaped ys
 escaped-append [] ys = refl

@@ -1,11 +1,7 @@
 -- How a text grows by the elements of a picture.
 use Rattle.std.proofs.Common.{◌≡◌, ℕ, ◌+◌, ◌<◌, List, [], ◌∷◌, ◌++◌, take, length, get_or, append_assoc, append-nil, refl, ap, sym, ◌∙◌, arith, codes, ◌≤◌}
-use Rattle.std.proofs.lemmas.List.{length-take-le, take_all, take_more}
-use Rattle.csq_replay.specs.Lines.{GrewBy}
-use Rattle.csq_replay.proofs.Closings.{grew_more}
+use Rattle.csq_draw.proofs.Imports.{length-take-le, take_all, take_more, GrewBy, grew_more, element_text, elements_text, picture, each}
 use Rattle.csq_draw.specs.declared.element.Element.{Element}
-use Rattle.csq_draw.specs.Elements.{element_text, elements_text, picture}
-use Rattle.csq_draw.specs.Pictures.{each}
 
 pub elements-append : (xs ys : List Element) → elements_text (xs ++ ys) ≡ elements_text xs ++ elements_text ys
 elements-append [] ys = refl

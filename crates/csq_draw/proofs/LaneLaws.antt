@@ -1,22 +1,10 @@
 -- No two lines of a pass are in one lane.
-use Rattle.std.proofs.Common.{◌≡◌, ◌≢◌, ◌⊎◌, inl, inr, ℕ, zero, suc, ◌+◌, ◌<◌, ◌≤◌, ◌-◌, ◌==◌, ◌&&◌, Bool, true, false, cond, List, [], ◌∷◌, length, get_or, Option, Some, None, refl, ap, sym, ◌∙◌, subst, arith, add-zero, ⊎_elim}
-use Rattle.std.proofs.lemmas.Bool.{eq-eqb, cases_lt}
-use Rattle.std.specs.Option.{option_map_or}
+use Rattle.std.proofs.Common.{◌≡◌, ◌≢◌, ◌⊎◌, inl, inr, ℕ, zero, suc, ◌+◌, ◌<◌, ◌≤◌, ◌-◌, Bool, true, false, cond, List, [], ◌∷◌, length, get_or, Option, Some, None, refl, ap, sym, ◌∙◌, subst, arith, add-zero, ⊎_elim}
+use Rattle.std.proofs.lemmas.Bool.{cases_lt}
 use Rattle.std.proofs.lemmas.List.Folds.{list_any_at}
-use Rattle.irp_core.specs.declared.ids.IrpId.{IrpId}
-use Rattle.irp_core.specs.declared.ids.IrpLife.{IrpLife}
-use Rattle.irp_core.specs.declared.ids.PassId.{PassId}
-use Rattle.irp_core.specs.declared.step.Kind.{Kind}
-use Rattle.irp_core.specs.declared.step.Kind.TheVariants.{Arm, Test, Disarm, End, Flag, Take, Out, Done, Renew, Rearm}
-use Rattle.irp_core.specs.declared.step.Made.{Made}
-use Rattle.irp_core.specs.Steps.{same_id, same_pass, name_of}
-use Rattle.irp_core.proofs.Names.{same_id-eq, same_pass-eq, same_pass-refl}
-use Rattle.csq_explain.proofs.Tables.{get-table, length-table}
+use Rattle.csq_draw.proofs.Imports.{option_map_or, IrpId, IrpLife, PassId, Kind, Made, same_id, name_of, same_id-eq, same_pass-eq, same_pass-refl, get-table, length-table, Owner, is_of_irp, owner_by, owner_after, owner, owners}
 use Rattle.csq_draw.specs.declared.owners.Having.{Having}
-use Rattle.csq_draw.specs.declared.owners.Having.TheVariants.{Owes, Holds}
-use Rattle.csq_draw.specs.declared.owners.Owner.{Owner}
 use Rattle.csq_draw.specs.Lanes.{is_in_lane, is_taken, first_free, free_lane, lane_for}
-use Rattle.csq_draw.specs.Owners.{is_of_irp, owner_by, owner_after, owner, owners}
 
 -- the lanes that a pass has free
 module _ (os : List (Option Owner)) (p : PassId) where
@@ -73,12 +61,7 @@ module _ (os : List (Option Owner)) (p : PassId) where
   IsKept before lane = (o : Owner) × (before ≡ Some o) × (o.pass ≡ p) × (lane ≡ o.lane)
 
   lane_came : (before : Option Owner) → IsKept before (lane_for os p before) ⊎ (lane_for os p before ≡ free_lane os p)
-  lane_came (Some o) = go (same_pass o.pass p) refl
-    where
-      go : (b : Bool) → same_pass o.pass p ≡ b → IsKept (Some o) (cond b o.lane (free_lane os p)) ⊎ (cond b o.lane (free_lane os p) ≡ free_lane os p)
-      go true e = inl (o, refl, same_pass-eq o.pass p e, refl)
-      go false e = inr refl
-  lane_came None = inr refl
+  lane_came before = grind (arith, same_pass-eq)
 
 abbrev pass_of : PassId → Option Owner → PassId
 pass_of q (Some o) = o.pass
@@ -97,20 +80,10 @@ module _ (found : ℕ) (p : PassId) (row lane : ℕ) (before : Option Owner) (a 
   Came = (before ≡ Some a) ⊎ ((a.pass ≡ p) × (a.lane ≡ lane))
 
   by_claim : (i : IrpLife) (having : Having) (b : Bool) → cond b (claimed i having p row lane) before ≡ Some a → Came
-  by_claim i having true e = inr (sym (ap (pass_of p) e), sym (ap lane_of e))
-  by_claim i having false e = inl e
+  by_claim i having b e = grind arith
 
   came : (k : Kind) → owner_by k found p row lane before ≡ Some a → Came
-  came (Arm i) e = inl e
-  came (Test i) e = inl e
-  came (Disarm i) e = by_claim i Holds (found == 1) e
-  came End e = inl e
-  came (Flag i) e = inl e
-  came (Take i) e = by_claim i Owes (found == 1) e
-  came (Out i) e = by_claim i Holds true e
-  came (Done i) e = absurd (cc e)
-  came (Renew i) e = inl e
-  came (Rearm i) e = absurd (cc e)
+  came k e = grind arith
 
 -- a step names one IRP
 named_one : (k : Kind) (n m : IrpId) → is_of_irp n k ≡ true → is_of_irp m k ≡ true → n ≡ m
@@ -122,7 +95,7 @@ named_one k n m a b = go (name_of k) a b
 
 -- an IRP that p has in a lane takes it
 in_lane : (p : PassId) (lane : ℕ) (o : Owner) → o.pass ≡ p → o.lane ≡ lane → is_in_lane p lane (Some o) ≡ true
-in_lane p lane o his same = ap (λ b. b && o.lane == lane) (subst (λ (q : PassId). same_pass o.pass q ≡ true) his (same_pass-refl o.pass)) ∙ eq-eqb o.lane lane same
+in_lane p lane o his same = grind (arith, same_pass-refl)
 
 module _ (irps : ℕ) where
   taken_by : (E : List Made) (k : IrpId) (p : PassId) (lane : ℕ) (b : Owner) → k.0 < irps → owner irps E k ≡ Some b → b.pass ≡ p → b.lane ≡ lane → is_taken (owners irps E) p lane ≡ true

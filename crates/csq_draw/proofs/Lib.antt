@@ -1,3 +1,4 @@
+pub mod Imports
 pub mod Captioning
 pub mod Growing
 pub mod Writing

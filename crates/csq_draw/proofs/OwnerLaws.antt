@@ -1,39 +1,29 @@
 -- Who is drawn as an IRP's owner is its owner by the run.
-use Rattle.std.proofs.Common.{◌≡◌, ◌≢◌, ◌↔◌, ℕ, ◌==◌, Bool, true, false, cond, List, [], ◌∷◌, length, Option, Some, None, refl, ap, sym, ◌∙◌, subst}
-use Rattle.std.specs.Option.{option_map, option_map_or}
+use Rattle.std.proofs.Common.{◌≡◌, ◌≢◌, ◌↔◌, ℕ, ◌==◌, Bool, true, false, cond, List, [], ◌∷◌, length, Option, Some, None, refl, ap, sym, ◌∙◌, subst, arith}
 use Rattle.std.proofs.lemmas.Bool.{and_parts}
-use Rattle.irp_core.specs.declared.ids.IrpId.{IrpId}
-use Rattle.irp_core.specs.declared.ids.IrpLife.{IrpLife}
+use Rattle.csq_draw.proofs.Imports.{option_map, option_map_or, IrpId, IrpLife, PassId, Kind, Made, Size, IsRun, EachRunFrom, same_irp, same_pass, name_of, named, same_irp-refl, same_irp-eq, same_id-eq, same_pass-refl, same_pass-eq, other_irp, Owner, is_of_irp, owner, owner_named, owners}
 use Rattle.irp_core.specs.declared.ids.Life.{Life}
-use Rattle.irp_core.specs.declared.ids.PassId.{PassId}
 use Rattle.irp_core.specs.declared.inside.Inside.{Inside}
 use Rattle.irp_core.specs.declared.standing.Standing.{Standing}
 use Rattle.irp_core.specs.declared.standing.Standing.TheVariants.{Home, Waiting, Owed, Held, Finished}
-use Rattle.irp_core.specs.declared.step.Kind.{Kind}
 use Rattle.irp_core.specs.declared.step.Kind.TheVariants.{Arm, Test, Disarm, End, Flag, Take, Out, Done, Renew, Rearm}
-use Rattle.irp_core.specs.declared.step.Made.{Made}
 use Rattle.irp_core.specs.Inside.{inside}
 use Rattle.irp_core.specs.Lives.{renews, present_life, present, IsPresent}
 use Rattle.irp_core.specs.Owners.{owes, holds, dones}
-use Rattle.irp_core.specs.Runs.{Size, IsRun, EachRunFrom}
 use Rattle.irp_core.specs.Standings.{IsStanding, moved, names, standing_after, is_waiting, is_owed_by, is_held_by}
 use Rattle.irp_core.specs.declared.standing.IrpPlace.{IrpPlace}
 use Rattle.irp_core.specs.declared.standing.IrpPlace.TheVariants as place
 use Rattle.irp_core.specs.Completion.{removed, IsPlace}
-use Rattle.irp_core.specs.Steps.{same_irp, same_pass, name_of}
 use Rattle.irp_core.specs.Words.{bit, armed, flagged}
 use Rattle.irp_core.proofs.Growing.{run_less}
 use Rattle.irp_core.proofs.Lives.{life_same, armed_present, owed_present, held_present, Next, renewed_present, renewed_home}
 use Rattle.irp_core.proofs.MachineStates.{is_standing, standing_says, standing_grows}
-use Rattle.irp_core.proofs.Names.{named, same_irp-refl, same_irp-eq, same_id-eq, same_pass-refl, same_pass-eq, other_irp}
 use Rattle.irp_core.proofs.Rows.{DonesAre, Stands, stands_same}
 use Rattle.csq_draw.specs.declared.owners.Having.{Having}
 use Rattle.csq_draw.specs.declared.owners.Having.TheVariants.{Owes, Holds}
-use Rattle.csq_draw.specs.declared.owners.Owner.{Owner}
 use Rattle.csq_draw.specs.Laws.{EachDrawnOwnerOwesOrHolds}
 use Rattle.csq_draw.specs.Lanes.{lane_for}
-use Rattle.csq_draw.specs.Owners.{is_of_irp, owner, owner_named, owners}
-use Rattle.csq_draw.specs.declared.words.Words.{Words}
+use Rattle.csq_draw.specs.declared.words.WordValues.{WordValues}
 use Rattle.csq_draw.specs.Words.{words_of, words_named, routine_at}
 use Rattle.csq_replay.proofs.OneAnswer.{one_place}
 
@@ -51,33 +41,14 @@ abbrev IsDrawn : Size → ℕ → IrpId → List Made → Type 0
 IsDrawn size irps n E = (s : Standing) × Stands E (present size.first E n) s × Fits n s (owner irps E n)
 
 bit_found : (b : Bool) (v : ℕ) → v ≡ bit b → (v == 1) ≡ b
-bit_found true v e = rw e refl
-bit_found false v e = rw e refl
+bit_found b v e = grind arith
 
 -- a step of another IRP is of none of its lives
 unnamed : (n : IrpId) (l : Life) (k : Kind) → is_of_irp n k ≡ false → names (record { irp = n; life = l }) k ≡ false
-unnamed n l (Arm j) e = other_irp j (record { irp = n; life = l }) e
-unnamed n l (Test j) e = other_irp j (record { irp = n; life = l }) e
-unnamed n l (Disarm j) e = other_irp j (record { irp = n; life = l }) e
-unnamed n l End e = refl
-unnamed n l (Flag j) e = other_irp j (record { irp = n; life = l }) e
-unnamed n l (Take j) e = other_irp j (record { irp = n; life = l }) e
-unnamed n l (Out j) e = other_irp j (record { irp = n; life = l }) e
-unnamed n l (Done j) e = other_irp j (record { irp = n; life = l }) e
-unnamed n l (Renew j) e = other_irp j (record { irp = n; life = l }) e
-unnamed n l (Rearm j) e = other_irp j (record { irp = n; life = l }) e
+unnamed n l k e = grind (arith, other_irp)
 
 unrenewed : (n : IrpId) (k : Kind) → is_of_irp n k ≡ false → renews n k ≡ false
-unrenewed n (Arm j) e = refl
-unrenewed n (Test j) e = refl
-unrenewed n (Disarm j) e = refl
-unrenewed n End e = refl
-unrenewed n (Flag j) e = refl
-unrenewed n (Take j) e = refl
-unrenewed n (Out j) e = refl
-unrenewed n (Done j) e = refl
-unrenewed n (Renew j) e = e
-unrenewed n (Rearm j) e = refl
+unrenewed n k e = grind arith
 
 -- a name of the present life
 is_present : (size : Size) (n : IrpId) (E : List Made) (j : IrpLife) → j.irp ≡ n → IsPresent size.first E j → j ≡ present size.first E n
@@ -86,82 +57,41 @@ is_present size n E j e now = named j (present size.first E n) (ap (λ (x : IrpI
 -- what a step of IRP n, which names j, makes of how it stands and is drawn; `t` says whether j is the present life
 module _ (n : IrpId) (j : IrpLife) (p : PassId) (x : Inside) where
   armed_fits : (t : Bool) (s : Standing) (o : Option Owner) → Fits n s o → Fits n (cond t (moved (Arm j) s p x) s) o
-  armed_fits true Home o f = f
-  armed_fits true Waiting o f = f
-  armed_fits true (Owed q) o f = f
-  armed_fits true (Held q status) o f = f
-  armed_fits true (Finished status q) o f = f
-  armed_fits false s o f = f
+  armed_fits t s o f = grind arith
 
   tested_fits : (t : Bool) (s : Standing) (o : Option Owner) → Fits n s o → Fits n (cond t (moved (Test j) s p x) s) o
-  tested_fits true s o f = f
-  tested_fits false s o f = f
+  tested_fits t s o f = grind arith
 
   flagged_fits : (t : Bool) (s : Standing) (o : Option Owner) → Fits n s o → Fits n (cond t (moved (Flag j) s p x) s) o
-  flagged_fits true s o f = f
-  flagged_fits false s o f = f
+  flagged_fits t s o f = grind arith
 
   -- an exchange that found no routine
   untaken_fits : (t : Bool) (s : Standing) (o : Option Owner) → (t ≡ true → is_waiting s ≡ false) → Fits n s o → Fits n (cond t (moved (Take j) s p x) s) o
-  untaken_fits true Home o w f = f
-  untaken_fits true Waiting o w f = absurd (cc (w refl))
-  untaken_fits true (Owed q) o w f = f
-  untaken_fits true (Held q status) o w f = f
-  untaken_fits true (Finished status q) o w f = f
-  untaken_fits false s o w f = f
+  untaken_fits t s o w f = grind arith
 
   missed_fits : (t : Bool) (s : Standing) (o : Option Owner) → (t ≡ true → is_waiting s ≡ false) → Fits n s o → Fits n (cond t (moved (Disarm j) s p x) s) o
-  missed_fits true Home o w f = f
-  missed_fits true Waiting o w f = absurd (cc (w refl))
-  missed_fits true (Owed q) o w f = f
-  missed_fits true (Held q status) o w f = f
-  missed_fits true (Finished status q) o w f = f
-  missed_fits false s o w f = f
+  missed_fits t s o w f = grind arith
 
   -- one that found it, and the steps of an owner
   module _ (row lane : ℕ) (same : j.irp ≡ n) where
     taken_fits : (s : Standing) → is_waiting s ≡ true → Fits n (moved (Take j) s p x) (drawn_as p Owes row lane j.irp)
-    taken_fits Home w = absurd (cc w)
-    taken_fits Waiting w = (row, lane, ap (drawn_as p Owes row lane) same)
-    taken_fits (Owed q) w = absurd (cc w)
-    taken_fits (Held q status) w = absurd (cc w)
-    taken_fits (Finished status q) w = absurd (cc w)
+    taken_fits s w = grind arith
 
     disarmed_fits : (s : Standing) → is_waiting s ≡ true → Fits n (moved (Disarm j) s p x) (drawn_as p Holds row lane j.irp)
-    disarmed_fits Home w = absurd (cc w)
-    disarmed_fits Waiting w = (row, lane, ap (drawn_as p Holds row lane) same)
-    disarmed_fits (Owed q) w = absurd (cc w)
-    disarmed_fits (Held q status) w = absurd (cc w)
-    disarmed_fits (Finished status q) w = absurd (cc w)
+    disarmed_fits s w = grind arith
 
     out_fits : (s : Standing) → is_owed_by p s ≡ true → Fits n (moved (Out j) s p x) (drawn_as p Holds row lane j.irp)
-    out_fits Home w = absurd (cc w)
-    out_fits Waiting w = absurd (cc w)
-    out_fits (Owed q) w = (row, lane, ap (drawn_as p Holds row lane) same)
-    out_fits (Held q status) w = absurd (cc w)
-    out_fits (Finished status q) w = absurd (cc w)
+    out_fits s w = grind arith
 
   done_fits : (s : Standing) → is_held_by p s ≡ true → Fits n (moved (Done j) s p x) None
-  done_fits Home w = absurd (cc w)
-  done_fits Waiting w = absurd (cc w)
-  done_fits (Owed q) w = absurd (cc w)
-  done_fits (Held q status) w = refl
-  done_fits (Finished status q) w = absurd (cc w)
+  done_fits s w = grind arith
 
   rearmed_fits : (s : Standing) → is_held_by p s ≡ true → Fits n (moved (Rearm j) s p x) None
-  rearmed_fits Home w = absurd (cc w)
-  rearmed_fits Waiting w = absurd (cc w)
-  rearmed_fits (Owed q) w = absurd (cc w)
-  rearmed_fits (Held q status) w = refl
-  rearmed_fits (Finished status q) w = absurd (cc w)
+  rearmed_fits s w = grind arith
 
 -- nobody is drawn as the owner of what was completed
 over_fits : (n : IrpId) (s : Standing) (ends : List Made) (o : Option Owner) → DonesAre s ends → ends ≢ [] → Fits n s o → o ≡ None
-over_fits n Home ends o d ne f = f
-over_fits n Waiting ends o d ne f = f
-over_fits n (Owed q) ends o d ne f = absurd (ne d)
-over_fits n (Held q status) ends o d ne f = absurd (ne d)
-over_fits n (Finished status q) ends o d ne f = f
+over_fits n s ends o d ne f = grind arith
 
 -- one more step, of IRP n
 module _ (size : Size) (irps : ℕ) (n : IrpId) (p : PassId) (v : ℕ) (E : List Made) (s : Standing) (st : Stands E (present size.first E n) s) (f : Fits n s (owner irps E n)) where
@@ -302,7 +232,7 @@ pub words_told : (size : Size) (E : List Made) → IsRun size E → (k : Kind) (
     → (flag : Bool) → flag ≡ flagged E (present size.first E i.irp) → (p : IrpPlace) → IsPlace E (present size.first E i.irp) p → (o : Option Owner) → o ≡ owner_named size.irps E k
     → (routine : Bool) → routine ≡ routine_at p o → Some (record { name = record { irp = i.irp; life = life }; flag = flag; routine = routine }) ≡ words_named size.first E k
 words_told size E r k i e life now flag set p at o has routine is =
-    let words : IrpLife → Bool → Bool → Option Words = λ x f b. Some (record { name = x; flag = f; routine = b }) in
+    let words : IrpLife → Bool → Bool → Option WordValues = λ x f b. Some (record { name = x; flag = f; routine = b }) in
     let j = present size.first E i.irp in
     let his : o ≡ owner size.irps E i.irp = has ∙ ap (λ (x : Option IrpLife). option_map_or (λ y. owner size.irps E y.irp) x None) e in
     ap (λ x. words x flag routine) (named (record { irp = i.irp; life = life }) j refl now)

@@ -1,48 +1,25 @@
 -- The laws of pictures.
 use Rattle.std.proofs.Common.{◌≡◌, ◌||◌, inl, inr, ℕ, ◌+◌, ◌<◌, ◌≤◌, Bool, true, false, cond, List, [], ◌∷◌, ◌++◌, length, get_or, Option, Some, None, option_to_list, refl, ap, sym, ◌∙◌, subst, arith, append_assoc, append-nil}
 use Rattle.std.specs.List.{position, list_any}
-use Rattle.std.specs.Option.{option_map}
 use Rattle.std.proofs.lemmas.List.Quantifiers.{position-Some}
-use Rattle.irp_core.specs.declared.ids.PassId.{PassId}
-use Rattle.irp_core.specs.declared.step.Made.{Made}
-use Rattle.irp_core.specs.Steps.{same_pass, by}
+use Rattle.csq_draw.proofs.Imports.{option_map, PassId, Made, same_pass, by, Size, IsRun, same_pass-eq, Numbered, run_of, Format, Owner, Row, owners, new_pass_now, pass_after, pass_now, lock_of, columns, column_of, each, column_elements, number_element, mark_element, row_elements, open_elements, closing_elements, refused_elements, at_rest_element, first_elements, shown_elements, Drawn, new_drawn, drawn_text, drawn_after, closed_text, DrawsLine, DrawsClosing, all_passes, reason_of, get-table, position-None, count-more, length-passes, inside_is}
 use Rattle.irp_core.specs.Inside.{inside, inside_after, has_lock}
 use Rattle.irp_core.specs.Lock.{HasLock, needs_lock}
-use Rattle.irp_core.specs.Runs.{Size, IsRun}
-use Rattle.irp_core.proofs.Names.{same_pass-eq}
 use Rattle.irp_core.proofs.Growing.{run_none, run_less, run_parted, HasLock-has_lock, has_lock-HasLock}
 use Rattle.irp_core.proofs.Next.{lock_one}
-use Rattle.csq_replay.specs.declared.schedule.closing.IrpLine.{IrpLine}
 use Rattle.csq_replay.specs.declared.schedule.outcome.Outcome.{Outcome}
 use Rattle.csq_replay.specs.declared.schedule.outcome.Outcome.TheVariants.{Skipped, Accepted, Stopped}
 use Rattle.csq_replay.specs.Outcomes.{ComesTo}
-use Rattle.csq_replay.specs.Schedule.{Numbered, run_of}
 use Rattle.csq_replay.proofs.Answering.{one_input_answer}
 use Rattle.csq_replay.proofs.OneAnswer.{one_close, one_outcome}
-use Rattle.csq_draw.specs.declared.format.Format.{Format}
-use Rattle.csq_draw.specs.declared.heading.Column.{Column}
 use Rattle.csq_draw.specs.declared.marks.Mark.{Mark}
 use Rattle.csq_draw.specs.declared.marks.Number.{Number}
 use Rattle.csq_draw.specs.declared.marks.Shade.{Shade}
-use Rattle.csq_draw.specs.declared.owners.Owner.{Owner}
 use Rattle.csq_explain.specs.declared.passes.PassNow.{PassNow}
-use Rattle.csq_explain.specs.declared.reasons.Reason.{Reason}
-use Rattle.csq_draw.specs.declared.rows.Row.{Row}
-use Rattle.csq_draw.specs.declared.spans.OpenSpan.{OpenSpan}
-use Rattle.csq_draw.specs.declared.words.Words.{Words}
 use Rattle.csq_draw.specs.declared.element.Element.{Element}
-use Rattle.csq_draw.specs.declared.element.Element.TheVariants as element
 use Rattle.csq_draw.specs.Marks.{lets_go}
-use Rattle.csq_draw.specs.Owners.{owners}
-use Rattle.csq_explain.specs.Passes.{new_pass_now, pass_after, pass_now}
-use Rattle.csq_draw.specs.Passes.{lock_of, columns, column_of}
-use Rattle.csq_draw.specs.Pictures.{each, column_element, column_elements, shade_elements, span_elements, number_element, mark_element, row_elements, open_elements, closing_elements, refused_elements, rest_element, first_elements, shown_elements, Drawn, new_drawn, drawn_text, drawn_after, closed_text, DrawsLine, DrawsClosing}
-use Rattle.csq_explain.specs.Passes.{all_passes}
 use Rattle.csq_draw.specs.Rows.{row_of, rows_of}
-use Rattle.csq_explain.specs.Reasons.{reason_of}
-use Rattle.csq_draw.specs.Laws.{HasOnePicture, picked, added, AddsStepByStep, mark_in, words_in, number_in, shade_in, shade_by, EachStepHasOneMark, EachStepShowsItsWords, EachLineHasItsNumber, EachShadeIsOfTheLock, EachPassHasItsColumn, HasItAt, TheShadedPassHasTheLock}
-use Rattle.csq_explain.proofs.Tables.{get-table, position-None, count-more}
-use Rattle.csq_explain.proofs.Following.{length-passes, inside_is}
+use Rattle.csq_draw.specs.Laws.{HasOnePicture, picked, added, AddsStepByStep, pick_of, mark_in, number_in, shade_by, EachStepHasOneMark, EachStepShowsItsWords, EachLineHasItsNumber, EachShadeIsOfTheLock, EachPassHasItsColumn, HasItAt, TheShadedPassHasTheLock}
 
 module _ (size : Size) (format : Format) where
   -- what is drawn of a line is one
@@ -74,8 +51,19 @@ one_picture size format input t u e f is other =
     one_input_answer (DrawsLine size format) (DrawsClosing size format) (λ (d : Drawn). IsRun size (run_of d.steps)) (one_drawn size format) (drawn_on size format)
     (λ d x y r closed closed'. one_closing size format d r x y closed closed') new_drawn (run_none size) input t u e f is other
 
--- what is picked out of elements
-module _ {A : Type 0} (pick : Element → List A) where
+-- what is picked out of the shade of a row, if a pass has the lock there
+abbrev shades_with : {A : Type 0} → (Shade → List A) → List PassNow → Row → Option PassId → List A
+shades_with shade ps row (Some p) = shade (record { row = row.row; column = column_of ps p; last = lets_go row.step })
+shades_with shade ps row None = []
+
+no_shade : {A : Type 0} (ps : List PassNow) (row : Row) (lock : Option PassId) → shades_with {A = A} (λ s. []) ps row lock ≡ []
+no_shade ps row lock = grind arith
+
+-- what is picked out of the elements of a picture: this of a mark, of the number of a line and of a shade
+module _ {A : Type 0} (mark : Mark → List A) (number : Number → List A) (shade : Shade → List A) where
+  abbrev pick : Element → List A
+  pick = pick_of mark number shade
+
   picked-append : (xs ys : List Element) → picked pick (xs ++ ys) ≡ picked pick xs ++ picked pick ys
   picked-append [] ys = refl
   picked-append (x ∷ xs) ys = ap (λ t. pick x ++ t) (picked-append xs ys) ∙ sym (append_assoc (pick x) (picked pick xs) (picked pick ys))
@@ -92,173 +80,84 @@ module _ {A : Type 0} (pick : Element → List A) where
   none_then xs ys zs a b = picked-append xs ys ∙ ap (λ t. t ++ picked pick ys) a ∙ b
 
   -- as of a column, or of a line that is kept to the end
-  no_column : ((c : Column) → pick (element.Column c) ≡ []) → (passes : List PassNow) (rows n : ℕ) (now : PassNow) → picked pick (column_elements passes rows n now) ≡ []
-  no_column none passes rows n now = go now.makes
-    where
-      go : (b : Bool) → picked pick (cond b (column_element passes rows (record { 0 = n }) ∷ []) []) ≡ []
-      go true = append-nil (pick (column_element passes rows (record { 0 = n }))) ∙ none _
-      go false = refl
+  no_column : (passes : List PassNow) (rows n : ℕ) (now : PassNow) → picked pick (column_elements passes rows n now) ≡ []
+  no_column passes rows n now = grind arith
 
-  no_kept : ((o : OpenSpan) → pick (element.OpenSpan o) ≡ []) → (passes : List PassNow) (rows n : ℕ) (owner : Option Owner) → picked pick (open_elements passes rows n owner) ≡ []
-  no_kept none passes rows n (Some o) = append-nil (pick (element.OpenSpan (record { column = column_of passes o.pass; owner = o; rows = rows }))) ∙ none _
-  no_kept none passes rows n None = refl
+  no_kept : (passes : List PassNow) (rows n : ℕ) (owner : Option Owner) → picked pick (open_elements passes rows n owner) ≡ []
+  no_kept passes rows n owner = grind arith
 
--- of which elements something is picked: this of a row, this of the line that ended the handling after so many rows, and nothing else
-record Picks {A : Type 0} (pick : Element → List A) (of_row : List PassNow → Row → List A) (of_line : ℕ → ℕ → List A) : Type 0 where
-  first : (columns rows : ℕ) → picked pick (first_elements columns rows) ≡ []
-  columns : (passes : List PassNow) (rows n : ℕ) (now : PassNow) → picked pick (column_elements passes rows n now) ≡ []
-  row : (passes : List PassNow) (n : ℕ) (row : Row) → picked pick (row_elements passes n row) ≡ of_row passes row
-  kept : (passes : List PassNow) (rows n : ℕ) (owner : Option Owner) → picked pick (open_elements passes rows n owner) ≡ []
-  closing : (rows n : ℕ) (line : IrpLine) → picked pick (closing_elements rows n line) ≡ []
-  rest : (rows n : ℕ) (at_rest : Bool) → pick (rest_element rows n at_rest) ≡ []
-  refused : (rows n : ℕ) (reason : Reason) → picked pick (refused_elements rows n reason) ≡ of_line rows n
+  -- of a row, whoever has the lock there
+  abbrev row_with : List PassNow → Row → Option PassId → List A
+  row_with passes row lock = number (record { row = row.row; line = row.line }) ++ (shades_with shade passes row lock
+      ++ (mark (record { row = row.row; column = column_of passes row.step.made.pass; columns = columns passes; step = row.step; words = row.words }) ++ []))
 
-module _ {A : Type 0} (pick : Element → List A) (of_row : List PassNow → Row → List A) (of_line : ℕ → ℕ → List A) (is : Picks pick of_row of_line) where
-  rows_picked : (passes : List PassNow) (n : ℕ) (rows : List Row) (row : Row) → picked pick (each (row_elements passes) n (rows ++ row ∷ [])) ≡ picked pick (each (row_elements passes) n rows) ++ of_row passes row
-  rows_picked passes n [] row = ap (λ t. picked pick t) (append-nil (row_elements passes n row)) ∙ is.row passes n row
-  rows_picked passes n (r ∷ rows) row =
-      let first = row_elements passes n r in
-      picked-append pick first (each (row_elements passes) (n + 1) (rows ++ row ∷ []))
-      ∙ ap (λ t. picked pick first ++ t) (rows_picked passes (n + 1) rows row)
-      ∙ sym (append_assoc (picked pick first) (picked pick (each (row_elements passes) (n + 1) rows)) (of_row passes row))
-      ∙ ap (λ t. t ++ of_row passes row) (sym (picked-append pick first (each (row_elements passes) (n + 1) rows)))
+  row_picked : (passes : List PassNow) (n : ℕ) (row : Row) → picked pick (row_elements passes n row) ≡ row_with passes row row.lock
+  row_picked passes n row = grind arith
 
-  -- of the steps W
-  module _ (size : Size) where
-    abbrev of_step : List PassNow → Numbered → List Numbered → List A
-    of_step passes w W = of_row passes (row_of size w W)
+  -- where this is what a law wants of a row
+  module _ (of_row : List PassNow → Row → List A) (is : (passes : List PassNow) (row : Row) → row_with passes row row.lock ≡ of_row passes row) where
+    rows_picked : (passes : List PassNow) (n : ℕ) (rows : List Row) (row : Row) → picked pick (each (row_elements passes) n (rows ++ row ∷ [])) ≡ picked pick (each (row_elements passes) n rows) ++ of_row passes row
+    rows_picked passes n [] row = ap (λ t. picked pick t) (append-nil (row_elements passes n row)) ∙ row_picked passes n row ∙ is passes row
+    rows_picked passes n (r ∷ rows) row =
+        let first = row_elements passes n r in
+        picked-append first (each (row_elements passes) (n + 1) (rows ++ row ∷ []))
+        ∙ ap (λ t. picked pick first ++ t) (rows_picked passes (n + 1) rows row)
+        ∙ sym (append_assoc (picked pick first) (picked pick (each (row_elements passes) (n + 1) rows)) (of_row passes row))
+        ∙ ap (λ t. t ++ of_row passes row) (sym (picked-append first (each (row_elements passes) (n + 1) rows)))
 
-    all_picked : (passes : List PassNow) (W : List Numbered) → picked pick (each (row_elements passes) 0 (rows_of size W)) ≡ added (of_step passes) W
-    all_picked passes [] = refl
-    all_picked passes (w ∷ W) = rows_picked passes 0 (rows_of size W) (row_of size w W) ∙ ap (λ t. t ++ of_step passes w W) (all_picked passes W)
+    -- of the steps W
+    module _ (size : Size) where
+      abbrev of_step : List PassNow → Numbered → List Numbered → List A
+      of_step passes w W = of_row passes (row_of size w W)
 
-    module _ (W : List Numbered) where
-      abbrev passes : List PassNow
-      passes = all_passes size W
+      all_picked : (passes : List PassNow) (W : List Numbered) → picked pick (each (row_elements passes) 0 (rows_of size W)) ≡ added (of_step passes) W
+      all_picked passes [] = refl
+      all_picked passes (w ∷ W) = rows_picked passes 0 (rows_of size W) (row_of size w W) ∙ ap (λ t. t ++ of_step passes w W) (all_picked passes W)
 
-      abbrev shown : List Element
-      shown = shown_elements passes (rows_of size W) (owners size.irps (run_of W)) (length W)
+      module _ (W : List Numbered) where
+        abbrev passes : List PassNow
+        passes = all_passes size W
 
-      shown_picked : picked pick shown ≡ added (of_step passes) W
-      shown_picked =
-          let named = each (column_elements passes (length W)) 0 passes in
-          let steps = each (row_elements passes) 0 (rows_of size W) in
-          let kept = each (open_elements passes (length W)) 0 (owners size.irps (run_of W)) in
-          none_then pick (first_elements (columns passes) (length W)) (named ++ (steps ++ kept)) _ (is.first (columns passes) (length W))
-          (none_then pick named (steps ++ kept) _ (none_picked pick (column_elements passes (length W)) (is.columns passes (length W)) 0 passes)
-          (then_none pick steps kept _ (all_picked passes W) (none_picked pick (open_elements passes (length W)) (is.kept passes (length W)) 0 (owners size.irps (run_of W)))))
+        abbrev shown : List Element
+        shown = shown_elements passes (rows_of size W) (owners size.irps (run_of W)) (length W)
 
-      all_shown : AddsStepByStep size W pick (of_step passes) (of_line (length W))
-      all_shown = record {
-        stopped = λ n stop.
-            let reason = reason_of size passes stop in
-            picked-append pick shown (refused_elements (length W) n reason)
-            ∙ ap (λ t. t ++ picked pick (refused_elements (length W) n reason)) shown_picked
-            ∙ ap (λ t. added (of_step passes) W ++ t) (is.refused (length W) n reason);
-        closed = λ told at_rest.
-            let last = rest_element (length W) (length told) at_rest in
-            then_none pick shown (each (closing_elements (length W)) 0 told ++ last ∷ []) _ shown_picked
-            (none_then pick (each (closing_elements (length W)) 0 told) (last ∷ []) [] (none_picked pick (closing_elements (length W)) (is.closing (length W)) 0 told)
-            (append-nil (pick last) ∙ is.rest (length W) (length told) at_rest));
-      }
+        shown_picked : picked pick shown ≡ added (of_step passes) W
+        shown_picked =
+            let named = each (column_elements passes (length W)) 0 passes in
+            let steps = each (row_elements passes) 0 (rows_of size W) in
+            let kept = each (open_elements passes (length W)) 0 (owners size.irps (run_of W)) in
+            none_then (first_elements (columns passes) (length W)) (named ++ (steps ++ kept)) _ refl
+            (none_then named (steps ++ kept) _ (none_picked (column_elements passes (length W)) (no_column passes (length W)) 0 passes)
+            (then_none steps kept _ (all_picked passes W) (none_picked (open_elements passes (length W)) (no_kept passes (length W)) 0 (owners size.irps (run_of W)))))
 
-abbrev marked : List PassNow → Row → List Mark
-marked passes row = record { row = row.row; column = column_of passes row.step.made.pass; columns = columns passes; step = row.step; words = row.words } ∷ []
+        all_shown : AddsStepByStep size W pick (of_step passes) (λ n. number (record { row = length W; line = n }))
+        all_shown = record {
+          stopped = λ n stop.
+              let refused = refused_elements (length W) n (reason_of size passes stop) in
+              picked-append shown refused ∙ ap (λ t. t ++ picked pick refused) shown_picked ∙ ap (λ t. added (of_step passes) W ++ t) (append-nil (number (record { row = length W; line = n })));
+          closed = λ told at_rest.
+              let last = at_rest_element (length W) (length told) at_rest in
+              then_none shown (each (closing_elements (length W)) 0 told ++ last ∷ []) _ shown_picked
+              (none_then (each (closing_elements (length W)) 0 told) (last ∷ []) [] (none_picked (closing_elements (length W)) (λ n line. refl) 0 told) refl);
+        }
 
-abbrev worded : List PassNow → Row → List Words
-worded passes row = option_to_list row.words
-
-abbrev numbered : List PassNow → Row → List Number
-numbered passes row = record { row = row.row; line = row.line } ∷ []
-
-abbrev shaded_on : List PassNow → Row → List Shade
-shaded_on passes row = shade_by passes row.row (lets_go row.step) row.lock
-
--- a row's elements, whoever has the lock and whosever time ends
-abbrev elements_with : List PassNow → Row → Option PassId → Option Owner → List Element
-elements_with passes row lock ended = number_element row ∷ (shade_elements passes row.row (lets_go row.step) lock ++ (span_elements passes row.row ended ++ mark_element passes row ∷ []))
-
-marks : Picks mark_in marked (λ rows n. [])
-marks = record {
-  first = λ columns rows. refl;
-  columns = no_column mark_in (λ c. refl);
-  row = λ passes n row. row_marks passes row row.lock row.ended;
-  kept = no_kept mark_in (λ o. refl);
-  closing = λ rows n line. refl;
-  rest = λ rows n at_rest. refl;
-  refused = λ rows n reason. refl;
-}
-  where
-    row_marks : (passes : List PassNow) (row : Row) (lock : Option PassId) (ended : Option Owner) → picked mark_in (elements_with passes row lock ended) ≡ marked passes row
-    row_marks passes row (Some p) (Some o) = refl
-    row_marks passes row (Some p) None = refl
-    row_marks passes row None (Some o) = refl
-    row_marks passes row None None = refl
-
-words : Picks words_in worded (λ rows n. [])
-words = record {
-  first = λ columns rows. refl;
-  columns = no_column words_in (λ c. refl);
-  row = λ passes n row. row_words passes row row.lock row.ended;
-  kept = no_kept words_in (λ o. refl);
-  closing = λ rows n line. refl;
-  rest = λ rows n at_rest. refl;
-  refused = λ rows n reason. refl;
-}
-  where
-    row_words : (passes : List PassNow) (row : Row) (lock : Option PassId) (ended : Option Owner) → picked words_in (elements_with passes row lock ended) ≡ option_to_list row.words
-    row_words passes row (Some p) (Some o) = append-nil (option_to_list row.words)
-    row_words passes row (Some p) None = append-nil (option_to_list row.words)
-    row_words passes row None (Some o) = append-nil (option_to_list row.words)
-    row_words passes row None None = append-nil (option_to_list row.words)
-
-numbers : Picks number_in numbered (λ rows n. record { row = rows; line = n } ∷ [])
-numbers = record {
-  first = λ columns rows. refl;
-  columns = no_column number_in (λ c. refl);
-  row = λ passes n row. row_numbers passes row row.lock row.ended;
-  kept = no_kept number_in (λ o. refl);
-  closing = λ rows n line. refl;
-  rest = λ rows n at_rest. refl;
-  refused = λ rows n reason. refl;
-}
-  where
-    row_numbers : (passes : List PassNow) (row : Row) (lock : Option PassId) (ended : Option Owner) → picked number_in (elements_with passes row lock ended) ≡ numbered passes row
-    row_numbers passes row (Some p) (Some o) = refl
-    row_numbers passes row (Some p) None = refl
-    row_numbers passes row None (Some o) = refl
-    row_numbers passes row None None = refl
-
-shades : Picks shade_in shaded_on (λ rows n. [])
-shades = record {
-  first = λ columns rows. refl;
-  columns = no_column shade_in (λ c. refl);
-  row = λ passes n row. row_shades passes row row.lock row.ended;
-  kept = no_kept shade_in (λ o. refl);
-  closing = λ rows n line. refl;
-  rest = λ rows n at_rest. refl;
-  refused = λ rows n reason. refl;
-}
-  where
-    row_shades : (passes : List PassNow) (row : Row) (lock : Option PassId) (ended : Option Owner) → picked shade_in (elements_with passes row lock ended) ≡ shade_by passes row.row (lets_go row.step) lock
-    row_shades passes row (Some p) (Some o) = refl
-    row_shades passes row (Some p) None = refl
-    row_shades passes row None (Some o) = refl
-    row_shades passes row None None = refl
+all_shades : (ps : List PassNow) (row : Row) (lock : Option PassId) → row_with (λ m. []) (λ n. []) (λ s. s ∷ []) ps row lock ≡ shade_by ps row.row (lets_go row.step) lock
+all_shades ps row lock = grind arith
 
 -- of the steps W
 module _ (size : Size) (W : List Numbered) where
   pub each_mark : EachStepHasOneMark size W
-  each_mark = all_shown mark_in marked (λ rows n. []) marks size W
+  each_mark = all_shown (λ m. m ∷ []) (λ n. []) (λ s. []) (λ ps row. mark_in (mark_element ps row)) (λ ps row. ap (λ t. t ++ mark_in (mark_element ps row)) (no_shade ps row row.lock)) size W
 
   pub each_words : EachStepShowsItsWords size W
-  each_words = all_shown words_in worded (λ rows n. []) words size W
+  each_words = all_shown (λ m. option_to_list m.words) (λ n. []) (λ s. []) (λ ps row. option_to_list row.words)
+      (λ ps row. ap (λ t. t ++ (option_to_list row.words ++ [])) (no_shade ps row row.lock) ∙ append-nil (option_to_list row.words)) size W
 
   pub each_number : EachLineHasItsNumber size W
-  each_number = all_shown number_in numbered (λ rows n. record { row = rows; line = n } ∷ []) numbers size W
+  each_number = all_shown (λ m. []) (λ n. n ∷ []) (λ s. []) (λ ps row. number_in (number_element row)) (λ ps row. ap (λ t. number_in (number_element row) ++ (t ++ [])) (no_shade ps row row.lock)) size W
 
   pub each_shade : EachShadeIsOfTheLock size W
-  each_shade = all_shown shade_in shaded_on (λ rows n. []) shades size W
+  each_shade = all_shown (λ m. []) (λ n. []) (λ s. s ∷ []) (λ ps row. shade_by ps row.row (lets_go row.step) row.lock) (λ ps row. all_shades ps row row.lock) size W
 
   -- a pass that has the lock made a step
   known : (E : List Made) → IsRun size E → (p : PassId) → has_lock (inside E p) ≡ true → p.0 ≤ size.passes

@@ -1,39 +1,16 @@
 -- A drawing shows the run that it was noted of.
-use Rattle.std.proofs.Common.{◌≡◌, ℕ, suc, ◌+◌, ◌<◌, Bool, true, false, cond, List, [], ◌∷◌, ◌++◌, length, get_or, set, replicate, Option, Some, None, refl, ap, sym, ◌∙◌, subst, length-append, add-one}
-use Rattle.std.specs.Option.{option_map_or}
-use Rattle.irp_core.specs.declared.ids.IrpId.{IrpId}
-use Rattle.irp_core.specs.declared.ids.PassId.{PassId}
-use Rattle.irp_core.specs.declared.step.Kind.{Kind}
-use Rattle.irp_core.specs.declared.step.Kind.TheVariants.{Arm, Test, Disarm, End, Flag, Take, Out, Done, Renew, Rearm}
-use Rattle.irp_core.specs.declared.step.Made.{Made}
-use Rattle.irp_core.specs.Steps.{number, same_id, name_of}
-use Rattle.irp_core.specs.declared.ids.IrpLife.{IrpLife}
+use Rattle.std.proofs.Common.{◌≡◌, ℕ, suc, ◌+◌, ◌<◌, Bool, true, false, cond, List, [], ◌∷◌, ◌++◌, length, get_or, set, replicate, Option, Some, None, refl, ap, sym, ◌∙◌, subst, length-append, add-one, arith}
+use Rattle.csq_draw.proofs.Imports.{option_map_or, IrpId, PassId, Kind, Made, number, same_id, name_of, IrpLife, Size, OfIrp, same_id-refl, same_id-eq, Numbered, run_of, GrewBy, all_passes, reason_of, length-table, table-same, table-replicate, get-table, set-table, CaptionText, picture, stopped_lines, closed_lines, picture_head, stopped_elements, closed_elements, stopped_picture, closed_picture, Owner, Row, is_of_irp, owner, owner_after, owner_named, ended_by, owners, lock_of, lock_at, columns, owner_in, with_owner, Shows, NotesStep}
 use Rattle.irp_core.specs.MachineState.{MachineState, Agrees, size_of}
-use Rattle.irp_core.specs.Runs.{Size, OfIrp}
-use Rattle.irp_core.proofs.Names.{same_id-refl, same_id-eq}
-use Rattle.csq_replay.specs.Schedule.{Numbered, run_of}
 use Rattle.csq_replay.specs.declared.schedule.closing.IrpLine.{IrpLine}
 use Rattle.csq_replay.specs.declared.schedule.outcome.Stop.{Stop}
-use Rattle.csq_replay.specs.Lines.{GrewBy}
 use Rattle.csq_explain.specs.declared.passes.PassNow.{PassNow}
 use Rattle.csq_explain.specs.declared.reasons.Reason.{Reason}
 use Rattle.csq_explain.specs.declared.sentences.StepInCall.{StepInCall}
-use Rattle.csq_explain.specs.Passes.{all_passes}
-use Rattle.csq_explain.specs.Reasons.{reason_of}
 use Rattle.csq_explain.specs.Sentences.{in_call}
-use Rattle.csq_explain.proofs.Tables.{length-table, table-same, table-replicate, get-table, set-table}
-use Rattle.csq_draw.specs.Captions.{CaptionText}
-use Rattle.csq_draw.specs.Elements.{picture}
-use Rattle.csq_draw.specs.Terminal.{stopped_lines, closed_lines}
-use Rattle.csq_draw.specs.Pictures.{picture_head, stopped_elements, closed_elements, stopped_picture, closed_picture}
-use Rattle.csq_draw.specs.declared.owners.Owner.{Owner}
-use Rattle.csq_draw.specs.declared.rows.Row.{Row}
-use Rattle.csq_draw.specs.Owners.{is_of_irp, owner, owner_after, owner_named, ended_by, owners}
-use Rattle.csq_draw.specs.Passes.{lock_of, lock_at, columns}
 use Rattle.csq_draw.specs.Rows.{row_of, rows_of}
-use Rattle.csq_draw.specs.declared.words.Words.{Words}
+use Rattle.csq_draw.specs.declared.words.WordValues.{WordValues}
 use Rattle.csq_draw.specs.Words.{words_named, AreWordsNamed}
-use Rattle.csq_draw.specs.Drawings.{owner_in, with_owner, Shows, NotesStep}
 
 pub length-rows : (size : Size) (W : List Numbered) → length (rows_of size W) ≡ length W
 length-rows size [] = refl
@@ -87,16 +64,7 @@ module _ (m : Made) (E : List Made) (n : ℕ) where
   IsNamed (Some i) = number i < n
 
   named_known : (k : Kind) → OfIrp (λ i. number i < n) k → IsNamed (name_of k)
-  named_known (Arm i) h = h
-  named_known (Test i) h = h
-  named_known (Disarm i) h = h
-  named_known End h = tt
-  named_known (Flag i) h = h
-  named_known (Take i) h = h
-  named_known (Out i) h = h
-  named_known (Done i) h = h
-  named_known (Renew i) h = h
-  named_known (Rearm i) h = h
+  named_known k h = grind arith
 
   owners_more : OfIrp (λ i. number i < n) m.kind → with_owner (owners n E) m (length E) ≡ owners n (m ∷ E)
   owners_more h = go (name_of m.kind) refl (named_known m.kind h)
@@ -121,18 +89,18 @@ module _ (m : Made) (E : List Made) (n : ℕ) where
 
 -- one more step was noted
 module _ (size : Size) (rows : List Row) (os : List (Option Owner)) (w : Numbered) (W : List Numbered) (h : Shows size rows os W) where
-  row_is : (step : StepInCall) (held : Option PassId) (words : Option Words) → step ≡ in_call (run_of W) w.step → held ≡ lock_of (all_passes size W) → OfIrp (λ i. number i < size.irps) w.step.kind
+  row_is : (step : StepInCall) (held : Option PassId) (words : Option WordValues) → step ≡ in_call (run_of W) w.step → held ≡ lock_of (all_passes size W) → OfIrp (λ i. number i < size.irps) w.step.kind
       → words ≡ words_named size.first (run_of (w ∷ W)) w.step.kind
       → record { row = length rows; line = w.line; step = step; lock = lock_at held step.made; ended = ended_by step.made.kind (owner_in os step.made.kind); words = words } ≡ row_of size w W
   row_is step held words told lock known are =
-      let row : ℕ → StepInCall → Option PassId → Option Owner → Option Words → Row = λ n s q o x. record { row = n; line = w.line; step = s; lock = lock_at q s.made; ended = ended_by s.made.kind o; words = x } in
+      let row : ℕ → StepInCall → Option PassId → Option Owner → Option WordValues → Row = λ n s q o x. record { row = n; line = w.line; step = s; lock = lock_at q s.made; ended = ended_by s.made.kind o; words = x } in
       ap (λ n. row n step held (owner_in os step.made.kind) words) (ap length h.shown_rows ∙ length-rows size W)
       ∙ ap (λ q. row (length W) step q (owner_in os step.made.kind) words) lock
       ∙ ap (λ (s : StepInCall). row (length W) s (lock_of (all_passes size W)) (owner_in os s.made.kind) words) told
       ∙ ap (λ o. row (length W) (in_call (run_of W) w.step) (lock_of (all_passes size W)) o words) (ap (λ x. owner_in x w.step.kind) h.shown_owners ∙ owner_is w.step (run_of W) size.irps known)
       ∙ ap (row (length W) (in_call (run_of W) w.step) (lock_of (all_passes size W)) (owner_named size.irps (run_of W) w.step.kind)) are
 
-  module _ (step : StepInCall) (held : Option PassId) (words : Option Words) (rows' : List Row) (os' : List (Option Owner)) (noted : NotesStep rows os w.line step held words rows' os')
+  module _ (step : StepInCall) (held : Option PassId) (words : Option WordValues) (rows' : List Row) (os' : List (Option Owner)) (noted : NotesStep rows os w.line step held words rows' os')
       (told : step ≡ in_call (run_of W) w.step) (known : OfIrp (λ i. number i < size.irps) w.step.kind) where
     owners_then : os' ≡ owners size.irps (run_of (w ∷ W))
     owners_then =

@@ -1,9 +1,6 @@
 -- How a text for a terminal grows.
 use Rattle.std.proofs.Common.{◌≡◌, ℕ, ◌+◌, ◌<◌, List, [], ◌∷◌, ◌++◌, take, length, get_or, append_assoc, append-nil, ap, sym, ◌∙◌, ◌-◌, max, arith, length-append}
-use Rattle.std.proofs.lemmas.List.{length-take-le, take_more, replicate-append-replicate}
-use Rattle.csq_replay.specs.Lines.{GrewBy}
-use Rattle.csq_replay.proofs.Closings.{grew_more}
-use Rattle.csq_draw.specs.Terminal.{each_text, spaces, in_width}
+use Rattle.csq_draw.proofs.Imports.{length-take-le, take_more, replicate-append-replicate, GrewBy, grew_more, each_text, spaces, in_width}
 
 module _ {A : Type 0} (f : ℕ → A → List ℕ) where
   each_text-last : (n : ℕ) (xs : List A) (x : A) → each_text f n (xs ++ x ∷ []) ≡ each_text f n xs ++ f (n + length xs) x

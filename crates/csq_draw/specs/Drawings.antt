@@ -13,7 +13,7 @@ use Rattle.csq_draw.specs.declared.drawing.Drawing.{Drawing}
 use Rattle.csq_draw.specs.declared.format.Format.{Format}
 use Rattle.csq_draw.specs.declared.owners.Owner.{Owner}
 use Rattle.csq_draw.specs.declared.rows.Row.{Row}
-use Rattle.csq_draw.specs.declared.words.Words.{Words}
+use Rattle.csq_draw.specs.declared.words.WordValues.{WordValues}
 use Rattle.csq_draw.specs.Owners.{owner_after, ended_by, owners}
 use Rattle.csq_draw.specs.Captions.{caption_of}
 use Rattle.csq_draw.specs.Passes.{lock_at}
@@ -34,7 +34,7 @@ pub record Shows (size : Size) (rows : List Row) (os : List (Option Owner)) (W :
   pub shown_owners : os ≡ owners size.irps (run_of W)
 
 -- a step that this line names was noted, before which this pass had the lock, and after which its IRP has these words
-pub record NotesStep (rows : List Row) (os : List (Option Owner)) (line : ℕ) (step : StepInCall) (held : Option PassId) (words : Option Words) (new_rows : List Row) (new_owners : List (Option Owner)) : Type 0 where
+pub record NotesStep (rows : List Row) (os : List (Option Owner)) (line : ℕ) (step : StepInCall) (held : Option PassId) (words : Option WordValues) (new_rows : List Row) (new_owners : List (Option Owner)) : Type 0 where
   pub noted_rows : new_rows ≡ rows ++ record {
     row = length rows;
     line = line;

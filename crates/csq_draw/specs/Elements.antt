@@ -5,8 +5,9 @@ use Rattle.csq_draw.specs.declared.element.Element.TheVariants as element
 use Rattle.csq_draw.specs.Circles.{word_columns_text}
 use Rattle.csq_draw.specs.Headings.{key_text, column_text}
 use Rattle.csq_draw.specs.Marks.{number_text, shade_text, mark_text}
-use Rattle.csq_draw.specs.Spans.{span_text, open_span_text}
-use Rattle.csq_draw.specs.Endings.{bar_text, refused_text, because_text, closing_text, rest_line_text}
+use Rattle.csq_draw.specs.Spans.{span_text}
+use Rattle.csq_draw.specs.Endings.{below_text}
+use Rattle.csq_draw.specs.Layout.{top}
 
 -- the text of an element
 unfoldable pub element_text : Element → List ℕ
@@ -17,12 +18,7 @@ element_text (element.Number x) = number_text x
 element_text (element.Shade x) = shade_text x
 element_text (element.Span x) = span_text x
 element_text (element.Mark x) = mark_text x
-element_text (element.OpenSpan x) = open_span_text x
-element_text (element.Bar x) = bar_text x
-element_text (element.Refused x) = refused_text x
-element_text (element.Because x) = because_text x
-element_text (element.Closing x) = closing_text x
-element_text (element.Rest x) = rest_line_text x
+element_text (element.Below rows x) = below_text (top rows) x
 
 -- each on a line of its own
 abbrev pub elements_text : List Element → List ℕ

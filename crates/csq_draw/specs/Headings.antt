@@ -1,9 +1,10 @@
 -- What stands above the rows of a picture, and behind them.
 use Rattle.std.specs.Prelude.{ℕ, ◌+◌, ◌-◌, ◌*◌, ◌==◌, max, List, [], ◌++◌, length, codes, decimal, if◌then◌else◌}
+use Rattle.irp_core.specs.declared.ids.PassId.{PassId}
 use Rattle.irp_core.specs.Texts.{pass_text}
 use Rattle.csq_draw.specs.declared.heading.Extent.{Extent}
 use Rattle.csq_draw.specs.declared.heading.Column.{Column}
-use Rattle.csq_draw.specs.declared.heading.TheConstants.{PICTURE_HEAD}
+use Rattle.csq_draw.specs.declared.heading.TheConstants.{PICTURE_HEAD, KEY}
 use Rattle.csq_draw.specs.Layout.{left, top}
 
 -- a picture's width, at least that of its longest line of text
@@ -18,17 +19,9 @@ above e = if e.caption == 0 then 0 else 18 * e.caption + 22
 abbrev pub height : Extent → ℕ
 height e = above e + top e.rows + 20 * e.lines + 44
 
-abbrev pub area_text : ℕ → ℕ → List ℕ
-area_text w h = codes "width='" ++ (decimal w ++ (codes "' height='" ++ (decimal h ++ codes "'")))
-
 -- the upper edge, so far above the one without a caption
 abbrev pub edge_text : ℕ → List ℕ
 edge_text above = if above == 0 then codes "0" else codes "-" ++ decimal above
-
--- the beginning of a picture: its size
-abbrev pub opening_text : Extent → List ℕ
-opening_text e = codes "<svg xmlns='http://www.w3.org/2000/svg' " ++ (area_text (width e) (height e) ++ (codes " viewBox='0 " ++ (edge_text (above e) ++ (codes " " ++ (decimal (width e) ++ (codes " " ++ (decimal (height e)
-    ++ codes "' font-family='system-ui,-apple-system,Segoe UI,DejaVu Sans,sans-serif' font-size='12'>")))))))
 
 -- the name of a picture: its title, or without one how many steps there are
 abbrev pub name_text : ℕ → List ℕ → List ℕ
@@ -38,22 +31,29 @@ name_text rows title = if length title == 0 then codes "<title>The steps of a sc
 unfoldable pub shared_text : List ℕ
 shared_text = PICTURE_HEAD.now
 
--- the sheet of a picture
-abbrev pub sheet_text : Extent → List ℕ
-sheet_text e = codes "<rect class='sheet' y='" ++ (edge_text (above e) ++ (codes "' " ++ (area_text (width e) (height e) ++ codes "/>")))
-
 -- a caption of so many lines: its title, and the lines below
 abbrev pub heading_text : ℕ → List ℕ → List ℕ → List ℕ
 heading_text lines title below = if lines == 0 then [] else codes "<text class='t' x='56' y='-" ++ (decimal (18 * lines - 8) ++ (codes "'>" ++ (title ++ (below ++ codes "</text>\n"))))
 
--- what stands above all elements and behind them
+-- what stands above all elements and behind them: the size of the picture, its name, what all pictures share, its sheet, and its caption
+abbrev pub head_at : ℕ → ℕ → List ℕ → List ℕ → List ℕ → List ℕ
+head_at width height edge name heading =
+    (codes "<svg xmlns='http://www.w3.org/2000/svg' width='" ++ (decimal width ++ (codes "' height='" ++ (decimal height ++ (codes "' viewBox='0 " ++ (edge ++ (codes " " ++ (decimal width ++ (codes " " ++ (decimal height
+    ++ codes "' font-family='system-ui,-apple-system,Segoe UI,DejaVu Sans,sans-serif' font-size='12'>\n"))))))))))
+    ++ ((name ++ (codes "\n" ++ (shared_text ++ codes "\n")))
+    ++ (codes "<rect class='sheet' y='" ++ (edge ++ (codes "' width='" ++ (decimal width ++ (codes "' height='" ++ (decimal height ++ (codes "'/>\n" ++ heading))))))))
+
 abbrev pub head_text : Extent → List ℕ → List ℕ → List ℕ
-head_text e title below = opening_text e ++ (codes "\n" ++ (name_text e.rows title ++ (codes "\n" ++ (shared_text ++ (codes "\n" ++ (sheet_text e ++ (codes "\n" ++ heading_text e.caption title below)))))))
+head_text e title below = head_at (width e) (height e) (edge_text (above e)) (name_text e.rows title) (heading_text e.caption title below)
 
 -- what the parts of a picture mean
-abbrev pub key_text : List ℕ
-key_text = codes "<text class='s' x='56' y='15'>shade: has the lock; bold: the exchange found the routine, and so claims the IRP; dashed line: owes it; solid line: holds it</text><text class='s' x='56' y='28'>circles: the two words of the IRP, in its present life, after the step; filled: set; bold: the step changed it; &#8594;: what the call answers</text><text class='n s' x='46' y='54'>line</text>"
+unfoldable pub key_text : List ℕ
+key_text = KEY.now
 
 -- the name of a pass over its column, and a line down this column
+abbrev pub column_at : ℕ → ℕ → PassId → List ℕ
+column_at x bottom p = (codes "<path class='g' d='M" ++ (decimal x ++ (codes " 64V" ++ (decimal bottom ++ codes "'/>"))))
+    ++ (codes "<text class='p' x='" ++ (decimal x ++ (codes "' y='54'>" ++ (pass_text p ++ codes "</text>"))))
+
 abbrev pub column_text : Column → List ℕ
-column_text c = codes "<path class='g' d='M" ++ (decimal (left c.column + 114) ++ (codes " 64V" ++ (decimal (top c.rows) ++ (codes "'/><text class='p' x='" ++ (decimal (left c.column + 114) ++ (codes "' y='54'>" ++ (pass_text c.pass ++ codes "</text>")))))))
+column_text c = column_at (left c.column + 114) (top c.rows) c.pass

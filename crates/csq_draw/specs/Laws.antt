@@ -19,7 +19,7 @@ use Rattle.csq_draw.specs.declared.marks.Number.{Number}
 use Rattle.csq_draw.specs.declared.marks.Shade.{Shade}
 use Rattle.csq_draw.specs.declared.owners.Having.{Having}
 use Rattle.csq_draw.specs.declared.owners.Owner.{Owner}
-use Rattle.csq_draw.specs.declared.words.Words.{Words}
+use Rattle.csq_draw.specs.declared.words.WordValues.{WordValues}
 use Rattle.csq_draw.specs.declared.owners.Having.TheVariants.{Owes, Holds}
 use Rattle.csq_explain.specs.declared.passes.PassNow.{PassNow}
 use Rattle.csq_draw.specs.Lanes.{is_in_lane, is_taken}
@@ -53,20 +53,28 @@ pub record AddsStepByStep {A : Type 0} (size : Size) (W : List Numbered) (pick :
   pub stopped : (n : ℕ) (stop : Stop) → picked pick (stopped_picture size W n stop) ≡ added of_step W ++ of_line n
   pub closed : (told : List IrpLine) (at_rest : Bool) → picked pick (closed_picture size W told at_rest) ≡ added of_step W
 
+-- what these pick out of an element: of a mark, of the number of a line, of a shade, and nothing out of any other
+abbrev pub pick_of : {A : Type 0} → (Mark → List A) → (Number → List A) → (Shade → List A) → Element → List A
+pick_of mark number shade (element.Mark m) = mark m
+pick_of mark number shade (element.Number n) = number n
+pick_of mark number shade (element.Shade s) = shade s
+pick_of mark number shade _ = []
+
 -- an element's mark, if it is one
 abbrev pub mark_in : Element → List Mark
-mark_in (element.Mark m) = m ∷ []
-mark_in _ = []
+mark_in = pick_of (λ m. m ∷ []) (λ n. []) (λ s. [])
 
 -- its number of a line, if it is one
 abbrev pub number_in : Element → List Number
-number_in (element.Number n) = n ∷ []
-number_in _ = []
+number_in = pick_of (λ m. []) (λ n. n ∷ []) (λ s. [])
 
 -- its shade, if it is one
 abbrev pub shade_in : Element → List Shade
-shade_in (element.Shade s) = s ∷ []
-shade_in _ = []
+shade_in = pick_of (λ m. []) (λ n. []) (λ s. s ∷ [])
+
+-- the words that a mark shows, if an element is one and shows any
+abbrev pub words_in : Element → List WordValues
+words_in = pick_of (λ m. option_to_list m.words) (λ n. []) (λ s. [])
 
 -- the mark of a step after the steps W: on the row of its number, in the column of its pass, with the value that it found
 abbrev pub mark_of : Size → List PassNow → Numbered → List Numbered → List Mark
@@ -78,13 +86,8 @@ mark_of size passes w W = record {
   words = words_named size.first (run_of (w ∷ W)) w.step.kind;
 } ∷ []
 
--- the words that a mark shows, if an element is one and shows any
-abbrev pub words_in : Element → List Words
-words_in (element.Mark m) = option_to_list m.words
-words_in _ = []
-
 -- after a step of an IRP: whether the Cancel flag and the cancel routine of its present life are set
-abbrev pub words_after : Size → Numbered → List Numbered → List Words
+abbrev pub words_after : Size → Numbered → List Numbered → List WordValues
 words_after size w W = option_to_list (words_named size.first (run_of (w ∷ W)) w.step.kind)
 
 -- the number of its line, on that row

@@ -1,5 +1,5 @@
 -- The picture of a schedule: which elements it has.
-use Rattle.std.specs.Prelude.{◌≡◌, ℕ, ◌+◌, Bool, List, [], ◌∷◌, ◌++◌, length, Option, Some, None, if◌then◌else◌}
+use Rattle.std.specs.Prelude.{◌≡◌, ℕ, ◌+◌, Bool, true, false, List, [], ◌∷◌, ◌++◌, length, Option, Some, None, if◌then◌else◌}
 use Rattle.irp_core.specs.declared.ids.PassId.{PassId}
 use Rattle.irp_core.specs.Runs.{Size}
 use Rattle.csq_replay.specs.declared.lines.answer.Ended.{Ended}
@@ -28,6 +28,7 @@ use Rattle.csq_draw.specs.declared.element.Element.{Element}
 use Rattle.csq_draw.specs.Elements.{picture}
 use Rattle.csq_draw.specs.Terminal.{stopped_lines, closed_lines}
 use Rattle.csq_draw.specs.declared.element.Element.TheVariants as element
+use Rattle.csq_draw.specs.declared.ending.Below.TheVariants.{Bar, Refused, Because, Irp, AtRest}
 
 -- the elements of each, by its place, the first of which is n
 abbrev pub each : {A : Type 0} → (ℕ → A → List Element) → ℕ → List A → List Element
@@ -47,9 +48,13 @@ abbrev pub shade_elements : List PassNow → ℕ → Bool → Option PassId → 
 shade_elements passes row last (Some p) = element.Shade (record { row = row; column = column_of passes p; last = last }) ∷ []
 shade_elements passes row last None = []
 
+-- a line down the column of an owner, to this row, or to the end
+abbrev pub span_element : List PassNow → Owner → ℕ → Bool → Element
+span_element passes owner row to_the_end = element.Span (record { column = column_of passes owner.pass; owner = owner; to = row; to_the_end = to_the_end })
+
 -- of the owner whose time with an IRP ends on a row: a line down its column
 abbrev pub span_elements : List PassNow → ℕ → Option Owner → List Element
-span_elements passes row (Some owner) = element.Span (record { column = column_of passes owner.pass; owner = owner; to = row }) ∷ []
+span_elements passes row (Some owner) = span_element passes owner row false ∷ []
 span_elements passes row None = []
 
 -- the number of a row's line
@@ -66,7 +71,7 @@ row_elements passes n row = number_element row ∷ (shade_elements passes row.ro
 
 -- of an owner that has its IRP in the end: a line down its column
 abbrev pub open_elements : List PassNow → ℕ → ℕ → Option Owner → List Element
-open_elements passes rows n (Some owner) = element.OpenSpan (record { column = column_of passes owner.pass; owner = owner; rows = rows }) ∷ []
+open_elements passes rows n (Some owner) = span_element passes owner rows true ∷ []
 open_elements passes rows n None = []
 
 -- the head of a picture of so many columns and rows, with so many lines of text below them, and this caption
@@ -75,16 +80,16 @@ picture_head columns rows lines c = head_text (record { columns = columns; rows 
 
 -- of the line that ended the handling: its bar, its number, what is told of it, and why it ended it
 abbrev pub refused_elements : ℕ → ℕ → Reason → List Element
-refused_elements rows line reason = element.Bar (record { rows = rows }) ∷ (element.Number (record { row = rows; line = line })
-    ∷ (element.Refused (record { rows = rows; stop = reason.stop }) ∷ (element.Because (record { rows = rows; reason = reason }) ∷ [])))
+refused_elements rows line reason = element.Below rows Bar ∷ (element.Number (record { row = rows; line = line })
+    ∷ (element.Below rows (Refused reason.stop) ∷ (element.Below rows (Because reason) ∷ [])))
 
 -- of an IRP that is told of in the end
 abbrev pub closing_elements : ℕ → ℕ → IrpLine → List Element
-closing_elements rows nth line = element.Closing (record { rows = rows; nth = nth; line = line }) ∷ []
+closing_elements rows nth line = element.Below rows (Irp nth line) ∷ []
 
 -- whether all is at rest in the end
-abbrev pub rest_element : ℕ → ℕ → Bool → Element
-rest_element rows nth at_rest = element.Rest (record { rows = rows; nth = nth; rest = at_rest })
+abbrev pub at_rest_element : ℕ → ℕ → Bool → Element
+at_rest_element rows nth at_rest = element.Below rows (AtRest nth at_rest)
 
 -- what a picture begins with: what its parts mean, and the columns of the words
 abbrev pub first_elements : ℕ → ℕ → List Element
@@ -101,7 +106,7 @@ stopped_elements passes rows owners count n reason = shown_elements passes rows 
 -- and then of what is told in the end
 abbrev pub closed_elements : List PassNow → List Row → List (Option Owner) → ℕ → List IrpLine → Bool → List Element
 closed_elements passes rows owners count told at_rest = shown_elements passes rows owners count
-    ++ (each (closing_elements count) 0 told ++ rest_element count (length told) at_rest ∷ [])
+    ++ (each (closing_elements count) 0 told ++ at_rest_element count (length told) at_rest ∷ [])
 
 -- the picture of the steps W, and of the nth line, which ended the handling
 abbrev pub stopped_picture : Size → List Numbered → ℕ → Stop → List Element

@@ -1,8 +1,6 @@
 -- A schedule, drawn for a terminal: a row for each step, with a column for each pass.
-use Rattle.std.specs.Prelude.{ℕ, ◌+◌, ◌-◌, ◌*◌, ◌==◌, max, Bool, List, [], ◌∷◌, ◌++◌, length, replicate, codes, decimal, Option, Some, None, if◌then◌else◌}
+use Rattle.std.specs.Prelude.{ℕ, ◌+◌, ◌-◌, ◌*◌, max, Bool, List, [], ◌∷◌, ◌++◌, length, replicate, codes, decimal, Option, Some, None, if◌then◌else◌}
 use Rattle.irp_core.specs.declared.ids.PassId.{PassId}
-use Rattle.irp_core.specs.declared.step.Kind.{Kind}
-use Rattle.irp_core.specs.declared.step.Kind.TheVariants.{Disarm, Take}
 use Rattle.irp_core.specs.Texts.{kind_text, pass_text}
 use Rattle.csq_replay.specs.declared.schedule.closing.IrpLine.{IrpLine}
 use Rattle.csq_explain.specs.declared.passes.PassNow.{PassNow}
@@ -11,13 +9,13 @@ use Rattle.csq_explain.specs.declared.sentences.StepInCall.{StepInCall}
 use Rattle.csq_explain.specs.Endings.{irp_sentence, rest_sentence}
 use Rattle.csq_explain.specs.Reasons.{reason_text}
 use Rattle.csq_draw.specs.declared.cells.Cell.{Cell}
-use Rattle.csq_draw.specs.declared.cells.Cell.TheVariants.{Line, Lock, Pass, Step, Word}
+use Rattle.csq_draw.specs.declared.cells.Cell.TheVariants.{Line, Lock, Pass, Step, WordValue}
 use Rattle.csq_draw.specs.declared.rows.Row.{Row}
-use Rattle.csq_draw.specs.declared.words.Words.{Words}
+use Rattle.csq_draw.specs.declared.words.WordValues.{WordValues}
 use Rattle.csq_draw.specs.Captions.{CaptionText}
 use Rattle.csq_draw.specs.Circles.{word_text}
 use Rattle.csq_draw.specs.Endings.{ended_line_text}
-use Rattle.csq_draw.specs.Marks.{found_words}
+use Rattle.csq_draw.specs.Marks.{claims, found_words}
 use Rattle.csq_draw.specs.Passes.{columns, column_of}
 
 -- the texts of each, by its place, the first of which is n
@@ -33,14 +31,12 @@ abbrev pub in_width : ℕ → List ℕ → List ℕ
 in_width n text = text ++ spaces (max (n - length text) 1)
 
 -- a star before a step that claims its IRP, and a space before any other
-abbrev pub claim_sign : Kind → ℕ → List ℕ
-claim_sign (Disarm i) found = if found == 1 then codes "*" else codes " "
-claim_sign (Take i) found = if found == 1 then codes "*" else codes " "
-claim_sign _ found = codes " "
+abbrev pub claim_sign : Bool → List ℕ
+claim_sign claims = if claims then codes "*" else codes " "
 
 -- what a step did, and what it found
 abbrev pub step_cell : StepInCall → List ℕ
-step_cell s = claim_sign s.made.kind s.made.found ++ (kind_text s.made.kind ++ (codes " " ++ found_words s.made.kind s.made.found s.status))
+step_cell s = claim_sign (claims s.made.kind s.made.found) ++ (kind_text s.made.kind ++ (codes " " ++ found_words s))
 
 -- a pass that has the lock, and a hyphen where none has it
 abbrev pub lock_cell : Option PassId → List ℕ
@@ -52,11 +48,11 @@ cell_text (Line n) = decimal n
 cell_text (Lock p) = lock_cell p
 cell_text (Pass p) = codes " " ++ pass_text p
 cell_text (Step s) = step_cell s
-cell_text (Word set) = word_text set
+cell_text (WordValue set) = word_text set
 
 -- the two words of a step's IRP after it, and hyphens where it names none
-abbrev pub words_cells : Option Words → List ℕ
-words_cells (Some w) = in_width 7 (cell_text (Word w.flag)) ++ cell_text (Word w.routine)
+abbrev pub words_cells : Option WordValues → List ℕ
+words_cells (Some w) = in_width 7 (cell_text (WordValue w.flag)) ++ cell_text (WordValue w.routine)
 words_cells None = codes "-      -"
 
 -- a step: the number of its line, who has the lock, and in the column of its pass what it did; and at the right the words of its IRP

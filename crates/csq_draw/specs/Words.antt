@@ -12,15 +12,15 @@ use Rattle.irp_core.specs.MachineState.{MachineState, Agrees, size_of}
 use Rattle.irp_core.specs.Steps.{name_of}
 use Rattle.irp_core.specs.Words.{flagged, armed}
 use Rattle.csq_draw.specs.declared.owners.Owner.{Owner}
-use Rattle.csq_draw.specs.declared.words.Words.{Words}
+use Rattle.csq_draw.specs.declared.words.WordValues.{WordValues}
 use Rattle.csq_draw.specs.Owners.{owner_named}
 
 -- the words of i after E
-abbrev pub words_of : List Made → IrpLife → Words
+abbrev pub words_of : List Made → IrpLife → WordValues
 words_of E i = record { name = i; flag = flagged E i; routine = armed E i }
 
 -- those of the IRP that a step of this kind names, in its present life
-abbrev pub words_named : ℕ → List Made → Kind → Option Words
+abbrev pub words_named : ℕ → List Made → Kind → Option WordValues
 words_named first E k = option_map (λ i. words_of E (present first E i.irp)) (name_of k)
 
 -- whether the routine is set of an IRP at this place, which has this owner
@@ -29,7 +29,7 @@ routine_at Listed None = true
 routine_at _ _ = false
 
 -- of every run that the machine agrees with, and that has this owner, these are the words of the IRP that such a step names
-abbrev pub AreWordsNamed : MachineState → Kind → Option Owner → Option Words → Type 0
+abbrev pub AreWordsNamed : MachineState → Kind → Option Owner → Option WordValues → Type 0
 AreWordsNamed machine k owner words = (E : List Made) → Agrees machine E → owner ≡ owner_named (size_of machine).irps E k → words ≡ words_named (size_of machine).first E k
 
 -- whether a step of this kind that found this value changed the Cancel flag, or began it anew

@@ -1,8 +1,11 @@
 //! What stands in one column of a row, where a schedule is drawn for a terminal.
-use crate::circles::Word;
-use crate::marks::FoundWords;
+ghost use Rattle.std.specs.Prelude.{◌≡◌};
+ghost use Rattle.csq_draw.specs.Terminal.{claim_sign};
+
+use crate::circles::word_text;
+use crate::marks::{FoundWords, claims};
 use csq_explain::StepInCall;
-use irp_core::{Kind, PassId};
+use irp_core::PassId;
 use std::fmt;
 
 /// What stands in one column of a row.
@@ -10,78 +13,24 @@ use std::fmt;
 pub(crate) enum Cell {
     /// The number of a line.
     Line(usize),
-    /// Who has the lock.
+    /// Who has the lock, and a hyphen where none has it.
     Lock(Option<PassId>),
     /// The name of a pass.
     Pass(PassId),
     /// What a step did, and what it found.
     Step(StepInCall),
     /// Whether a word is set.
-    Word(bool),
-}
-
-/// Who has the lock, and a hyphen where none has it.
-#[derive(Clone, Copy)]
-struct Holder(Option<PassId>);
-
-impl fmt::Display for Holder {
-    ghost use Rattle.std.specs.Prelude.{Some};
-    ghost use Rattle.csq_draw.specs.Terminal.{lock_cell};
-
-    ghost output = { λ holder. Some (lock_cell holder.0) };
-
-    fn fmt<W: fmt::Write>(&self, f: &mut fmt::Formatter<W>) -> fmt::Result {
-        match self.0 {
-            Some(pass) => write!(f, "{pass}"),
-            None => write!(f, "-"),
-        }
-    }
+    WordValue(bool),
 }
 
 /// A star before a step that claims its IRP.
-#[derive(Clone, Copy)]
-struct ClaimSign {
-    kind: Kind,
-    found: u64,
+fn claim_sign(claims: bool) -> &'static str
+    ensures { result.now ≡ claim_sign claims }
+{
+    if claims { "*" } else { " " }
 }
 
-impl fmt::Display for ClaimSign {
-    ghost use Rattle.std.specs.Prelude.{Some};
-    ghost use Rattle.csq_draw.specs.Terminal.{claim_sign};
-
-    ghost output = { λ sign. Some (claim_sign sign.kind sign.found) };
-
-    fn fmt<W: fmt::Write>(&self, f: &mut fmt::Formatter<W>) -> fmt::Result {
-        match self.kind {
-            Kind::Disarm(_) | Kind::Take(_) if self.found == 1 => write!(f, "*"),
-            _ => write!(f, " "),
-        }
-    }
-}
-
-/// What a step did, and what it found.
-#[derive(Clone, Copy)]
-struct StepCell(StepInCall);
-
-/// As `*take 0 found it`.
-impl fmt::Display for StepCell {
-    ghost use Rattle.std.specs.Prelude.{Some};
-    ghost use Rattle.csq_draw.specs.Terminal.{step_cell};
-
-    ghost output = { λ cell. Some (step_cell cell.0) };
-
-    fn fmt<W: fmt::Write>(&self, f: &mut fmt::Formatter<W>) -> fmt::Result {
-        let (kind, found, status) = (self.0.made.kind, self.0.made.found, self.0.status);
-        let sign = ClaimSign { kind, found };
-        let words = FoundWords {
-            kind,
-            found,
-            status,
-        };
-        write!(f, "{sign}{kind} {words}")
-    }
-}
-
+/// A step stands there as `*take 0 found it`.
 impl fmt::Display for Cell {
     ghost use Rattle.std.specs.Prelude.{Some};
     ghost use Rattle.csq_draw.specs.Terminal.{cell_text};
@@ -91,10 +40,14 @@ impl fmt::Display for Cell {
     fn fmt<W: fmt::Write>(&self, f: &mut fmt::Formatter<W>) -> fmt::Result {
         match *self {
             Cell::Line(number) => write!(f, "{number}"),
-            Cell::Lock(holder) => Holder(holder).fmt(f),
+            Cell::Lock(Some(pass)) => write!(f, "{pass}"),
+            Cell::Lock(None) => write!(f, "-"),
             Cell::Pass(pass) => write!(f, " {pass}"),
-            Cell::Step(step) => StepCell(step).fmt(f),
-            Cell::Word(set) => Word(set).fmt(f),
+            Cell::Step(step) => {
+                let (made, found) = (step.made, FoundWords(step));
+                write!(f, "{}{} {found}", claim_sign(claims(made)), made.kind)
+            }
+            Cell::WordValue(set) => f.write_str(word_text(set)),
         }
     }
 }

@@ -11,7 +11,7 @@ ghost use Rattle.csq_draw.specs.Passes.{columns};
 ghost use Rattle.csq_explain.specs.Passes.{all_passes};
 ghost use Rattle.csq_explain.specs.Reasons.{reason_of};
 ghost use Rattle.csq_draw.specs.Pictures.{Drawn, picture_head, stopped_text, closed_text, new_drawn, DrawsSchedule};
-ghost use Rattle.csq_draw.specs.declared.words.Words.{Words as WordsOf};
+ghost use Rattle.csq_draw.specs.declared.words.WordValues.{WordValues};
 ghost use Rattle.csq_draw.specs.Drawings.{owner_in, DrawingStandsAfter, NotesStep};
 ghost use Rattle.csq_draw.specs.Words.{AreWordsNamed};
 
@@ -71,7 +71,7 @@ impl<A: Allocator + Copy> Drawing<A> {
         requires owner { OfIrp (λ i. number i < length self.old.owners.items) step.made.kind }
         requires irp { OfIrp (λ i. number i < (size_of self.old.execution.machine).irps)
             step.made.kind }
-        ensures noted { OnOk result ((words : Option WordsOf)
+        ensures noted { OnOk result ((words : Option WordValues)
             × AreWordsNamed self.old.execution.machine step.made.kind
             (owner_in self.new.owners.items step.made.kind) words
             × NotesStep self.old.rows.items self.old.owners.items line step held words

@@ -1,9 +1,10 @@
 //! The elements of a picture.
 use crate::circles::WordColumns;
-use crate::ending::{Bar, Because, Closing, Refused, Rest};
-use crate::heading::{Column, Key};
+use crate::ending::{Below, BelowRows};
+use crate::heading::{Column, KEY};
+use crate::layout::{left, top};
 use crate::marks::{Mark, Number, Shade};
-use crate::spans::{OpenSpan, Span};
+use crate::spans::Span;
 use std::fmt;
 
 /// An element of a picture, which stands on a line of its own.
@@ -19,22 +20,12 @@ pub(crate) enum Element {
     Number(Number),
     /// Who has the lock at a step.
     Shade(Shade),
-    /// A time with an IRP that a step ended.
+    /// A time with an IRP.
     Span(Span),
     /// A step.
     Mark(Mark),
-    /// A time with an IRP that didn't end.
-    OpenSpan(OpenSpan),
-    /// The bar of the line that ended the handling.
-    Bar(Bar),
-    /// What is told of that line.
-    Refused(Refused),
-    /// Why it ended the handling.
-    Because(Because),
-    /// Where an IRP is in the end.
-    Closing(Closing),
-    /// Whether all is at rest in the end.
-    Rest(Rest),
+    /// What stands below so many rows: the line that ended the handling, or what is told in the end.
+    Below(u32, Below),
 }
 
 impl fmt::Display for Element {
@@ -43,22 +34,31 @@ impl fmt::Display for Element {
 
     ghost output = { λ element. Some (element_text element) };
 
-    #[tactic(auto, unfolding(crate::specs::Elements::element_text))]
+    #[tactic(auto, unfolding(crate::specs::Elements::element_text, crate::specs::Headings::key_text))]
     fn fmt<W: fmt::Write>(&self, f: &mut fmt::Formatter<W>) -> fmt::Result {
         match *self {
-            Element::Key => Key.fmt(f),
+            Element::Key => f.write_str(KEY),
             Element::WordColumns(columns) => columns.fmt(f),
-            Element::Column(column) => column.fmt(f),
-            Element::Number(number) => number.fmt(f),
-            Element::Shade(shade) => shade.fmt(f),
+            Element::Column(Column { column, pass, rows }) => {
+                let (x, bottom) = (left(column) + 114, top(rows));
+                write!(f, "<path class='g' d='M{x} 64V{bottom}'/>")?;
+                write!(f, "<text class='p' x='{x}' y='54'>{pass}</text>")
+            }
+            Element::Number(Number { row, line }) => {
+                let y = top(row) + 34;
+                write!(f, "<text class='n' x='46' y='{y}'>{line}</text>")
+            }
+            Element::Shade(Shade { row, column, last }) => {
+                let (x, y) = (left(column), top(row));
+                let height = if last { 57 } else { 61 };
+                write!(
+                    f,
+                    "<rect class='l' x='{x}' y='{y}' width='228' height='{height}'/>"
+                )
+            }
             Element::Span(span) => span.fmt(f),
             Element::Mark(mark) => mark.fmt(f),
-            Element::OpenSpan(span) => span.fmt(f),
-            Element::Bar(bar) => bar.fmt(f),
-            Element::Refused(refused) => refused.fmt(f),
-            Element::Because(because) => because.fmt(f),
-            Element::Closing(closing) => closing.fmt(f),
-            Element::Rest(rest) => rest.fmt(f),
+            Element::Below(rows, below) => BelowRows(rows, below).fmt(f),
         }
     }
 }

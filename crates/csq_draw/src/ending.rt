@@ -4,27 +4,6 @@ use csq_explain::{IrpSentence, Reason, RestSentence};
 use csq_replay::{IrpLine, Stop};
 use std::fmt;
 
-/// The bar of the line that ended the handling, on the row below the last step.
-#[derive(Clone, Copy)]
-pub(crate) struct Bar {
-    pub(crate) rows: u32,
-}
-
-impl fmt::Display for Bar {
-    ghost use Rattle.std.specs.Prelude.{Some};
-    ghost use Rattle.csq_draw.specs.Endings.{bar_text};
-
-    ghost output = { λ bar. Some (bar_text bar) };
-
-    fn fmt<W: fmt::Write>(&self, f: &mut fmt::Formatter<W>) -> fmt::Result {
-        let y = top(self.rows) + 4;
-        write!(
-            f,
-            "<rect class='bad' x='64' y='{y}' width='660' height='52' rx='6'/>"
-        )
-    }
-}
-
 /// A line that ended the handling, as it is told: its step, if it names one, and why it ended it.
 #[derive(Clone, Copy)]
 pub(crate) struct Refusal(pub(crate) Stop);
@@ -45,82 +24,54 @@ impl fmt::Display for Refusal {
     }
 }
 
-/// What is told of the line that ended the handling, in its bar.
+/// What stands below the rows of a picture.
 #[derive(Clone, Copy)]
-pub(crate) struct Refused {
-    pub(crate) rows: u32,
-    pub(crate) stop: Stop,
+pub(crate) enum Below {
+    /// The bar of the line that ended the handling, on the row below the last step.
+    Bar,
+    /// What is told of that line, in its bar.
+    Refused(Stop),
+    /// Why it ended the handling, below its bar.
+    Because(Reason),
+    /// Where an IRP is in the end, as the nth line.
+    Irp(u32, IrpLine),
+    /// Whether all is at rest in the end, as the nth line.
+    AtRest(u32, bool),
 }
 
-impl fmt::Display for Refused {
-    ghost use Rattle.std.specs.Prelude.{Some};
-    ghost use Rattle.csq_draw.specs.Endings.{refused_text};
+/// What stands below so many rows of a picture.
+#[derive(Clone, Copy)]
+pub(crate) struct BelowRows(pub(crate) u32, pub(crate) Below);
 
-    ghost output = { λ refused. Some (refused_text refused) };
+impl fmt::Display for BelowRows {
+    ghost use Rattle.std.specs.Prelude.{Some};
+    ghost use Rattle.csq_draw.specs.Layout.{top};
+    ghost use Rattle.csq_draw.specs.Endings.{below_text};
+
+    ghost output = { λ below. Some (below_text (top below.0) below.1) };
 
     fn fmt<W: fmt::Write>(&self, f: &mut fmt::Formatter<W>) -> fmt::Result {
-        let (y, refusal) = (top(self.rows) + 34, Refusal(self.stop));
-        write!(f, "<text x='73' y='{y}'>{refusal}</text>")
-    }
-}
-
-/// Why the line ended the handling, below its bar.
-#[derive(Clone, Copy)]
-pub(crate) struct Because {
-    pub(crate) rows: u32,
-    pub(crate) reason: Reason,
-}
-
-impl fmt::Display for Because {
-    ghost use Rattle.std.specs.Prelude.{Some};
-    ghost use Rattle.csq_draw.specs.Endings.{because_text};
-
-    ghost output = { λ because. Some (because_text because) };
-
-    fn fmt<W: fmt::Write>(&self, f: &mut fmt::Formatter<W>) -> fmt::Result {
-        let (y, reason) = (top(self.rows) + 76, self.reason);
-        write!(f, "<text x='73' y='{y}'>{reason}</text>")
-    }
-}
-
-/// Where an IRP is in the end, as the nth line below the rows.
-#[derive(Clone, Copy)]
-pub(crate) struct Closing {
-    pub(crate) rows: u32,
-    pub(crate) nth: u32,
-    pub(crate) line: IrpLine,
-}
-
-impl fmt::Display for Closing {
-    ghost use Rattle.std.specs.Prelude.{Some};
-    ghost use Rattle.csq_draw.specs.Endings.{closing_text};
-
-    ghost output = { λ closing. Some (closing_text closing) };
-
-    fn fmt<W: fmt::Write>(&self, f: &mut fmt::Formatter<W>) -> fmt::Result {
-        let y = top(self.rows) + 28 + 20 * u64::from(self.nth);
-        let sentence = IrpSentence(self.line);
-        write!(f, "<text x='56' y='{y}'>{sentence}</text>")
-    }
-}
-
-/// Whether all is at rest in the end, as the nth line below the rows.
-#[derive(Clone, Copy)]
-pub(crate) struct Rest {
-    pub(crate) rows: u32,
-    pub(crate) nth: u32,
-    pub(crate) rest: bool,
-}
-
-impl fmt::Display for Rest {
-    ghost use Rattle.std.specs.Prelude.{Some};
-    ghost use Rattle.csq_draw.specs.Endings.{rest_line_text};
-
-    ghost output = { λ rest. Some (rest_line_text rest) };
-
-    fn fmt<W: fmt::Write>(&self, f: &mut fmt::Formatter<W>) -> fmt::Result {
-        let y = top(self.rows) + 28 + 20 * u64::from(self.nth);
-        let sentence = RestSentence(self.rest);
-        write!(f, "<text x='56' y='{y}'>{sentence}</text>")
+        let y = top(self.0);
+        match self.1 {
+            Below::Bar => {
+                let y = y + 4;
+                write!(
+                    f,
+                    "<rect class='bad' x='64' y='{y}' width='660' height='52' rx='6'/>"
+                )
+            }
+            Below::Refused(stop) => {
+                write!(f, "<text x='73' y='{}'>{}</text>", y + 34, Refusal(stop))
+            }
+            Below::Because(reason) => write!(f, "<text x='73' y='{}'>{reason}</text>", y + 76),
+            Below::Irp(nth, line) => {
+                let (y, sentence) = (y + 28 + 20 * u64::from(nth), IrpSentence(line));
+                write!(f, "<text x='56' y='{y}'>{sentence}</text>")
+            }
+            Below::AtRest(nth, at_rest) => {
+                let (y, sentence) = (y + 28 + 20 * u64::from(nth), RestSentence(at_rest));
+                write!(f, "<text x='56' y='{y}'>{sentence}</text>")
+            }
+        }
     }
 }

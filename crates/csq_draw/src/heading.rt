@@ -33,39 +33,12 @@ circle.on{fill:currentColor}circle.off{fill:#ffffff}circle.b{stroke-width:3}
 text{fill:#e6edf3}.s,.m,.n,.t tspan{fill:#b1bac4}}
 </style>";
 
-/// What all pictures share: a description, and the look of what is drawn.
-#[derive(Clone, Copy)]
-struct Shared;
-
-impl fmt::Display for Shared {
-    ghost use Rattle.std.specs.Prelude.{Some};
-    ghost use Rattle.csq_draw.specs.Headings.{shared_text};
-
-    ghost output = { λ _. Some shared_text };
-
-    #[tactic(auto, unfolding(crate::specs::Headings::shared_text))]
-    fn fmt<W: fmt::Write>(&self, f: &mut fmt::Formatter<W>) -> fmt::Result {
-        f.write_str(PICTURE_HEAD)
-    }
-}
-
 /// What the parts of a picture mean.
-#[derive(Clone, Copy)]
-pub(crate) struct Key;
-
-impl fmt::Display for Key {
-    ghost use Rattle.std.specs.Prelude.{Some};
-    ghost use Rattle.csq_draw.specs.Headings.{key_text};
-
-    ghost output = { λ _. Some key_text };
-
-    fn fmt<W: fmt::Write>(&self, f: &mut fmt::Formatter<W>) -> fmt::Result {
-        write!(
-            f,
-            "<text class='s' x='56' y='15'>shade: has the lock; bold: the exchange found the routine, and so claims the IRP; dashed line: owes it; solid line: holds it</text><text class='s' x='56' y='28'>circles: the two words of the IRP, in its present life, after the step; filled: set; bold: the step changed it; &#8594;: what the call answers</text><text class='n s' x='46' y='54'>line</text>"
-        )
-    }
-}
+pub(crate) const KEY: &str = "\
+<text class='s' x='56' y='15'>shade: has the lock; bold: the exchange found the routine, and so claims the IRP; \
+dashed line: owes it; solid line: holds it</text>\
+<text class='s' x='56' y='28'>circles: the two words of the IRP, in its present life, after the step; filled: set; \
+bold: the step changed it; &#8594;: what the call answers</text><text class='n s' x='46' y='54'>line</text>";
 
 /// How much a picture shows: so many columns and rows, lines of text below them, and lines of a caption above.
 #[derive(Clone, Copy)]
@@ -106,25 +79,6 @@ impl Extent {
     }
 }
 
-/// A width and a height.
-#[derive(Clone, Copy)]
-struct Area {
-    width: u64,
-    height: u64,
-}
-
-impl fmt::Display for Area {
-    ghost use Rattle.std.specs.Prelude.{Some};
-    ghost use Rattle.csq_draw.specs.Headings.{area_text};
-
-    ghost output = { λ area. Some (area_text area.width area.height) };
-
-    fn fmt<W: fmt::Write>(&self, f: &mut fmt::Formatter<W>) -> fmt::Result {
-        let (width, height) = (self.width, self.height);
-        write!(f, "width='{width}' height='{height}'")
-    }
-}
-
 /// The upper edge of a picture, so far above the one that it has without a caption.
 #[derive(Clone, Copy)]
 struct Edge(u64);
@@ -146,41 +100,27 @@ impl fmt::Display for Edge {
     }
 }
 
-/// The beginning of a picture: its size.
+/// What stands above all elements of a picture and behind them: its size, its name, what all pictures share,
+/// its sheet and its caption.
 #[derive(Clone, Copy)]
-struct Opening(Extent);
-
-impl fmt::Display for Opening {
-    ghost use Rattle.std.specs.Prelude.{Some};
-    ghost use Rattle.csq_draw.specs.Headings.{opening_text};
-
-    ghost output = { λ opening. Some (opening_text opening.0) };
-
-    fn fmt<W: fmt::Write>(&self, f: &mut fmt::Formatter<W>) -> fmt::Result {
-        let (width, height, edge) = (self.0.width(), self.0.height(), Edge(self.0.above()));
-        let area = Area { width, height };
-        write!(
-            f,
-            "<svg xmlns='http://www.w3.org/2000/svg' {area} viewBox='0 {edge} {width} {height}' font-family='system-ui,-apple-system,Segoe UI,DejaVu Sans,sans-serif' font-size='12'>"
-        )
-    }
+pub(crate) struct Head<'a> {
+    pub(crate) extent: Extent,
+    pub(crate) title: &'a str,
+    pub(crate) below: &'a str,
 }
 
 /// The name of a picture: the title of its caption, and without one how many steps there are.
 #[derive(Clone, Copy)]
-struct Name<'a> {
-    rows: u32,
-    title: &'a str,
-}
+struct Name<'a>(Head<'a>);
 
 impl fmt::Display for Name<'_> {
     ghost use Rattle.std.specs.Prelude.{Some};
     ghost use Rattle.csq_draw.specs.Headings.{name_text};
 
-    ghost output = { λ name. Some (name_text name.rows name.title.now) };
+    ghost output = { λ name. Some (name_text name.0.extent.rows name.0.title.now) };
 
     fn fmt<W: fmt::Write>(&self, f: &mut fmt::Formatter<W>) -> fmt::Result {
-        let (rows, title) = (self.rows, self.title);
+        let (rows, title) = (self.0.extent.rows, self.0.title);
         if title.is_empty() {
             write!(f, "<title>The steps of a schedule: {rows}</title>")
         } else {
@@ -189,44 +129,20 @@ impl fmt::Display for Name<'_> {
     }
 }
 
-/// The sheet of a picture.
-#[derive(Clone, Copy)]
-struct Sheet(Extent);
-
-impl fmt::Display for Sheet {
-    ghost use Rattle.std.specs.Prelude.{Some};
-    ghost use Rattle.csq_draw.specs.Headings.{sheet_text};
-
-    ghost output = { λ sheet. Some (sheet_text sheet.0) };
-
-    fn fmt<W: fmt::Write>(&self, f: &mut fmt::Formatter<W>) -> fmt::Result {
-        let (width, height, edge) = (self.0.width(), self.0.height(), Edge(self.0.above()));
-        let area = Area { width, height };
-        write!(f, "<rect class='sheet' y='{edge}' {area}/>")
-    }
-}
-
 /// A caption: its title, and the lines below.
 #[derive(Clone, Copy)]
-struct Heading<'a> {
-    lines: u32,
-    title: &'a str,
-    below: &'a str,
-}
+struct Heading<'a>(Head<'a>);
 
 /// On a line of its own, and nothing where there is none.
 impl fmt::Display for Heading<'_> {
     ghost use Rattle.std.specs.Prelude.{Some};
     ghost use Rattle.csq_draw.specs.Headings.{heading_text};
 
-    ghost output = { λ heading. Some (heading_text heading.lines heading.title.now heading.below.now) };
+    ghost output = { λ heading. Some
+        (heading_text heading.0.extent.caption heading.0.title.now heading.0.below.now) };
 
     fn fmt<W: fmt::Write>(&self, f: &mut fmt::Formatter<W>) -> fmt::Result {
-        let Heading {
-            lines,
-            title,
-            below,
-        } = *self;
+        let (lines, title, below) = (self.0.extent.caption, self.0.title, self.0.below);
         if lines == 0 {
             return Ok(());
         }
@@ -238,15 +154,6 @@ impl fmt::Display for Heading<'_> {
     }
 }
 
-/// What stands above all elements of a picture and behind them: its size, its name, what all pictures share,
-/// its sheet and its caption.
-#[derive(Clone, Copy)]
-pub(crate) struct Head<'a> {
-    pub(crate) extent: Extent,
-    pub(crate) title: &'a str,
-    pub(crate) below: &'a str,
-}
-
 impl fmt::Display for Head<'_> {
     ghost use Rattle.std.specs.Prelude.{Some};
     ghost use Rattle.csq_draw.specs.Headings.{head_text};
@@ -254,20 +161,18 @@ impl fmt::Display for Head<'_> {
     ghost output = { λ head. Some (head_text head.extent head.title.now head.below.now) };
 
     fn fmt<W: fmt::Write>(&self, f: &mut fmt::Formatter<W>) -> fmt::Result {
-        let Head {
-            extent,
-            title,
-            below,
-        } = *self;
-        let (rows, lines) = (extent.rows, extent.caption);
-        let (opening, shared, sheet) = (Opening(extent), Shared, Sheet(extent));
-        let name = Name { rows, title };
-        let heading = Heading {
-            lines,
-            title,
-            below,
-        };
-        write!(f, "{opening}\n{name}\n{shared}\n{sheet}\n{heading}")
+        let (width, height) = (self.extent.width(), self.extent.height());
+        let edge = Edge(self.extent.above());
+        let (name, heading) = (Name(*self), Heading(*self));
+        write!(
+            f,
+            "<svg xmlns='http://www.w3.org/2000/svg' width='{width}' height='{height}' viewBox='0 {edge} {width} {height}' font-family='system-ui,-apple-system,Segoe UI,DejaVu Sans,sans-serif' font-size='12'>\n"
+        )?;
+        write!(f, "{name}\n{PICTURE_HEAD}\n")?;
+        write!(
+            f,
+            "<rect class='sheet' y='{edge}' width='{width}' height='{height}'/>\n{heading}"
+        )
     }
 }
 
@@ -277,19 +182,4 @@ pub(crate) struct Column {
     pub(crate) column: u32,
     pub(crate) pass: PassId,
     pub(crate) rows: u32,
-}
-
-impl fmt::Display for Column {
-    ghost use Rattle.std.specs.Prelude.{Some};
-    ghost use Rattle.csq_draw.specs.Headings.{column_text};
-
-    ghost output = { λ column. Some (column_text column) };
-
-    fn fmt<W: fmt::Write>(&self, f: &mut fmt::Formatter<W>) -> fmt::Result {
-        let (x, bottom, pass) = (left(self.column) + 114, top(self.rows), self.pass);
-        write!(
-            f,
-            "<path class='g' d='M{x} 64V{bottom}'/><text class='p' x='{x}' y='54'>{pass}</text>"
-        )
-    }
 }

@@ -46,31 +46,20 @@ fn owner_after(
     ensures { result ≡ owner_after owners.now before made row }
 {
     let pass = made.pass;
-    match made.kind {
-        Kind::Take(name) if made.found == 1 => Some(Owner {
-            irp: name.irp,
-            pass,
-            having: Having::Owes,
-            row,
-            lane: lane_for(owners, pass, before),
-        }),
-        Kind::Disarm(name) if made.found == 1 => Some(Owner {
-            irp: name.irp,
-            pass,
-            having: Having::Holds,
-            row,
-            lane: lane_for(owners, pass, before),
-        }),
-        Kind::Out(name) => Some(Owner {
-            irp: name.irp,
-            pass,
-            having: Having::Holds,
-            row,
-            lane: lane_for(owners, pass, before),
-        }),
-        Kind::Done(_) | Kind::Rearm(_) => None,
-        _ => before,
-    }
+    let (irp, having) = match made.kind {
+        Kind::Take(name) if made.found == 1 => (name.irp, Having::Owes),
+        Kind::Disarm(name) if made.found == 1 => (name.irp, Having::Holds),
+        Kind::Out(name) => (name.irp, Having::Holds),
+        Kind::Done(_) | Kind::Rearm(_) => return None,
+        _ => return before,
+    };
+    Some(Owner {
+        irp,
+        pass,
+        having,
+        row,
+        lane: lane_for(owners, pass, before),
+    })
 }
 
 /// Whose time with an IRP a step of this kind ends, of the owner before it.

@@ -4,17 +4,17 @@ ghost use Rattle.csq_replay.specs.Lines.{GrewBy};
 ghost use Rattle.csq_draw.specs.Elements.{elements_text, picture};
 ghost use Rattle.csq_draw.specs.Passes.{columns};
 ghost use Rattle.csq_draw.specs.Marks.{lets_go};
-ghost use Rattle.csq_draw.specs.Pictures.{each, column_element, column_elements, mark_element, shade_elements, span_elements, row_elements, open_elements, closing_elements, first_elements, shown_elements, refused_elements, rest_element, stopped_elements, closed_elements};
+ghost use Rattle.csq_draw.specs.Pictures.{each, column_elements, shade_elements, span_elements, row_elements, open_elements, closing_elements, first_elements, shown_elements, refused_elements, at_rest_element, stopped_elements, closed_elements};
 
 use crate::circles::WordColumns;
 use crate::element::Element;
-use crate::ending::{Bar, Because, Closing, Refused, Rest};
+use crate::ending::Below;
 use crate::heading::Column;
 use crate::marks::{Mark, Number, Shade, lets_go};
 use crate::owners::Owner;
 use crate::passes::{column_of, columns};
 use crate::rows::Row;
-use crate::spans::{OpenSpan, Span};
+use crate::spans::Span;
 use csq_explain::{PassNow, Reason};
 use csq_replay::IrpLine;
 use irp_core::PassId;
@@ -29,25 +29,6 @@ fn draw<A: Allocator>(element: Element, text: &mut String<A>) -> Result<(), Allo
     Ok(())
 }
 
-/// The column of a pass.
-fn draw_column<A: Allocator>(
-    passes: &[PassNow],
-    rows: u32,
-    pass: PassId,
-    text: &mut String<A>,
-) -> Result<(), AllocError>
-    requires { length passes.now ≤ 65 }
-    ensures { OnOk result (GrewBy (string_bytes text.old) (string_bytes text.new)
-        (elements_text (column_element passes.now rows pass ∷ []))) }
-{
-    let column = Column {
-        column: column_of(passes, pass),
-        pass,
-        rows,
-    };
-    draw(Element::Column(column), text)
-}
-
 /// The column of a pass, if it makes a step.
 fn draw_maker<A: Allocator>(
     passes: &[PassNow],
@@ -60,11 +41,15 @@ fn draw_maker<A: Allocator>(
     ensures { OnOk result (GrewBy (string_bytes text.old) (string_bytes text.new)
         (elements_text (column_elements passes.now rows pass.0 now))) }
 {
-    if now.makes {
-        draw_column(passes, rows, pass, text)
-    } else {
-        Ok(())
+    if !now.makes {
+        return Ok(());
     }
+    let column = Column {
+        column: column_of(passes, pass),
+        pass,
+        rows,
+    };
+    draw(Element::Column(column), text)
 }
 
 /// The columns of the passes that make steps.
@@ -121,28 +106,9 @@ fn draw_span<A: Allocator>(
         column: column_of(passes, owner.pass),
         owner,
         to: row.row,
+        to_the_end: false,
     };
     draw(Element::Span(span), text)
-}
-
-/// The mark of a row's step, in the column of its pass.
-fn draw_mark<A: Allocator>(
-    passes: &[PassNow],
-    row: Row,
-    text: &mut String<A>,
-) -> Result<(), AllocError>
-    requires { length passes.now ≤ 65 }
-    ensures { OnOk result (GrewBy (string_bytes text.old) (string_bytes text.new)
-        (elements_text (mark_element passes.now row ∷ []))) }
-{
-    let mark = Mark {
-        row: row.row,
-        column: column_of(passes, row.step.made.pass),
-        columns: columns(passes),
-        step: row.step,
-        words: row.words,
-    };
-    draw(Element::Mark(mark), text)
 }
 
 /// The row of a step.
@@ -159,10 +125,17 @@ fn draw_row<A: Allocator>(
         row: row.row,
         line: row.line,
     };
+    let mark = Mark {
+        row: row.row,
+        column: column_of(passes, row.step.made.pass),
+        columns: columns(passes),
+        step: row.step,
+        words: row.words,
+    };
     draw(Element::Number(number), text)?;
     draw_shade(passes, row, text)?;
     draw_span(passes, row, text)?;
-    draw_mark(passes, row, text)
+    draw(Element::Mark(mark), text)
 }
 
 /// The rows of all steps.
@@ -195,12 +168,13 @@ fn draw_open<A: Allocator>(
     let Some(owner) = owner else {
         return Ok(());
     };
-    let span = OpenSpan {
+    let span = Span {
         column: column_of(passes, owner.pass),
         owner,
-        rows: count,
+        to: count,
+        to_the_end: true,
     };
-    draw(Element::OpenSpan(span), text)
+    draw(Element::Span(span), text)
 }
 
 /// The lines of the owners that have their IRPs in the end.
@@ -231,8 +205,7 @@ fn draw_told<A: Allocator>(
         (elements_text (each (closing_elements rows) 0 told.now))) }
 {
     for (nth, line) in told.iter().enumerate() {
-        let (nth, line) = (nth as u32, *line);
-        draw(Element::Closing(Closing { rows, nth, line }), text)?;
+        draw(Element::Below(rows, Below::Irp(nth as u32, *line)), text)?;
     }
     Ok(())
 }
@@ -282,11 +255,11 @@ fn draw_refused<A: Allocator>(
     ensures { OnOk result (GrewBy (string_bytes text.old) (string_bytes text.new)
         (elements_text (refused_elements rows line reason))) }
 {
-    let (row, stop) = (rows, reason.stop);
-    draw(Element::Bar(Bar { rows }), text)?;
+    let row = rows;
+    draw(Element::Below(rows, Below::Bar), text)?;
     draw(Element::Number(Number { row, line }), text)?;
-    draw(Element::Refused(Refused { rows, stop }), text)?;
-    draw(Element::Because(Because { rows, reason }), text)
+    draw(Element::Below(rows, Below::Refused(reason.stop)), text)?;
+    draw(Element::Below(rows, Below::Because(reason)), text)
 }
 
 /// The end of a picture.
@@ -326,24 +299,19 @@ pub(crate) fn draw_closed<A: Allocator>(
     owners: &[Option<Owner>],
     count: u32,
     told: &[IrpLine],
-    rest: bool,
+    at_rest: bool,
     text: &mut String<A>,
 ) -> Result<(), AllocError>
     requires few { length passes.now ≤ 65 }
     requires count { count ≡ length rows.now }
     requires told { length told.now ≤ 1024 }
     ensures { OnOk result (GrewBy (string_bytes text.old) (string_bytes text.new)
-        (picture (closed_elements passes.now rows.now owners.now count told.now rest))) }
+        (picture (closed_elements passes.now rows.now owners.now count told.now at_rest))) }
 {
     let nth = told.len() as u32;
     draw_steps(passes, rows, owners, count, text)?;
     draw_told(count, told, text)?;
-    let rest = Rest {
-        rows: count,
-        nth,
-        rest,
-    };
-    draw(Element::Rest(rest), text)?;
+    draw(Element::Below(count, Below::AtRest(nth, at_rest)), text)?;
     draw_foot(text)?;
     Ok(())
 }

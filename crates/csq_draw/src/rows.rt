@@ -1,6 +1,6 @@
 //! The rows of a picture: one for each step.
 use crate::owners::Owner;
-use crate::words::Words;
+use crate::words::WordValues;
 use csq_explain::StepInCall;
 use irp_core::PassId;
 
@@ -13,5 +13,5 @@ pub(crate) struct Row {
     pub(crate) step: StepInCall,
     pub(crate) lock: Option<PassId>,
     pub(crate) ended: Option<Owner>,
-    pub(crate) words: Option<Words>,
+    pub(crate) words: Option<WordValues>,
 }

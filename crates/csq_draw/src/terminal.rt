@@ -10,7 +10,7 @@ use crate::cells::Cell;
 use crate::ending::Refusal;
 use crate::passes::{column_of, columns};
 use crate::rows::Row;
-use crate::words::Words;
+use crate::words::WordValues;
 use csq_explain::{IrpSentence, PassNow, Reason, RestSentence};
 use csq_replay::IrpLine;
 use irp_core::PassId;
@@ -43,15 +43,18 @@ fn push_cell<A: Allocator>(cell: Cell, width: usize, text: &mut String<A>) -> Re
 }
 
 /// Adds the words of an IRP.
-fn push_words<A: Allocator>(words: Option<Words>, text: &mut String<A>) -> Result<(), AllocError>
+fn push_words<A: Allocator>(
+    words: Option<WordValues>,
+    text: &mut String<A>,
+) -> Result<(), AllocError>
     ensures { OnOk result (GrewBy (string_bytes text.old) (string_bytes text.new)
         (words_cells words)) }
 {
     let Some(words) = words else {
         return text.push_str("-      -");
     };
-    push_cell(Cell::Word(words.flag), 7, text)?;
-    write!(text, "{}", Cell::Word(words.routine))?;
+    push_cell(Cell::WordValue(words.flag), 7, text)?;
+    write!(text, "{}", Cell::WordValue(words.routine))?;
     Ok(())
 }
 
@@ -176,16 +179,16 @@ pub(crate) fn write_closed<A: Allocator>(
     passes: &[PassNow],
     rows: &[Row],
     told: &[IrpLine],
-    rest: bool,
+    at_rest: bool,
     text: &mut String<A>,
 ) -> Result<(), AllocError>
     requires { length passes.now ≤ 65 }
     ensures { OnOk result (GrewBy (string_bytes text.old) (string_bytes text.new)
-        (closed_lines (caption_of caption.now) passes.now rows.now told.now rest)) }
+        (closed_lines (caption_of caption.now) passes.now rows.now told.now at_rest)) }
 {
     text.push_str(caption.plain.as_str())?;
     push_steps(passes, rows, text)?;
     push_told(told, text)?;
-    writeln!(text, "{}", RestSentence(rest))?;
+    writeln!(text, "{}", RestSentence(at_rest))?;
     Ok(())
 }

@@ -11,7 +11,7 @@ use std::alloc::Allocator;
 
 /// An IRP in its present life, and whether its Cancel flag and its cancel routine are set.
 #[derive(Clone, Copy)]
-pub(crate) struct Words {
+pub(crate) struct WordValues {
     pub(crate) name: IrpLife,
     pub(crate) flag: bool,
     pub(crate) routine: bool,
@@ -33,14 +33,14 @@ pub(crate) fn words_named<A: Allocator>(
     machine: &Machine<A>,
     kind: Kind,
     owner: Option<Owner>,
-) -> Option<Words>
+) -> Option<WordValues>
     requires { OfIrp (λ i. number i < (size_of machine.now).irps) kind }
     ensures { AreWordsNamed machine.now kind owner result }
 {
     let irp = kind.name()?.irp;
     let life = machine.life(irp).unwrap();
     let place = machine.place(irp).unwrap();
-    Some(Words {
+    Some(WordValues {
         name: IrpLife { irp, life },
         flag: machine.cancelled(irp),
         routine: routine_at(place, owner),

@@ -1,6 +1,5 @@
 use Rattle.std.proofs.Common.{◌++◌, codes}
-use Rattle.csq_replay.proofs.Closings.{grew_more}
-use Rattle.csq_draw.specs.Captions.{escaped}
+use Rattle.csq_draw.proofs.Imports.{grew_more, escaped}
 use Rattle.csq_draw.proofs.caption.push_below.Goals as goal
 
 pub returns : goal.returns

@@ -1,6 +1,5 @@
 use Rattle.std.proofs.Common.{take, string_bytes}
-use Rattle.csq_replay.specs.Lines.{GrewBy}
-use Rattle.csq_draw.specs.Captions.{escaped}
+use Rattle.csq_draw.proofs.Imports.{GrewBy, escaped}
 use Rattle.csq_draw.proofs.caption.push_escaped.Given as goal
 
 -- the bytes so far were added

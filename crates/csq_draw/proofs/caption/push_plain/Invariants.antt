@@ -1,6 +1,5 @@
 use Rattle.std.proofs.Common.{map, take, string_bytes}
-use Rattle.csq_replay.specs.Lines.{GrewBy}
-use Rattle.csq_draw.specs.Captions.{printable}
+use Rattle.csq_draw.proofs.Imports.{GrewBy, printable}
 use Rattle.csq_draw.proofs.caption.push_plain.Given as goal
 
 -- the bytes so far were added

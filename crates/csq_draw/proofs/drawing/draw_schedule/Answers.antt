@@ -1,6 +1,5 @@
-use Rattle.irp_core.specs.Runs.{Size}
+use Rattle.csq_draw.proofs.Imports.{Size, new_drawn}
 use Rattle.csq_draw.specs.declared.format.Format.TheVariants.{Svg}
-use Rattle.csq_draw.specs.Pictures.{new_drawn}
 use Rattle.csq_draw.proofs.drawing.draw_schedule.Goals as goal
 
 pub reply-requires : goal.reply-requires

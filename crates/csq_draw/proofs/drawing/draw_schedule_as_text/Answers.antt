@@ -1,6 +1,5 @@
-use Rattle.irp_core.specs.Runs.{Size}
+use Rattle.csq_draw.proofs.Imports.{Size, new_drawn}
 use Rattle.csq_draw.specs.declared.format.Format.TheVariants.{Text}
-use Rattle.csq_draw.specs.Pictures.{new_drawn}
 use Rattle.csq_draw.proofs.drawing.draw_schedule_as_text.Goals as goal
 
 pub reply-requires : goal.reply-requires

@@ -1,4 +1,4 @@
-use Rattle.std.proofs.Common.{rules, ◌≡◌, ◌∙◌, ◌<◌, ◌≤◌, true, false, refl, sym, arith}
+use Rattle.std.proofs.Common.{◌≡◌, ◌∙◌, ◌<◌, true, false, refl, sym, arith}
 use Rattle.csq_draw.specs.Lanes.{is_taken, free_lane}
 use Rattle.csq_draw.proofs.LaneLaws.{first_after, first_here, first_past}
 use Rattle.csq_draw.proofs.lanes.free_lane.Goals as goal

@@ -1,5 +1,5 @@
 use Rattle.std.proofs.Common.{◌∷◌, [], ◌++◌, length}
-use Rattle.csq_draw.specs.Pictures.{each, shown_elements, closing_elements, rest_element}
+use Rattle.csq_draw.specs.Pictures.{each, shown_elements, closing_elements, at_rest_element}
 use Rattle.csq_draw.proofs.Growing.{grew_elements, grew_picture}
 use Rattle.csq_draw.proofs.picture.draw_closed.Goals as goal
 
@@ -8,6 +8,6 @@ returns g c =
     let told = c.args.told.now in
     let shown = shown_elements c.args.passes.now c.args.rows.now c.args.owners.now c.args.count in
     let lines = each (closing_elements c.args.count) 0 told in
-    let rest = rest_element c.args.count (length told) c.args.rest ∷ [] in
+    let rest = at_rest_element c.args.count (length told) c.args.at_rest ∷ [] in
     grew_picture _ _ _ (shown ++ (lines ++ rest))
     (grew_elements _ _ _ shown (lines ++ rest) c.in_ok-draw_steps.ensures (grew_elements _ _ _ lines rest c.in_ok-draw_told.ensures c.in_ok-draw.ensures)) c.in_ok-draw_foot.ensures

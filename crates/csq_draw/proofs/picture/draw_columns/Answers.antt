@@ -1,6 +1,5 @@
 use Rattle.std.proofs.Common.{arith}
-use Rattle.csq_explain.specs.Passes.{new_pass_now}
-use Rattle.csq_draw.specs.Pictures.{column_elements}
+use Rattle.csq_draw.proofs.Imports.{new_pass_now, column_elements}
 use Rattle.csq_draw.proofs.Growing.{grew_each}
 use Rattle.csq_draw.proofs.picture.draw_columns.Goals as goal
 

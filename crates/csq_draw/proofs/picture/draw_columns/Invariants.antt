@@ -1,7 +1,5 @@
 use Rattle.std.proofs.Common.{take, string_bytes}
-use Rattle.csq_replay.specs.Lines.{GrewBy}
-use Rattle.csq_draw.specs.Elements.{elements_text}
-use Rattle.csq_draw.specs.Pictures.{each, column_elements}
+use Rattle.csq_draw.proofs.Imports.{GrewBy, elements_text, each, column_elements}
 use Rattle.csq_draw.proofs.picture.draw_columns.Given as goal
 
 -- the elements of those so far were added

@@ -1,6 +1,5 @@
 use Rattle.std.proofs.Common.{◌++◌}
-use Rattle.csq_draw.specs.Passes.{columns}
-use Rattle.csq_draw.specs.Pictures.{each, first_elements, column_elements, row_elements, open_elements}
+use Rattle.csq_draw.proofs.Imports.{columns, each, first_elements, column_elements, row_elements, open_elements}
 use Rattle.csq_draw.proofs.Growing.{grew_elements}
 use Rattle.csq_draw.proofs.picture.draw_steps.Goals as goal
 

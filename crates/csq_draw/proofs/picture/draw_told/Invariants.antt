@@ -1,7 +1,5 @@
 use Rattle.std.proofs.Common.{take, string_bytes}
-use Rattle.csq_replay.specs.Lines.{GrewBy}
-use Rattle.csq_draw.specs.Elements.{elements_text}
-use Rattle.csq_draw.specs.Pictures.{each, closing_elements}
+use Rattle.csq_draw.proofs.Imports.{GrewBy, elements_text, each, closing_elements}
 use Rattle.csq_draw.proofs.picture.draw_told.Given as goal
 
 -- the elements of those so far were added

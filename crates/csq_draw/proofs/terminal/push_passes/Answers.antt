@@ -1,6 +1,5 @@
 use Rattle.std.proofs.Common.{arith}
-use Rattle.csq_explain.specs.Passes.{new_pass_now}
-use Rattle.csq_draw.specs.Terminal.{pass_cell}
+use Rattle.csq_draw.proofs.Imports.{new_pass_now, pass_cell}
 use Rattle.csq_draw.proofs.Writing.{grew_each_text}
 use Rattle.csq_draw.proofs.terminal.push_passes.Goals as goal
 

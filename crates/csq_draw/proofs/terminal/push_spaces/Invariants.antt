@@ -1,6 +1,5 @@
 use Rattle.std.proofs.Common.{string_bytes}
-use Rattle.csq_replay.specs.Lines.{GrewBy}
-use Rattle.csq_draw.specs.Terminal.{spaces}
+use Rattle.csq_draw.proofs.Imports.{GrewBy, spaces}
 use Rattle.csq_draw.proofs.terminal.push_spaces.Given as goal
 
 -- so many spaces were added

@@ -1,6 +1,5 @@
 use Rattle.std.proofs.Common.{take, string_bytes}
-use Rattle.csq_replay.specs.Lines.{GrewBy}
-use Rattle.csq_draw.specs.Terminal.{each_text, irp_line_told}
+use Rattle.csq_draw.proofs.Imports.{GrewBy, each_text, irp_line_told}
 use Rattle.csq_draw.proofs.terminal.push_told.Given as goal
 
 -- the texts of those so far were added

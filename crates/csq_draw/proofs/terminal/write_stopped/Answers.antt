@@ -1,8 +1,6 @@
 use Rattle.std.proofs.Common.{List, ℕ, ◌++◌, codes, decimal}
-use Rattle.csq_explain.specs.Reasons.{reason_text}
-use Rattle.csq_replay.proofs.Closings.{grew_more}
+use Rattle.csq_draw.proofs.Imports.{reason_text, grew_more, rows_text}
 use Rattle.csq_draw.specs.Endings.{ended_line_text}
-use Rattle.csq_draw.specs.Terminal.{rows_text}
 use Rattle.csq_draw.proofs.Growing.{grew_same}
 use Rattle.csq_draw.proofs.terminal.write_stopped.Goals as goal
 

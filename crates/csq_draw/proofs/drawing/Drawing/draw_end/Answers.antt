@@ -1,6 +1,5 @@
 use Rattle.std.proofs.Common.{◌∙◌, sym}
-use Rattle.csq_draw.specs.declared.format.Format.{Format}
-use Rattle.csq_draw.specs.Pictures.{closed_text}
+use Rattle.csq_draw.proofs.Imports.{Format, closed_text}
 use Rattle.csq_draw.proofs.Growing.{grew_same}
 use Rattle.csq_draw.proofs.Showing.{closed_written}
 use Rattle.csq_draw.proofs.drawing.Drawing.draw_end.Goals as goal

@@ -1,7 +1,5 @@
 use Rattle.std.proofs.Common.{◌+◌, length, refl}
-use Rattle.csq_replay.proofs.Closings.{grew_more}
-use Rattle.csq_draw.specs.Elements.{picture}
-use Rattle.csq_draw.specs.Pictures.{closed_picture}
+use Rattle.csq_draw.proofs.Imports.{grew_more, picture, closed_picture}
 use Rattle.csq_draw.proofs.Showing.{head_shown, closed_same, closed_shown}
 use Rattle.csq_draw.proofs.drawing.Drawing.draw_end_as_svg.Goals as goal
 

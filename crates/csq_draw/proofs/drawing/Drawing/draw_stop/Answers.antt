@@ -1,6 +1,5 @@
 use Rattle.std.proofs.Common.{◌∙◌, sym}
-use Rattle.csq_draw.specs.declared.format.Format.{Format}
-use Rattle.csq_draw.specs.Pictures.{stopped_text}
+use Rattle.csq_draw.proofs.Imports.{Format, stopped_text}
 use Rattle.csq_draw.proofs.Growing.{grew_same}
 use Rattle.csq_draw.proofs.Showing.{stopped_written}
 use Rattle.csq_draw.proofs.drawing.Drawing.draw_stop.Goals as goal

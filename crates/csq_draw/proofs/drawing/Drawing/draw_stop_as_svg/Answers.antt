@@ -1,6 +1,4 @@
-use Rattle.csq_replay.proofs.Closings.{grew_more}
-use Rattle.csq_draw.specs.Elements.{picture}
-use Rattle.csq_draw.specs.Pictures.{stopped_picture}
+use Rattle.csq_draw.proofs.Imports.{grew_more, picture, stopped_picture}
 use Rattle.std.proofs.Common.{refl}
 use Rattle.csq_draw.proofs.Showing.{head_shown, stopped_same, stopped_shown}
 use Rattle.csq_draw.proofs.drawing.Drawing.draw_stop_as_svg.Goals as goal

@@ -1,7 +1,5 @@
 use Rattle.std.proofs.Common.{[], subst, sym, List}
-use Rattle.irp_core.specs.Runs.{Size}
-use Rattle.csq_draw.specs.declared.rows.Row.{Row}
-use Rattle.csq_draw.specs.Drawings.{Shows}
+use Rattle.csq_draw.proofs.Imports.{Size, Row, Shows}
 use Rattle.csq_draw.proofs.Showing.{shows_none}
 use Rattle.csq_draw.proofs.drawing.Drawing.new.Goals as goal
 

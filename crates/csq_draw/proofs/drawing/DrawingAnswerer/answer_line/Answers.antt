@@ -1,17 +1,9 @@
 use Rattle.std.proofs.Common.{ℕ, ◌<◌, ◌∷◌, [], ◌∙◌, Some, None, ap, sym, refl, subst, append-nil, arith, length}
-use Rattle.irp_core.specs.Runs.{Size, OfIrp}
-use Rattle.irp_core.specs.Steps.{number}
+use Rattle.csq_draw.proofs.Imports.{Size, OfIrp, number, Numbered, length-passes, caption_after, ended_caption, Format, DrawingStandsAfter, stopped_text, lock_of}
 use Rattle.csq_replay.specs.declared.schedule.outcome.Outcome.TheVariants.{Skipped, Accepted, Stopped}
-use Rattle.csq_replay.specs.Schedule.{Numbered}
 use Rattle.csq_explain.specs.declared.execution.Execution.{Execution}
 use Rattle.csq_explain.specs.Executions.{Follows}
-use Rattle.csq_explain.proofs.Following.{length-passes}
 use Rattle.csq_explain.proofs.Outcomes.{was_skipped, was_accepted, was_stopped}
-use Rattle.csq_draw.specs.Captions.{caption_after, ended_caption}
-use Rattle.csq_draw.specs.declared.format.Format.{Format}
-use Rattle.csq_draw.specs.Drawings.{DrawingStandsAfter}
-use Rattle.csq_draw.specs.Pictures.{stopped_text}
-use Rattle.csq_draw.specs.Passes.{lock_of}
 use Rattle.csq_draw.proofs.Growing.{grew_same}
 use Rattle.csq_draw.proofs.Showing.{owners_count, shows_more}
 use Rattle.csq_draw.proofs.drawing.DrawingAnswerer.answer_line.Goals as goal

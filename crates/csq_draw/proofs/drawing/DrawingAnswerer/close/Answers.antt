@@ -1,8 +1,6 @@
 use Rattle.std.proofs.Common.{List, ap, length, arith, refl}
-use Rattle.csq_explain.proofs.Following.{length-passes}
+use Rattle.csq_draw.proofs.Imports.{length-passes, Format, closed_text}
 use Rattle.csq_replay.specs.declared.schedule.closing.IrpLine.{IrpLine}
-use Rattle.csq_draw.specs.declared.format.Format.{Format}
-use Rattle.csq_draw.specs.Pictures.{closed_text}
 use Rattle.csq_draw.proofs.Growing.{grew_same}
 use Rattle.csq_draw.proofs.drawing.DrawingAnswerer.close.Goals as goal
 

@@ -1,0 +1,28 @@
+-- The names that several proof files of this crate import, each from its home.
+pub use Rattle.csq_draw.specs.Captions.{CaptionText, caption_after, ended_caption, escaped, escaped_byte, printable}
+pub use Rattle.csq_draw.specs.Drawings.{DrawingStandsAfter, NotesStep, Shows, owner_in, with_owner}
+pub use Rattle.csq_draw.specs.Elements.{element_text, elements_text, picture}
+pub use Rattle.csq_draw.specs.Owners.{ended_by, is_of_irp, owner, owner_after, owner_by, owner_named, owners}
+pub use Rattle.csq_draw.specs.Passes.{column_of, columns, lock_at, lock_of}
+pub use Rattle.csq_draw.specs.Pictures.{Drawn, DrawsClosing, DrawsLine, at_rest_element, closed_elements, closed_picture, closed_text, closing_elements, column_elements, drawn_after, drawn_text, each, first_elements, mark_element, new_drawn, number_element, open_elements, picture_head, refused_elements, row_elements, shown_elements, stopped_elements, stopped_picture, stopped_text}
+pub use Rattle.csq_draw.specs.Terminal.{closed_lines, each_text, in_width, irp_line_told, pass_cell, row_text, rows_text, spaces, stopped_lines}
+pub use Rattle.csq_draw.specs.declared.format.Format.{Format}
+pub use Rattle.csq_draw.specs.declared.owners.Owner.{Owner}
+pub use Rattle.csq_draw.specs.declared.rows.Row.{Row}
+pub use Rattle.csq_explain.proofs.Following.{inside_is, length-passes}
+pub use Rattle.csq_explain.proofs.Tables.{count-more, get-table, length-table, position-None, set-table, table-replicate, table-same}
+pub use Rattle.csq_explain.specs.Passes.{all_passes, new_pass_now, pass_after, pass_now}
+pub use Rattle.csq_explain.specs.Reasons.{reason_of, reason_text}
+pub use Rattle.csq_replay.proofs.Closings.{grew_more}
+pub use Rattle.csq_replay.specs.Lines.{GrewBy}
+pub use Rattle.csq_replay.specs.Schedule.{Numbered, run_of}
+pub use Rattle.irp_core.proofs.Names.{named, other_irp, same_id-eq, same_id-refl, same_irp-eq, same_irp-refl, same_pass-eq, same_pass-refl}
+pub use Rattle.irp_core.specs.Runs.{EachRunFrom, IsRun, OfIrp, Size}
+pub use Rattle.irp_core.specs.Steps.{by, name_of, number, same_id, same_irp, same_pass}
+pub use Rattle.irp_core.specs.declared.ids.IrpId.{IrpId}
+pub use Rattle.irp_core.specs.declared.ids.IrpLife.{IrpLife}
+pub use Rattle.irp_core.specs.declared.ids.PassId.{PassId}
+pub use Rattle.irp_core.specs.declared.step.Kind.{Kind}
+pub use Rattle.irp_core.specs.declared.step.Made.{Made}
+pub use Rattle.std.proofs.lemmas.List.{length-take-le, replicate-append-replicate, take_all, take_more}
+pub use Rattle.std.specs.Option.{option_map, option_map_or}
