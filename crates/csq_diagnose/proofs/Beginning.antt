@@ -1,34 +1,28 @@
 -- The beginnings that a line may have.
-use Rattle.std.proofs.Common.{◌≡◌, ℕ, List, [], ◌∷◌, refl, ap, sym, ◌∙◌, inl, inr, codes, subst}
+use Rattle.std.proofs.Common.{◌≡◌, ℕ, List, [], ◌∷◌, refl, ap, sym, ◌∙◌, inl, inr, codes, subst, rules}
 use Rattle.irp_core.specs.declared.step.Kind.{Kind}
 use Rattle.irp_core.specs.declared.step.Kind.TheVariants.{Arm, Test, Disarm, End, Flag, Take, Out, Done, Renew, Rearm}
 use Rattle.csq_list.specs.declared.entry.Place.TheVariants.{Back, Front}
 use Rattle.csq_list.specs.declared.entry.Peek.TheVariants.{Any, File as OfFile}
 use Rattle.irp_core.specs.declared.ids.IrpLife.{IrpLife}
-use Rattle.csq_replay.specs.Pieces.{IsNumber}
-use Rattle.csq_replay.specs.StepLine.{AreKindWords, IsNameWord}
+use Rattle.csq_diagnose.proofs.Imports.{IsNumber, Expected, IrpInLife, Irp, File, Peek, Place, Status, Admits, IsOneOf, Fit, named, operands, places_of, AreLineWords}
+use Rattle.csq_replay.specs.StepLine.{verb_of, AreKindWords, IsNameWord}
 use Rattle.csq_list.specs.declared.entry.Place.{Place as PlaceOf}
-use Rattle.csq_replay.specs.CallLine.{IsNamed, place_word}
+use Rattle.csq_replay.specs.CallLine.{call_name, AreOperands, IsNamed, place_word}
 use Rattle.csq_replay.specs.declared.script.call.Call.{Call as CallOf}
 use Rattle.csq_replay.specs.declared.script.call.Call.TheVariants as call
-use Rattle.csq_diagnose.specs.declared.expected.Expected.{Expected}
-use Rattle.csq_diagnose.specs.declared.expected.Expected.TheVariants.{IrpInLife, Irp, File, Peek, Place, Status}
+use Rattle.csq_explain.specs.Words.{step_words, call_words}
 use Rattle.csq_diagnose.specs.declared.grammar.Grammar.TheVariants.{Schedule, Script}
-use Rattle.csq_diagnose.specs.Expecting.{Admits, IsOneOf, step_words, call_words}
-use Rattle.csq_diagnose.specs.Grammars.{Fit, named, operands, places_of, AreLineWords}
+
+-- what a step does is one of the words
+is_step_word : (k : Kind) → IsOneOf step_words (verb_of k)
+is_step_word End = inr (inr (inr (inl refl)))
+is_step_word _ = search rules
 
 -- the words after the one that says what a step does fit
 kind_fits : (k : Kind) (rest : List (List ℕ)) → AreKindWords rest k → (verb : List ℕ) × (more : List (List ℕ)) × (rest ≡ verb ∷ more) × IsOneOf step_words verb × Fit (named verb) more
-kind_fits (Arm i) rest (names, is, (word, one, n)) = (codes "arm", names, is, inl refl, subst (λ ws. Fit (IrpInLife ∷ []) ws) (sym one) ((i, n), tt))
-kind_fits (Test i) rest (names, is, (word, one, n)) = (codes "test", names, is, inr (inl refl), subst (λ ws. Fit (IrpInLife ∷ []) ws) (sym one) ((i, n), tt))
-kind_fits (Disarm i) rest (names, is, (word, one, n)) = (codes "disarm", names, is, inr (inr (inl refl)), subst (λ ws. Fit (IrpInLife ∷ []) ws) (sym one) ((i, n), tt))
-kind_fits End rest (names, is, none) = (codes "end", names, is, inr (inr (inr (inl refl))), subst (λ ws. Fit [] ws) (sym none) tt)
-kind_fits (Flag i) rest (names, is, (word, one, n)) = (codes "flag", names, is, inr (inr (inr (inr (inl refl)))), subst (λ ws. Fit (IrpInLife ∷ []) ws) (sym one) ((i, n), tt))
-kind_fits (Take i) rest (names, is, (word, one, n)) = (codes "take", names, is, inr (inr (inr (inr (inr (inl refl))))), subst (λ ws. Fit (IrpInLife ∷ []) ws) (sym one) ((i, n), tt))
-kind_fits (Out i) rest (names, is, (word, one, n)) = (codes "out", names, is, inr (inr (inr (inr (inr (inr (inl refl)))))), subst (λ ws. Fit (IrpInLife ∷ []) ws) (sym one) ((i, n), tt))
-kind_fits (Done i) rest (names, is, (word, one, n)) = (codes "done", names, is, inr (inr (inr (inr (inr (inr (inr (inl refl))))))), subst (λ ws. Fit (IrpInLife ∷ []) ws) (sym one) ((i, n), tt))
-kind_fits (Renew i) rest (names, is, (word, one, n)) = (codes "renew", names, is, inr (inr (inr (inr (inr (inr (inr (inr (inl refl)))))))), subst (λ ws. Fit (IrpInLife ∷ []) ws) (sym one) ((i, n), tt))
-kind_fits (Rearm i) rest (names, is, (word, one, n)) = (codes "rearm", names, is, inr (inr (inr (inr (inr (inr (inr (inr (inr (inl refl))))))))), subst (λ ws. Fit (IrpInLife ∷ []) ws) (sym one) ((i, n), tt))
+kind_fits End rest (names, is, none) = (codes "end", names, is, is_step_word End, subst (λ ws. Fit [] ws) (sym none) tt)
+kind_fits k rest (names, is, (word, one, n)) = (verb_of k, names, is, is_step_word k, subst (λ ws. Fit (IrpInLife ∷ []) ws) (sym one) ((_, n), tt))
 
 -- words that fit one IRP name it
 one_irp : (more : List (List ℕ)) → Fit (IrpInLife ∷ []) more → (i : IrpLife) × (word : List ℕ) × (more ≡ word ∷ []) × IsNameWord word i
@@ -71,22 +65,22 @@ place_fits : (place : PlaceOf) → Admits Place (place_word place)
 place_fits Back = inl refl
 place_fits Front = inr (inl refl)
 
+-- the name of a call is one of the words
+is_call : (c : CallOf) → IsOneOf call_words (call_name c)
+is_call (call.Next k) = inr (inl refl)
+is_call _ = search rules
+
 -- the operands of a call fit
+operands_fit : (c : CallOf) (rest : List (List ℕ)) → AreOperands rest c → Fit (operands (call_name c)) rest
+operands_fit (call.Insert i f place) rest (irp, file, is, n, k) = subst (λ ws. Fit (Irp ∷ File ∷ Place ∷ []) ws) (sym is) ((i.0, n), ((f.0, k), (place_fits place, tt)))
+operands_fit (call.Next Any) rest is = subst (λ ws. Fit (Peek ∷ []) ws) (sym is) (inl refl, tt)
+operands_fit (call.Next (OfFile f)) rest (word, is, n) = subst (λ ws. Fit (Peek ∷ []) ws) (sym is) (inr (f.0, n), tt)
+operands_fit (call.Complete i status) rest (irp, digits, is, n, hex) = subst (λ ws. Fit (Irp ∷ Status ∷ []) ws) (sym is) ((i.0, n), ((status, hex), tt))
+operands_fit (call.PutBack i place) rest (irp, is, n) = subst (λ ws. Fit (Irp ∷ Place ∷ []) ws) (sym is) ((i.0, n), (place_fits place, tt))
+operands_fit c rest h = subst (λ ws. Fit (operands (call_name c)) ws) (sym h.1) ((_, h.2), tt)
+
 call_fits : (c : CallOf) (name : List ℕ) (rest : List (List ℕ)) → IsNamed name rest c → IsOneOf call_words name × Fit (operands name) rest
-call_fits (call.Insert i f place) name rest (e, (irp, file, is, n, k)) = subst (λ v. IsOneOf call_words v × Fit (operands v) rest) (sym e) (inl refl, subst (λ ws. Fit (Irp ∷ File ∷ Place ∷ []) ws) (sym is) ((i.0, n), ((f.0, k), (place_fits place, tt))))
-call_fits (call.Next Any) name rest (e, is) = subst (λ v. IsOneOf call_words v × Fit (operands v) rest) (sym e) (inr (inl refl), subst (λ ws. Fit (Peek ∷ []) ws) (sym is) (inl refl, tt))
-call_fits (call.Next (OfFile f)) name rest (e, (word, is, n)) = subst (λ v. IsOneOf call_words v × Fit (operands v) rest) (sym e) (inr (inl refl), subst (λ ws. Fit (Peek ∷ []) ws) (sym is) (inr (f.0, n), tt))
-call_fits (call.Remove i) name rest (e, (word, is, n)) = subst (λ v. IsOneOf call_words v × Fit (operands v) rest) (sym e) (inr (inr (inl refl)), subst (λ ws. Fit (IrpInLife ∷ []) ws) (sym is) ((i, n), tt))
-call_fits (call.Mark i) name rest (e, (word, is, n)) = subst (λ v. IsOneOf call_words v × Fit (operands v) rest) (sym e) (inr (inr (inr (inl refl))), subst (λ ws. Fit (IrpInLife ∷ []) ws) (sym is) ((i, n), tt))
-call_fits (call.Routine i) name rest (e, (word, is, n)) = subst (λ v. IsOneOf call_words v × Fit (operands v) rest) (sym e) (inr (inr (inr (inr (inl refl)))), subst (λ ws. Fit (Irp ∷ []) ws) (sym is) ((i.0, n), tt))
-call_fits (call.Cancel i) name rest (e, (word, is, n)) = subst (λ v. IsOneOf call_words v × Fit (operands v) rest) (sym e) (inr (inr (inr (inr (inr (inl refl))))), subst (λ ws. Fit (IrpInLife ∷ []) ws) (sym is) ((i, n), tt))
-call_fits (call.Complete i status) name rest (e, (irp, digits, is, n, hex)) = subst (λ v. IsOneOf call_words v × Fit (operands v) rest) (sym e) (inr (inr (inr (inr (inr (inr (inl refl)))))), subst (λ ws. Fit (Irp ∷ Status ∷ []) ws) (sym is) ((i.0, n), ((status, hex), tt)))
-call_fits (call.Close f) name rest (e, (word, is, n)) = subst (λ v. IsOneOf call_words v × Fit (operands v) rest) (sym e) (inr (inr (inr (inr (inr (inr (inr (inl refl))))))), subst (λ ws. Fit (File ∷ []) ws) (sym is) ((f.0, n), tt))
-call_fits (call.Cleanup f) name rest (e, (word, is, n)) = subst (λ v. IsOneOf call_words v × Fit (operands v) rest) (sym e) (inr (inr (inr (inr (inr (inr (inr (inr (inl refl)))))))), subst (λ ws. Fit (File ∷ []) ws) (sym is) ((f.0, n), tt))
-call_fits (call.Flag i) name rest (e, (word, is, n)) = subst (λ v. IsOneOf call_words v × Fit (operands v) rest) (sym e) (inr (inr (inr (inr (inr (inr (inr (inr (inr (inl refl))))))))), subst (λ ws. Fit (Irp ∷ []) ws) (sym is) ((i.0, n), tt))
-call_fits (call.Status i) name rest (e, (word, is, n)) = subst (λ v. IsOneOf call_words v × Fit (operands v) rest) (sym e) (inr (inr (inr (inr (inr (inr (inr (inr (inr (inr (inl refl)))))))))), subst (λ ws. Fit (Irp ∷ []) ws) (sym is) ((i.0, n), tt))
-call_fits (call.Reuse i) name rest (e, (word, is, n)) = subst (λ v. IsOneOf call_words v × Fit (operands v) rest) (sym e) (inr (inr (inr (inr (inr (inr (inr (inr (inr (inr (inr (inl refl))))))))))), subst (λ ws. Fit (Irp ∷ []) ws) (sym is) ((i.0, n), tt))
-call_fits (call.PutBack i place) name rest (e, (irp, is, n)) = subst (λ v. IsOneOf call_words v × Fit (operands v) rest) (sym e) (inr (inr (inr (inr (inr (inr (inr (inr (inr (inr (inr (inr (inl refl)))))))))))), subst (λ ws. Fit (Irp ∷ Place ∷ []) ws) (sym is) ((i.0, n), (place_fits place, tt)))
+call_fits c name rest (e, fits) = subst (λ v. IsOneOf call_words v × Fit (operands v) rest) (sym e) (is_call c, operands_fit c rest fits)
 
 -- words that fit one number name it
 one_number : (e : Expected) → ((w : List ℕ) → Admits e w → (n : ℕ) × IsNumber w n) → (rest : List (List ℕ)) → Fit (e ∷ []) rest → (n : ℕ) × (word : List ℕ) × (rest ≡ word ∷ []) × IsNumber word n

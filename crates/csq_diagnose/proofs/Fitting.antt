@@ -1,12 +1,7 @@
 -- Words that fit the places of a line.
 use Rattle.std.proofs.Common.{ℕ, zero, suc, ◌≤◌, Bool, true, false, List, [], ◌∷◌, ◌++◌, take, drop, length, map, refl, inl, inr, arith, rules, codes, decimal}
-use Rattle.std.specs.Prelude.{◌||◌, if◌then◌else◌}
-use Rattle.std.specs.Str.{bytes_eq}
 use Rattle.irp_core.specs.Texts.{irp_text, pass_text}
-use Rattle.csq_diagnose.specs.declared.expected.Expected.{Expected}
-use Rattle.csq_diagnose.specs.declared.expected.Expected.TheVariants.{Pass, Step, Call, IrpInLife, Irp, File, Peek, Place, Status, Nothing}
-use Rattle.csq_diagnose.specs.Expecting.{Admits}
-use Rattle.csq_diagnose.specs.Grammars.{Fit, expected_at, named, operands}
+use Rattle.csq_diagnose.proofs.Imports.{◌||◌, if◌then◌else◌, bytes_eq, Expected, Pass, Step, Call, IrpInLife, Irp, File, Peek, Place, Status, Nothing, Admits, Fit, expected_at, named, operands}
 
 -- a word that may stand there
 abbrev pub sample : Expected → List ℕ

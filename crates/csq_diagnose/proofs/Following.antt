@@ -1,15 +1,9 @@
 -- The words that may follow a beginning.
 use Rattle.std.proofs.Common.{ℕ, zero, suc, ◌≤◌, List, [], ◌∷◌, ◌++◌, take, drop, length, sym, arith, codes, subst, append_assoc}
-use Rattle.std.specs.Prelude.{◌↔◌, Option, Some, None, MatchOption}
-use Rattle.csq_replay.specs.Pieces.{words_of}
+use Rattle.csq_diagnose.proofs.Imports.{◌↔◌, Option, Some, None, MatchOption, words_of, IsFirstMisfit, IsMisfit, Expected, Pass, Irp, Admits, Fit, expected_at, named, operands, places_of, AreLineWords, MayBegin}
 use Rattle.csq_diagnose.specs.declared.misfit.Misfit.{Misfit}
-use Rattle.csq_diagnose.specs.Misfits.{IsFirstMisfit, IsMisfit}
-use Rattle.csq_diagnose.specs.declared.expected.Expected.{Expected}
-use Rattle.csq_diagnose.specs.declared.expected.Expected.TheVariants.{Pass, Irp}
 use Rattle.csq_diagnose.specs.declared.grammar.Grammar.{Grammar}
 use Rattle.csq_diagnose.specs.declared.grammar.Grammar.TheVariants.{Schedule, Script}
-use Rattle.csq_diagnose.specs.Expecting.{Admits}
-use Rattle.csq_diagnose.specs.Grammars.{Fit, expected_at, named, operands, places_of, AreLineWords, MayBegin}
 use Rattle.csq_diagnose.proofs.Fitting.{sample, pass_sample, step_sample, call_sample, irp_sample, samples, AreFillable, fillable_named, fillable_operands, fillable_drop, fit_samples, fit_append, fit_at, fit_from}
 use Rattle.csq_diagnose.proofs.Beginning.{step_fits, fits_step, call_line_fits, fits_call}
 

@@ -1,3 +1,4 @@
+pub mod Imports
 mod Fitting
 mod Beginning
 mod Following

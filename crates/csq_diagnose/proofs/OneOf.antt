@@ -1,11 +1,7 @@
 -- Words that are one of a list, and words that are read.
 use Rattle.std.proofs.Common.{◌≡◌, Bool, true, false, ℕ, List, [], ◌∷◌, map, inl, inr, refl, sym, Option, Some, None}
-use Rattle.std.specs.Prelude.{◌↔◌, ◌⊎◌, ◌||◌, IsTrue, is_some, MatchOption}
-use Rattle.std.specs.Borrow.{Bor}
-use Rattle.std.specs.List.{list_any}
-use Rattle.std.specs.Str.{bytes_eq}
 use Rattle.std.proofs.lemmas.Slice.Eq.{bytes_eq-Decides}
-use Rattle.csq_diagnose.specs.Expecting.{IsOneOf}
+use Rattle.csq_diagnose.proofs.Imports.{◌↔◌, ◌⊎◌, ◌||◌, IsTrue, is_some, MatchOption, Bor, list_any, bytes_eq, IsOneOf}
 
 -- the words that the references show
 abbrev pub shown : List (Bor (List ℕ)) → List (List ℕ)
@@ -39,7 +35,3 @@ one_of (x ∷ xs) w = let h = one_of xs w in one_more x.now w _ _ h.0 h.1
 pub is_read : {T : Type 0} (o : Option T) (P : T → Type 0) → MatchOption o ((t : T) → ¬ P t) P → IsTrue (is_some o) ↔ ((t : T) × P t)
 is_read (Some t) P h = (λ _. (t, h), λ _. refl)
 is_read None P h = (λ e. absurd cc, λ p. absurd (h p.0 p.1))
-
--- the same of its result
-pub one_of_test : (b : Bool) (words : List (Bor (List ℕ))) (w : List ℕ) → b ≡ list_any (λ (one : Bor (List ℕ)). bytes_eq one.now w) words → IsTrue b ↔ IsOneOf (shown words) w
-one_of_test b words w e = rw e (one_of words w)

@@ -1,9 +1,7 @@
 -- Bytes that are printed.
 use Rattle.std.proofs.Common.{◌≡◌, ℕ, zero, suc, ◌<◌, ◌≤◌, Bool, true, false, cond, List, [], ◌∷◌, length, get_or, refl, arith, Some, None, ltb, ltb-false}
-use Rattle.std.specs.Prelude.{position, not, slice_get, slice_index_or}
+use Rattle.csq_diagnose.proofs.Imports.{position, not, slice_get, slice_index_or, position_or_len, IsUtf8}
 use Rattle.std.specs.Char.{is_ascii_graphic}
-use Rattle.std.specs.List.{position_or_len}
-use Rattle.std.specs.Str.{IsUtf8}
 use Rattle.std.proofs.lemmas.List.Sums.{fails_before_first}
 use Rattle.std.proofs.lemmas.Str.{IsUtf8-from_ascii}
 use Rattle.std.proofs.lemmas.Str.Ascii.{IsAscii-from_all}

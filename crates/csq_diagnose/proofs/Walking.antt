@@ -1,17 +1,10 @@
 -- The words of a line, one after the other.
 use Rattle.std.proofs.Common.{◌≡◌, ℕ, zero, suc, ◌+◌, ◌-◌, ◌<◌, ◌≤◌, ◌^◌, Bool, true, false, List, [], ◌∷◌, take, drop, length, refl, ap, sym, ◌∙◌, subst, arith, Option, Some, None, add-one, length-append}
-use Rattle.std.specs.Prelude.{slice_get, slice_index_or, is_some, is_none, not, IfSome, IfNone, MatchOption, ◌==◌}
-use Rattle.std.specs.Borrow.{Bor}
-use Rattle.std.specs.List.{join_with_byte}
 use Rattle.std.specs.Option.{option_map, option_map_or}
 use Rattle.std.proofs.lemmas.List.{take_all}
 use Rattle.std.proofs.lemmas.List.Splits.{length-slice_split, join_with_byte-slice_split}
-use Rattle.csq_replay.specs.Pieces.{words_of}
-use Rattle.csq_diagnose.specs.declared.expected.Expected.{Expected}
+use Rattle.csq_diagnose.proofs.Imports.{slice_get, slice_index_or, is_some, is_none, not, IfSome, IfNone, MatchOption, ◌==◌, Bor, join_with_byte, words_of, Expected, Admits, Fit, expected_at, StandsThere, IsEnd, IsFirstMisfit, column_of}
 use Rattle.csq_diagnose.specs.declared.misfit.Misfit.{Misfit}
-use Rattle.csq_diagnose.specs.Expecting.{Admits}
-use Rattle.csq_diagnose.specs.Grammars.{Fit, expected_at}
-use Rattle.csq_diagnose.specs.Misfits.{StandsThere, IsEnd, IsFirstMisfit, column_of}
 
 -- one word more fits
 fit_suc : (n : ℕ) (es : List Expected) (ws : List (List ℕ)) (w : List ℕ) → Fit (take n es) (take n ws) → n < length es → slice_get ws n ≡ Some w → Admits (expected_at es n) w → Fit (take (suc n) es) (take (suc n) ws)

@@ -1,5 +1,5 @@
 -- What may stand in a place of a line.
-use Rattle.std.specs.Prelude.{◌≡◌, ◌⊎◌, ℕ, Bool, List, [], ◌∷◌, codes}
+use Rattle.std.specs.Prelude.{◌≡◌, ◌⊎◌, ℕ, Bool, List, [], ◌∷◌, codes, map}
 use Rattle.std.specs.List.{list_any}
 use Rattle.std.specs.Str.{bytes_eq}
 use Rattle.irp_core.specs.declared.ids.PassId.{PassId}
@@ -8,16 +8,10 @@ use Rattle.irp_core.specs.declared.status.NtStatus.{NtStatus}
 use Rattle.csq_replay.specs.Pieces.{IsNumber}
 use Rattle.csq_replay.specs.StepLine.{IsPassWord, IsNameWord}
 use Rattle.csq_replay.specs.CallLine.{IsHexStatus}
+use Rattle.csq_explain.specs.Words.{step_words, call_words}
+use Rattle.csq_diagnose.specs.declared.expected.TheConstants.{PLACES}
 use Rattle.csq_diagnose.specs.declared.expected.Expected.{Expected}
 use Rattle.csq_diagnose.specs.declared.expected.Expected.TheVariants.{Pass, Step, Call, IrpInLife, Irp, File, Peek, Place, Status, Nothing}
-
--- the words that begin a step, behind its pass
-abbrev pub step_words : List (List ℕ)
-step_words = codes "arm" ∷ codes "test" ∷ codes "disarm" ∷ codes "end" ∷ codes "flag" ∷ codes "take" ∷ codes "out" ∷ codes "done" ∷ codes "renew" ∷ codes "rearm" ∷ []
-
--- the words that begin a call
-abbrev pub call_words : List (List ℕ)
-call_words = codes "insert" ∷ codes "next" ∷ codes "remove" ∷ codes "mark" ∷ codes "routine" ∷ codes "cancel" ∷ codes "complete" ∷ codes "close" ∷ codes "cleanup" ∷ codes "flag" ∷ codes "status" ∷ codes "reuse" ∷ codes "put_back" ∷ []
 
 -- whether a word begins a call
 abbrev pub is_call_word : List ℕ → Bool
@@ -25,7 +19,7 @@ is_call_word word = list_any (λ one. bytes_eq one word) call_words
 
 -- where an insert or a put-back puts its IRP
 abbrev pub place_words : List (List ℕ)
-place_words = codes "back" ∷ codes "front" ∷ []
+place_words = map (λ word. word.now) PLACES
 
 -- the words that may stand there, where they can be listed
 abbrev pub expected_words : Expected → List (List ℕ)

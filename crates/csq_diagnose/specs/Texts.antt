@@ -1,8 +1,9 @@
 -- Diagnoses in words.
 use Rattle.std.specs.Prelude.{ℕ, ◌==◌, ◌&&◌, nat_le, Bool, false, List, [], ◌∷◌, ◌++◌, codes, decimal, Option, Some, None, if◌then◌else◌}
+use Rattle.csq_explain.specs.Words.{step_words, call_words, listed}
 use Rattle.csq_diagnose.specs.declared.expected.Expected.{Expected}
 use Rattle.csq_diagnose.specs.declared.expected.Expected.TheVariants.{Pass, Step, Call, IrpInLife, Irp, File, Peek, Place, Status, Nothing}
-use Rattle.csq_diagnose.specs.Expecting.{is_call_word}
+use Rattle.csq_diagnose.specs.Expecting.{is_call_word, place_words}
 use Rattle.csq_diagnose.specs.declared.found.Found.{Found}
 use Rattle.csq_diagnose.specs.declared.found.Found.TheVariants.{End, FirstSpace, TwoSpaces, LastSpace, Byte, Word}
 use Rattle.csq_diagnose.specs.declared.malformed.Malformed.{Malformed}
@@ -24,13 +25,13 @@ noun_text Nothing = codes "end"
 -- which words are expected
 abbrev pub rule_text : Expected → List ℕ
 rule_text Pass = codes "a pass is the letter p and its number, as p1"
-rule_text Step = codes "a step is arm, test, disarm, end, flag, take, out, done, renew or rearm"
-rule_text Call = codes "a call is insert, next, remove, mark, routine, cancel, complete, close,\n  cleanup, flag, status, reuse or put_back"
+rule_text Step = codes "a step is " ++ listed 0 step_words
+rule_text Call = codes "a call is " ++ listed 8 call_words
 rule_text IrpInLife = codes "an IRP is its number, as 0, or in its life 1 as 0@1"
 rule_text Irp = codes "an IRP is its number, as 0"
 rule_text File = codes "a file object is its number, as 0"
 rule_text Peek = codes "a file object is its number, as 0, and any is *"
-rule_text Place = codes "a place is back or front"
+rule_text Place = codes "a place is " ++ listed 0 place_words
 rule_text Status = codes "a status is eight hexadecimal digits, as C0000120"
 rule_text Nothing = codes "the line may end before it"
 

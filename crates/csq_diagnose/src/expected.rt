@@ -4,6 +4,7 @@ ghost use Rattle.std.specs.List.{list_any};
 ghost use Rattle.std.specs.Str.{bytes_eq};
 ghost use Rattle.csq_diagnose.specs.Expecting.{Admits, IsOneOf, expected_words, is_call_word};
 
+use csq_explain::{CALLS, STEPS};
 use csq_replay::{parse_name, parse_number, parse_pass, parse_status};
 
 /// What may stand in a place of a line. Own rule.
@@ -31,21 +32,8 @@ pub enum Expected {
     Nothing,
 }
 
-// The words that begin a step, behind its pass.
-const STEPS: [&str; 10] = [
-    "arm", "test", "disarm", "end", "flag", "take", "out", "done", "renew", "rearm",
-];
-
-// The words that begin a call.
-const CALLS: [&str; 13] = [
-    "insert", "next", "remove", "mark", "routine", "cancel", "complete", "close", "cleanup",
-    "flag", "status", "reuse", "put_back",
-];
-
 // Where an insert or a put-back puts its IRP.
 const PLACES: [&str; 2] = ["back", "front"];
-
-const NO_WORDS: [&str; 0] = [];
 
 /// The test for one of these words, by their bytes.
 fn has_word(words: &[&str], word: &[u8]) -> bool
@@ -77,7 +65,7 @@ impl Expected {
             Expected::Step => &STEPS,
             Expected::Call => &CALLS,
             Expected::Place => &PLACES,
-            _ => &NO_WORDS,
+            _ => &[],
         }
     }
 

@@ -16,24 +16,6 @@ pub enum Grammar {
     Script,
 }
 
-const END: [Expected; 2] = [Pass, Step];
-
-const STEP: [Expected; 3] = [Pass, Step, IrpInLife];
-
-const INSERT: [Expected; 4] = [Call, Irp, File, Place];
-
-const NEXT: [Expected; 2] = [Call, Peek];
-
-const OF_LIFE: [Expected; 2] = [Call, IrpInLife];
-
-const COMPLETE: [Expected; 3] = [Call, Irp, Status];
-
-const PUT_BACK: [Expected; 3] = [Call, Irp, Place];
-
-const OF_FILE: [Expected; 2] = [Call, File];
-
-const OF_IRP: [Expected; 2] = [Call, Irp];
-
 /// The first word of a line.
 fn first_word(line: &[u8]) -> &[u8]
     ensures { result.now ≡ first_word (words_of line.now) }
@@ -55,10 +37,9 @@ fn second_word(line: &[u8]) -> &[u8]
 fn step_places(verb: &[u8]) -> &'static [Expected]
     ensures { result.now ≡ step_places verb.now }
 {
-    if verb == b"end".as_slice() {
-        &END
-    } else {
-        &STEP
+    match verb {
+        b"end" => &[Pass, Step],
+        _ => &[Pass, Step, IrpInLife],
     }
 }
 
@@ -67,24 +48,24 @@ fn call_places(name: &[u8]) -> &'static [Expected]
     ensures { result.now ≡ call_places name.now }
 {
     if name == b"insert".as_slice() {
-        return &INSERT;
+        return &[Call, Irp, File, Place];
     }
     if name == b"next".as_slice() {
-        return &NEXT;
+        return &[Call, Peek];
     }
     if name == b"complete".as_slice() {
-        return &COMPLETE;
+        return &[Call, Irp, Status];
     }
     if name == b"put_back".as_slice() {
-        return &PUT_BACK;
+        return &[Call, Irp, Place];
     }
     if name == b"remove".as_slice() || name == b"mark".as_slice() || name == b"cancel".as_slice() {
-        return &OF_LIFE;
+        return &[Call, IrpInLife];
     }
     if name == b"close".as_slice() || name == b"cleanup".as_slice() {
-        return &OF_FILE;
+        return &[Call, File];
     }
-    &OF_IRP
+    &[Call, Irp]
 }
 
 impl Grammar {

@@ -1,6 +1,6 @@
 //! Diagnoses of lines that name no step, or no call, in words.
 ghost use Rattle.std.specs.Prelude.{◌≡◌};
-ghost use Rattle.csq_diagnose.specs.Texts.{begins_a_step};
+ghost use Rattle.csq_diagnose.specs.Texts.{begins_a_step, noun_text, other_input_text, rule_text};
 
 use crate::expected::{Expected, is_call_word};
 use crate::found::Found;
@@ -8,62 +8,40 @@ use crate::malformed::Malformed;
 use crate::nearest::Near;
 use std::fmt;
 
-/// What is expected, as a noun.
-#[derive(Clone, Copy)]
-struct Noun(Expected);
-
-/// As `step`.
-impl fmt::Display for Noun {
-    ghost use Rattle.std.specs.Prelude.{Some};
-    ghost use Rattle.csq_diagnose.specs.Texts.{noun_text};
-
-    ghost output = { λ noun. Some (noun_text noun.0) };
-
-    fn fmt<W: fmt::Write>(&self, f: &mut fmt::Formatter<W>) -> fmt::Result {
-        match self.0 {
-            Expected::Pass => write!(f, "pass"),
-            Expected::Step => write!(f, "step"),
-            Expected::Call => write!(f, "call"),
-            Expected::IrpInLife | Expected::Irp => write!(f, "IRP"),
-            Expected::File => write!(f, "file object"),
-            Expected::Peek => write!(f, "file object or *"),
-            Expected::Place => write!(f, "place"),
-            Expected::Status => write!(f, "status"),
-            Expected::Nothing => write!(f, "end"),
-        }
+/// What is expected, as `step`.
+fn noun(expected: Expected) -> &'static str
+    ensures { result.now ≡ noun_text expected }
+{
+    match expected {
+        Expected::Pass => "pass",
+        Expected::Step => "step",
+        Expected::Call => "call",
+        Expected::IrpInLife | Expected::Irp => "IRP",
+        Expected::File => "file object",
+        Expected::Peek => "file object or *",
+        Expected::Place => "place",
+        Expected::Status => "status",
+        Expected::Nothing => "end",
     }
 }
 
-/// Which words are expected.
-#[derive(Clone, Copy)]
-struct Rule(Expected);
-
-/// As `a place is back or front`.
-impl fmt::Display for Rule {
-    ghost use Rattle.std.specs.Prelude.{Some};
-    ghost use Rattle.csq_diagnose.specs.Texts.{rule_text};
-
-    ghost output = { λ rule. Some (rule_text rule.0) };
-
-    fn fmt<W: fmt::Write>(&self, f: &mut fmt::Formatter<W>) -> fmt::Result {
-        match self.0 {
-            Expected::Pass => write!(f, "a pass is the letter p and its number, as p1"),
-            Expected::Step => write!(
-                f,
-                "a step is arm, test, disarm, end, flag, take, out, done, renew or rearm"
-            ),
-            Expected::Call => write!(
-                f,
-                "a call is insert, next, remove, mark, routine, cancel, complete, close,\n  cleanup, flag, status, reuse or put_back"
-            ),
-            Expected::IrpInLife => write!(f, "an IRP is its number, as 0, or in its life 1 as 0@1"),
-            Expected::Irp => write!(f, "an IRP is its number, as 0"),
-            Expected::File => write!(f, "a file object is its number, as 0"),
-            Expected::Peek => write!(f, "a file object is its number, as 0, and any is *"),
-            Expected::Place => write!(f, "a place is back or front"),
-            Expected::Status => write!(f, "a status is eight hexadecimal digits, as C0000120"),
-            Expected::Nothing => write!(f, "the line may end before it"),
+/// Which words are expected, as `a place is back or front`.
+fn rule(expected: Expected) -> &'static str
+    ensures { result.now ≡ rule_text expected }
+{
+    match expected {
+        Expected::Pass => "a pass is the letter p and its number, as p1",
+        Expected::Step => "a step is arm, test, disarm, end, flag, take, out, done, renew or rearm",
+        Expected::Call => {
+            "a call is insert, next, remove, mark, routine, cancel, complete, close,\n  cleanup, flag, status, reuse or put_back"
         }
+        Expected::IrpInLife => "an IRP is its number, as 0, or in its life 1 as 0@1",
+        Expected::Irp => "an IRP is its number, as 0",
+        Expected::File => "a file object is its number, as 0",
+        Expected::Peek => "a file object is its number, as 0, and any is *",
+        Expected::Place => "a place is back or front",
+        Expected::Status => "a status is eight hexadecimal digits, as C0000120",
+        Expected::Nothing => "the line may end before it",
     }
 }
 
@@ -118,7 +96,7 @@ impl fmt::Display for Misplaced<'_> {
     ghost output = { λ misplaced. Some (misplaced_text misplaced.word.now misplaced.expected) };
 
     fn fmt<W: fmt::Write>(&self, f: &mut fmt::Formatter<W>) -> fmt::Result {
-        let (word, noun) = (self.word, Noun(self.expected));
+        let (word, noun) = (self.word, noun(self.expected));
         match self.expected {
             Expected::Nothing if word.as_bytes().first() == Some(&b'#') => {
                 write!(f, "a comment stands on a line of its own")
@@ -146,10 +124,9 @@ impl fmt::Display for Hint {
     fn fmt<W: fmt::Write>(&self, f: &mut fmt::Formatter<W>) -> fmt::Result {
         match self.0 {
             Some(near) if near.edits <= MOST_EDITS => {
-                let word = near.word;
-                write!(f, "; did you mean \"{word}\"?")
+                write!(f, "; did you mean \"{}\"?", near.word)
             }
-            _ => write!(f, ""),
+            _ => Ok(()),
         }
     }
 }
@@ -164,31 +141,19 @@ fn begins_a_step(word: &[u8]) -> bool
     }
 }
 
-/// Which command reads a line that begins with this word, where it isn't the one that was given.
-#[derive(Clone, Copy)]
-struct OtherInput<'a> {
-    word: &'a str,
-    expected: Expected,
-}
-
-/// As a further line, `a script has calls: csqsim script reads it`, or nothing.
-impl fmt::Display for OtherInput<'_> {
-    ghost use Rattle.std.specs.Prelude.{Some};
-    ghost use Rattle.csq_diagnose.specs.Texts.{other_input_text};
-
-    ghost output = { λ line. Some (other_input_text line.expected line.word.now) };
-
-    fn fmt<W: fmt::Write>(&self, f: &mut fmt::Formatter<W>) -> fmt::Result {
-        let word = self.word.as_bytes();
-        match self.expected {
-            Expected::Pass if is_call_word(word) => {
-                write!(f, "\n  a script has calls: csqsim script reads it")
-            }
-            Expected::Call if begins_a_step(word) => {
-                write!(f, "\n  a schedule has steps: csqsim schedule reads it")
-            }
-            _ => write!(f, ""),
+/// Which command reads a line that begins with this word, where it isn't the one that was given: a further
+/// line, as `a script has calls: csqsim script reads it`, or nothing.
+fn other_input(expected: Expected, word: &str) -> &'static str
+    ensures { result.now ≡ other_input_text expected word.now }
+{
+    match expected {
+        Expected::Pass if is_call_word(word.as_bytes()) => {
+            "\n  a script has calls: csqsim script reads it"
         }
+        Expected::Call if begins_a_step(word.as_bytes()) => {
+            "\n  a schedule has steps: csqsim schedule reads it"
+        }
+        _ => "",
     }
 }
 
@@ -201,7 +166,7 @@ impl fmt::Display for Malformed<'_> {
 
     fn fmt<W: fmt::Write>(&self, f: &mut fmt::Formatter<W>) -> fmt::Result {
         let expected = self.expected;
-        let (noun, rule, hint) = (Noun(expected), Rule(expected), Hint(self.near));
+        let (noun, rule, hint) = (noun(expected), rule(expected), Hint(self.near));
         match self.found {
             Found::End => write!(f, "the line ends before its {noun}\n  {rule}"),
             Found::FirstSpace => write!(f, "a space begins the line"),
@@ -209,8 +174,11 @@ impl fmt::Display for Malformed<'_> {
             Found::LastSpace => write!(f, "a space ends the line"),
             Found::Byte(byte) => write!(f, "{}", Strange(byte)),
             Found::Word(word) => {
-                let other = OtherInput { word, expected };
-                write!(f, "{}{hint}\n  {rule}{other}", Misplaced { word, expected })
+                let (misplaced, other) = (
+                    Misplaced { word, expected },
+                    other_input(expected, word),
+                );
+                write!(f, "{misplaced}{hint}\n  {rule}{other}")
             }
         }
     }

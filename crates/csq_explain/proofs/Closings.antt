@@ -1,17 +1,12 @@
 -- The closing lines of an explanation.
 use Rattle.std.proofs.Common.{◌≡◌, ℕ, ◌+◌, ◌<◌, ◌≤◌, ◌⊎◌, inl, inr, List, [], ◌∷◌, ◌++◌, take, length, get_or, append_assoc, append-nil, refl, ap, sym, ◌∙◌, codes}
 use Rattle.std.proofs.lemmas.List.{take_all, take_more}
-use Rattle.csq_replay.specs.declared.schedule.closing.IrpLine.{IrpLine}
+use Rattle.csq_explain.proofs.Imports.{IrpLine, irp_line_text, grew_more, remark, explained_irps, claim_remark, Made, same_irp-refl}
 use Rattle.csq_replay.specs.Lines.{GrewBy}
-use Rattle.csq_replay.specs.Schedule.{irp_line_text}
-use Rattle.csq_replay.proofs.Closings.{grew_more}
 use Rattle.csq_explain.specs.Endings.{irp_sentence}
-use Rattle.csq_explain.specs.Explaining.{remark, explained_irps, claim_remark}
 use Rattle.irp_core.specs.declared.ids.IrpLife.{IrpLife}
 use Rattle.irp_core.specs.declared.step.Kind.TheVariants.{Disarm, Take}
-use Rattle.irp_core.specs.declared.step.Made.{Made}
 use Rattle.irp_core.specs.Texts.{name_text, pass_text}
-use Rattle.irp_core.proofs.Names.{same_irp-refl}
 
 explained-append : (xs ys : List IrpLine) → explained_irps (xs ++ ys) ≡ explained_irps xs ++ explained_irps ys
 explained-append [] ys = refl

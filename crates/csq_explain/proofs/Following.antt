@@ -2,17 +2,11 @@
 use Rattle.std.proofs.Common.{◌≡◌, ℕ, ◌+◌, ◌<◌, ◌≤◌, Bool, true, false, cond, List, [], ◌∷◌, length, get_or, set, replicate, Option, refl, ap, sym, ◌∙◌, arith}
 use Rattle.irp_core.specs.declared.inside.Inside.{Inside}
 use Rattle.irp_core.specs.declared.ids.PassId.{PassId}
-use Rattle.irp_core.specs.declared.step.Made.{Made}
+use Rattle.csq_explain.proofs.Imports.{Made, Size, same_pass-refl, same_pass-eq, Numbered, run_of, StepInCall, new_pass_now, pass_after, pass_now, passes_now, all_passes, status_at, in_call}
 use Rattle.irp_core.specs.declared.status.NtStatus.{NtStatus}
 use Rattle.irp_core.specs.Inside.{inside, inside_after}
-use Rattle.irp_core.specs.Runs.{Size}
 use Rattle.irp_core.specs.Steps.{same_pass, by}
-use Rattle.irp_core.proofs.Names.{same_pass-refl, same_pass-eq}
-use Rattle.csq_replay.specs.Schedule.{Numbered, run_of}
 use Rattle.csq_explain.specs.declared.passes.PassNow.{PassNow}
-use Rattle.csq_explain.specs.declared.sentences.StepInCall.{StepInCall}
-use Rattle.csq_explain.specs.Passes.{new_pass_now, pass_after, pass_now, passes_now, all_passes}
-use Rattle.csq_explain.specs.Sentences.{status_at, in_call}
 use Rattle.csq_explain.proofs.Tables.{length-table, table-replicate, get-table, set-table}
 
 pub length-passes : (size : Size) (W : List Numbered) → length (all_passes size W) ≡ size.passes + 1

@@ -1,3 +1,4 @@
+pub mod Imports
 pub mod Tables
 pub mod Following
 pub mod Statuses

@@ -1,12 +1,9 @@
 -- A schedule has one explanation.
 use Rattle.std.proofs.Common.{◌≡◌, ℕ, Bool, cond, List, [], ◌++◌, ap, sym, ◌∙◌}
-use Rattle.irp_core.specs.Runs.{Size, IsRun}
+use Rattle.csq_explain.proofs.Imports.{Size, IsRun, IrpLine, Numbered, run_of, explained_text, explained_irps, explained_rest, explained_claims, ExplainsLine, IsExplainedClosing}
 use Rattle.irp_core.proofs.Growing.{run_none}
-use Rattle.csq_replay.specs.declared.schedule.closing.IrpLine.{IrpLine}
-use Rattle.csq_replay.specs.Schedule.{Numbered, run_of}
 use Rattle.csq_replay.proofs.Answering.{one_input_answer}
 use Rattle.csq_replay.proofs.OneAnswer.{one_close, one_line, run_on}
-use Rattle.csq_explain.specs.Explaining.{explained_text, explained_irps, explained_rest, explained_claims, ExplainsLine, IsExplainedClosing}
 use Rattle.csq_explain.specs.Laws.{HasOneExplanation}
 
 one_closing : (size : Size) (claims : Bool) (W : List Numbered) → IsRun size (run_of W) → (t u : List ℕ) → IsExplainedClosing size claims W t → IsExplainedClosing size claims W u → t ≡ u

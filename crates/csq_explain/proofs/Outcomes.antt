@@ -1,19 +1,11 @@
 -- What came of a line, by what is told of it.
 use Rattle.std.proofs.Common.{◌≡◌, ℕ, List, ◌∷◌, ap, sym, subst}
-use Rattle.irp_core.specs.declared.step.Made.{Made}
-use Rattle.irp_core.specs.Runs.{Size}
-use Rattle.csq_replay.specs.declared.schedule.outcome.Outcome.TheVariants.{Skipped, Accepted, Stopped}
+use Rattle.csq_explain.proofs.Imports.{Made, Size, Skipped, Accepted, Stopped, Numbered, run_of, StepInCall, Follows, Explains, all_passes, reason_of, in_call}
 use Rattle.csq_replay.specs.declared.schedule.outcome.Stop.{Stop}
 use Rattle.csq_replay.specs.Outcomes.{ComesTo}
-use Rattle.csq_replay.specs.Schedule.{Numbered, run_of}
 use Rattle.csq_explain.specs.declared.execution.Execution.{Execution}
 use Rattle.csq_explain.specs.declared.execution.Explained.TheVariants as explained
 use Rattle.csq_explain.specs.declared.reasons.Reason.{Reason}
-use Rattle.csq_explain.specs.declared.sentences.StepInCall.{StepInCall}
-use Rattle.csq_explain.specs.Executions.{Follows, Explains}
-use Rattle.csq_explain.specs.Passes.{all_passes}
-use Rattle.csq_explain.specs.Reasons.{reason_of}
-use Rattle.csq_explain.specs.Sentences.{in_call}
 
 module _ {A : Type 0} (size : Size) (W : List Numbered) (n : ℕ) (line : List ℕ) (new : Execution A) where
   -- it was skipped, and the execution stays

@@ -6,17 +6,13 @@ use Rattle.irp_core.specs.declared.standing.IrpPlace.{IrpPlace}
 use Rattle.irp_core.specs.declared.standing.IrpPlace.TheVariants.{Completed}
 use Rattle.irp_core.specs.declared.status.NtStatus.{NtStatus}
 use Rattle.irp_core.specs.declared.step.Kind.{Kind}
-use Rattle.irp_core.specs.declared.step.Kind.TheVariants.{Arm, Test, Disarm, End, Flag, Take, Out, Done, Renew, Rearm}
-use Rattle.irp_core.specs.declared.step.Made.{Made}
+use Rattle.irp_core.specs.declared.step.Kind.TheVariants.{Done}
+use Rattle.csq_explain.proofs.Imports.{Made, Size, IsRun, named, same_irp-refl, same_pass-refl, status_of_place, IsStatusAfter, status_at}
 use Rattle.irp_core.specs.Completion.{completed_by, removed, status_due, IsPlace}
 use Rattle.irp_core.specs.Lives.{present}
-use Rattle.irp_core.specs.Runs.{Size, IsRun}
 use Rattle.irp_core.proofs.Growing.{run_less}
 use Rattle.irp_core.proofs.Lives.{held_present, life_same}
-use Rattle.irp_core.proofs.Names.{named, same_irp-refl, same_pass-refl}
 use Rattle.csq_replay.proofs.OneAnswer.{one_place}
-use Rattle.csq_explain.specs.Executions.{status_of_place, IsStatusAfter}
-use Rattle.csq_explain.specs.Sentences.{status_at}
 
 module _ (size : Size) (p : PassId) (v : ℕ) (E : List Made) where
   abbrev step : Kind → Made
@@ -32,13 +28,5 @@ module _ (size : Size) (p : PassId) (v : ℕ) (E : List Made) where
       ap status_of_place (one_place size (step (Done i) ∷ E) r i place (Completed (status_due (removed (step (Done i) ∷ E) i)) p) (subst P (sym now) is) (mine, refl))
 
   pub status_is : (k : Kind) → IsRun size (step k ∷ E) → (status : Option NtStatus) → IsStatusAfter size (step k ∷ E) k status → status ≡ status_at E k
-  status_is (Arm i) r status h = h
-  status_is (Test i) r status h = h
-  status_is (Disarm i) r status h = h
-  status_is End r status h = h
-  status_is (Flag i) r status h = h
-  status_is (Take i) r status h = h
-  status_is (Out i) r status h = h
   status_is (Done i) r status (place, is, e) = e ∙ done_place i r place is
-  status_is (Renew i) r status h = h
-  status_is (Rearm i) r status h = h
+  status_is _ r status h = h

@@ -1,15 +1,13 @@
 -- What a call of a script did, or why it was refused, in the words of the WDK.
-use Rattle.std.specs.Prelude.{ℕ, nat_le, Bool, true, false, List, [], ◌++◌, codes, decimal, Option, Some, None, if◌then◌else◌}
+use Rattle.std.specs.Prelude.{ℕ, nat_le, true, false, List, [], ◌++◌, codes, decimal, Option, Some, None, if◌then◌else◌}
 use Rattle.irp_core.specs.declared.ids.FileId.{FileId}
-use Rattle.irp_core.specs.declared.ids.IrpLife.{IrpLife}
+use Rattle.irp_core.specs.declared.status.NtStatus.{NtStatus}
 use Rattle.irp_core.specs.Texts.{irp_text, name_text, life_text}
 use Rattle.csq_list.specs.declared.entry.Place.TheVariants.{Back, Front}
 use Rattle.csq_list.specs.declared.entry.Peek.TheVariants.{File}
-use Rattle.csq_list.specs.declared.refusals.InsertStatus.{InsertStatus}
 use Rattle.csq_list.specs.declared.refusals.InsertStatus.TheVariants as insert
 use Rattle.csq_replay.specs.declared.script.call.Call.{Call}
 use Rattle.csq_replay.specs.declared.script.call.Call.TheVariants.{Insert, Next, Remove, Mark, Routine, Cancel, Complete, Close, Cleanup, Flag, Status, Reuse, PutBack}
-use Rattle.csq_replay.specs.declared.script.call.Refusal.{Refusal}
 use Rattle.csq_replay.specs.declared.script.call.Refusal.TheVariants.{UnknownIrp, UnknownFile, NoClaim, NotHeld, StatusPending, Stale, NotCompleted, LivesSpent}
 use Rattle.csq_replay.specs.declared.script.call.Reply.{Reply}
 use Rattle.csq_replay.specs.declared.script.call.Reply.TheVariants.{Pending, Cancelled, InsertRefused, Removed, NoIrp, Claimed, Unclaimed, Completed, CancelAnswered, Closed, Cleaned, Unset, Begun, Refused}
@@ -18,8 +16,8 @@ use Rattle.csq_replay.specs.declared.lines.TheConstants.{MAX_LINE}
 use Rattle.csq_replay.specs.declared.script.outcome.CallStop.{CallStop}
 use Rattle.csq_replay.specs.declared.script.outcome.CallStop.TheVariants.{TooLong, Malformed}
 use Rattle.csq_explain.specs.declared.call_sentences.AnsweredCall.{AnsweredCall}
-use Rattle.csq_explain.specs.declared.call_sentences.NoneWords.{NoneWords}
 use Rattle.csq_explain.specs.Sentences.{status_name}
+use Rattle.csq_explain.specs.Words.{call_words, listed}
 
 -- the routine that a call stands for, or the field that it reads
 abbrev pub routine_name : Call → List ℕ
@@ -50,7 +48,7 @@ file_words (Some f) = codes "file object " ++ decimal f.0
 file_words None = codes "any file object"
 
 -- what a call is of: an IRP, in a life where it names one, or a file object
-abbrev pub object_name : Call → List ℕ
+unfoldable pub object_name : Call → List ℕ
 object_name (Insert n f place) = codes "IRP " ++ irp_text n
 object_name (Next k) = file_words (named_file (Next k))
 object_name (Remove i) = codes "IRP " ++ name_text i
@@ -73,93 +71,73 @@ place_words (PutBack n Back) = codes " again at the back"
 place_words (PutBack n Front) = codes " again at the front"
 place_words c = []
 
--- the IRP in its life that a removal names
-abbrev pub removed_life : Call → Option IrpLife
-removed_life (Remove i) = Some i
-removed_life _ = None
-
 -- no removal takes an IRP of these
 abbrev pub none_listed : Option FileId → List ℕ
 none_listed file = codes "no IRP is listed for " ++ (file_words file ++ codes ", or a cancel has each of them")
 
--- why a removal took no IRP: the one that it names, or any of the file object, if there is such a one among so many
-abbrev pub none_of : ℕ → Option IrpLife → Option FileId → List ℕ
-none_of files (Some i) file = codes "IRP " ++ (name_text i ++ codes " isn't listed in that life, or a cancel has it")
-none_of files None (Some f) = if nat_le files f.0 then codes "a file object's number is below " ++ decimal files else none_listed (Some f)
-none_of files None None = none_listed None
+-- no removal takes an IRP of this file object, if there is such a one among so many
+abbrev pub none_of : ℕ → Option FileId → List ℕ
+none_of files (Some f) = if nat_le files f.0 then codes "a file object's number is below " ++ decimal files else none_listed (Some f)
+none_of files None = none_listed None
 
-abbrev pub none_words : NoneWords → List ℕ
-none_words s = none_of s.files s.irp s.file
+-- why a removal took no IRP: the one that it names, or any of its file object
+abbrev pub none_words : ℕ → Call → List ℕ
+none_words files (Remove i) = codes "IRP " ++ (name_text i ++ codes " isn't listed in that life, or a cancel has it")
+none_words files c = none_of files (named_file c)
 
--- what a call did that completed its IRP
-abbrev pub done_words : Call → List ℕ
-done_words (Routine n) = codes " took IRP " ++ (irp_text n ++ codes " out of the list (CsqRemoveIrp), and completed it")
-done_words c = codes " completed " ++ object_name c
+-- what a call did that completed its IRP with this status
+abbrev pub done_words : Call → NtStatus → List ℕ
+done_words (Routine n) status = codes " took IRP " ++ (irp_text n ++ (codes " out of the list (CsqRemoveIrp), and completed it with " ++ status_name status))
+done_words c status = codes " completed " ++ (object_name c ++ (codes " with " ++ status_name status))
 
--- what a mark did, which took the cancel routine or didn't
-abbrev pub mark_words : Call → Bool → List ℕ
-mark_words c true = codes " set the Cancel flag of " ++ (object_name c ++ codes " and took its cancel routine: the pass owes the IRP now")
-mark_words c false = codes " set the Cancel flag of " ++ (object_name c ++ codes ", and found no cancel routine")
-
--- what a cancel did, which ran the cancel routine or didn't
-abbrev pub cancel_words : Call → Bool → List ℕ
-cancel_words c true = codes " returned TRUE: it set the Cancel flag of " ++ (object_name c ++ codes " and ran the cancel routine, which completed the IRP with STATUS_CANCELLED")
-cancel_words c false = codes " returned FALSE: it set the Cancel flag of " ++ (object_name c ++ codes ", and found no cancel routine")
-
--- what an insert or a put-back did that found its IRP cancelled
-abbrev pub found_cancelled : Call → List ℕ
-found_cancelled c = codes " found the Cancel flag of " ++ (object_name c ++ codes " set, completed it with STATUS_CANCELLED (CsqCompleteCanceledIrp), and returned STATUS_PENDING")
-
--- what a cleanup did that completed so many IRPs
-abbrev pub cleaned_words : Call → ℕ → List ℕ
-cleaned_words c count = codes " closed " ++ (object_name c ++ (codes ", and completed " ++ (decimal count ++ codes " of its IRPs with STATUS_CANCELLED")))
-
-abbrev pub flag_value : Bool → List ℕ
-flag_value set = if set then codes "TRUE" else codes "FALSE"
+-- what a mark, a cancel or a completion did that was answered so
+abbrev pub cancel_words : Call → Reply → List ℕ
+cancel_words c Claimed = codes " set the Cancel flag of " ++ (object_name c ++ codes " and took its cancel routine: the pass owes the IRP now")
+cancel_words c Unclaimed = codes " set the Cancel flag of " ++ (object_name c ++ codes ", and found no cancel routine")
+cancel_words c (CancelAnswered true) = codes " returned TRUE: it set the Cancel flag of " ++ (object_name c ++ codes " and ran the cancel routine, which completed the IRP with STATUS_CANCELLED")
+cancel_words c (CancelAnswered false) = codes " returned FALSE: it set the Cancel flag of " ++ (object_name c ++ codes ", and found no cancel routine")
+cancel_words c (Completed status) = done_words c status
+cancel_words c _ = []
 
 -- the file object of an insert or a put-back, which names none
 abbrev pub refused_file : Call → List ℕ
 refused_file (PutBack n place) = codes "the file object of IRP " ++ irp_text n
 refused_file c = file_words (named_file c)
 
--- why an insert or a put-back is refused, where there are so many IRPs and file objects
-abbrev pub insert_refusal : ℕ → ℕ → Call → InsertStatus → List ℕ
-insert_refusal irps files c insert.UnknownIrp = codes "an IRP's number is below " ++ decimal irps
-insert_refusal irps files c insert.UnknownFile = codes "a file object's number is below " ++ decimal files
-insert_refusal irps files c insert.NotHome = object_name c ++ codes " was inserted before in its present life"
-insert_refusal irps files c insert.FileClosed = refused_file c ++ codes " was closed by a cleanup or a close: STATUS_FILE_CLOSED"
-insert_refusal irps files c insert.FileFull = refused_file c ++ codes " has as many IRPs listed as its limit: STATUS_INSUFFICIENT_RESOURCES"
-insert_refusal irps files c insert.Full = codes "the list has as many IRPs as its limit: STATUS_INSUFFICIENT_RESOURCES"
-
--- why another call is
-abbrev pub call_refusal : ℕ → ℕ → Call → Refusal → List ℕ
-call_refusal irps files c UnknownIrp = codes "an IRP's number is below " ++ decimal irps
-call_refusal irps files c UnknownFile = codes "a file object's number is below " ++ decimal files
-call_refusal irps files c NoClaim = codes "the pass doesn't owe " ++ (object_name c ++ codes ": no mark claimed it, or its cancel routine has run")
-call_refusal irps files c NotHeld = codes "the pass doesn't hold " ++ (object_name c ++ codes ": no removal took it, or it was completed or put back since")
-call_refusal irps files c StatusPending = codes "no IRP is completed with STATUS_PENDING"
-call_refusal irps files c (Stale g) = codes "the IRP is in its life " ++ life_text g
-call_refusal irps files c NotCompleted = object_name c ++ codes " isn't completed in its present life"
-call_refusal irps files c LivesSpent = object_name c ++ codes " is in its last life"
+-- why a call that is answered so is refused, where there are so many IRPs and file objects
+abbrev pub call_refusal : ℕ → ℕ → Call → Reply → List ℕ
+call_refusal irps files c (InsertRefused insert.UnknownIrp) = codes "an IRP's number is below " ++ decimal irps
+call_refusal irps files c (InsertRefused insert.UnknownFile) = codes "a file object's number is below " ++ decimal files
+call_refusal irps files c (InsertRefused insert.NotHome) = object_name c ++ codes " was inserted before in its present life"
+call_refusal irps files c (InsertRefused insert.FileClosed) = refused_file c ++ codes " was closed by a cleanup or a close: STATUS_FILE_CLOSED"
+call_refusal irps files c (InsertRefused insert.FileFull) = refused_file c ++ codes " has as many IRPs listed as its limit: STATUS_INSUFFICIENT_RESOURCES"
+call_refusal irps files c (InsertRefused insert.Full) = codes "the list has as many IRPs as its limit: STATUS_INSUFFICIENT_RESOURCES"
+call_refusal irps files c (Refused UnknownIrp) = codes "an IRP's number is below " ++ decimal irps
+call_refusal irps files c (Refused UnknownFile) = codes "a file object's number is below " ++ decimal files
+call_refusal irps files c (Refused NoClaim) = codes "the pass doesn't owe " ++ (object_name c ++ codes ": no mark claimed it, or its cancel routine has run")
+call_refusal irps files c (Refused NotHeld) = codes "the pass doesn't hold " ++ (object_name c ++ codes ": no removal took it, or it was completed or put back since")
+call_refusal irps files c (Refused StatusPending) = codes "no IRP is completed with STATUS_PENDING"
+call_refusal irps files c (Refused (Stale g)) = codes "the IRP is in its life " ++ life_text g
+call_refusal irps files c (Refused NotCompleted) = object_name c ++ codes " isn't completed in its present life"
+call_refusal irps files c (Refused LivesSpent) = object_name c ++ codes " is in its last life"
+call_refusal irps files c _ = []
 
 -- a call that is answered so
 abbrev pub reply_sentence : ℕ → ℕ → Call → Reply → List ℕ
 reply_sentence irps files c Pending = routine_name c ++ (codes " listed " ++ (object_name c ++ (place_words c ++ codes ", and returned STATUS_PENDING")))
-reply_sentence irps files c Cancelled = routine_name c ++ found_cancelled c
-reply_sentence irps files c (InsertRefused cause) = insert_refusal irps files c cause
+reply_sentence irps files c Cancelled = routine_name c ++ (codes " found the Cancel flag of " ++ (object_name c ++ codes " set, completed it with STATUS_CANCELLED (CsqCompleteCanceledIrp), and returned STATUS_PENDING"))
 reply_sentence irps files c (Removed n) = routine_name c ++ (codes " took IRP " ++ (irp_text n ++ codes " out of the list, and the pass holds it now"))
-reply_sentence irps files c NoIrp = routine_name c ++ (codes " returned NULL: " ++ none_of files (removed_life c) (named_file c))
-reply_sentence irps files c Claimed = routine_name c ++ mark_words c true
-reply_sentence irps files c Unclaimed = routine_name c ++ mark_words c false
-reply_sentence irps files c (Completed status) = routine_name c ++ (done_words c ++ (codes " with " ++ status_name status))
-reply_sentence irps files c (CancelAnswered claimed) = routine_name c ++ cancel_words c claimed
+reply_sentence irps files c NoIrp = routine_name c ++ (codes " returned NULL: " ++ none_words files c)
 reply_sentence irps files c Closed = routine_name c ++ (codes " closed " ++ (object_name c ++ codes ": inserts for it are refused from now on"))
-reply_sentence irps files c (Cleaned count) = routine_name c ++ cleaned_words c count
-reply_sentence irps files c (reply.Flag set) = routine_name c ++ (codes " of " ++ (object_name c ++ (codes " is " ++ flag_value set)))
+reply_sentence irps files c (Cleaned count) = routine_name c ++ (codes " closed " ++ (object_name c ++ (codes ", and completed " ++ (decimal count ++ codes " of its IRPs with STATUS_CANCELLED"))))
+reply_sentence irps files c (reply.Flag true) = routine_name c ++ (codes " of " ++ (object_name c ++ codes " is TRUE"))
+reply_sentence irps files c (reply.Flag false) = routine_name c ++ (codes " of " ++ (object_name c ++ codes " is FALSE"))
 reply_sentence irps files c Unset = routine_name c ++ (codes " of " ++ (object_name c ++ codes " isn't set: the IRP isn't completed"))
 reply_sentence irps files c (reply.Status status) = routine_name c ++ (codes " of " ++ (object_name c ++ (codes " is " ++ status_name status)))
 reply_sentence irps files c (Begun g) = routine_name c ++ (codes " began life " ++ (life_text g ++ (codes " of " ++ object_name c)))
-reply_sentence irps files c (Refused cause) = call_refusal irps files c cause
+reply_sentence irps files c (InsertRefused cause) = call_refusal irps files c (InsertRefused cause)
+reply_sentence irps files c (Refused cause) = call_refusal irps files c (Refused cause)
+reply_sentence irps files c r = routine_name c ++ cancel_words c r
 
 -- a call and its answer, in a sentence
 abbrev pub call_sentence : AnsweredCall → List ℕ
@@ -168,4 +146,4 @@ call_sentence a = reply_sentence a.irps a.files a.call a.reply
 -- why a line ends a script, in a sentence
 abbrev pub call_stop_sentence : CallStop → List ℕ
 call_stop_sentence TooLong = codes "a line has at most " ++ (decimal MAX_LINE ++ codes " bytes")
-call_stop_sentence Malformed = codes "this is no call, as insert 0 1 back: insert, next, remove, mark, routine, cancel, complete, close, cleanup, flag, status, reuse or put_back"
+call_stop_sentence Malformed = codes "this is no call, as insert 0 1 back: " ++ listed 0 call_words

@@ -1,4 +1,5 @@
 pub mod Tables
+pub mod Words
 pub mod Passes
 pub mod Sentences
 pub mod Reasons

@@ -1,5 +1,6 @@
 -- Why a line ends a schedule, in a sentence.
-use Rattle.std.specs.Prelude.{ℕ, List, ◌++◌, codes, decimal, slice_index_or}
+use Rattle.std.specs.Prelude.{ℕ, List, ◌++◌, codes, decimal, filter, not, slice_index_or}
+use Rattle.std.specs.Str.{bytes_eq}
 use Rattle.irp_core.specs.declared.ids.PassId.{PassId}
 use Rattle.irp_core.specs.declared.inside.Inside.{Inside}
 use Rattle.irp_core.specs.declared.inside.Inside.TheVariants.{Nothing, Armed, FlagSeen, Removing, Cancelling, Rearmed, FlagSeenAgain}
@@ -14,8 +15,8 @@ use Rattle.csq_replay.specs.declared.schedule.outcome.Stop.TheVariants.{TooLong,
 use Rattle.csq_replay.specs.declared.lines.TheConstants.{MAX_LINE}
 use Rattle.csq_explain.specs.declared.passes.PassNow.{PassNow}
 use Rattle.csq_explain.specs.declared.reasons.Reason.{Reason}
-use Rattle.csq_explain.specs.declared.reasons.Refusal.{Refusal}
 use Rattle.csq_explain.specs.Passes.{new_pass_now}
+use Rattle.csq_explain.specs.Words.{step_words, listed}
 
 -- the pass that a line's end is a matter of: who has the lock, or else who would make the step
 abbrev pub pass_asked : Stop → PassId
@@ -44,17 +45,10 @@ next_step (Cancelling i) = codes "take " ++ name_text i
 next_step (Rearmed i) = codes "test " ++ name_text i
 next_step (FlagSeenAgain i) = codes "disarm " ++ name_text i
 
--- the pass is inside of a call since this line
-abbrev pub begun_text : Inside → ℕ → List ℕ
-begun_text x line = codes " has been inside " ++ (call_name x ++ (codes " since line " ++ (decimal line ++ (codes "; its next step is " ++ next_step x))))
-
--- how far a pass is in its call
+-- how far a pass is in its call, since this line
 abbrev pub inside_text : Inside → ℕ → List ℕ
 inside_text Nothing line = codes " is inside no call, and none begins with a test or a take"
-inside_text x line = begun_text x line
-
-abbrev pub progress_text : PassId → PassNow → List ℕ
-progress_text p now = pass_text p ++ inside_text now.inside now.line
+inside_text x line = codes " has been inside " ++ (call_name x ++ (codes " since line " ++ (decimal line ++ (codes "; its next step is " ++ next_step x))))
 
 -- that the pass of a step of this kind doesn't hold its IRP, or not by a removal
 abbrev pub unheld_text : Kind → List ℕ
@@ -66,7 +60,7 @@ abbrev pub cause_text : ℕ → ℕ → PassNow → PassId → Kind → StepRefu
 cause_text irps passes now p k UnknownIrp = codes "an IRP's number is below " ++ decimal irps
 cause_text irps passes now p k UnknownPass = codes "a pass's number is 1 to " ++ decimal passes
 cause_text irps passes now p k (LockHeld q) = pass_text q ++ (codes " has had the lock since line " ++ (decimal now.line ++ (codes ", inside " ++ (call_name now.inside ++ (codes "; its next step is " ++ next_step now.inside)))))
-cause_text irps passes now p k NotNext = progress_text p now
+cause_text irps passes now p k NotNext = pass_text p ++ inside_text now.inside now.line
 cause_text irps passes now p k NotHome = codes "the IRP was armed before in that life"
 cause_text irps passes now p k NotListed = codes "the IRP isn't listed in that life"
 cause_text irps passes now p k NotOwed = pass_text p ++ codes " doesn't owe the IRP in that life"
@@ -75,13 +69,10 @@ cause_text irps passes now p k (Stale g) = codes "the IRP is in its life " ++ li
 cause_text irps passes now p k NotCompleted = codes "the IRP isn't completed in that life"
 cause_text irps passes now p k LivesSpent = codes "the IRP is in its last life"
 
-abbrev pub refusal_reason : Refusal → List ℕ
-refusal_reason r = cause_text r.irps r.passes r.now r.step.pass r.step.kind r.cause
-
 -- why a line ends the handling
 abbrev pub stop_reason : ℕ → ℕ → PassNow → Stop → List ℕ
 stop_reason irps passes now TooLong = codes "a line has at most " ++ (decimal MAX_LINE ++ codes " bytes")
-stop_reason irps passes now Malformed = codes "this is no step, as p1 arm 0: arm, test, disarm, flag, take, out, done, renew or rearm, or p1 end"
+stop_reason irps passes now Malformed = codes "this is no step, as p1 arm 0: " ++ (listed 0 (filter (λ word. not (bytes_eq word (codes "end"))) step_words) ++ codes ", or p1 end")
 stop_reason irps passes now (Refused s cause) = cause_text irps passes now s.pass s.kind cause
 
 unfoldable pub reason_text : Reason → List ℕ

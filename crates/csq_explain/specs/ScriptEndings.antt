@@ -7,8 +7,6 @@ use Rattle.csq_replay.specs.declared.script.remains.Kept.{Kept}
 use Rattle.csq_replay.specs.declared.script.remains.Kept.TheVariants.{Held, Owed}
 use Rattle.csq_replay.specs.Calls.{Script}
 use Rattle.csq_replay.specs.ScriptAnswer.{left_line, named_line, kept_name, listed_irps, kept_irps}
-use Rattle.csq_explain.specs.declared.script_endings.LeftSentence.{LeftSentence}
-use Rattle.csq_explain.specs.declared.script_endings.KeptSentence.{KeptSentence}
 use Rattle.csq_explain.specs.Explaining.{remark}
 
 -- the numbers of these IRPs, each after a comma
@@ -29,12 +27,6 @@ left_words count numbers = if count == 0 then codes "no IRP is listed" else if c
 abbrev pub kept_words : Kept → ℕ → List ℕ → List ℕ
 kept_words Held count numbers = if count == 1 then codes "the pass holds IRP " ++ (numbers ++ codes ", and must complete it") else codes "the pass holds IRPs " ++ (numbers ++ codes ", and must complete them")
 kept_words Owed count numbers = if count == 1 then codes "the pass owes IRP " ++ (numbers ++ codes ": its cancel routine must run") else codes "the pass owes IRPs " ++ (numbers ++ codes ": their cancel routines must run")
-
-abbrev pub left_sentence : LeftSentence → List ℕ
-left_sentence s = left_words s.count s.numbers.now
-
-abbrev pub kept_sentence : KeptSentence → List ℕ
-kept_sentence s = kept_words s.kept s.count s.numbers.now
 
 -- the closing line of what is listed, and a sentence
 abbrev pub explained_left : List IrpId → List ℕ

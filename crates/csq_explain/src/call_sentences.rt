@@ -1,38 +1,29 @@
 //! What a call of a script did, or why it was refused, in the words of the WDK.
 ghost use Rattle.std.specs.Prelude.{◌≡◌};
-ghost use Rattle.csq_explain.specs.CallSentences.{named_file, removed_life};
+ghost use Rattle.csq_explain.specs.CallSentences.{named_file, routine_name};
 
 use crate::sentences::StatusName;
 use csq_list::{InsertStatus, Peek, Place};
 use csq_replay::{Call, CallStop, MAX_LINE, Refusal, Reply};
-use irp_core::{FileId, IrpLife};
+use irp_core::FileId;
 use std::fmt;
 
-/// The routine that a call stands for, or the field that it reads.
-#[derive(Clone, Copy)]
-struct RoutineName(Call);
-
-/// As `IoCsqInsertIrpEx`.
-impl fmt::Display for RoutineName {
-    ghost use Rattle.std.specs.Prelude.{Some};
-    ghost use Rattle.csq_explain.specs.CallSentences.{routine_name};
-
-    ghost output = { λ told. Some (routine_name told.0) };
-
-    fn fmt<W: fmt::Write>(&self, f: &mut fmt::Formatter<W>) -> fmt::Result {
-        match self.0 {
-            Call::Insert(..) | Call::PutBack(..) => write!(f, "IoCsqInsertIrpEx"),
-            Call::Next(_) => write!(f, "IoCsqRemoveNextIrp"),
-            Call::Remove(_) => write!(f, "IoCsqRemoveIrp"),
-            Call::Mark(_) | Call::Cancel(_) => write!(f, "IoCancelIrp"),
-            Call::Routine(_) => write!(f, "the cancel routine"),
-            Call::Complete(..) => write!(f, "IoCompleteRequest"),
-            Call::Close(_) => write!(f, "the driver"),
-            Call::Cleanup(_) => write!(f, "IRP_MJ_CLEANUP"),
-            Call::Flag(_) => write!(f, "Irp->Cancel"),
-            Call::Status(_) => write!(f, "Irp->IoStatus.Status"),
-            Call::Reuse(_) => write!(f, "IoReuseIrp"),
-        }
+/// The routine that a call stands for, or the field that it reads, as `IoCsqInsertIrpEx`.
+fn routine_name(call: Call) -> &'static str
+    ensures { result.now ≡ routine_name call }
+{
+    match call {
+        Call::Insert(..) | Call::PutBack(..) => "IoCsqInsertIrpEx",
+        Call::Next(_) => "IoCsqRemoveNextIrp",
+        Call::Remove(_) => "IoCsqRemoveIrp",
+        Call::Mark(_) | Call::Cancel(_) => "IoCancelIrp",
+        Call::Routine(_) => "the cancel routine",
+        Call::Complete(..) => "IoCompleteRequest",
+        Call::Close(_) => "the driver",
+        Call::Cleanup(_) => "IRP_MJ_CLEANUP",
+        Call::Flag(_) => "Irp->Cancel",
+        Call::Status(_) => "Irp->IoStatus.Status",
+        Call::Reuse(_) => "IoReuseIrp",
     }
 }
 
@@ -79,6 +70,7 @@ impl fmt::Display for ObjectName {
 
     ghost output = { λ told. Some (object_name told.0) };
 
+    #[tactic(auto, unfolding(crate::specs::CallSentences::object_name))]
     fn fmt<W: fmt::Write>(&self, f: &mut fmt::Formatter<W>) -> fmt::Result {
         match self.0 {
             Call::Remove(irp) | Call::Mark(irp) | Call::Cancel(irp) => write!(f, "IRP {irp}"),
@@ -122,195 +114,6 @@ impl fmt::Display for PlaceWords {
     }
 }
 
-/// The IRP in its life that a removal names, if it names one.
-fn removed_life(call: Call) -> Option<IrpLife>
-    ensures { result ≡ removed_life call }
-{
-    match call {
-        Call::Remove(irp) => Some(irp),
-        _ => None,
-    }
-}
-
-/// Why a removal took no IRP: the one that it names, or any of the file object, if there is such a one.
-#[derive(Clone, Copy)]
-struct NoneWords {
-    files: u32,
-    irp: Option<IrpLife>,
-    file: Option<FileId>,
-}
-
-impl NoneWords {
-    fn new(call: Call, files: u32) -> NoneWords
-        ensures { result
-            ≡ record { files = files; irp = removed_life call; file = named_file call } }
-    {
-        NoneWords {
-            files,
-            irp: removed_life(call),
-            file: named_file(call),
-        }
-    }
-}
-
-/// As `no IRP is listed for file object 1, or a cancel has each of them`.
-impl fmt::Display for NoneWords {
-    ghost use Rattle.std.specs.Prelude.{Some};
-    ghost use Rattle.csq_explain.specs.CallSentences.{none_words};
-
-    ghost output = { λ told. Some (none_words told) };
-
-    fn fmt<W: fmt::Write>(&self, f: &mut fmt::Formatter<W>) -> fmt::Result {
-        let files = self.files;
-        match (self.irp, self.file) {
-            (Some(irp), _) => write!(f, "IRP {irp} isn't listed in that life, or a cancel has it"),
-            (None, Some(file)) if file.0 >= files => {
-                write!(f, "a file object's number is below {files}")
-            }
-            (None, file) => write!(
-                f,
-                "no IRP is listed for {}, or a cancel has each of them",
-                FileWords(file)
-            ),
-        }
-    }
-}
-
-/// What a call did that completed its IRP.
-#[derive(Clone, Copy)]
-struct DoneWords(Call);
-
-/// As ` completed IRP 0`.
-impl fmt::Display for DoneWords {
-    ghost use Rattle.std.specs.Prelude.{Some};
-    ghost use Rattle.csq_explain.specs.CallSentences.{done_words};
-
-    ghost output = { λ told. Some (done_words told.0) };
-
-    fn fmt<W: fmt::Write>(&self, f: &mut fmt::Formatter<W>) -> fmt::Result {
-        match self.0 {
-            Call::Routine(irp) => write!(
-                f,
-                " took IRP {irp} out of the list (CsqRemoveIrp), and completed it"
-            ),
-            call => write!(f, " completed {}", ObjectName(call)),
-        }
-    }
-}
-
-/// What a mark did, which took the cancel routine or didn't.
-#[derive(Clone, Copy)]
-struct MarkTold(Call, bool);
-
-/// As ` set the Cancel flag of IRP 0, and found no cancel routine`.
-impl fmt::Display for MarkTold {
-    ghost use Rattle.std.specs.Prelude.{Some};
-    ghost use Rattle.csq_explain.specs.CallSentences.{mark_words};
-
-    ghost output = { λ told. Some (mark_words told.0 told.1) };
-
-    fn fmt<W: fmt::Write>(&self, f: &mut fmt::Formatter<W>) -> fmt::Result {
-        let irp = ObjectName(self.0);
-        if self.1 {
-            write!(
-                f,
-                " set the Cancel flag of {irp} and took its cancel routine: the pass owes the IRP now"
-            )
-        } else {
-            write!(
-                f,
-                " set the Cancel flag of {irp}, and found no cancel routine"
-            )
-        }
-    }
-}
-
-/// What a cancel did, which ran the cancel routine or didn't.
-#[derive(Clone, Copy)]
-struct CancelTold(Call, bool);
-
-/// As ` returned FALSE: it set the Cancel flag of IRP 0, and found no cancel routine`.
-impl fmt::Display for CancelTold {
-    ghost use Rattle.std.specs.Prelude.{Some};
-    ghost use Rattle.csq_explain.specs.CallSentences.{cancel_words};
-
-    ghost output = { λ told. Some (cancel_words told.0 told.1) };
-
-    fn fmt<W: fmt::Write>(&self, f: &mut fmt::Formatter<W>) -> fmt::Result {
-        let irp = ObjectName(self.0);
-        if self.1 {
-            write!(
-                f,
-                " returned TRUE: it set the Cancel flag of {irp} and ran the cancel routine, which completed the IRP with STATUS_CANCELLED"
-            )
-        } else {
-            write!(
-                f,
-                " returned FALSE: it set the Cancel flag of {irp}, and found no cancel routine"
-            )
-        }
-    }
-}
-
-/// What an insert or a put-back did that found its IRP cancelled.
-#[derive(Clone, Copy)]
-struct FoundCancelled(Call);
-
-impl fmt::Display for FoundCancelled {
-    ghost use Rattle.std.specs.Prelude.{Some};
-    ghost use Rattle.csq_explain.specs.CallSentences.{found_cancelled};
-
-    ghost output = { λ told. Some (found_cancelled told.0) };
-
-    fn fmt<W: fmt::Write>(&self, f: &mut fmt::Formatter<W>) -> fmt::Result {
-        write!(
-            f,
-            " found the Cancel flag of {} set, completed it with STATUS_CANCELLED (CsqCompleteCanceledIrp), and returned STATUS_PENDING",
-            ObjectName(self.0)
-        )
-    }
-}
-
-/// What a cleanup did that completed so many IRPs.
-#[derive(Clone, Copy)]
-struct CleanedTold(Call, u32);
-
-/// As ` closed file object 1, and completed 2 of its IRPs with STATUS_CANCELLED`.
-impl fmt::Display for CleanedTold {
-    ghost use Rattle.std.specs.Prelude.{Some};
-    ghost use Rattle.csq_explain.specs.CallSentences.{cleaned_words};
-
-    ghost output = { λ told. Some (cleaned_words told.0 told.1) };
-
-    fn fmt<W: fmt::Write>(&self, f: &mut fmt::Formatter<W>) -> fmt::Result {
-        let (file, count) = (ObjectName(self.0), self.1);
-        write!(
-            f,
-            " closed {file}, and completed {count} of its IRPs with STATUS_CANCELLED"
-        )
-    }
-}
-
-/// Whether a Cancel flag is set.
-#[derive(Clone, Copy)]
-struct FlagValue(bool);
-
-/// As `TRUE`.
-impl fmt::Display for FlagValue {
-    ghost use Rattle.std.specs.Prelude.{Some};
-    ghost use Rattle.csq_explain.specs.CallSentences.{flag_value};
-
-    ghost output = { λ told. Some (flag_value told.0) };
-
-    fn fmt<W: fmt::Write>(&self, f: &mut fmt::Formatter<W>) -> fmt::Result {
-        if self.0 {
-            write!(f, "TRUE")
-        } else {
-            write!(f, "FALSE")
-        }
-    }
-}
-
 /// A call of a script, what it was answered, and how many IRPs and file objects there are. It is printed as a
 /// sentence.
 #[derive(Clone, Copy)]
@@ -323,6 +126,84 @@ pub struct AnsweredCall {
     pub call: Call,
     /// Its answer.
     pub reply: Reply,
+}
+
+/// Why a removal took no IRP: the one that it names, or any of the file object, if there is such a one.
+#[derive(Clone, Copy)]
+struct NoneWords(AnsweredCall);
+
+/// As `no IRP is listed for file object 1, or a cancel has each of them`.
+impl fmt::Display for NoneWords {
+    ghost use Rattle.std.specs.Prelude.{Some};
+    ghost use Rattle.csq_explain.specs.CallSentences.{none_words};
+
+    ghost output = { λ told. Some (none_words told.0.files told.0.call) };
+
+    fn fmt<W: fmt::Write>(&self, f: &mut fmt::Formatter<W>) -> fmt::Result {
+        let (files, call) = (self.0.files, self.0.call);
+        match (call, named_file(call)) {
+            (Call::Remove(irp), _) => {
+                write!(f, "IRP {irp} isn't listed in that life, or a cancel has it")
+            }
+            (_, Some(file)) if file.0 >= files => {
+                write!(f, "a file object's number is below {files}")
+            }
+            (_, file) => write!(
+                f,
+                "no IRP is listed for {}, or a cancel has each of them",
+                FileWords(file)
+            ),
+        }
+    }
+}
+
+/// What a mark, a cancel or a completion did.
+#[derive(Clone, Copy)]
+struct CancelWords(AnsweredCall);
+
+/// As ` returned FALSE: it set the Cancel flag of IRP 0, and found no cancel routine`.
+impl fmt::Display for CancelWords {
+    ghost use Rattle.std.specs.Prelude.{Some};
+    ghost use Rattle.csq_explain.specs.CallSentences.{cancel_words};
+
+    ghost output = { λ told. Some (cancel_words told.0.call told.0.reply) };
+
+    fn fmt<W: fmt::Write>(&self, f: &mut fmt::Formatter<W>) -> fmt::Result {
+        let call = self.0.call;
+        let irp = ObjectName(call);
+        match self.0.reply {
+            Reply::Claimed => write!(
+                f,
+                " set the Cancel flag of {irp} and took its cancel routine: the pass owes the IRP now"
+            ),
+            Reply::Unclaimed => write!(
+                f,
+                " set the Cancel flag of {irp}, and found no cancel routine"
+            ),
+            Reply::CancelAnswered(true) => write!(
+                f,
+                " returned TRUE: it set the Cancel flag of {irp} and ran the cancel routine, which completed the IRP with STATUS_CANCELLED"
+            ),
+            Reply::CancelAnswered(false) => write!(
+                f,
+                " returned FALSE: it set the Cancel flag of {irp}, and found no cancel routine"
+            ),
+            Reply::Completed(status) => match call {
+                Call::Routine(irp) => write!(
+                    f,
+                    " took IRP {irp} out of the list (CsqRemoveIrp), and completed it with {}",
+                    StatusName(status)
+                ),
+                call => write!(
+                    f,
+                    " completed {} with {}",
+                    ObjectName(call),
+                    StatusName(status)
+                ),
+            },
+            _ => Ok(()),
+        }
+    }
 }
 
 /// The file object of an insert or a put-back, which names none.
@@ -344,74 +225,56 @@ impl fmt::Display for RefusedFile {
     }
 }
 
-/// Why an insert or a put-back that was answered so is refused.
+/// Why a call that was answered so is refused.
 #[derive(Clone, Copy)]
-struct InsertRefusal(AnsweredCall, InsertStatus);
+struct CallRefusal(AnsweredCall);
 
 /// As `file object 1 was closed by a cleanup or a close: STATUS_FILE_CLOSED`.
-impl fmt::Display for InsertRefusal {
-    ghost use Rattle.std.specs.Prelude.{Some};
-    ghost use Rattle.csq_explain.specs.CallSentences.{insert_refusal};
-
-    ghost output = { λ told. Some (insert_refusal told.0.irps told.0.files told.0.call told.1) };
-
-    fn fmt<W: fmt::Write>(&self, f: &mut fmt::Formatter<W>) -> fmt::Result {
-        let InsertRefusal(answered, cause) = *self;
-        let irp = ObjectName(answered.call);
-        let file = RefusedFile(answered.call);
-        match cause {
-            InsertStatus::UnknownIrp => write!(f, "an IRP's number is below {}", answered.irps),
-            InsertStatus::UnknownFile => {
-                write!(f, "a file object's number is below {}", answered.files)
-            }
-            InsertStatus::NotHome => write!(f, "{irp} was inserted before in its present life"),
-            InsertStatus::FileClosed => write!(
-                f,
-                "{file} was closed by a cleanup or a close: STATUS_FILE_CLOSED"
-            ),
-            InsertStatus::FileFull => write!(
-                f,
-                "{file} has as many IRPs listed as its limit: STATUS_INSUFFICIENT_RESOURCES"
-            ),
-            InsertStatus::Full => write!(
-                f,
-                "the list has as many IRPs as its limit: STATUS_INSUFFICIENT_RESOURCES"
-            ),
-        }
-    }
-}
-
-/// Why another call that was answered so is refused.
-#[derive(Clone, Copy)]
-struct CallRefusal(AnsweredCall, Refusal);
-
-/// As `an IRP's number is below 8`.
 impl fmt::Display for CallRefusal {
     ghost use Rattle.std.specs.Prelude.{Some};
     ghost use Rattle.csq_explain.specs.CallSentences.{call_refusal};
 
-    ghost output = { λ told. Some (call_refusal told.0.irps told.0.files told.0.call told.1) };
+    ghost output = { λ told. Some
+        (call_refusal told.0.irps told.0.files told.0.call told.0.reply) };
 
     fn fmt<W: fmt::Write>(&self, f: &mut fmt::Formatter<W>) -> fmt::Result {
-        let CallRefusal(answered, cause) = *self;
-        let irp = ObjectName(answered.call);
-        match cause {
-            Refusal::UnknownIrp => write!(f, "an IRP's number is below {}", answered.irps),
-            Refusal::UnknownFile => {
-                write!(f, "a file object's number is below {}", answered.files)
-            }
-            Refusal::NoClaim => write!(
-                f,
-                "the pass doesn't owe {irp}: no mark claimed it, or its cancel routine has run"
-            ),
-            Refusal::NotHeld => write!(
-                f,
-                "the pass doesn't hold {irp}: no removal took it, or it was completed or put back since"
-            ),
-            Refusal::StatusPending => write!(f, "no IRP is completed with STATUS_PENDING"),
-            Refusal::Stale(life) => write!(f, "the IRP is in its life {life}"),
-            Refusal::NotCompleted => write!(f, "{irp} isn't completed in its present life"),
-            Refusal::LivesSpent => write!(f, "{irp} is in its last life"),
+        let (irps, files, call) = (self.0.irps, self.0.files, self.0.call);
+        let (irp, file) = (ObjectName(call), RefusedFile(call));
+        match self.0.reply {
+            Reply::InsertRefused(cause) => match cause {
+                InsertStatus::UnknownIrp => write!(f, "an IRP's number is below {irps}"),
+                InsertStatus::UnknownFile => write!(f, "a file object's number is below {files}"),
+                InsertStatus::NotHome => write!(f, "{irp} was inserted before in its present life"),
+                InsertStatus::FileClosed => write!(
+                    f,
+                    "{file} was closed by a cleanup or a close: STATUS_FILE_CLOSED"
+                ),
+                InsertStatus::FileFull => write!(
+                    f,
+                    "{file} has as many IRPs listed as its limit: STATUS_INSUFFICIENT_RESOURCES"
+                ),
+                InsertStatus::Full => write!(
+                    f,
+                    "the list has as many IRPs as its limit: STATUS_INSUFFICIENT_RESOURCES"
+                ),
+            },
+            Reply::Refused(cause) => match cause {
+                Refusal::UnknownIrp => write!(f, "an IRP's number is below {irps}"),
+                Refusal::UnknownFile => write!(f, "a file object's number is below {files}"),
+                Refusal::NoClaim => write!(
+                    f,
+                    "the pass doesn't owe {irp}: no mark claimed it, or its cancel routine has run"
+                ),
+                Refusal::NotHeld => write!(
+                    f,
+                    "the pass doesn't hold {irp}: no removal took it, or it was completed or put back since"
+                ),
+                Refusal::StatusPending => write!(f, "no IRP is completed with STATUS_PENDING"),
+                Refusal::Stale(life) => write!(f, "the IRP is in its life {life}"),
+                Refusal::NotCompleted => write!(f, "{irp} isn't completed in its present life"),
+                Refusal::LivesSpent => write!(f, "{irp} is in its last life"),
+            },
+            _ => Ok(()),
         }
     }
 }
@@ -424,44 +287,42 @@ impl fmt::Display for AnsweredCall {
     ghost output = { λ told. Some (call_sentence told) };
 
     fn fmt<W: fmt::Write>(&self, f: &mut fmt::Formatter<W>) -> fmt::Result {
-        let (call, reply) = (self.call, self.reply);
-        let none = NoneWords::new(call, self.files);
-        let (routine, object) = (RoutineName(call), ObjectName(call));
-        match reply {
+        let (call, routine) = (self.call, routine_name(self.call));
+        let (object, place) = (ObjectName(call), PlaceWords(call));
+        match self.reply {
             Reply::Pending => write!(
                 f,
-                "{routine} listed {object}{}, and returned STATUS_PENDING",
-                PlaceWords(call)
+                "{routine} listed {object}{place}, and returned STATUS_PENDING"
             ),
-            Reply::Cancelled => write!(f, "{routine}{}", FoundCancelled(call)),
-            Reply::InsertRefused(cause) => write!(f, "{}", InsertRefusal(*self, cause)),
+            Reply::Cancelled => write!(
+                f,
+                "{routine} found the Cancel flag of {object} set, completed it with STATUS_CANCELLED (CsqCompleteCanceledIrp), and returned STATUS_PENDING"
+            ),
             Reply::Removed(irp) => write!(
                 f,
                 "{routine} took IRP {irp} out of the list, and the pass holds it now"
             ),
-            Reply::NoIrp => write!(f, "{routine} returned NULL: {none}"),
-            Reply::Claimed => write!(f, "{routine}{}", MarkTold(call, true)),
-            Reply::Unclaimed => write!(f, "{routine}{}", MarkTold(call, false)),
-            Reply::Completed(status) => {
-                let (done, status) = (DoneWords(call), StatusName(status));
-                write!(f, "{routine}{done} with {status}")
-            }
-            Reply::CancelAnswered(claimed) => {
-                write!(f, "{routine}{}", CancelTold(call, claimed))
-            }
+            Reply::NoIrp => write!(f, "{routine} returned NULL: {}", NoneWords(*self)),
             Reply::Closed => write!(
                 f,
                 "{routine} closed {object}: inserts for it are refused from now on"
             ),
-            Reply::Cleaned(count) => write!(f, "{routine}{}", CleanedTold(call, count)),
-            Reply::Flag(set) => write!(f, "{routine} of {object} is {}", FlagValue(set)),
+            Reply::Cleaned(count) => write!(
+                f,
+                "{routine} closed {object}, and completed {count} of its IRPs with STATUS_CANCELLED"
+            ),
+            Reply::Flag(true) => write!(f, "{routine} of {object} is TRUE"),
+            Reply::Flag(false) => write!(f, "{routine} of {object} is FALSE"),
             Reply::Unset => write!(
                 f,
                 "{routine} of {object} isn't set: the IRP isn't completed"
             ),
             Reply::Status(status) => write!(f, "{routine} of {object} is {}", StatusName(status)),
             Reply::Begun(life) => write!(f, "{routine} began life {life} of {object}"),
-            Reply::Refused(cause) => write!(f, "{}", CallRefusal(*self, cause)),
+            Reply::InsertRefused(_) | Reply::Refused(_) => write!(f, "{}", CallRefusal(*self)),
+            Reply::Claimed | Reply::Unclaimed | Reply::CancelAnswered(_) | Reply::Completed(_) => {
+                write!(f, "{routine}{}", CancelWords(*self))
+            }
         }
     }
 }

@@ -3,13 +3,12 @@ ghost use Rattle.std.specs.Prelude.{◌≡◌, ◌≢◌, ◌++◌, [], if◌the
 ghost use Rattle.std.specs.Io.KnownBytes.{Keeps};
 ghost use Rattle.irp_core.specs.Runs.{IsInLimits};
 ghost use Rattle.csq_replay.specs.Lines.{GrewBy};
-ghost use Rattle.csq_replay.specs.Schedule.{claim_line};
 ghost use Rattle.csq_explain.specs.Explaining.{ExplainsSchedule, explained_irps, explained_rest, claim_remark};
 
 use crate::endings::{IrpSentence, RestSentence};
 use crate::execution::{Execution, Explained};
 use crate::sentences::Sentence;
-use csq_replay::{Answerer, Ended, Handling, IrpLine, SimFault, reply};
+use csq_replay::{Answerer, Ended, Handling, IrpLine, SimFault, note_claim, reply};
 use irp_core::{Kind, Made};
 use std::alloc::{AllocError, Allocator};
 use std::io::{Read, Write};
@@ -22,25 +21,6 @@ pub(crate) struct Explanation<A: Allocator> {
     pub(crate) execution: Execution<A>,
     pub(crate) claims: String<A>,
     pub(crate) asks: bool,
-}
-
-/// Notes the claim of a step, if it made one.
-#[tactic(auto, unfolding(irp_core::specs::Steps::same_irp))]
-fn note_claim<A: Allocator>(
-    claims: &mut String<A>,
-    number: usize,
-    made: Made,
-) -> Result<(), AllocError>
-    ensures { OnOk result (string_bytes claims.new
-        ≡ string_bytes claims.old ++ claim_line (record { line = number; step = made })) }
-{
-    match made.kind {
-        Kind::Disarm(name) | Kind::Take(name) if made.found == 1 => {
-            let pass = made.pass;
-            writeln!(claims, "claim {name} line {number} {pass}")
-        }
-        _ => Ok(()),
-    }
 }
 
 /// Notes a sentence on the claim of a step, if it made one.

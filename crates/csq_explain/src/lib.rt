@@ -11,6 +11,7 @@ mod reasons;
 mod script_endings;
 mod script_explanation;
 mod sentences;
+mod words;
 
 pub use call_sentences::{AnsweredCall, CallStopSentence};
 pub use endings::{IrpSentence, RestSentence};
@@ -21,3 +22,4 @@ pub use passes::PassNow;
 pub use reasons::Reason;
 pub use script_explanation::explain_script;
 pub use sentences::{InsertWord, Sentence, StatusName, StepInCall};
+pub use words::{CALLS, STEPS};

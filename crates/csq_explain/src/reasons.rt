@@ -1,6 +1,6 @@
 //! Why a line ends a schedule, in a sentence.
 ghost use Rattle.std.specs.Prelude.{◌≡◌};
-ghost use Rattle.csq_explain.specs.Reasons.{pass_asked};
+ghost use Rattle.csq_explain.specs.Reasons.{call_name, pass_asked};
 
 use crate::passes::PassNow;
 use csq_replay::{MAX_LINE, Stop};
@@ -32,25 +32,16 @@ pub(crate) fn pass_asked(stop: Stop) -> PassId
     }
 }
 
-/// The call that a pass is inside of.
-#[derive(Clone, Copy)]
-struct CallName(Inside);
-
-/// As `an insert`.
-impl fmt::Display for CallName {
-    ghost use Rattle.std.specs.Prelude.{Some};
-    ghost use Rattle.csq_explain.specs.Reasons.{call_name};
-
-    ghost output = { λ call. Some (call_name call.0) };
-
-    fn fmt<W: fmt::Write>(&self, f: &mut fmt::Formatter<W>) -> fmt::Result {
-        match self.0 {
-            Inside::Nothing => write!(f, "no call"),
-            Inside::Armed(_) | Inside::FlagSeen(_) => write!(f, "an insert"),
-            Inside::Removing => write!(f, "a removal"),
-            Inside::Cancelling(_) => write!(f, "a cancel"),
-            Inside::Rearmed(_) | Inside::FlagSeenAgain(_) => write!(f, "a put-back"),
-        }
+/// The call that a pass is inside of, as `an insert`.
+fn call_name(inside: Inside) -> &'static str
+    ensures { result.now ≡ call_name inside }
+{
+    match inside {
+        Inside::Nothing => "no call",
+        Inside::Armed(_) | Inside::FlagSeen(_) => "an insert",
+        Inside::Removing => "a removal",
+        Inside::Cancelling(_) => "a cancel",
+        Inside::Rearmed(_) | Inside::FlagSeenAgain(_) => "a put-back",
     }
 }
 
@@ -76,91 +67,49 @@ impl fmt::Display for NextStep {
     }
 }
 
-/// How far a pass is in its call.
+/// Why a step is refused.
 #[derive(Clone, Copy)]
-struct Progress {
-    pass: PassId,
-    now: PassNow,
-}
-
-/// As `p1 has been inside an insert since line 3; its next step is test 0`.
-impl fmt::Display for Progress {
-    ghost use Rattle.std.specs.Prelude.{Some};
-    ghost use Rattle.csq_explain.specs.Reasons.{progress_text};
-
-    ghost output = { λ told. Some (progress_text told.pass told.now) };
-
-    fn fmt<W: fmt::Write>(&self, f: &mut fmt::Formatter<W>) -> fmt::Result {
-        let (pass, line, inside) = (self.pass, self.now.line, self.now.inside);
-        let (call, next) = (CallName(inside), NextStep(inside));
-        match inside {
-            Inside::Nothing => write!(
-                f,
-                "{pass} is inside no call, and none begins with a test or a take"
-            ),
-            _ => write!(
-                f,
-                "{pass} has been inside {call} since line {line}; its next step is {next}"
-            ),
-        }
-    }
-}
-
-/// That the pass of a step of this kind doesn't hold its IRP, or not by a removal.
-#[derive(Clone, Copy)]
-struct UnheldWords(Kind);
-
-impl fmt::Display for UnheldWords {
-    ghost use Rattle.std.specs.Prelude.{Some};
-    ghost use Rattle.csq_explain.specs.Reasons.{unheld_text};
-
-    ghost output = { λ told. Some (unheld_text told.0) };
-
-    fn fmt<W: fmt::Write>(&self, f: &mut fmt::Formatter<W>) -> fmt::Result {
-        match self.0 {
-            Kind::Rearm(_) => write!(
-                f,
-                " got the IRP by no removal in that life, or holds it no longer"
-            ),
-            _ => write!(f, " doesn't hold the IRP in that life"),
-        }
-    }
-}
-
-/// Why a step is refused, of the pass that would make it, or that has the lock.
-#[derive(Clone, Copy)]
-struct Refusal {
-    irps: u32,
-    passes: u32,
-    now: PassNow,
-    step: Step,
-    cause: StepRefused,
-}
+struct Refusal(Reason, Step, StepRefused);
 
 /// As `p3 has had the lock since line 5, inside a removal; its next step is a disarm or an end`.
 impl fmt::Display for Refusal {
     ghost use Rattle.std.specs.Prelude.{Some};
-    ghost use Rattle.csq_explain.specs.Reasons.{refusal_reason};
+    ghost use Rattle.csq_explain.specs.Reasons.{cause_text};
 
-    ghost output = { λ refusal. Some (refusal_reason refusal) };
+    ghost output = { λ told. Some (cause_text
+        told.0.irps told.0.passes told.0.now told.1.pass told.1.kind told.2) };
 
     fn fmt<W: fmt::Write>(&self, f: &mut fmt::Formatter<W>) -> fmt::Result {
-        let (Step { pass, kind }, now) = (self.step, self.now);
-        match self.cause {
-            StepRefused::UnknownIrp => write!(f, "an IRP's number is below {}", self.irps),
-            StepRefused::UnknownPass => write!(f, "a pass's number is 1 to {}", self.passes),
-            StepRefused::LockHeld(owner) => {
-                let (line, call, next) = (now.line, CallName(now.inside), NextStep(now.inside));
-                write!(
+        let Refusal(reason, step, cause) = *self;
+        let (pass, now) = (step.pass, reason.now);
+        let (line, call, next) = (now.line, call_name(now.inside), NextStep(now.inside));
+        match cause {
+            StepRefused::UnknownIrp => write!(f, "an IRP's number is below {}", reason.irps),
+            StepRefused::UnknownPass => write!(f, "a pass's number is 1 to {}", reason.passes),
+            StepRefused::LockHeld(owner) => write!(
+                f,
+                "{owner} has had the lock since line {line}, inside {call}; its next step is {next}"
+            ),
+            StepRefused::NotNext => match now.inside {
+                Inside::Nothing => write!(
                     f,
-                    "{owner} has had the lock since line {line}, inside {call}; its next step is {next}"
-                )
-            }
-            StepRefused::NotNext => write!(f, "{}", Progress { pass, now }),
+                    "{pass} is inside no call, and none begins with a test or a take"
+                ),
+                _ => write!(
+                    f,
+                    "{pass} has been inside {call} since line {line}; its next step is {next}"
+                ),
+            },
             StepRefused::NotHome => write!(f, "the IRP was armed before in that life"),
             StepRefused::NotListed => write!(f, "the IRP isn't listed in that life"),
             StepRefused::NotOwed => write!(f, "{pass} doesn't owe the IRP in that life"),
-            StepRefused::NotHeld => write!(f, "{pass}{}", UnheldWords(kind)),
+            StepRefused::NotHeld => match step.kind {
+                Kind::Rearm(_) => write!(
+                    f,
+                    "{pass} got the IRP by no removal in that life, or holds it no longer"
+                ),
+                _ => write!(f, "{pass} doesn't hold the IRP in that life"),
+            },
             StepRefused::Stale(life) => write!(f, "the IRP is in its life {life}"),
             StepRefused::NotCompleted => write!(f, "the IRP isn't completed in that life"),
             StepRefused::LivesSpent => write!(f, "the IRP is in its last life"),
@@ -183,16 +132,7 @@ impl fmt::Display for Reason {
                 f,
                 "this is no step, as p1 arm 0: arm, test, disarm, flag, take, out, done, renew or rearm, or p1 end"
             ),
-            Stop::Refused(step, cause) => {
-                let refusal = Refusal {
-                    irps: self.irps,
-                    passes: self.passes,
-                    now: self.now,
-                    step,
-                    cause,
-                };
-                write!(f, "{refusal}")
-            }
+            Stop::Refused(step, cause) => write!(f, "{}", Refusal(*self, step, cause)),
         }
     }
 }

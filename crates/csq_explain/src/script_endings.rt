@@ -17,9 +17,9 @@ struct LeftSentence<'a> {
 /// As `2 IRPs are listed, in this order: 2, 0`.
 impl fmt::Display for LeftSentence<'_> {
     ghost use Rattle.std.specs.Prelude.{Some};
-    ghost use Rattle.csq_explain.specs.ScriptEndings.{left_sentence};
+    ghost use Rattle.csq_explain.specs.ScriptEndings.{left_words};
 
-    ghost output = { λ told. Some (left_sentence told) };
+    ghost output = { λ told. Some (left_words told.count told.numbers.now) };
 
     fn fmt<W: fmt::Write>(&self, f: &mut fmt::Formatter<W>) -> fmt::Result {
         let LeftSentence { count, numbers } = *self;
@@ -42,27 +42,23 @@ struct KeptSentence<'a> {
 /// As `the pass holds IRP 1, and must complete it`.
 impl fmt::Display for KeptSentence<'_> {
     ghost use Rattle.std.specs.Prelude.{Some};
-    ghost use Rattle.csq_explain.specs.ScriptEndings.{kept_sentence};
+    ghost use Rattle.csq_explain.specs.ScriptEndings.{kept_words};
 
-    ghost output = { λ told. Some (kept_sentence told) };
+    ghost output = { λ told. Some (kept_words told.kept told.count told.numbers.now) };
 
     fn fmt<W: fmt::Write>(&self, f: &mut fmt::Formatter<W>) -> fmt::Result {
         let (numbers, is_one) = (self.numbers, self.count == 1);
         match self.kept {
             Kept::Held if is_one => write!(f, "the pass holds IRP {numbers}, and must complete it"),
             Kept::Held => write!(f, "the pass holds IRPs {numbers}, and must complete them"),
-            Kept::Owed if is_one => {
-                write!(
-                    f,
-                    "the pass owes IRP {numbers}: its cancel routine must run"
-                )
-            }
-            Kept::Owed => {
-                write!(
-                    f,
-                    "the pass owes IRPs {numbers}: their cancel routines must run"
-                )
-            }
+            Kept::Owed if is_one => write!(
+                f,
+                "the pass owes IRP {numbers}: its cancel routine must run"
+            ),
+            Kept::Owed => write!(
+                f,
+                "the pass owes IRPs {numbers}: their cancel routines must run"
+            ),
         }
     }
 }

@@ -1,5 +1,6 @@
 //! What a step did, in the words of the WDK.
-use irp_core::{Inside, IrpLife, Kind, Made, NtStatus};
+use irp_core::Inside::{Cancelling, Nothing, Removing};
+use irp_core::{Inside, Kind, Made, NtStatus};
 use std::fmt;
 
 /// A step that was made, and what is known of it beside the line that names it.
@@ -73,150 +74,55 @@ impl fmt::Display for InsertWord {
     }
 }
 
-/// An exchange of the routine by an insert or a put-back that found the flag set.
+/// What a read of the Cancel flag or an exchange of the routine with none found.
 #[derive(Clone, Copy)]
-struct TakeBackTold {
-    inside: Inside,
-    irp: IrpLife,
-    found: u64,
-}
+struct Finding(StepInCall);
 
-impl fmt::Display for TakeBackTold {
-    ghost use Rattle.std.specs.Prelude.{Some};
-    ghost use Rattle.csq_explain.specs.Sentences.{take_back_deed};
+/// As ` took the cancel routine of IRP 0 (IoSetCancelRoutine(Irp, NULL) in IoCancelIrp), and owes it now`.
+impl fmt::Display for Finding {
+    ghost use Rattle.std.specs.Prelude.{Some, ◌==◌, not};
+    ghost use Rattle.csq_explain.specs.Sentences.{finding};
 
-    ghost output = { λ told. Some (take_back_deed told.inside told.found told.irp) };
+    ghost output = { λ told. Some
+        (finding told.0.inside told.0.made.kind (not (told.0.made.found == 0))) };
 
     fn fmt<W: fmt::Write>(&self, f: &mut fmt::Formatter<W>) -> fmt::Result {
-        let (irp, insert) = (self.irp, InsertWord(self.inside));
-        if self.found == 0 {
-            write!(
+        let (made, inside) = (self.0.made, self.0.inside);
+        let insert = InsertWord(inside);
+        match (made.kind, inside, made.found != 0) {
+            (Kind::Test(irp), _, false) => write!(
                 f,
-                " found no cancel routine of IRP {irp} (IoSetCancelRoutine(Irp, NULL) in IoCsqInsertIrpEx): a cancel has it, and the {insert} ends"
-            )
-        } else {
-            write!(
+                " found the Cancel flag of IRP {irp} clear (if (Irp->Cancel) in IoCsqInsertIrpEx): the {insert} ends, and the IRP is pending"
+            ),
+            (Kind::Test(irp), _, true) => write!(
                 f,
-                " took the cancel routine of IRP {irp} back (IoSetCancelRoutine(Irp, NULL) in IoCsqInsertIrpEx), and holds it now"
-            )
-        }
-    }
-}
-
-/// An exchange of the routine by an insert, a put-back or a removal.
-#[derive(Clone, Copy)]
-struct DisarmTold {
-    inside: Inside,
-    irp: IrpLife,
-    found: u64,
-}
-
-impl fmt::Display for DisarmTold {
-    ghost use Rattle.std.specs.Prelude.{Some};
-    ghost use Rattle.csq_explain.specs.Sentences.{disarm_text};
-
-    ghost output = { λ told. Some (disarm_text told) };
-
-    fn fmt<W: fmt::Write>(&self, f: &mut fmt::Formatter<W>) -> fmt::Result {
-        let DisarmTold { inside, irp, found } = *self;
-        match inside {
-            Inside::Nothing | Inside::Removing | Inside::Cancelling(_) if found != 0 => write!(
+                " found the Cancel flag of IRP {irp} set (if (Irp->Cancel) in IoCsqInsertIrpEx)"
+            ),
+            (Kind::Disarm(irp), Nothing | Removing | Cancelling(_), true) => write!(
                 f,
                 " took the cancel routine of IRP {irp} (IoSetCancelRoutine(Irp, NULL) in IoCsqRemoveNextIrp or IoCsqRemoveIrp), and holds it now"
             ),
-            Inside::Nothing | Inside::Removing | Inside::Cancelling(_) => write!(
+            (Kind::Disarm(irp), Nothing | Removing | Cancelling(_), false) => write!(
                 f,
                 " found no cancel routine of IRP {irp} (IoSetCancelRoutine(Irp, NULL) in IoCsqRemoveNextIrp or IoCsqRemoveIrp): a cancel has it, and the removal goes on without it"
             ),
-            _ => write!(f, "{}", TakeBackTold { inside, irp, found }),
-        }
-    }
-}
-
-/// What a read of the flag told an insert or a put-back.
-#[derive(Clone, Copy)]
-struct TestTold {
-    inside: Inside,
-    irp: IrpLife,
-    found: u64,
-}
-
-impl fmt::Display for TestTold {
-    ghost use Rattle.std.specs.Prelude.{Some};
-    ghost use Rattle.csq_explain.specs.Sentences.{test_deed};
-
-    ghost output = { λ told. Some (test_deed told.inside told.found told.irp) };
-
-    fn fmt<W: fmt::Write>(&self, f: &mut fmt::Formatter<W>) -> fmt::Result {
-        let (irp, insert) = (self.irp, InsertWord(self.inside));
-        if self.found == 0 {
-            write!(
+            (Kind::Disarm(irp), _, true) => write!(
                 f,
-                " found the Cancel flag of IRP {irp} clear (if (Irp->Cancel) in IoCsqInsertIrpEx): the {insert} ends, and the IRP is pending"
-            )
-        } else {
-            write!(
+                " took the cancel routine of IRP {irp} back (IoSetCancelRoutine(Irp, NULL) in IoCsqInsertIrpEx), and holds it now"
+            ),
+            (Kind::Disarm(irp), _, false) => write!(
                 f,
-                " found the Cancel flag of IRP {irp} set (if (Irp->Cancel) in IoCsqInsertIrpEx)"
-            )
-        }
-    }
-}
-
-/// What a cancel did to the flag.
-#[derive(Clone, Copy)]
-struct FlagTold {
-    irp: IrpLife,
-    found: u64,
-}
-
-impl fmt::Display for FlagTold {
-    ghost use Rattle.std.specs.Prelude.{Some};
-    ghost use Rattle.csq_explain.specs.Sentences.{flag_deed};
-
-    ghost output = { λ told. Some (flag_deed told.found told.irp) };
-
-    fn fmt<W: fmt::Write>(&self, f: &mut fmt::Formatter<W>) -> fmt::Result {
-        let irp = self.irp;
-        if self.found == 0 {
-            write!(
-                f,
-                " set the Cancel flag of IRP {irp} (Irp->Cancel = TRUE in IoCancelIrp)"
-            )
-        } else {
-            write!(
-                f,
-                " found the Cancel flag of IRP {irp} set already (Irp->Cancel = TRUE in IoCancelIrp)"
-            )
-        }
-    }
-}
-
-/// An exchange of the routine by a cancel.
-#[derive(Clone, Copy)]
-struct TakeTold {
-    irp: IrpLife,
-    found: u64,
-}
-
-impl fmt::Display for TakeTold {
-    ghost use Rattle.std.specs.Prelude.{Some};
-    ghost use Rattle.csq_explain.specs.Sentences.{take_deed};
-
-    ghost output = { λ told. Some (take_deed told.found told.irp) };
-
-    fn fmt<W: fmt::Write>(&self, f: &mut fmt::Formatter<W>) -> fmt::Result {
-        let irp = self.irp;
-        if self.found == 0 {
-            write!(
-                f,
-                " found no cancel routine of IRP {irp} (IoSetCancelRoutine(Irp, NULL) in IoCancelIrp): the cancel ends, and returns FALSE"
-            )
-        } else {
-            write!(
+                " found no cancel routine of IRP {irp} (IoSetCancelRoutine(Irp, NULL) in IoCsqInsertIrpEx): a cancel has it, and the {insert} ends"
+            ),
+            (Kind::Take(irp), _, true) => write!(
                 f,
                 " took the cancel routine of IRP {irp} (IoSetCancelRoutine(Irp, NULL) in IoCancelIrp), and owes it now"
-            )
+            ),
+            (Kind::Take(irp), _, false) => write!(
+                f,
+                " found no cancel routine of IRP {irp} (IoSetCancelRoutine(Irp, NULL) in IoCancelIrp): the cancel ends, and returns FALSE"
+            ),
+            _ => Ok(()),
         }
     }
 }
@@ -233,37 +139,44 @@ impl fmt::Display for Sentence {
     ghost output = { λ told. Some (sentence told.0) };
 
     fn fmt<W: fmt::Write>(&self, f: &mut fmt::Formatter<W>) -> fmt::Result {
-        let step = self.0;
-        let (pass, inside, found) = (step.made.pass, step.inside, step.made.found);
-        match step.made.kind {
-            Kind::Arm(irp) => write!(
+        let Sentence(step) = *self;
+        let pass = step.made.pass;
+        match (step.made.kind, step.made.found != 0) {
+            (Kind::Arm(irp), _) => write!(
                 f,
                 "{pass} set the cancel routine of IRP {irp} (IoSetCancelRoutine(Irp, routine) in IoCsqInsertIrpEx)"
             ),
-            Kind::Test(irp) => write!(f, "{pass}{}", TestTold { inside, irp, found }),
-            Kind::Disarm(irp) => write!(f, "{pass}{}", DisarmTold { inside, irp, found }),
-            Kind::End => write!(
+            (Kind::End, _) => write!(
                 f,
                 "{pass} ended its removal without an IRP (IoCsqRemoveNextIrp or IoCsqRemoveIrp returns NULL)"
             ),
-            Kind::Flag(irp) => write!(f, "{pass}{}", FlagTold { irp, found }),
-            Kind::Take(irp) => write!(f, "{pass}{}", TakeTold { irp, found }),
-            Kind::Out(irp) => write!(
+            (Kind::Flag(irp), false) => write!(
+                f,
+                "{pass} set the Cancel flag of IRP {irp} (Irp->Cancel = TRUE in IoCancelIrp)"
+            ),
+            (Kind::Flag(irp), true) => write!(
+                f,
+                "{pass} found the Cancel flag of IRP {irp} set already (Irp->Cancel = TRUE in IoCancelIrp)"
+            ),
+            (Kind::Out(irp), _) => write!(
                 f,
                 "{pass} took IRP {irp} out of the list (CsqRemoveIrp in the cancel routine), and holds it now"
             ),
-            Kind::Done(irp) => {
+            (Kind::Done(irp), _) => {
                 let status = WithStatus(step.status);
                 write!(f, "{pass} completed IRP {irp}{status} (IoCompleteRequest)")
             }
-            Kind::Renew(irp) => write!(
+            (Kind::Renew(irp), _) => write!(
                 f,
                 "{pass} began the life that comes after IRP {irp} (IoReuseIrp)"
             ),
-            Kind::Rearm(irp) => write!(
+            (Kind::Rearm(irp), _) => write!(
                 f,
                 "{pass} put IRP {irp} back and set its cancel routine again (IoSetCancelRoutine(Irp, routine) in IoCsqInsertIrpEx), and holds it no longer"
             ),
+            (Kind::Test(_) | Kind::Disarm(_) | Kind::Take(_), _) => {
+                write!(f, "{pass}{}", Finding(step))
+            }
         }
     }
 }

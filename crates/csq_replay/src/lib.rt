@@ -17,6 +17,7 @@ pub use lines::{Answerer, Handling, MAX_LINE, is_skipped, reply};
 pub use schedule::answer_schedule;
 pub use schedule::closing::{IrpLine, irp_line};
 pub use schedule::outcome::{Outcome, Stop, handle_line};
+pub use schedule::replay::note_claim;
 pub use schedule::step_line::parse_pass;
 pub use script::answer_script;
 pub use script::call::{Call, Refusal, Reply};

@@ -6,7 +6,7 @@ ghost use Rattle.csq_replay.specs.Schedule.{RepliesToSchedule};
 
 pub(crate) mod closing;
 pub(crate) mod outcome;
-mod replay;
+pub(crate) mod replay;
 pub(crate) mod step_line;
 
 use crate::lines::answer::{Ended, SimFault};

@@ -17,9 +17,10 @@ pub(crate) struct Replay<A: Allocator> {
     pub(crate) asks: bool,
 }
 
-/// Notes the claim of a step, if it made one.
+/// Adds the line of the claim that a step made, which this line of the schedule names, as
+/// `claim 3 line 7 p1`; nothing if it made none. Refused where there is too little memory. Own rule.
 #[tactic(auto, unfolding(irp_core::specs::Steps::same_irp))]
-fn note_claim<A: Allocator>(
+pub fn note_claim<A: Allocator>(
     claims: &mut String<A>,
     number: usize,
     made: Made,

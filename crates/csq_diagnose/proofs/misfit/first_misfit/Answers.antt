@@ -1,7 +1,5 @@
 use Rattle.std.proofs.Common.{◌+◌, ◌<◌, ◌^◌, length, subst, refl, sym, ap, ◌∙◌, arith, rules}
-use Rattle.csq_diagnose.specs.declared.expected.Expected.{Expected}
-use Rattle.csq_diagnose.specs.Expecting.{Admits}
-use Rattle.csq_diagnose.specs.Grammars.{expected_at}
+use Rattle.csq_diagnose.proofs.Imports.{Expected, Admits, expected_at}
 use Rattle.csq_diagnose.proofs.Walking.{words_after, stands_there, one_more_fits, left_after, ended, item_expected, nothing_past}
 use Rattle.csq_diagnose.proofs.misfit.first_misfit.Goals as goal
 

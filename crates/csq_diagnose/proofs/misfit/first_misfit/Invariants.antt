@@ -1,6 +1,5 @@
 use Rattle.std.proofs.Common.{◌≡◌, ◌≤◌, take, drop, length}
-use Rattle.csq_replay.specs.Pieces.{words_of}
-use Rattle.csq_diagnose.specs.Grammars.{Fit}
+use Rattle.csq_diagnose.proofs.Imports.{words_of, Fit}
 use Rattle.csq_diagnose.proofs.misfit.first_misfit.Given as goal
 
 -- the words so far stand in their places, and the text has the others

@@ -1,8 +1,5 @@
 use Rattle.std.proofs.Common.{◌+◌, arith, subst, sym, List}
-use Rattle.irp_core.specs.MachineState.{size_of}
-use Rattle.csq_replay.specs.declared.schedule.closing.IrpLine.{IrpLine}
-use Rattle.csq_replay.specs.Schedule.{AreToldOf}
-use Rattle.csq_replay.proofs.Closings.{told_more}
+use Rattle.csq_explain.proofs.Imports.{size_of, IrpLine, AreToldOf, told_more}
 use Rattle.csq_explain.proofs.execution.told_irps.Goals as goal
 
 pub loop-number-preserved : goal.loop-number-preserved

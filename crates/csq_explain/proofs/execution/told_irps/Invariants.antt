@@ -1,7 +1,5 @@
 use Rattle.std.proofs.Common.{◌≤◌, List, vec_len}
-use Rattle.irp_core.specs.declared.step.Made.{Made}
-use Rattle.irp_core.specs.MachineState.{Agrees, size_of}
-use Rattle.csq_replay.specs.Schedule.{AreToldOf}
+use Rattle.csq_explain.proofs.Imports.{Made, Agrees, size_of, AreToldOf}
 use Rattle.csq_explain.proofs.execution.told_irps.Given as goal
 
 -- the IRPs so far are told of

@@ -1,9 +1,5 @@
 use Rattle.std.proofs.Common.{subst, List}
-use Rattle.std.specs.Prelude.{MatchOption}
-use Rattle.csq_replay.specs.Pieces.{words_of}
-use Rattle.csq_diagnose.specs.declared.expected.Expected.{Expected}
-use Rattle.csq_diagnose.specs.Grammars.{Fit}
-use Rattle.csq_diagnose.specs.Misfits.{IsFirstMisfit}
+use Rattle.csq_diagnose.proofs.Imports.{MatchOption, words_of, Expected, Fit, IsFirstMisfit}
 use Rattle.csq_diagnose.proofs.Following.{is_found}
 use Rattle.csq_diagnose.proofs.misfit.Misfit.find.Goals as goal
 

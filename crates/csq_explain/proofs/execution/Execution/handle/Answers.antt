@@ -1,12 +1,6 @@
 use Rattle.std.proofs.Common.{◌∷◌, ◌∙◌, ap, sym, refl, subst, arith, length}
-use Rattle.irp_core.specs.MachineState.{MachineState, Agrees, size_of}
-use Rattle.irp_core.specs.Runs.{Size}
-use Rattle.csq_replay.specs.declared.schedule.outcome.Outcome.TheVariants.{Skipped, Accepted, Stopped}
-use Rattle.csq_replay.specs.Schedule.{Numbered, run_of}
-use Rattle.csq_replay.proofs.Closings.{comes_of_size}
+use Rattle.csq_explain.proofs.Imports.{MachineState, Agrees, size_of, Size, Skipped, Accepted, Stopped, Numbered, run_of, comes_of_size, IsStatusAfter, reason_of}
 use Rattle.csq_explain.specs.declared.execution.Explained.TheVariants as explained
-use Rattle.csq_explain.specs.Executions.{IsStatusAfter}
-use Rattle.csq_explain.specs.Reasons.{reason_of}
 use Rattle.csq_explain.proofs.Following.{length-passes, passes_noted, noted_inside, told_in_call}
 use Rattle.csq_explain.proofs.Statuses.{status_is}
 use Rattle.csq_explain.proofs.execution.Execution.handle.Goals as goal

@@ -1,15 +1,9 @@
 use Rattle.std.proofs.Common.{List, ℕ, ◌++◌, ◌∷◌, ◌∙◌, [], Some, None, ap, sym, refl, append-nil, string_bytes, codes, decimal}
 use Rattle.std.proofs.lemmas.Str.{IsUtf8-from_ascii}
-use Rattle.csq_replay.specs.declared.schedule.outcome.Outcome.TheVariants.{Skipped, Accepted, Stopped}
+use Rattle.csq_explain.proofs.Imports.{Skipped, Accepted, Stopped, Numbered, run_of, claim_line, StepInCall, claim_remark, remark, reason_text, reason_of, sentence, in_call, all_passes}
 use Rattle.csq_replay.specs.Outcomes.{step_of, stop_text}
-use Rattle.csq_replay.specs.Schedule.{Numbered, run_of, claim_line}
 use Rattle.csq_replay.proofs.StepText.{line_ascii}
 use Rattle.csq_explain.specs.declared.reasons.Reason.{Reason}
-use Rattle.csq_explain.specs.declared.sentences.StepInCall.{StepInCall}
-use Rattle.csq_explain.specs.Explaining.{claim_remark, remark}
-use Rattle.csq_explain.specs.Reasons.{reason_text, reason_of}
-use Rattle.csq_explain.specs.Sentences.{sentence, in_call}
-use Rattle.csq_explain.specs.Passes.{all_passes}
 use Rattle.csq_explain.proofs.Closings.{step_remark, stop_remark}
 use Rattle.csq_explain.proofs.Outcomes.{was_skipped, was_accepted, was_stopped}
 use Rattle.csq_explain.proofs.explanation.ExplanationAnswerer.answer_line.Goals as goal

@@ -1,7 +1,5 @@
 use Rattle.std.proofs.Common.{List, ◌++◌, ◌∙◌, [], ap, cond, string_bytes, refl}
-use Rattle.csq_replay.specs.declared.schedule.closing.IrpLine.{IrpLine}
-use Rattle.csq_replay.proofs.Closings.{grew_more}
-use Rattle.csq_explain.specs.Explaining.{explained_irps, explained_rest, explained_claims}
+use Rattle.csq_explain.proofs.Imports.{IrpLine, grew_more, explained_irps, explained_rest, explained_claims}
 use Rattle.csq_explain.proofs.explanation.ExplanationAnswerer.close.Goals as goal
 
 pub returns : goal.returns
