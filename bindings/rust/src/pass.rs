@@ -189,9 +189,9 @@ impl Pass {
     pub fn reuse(&self, irp: Irp) -> Result<Irp, ReuseError> {
         let mut life = 0;
         // SAFETY: the queue is locked, and this thread alone has the pass.
-        match self
-            .locked(|queue, pass| unsafe { raw::csq_reuse(queue, pass, irp.raw(), &mut life) })
-        {
+        let code =
+            self.locked(|queue, pass| unsafe { raw::csq_reuse(queue, pass, irp.raw(), &mut life) });
+        match code {
             raw::OK => Ok(Irp { life, ..irp }),
             raw::UNKNOWN_IRP => Err(ReuseError::UnknownIrp),
             raw::STALE => Err(ReuseError::Stale),

@@ -1,13 +1,9 @@
 -- Peeks that go from the first IRP to the last, and all agree, tell the list.
 use Rattle.std.proofs.Common.{◌≡◌, ◌↔◌, true, List, [], ◌∷◌, ◌++◌, map, Option, Some, None, refl, sym, ap, ◌∙◌, subst}
-use Rattle.irp_core.specs.declared.ids.IrpId.{IrpId}
-use Rattle.csq_list.specs.declared.entry.Entry.{Entry}
+use Rattle.csq_audit.proofs.Imports.{IrpId, Entry, first_match, rest_after, is_distinct, IsFound, found, found-rest, Agrees}
 use Rattle.csq_list.specs.declared.entry.Peek.TheVariants.{Any}
-use Rattle.csq_list.specs.Searches.{first_match, rest_after, is_distinct}
-use Rattle.csq_list.proofs.Finding.{IsFound, found, found-rest}
 use Rattle.csq_audit.specs.Audits.{AllAgree}
 use Rattle.csq_audit.specs.Peeks.{peek_verdict}
-use Rattle.csq_audit.specs.declared.peek.PeekVerdict.TheVariants.{Agrees}
 use Rattle.csq_audit.proofs.Judging.{agrees_exactly}
 
 abbrev numbers : List Entry → List IrpId

@@ -1,14 +1,9 @@
 -- A verdict agrees exactly where the answer is the list's.
 use Rattle.std.proofs.Common.{◌≡◌, ◌↔◌, Bool, true, false, true≢false, List, Option, Some, None, refl, sym, ap, ◌∙◌}
-use Rattle.irp_core.specs.declared.ids.IrpId.{IrpId}
+use Rattle.csq_audit.proofs.Imports.{IrpId, Entry, Peek, is_listed, rest_after, matching, Agrees}
 use Rattle.irp_core.specs.Steps.{same_id}
 use Rattle.irp_core.proofs.Names.{same_id-eq, same_id-refl}
-use Rattle.csq_list.specs.declared.entry.Entry.{Entry}
-use Rattle.csq_list.specs.declared.entry.Peek.{Peek}
-use Rattle.csq_list.specs.Searches.{is_listed, rest_after}
-use Rattle.csq_audit.specs.Lists.{matching}
 use Rattle.csq_audit.specs.Peeks.{irp_verdict, stray_verdict, verdict_beside}
-use Rattle.csq_audit.specs.declared.peek.PeekVerdict.TheVariants.{Agrees}
 
 stray_never_agrees : (es : List Entry) (k : Peek) (i : IrpId) → stray_verdict es k i ≡ Agrees → ⊥
 stray_never_agrees es k i h = by_case (is_listed (matching k es) i) refl (is_listed es i) refl

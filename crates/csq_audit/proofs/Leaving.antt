@@ -2,12 +2,7 @@
 use Rattle.std.proofs.Common.{◌≡◌, ℕ, Bool, true, false, not, ◌&&◌, List, [], ◌∷◌, ◌++◌, Option, Some, None, refl, sym, ap, ◌∙◌, subst}
 use Rattle.std.specs.List.{find}
 use Rattle.std.specs.Option.{option_map}
-use Rattle.irp_core.specs.declared.ids.IrpId.{IrpId}
-use Rattle.csq_list.specs.declared.entry.Entry.{Entry}
-use Rattle.csq_list.specs.declared.entry.Peek.{Peek}
-use Rattle.csq_list.specs.Searches.{first_match, matches, rest_after, is_distinct}
-use Rattle.csq_list.proofs.Finding.{IsFound, found, found-rest}
-use Rattle.csq_audit.specs.Cleanups.{is_excused}
+use Rattle.csq_audit.proofs.Imports.{IrpId, Entry, Peek, first_match, matches, rest_after, is_distinct, IsFound, found, found-rest, is_excused}
 
 module _ (excused : List ℕ) (k : Peek) where
   -- the first match that isn't excused: of the IRPs of a file object this is `first_left`

@@ -1,3 +1,4 @@
+pub mod Imports
 pub mod Standing
 pub mod Judging
 pub mod Leaving

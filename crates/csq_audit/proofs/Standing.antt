@@ -1,12 +1,7 @@
 -- The matches after an IRP, as a look goes on from one to the next.
 use Rattle.std.proofs.Common.{◌≡◌, ◌≤◌, Bool, true, false, ◌||◌, List, [], ◌∷◌, ◌++◌, length, length-append, Option, Some, None, refl, sym, ap, ◌∙◌, subst, arith}
-use Rattle.irp_core.specs.declared.ids.IrpId.{IrpId}
+use Rattle.csq_audit.proofs.Imports.{IrpId, Entry, Peek, is_listed, matches, first_match, rest_after, is_distinct, IsFound, found, found-rest, rest_after-ends, matching}
 use Rattle.irp_core.specs.Steps.{same_id}
-use Rattle.csq_list.specs.declared.entry.Entry.{Entry}
-use Rattle.csq_list.specs.declared.entry.Peek.{Peek}
-use Rattle.csq_list.specs.Searches.{is_listed, matches, first_match, rest_after, is_distinct}
-use Rattle.csq_list.proofs.Finding.{IsFound, found, found-rest, rest_after-ends}
-use Rattle.csq_audit.specs.Lists.{matching}
 
 -- where no match comes first, there is none
 pub none_matches : (k : Peek) (es : List Entry) → first_match k es ≡ None → matching k es ≡ []

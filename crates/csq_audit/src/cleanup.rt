@@ -33,10 +33,11 @@ pub fn judge_cleanup(queue: &CheckedQueue, file: FileId, excused: &[u32]) -> Cle
     }
 }
 
-// The first IRP of a file object that isn't excused.
+/// The first IRP of a file object that isn't excused.
 fn find_left(queue: &CheckedQueue, file: FileId, excused: &[u32]) -> Option<IrpId>
     ensures { result ≡ first_left excused.now file (listed queue.now) }
 {
+    // No search has more matches than IRPs are listed, so the search ends before the bound.
     let mut at = None;
     'matches: for _ in 0..queue.len() {
         let Some(irp) = match_after(queue, at, Peek::File(file)) else {
@@ -50,7 +51,7 @@ fn find_left(queue: &CheckedQueue, file: FileId, excused: &[u32]) -> Option<IrpI
     None
 }
 
-// Whether a cleanup may leave an IRP.
+/// Whether a cleanup may leave an IRP.
 fn may_stay(excused: &[u32], irp: IrpId) -> bool
     ensures { result ≡ is_excused excused.now irp }
 {

@@ -46,7 +46,7 @@ pub fn judge_peek(
     Ok(judge_beside(queue, first, peek, answer))
 }
 
-// An answer, where this is the first match after the start, if there is one.
+/// An answer, where this is the first match after the start, if there is one.
 fn judge_beside(
     queue: &CheckedQueue,
     first: Option<IrpId>,
@@ -64,7 +64,7 @@ fn judge_beside(
     }
 }
 
-// An answer that is an IRP, where this is the first match after the start.
+/// An answer that is an IRP, where this is the first match after the start.
 fn judge_irp(queue: &CheckedQueue, first: IrpId, peek: Peek, irp: IrpId) -> PeekVerdict
     requires { IsStartIn (listed queue.now) (Some first) }
     ensures { result ≡ irp_verdict (listed queue.now) peek first irp }
@@ -72,13 +72,14 @@ fn judge_irp(queue: &CheckedQueue, first: IrpId, peek: Peek, irp: IrpId) -> Peek
     if is_same(first, irp) {
         PeekVerdict::Agrees
     } else if stands_after(queue, Some(first), peek, irp) {
+        // It is a match after the start too, but the driver passed the first one over.
         PeekVerdict::Skips(first)
     } else {
         judge_stray(queue, peek, irp)
     }
 }
 
-// An answer that is no match after the start.
+/// An answer that is no match after the start.
 fn judge_stray(queue: &CheckedQueue, peek: Peek, irp: IrpId) -> PeekVerdict
     ensures { result ≡ stray_verdict (listed queue.now) peek irp }
 {
@@ -91,11 +92,12 @@ fn judge_stray(queue: &CheckedQueue, peek: Peek, irp: IrpId) -> PeekVerdict
     }
 }
 
-// Whether an IRP is among the matches after another one, or in the whole queue.
+/// Whether an IRP is among the matches after another one, or in the whole queue.
 fn stands_after(queue: &CheckedQueue, from: Option<IrpId>, peek: Peek, irp: IrpId) -> bool
     requires { IsStartIn (listed queue.now) from }
     ensures { result ≡ is_listed (matching peek (rest_after from (listed queue.now))) irp }
 {
+    // No search has more matches than IRPs are listed, so the search ends before the bound.
     let mut at = from;
     'matches: for _ in 0..queue.len() {
         let Some(next) = match_after(queue, at, peek) else {

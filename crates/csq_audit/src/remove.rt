@@ -11,15 +11,15 @@ use crate::list::is_in_queue;
 use csq_checked::{CheckedPass, CheckedQueue};
 use irp_core::IrpLife;
 
-/// What is to be said of a removal. Own rule.
+/// What is to be said of a removal; the numbers are those of C's `csq_remove_verdict`. Own rule.
 #[derive(Clone, Copy, Debug, PartialEq, Eq)]
 pub enum RemoveVerdict {
     /// The queue gives the IRP to the pass too.
-    Agrees,
+    Agrees = 0,
     /// It is in the queue, by its number, and not to be had: a canceller has it, or it is in another life.
-    Claimed,
+    Claimed = 1,
     /// It isn't in the queue.
-    NotListed,
+    NotListed = 2,
 }
 
 /// Removes an IRP beside a driver that removes it (`IoCsqRemoveIrp`), or says why it isn't to be had. The
@@ -41,7 +41,7 @@ pub fn judge_remove(queue: &mut CheckedQueue, by: &mut CheckedPass, irp: IrpLife
     }
 }
 
-// An IRP that no removal gets.
+/// An IRP that no removal gets.
 fn judge_unremoved(is_listed: bool) -> RemoveVerdict
     ensures { result ≡ (if is_listed then RemoveVerdict.Claimed else RemoveVerdict.NotListed) }
 {

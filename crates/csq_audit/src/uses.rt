@@ -13,20 +13,21 @@ use crate::list::is_in_queue;
 use csq_checked::{CheckedPass, CheckedQueue, CompleteRefused};
 use irp_core::{IrpId, IrpLife, NtStatus};
 
-/// What is to be said of what a driver does with an IRP, the first that holds. Own rule.
+/// What is to be said of what a driver does with an IRP, the first that holds; the numbers are those of C's
+/// `csq_use_verdict`. Own rule.
 #[derive(Clone, Copy, Debug, PartialEq, Eq)]
 pub enum UseVerdict {
     /// The driver has it, and may do so.
-    Agrees,
+    Agrees = 0,
     /// It is in the queue.
-    Listed,
+    Listed = 1,
     /// The pass doesn't hold it in the life named: it was completed before, another pass has it, it was never
     /// inserted, or there is no such IRP.
-    NotHeld,
+    NotHeld = 2,
     /// It was got cancelled: it has to be completed with STATUS_CANCELLED.
-    GotCancelled,
+    GotCancelled = 3,
     /// STATUS_PENDING is no status to complete with.
-    NotFinal,
+    NotFinal = 4,
 }
 
 /// Completes an IRP beside a driver that completes it with this status (`IoCompleteRequest`), by the pass that
@@ -62,7 +63,7 @@ pub fn judge_insert(queue: &CheckedQueue, by: &mut CheckedPass, irp: IrpLife) ->
     judge_complete(queue, by, irp, NtStatus::SUCCESS)
 }
 
-// The completion of an IRP with this status, or the first cause why not.
+/// The completion of an IRP with this status, or the first cause why not.
 fn complete(by: &mut CheckedPass, irp: IrpLife, status: NtStatus) -> Result<(), CompleteRefused>
     ensures cause { result_err result ≡ refusal_of by.old irp status }
     ensures call { OnOk result (MakesOwnCall (CompletesOne irp status) by.old by.new) }
@@ -75,7 +76,7 @@ fn complete(by: &mut CheckedPass, irp: IrpLife, status: NtStatus) -> Result<(), 
     }
 }
 
-// An IRP that isn't completed for this cause.
+/// An IRP that isn't completed for this cause.
 fn judge_refusal(queue: &CheckedQueue, irp: IrpId, refused: CompleteRefused) -> UseVerdict
     ensures { result ≡ refusal_verdict (listed queue.now) irp refused }
 {

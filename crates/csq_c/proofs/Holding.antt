@@ -1,29 +1,10 @@
 -- What the proofs by hand share: a struct of one pointer, and what lies behind it. Assumes `Logic`.
 use Rattle.std.proofs.Common.{◌≡◌, ℕ, T, true, ◌&&◌, List, [], ◌∷◌, ◌++◌, refl, subst, lit<}
-use Rattle.std.specs.Prelude.{Option, Some, None}
-use Rattle.std.specs.Box.Ownership.{box_owns}
 use Rattle.std.proofs.GlobalToken.{dealloc_token-Testable}
-use base.Fml.{Fml, fsep, ftrue}
-use base.Fraction.{full_share}
-use base.Logic.{SProp, sep, emp, ent, guard, guard_i, via, never, fst∗, snd∗}
-use contract.Monad.{fact_use}
+use Rattle.csq_c.proofs.Imports.{Option, Some, None, box_owns, Fml, fsep, ftrue, full_share, SProp, sep, emp, ent, guard, guard_i, via, never, fst∗, snd∗, fact_use, lone, RattleType, Valss, Ptr, block_ptr, null_ptr, ptr_val, lies_at, in_a_block, Testable, nothing, Fn, Sym, ty_ptr, ty_struct, tcons, tnil, local, value_local, seq, assign, place, field, rv_opd, copy, aggregate, return, Calls, Loops, WpFn, Val, vstruct, vcons, vnil, of_list, has_ty, WT, Ura, Item, Goal, Seq, Step, step, ‵, raw, ◌⊛◌, given, prop, ◌$◌, ◌∵◌, !, qed, by, regoal, move, keep, drop, split, fsplit, fjoin, fpick, fpack, feq_i, feq_l, learn, use0, use1, alloc_all, pass_all, free_all, look_at, get, get_in, sets, agg, sub, whole, enter, of_opd, stop, fld, no_more, and_then, returns, Logic, sem, heap, frees, held}
 use denote.Builtin.{RawPtr}
-use denote.Memory.{lone}
-use denote.RattleType.{RattleType, Valss}
-use denote.RawPtr.{Ptr, block_ptr, null_ptr, ptr_val, lies_at, in_a_block, Testable}
-use denote.Steps.{nothing}
 use denote.Struct.Struct.{Shape, Struct, within}
 use mir.Raw.{raw as bare}
-use mir.Syntax.{Fn, Sym, ty_ptr, ty_struct, tcons, tnil, local, value_local, seq, assign, place, field, rv_opd, copy, aggregate, return}
-use prog.Wp.{Calls, Loops, WpFn}
-use mir.Val.{Val, vstruct, vcons, vnil, of_list, has_ty, WT}
-use seplogic.Ra.Ura.{Ura}
-use types.Kit.{Item, Goal, Seq, Step, step, ‵, raw, ◌⊛◌, given, prop, ◌$◌, ◌∵◌, !, qed, by, regoal, move, keep, drop, split, fsplit, fjoin, fpick, fpack, feq_i, feq_l, learn, use0, use1}
-use types.ByLocal.{alloc_all, pass_all, free_all, look_at, get, get_in, sets}
-use types.Part.{agg, sub, whole}
-use types.Run.{enter, of_opd, stop, fld, no_more, and_then, returns}
-use types.Logic.{Logic, sem}
-use Rattle.csq_c.specs.Holds.{heap, frees, held}
 
 -- the machine value of a struct of one pointer
 abbrev pub word : Ptr → Val

@@ -1,3 +1,4 @@
+pub mod Imports
 pub mod Holding
 pub mod OnTheHeap
 pub mod Called

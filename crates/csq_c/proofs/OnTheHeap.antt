@@ -3,15 +3,10 @@ use Rattle.std.proofs.Common.{[], ◌∷◌, refl}
 use Rattle.std_alloc.proofs.BoxSteps.Form.{Bx}
 use Rattle.std_heap.proofs.Global.TheLaws.{the_row_laws, the_within}
 use Rattle.std_heap.specs.contracts.Global.{the_row}
-use Rattle.std_heap.specs.contracts.GlobalAllocator.TheImpl.{ghosts, dict}
+use Rattle.csq_c.proofs.Imports.{ghosts, dict, ◌⊑◌, no, layout, param, arg, RattleType, Dict, impl, tnil, tcons, dnil}
 use Rattle.std_alloc.specs.contracts.boxed.Box as boxed
-use contract.BorrowLft.{◌⊑◌}
-use denote.Exit.{no}
-use denote.Param.{layout, param, arg}
 use denote.Param.Laws.{Laws, arg_laws}
-use denote.RattleType.{RattleType}
 use mir.Raw.{raw}
-use mir.Syntax.{Dict, impl, tnil, tcons, dnil}
 use Rattle.csq_c.proofs.Destruct++none.drop.Symbol.{symbol}
 
 abbrev pub Heap : RattleType

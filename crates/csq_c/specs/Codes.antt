@@ -24,7 +24,7 @@ use Rattle.csq_checked.specs.declared.size.NewRefused.TheVariants as new
 use Rattle.csq_checked.specs.declared.size.PassRefused.{PassRefused}
 use Rattle.csq_checked.specs.declared.size.PassRefused.TheVariants as pass
 use Rattle.csq_c.specs.declared.codes.Code.{Code}
-use Rattle.csq_c.specs.declared.codes.Code.TheVariants.{Done, UnknownIrp, UnknownFile, NotHome, FileClosed, Full, FileFull, Cancelled, Nothing, Stale, NotCompleted, LivesSpent, NotHeld, NotOwed, NotRemoved, NotFinal, Holding, PassesOut, NoPass, BadSize, NoMemory, Empty, NotEmpty, NotListed, Closed, NotClosed, OtherQueue}
+use Rattle.csq_c.specs.declared.codes.Code.TheVariants.{Done, UnknownIrp, UnknownFile, NotHome, FileClosed, Full, FileFull, Cancelled, Nothing, Stale, NotCompleted, LivesSpent, NotHeld, NotOwed, NotRemoved, NotFinal, Holding, PassesOut, NoPass, BadSize, NoMemory, EmptyHandle, NotEmpty, NotListed, Closed, NotClosed, OtherQueue}
 
 -- the number of a code
 abbrev pub number_of : Code → ℕ
@@ -49,7 +49,7 @@ number_of PassesOut = 17
 number_of NoPass = 18
 number_of BadSize = 19
 number_of NoMemory = 20
-number_of Empty = 21
+number_of EmptyHandle = 21
 number_of NotEmpty = 22
 number_of NotListed = 23
 number_of Closed = 24

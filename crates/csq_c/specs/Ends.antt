@@ -9,7 +9,7 @@ use Rattle.csq_checked.specs.Idle.{with_idle_back}
 use Rattle.csq_checked.specs.Passes.{CheckedState, CheckedPassState, IsPassIn, HandsOutNew, HandsOutAgain, IsBack, out_of}
 use Rattle.csq_c.specs.Bodies.{QueueBodyState, RestState}
 use Rattle.csq_c.specs.declared.codes.Code.{Code}
-use Rattle.csq_c.specs.declared.codes.Code.TheVariants.{Done, Holding, PassesOut, Empty, NotEmpty, Closed}
+use Rattle.csq_c.specs.declared.codes.Code.TheVariants.{Done, Holding, PassesOut, EmptyHandle, NotEmpty, Closed}
 
 -- how many are out, of a queue that is open
 abbrev pub out_of_open : Option CheckedState → Option ℕ
@@ -23,7 +23,7 @@ out_left (Some q) = out_of q
 
 -- the code of a call of an open queue that is never refused else
 abbrev pub open_code : Option QueueBodyState → Code
-open_code None = Empty
+open_code None = EmptyHandle
 open_code (Some body) = if is_some body.queue then Done else Closed
 
 -- what freeing a queue answers: of an empty handle as C's free of NULL
@@ -37,7 +37,7 @@ is_idle p = (held_count p.pass.steps == 0) && (owed_count p.pass.steps == 0)
 
 -- what letting a pass go answers
 abbrev pub abandon_code : Option CheckedPassState → Code
-abandon_code None = Empty
+abandon_code None = EmptyHandle
 abandon_code (Some p) = if is_idle p then Done else Holding
 
 -- what giving a pass back answers
@@ -70,6 +70,6 @@ pub record IsHandedOut (body body' : QueueBodyState) (p : CheckedPassState) : Ty
 
 -- why no pass is asked for
 abbrev pub take_cause : Option QueueBodyState → Option CheckedPassState → Option Code
-take_cause None pass = Some Empty
+take_cause None pass = Some EmptyHandle
 take_cause (Some body) (Some p) = Some NotEmpty
 take_cause (Some body) None = if is_some body.queue then None else Some Closed

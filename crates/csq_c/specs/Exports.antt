@@ -3,7 +3,7 @@ use Rattle.std.specs.Prelude.{◌≡◌, ◌⊎◌, ℕ, Some, None, IfSome}
 use Rattle.csq_checked.specs.Passes.{CheckedState, CheckedPassState}
 use Rattle.csq_c.specs.Bodies.{QueueBodyState, IsPassFor}
 use Rattle.csq_c.specs.declared.codes.Code.{Code}
-use Rattle.csq_c.specs.declared.codes.Code.TheVariants.{Empty, Closed, OtherQueue}
+use Rattle.csq_c.specs.declared.codes.Code.TheVariants.{EmptyHandle, Closed, OtherQueue}
 use Rattle.csq_c.specs.declared.handles.CsqQueue.{CsqQueue}
 use Rattle.csq_c.specs.declared.handles.CsqPass.{CsqPass}
 use Rattle.csq_c.specs.Codes.{number_of}
@@ -32,7 +32,7 @@ AreHandlesKept queue queue' pass pass' = IsQueueKept queue queue' × IsPassKept 
 -- a call through the handles of a queue and a pass is as told of what they hold. Where one is empty, or the numbers differ, the code says so, and nothing is changed
 pub record OnHandles (queue queue' : CsqQueue) (pass pass' : CsqPass) (result : ℕ) (kept : Type 0) (told : QueueBodyState → QueueBodyState → CheckedPassState → CheckedPassState → Code → Type 0) : Type 0 where
   pub numbers : (queue'.number ≡ queue.number) × (pass'.queue ≡ pass.queue)
-  pub empty : (queue.boxed.body ≡ None) ⊎ (pass.boxed.body ≡ None) → (result ≡ number_of Empty) × AreHandlesKept queue queue' pass pass' × kept
+  pub empty : (queue.boxed.body ≡ None) ⊎ (pass.boxed.body ≡ None) → (result ≡ number_of EmptyHandle) × AreHandlesKept queue queue' pass pass' × kept
   pub other : (body : QueueBodyState) (p : CheckedPassState) → queue.boxed.body ≡ Some body → pass.boxed.body ≡ Some p → ¬ (pass.queue ≡ queue.number)
       → (result ≡ number_of OtherQueue) × AreHandlesKept queue queue' pass pass' × kept
   pub called : (body : QueueBodyState) (p : CheckedPassState) → queue.boxed.body ≡ Some body → pass.boxed.body ≡ Some p → pass.queue ≡ queue.number
@@ -41,5 +41,5 @@ pub record OnHandles (queue queue' : CsqQueue) (pass pass' : CsqPass) (result : 
 -- a call through the handle of a pass is as told of the pass. Where it is empty the code says so, and nothing is changed
 pub record OnPass (pass pass' : CsqPass) (result : ℕ) (kept : Type 0) (told : CheckedPassState → CheckedPassState → Code → Type 0) : Type 0 where
   pub number : pass'.queue ≡ pass.queue
-  pub empty : pass.boxed.body ≡ None → (result ≡ number_of Empty) × (pass'.boxed.body ≡ None) × kept
+  pub empty : pass.boxed.body ≡ None → (result ≡ number_of EmptyHandle) × (pass'.boxed.body ≡ None) × kept
   pub called : (p : CheckedPassState) → pass.boxed.body ≡ Some p → (p' : CheckedPassState) × (code : Code) × (pass'.boxed.body ≡ Some p') × (result ≡ number_of code) × told p p' code

@@ -10,7 +10,7 @@ use Rattle.csq_checked.specs.Passes.{CheckedState}
 use Rattle.csq_c.specs.Bodies.{QueueBodyState}
 use Rattle.csq_c.specs.Codes.{number_of}
 use Rattle.csq_c.specs.declared.codes.Code.{Code}
-use Rattle.csq_c.specs.declared.codes.Code.TheVariants.{Done, UnknownFile, Nothing, Empty, NotListed, Closed}
+use Rattle.csq_c.specs.declared.codes.Code.TheVariants.{Done, UnknownFile, Nothing, EmptyHandle, NotListed, Closed}
 
 -- a look at an open queue is as told of it. Of a closed one the code says so, and nothing is told
 pub record OnOpen (body : QueueBodyState) (code : Code) (nothing : Type 0) (told : CheckedState → Type 0) : Type 0 where
@@ -19,7 +19,7 @@ pub record OnOpen (body : QueueBodyState) (code : Code) (nothing : Type 0) (told
 
 -- a look through the handle of a queue is as told of what it holds. Where it is empty the code says so, and nothing is written
 pub record OnQueueHandle (queue : Option QueueBodyState) (result : ℕ) (kept : Type 0) (told : QueueBodyState → Code → Type 0) : Type 0 where
-  pub empty : queue ≡ None → (result ≡ number_of Empty) × kept
+  pub empty : queue ≡ None → (result ≡ number_of EmptyHandle) × kept
   pub looked : (body : QueueBodyState) → queue ≡ Some body → (code : Code) × (result ≡ number_of code) × told body code
 
 -- it tells how many IRPs are listed

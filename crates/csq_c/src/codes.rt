@@ -12,33 +12,33 @@ use irp_core::{IrpLife, Life, NtStatus};
 /// What a call answers. Each has its number and its name in `csq.h`. Own rule.
 #[derive(Clone, Copy)]
 pub(crate) enum Code {
-    Done,
-    UnknownIrp,
-    UnknownFile,
-    NotHome,
-    FileClosed,
-    Full,
-    FileFull,
-    Cancelled,
-    Nothing,
-    Stale,
-    NotCompleted,
-    LivesSpent,
-    NotHeld,
-    NotOwed,
-    NotRemoved,
-    NotFinal,
-    Holding,
-    PassesOut,
-    NoPass,
-    BadSize,
-    NoMemory,
-    Empty,
-    NotEmpty,
-    NotListed,
-    Closed,
-    NotClosed,
-    OtherQueue,
+    Done = 0,
+    UnknownIrp = 1,
+    UnknownFile = 2,
+    NotHome = 3,
+    FileClosed = 4,
+    Full = 5,
+    FileFull = 6,
+    Cancelled = 7,
+    Nothing = 8,
+    Stale = 9,
+    NotCompleted = 10,
+    LivesSpent = 11,
+    NotHeld = 12,
+    NotOwed = 13,
+    NotRemoved = 14,
+    NotFinal = 15,
+    Holding = 16,
+    PassesOut = 17,
+    NoPass = 18,
+    BadSize = 19,
+    NoMemory = 20,
+    EmptyHandle = 21,
+    NotEmpty = 22,
+    NotListed = 23,
+    Closed = 24,
+    NotClosed = 25,
+    OtherQueue = 26,
 }
 
 impl Code {
@@ -46,39 +46,11 @@ impl Code {
     pub(crate) fn number(self) -> u32
         ensures { result ≡ number_of self }
     {
-        match self {
-            Code::Done => 0,
-            Code::UnknownIrp => 1,
-            Code::UnknownFile => 2,
-            Code::NotHome => 3,
-            Code::FileClosed => 4,
-            Code::Full => 5,
-            Code::FileFull => 6,
-            Code::Cancelled => 7,
-            Code::Nothing => 8,
-            Code::Stale => 9,
-            Code::NotCompleted => 10,
-            Code::LivesSpent => 11,
-            Code::NotHeld => 12,
-            Code::NotOwed => 13,
-            Code::NotRemoved => 14,
-            Code::NotFinal => 15,
-            Code::Holding => 16,
-            Code::PassesOut => 17,
-            Code::NoPass => 18,
-            Code::BadSize => 19,
-            Code::NoMemory => 20,
-            Code::Empty => 21,
-            Code::NotEmpty => 22,
-            Code::NotListed => 23,
-            Code::Closed => 24,
-            Code::NotClosed => 25,
-            Code::OtherQueue => 26,
-        }
+        self as u32
     }
 }
 
-// Why no IRP was inserted.
+/// Why no IRP was inserted.
 fn refusal(cause: InsertStatus) -> Code
     ensures { result ≡ refusal_code cause }
 {

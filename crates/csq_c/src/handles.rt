@@ -6,6 +6,7 @@ ghost use Rattle.csq_c.specs.Bodies.{QueueBodyState};
 mod lent;
 
 use crate::body::QueueBody;
+pub(crate) use crate::handles::lent::lend;
 use crate::hold::{Handle, Hold};
 use csq_checked::CheckedPass;
 use std::marker::Model;

@@ -47,7 +47,7 @@ impl QueueBody {
     }
 }
 
-// The number of a verdict, and of the IRP that is skipped.
+/// The number of a verdict, and of the IRP that is skipped.
 fn numbers_of(verdict: PeekVerdict) -> (u32, Option<u32>)
     ensures { result ≡ (verdict_number verdict, skipped_by verdict) }
 {
@@ -60,7 +60,7 @@ fn numbers_of(verdict: PeekVerdict) -> (u32, Option<u32>)
     }
 }
 
-// Those of a verdict, where there is one.
+/// Those of a verdict, where there is one.
 fn told(verdict: Option<PeekVerdict>) -> (Option<u32>, Option<u32>)
     ensures { result ≡ (verdict_told verdict, skipped_told verdict) }
 {
@@ -73,10 +73,9 @@ fn told(verdict: Option<PeekVerdict>) -> (Option<u32>, Option<u32>)
 
 /// Compares the answer of a driver's `CsqPeekNextIrp` with the queue's list: `answer`, or none by the largest
 /// number, to a peek that went on after `after` (or from the first, by the largest number) for IRPs of a
-/// file object (or of all, by the largest number). Writes a verdict, the first that holds: 0 where it
-/// agrees with `csq_peek_next`; 1 where it is none or a later match, and then in `skipped` the match
-/// that comes first; 2 where it is a match, but not after `after`; 3 where it is listed, and no match; 4
-/// where it isn't listed. CSQ_OK, or CSQ_NOT_LISTED where `after` isn't listed. Own rule.
+/// file object (or of all, by the largest number). Writes the first `csq_peek_verdict` that holds, and of
+/// CSQ_PEEK_SKIPS in `skipped` the match that comes first. CSQ_OK, or CSQ_NOT_LISTED where `after` isn't
+/// listed. Own rule.
 #[unsafe(no_mangle)]
 pub extern "C" fn csq_judge_peek(
     queue: &mut CsqQueue,
@@ -95,7 +94,7 @@ pub extern "C" fn csq_judge_peek(
         × (skipped.new ≡ set_to (skipped_told told) skipped.old)) }
 {
     let Some(body) = queue.boxed.lent() else {
-        return Code::Empty.number();
+        return Code::EmptyHandle.number();
     };
     let (code, judged) = body.judge_peek(start(after), peek(file), start(answer));
     let (number, first) = told(judged);
@@ -104,7 +103,7 @@ pub extern "C" fn csq_judge_peek(
     code.number()
 }
 
-// The number of the IRP that is left, or the largest one, where there is a verdict.
+/// The number of the IRP that is left, or the largest one, where there is a verdict.
 fn left_of(verdict: Option<CleanupVerdict>) -> Option<u32>
     ensures { result ≡ left_told verdict }
 {
@@ -130,7 +129,7 @@ pub extern "C" fn csq_judge_cleanup(
         × (left.new ≡ set_to (left_told told) left.old)) }
 {
     let Some(body) = queue.boxed.lent() else {
-        return Code::Empty.number();
+        return Code::EmptyHandle.number();
     };
     let (code, judged) = body.judge_cleanup(FileId(file), excused);
     write(left, left_of(judged));

@@ -65,7 +65,7 @@ impl QueueBody {
 #[unsafe(no_mangle)]
 pub extern "C" fn csq_read_listed(queue: &mut CsqQueue, after: u32, irp: &mut u32) -> u32
     ensures same { IsQueueKept queue.old queue.new }
-    ensures empty { queue.old.boxed.body ≡ None → (result ≡ number_of Code.Empty)
+    ensures empty { queue.old.boxed.body ≡ None → (result ≡ number_of Code.EmptyHandle)
         × (irp.new ≡ irp.old) }
     ensures unclosed { IfSome queue.old.boxed.body (λ body. body.rest ≡ None
         → (result ≡ number_of Code.NotClosed) × (irp.new ≡ irp.old)) }
@@ -74,7 +74,7 @@ pub extern "C" fn csq_read_listed(queue: &mut CsqQueue, after: u32, irp: &mut u3
         × (irp.new ≡ set_to (number_told (next_after rest.entries (start_of after))) irp.old))) }
 {
     let Some(body) = queue.boxed.lent() else {
-        return Code::Empty.number();
+        return Code::EmptyHandle.number();
     };
     let (code, next) = body.next_listed(start(after));
     write(irp, next);
@@ -86,7 +86,7 @@ pub extern "C" fn csq_read_listed(queue: &mut CsqQueue, after: u32, irp: &mut u3
 #[unsafe(no_mangle)]
 pub extern "C" fn csq_read_left(queue: &mut CsqQueue, irp: u32, left: &mut CsqLeft) -> u32
     ensures same { IsQueueKept queue.old queue.new }
-    ensures empty { queue.old.boxed.body ≡ None → (result ≡ number_of Code.Empty)
+    ensures empty { queue.old.boxed.body ≡ None → (result ≡ number_of Code.EmptyHandle)
         × (left.new ≡ left.old) }
     ensures unclosed { IfSome queue.old.boxed.body (λ body. body.rest ≡ None
         → (result ≡ number_of Code.NotClosed) × (left.new ≡ left.old)) }
@@ -95,7 +95,7 @@ pub extern "C" fn csq_read_left(queue: &mut CsqQueue, irp: u32, left: &mut CsqLe
         × (left.new ≡ left_written (left_of rest.finals (irp_numbered irp)) left.old))) }
 {
     let Some(body) = queue.boxed.lent() else {
-        return Code::Empty.number();
+        return Code::EmptyHandle.number();
     };
     let (code, told) = body.left(IrpId(irp));
     left.write(told);

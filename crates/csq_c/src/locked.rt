@@ -8,7 +8,7 @@ ghost use Rattle.csq_c.specs.Exports.{OnHandles, ArePaired};
 ghost use Rattle.csq_c.specs.Shapes.{irp_numbered, file_numbered, irp_named, place_numbered, peek_of, written, set_to};
 
 use crate::codes::Code;
-use crate::handles::{CsqPass, CsqQueue};
+use crate::handles::{CsqPass, CsqQueue, lend};
 use crate::shapes::{CsqIrp, peek, place, write};
 use irp_core::{FileId, IrpId};
 
@@ -33,15 +33,7 @@ pub extern "C" fn csq_insert(
         (place_numbered front) body body' p p' code told
         × (context.new ≡ written told context.old)) }
 {
-    let Some(body) = queue.boxed.lent() else {
-        return Code::Empty.number();
-    };
-    let Some(by) = pass.boxed.lent() else {
-        return Code::Empty.number();
-    };
-    if pass.queue != queue.number {
-        return Code::OtherQueue.number();
-    }
+    lend!(body in queue, by in pass);
     let (code, told) = body.insert(by, IrpId(irp), FileId(file), place(front));
     context.write(told);
     code.number()
@@ -68,15 +60,7 @@ pub extern "C" fn csq_put_back(
         × PutsBackInto (irp_named irp) (place_numbered front) body body' p p' code told
         × (context.new ≡ written told context.old)) }
 {
-    let Some(body) = queue.boxed.lent() else {
-        return Code::Empty.number();
-    };
-    let Some(by) = pass.boxed.lent() else {
-        return Code::Empty.number();
-    };
-    if pass.queue != queue.number {
-        return Code::OtherQueue.number();
-    }
+    lend!(body in queue, by in pass);
     let (code, told) = body.put_back(by, irp.named(), place(front));
     context.write(told);
     code.number()
@@ -99,15 +83,7 @@ pub extern "C" fn csq_remove_next(
         × RemovesNextFrom (peek_of file) body body' p p' code told
         × (irp.new ≡ written told irp.old)) }
 {
-    let Some(body) = queue.boxed.lent() else {
-        return Code::Empty.number();
-    };
-    let Some(by) = pass.boxed.lent() else {
-        return Code::Empty.number();
-    };
-    if pass.queue != queue.number {
-        return Code::OtherQueue.number();
-    }
+    lend!(body in queue, by in pass);
     let (code, told) = body.remove_next(by, peek(file));
     irp.write(told);
     code.number()
@@ -121,17 +97,8 @@ pub extern "C" fn csq_remove(queue: &mut CsqQueue, pass: &mut CsqPass, irp: CsqI
     ensures { OnHandles queue.old queue.new pass.old pass.new result (Unit {0})
         (λ body body' p p' code. RemovesFrom (irp_named irp) body body' p p' code) }
 {
-    let Some(body) = queue.boxed.lent() else {
-        return Code::Empty.number();
-    };
-    let Some(by) = pass.boxed.lent() else {
-        return Code::Empty.number();
-    };
-    if pass.queue != queue.number {
-        return Code::OtherQueue.number();
-    }
-    let code = body.remove(by, irp.named());
-    code.number()
+    lend!(body in queue, by in pass);
+    body.remove(by, irp.named()).number()
 }
 
 /// Runs the cancel routine of an IRP that the pass owes in the life named: CSQ_OK, and the pass
@@ -143,17 +110,8 @@ pub extern "C" fn csq_cancel_routine(queue: &mut CsqQueue, pass: &mut CsqPass, i
     ensures { OnHandles queue.old queue.new pass.old pass.new result (Unit {0})
         (λ body body' p p' code. RunsRoutineOn (irp_named irp) body body' p p' code) }
 {
-    let Some(body) = queue.boxed.lent() else {
-        return Code::Empty.number();
-    };
-    let Some(by) = pass.boxed.lent() else {
-        return Code::Empty.number();
-    };
-    if pass.queue != queue.number {
-        return Code::OtherQueue.number();
-    }
-    let code = body.cancel_routine(by, irp.named());
-    code.number()
+    lend!(body in queue, by in pass);
+    body.cancel_routine(by, irp.named()).number()
 }
 
 /// Runs the cancel routine of an IRP that the pass owes in the life named, and completes the IRP with
@@ -166,17 +124,8 @@ pub extern "C" fn csq_cancel_owed(queue: &mut CsqQueue, pass: &mut CsqPass, irp:
     ensures { OnHandles queue.old queue.new pass.old pass.new result (Unit {0})
         (λ body body' p p' code. CancelsOwedOn (irp_named irp) body body' p p' code) }
 {
-    let Some(body) = queue.boxed.lent() else {
-        return Code::Empty.number();
-    };
-    let Some(by) = pass.boxed.lent() else {
-        return Code::Empty.number();
-    };
-    if pass.queue != queue.number {
-        return Code::OtherQueue.number();
-    }
-    let code = body.cancel_owed(by, irp.named());
-    code.number()
+    lend!(body in queue, by in pass);
+    body.cancel_owed(by, irp.named()).number()
 }
 
 /// Closes a file object for good: CSQ_OK, or CSQ_UNKNOWN_FILE where there is none. The first step
@@ -187,17 +136,8 @@ pub extern "C" fn csq_close_file(queue: &mut CsqQueue, pass: &mut CsqPass, file:
     ensures { OnHandles queue.old queue.new pass.old pass.new result (Unit {0})
         (λ body body' p p' code. ClosesFileOf (file_numbered file) body body' p p' code) }
 {
-    let Some(body) = queue.boxed.lent() else {
-        return Code::Empty.number();
-    };
-    let Some(by) = pass.boxed.lent() else {
-        return Code::Empty.number();
-    };
-    if pass.queue != queue.number {
-        return Code::OtherQueue.number();
-    }
-    let code = body.close_file(by, FileId(file));
-    code.number()
+    lend!(body in queue, by in pass);
+    body.close_file(by, FileId(file)).number()
 }
 
 /// Begins the next life of an IRP that was completed in the life named, and writes it: CSQ_OK, else
@@ -217,15 +157,7 @@ pub extern "C" fn csq_reuse(
         × ReusesOf (irp_named irp) body body' p p' code told
         × (life.new ≡ set_to told life.old)) }
 {
-    let Some(body) = queue.boxed.lent() else {
-        return Code::Empty.number();
-    };
-    let Some(by) = pass.boxed.lent() else {
-        return Code::Empty.number();
-    };
-    if pass.queue != queue.number {
-        return Code::OtherQueue.number();
-    }
+    lend!(body in queue, by in pass);
     let (code, told) = body.reuse(by, irp.named());
     write(life, told);
     code.number()

@@ -63,7 +63,7 @@ pub extern "C" fn csq_len(queue: &mut CsqQueue, len: &mut u32) -> u32
         × (len.new ≡ set_to told len.old)) }
 {
     let Some(body) = queue.boxed.lent() else {
-        return Code::Empty.number();
+        return Code::EmptyHandle.number();
     };
     let (code, told) = body.len();
     write(len, told);
@@ -80,7 +80,7 @@ pub extern "C" fn csq_file_len(queue: &mut CsqQueue, file: u32, len: &mut u32) -
         × (len.new ≡ set_to told len.old)) }
 {
     let Some(body) = queue.boxed.lent() else {
-        return Code::Empty.number();
+        return Code::EmptyHandle.number();
     };
     let (code, told) = body.file_len(FileId(file));
     write(len, told);
@@ -105,7 +105,7 @@ pub extern "C" fn csq_peek_next(
         × (irp.new ≡ written told irp.old)) }
 {
     let Some(body) = queue.boxed.lent() else {
-        return Code::Empty.number();
+        return Code::EmptyHandle.number();
     };
     let (code, told) = body.peek_next(start(after), peek(file));
     irp.write(told);

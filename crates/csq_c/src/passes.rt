@@ -32,7 +32,7 @@ pub extern "C" fn csq_take_pass(alloc: Global, queue: &mut CsqQueue, pass: &mut 
     ensures kept { 0 < result → AreHandlesKept queue.old queue.new pass.old pass.new }
 {
     let Some(body) = queue.boxed.lent() else {
-        return Code::Empty.number();
+        return Code::EmptyHandle.number();
     };
     if pass.boxed.is_filled() {
         return Code::NotEmpty.number();
@@ -41,6 +41,7 @@ pub extern "C" fn csq_take_pass(alloc: Global, queue: &mut CsqQueue, pass: &mut 
         Err(code) => code.number(),
         Ok(by) => {
             put(&mut pass.boxed, by);
+            // By this number a call knows a pass of another queue.
             pass.queue = queue.number;
             Code::Done.number()
         }
@@ -54,7 +55,7 @@ pub extern "C" fn csq_take_pass(alloc: Global, queue: &mut CsqQueue, pass: &mut 
 pub extern "C" fn csq_give_back(alloc: Global, queue: &mut CsqQueue, pass: &mut CsqPass) -> u32
     requires { ArePaired queue.old pass.old }
     ensures empty { (queue.old.boxed.body ≡ None) ⊎ (pass.old.boxed.body ≡ None)
-        → result ≡ number_of Code.Empty }
+        → result ≡ number_of Code.EmptyHandle }
     ensures other { IfSome queue.old.boxed.body (λ body. IfSome pass.old.boxed.body
         (λ p. ¬ (pass.old.queue ≡ queue.old.number) → result ≡ number_of Code.OtherQueue)) }
     ensures code { IfSome queue.old.boxed.body (λ body. IfSome pass.old.boxed.body
@@ -67,13 +68,14 @@ pub extern "C" fn csq_give_back(alloc: Global, queue: &mut CsqQueue, pass: &mut 
     ensures kept { 0 < result → AreHandlesKept queue.old queue.new pass.old pass.new }
 {
     let Some(body) = queue.boxed.lent() else {
-        return Code::Empty.number();
+        return Code::EmptyHandle.number();
     };
+    // An empty handle has whatever number C gave it, so it is looked at only of a pass.
     if pass.boxed.is_filled() && pass.queue != queue.number {
         return Code::OtherQueue.number();
     }
     let Some(by) = take(&mut pass.boxed, alloc) else {
-        return Code::Empty.number();
+        return Code::EmptyHandle.number();
     };
     match body.give_back(by) {
         Ok(()) => Code::Done.number(),
@@ -93,7 +95,7 @@ pub extern "C" fn csq_abandon_pass(alloc: Global, pass: &mut CsqPass) -> u32
     ensures kept { 0 < result → IsPassKept pass.old pass.new }
 {
     let Some(by) = pass.boxed.lent() else {
-        return Code::Empty.number();
+        return Code::EmptyHandle.number();
     };
     if by.tokens() > 0 || by.claims() > 0 {
         return Code::Holding.number();

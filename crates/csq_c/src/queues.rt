@@ -17,7 +17,7 @@ use crate::shapes::{CsqSize, write};
 use csq_checked::{CheckedQueue, NewRefused};
 use std::alloc::Global;
 
-// A queue of this size, whose file objects have no limit of their own.
+/// A queue of this size, whose file objects have no limit of their own.
 fn made(alloc: Global, size: &CsqSize) -> Result<CheckedQueue, NewRefused>
     ensures made { IfOk result (λ queue. queue
         ≡ new_checked_state size.now (replicate size.now.files size.now.irps) queue.queue.table) }
@@ -29,7 +29,7 @@ fn made(alloc: Global, size: &CsqSize) -> Result<CheckedQueue, NewRefused>
     CheckedQueue::new(alloc, size)
 }
 
-// A queue of this size, each file object with a limit of its own.
+/// A queue of this size, each file object with a limit of its own.
 fn made_with(alloc: Global, size: &CsqSize, file_limits: &[u32]) -> Result<CheckedQueue, NewRefused>
     ensures made { IfOk result (λ queue. queue
         ≡ new_checked_state size.now file_limits.now queue.queue.table) }
@@ -113,6 +113,7 @@ pub extern "C" fn csq_free_queue(alloc: Global, queue: &mut CsqQueue) -> u32
     let Some(body) = queue.boxed.lent() else {
         return Code::Done.number();
     };
+    // A pass that is out would go on to use the words of a queue that is no more.
     if body.out_left() > 0 {
         return Code::PassesOut.number();
     }
@@ -124,7 +125,7 @@ pub extern "C" fn csq_free_queue(alloc: Global, queue: &mut CsqQueue) -> u32
 /// else CSQ_EMPTY_HANDLE, CSQ_CLOSED, or CSQ_PASSES_OUT where a pass is out. Own rule.
 #[unsafe(no_mangle)]
 pub extern "C" fn csq_close(queue: &mut CsqQueue) -> u32
-    ensures empty { queue.old.boxed.body ≡ None → result ≡ number_of Code.Empty }
+    ensures empty { queue.old.boxed.body ≡ None → result ≡ number_of Code.EmptyHandle }
     ensures closed { (body : QueueBodyState) → queue.old.boxed.body ≡ Some body → body.queue ≡ None
         → result ≡ number_of Code.Closed }
     ensures cause { IfSome (open_of queue.old.boxed.body)
@@ -139,7 +140,7 @@ pub extern "C" fn csq_close(queue: &mut CsqQueue) -> u32
     ensures number { queue.new.number ≡ queue.old.number }
 {
     let Some(body) = queue.boxed.lent() else {
-        return Code::Empty.number();
+        return Code::EmptyHandle.number();
     };
     let code = body.close();
     code.number()
@@ -155,7 +156,7 @@ pub extern "C" fn csq_count_passes_out(queue: &mut CsqQueue, out: &mut u32) -> u
     ensures same { IsQueueKept queue.old queue.new }
 {
     let Some(body) = queue.boxed.lent() else {
-        return Code::Empty.number();
+        return Code::EmptyHandle.number();
     };
     let told = body.passes_out();
     write(out, told);

@@ -30,7 +30,7 @@ pub extern "C" fn csq_mark_cancel(pass: &mut CsqPass, irp: CsqIrp, found: &mut u
         × (code ≡ mark_code answer) × (found.new ≡ set_to (claim_told answer) found.old)) }
 {
     let Some(by) = pass.boxed.lent() else {
-        return Code::Empty.number();
+        return Code::EmptyHandle.number();
     };
     let (code, told) = of_mark(by.mark_cancel(IrpId(irp.irp), Life(irp.life)));
     write(found, told);
@@ -47,7 +47,7 @@ pub extern "C" fn csq_complete(pass: &mut CsqPass, irp: CsqIrp, status: u32) -> 
         × (code ≡ complete_code answer)) }
 {
     let Some(by) = pass.boxed.lent() else {
-        return Code::Empty.number();
+        return Code::EmptyHandle.number();
     };
     let code = of_complete(by.complete(irp.named(), NtStatus(status)));
     code.number()
@@ -62,7 +62,7 @@ pub extern "C" fn csq_complete_cancelled(pass: &mut CsqPass, irp: CsqIrp) -> u32
         × CompletesHeld (irp_named irp) answer p p' × (code ≡ complete_code answer)) }
 {
     let Some(by) = pass.boxed.lent() else {
-        return Code::Empty.number();
+        return Code::EmptyHandle.number();
     };
     let code = of_complete(by.complete_cancelled(irp.named()));
     code.number()
@@ -85,7 +85,7 @@ pub extern "C" fn csq_read_cancel(
         × (cancelled.new ≡ set_to (flag_told answer) cancelled.old)) }
 {
     let Some(by) = pass.boxed.lent() else {
-        return Code::Empty.number();
+        return Code::EmptyHandle.number();
     };
     let (code, lived, flag) = of_flag(by.is_cancelled(IrpId(irp)));
     write(life, lived);
@@ -110,7 +110,7 @@ pub extern "C" fn csq_read_status(
         × (status.new ≡ set_to (status_told answer) status.old)) }
 {
     let Some(by) = pass.boxed.lent() else {
-        return Code::Empty.number();
+        return Code::EmptyHandle.number();
     };
     let (code, lived, told) = of_status(by.status(IrpId(irp)));
     write(life, lived);
@@ -126,7 +126,7 @@ pub extern "C" fn csq_count_held(pass: &mut CsqPass, held: &mut u32, owed: &mut 
         × (held.new ≡ held_count p.pass.steps) × (owed.new ≡ owed_count p.pass.steps)) }
 {
     let Some(by) = pass.boxed.lent() else {
-        return Code::Empty.number();
+        return Code::EmptyHandle.number();
     };
     let (tokens, claims) = (by.tokens(), by.claims());
     *held = tokens;

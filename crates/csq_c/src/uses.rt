@@ -11,7 +11,7 @@ ghost use Rattle.csq_c.specs.Uses.{JudgesCompletionOf, JudgesInsertOf, JudgesRem
 
 use crate::body::QueueBody;
 use crate::codes::Code;
-use crate::handles::{CsqPass, CsqQueue};
+use crate::handles::{CsqPass, CsqQueue, lend};
 use crate::shapes::{CsqIrp, write};
 use csq_audit::{RemoveVerdict, UseVerdict, judge_complete, judge_insert, judge_remove};
 use csq_checked::CheckedPass;
@@ -55,34 +55,23 @@ impl QueueBody {
     }
 }
 
-// The number of a verdict, where there is one.
+/// The number of a verdict, where there is one.
 fn use_of(verdict: Option<UseVerdict>) -> Option<u32>
     ensures { result ≡ use_told verdict }
 {
-    Some(match verdict? {
-        UseVerdict::Agrees => 0,
-        UseVerdict::Listed => 1,
-        UseVerdict::NotHeld => 2,
-        UseVerdict::GotCancelled => 3,
-        UseVerdict::NotFinal => 4,
-    })
+    Some(verdict? as u32)
 }
 
-// The same of a removal.
+/// The same of a removal.
 fn removal_of(verdict: Option<RemoveVerdict>) -> Option<u32>
     ensures { result ≡ remove_told verdict }
 {
-    Some(match verdict? {
-        RemoveVerdict::Agrees => 0,
-        RemoveVerdict::Claimed => 1,
-        RemoveVerdict::NotListed => 2,
-    })
+    Some(verdict? as u32)
 }
 
 /// Completes an IRP beside a driver that completes it with this status, through the pass that holds it, and
-/// writes 0; else writes what is wrong with that, the first that holds, and completes nothing: 1 where it is
-/// listed, 2 where the pass doesn't hold it in the life named, 3 where the pass got it cancelled and the
-/// status is another, 4 where the status is STATUS_PENDING. CSQ_OK. As `IoCompleteRequest`.
+/// writes CSQ_USE_AGREES; else writes the first `csq_use_verdict` that holds of it, and completes nothing.
+/// CSQ_OK. As `IoCompleteRequest`.
 #[unsafe(no_mangle)]
 pub extern "C" fn csq_judge_complete(
     queue: &mut CsqQueue,
@@ -98,23 +87,16 @@ pub extern "C" fn csq_judge_complete(
         × JudgesCompletionOf (irp_named irp) (status_numbered status) body p p' code told
         × (verdict.new ≡ set_to (use_told told) verdict.old)) }
 {
-    let Some(body) = queue.boxed.lent() else {
-        return Code::Empty.number();
-    };
-    let Some(by) = pass.boxed.lent() else {
-        return Code::Empty.number();
-    };
-    if pass.queue != queue.number {
-        return Code::OtherQueue.number();
-    }
+    lend!(body in queue, by in pass);
     let (code, judged) = body.judge_complete(by, irp.named(), NtStatus(status));
     write(verdict, use_of(judged));
     code.number()
 }
 
-/// Judges the insert of an IRP that was in the queue before, in the life that it has there: writes 0 where
-/// the pass got it by a removal, and completes it, so that `csq_reuse` begins its next life, in which it is
-/// inserted; else 1, 2 or 3 as `csq_judge_complete` does. CSQ_OK. As `IoCsqInsertIrpEx`.
+/// Judges the insert of an IRP that was in the queue before, in the life that it has there: writes
+/// CSQ_USE_AGREES where the pass got it by a removal, and completes it, so that `csq_reuse` begins its next
+/// life, in which it is inserted; else another `csq_use_verdict`, never CSQ_USE_NOT_FINAL. CSQ_OK. As
+/// `IoCsqInsertIrpEx`.
 #[unsafe(no_mangle)]
 pub extern "C" fn csq_judge_insert(
     queue: &mut CsqQueue,
@@ -129,23 +111,15 @@ pub extern "C" fn csq_judge_insert(
         × JudgesInsertOf (irp_named irp) body p p' code told
         × (verdict.new ≡ set_to (use_told told) verdict.old)) }
 {
-    let Some(body) = queue.boxed.lent() else {
-        return Code::Empty.number();
-    };
-    let Some(by) = pass.boxed.lent() else {
-        return Code::Empty.number();
-    };
-    if pass.queue != queue.number {
-        return Code::OtherQueue.number();
-    }
+    lend!(body in queue, by in pass);
     let (code, judged) = body.judge_insert(by, irp.named());
     write(verdict, use_of(judged));
     code.number()
 }
 
-/// Removes an IRP beside a driver that removes it, and writes 0; the pass holds it then. Else writes 1 where
-/// its number is listed (a canceller has it, or it is in another life), or 2 where it isn't. CSQ_OK. As
-/// `IoCsqRemoveIrp`.
+/// Removes an IRP beside a driver that removes it, and writes CSQ_REMOVE_AGREES; the pass holds it then. Else
+/// writes CSQ_REMOVE_CLAIMED where its number is listed (a canceller has it, or it is in another life), or
+/// CSQ_REMOVE_NOT_LISTED. CSQ_OK. As `IoCsqRemoveIrp`.
 #[unsafe(no_mangle)]
 pub extern "C" fn csq_judge_remove(
     queue: &mut CsqQueue,
@@ -160,15 +134,7 @@ pub extern "C" fn csq_judge_remove(
         × JudgesRemovalOf (irp_named irp) body body' p p' code told
         × (verdict.new ≡ set_to (remove_told told) verdict.old)) }
 {
-    let Some(body) = queue.boxed.lent() else {
-        return Code::Empty.number();
-    };
-    let Some(by) = pass.boxed.lent() else {
-        return Code::Empty.number();
-    };
-    if pass.queue != queue.number {
-        return Code::OtherQueue.number();
-    }
+    lend!(body in queue, by in pass);
     let (code, judged) = body.judge_remove(by, irp.named());
     write(verdict, removal_of(judged));
     code.number()

@@ -7,6 +7,24 @@ use crate::body::QueueBody;
 use crate::handles::{PassBox, QueueBox};
 use csq_checked::CheckedPass;
 
+/// Lends what the handles of a queue and of a pass hold to one call, or ends the call with the code of an empty
+/// handle, or of a pass that is another queue's. Own rule.
+macro_rules! lend {
+    ($body:ident in $queue:ident, $by:ident in $pass:ident) => {
+        let Some($body) = $queue.boxed.lent() else {
+            return Code::EmptyHandle.number();
+        };
+        let Some($by) = $pass.boxed.lent() else {
+            return Code::EmptyHandle.number();
+        };
+        if $pass.queue != $queue.number {
+            return Code::OtherQueue.number();
+        }
+    };
+}
+
+pub(crate) use lend;
+
 impl QueueBox {
     /// The queue, or None where the handle is empty. Own rule.
     pub(crate) fn lent(&mut self) -> Option<&mut QueueBody>

@@ -1,9 +1,6 @@
 use Rattle.std.proofs.Common.{◌≡◌, ◌∙◌, Some, None, rules, sym, arith}
 use Rattle.csq_list.specs.declared.entry.Peek.TheVariants.{File}
-use Rattle.csq_list.specs.Searches.{first_match, rest_after}
-use Rattle.csq_list.proofs.Finding.{found-listed, found-nearer}
-use Rattle.csq_audit.specs.Cleanups.{first_left}
-use Rattle.csq_audit.specs.Lists.{listed}
+use Rattle.csq_audit.proofs.Imports.{first_match, rest_after, found-listed, found-nearer, first_left, listed}
 use Rattle.csq_audit.proofs.Leaving.{goes_on, left_here, nothing_left}
 use Rattle.csq_audit.proofs.cleanup.find_left.Goals as goal
 

@@ -1,7 +1,5 @@
 use Rattle.std.proofs.Common.{◌≡◌, ◌≤◌, ◌+◌, length}
-use Rattle.csq_list.specs.Searches.{IsStartIn, rest_after}
-use Rattle.csq_audit.specs.Lists.{listed}
-use Rattle.csq_audit.specs.Cleanups.{first_left}
+use Rattle.csq_audit.proofs.Imports.{IsStartIn, rest_after, listed, first_left}
 use Rattle.csq_audit.proofs.cleanup.find_left.Given as goal
 
 -- nothing up to the last IRP is left, and each look leaves fewer entries

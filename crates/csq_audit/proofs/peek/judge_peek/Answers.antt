@@ -1,7 +1,5 @@
 use Rattle.std.proofs.Common.{◌≡◌, ◌∙◌, Ok, refl, ap, sym}
-use Rattle.csq_list.proofs.Finding.{place-found}
-use Rattle.csq_audit.specs.Lists.{listed}
-use Rattle.csq_audit.specs.declared.peek.PeekVerdict.TheVariants.{Agrees}
+use Rattle.csq_audit.proofs.Imports.{place-found, listed, Agrees}
 use Rattle.csq_audit.proofs.Judging.{agrees_exactly}
 use Rattle.csq_audit.proofs.peek.judge_peek.Goals as goal
 

@@ -1,7 +1,5 @@
 use Rattle.std.proofs.Common.{◌≡◌, ◌≤◌, ◌∙◌, Some, None, length, rules, refl, sym, arith}
-use Rattle.csq_list.specs.Searches.{first_match, rest_after}
-use Rattle.csq_list.proofs.Finding.{found-listed, found-nearer}
-use Rattle.csq_audit.specs.Lists.{listed}
+use Rattle.csq_audit.proofs.Imports.{first_match, rest_after, found-listed, found-nearer, listed}
 use Rattle.csq_audit.proofs.Standing.{goes_on, is_first, none_stands, empty_stands, rest_within}
 use Rattle.csq_audit.proofs.peek.stands_after.Goals as goal
 

@@ -1,6 +1,5 @@
 use Rattle.std.proofs.Common.{◌≡◌, ◌≤◌, ◌+◌, length}
-use Rattle.csq_list.specs.Searches.{IsStartIn, is_listed, rest_after}
-use Rattle.csq_audit.specs.Lists.{listed, matching}
+use Rattle.csq_audit.proofs.Imports.{IsStartIn, is_listed, rest_after, listed, matching}
 use Rattle.csq_audit.proofs.peek.stands_after.Given as goal
 
 -- the IRP is among the matches after the last one where it is among all, and each look leaves fewer entries

@@ -1,39 +1,13 @@
 -- What lies behind the address is lent where there is something, and the handle follows it. Assumes `Logic`.
 use Rattle.std.proofs.Common.{◌≡◌, ℕ, List, [], ◌∷◌, refl, sym, ap, ◌∙◌, lit<}
-use Rattle.std.proofs.raw_atomic.Walks.{proved}
-use Rattle.std.specs.Prelude.{Option, Some, None, MatchOption}
-use base.Fml.{Lft, Share, GName, Fml, ftrue, fsep, flft, fres}
-use base.Fraction.{full_share}
-use base.Logic.{SProp, ent, sep, id⊢}
-use contract.Monad.{Fun}
-use contract.Running.{tables}
-use denote.Exit.{no}
+use Rattle.csq_c.proofs.Imports.{proved, Option, Some, None, MatchOption, Lft, Share, GName, Fml, ftrue, fsep, flft, fres, full_share, SProp, ent, sep, id⊢, Fun, tables, no, mem, cell_at, part_at, part_of, lone, RattleType, Ptr, block_ptr, null_ptr, tests_null, plain, mut_ref_to, nothing, opens, closes, says, Stays, stay_dropped, walk_of, ends_at, Goes-spent_ref, named, Val, vptr, of_list, WpFn, Calls, Loops, Ura, alloc_all, pass_all, free_all, look_at, get, through, sets, sets_last, env, Item, ⋆, ‵, ◌⊛◌, at_ret, some, later, ◌$◌, ◌∵◌, !, qed, by, move, keep, split, split3, join, group, fsplit, fsplit3, fjoin, fpack, feq_i, feq_l, rewrite, suffices, frame, await, pick, use0, use1, done, Logic, sem, live, agg, look_in, sub, whole, enter, of_opd, bin, lit, addr, load, stop, fld, no_more, and_then, first, blocks, branches, skips, exec, returns, returns_within, Some-of, none_of, box_owns, held, frees}
 use denote.Follow.{follows, follows_by, lends_Part}
-use denote.Memory.{mem, cell_at, part_at, part_of, lone}
-use denote.RattleType.{RattleType}
-use denote.RawPtr.{Ptr, block_ptr, null_ptr, tests_null}
 use denote.Ref.{MutBor, MutRef, mut_vals, mut_Tells}
-use denote.Signature.{plain, mut_ref_to}
-use denote.Steps.{nothing, opens, closes}
-use denote.Triple.Walked.{says, Stays, stay_dropped, walk_of, ends_at, Goes-spent_ref}
 use mir.Raw.{raw as bare}
-use mir.Syntax.{named}
-use mir.Val.{Val, vptr, of_list}
 use prog.Memory.{Memory}
 use prog.Routine.{Routine}
-use prog.Wp.{WpFn, Calls, Loops}
-use seplogic.Ra.Ura.{Ura}
-use types.ByLocal.{alloc_all, pass_all, free_all, look_at, get, through, sets, sets_last, env}
-use types.Kit.{Item, ⋆, ‵, ◌⊛◌, at_ret, some, later, ◌$◌, ◌∵◌, !, qed, by, move, keep, split, split3, join, group, fsplit, fsplit3, fjoin, fpack, feq_i, feq_l, rewrite, suffices, frame, await, pick, use0, use1, done}
-use types.Logic.{Logic, sem}
-use types.Match.{live}
-use types.Part.{agg, look_in, sub, whole}
-use types.Run.{enter, of_opd, bin, lit, addr, load, stop, fld, no_more, and_then, first, blocks, branches, skips, exec, returns, returns_within}
-use Rattle.core.proofs.option.Made.{Some-of, none_of}
 use Rattle.core.specs.contracts.option.Option as option
-use Rattle.std.specs.Box.Ownership.{box_owns}
 use Rattle.std_alloc.proofs.VecSteps.Shapes.{after}
-use Rattle.csq_c.specs.Holds.{held, frees}
 use Rattle.csq_c.specs.Lends.{LendsQueue}
 use Rattle.csq_c.specs.contracts.body.QueueBody.{the_row as R}
 use Rattle.csq_c.specs.contracts.handles.QueueBox.{the_row as H}

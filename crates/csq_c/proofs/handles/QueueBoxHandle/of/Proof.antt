@@ -1,15 +1,6 @@
 -- The address goes over.
 use Rattle.std.proofs.Common.{◌≡◌, refl}
-use Rattle.std.proofs.raw_atomic.Walks.{proved_at, leaves}
-use base.Logic.{emp}
-use contract.Monad.{fact, fact_i}
-use contract.Running.{tables}
-use denote.Exit.{yes}
-use denote.Signature.{plain}
-use denote.Triple.Entry.{alive}
-use denote.Triple.Walked.{Stays, stay_dropped, walk_of}
-use Rattle.core.proofs.alloc.Calls.{Goes-blank}
-use Rattle.csq_c.specs.Holds.{held}
+use Rattle.csq_c.proofs.Imports.{proved_at, leaves, emp, fact, fact_i, tables, yes, plain, alive, Stays, stay_dropped, walk_of, Goes-blank, held}
 use Rattle.csq_c.specs.contracts.body.QueueBody.{the_row}
 use Rattle.csq_c.specs.contracts.hold.Hold as hold
 use Rattle.csq_c.specs.contracts.handles.QueueBoxHandle.of as f

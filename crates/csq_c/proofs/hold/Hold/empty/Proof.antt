@@ -1,23 +1,6 @@
 -- Null is stored, and nothing is owned.
 use Rattle.std.proofs.Common.{◌≡◌, [], ◌∷◌, refl}
-use Rattle.std.proofs.raw_atomic.Walks.{proved_at, leaves}
-use Rattle.std.specs.Prelude.{Option, None}
-use base.Fml.{ftrue}
-use base.Logic.{emp}
-use contract.Monad.{fact, fact_i}
-use contract.Running.{tables}
-use denote.Param.{layouts, param}
-use denote.RawPtr.{Ptr, null_ptr}
-use denote.Steps.{nothing}
-use denote.Triple.Entry.{alive}
-use denote.Triple.Walked.{walk_of}
-use mir.MapTy.{inst_fn}
-use mir.Syntax.{a_type}
-use types.ByLocal.{alloc_all, pass_all, free_all, look_at, sets}
-use types.Kit.{‵, raw, ◌⊛◌, ◌$◌, ◌∵◌, !, qed, by, move, keep, split, use0, feq_i}
-use types.Part.{agg}
-use types.Run.{enter, lit, no_more, and_then, returns}
-use Rattle.csq_c.specs.Holds.{held}
+use Rattle.csq_c.proofs.Imports.{proved_at, leaves, Option, None, ftrue, emp, fact, fact_i, tables, layouts, param, Ptr, null_ptr, nothing, alive, walk_of, inst_fn, a_type, alloc_all, pass_all, free_all, look_at, sets, ‵, raw, ◌⊛◌, ◌$◌, ◌∵◌, !, qed, by, move, keep, split, use0, feq_i, agg, enter, lit, no_more, and_then, returns, held}
 use Rattle.csq_c.specs.contracts.hold.Hold.empty as f
 use Rattle.csq_c.proofs.Holding.{word, word_typed, made}
 use Rattle.csq_c.proofs.hold.Hold.empty.Code as code

@@ -1,23 +1,6 @@
 -- Nothing is owned, and nothing is done.
 use Rattle.std.proofs.Common.{List, [], ◌∷◌, ◌++◌, refl}
-use Rattle.std.proofs.raw_atomic.Walks.{proved_at, leaves}
-use base.Fml.{ftrue, fsep}
-use contract.Running.{tables}
-use denote.Exit.{no}
-use denote.Param.{layouts, param}
-use denote.Signature.{plain}
-use denote.Steps.{nothing}
-use denote.Triple.Entry.{alive}
-use denote.Triple.Walked.{Stays, stay_dropped, walk_of}
-use mir.MapTy.{inst_fn}
-use mir.Syntax.{a_type}
-use mir.Val.{Val, vunit}
-use prog.Wp.{WpFn}
-use types.ByLocal.{alloc_all, pass_all, free_all, look_at, sets}
-use types.Kit.{‵, raw, ◌⊛◌, prop, ◌$◌, ◌∵◌, !, qed, by, move, keep, split, fsplit, fjoin, regoal, feq_i}
-use types.Run.{enter, of_opd, unit_lit, returns}
-use Rattle.core.proofs.alloc.Calls.{Goes-blank}
-use Rattle.csq_c.specs.Holds.{held}
+use Rattle.csq_c.proofs.Imports.{proved_at, leaves, ftrue, fsep, tables, no, layouts, param, plain, nothing, alive, Stays, stay_dropped, walk_of, inst_fn, a_type, Val, vunit, WpFn, alloc_all, pass_all, free_all, look_at, sets, ‵, raw, ◌⊛◌, prop, ◌$◌, ◌∵◌, !, qed, by, move, keep, split, fsplit, fjoin, regoal, feq_i, enter, of_opd, unit_lit, returns, Goes-blank, held}
 use Rattle.csq_c.specs.contracts.hold.Hold as hold
 use Rattle.csq_c.specs.contracts.hold.Hold.end as f
 use Rattle.csq_c.proofs.Holding.{word, word_typed, taken_apart}

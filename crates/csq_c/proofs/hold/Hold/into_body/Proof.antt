@@ -1,35 +1,11 @@
 -- At null there is nothing, and elsewhere the pointer is turned into the box that it was.
 use Rattle.std.proofs.Common.{◌≡◌, List, [], ◌∷◌, ◌++◌, refl, sym, ap, subst, ◌∙◌, lit<}
-use Rattle.std.proofs.raw_atomic.Walks.{proved_at, leaves}
-use Rattle.std.specs.Prelude.{Some, None}
-use base.Fml.{ftrue, fsep, flft}
-use base.Fraction.{full_share}
-use base.Logic.{emp, id⊢}
-use contract.BorrowLft.{◌⊑◌}
-use contract.Monad.{fact, fact_i}
-use contract.Running.{tables}
-use denote.Exit.{no, yes}
-use denote.Param.{layout, layouts, param}
-use denote.RawPtr.{Ptr, block_ptr, null_ptr, ptr_val, tests_null}
-use denote.Signature.{plain}
-use denote.Steps.{nothing, only, heard}
+use Rattle.csq_c.proofs.Imports.{proved_at, leaves, Some, None, ftrue, fsep, flft, full_share, emp, id⊢, ◌⊑◌, fact, fact_i, tables, no, yes, layout, layouts, param, Ptr, block_ptr, null_ptr, ptr_val, tests_null, plain, nothing, only, heard, Stays, stay_dropped, walk_of, Goes-dropped, inst_fn, a_type, Val, of_list, WpFn, alloc_all, pass_all, free_all, look_at, get, get_in, sets, lands_last, env, ‵, raw, ◌⊛◌, some, later, prop, at_ret, ◌$◌, ◌∵◌, !, qed, by, regoal, move, keep, drop, split, split3, join, fsplit, fjoin, feq_i, pick, await, rewrite, use0, use1, live, agg, sub, whole, enter, of_opd, bin, lit, stop, fld, no_more, and_then, first, blocks, branches, skips, exec, returns, returns_within, Goes-blank, handle_tells, Some-of, none_of, ghosts, dict, held}
 use denote.Triple.Call.{calls_at_last}
 use denote.Triple.Clauses.{Lasts, lasts}
 use denote.Triple.Spec.{triple_of}
 use denote.Triple.Table.{framed}
-use denote.Triple.Walked.{Stays, stay_dropped, walk_of, Goes-dropped}
-use mir.MapTy.{inst_fn}
-use mir.Syntax.{a_type}
-use mir.Val.{Val, of_list}
-use prog.Wp.{WpFn}
-use types.ByLocal.{alloc_all, pass_all, free_all, look_at, get, get_in, sets, lands_last, env}
-use types.Kit.{‵, raw, ◌⊛◌, some, later, prop, at_ret, ◌$◌, ◌∵◌, !, qed, by, regoal, move, keep, drop, split, split3, join, fsplit, fjoin, feq_i, pick, await, rewrite, use0, use1}
-use types.Match.{live}
-use types.Part.{agg, sub, whole}
-use types.Run.{enter, of_opd, bin, lit, stop, fld, no_more, and_then, first, blocks, branches, skips, exec, returns, returns_within}
-use Rattle.core.proofs.alloc.Calls.{Goes-blank, handle_tells}
 use Rattle.core.proofs.cell.Inside.{Good}
-use Rattle.core.proofs.option.Made.{Some-of, none_of}
 use Rattle.std.proofs.Shapes.{after}
 use Rattle.std_alloc.proofs.ResultValues.{and_tt}
 use Rattle.std_alloc.proofs.BoxSteps.Form as box
@@ -38,9 +14,7 @@ use Rattle.std_alloc.specs.contracts.boxed.Box.from_raw as g
 use Rattle.std_alloc.proofs.boxed.Box.from_raw.Met.{met}
 use Rattle.std_heap.proofs.GlobalAllocator.TheImpl.Met.{passed}
 use Rattle.std_heap.specs.contracts.Global as heap
-use Rattle.std_heap.specs.contracts.GlobalAllocator.TheImpl.{ghosts, dict}
 use Rattle.core.specs.contracts.option.Option as option
-use Rattle.csq_c.specs.Holds.{held}
 use Rattle.csq_c.specs.contracts.hold.Hold as hold
 use Rattle.csq_c.specs.contracts.hold.Hold.into_body as f
 use Rattle.csq_c.proofs.Destruct++none.drop.Symbol.{glues}

@@ -1,44 +1,17 @@
 -- The box is turned into its pointer, and what it owned lies behind that.
 use Rattle.std.proofs.Common.{◌≡◌, List, [], ◌∷◌, ◌++◌, refl, ap, ◌∙◌}
-use Rattle.std.proofs.raw_atomic.Walks.{proved_at, leaves}
-use Rattle.std.specs.Prelude.{Option, Some}
-use Rattle.std.specs.Box.Ownership.{box_owns}
-use base.Fml.{ftrue, fsep, flft}
-use base.Fraction.{full_share}
-use base.Logic.{emp, id⊢, never, fst∗}
-use contract.BorrowLft.{◌⊑◌}
-use contract.Monad.{fact, fact_i}
-use contract.Running.{tables}
+use Rattle.csq_c.proofs.Imports.{proved_at, leaves, Option, Some, box_owns, ftrue, fsep, flft, full_share, emp, id⊢, never, fst∗, ◌⊑◌, fact, fact_i, tables, no, lone, bounded, param, Ptr, block_ptr, null_ptr, ptr_val, in_a_block, plain, nothing, only, Stays, stay_dropped, walk_of, inst_fn, a_type, dcons, dnil, Val, WpFn, alloc_all, pass_all, free_all, look_at, get, sets, lands_as, ‵, raw, ◌⊛◌, some, later, prop, ◌$◌, ◌∵◌, !, qed, by, regoal, move, drop, split, split3, join, fsplit, fjoin, feq_l, pick, await, use0, use1, sem, agg, enter, of_opd, no_more, and_then, returns, Goes-blank, ghosts, dict, frees, held}
 use denote.Builtin.{RawPtr}
-use denote.Exit.{no}
-use denote.Memory.{lone}
-use denote.Param.{bounded, param}
-use denote.RawPtr.{Ptr, block_ptr, null_ptr, ptr_val, in_a_block}
-use denote.Signature.{plain}
-use denote.Steps.{nothing, only}
 use denote.Triple.Call.{calls_at}
 use denote.Triple.Clauses.{Lasts, lasts}
 use denote.Triple.Spec.{triple_of}
 use denote.Triple.Table.{framed}
-use denote.Triple.Walked.{Stays, stay_dropped, walk_of}
-use mir.MapTy.{inst_fn}
 use mir.Raw.{raw as bare}
-use mir.Syntax.{a_type, dcons, dnil}
-use mir.Val.{Val}
-use prog.Wp.{WpFn}
-use types.ByLocal.{alloc_all, pass_all, free_all, look_at, get, sets, lands_as}
-use types.Kit.{‵, raw, ◌⊛◌, some, later, prop, ◌$◌, ◌∵◌, !, qed, by, regoal, move, drop, split, split3, join, fsplit, fjoin, feq_l, pick, await, use0, use1}
-use types.Logic.{sem}
-use types.Part.{agg}
-use types.Run.{enter, of_opd, no_more, and_then, returns}
-use Rattle.core.proofs.alloc.Calls.{Goes-blank}
 use Rattle.std_alloc.proofs.BoxSteps.Form as box
 use Rattle.std_alloc.proofs.BoxSteps.Steps.{box_out, box_in}
 use Rattle.std_alloc.specs.contracts.boxed.Box.into_raw as g
 use Rattle.std_alloc.proofs.boxed.Box.into_raw.Met.{met}
 use Rattle.std_heap.proofs.GlobalAllocator.TheImpl.Met.{passed}
-use Rattle.std_heap.specs.contracts.GlobalAllocator.TheImpl.{ghosts, dict}
-use Rattle.csq_c.specs.Holds.{frees, held}
 use Rattle.csq_c.specs.contracts.hold.Hold.of as f
 use Rattle.csq_c.proofs.Destruct++none.drop.Symbol.{glues}
 use Rattle.csq_c.proofs.Holding.{word, made}

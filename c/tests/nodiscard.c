@@ -1,4 +1,4 @@
-/* Each call whose answer has to be looked at, unlooked-at: each is a warning, and none is one without a call here. */
+/* Ignores the result of each call that is CSQ_NODISCARD: each must be a warning, and each such call stands here. */
 #include <csq.h>
 
 void ignore(struct csq_queue *queue, struct csq_pass *pass, const struct csq_size *size, const struct csq_lock *lock,
