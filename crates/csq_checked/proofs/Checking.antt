@@ -1,28 +1,13 @@
 -- A pass's slots still tell what it holds and owes, after each of its calls.
 use Rattle.std.proofs.Common.{◌≡◌, ℕ, ◌<◌, ◌==◌, Bool, true, false, true≢false, List, Option, Some, None, Ok, IfSome, refl, sym, ap, ◌∙◌, subst, eqb-true, eq-eqb}
-use Rattle.std.specs.Prelude.{slice_set}
-use Rattle.irp_core.specs.Runs.{Size}
-use Rattle.irp_core.specs.Steps.{number}
-use Rattle.irp_core.specs.declared.ids.IrpLife.{IrpLife}
-use Rattle.irp_core.specs.declared.ids.Life.{Life}
+use Rattle.csq_checked.proofs.Imports.{slice_set, Size, number, IrpLife, Life, holds_in, owes_in, removed_in, held_list, owed_list, WordsState, QueueState, InsertAnswer, has_life, AreApart, OpenState, OpenPassState, IsQueueOn, IsPassOn, GivesOut, IsOfIrp, returns, Held, KnowsItsOwn, slot_at, with_held, held_after_back, IsCheckedPass}
 use Rattle.irp_core.specs.declared.status.NtStatus.{NtStatus}
 use Rattle.irp_core.specs.declared.step.Kind.TheVariants.{Out, Done}
-use Rattle.irp_core.specs.Own.{holds_in, owes_in, removed_in, held_list, owed_list}
 use Rattle.csq_words.specs.Records.{saw, with_step, with_completion}
-use Rattle.csq_words.specs.Seats.{WordsState}
-use Rattle.csq_words.specs.Queue.{QueueState}
-use Rattle.csq_queue.specs.declared.tokens.InsertAnswer.{InsertAnswer}
 use Rattle.csq_queue.specs.declared.tokens.InsertAnswer.TheVariants.{Pending, Cancelled}
-use Rattle.csq_queue.specs.Counts.{has_life, AreApart}
 use Rattle.csq_queue.specs.Inserts.{given_by}
 use Rattle.csq_queue.specs.Steps.{MakesSteps, put_back_steps}
-use Rattle.csq_queue.specs.Opens.{OpenState, OpenPassState, IsQueueOn, IsPassOn}
 use Rattle.csq_queue.specs.Owned.{Holds, HoldsRemoved, Owes}
-use Rattle.csq_queue.proofs.Giving.{GivesOut}
-use Rattle.csq_queue.proofs.Returning.{IsOfIrp, returns}
-use Rattle.csq_checked.specs.declared.slots.Held.{Held}
-use Rattle.csq_checked.specs.Slots.{KnowsItsOwn, slot_at, with_held, held_after_back}
-use Rattle.csq_checked.specs.Passes.{IsCheckedPass}
 use Rattle.csq_checked.proofs.Knowing.{holds_told, owes_told, not_held, not_owed}
 use Rattle.csq_checked.proofs.Relisting.{others_removed}
 use Rattle.csq_checked.proofs.Keeping.{kept_done, kept_out, kept_back, kept_given}

@@ -1,22 +1,12 @@
 -- The slots of idle passes, as one is taken or put, and that all passes are back once the idle ones gave themselves back.
 use Rattle.std.proofs.Common.{◌≡◌, ℕ, zero, suc, ◌<◌, ◌≤◌, ◌||◌, Bool, true, false, true≢false, List, [], ◌∷◌, ◌-◌, length, Option, Some, None, refl, sym, ap, ◌∙◌, subst, arith}
 use Rattle.std.specs.Option.{is_none}
-use Rattle.std.specs.Prelude.{slice_set}
 use Rattle.std.proofs.Math.ListN.{length-set}
 use Rattle.std.proofs.lemmas.List.{set-get_or}
 use Rattle.std.proofs.lemmas.Option.{none-some, same_Some}
-use Rattle.irp_core.specs.Steps.{same_pass}
-use Rattle.irp_core.proofs.Names.{same_pass-is}
+use Rattle.csq_checked.proofs.Imports.{slice_set, same_pass, same_pass-is, WordsState, OpenState, OpenPassState, IsQueueOn, IsPassOn, Size, FirstAreBack, HoldsNothing, by_number, tally_none, IdleSlots, IsIdle, AreIdle, count_out, with_one_back, with_idle_back, CheckedPassState, IsPassIn, open_state, slot_at}
 use Rattle.csq_words.specs.declared.views.QueueRecord.{QueueRecord}
-use Rattle.csq_words.specs.Seats.{WordsState}
 use Rattle.csq_queue.specs.Named.{pass_numbered, is_back}
-use Rattle.csq_queue.specs.Opens.{OpenState, OpenPassState, IsQueueOn, IsPassOn}
-use Rattle.irp_core.specs.Runs.{Size}
-use Rattle.csq_queue.specs.Rests.{FirstAreBack, HoldsNothing}
-use Rattle.csq_queue.proofs.Counting.{by_number, tally_none}
-use Rattle.csq_checked.specs.Idle.{IdleSlots, IsIdle, AreIdle, count_out, with_one_back, with_idle_back}
-use Rattle.csq_checked.specs.Passes.{CheckedPassState, IsPassIn, open_state}
-use Rattle.csq_checked.specs.Slots.{slot_at}
 use Rattle.csq_checked.proofs.Knowing.{slot_set, slot_kept}
 
 module _ (words : WordsState) (idle : IdleSlots) (was : AreIdle words idle) (n : ℕ) (known : n < length idle) where

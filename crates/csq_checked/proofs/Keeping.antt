@@ -1,21 +1,8 @@
 -- The slots of a pass tell what it holds and owes, after each of its calls.
 use Rattle.std.proofs.Common.{◌≡◌, ◌≢◌, ℕ, ◌<◌, ◌==◌, ◌||◌, ◌&&◌, cond, Bool, true, false, List, ◌∷◌, length, Option, Some, None, refl, sym, ap, ◌∙◌, subst, eq-eqb, ne_eqb}
-use Rattle.std.proofs.lemmas.Bool.{false_from_ne_true}
-use Rattle.std.specs.Prelude.{IfSome, slice_set}
 use Rattle.std.proofs.Math.ListN.{length-set}
-use Rattle.irp_core.specs.Steps.{number, same_irp}
-use Rattle.irp_core.specs.declared.ids.IrpLife.{IrpLife}
-use Rattle.irp_core.specs.declared.ids.Life.{Life}
+use Rattle.csq_checked.proofs.Imports.{false_from_ne_true, IfSome, slice_set, number, same_irp, IrpLife, Life, same_irp-refl, same_irp-eq, PassRecord, removed_in, held_list, owed_list, Limits, has_life, GivesOut, by_number, spent, Held, KnowsItsOwn, slot_at, held_at, owed_at, with_held}
 use Rattle.irp_core.specs.declared.step.Made.{Made}
-use Rattle.irp_core.proofs.Names.{same_irp-refl, same_irp-eq}
-use Rattle.csq_words.specs.declared.views.PassRecord.{PassRecord}
-use Rattle.irp_core.specs.Own.{removed_in, held_list, owed_list}
-use Rattle.csq_words.specs.Queue.{Limits}
-use Rattle.csq_queue.specs.Counts.{has_life}
-use Rattle.csq_queue.proofs.Giving.{GivesOut}
-use Rattle.csq_queue.proofs.Counting.{by_number, spent}
-use Rattle.csq_checked.specs.declared.slots.Held.{Held}
-use Rattle.csq_checked.specs.Slots.{KnowsItsOwn, slot_at, held_at, owed_at, with_held}
 use Rattle.csq_checked.proofs.Knowing.{slot_set, slot_kept, held_none, owed_none, held_spent, owed_spent, held_same}
 
 module _ (irps : ℕ) (steps steps' : List Made) (held : List (Option Held)) (owed : List (Option Life)) (was : KnowsItsOwn irps steps held owed) (i : IrpLife) (known : number i < irps) where
@@ -72,10 +59,6 @@ module _ (irps : ℕ) (steps steps' : List Made) (held : List (Option Held)) (ow
 and_false : (b : Bool) → (b && false) ≡ false
 and_false true = refl
 and_false false = refl
-
-and_true : (b : Bool) → (b && true) ≡ b
-and_true true = refl
-and_true false = refl
 
 -- a call gave this out, or nothing
 pub kept_given : (irps : ℕ) (l : Limits) (given : Option IrpLife) (by_removal : Bool) (old new : PassRecord) (held : List (Option Held)) (owed : List (Option Life)) → GivesOut l given by_removal old new → IfSome given (λ i. number i < irps)

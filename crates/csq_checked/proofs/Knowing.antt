@@ -1,20 +1,9 @@
 -- What the slots of a pass tell, from one record of the pass to the next.
 use Rattle.std.proofs.Common.{◌≡◌, ◌≢◌, ℕ, ◌<◌, ◌==◌, ◌||◌, not, cond, Bool, true, false, true≢false, List, [], ◌∷◌, length, Option, Some, None, refl, sym, ap, ◌∙◌, eqb-true, eq-eqb, ne_eqb}
-use Rattle.std.proofs.lemmas.Bool.{false_from_ne_true, or_parts}
-use Rattle.std.specs.Prelude.{slice_set}
 use Rattle.std.proofs.lemmas.List.{get_or-set_same, get_or-set_other}
-use Rattle.irp_core.specs.Steps.{number, same_id, same_irp}
-use Rattle.irp_core.specs.declared.ids.IrpLife.{IrpLife}
-use Rattle.irp_core.specs.declared.ids.Life.{Life}
+use Rattle.csq_checked.proofs.Imports.{false_from_ne_true, or_parts, slice_set, number, same_id, same_irp, IrpLife, Life, same_irp-refl, same_irp-eq, named, holds_in, owes_in, removed_in, held_list, owed_list, has_irp, has_life, AreApart, spent, Held, KnowsItsOwn, slot_at, held_at, owed_at}
 use Rattle.irp_core.specs.declared.step.Made.{Made}
-use Rattle.irp_core.proofs.Names.{same_irp-refl, same_irp-eq, named}
-use Rattle.irp_core.specs.Own.{holds_in, owes_in, removed_in, held_list, owed_list}
-use Rattle.csq_words.specs.Queue.{has_irp}
 use Rattle.csq_words.proofs.Held.{held_list-is, owed_list-is}
-use Rattle.csq_queue.specs.Counts.{has_life, AreApart}
-use Rattle.csq_queue.proofs.Counting.{spent}
-use Rattle.csq_checked.specs.declared.slots.Held.{Held}
-use Rattle.csq_checked.specs.Slots.{KnowsItsOwn, slot_at, held_at, owed_at}
 
 -- a slot that is set, and the others
 module _ {T : Type 0} (slots : List (Option T)) (m : ℕ) (slot : Option T) (known : m < length slots) where

@@ -1,3 +1,4 @@
+pub mod Imports
 pub mod Knowing
 pub mod Idling
 pub mod Keeping

@@ -1,12 +1,8 @@
 -- A put-back of what a pass holds is refused for its file object or for the list alone.
 use Rattle.std.proofs.Common.{◌≡◌, ◌<◌, ◌||◌, ◌&&◌, not, cond, Bool, true, false, true≢false, List, [], ◌∷◌, Option, Some, None, Err, refl, sym, ap, ◌∙◌, subst}
-use Rattle.std.proofs.lemmas.Bool.{false_from_ne_true, leb-false, lt-leb}
-use Rattle.irp_core.specs.Runs.{Size}
-use Rattle.irp_core.specs.Steps.{number, same_id, same_irp}
-use Rattle.irp_core.specs.declared.ids.IrpLife.{IrpLife}
+use Rattle.csq_checked.proofs.Imports.{false_from_ne_true, leb-false, lt-leb, Size, number, same_id, same_irp, IrpLife, same_irp-eq, same_id-refl, PassRecord, IsLegal, MayCome, end_of, Limits, QueueState, current, has_irp, plain_listing, refusal, reply_to_insert, with_file, after_event, WordsState, OpenState, IsQueueOn}
 use Rattle.irp_core.specs.declared.ids.IrpId.{IrpId}
 use Rattle.irp_core.specs.declared.ids.FileId.{FileId}
-use Rattle.irp_core.proofs.Names.{same_irp-eq, same_id-refl}
 use Rattle.csq_list.specs.Causes.{is_cause, first_cause}
 use Rattle.csq_list.specs.Listing.{Listing, renewed}
 use Rattle.csq_list.specs.declared.entry.Place.{Place}
@@ -17,12 +13,7 @@ use Rattle.csq_words.specs.declared.views.Entry.{Entry}
 use Rattle.csq_words.specs.declared.views.Event.{Event}
 use Rattle.csq_words.specs.declared.views.Event.TheVariants.{FlagSeen, Mark, Insert, RemoveNext, Remove, Out, CloseFile, Reuse, PutBack}
 use Rattle.csq_words.specs.declared.views.InsertReply.TheVariants.{Pending, Cancelled, Refused}
-use Rattle.csq_words.specs.declared.views.PassRecord.{PassRecord}
-use Rattle.csq_words.specs.History.{IsLegal, MayCome, end_of}
-use Rattle.csq_words.specs.Queue.{Limits, QueueState, current, has_irp, plain_listing, refusal, reply_to_insert, with_file, after_event}
-use Rattle.csq_words.specs.Seats.{WordsState}
 use Rattle.csq_queue.specs.Calls.{PutsBack, file_at}
-use Rattle.csq_queue.specs.Opens.{OpenState, IsQueueOn}
 use Rattle.csq_queue.proofs.Crowding.{pending_none}
 
 -- the cause is the file object's or the list's

@@ -1,17 +1,9 @@
 -- What a put-back leaves of what removals got.
 use Rattle.std.proofs.Common.{◌≡◌, ◌≢◌, ◌∙◌, cond, Bool, true, false, [], ◌∷◌, Ok, refl, sym, ap}
-use Rattle.std.proofs.lemmas.Bool.{false_from_ne_true}
-use Rattle.irp_core.specs.Steps.{number, same_irp}
-use Rattle.irp_core.specs.declared.ids.IrpLife.{IrpLife}
+use Rattle.csq_checked.proofs.Imports.{false_from_ne_true, number, same_irp, IrpLife, removed_in, same_irp-eq, PassRecord, QueueState, has_marked, InsertAnswer, IsOfIrp}
 use Rattle.irp_core.specs.declared.step.Kind.TheVariants.{Rearm, Test, Disarm}
-use Rattle.irp_core.specs.Own.{removed_in}
-use Rattle.irp_core.proofs.Names.{same_irp-eq}
-use Rattle.csq_words.specs.declared.views.PassRecord.{PassRecord}
-use Rattle.csq_words.specs.Queue.{QueueState, has_marked}
-use Rattle.csq_queue.specs.declared.tokens.InsertAnswer.{InsertAnswer}
 use Rattle.csq_queue.specs.declared.tokens.InsertAnswer.TheVariants.{Pending, Cancelled}
 use Rattle.csq_queue.specs.Steps.{MakesSteps, put_back_steps}
-use Rattle.csq_queue.proofs.Returning.{IsOfIrp}
 
 -- a put-back of i leaves the others as they were got
 pub others_removed : (i : IrpLife) (answer : InsertAnswer IrpLife IrpLife) (u : QueueState) (old new : PassRecord) → MakesSteps (put_back_steps (Ok answer) u) old new → IsOfIrp i (Ok answer) → (j : IrpLife) → number j ≢ number i → removed_in new.steps j ≡ removed_in old.steps j

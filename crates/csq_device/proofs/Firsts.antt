@@ -1,28 +1,7 @@
 -- No thread of a device uses an IRP again, and each counts what its pass completed.
 use Rattle.std.proofs.Common.{◌≡◌, ℕ, zero, suc, ◌+◌, ◌*◌, ◌||◌, false, List, [], ◌∷◌, ◌++◌, length, refl, sym, ap, ◌∙◌, ⊎_elim}
-use Rattle.std.proofs.lemmas.Bool.{or_parts}
 use Rattle.std.proofs.lemmas.List.{append-nil, length-map}
-use Rattle.irp_core.specs.declared.ids.IrpLife.{IrpLife}
-use Rattle.irp_core.specs.Runs.{Size}
-use Rattle.irp_core.specs.declared.ids.FileId.{FileId}
-use Rattle.irp_core.specs.declared.ids.PassId.{PassId}
-use Rattle.irp_core.specs.declared.status.NtStatus.{NtStatus}
-use Rattle.csq_list.specs.declared.entry.Place.TheVariants.{Back, Front}
-use Rattle.csq_words.specs.declared.views.Entry.{Entry}
-use Rattle.csq_words.specs.declared.views.Event.{Event}
-use Rattle.csq_words.specs.declared.views.Event.TheVariants.{Insert, RemoveNext, Out, CloseFile}
-use Rattle.csq_words.specs.declared.views.PassRecord.{PassRecord}
-use Rattle.csq_words.specs.Queue.{Limits}
-use Rattle.csq_words.specs.Records.{entries_of}
-use Rattle.csq_queue.specs.Cleanups.{removals, cleanup_calls}
-use Rattle.csq_device.specs.declared.kinds.CallsByKind.{CallsByKind}
-use Rattle.csq_device.specs.declared.plan.Plan.{Plan}
-use Rattle.csq_device.specs.declared.roles.Role.{Role}
-use Rattle.csq_device.specs.declared.roles.Role.TheVariants.{Submitter, Worker, Canceller, BusyWorker}
-use Rattle.csq_device.specs.Duties.{completed_by}
-use Rattle.csq_device.specs.Served.{is_reuse, has_reuse, HasServed}
-use Rattle.csq_device.specs.Turns.{last_file, IsInsertOf, AreInserts, IsRemoval, AreRemovals, CancelsOne, CancelsEach, PutsOneBack, PutsEachBack, CleansUp, Plays, in_first_life}
-use Rattle.csq_device.specs.Work.{IsIdle, completions, HasCompleted, status_by}
+use Rattle.csq_device.proofs.Imports.{or_parts, IrpLife, Size, FileId, PassId, NtStatus, Back, Front, Entry, Event, Insert, RemoveNext, Out, CloseFile, PassRecord, Limits, entries_of, removals, cleanup_calls, CallsByKind, Plan, Role, Submitter, Worker, Canceller, BusyWorker, completed_by, is_reuse, has_reuse, HasServed, last_file, IsInsertOf, AreInserts, IsRemoval, AreRemovals, CancelsOne, CancelsEach, PutsOneBack, PutsEachBack, CleansUp, Plays, in_first_life, IsIdle, completions, HasCompleted, status_by}
 use Rattle.csq_device.proofs.Working.{nothing_held, nothing_owed}
 
 -- of these events none is a reuse, and so none of the longer calls

@@ -1,48 +1,26 @@
 -- What is completed at the end is what the passes completed, each by its own record, where no life was begun anew.
 use Rattle.std.proofs.Common.{◌≡◌, ◌≢◌, ◌⊎◌, ℕ, zero, suc, ◌+◌, ◌<◌, ◌≤◌, ◌||◌, ◌&&◌, cond, Bool, true, false, true≢false, List, [], ◌∷◌, length, Option, Some, None, is_some, inl, inr, refl, sym, ap, ◌∙◌, subst, ⊎_elim, arith, zero-add}
 use Rattle.std.specs.Prelude.{slice_index}
-use Rattle.std.proofs.lemmas.Bool.{cases_lt, lt-ltb, or_parts, or_right, and_from, false_from_ne_true}
 use Rattle.std.proofs.lemmas.List.{length-map}
 use mathlib.Core.Option.{some}
 use lib.ListN.{get_elem?}
-use Rattle.irp_core.specs.Steps.{number, same_irp, same_pass, own, Each}
-use Rattle.irp_core.specs.declared.ids.IrpLife.{IrpLife}
+use Rattle.csq_device.proofs.Imports.{cases_lt, lt-ltb, or_parts, or_right, and_from, false_from_ne_true, number, same_irp, same_pass, own, Each, IrpLife, Size, IsRun, IsKnown, IrpId, PassId, NtStatus, same_irp-refl, other_irp, same_pass-refl, Completion, Entry, Event, FlagSeen, Mark, Insert, RemoveNext, Remove, CloseFile, Reuse, PutBack, PassRecord, QueueState, after_event, end_of, is_call, calls_of, queue_of, FinalWords, IsFinal, final_status, same_pass-is, same_pass-not, tally, pass_numbered, by_number, tally_same, tally_more, tally_zero, irp_at, completed_count, is_reuse, has_reuse, AreServed, completions_of}
 use Rattle.irp_core.specs.Lives.{present_life}
 use Rattle.irp_core.specs.Owners.{owes, holds}
-use Rattle.irp_core.specs.Runs.{Size, IsRun, IsKnown}
-use Rattle.irp_core.specs.declared.ids.IrpId.{IrpId}
-use Rattle.irp_core.specs.declared.ids.PassId.{PassId}
-use Rattle.irp_core.specs.declared.status.NtStatus.{NtStatus}
 use Rattle.irp_core.specs.declared.step.Kind.{Kind}
 use Rattle.irp_core.specs.declared.step.Kind.TheVariants.{Arm, Test, Disarm, End, Flag, Take, Out, Done, Renew, Rearm}
 use Rattle.irp_core.specs.declared.step.Made.{Made}
-use Rattle.irp_core.proofs.Names.{same_irp-refl, other_irp, same_pass-refl}
 use Rattle.irp_core.proofs.Lives.{life_grows}
 use Rattle.irp_core.proofs.Growing.{run_less, run_last}
-use Rattle.csq_words.specs.declared.views.Completion.{Completion}
-use Rattle.csq_words.specs.declared.views.Entry.{Entry}
-use Rattle.csq_words.specs.declared.views.Event.{Event}
-use Rattle.csq_words.specs.declared.views.Event.TheVariants.{FlagSeen, Mark, Insert, RemoveNext, Remove, CloseFile, Reuse, PutBack}
 use Rattle.csq_words.specs.declared.views.Event.TheVariants as event
 use Rattle.csq_words.specs.declared.views.InsertReply.TheVariants.{Pending, Cancelled, Refused}
-use Rattle.csq_words.specs.declared.views.PassRecord.{PassRecord}
 use Rattle.csq_words.specs.declared.views.QueueRecord.{QueueRecord}
 use Rattle.csq_words.specs.Words.{status_at, status_in}
-use Rattle.csq_words.specs.Queue.{QueueState, after_event}
-use Rattle.csq_words.specs.History.{end_of, is_call, calls_of}
-use Rattle.csq_words.specs.Records.{queue_of}
 use Rattle.csq_words.specs.Rule.{is_done, SaysStatus, completed_in, with_done}
-use Rattle.csq_words.specs.Finals.{FinalWords, IsFinal, final_status}
 use Rattle.csq_words.proofs.Facts.{open_now, open_undone}
-use Rattle.irp_core.proofs.Names.{same_pass-is, same_pass-not}
 use Rattle.csq_words.proofs.Named.{irp_eq, same_id-not}
 use Rattle.csq_words.proofs.Decoding.{status_in-unset}
 use Rattle.csq_words.proofs.Closing.{status_is}
-use Rattle.csq_queue.specs.Counts.{tally}
-use Rattle.csq_queue.specs.Named.{pass_numbered}
-use Rattle.csq_queue.proofs.Counting.{by_number, tally_same, tally_more, tally_zero}
-use Rattle.csq_device.specs.Rests.{irp_at, completed_count}
-use Rattle.csq_device.specs.Served.{is_reuse, has_reuse, AreServed, completions_of}
 
 -- IRP n in the first life
 abbrev in_first : ℕ → ℕ → IrpLife
@@ -75,15 +53,7 @@ done_step size p (Done i) v E r none less =
     (ap (is_done E) (sym named) ∙ open_undone size E before i p held)
     (ap (λ b. b || is_done E (in_first size.first (number i))) (ap (λ j. same_irp i j) (sym named) ∙ same_irp-refl i))
     (λ n ne. sym (ap (λ b. b || is_done E (in_first size.first n)) (other_irp i (in_first size.first n) (same_id-not i.irp (irp_at n) (λ e. ne (sym (ap (λ (x : IrpId). x.0) e))))))))
-done_step size p (Arm i) v E r none less = less
-done_step size p (Test i) v E r none less = less
-done_step size p (Disarm i) v E r none less = less
-done_step size p End v E r none less = less
-done_step size p (Flag i) v E r none less = less
-done_step size p (Take i) v E r none less = less
-done_step size p (Out i) v E r none less = less
-done_step size p (Renew i) v E r none less = less
-done_step size p (Rearm i) v E r none less = less
+done_step size p k v E r none less = less
 
 -- a run of first lives has as many completions as completed IRPs
 done_tally : (size : Size) (E : List Made) → IsRun size E → NoneEnded size.first E → done_steps E ≡ tally (λ n. is_done E (in_first size.first n)) size.irps
@@ -139,15 +109,7 @@ pass_step n p (Done i) v E from to less =
     ∙ sym (sum_more (by_pass_of E) (by_pass_of (step_of p (Done i) v ∷ E)) p.0 1 n from (omega (arith, to))
     (ap (λ b. done_steps (cond b (step_of p (Done i) v ∷ own (pass_numbered p.0) E) (own (pass_numbered p.0) E))) (same_pass-is p (pass_numbered p.0) refl))
     (λ j ne. sym (ap (λ b. done_steps (cond b (step_of p (Done i) v ∷ own (pass_numbered j) E) (own (pass_numbered j) E))) (pass_other p j (λ e. ne (sym e))))))
-pass_step n p (Arm i) v E from to less = less ∙ sum_same _ _ 1 n (λ j l. kept (same_pass p (pass_numbered j)) p (Arm i) v (own (pass_numbered j) E) refl)
-pass_step n p (Test i) v E from to less = less ∙ sum_same _ _ 1 n (λ j l. kept (same_pass p (pass_numbered j)) p (Test i) v (own (pass_numbered j) E) refl)
-pass_step n p (Disarm i) v E from to less = less ∙ sum_same _ _ 1 n (λ j l. kept (same_pass p (pass_numbered j)) p (Disarm i) v (own (pass_numbered j) E) refl)
-pass_step n p End v E from to less = less ∙ sum_same _ _ 1 n (λ j l. kept (same_pass p (pass_numbered j)) p End v (own (pass_numbered j) E) refl)
-pass_step n p (Flag i) v E from to less = less ∙ sum_same _ _ 1 n (λ j l. kept (same_pass p (pass_numbered j)) p (Flag i) v (own (pass_numbered j) E) refl)
-pass_step n p (Take i) v E from to less = less ∙ sum_same _ _ 1 n (λ j l. kept (same_pass p (pass_numbered j)) p (Take i) v (own (pass_numbered j) E) refl)
-pass_step n p (Out i) v E from to less = less ∙ sum_same _ _ 1 n (λ j l. kept (same_pass p (pass_numbered j)) p (Out i) v (own (pass_numbered j) E) refl)
-pass_step n p (Renew i) v E from to less = less ∙ sum_same _ _ 1 n (λ j l. kept (same_pass p (pass_numbered j)) p (Renew i) v (own (pass_numbered j) E) refl)
-pass_step n p (Rearm i) v E from to less = less ∙ sum_same _ _ 1 n (λ j l. kept (same_pass p (pass_numbered j)) p (Rearm i) v (own (pass_numbered j) E) refl)
+pass_step n p k v E from to less = less ∙ sum_same _ _ 1 n (λ j l. kept (same_pass p (pass_numbered j)) p k v (own (pass_numbered j) E) refl)
 
 -- each completion is of one pass
 pass_sum : (size : Size) (E : List Made) → Each (λ m before. IsKnown size m) E → done_steps E ≡ sum_from (by_pass_of E) 1 size.passes
@@ -156,15 +118,9 @@ pass_sum size (m ∷ E) known = pass_step size.passes m.pass m.kind m.found E kn
 
 -- a reuse is a call
 reuse_is_call : (e : Event) → is_reuse e ≡ true → is_call e ≡ true
-reuse_is_call (Reuse n life) h = refl
 reuse_is_call (FlagSeen i) h = absurd (true≢false (sym h))
 reuse_is_call (Mark i) h = absurd (true≢false (sym h))
-reuse_is_call (Insert n f place reply) h = refl
-reuse_is_call (RemoveNext k reply) h = refl
-reuse_is_call (Remove i reply) h = refl
-reuse_is_call (event.Out i) h = refl
-reuse_is_call (CloseFile f) h = refl
-reuse_is_call (PutBack i f place reply) h = refl
+reuse_is_call x h = refl
 
 -- so some pass called it
 reuse_called : (history : List Entry) → has_reuse history ≡ true → (p : PassId) × (has_reuse (calls_of p history) ≡ true)

@@ -1,20 +1,10 @@
 -- How many calls the threads of a plan make in all.
 use Rattle.std.proofs.Common.{◌≡◌, ℕ, zero, suc, ◌+◌, ◌-◌, ◌*◌, ◌<◌, ◌≤◌, cond, Bool, true, false, List, [], ◌∷◌, ◌++◌, map, replicate, min, refl, sym, ap, ◌∙◌, ⊎_elim, arith, zero-add}
 use Rattle.std.specs.Prelude.{nat_lt}
-use Rattle.std.specs.List.{range_with_len}
-use Rattle.std.proofs.lemmas.Bool.{cases_lt, lt-ltb, le-ltb}
 use Rattle.std.proofs.lemmas.Nat.{mul-le}
 use Rattle.std.proofs.Math.Nat.{min-eq_left, min-eq_right, min-le_left, zero-min, min-zero, mul-suc, suc-mul, mul-le-mul_right, mul_comm}
 use Rattle.std.proofs.Math.Numerals.{suc-eq-add-one}
-use Rattle.irp_core.specs.Runs.{Size}
-use Rattle.csq_words.specs.declared.views.PassRecord.{PassRecord}
-use Rattle.csq_queue.specs.Counts.{tally}
-use Rattle.csq_device.specs.declared.plan.Plan.{Plan}
-use Rattle.csq_device.specs.declared.kinds.CallsByKind.{CallsByKind}
-use Rattle.csq_device.specs.declared.roles.Role.{Role}
-use Rattle.csq_device.specs.declared.roles.Role.TheVariants.{Submitter, Worker, Canceller, BusyWorker}
-use Rattle.csq_device.specs.Duties.{turns_with_irp, inserts_by, removals_by, cancels_by, put_backs_by, total_by, AreFew, AreCallsOfAll, duties_from, AreNumbered, AreCallsOf}
-use Rattle.csq_device.specs.Turns.{IsTurns, Submits, Works, Cancels, PutsOneBack, PutsEachBack, roles_in}
+use Rattle.csq_device.proofs.Imports.{range_with_len, cases_lt, lt-ltb, le-ltb, Size, PassRecord, tally, Plan, CallsByKind, Role, Submitter, Worker, Canceller, BusyWorker, turns_with_irp, inserts_by, removals_by, cancels_by, put_backs_by, total_by, AreFew, AreCallsOfAll, duties_from, AreNumbered, AreCallsOf, IsTurns, Submits, Cancels, PutsOneBack, PutsEachBack, roles_in}
 use Rattle.csq_device.proofs.Handing.{sum_from, sum_same, sum_zero}
 
 -- where just the first `count` numbers below n pass, so many do
@@ -65,9 +55,6 @@ turns_are irps turns first step count h = tally_first (λ turn. nat_lt (first + 
 -- what a submitter, a worker and a canceller count
 pub submitter_calls : (plan : Plan) (first made : ℕ) (old new : PassRecord) → Submits plan first made old new → made ≡ turns_with_irp plan first plan.submitters
 submitter_calls plan first made old new h = h.made_is ∙ sym (turns_are plan.irps plan.turns first plan.submitters _ h.turns)
-
-pub worker_calls : (plan : Plan) (made : ℕ) (old new : PassRecord) → Works plan made old new → made ≡ plan.turns
-worker_calls plan made old new h = h.made_is ∙ h.turns
 
 pub canceller_calls : (size : Size) (plan : Plan) (first made : ℕ) (old new : PassRecord) → Cancels size plan first made old new → made ≡ turns_with_irp plan first plan.cancellers
 canceller_calls size plan first made old new h = sym (turns_are plan.irps plan.turns first plan.cancellers made h.turns)

@@ -1,34 +1,16 @@
 -- A busy worker's turn: what it removed it puts back, or completes.
 use Rattle.std.proofs.Common.{◌≡◌, ℕ, ◌+◌, Bool, true, false, not, cond, List, [], ◌∷◌, ◌++◌, filter, Some, Result, Ok, Err, refl, sym, ap, ◌∙◌, subst, ⊎_elim, add-one}
-use Rattle.irp_core.specs.Steps.{same_irp}
+use Rattle.csq_device.proofs.Imports.{same_irp, FileId, IrpLife, PassId, NtStatus, Test, Disarm, Done, Rearm, same_irp-refl, Completion, Entry, Event, PutBack, PassRecord, QueueState, Limits, has_marked, saw, entries_of, only_calls, with_step, with_completion, InsertAnswer, IsPutBack, GivesOut, MakesCalls, PutsOneBack, PutsEachBack, IsIdle, HasCompleted}
 use Rattle.irp_core.specs.Words.{flagged}
 use Rattle.irp_core.specs.Own.{held_list, owed_list}
-use Rattle.irp_core.specs.declared.ids.FileId.{FileId}
-use Rattle.irp_core.specs.declared.ids.IrpLife.{IrpLife}
-use Rattle.irp_core.specs.declared.ids.PassId.{PassId}
-use Rattle.irp_core.specs.declared.status.NtStatus.{NtStatus}
-use Rattle.irp_core.specs.declared.step.Kind.TheVariants.{Test, Disarm, Done, Rearm}
 use Rattle.irp_core.specs.declared.step.Made.{Made}
-use Rattle.irp_core.proofs.Names.{same_irp-refl}
 use Rattle.csq_list.specs.declared.entry.Place.{Place}
 use Rattle.csq_list.specs.declared.refusals.InsertStatus.{InsertStatus}
-use Rattle.csq_words.specs.declared.views.Completion.{Completion}
-use Rattle.csq_words.specs.declared.views.Entry.{Entry}
-use Rattle.csq_words.specs.declared.views.Event.{Event}
-use Rattle.csq_words.specs.declared.views.Event.TheVariants.{PutBack}
 use Rattle.csq_words.specs.declared.views.InsertReply.{InsertReply}
 use Rattle.csq_words.specs.declared.views.InsertReply.TheVariants as reply
-use Rattle.csq_words.specs.declared.views.PassRecord.{PassRecord}
-use Rattle.csq_words.specs.Queue.{QueueState, Limits, has_marked}
-use Rattle.csq_words.specs.Records.{saw, entries_of, only_calls, with_step, with_completion}
-use Rattle.csq_queue.specs.declared.tokens.InsertAnswer.{InsertAnswer}
 use Rattle.csq_queue.specs.declared.tokens.InsertAnswer.TheVariants.{Pending, Cancelled}
-use Rattle.csq_queue.specs.Inserts.{IsPutBack}
 use Rattle.csq_queue.specs.Steps.{made_by, MakesSteps, put_back_steps}
 use Rattle.csq_queue.specs.Told.{AddsEvents}
-use Rattle.csq_queue.proofs.Giving.{GivesOut}
-use Rattle.csq_device.specs.Turns.{MakesCalls, PutsOneBack, PutsEachBack}
-use Rattle.csq_device.specs.Work.{IsIdle, HasCompleted}
 use Rattle.csq_device.proofs.Working.{alone}
 
 -- no step of a put-back is a Flag

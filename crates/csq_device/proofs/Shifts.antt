@@ -2,26 +2,11 @@
 use Rattle.std.proofs.Common.{◌≡◌, ◌≢◌, ℕ, zero, suc, ◌+◌, ◌<◌, ◌≤◌, ◌||◌, true, false, List, [], ◌∷◌, ◌++◌, length, refl, sym, ap, ◌∙◌, subst, ⊎_elim, arith}
 use mathlib.Core.Option.{some}
 use lib.ListN.{get_elem?}
-use Rattle.csq_list.specs.Listing.{Listing}
-use Rattle.csq_words.specs.declared.views.PassRecord.{PassRecord}
+use Rattle.csq_device.proofs.Imports.{Listing, PassRecord, FinalWords, Limits, cases_lt, or_right, same_pass, PassId, same_pass-is, pass_numbered, queue_size, is_back, FirstAreBack, IsRestOf, by_number, CallsByKind, Plan, completed_by, completed_count, has_reuse, HasServed, AreServed, AreReceipts, completions_of, IsShift}
 use Rattle.csq_words.specs.declared.views.QueueRecord.{QueueRecord}
-use Rattle.csq_words.specs.Finals.{FinalWords}
-use Rattle.csq_words.specs.Queue.{Limits}
 use Rattle.csq_words.specs.Rule.{HasBack}
 use Rattle.csq_words.proofs.Indexes.{at_push}
-use Rattle.std.proofs.lemmas.Bool.{cases_lt, or_right}
-use Rattle.irp_core.specs.Steps.{same_pass}
-use Rattle.irp_core.specs.declared.ids.PassId.{PassId}
-use Rattle.irp_core.proofs.Names.{same_pass-is}
-use Rattle.csq_queue.specs.Named.{pass_numbered, queue_size, is_back}
-use Rattle.csq_queue.specs.Rests.{FirstAreBack, IsRestOf}
 use Rattle.csq_queue.proofs.Backing.{found_back}
-use Rattle.csq_queue.proofs.Counting.{by_number}
-use Rattle.csq_device.specs.declared.kinds.CallsByKind.{CallsByKind}
-use Rattle.csq_device.specs.declared.plan.Plan.{Plan}
-use Rattle.csq_device.specs.Duties.{completed_by}
-use Rattle.csq_device.specs.Rests.{completed_count}
-use Rattle.csq_device.specs.Served.{has_reuse, HasServed, AreServed, AreReceipts, completions_of, IsShift}
 use Rattle.csq_device.proofs.Handing.{handed_is_completed}
 
 -- one thread more has ended

@@ -1,17 +1,10 @@
 -- What an insert met that no cause refuses.
 use Rattle.std.proofs.Common.{◌≡◌, ◌<◌, Bool, true, false, cond, not, ◌&&◌, List, [], ◌∷◌, length, Some, None, refl, sym, ap, ◌∙◌, arith}
-use Rattle.std.specs.List.{find, AllByRecursion}
-use Rattle.std.proofs.lemmas.Bool.{lt-leb}
 use borrow.Author.Tests.{leb-false, eqb-false}
-use Rattle.irp_core.specs.declared.ids.IrpId.{IrpId}
-use Rattle.irp_core.specs.declared.ids.FileId.{FileId}
-use Rattle.irp_core.proofs.Names.{same_id-refl}
-use Rattle.csq_list.specs.declared.entry.Entry.{Entry}
-use Rattle.csq_list.specs.declared.entry.Place.{Place}
+use Rattle.csq_list.proofs.Imports.{find, AllByRecursion, lt-leb, IrpId, FileId, same_id-refl, Entry, Place, Listing, IsSound, inserted, renewed}
 use Rattle.csq_list.specs.declared.refusals.InsertStatus.{InsertStatus}
 use Rattle.csq_list.specs.Causes.{causes, last_causes, of_each, is_cause, first_cause}
 use Rattle.csq_list.specs.declared.refusals.InsertStatus.TheVariants.{UnknownIrp, UnknownFile, NotHome, FileFull, Full}
-use Rattle.csq_list.specs.Listing.{Listing, IsSound, inserted, renewed}
 use Rattle.csq_list.proofs.Keeping.{sound-inserted, unused-unlisted}
 
 -- where nothing is found, no element passes the test

@@ -1,24 +1,8 @@
 -- How many each file has listed, after each change.
-use Rattle.std.proofs.Common.{◌≡◌, ◌<◌, ◌≤◌, ◌+◌, ◌-◌, ◌==◌, ℕ, zero, suc, nat_lt, ◌&&◌, Some, Bool, cond, true, false, true≢false, List, [], ◌∷◌, ◌++◌, length, get_or, set, replicate, refl, sym, ap, ◌∙◌, subst, arith, get_or-set_same, get_or-set_other, eqb-true, eq-eqb}
-use Rattle.irp_core.specs.declared.ids.IrpId.{IrpId}
-use Rattle.irp_core.specs.declared.ids.FileId.{FileId}
-use Rattle.csq_list.specs.declared.entry.Entry.{Entry}
-use Rattle.csq_list.specs.declared.entry.Place.{Place}
-use Rattle.csq_list.specs.Searches.{same_file, of_file, is_listed, is_distinct, entries_without}
-use Rattle.csq_list.specs.Chains.{file_in}
-use Rattle.csq_list.specs.Listing.{put_at, is_file_full}
-use Rattle.csq_list.specs.VecParts.{HasFileLens, listing_of}
+use Rattle.std.proofs.Common.{◌≡◌, ◌<◌, ◌≤◌, ◌+◌, ◌-◌, ℕ, Some, Bool, cond, true, false, true≢false, List, ◌∷◌, ◌++◌, length, get_or, set, refl, sym, ap, ◌∙◌, subst, arith, get_or-set_same, get_or-set_other, eqb-true, eq-eqb}
+use Rattle.csq_list.proofs.Imports.{IrpId, FileId, Entry, Place, same_file, of_file, is_listed, is_distinct, entries_without, file_in, put_at, HasFileLens}
 use Rattle.csq_list.proofs.Keeping.{length-filter, length-filter_among, length-filter_put}
 use Rattle.csq_list.proofs.Filing.{IsAmong, among, file_in-among, without-middle}
-
--- nothing is listed for any file
-pub filed-new : (files : ℕ) (lens : List ℕ) → ◌≡◌ {A = List ℕ} lens (replicate files 0) → HasFileLens lens []
-filed-new files lens is = λ f. ap (λ (ns : List ℕ). get_or ns f.0 0) is ∙ none files f.0
-  where
-    none : (n m : ℕ) → ◌≡◌ {A = ℕ} (get_or (replicate n 0) m 0) 0
-    none zero m = refl
-    none (suc n) zero = refl
-    none (suc n) (suc m) = none n m
 
 file_by : (f g : FileId) → same_file f g ≡ true → f ≡ g
 file_by f g m = let n : f.0 ≡ g.0 = eqb-true f.0 g.0 m in λ k. record { 0 = n k }
@@ -63,11 +47,6 @@ module _ (before : List Entry) (e : Entry) (later es : List Entry) (splits : es 
 -- a file has no more listed than there are
 pub filed-small : (lens : List ℕ) (es : List Entry) (f : FileId) → HasFileLens lens es → get_or lens f.0 0 ≤ length es
 filed-small lens es f filed = let few = length-filter (λ (x : Entry). same_file x.file f) es in omega (arith, few, filed f)
-
--- whether a file is full, by the counts
-pub full-is : (es : List Entry) (used closed : List Bool) (limit : ℕ) (lens limits : List ℕ) (f : FileId) → HasFileLens lens es → length limits ≡ length closed
-    → (nat_lt f.0 (length limits) && (get_or lens f.0 0 == get_or limits f.0 0)) ≡ is_file_full (listing_of es used closed limit limits) f
-full-is es used closed limit lens limits f filed same = λ k. nat_lt f.0 (same k) && (filed f k == get_or limits f.0 0)
 
 -- the file of an IRP that is taken out
 module _ (es : List Entry) (i : IrpId) (f : FileId) (lens : List ℕ) (distinct : is_distinct es ≡ true) (listed : is_listed es i ≡ true) (in_file : file_in es i ≡ Some f) (filed : HasFileLens lens es) where

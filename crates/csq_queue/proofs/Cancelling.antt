@@ -1,18 +1,6 @@
 -- A cancel, whose pass sees the execution at each of its steps.
 use Rattle.std.proofs.Common.{◌≡◌, ℕ, List, ◌++◌, ap, sym, subst, ◌∙◌}
-use Rattle.irp_core.specs.declared.ids.IrpLife.{IrpLife}
-use Rattle.irp_core.specs.Runs.{Size}
-use Rattle.irp_core.specs.declared.step.Kind.TheVariants.{Flag, Take}
-use Rattle.csq_words.specs.declared.views.Entry.{Entry}
-use Rattle.csq_words.specs.declared.views.Event.{Event}
-use Rattle.csq_words.specs.declared.views.PassRecord.{PassRecord}
-use Rattle.csq_words.specs.Queue.{Limits}
-use Rattle.csq_words.specs.History.{IsExtendedBy}
-use Rattle.csq_words.specs.Records.{entries_of, saw, with_step, with_calls}
-use Rattle.csq_words.specs.Rule.{FindsUnset}
-use Rattle.csq_words.proofs.Facts.{extended_more, extended_on}
-use Rattle.csq_queue.specs.Told.{AddsEvents}
-use Rattle.csq_queue.specs.Owned.{EndsWithTake}
+use Rattle.csq_queue.proofs.Imports.{IrpLife, Size, Flag, Take, Entry, Event, PassRecord, Limits, IsExtendedBy, entries_of, saw, with_step, with_calls, FindsUnset, extended_more, extended_on, AddsEvents, EndsWithTake}
 
 -- the steps of a cancel go on from what its pass had seen
 pub marked_follows : (size : Size) (i : IrpLife) (flag found : ℕ) (old new : PassRecord) → EndsWithTake size i flag found old new → IsExtendedBy old.run new.run

@@ -1,27 +1,8 @@
 -- Once a file is closed, no event lists an IRP for it.
 use Rattle.std.proofs.Common.{◌≡◌, ℕ, suc, ◌≤◌, ◌<◌, ◌==◌, not, ◌&&◌, ◌||◌, cond, Bool, true, false, true≢false, List, [], ◌∷◌, ◌++◌, length, filter, Some, None, refl, sym, ap, ◌∙◌, subst, eqb-true, arith}
-use Rattle.std.proofs.lemmas.Bool.{or_right, and_parts}
-use Rattle.irp_core.specs.Steps.{same_irp}
-use Rattle.irp_core.specs.declared.ids.IrpLife.{IrpLife}
-use Rattle.irp_core.specs.declared.ids.FileId.{FileId}
-use Rattle.irp_core.specs.declared.ids.IrpId.{IrpId}
-use Rattle.irp_core.proofs.Names.{same_irp-refl, same_some}
-use Rattle.csq_list.specs.declared.entry.Peek.{Peek}
-use Rattle.csq_list.specs.declared.entry.Peek.TheVariants.{File}
-use Rattle.csq_list.specs.declared.entry.Place.{Place}
+use Rattle.csq_queue.proofs.Imports.{or_right, and_parts, same_irp, IrpLife, FileId, IrpId, same_irp-refl, same_some, Peek, File, Place, put_at, renewed, same_file, FileClosed, no_cause, Entry, Event, FlagSeen, Mark, Insert, RemoveNext, Remove, Out, CloseFile, Reuse, PutBack, Pending, Cancelled, Refused, IsLegal, MayCome, end_of, Queued, QueueState, Limits, current, has_irp, has_file, marking, without, first_unmarked, refusal, back_refusal, after_event, new_entry, plain_listing, none_head, none_both, none_marking}
 use Rattle.csq_list.specs.declared.entry.Place.TheVariants.{Back, Front}
-use Rattle.csq_list.specs.Listing.{put_at, renewed}
-use Rattle.csq_list.specs.Searches.{same_file}
-use Rattle.csq_list.specs.declared.refusals.InsertStatus.TheVariants.{FileClosed}
-use Rattle.csq_list.proofs.Causes.{no_cause}
-use Rattle.csq_words.specs.declared.views.Entry.{Entry}
-use Rattle.csq_words.specs.declared.views.Event.{Event}
-use Rattle.csq_words.specs.declared.views.Event.TheVariants.{FlagSeen, Mark, Insert, RemoveNext, Remove, Out, CloseFile, Reuse, PutBack}
-use Rattle.csq_words.specs.declared.views.InsertReply.TheVariants.{Pending, Cancelled, Refused}
-use Rattle.csq_words.specs.History.{IsLegal, MayCome, end_of}
-use Rattle.csq_words.specs.Queue.{Queued, QueueState, Limits, current, has_irp, has_file, marking, without, first_unmarked, refusal, back_refusal, after_event, new_entry, plain_listing}
 use Rattle.csq_queue.proofs.Crowding.{pending_none}
-use Rattle.csq_words.proofs.Marking.{none_head, none_both, none_marking}
 
 -- the entries of a file
 abbrev pub of_file : FileId → List Queued → List Queued

@@ -1,29 +1,6 @@
 -- In the queue of one thread that a legal history leaves no more is listed than there are IRPs.
 use Rattle.std.proofs.Common.{◌≡◌, ℕ, ◌<◌, ◌≤◌, ◌==◌, ◌||◌, not, Bool, true, false, true≢false, List, [], ◌∷◌, length, map, Option, Some, None, refl, sym, ap, ◌∙◌, subst, ◌⊎◌, inl, inr, eqb-true}
-use Rattle.std.proofs.lemmas.Bool.{and_parts, or_cases, or_right, not-true}
-use Rattle.std.proofs.lemmas.List.{length-map}
-use Rattle.irp_core.specs.Steps.{life_of, same_irp, same_id}
-use Rattle.irp_core.specs.declared.ids.IrpLife.{IrpLife}
-use Rattle.irp_core.specs.declared.ids.FileId.{FileId}
-use Rattle.irp_core.specs.declared.ids.IrpId.{IrpId}
-use Rattle.irp_core.proofs.Names.{same_irp-eq, same_id-refl}
-use Rattle.csq_list.specs.declared.entry.Place.{Place}
-use Rattle.csq_list.specs.declared.refusals.InsertStatus.{InsertStatus}
-use Rattle.csq_list.specs.declared.refusals.InsertStatus.TheVariants.{NotHome}
-use Rattle.csq_list.proofs.Causes.{no_cause, sound-accepted}
-use Rattle.csq_list.specs.Listing.{IsSound, inserted, renewed}
-use Rattle.csq_list.specs.Searches.{is_listed, is_distinct}
-use Rattle.csq_list.proofs.Keeping.{filter-none, unused-unlisted, sound-fresh, sound-removed, sound-renewed}
-use Rattle.csq_words.specs.declared.views.Entry.{Entry}
-use Rattle.csq_words.specs.declared.views.Event.{Event}
-use Rattle.csq_words.specs.declared.views.Event.TheVariants.{FlagSeen, Mark, Insert, RemoveNext, Remove, Out, CloseFile, Reuse, PutBack}
-use Rattle.csq_words.specs.declared.views.InsertReply.TheVariants.{Pending, Cancelled, Refused}
-use Rattle.csq_words.proofs.Named.{irp_eq}
-use Rattle.csq_words.specs.History.{IsLegal, IsGone, MayCome, end_of}
-use Rattle.csq_words.specs.Queue.{Queued, QueueState, Limits, current, has_irp, has_file, has_entry, without, plain, new_entry, plain_listing, refusal, reply_to_insert, after_event, back_refusal}
-use Rattle.csq_words.proofs.Lives.{ArePresent, HasSoundLives, legal_lives}
-use Rattle.csq_words.proofs.Listings.{is_listed-plain, listing-inserted, listing-marked, listing-removed, listing-taken_back, listing-renewed, listing-put_back}
-use Rattle.csq_queue.specs.Counts.{has_life, AreApart}
+use Rattle.csq_queue.proofs.Imports.{and_parts, or_cases, or_right, not-true, length-map, life_of, same_irp, same_id, IrpLife, FileId, IrpId, same_irp-eq, same_id-refl, Place, InsertStatus, NotHome, no_cause, sound-accepted, IsSound, inserted, renewed, is_listed, is_distinct, filter-none, unused-unlisted, sound-fresh, sound-removed, sound-renewed, Entry, Event, FlagSeen, Mark, Insert, RemoveNext, Remove, Out, CloseFile, Reuse, PutBack, Pending, Cancelled, Refused, irp_eq, IsLegal, IsGone, MayCome, end_of, Queued, QueueState, Limits, current, has_irp, has_file, has_entry, without, plain, new_entry, plain_listing, refusal, reply_to_insert, after_event, back_refusal, ArePresent, HasSoundLives, legal_lives, is_listed-plain, listing-inserted, listing-marked, listing-removed, listing-taken_back, listing-renewed, listing-put_back, has_life, AreApart}
 use Rattle.csq_queue.proofs.Counting.{apart_most}
 
 -- an insert is pending, or finds its IRP cancelled, only where no cause refuses it

@@ -1,34 +1,11 @@
 -- What a call gave out: its steps tell.
 use Rattle.std.proofs.Common.{◌≡◌, ℕ, ◌<◌, not, ◌&&◌, ◌||◌, cond, Bool, true, false, true≢false, List, [], ◌∷◌, ◌++◌, Option, Some, None, Result, Ok, Err, IfSome, refl, sym, ap, ◌∙◌, subst}
-use Rattle.irp_core.specs.Steps.{number, same_irp}
-use Rattle.irp_core.specs.declared.ids.IrpLife.{IrpLife}
-use Rattle.irp_core.specs.Words.{flagged}
+use Rattle.csq_queue.proofs.Imports.{number, same_irp, IrpLife, flagged, IrpId, Life, PassId, Nothing, Removing, Kind, Arm, Test, Disarm, End, Made, same_some, Peek, InsertStatus, Event, PassRecord, inside_of, owes_in, holds_in, removed_in, held_list, owed_list, QueueState, Limits, has_entry, has_marked, with_step, with_calls, is_done, InsertAnswer, has_life, given_in, made_by, MakesSteps, gave, misses, last_step, passed_over, insert_steps, remove_next_steps, remove_steps, reuse_steps, IsNew}
 use Rattle.irp_core.specs.Inside.{follows, in_insert, after_disarm}
 use Rattle.irp_core.specs.Programs.{Act}
-use Rattle.irp_core.specs.declared.ids.IrpId.{IrpId}
-use Rattle.irp_core.specs.declared.ids.Life.{Life}
-use Rattle.irp_core.specs.declared.ids.PassId.{PassId}
 use Rattle.irp_core.specs.declared.inside.Inside.{Inside}
-use Rattle.irp_core.specs.declared.inside.Inside.TheVariants.{Nothing, Removing}
-use Rattle.irp_core.specs.declared.step.Kind.{Kind}
-use Rattle.irp_core.specs.declared.step.Kind.TheVariants.{Arm, Test, Disarm, End}
-use Rattle.irp_core.specs.declared.step.Made.{Made}
-use Rattle.irp_core.proofs.Names.{same_some}
-use Rattle.csq_list.specs.declared.entry.Peek.{Peek}
-use Rattle.csq_list.specs.declared.refusals.InsertStatus.{InsertStatus}
-use Rattle.csq_words.specs.declared.views.Event.{Event}
-use Rattle.csq_words.specs.declared.views.PassRecord.{PassRecord}
-use Rattle.irp_core.specs.Own.{inside_of, owes_in, holds_in, removed_in, held_list, owed_list}
-use Rattle.csq_words.specs.Queue.{QueueState, Limits, has_entry, has_marked}
-use Rattle.csq_words.specs.Records.{with_step, with_calls}
-use Rattle.csq_words.specs.Rule.{is_done}
 use Rattle.csq_queue.specs.declared.refusals.ReuseRefused.{ReuseRefused}
-use Rattle.csq_queue.specs.declared.tokens.InsertAnswer.{InsertAnswer}
 use Rattle.csq_queue.specs.declared.tokens.InsertAnswer.TheVariants.{Pending, Cancelled}
-use Rattle.csq_queue.specs.Counts.{has_life}
-use Rattle.csq_queue.specs.Inserts.{given_in}
-use Rattle.csq_queue.specs.Steps.{made_by, MakesSteps, gave, misses, last_step, passed_over, insert_steps, remove_next_steps, remove_steps, reuse_steps}
-use Rattle.csq_queue.specs.Told.{IsNew}
 use Rattle.csq_queue.proofs.Newness.{IsNewTo}
 use Rattle.csq_queue.proofs.Owning.{held_more}
 

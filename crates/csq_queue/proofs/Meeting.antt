@@ -1,20 +1,7 @@
 -- Two passes that see the same execution.
-use Rattle.csq_words.specs.History.{IsExtendedBy}
+use Rattle.csq_queue.proofs.Imports.{IsExtendedBy, length-append, filter-append, PassId, Made, Nothing, Size, own, by, PassRecord, QueueRecord, inside_of, caught_up, inserts, lists, again, in_flight, IsHistoryOf, RecordsAgree, SomeRunAgrees, SeesRun}
 use Rattle.std.proofs.Common.{◌≡◌, List, [], ◌∷◌, ◌++◌, length, Some, refl, sym, ap, ◌∙◌, arith}
-use Rattle.std.proofs.lemmas.List.{length-append}
-use Rattle.std.proofs.lemmas.List.Elements.{filter-append}
-use Rattle.irp_core.specs.declared.ids.PassId.{PassId}
-use Rattle.irp_core.specs.declared.step.Made.{Made}
-use Rattle.irp_core.specs.declared.inside.Inside.TheVariants.{Nothing}
-use Rattle.irp_core.specs.Runs.{Size}
-use Rattle.irp_core.specs.Steps.{own, by}
-use Rattle.csq_words.specs.declared.views.PassRecord.{PassRecord}
-use Rattle.csq_words.specs.declared.views.QueueRecord.{QueueRecord}
-use Rattle.irp_core.specs.Own.{inside_of}
-use Rattle.csq_words.specs.Records.{caught_up}
-use Rattle.csq_words.specs.Rule.{inserts, lists, again, in_flight, IsHistoryOf, RecordsAgree, SomeRunAgrees}
 use Rattle.csq_words.proofs.Keeping.{same_flight}
-use Rattle.csq_queue.specs.Told.{SeesRun}
 use Rattle.csq_queue.proofs.Presence.{sees_run}
 
 -- a pass's steps in a run that goes on

@@ -1,22 +1,7 @@
 -- The matches that a removal passes over.
 use Rattle.std.proofs.Common.{◌≡◌, ℕ, not, ◌&&◌, cond, Bool, true, false, true≢false, List, [], ◌∷◌, ◌++◌, map, Option, Some, None, refl, sym, ap, ◌∙◌, append_assoc, append-nil}
-use Rattle.std.proofs.lemmas.Bool.{false_from_ne_true, or_parts}
-use Rattle.irp_core.specs.Steps.{same_irp}
-use Rattle.irp_core.specs.declared.ids.IrpLife.{IrpLife}
-use Rattle.irp_core.specs.declared.ids.PassId.{PassId}
-use Rattle.irp_core.proofs.Names.{same_irp-eq}
-use Rattle.csq_list.specs.declared.entry.Peek.{Peek}
-use Rattle.csq_list.specs.Searches.{matches}
+use Rattle.csq_queue.proofs.Imports.{false_from_ne_true, or_parts, same_irp, IrpLife, PassId, same_irp-eq, Peek, matches, Entry, QueueRecord, Queued, has_marked, marking, first_unmarked, plain, end_of, queue_of, entries_of, with_events, none_head, same_irp-is, marked, gave, passed_over}
 use Rattle.csq_list.specs.Searches as list
-use Rattle.csq_words.specs.declared.views.Entry.{Entry}
-use Rattle.csq_words.specs.declared.views.QueueRecord.{QueueRecord}
-use Rattle.csq_words.specs.Queue.{Queued, has_marked, marking, first_unmarked, plain}
-use Rattle.csq_words.specs.History.{end_of}
-use Rattle.csq_words.specs.Records.{queue_of, entries_of, with_events}
-use Rattle.csq_words.proofs.Marking.{none_head}
-use Rattle.csq_words.proofs.Named.{same_irp-is}
-use Rattle.csq_queue.specs.Searches.{marked}
-use Rattle.csq_queue.specs.Steps.{gave, passed_over}
 
 -- of a part in which nothing was given out all matches were passed over
 pub passed-append : (k : Peek) (xs ys : List Queued) → passed_over k None (xs ++ ys) ≡ passed_over k None ys ++ passed_over k None xs

@@ -1,22 +1,7 @@
 -- A queue and its passes, seen by their own words, and by those that a call is handed.
 use Rattle.std.proofs.Common.{◌≡◌, ℕ, Bool, List, length, Option, Some, IfSome, sym, ap, ◌∙◌, subst}
-use Rattle.atomic_table.specs.Seated.{TableId}
-use Rattle.irp_core.specs.Runs.{Size}
-use Rattle.csq_list.specs.Listing.{Listing}
-use Rattle.csq_words.specs.Queue.{Limits, limits_of}
-use Rattle.csq_words.specs.declared.views.PassRecord.{PassRecord}
-use Rattle.csq_words.specs.Records.{with_run, caught_up}
-use Rattle.csq_words.specs.Seats.{WordsState, QueueSeatState, PassSeatState, joined_record, pass_record}
-use Rattle.irp_core.specs.declared.ids.IrpLife.{IrpLife}
-use Rattle.irp_core.specs.Own.{inside_of}
-use Rattle.irp_core.specs.declared.inside.Inside.TheVariants.{Nothing}
-use Rattle.csq_queue.specs.Named.{IrpNumbers, queue_size, IsLockedOf, IsPassSeatOf}
-use Rattle.csq_words.specs.declared.views.Event.{Event}
-use Rattle.csq_words.specs.Rule.{RecordsAgree, SomeRunAgrees}
-use Rattle.csq_queue.specs.Told.{AddsEvents, IsNew}
-use Rattle.csq_queue.specs.Adding.{Adds}
+use Rattle.csq_queue.proofs.Imports.{TableId, Size, Listing, Limits, limits_of, PassRecord, with_run, caught_up, WordsState, QueueSeatState, PassSeatState, joined_record, pass_record, IrpLife, inside_of, Nothing, IrpNumbers, queue_size, IsLockedOf, IsPassSeatOf, Event, RecordsAgree, SomeRunAgrees, AddsEvents, IsNew, Adds, OpenState, OpenPassState, seat_table, limits_on, IsQueueOn, IsPassOn}
 use Rattle.csq_queue.proofs.Leaving.{left_adds}
-use Rattle.csq_queue.specs.Opens.{OpenState, OpenPassState, seat_table, limits_on, IsQueueOn, IsPassOn}
 
 -- what a contract sees of a queue's parts
 abbrev pub seen_of : Listing → QueueSeatState → List Bool → OpenState

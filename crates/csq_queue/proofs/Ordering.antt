@@ -1,22 +1,10 @@
 -- The order of the calls follows from what each call's pass had seen before it.
 use Rattle.std.proofs.Common.{◌≡◌, ◌≢◌, ◌⊎◌, inl, inr, ℕ, Bool, ◌&&◌, List, [], ◌∷◌, ◌++◌, length, append_assoc, refl, sym, ap, ◌∙◌, subst}
-use Rattle.std.proofs.lemmas.List.{append_cancel_right}
-use Rattle.std.proofs.lemmas.List.Elements.{filter-append}
-use Rattle.irp_core.specs.Steps.{own, same_pass}
-use Rattle.irp_core.specs.declared.ids.PassId.{PassId}
-use Rattle.irp_core.specs.declared.step.Made.{Made}
-use Rattle.csq_words.specs.declared.views.Entry.{Entry}
-use Rattle.csq_words.specs.declared.views.Event.{Event}
-use Rattle.csq_words.specs.declared.views.PassRecord.{PassRecord}
-use Rattle.csq_words.specs.Queue.{Limits}
-use Rattle.csq_words.specs.History.{IsExtendedBy, is_call, calls_of}
-use Rattle.csq_words.specs.Records.{entries_of}
+use Rattle.csq_queue.proofs.Imports.{append_cancel_right, filter-append, own, same_pass, PassId, Made, Entry, Event, PassRecord, Limits, IsExtendedBy, is_call, calls_of, entries_of, extended_on, made_by}
 use Rattle.csq_words.specs.Recorded.{StandInOrder}
 use Rattle.csq_words.specs.Stories.{AreComparable}
-use Rattle.csq_words.proofs.Facts.{extended_on}
 use Rattle.csq_words.proofs.OneHistory.{one_begins}
 use Rattle.csq_words.proofs.Placing.{own_entry, in_order}
-use Rattle.csq_queue.specs.Steps.{made_by}
 use Rattle.csq_queue.specs.Cleanups.{SeesCalls}
 use Rattle.csq_queue.specs.Order.{LockedCall, entries, ComesBefore, StandBefore, CallsAreOrdered, CallsComeAfterWhatWasSeen, StepsComeAfterWhatWasSeen, CallsToldOfCameFirst, EventsLeftStandInOrder, EventsOfAnOpenQueueStandInOrder}
 use Rattle.csq_queue.proofs.Telling.{closing_see}

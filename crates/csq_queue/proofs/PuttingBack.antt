@@ -1,45 +1,8 @@
 -- A put-back of an IRP that the joined pass got by a removal.
 use Rattle.std.proofs.Common.{◌≡◌, ℕ, not, ◌&&◌, ◌||◌, Bool, true, false, true≢false, List, [], ◌∷◌, Some, None, Ok, refl, sym, ap, ◌∙◌, subst}
-use Rattle.std.proofs.lemmas.Bool.{false_from_ne_true, or_right}
-use Rattle.std.specs.Prelude.{slice_index, IsTrue, length, ◌<◌}
-use Rattle.atomic_table.specs.Seated.{TableId}
-use Rattle.irp_core.specs.Steps.{same_irp, number}
-use Rattle.irp_core.specs.declared.ids.IrpLife.{IrpLife}
-use Rattle.irp_core.specs.declared.ids.FileId.{FileId}
-use Rattle.irp_core.specs.declared.step.Made.{Made}
-use Rattle.irp_core.specs.declared.step.Kind.TheVariants.{Rearm, Test, Disarm}
-use Rattle.irp_core.specs.Own.{holds_in, removed_in}
-use Rattle.irp_core.specs.Owners.{owes, holds, listed}
-use Rattle.irp_core.specs.Words.{armed, was_armed}
-use Rattle.irp_core.proofs.Names.{same_irp-refl, same_irp-eq}
-use Rattle.irp_core.proofs.Own.{holds_in-own}
-use Rattle.irp_core.proofs.Owning.{removed_in-own}
-use Rattle.irp_core.specs.declared.inside.Inside.TheVariants.{Rearmed}
-use Rattle.csq_list.specs.declared.entry.Place.{Place}
-use Rattle.csq_list.specs.declared.refusals.InsertStatus.{InsertStatus}
-use Rattle.csq_list.specs.Listing.{Listing, put_at, inserted, without_irp}
-use Rattle.csq_list.specs.Searches.{is_listed}
+use Rattle.csq_queue.proofs.Imports.{false_from_ne_true, or_right, slice_index, IsTrue, length, ◌<◌, TableId, same_irp, number, IrpLife, FileId, Made, Rearm, Test, Disarm, holds_in, removed_in, owes, holds, listed, armed, was_armed, same_irp-refl, same_irp-eq, holds_in-own, removed_in-own, Rearmed, Place, InsertStatus, Listing, put_at, inserted, without_irp, is_listed, MayMake, after_step, with_noted, FlagSeen, Mark, PutBack, Pending, Cancelled, Refused, current, has_irp, has_entry, back_refusal, reply_to_insert, plain, new_entry, Limits, IsGone, end_of, queue_of, with_run, SomeRunAgrees, RecordsAgree, lists, inserts, QueueSeatState, joined_record, with_view, open_now, held_gone, irp_eq, ArePresent, listing-relisted, listing-put_and_taken, listing-marked, one_marked, queue_size, IrpNumbers, IsListOf, HoldsRemoved, IsEntered, Adds, MakesSteps, put_back_steps, InsertAnswer}
 use Rattle.csq_words.specs.declared.calls.Call.TheVariants.{PutBack as PutBackCall}
-use Rattle.csq_words.specs.Calls.{MayMake, after_step, with_noted}
-use Rattle.csq_words.specs.declared.views.Event.TheVariants.{FlagSeen, Mark, PutBack}
-use Rattle.csq_words.specs.declared.views.InsertReply.TheVariants.{Pending, Cancelled, Refused}
-use Rattle.csq_words.specs.Queue.{current, has_irp, has_entry, back_refusal, reply_to_insert, plain, new_entry}
-use Rattle.csq_words.specs.History.{IsGone, end_of}
-use Rattle.csq_words.specs.Records.{queue_of, with_run}
-use Rattle.csq_words.specs.Rule.{SomeRunAgrees, RecordsAgree, lists, inserts}
-use Rattle.csq_words.specs.Seats.{QueueSeatState, joined_record, with_view}
-use Rattle.csq_words.proofs.Facts.{open_now, held_gone}
-use Rattle.csq_words.proofs.Named.{irp_eq}
-use Rattle.csq_words.proofs.Lives.{ArePresent}
 use Rattle.csq_words.proofs.Truths.{flags_cancelled}
-use Rattle.csq_words.proofs.Listings.{listing-relisted, listing-put_and_taken, listing-marked}
-use Rattle.csq_words.proofs.Marking.{one_marked}
-use Rattle.csq_words.specs.Queue.{Limits}
-use Rattle.csq_queue.specs.Named.{queue_size, IrpNumbers, IsListOf}
-use Rattle.csq_queue.specs.Owned.{HoldsRemoved}
-use Rattle.csq_queue.specs.Adding.{IsEntered, Adds}
-use Rattle.csq_queue.specs.Steps.{MakesSteps, put_back_steps}
-use Rattle.csq_queue.specs.declared.tokens.InsertAnswer.{InsertAnswer}
 use Rattle.csq_queue.specs.declared.tokens.InsertAnswer.TheVariants as answer
 use Rattle.csq_queue.proofs.Presence.{sound_lives, listed_is}
 use Rattle.csq_queue.proofs.Searching.{with_made, adds_none, adds_more}

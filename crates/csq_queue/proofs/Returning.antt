@@ -1,21 +1,6 @@
 -- What a pass holds after a put-back.
 use Rattle.std.proofs.Common.{◌≡◌, ℕ, suc, ◌-◌, ◌≤◌, cond, Bool, true, false, List, [], ◌∷◌, length, None, Result, Ok, Err, IfOk, OnOk, OnErr, IfSome, refl, sym, ap, ◌∙◌, subst, arith}
-use Rattle.irp_core.specs.declared.ids.IrpLife.{IrpLife}
-use Rattle.irp_core.specs.declared.step.Kind.TheVariants.{Rearm, Test, Disarm}
-use Rattle.irp_core.specs.Own.{holds_in, removed_in, held_list, owed_list}
-use Rattle.irp_core.proofs.Names.{same_irp-refl}
-use Rattle.irp_core.specs.declared.ids.FileId.{FileId}
-use Rattle.csq_list.specs.declared.entry.Place.{Place}
-use Rattle.csq_list.specs.declared.refusals.InsertStatus.{InsertStatus}
-use Rattle.csq_words.specs.declared.views.Event.{Event}
-use Rattle.csq_words.specs.declared.views.PassRecord.{PassRecord}
-use Rattle.csq_words.specs.Queue.{QueueState, has_marked}
-use Rattle.csq_words.proofs.Held.{held_list-is}
-use Rattle.csq_queue.specs.Counts.{has_life, AreApart, held_count}
-use Rattle.csq_queue.specs.Inserts.{IsPutBack, given_by, count_spent}
-use Rattle.csq_queue.specs.Owned.{Holds, HoldsRemoved}
-use Rattle.csq_queue.specs.Steps.{MakesSteps, put_back_steps}
-use Rattle.csq_queue.specs.declared.tokens.InsertAnswer.{InsertAnswer}
+use Rattle.csq_queue.proofs.Imports.{IrpLife, Rearm, Test, Disarm, holds_in, removed_in, held_list, owed_list, same_irp-refl, FileId, Place, InsertStatus, Event, PassRecord, QueueState, has_marked, held_list-is, has_life, AreApart, held_count, IsPutBack, given_by, count_spent, Holds, HoldsRemoved, MakesSteps, put_back_steps, InsertAnswer}
 use Rattle.csq_queue.specs.declared.tokens.InsertAnswer.TheVariants.{Pending, Cancelled}
 use Rattle.csq_queue.proofs.Counting.{spent, spent_one, spent_apart, spent_gone}
 

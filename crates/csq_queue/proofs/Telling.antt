@@ -1,22 +1,9 @@
 -- What is left of a queue that was closed tells the story of each IRP, and what the passes have seen.
 use Rattle.std.proofs.Common.{◌≡◌, ℕ, zero, suc, List, ◌∷◌, ap, ◌∙◌, sym, subst}
-use mathlib.Core.Option.{some, some-injective}
-use lib.ListN.{get_elem?}
-use Rattle.irp_core.specs.declared.ids.IrpLife.{IrpLife}
-use Rattle.irp_core.specs.declared.inside.Inside.TheVariants.{Nothing}
-use Rattle.irp_core.specs.Lives.{HasBegun}
-use Rattle.csq_list.specs.Listing.{Listing}
-use Rattle.csq_words.specs.declared.views.Entry.{Entry}
-use Rattle.csq_words.specs.declared.views.PassRecord.{PassRecord}
-use Rattle.csq_words.specs.declared.views.QueueRecord.{QueueRecord}
-use Rattle.csq_words.specs.Queue.{Limits}
-use Rattle.csq_words.specs.Rule.{HasBack}
-use Rattle.csq_words.specs.Finals.{FinalWords, AllBack, IsFinal}
+use Rattle.csq_queue.proofs.Imports.{some, some-injective, get_elem?, IrpLife, Nothing, HasBegun, Listing, Entry, PassRecord, QueueRecord, Limits, HasBack, FinalWords, AllBack, IsFinal, queue_size, IsRestOf, IsClosed}
 use Rattle.csq_words.specs.Stories.{Story, StaysHaveStories, SeeOneHistory}
 use Rattle.csq_words.proofs.Stories.{a_story, stay_story}
 use Rattle.csq_words.proofs.OneHistory.{recorded_see}
-use Rattle.csq_queue.specs.Named.{queue_size}
-use Rattle.csq_queue.specs.Rests.{IsRestOf, IsClosed}
 use Rattle.csq_queue.proofs.Backing.{still_at}
 
 -- the words are of as many IRPs as the limits say

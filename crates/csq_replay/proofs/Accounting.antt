@@ -1,46 +1,16 @@
 -- Each IRP that an insert accepted is accounted for.
 use Rattle.std.proofs.Common.{◌≡◌, ℕ, Bool, true, false, cond, not, ◌&&◌, ◌||◌, ◌==◌, ◌⊎◌, inl, inr, List, [], ◌∷◌, Option, Some, None, refl, ap, sym, ◌∙◌, subst}
-use Rattle.std.proofs.lemmas.Bool.{or_left, or_right, and_parts, not-true}
-use Rattle.std.proofs.Math.Bool.{or-false, and-false}
-use Rattle.irp_core.specs.declared.ids.FileId.{FileId}
-use Rattle.irp_core.specs.declared.ids.IrpId.{IrpId}
-use Rattle.irp_core.specs.declared.status.NtStatus.{NtStatus}
-use Rattle.irp_core.specs.declared.status.TheConstants.NtStatus.{CANCELLED}
-use Rattle.irp_core.specs.declared.step.Kind.{Kind}
-use Rattle.irp_core.specs.declared.step.Kind.TheVariants.{Arm, Test, Disarm, End, Flag, Take, Out, Done, Renew, Rearm}
-use Rattle.irp_core.specs.declared.step.Made.{Made}
-use Rattle.irp_core.specs.Steps.{same_irp, same_pass}
-use Rattle.irp_core.specs.declared.ids.IrpLife.{IrpLife}
-use Rattle.irp_core.specs.Words.{bit, armed}
-use Rattle.irp_core.specs.Owners.{holds}
-use Rattle.irp_core.proofs.Names.{same_irp-refl, same_irp-eq, same_pass-refl}
-use Rattle.csq_words.specs.Plays.{status_recorded}
-use Rattle.csq_list.specs.declared.entry.Place.{Place}
-use Rattle.csq_list.specs.declared.entry.Peek.{Peek}
-use Rattle.csq_list.specs.declared.entry.Peek.TheVariants.{File}
-use Rattle.csq_list.specs.declared.refusals.InsertStatus.{InsertStatus}
+use Rattle.csq_replay.proofs.Imports.{or_left, or_right, and_parts, not-true, or-false, and-false, FileId, IrpId, NtStatus, CANCELLED, Kind, Arm, Test, Disarm, End, Flag, Take, Out, Done, Renew, Rearm, Made, same_irp, same_pass, IrpLife, bit, armed, holds, same_irp-refl, same_irp-eq, same_pass-refl, status_recorded, Place, Peek, File, InsertStatus, matches, Queued, Limits, plain_listing, refusal, reply_to_insert, first_unmarked, has_irp, has_entry, has_unmarked, has_marked, marking, without, new_entry, Call, Next, Mark, Routine, Complete, Close, Reply, Removed, NoIrp, Claimed, Unclaimed, Completed, Closed, Script, script_pass, new_script, present_of, after_reuse, next_step, after_steps, removal_steps, named_removal_steps, doing, completing, after_mark, Calls, Cleans, Does, refuses_insert, lists, cancels_insert, removes_next, removes, removes_none, claims, claims_none, runs_routine, has_no_claim, completes, holds_none, refuses_pending, refuses_put_back, puts_back, cancels_put_back, closes, is_stale, reuses, not_completed, lives_spent, tells_flag, tells_status, knows_no_irp, knows_no_file, none_left, one_more, calls, cancel_claimed, cancel_unclaimed, cleaned, LeadTo, AreMarked}
 use Rattle.csq_list.specs.declared.refusals.InsertStatus.TheVariants.{NotHome}
 use Rattle.csq_list.proofs.Causes.{no_cause}
 use Rattle.csq_words.specs.declared.views.InsertReply.{InsertReply}
 use Rattle.csq_words.specs.declared.views.InsertReply.TheVariants as insert
 use Rattle.csq_words.specs.declared.views.Event.TheVariants as event
-use Rattle.csq_list.specs.Searches.{matches}
 use Rattle.csq_words.specs.declared.views.Completion.{Completion}
-use Rattle.csq_words.specs.Queue.{Queued, Limits, plain_listing, refusal, reply_to_insert, first_unmarked, has_irp, has_entry, has_unmarked, has_marked, marking, without, new_entry}
 use Rattle.csq_words.specs.History.{IsGone}
 use Rattle.csq_words.proofs.Entries.{has_entry-marking, has_entry-placed, has_entry-without}
 use Rattle.csq_words.proofs.Facts.{bit_false}
-use Rattle.csq_replay.specs.declared.script.call.Call.{Call}
-use Rattle.csq_replay.specs.declared.script.call.Call.TheVariants.{Next, Mark, Routine, Complete, Close}
-use Rattle.csq_replay.specs.declared.script.call.Reply.{Reply}
-use Rattle.csq_replay.specs.declared.script.call.Reply.TheVariants.{Removed, NoIrp, Claimed, Unclaimed, Completed, Closed}
-use Rattle.csq_replay.specs.Calls.{Script, script_pass, new_script, present_of, after_reuse, next_step, after_steps, removal_steps, named_removal_steps, doing, completing, after_mark, Calls, Cleans, Does}
-use Rattle.csq_replay.specs.Calls.Calls.{refuses_insert, lists, cancels_insert, removes_next, removes, removes_none, claims, claims_none, runs_routine, has_no_claim, completes, holds_none, refuses_pending, refuses_put_back, puts_back, cancels_put_back, closes, is_stale, reuses, not_completed, lives_spent, tells_flag, tells_status, knows_no_irp, knows_no_file}
-use Rattle.csq_replay.specs.Calls.Cleans.{none_left, one_more}
-use Rattle.csq_replay.specs.Calls.Does.{calls, cancel_claimed, cancel_unclaimed, cleaned}
-use Rattle.csq_replay.specs.Laws.{LeadTo}
 use Rattle.csq_replay.specs.Laws.LeadTo.{at_end, by_nothing, by_call}
-use Rattle.csq_replay.specs.Drivers.{AreMarked}
 use Rattle.csq_replay.proofs.Queueing.{marks_stay, marks_placed, marks_without, marks_marking, marked_is, taken_routine, other_entry}
 use Rattle.csq_replay.proofs.Cleaning.{removal_holds}
 
@@ -61,16 +31,11 @@ gives_up (Rearm i) = true
 gives_up _ = false
 
 holds_more : (E : List Made) (k : Kind) (i : IrpLife) → gives_up k ≡ false → holds E script_pass i ≡ true → holds (next_step E k) script_pass i ≡ true
-holds_more E (Arm j) i n h = h
-holds_more E (Test j) i n h = h
 holds_more E (Disarm j) i n h = or_right (((same_irp j i && bit (armed E j) == 1) || false) && same_pass script_pass script_pass) (holds E script_pass i) h
-holds_more E End i n h = h
-holds_more E (Flag j) i n h = h
-holds_more E (Take j) i n h = h
 holds_more E (Out j) i n h = or_right (same_irp j i && same_pass script_pass script_pass) (holds E script_pass i) h
 holds_more E (Done j) i n h = absurd cc
-holds_more E (Renew j) i n h = h
 holds_more E (Rearm j) i n h = absurd cc
+holds_more E k i n h = h
 
 -- what an IRP was completed with stays, and one more is completed
 told_more : (completed : List Completion) (j : IrpLife) (status : NtStatus) (i : IrpLife) → (x : NtStatus) × (status_recorded i completed ≡ Some x) → (x : NtStatus) × (status_recorded i (record { irp = j; status = status } ∷ completed) ≡ Some x)

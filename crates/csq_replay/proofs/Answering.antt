@@ -1,14 +1,10 @@
 -- Answers, line after line.
 use Rattle.std.proofs.Common.{◌≡◌, ℕ, ◌+◌, List, ◌∷◌, ◌++◌, Option, Some, None, Result, Ok, Err, IfOk, ◌≤◌, append_assoc, refl, ap, subst, sym, ◌∙◌, length, true, eqb-true, arith}
-use Rattle.std.proofs.lemmas.List.{nil_from_length}
-use Rattle.std.specs.Prelude.{◌==◌}
-use Rattle.csq_replay.specs.declared.lines.answer.Ended.{Ended}
+use Rattle.csq_replay.proofs.Imports.{nil_from_length, ◌==◌, Ended, lines_of, GrewBy, Leaves, AnswersAll, IsAnswer}
 use Rattle.csq_replay.specs.declared.lines.answer.Ended.TheVariants.{AllHandled, Stopped}
 use Rattle.csq_replay.specs.declared.lines.Handling.{Handling}
 use Rattle.csq_replay.specs.declared.lines.Handling.TheVariants.{GoesOn, Stops}
-use Rattle.csq_replay.specs.Pieces.{lines_of}
 use Rattle.csq_replay.specs.Inputs.{input_limit}
-use Rattle.csq_replay.specs.Lines.{GrewBy, Leaves, AnswersAll, IsAnswer}
 use Rattle.csq_replay.specs.Lines.AnswersAll.{all_handled, goes_on, stops}
 use Rattle.csq_replay.specs.Lines.IsAnswer.{too_long_input, answered}
 

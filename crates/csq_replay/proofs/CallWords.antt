@@ -1,16 +1,9 @@
 -- The words of a call.
 use Rattle.std.proofs.Common.{Bool, true, false, eq-eqb, ◌≡◌, ℕ, ◌+◌, ◌*◌, List, [], ◌∷◌, slice_index, Option, Some, None, inl, inr, refl, ap, sym, ◌∙◌, arith, decimal, codes, subst}
-use Rattle.std.specs.Prelude.{nat_eq, MatchOption}
 use Rattle.std.specs.Cmp.Lexicographic.{pointwise}
-use Rattle.irp_core.specs.declared.status.NtStatus.{NtStatus}
-use Rattle.irp_core.specs.declared.ids.IrpLife.{IrpLife}
-use Rattle.csq_list.specs.declared.entry.Place.{Place}
-use Rattle.csq_list.specs.declared.entry.Peek.TheVariants.{Any, File}
-use Rattle.csq_replay.specs.declared.script.call.Call.{Call}
+use Rattle.csq_replay.proofs.Imports.{nat_eq, MatchOption, NtStatus, IrpLife, Place, Any, File, Call, words_of, IsShort, IsNumber, IsNameWord}
 use Rattle.csq_replay.specs.declared.script.call.Call.TheVariants.{Insert, Next, Remove, Mark, Routine, Cancel, Complete, Close, Cleanup, Flag, Status, Reuse, PutBack}
-use Rattle.csq_replay.specs.Pieces.{words_of, IsShort, IsNumber}
 use Rattle.csq_replay.specs.CallLine.{call_name, named_life, place_word, IsLifeName, IsHexStatus, IsOne, IsNamed}
-use Rattle.csq_replay.specs.StepLine.{IsNameWord}
 use Rattle.csq_replay.proofs.NameWords.{alone, word_alone, same_name, words_of-decimal}
 use Rattle.csq_replay.proofs.StatusWords.{words_of-digits}
 

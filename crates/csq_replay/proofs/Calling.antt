@@ -1,43 +1,13 @@
 -- What a driver keeps after a call.
 use Rattle.std.proofs.Common.{◌≡◌, ℕ, ◌<◌, Bool, true, false, cond, not, ◌==◌, List, [], ◌∷◌, length, Option, Some, None, refl, ap, sym, ◌∙◌, subst, arith}
-use Rattle.std.specs.Prelude.{slice_index_or, slice_set}
-use Rattle.std.proofs.lemmas.List.{get_or-set_same, get_or-set_other, length-set}
-use Rattle.irp_core.specs.declared.ids.FileId.{FileId}
-use Rattle.irp_core.specs.declared.ids.IrpId.{IrpId}
-use Rattle.irp_core.specs.declared.status.NtStatus.{NtStatus}
-use Rattle.irp_core.specs.declared.status.TheConstants.NtStatus.{PENDING}
-use Rattle.irp_core.specs.declared.step.Kind.TheVariants.{Take, Out, Done}
+use Rattle.csq_replay.proofs.Imports.{slice_index_or, slice_set, get_or-set_same, get_or-set_other, length-set, FileId, IrpId, NtStatus, PENDING, Take, Out, Done, Made, IrpPlace, IsPlace, number, same_id, same_irp, same_pass, IrpLife, bit, armed, flagged, owes, holds, listed, dones, present, Size, IsRun, MachineState, Agrees, size_of, same_id-eq, same_id-ne, same_irp-refl, same_irp-eq, same_irp-ne, same_pass-refl, same_pass-eq, status_recorded, is_listed, Listing, with_closed, without_irp, Limits, with_file, after_event, has_entry, has_marked, has_unmarked, id_eq, is_listed-plain, listing-removed, listing-marked, Call, UnknownIrp, UnknownFile, NoClaim, NotHeld, StatusPending, Stale, Claimed, Unclaimed, Closed, Refused, Script, script_pass, script_size, present_of, IsNow, next_step, doing, completing, after_mark, status_reply, irp_of, token_of, cancelled_life, file_of, Calls, has_no_claim, holds_none, refuses_pending, closes, tells_flag, tells_status, knows_no_irp, knows_no_file, claims_none, is_stale, Keeping, Keeps, IsOfRun}
 use Rattle.irp_core.specs.declared.step.Kind.TheVariants as step
-use Rattle.irp_core.specs.declared.step.Made.{Made}
-use Rattle.irp_core.specs.declared.standing.IrpPlace.{IrpPlace}
-use Rattle.irp_core.specs.declared.standing.IrpPlace.TheVariants.{Home, Listed, HeldBy}
-use Rattle.irp_core.specs.declared.standing.IrpPlace.TheVariants.{Completed as PlaceCompleted}
-use Rattle.irp_core.specs.Completion.{IsPlace}
+use Rattle.irp_core.specs.declared.standing.IrpPlace.TheVariants.{HeldBy}
 use Rattle.csq_replay.proofs.OneAnswer.{one_place}
-use Rattle.irp_core.specs.Steps.{number, same_id, same_irp, same_pass}
-use Rattle.irp_core.specs.declared.ids.IrpLife.{IrpLife}
-use Rattle.irp_core.specs.Words.{bit, armed, flagged}
-use Rattle.irp_core.specs.Owners.{owes, holds, listed, dones}
-use Rattle.irp_core.specs.Lives.{present}
-use Rattle.irp_core.specs.Runs.{Size, IsRun}
-use Rattle.irp_core.specs.MachineState.{MachineState, Agrees, size_of}
-use Rattle.irp_core.proofs.Names.{same_id-eq, same_id-ne, same_irp-refl, same_irp-eq, same_irp-ne, same_pass-refl, same_pass-eq}
-use Rattle.csq_words.specs.Plays.{status_recorded}
-use Rattle.csq_list.specs.Searches.{is_listed}
-use Rattle.csq_list.specs.Listing.{Listing, with_closed, without_irp}
 use Rattle.csq_words.specs.declared.views.Event.TheVariants as event
-use Rattle.csq_words.specs.Queue.{Limits, with_file, after_event, has_entry, has_marked, has_unmarked}
-use Rattle.csq_words.proofs.Named.{id_eq}
-use Rattle.csq_words.proofs.Listings.{is_listed-plain, listing-removed, listing-marked}
-use Rattle.csq_replay.specs.declared.script.call.Call.{Call}
 use Rattle.csq_replay.specs.declared.script.call.Call.TheVariants.{Mark, Routine, Complete, Close, Flag, Status}
-use Rattle.csq_replay.specs.declared.script.call.Refusal.TheVariants.{UnknownIrp, UnknownFile, NoClaim, NotHeld, StatusPending, Stale}
-use Rattle.csq_replay.specs.declared.script.call.Reply.TheVariants.{Claimed, Unclaimed, Closed, Refused}
 use Rattle.csq_replay.specs.declared.script.call.Reply.TheVariants as reply
-use Rattle.csq_replay.specs.Calls.{Script, script_pass, script_size, present_of, IsNow, next_step, doing, completing, after_mark, status_reply, irp_of, token_of, cancelled_life, file_of, Calls}
-use Rattle.csq_replay.specs.Calls.Calls.{has_no_claim, holds_none, refuses_pending, closes, tells_flag, tells_status, knows_no_irp, knows_no_file, claims_none, is_stale}
 use Rattle.csq_replay.specs.Calls.Calls.{claims as claims_it}
-use Rattle.csq_replay.specs.Drivers.{Keeping, Keeps, IsOfRun}
 use Rattle.csq_replay.specs.Replies.{mark_reply}
 use Rattle.csq_replay.proofs.Queueing.{marked_is, queue_done, queue_flag, queue_take, queue_take_none, queue_out, armed_listed, owed_listed, sound_lives}
 use Rattle.csq_replay.proofs.Going.{run_for, present_is}
@@ -286,9 +256,7 @@ place_holds size E r i place is = go (holds E script_pass i) refl
     not_there : (p : IrpPlace) → IsPlace E i p → (b : Bool) → held_there p ≡ b → holds E script_pass i ≡ false → b ≡ false
     not_there (HeldBy q) at true e none = let same : q ≡ script_pass = same_pass-eq q script_pass e in let held : holds E script_pass i ≡ true = ap (λ p. holds E p i) (sym same) ∙ at in cc
     not_there (HeldBy q) at false e none = refl
-    not_there Home at b e none = sym e
-    not_there Listed at b e none = sym e
-    not_there (PlaceCompleted status p) at b e none = sym e
+    not_there x at b e none = sym e
 
     go : (b : Bool) → holds E script_pass i ≡ b → held_there place ≡ b
     go true e = ap held_there (one_place size E r i place (HeldBy script_pass) is e) ∙ same_pass-refl script_pass

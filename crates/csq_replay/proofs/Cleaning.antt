@@ -1,38 +1,8 @@
 -- What the calls answer that other calls are made of.
 use Rattle.std.proofs.Common.{◌≡◌, ◌≢◌, ℕ, ◌+◌, ◌<◌, Bool, true, false, cond, not, ◌&&◌, ◌||◌, List, [], ◌∷◌, map, length, Some, None, refl, ap, sym, ◌∙◌, subst, arith}
-use Rattle.std.proofs.lemmas.Bool.{and_parts, not-true, not-false}
-use Rattle.std.proofs.Math.Bool.{or-false, and-false, or-true}
-use Rattle.std.proofs.lemmas.List.{length-map}
-use Rattle.irp_core.specs.declared.ids.FileId.{FileId}
-use Rattle.irp_core.specs.declared.ids.IrpId.{IrpId}
-use Rattle.irp_core.specs.declared.status.NtStatus.{NtStatus}
-use Rattle.irp_core.specs.declared.status.TheConstants.NtStatus.{PENDING, CANCELLED}
-use Rattle.irp_core.specs.declared.step.Kind.TheVariants.{Disarm}
-use Rattle.irp_core.specs.declared.step.Made.{Made}
-use Rattle.irp_core.specs.Steps.{life_of, same_irp}
-use Rattle.irp_core.specs.declared.ids.IrpLife.{IrpLife}
-use Rattle.irp_core.specs.Words.{armed}
-use Rattle.irp_core.specs.Owners.{holds}
-use Rattle.irp_core.specs.Runs.{Size}
-use Rattle.irp_core.proofs.Names.{same_irp-refl, same_irp-eq, same_pass-refl}
-use Rattle.csq_list.specs.declared.entry.Peek.{Peek}
-use Rattle.csq_list.specs.declared.entry.Peek.TheVariants.{File}
-use Rattle.csq_list.specs.Searches.{matches, is_listed, is_distinct}
-use Rattle.csq_list.specs.Listing.{Listing, IsSound}
-use Rattle.csq_list.proofs.Keeping.{filter-none}
+use Rattle.csq_replay.proofs.Imports.{and_parts, not-true, not-false, or-false, and-false, or-true, length-map, FileId, IrpId, NtStatus, PENDING, CANCELLED, Disarm, Made, life_of, same_irp, IrpLife, armed, holds, Size, same_irp-refl, same_irp-eq, same_pass-refl, Peek, File, matches, is_listed, is_distinct, Listing, IsSound, filter-none, Queued, QueueState, Limits, current, first_unmarked, has_entry, without, after_event, plain, is_listed-plain, ArePresent, Next, Mark, Cancel, Close, Cleanup, Reply, Removed, NoIrp, Refused, Script, script_pass, present_of, completing, next_step, after_steps, removal_steps, Calls, Cleans, Does, removes_next, completes, holds_none, is_stale, knows_no_irp, knows_no_file, none_left, one_more, calls, Keeping, Keeps, AreMarked}
 use Rattle.csq_words.specs.declared.views.Event.TheVariants as event
-use Rattle.csq_words.specs.Queue.{Queued, QueueState, Limits, current, first_unmarked, has_entry, without, after_event, plain}
-use Rattle.csq_words.proofs.Listings.{is_listed-plain}
-use Rattle.csq_words.proofs.Lives.{ArePresent}
-use Rattle.csq_replay.specs.declared.script.call.Call.TheVariants.{Next, Mark, Cancel, Close, Cleanup}
 use Rattle.csq_replay.specs.declared.script.call.Refusal.{Refusal}
-use Rattle.csq_replay.specs.declared.script.call.Reply.{Reply}
-use Rattle.csq_replay.specs.declared.script.call.Reply.TheVariants.{Removed, NoIrp, Refused}
-use Rattle.csq_replay.specs.Calls.{Script, script_pass, present_of, completing, next_step, after_steps, removal_steps, Calls, Cleans, Does}
-use Rattle.csq_replay.specs.Calls.Calls.{removes_next, completes, holds_none, is_stale, knows_no_irp, knows_no_file}
-use Rattle.csq_replay.specs.Calls.Cleans.{none_left, one_more}
-use Rattle.csq_replay.specs.Calls.Does.{calls}
-use Rattle.csq_replay.specs.Drivers.{Keeping, Keeps, AreMarked}
 use Rattle.csq_replay.proofs.Removing.{present, entry_now, listed_is, listed_known}
 use Rattle.csq_replay.proofs.Queueing.{marks_stay, taken_routine}
 

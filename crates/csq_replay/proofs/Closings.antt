@@ -1,20 +1,7 @@
 -- The closing lines.
 use Rattle.std.proofs.Common.{◌≡◌, ℕ, ◌+◌, Bool, true, false, cond, List, [], ◌∷◌, ◌++◌, ap, append_assoc, append-nil, ◌∙◌, sym, subst, add-one, refl, codes}
-use mir.Val.{bool_byte}
-use Rattle.irp_core.specs.declared.step.Made.{Made}
-use Rattle.irp_core.specs.declared.standing.IrpPlace.{IrpPlace}
-use Rattle.irp_core.specs.Steps.{life_of}
-use Rattle.irp_core.specs.declared.ids.IrpLife.{IrpLife}
-use Rattle.irp_core.specs.Words.{bit, flagged}
-use Rattle.irp_core.specs.Completion.{IsPlace}
-use Rattle.irp_core.specs.Lives.{present, present_life}
-use Rattle.irp_core.proofs.Names.{named}
-use Rattle.irp_core.specs.Runs.{Size}
-use Rattle.csq_replay.specs.declared.schedule.closing.IrpLine.{IrpLine}
+use Rattle.csq_replay.proofs.Imports.{Made, present, Size, IrpLine, ComesTo, Numbered, irp_line_text, irp_lines_text, IsToldOf, AreToldOf, IsClosing, GrewBy}
 use Rattle.csq_replay.specs.declared.schedule.outcome.Outcome.{Outcome}
-use Rattle.csq_replay.specs.Outcomes.{ComesTo}
-use Rattle.csq_replay.specs.Schedule.{Numbered, is_silent, irp_line_text, irp_lines_text, unless_silent, IsToldOf, AreToldOf, IsClosing}
-use Rattle.csq_replay.specs.Lines.{GrewBy}
 
 -- a text that grew twice grew by both
 pub grew_more : (old between new first second : List ℕ) → GrewBy old between first → GrewBy between new second → GrewBy old new (first ++ second)
@@ -22,25 +9,6 @@ grew_more old between new first second a b = b ∙ ap (λ t. t ++ second) a ∙ 
 
 pub grew_none : (text : List ℕ) → GrewBy text text []
 grew_none text = sym (append-nil text)
-
-pub byte_is_bit : (b : Bool) → bool_byte b ≡ bit b
-byte_is_bit true = refl
-byte_is_bit false = refl
-
--- an IRP is told of so, where its present life, its place and its flag are told
-pub irp_told : (first : ℕ) (E : List Made) (i : IrpLife) → life_of i ≡ present_life first E i.irp → (place : IrpPlace) → IsPlace E (present first E i.irp) place
-    → (flag : Bool) → flag ≡ flagged E (present first E i.irp) → (told : List IrpLine) → told ≡ unless_silent (record { name = i; place = place; cancelled = flag })
-    → IsToldOf E (present first E i.irp) told
-irp_told first E i now place is flag set told e =
-    let same : i ≡ present first E i.irp = named i (present first E i.irp) refl now in
-    let line : IrpLife → Bool → IrpLine = λ x f. record { name = x; place = place; cancelled = f } in
-    (place, is, e ∙ ap (λ x. unless_silent (line x flag)) same ∙ ap (λ f. unless_silent (line (present first E i.irp) f)) set)
-
-pub told_none : (line : IrpLine) → is_silent line ≡ true → [] ≡ unless_silent line
-told_none line hidden = rw hidden refl
-
-pub told_one : (line : IrpLine) → is_silent line ≡ false → line ∷ [] ≡ unless_silent line
-told_one line shown = rw shown refl
 
 pub lines-append : (xs ys : List IrpLine) → irp_lines_text (xs ++ ys) ≡ irp_lines_text xs ++ irp_lines_text ys
 lines-append [] ys = refl

@@ -1,11 +1,7 @@
 -- The first piece, and the pieces after it.
 use Rattle.std.proofs.Common.{◌≡◌, ℕ, ◌+◌, ◌-◌, ◌<◌, ◌≤◌, Bool, true, false, cond, List, [], ◌∷◌, length, take, drop, Some, None, refl, ap, sym, ◌∙◌, arith, ltb-true, ltb-false, ltb, subst, length-drop}
-use Rattle.std.proofs.lemmas.List.{take_all}
-use Rattle.std.proofs.lemmas.List.Splits.{slice_split_first, slice_split_none, length-slice_split}
 use Rattle.std.proofs.lemmas.List.Sums.{fails_before_first}
-use Rattle.std.specs.Prelude.{position, ◌==◌}
-use Rattle.std.specs.List.{position_or_len}
-use Rattle.csq_replay.specs.Pieces.{pieces, without_empty_last, lines_of}
+use Rattle.csq_replay.proofs.Imports.{take_all, slice_split_first, slice_split_none, length-slice_split, position, ◌==◌, position_or_len, pieces, without_empty_last, lines_of}
 
 module _ (byte : ℕ) (bytes : List ℕ) where
   abbrev is_it : ℕ → Bool

@@ -1,26 +1,7 @@
 -- The run of a script's one pass goes on.
 use Rattle.std.proofs.Common.{◌≡◌, ◌≢◌, ℕ, ◌<◌, ◌≤◌, Bool, true, false, cond, List, [], ◌∷◌, refl, ap, sym, ◌∙◌, subst, arith, lit≤}
-use Rattle.irp_core.specs.declared.ids.IrpId.{IrpId}
-use Rattle.irp_core.specs.declared.ids.PassId.{PassId}
-use Rattle.irp_core.specs.declared.step.Kind.{Kind}
-use Rattle.irp_core.specs.declared.step.Kind.TheVariants.{Arm, Test, Disarm, End, Flag, Take, Out, Done, Renew, Rearm}
-use Rattle.irp_core.specs.declared.step.Made.{Made}
-use Rattle.irp_core.specs.declared.inside.Inside.{Inside}
-use Rattle.irp_core.specs.declared.inside.Inside.TheVariants.{Nothing, Armed, FlagSeen, Cancelling, Rearmed, FlagSeenAgain}
-use Rattle.irp_core.specs.Steps.{number, life_of, same_irp, same_pass, Each}
-use Rattle.irp_core.specs.declared.ids.IrpLife.{IrpLife}
-use Rattle.irp_core.specs.Words.{was_armed, found_by}
-use Rattle.irp_core.specs.Inside.{inside, inside_after, follows, has_lock}
-use Rattle.irp_core.specs.Owners.{owes, holds, listed, dones}
-use Rattle.irp_core.specs.Completion.{removed, holds_removed}
-use Rattle.irp_core.specs.Lives.{last_life, present_life, present, IsPresent}
-use Rattle.irp_core.specs.Runs.{Size, IsKnown, IsRun}
-use Rattle.irp_core.specs.MachineState.{MachineState, Agrees, size_of}
-use Rattle.irp_core.proofs.Names.{same_irp-eq, same_pass-refl, same_pass-eq}
+use Rattle.csq_replay.proofs.Imports.{IrpId, PassId, Kind, Arm, Test, Disarm, End, Flag, Take, Out, Done, Renew, Rearm, Made, Inside, Nothing, Armed, FlagSeen, Cancelling, Rearmed, FlagSeenAgain, number, life_of, same_irp, same_pass, Each, IrpLife, was_armed, found_by, inside, inside_after, follows, has_lock, owes, holds, listed, dones, removed, holds_removed, last_life, present_life, present, IsPresent, Size, IsKnown, IsRun, MachineState, Agrees, size_of, same_irp-eq, same_pass-refl, same_pass-eq, Limits, Script, script_pass, script_size, present_of, IsNow, next_step, Keeping, Keeps}
 use Rattle.irp_core.proofs.Next.{IsFreeFor, grows_by_arm, grows_by_test, grows_by_insert_disarm, grows_by_removal_disarm, grows_by_end, grows_by_flag, grows_by_take, grows_by_out, grows_by_done, grows_by_renew, grows_by_rearm, grows_by_test_again, grows_by_disarm_again}
-use Rattle.csq_words.specs.Queue.{Limits}
-use Rattle.csq_replay.specs.Calls.{Script, script_pass, script_size, present_of, IsNow, next_step}
-use Rattle.csq_replay.specs.Drivers.{Keeping, Keeps}
 
 the_pass : (q : PassId) → q.0 ≡ 1 → q ≡ script_pass
 the_pass q e = let named : ℕ → PassId = λ n. record { 0 = n } in ap named e

@@ -1,18 +1,12 @@
 -- What a handled script has come to.
 use Rattle.std.proofs.Common.{◌≡◌, ℕ, ◌+◌, List, [], ◌∷◌, ◌++◌, Some, refl, ap, sym, ◌∙◌, append_assoc, subst}
-use Rattle.csq_words.specs.Queue.{Limits}
-use Rattle.csq_replay.specs.declared.lines.answer.Ended.{Ended}
+use Rattle.csq_replay.proofs.Imports.{Limits, Ended, lines_of, Script, new_script, AnswersAll, AnswersCall, IsScriptAnswer, going_on, closing_lines, LeadTo, EndsWith, EachInsertedIrpIsAccountedFor}
 use Rattle.csq_replay.specs.declared.lines.answer.Ended.TheVariants.{AllHandled}
-use Rattle.csq_replay.specs.Pieces.{lines_of}
-use Rattle.csq_replay.specs.Calls.{Script, new_script}
-use Rattle.csq_replay.specs.Lines.{AnswersAll}
 use Rattle.csq_replay.specs.Lines.AnswersAll.{all_handled, goes_on, stops}
 use Rattle.csq_replay.specs.Lines.IsAnswer.{too_long_input, answered as lines_answered}
 use Rattle.csq_replay.specs.declared.script.outcome.CallOutcome.{CallOutcome}
 use Rattle.csq_replay.specs.declared.script.outcome.CallOutcome.TheVariants.{Skipped, Answered, Stopped}
 use Rattle.csq_replay.specs.CallOutcomes.{CallComesTo}
-use Rattle.csq_replay.specs.ScriptAnswer.{AnswersCall, IsScriptAnswer, going_on, closing_lines}
-use Rattle.csq_replay.specs.Laws.{LeadTo, EndsWith, EachInsertedIrpIsAccountedFor}
 use Rattle.csq_replay.specs.Laws.LeadTo.{at_end, by_nothing, by_call}
 use Rattle.csq_replay.proofs.Accounting.{new_accounts, led_accounts}
 

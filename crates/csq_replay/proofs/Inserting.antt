@@ -1,35 +1,11 @@
 -- Inserts: what the driver keeps in the end.
 use Rattle.std.proofs.Common.{◌≡◌, ℕ, ◌<◌, Bool, true, false, List, [], ◌∷◌, Option, Some, None, refl, ap, sym, ◌∙◌, subst, arith}
-use Rattle.std.specs.Prelude.{slice_set}
 use borrow.Author.Tests.{leb-false}
-use Rattle.irp_core.specs.declared.ids.FileId.{FileId}
-use Rattle.irp_core.specs.declared.ids.IrpId.{IrpId}
-use Rattle.irp_core.specs.declared.step.Kind.TheVariants.{Arm, Test, Disarm}
-use Rattle.irp_core.specs.declared.step.Made.{Made}
-use Rattle.irp_core.specs.declared.inside.Inside.TheVariants.{Nothing, Armed, FlagSeen}
-use Rattle.irp_core.specs.Steps.{number, same_irp}
-use Rattle.irp_core.specs.declared.ids.IrpLife.{IrpLife}
-use Rattle.irp_core.specs.Words.{bit, flagged, was_armed, found_by}
-use Rattle.irp_core.specs.Inside.{inside, inside_after}
-use Rattle.irp_core.specs.Runs.{Size}
-use Rattle.irp_core.specs.MachineState.{MachineState, Agrees, size_of}
-use Rattle.irp_core.proofs.Names.{same_irp-refl}
-use Rattle.csq_list.specs.declared.entry.Place.{Place}
-use Rattle.csq_list.specs.declared.refusals.InsertStatus.{InsertStatus}
+use Rattle.csq_replay.proofs.Imports.{slice_set, FileId, IrpId, Arm, Test, Disarm, Made, Nothing, Armed, FlagSeen, number, same_irp, IrpLife, bit, flagged, was_armed, found_by, inside, inside_after, Size, MachineState, Agrees, size_of, same_irp-refl, Place, InsertStatus, is_cause, first_cause, Listing, put_at, inserted, without_irp, filter-put_at, Queued, QueueState, Limits, plain_listing, refusal, reply_to_insert, has_irp, without, with_file, after_event, new_entry, listing-taken_back, listing-inserted, Insert, Pending, InsertRefused, Script, script_pass, script_size, present_of, next_step, doing, Calls, refuses_insert, lists, Keeping, Keeps, IsOfRun}
 use Rattle.csq_list.specs.declared.refusals.InsertStatus.TheVariants.{UnknownIrp, NotHome}
-use Rattle.csq_list.specs.Causes.{is_cause, first_cause}
-use Rattle.csq_list.specs.Listing.{Listing, put_at, inserted, without_irp}
 use Rattle.csq_list.proofs.Causes.{no_cause}
-use Rattle.csq_list.proofs.Keeping.{filter-put_at}
 use Rattle.csq_words.specs.declared.views.InsertReply.TheVariants as reply
 use Rattle.csq_words.specs.declared.views.Event.TheVariants as event
-use Rattle.csq_words.specs.Queue.{Queued, QueueState, Limits, plain_listing, refusal, reply_to_insert, has_irp, without, with_file, after_event, new_entry}
-use Rattle.csq_words.proofs.Listings.{listing-taken_back, listing-inserted}
-use Rattle.csq_replay.specs.declared.script.call.Call.TheVariants.{Insert}
-use Rattle.csq_replay.specs.declared.script.call.Reply.TheVariants.{Pending, InsertRefused}
-use Rattle.csq_replay.specs.Calls.{Script, script_pass, script_size, present_of, next_step, doing, Calls}
-use Rattle.csq_replay.specs.Calls.Calls.{refuses_insert, lists}
-use Rattle.csq_replay.specs.Drivers.{Keeping, Keeps, IsOfRun}
 use Rattle.csq_replay.proofs.Going.{Goes, May, starts, run_for, now_present, went, may_arm, may_test, may_disarm}
 use Rattle.csq_replay.proofs.Queueing.{queue_arm, queue_test, queue_hit, unlisted, sound_lives, found_then}
 use Rattle.csq_replay.proofs.Removing.{keeps_run}
@@ -83,10 +59,6 @@ module _ (l : Limits) (kept : Keeping) (s : Script) (k : Keeps l kept s) (n : Ir
       pub test_may : May m1 (Test i)
       test_may = may_test m1 (next_step s.run (Arm i)) (Armed i) goes1 i refl known1
 
-      -- the queue of one thread, where the IRP is listed
-      listed_queue : QueueState
-      listed_queue = after_event s.queue (event.Insert n f place reply.Pending)
-
       queue1 : IsOfRun l.first (next_step s.run (Arm i)) (after_event s.queue (event.Insert n f place reply.Pending))
       queue1 = queue_arm (script_size l) s.run (run_for l kept s k) s.queue k.queue n f place home
 
@@ -118,9 +90,6 @@ module _ (l : Limits) (kept : Keeping) (s : Script) (k : Keeps l kept s) (n : Ir
           flag : flagged s.run i ≡ true
           flag = one_is (flagged s.run i) v value set
 
-          E2 : List Made
-          E2 = next_step (next_step s.run (Arm i)) (Test i)
-
           at2 : inside_after (Armed i) (Test i) (bit (flagged s.run i)) ≡ FlagSeen i
           at2 = ap (λ b. inside_after (Armed i) (Test i) (bit b)) flag
 
@@ -139,12 +108,6 @@ module _ (l : Limits) (kept : Keeping) (s : Script) (k : Keeps l kept s) (n : Ir
             at3 : inside (next_step (next_step (next_step s.run (Arm i)) (Test i)) (Disarm i)) script_pass ≡ Nothing
             at3 = (went m2 (next_step (next_step s.run (Arm i)) (Test i)) _ goes2 m3 (Disarm i) a3 same3).at
                 ∙ ap (λ x. inside_after x (Disarm i) (found_by (next_step (next_step s.run (Arm i)) (Test i)) (Disarm i))) at2
-
-            goes3 : Goes m3 (next_step (next_step (next_step s.run (Arm i)) (Test i)) (Disarm i)) Nothing
-            goes3 = record { agrees = a3; one = (went m2 (next_step (next_step s.run (Arm i)) (Test i)) _ goes2 m3 (Disarm i) a3 same3).one; at = at3 }
-
-            pub known3 : number i < (size_of m3).irps
-            known3 = omega (arith, known2, ap (λ (n : Size). n.irps) same3)
 
             entries_back : without i (put_at place (new_entry i f) s.queue.entries) ≡ s.queue.entries
             entries_back = filter-put_at (λ (e : Queued). same_irp e.irp i) place (new_entry i f) s.queue.entries (same_irp-refl i) (unlisted (script_size l) s.run (run_for l kept s k) s.queue k.queue i home)

@@ -1,14 +1,6 @@
 -- The words of a kind of step.
-use Rattle.std.proofs.Common.{length, ◌≡◌, ◌≢◌, ℕ, List, [], ◌∷◌, Option, Some, None, refl, ap, sym, ◌∙◌, subst, arith, codes}
-use Rattle.std.specs.Prelude.{◌==◌, MatchOption}
-use Rattle.std.proofs.lemmas.List.Splits.{length-slice_split}
-use Rattle.irp_core.specs.declared.step.Kind.{Kind}
-use Rattle.irp_core.specs.declared.step.Kind.TheVariants.{Arm, Test, Disarm, End, Flag, Take, Out, Done, Renew, Rearm}
-use Rattle.irp_core.specs.declared.step.Step.{Step}
-use Rattle.irp_core.specs.Steps.{name_of}
-use Rattle.irp_core.specs.declared.ids.IrpLife.{IrpLife}
-use Rattle.csq_replay.specs.Pieces.{words_of}
-use Rattle.csq_replay.specs.StepLine.{verb_of, IsNameWord, AreNameWords, AreKindWords, IsStepLine}
+use Rattle.std.proofs.Common.{length, ◌≡◌, ℕ, List, [], ◌∷◌, Option, Some, None, refl, ap, sym, ◌∙◌, subst, arith}
+use Rattle.csq_replay.proofs.Imports.{◌==◌, MatchOption, length-slice_split, Kind, Step, name_of, IrpLife, words_of, verb_of, IsNameWord, AreNameWords, AreKindWords, IsStepLine}
 use Rattle.csq_replay.proofs.NameWords.{one_piece, word_alone, same_name}
 
 module _ (text verb operand : List ℕ) (cut : words_of text ≡ verb ∷ words_of operand) where
@@ -39,22 +31,6 @@ module _ (text verb operand : List ℕ) (cut : words_of text ≡ verb ∷ words_
       names_it : (o : Option IrpLife) → o ≡ Some i → AreNameWords (operand ∷ []) o
       names_it None e = absurd cc
       names_it (Some j) e = (operand, refl, let same : i ≡ j = cc e in subst (λ x. IsNameWord operand x) same is)
-
--- one word alone names a kind where it is end
-pub no_operand : (text verb : List ℕ) → words_of text ≡ verb ∷ [] → verb ≢ codes "end" → (k : Kind) → ¬ AreKindWords (words_of text) k
-no_operand text verb cut ne End h = ne (cc (cut, h.1))
-no_operand text verb cut ne (Arm i) h = let e : h.0 ≡ [] = cc (cut, h.1) in let f = h.2.1 in cc
-no_operand text verb cut ne (Test i) h = let e : h.0 ≡ [] = cc (cut, h.1) in let f = h.2.1 in cc
-no_operand text verb cut ne (Disarm i) h = let e : h.0 ≡ [] = cc (cut, h.1) in let f = h.2.1 in cc
-no_operand text verb cut ne (Flag i) h = let e : h.0 ≡ [] = cc (cut, h.1) in let f = h.2.1 in cc
-no_operand text verb cut ne (Take i) h = let e : h.0 ≡ [] = cc (cut, h.1) in let f = h.2.1 in cc
-no_operand text verb cut ne (Out i) h = let e : h.0 ≡ [] = cc (cut, h.1) in let f = h.2.1 in cc
-no_operand text verb cut ne (Done i) h = let e : h.0 ≡ [] = cc (cut, h.1) in let f = h.2.1 in cc
-no_operand text verb cut ne (Renew i) h = let e : h.0 ≡ [] = cc (cut, h.1) in let f = h.2.1 in cc
-no_operand text verb cut ne (Rearm i) h = let e : h.0 ≡ [] = cc (cut, h.1) in let f = h.2.1 in cc
-
-pub end_alone : (text verb : List ℕ) → words_of text ≡ verb ∷ [] → verb ≡ codes "end" → AreKindWords (words_of text) End
-end_alone text verb cut e = ([], cut ∙ ap (λ w. w ∷ []) e, refl)
 
 -- where the words after the first name no kind, the line names no step
 pub no_kind : (line pass rest : List ℕ) → words_of line ≡ pass ∷ words_of rest → ((k : Kind) → ¬ AreKindWords (words_of rest) k) → (s : Step) → ¬ IsStepLine line s

@@ -1,24 +1,10 @@
 -- The closing lines of a script.
 use Rattle.std.proofs.Common.{◌≡◌, ℕ, zero, suc, ◌+◌, ◌<◌, Bool, true, false, cond, List, [], ◌∷◌, ◌++◌, map, filter, take, length, get_or, Option, Some, None, refl, ap, sym, ◌∙◌, arith, append_assoc, append-nil, add-one, codes}
-use Rattle.std.proofs.lemmas.List.{take_more}
-use Rattle.std.proofs.lemmas.List.Elements.{filter-append}
-use Rattle.irp_core.specs.declared.ids.IrpId.{IrpId}
-use Rattle.irp_core.specs.Lives.{present}
-use Rattle.irp_core.specs.Runs.{Size}
-use Rattle.irp_core.specs.MachineState.{size_of}
-use Rattle.csq_list.specs.Listing.{Listing}
-use Rattle.csq_words.specs.Queue.{Queued, Limits, plain}
-use Rattle.csq_replay.specs.Calls.{Script, present_of}
+use Rattle.csq_replay.proofs.Imports.{take_more, filter-append, IrpId, present, Size, size_of, Listing, Queued, Limits, plain, Script, present_of, Keeping, Keeps, irp_text, Entry, Any, first_match, rest_after, is_distinct, numbers, irps_below, is_kept, listed_irps, kept_irps, AreLeft, left_lines, closing_lines}
 use Rattle.csq_replay.proofs.Going.{present_is}
-use Rattle.csq_replay.specs.Drivers.{Keeping, Keeps}
-use Rattle.irp_core.specs.Texts.{irp_text}
-use Rattle.csq_list.specs.declared.entry.Entry.{Entry}
-use Rattle.csq_list.specs.declared.entry.Peek.TheVariants.{Any}
-use Rattle.csq_list.specs.Searches.{first_match, rest_after, is_distinct}
 use Rattle.csq_list.proofs.Finding.{found-first, nothing-left}
 use Rattle.csq_replay.specs.declared.script.remains.Kept.{Kept}
 use Rattle.csq_replay.specs.declared.script.remains.Kept.TheVariants.{Held}
-use Rattle.csq_replay.specs.ScriptAnswer.{numbers, irps_below, is_kept, listed_irps, kept_irps, AreLeft, left_lines, closing_lines}
 
 abbrev irps_of : List Entry → List IrpId
 irps_of es = map (λ (e : Entry). e.irp) es

@@ -1,23 +1,8 @@
 -- The words that name an IRP in a life.
 use Rattle.std.proofs.Common.{length, ◌≡◌, ℕ, ◌<◌, ◌≤◌, ◌^◌, ◌⊎◌, inl, inr, List, [], ◌∷◌, ◌++◌, get_or, refl, ap, sym, ◌∙◌, arith, decimal, false}
-use Rattle.std.specs.Prelude.{◌==◌}
-use Rattle.std.specs.List.{All, join_with_byte}
-use Rattle.std.specs.Str.{IsAscii}
-use Rattle.std.proofs.lemmas.List.Elements.{All-append, All-cons, All-nil}
-use Rattle.std.proofs.lemmas.List.Splits.{slice_split_none, slice_split_at, length-slice_split, join_with_byte-slice_split}
 use Rattle.std.proofs.lemmas.Str.Parse.{digit_at, numerals_by_value, tells_digits}
-use Rattle.std.proofs.lemmas.Str.{IsAscii-append}
 use Rattle.std.proofs.lemmas.Str.Ascii.{IsAscii-from_all}
-use Rattle.std.proofs.lemmas.Fmt.{digits_decimal, decimal_injective, IsAscii-decimal, length-decimal-le}
-use Rattle.std.proofs.lemmas.List.{get_or_default}
-use Rattle.std.proofs.lemmas.Bool.{ne_eqb}
-use Rattle.irp_core.specs.declared.ids.IrpId.{IrpId}
-use Rattle.irp_core.specs.Steps.{number, life_of}
-use Rattle.irp_core.specs.declared.ids.IrpLife.{IrpLife}
-use Rattle.irp_core.specs.Texts.{irp_text}
-use Rattle.irp_core.proofs.Names.{named}
-use Rattle.csq_replay.specs.Pieces.{pieces, words_of, IsShort, IsNumber}
-use Rattle.csq_replay.specs.StepLine.{IsNameWord}
+use Rattle.csq_replay.proofs.Imports.{◌==◌, All, join_with_byte, IsAscii, All-append, All-cons, All-nil, slice_split_none, slice_split_at, length-slice_split, join_with_byte-slice_split, IsAscii-append, digits_decimal, decimal_injective, IsAscii-decimal, length-decimal-le, get_or_default, ne_eqb, IrpId, number, life_of, IrpLife, irp_text, named, pieces, words_of, IsShort, IsNumber, IsNameWord}
 
 -- a byte that is no digit doesn't stand in a number
 no_digit : (byte n : ℕ) → n < 2 ^ 64 → (byte < 48) ⊎ (57 < byte) → All (λ x. (x == byte) ≡ false) (decimal n)

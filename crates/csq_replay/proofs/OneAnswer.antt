@@ -1,38 +1,19 @@
 -- A schedule has one answer.
 use Rattle.std.proofs.Common.{◌≡◌, ℕ, zero, suc, ◌<◌, Bool, true, false, cond, not, ◌&&◌, List, [], ◌∷◌, ◌++◌, Option, Some, refl, ap, sym, ◌∙◌, arith, subst, codes}
 use Rattle.irp_core.specs.declared.ids.Life.{Life}
-use Rattle.irp_core.specs.declared.ids.PassId.{PassId}
-use Rattle.irp_core.specs.declared.step.Kind.{Kind}
-use Rattle.irp_core.specs.declared.step.Kind.TheVariants.{Arm, Flag, Renew}
-use Rattle.irp_core.specs.declared.step.Made.{Made}
-use Rattle.irp_core.specs.declared.step.Step.{Step}
+use Rattle.csq_replay.proofs.Imports.{PassId, Kind, Arm, Flag, Renew, Made, Step, IrpPlace, Standing, made, IrpLife, flagged, was_armed, found_by, Size, IsRun, holds, has_gone, IsPlace, completed_by, removed, status_due, same_pass-eq, done_at, has_left, IsDue, stands, IrpLine, step_of, ComesTo, Numbered, run_of, grown, TellsLine, answer_text, AnswersLine, unless_silent, IsToldOf, AreToldOf, TellsRest, Closes, IsClosing, irp_lines_text, rest_text, claim_lines, HasOneAnswer}
 use Rattle.irp_core.specs.declared.refusals.StepRefused.{StepRefused}
 use Rattle.irp_core.specs.declared.refusals.StepRefused.TheVariants.{UnknownIrp, UnknownPass, LockHeld, NotNext, NotHome, NotListed, NotOwed, NotHeld, Stale, NotCompleted, LivesSpent}
-use Rattle.irp_core.specs.declared.standing.IrpPlace.{IrpPlace}
 use Rattle.irp_core.specs.declared.standing.IrpPlace.TheVariants as place
-use Rattle.irp_core.specs.declared.standing.Standing.{Standing}
 use Rattle.irp_core.specs.declared.standing.Standing.TheVariants.{Home, Waiting, Owed, Held, Finished}
-use Rattle.irp_core.specs.Steps.{made}
-use Rattle.irp_core.specs.declared.ids.IrpLife.{IrpLife}
-use Rattle.irp_core.specs.Words.{flagged, was_armed, found_by}
-use Rattle.irp_core.specs.Runs.{Size, IsRun}
 use Rattle.irp_core.specs.Refusals.{refusal_number, IsCause, IsFirstCause}
-use Rattle.irp_core.specs.Owners.{holds, has_gone}
 use Rattle.irp_core.specs.Standings.{place_of, stands_home, is_held_by}
-use Rattle.irp_core.specs.Completion.{IsPlace, completed_by, removed, status_due}
-use Rattle.irp_core.proofs.Names.{same_pass-eq}
 use Rattle.irp_core.proofs.Growing.{run_none, run_last, HasLock-has_lock}
-use Rattle.irp_core.proofs.Rows.{done_at, has_left, IsDue}
 use Rattle.irp_core.proofs.Stepping.{no_cause}
-use Rattle.irp_core.proofs.Owning.{stands}
 use Rattle.irp_core.proofs.Next.{lock_one}
-use Rattle.csq_replay.specs.declared.schedule.closing.IrpLine.{IrpLine}
 use Rattle.csq_replay.specs.declared.schedule.outcome.Outcome.{Outcome}
 use Rattle.csq_replay.specs.declared.schedule.outcome.Outcome.TheVariants.{Skipped, Accepted, Stopped}
 use Rattle.csq_replay.specs.declared.schedule.outcome.Stop.TheVariants.{TooLong, Malformed, Refused}
-use Rattle.csq_replay.specs.Outcomes.{step_of, ComesTo}
-use Rattle.csq_replay.specs.Schedule.{Numbered, run_of, grown, TellsLine, answer_text, AnswersLine, unless_silent, IsToldOf, AreToldOf, TellsRest, Closes, IsClosing, irp_lines_text, rest_text, claim_lines}
-use Rattle.csq_replay.specs.Laws.{HasOneAnswer}
 use Rattle.csq_replay.proofs.Answering.{one_input_answer}
 use Rattle.csq_replay.proofs.OneStep.{same_step, not_skipped, is_within}
 
@@ -72,9 +53,7 @@ module _ (ever left : Bool) (ho dn : PassId → Bool) (byr : Bool) where
 places : (E : List Made) (i : IrpLife) (p : IrpPlace) → IsPlace E i p
     → Places (was_armed E i) (has_gone E i) (λ q. holds E q i) (λ q. completed_by E q i) (removed E i) p
 places E i place.Home e = e
-places E i place.Listed e = e
-places E i (place.HeldBy p) e = e
-places E i (place.Completed status p) e = e
+places E i x e = e
 
 -- an IRP is in one place
 pub one_place : (size : Size) (E : List Made) → IsRun size E → (i : IrpLife) (p q : IrpPlace) → IsPlace E i p → IsPlace E i q → p ≡ q

@@ -1,25 +1,12 @@
 -- A line names at most one call.
 use Rattle.std.proofs.Common.{◌≡◌, ℕ, ◌≤◌, List, [], ◌∷◌, ◌++◌, length, refl, ap, sym, ◌∙◌, arith, decimal, codes, length-append, subst, lit≤, lit<}
-use Rattle.std.specs.List.{join_with_byte}
-use Rattle.std.specs.Str.Parse.{AllDigits}
-use Rattle.std.proofs.lemmas.List.Splits.{join_with_byte-slice_split}
 use Rattle.std.proofs.lemmas.Str.Parse.{digit_at, numerals_by_value, tells_digits}
-use Rattle.std.proofs.lemmas.Fmt.{digits_decimal}
-use Rattle.irp_core.specs.declared.ids.FileId.{FileId}
-use Rattle.irp_core.specs.declared.status.NtStatus.{NtStatus}
-use Rattle.irp_core.specs.declared.ids.IrpId.{IrpId}
-use Rattle.irp_core.specs.declared.ids.IrpLife.{IrpLife}
-use Rattle.csq_list.specs.declared.entry.Place.{Place}
+use Rattle.csq_replay.proofs.Imports.{join_with_byte, AllDigits, join_with_byte-slice_split, digits_decimal, FileId, NtStatus, IrpId, IrpLife, Place, Any, File, Call, words_of, IsShort, IsSkipped, IsWithinLine, IsNameWord}
 use Rattle.csq_list.specs.declared.entry.Place.TheVariants.{Back, Front}
-use Rattle.csq_list.specs.declared.entry.Peek.TheVariants.{Any, File}
-use Rattle.csq_replay.specs.declared.script.call.Call.{Call}
 use Rattle.csq_replay.specs.declared.script.call.Call.TheVariants.{Insert, Next, Remove, Mark, Routine, Cancel, Complete, Close, Cleanup, Flag, Status, Reuse, PutBack}
-use Rattle.csq_replay.specs.Pieces.{words_of, IsShort}
 use Rattle.csq_replay.specs.CallLine.{call_name, place_word, IsIrpWord, IsFileWord, IsHexStatus, IsOne, AreOperands, IsCallLine}
-use Rattle.csq_replay.specs.Lines.{IsSkipped, IsWithinLine}
 use Rattle.csq_replay.proofs.CallWords.{letters}
 use Rattle.csq_replay.proofs.NameWords.{number_by_text, irp_by_text, same_name, short_number}
-use Rattle.csq_replay.specs.StepLine.{IsNameWord}
 use Rattle.csq_replay.proofs.StepText.{plain_name}
 
 file_by_text : (f g : FileId) → IsShort f.0 → IsShort g.0 → decimal f.0 ≡ decimal g.0 → f ≡ g
@@ -185,18 +172,7 @@ operands_short words (PutBack i p) (irp, is, first) =
 
 name_short : (c : Call) → length (call_name c) ≤ 8
 name_short (Insert i f p) = lit≤ tt
-name_short (Next k) = lit≤ tt
-name_short (Remove i) = lit≤ tt
-name_short (Mark i) = lit≤ tt
-name_short (Routine i) = lit≤ tt
-name_short (Cancel i) = lit≤ tt
-name_short (Complete i status) = lit≤ tt
-name_short (Close f) = lit≤ tt
-name_short (Cleanup f) = lit≤ tt
-name_short (Flag i) = lit≤ tt
-name_short (Status i) = lit≤ tt
-name_short (Reuse i) = lit≤ tt
-name_short (PutBack i p) = lit≤ tt
+name_short k = lit≤ tt
 
 joined_short : (name : List ℕ) (words : List (List ℕ)) → length name ≤ 8 → length (join_with_byte 32 words) ≤ 25 → length (join_with_byte 32 (name ∷ words)) ≤ 64
 joined_short name [] a b = omega (arith, a)

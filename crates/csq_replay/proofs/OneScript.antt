@@ -1,43 +1,16 @@
 -- A script has one answer.
 use Rattle.std.proofs.Common.{◌≡◌, ℕ, zero, suc, ◌+◌, ◌<◌, ◌≤◌, ◌==◌, ◌⊎◌, inl, inr, Bool, true, false, cond, List, [], ◌∷◌, Option, Some, None, ltb, eq-eqb, refl, ap, sym, ◌∙◌, subst, arith}
-use Rattle.std.proofs.lemmas.Bool.{lt-ltb, le-ltb, ne_eqb}
-use Rattle.irp_core.specs.declared.ids.FileId.{FileId}
-use Rattle.irp_core.specs.declared.ids.IrpId.{IrpId}
-use Rattle.irp_core.specs.Lives.{last_life}
-use Rattle.csq_words.proofs.Named.{same_irp-is, same_irp-not}
-use Rattle.irp_core.specs.declared.status.NtStatus.{NtStatus}
-use Rattle.irp_core.specs.declared.status.TheConstants.NtStatus.{PENDING, CANCELLED}
+use Rattle.csq_replay.proofs.Imports.{lt-ltb, le-ltb, ne_eqb, FileId, IrpId, last_life, same_irp-is, same_irp-not, NtStatus, PENDING, CANCELLED, number, same_irp, IrpLife, flagged, found_by, owes, holds, status_recorded, Place, Peek, File, Limits, has_irp, has_unmarked, first_unmarked, refusal, back_refusal, reply_to_insert, Call, UnknownIrp, UnknownFile, NoClaim, NotHeld, StatusPending, Stale, NotCompleted, LivesSpent, Reply, Pending, Cancelled, InsertRefused, Removed, NoIrp, Claimed, Unclaimed, Completed, Closed, Cleaned, Begun, Refused, Script, script_pass, new_script, present_of, IsNow, life_now, life_after, after_reuse, cancelled_life, doing, completing, removal_steps, named_removal_steps, removal_reply, status_reply, irp_of, token_of, file_of, after_mark, Calls, Cleans, Does, refuses_insert, lists, cancels_insert, removes_next, removes, removes_none, claims, claims_none, runs_routine, has_no_claim, completes, holds_none, refuses_pending, refuses_put_back, puts_back, cancels_put_back, closes, is_stale, reuses, not_completed, lives_spent, tells_flag, tells_status, knows_no_irp, knows_no_file, none_left, one_more, calls, cancel_claimed, cancel_unclaimed, cleaned, Ended, IsAnswer, TellsCall, going_on, call_text, closing_lines, HasOneScriptAnswer}
 use Rattle.irp_core.specs.declared.step.Kind.TheVariants as step
-use Rattle.irp_core.specs.Steps.{number, same_irp}
-use Rattle.irp_core.specs.declared.ids.IrpLife.{IrpLife}
-use Rattle.irp_core.specs.Words.{flagged, found_by}
-use Rattle.irp_core.specs.Owners.{owes, holds}
-use Rattle.csq_words.specs.Plays.{status_recorded}
-use Rattle.csq_list.specs.declared.entry.Place.{Place}
-use Rattle.csq_list.specs.declared.entry.Peek.{Peek}
-use Rattle.csq_list.specs.declared.entry.Peek.TheVariants.{File}
 use Rattle.csq_words.specs.declared.views.InsertReply.{InsertReply}
 use Rattle.csq_words.specs.declared.views.InsertReply.TheVariants as insert
 use Rattle.csq_words.specs.declared.views.Event.TheVariants as event
-use Rattle.csq_words.specs.Queue.{Limits, has_irp, has_unmarked, first_unmarked, refusal, back_refusal, reply_to_insert}
-use Rattle.csq_replay.specs.declared.script.call.Call.{Call}
 use Rattle.csq_replay.specs.declared.script.call.Call.TheVariants.{Insert, Next, Remove, Mark, Routine, Cancel, Complete, Close, Cleanup, Flag, Status, Reuse, PutBack}
-use Rattle.csq_replay.specs.declared.script.call.Refusal.TheVariants.{UnknownIrp, UnknownFile, NoClaim, NotHeld, StatusPending, Stale, NotCompleted, LivesSpent}
-use Rattle.csq_replay.specs.declared.script.call.Reply.{Reply}
-use Rattle.csq_replay.specs.declared.script.call.Reply.TheVariants.{Pending, Cancelled, InsertRefused, Removed, NoIrp, Claimed, Unclaimed, Completed, Closed, Cleaned, Begun, Refused}
 use Rattle.csq_replay.specs.declared.script.call.Reply.TheVariants as reply
-use Rattle.csq_replay.specs.Calls.{Script, script_pass, new_script, present_of, IsNow, life_now, life_after, after_reuse, cancelled_life, doing, completing, removal_steps, named_removal_steps, removal_reply, status_reply, irp_of, token_of, file_of, after_mark, Calls, Cleans, Does}
-use Rattle.csq_replay.specs.Calls.Calls.{refuses_insert, lists, cancels_insert, removes_next, removes, removes_none, claims, claims_none, runs_routine, has_no_claim, completes, holds_none, refuses_pending, refuses_put_back, puts_back, cancels_put_back, closes, is_stale, reuses, not_completed, lives_spent, tells_flag, tells_status, knows_no_irp, knows_no_file}
-use Rattle.csq_replay.specs.Calls.Cleans.{none_left, one_more}
-use Rattle.csq_replay.specs.Calls.Does.{calls, cancel_claimed, cancel_unclaimed, cleaned}
-use Rattle.csq_replay.specs.declared.lines.answer.Ended.{Ended}
 use Rattle.csq_replay.specs.declared.script.outcome.CallStop.TheVariants.{TooLong, Malformed}
 use Rattle.csq_replay.specs.declared.script.outcome.CallOutcome.{CallOutcome}
 use Rattle.csq_replay.specs.declared.script.outcome.CallOutcome.TheVariants.{Skipped, Answered, Stopped}
-use Rattle.csq_replay.specs.Lines.{IsAnswer}
 use Rattle.csq_replay.specs.CallOutcomes.{CallComesTo}
-use Rattle.csq_replay.specs.ScriptAnswer.{TellsCall, going_on, call_text, closing_lines}
-use Rattle.csq_replay.specs.Laws.{HasOneScriptAnswer}
 use Rattle.csq_replay.proofs.Answering.{one_input_answer}
 use Rattle.csq_replay.proofs.OneCall.{same_call, call_not_skipped, call_is_within}
 

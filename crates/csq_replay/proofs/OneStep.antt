@@ -1,15 +1,6 @@
 -- A line names at most one step.
 use Rattle.std.proofs.Common.{◌≡◌, ℕ, List, ◌∷◌, slice_index, Option, Some, None, refl, ap, sym, ◌∙◌, arith, decimal, length-append, subst}
-use Rattle.irp_core.specs.declared.ids.PassId.{PassId}
-use Rattle.irp_core.specs.declared.step.Kind.{Kind}
-use Rattle.irp_core.specs.declared.step.Kind.TheVariants.{Arm, Test, Disarm, End, Flag, Take, Out, Done, Renew, Rearm}
-use Rattle.irp_core.specs.declared.step.Step.{Step}
-use Rattle.irp_core.specs.Steps.{name_of}
-use Rattle.irp_core.specs.declared.ids.IrpLife.{IrpLife}
-use Rattle.irp_core.specs.Texts.{pass_text}
-use Rattle.csq_replay.specs.Pieces.{IsShort}
-use Rattle.csq_replay.specs.StepLine.{verb_of, IsNameWord, AreNameWords, AreKindWords, IsStepLine}
-use Rattle.csq_replay.specs.Lines.{IsSkipped, IsWithinLine}
+use Rattle.csq_replay.proofs.Imports.{PassId, Kind, Arm, Test, Disarm, End, Flag, Take, Out, Done, Renew, Rearm, Step, name_of, IrpLife, pass_text, IsShort, verb_of, IsNameWord, AreNameWords, AreKindWords, IsStepLine, IsSkipped, IsWithinLine}
 use Rattle.csq_replay.proofs.NameWords.{number_by_text, same_name, short_number}
 use Rattle.csq_replay.proofs.StepText.{line_text}
 

@@ -1,35 +1,9 @@
 -- Put-backs: what the driver keeps in the end.
 use Rattle.std.proofs.Common.{◌≡◌, ℕ, ◌<◌, Bool, true, false, List, [], ◌∷◌, Option, Some, None, refl, ap, sym, ◌∙◌, subst, arith}
-use Rattle.std.specs.Prelude.{slice_index_or}
-use Rattle.irp_core.specs.declared.ids.FileId.{FileId}
-use Rattle.irp_core.specs.declared.ids.IrpId.{IrpId}
-use Rattle.irp_core.specs.declared.step.Kind.TheVariants.{Rearm, Test, Disarm}
-use Rattle.irp_core.specs.declared.step.Made.{Made}
-use Rattle.irp_core.specs.declared.inside.Inside.TheVariants.{Nothing, Rearmed, FlagSeenAgain}
-use Rattle.irp_core.specs.Steps.{number, same_irp}
-use Rattle.irp_core.specs.declared.ids.IrpLife.{IrpLife}
-use Rattle.irp_core.specs.Words.{bit, flagged, was_armed, found_by}
-use Rattle.irp_core.specs.Inside.{inside, inside_after}
-use Rattle.irp_core.specs.Owners.{holds, listed}
-use Rattle.irp_core.specs.Runs.{Size}
-use Rattle.irp_core.specs.MachineState.{MachineState, Agrees, size_of}
-use Rattle.irp_core.proofs.Names.{same_irp-refl}
-use Rattle.csq_list.specs.declared.entry.Place.{Place}
-use Rattle.csq_list.specs.declared.refusals.InsertStatus.{InsertStatus}
-use Rattle.csq_list.specs.Causes.{first_cause}
-use Rattle.csq_list.specs.Searches.{is_listed}
-use Rattle.csq_list.specs.Listing.{Listing, put_at, inserted, renewed, without_irp}
-use Rattle.csq_list.proofs.Keeping.{filter-put_at}
+use Rattle.csq_replay.proofs.Imports.{slice_index_or, FileId, IrpId, Rearm, Test, Disarm, Made, Nothing, Rearmed, FlagSeenAgain, number, same_irp, IrpLife, bit, flagged, was_armed, found_by, inside, inside_after, holds, listed, Size, MachineState, Agrees, size_of, same_irp-refl, Place, InsertStatus, first_cause, is_listed, Listing, put_at, inserted, renewed, without_irp, filter-put_at, Queued, QueueState, Limits, plain_listing, back_refusal, reply_to_insert, has_irp, without, after_event, new_entry, listing-relisted, listing-put_and_taken, PutBack, Pending, InsertRefused, Script, script_pass, script_size, present_of, next_step, doing, Calls, refuses_put_back, puts_back, Keeping, Keeps, HoldsRemoved, IsOfRun}
 use Rattle.csq_words.specs.declared.views.InsertReply.TheVariants as reply
 use Rattle.csq_words.specs.declared.views.Event.TheVariants as event
-use Rattle.csq_words.specs.Queue.{Queued, QueueState, Limits, plain_listing, back_refusal, reply_to_insert, has_irp, without, after_event, new_entry}
 use Rattle.csq_words.specs.History.{IsGone, MayCome}
-use Rattle.csq_words.proofs.Listings.{listing-relisted, listing-put_and_taken}
-use Rattle.csq_replay.specs.declared.script.call.Call.TheVariants.{PutBack}
-use Rattle.csq_replay.specs.declared.script.call.Reply.TheVariants.{Pending, InsertRefused}
-use Rattle.csq_replay.specs.Calls.{Script, script_pass, script_size, present_of, next_step, doing, Calls}
-use Rattle.csq_replay.specs.Calls.Calls.{refuses_put_back, puts_back}
-use Rattle.csq_replay.specs.Drivers.{Keeping, Keeps, HoldsRemoved, IsOfRun}
 use Rattle.csq_replay.proofs.Going.{Goes, May, starts, run_for, went, may_rearm, may_test_again, may_disarm_again}
 use Rattle.csq_replay.proofs.Queueing.{held_gone, queue_rearm, queue_test, queue_hit, sound_lives, found_then}
 use Rattle.csq_replay.proofs.Calling.{irps_are, listed_there}

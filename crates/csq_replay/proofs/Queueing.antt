@@ -1,36 +1,12 @@
 -- The queue of one thread says of each IRP what the run says, step by step.
 use Rattle.std.proofs.Common.{◌≡◌, ℕ, ◌+◌, ◌≤◌, Bool, true, false, cond, not, ◌&&◌, ◌||◌, List, [], ◌∷◌, refl, ap, sym, ◌∙◌, arith}
-use Rattle.std.proofs.Math.Bool.{or-false, or-true}
-use Rattle.std.proofs.lemmas.Bool.{or_right}
-use Rattle.irp_core.specs.declared.ids.PassId.{PassId}
-use Rattle.irp_core.specs.declared.ids.FileId.{FileId}
-use Rattle.irp_core.specs.declared.step.Kind.{Kind}
-use Rattle.irp_core.specs.declared.step.Kind.TheVariants.{Arm, Test, Disarm, End, Flag, Take, Out, Done, Renew, Rearm}
-use Rattle.irp_core.specs.declared.step.Made.{Made}
-use Rattle.irp_core.specs.declared.standing.Standing.{Standing}
+use Rattle.csq_replay.proofs.Imports.{or-false, or-true, or_right, PassId, FileId, Kind, Arm, Test, Disarm, End, Flag, Take, Out, Done, Renew, Rearm, Made, Standing, IrpId, life_of, same_id, same_irp, IrpLife, present_life, IsPresent, life_same, life_next, listed_present, used_begun, ArePresent, AreBegun, HasSoundLives, armed, flagged, was_armed, owes, holds, has_gone, listed, Size, IsRun, same_irp-refl, same_irp-eq, Row, stands, Place, put_at, Queued, QueueState, current, begin_next, has_irp, has_entry, has_marked, has_unmarked, marking, without, after_event, new_entry, script_pass, next_step, AreMarked, IsOfRun}
 use Rattle.irp_core.specs.declared.standing.Standing.TheVariants.{Home, Waiting, Owed, Held}
-use Rattle.irp_core.specs.declared.ids.IrpId.{IrpId}
 use Rattle.irp_core.specs.declared.ids.Life.{Life}
-use Rattle.irp_core.specs.Steps.{life_of, same_id, same_irp}
-use Rattle.irp_core.specs.declared.ids.IrpLife.{IrpLife}
-use Rattle.irp_core.specs.Lives.{present_life, present, IsPresent}
-use Rattle.irp_core.proofs.Lives.{life_same, life_next, listed_present, used_begun}
-use Rattle.csq_words.proofs.Lives.{ArePresent, AreBegun, HasSoundLives}
-use Rattle.irp_core.specs.Words.{armed, flagged, was_armed}
-use Rattle.irp_core.specs.Owners.{owes, holds, has_gone, listed}
-use Rattle.irp_core.specs.Runs.{Size, IsRun}
-use Rattle.irp_core.proofs.Names.{same_irp-refl, same_irp-eq}
-use Rattle.irp_core.proofs.Rows.{Row}
-use Rattle.irp_core.proofs.Owning.{stands}
-use Rattle.csq_list.specs.declared.entry.Place.{Place}
 use Rattle.csq_list.specs.declared.entry.Place.TheVariants.{Back, Front}
-use Rattle.csq_list.specs.Listing.{put_at}
 use Rattle.csq_words.specs.declared.views.InsertReply.TheVariants.{Pending}
 use Rattle.csq_words.specs.declared.views.Event.TheVariants as event
-use Rattle.csq_words.specs.Queue.{Queued, QueueState, current, begin_next, has_irp, has_entry, has_marked, has_unmarked, marking, without, after_event, new_entry}
 use Rattle.csq_words.proofs.Entries.{has_entry-marking, has_entry-placed, has_entry-without}
-use Rattle.csq_replay.specs.Calls.{script_pass, next_step}
-use Rattle.csq_replay.specs.Drivers.{AreMarked, IsOfRun}
 
 module _ (ever set : Bool) (cl : List Made) (ow ho dn : PassId → Bool) (ends : List Made) (gone byr : Bool) (i : IrpLife) where
   row_home : (s : Standing) → Row ever set cl ow ho dn ends gone byr i s → ever ≡ false → gone ≡ false
@@ -158,13 +134,6 @@ module _ (size : Size) (E : List Made) (r : IsRun size E) (q : QueueState) (h : 
     entries = entries_present q.entries (λ i there. now_of i (listed_present size E r i (sym (h.entries i) ∙ there)));
     used = used_begun_all q.used (λ i there. let begun = used_begun size E r i (or_right (flagged E i) (was_armed E i) (sym (h.used i) ∙ there)) in omega (arith, begun.1, h.lives i.irp));
   }
-
-  -- IRP n in its present life, as the run has it
-  pub current_is : (n : IrpId) → current q n ≡ present size.first E n
-  current_is n = ap (λ (g : ℕ). the_life n g) (h.lives n)
-    where
-      the_life : IrpId → ℕ → IrpLife
-      the_life n g = record { irp = n; life = record { 0 = g } }
 
   -- an Arm lists its IRP
   pub queue_arm : (n : IrpId) (f : FileId) (place : Place) → was_armed E (current q n) ≡ false → IsOfRun size.first (next_step E (Arm (current q n))) (after_event q (event.Insert n f place Pending))

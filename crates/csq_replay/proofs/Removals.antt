@@ -1,34 +1,6 @@
 -- Between two calls the pass holds only what it got by removals.
 use Rattle.std.proofs.Common.{◌≡◌, ℕ, Bool, true, false, cond, not, ◌&&◌, ◌||◌, ◌==◌, List, [], ◌∷◌, refl}
-use Rattle.irp_core.specs.declared.ids.FileId.{FileId}
-use Rattle.irp_core.specs.declared.ids.IrpId.{IrpId}
-use Rattle.irp_core.specs.declared.status.NtStatus.{NtStatus}
-use Rattle.irp_core.specs.declared.status.TheConstants.NtStatus.{CANCELLED}
-use Rattle.irp_core.specs.declared.step.Kind.{Kind}
-use Rattle.irp_core.specs.declared.step.Kind.TheVariants.{Arm, Test, Disarm, End, Flag, Take, Out, Done, Renew, Rearm}
-use Rattle.irp_core.specs.declared.step.Made.{Made}
-use Rattle.irp_core.specs.declared.inside.Inside.{Inside}
-use Rattle.irp_core.specs.declared.inside.Inside.TheVariants.{Nothing, Armed, FlagSeen, Removing, Cancelling, Rearmed, FlagSeenAgain}
-use Rattle.irp_core.specs.Steps.{same_irp, same_pass}
-use Rattle.irp_core.specs.declared.ids.IrpLife.{IrpLife}
-use Rattle.irp_core.specs.Words.{bit, armed}
-use Rattle.irp_core.specs.Inside.{inside, inside_after, in_insert}
-use Rattle.irp_core.specs.Owners.{holds}
-use Rattle.irp_core.specs.Completion.{removed}
-use Rattle.irp_core.proofs.Names.{same_pass-refl}
-use Rattle.csq_list.specs.declared.entry.Peek.{Peek}
-use Rattle.csq_list.specs.declared.entry.Peek.TheVariants.{File}
-use Rattle.csq_list.specs.Searches.{matches}
-use Rattle.csq_words.specs.Queue.{Queued, Limits, has_unmarked, has_marked}
-use Rattle.csq_replay.specs.declared.script.call.Call.{Call}
-use Rattle.csq_replay.specs.declared.script.call.Call.TheVariants.{Next, Mark, Routine, Complete, Close}
-use Rattle.csq_replay.specs.declared.script.call.Reply.{Reply}
-use Rattle.csq_replay.specs.declared.script.call.Reply.TheVariants.{Removed, NoIrp, Claimed, Unclaimed, Completed, Closed}
-use Rattle.csq_replay.specs.Calls.{Script, script_pass, present_of, next_step, after_steps, removal_steps, named_removal_steps, Calls, Cleans, Does}
-use Rattle.csq_replay.specs.Calls.Calls.{refuses_insert, lists, cancels_insert, removes_next, removes, removes_none, claims, claims_none, runs_routine, has_no_claim, completes, holds_none, refuses_pending, refuses_put_back, puts_back, cancels_put_back, closes, is_stale, reuses, not_completed, lives_spent, tells_flag, tells_status, knows_no_irp, knows_no_file}
-use Rattle.csq_replay.specs.Calls.Cleans.{none_left, one_more}
-use Rattle.csq_replay.specs.Calls.Does.{calls, cancel_claimed, cancel_unclaimed, cleaned}
-use Rattle.csq_replay.specs.Drivers.{HoldsRemoved}
+use Rattle.csq_replay.proofs.Imports.{FileId, IrpId, NtStatus, CANCELLED, Kind, Arm, Test, Disarm, End, Flag, Take, Out, Done, Renew, Rearm, Made, Inside, Nothing, Removing, Cancelling, same_irp, same_pass, IrpLife, bit, armed, inside, inside_after, in_insert, holds, removed, same_pass-refl, Peek, File, matches, Queued, Limits, has_unmarked, has_marked, Call, Next, Mark, Routine, Complete, Close, Reply, Removed, NoIrp, Claimed, Unclaimed, Completed, Closed, Script, script_pass, present_of, next_step, after_steps, removal_steps, named_removal_steps, Calls, Cleans, Does, refuses_insert, lists, cancels_insert, removes_next, removes, removes_none, claims, claims_none, runs_routine, has_no_claim, completes, holds_none, refuses_pending, refuses_put_back, puts_back, cancels_put_back, closes, is_stale, reuses, not_completed, lives_spent, tells_flag, tells_status, knows_no_irp, knows_no_file, none_left, one_more, calls, cancel_claimed, cancel_unclaimed, cleaned, HoldsRemoved}
 
 -- the pass isn't inside of an insert or a put-back
 abbrev IsNoInsert : List Made → Type 0
@@ -42,24 +14,19 @@ gives_none _ = true
 
 module _ (E : List Made) (h : HoldsRemoved E) where
   one_step : (k : Kind) → gives_none k ≡ true → HoldsRemoved (next_step E k)
-  one_step (Arm i) n j held = h j held
-  one_step (Test i) n j held = h j held
   one_step (Disarm i) n j held = absurd cc
-  one_step End n j held = h j held
-  one_step (Flag i) n j held = h j held
-  one_step (Take i) n j held = h j held
   one_step (Out i) n j held = absurd cc
   one_step (Done i) n j held = go (same_irp i j) held
     where
       go : (b : Bool) → (not ((b || false) && same_pass script_pass script_pass) && holds E script_pass j) ≡ true → removed E j ≡ true
       go true held = absurd (cc (rw same_pass-refl at held))
       go false held = h j held
-  one_step (Renew i) n j held = h j held
   one_step (Rearm i) n j held = go (same_irp i j) held
     where
       go : (b : Bool) → (not (b && same_pass script_pass script_pass) && holds E script_pass j) ≡ true → (not b && removed E j) ≡ true
       go true held = absurd (cc (rw same_pass-refl at held))
       go false held = h j held
+  one_step k n j held = h j held
 
   -- a removal's Disarm
   disarm_step : (i : IrpLife) → IsNoInsert E → HoldsRemoved (next_step E (Disarm i))
@@ -89,10 +56,7 @@ after_disarm_outside x i v outside = go x outside
     go Nothing e = two (v == 0)
     go Removing e = two (v == 0)
     go (Cancelling j) e = two (v == 0)
-    go (Armed j) e = absurd cc
-    go (FlagSeen j) e = absurd cc
-    go (Rearmed j) e = absurd cc
-    go (FlagSeenAgain j) e = absurd cc
+    go x e = absurd cc
 
 still_outside : (E : List Made) (i : IrpLife) → IsNoInsert E → IsNoInsert (next_step E (Disarm i))
 still_outside E i outside = rw same_pass-refl (after_disarm_outside (inside E script_pass) i _ outside)

@@ -1,39 +1,10 @@
 -- Removals: the matches that are looked at, and what the driver keeps in the end.
 use Rattle.std.proofs.Common.{◌≡◌, ℕ, ◌<◌, Bool, true, false, cond, not, ◌&&◌, List, [], ◌∷◌, ◌++◌, map, Option, Some, None, refl, ap, sym, ◌∙◌, subst, arith, append_assoc}
-use Rattle.std.proofs.lemmas.List.{map-append}
-use Rattle.std.proofs.Math.Bool.{and-false}
-use Rattle.irp_core.specs.declared.ids.IrpId.{IrpId}
-use Rattle.irp_core.specs.declared.step.Kind.TheVariants.{Disarm, End}
-use Rattle.irp_core.specs.declared.step.Made.{Made}
-use Rattle.irp_core.specs.declared.inside.Inside.{Inside}
-use Rattle.irp_core.specs.declared.inside.Inside.TheVariants.{Nothing, Armed, FlagSeen, Removing, Cancelling, Rearmed, FlagSeenAgain}
-use Rattle.irp_core.specs.Steps.{number, life_of, same_irp}
-use Rattle.irp_core.specs.declared.ids.IrpLife.{IrpLife}
-use Rattle.irp_core.specs.Words.{bit, armed, found_by}
+use Rattle.csq_replay.proofs.Imports.{map-append, and-false, IrpId, Disarm, End, Made, Inside, Nothing, Removing, number, life_of, same_irp, IrpLife, bit, armed, found_by, inside, inside_after, follows, listed, dones, Size, MachineState, Agrees, size_of, same_pass-refl, listed_present, status_recorded, Entry, Peek, matches, is_listed, is_distinct, rest_after, Listing, IsSound, without_irp, Queued, QueueState, Limits, current, plain_listing, first_unmarked, has_entry, has_marked, has_unmarked, after_event, plain, ArePresent, irp_eq, same_irp-is, is_listed-plain, listing-removed, Next, Remove, Removed, NoIrp, Script, script_pass, script_size, present_of, IsNow, next_step, after_steps, doing, removal_steps, named_removal_steps, Calls, removes_next, removes, removes_none, Keeping, Keeps, IsOfRun, AreMarked}
 use Rattle.irp_core.specs.Lives as life
-use Rattle.irp_core.specs.Inside.{inside, inside_after, follows}
-use Rattle.irp_core.specs.Owners.{listed, dones}
-use Rattle.irp_core.specs.Runs.{Size}
-use Rattle.irp_core.specs.MachineState.{MachineState, Agrees, size_of}
-use Rattle.irp_core.proofs.Names.{same_pass-refl}
-use Rattle.irp_core.proofs.Lives.{listed_present}
-use Rattle.csq_words.specs.Plays.{status_recorded}
-use Rattle.csq_list.specs.declared.entry.Entry.{Entry}
-use Rattle.csq_list.specs.declared.entry.Peek.{Peek}
-use Rattle.csq_list.specs.Searches.{matches, is_listed, is_distinct, rest_after}
 use Rattle.csq_list.specs.Searches as plainly
-use Rattle.csq_list.specs.Listing.{Listing, IsSound, without_irp}
 use Rattle.csq_list.proofs.Finding.{rest_after-ends, rest_after-among}
 use Rattle.csq_words.specs.declared.views.Event.TheVariants as event
-use Rattle.csq_words.specs.Queue.{Queued, QueueState, Limits, current, plain_listing, first_unmarked, has_entry, has_marked, has_unmarked, after_event, plain}
-use Rattle.csq_words.proofs.Lives.{ArePresent}
-use Rattle.csq_words.proofs.Named.{irp_eq, same_irp-is}
-use Rattle.csq_words.proofs.Listings.{is_listed-plain, listing-removed}
-use Rattle.csq_replay.specs.declared.script.call.Call.TheVariants.{Next, Remove}
-use Rattle.csq_replay.specs.declared.script.call.Reply.TheVariants.{Removed, NoIrp}
-use Rattle.csq_replay.specs.Calls.{Script, script_pass, script_size, present_of, IsNow, next_step, after_steps, doing, removal_steps, named_removal_steps, Calls}
-use Rattle.csq_replay.specs.Calls.Calls.{removes_next, removes, removes_none}
-use Rattle.csq_replay.specs.Drivers.{Keeping, Keeps, IsOfRun, AreMarked}
 use Rattle.csq_replay.proofs.Going.{Goes, May, starts, run_for, went, may_remove, may_end}
 use Rattle.csq_replay.proofs.Queueing.{marked_is, sound_lives, queue_hit, queue_miss, queue_end, found_then}
 
@@ -106,12 +77,7 @@ after_miss x i h = absurd cc
 
 after_hit : (x : Inside) (i : IrpLife) → inside_after x (Disarm i) 1 ≡ Nothing
 after_hit Nothing i = refl
-after_hit (Armed j) i = refl
-after_hit (FlagSeen j) i = refl
-after_hit Removing i = refl
-after_hit (Cancelling j) i = refl
-after_hit (Rearmed j) i = refl
-after_hit (FlagSeenAgain j) i = refl
+after_hit x i = refl
 
 -- the run E of a removal that has looked at all entries but the rest
 pub record Seeks (begin : ℕ) (k : Peek) (s : Script) (listing : Listing) (machine : MachineState) (after : Option IrpId) : Type 0 where

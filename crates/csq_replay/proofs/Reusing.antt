@@ -1,37 +1,8 @@
 -- A reuse: what the driver keeps in the end.
 use Rattle.std.proofs.Common.{◌≡◌, ◌≢◌, ℕ, ◌+◌, ◌<◌, ◌≤◌, Bool, true, false, cond, List, [], length, Option, Some, None, refl, ap, sym, ◌∙◌, arith}
-use Rattle.std.specs.Prelude.{slice_index_or, slice_set}
 use Rattle.std.specs.Option.{is_some}
-use Rattle.std.proofs.lemmas.List.{get_or-set_same, get_or-set_other, length-set}
-use Rattle.irp_core.specs.declared.ids.IrpId.{IrpId}
-use Rattle.irp_core.specs.declared.ids.PassId.{PassId}
-use Rattle.irp_core.specs.declared.status.NtStatus.{NtStatus}
-use Rattle.irp_core.specs.declared.inside.Inside.TheVariants.{Nothing}
-use Rattle.irp_core.specs.declared.step.Kind.TheVariants.{Renew}
-use Rattle.irp_core.specs.declared.step.Made.{Made}
-use Rattle.irp_core.specs.declared.standing.Standing.{Standing}
-use Rattle.irp_core.specs.declared.standing.Standing.TheVariants.{Home, Waiting, Owed, Held, Finished}
-use Rattle.irp_core.specs.Steps.{same_id}
-use Rattle.irp_core.specs.declared.ids.IrpLife.{IrpLife}
-use Rattle.irp_core.specs.Words.{was_armed}
-use Rattle.irp_core.specs.Owners.{listed, dones}
-use Rattle.irp_core.specs.Lives.{last_life}
-use Rattle.irp_core.specs.MachineState.{MachineState, Agrees, size_of}
-use Rattle.irp_core.proofs.Names.{same_id-eq, same_id-ne, same_pass-refl}
-use Rattle.irp_core.proofs.Rows.{Row}
-use Rattle.irp_core.proofs.Owning.{stands, done_gone}
-use Rattle.irp_core.proofs.Lives.{unborn_home}
-use Rattle.csq_words.specs.Plays.{status_recorded}
-use Rattle.csq_list.specs.Searches.{is_listed}
-use Rattle.csq_list.specs.Listing.{Listing, renewed}
-use Rattle.csq_words.specs.Queue.{Limits}
-use Rattle.csq_words.proofs.Listings.{listing-renewed}
-use Rattle.csq_replay.specs.declared.script.call.Call.TheVariants.{Reuse}
-use Rattle.csq_replay.specs.declared.script.call.Refusal.TheVariants.{NotCompleted, LivesSpent}
-use Rattle.csq_replay.specs.declared.script.call.Reply.TheVariants.{Begun, Refused}
-use Rattle.csq_replay.specs.Calls.{Script, script_size, present_of, life_after, next_step, after_reuse, Calls}
-use Rattle.csq_replay.specs.Calls.Calls.{reuses, not_completed, lives_spent}
-use Rattle.csq_replay.specs.Drivers.{Keeping, Keeps}
+use Rattle.csq_replay.proofs.Imports.{slice_index_or, slice_set, get_or-set_same, get_or-set_other, length-set, IrpId, PassId, NtStatus, Nothing, Renew, Made, Standing, same_id, IrpLife, was_armed, listed, dones, last_life, MachineState, Agrees, size_of, same_id-eq, same_id-ne, same_pass-refl, Row, stands, done_gone, unborn_home, status_recorded, is_listed, Listing, renewed, Limits, listing-renewed, Reuse, NotCompleted, LivesSpent, Begun, Refused, Script, script_size, present_of, life_after, next_step, after_reuse, Calls, reuses, not_completed, lives_spent, Keeping, Keeps}
+use Rattle.irp_core.specs.declared.standing.Standing.TheVariants.{Finished}
 use Rattle.csq_replay.proofs.Going.{May, starts, run_for, now_present, may_renew}
 use Rattle.csq_replay.proofs.Queueing.{queue_renew, sound_lives}
 use Rattle.csq_replay.proofs.Calling.{irps_are, listed_there}
@@ -40,10 +11,7 @@ module _ (ever set : Bool) (cl : List Made) (ow ho dn : PassId → Bool) (ends :
   -- what was completed was armed
   row_done : (s : Standing) → Row ever set cl ow ho dn ends gone byr i s → ends ≢ [] → ever ≡ true
   row_done (Finished status p) h n = h.ever_is
-  row_done Home h n = absurd (n h.dones_are)
-  row_done Waiting h n = absurd (n h.dones_are)
-  row_done (Owed p) h n = absurd (n h.dones_are)
-  row_done (Held p status) h n = absurd (n h.dones_are)
+  row_done x h n = absurd (n h.dones_are)
 
 pub none_of : {A : Type 0} (o : Option A) → is_some o ≡ false → o ≡ None
 none_of None e = refl

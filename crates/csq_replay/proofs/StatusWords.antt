@@ -1,16 +1,10 @@
 -- Eight hexadecimal digits.
 use Rattle.std.proofs.Common.{◌≡◌, ℕ, zero, suc, ◌<◌, ◌≤◌, ◌^◌, Bool, true, false, List, [], ◌∷◌, length, get_or, refl, ap, sym, ◌∙◌, arith, ltb-true, ltb-false, Some, Ok, Err, subst}
-use Rattle.std.specs.Prelude.{nat_lt, ◌==◌, slice_index}
-use Rattle.std.proofs.lemmas.Bool.{ne_eqb}
-use Rattle.std.proofs.lemmas.List.{get_or_default}
-use Rattle.std.proofs.lemmas.List.Splits.{slice_split_none}
 use Rattle.std.proofs.lemmas.Int.Digits.{digits_value-lt}
 use Rattle.std.specs.Char.{digit_value}
-use Rattle.std.specs.Str.{IsAscii}
-use Rattle.std.specs.Str.Parse.{AllDigits, IsNumeral, digits_value, without_leading_plus, ParsesUnsigned}
 use Rattle.std.specs.Result.{result_ok}
 use Rattle.std.specs.declared.result.Result.{Result}
-use Rattle.csq_replay.specs.Pieces.{words_of}
+use Rattle.csq_replay.proofs.Imports.{nat_lt, ◌==◌, slice_index, ne_eqb, get_or_default, slice_split_none, IsAscii, AllDigits, IsNumeral, digits_value, without_leading_plus, ParsesUnsigned, words_of}
 
 -- a digit is no byte above 127, no plus and no space
 digit_is : (c : ℕ) → digit_value c < 16 → (48 ≤ c) × (c < 128)

@@ -1,21 +1,8 @@
 -- The text of a line that names a step.
 use Rattle.std.proofs.Common.{inl, inr, true, ltb, ltb-true, ◌≡◌, ℕ, ◌+◌, ◌<◌, ◌≤◌, List, [], ◌∷◌, ◌++◌, length, Option, Some, None, refl, ap, sym, ◌∙◌, arith, codes, decimal, length-append, lit≤}
-use Rattle.std.specs.List.{join_with_byte, list_all}
 use Rattle.std.proofs.lemmas.List.Sums.{AllPass-from_list_all}
-use Rattle.std.specs.Str.{IsAscii}
-use Rattle.std.proofs.lemmas.List.Elements.{All-cons, All-nil}
-use Rattle.std.proofs.lemmas.List.Splits.{join_with_byte-slice_split}
-use Rattle.std.proofs.lemmas.Str.{IsAscii-append}
 use Rattle.std.proofs.lemmas.Str.Ascii.{IsAscii-from_all}
-use Rattle.std.proofs.lemmas.Fmt.{IsAscii-decimal}
-use Rattle.irp_core.specs.declared.step.Kind.{Kind}
-use Rattle.irp_core.specs.declared.step.Kind.TheVariants.{Arm, Test, Disarm, End, Flag, Take, Out, Done, Renew, Rearm}
-use Rattle.irp_core.specs.declared.step.Step.{Step}
-use Rattle.irp_core.specs.Steps.{number, life_of, name_of}
-use Rattle.irp_core.specs.declared.ids.IrpLife.{IrpLife}
-use Rattle.irp_core.specs.Texts.{pass_text}
-use Rattle.csq_replay.specs.Pieces.{words_of}
-use Rattle.csq_replay.specs.StepLine.{verb_of, IsNameWord, AreNameWords, IsStepLine}
+use Rattle.csq_replay.proofs.Imports.{join_with_byte, list_all, IsAscii, All-cons, All-nil, join_with_byte-slice_split, IsAscii-append, IsAscii-decimal, Kind, Arm, Test, Disarm, End, Flag, Take, Out, Done, Renew, Rearm, Step, number, life_of, name_of, IrpLife, pass_text, words_of, verb_of, IsNameWord, AreNameWords, IsStepLine}
 use Rattle.csq_replay.proofs.NameWords.{name_ascii, short_number}
 
 -- an ASCII text of at most so many bytes

@@ -1,33 +1,8 @@
 -- The steps of a call under the lock keep the rule.
 use Rattle.csq_words.proofs.Named.{by_pass}
 use Rattle.std.proofs.Common.{true, false, cond, ◌≡◌, ℕ, ◌*◌, ◌≤◌, not, ◌&&◌, List, [], ◌∷◌, ◌++◌, map, length, set, Some, refl, sym, ap, ◌∙◌, subst, arith}
-use Rattle.irp_core.specs.Own.{inside_of}
-use Rattle.irp_core.specs.declared.ids.PassId.{PassId}
-use Rattle.irp_core.specs.declared.step.Kind.{Kind}
-use Rattle.irp_core.specs.declared.step.Made.{Made}
-use Rattle.irp_core.specs.declared.ids.IrpLife.{IrpLife}
-use Rattle.irp_core.specs.Inside.{inside, inside_after}
-use Rattle.irp_core.specs.Owners.{listed}
-use Rattle.irp_core.specs.Runs.{Size, IsRun}
-use Rattle.irp_core.proofs.Names.{same_pass-refl}
-use Rattle.irp_core.proofs.Next.{IsFreeFor}
-use Rattle.csq_words.specs.declared.views.Event.{Event}
-use Rattle.csq_words.specs.declared.views.Completion.{Completion}
-use Rattle.csq_words.specs.declared.views.PassRecord.{PassRecord}
-use Rattle.csq_words.specs.declared.views.QueueRecord.{QueueRecord}
-use Rattle.csq_words.specs.declared.views.View.{View}
-use Rattle.csq_words.specs.Queue.{has_entry, has_irp}
-use Rattle.csq_words.specs.History.{end_of, IsOrderly, given_to, OwnersPutBack}
-use Rattle.csq_words.specs.Records.{view_of, entries_of, with_events, with_calls, with_step, with_run, with_reusing}
-use Rattle.irp_core.specs.Steps.{own}
-use Rattle.irp_core.specs.Words.{was_armed}
-use Rattle.irp_core.specs.Lives.{present_life}
-use Rattle.irp_core.specs.declared.ids.IrpId.{IrpId}
-use Rattle.csq_words.specs.declared.views.Reusing.{Reusing}
-use Rattle.csq_words.specs.Recorded.{IsPlaced}
-use Rattle.csq_words.specs.Rule.{inserts, lists, again, in_flight, passes_given, AreDue, AreTrueOf, IsReuse, IsHistoryOf, with_done, completed_in, IsPassOf, AreStored, RuleHoldsBy, RecordsAgree, HasObserved}
+use Rattle.csq_words.proofs.Imports.{inside_of, PassId, Kind, Made, IrpLife, inside, inside_after, listed, Size, IsRun, same_pass-refl, IsFreeFor, Event, Completion, PassRecord, QueueRecord, View, has_entry, has_irp, end_of, IsOrderly, given_to, OwnersPutBack, view_of, entries_of, with_events, with_calls, with_step, with_run, with_reusing, own, was_armed, present_life, IrpId, Reusing, IsPlaced, inserts, lists, again, in_flight, passes_given, AreDue, AreTrueOf, IsReuse, IsHistoryOf, with_done, completed_in, IsPassOf, AreStored, RuleHoldsBy, RecordsAgree, HasObserved, own-mine, own-other}
 use Rattle.csq_words.proofs.PassSteps.{AllWords}
-use Rattle.irp_core.proofs.Own.{own-mine, own-other}
 use Rattle.csq_words.proofs.Keeping.{inside_is, only_joined, nobody_in}
 use Rattle.csq_words.proofs.SeatSteps.{locked_step, again_locks, inside_other, begun_more}
 use Rattle.csq_words.proofs.Facts.{extended_more}
@@ -77,7 +52,7 @@ pub record IsMade (size : Size) (words words' : List ℕ) (run : List Made) (q :
   pub true_of : AreTrueOf q.first (record { pass = r.pass; kind = kind; found = n } ∷ run) (entries_of r.pass es ++ q.history)
   pub orderly : IsOrderly q.first (entries_of r.pass es ++ q.history)
   pub given_is : (i : IrpLife) → again (inside_after (inside_of r.steps) kind n) i ≡ false → given_to q.first i (entries_of r.pass es ++ q.history) ≡ passes_given (record { pass = r.pass; kind = kind; found = n } ∷ run) i
-  pub given_back : (i : IrpLife) → again (inside_after (inside_of r.steps) kind n) i ≡ true → given_to q.first i (entries_of r.pass es ++ q.history) ≡ r.pass ∷ []
+  pub putting_back : (i : IrpLife) → again (inside_after (inside_of r.steps) kind n) i ≡ true → given_to q.first i (entries_of r.pass es ++ q.history) ≡ r.pass ∷ []
   pub owners : OwnersPutBack q.first (entries_of r.pass es ++ q.history)
   pub due : AreDue r.steps r.completed → AreDue (record { pass = r.pass; kind = kind; found = n } ∷ r.steps) r.completed
 
@@ -119,8 +94,8 @@ made_kept size words words' views run id q r seat kind n es reuse k x placed =
       true_of = x.true_of;
       orderly = x.orderly;
       given_is = x.given_is;
-      given_back = λ p i h. by_pass (given_to q.first i history' ≡ p ∷ []) p r.pass
-          (λ same. subst (λ (o : PassId). given_to q.first i history' ≡ o ∷ []) (sym same) (x.given_back i (ap (λ s. again s i) (sym inside_mine) ∙ (ap (λ (o : PassId). again (inside (m ∷ run) o) i) (sym same) ∙ h))))
+      putting_back = λ p i h. by_pass (given_to q.first i history' ≡ p ∷ []) p r.pass
+          (λ same. subst (λ (o : PassId). given_to q.first i history' ≡ o ∷ []) (sym same) (x.putting_back i (ap (λ s. again s i) (sym inside_mine) ∙ (ap (λ (o : PassId). again (inside (m ∷ run) o) i) (sym same) ∙ h))))
           (λ ne. absurd (ne (only_joined run r k.lock p (again_locks (inside run p) i (ap (λ s. again s i) (sym (inside_other m run p ne)) ∙ h)))));
       owners = x.owners;
       placed = placed;

@@ -1,23 +1,8 @@
 -- The one claim of an IRP, and the pass that made it.
 use Rattle.std.proofs.Common.{◌≡◌, Bool, true, false, cond, ◌||◌, List, [], ◌∷◌, map, Some, refl, sym, ap, ◌∙◌}
-use Rattle.irp_core.specs.declared.ids.PassId.{PassId}
-use Rattle.irp_core.specs.declared.status.NtStatus.{NtStatus}
-use Rattle.irp_core.specs.declared.status.TheConstants.NtStatus.{CANCELLED}
-use Rattle.irp_core.specs.declared.step.Kind.{Kind}
-use Rattle.irp_core.specs.declared.step.Kind.TheVariants.{Arm, Test, Disarm, End, Flag, Take, Out, Done, Renew, Rearm}
-use Rattle.irp_core.specs.declared.step.Made.{Made}
-use Rattle.irp_core.specs.Steps.{same_irp, same_kind, is, by, own}
-use Rattle.irp_core.specs.declared.ids.IrpLife.{IrpLife}
-use Rattle.irp_core.specs.Owners.{dones}
-use Rattle.irp_core.proofs.Names.{same_irp-eq, same_pass-eq, same_some}
-use Rattle.irp_core.specs.Own.{removed_in}
-use Rattle.csq_words.specs.declared.views.Completion.{Completion}
-use Rattle.csq_words.specs.Queue.{has_irp}
-use Rattle.csq_words.specs.Rule.{is_done, with_done, completed_in, AreDue}
-use Rattle.csq_words.specs.Plays.{status_recorded}
+use Rattle.csq_words.proofs.Imports.{PassId, NtStatus, CANCELLED, Kind, Done, Made, same_irp, same_kind, is, by, own, IrpLife, dones, same_irp-eq, same_pass-eq, same_some, removed_in, Completion, has_irp, is_done, with_done, completed_in, AreDue, status_recorded, any_filtered, own_made}
 use Rattle.csq_words.proofs.Facts.{off, dones_some}
 use Rattle.csq_words.proofs.Keeping.{none_is}
-use Rattle.irp_core.proofs.Own.{any_filtered, own_made}
 use Rattle.csq_words.proofs.Truths.{own_any}
 
 -- an IRP that was completed once was completed by a step of its own pass
@@ -40,15 +25,7 @@ completed_has (m ∷ steps) i h = go m.kind (completed_has steps i) h
 
     go : (k : Kind) → (is_done steps i ≡ true → has_irp (completed_in steps) i ≡ true) → (same_kind k (Done i) || is_done steps i) ≡ true → has_irp (with_done k (completed_in steps)) i ≡ true
     go (Done j) rest h = either' (same_irp j i) rest h
-    go (Arm j) rest h = rest h
-    go (Test j) rest h = rest h
-    go (Disarm j) rest h = rest h
-    go End rest h = rest h
-    go (Flag j) rest h = rest h
-    go (Take j) rest h = rest h
-    go (Out j) rest h = rest h
-    go (Renew j) rest h = rest h
-    go (Rearm j) rest h = rest h
+    go k rest h = rest h
 
 pub has_status : (cs : List Completion) (i : IrpLife) → has_irp (map (λ (c : Completion). c.irp) cs) i ≡ true → (status : NtStatus) × (status_recorded i cs ≡ Some status)
 has_status [] i h = off h
@@ -102,12 +79,4 @@ recorded_done steps cs i status are h = has_done steps (ap (λ is. has_irp is i)
 
         go : (k : Kind) → (has_irp (completed_in steps) i ≡ true → is_done steps i ≡ true) → has_irp (with_done k (completed_in steps)) i ≡ true → (same_kind k (Done i) || is_done steps i) ≡ true
         go (Done j) rest h = either' (same_irp j i) rest h
-        go (Arm j) rest h = rest h
-        go (Test j) rest h = rest h
-        go (Disarm j) rest h = rest h
-        go End rest h = rest h
-        go (Flag j) rest h = rest h
-        go (Take j) rest h = rest h
-        go (Out j) rest h = rest h
-        go (Renew j) rest h = rest h
-        go (Rearm j) rest h = rest h
+        go k rest h = rest h

@@ -1,39 +1,10 @@
 -- The steps of an insert: arm, test, and its own disarm.
 use Rattle.std.proofs.Common.{◌≡◌, ℕ, zero, suc, ◌<◌, Bool, true, false, cond, not, ◌&&◌, ◌||◌, List, ◌∷◌, set, refl, sym, ap, ◌∙◌, subst, arith, length-set}
-use Rattle.std.proofs.Math.Bool.{and-false}
-use Rattle.std.proofs.lemmas.Bool.{and_parts, false_from_ne_true}
-use Rattle.irp_core.specs.Own.{inside_of}
-use Rattle.irp_core.specs.declared.ids.FileId.{FileId}
-use Rattle.irp_core.specs.declared.ids.PassId.{PassId}
-use Rattle.irp_core.specs.declared.step.Kind.TheVariants.{Arm, Test, Disarm}
-use Rattle.irp_core.specs.declared.step.Made.{Made}
+use Rattle.csq_words.proofs.Imports.{and-false, and_parts, false_from_ne_true, inside_of, FileId, PassId, Arm, Test, Disarm, Made, life_of, same_irp, is, found_one, own, IrpLife, IsPresent, IrpId, armed, flagged, found_by, was_armed, inside, listed, removed, Size, IsRun, same_irp-refl, inserted_listed, grows_by_arm, grows_by_test, grows_by_insert_disarm, Place, PassRecord, QueueRecord, current, has_entry, has_irp, new_entry, put_at, queue_of, routine_at, bit_word, WasCancelled, is_done, inserts, lists, again, recorded, Pending, own_made, own_stays}
 use Rattle.irp_core.specs.declared.inside.Inside.TheVariants.{Nothing, Armed, FlagSeen}
-use Rattle.irp_core.specs.Steps.{life_of, same_irp, is, found_one, own}
-use Rattle.irp_core.specs.declared.ids.IrpLife.{IrpLife}
-use Rattle.irp_core.specs.Lives.{IsPresent}
-use Rattle.irp_core.specs.declared.ids.IrpId.{IrpId}
-use Rattle.irp_core.specs.Words.{armed, flagged, found_by}
-use Rattle.irp_core.specs.Inside.{inside}
-use Rattle.irp_core.specs.Owners.{listed}
-use Rattle.irp_core.specs.Completion.{removed}
-use Rattle.irp_core.specs.Runs.{Size, IsRun}
-use Rattle.irp_core.proofs.Names.{same_irp-refl}
-use Rattle.irp_core.proofs.Next.{inserted_listed, grows_by_arm, grows_by_test, grows_by_insert_disarm}
-use Rattle.csq_list.specs.declared.entry.Place.{Place}
 use Rattle.csq_words.specs.declared.calls.Call.TheVariants.{Insert}
 use Rattle.csq_words.specs.declared.views.Event.TheVariants as event
-use Rattle.csq_words.specs.declared.views.PassRecord.{PassRecord}
-use Rattle.csq_words.specs.declared.views.QueueRecord.{QueueRecord}
-use Rattle.csq_words.specs.Queue.{current, has_entry, has_irp, new_entry}
-use Rattle.csq_list.specs.Listing.{put_at}
-use Rattle.csq_words.specs.Records.{queue_of}
-use Rattle.csq_words.specs.Words.{routine_at, bit_word}
-use Rattle.irp_core.specs.Words.{was_armed}
-use Rattle.csq_words.specs.Rule.{WasCancelled, is_done, inserts, lists, again}
-use Rattle.csq_words.specs.Calls.{recorded}
-use Rattle.csq_words.specs.declared.views.InsertReply.TheVariants.{Pending}
 use Rattle.csq_words.proofs.Facts.{off, due_more, given_miss, given_hit, fresh, set_listed, listed_undone, done_over, listed_taken, flag_seen, armed_own, seen_own, bit_true, bit_bound, again_disarm}
-use Rattle.irp_core.proofs.Own.{own_made, own_stays}
 use Rattle.csq_words.proofs.Named.{by_irp, same_irp-is}
 use Rattle.csq_words.proofs.Truths.{true_stays, truths_stay}
 use Rattle.csq_words.proofs.Changes.{routine_of, arm_words, disarm_words, test_words, stored_else, status_routine}
@@ -95,7 +66,7 @@ module _ (size : Size) (words : List ℕ) (run : List Made) (q : QueueRecord) (r
           true_of = truths_stay size m run is_run q.first q.history x.history_is.true_of;
           orderly = x.history_is.orderly;
           given_is = λ j n. x.history_is.given_is j (ap (λ s. again s j) outside);
-          given_back = λ j n. off n;
+          putting_back = λ j n. off n;
           owners = x.history_is.owners;
           due = due_more (record { pass = r.pass; kind = Arm i; found = v }) r.steps r.completed (λ j. refl);
         }
@@ -149,7 +120,7 @@ module _ (size : Size) (words : List ℕ) (run : List Made) (q : QueueRecord) (r
       true_of = (true_stays size _ run (test_run 0 is) (queue_of q) r.pass (event.Insert n f place Pending) (armed_own run r.pass i (sym x.same ∙ after_arm)), truths_stay size _ run (test_run 0 is) q.first q.history x.history_is.true_of);
       orderly = (unused_yet flight_of_arm listed_of_arm, x.history_is.orderly);
       given_is = λ j n. x.history_is.given_is j (ap (λ s. again s j) after_arm);
-      given_back = λ j n. off (rw after_arm at n);
+      putting_back = λ j n. off (rw after_arm at n);
       owners = ((λ j n. off n), x.history_is.owners);
       due = due_more (record { pass = r.pass; kind = Test i; found = 0 }) r.steps r.completed (λ j. refl);
     }
@@ -166,7 +137,7 @@ module _ (size : Size) (words : List ℕ) (run : List Made) (q : QueueRecord) (r
       true_of = truths_stay size _ run (test_run 1 is) q.first q.history x.history_is.true_of;
       orderly = x.history_is.orderly;
       given_is = λ j n. x.history_is.given_is j (ap (λ s. again s j) after_arm);
-      given_back = λ j n. off (rw after_arm at n);
+      putting_back = λ j n. off (rw after_arm at n);
       owners = x.history_is.owners;
       due = due_more (record { pass = r.pass; kind = Test i; found = 1 }) r.steps r.completed (λ j. refl);
     }
@@ -212,7 +183,7 @@ module _ (size : Size) (words : List ℕ) (run : List Made) (q : QueueRecord) (r
           );
           orderly = (placed_unmarked place i f (queue_of q).entries, (unused_yet flight_of_seen listed_of_seen, x.history_is.orderly));
           given_is = λ j n. x.history_is.given_is j (ap (λ s. again s j) seen) ∙ given_miss r.pass i j run;
-          given_back = λ j n. off (sym (again_disarm (inside_of r.steps) 0 j) ∙ n);
+          putting_back = λ j n. off (sym (again_disarm (inside_of r.steps) 0 j) ∙ n);
           owners = ((λ j n. off n), ((λ j n. off n), x.history_is.owners));
           due = due_more (record { pass = r.pass; kind = Disarm i; found = 0 }) r.steps r.completed (λ j. refl);
         }
@@ -243,7 +214,7 @@ module _ (size : Size) (words : List ℕ) (run : List Made) (q : QueueRecord) (r
           );
           orderly = ((unused_yet flight_of_seen listed_of_seen, ap (λ b. b || has_irp (queue_of q).flags i) (same_irp-refl i)), (tt, x.history_is.orderly));
           given_is = λ j n. ap (λ l. cond (same_irp i j) (r.pass ∷ l) l) (x.history_is.given_is j (ap (λ s. again s j) seen)) ∙ given_hit size run x.history_is.is_run r.pass i (bit_true (armed run i) 1 is (omega arith)) j;
-          given_back = λ j n. off (sym (again_disarm (inside_of r.steps) 1 j) ∙ n);
+          putting_back = λ j n. off (sym (again_disarm (inside_of r.steps) 1 j) ∙ n);
           owners = ((λ j n. off n), ((λ j n. off n), x.history_is.owners));
           due = due_more (record { pass = r.pass; kind = Disarm i; found = 1 }) r.steps r.completed (λ j. refl);
         }

@@ -1,60 +1,21 @@
 -- What a step or a note under the lock may do to the table.
 use Rattle.std.proofs.Common.{◌≡◌, ◌≢◌, ℕ, zero, suc, ◌<◌, ◌≤◌, ⊎_elim, true, false, ◌||◌, List, [], ◌∷◌, ◌++◌, set, Option, Some, None, refl, sym, ap, ◌∙◌, subst, arith}
-use Rattle.std.proofs.lemmas.List.{set-get_or}
-use Rattle.std.proofs.lemmas.Bool.{cases_lt, false_from_ne_true}
-use Rattle.std.specs.Prelude.{slice_index}
-use mathlib.Core.Option.{some, none, some-injective}
-use lib.ListN.{get_elem?}
-use Rattle.atomic_table.specs.Table.{Allows, step, keeps}
-use Rattle.atomic_table.proofs.Lists.{set_here}
-use Rattle.irp_core.specs.Own.{inside_of, owes_in, holds_in, removed_in}
-use Rattle.irp_core.specs.declared.ids.PassId.{PassId}
-use Rattle.irp_core.specs.declared.step.Kind.{Kind}
-use Rattle.irp_core.specs.declared.step.Kind.TheVariants.{Arm, Test, Disarm, End, Flag, Take, Out, Done, Renew, Rearm}
-use Rattle.irp_core.specs.declared.step.Made.{Made}
+use Rattle.csq_words.proofs.Imports.{set-get_or, cases_lt, false_from_ne_true, slice_index, some, none, some-injective, get_elem?, Allows, step, keeps, set_here, inside_of, owes_in, holds_in, removed_in, PassId, Kind, Arm, Test, Disarm, End, Out, Rearm, Made, number, life_of, IrpLife, armed, flagged, cancel, routine, found_by, owes, holds, listed, IsPresent, inside, has_lock, Size, OfIrp, same_irp-refl, inserted_listed, Call, Event, Entry, Reusing, Nothing, PassRecord, QueueRecord, View, cancel_at, routine_at, bit_word, life_in, bit_in, current, has_entry, has_irp, has_marked, given_to, end_of, MayStand, IsOrderly, OwnersPutBack, view_of, queue_in, pass_in, queue_of, entries_of, with_events, with_calls, with_step, with_run, with_back, HasQueue, IsOfCall, IsPlaced, recording, noting, HasWords, is_done, in_flight, AreTrueOf, IsReuse, IsHistoryOf, IsPassOf, IsRecord, IsResting, IsBack, IsOut, BackOnce, Fits, RuleHoldsBy, RuleHolds, recorded, MayRemove, MayMake, MayComeBack, MayNote, after_note, SeatView, IsFound, FindsUnmarked, Makes, ObservesNote, Notes, owes_in-own, holds_in-own}
 use Rattle.irp_core.specs.declared.inside.Inside.TheVariants.{Armed, FlagSeen, Rearmed, FlagSeenAgain}
-use Rattle.irp_core.specs.Steps.{number, life_of}
-use Rattle.irp_core.specs.declared.ids.IrpLife.{IrpLife}
-use Rattle.irp_core.specs.Words.{armed, flagged, cancel, routine, found_by}
-use Rattle.irp_core.specs.Owners.{owes, holds, listed}
-use Rattle.irp_core.specs.Lives.{IsPresent}
-use Rattle.irp_core.specs.Inside.{inside, has_lock}
 use Rattle.irp_core.specs.declared.inside.Inside.TheVariants as inner
-use Rattle.irp_core.specs.Runs.{Size, OfIrp}
-use Rattle.irp_core.proofs.Names.{same_irp-refl}
-use Rattle.irp_core.proofs.Next.{inserted_listed}
 use Rattle.irp_core.proofs.Resting.{unknown_stands}
-use Rattle.csq_words.specs.declared.calls.Call.{Call}
 use Rattle.csq_words.specs.declared.calls.Call.TheVariants.{Insert, RemoveNext, Remove, CancelRoutine, CloseFile, Reuse, GiveBack, PutBack}
 use Rattle.csq_words.specs.declared.calls.Note.{Note}
 use Rattle.csq_words.specs.declared.calls.Note.TheVariants.{Refused}
 use Rattle.csq_words.specs.declared.calls.Note.TheVariants as note
 use Rattle.csq_words.specs.declared.views.InsertReply.TheVariants as reply
-use Rattle.csq_words.specs.declared.views.Event.{Event}
 use Rattle.csq_words.specs.declared.views.Event.TheVariants as event
-use Rattle.csq_words.specs.declared.views.Entry.{Entry}
-use Rattle.csq_words.specs.declared.views.Reusing.{Reusing}
-use Rattle.csq_words.specs.declared.views.Reusing.TheVariants.{Nothing}
-use Rattle.csq_words.specs.declared.views.PassRecord.{PassRecord}
-use Rattle.csq_words.specs.declared.views.QueueRecord.{QueueRecord}
-use Rattle.csq_words.specs.declared.views.View.{View}
-use Rattle.csq_words.specs.Words.{cancel_at, routine_at, bit_word, life_in, bit_in}
-use Rattle.csq_words.specs.Queue.{current, has_entry, has_irp, has_marked}
-use Rattle.csq_words.specs.History.{given_to, end_of, MayStand, IsOrderly, OwnersPutBack}
-use Rattle.csq_words.specs.Records.{view_of, queue_in, pass_in, queue_of, entries_of, with_events, with_calls, with_step, with_run, with_back}
-use Rattle.csq_words.specs.Seats.{HasQueue}
-use Rattle.csq_words.specs.Recorded.{IsOfCall, IsPlaced}
-use Rattle.csq_words.specs.Recorded.IsPlaced.{recording, noting}
-use Rattle.csq_words.specs.Rule.{HasWords, is_done, in_flight, AreTrueOf, IsReuse, IsHistoryOf, IsPassOf, IsRecord, IsResting, IsBack, IsOut, BackOnce, Fits, RuleHoldsBy, RuleHolds}
-use Rattle.csq_words.specs.Calls.{recorded, MayRemove, MayMake, MayComeBack, MayNote, after_note}
-use Rattle.csq_words.specs.Plays.{SeatView, IsFound, FindsUnmarked, Makes, ObservesNote, Notes}
 use Rattle.csq_words.proofs.Facts.{off, bit_bound, bit_true, set_listed, listed_now, listed_undone, open_now, open_undone}
 use Rattle.csq_words.proofs.Decoding.{life_in-put, bit_in-put}
-use Rattle.irp_core.proofs.Own.{owes_in-own, holds_in-own}
 use Rattle.csq_words.proofs.Indexes.{at_below}
 use Rattle.csq_words.proofs.Changes.{present_is}
 use Rattle.csq_words.proofs.PassSteps.{routine_here}
-use Rattle.csq_words.proofs.Keeping.{none_is, all_set, present_else, apart_from, only_joined, at_queue, inside_is, free_flight, agrees_same}
+use Rattle.csq_words.proofs.Keeping.{none_is, same_history, all_set, present_else, apart_from, only_joined, at_queue, inside_is, free_flight, agrees_same}
 use Rattle.csq_words.proofs.SeatSteps.{locked_step}
 use Rattle.csq_words.proofs.Entries.{begins_more, calls_of-other, calls_of-mine}
 use Rattle.csq_words.proofs.Marks.{marked_taken}
@@ -77,15 +38,7 @@ module _ (size : Size) (words : List ℕ) (run : List Made) (q : QueueRecord) (r
   unmarked (Disarm i) (suc n) is = false_from_ne_true (has_marked (queue_of q).entries i)
       (λ h. off (sym (set_listed size run x.history_is.is_run i (bit_true (armed run i) (suc n) is (omega arith))).3 ∙ marked_taken q.first run q.history i x.history_is.true_of h))
   unmarked (Disarm i) zero is = tt
-  unmarked (Arm i) n is = tt
-  unmarked (Test i) n is = tt
-  unmarked End n is = tt
-  unmarked (Flag i) n is = tt
-  unmarked (Take i) n is = tt
-  unmarked (Out i) n is = tt
-  unmarked (Done i) n is = tt
-  unmarked (Renew i) n is = tt
-  unmarked (Rearm i) n is = tt
+  unmarked k n is = tt
 
   -- a removal's disarm, whatever it finds
   removal_disarm : (i : IrpLife) → number i < size.irps → (removes : MayRemove r) → has_entry (queue_of q).entries i ≡ true → (call : Call) (e : Event) → TakesOut i e → (has_marked (queue_of q).entries i ≡ false → MayStand (queue_of q) e)
@@ -111,14 +64,14 @@ module _ (size : Size) (words : List ℕ) (run : List Made) (q : QueueRecord) (r
       subst (λ (l : IrpLife). inside_of r.steps ≡ FlagSeen l → number l < size.irps → n ≡ found_by run (Disarm l) → Made' (Insert m f place) (Disarm l) n) (sym e)
       (λ seen inside' at. disarm_made size words run q r x m f place inside' seen n at) seen known is
   making (RemoveNext k) (Disarm j) (removes, next) known n is =
-      removal_disarm j known removes (next_listed k (queue_of q).entries j next) (RemoveNext k) (event.RemoveNext k (Some j)) record { taken = λ u. refl; says = λ E u p h. h; gives_out = λ f p h j. refl; stays_out = λ j. refl } (next_first k (queue_of q).entries j next) refl refl n is
+      removal_disarm j known removes (next_listed k (queue_of q).entries j next) (RemoveNext k) (event.RemoveNext k (Some j)) record { taken = λ u. refl; says = λ E u p h. h; gives_out = λ f p h j. refl; no_put_back = λ j. refl } (next_first k (queue_of q).entries j next) refl refl n is
   making (Remove i) (Disarm j) (e, removes, there) known n is =
       subst (λ (l : IrpLife). number l < size.irps → n ≡ found_by run (Disarm l) → Made' (Remove i) (Disarm l) n) (sym e)
-      (λ inside' at. removal_disarm i inside' removes there (Remove i) (event.Remove i true) record { taken = λ u. refl; says = λ E u p h. h; gives_out = λ f p h j. refl; stays_out = λ j. refl } (λ clear. sym (unmarked_else i (queue_of q).entries there clear)) refl refl n at) known is
+      (λ inside' at. removal_disarm i inside' removes there (Remove i) (event.Remove i true) record { taken = λ u. refl; says = λ E u p h. h; gives_out = λ f p h j. refl; no_put_back = λ j. refl } (λ clear. sym (unmarked_else i (queue_of q).entries there clear)) refl refl n at) known is
   making (RemoveNext k) End (removes, none') known n is =
-      subst (λ v. IsMade size words words run q r End v (event.RemoveNext k None ∷ []) q.reusing) (sym is) (end_made size words run q r x removes (event.RemoveNext k None) record { left = λ u. refl; plain = λ E u p. tt; gives_none = λ f p h j. refl; stays_out = λ j. refl } (sym none'))
+      subst (λ v. IsMade size words words run q r End v (event.RemoveNext k None ∷ []) q.reusing) (sym is) (end_made size words run q r x removes (event.RemoveNext k None) record { left = λ u. refl; plain = λ E u p. tt; gives_none = λ f p h j. refl; no_put_back = λ j. refl } (sym none'))
   making (Remove i) End (removes, none') known n is =
-      subst (λ v. IsMade size words words run q r End v (event.Remove i false ∷ []) q.reusing) (sym is) (end_made size words run q r x removes (event.Remove i false) record { left = λ u. refl; plain = λ E u p. tt; gives_none = λ f p h j. refl; stays_out = λ j. refl } (sym none'))
+      subst (λ v. IsMade size words words run q r End v (event.Remove i false ∷ []) q.reusing) (sym is) (end_made size words run q r x removes (event.Remove i false) record { left = λ u. refl; plain = λ E u p. tt; gives_none = λ f p h j. refl; no_put_back = λ j. refl } (sym none'))
   making (CancelRoutine m) (Out j) (e, outside, owed) known n is =
       subst (λ v. Made' (CancelRoutine m) (Out j) v) (sym is) (out_made size words run q r x j known outside owed)
   making (PutBack i f place) (Rearm j) (e, outside, held, got) known n is =
@@ -311,7 +264,7 @@ module _ (size : Size) (words : List ℕ) (views : List View) (run : List Made) 
         true_of = quiet.plain q.first run q.history h.true_of;
         orderly = quiet.orderly q.first q.history h.orderly;
         given_is = λ i n. quiet.given_same q.first q.history i ∙ h.given_is i n;
-        given_back = λ p i n. quiet.given_same q.first q.history i ∙ h.given_back p i n;
+        putting_back = λ p i n. quiet.given_same q.first q.history i ∙ h.putting_back p i n;
         owners = quiet.owners q.first q.history h.owners;
         placed = placed;
       } in
@@ -371,7 +324,7 @@ module _ (size : Size) (words : List ℕ) (views : List View) (run : List Made) 
         agrees = record {
           wide = flight.wide;
           words_are = flight.words_are;
-          history_is = (let f = flight.history_is in record { is_run = f.is_run; first_is = f.first_is; listed_is = f.listed_is; used_is = f.used_is; lives_are = f.lives_are; true_of = f.true_of; orderly = f.orderly; given_is = f.given_is; given_back = f.given_back; owners = f.owners; placed = f.placed });
+          history_is = same_history flight.history_is;
           reuse_is = flight.reuse_is;
           shown = λ i o e. let g = flight.shown i o e in (suc g.0, g.1);
           backs = each_back (IsBack words run q') r q.back record { is_record = owner.2; rests = rests may; made = owner.1.to } (λ i o e. let b = flight.backs i o e in record { is_record = b.is_record; rests = b.rests; made = b.made });
@@ -494,10 +447,4 @@ notes_as size slots id m q r call n is other sized may = subst (λ (z : View × 
 -- a note leaves the queue's seat the queue's record
 pub note_has : (call : Call) (n : Note) (q : QueueRecord) (r : PassRecord) → HasQueue (after_note call n q r)
 note_has (Insert i f place) n q r = (refl, refl, refl)
-note_has (RemoveNext k) n q r = (refl, refl, refl)
-note_has (Remove i) n q r = (refl, refl, refl)
-note_has (CancelRoutine i) n q r = (refl, refl, refl)
-note_has (CloseFile f) n q r = (refl, refl, refl)
-note_has (Reuse m) n q r = (refl, refl, refl)
-note_has (PutBack i f place) n q r = (refl, refl, refl)
-note_has GiveBack n q r = (refl, refl, refl)
+note_has x n q r = (refl, refl, refl)

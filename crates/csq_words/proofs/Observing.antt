@@ -1,23 +1,9 @@
 -- The queue's seat observes the execution: this keeps the rule, which tells of the records then.
 use Rattle.std.proofs.Common.{◌≡◌, ℕ, false, List, [], Some, None, refl, sym, subst, set}
-use Rattle.std.proofs.lemmas.List.{set-get_or}
-use mathlib.Core.Option.{none}
-use Rattle.atomic_table.specs.Table.{Allows, step, keeps}
-use Rattle.atomic_table.proofs.Lists.{set_here}
-use Rattle.irp_core.specs.Inside.{has_lock}
-use Rattle.irp_core.specs.declared.ids.PassId.{PassId}
-use Rattle.irp_core.specs.declared.step.Made.{Made}
-use Rattle.irp_core.specs.Runs.{Size}
-use Rattle.csq_words.specs.declared.views.PassRecord.{PassRecord}
-use Rattle.csq_words.specs.declared.views.QueueRecord.{QueueRecord}
-use Rattle.csq_words.specs.declared.views.View.{View}
-use Rattle.csq_words.specs.Records.{view_of, with_run}
-use Rattle.irp_core.specs.Own.{inside_of}
+use Rattle.csq_words.proofs.Imports.{set-get_or, none, Allows, step, keeps, set_here, has_lock, PassId, Made, Size, PassRecord, QueueRecord, View, view_of, with_run, inside_of, in_flight, IsOut, WordsAgree, Fits, RuleHoldsBy, RuleHolds, QueueHasRun, SeatView, Observes, TellsQueue, TellsBoth}
 use Rattle.irp_core.specs.declared.inside.Inside.TheVariants as inner
-use Rattle.csq_words.specs.Rule.{in_flight, IsOut, WordsAgree, Fits, RuleHoldsBy, RuleHolds, QueueHasRun}
-use Rattle.csq_words.specs.Plays.{SeatView, Observes, TellsQueue, TellsBoth}
 use Rattle.csq_words.proofs.Indexes.{at_below}
-use Rattle.csq_words.proofs.Keeping.{none_is, all_set, present_else, apart, at_queue, nobody_in, agrees_same, free_flight, are_back}
+use Rattle.csq_words.proofs.Keeping.{none_is, same_history, all_set, present_else, apart, at_queue, nobody_in, agrees_same, free_flight, are_back}
 use Rattle.csq_words.proofs.ReuseSteps.{renewal_kept}
 
 -- the queue's record has the execution so far
@@ -49,7 +35,7 @@ alone_kept size words views run id q seat k =
       agrees = record {
         wide = a.wide;
         words_are = a.words_are;
-        history_is = record { is_run = told.is_run; first_is = told.first_is; listed_is = told.listed_is; used_is = told.used_is; lives_are = told.lives_are; true_of = told.true_of; orderly = told.orderly; given_is = told.given_is; given_back = told.given_back; owners = told.owners; placed = told.placed };
+        history_is = same_history told;
         reuse_is = a.reuse_is;
         backs = λ i o e. let b = a.backs i o e in record { is_record = b.is_record; rests = b.rests; made = b.made };
         back_once = a.back_once;

@@ -1,14 +1,6 @@
 -- What passes have seen of one history and one execution.
 use Rattle.std.proofs.Common.{◌≡◌, ℕ, zero, suc, List, [], ◌∷◌, ◌++◌, inl, inr, sym, ◌∙◌, subst}
-use mathlib.Core.Option.{some, some-injective, some-ne-none}
-use lib.ListN.{get_elem?}
-use Rattle.irp_core.specs.declared.step.Made.{Made}
-use Rattle.irp_core.specs.Runs.{Size}
-use Rattle.csq_words.specs.declared.views.PassRecord.{PassRecord}
-use Rattle.csq_words.specs.declared.views.QueueRecord.{QueueRecord}
-use Rattle.csq_words.specs.declared.views.Entry.{Entry}
-use Rattle.csq_words.specs.Rule.{IsPassOf, HasBack, RecordsAgree, QueueHasRun}
-use Rattle.csq_words.specs.Finals.{IsFinal}
+use Rattle.csq_words.proofs.Imports.{some, some-injective, some-ne-none, get_elem?, Made, Size, PassRecord, QueueRecord, Entry, IsPassOf, HasBack, RecordsAgree, QueueHasRun, IsFinal}
 use Rattle.csq_words.specs.Stories.{AreComparable, SeeOneHistory}
 
 module _ {A : Type 0} where

@@ -1,53 +1,11 @@
 -- The steps of a pass's own seat keep the rule.
 use Rattle.std.proofs.Common.{◌≡◌, ◌≢◌, ℕ, ◌+◌, ◌*◌, ◌^◌, ◌<◌, ◌≤◌, ◌==◌, inl, Bool, true, false, cond, if◌then◌else◌, List, [], ◌∷◌, ◌++◌, Some, None, length, set, Option, eqb-true, eq-eqb, refl, sym, ap, ◌∙◌, subst, arith, length-set, get_or-set_same}
-use Rattle.std.proofs.lemmas.Bool.{false_from_ne_true, or_right}
-use Rattle.std.proofs.lemmas.List.{set-get_or}
-use Rattle.std.specs.Prelude.{slice_index}
-use mathlib.Core.Option.{some, none}
-use lib.ListN.{get_elem?}
 use prog.Atomic.{either}
-use Rattle.atomic_table.specs.Table.{Allows, step, keeps}
-use Rattle.irp_core.specs.Own.{inside_of, holds_in, removed_in}
-use Rattle.irp_core.specs.declared.ids.IrpId.{IrpId}
-use Rattle.irp_core.specs.declared.ids.PassId.{PassId}
-use Rattle.irp_core.specs.declared.status.NtStatus.{NtStatus}
-use Rattle.irp_core.specs.declared.step.Kind.TheVariants.{Flag, Take, Done}
-use Rattle.irp_core.specs.declared.step.Made.{Made}
-use Rattle.irp_core.specs.declared.inside.Inside.{Inside}
+use Rattle.csq_words.proofs.Imports.{false_from_ne_true, or_right, set-get_or, slice_index, some, none, get_elem?, Allows, step, keeps, inside_of, holds_in, removed_in, IrpId, PassId, NtStatus, Flag, Take, Done, Made, Inside, number, life_of, same_id, IrpLife, bit, armed, flagged, cancel, routine, found_by, has_lock, owes, holds, removed, last_life, present_life, present, IsPresent, Size, IsRun, same_pass-refl, life_bound, grows_by_flag, grows_by_take, grows_by_done, Pending, Cancelled, Refused, Event, Insert, RemoveNext, Remove, Reuse, PutBack, Entry, QueueState, after_event, Reusing, Looked, StatusRenewed, RoutineRenewed, Completion, PassRecord, QueueRecord, View, pass_view, with_step, with_completion, with_life, saw, CANCELLED, end_of, cancel_at, routine_at, status_at, bit_word, life_in, bit_in, unset_word, status_word, status_life_in, status_in, renewed_routine, renewed_status, stands_for, is_done, SaysStatus, HasWords, AreTrueOf, MayRenew, IsReuse, IsStored, in_flight, IsHistoryOf, IsPassOf, IsOut, IsRecord, RuleHoldsBy, RuleHolds, SeatView, life_found, after_flag, SeesFlag, Flags, taken_by, Takes, Completes, own-mine, holds_in-own, removed_in-own}
 use Rattle.irp_core.specs.declared.inside.Inside.TheVariants.{Nothing, Cancelling}
-use Rattle.irp_core.specs.Steps.{number, life_of, same_id}
-use Rattle.irp_core.specs.declared.ids.IrpLife.{IrpLife}
-use Rattle.irp_core.specs.Words.{bit, armed, flagged, cancel, routine, found_by}
-use Rattle.irp_core.specs.Inside.{has_lock}
-use Rattle.irp_core.specs.Owners.{owes, holds}
-use Rattle.irp_core.specs.Completion.{removed}
-use Rattle.irp_core.specs.Lives.{last_life, present_life, present, IsPresent}
-use Rattle.irp_core.specs.Runs.{Size, IsRun}
-use Rattle.irp_core.proofs.Names.{same_pass-refl}
-use Rattle.irp_core.proofs.Lives.{life_bound}
-use Rattle.irp_core.proofs.Next.{grows_by_flag, grows_by_take, grows_by_done}
-use Rattle.csq_words.specs.declared.views.InsertReply.TheVariants.{Pending, Cancelled, Refused}
-use Rattle.csq_words.specs.declared.views.Event.{Event}
-use Rattle.csq_words.specs.declared.views.Event.TheVariants.{Insert, RemoveNext, Remove, Reuse, PutBack}
-use Rattle.csq_words.specs.declared.views.Entry.{Entry}
-use Rattle.csq_words.specs.Queue.{QueueState, after_event}
-use Rattle.csq_words.specs.declared.views.Reusing.{Reusing}
-use Rattle.csq_words.specs.declared.views.Reusing.TheVariants.{Looked, StatusRenewed, RoutineRenewed}
 use Rattle.csq_words.specs.declared.views.Reusing.TheVariants as reusing
-use Rattle.csq_words.specs.declared.views.Completion.{Completion}
-use Rattle.csq_words.specs.declared.views.PassRecord.{PassRecord}
-use Rattle.csq_words.specs.declared.views.QueueRecord.{QueueRecord}
-use Rattle.csq_words.specs.declared.views.View.{View}
-use Rattle.csq_words.specs.Records.{pass_view, with_step, with_completion, with_life, saw}
-use Rattle.irp_core.specs.declared.status.TheConstants.NtStatus.{CANCELLED}
-use Rattle.csq_words.specs.History.{end_of}
-use Rattle.csq_words.specs.Words.{cancel_at, routine_at, status_at, bit_word, life_in, bit_in, unset_word, status_word, status_life_in, status_in}
-use Rattle.csq_words.specs.Rule.{renewed_routine, renewed_status, stands_for, is_done, SaysStatus, HasWords, AreTrueOf, MayRenew, IsReuse, IsStored, in_flight, IsHistoryOf, IsPassOf, IsOut, IsRecord, RuleHoldsBy, RuleHolds}
-use Rattle.csq_words.specs.Plays.{SeatView, life_found, after_flag, SeesFlag, Flags, taken_by, Takes, Completes}
 use Rattle.csq_words.proofs.Facts.{off, due_more, given_take, bit_bound, bit_true, set_listed, listed_now, listed_undone, open_now, open_undone}
 use Rattle.csq_words.proofs.Named.{by_id, irp_eq, same_id-not}
-use Rattle.irp_core.proofs.Own.{own-mine, holds_in-own}
-use Rattle.irp_core.proofs.Owning.{removed_in-own}
 use Rattle.csq_words.proofs.Decoding.{life_in-put, bit_in-put, status_life_in-unset, status_life_in-put, status_in-unset, status_in-put}
 use Rattle.csq_words.proofs.Keeping.{inside_is}
 use Rattle.csq_words.proofs.SeatSteps.{OwnStep, own_step, longer_step, begun_more}

@@ -1,21 +1,14 @@
 -- Where the events of a history stand in the execution that it is in the order of.
 use Rattle.std.proofs.Common.{◌≡◌, ◌⊎◌, inl, inr, ℕ, true, true≢false, List, [], ◌∷◌, ◌++◌, append_assoc, refl, sym, ap, ◌∙◌, subst}
 use Rattle.irp_core.specs.Lock.{needs_lock}
-use Rattle.irp_core.specs.declared.ids.PassId.{PassId}
-use Rattle.irp_core.specs.declared.step.Made.{Made}
-use Rattle.csq_words.specs.declared.calls.Call.{Call}
-use Rattle.csq_words.specs.declared.calls.Call.TheVariants.{Insert, RemoveNext, Remove, CancelRoutine, CloseFile, Reuse, GiveBack, PutBack}
+use Rattle.csq_words.proofs.Imports.{PassId, Made, Call, Event, Entry, entries_of, end_of, at_start, unlocked, recording, noting}
+use Rattle.csq_words.specs.declared.calls.Call.TheVariants.{Insert, CloseFile, PutBack}
 use Rattle.csq_words.specs.declared.calls.Note.{Note}
 use Rattle.csq_words.specs.declared.calls.Note.TheVariants.{Refused}
 use Rattle.csq_words.specs.declared.calls.Note.TheVariants as note
 use Rattle.csq_words.specs.declared.views.InsertReply.TheVariants as reply
-use Rattle.csq_words.specs.declared.views.Event.{Event}
 use Rattle.csq_words.specs.declared.views.Event.TheVariants as event
-use Rattle.csq_words.specs.declared.views.Entry.{Entry}
-use Rattle.csq_words.specs.Records.{entries_of}
-use Rattle.csq_words.specs.History.{end_of}
 use Rattle.csq_words.specs.Recorded.{recorded, noted, is_noted, IsPlaced, StandsAt, IsRecorded, EventsStandInOrder}
-use Rattle.csq_words.specs.Recorded.IsPlaced.{at_start, unlocked, recording, noting}
 use Rattle.csq_words.specs.Recorded.StandsAt.{at_step, between}
 
 module _ {A : Type 0} where
@@ -57,11 +50,7 @@ noted_is (CloseFile f) note.Event p newer within e is = only (record { pass = p;
 noted_is (Insert i f place) note.Event p newer within e is = nothing newer within e is
 noted_is (PutBack i f place) note.Event p newer within e is = nothing newer within e is
 noted_is (CloseFile f) (Refused cause) p newer within e is = nothing newer within e is
-noted_is (RemoveNext k) n p newer within e is = nothing newer within e is
-noted_is (Remove i) n p newer within e is = nothing newer within e is
-noted_is (CancelRoutine i) n p newer within e is = nothing newer within e is
-noted_is (Reuse m) n p newer within e is = nothing newer within e is
-noted_is GiveBack n p newer within e is = nothing newer within e is
+noted_is x n p newer within e is = nothing newer within e is
 
 -- where an event stands: how far the execution had come, and what the history was up to there
 record Place (first : ℕ) (run : List Made) (e : Entry) (older : List Entry) : Type 0 where

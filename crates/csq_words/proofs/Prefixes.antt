@@ -1,23 +1,7 @@
 -- What a pass has seen: cutting it off, and joining it to another pass's record, keeps the rule, by which that pass then has seen more.
 use Rattle.std.proofs.Common.{◌≡◌, ℕ, List, [], ◌∷◌, ◌++◌, set, refl, sym, ap, ◌∙◌, subst}
-use Rattle.std.proofs.lemmas.List.{set-get_or}
-use mathlib.Core.Option.{some, none}
-use lib.ListN.{get_elem?}
-use Rattle.atomic_table.specs.Table.{Allows, Splits, Joins, step, keeps}
-use Rattle.atomic_table.proofs.Lists.{set_here, set_else, set_again, at_longer}
-use Rattle.irp_core.specs.declared.ids.PassId.{PassId}
-use Rattle.irp_core.specs.declared.step.Made.{Made}
-use Rattle.irp_core.specs.Runs.{Size}
-use Rattle.csq_words.specs.declared.views.PassRecord.{PassRecord}
-use Rattle.csq_words.specs.declared.views.QueueRecord.{QueueRecord}
+use Rattle.csq_words.proofs.Imports.{set-get_or, some, none, get_elem?, Allows, Splits, Joins, step, keeps, set_here, set_else, set_again, at_longer, PassId, Made, Size, PassRecord, QueueRecord, View, view_of, pass_view, receipt_view, prefix_view, spent_view, pass_prefix_view, prefix_of, saw_prefix, same_view, prefix_view_of, with_prefix_of, IsOrderly, Inside, IsPlaced, AreTrueOf, IsPrefixOf, IsRecord, IsOut, WordsAgree, in_flight, Fits, SeatHasRecord, RuleHoldsBy, RuleHolds, SeatView, SeesAll}
 use Rattle.csq_words.specs.declared.views.Prefix.{Prefix}
-use Rattle.csq_words.specs.declared.views.View.{View}
-use Rattle.csq_words.specs.Records.{view_of, pass_view, receipt_view, prefix_view, spent_view, pass_prefix_view, prefix_of, saw_prefix, same_view, prefix_view_of, with_prefix_of}
-use Rattle.csq_words.specs.History.{IsOrderly}
-use Rattle.irp_core.specs.declared.inside.Inside.{Inside}
-use Rattle.csq_words.specs.Recorded.{IsPlaced}
-use Rattle.csq_words.specs.Rule.{AreTrueOf, IsPrefixOf, IsRecord, IsOut, WordsAgree, in_flight, Fits, SeatHasRecord, RuleHoldsBy, RuleHolds}
-use Rattle.csq_words.specs.Plays.{SeatView, SeesAll}
 use Rattle.csq_words.proofs.Facts.{off}
 use Rattle.csq_words.proofs.Named.{by_pass}
 use Rattle.csq_words.proofs.Indexes.{at_below, at_once}

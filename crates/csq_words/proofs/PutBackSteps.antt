@@ -1,38 +1,9 @@
 -- The steps of a put-back: rearm, test, disarm.
 use Rattle.std.proofs.Common.{◌≡◌, ℕ, zero, suc, ◌<◌, Bool, true, false, cond, not, ◌&&◌, ◌||◌, List, [], ◌∷◌, map, set, refl, sym, ap, ◌∙◌, subst, arith, length-set}
-use Rattle.std.proofs.Math.Bool.{and-false}
-use Rattle.std.proofs.lemmas.Bool.{and_parts, and_from, or_right, false_from_ne_true}
-use Rattle.irp_core.specs.Own.{inside_of, holds_in, removed_in}
-use Rattle.irp_core.specs.declared.ids.FileId.{FileId}
-use Rattle.irp_core.specs.declared.step.Kind.TheVariants.{Test, Disarm, Rearm}
-use Rattle.irp_core.specs.declared.step.Made.{Made}
+use Rattle.csq_words.proofs.Imports.{and-false, and_parts, and_from, or_right, false_from_ne_true, inside_of, holds_in, removed_in, FileId, Test, Disarm, Rearm, Made, number, life_of, same_irp, is, found_one, own, IrpLife, IsPresent, bit, armed, flagged, was_armed, found_by, inside, owes, holds, has_gone, listed, removed, holds_removed, Size, IsRun, same_irp-refl, same_irp-eq, own_made, own_stays, holds_in-own, removed_in-own, inserted_listed, grows_by_rearm, grows_by_test_again, grows_by_disarm_again, Place, put_at, Pending, Completion, PassRecord, QueueRecord, has_entry, has_irp, new_entry, IsGone, given_to, queue_of, routine_at, bit_word, WasCancelled, is_done, was_put_back, inserts, lists, again, passes_given, recorded}
 use Rattle.irp_core.specs.declared.inside.Inside.TheVariants.{Nothing, Rearmed, FlagSeenAgain}
-use Rattle.irp_core.specs.Steps.{number, life_of, same_irp, is, found_one, own}
-use Rattle.irp_core.specs.declared.ids.IrpLife.{IrpLife}
-use Rattle.irp_core.specs.Lives.{IsPresent}
-use Rattle.irp_core.specs.Words.{bit, armed, flagged, was_armed, found_by}
-use Rattle.irp_core.specs.Inside.{inside}
-use Rattle.irp_core.specs.Owners.{owes, holds, has_gone, listed}
-use Rattle.irp_core.specs.Completion.{removed, holds_removed}
-use Rattle.irp_core.specs.Runs.{Size, IsRun}
-use Rattle.irp_core.proofs.Names.{same_irp-refl, same_irp-eq}
-use Rattle.irp_core.proofs.Own.{own_made, own_stays, holds_in-own}
-use Rattle.irp_core.proofs.Owning.{removed_in-own}
-use Rattle.irp_core.proofs.Next.{inserted_listed, grows_by_rearm, grows_by_test_again, grows_by_disarm_again}
-use Rattle.csq_list.specs.declared.entry.Place.{Place}
-use Rattle.csq_list.specs.Listing.{put_at}
 use Rattle.csq_words.specs.declared.calls.Call.TheVariants.{PutBack}
-use Rattle.csq_words.specs.declared.views.InsertReply.TheVariants.{Pending}
 use Rattle.csq_words.specs.declared.views.Event.TheVariants as event
-use Rattle.csq_words.specs.declared.views.Completion.{Completion}
-use Rattle.csq_words.specs.declared.views.PassRecord.{PassRecord}
-use Rattle.csq_words.specs.declared.views.QueueRecord.{QueueRecord}
-use Rattle.csq_words.specs.Queue.{has_entry, has_irp, new_entry}
-use Rattle.csq_words.specs.History.{IsGone, given_to}
-use Rattle.csq_words.specs.Records.{queue_of}
-use Rattle.csq_words.specs.Words.{routine_at, bit_word}
-use Rattle.csq_words.specs.Rule.{WasCancelled, is_done, was_put_back, inserts, lists, again, passes_given}
-use Rattle.csq_words.specs.Calls.{recorded}
 use Rattle.csq_words.proofs.Facts.{off, due_more, due_rearm, given_miss, given_hit, held_gone, here_not_gone, undone_own, completed_in_done, open_now, open_undone, set_listed, listed_now, listed_undone, listed_taken, flag_seen_again, rearmed_own, seen_again_own, bit_true, bit_bound, again_disarm, held_given}
 use Rattle.csq_words.proofs.Named.{by_irp, same_irp-is}
 use Rattle.csq_words.proofs.Truths.{true_stays, truths_stay}
@@ -91,7 +62,7 @@ module _ (size : Size) (words : List ℕ) (run : List Made) (q : QueueRecord) (r
           true_of = truths_stay size m run longer q.first q.history x.history_is.true_of;
           orderly = x.history_is.orderly;
           given_is = λ j n. x.history_is.given_is j (ap (λ s. again s j) outside) ∙ rw n refl;
-          given_back = λ j n. x.history_is.given_is j (ap (λ s. again s j) outside) ∙ (ap (passes_given run) (sym (same_irp-eq i j n)) ∙ held_given size run is_run i r.pass held_run);
+          putting_back = λ j n. x.history_is.given_is j (ap (λ s. again s j) outside) ∙ (ap (passes_given run) (sym (same_irp-eq i j n)) ∙ held_given size run is_run i r.pass held_run);
           owners = x.history_is.owners;
           due = due_rearm m i r.steps r.completed (λ j ne. ne) not_completed;
         }
@@ -117,7 +88,7 @@ module _ (size : Size) (words : List ℕ) (run : List Made) (q : QueueRecord) (r
 
     -- whoever puts it back was given it
     given_mine : (j : IrpLife) → same_irp i j ≡ true → given_to q.first j q.history ≡ r.pass ∷ []
-    given_mine j e = x.history_is.given_back r.pass j (ap (λ s. again s j) (sym x.same) ∙ ((flight j).2 ∙ e))
+    given_mine j e = x.history_is.putting_back r.pass j (ap (λ s. again s j) (sym x.same) ∙ ((flight j).2 ∙ e))
 
     -- whom it was given to before has it no more
     given_now : (j : IrpLife) → cond (same_irp i j) [] (given_to q.first j q.history) ≡ passes_given run j
@@ -152,7 +123,7 @@ module _ (size : Size) (words : List ℕ) (run : List Made) (q : QueueRecord) (r
       true_of = (true_stays size _ run (test_run 0 is) (queue_of q) r.pass (event.PutBack i f place Pending) (rearmed_own run r.pass i (sym x.same ∙ after_rearm)), truths_stay size _ run (test_run 0 is) q.first q.history x.history_is.true_of);
       orderly = (is_gone flight_of_rearm listed_of_rearm, x.history_is.orderly);
       given_is = λ j n. given_now flight_of_rearm listed_of_rearm j;
-      given_back = λ j n. off (rw after_rearm at n);
+      putting_back = λ j n. off (rw after_rearm at n);
       owners = (given_mine flight_of_rearm listed_of_rearm, x.history_is.owners);
       due = due_more (record { pass = r.pass; kind = Test i; found = 0 }) r.steps r.completed (λ j. refl);
     }
@@ -169,7 +140,7 @@ module _ (size : Size) (words : List ℕ) (run : List Made) (q : QueueRecord) (r
       true_of = truths_stay size _ run (test_run 1 is) q.first q.history x.history_is.true_of;
       orderly = x.history_is.orderly;
       given_is = λ j n. x.history_is.given_is j (ap (λ s. again s j) after_rearm ∙ (rw after_rearm at n));
-      given_back = λ j n. given_mine flight_of_rearm listed_of_rearm j (rw after_rearm at n);
+      putting_back = λ j n. given_mine flight_of_rearm listed_of_rearm j (rw after_rearm at n);
       owners = x.history_is.owners;
       due = due_more (record { pass = r.pass; kind = Test i; found = 1 }) r.steps r.completed (λ j. refl);
     }
@@ -215,7 +186,7 @@ module _ (size : Size) (words : List ℕ) (run : List Made) (q : QueueRecord) (r
           );
           orderly = (placed_unmarked place i f (queue_of q).entries, (is_gone flight_of_seen listed_of_seen, x.history_is.orderly));
           given_is = λ j n. given_now flight_of_seen listed_of_seen j ∙ given_miss r.pass i j run;
-          given_back = λ j n. off (sym (again_disarm (inside_of r.steps) 0 j) ∙ n);
+          putting_back = λ j n. off (sym (again_disarm (inside_of r.steps) 0 j) ∙ n);
           owners = ((λ j n. off n), (given_mine flight_of_seen listed_of_seen, x.history_is.owners));
           due = due_more (record { pass = r.pass; kind = Disarm i; found = 0 }) r.steps r.completed (λ j. refl);
         }
@@ -247,7 +218,7 @@ module _ (size : Size) (words : List ℕ) (run : List Made) (q : QueueRecord) (r
           );
           orderly = ((is_gone flight_of_seen listed_of_seen, ap (λ b. b || has_irp (queue_of q).flags i) (same_irp-refl i)), (tt, x.history_is.orderly));
           given_is = λ j n. ap (λ l. cond (same_irp i j) (r.pass ∷ l) l) (given_now flight_of_seen listed_of_seen j) ∙ given_hit size run is_run r.pass i armed_i j;
-          given_back = λ j n. off (sym (again_disarm (inside_of r.steps) 1 j) ∙ n);
+          putting_back = λ j n. off (sym (again_disarm (inside_of r.steps) 1 j) ∙ n);
           owners = (given_mine flight_of_seen listed_of_seen, ((λ j n. off n), x.history_is.owners));
           due = due_more (record { pass = r.pass; kind = Disarm i; found = 1 }) r.steps r.completed (λ j. refl);
         }

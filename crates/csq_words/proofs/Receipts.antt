@@ -1,20 +1,9 @@
 -- Receipts of passes that are back: cutting one off, and showing it, keeps the rule.
 use Rattle.std.proofs.Common.{◌≡◌, ℕ, zero, suc, List, [], ◌∷◌, ◌++◌, set, Some, None, IsSome, refl, sym, ap, ◌∙◌, subst}
-use mathlib.Core.Option.{some, some-injective}
-use lib.ListN.{get_elem?}
-use Rattle.atomic_table.specs.Table.{Splits, Joins}
-use Rattle.atomic_table.proofs.Lists.{set_here, set_else, set_again, at_longer}
-use Rattle.irp_core.specs.declared.ids.PassId.{PassId}
-use Rattle.irp_core.specs.declared.step.Made.{Made}
-use Rattle.irp_core.specs.Runs.{Size}
-use Rattle.csq_words.specs.declared.views.PassRecord.{PassRecord}
-use Rattle.csq_words.specs.declared.views.QueueRecord.{QueueRecord}
-use Rattle.csq_words.specs.declared.views.View.{View}
-use Rattle.csq_words.specs.Records.{view_of, receipt_view, spent_view, newest, without_pass, receipt_of, shown_receipt, with_shown, shown_by}
-use Rattle.csq_words.specs.Rule.{in_flight, IsOut, HasBack, WordsAgree, Fits, RuleHoldsBy, RuleHolds}
+use Rattle.csq_words.proofs.Imports.{some, some-injective, get_elem?, Splits, Joins, set_here, set_else, set_again, at_longer, PassId, Made, Size, PassRecord, QueueRecord, View, view_of, receipt_view, spent_view, newest, without_pass, receipt_of, shown_receipt, with_shown, shown_by, in_flight, IsOut, HasBack, WordsAgree, Fits, RuleHoldsBy, RuleHolds}
 use Rattle.csq_words.proofs.Facts.{off}
 use Rattle.csq_words.proofs.Indexes.{at_below}
-use Rattle.csq_words.proofs.Keeping.{none_is, all_set, all_push, present_else, present_more, apart, at_queue}
+use Rattle.csq_words.proofs.Keeping.{none_is, same_history, all_set, all_push, present_else, present_more, apart, at_queue}
 
 -- the newest of the records is among them
 newest_at : (rs : List PassRecord) (r : PassRecord) → newest rs ≡ Some r → get_elem? rs 0 ≡ some r
@@ -66,7 +55,7 @@ shows size id other q r s h at ne there' =
         agrees = record {
           wide = a.wide;
           words_are = a.words_are;
-          history_is = record { is_run = told.is_run; first_is = told.first_is; listed_is = told.listed_is; used_is = told.used_is; lives_are = told.lives_are; true_of = told.true_of; orderly = told.orderly; given_is = told.given_is; given_back = told.given_back; owners = told.owners; placed = told.placed };
+          history_is = same_history told;
           reuse_is = a.reuse_is;
           backs = λ i o e. let b = a.backs i o e in record { is_record = b.is_record; rests = b.rests; made = b.made };
           back_once = a.back_once;

@@ -1,41 +1,9 @@
 -- The steps of a removal and of the cancel routine: disarm, end, out.
 use Rattle.std.proofs.Common.{◌≡◌, ℕ, ◌<◌, Bool, true, false, cond, not, ◌&&◌, List, [], ◌∷◌, ◌++◌, set, refl, sym, ap, ◌∙◌, subst, arith, length-set}
-use Rattle.std.proofs.Math.Bool.{and-false}
-use Rattle.std.proofs.lemmas.Bool.{or_right}
-use Rattle.irp_core.specs.Own.{inside_of, owes_in, was_removed_in}
-use Rattle.irp_core.specs.declared.ids.PassId.{PassId}
-use Rattle.irp_core.specs.declared.step.Kind.TheVariants.{Disarm, End, Out}
-use Rattle.irp_core.specs.declared.step.Made.{Made}
-use Rattle.irp_core.specs.declared.inside.Inside.{Inside}
+use Rattle.csq_words.proofs.Imports.{and-false, or_right, inside_of, owes_in, was_removed_in, PassId, Disarm, End, Out, Made, Inside, number, life_of, same_irp, is, own, IrpLife, present, IrpId, armed, found_by, was_armed, after_disarm, follows, in_insert, owes, listed, taken, removed, Size, IsRun, same_irp-refl, grows_by_removal_disarm, grows_by_end, grows_by_out, Peek, Event, Mark, PassRecord, QueueRecord, Queued, QueueState, has_entry, has_unmarked, has_irp, marking, without, after_event, end_of, MayStand, IsOrderly, given_to, puts_back, OwnersPutBack, Entry, queue_of, entries_of, routine_at, bit_word, inserts, lists, again, passes_given, WasCancelled, IsTrueOf, AreTrueOf, due_mark, IsNextMatch, MayRemove, own-mine, own_made, owes_in-own}
 use Rattle.irp_core.specs.declared.inside.Inside.TheVariants.{Nothing, Removing}
-use Rattle.irp_core.specs.Steps.{number, life_of, same_irp, is, own}
-use Rattle.irp_core.specs.declared.ids.IrpLife.{IrpLife}
-use Rattle.irp_core.specs.Lives.{present}
-use Rattle.irp_core.specs.declared.ids.IrpId.{IrpId}
-use Rattle.irp_core.specs.Words.{armed, found_by}
-use Rattle.irp_core.specs.Inside.{after_disarm, follows, in_insert}
-use Rattle.irp_core.specs.Owners.{owes, listed}
-use Rattle.irp_core.specs.Completion.{removed}
-use Rattle.irp_core.specs.Runs.{Size, IsRun}
-use Rattle.irp_core.proofs.Names.{same_irp-refl}
-use Rattle.irp_core.proofs.Next.{grows_by_removal_disarm, grows_by_end, grows_by_out}
-use Rattle.csq_list.specs.declared.entry.Peek.{Peek}
-use Rattle.csq_words.specs.declared.views.Event.{Event}
-use Rattle.csq_words.specs.declared.views.Event.TheVariants.{Mark}
 use Rattle.csq_words.specs.declared.views.Event.TheVariants as event
-use Rattle.csq_words.specs.declared.views.PassRecord.{PassRecord}
-use Rattle.csq_words.specs.declared.views.QueueRecord.{QueueRecord}
-use Rattle.csq_words.specs.Queue.{Queued, QueueState, has_entry, has_unmarked, has_irp, marking, without, after_event}
-use Rattle.csq_words.specs.History.{end_of, MayStand, IsOrderly, given_to, puts_back, OwnersPutBack}
-use Rattle.csq_words.specs.declared.views.Entry.{Entry}
-use Rattle.csq_words.specs.Records.{queue_of, entries_of}
-use Rattle.csq_words.specs.Words.{routine_at, bit_word}
-use Rattle.irp_core.specs.Owners.{taken}
-use Rattle.irp_core.specs.Words.{was_armed}
-use Rattle.csq_words.specs.Rule.{inserts, lists, again, passes_given, WasCancelled, IsTrueOf, AreTrueOf}
-use Rattle.csq_words.specs.Calls.{due_mark, IsNextMatch, MayRemove}
 use Rattle.csq_words.proofs.Facts.{off, due_more, given_hit, given_miss, given_out, bit_true, owed_listed, listed_taken, listed_now, listed_undone, again_disarm}
-use Rattle.irp_core.proofs.Own.{own-mine, own_made, owes_in-own}
 use Rattle.csq_words.proofs.Truths.{true_stays, truths_stay}
 use Rattle.csq_words.proofs.Changes.{routine_of, disarm_words, end_words, out_words, stored_else, status_routine}
 use Rattle.csq_words.proofs.Entries.{has_entry-marking, has_entry-without}
@@ -72,14 +40,14 @@ pub record TakesOut (i : IrpLife) (e : Event) : Type 0 where
   pub taken : (q : QueueState) → after_event q e ≡ record q { entries = without i q.entries }
   pub says : (run : List Made) (u : QueueState) (p : PassId) → was_removed_in (own p run) i ≡ true → IsTrueOf run u p e
   pub gives_out : (first : ℕ) (p : PassId) (history : List Entry) (j : IrpLife) → given_to first j (record { pass = p; event = e } ∷ history) ≡ cond (same_irp i j) (p ∷ given_to first j history) (given_to first j history)
-  pub stays_out : (j : IrpLife) → puts_back j e ≡ false
+  pub no_put_back : (j : IrpLife) → puts_back j e ≡ false
 
 -- the event leaves the queue as it is
 pub record Leaves (e : Event) : Type 0 where
   pub left : (q : QueueState) → after_event q e ≡ q
   pub plain : (run : List Made) (u : QueueState) (p : PassId) → IsTrueOf run u p e
   pub gives_none : (first : ℕ) (p : PassId) (history : List Entry) (j : IrpLife) → given_to first j (record { pass = p; event = e } ∷ history) ≡ given_to first j history
-  pub stays_out : (j : IrpLife) → puts_back j e ≡ false
+  pub no_put_back : (j : IrpLife) → puts_back j e ≡ false
 
 -- the next match is listed
 pub next_listed : (k : Peek) (es : List Queued) (i : IrpLife) → IsNextMatch k es i → has_entry es i ≡ true
@@ -143,7 +111,7 @@ module _ (size : Size) (words : List ℕ) (run : List Made) (q : QueueRecord) (r
             true_of = true';
             orderly = orderly';
             given_is = λ j n. given' j ∙ (given_are j ∙ given_miss r.pass i j run);
-            given_back = λ j n. off (sym (again_disarm (inside_of r.steps) 0 j) ∙ n);
+            putting_back = λ j n. off (sym (again_disarm (inside_of r.steps) 0 j) ∙ n);
             owners = owners';
             due = due_more (record { pass = r.pass; kind = Disarm i; found = 0 }) r.steps r.completed (λ j. refl);
           }
@@ -176,8 +144,8 @@ module _ (size : Size) (words : List ℕ) (run : List Made) (q : QueueRecord) (r
         true_of = (t.says (record { pass = r.pass; kind = Disarm i; found = 1 } ∷ run) (queue_of q) r.pass removed_now, truths_stay size _ run (disarm_run 1 is) q.first q.history x.history_is.true_of);
         orderly = (stands, x.history_is.orderly);
         given_is = λ j n. t.gives_out q.first r.pass q.history j ∙ (ap (λ l. cond (same_irp i j) (r.pass ∷ l) l) (given_are j) ∙ given_hit size run x.history_is.is_run r.pass i (bit_true (armed run i) 1 is (omega arith)) j);
-        given_back = λ j n. off (sym (again_disarm (inside_of r.steps) 1 j) ∙ n);
-        owners = ((λ j n. off (sym (t.stays_out j) ∙ n)), x.history_is.owners);
+        putting_back = λ j n. off (sym (again_disarm (inside_of r.steps) 1 j) ∙ n);
+        owners = ((λ j n. off (sym (t.no_put_back j) ∙ n)), x.history_is.owners);
         due = due_more (record { pass = r.pass; kind = Disarm i; found = 1 }) r.steps r.completed (λ j. refl);
       }
 
@@ -197,8 +165,8 @@ module _ (size : Size) (words : List ℕ) (run : List Made) (q : QueueRecord) (r
           true_of = (l.plain (record { pass = r.pass; kind = End; found = 0 } ∷ run) (queue_of q) r.pass, truths_stay size _ run is_run q.first q.history x.history_is.true_of);
           orderly = (stands, x.history_is.orderly);
           given_is = λ j n. l.gives_none q.first r.pass q.history j ∙ given_are j;
-          given_back = λ j n. off n;
-          owners = ((λ j n. off (sym (l.stays_out j) ∙ n)), x.history_is.owners);
+          putting_back = λ j n. off n;
+          owners = ((λ j n. off (sym (l.no_put_back j) ∙ n)), x.history_is.owners);
           due = due_more (record { pass = r.pass; kind = End; found = 0 }) r.steps r.completed (λ j. refl);
         }
 
@@ -251,7 +219,7 @@ module _ (size : Size) (words : List ℕ) (run : List Made) (q : QueueRecord) (r
           true_of = (record { out = own_made r.pass _ run refl (is (Out i)) (same_irp-refl i); cancelled = was_cancelled }, true');
           orderly = orderly';
           given_is = λ j n. ap (λ l. cond (same_irp i j) (r.pass ∷ l) l) (given' j ∙ given_are removing j) ∙ given_out size run x.history_is.is_run r.pass i owed_run j;
-          given_back = λ j n. off n;
+          putting_back = λ j n. off n;
           owners = ((λ j n. off n), owners');
           due = due_more (record { pass = r.pass; kind = Out i; found = 0 }) r.steps r.completed (λ j. refl);
         }

@@ -1,48 +1,14 @@
 -- The four steps of a reuse keep the rule.
-use Rattle.csq_words.specs.History.{IsExtendedBy}
+use Rattle.csq_words.proofs.Imports.{IsExtendedBy, and_parts, ltb-true, set-get_or, slice_index, is_some, IsSome, none, Allows, step, keeps, inside_of, IrpId, PassId, NtStatus, Renew, Made, life_of, same_id, same_irp, is, IrpLife, was_armed, bit, routine, flagged, listed, removed, last_life, renewals, present_life, present, Size, IsRun, same_irp-refl, same_irp-eq, grows_by_renew, Reusing, Nothing, Looked, StatusRenewed, RoutineRenewed, Completion, PassRecord, QueueRecord, View, cancel_at, routine_at, status_at, bit_word, life_in, unset_word, status_life_in, status_in, current, has_entry, has_irp, begin_next, view_of, queue_of, with_calls, with_step, with_reusing, with_run, recording, next_life, is_done, inserts, lists, again, in_flight, SaysStatus, HasWords, MayRenew, IsReuse, IsHistoryOf, AreStored, RuleHoldsBy, RuleHolds, after_look, after_renewal, SeatView, status_recorded, SaysStatusOf, Looks, RenewsStatus, RenewsRoutine, RenewsCancel, own_made}
 use Rattle.std.proofs.Common.{◌≡◌, ℕ, ◌+◌, ◌<◌, nat_lt, cond, Bool, true, false, not, ◌&&◌, List, [], ◌∷◌, length, set, Option, Some, None, ⊎_elim, refl, sym, ap, ◌∙◌, subst, arith, length-set}
-use Rattle.std.proofs.lemmas.Bool.{and_parts, ltb-true}
-use Rattle.std.proofs.lemmas.List.{set-get_or}
-use Rattle.std.specs.Prelude.{slice_index, is_some, IsSome}
-use mathlib.Core.Option.{none}
-use Rattle.atomic_table.specs.Table.{Allows, step, keeps}
-use Rattle.irp_core.specs.Own.{inside_of}
-use Rattle.irp_core.specs.declared.ids.IrpId.{IrpId}
-use Rattle.irp_core.specs.declared.ids.PassId.{PassId}
-use Rattle.irp_core.specs.declared.status.NtStatus.{NtStatus}
-use Rattle.irp_core.specs.declared.step.Kind.TheVariants.{Renew}
-use Rattle.irp_core.specs.declared.step.Made.{Made}
 use Rattle.irp_core.specs.declared.inside.Inside.TheVariants as inner
-use Rattle.irp_core.specs.Steps.{life_of, same_id, same_irp, is}
-use Rattle.irp_core.specs.declared.ids.IrpLife.{IrpLife}
-use Rattle.irp_core.specs.Words.{was_armed, bit, routine, flagged}
-use Rattle.irp_core.specs.Owners.{listed}
-use Rattle.irp_core.specs.Completion.{removed}
-use Rattle.irp_core.specs.Lives.{last_life, renewals, present_life, present}
-use Rattle.irp_core.specs.Runs.{Size, IsRun}
-use Rattle.irp_core.proofs.Names.{same_irp-refl, same_irp-eq}
-use Rattle.irp_core.proofs.Next.{grows_by_renew}
 use Rattle.csq_words.specs.declared.views.Event.TheVariants as event
-use Rattle.csq_words.specs.declared.views.Reusing.{Reusing}
-use Rattle.csq_words.specs.declared.views.Reusing.TheVariants.{Nothing, Looked, StatusRenewed, RoutineRenewed}
-use Rattle.csq_words.specs.declared.views.Completion.{Completion}
-use Rattle.csq_words.specs.declared.views.PassRecord.{PassRecord}
-use Rattle.csq_words.specs.declared.views.QueueRecord.{QueueRecord}
-use Rattle.csq_words.specs.declared.views.View.{View}
-use Rattle.csq_words.specs.Words.{cancel_at, routine_at, status_at, bit_word, life_in, unset_word, status_life_in, status_in}
-use Rattle.csq_words.specs.Queue.{current, has_entry, has_irp, begin_next}
-use Rattle.csq_words.specs.Records.{view_of, queue_of, with_calls, with_step, with_reusing, with_run}
 use Rattle.csq_words.specs.declared.calls.Call.TheVariants as call
-use Rattle.csq_words.specs.Recorded.IsPlaced.{recording}
-use Rattle.csq_words.specs.Rule.{next_life, is_done, inserts, lists, again, in_flight, SaysStatus, HasWords, MayRenew, IsReuse, IsHistoryOf, AreStored, RuleHoldsBy, RuleHolds}
-use Rattle.csq_words.specs.Calls.{after_look, after_renewal}
-use Rattle.csq_words.specs.Plays.{SeatView, status_recorded, SaysStatusOf, Looks, RenewsStatus, RenewsRoutine, RenewsCancel}
 use Rattle.csq_words.proofs.Facts.{off, due_more, bit_bound, IsNew, later_new, dones_some, done_over}
 use Rattle.csq_words.proofs.Named.{irp_eq}
 use Rattle.csq_words.proofs.Decoding.{life_in-put, status_life_in-unset, status_in-unset}
 use Rattle.csq_words.proofs.Truths.{truths_stay}
-use Rattle.csq_words.proofs.Keeping.{none_is, at_queue}
-use Rattle.irp_core.proofs.Own.{own_made}
+use Rattle.csq_words.proofs.Keeping.{none_is, same_history, at_queue}
 use Rattle.csq_words.proofs.SeatSteps.{locked_step}
 use Rattle.csq_words.proofs.Changes.{present_is, renewed_status_words, renewed_routine_words, renewed_words, stored_else, stored_put, stored_later, status_routine, status_cancel}
 use Rattle.csq_words.proofs.PassSteps.{AllWords}
@@ -57,7 +23,7 @@ renewal_kept size words words' views run seen id q r seat reuse follows k wide w
     let h = k.agrees.history_is in
     let owner = (k.each_view id (view_of q (Some r)) k.queue_is).pass_here r refl in
     let was = owner.2.of_pass in
-    let history_is : IsHistoryOf size run q' (in_flight (Some r)) = record { is_run = h.is_run; first_is = h.first_is; listed_is = h.listed_is; used_is = h.used_is; lives_are = h.lives_are; true_of = h.true_of; orderly = h.orderly; given_is = h.given_is; given_back = h.given_back; owners = h.owners; placed = h.placed } in told_kept size words' (set views id (view_of q' (Some r))) run id q' r seat history_is was
+    let history_is : IsHistoryOf size run q' (in_flight (Some r)) = same_history h in told_kept size words' (set views id (view_of q' (Some r))) run id q' r seat history_is was
     (locked_step size words words' views run run id q q' seat r r k record {
       same_pass = refl;
       same_made = refl;
@@ -174,7 +140,7 @@ module _ (size : Size) (words : List ℕ) (views : List View) (run : List Made) 
           true_of = (record { done = ap (is_done run) now ∙ may.done; renew = own_made r.pass _ run refl (is (Renew (current (queue_of q) i.irp))) (ap (same_irp i) now ∙ same_irp-refl i) }, truths_stay size (record { pass = r.pass; kind = Renew i; found = 0 }) run grown q.first q.history x.history_is.true_of);
           orderly = ((both.0, both.1, ap (λ (j : IrpLife). life_of j + 1) (sym now)), x.history_is.orderly);
           given_is = λ j n. x.history_is.given_is j (ap (λ s. again s j) outside);
-          given_back = λ j n. off n;
+          putting_back = λ j n. off n;
           owners = ((λ j n. off n), x.history_is.owners);
           due = due_more (record { pass = r.pass; kind = Renew i; found = 0 }) r.steps r.completed (λ j. refl);
         },

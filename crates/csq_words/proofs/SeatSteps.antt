@@ -1,40 +1,12 @@
 -- The two general lemmas: a step of a pass's own seat, and a step of the queue's seat while it is joined with a pass, keep the rule.
 use Rattle.std.proofs.Common.{◌≡◌, ◌≢◌, ℕ, ◌<◌, ◌≤◌, false, cond, not, ◌&&◌, List, [], ◌∷◌, length, set, Option, Some, refl, sym, ap, ◌∙◌, subst, ⊎_elim, arith, true}
-use Rattle.std.proofs.lemmas.Bool.{or_right}
-use mathlib.Core.Option.{some}
-use lib.ListN.{get_elem?}
-use Rattle.atomic_table.proofs.Lists.{set_here, set_else}
-use Rattle.irp_core.specs.declared.ids.PassId.{PassId}
-use Rattle.irp_core.specs.declared.step.Made.{Made}
-use Rattle.irp_core.specs.Steps.{is}
-use Rattle.irp_core.specs.declared.ids.IrpLife.{IrpLife}
-use Rattle.irp_core.specs.declared.inside.Inside.{Inside}
+use Rattle.csq_words.proofs.Imports.{or_right, some, get_elem?, set_here, set_else, PassId, Made, is, own, IrpLife, Inside, inside, inside_after, has_lock, listed, Size, IsRun, PassRecord, QueueRecord, View, calls_of, IsExtendedBy, view_of, pass_view, was_armed, present_life, life_grows, IrpId, Done, Reusing, Nothing, Looked, StatusRenewed, RoutineRenewed, IsPlaced, inserts, lists, passes_given, HasWords, is_done, in_flight, AreTrueOf, IsHistoryOf, MayRenew, IsReuse, AreStored, HaveBegun, IsRecord, IsOut, IsNobody, HasBack, BackOnce, IsPrefixOf, Fits, SeatHasRecord, RuleHoldsBy, again, same_pass-not, own-other}
 use Rattle.irp_core.specs.declared.inside.Inside.TheVariants.{Rearmed, FlagSeenAgain}
-use Rattle.irp_core.specs.Inside.{inside, inside_after, has_lock}
-use Rattle.irp_core.specs.Owners.{listed}
-use Rattle.irp_core.specs.Runs.{Size, IsRun}
-use Rattle.csq_words.specs.declared.views.PassRecord.{PassRecord}
-use Rattle.csq_words.specs.declared.views.QueueRecord.{QueueRecord}
 use Rattle.csq_words.specs.declared.views.Prefix.{Prefix}
-use Rattle.csq_words.specs.declared.views.View.{View}
-use Rattle.csq_words.specs.History.{calls_of, IsExtendedBy}
-use Rattle.csq_words.specs.Records.{view_of, pass_view}
-use Rattle.irp_core.specs.Steps.{own}
-use Rattle.irp_core.specs.Words.{was_armed}
-use Rattle.irp_core.specs.Lives.{present_life}
-use Rattle.irp_core.proofs.Lives.{life_grows}
-use Rattle.irp_core.specs.declared.ids.IrpId.{IrpId}
-use Rattle.irp_core.specs.declared.step.Kind.TheVariants.{Done}
-use Rattle.csq_words.specs.declared.views.Reusing.{Reusing}
-use Rattle.csq_words.specs.declared.views.Reusing.TheVariants.{Nothing, Looked, StatusRenewed, RoutineRenewed}
 use Rattle.irp_core.specs.Lock.{needs_lock}
-use Rattle.csq_words.specs.Recorded.{IsPlaced}
 use Rattle.csq_words.specs.Recorded.IsPlaced.{unlocked as without}
-use Rattle.csq_words.specs.Rule.{inserts, lists, passes_given, HasWords, is_done, in_flight, AreTrueOf, IsHistoryOf, MayRenew, IsReuse, AreStored, HaveBegun, IsRecord, IsOut, IsNobody, HasBack, BackOnce, IsPrefixOf, Fits, SeatHasRecord, RuleHoldsBy, again}
 use Rattle.csq_words.proofs.Facts.{off, extended_more}
-use Rattle.irp_core.proofs.Names.{same_pass-not}
 use Rattle.csq_words.proofs.Named.{by_pass}
-use Rattle.irp_core.proofs.Own.{own-other}
 use Rattle.csq_words.proofs.Indexes.{at_below, at_once}
 use Rattle.csq_words.proofs.Truths.{truths_stay}
 use Rattle.csq_words.proofs.Keeping.{none_is, all_set, present_else, apart_from, only_joined}
@@ -105,7 +77,7 @@ own_step size words words' views run run' queue_at queue joined seat id r r' k a
           true_of = p.true_of;
           orderly = k.agrees.history_is.orderly;
           given_is = λ i n. k.agrees.history_is.given_is i n ∙ sym (p.given_same i);
-          given_back = λ n i h. k.agrees.history_is.given_back n i (by_pass (again (inside run n) i ≡ true) n r.pass
+          putting_back = λ n i h. k.agrees.history_is.putting_back n i (by_pass (again (inside run n) i ≡ true) n r.pass
               (λ e. off (sym p.unlocked ∙ (ap (λ (x : PassId). has_lock (inside run' x)) (sym e) ∙ again_locks (inside run' n) i h)))
               (λ ne. ap (λ s. again s i) (sym (p.elsewhere n ne).1) ∙ h));
           owners = k.agrees.history_is.owners;

@@ -2,23 +2,7 @@
 use Rattle.std.proofs.Common.{◌≡◌, ℕ, [], Option, Some, None, refl, sym, ap, ◌∙◌, subst}
 use Rattle.std.specs.Option.{option_map}
 use Rattle.atomic_table.specs.Seated.{TableId}
-use Rattle.irp_core.specs.declared.step.Kind.{Kind}
-use Rattle.irp_core.specs.declared.step.Kind.TheVariants.{Test}
-use Rattle.csq_words.specs.declared.calls.Call.{Call}
-use Rattle.csq_words.specs.declared.views.View.{View}
-use Rattle.csq_words.specs.declared.views.PassRecord.{PassRecord}
-use Rattle.csq_words.specs.declared.views.QueueRecord.{QueueRecord}
-use Rattle.csq_words.specs.Words.{bit_in}
-use Rattle.csq_words.specs.Records.{view_of, pass_view, receipt_view, prefix_view, queue_in, pass_in, queue_of, with_run, with_reusing}
-use Rattle.irp_core.specs.declared.ids.IrpId.{IrpId}
-use Rattle.irp_core.specs.Runs.{Size}
-use Rattle.irp_core.specs.declared.ids.IrpLife.{IrpLife}
-use Rattle.csq_words.specs.declared.views.Reusing.TheVariants.{StatusRenewed, RoutineRenewed}
-use Rattle.csq_words.specs.Queue.{current}
-use Rattle.csq_words.specs.Calls.{after_step, after_look, after_renewal}
-use Rattle.csq_words.specs.Plays.{any_step, SeatView, Makes, IsFound, FindsUnmarked, Looks, RenewsStatus, RenewsRoutine, RenewsCancel}
-use Rattle.csq_words.specs.Rule.{HasObserved}
-use Rattle.csq_words.specs.Seats.{WordSeat, QueueSeatState, PassSeatState, queue_seat_of, HasQueue, IsQueueSeat, pass_seat_of, IsPassSeat, receipt_seat_of, IsReceipt, SeenState, seen_seat_of, IsSeenSeat, pass_record, pass_at, IsHere, joined_record, IsJoined, with_view}
+use Rattle.csq_words.proofs.Imports.{Kind, Test, Call, View, PassRecord, QueueRecord, bit_in, view_of, pass_view, receipt_view, prefix_view, queue_in, pass_in, queue_of, with_run, with_reusing, IrpId, Size, IrpLife, StatusRenewed, RoutineRenewed, current, after_step, after_look, after_renewal, any_step, SeatView, Makes, IsFound, FindsUnmarked, Looks, RenewsStatus, RenewsRoutine, RenewsCancel, HasObserved, WordSeat, QueueSeatState, PassSeatState, queue_seat_of, HasQueue, IsQueueSeat, pass_seat_of, IsPassSeat, receipt_seat_of, IsReceipt, SeenState, seen_seat_of, IsSeenSeat, pass_record, pass_at, IsHere, joined_record, IsJoined, with_view}
 
 -- a pass's seat that is here
 pub here : {o : Option WordSeat} {s : WordSeat} {p : Option PassSeatState} {t : TableId} → o ≡ Some s → option_map pass_seat_of o ≡ p → IsPassSeat o → IsHere t p

@@ -1,58 +1,13 @@
 -- Where every pass is back, each life that has begun has a story.
 use Rattle.std.proofs.Common.{◌≡◌, ◌⊎◌, ℕ, ◌<◌, ◌≤◌, Bool, true, false, cond, not, ◌&&◌, ◌||◌, List, [], ◌∷◌, ◌++◌, map, length, Some, None, inl, inr, ⊎_elim, refl, sym, ap, ◌∙◌, subst, arith}
-use Rattle.std.specs.List.{list_any, find}
 use Rattle.std.specs.Option.{option_map}
-use mathlib.Core.Option.{some-injective}
-use lib.ListN.{get_elem?}
-use Rattle.std.proofs.lemmas.Bool.{cases_lt, false_from_ne_true, or_right}
-use Rattle.irp_core.specs.declared.ids.FileId.{FileId}
-use Rattle.irp_core.specs.declared.ids.IrpId.{IrpId}
-use Rattle.irp_core.specs.declared.ids.PassId.{PassId}
-use Rattle.irp_core.specs.declared.status.NtStatus.{NtStatus}
-use Rattle.irp_core.specs.declared.status.TheConstants.NtStatus.{CANCELLED}
-use Rattle.irp_core.specs.declared.step.Kind.TheVariants.{Arm, Done, Rearm}
-use Rattle.irp_core.specs.declared.step.Made.{Made}
-use Rattle.irp_core.specs.declared.standing.Standing.{Standing}
-use Rattle.irp_core.specs.declared.standing.Standing.TheVariants.{Home, Waiting, Owed, Held, Finished}
-use Rattle.irp_core.specs.Steps.{number, life_of, same_irp, is, by, own}
-use Rattle.irp_core.specs.declared.ids.IrpLife.{IrpLife}
-use Rattle.irp_core.specs.Words.{flagged, was_armed}
-use Rattle.irp_core.specs.Owners.{claims, dones, listed}
-use Rattle.irp_core.specs.Lives.{present_life, IsPresent, HasBegun}
-use Rattle.irp_core.specs.Runs.{Size, IsRun}
-use Rattle.irp_core.proofs.Names.{same_irp-refl, same_irp-eq, same_pass-refl, same_some}
-use Rattle.irp_core.proofs.Rows.{Row}
-use Rattle.irp_core.proofs.Owning.{stands, rest_flagged}
+use Rattle.csq_words.proofs.Imports.{list_any, find, some-injective, get_elem?, cases_lt, false_from_ne_true, or_right, FileId, IrpId, PassId, NtStatus, CANCELLED, Arm, Done, Rearm, Made, Standing, Home, Waiting, Owed, Held, Finished, number, life_of, same_irp, is, by, own, IrpLife, flagged, was_armed, claims, dones, listed, present_life, IsPresent, HasBegun, Size, IsRun, same_irp-refl, same_irp-eq, same_pass-refl, same_some, Row, stands, rest_flagged, removed_in-own, inserted_listed, inside, Inside, removed, Place, Peek, put_at, matches, Pending, Cancelled, Refused, Event, FlagSeen, Mark, Insert, RemoveNext, Remove, CloseFile, Reuse, PutBack, Entry, Completion, PassRecord, QueueRecord, Queued, QueueState, current, has_irp, has_entry, first_unmarked, without, new_entry, after_event, end_of, MayStand, IsOrderly, OwnersPutBack, IsGone, puts_back, gives, given_to, queue_of, inside_of, removed_in, status_recorded, is_done, was_set, was_put_back, IsTrueOf, AreTrueOf, inserts, lists, again, RecordsAgree, FinalWords, final_status, IsRecordedBack, AllBack, IsFinal, InLife, any_filtered, inside_of-own}
 use Rattle.irp_core.proofs.Resting.{unknown_stands}
-use Rattle.irp_core.proofs.Next.{inserted_listed}
 use Rattle.irp_core.proofs.Next as growing
-use Rattle.irp_core.specs.Inside.{inside}
-use Rattle.irp_core.specs.declared.inside.Inside.{Inside}
-use Rattle.irp_core.specs.declared.inside.Inside.TheVariants.{Nothing, Armed, FlagSeen, Removing, Cancelling, Rearmed, FlagSeenAgain}
-use Rattle.irp_core.specs.Completion.{removed}
-use Rattle.csq_list.specs.declared.entry.Place.{Place}
-use Rattle.csq_list.specs.declared.entry.Peek.{Peek}
-use Rattle.csq_list.specs.Listing.{put_at}
-use Rattle.csq_list.specs.Searches.{matches}
-use Rattle.csq_words.specs.declared.views.InsertReply.TheVariants.{Pending, Cancelled, Refused}
-use Rattle.csq_words.specs.declared.views.Event.{Event}
+use Rattle.irp_core.specs.declared.inside.Inside.TheVariants.{Nothing, Armed, FlagSeen, Removing, Cancelling}
 use Rattle.csq_words.specs.declared.views.Event.TheVariants as event
-use Rattle.csq_words.specs.declared.views.Event.TheVariants.{FlagSeen, Mark, Insert, RemoveNext, Remove, CloseFile, Reuse, PutBack}
-use Rattle.csq_words.specs.declared.views.Entry.{Entry}
-use Rattle.csq_words.specs.declared.views.Completion.{Completion}
-use Rattle.csq_words.specs.declared.views.PassRecord.{PassRecord}
-use Rattle.csq_words.specs.declared.views.QueueRecord.{QueueRecord}
-use Rattle.csq_words.specs.Queue.{Queued, QueueState, current, has_irp, has_entry, first_unmarked, without, new_entry, after_event}
-use Rattle.csq_words.specs.History.{end_of, MayStand, IsOrderly, OwnersPutBack, IsGone, puts_back, gives, given_to}
-use Rattle.csq_words.specs.Records.{queue_of}
-use Rattle.irp_core.specs.Own.{inside_of, removed_in}
-use Rattle.csq_words.specs.Plays.{status_recorded}
-use Rattle.csq_words.specs.Rule.{is_done, was_set, was_put_back, IsTrueOf, AreTrueOf, inserts, lists, again, RecordsAgree}
-use Rattle.csq_words.specs.Finals.{FinalWords, final_status, IsRecordedBack, AllBack, IsFinal, InLife}
 use Rattle.csq_words.specs.Stories.{accepts, inserted_by, IsOneOf, HasRecorded, Story, IsGivenOnce, EachStayHasAStory, NoIrpHasTwoStories, StoriesHaveTheStatusRecorded}
 use Rattle.csq_words.proofs.Facts.{off, given_claim, dones_some, done_over}
-use Rattle.irp_core.proofs.Own.{any_filtered, inside_of-own}
-use Rattle.irp_core.proofs.Owning.{removed_in-own}
 use Rattle.csq_words.proofs.Truths.{left}
 use Rattle.csq_words.proofs.Closing.{no_zero, cancelled_is, keeps_records}
 use Rattle.csq_words.proofs.Entries.{has_entry-marking, has_entry-placed, has_entry-without}
@@ -372,13 +327,10 @@ has_status_recorded size words q f finals i story r back status said =
 
 -- what is in an insert or a put-back is listed
 in_insert_listed : (s : Inside) (i : IrpLife) → lists s i ≡ true → growing.inserts i s ≡ true
-in_insert_listed (Armed j) i h = h
-in_insert_listed (FlagSeen j) i h = h
-in_insert_listed (Rearmed j) i h = h
-in_insert_listed (FlagSeenAgain j) i h = h
 in_insert_listed Nothing i h = off h
 in_insert_listed Removing i h = off h
 in_insert_listed (Cancelling j) i h = off h
+in_insert_listed x i h = h
 
 insert_lists : (s : Inside) (i : IrpLife) → lists s i ≡ false → inserts s i ≡ false
 insert_lists (Armed j) i h = h
@@ -391,10 +343,7 @@ module _ (ever set : Bool) (cl : List Made) (ow ho dn : PassId → Bool) (ends :
   row_done_claim (Finished status o) h p d =
       let same : d.0 ≡ h.dones_are.0 = cc (d.1, h.dones_are.1) in
       (h.claims_are.0, h.claims_are.1, h.claims_are.2 ∙ (sym h.dones_are.2 ∙ (ap (λ (m : Made). m.pass) (sym same) ∙ d.2)))
-  row_done_claim Home h p d = absurd (cc (d.1, h.dones_are))
-  row_done_claim Waiting h p d = absurd (cc (d.1, h.dones_are))
-  row_done_claim (Owed o) h p d = absurd (cc (d.1, h.dones_are))
-  row_done_claim (Held o status) h p d = absurd (cc (d.1, h.dones_are))
+  row_done_claim x h p d = absurd (cc (d.1, h.dones_are))
 
 module _ (run : List Made) (i : IrpLife) (used entry : Bool) (inserted given : List PassId) where
   inserted_once : SoFar run i used entry inserted given → length inserted ≤ 1

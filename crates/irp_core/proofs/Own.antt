@@ -1,16 +1,7 @@
 -- A pass's own steps in a run.
 use Rattle.std.proofs.Common.{◌≡◌, ◌≢◌, Bool, true, false, cond, not, ◌&&◌, ◌||◌, List, [], ◌∷◌, filter, refl, ap, ◌∙◌}
 use Rattle.std.proofs.Math.Bool.{and-false, and-true}
-use Rattle.std.proofs.lemmas.Bool.{or_right}
-use Rattle.std.specs.List.{list_any}
-use Rattle.irp_core.specs.declared.ids.PassId.{PassId}
-use Rattle.irp_core.specs.declared.step.Kind.TheVariants.{Disarm, Flag, Take, Out, Done, Rearm}
-use Rattle.irp_core.specs.declared.step.Made.{Made}
-use Rattle.irp_core.specs.Steps.{is, found_one, by, own, since}
-use Rattle.irp_core.specs.declared.ids.IrpLife.{IrpLife}
-use Rattle.irp_core.specs.Words.{flagged}
-use Rattle.irp_core.specs.Inside.{inside, inside_after, in_insert}
-use Rattle.irp_core.specs.Owners.{owes, holds}
+use Rattle.irp_core.proofs.Imports.{or_right, list_any, PassId, Disarm, Flag, Take, Out, Done, Rearm, Made, is, found_one, by, own, since, IrpLife, flagged, inside, inside_after, in_insert, owes, holds}
 use Rattle.irp_core.proofs.Names.{same_pass-is, same_pass-not}
 use Rattle.irp_core.specs.Own.{inside_of, owes_in, holds_in, removed_in}
 

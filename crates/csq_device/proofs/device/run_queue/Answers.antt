@@ -1,7 +1,5 @@
 use Rattle.std.proofs.Common.{◌≡◌, arith, ◌-◌, ◌∷◌, ◌∙◌, true, false, true≢false, List, sym, ap, subst}
-use Rattle.csq_words.specs.declared.views.PassRecord.{PassRecord}
-use Rattle.csq_queue.specs.Rests.{IsRestOf, HoldsNothing, FirstAreBack}
-use Rattle.csq_device.specs.Rests.{completed_count}
+use Rattle.csq_device.proofs.Imports.{PassRecord, IsRestOf, HoldsNothing, FirstAreBack, completed_count}
 use Rattle.csq_device.proofs.Shifts.{handed_over, all_back}
 use Rattle.csq_device.proofs.device.run_queue.Goals as goal
 

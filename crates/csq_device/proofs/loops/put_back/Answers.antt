@@ -1,7 +1,5 @@
 use Rattle.std.proofs.Common.{◌+◌, sym, subst, arith}
-use Rattle.irp_core.specs.declared.status.TheConstants.NtStatus.{CANCELLED}
-use Rattle.csq_device.specs.Work.{HasCompleted}
-use Rattle.csq_device.specs.Turns.{PutsEachBack}
+use Rattle.csq_device.proofs.Imports.{CANCELLED, HasCompleted, PutsEachBack}
 use Rattle.csq_device.proofs.Working.{completed_more}
 use Rattle.csq_device.proofs.PuttingBack.{backs_more}
 use Rattle.csq_device.proofs.loops.put_back.Goals as goal

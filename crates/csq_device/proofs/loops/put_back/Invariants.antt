@@ -1,7 +1,5 @@
 use Rattle.std.proofs.Common.{◌≤◌}
-use Rattle.irp_core.specs.declared.status.TheConstants.NtStatus.{CANCELLED}
-use Rattle.csq_device.specs.Work.{HasCompleted}
-use Rattle.csq_device.specs.Turns.{PutsEachBack}
+use Rattle.csq_device.proofs.Imports.{CANCELLED, HasCompleted, PutsEachBack}
 use Rattle.csq_device.proofs.loops.put_back.Given as goal
 
 -- what was completed so far, at most one put-back a turn, and what each turn did

@@ -1,8 +1,6 @@
 use Rattle.std.proofs.Common.{◌++◌, List, [], ◌∷◌, map, replicate, sym, ap, ◌∙◌, arith, append_assoc, zero-add}
-use Rattle.std.specs.List.{range_with_len}
 use Rattle.std.proofs.lemmas.List.FromFn.{map-range_with_len_more}
-use Rattle.csq_device.specs.declared.roles.Role.{Role}
-use Rattle.csq_device.specs.declared.roles.Role.TheVariants.{Submitter, Worker, Canceller}
+use Rattle.csq_device.proofs.Imports.{range_with_len, Role, Submitter, Worker, Canceller}
 use Rattle.csq_device.proofs.roles.roles_of.Goals as goal
 
 pub loop-first-preserved : goal.loop-first-preserved

@@ -1,7 +1,5 @@
 use Rattle.std.proofs.Common.{◌≡◌, ◌+◌, [], ◌∷◌, ◌++◌, ◌∙◌, length, suc, vec_items, vec_len, sym, ap, subst, arith, rules}
-use Rattle.std.specs.Vec.Iter.{into_iter_items}
-use Rattle.csq_device.specs.Duties.{AreNumbered, cancels_by, completed_by, duties_of, inserts_by, put_backs_by, removals_by, total_by}
-use Rattle.csq_device.specs.Served.{AreReceipts, completions_of}
+use Rattle.csq_device.proofs.Imports.{into_iter_items, AreNumbered, cancels_by, completed_by, duties_of, inserts_by, put_backs_by, removals_by, total_by, AreReceipts, completions_of}
 use Rattle.csq_device.proofs.Shifts.{completions_of-push, one_more_served}
 use Rattle.csq_device.proofs.threads.join_all.Goals as goal
 

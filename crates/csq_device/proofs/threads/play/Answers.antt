@@ -1,8 +1,6 @@
 use Rattle.std.proofs.Common.{ap, ◌∙◌, sym, subst, arith}
-use Rattle.csq_queue.specs.Named.{queue_size}
-use Rattle.csq_device.specs.Duties.{AreCallsBy}
+use Rattle.csq_device.proofs.Imports.{queue_size, AreCallsBy, Role}
 use Rattle.csq_device.specs.declared.calls.Calls.{Calls}
-use Rattle.csq_device.specs.declared.roles.Role.{Role}
 use Rattle.csq_device.proofs.Planned.{submitter_calls, canceller_calls, busy_worker_calls}
 use Rattle.csq_device.proofs.threads.play.Goals as goal
 

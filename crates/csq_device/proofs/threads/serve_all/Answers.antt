@@ -1,8 +1,6 @@
 use Rattle.std.proofs.Common.{◌+◌, ◌∙◌, List, sym, ap, subst, rules}
 use Rattle.csq_device.specs.declared.roles.Duty.{Duty}
-use Rattle.csq_device.specs.declared.roles.Role.{Role}
-use Rattle.csq_device.specs.Duties.{AreCallsOfAll, AreFew, AreNumbered, duties_from}
-use Rattle.csq_device.specs.Turns.{roles_in}
+use Rattle.csq_device.proofs.Imports.{Role, AreCallsOfAll, AreFew, AreNumbered, duties_from, roles_in}
 use Rattle.csq_device.proofs.Planned.{calls_in, calls_few, duties-numbered}
 use Rattle.csq_device.proofs.threads.serve_all.Goals as goal
 

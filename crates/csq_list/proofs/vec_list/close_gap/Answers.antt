@@ -1,6 +1,5 @@
 use Rattle.std.proofs.Common.{◌≡◌, ap, length, ◌+◌, ◌-◌, take, drop, subst, sym, ◌∙◌, rules, arith}
-use Rattle.std.proofs.lemmas.List.{take_rest}
-use Rattle.csq_list.specs.Positions.{HasPositions, with_positions}
+use Rattle.csq_list.proofs.Imports.{take_rest, HasPositions, with_positions}
 use Rattle.csq_list.proofs.Positions.{closed-before, closed-later, listed-known, length-with_positions}
 use Rattle.csq_list.proofs.vec_list.close_gap.Given.{Over}
 use Rattle.csq_list.proofs.vec_list.close_gap.Goals as goal

@@ -1,9 +1,7 @@
 use Rattle.std.proofs.Common.{◌≡◌, ap, length, slice_range, sym, ◌∙◌, rules, [], arith}
-use Rattle.std.proofs.lemmas.List.{take_rest}
 use Rattle.std.proofs.lemmas.Grind.{common_steps}
 use Rattle.std.specs.VecDeque.{deque_len}
-use Rattle.std.specs.VecDeque.Iter.{deque_iter_rest}
-use Rattle.csq_list.specs.Searches.{first_match}
+use Rattle.csq_list.proofs.Imports.{take_rest, deque_iter_rest, first_match}
 use Rattle.csq_list.proofs.Finding.{match-here, match-later}
 use Rattle.csq_list.proofs.vec_list.first_that_matches.Goals as goal
 

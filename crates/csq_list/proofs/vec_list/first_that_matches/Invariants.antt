@@ -1,6 +1,5 @@
 use Rattle.std.proofs.Common.{◌≡◌, drop}
-use Rattle.std.specs.VecDeque.Iter.{deque_iter_rest}
-use Rattle.csq_list.specs.Searches.{first_match}
+use Rattle.csq_list.proofs.Imports.{deque_iter_rest, first_match}
 use Rattle.csq_list.proofs.vec_list.first_that_matches.Given as goal
 
 -- the first match is among the rest

@@ -1,9 +1,5 @@
 use Rattle.std.proofs.Common.{◌<◌, ap, length, set, length-set, Some, sym, ◌∙◌, subst, arith}
-use Rattle.std.specs.List.{All}
-use Rattle.std.specs.VecDeque.Iter.{deque_iter_rest}
-use Rattle.std.proofs.lemmas.List.Elements.{All-tail}
-use Rattle.csq_list.specs.declared.entry.Entry.{Entry}
-use Rattle.csq_list.specs.Positions.{with_positions}
+use Rattle.csq_list.proofs.Imports.{All, deque_iter_rest, All-tail, Entry, with_positions}
 use Rattle.csq_list.proofs.vec_list.write_each.Goals as goal
 
 pub loop-entry-preserved : goal.loop-entry-preserved

@@ -1,11 +1,6 @@
 use Rattle.std.proofs.Common.{◌≡◌, ℕ, ◌∷◌, ◌∙◌, List, set, ap, sym, subst, arith}
-use Rattle.std.proofs.lemmas.List.{set-get_or}
-use mathlib.Core.Option.{some}
-use lib.ListN.{get_elem?, get_or}
-use Rattle.csq_words.specs.declared.views.PassRecord.{PassRecord}
-use Rattle.csq_words.specs.Records.{with_shown}
+use Rattle.csq_queue.proofs.Imports.{set-get_or, some, get_elem?, get_or, PassRecord, with_shown, OpenState}
 use Rattle.csq_words.proofs.Indexes.{at_below}
-use Rattle.csq_queue.specs.Opens.{OpenState}
 use Rattle.csq_queue.proofs.Backing.{seen_more}
 use Rattle.csq_queue.proofs.back.see.Goals as goal
 

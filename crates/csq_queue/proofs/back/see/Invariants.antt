@@ -1,7 +1,5 @@
 use Rattle.std.proofs.Common.{◌≡◌, ℕ, ◌<◌}
-use mathlib.Core.Option.{some}
-use lib.ListN.{get_elem?}
-use Rattle.csq_words.specs.declared.views.PassRecord.{PassRecord}
+use Rattle.csq_queue.proofs.Imports.{some, get_elem?, PassRecord}
 use Rattle.csq_queue.proofs.back.see.Given as goal
 
 -- the receipts that were seen are among what was shown

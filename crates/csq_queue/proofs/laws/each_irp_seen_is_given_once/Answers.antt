@@ -1,8 +1,6 @@
 use Rattle.std.proofs.Common.{ap}
-use Rattle.csq_words.specs.Rule.{again}
+use Rattle.csq_queue.proofs.Imports.{again, queue_size, queue_with}
 use Rattle.csq_words.proofs.Stories.{is_given_once}
-use Rattle.csq_queue.specs.Named.{queue_size}
-use Rattle.csq_queue.specs.Told.{queue_with}
 use Rattle.csq_queue.proofs.laws.each_irp_seen_is_given_once.Goals as goal
 
 pub returns : goal.returns

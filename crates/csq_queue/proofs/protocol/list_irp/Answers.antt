@@ -1,139 +1,95 @@
 use Rattle.std.proofs.Common.{◌≡◌, [], ◌∷◌, None, Ok, inl, inr, refl, sym, ap, ◌∙◌, subst, rules}
-use Rattle.irp_core.specs.declared.ids.IrpLife.{IrpLife}
-use Rattle.irp_core.specs.declared.step.Kind.TheVariants.{Arm, Disarm}
-use Rattle.csq_list.specs.Listing.{Listing}
-use Rattle.csq_list.specs.Searches.{is_listed}
-use Rattle.csq_list.proofs.Keeping.{listed-put}
+use Rattle.csq_queue.proofs.Imports.{IrpLife, Limits, QueueSeatState, Arm, Disarm, Listing, is_listed, listed-put, FlagSeen, Mark, Insert, Pending, Cancelled, after_step, refusal, end_of, queue_of, with_run, joined_record, with_view, bit_in, limits_on, MakesSteps, insert_steps, IsNew}
 use Rattle.csq_words.specs.declared.calls.Call.TheVariants.{Insert as InsertCall}
-use Rattle.csq_words.specs.declared.views.Event.TheVariants.{FlagSeen, Mark, Insert}
-use Rattle.csq_words.specs.declared.views.InsertReply.TheVariants.{Pending, Cancelled}
-use Rattle.csq_words.specs.Calls.{after_step}
-use Rattle.csq_words.specs.Queue.{refusal}
-use Rattle.csq_words.specs.History.{end_of}
-use Rattle.csq_words.specs.Records.{queue_of, with_run}
-use Rattle.csq_words.specs.Seats.{joined_record, with_view}
-use Rattle.csq_words.specs.Words.{bit_in}
-use Rattle.csq_queue.specs.Opens.{limits_on}
 use Rattle.csq_queue.specs.declared.tokens.InsertAnswer.TheVariants as answer
-use Rattle.csq_queue.specs.Steps.{MakesSteps, insert_steps}
-use Rattle.csq_queue.specs.Told.{IsNew}
 use Rattle.csq_queue.proofs.Presence.{present_is}
-use Rattle.csq_queue.proofs.Inserting.{it, armed, tested, disarmed, accepted_irp, insert_pending, insert_missed, insert_cancelled, pending_makes, missed_makes, cancelled_makes, cancelled_new, was_clear}
+use Rattle.csq_queue.proofs.Inserting.{it, armed, disarmed, accepted_irp, insert_pending, insert_missed, insert_cancelled, pending_makes, missed_makes, cancelled_makes, cancelled_new, was_clear}
+use Rattle.csq_queue.proofs.protocol.list_irp.Given.{Over}
 use Rattle.csq_queue.proofs.protocol.list_irp.Goals as goal
+use Rattle.csq_queue.proofs.protocol.list_irp.Goals.{After-test, After-disarm}
+
+-- the insert has armed the IRP and tested its flag
+module _ (g : Over) (c : After-test g) where
+  abbrev old : QueueSeatState
+  old = c.args.seat.now
+
+  abbrev limits : Limits
+  limits = limits_on c.args.words.now (g.L.PendingList.listing c.args.list.now)
+
+  abbrev name : IrpLife
+  name = it old c.args.irp
+
+  accepted : refusal limits (queue_of old.queue) c.args.irp c.args.file ≡ None
+  accepted = search rules
+
+  named : c.present-current.result ≡ name
+  named = present_is limits (g.L.PendingList.listing c.args.list.now) c.args.kept.now (queue_of old.queue) c.requires.entered.list_is c.args.irp c.present-current.result (accepted_irp limits (queue_of old.queue) c.args.irp c.args.file accepted).0 c.present-current.ensures
+
+  to_armed : c.arm.new.self ≡ armed c.args.irp c.args.file c.args.place (bit_in c.arm.result) c.arm.new.self.queue.run old
+  to_armed = c.arm.ensures.step ∙ (λ k. with_view (after_step (InsertCall c.args.irp c.args.file c.args.place) (Arm (named k)) (bit_in c.arm.result) (with_run c.arm.new.self.queue.run old.queue) (joined_record old)) old)
+
+  routine_clear : bit_in c.arm.result ≡ 0
+  routine_clear = was_clear c.present-current.result.life.0 c.arm.result c.arm.ensures.found
+
+pub is_set-requires-2 : goal.is_set-requires-2
+is_set-requires-2 g c = search rules
+
+-- the flag was set, and it has made its exchange
+to_disarmed : (g : Over) (c : After-disarm g) → c.disarm.new.self ≡ disarmed c.args.irp (it c.args.seat.now c.args.irp) c.args.file c.args.place (bit_in c.disarm.result) c.disarm.new.self.queue.run c.test.new.self
+to_disarmed g c = c.disarm.ensures.step ∙ (λ k. with_view (after_step (InsertCall c.args.irp c.args.file c.args.place) (Disarm (named g (goal.at.is_set-requires-2 g c).After-test k)) (bit_in c.disarm.result) (with_run c.disarm.new.self.queue.run c.test.new.self.queue) (joined_record c.test.new.self)) c.test.new.self)
 
 pub returns-then-not-is_set-clause-accepted : goal.returns-then-not-is_set-clause-accepted
 returns-then-not-is_set-clause-accepted g c =
-    let old = c.args.seat.now in
-    let v = c.args.kept.now in
-    let s = g.L.PendingList.listing c.args.list.now in
-    let l = limits_on c.args.words.now s in
-    let n = c.args.irp in
-    let none' : refusal l (queue_of old.queue) n c.args.file ≡ None = search rules in
-    let cur : c.present-current.result ≡ it old n = present_is l s v (queue_of old.queue) c.requires.entered.list_is n c.present-current.result (accepted_irp l (queue_of old.queue) n c.args.file none').0 c.present-current.ensures in
-    let to_z : c.arm.new.self ≡ armed n c.args.file c.args.place (bit_in c.arm.result) c.arm.new.self.queue.run old = c.arm.ensures.step ∙ (λ k. with_view (after_step (InsertCall n c.args.file c.args.place) (Arm (cur k)) (bit_in c.arm.result) (with_run c.arm.new.self.queue.run old.queue) (joined_record old)) old) in
-    let to_y : c.test.new.self ≡ tested n c.args.file c.args.place (bit_in c.test.result) c.test.new.self.queue.run c.arm.new.self = c.test.ensures.step in (
-      Insert n c.args.file c.args.place Pending ∷ [],
-      (cur, inl refl),
-      insert_pending c.requires.entered n c.args.file c.args.place none' (g.L.PendingList.listing c.insert_ex.new.self) (search rules) c.set_file.new.self c.set_file.ensures (bit_in c.arm.result) c.arm.new.self c.test.new.self to_z (bit_in c.test.result) (c.is_set.ensures.clear c.if-not-is_set.true) to_y (c.test.new.self.queue.run, c.test.ensures.told.told),
+    let t = (goal.at.returns-then-not-is_set-clause-accepted g c).After-test in (
+      Insert c.args.irp c.args.file c.args.place Pending ∷ [],
+      (named g t, inl refl),
+      insert_pending c.requires.entered c.args.irp c.args.file c.args.place (accepted g t) (g.L.PendingList.listing c.insert_ex.new.self) (search rules) c.set_file.new.self c.set_file.ensures (bit_in c.arm.result) c.arm.new.self c.test.new.self (to_armed g t) (bit_in c.test.result) (c.is_set.ensures.clear c.if-not-is_set.true) c.test.ensures.step (c.test.new.self.queue.run, c.test.ensures.told.told),
     )
 
 pub returns-then-not-is_set-2-clause-accepted : goal.returns-then-not-is_set-2-clause-accepted
 returns-then-not-is_set-2-clause-accepted g c =
-    let old = c.args.seat.now in
-    let v = c.args.kept.now in
-    let s = g.L.PendingList.listing c.args.list.now in
-    let l = limits_on c.args.words.now s in
-    let n = c.args.irp in
-    let none' : refusal l (queue_of old.queue) n c.args.file ≡ None = search rules in
-    let cur : c.present-current.result ≡ it old n = present_is l s v (queue_of old.queue) c.requires.entered.list_is n c.present-current.result (accepted_irp l (queue_of old.queue) n c.args.file none').0 c.present-current.ensures in
-    let to_z : c.arm.new.self ≡ armed n c.args.file c.args.place (bit_in c.arm.result) c.arm.new.self.queue.run old = c.arm.ensures.step ∙ (λ k. with_view (after_step (InsertCall n c.args.file c.args.place) (Arm (cur k)) (bit_in c.arm.result) (with_run c.arm.new.self.queue.run old.queue) (joined_record old)) old) in
-    let to_y : c.test.new.self ≡ tested n c.args.file c.args.place (bit_in c.test.result) c.test.new.self.queue.run c.arm.new.self = c.test.ensures.step in
-    let one = c.is_set.ensures.set c.if-not-is_set.false in
-    let to_x : c.disarm.new.self ≡ disarmed n (it old n) c.args.file c.args.place (bit_in c.disarm.result) c.disarm.new.self.queue.run c.test.new.self = c.disarm.ensures.step ∙ (λ k. with_view (after_step (InsertCall n c.args.file c.args.place) (Disarm (cur k)) (bit_in c.disarm.result) (with_run c.disarm.new.self.queue.run c.test.new.self.queue) (joined_record c.test.new.self)) c.test.new.self) in (
-      Mark (it old n) ∷ Insert n c.args.file c.args.place Pending ∷ [],
-      (cur, inr refl),
-      insert_missed c.requires.entered n c.args.file c.args.place none' (g.L.PendingList.listing c.insert_ex.new.self) (search rules) c.set_file.new.self c.set_file.ensures (bit_in c.arm.result) c.arm.new.self c.test.new.self to_z (bit_in c.test.result) one to_y c.disarm.new.self (bit_in c.disarm.result) (c.is_set-2.ensures.clear c.if-not-is_set-2.true) to_x (c.disarm.new.self.queue.run, c.disarm.ensures.told.told),
+    let t = (goal.at.returns-then-not-is_set-2-clause-accepted g c).After-test in
+    let d = (goal.at.returns-then-not-is_set-2-clause-accepted g c).After-disarm in (
+      Mark (name g t) ∷ Insert c.args.irp c.args.file c.args.place Pending ∷ [],
+      (named g t, inr refl),
+      insert_missed c.requires.entered c.args.irp c.args.file c.args.place (accepted g t) (g.L.PendingList.listing c.insert_ex.new.self) (search rules) c.set_file.new.self c.set_file.ensures (bit_in c.arm.result) c.arm.new.self c.test.new.self (to_armed g t) (bit_in c.test.result) (c.is_set.ensures.set c.if-not-is_set.false) c.test.ensures.step c.disarm.new.self (bit_in c.disarm.result) (c.is_set-2.ensures.clear c.if-not-is_set-2.true) (to_disarmed g d) (c.disarm.new.self.queue.run, c.disarm.ensures.told.told),
     )
 
 pub returns-clause-accepted : goal.returns-clause-accepted
 returns-clause-accepted g c =
-    let old = c.args.seat.now in
-    let v = c.args.kept.now in
-    let s = g.L.PendingList.listing c.args.list.now in
-    let l = limits_on c.args.words.now s in
-    let n = c.args.irp in
-    let none' : refusal l (queue_of old.queue) n c.args.file ≡ None = search rules in
-    let cur : c.present-current.result ≡ it old n = present_is l s v (queue_of old.queue) c.requires.entered.list_is n c.present-current.result (accepted_irp l (queue_of old.queue) n c.args.file none').0 c.present-current.ensures in
-    let to_z : c.arm.new.self ≡ armed n c.args.file c.args.place (bit_in c.arm.result) c.arm.new.self.queue.run old = c.arm.ensures.step ∙ (λ k. with_view (after_step (InsertCall n c.args.file c.args.place) (Arm (cur k)) (bit_in c.arm.result) (with_run c.arm.new.self.queue.run old.queue) (joined_record old)) old) in
-    let to_y : c.test.new.self ≡ tested n c.args.file c.args.place (bit_in c.test.result) c.test.new.self.queue.run c.arm.new.self = c.test.ensures.step in
-    let one = c.is_set.ensures.set c.if-not-is_set.false in
-    let to_x : c.disarm.new.self ≡ disarmed n (it old n) c.args.file c.args.place (bit_in c.disarm.result) c.disarm.new.self.queue.run c.test.new.self = c.disarm.ensures.step ∙ (λ k. with_view (after_step (InsertCall n c.args.file c.args.place) (Disarm (cur k)) (bit_in c.disarm.result) (with_run c.disarm.new.self.queue.run c.test.new.self.queue) (joined_record c.test.new.self)) c.test.new.self) in (
-      Insert n c.args.file c.args.place Cancelled ∷ FlagSeen (it old n) ∷ [],
-      (cur, refl),
-      insert_cancelled c.requires.entered n c.args.file c.args.place none' (g.L.PendingList.listing c.insert_ex.new.self) (search rules) c.set_file.new.self c.set_file.ensures (bit_in c.arm.result) c.arm.new.self c.test.new.self to_z (bit_in c.test.result) one to_y c.disarm.new.self (g.met.L.PendingList.sound c.args.list.now) (g.L.PendingList.listing c.remove.new.self) c.remove.ensures (bit_in c.disarm.result) (c.is_set-2.ensures.set c.if-not-is_set-2.false) to_x (c.disarm.new.self.queue.run, c.disarm.ensures.told.told),
+    let t = (goal.at.returns-clause-accepted g c).After-test in
+    let d = (goal.at.returns-clause-accepted g c).After-disarm in (
+      Insert c.args.irp c.args.file c.args.place Cancelled ∷ FlagSeen (name g t) ∷ [],
+      (named g t, refl),
+      insert_cancelled c.requires.entered c.args.irp c.args.file c.args.place (accepted g t) (g.L.PendingList.listing c.insert_ex.new.self) (search rules) c.set_file.new.self c.set_file.ensures (bit_in c.arm.result) c.arm.new.self c.test.new.self (to_armed g t) (bit_in c.test.result) (c.is_set.ensures.set c.if-not-is_set.false) c.test.ensures.step c.disarm.new.self (g.met.L.PendingList.sound c.args.list.now) (g.L.PendingList.listing c.remove.new.self) c.remove.ensures (bit_in c.disarm.result) (c.is_set-2.ensures.set c.if-not-is_set-2.false) (to_disarmed g d) (c.disarm.new.self.queue.run, c.disarm.ensures.told.told),
     )
 
 pub returns-then-not-is_set-clause-steps : goal.returns-then-not-is_set-clause-steps
 returns-then-not-is_set-clause-steps g c =
-    let old = c.args.seat.now in
-    let v = c.args.kept.now in
-    let s = g.L.PendingList.listing c.args.list.now in
-    let l = limits_on c.args.words.now s in
-    let n = c.args.irp in
-    let none' : refusal l (queue_of old.queue) n c.args.file ≡ None = search rules in
-    let cur : c.present-current.result ≡ it old n = present_is l s v (queue_of old.queue) c.requires.entered.list_is n c.present-current.result (accepted_irp l (queue_of old.queue) n c.args.file none').0 c.present-current.ensures in
-    let to_z : c.arm.new.self ≡ armed n c.args.file c.args.place (bit_in c.arm.result) c.arm.new.self.queue.run old = c.arm.ensures.step ∙ (λ k. with_view (after_step (InsertCall n c.args.file c.args.place) (Arm (cur k)) (bit_in c.arm.result) (with_run c.arm.new.self.queue.run old.queue) (joined_record old)) old) in
-    let to_y : c.test.new.self ≡ tested n c.args.file c.args.place (bit_in c.test.result) c.test.new.self.queue.run c.arm.new.self = c.test.ensures.step in
-    subst (λ (i : IrpLife). MakesSteps (insert_steps (Ok (answer.Pending i)) (end_of l.first c.test.new.self.queue.history)) (joined_record old) (joined_record c.test.new.self)) (sym cur)
-    (pending_makes c.requires.entered n c.args.file c.args.place none' (g.met.L.PendingList.sound c.args.list.now) (bit_in c.arm.result) (was_clear c.present-current.result.life.0 c.arm.result c.arm.ensures.found) c.arm.new.self c.test.new.self to_z (bit_in c.test.result) (c.is_set.ensures.clear c.if-not-is_set.true) to_y)
+    let t = (goal.at.returns-then-not-is_set-clause-steps g c).After-test in
+    subst (λ (i : IrpLife). MakesSteps (insert_steps (Ok (answer.Pending i)) (end_of (limits g t).first c.test.new.self.queue.history)) (joined_record (old g t)) (joined_record c.test.new.self)) (sym (named g t))
+    (pending_makes c.requires.entered c.args.irp c.args.file c.args.place (accepted g t) (g.met.L.PendingList.sound c.args.list.now) (bit_in c.arm.result) (routine_clear g t) c.arm.new.self c.test.new.self (to_armed g t) (bit_in c.test.result) (c.is_set.ensures.clear c.if-not-is_set.true) c.test.ensures.step)
 
 pub returns-then-not-is_set-2-clause-steps : goal.returns-then-not-is_set-2-clause-steps
 returns-then-not-is_set-2-clause-steps g c =
-    let old = c.args.seat.now in
-    let v = c.args.kept.now in
-    let s = g.L.PendingList.listing c.args.list.now in
-    let l = limits_on c.args.words.now s in
-    let n = c.args.irp in
-    let none' : refusal l (queue_of old.queue) n c.args.file ≡ None = search rules in
-    let cur : c.present-current.result ≡ it old n = present_is l s v (queue_of old.queue) c.requires.entered.list_is n c.present-current.result (accepted_irp l (queue_of old.queue) n c.args.file none').0 c.present-current.ensures in
-    let to_z : c.arm.new.self ≡ armed n c.args.file c.args.place (bit_in c.arm.result) c.arm.new.self.queue.run old = c.arm.ensures.step ∙ (λ k. with_view (after_step (InsertCall n c.args.file c.args.place) (Arm (cur k)) (bit_in c.arm.result) (with_run c.arm.new.self.queue.run old.queue) (joined_record old)) old) in
-    let to_y : c.test.new.self ≡ tested n c.args.file c.args.place (bit_in c.test.result) c.test.new.self.queue.run c.arm.new.self = c.test.ensures.step in
-    let one = c.is_set.ensures.set c.if-not-is_set.false in
-    let to_x : c.disarm.new.self ≡ disarmed n (it old n) c.args.file c.args.place (bit_in c.disarm.result) c.disarm.new.self.queue.run c.test.new.self = c.disarm.ensures.step ∙ (λ k. with_view (after_step (InsertCall n c.args.file c.args.place) (Disarm (cur k)) (bit_in c.disarm.result) (with_run c.disarm.new.self.queue.run c.test.new.self.queue) (joined_record c.test.new.self)) c.test.new.self) in
-    subst (λ (i : IrpLife). MakesSteps (insert_steps (Ok (answer.Pending i)) (end_of l.first c.disarm.new.self.queue.history)) (joined_record old) (joined_record c.disarm.new.self)) (sym cur)
-    (missed_makes c.requires.entered n c.args.file c.args.place none' (g.met.L.PendingList.sound c.args.list.now) (bit_in c.arm.result) (was_clear c.present-current.result.life.0 c.arm.result c.arm.ensures.found) c.arm.new.self c.test.new.self to_z (bit_in c.test.result) one to_y c.disarm.new.self (bit_in c.disarm.result) (c.is_set-2.ensures.clear c.if-not-is_set-2.true) to_x)
+    let t = (goal.at.returns-then-not-is_set-2-clause-steps g c).After-test in
+    let d = (goal.at.returns-then-not-is_set-2-clause-steps g c).After-disarm in
+    subst (λ (i : IrpLife). MakesSteps (insert_steps (Ok (answer.Pending i)) (end_of (limits g t).first c.disarm.new.self.queue.history)) (joined_record (old g t)) (joined_record c.disarm.new.self)) (sym (named g t))
+    (missed_makes c.requires.entered c.args.irp c.args.file c.args.place (accepted g t) (g.met.L.PendingList.sound c.args.list.now) (bit_in c.arm.result) (routine_clear g t) c.arm.new.self c.test.new.self (to_armed g t) (bit_in c.test.result) (c.is_set.ensures.set c.if-not-is_set.false) c.test.ensures.step c.disarm.new.self (bit_in c.disarm.result) (c.is_set-2.ensures.clear c.if-not-is_set-2.true) (to_disarmed g d))
 
 pub returns-clause-steps : goal.returns-clause-steps
 returns-clause-steps g c =
-    let old = c.args.seat.now in
-    let v = c.args.kept.now in
-    let s = g.L.PendingList.listing c.args.list.now in
-    let l = limits_on c.args.words.now s in
-    let n = c.args.irp in
-    let none' : refusal l (queue_of old.queue) n c.args.file ≡ None = search rules in
-    let cur : c.present-current.result ≡ it old n = present_is l s v (queue_of old.queue) c.requires.entered.list_is n c.present-current.result (accepted_irp l (queue_of old.queue) n c.args.file none').0 c.present-current.ensures in
-    let to_z : c.arm.new.self ≡ armed n c.args.file c.args.place (bit_in c.arm.result) c.arm.new.self.queue.run old = c.arm.ensures.step ∙ (λ k. with_view (after_step (InsertCall n c.args.file c.args.place) (Arm (cur k)) (bit_in c.arm.result) (with_run c.arm.new.self.queue.run old.queue) (joined_record old)) old) in
-    let to_y : c.test.new.self ≡ tested n c.args.file c.args.place (bit_in c.test.result) c.test.new.self.queue.run c.arm.new.self = c.test.ensures.step in
-    let one = c.is_set.ensures.set c.if-not-is_set.false in
-    let to_x : c.disarm.new.self ≡ disarmed n (it old n) c.args.file c.args.place (bit_in c.disarm.result) c.disarm.new.self.queue.run c.test.new.self = c.disarm.ensures.step ∙ (λ k. with_view (after_step (InsertCall n c.args.file c.args.place) (Disarm (cur k)) (bit_in c.disarm.result) (with_run c.disarm.new.self.queue.run c.test.new.self.queue) (joined_record c.test.new.self)) c.test.new.self) in
-    subst (λ (i : IrpLife). MakesSteps (insert_steps (Ok (answer.Cancelled i)) (end_of l.first c.disarm.new.self.queue.history)) (joined_record old) (joined_record c.disarm.new.self)) (sym cur)
-    (cancelled_makes c.requires.entered n c.args.file c.args.place none' (g.met.L.PendingList.sound c.args.list.now) (bit_in c.arm.result) (was_clear c.present-current.result.life.0 c.arm.result c.arm.ensures.found) c.arm.new.self c.test.new.self to_z (bit_in c.test.result) one to_y c.disarm.new.self (bit_in c.disarm.result) (c.is_set-2.ensures.set c.if-not-is_set-2.false) to_x)
+    let t = (goal.at.returns-clause-steps g c).After-test in
+    let d = (goal.at.returns-clause-steps g c).After-disarm in
+    subst (λ (i : IrpLife). MakesSteps (insert_steps (Ok (answer.Cancelled i)) (end_of (limits g t).first c.disarm.new.self.queue.history)) (joined_record (old g t)) (joined_record c.disarm.new.self)) (sym (named g t))
+    (cancelled_makes c.requires.entered c.args.irp c.args.file c.args.place (accepted g t) (g.met.L.PendingList.sound c.args.list.now) (bit_in c.arm.result) (routine_clear g t) c.arm.new.self c.test.new.self (to_armed g t) (bit_in c.test.result) (c.is_set.ensures.set c.if-not-is_set.false) c.test.ensures.step c.disarm.new.self (bit_in c.disarm.result) (c.is_set-2.ensures.set c.if-not-is_set-2.false) (to_disarmed g d))
 
 pub returns-clause-new : goal.returns-clause-new
 returns-clause-new g c =
-    let old = c.args.seat.now in
-    let v = c.args.kept.now in
-    let s = g.L.PendingList.listing c.args.list.now in
-    let l = limits_on c.args.words.now s in
-    let n = c.args.irp in
-    let none' : refusal l (queue_of old.queue) n c.args.file ≡ None = search rules in
-    let cur : c.present-current.result ≡ it old n = present_is l s v (queue_of old.queue) c.requires.entered.list_is n c.present-current.result (accepted_irp l (queue_of old.queue) n c.args.file none').0 c.present-current.ensures in
-    let to_z : c.arm.new.self ≡ armed n c.args.file c.args.place (bit_in c.arm.result) c.arm.new.self.queue.run old = c.arm.ensures.step ∙ (λ k. with_view (after_step (InsertCall n c.args.file c.args.place) (Arm (cur k)) (bit_in c.arm.result) (with_run c.arm.new.self.queue.run old.queue) (joined_record old)) old) in
-    let to_y : c.test.new.self ≡ tested n c.args.file c.args.place (bit_in c.test.result) c.test.new.self.queue.run c.arm.new.self = c.test.ensures.step in
-    let one = c.is_set.ensures.set c.if-not-is_set.false in
-    let to_x : c.disarm.new.self ≡ disarmed n (it old n) c.args.file c.args.place (bit_in c.disarm.result) c.disarm.new.self.queue.run c.test.new.self = c.disarm.ensures.step ∙ (λ k. with_view (after_step (InsertCall n c.args.file c.args.place) (Disarm (cur k)) (bit_in c.disarm.result) (with_run c.disarm.new.self.queue.run c.test.new.self.queue) (joined_record c.test.new.self)) c.test.new.self) in
-    subst (λ (i : IrpLife). IsNew l (joined_record old) i) (sym cur)
-    (cancelled_new c.requires.entered n c.args.file c.args.place none' (g.met.L.PendingList.sound c.args.list.now) (bit_in c.arm.result) (was_clear c.present-current.result.life.0 c.arm.result c.arm.ensures.found) c.arm.new.self c.test.new.self to_z (bit_in c.test.result) one to_y c.disarm.new.self (bit_in c.disarm.result) (c.is_set-2.ensures.set c.if-not-is_set-2.false) to_x (c.disarm.new.self.queue.run, c.disarm.ensures.told.told))
+    let t = (goal.at.returns-clause-new g c).After-test in
+    let d = (goal.at.returns-clause-new g c).After-disarm in
+    subst (λ (i : IrpLife). IsNew (limits g t) (joined_record (old g t)) i) (sym (named g t))
+    (cancelled_new c.requires.entered c.args.irp c.args.file c.args.place (accepted g t) (g.met.L.PendingList.sound c.args.list.now) (bit_in c.arm.result) (routine_clear g t) c.arm.new.self c.test.new.self (to_armed g t) (bit_in c.test.result) (c.is_set.ensures.set c.if-not-is_set.false) c.test.ensures.step c.disarm.new.self (bit_in c.disarm.result) (c.is_set-2.ensures.set c.if-not-is_set-2.false) (to_disarmed g d) (c.disarm.new.self.queue.run, c.disarm.ensures.told.told))
 
 pub remove-requires : goal.remove-requires
 remove-requires g c =

@@ -1,43 +1,20 @@
 use Rattle.std.proofs.Common.{◌≡◌, ℕ, ◌<◌, [], ◌∷◌, List, Some, None, ap, ◌∙◌, sym, subst, rules, arith}
-use Rattle.irp_core.specs.declared.step.Kind.TheVariants.{Disarm, End}
-use Rattle.irp_core.specs.declared.ids.IrpId.{IrpId}
-use Rattle.irp_core.specs.Steps.{life_of}
-use Rattle.irp_core.specs.declared.ids.IrpLife.{IrpLife}
-use Rattle.csq_list.specs.Listing.{Listing, without_irp}
+use Rattle.csq_queue.proofs.Imports.{Disarm, IrpId, IrpLife, Listing, without_irp, RemoveNext, after_step, due_mark, queue_of, with_run, SomeRunAgrees, bit_in, QueueSeatState, joined_record, with_view, limits_on, MakesSteps, remove_next_steps, IsNew, Adds, marked, IsSearch}
 use Rattle.csq_words.specs.declared.calls.Call.TheVariants.{RemoveNext as RemoveNextCall}
-use Rattle.csq_words.specs.declared.views.Event.TheVariants.{RemoveNext}
-use Rattle.csq_words.specs.Calls.{after_step, due_mark}
-use Rattle.csq_words.specs.Records.{queue_of, with_run}
-use Rattle.csq_words.specs.Rule.{SomeRunAgrees}
-use Rattle.csq_words.specs.Words.{bit_in}
-use Rattle.csq_words.specs.Seats.{QueueSeatState, joined_record, with_view}
-use Rattle.csq_queue.specs.Opens.{limits_on}
-use Rattle.csq_queue.specs.Steps.{MakesSteps, remove_next_steps}
-use Rattle.csq_queue.specs.Told.{IsNew}
-use Rattle.csq_queue.specs.Adding.{Adds}
-use Rattle.csq_queue.specs.Searches.{marked, IsSearch}
-use Rattle.csq_queue.proofs.Presence.{known_at, present_is}
+use Rattle.csq_queue.proofs.Presence.{listed_life}
 use Rattle.csq_queue.proofs.Searching.{with_made}
 use Rattle.csq_queue.proofs.Removing.{search_start, next_match, search_hit, search_miss, none_left, search_end}
 use Rattle.csq_queue.proofs.protocol.take_match.Given.{Over}
 use Rattle.csq_queue.proofs.protocol.take_match.Goals as goal
-use Rattle.csq_queue.proofs.protocol.take_match.Goals.{After-remove}
+use Rattle.csq_queue.proofs.protocol.take_match.Goals.{After-remove, After-note}
 
 pub search-init : goal.search-init
 search-init g c = search_start c.args.words.now.table (limits_on c.args.words.now (g.L.PendingList.listing c.args.list.now)) (g.L.PendingList.listing c.args.list.now) c.args.kept.now c.args.peek c.args.seat.now c.requires.entered
 
 pub disarm-requires-clause-next : goal.disarm-requires-clause-next
 disarm-requires-clause-next g c =
-    let l = limits_on c.args.words.now (g.L.PendingList.listing c.args.list.now) in
-    let s = g.L.PendingList.listing c.search.list in
-    let v = c.args.kept.now in
-    let u = queue_of c.search.seat.queue in
-    let x = c.search.invariant in
-    let i = c.present-current.result in
-    let n = c.in-Some.next in
-    let named : i.irp ≡ n = ap (λ (j : IrpLife). j.irp) c.present-current.ensures in
-    let now : life_of i ≡ u.lives i.irp = ap life_of (present_is l s v u x.adds.list_is n i (known_at l s v u x.adds.list_is n (g.met.L.PendingList.sound c.search.list) (search rules)) c.present-current.ensures) ∙ ap u.lives (sym named) in
-    (x.removes, next_match x (g.met.L.PendingList.sound c.search.list) i now (ap (λ (m : IrpId). Some m) named ∙ c.in-Some.ensures.found))
+    let now = listed_life _ _ _ _ c.search.invariant.adds.list_is c.in-Some.next (g.met.L.PendingList.sound c.search.list) (search rules) c.present-current.result c.present-current.ensures in
+    (c.search.invariant.removes, next_match c.search.invariant (g.met.L.PendingList.sound c.search.list) c.present-current.result now (ap (λ (m : IrpId). Some m) (ap (λ (j : IrpLife). j.irp) c.present-current.ensures) ∙ c.in-Some.ensures.found))
 
 -- the removal found the routine of the next match
 hit : (g : Over) (c : After-remove g) → ((marks : List IrpLife) × Adds (limits_on c.args.words.now (g.L.PendingList.listing c.args.list.now)) c.args.seat.now (RemoveNext c.args.peek (Some c.present-current.result) ∷ marked marks) (g.L.PendingList.listing c.remove.new.self) c.args.kept.now c.disarm.new.self)
@@ -49,11 +26,9 @@ hit g c =
     let v = c.args.kept.now in
     let z = c.search.seat in
     let i = c.present-current.result in
-    let u = queue_of z.queue in
-    let n = c.in-Some.next in
-    let named : i.irp ≡ n = ap (λ (j : IrpLife). j.irp) c.present-current.ensures in
+    let named = ap (λ (j : IrpLife). j.irp) c.present-current.ensures in
+    let now = listed_life _ _ _ _ c.search.invariant.adds.list_is c.in-Some.next (g.met.L.PendingList.sound c.search.list) (search rules) c.present-current.result c.present-current.ensures in
     let sound = g.met.L.PendingList.sound c.search.list in
-    let now : life_of i ≡ u.lives i.irp = ap life_of (present_is l s v u c.search.invariant.adds.list_is n i (known_at l s v u c.search.invariant.adds.list_is n sound (search rules)) c.present-current.ensures) ∙ ap u.lives (sym named) in
     let peeked = ap (λ (m : IrpId). Some m) named ∙ c.in-Some.ensures.found in
     let one = c.is_set.ensures.set c.if-is_set.true in
     let some : 0 < bit_in c.disarm.result = subst (λ (w : ℕ). 0 < w) (sym one) (omega arith) in
@@ -75,21 +50,13 @@ returns-then-is_set-clause-new g c = (hit g c).2
 
 pub search-preserved : goal.search-preserved
 search-preserved g c =
-    let l = limits_on c.args.words.now (g.L.PendingList.listing c.args.list.now) in
-    let s = g.L.PendingList.listing c.search.list in
-    let v = c.args.kept.now in
     let z = c.search.seat in
     let i = c.present-current.result in
-    let u = queue_of z.queue in
-    let n = c.in-Some.next in
-    let named : i.irp ≡ n = ap (λ (j : IrpLife). j.irp) c.present-current.ensures in
-    let sound = g.met.L.PendingList.sound c.search.list in
-    let now : life_of i ≡ u.lives i.irp = ap life_of (present_is l s v u c.search.invariant.adds.list_is n i (known_at l s v u c.search.invariant.adds.list_is n sound (search rules)) c.present-current.ensures) ∙ ap u.lives (sym named) in
-    let peeked = ap (λ (m : IrpId). Some m) named ∙ c.in-Some.ensures.found in
-    let none' = c.is_set.ensures.clear c.if-is_set.false in
-    let is : c.disarm.new.self ≡ with_made (Disarm i) 0 (due_mark i (queue_of z.queue)) c.disarm.new.self.queue.run z = c.disarm.ensures.step ∙ ap (λ w. with_view (after_step (RemoveNextCall c.args.peek) (Disarm i) w (with_run c.disarm.new.self.queue.run z.queue) (joined_record z)) z) none' in
-    let missed = search_miss c.search.invariant sound i now peeked c.disarm.new.self.queue.run (subst (λ (y : QueueSeatState). SomeRunAgrees c.args.words.now.size y.queue (joined_record y)) is (c.disarm.new.self.queue.run, c.disarm.ensures.told.told)) in
-    subst (λ (y : IrpId × QueueSeatState). IsSearch l c.args.seat.now c.args.peek (Some y.0) s v y.1) (λ k. (named k, sym is k)) missed
+    let named = ap (λ (j : IrpLife). j.irp) c.present-current.ensures in
+    let now = listed_life _ _ _ _ c.search.invariant.adds.list_is c.in-Some.next (g.met.L.PendingList.sound c.search.list) (search rules) c.present-current.result c.present-current.ensures in
+    let is : c.disarm.new.self ≡ with_made (Disarm i) 0 (due_mark i (queue_of z.queue)) c.disarm.new.self.queue.run z = c.disarm.ensures.step ∙ ap (λ w. with_view (after_step (RemoveNextCall c.args.peek) (Disarm i) w (with_run c.disarm.new.self.queue.run z.queue) (joined_record z)) z) (c.is_set.ensures.clear c.if-is_set.false) in
+    let missed = search_miss c.search.invariant (g.met.L.PendingList.sound c.search.list) i now (ap (λ (m : IrpId). Some m) named ∙ c.in-Some.ensures.found) c.disarm.new.self.queue.run (subst (λ (y : QueueSeatState). SomeRunAgrees c.args.words.now.size y.queue (joined_record y)) is (c.disarm.new.self.queue.run, c.disarm.ensures.told.told)) in
+    subst (λ (y : IrpId × QueueSeatState). IsSearch (limits_on c.args.words.now (g.L.PendingList.listing c.args.list.now)) c.args.seat.now c.args.peek (Some y.0) (g.L.PendingList.listing c.search.list) c.args.kept.now y.1) (λ k. (named k, sym is k)) missed
 
 pub note-requires-clause-may : goal.note-requires-clause-may
 note-requires-clause-may g c = (
@@ -97,17 +64,16 @@ note-requires-clause-may g c = (
   none_left c.search.invariant (search rules),
 )
 
+-- no match is left that isn't marked
+ended : (g : Over) (c : After-note g) → ((marks : List IrpLife) × Adds (limits_on c.args.words.now (g.L.PendingList.listing c.args.list.now)) c.args.seat.now (RemoveNext c.args.peek None ∷ marked marks) (g.L.PendingList.listing c.search.list) c.args.kept.now c.note.new.self)
+    × MakesSteps (remove_next_steps c.args.peek None (queue_of c.args.seat.now.queue)) (joined_record c.args.seat.now) (joined_record c.note.new.self)
+ended g c =
+    subst (λ (z : QueueSeatState). SomeRunAgrees c.args.words.now.size z.queue (joined_record z) → ((marks : List IrpLife) × Adds (limits_on c.args.words.now (g.L.PendingList.listing c.args.list.now)) c.args.seat.now (RemoveNext c.args.peek None ∷ marked marks) (g.L.PendingList.listing c.search.list) c.args.kept.now z)
+    × MakesSteps (remove_next_steps c.args.peek None (queue_of c.args.seat.now.queue)) (joined_record c.args.seat.now) (joined_record z))
+    (sym c.note.ensures.noted) (search_end c.search.invariant c.note.new.self.queue.run (search rules)) (c.note.new.self.queue.run, c.note.ensures.told.told)
+
 pub returns-clause-adds : goal.returns-clause-adds
-returns-clause-adds g c =
-    let l = limits_on c.args.words.now (g.L.PendingList.listing c.args.list.now) in
-    let s = g.L.PendingList.listing c.search.list in
-    let v = c.args.kept.now in
-    let is : c.note.new.self ≡ with_made End 0 (RemoveNext c.args.peek None ∷ []) c.note.new.self.queue.run c.search.seat = c.note.ensures.noted in
-    let end = search_end c.search.invariant c.note.new.self.queue.run (search rules) (subst (λ (z : QueueSeatState). SomeRunAgrees c.args.words.now.size z.queue (joined_record z)) is (c.note.new.self.queue.run, c.note.ensures.told.told)) in
-    (end.0.0, subst (λ (z : QueueSeatState). Adds l c.args.seat.now (RemoveNext c.args.peek None ∷ marked end.0.0) s v z) (sym is) end.0.1)
+returns-clause-adds g c = (ended g c).0
 
 pub returns-clause-steps : goal.returns-clause-steps
-returns-clause-steps g c =
-    let is : c.note.new.self ≡ with_made End 0 (RemoveNext c.args.peek None ∷ []) c.note.new.self.queue.run c.search.seat = c.note.ensures.noted in
-    let end = search_end c.search.invariant c.note.new.self.queue.run (search rules) (subst (λ (z : QueueSeatState). SomeRunAgrees c.args.words.now.size z.queue (joined_record z)) is (c.note.new.self.queue.run, c.note.ensures.told.told)) in
-    subst (λ (z : QueueSeatState). MakesSteps (remove_next_steps c.args.peek None (queue_of c.args.seat.now.queue)) (joined_record c.args.seat.now) (joined_record z)) (sym is) end.1
+returns-clause-steps g c = (ended g c).1

@@ -1,7 +1,5 @@
 use Rattle.std.proofs.Common.{length}
-use Rattle.csq_list.specs.Searches.{rest_after}
-use Rattle.csq_queue.specs.Opens.{limits_on}
-use Rattle.csq_queue.specs.Searches.{IsSearch}
+use Rattle.csq_queue.proofs.Imports.{rest_after, limits_on, IsSearch}
 use Rattle.csq_queue.proofs.protocol.take_match.Given as goal
 
 -- the matches that were passed are marked

@@ -1,60 +1,33 @@
-use Rattle.std.proofs.Common.{◌≡◌, ℕ, ◌<◌, ◌==◌, ◌&&◌, true, false, [], ◌∷◌, Some, None, refl, ap, ◌∙◌, sym, subst, arith}
-use Rattle.std.specs.Prelude.{slice_index}
-use Rattle.irp_core.specs.declared.step.Kind.TheVariants.{Disarm, End}
-use Rattle.irp_core.specs.Steps.{life_of}
-use Rattle.csq_list.specs.Listing.{Listing}
-use Rattle.csq_list.specs.Searches.{is_listed}
+use Rattle.std.proofs.Common.{◌≡◌, ℕ, ◌<◌, true, false, List, [], ◌∷◌, Some, None, refl, ap, ◌∙◌, sym, subst, arith}
+use Rattle.csq_queue.proofs.Imports.{Disarm, End, IrpLife, Listing, Remove, has_unmarked, queue_of, with_run, after_step, due_mark, MayRemove, SomeRunAgrees, bit_in, QueueSeatState, joined_record, with_view, limits_on, MakesSteps, remove_steps, IsNew, Adds, marked}
 use Rattle.csq_words.specs.declared.calls.Call.TheVariants.{Remove as RemoveCall}
-use Rattle.csq_words.specs.declared.views.Event.TheVariants.{Remove}
-use Rattle.csq_words.specs.Queue.{has_unmarked}
-use Rattle.csq_words.specs.Records.{queue_of, with_run}
-use Rattle.csq_words.specs.Calls.{after_step, due_mark, MayRemove}
-use Rattle.csq_words.specs.Rule.{SomeRunAgrees}
-use Rattle.csq_words.specs.Words.{bit_in}
-use Rattle.csq_words.specs.Seats.{QueueSeatState, joined_record, with_view}
-use Rattle.csq_queue.specs.Opens.{limits_on}
-use Rattle.csq_queue.specs.Steps.{MakesSteps, remove_steps}
-use Rattle.csq_queue.specs.Told.{IsNew}
-use Rattle.csq_queue.specs.Adding.{Adds}
-use Rattle.csq_queue.specs.Searches.{marked}
 use Rattle.csq_queue.proofs.Searching.{with_made}
 use Rattle.csq_queue.proofs.Ones.{removes, one_here, one_away, one_listed, one_absent, one_none, one_hit, one_marked_now, one_goes_on, one_miss}
 use Rattle.csq_queue.proofs.protocol.take_one.Given.{Over}
 use Rattle.csq_queue.proofs.protocol.take_one.Goals as goal
-use Rattle.csq_queue.proofs.protocol.take_one.Goals.{After-remove}
+use Rattle.csq_queue.proofs.protocol.take_one.Goals.{After-disarm, After-note, After-remove, After-note-2}
 
 pub note-requires-clause-may : goal.note-requires-clause-may
 note-requires-clause-may g c =
-    let s = g.L.PendingList.listing c.args.list.now in
-    let v = c.args.kept.now in
     let i = c.args.irp in
-    let away : (is_listed s.entries i.irp && (slice_index v.lives i.irp.0 == life_of i)) ≡ false = sym c.is_here.ensures ∙ c.if-not-is_here.true in (
-      removes c.requires.entered i,
-      one_absent c.requires.entered i (one_away c.requires.entered i (g.met.L.PendingList.sound c.args.list.now) away),
-    )
+    (removes c.requires.entered i, one_absent c.requires.entered i (one_away c.requires.entered i (g.met.L.PendingList.sound c.args.list.now) (sym c.is_here.ensures ∙ c.if-not-is_here.true)))
+
+-- the IRP isn't listed in the life named
+absent : (g : Over) (c : After-note g) → Adds (limits_on c.args.words.now (g.L.PendingList.listing c.args.list.now)) c.args.seat.now (Remove c.args.irp false ∷ []) (g.L.PendingList.listing c.args.list.now) c.args.kept.now c.note.new.self
+    × MakesSteps (remove_steps c.args.irp None (queue_of c.args.seat.now.queue)) (joined_record c.args.seat.now) (joined_record c.note.new.self)
+absent g c =
+    let z = c.args.seat.now in
+    let i = c.args.irp in
+    let away = one_away c.requires.entered i (g.met.L.PendingList.sound c.args.list.now) (sym c.is_here.ensures ∙ c.if-not-is_here.true) in
+    subst (λ (y : QueueSeatState). SomeRunAgrees c.args.words.now.size y.queue (joined_record y) → Adds (limits_on c.args.words.now (g.L.PendingList.listing c.args.list.now)) z (Remove i false ∷ []) (g.L.PendingList.listing c.args.list.now) c.args.kept.now y
+    × MakesSteps (remove_steps i None (queue_of z.queue)) (joined_record z) (joined_record y))
+    (sym c.note.ensures.noted) (one_none c.requires.entered i c.note.new.self.queue.run away) (c.note.new.self.queue.run, c.note.ensures.told.told)
 
 pub returns-then-not-is_here-clause-adds : goal.returns-then-not-is_here-clause-adds
-returns-then-not-is_here-clause-adds g c =
-    let l = limits_on c.args.words.now (g.L.PendingList.listing c.args.list.now) in
-    let s = g.L.PendingList.listing c.args.list.now in
-    let v = c.args.kept.now in
-    let z = c.args.seat.now in
-    let i = c.args.irp in
-    let away : (is_listed s.entries i.irp && (slice_index v.lives i.irp.0 == life_of i)) ≡ false = sym c.is_here.ensures ∙ c.if-not-is_here.true in
-    let is : c.note.new.self ≡ with_made End 0 (Remove i false ∷ []) c.note.new.self.queue.run z = c.note.ensures.noted in
-    let end = one_none c.requires.entered i c.note.new.self.queue.run (one_away c.requires.entered i (g.met.L.PendingList.sound c.args.list.now) away) (subst (λ (y : QueueSeatState). SomeRunAgrees c.args.words.now.size y.queue (joined_record y)) is (c.note.new.self.queue.run, c.note.ensures.told.told)) in
-    ([], subst (λ (y : QueueSeatState). Adds l z (Remove i false ∷ []) s v y) (sym is) end.0)
+returns-then-not-is_here-clause-adds g c = ([], (absent g c).0)
 
 pub returns-then-not-is_here-clause-steps : goal.returns-then-not-is_here-clause-steps
-returns-then-not-is_here-clause-steps g c =
-    let s = g.L.PendingList.listing c.args.list.now in
-    let v = c.args.kept.now in
-    let z = c.args.seat.now in
-    let i = c.args.irp in
-    let away : (is_listed s.entries i.irp && (slice_index v.lives i.irp.0 == life_of i)) ≡ false = sym c.is_here.ensures ∙ c.if-not-is_here.true in
-    let is : c.note.new.self ≡ with_made End 0 (Remove i false ∷ []) c.note.new.self.queue.run z = c.note.ensures.noted in
-    let end = one_none c.requires.entered i c.note.new.self.queue.run (one_away c.requires.entered i (g.met.L.PendingList.sound c.args.list.now) away) (subst (λ (y : QueueSeatState). SomeRunAgrees c.args.words.now.size y.queue (joined_record y)) is (c.note.new.self.queue.run, c.note.ensures.told.told)) in
-    subst (λ (y : QueueSeatState). MakesSteps (remove_steps i None (queue_of z.queue)) (joined_record z) (joined_record y)) (sym is) end.1
+returns-then-not-is_here-clause-steps g c = (absent g c).1
 
 pub disarm-requires-clause-next : goal.disarm-requires-clause-next
 disarm-requires-clause-next g c =
@@ -89,33 +62,32 @@ returns-then-is_set-clause-steps g c = (hit g c).1
 pub returns-then-is_set-clause-new : goal.returns-then-is_set-clause-new
 returns-then-is_set-clause-new g c = (hit g c).2
 
+-- a canceller has the routine
+to_missed : (g : Over) (c : After-disarm g) → bit_in c.disarm.result ≡ 0 → c.disarm.new.self ≡ with_made (Disarm c.args.irp) 0 (due_mark c.args.irp (queue_of c.args.seat.now.queue)) c.disarm.new.self.queue.run c.args.seat.now
+to_missed g c clear = c.disarm.ensures.step ∙ ap (λ w. with_view (after_step (RemoveCall c.args.irp) (Disarm c.args.irp) w (with_run c.disarm.new.self.queue.run c.args.seat.now.queue) (joined_record c.args.seat.now)) c.args.seat.now) clear
+
 pub note-requires-2-clause-may : goal.note-requires-2-clause-may
 note-requires-2-clause-may g c =
-    let i = c.args.irp in
-    let is : c.disarm.new.self ≡ with_made (Disarm i) 0 (due_mark i (queue_of c.args.seat.now.queue)) c.disarm.new.self.queue.run c.args.seat.now = c.disarm.ensures.step ∙ ap (λ w. with_view (after_step (RemoveCall i) (Disarm i) w (with_run c.disarm.new.self.queue.run c.args.seat.now.queue) (joined_record c.args.seat.now)) c.args.seat.now) (c.is_set.ensures.clear c.if-is_set.false) in (
-      subst (λ (z : QueueSeatState). MayRemove (joined_record z)) (sym is) (one_goes_on c.requires.entered i c.disarm.new.self.queue.run),
-      subst (λ (z : QueueSeatState). has_unmarked (queue_of z.queue).entries i ≡ false) (sym is) (one_marked_now c.requires.entered i),
+    let is = to_missed g (goal.at.note-requires-2-clause-may g c).After-disarm (c.is_set.ensures.clear c.if-is_set.false) in (
+      subst (λ (z : QueueSeatState). MayRemove (joined_record z)) (sym is) (one_goes_on c.requires.entered c.args.irp c.disarm.new.self.queue.run),
+      subst (λ (z : QueueSeatState). has_unmarked (queue_of z.queue).entries c.args.irp ≡ false) (sym is) (one_marked_now c.requires.entered c.args.irp),
     )
 
-pub returns-clause-adds : goal.returns-clause-adds
-returns-clause-adds g c =
-    let l = limits_on c.args.words.now (g.L.PendingList.listing c.args.list.now) in
-    let s = g.L.PendingList.listing c.args.list.now in
-    let v = c.args.kept.now in
+missed : (g : Over) (c : After-note-2 g) → c.disarm.new.self ≡ with_made (Disarm c.args.irp) 0 (due_mark c.args.irp (queue_of c.args.seat.now.queue)) c.disarm.new.self.queue.run c.args.seat.now
+    → ((marks : List IrpLife) × Adds (limits_on c.args.words.now (g.L.PendingList.listing c.args.list.now)) c.args.seat.now (Remove c.args.irp false ∷ marked marks) (g.L.PendingList.listing c.args.list.now) c.args.kept.now c.note-2.new.self)
+    × MakesSteps (remove_steps c.args.irp None (queue_of c.args.seat.now.queue)) (joined_record c.args.seat.now) (joined_record c.note-2.new.self)
+missed g c is =
     let z = c.args.seat.now in
     let i = c.args.irp in
-    let is : c.disarm.new.self ≡ with_made (Disarm i) 0 (due_mark i (queue_of c.args.seat.now.queue)) c.disarm.new.self.queue.run c.args.seat.now = c.disarm.ensures.step ∙ ap (λ w. with_view (after_step (RemoveCall i) (Disarm i) w (with_run c.disarm.new.self.queue.run c.args.seat.now.queue) (joined_record c.args.seat.now)) c.args.seat.now) (c.is_set.ensures.clear c.if-is_set.false) in
-    let ended : c.note-2.new.self ≡ with_made End 0 (Remove i false ∷ []) c.note-2.new.self.queue.run (with_made (Disarm i) 0 (due_mark i (queue_of z.queue)) c.disarm.new.self.queue.run z) = c.note-2.ensures.noted ∙ ap (with_made End 0 (Remove i false ∷ []) c.note-2.new.self.queue.run) is in
     let here = one_here c.requires.entered i (g.met.L.PendingList.sound c.args.list.now) (sym c.is_here.ensures ∙ c.if-not-is_here.false) in
-    let miss = one_miss c.requires.entered i c.disarm.new.self.queue.run c.note-2.new.self.queue.run (one_listed c.requires.entered i here.1 here.0) (subst (λ (y : QueueSeatState). SomeRunAgrees c.args.words.now.size y.queue (joined_record y)) is (c.disarm.new.self.queue.run, c.disarm.ensures.told.told)) (subst (λ (y : QueueSeatState). SomeRunAgrees c.args.words.now.size y.queue (joined_record y)) ended (c.note-2.new.self.queue.run, c.note-2.ensures.told.told)) in
-    (miss.0.0, subst (λ (y : QueueSeatState). Adds l z (Remove i false ∷ marked miss.0.0) s v y) (sym ended) miss.0.1)
+    subst (λ (y : QueueSeatState). SomeRunAgrees c.args.words.now.size y.queue (joined_record y) → ((marks : List IrpLife) × Adds (limits_on c.args.words.now (g.L.PendingList.listing c.args.list.now)) z (Remove i false ∷ marked marks) (g.L.PendingList.listing c.args.list.now) c.args.kept.now y)
+    × MakesSteps (remove_steps i None (queue_of z.queue)) (joined_record z) (joined_record y))
+    (sym (c.note-2.ensures.noted ∙ ap (with_made End 0 (Remove i false ∷ []) c.note-2.new.self.queue.run) is))
+    (one_miss c.requires.entered i c.disarm.new.self.queue.run c.note-2.new.self.queue.run (one_listed c.requires.entered i here.1 here.0) (subst (λ (y : QueueSeatState). SomeRunAgrees c.args.words.now.size y.queue (joined_record y)) is (c.disarm.new.self.queue.run, c.disarm.ensures.told.told)))
+    (c.note-2.new.self.queue.run, c.note-2.ensures.told.told)
+
+pub returns-clause-adds : goal.returns-clause-adds
+returns-clause-adds g c = (missed g c (to_missed g (goal.at.returns-clause-adds g c).After-disarm (c.is_set.ensures.clear c.if-is_set.false))).0
 
 pub returns-clause-steps : goal.returns-clause-steps
-returns-clause-steps g c =
-    let z = c.args.seat.now in
-    let i = c.args.irp in
-    let is : c.disarm.new.self ≡ with_made (Disarm i) 0 (due_mark i (queue_of c.args.seat.now.queue)) c.disarm.new.self.queue.run c.args.seat.now = c.disarm.ensures.step ∙ ap (λ w. with_view (after_step (RemoveCall i) (Disarm i) w (with_run c.disarm.new.self.queue.run c.args.seat.now.queue) (joined_record c.args.seat.now)) c.args.seat.now) (c.is_set.ensures.clear c.if-is_set.false) in
-    let ended : c.note-2.new.self ≡ with_made End 0 (Remove i false ∷ []) c.note-2.new.self.queue.run (with_made (Disarm i) 0 (due_mark i (queue_of z.queue)) c.disarm.new.self.queue.run z) = c.note-2.ensures.noted ∙ ap (with_made End 0 (Remove i false ∷ []) c.note-2.new.self.queue.run) is in
-    let here = one_here c.requires.entered i (g.met.L.PendingList.sound c.args.list.now) (sym c.is_here.ensures ∙ c.if-not-is_here.false) in
-    let miss = one_miss c.requires.entered i c.disarm.new.self.queue.run c.note-2.new.self.queue.run (one_listed c.requires.entered i here.1 here.0) (subst (λ (y : QueueSeatState). SomeRunAgrees c.args.words.now.size y.queue (joined_record y)) is (c.disarm.new.self.queue.run, c.disarm.ensures.told.told)) (subst (λ (y : QueueSeatState). SomeRunAgrees c.args.words.now.size y.queue (joined_record y)) ended (c.note-2.new.self.queue.run, c.note-2.ensures.told.told)) in
-    subst (λ (y : QueueSeatState). MakesSteps (remove_steps i None (queue_of z.queue)) (joined_record z) (joined_record y)) (sym ended) miss.1
+returns-clause-steps g c = (missed g c (to_missed g (goal.at.returns-clause-steps g c).After-disarm (c.is_set.ensures.clear c.if-is_set.false))).1

@@ -1,18 +1,7 @@
 use Rattle.std.proofs.Common.{◌≡◌, true, ◌∷◌, refl, sym, ap, ◌∙◌, subst}
-use Rattle.irp_core.specs.declared.ids.IrpLife.{IrpLife}
+use Rattle.csq_queue.proofs.Imports.{IrpLife, Listing, Out, due_mark, after_step, current, queue_of, with_run, owes_in, SomeRunAgrees, QueueSeatState, joined_record, with_view, irp_eq, limits_on, Adds}
 use Rattle.irp_core.specs.declared.step.Kind.TheVariants.{Out as StepOut}
-use Rattle.csq_list.specs.Listing.{Listing}
 use Rattle.csq_words.specs.declared.calls.Call.TheVariants.{CancelRoutine}
-use Rattle.csq_words.specs.declared.views.Event.TheVariants.{Out}
-use Rattle.csq_words.specs.Calls.{due_mark, after_step}
-use Rattle.csq_words.specs.Queue.{current}
-use Rattle.csq_words.specs.Records.{queue_of, with_run}
-use Rattle.irp_core.specs.Own.{owes_in}
-use Rattle.csq_words.specs.Rule.{SomeRunAgrees}
-use Rattle.csq_words.specs.Seats.{QueueSeatState, joined_record, with_view}
-use Rattle.csq_words.proofs.Named.{irp_eq}
-use Rattle.csq_queue.specs.Opens.{limits_on}
-use Rattle.csq_queue.specs.Adding.{Adds}
 use Rattle.csq_queue.proofs.Searching.{with_made}
 use Rattle.csq_queue.proofs.Ones.{one_known, owed_now, owed_is_listed, owed_out}
 use Rattle.csq_queue.proofs.protocol.take_owed.Given.{Over}

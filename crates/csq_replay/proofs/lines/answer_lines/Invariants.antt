@@ -1,6 +1,5 @@
 use Rattle.std.proofs.Common.{◌+◌, ◌≤◌, List, ℕ, length, string_bytes}
-use Rattle.csq_replay.specs.Pieces.{lines_of}
-use Rattle.csq_replay.specs.Lines.{GrewBy}
+use Rattle.csq_replay.proofs.Imports.{lines_of, GrewBy}
 use Rattle.csq_replay.proofs.Answering.{Completes}
 use Rattle.csq_replay.proofs.lines.answer_lines.Given as goal
 

@@ -1,5 +1,4 @@
-use Rattle.csq_words.specs.Queue.{Limits, limits_of}
-use Rattle.csq_replay.specs.Calls.{new_script}
+use Rattle.csq_replay.proofs.Imports.{Limits, limits_of, new_script}
 use Rattle.csq_replay.proofs.script.answer_script.Goals as goal
 
 pub reply-requires : goal.reply-requires

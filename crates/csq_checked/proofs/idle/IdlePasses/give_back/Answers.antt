@@ -1,6 +1,5 @@
 use Rattle.std.proofs.Common.{subst, sym, arith}
-use Rattle.csq_queue.specs.Opens.{OpenState}
-use Rattle.csq_queue.specs.Rests.{FirstAreBack}
+use Rattle.csq_checked.proofs.Imports.{OpenState, FirstAreBack}
 use Rattle.csq_checked.proofs.Idling.{idle_are_back}
 use Rattle.csq_checked.proofs.idle.IdlePasses.give_back.Goals as goal
 

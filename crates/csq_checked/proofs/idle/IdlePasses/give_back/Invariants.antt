@@ -1,6 +1,5 @@
 use Rattle.std.proofs.Common.{◌≡◌, ◌≤◌, ℕ, length}
-use Rattle.csq_checked.specs.Idle.{with_idle_back}
-use Rattle.csq_checked.specs.Slots.{slot_at}
+use Rattle.csq_checked.proofs.Imports.{with_idle_back, slot_at}
 use Rattle.csq_checked.proofs.idle.IdlePasses.give_back.Given as goal
 
 -- those of the passes so far that were idle are back, and the slots after them are as they were

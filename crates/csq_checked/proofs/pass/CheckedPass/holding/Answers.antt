@@ -1,10 +1,5 @@
 use Rattle.std.proofs.Common.{◌≡◌, ℕ, ◌<◌, ◌∙◌, true, false, true≢false, Some, None, refl, sym, ap, subst, rules}
-use Rattle.std.specs.Arc.{arc_value}
-use Rattle.irp_core.specs.declared.ids.Life.{Life}
-use Rattle.irp_core.specs.Own.{holds_in, removed_in}
-use Rattle.csq_checked.specs.declared.slots.Held.{Held}
-use Rattle.csq_checked.specs.Passes.{CheckedPassState}
-use Rattle.csq_checked.specs.Slots.{slot_at}
+use Rattle.csq_checked.proofs.Imports.{arc_value, Life, holds_in, removed_in, Held, CheckedPassState, slot_at}
 use Rattle.csq_checked.proofs.Checking.{slot_holds, slot_got, slot_not_held}
 use Rattle.csq_checked.proofs.pass.CheckedPass.holding.Goals as goal
 

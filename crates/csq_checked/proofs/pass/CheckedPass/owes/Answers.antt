@@ -1,8 +1,5 @@
 use Rattle.std.proofs.Common.{◌≡◌, ◌<◌, ◌==◌, ◌∙◌, false, Some, None, sym, subst, rules}
-use Rattle.std.specs.Arc.{arc_value}
-use Rattle.irp_core.specs.Own.{owes_in}
-use Rattle.csq_checked.specs.Passes.{CheckedPassState}
-use Rattle.csq_checked.specs.Slots.{slot_at}
+use Rattle.csq_checked.proofs.Imports.{arc_value, owes_in, CheckedPassState, slot_at}
 use Rattle.csq_checked.proofs.Checking.{slot_owed_is, slot_not_owed}
 use Rattle.csq_checked.proofs.pass.CheckedPass.owes.Goals as goal
 

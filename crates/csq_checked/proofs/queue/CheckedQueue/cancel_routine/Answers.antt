@@ -1,6 +1,5 @@
 use Rattle.std.proofs.Common.{◌<◌, ap, rules}
-use Rattle.std.specs.Arc.{arc_value}
-use Rattle.csq_words.specs.declared.views.PassRecord.{PassRecord}
+use Rattle.csq_checked.proofs.Imports.{arc_value, PassRecord}
 use Rattle.csq_checked.proofs.Checking.{routine_keeps}
 use Rattle.csq_checked.proofs.queue.CheckedQueue.cancel_routine.Goals as goal
 

@@ -1,11 +1,6 @@
 use Rattle.std.proofs.Common.{None, Ok, false, refl, subst, rules}
-use Rattle.std.specs.Arc.{arc_value}
-use Rattle.irp_core.specs.declared.ids.IrpLife.{IrpLife}
-use Rattle.csq_words.specs.History.{end_of}
-use Rattle.csq_queue.specs.declared.tokens.InsertAnswer.{InsertAnswer}
+use Rattle.csq_checked.proofs.Imports.{arc_value, IrpLife, end_of, InsertAnswer, IsQueueOn, GivesOut, insert_gives}
 use Rattle.csq_queue.specs.Inserts.{given_by}
-use Rattle.csq_queue.specs.Opens.{IsQueueOn}
-use Rattle.csq_queue.proofs.Giving.{GivesOut, insert_gives}
 use Rattle.csq_checked.proofs.Checking.{giving_keeps}
 use Rattle.csq_checked.proofs.queue.CheckedQueue.insert.Goals as goal
 

@@ -1,7 +1,5 @@
 use Rattle.std.proofs.Common.{◌<◌, Ok, refl, rules}
-use Rattle.std.specs.Arc.{arc_value}
-use Rattle.csq_words.specs.History.{end_of}
-use Rattle.csq_queue.proofs.Returning.{of_accepted}
+use Rattle.csq_checked.proofs.Imports.{arc_value, end_of, of_accepted}
 use Rattle.csq_queue.specs.Calls.{file_at}
 use Rattle.csq_queue.specs.Told.{AddsEvents}
 use Rattle.csq_checked.proofs.Checking.{back_keeps}

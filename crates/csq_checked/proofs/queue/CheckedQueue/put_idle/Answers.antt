@@ -1,7 +1,5 @@
 use Rattle.std.proofs.Common.{◌-◌, ◌<◌, length, rules, subst, sym}
-use Rattle.std.specs.Arc.{arc_value}
-use Rattle.csq_checked.specs.Idle.{AreIdle, IsIdle}
-use Rattle.csq_checked.specs.Passes.{CheckedState, IsPassIn, open_state}
+use Rattle.csq_checked.proofs.Imports.{arc_value, AreIdle, IsIdle, CheckedState, IsPassIn, open_state}
 use Rattle.csq_checked.proofs.Idling.{idle_with, in_slot}
 use Rattle.csq_checked.proofs.queue.CheckedQueue.put_idle.Goals as goal
 

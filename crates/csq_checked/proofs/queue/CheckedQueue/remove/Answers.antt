@@ -1,8 +1,5 @@
 use Rattle.std.proofs.Common.{true, rules}
-use Rattle.std.specs.Arc.{arc_value}
-use Rattle.csq_words.specs.History.{end_of}
-use Rattle.csq_queue.specs.Opens.{IsQueueOn}
-use Rattle.csq_queue.proofs.Giving.{remove_gives}
+use Rattle.csq_checked.proofs.Imports.{arc_value, end_of, IsQueueOn, remove_gives}
 use Rattle.csq_checked.proofs.Checking.{giving_keeps}
 use Rattle.csq_checked.proofs.queue.CheckedQueue.remove.Goals as goal
 

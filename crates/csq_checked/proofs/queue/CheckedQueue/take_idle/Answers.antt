@@ -1,11 +1,5 @@
 use Rattle.std.proofs.Common.{◌≡◌, ◌∙◌, Some, rules, ap, subst, sym}
-use Rattle.std.specs.Arc.{arc_value}
-use Rattle.std.specs.Prelude.{slice_set}
-use Rattle.csq_queue.specs.Opens.{IsQueueOn}
-use Rattle.csq_queue.specs.Rests.{HoldsNothing}
-use Rattle.csq_checked.specs.Idle.{AreIdle}
-use Rattle.csq_checked.specs.Passes.{CheckedState, CheckedPassState}
-use Rattle.csq_checked.specs.Slots.{slot_at}
+use Rattle.csq_checked.proofs.Imports.{arc_value, slice_set, IsQueueOn, HoldsNothing, AreIdle, CheckedState, CheckedPassState, slot_at}
 use Rattle.csq_checked.specs.contracts.queue.CheckedQueue.{the_view}
 use Rattle.csq_checked.proofs.Idling.{idle_without, on_any, put_same}
 use Rattle.csq_checked.proofs.queue.CheckedQueue.take_idle.Goals as goal

@@ -1,7 +1,5 @@
 use Rattle.std.proofs.Common.{refl, length, sym, ap, ◌∙◌, subst, arith}
-use Rattle.std.proofs.lemmas.List.{length-replicate}
-use Rattle.csq_list.specs.Listing.{IsSound}
-use Rattle.csq_list.specs.Chains.{record_at, unlinked}
+use Rattle.csq_list.proofs.Imports.{length-replicate, IsSound, record_at, unlinked}
 use Rattle.csq_list.proofs.Keeping.{sound-fresh}
 use Rattle.csq_list.proofs.ChainParts.{kept-new}
 use Rattle.csq_list.proofs.chain_list.ChainList.with_pool.Goals as goal

@@ -1,9 +1,5 @@
 use Rattle.std.proofs.Common.{◌≡◌, ◌<◌, ◌-◌, true, ap, length, take, subst, sym, ◌∙◌, rules, arith}
-use Rattle.std.proofs.lemmas.List.{take_rest}
-use Rattle.irp_core.specs.declared.ids.IrpId.{IrpId}
-use Rattle.csq_list.specs.Searches.{is_listed}
-use Rattle.csq_list.specs.Positions.{HasPositions, with_positions}
-use Rattle.csq_list.specs.VecParts.{listing_of}
+use Rattle.csq_list.proofs.Imports.{take_rest, IrpId, is_listed, HasPositions, with_positions, listing_of}
 use Rattle.csq_list.proofs.Positions.{known-listed, all-known, placed-anew, length-with_positions}
 use Rattle.csq_list.proofs.vec_list.VecList.count_anew.Given.{Over}
 use Rattle.csq_list.proofs.vec_list.VecList.count_anew.Goals as goal

@@ -1,6 +1,5 @@
 use Rattle.std.proofs.Common.{◌≡◌, sym, arith, ◌∙◌}
-use Rattle.csq_list.specs.VecParts.{listing_of}
-use Rattle.csq_list.specs.Positions.{position_from}
+use Rattle.csq_list.proofs.Imports.{listing_of, position_from}
 use Rattle.csq_list.proofs.Positions.{known-listed, index-of, position-read, position-there}
 use Rattle.csq_list.proofs.vec_list.VecList.index.Given.{Over}
 use Rattle.csq_list.proofs.vec_list.VecList.index.Goals as goal

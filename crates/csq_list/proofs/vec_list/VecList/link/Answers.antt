@@ -1,8 +1,5 @@
 use Rattle.std.proofs.Common.{◌≡◌, ◌<◌, ℕ, List, true, ap, length, get_or, set, length-set, Some, None, subst, sym, ◌∙◌, rules, arith}
-use Rattle.csq_list.specs.Searches.{is_distinct}
-use Rattle.csq_list.specs.Listing.{IsSound, put_at}
-use Rattle.csq_list.specs.Positions.{HasPositions, position_at, first_at, position_from}
-use Rattle.csq_list.specs.VecParts.{listing_of, HasFileLens}
+use Rattle.csq_list.proofs.Imports.{is_distinct, IsSound, put_at, HasPositions, position_at, first_at, position_from, listing_of, HasFileLens}
 use Rattle.csq_list.proofs.Keeping.{length-put_at}
 use Rattle.csq_list.proofs.FileCounting.{filed-small, filed-put}
 use Rattle.csq_list.proofs.VecKeeping.{sound-vec_inserted, listing_of-inserted}

@@ -1,7 +1,6 @@
 use Rattle.std.proofs.Common.{ap, ◌∙◌, arith}
 use Rattle.std.specs.Result.{result_ok}
-use Rattle.std.proofs.lemmas.Fmt.{IsAscii-decimal, parse-decimal}
-use Rattle.std.proofs.lemmas.Str.{IsUtf8-from_ascii}
+use Rattle.csq_replay.proofs.Imports.{IsAscii-decimal, parse-decimal, IsUtf8-from_ascii}
 use Rattle.csq_replay.proofs.lines.pieces.parse_decimal.Goals as goal
 
 pub returns-in_default : goal.returns-in_default

@@ -1,6 +1,5 @@
 use Rattle.std.proofs.Common.{◌∙◌, subst}
-use Rattle.std.specs.Str.Parse.{ParsesUnsigned}
-use Rattle.std.proofs.lemmas.Str.{IsUtf8-from_ascii}
+use Rattle.csq_replay.proofs.Imports.{ParsesUnsigned, IsUtf8-from_ascii}
 use Rattle.csq_replay.proofs.StatusWords.{is_ascii, status_parsed}
 use Rattle.csq_replay.proofs.lines.pieces.parse_status.Goals as goal
 

@@ -1,6 +1,5 @@
 use Rattle.std.proofs.Common.{◌++◌, ℕ, arith, subst}
-use Rattle.irp_core.specs.MachineState.{size_of}
-use Rattle.csq_replay.specs.Schedule.{AreToldOf}
+use Rattle.csq_replay.proofs.Imports.{size_of, AreToldOf}
 use Rattle.csq_replay.proofs.Closings.{grew_lines, told_more}
 use Rattle.csq_replay.proofs.schedule.closing.close_irps.Goals as goal
 

@@ -1,9 +1,5 @@
 use Rattle.std.proofs.Common.{List, string_bytes}
-use Rattle.irp_core.specs.declared.step.Made.{Made}
-use Rattle.irp_core.specs.MachineState.{Agrees, size_of}
-use Rattle.csq_replay.specs.declared.schedule.closing.IrpLine.{IrpLine}
-use Rattle.csq_replay.specs.Schedule.{AreToldOf, irp_lines_text}
-use Rattle.csq_replay.specs.Lines.{GrewBy}
+use Rattle.csq_replay.proofs.Imports.{Made, Agrees, size_of, IrpLine, AreToldOf, irp_lines_text, GrewBy}
 use Rattle.csq_replay.proofs.schedule.closing.close_irps.Given as goal
 
 -- the lines of the IRPs so far were added

@@ -1,8 +1,5 @@
 use Rattle.std.proofs.Common.{sym, ap, ◌∙◌}
-use Rattle.irp_core.specs.declared.ids.IrpId.{IrpId}
-use Rattle.irp_core.specs.Lives.{present}
-use Rattle.irp_core.specs.MachineState.{size_of}
-use Rattle.csq_replay.specs.ScriptAnswer.{is_kept}
+use Rattle.csq_replay.proofs.Imports.{IrpId, present, size_of, is_kept}
 use Rattle.csq_replay.proofs.LastLines.{kept_more, kept_same}
 use Rattle.csq_replay.proofs.script.remains.kept_irps.Goals.{then-is_kept+in_ok-push, else-is_kept}
 use Rattle.csq_replay.proofs.script.remains.kept_irps.Goals as goal

@@ -1,9 +1,5 @@
 use Rattle.std.proofs.Common.{◌≡◌, List, filter}
-use Rattle.irp_core.specs.declared.step.Made.{Made}
-use Rattle.irp_core.specs.MachineState.{Agrees, size_of}
-use Rattle.irp_core.specs.declared.ids.IrpId.{IrpId}
-use Rattle.irp_core.specs.Lives.{present}
-use Rattle.csq_replay.specs.ScriptAnswer.{irps_below, is_kept}
+use Rattle.csq_replay.proofs.Imports.{Made, Agrees, size_of, IrpId, present, irps_below, is_kept}
 use Rattle.csq_replay.proofs.script.remains.kept_irps.Given as goal
 
 -- the IRPs so far that are kept so

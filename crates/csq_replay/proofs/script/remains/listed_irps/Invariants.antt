@@ -1,6 +1,5 @@
 use Rattle.std.proofs.Common.{◌≡◌, ◌++◌, map, length}
-use Rattle.csq_list.specs.declared.entry.Entry.{Entry}
-use Rattle.csq_list.specs.Searches.{rest_after, IsStartIn}
+use Rattle.csq_replay.proofs.Imports.{Entry, rest_after, IsStartIn}
 use Rattle.csq_replay.proofs.script.remains.listed_irps.Given as goal
 
 -- the IRPs so far and those of the rest are all

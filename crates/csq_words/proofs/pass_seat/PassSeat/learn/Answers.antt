@@ -1,6 +1,5 @@
 use Rattle.std.proofs.Common.{◌∙◌, ap, sym, arith, refl}
-use Rattle.csq_words.specs.Records.{with_prefix_of}
-use Rattle.csq_words.specs.Rule.{table_size}
+use Rattle.csq_words.proofs.Imports.{with_prefix_of, table_size}
 use Rattle.csq_words.proofs.Prefixes.{joins_seen_as, sees_all_as}
 use Rattle.csq_words.proofs.SeatValues.{here, prefix_here}
 use Rattle.csq_words.proofs.pass_seat.PassSeat.learn.Goals as goal

@@ -1,10 +1,5 @@
 use Rattle.std.proofs.Common.{◌≡◌, ℕ, zero, suc, ◌<◌, false, ◌∙◌, ap, sym, arith, refl}
-use Rattle.irp_core.specs.declared.step.Kind.TheVariants.{Disarm}
-use Rattle.csq_words.specs.Words.{bit_in}
-use Rattle.csq_words.specs.Queue.{QueueState, has_marked}
-use Rattle.csq_words.specs.Records.{queue_of}
-use Rattle.csq_words.specs.Rule.{table_size}
-use Rattle.csq_words.specs.Plays.{FindsUnmarked}
+use Rattle.csq_words.proofs.Imports.{Disarm, bit_in, QueueState, has_marked, queue_of, table_size, FindsUnmarked}
 use Rattle.csq_words.proofs.LockedSteps.{disarms_as}
 use Rattle.csq_words.proofs.SeatValues.{joined, made_found, made_seat, made_told, made_unmarked}
 use Rattle.csq_words.proofs.queue_seat.QueueSeat.disarm.Goals as goal

@@ -1,11 +1,5 @@
 use Rattle.std.proofs.Common.{◌∙◌, ap, sym, subst, arith, refl}
-use Rattle.irp_core.specs.Runs.{Size}
-use Rattle.csq_words.specs.declared.views.View.{View}
-use Rattle.csq_words.specs.Records.{queue_in, pass_in, with_run}
-use Rattle.csq_words.specs.Rule.{table_size}
-use Rattle.csq_words.specs.Calls.{MayNote, after_note}
-use Rattle.csq_words.specs.Plays.{ObservesNote}
-use Rattle.csq_words.specs.Seats.{joined_record}
+use Rattle.csq_words.proofs.Imports.{Size, View, queue_in, pass_in, with_run, table_size, MayNote, after_note, ObservesNote, joined_record}
 use Rattle.csq_words.proofs.LockedSteps.{notes_as, note_has}
 use Rattle.csq_words.proofs.SeatValues.{joined, stepped}
 use Rattle.csq_words.proofs.queue_seat.QueueSeat.note.Goals as goal

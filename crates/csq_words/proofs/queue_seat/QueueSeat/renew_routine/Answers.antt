@@ -1,8 +1,5 @@
 use Rattle.std.proofs.Common.{◌∙◌, ap, sym, subst, arith, refl}
-use Rattle.irp_core.specs.Runs.{Size}
-use Rattle.csq_words.specs.declared.views.View.{View}
-use Rattle.csq_words.specs.Records.{queue_in, pass_in}
-use Rattle.csq_words.specs.Rule.{table_size, SomeRunAgrees}
+use Rattle.csq_words.proofs.Imports.{Size, View, queue_in, pass_in, table_size, SomeRunAgrees}
 use Rattle.csq_words.proofs.ReuseSteps.{renews_routine_as}
 use Rattle.csq_words.proofs.SeatValues.{joined, routine_renewed}
 use Rattle.csq_words.proofs.queue_seat.QueueSeat.renew_routine.Goals as goal

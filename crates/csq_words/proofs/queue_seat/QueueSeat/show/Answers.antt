@@ -1,7 +1,5 @@
 use Rattle.std.proofs.Common.{◌≡◌, ◌∙◌, None, refl, ap, sym, arith}
-use Rattle.csq_words.specs.Records.{view_of, with_shown, shown_by}
-use Rattle.csq_words.specs.Rule.{table_size}
-use Rattle.csq_words.specs.Seats.{pass_record}
+use Rattle.csq_words.proofs.Imports.{view_of, with_shown, shown_by, table_size, pass_record}
 use Rattle.csq_words.proofs.Receipts.{shows_as, shown_receipt_as}
 use Rattle.csq_words.proofs.SeatValues.{receipt_here, alone}
 use Rattle.csq_words.proofs.queue_seat.QueueSeat.show.Goals as goal

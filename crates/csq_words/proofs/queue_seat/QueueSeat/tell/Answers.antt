@@ -1,8 +1,5 @@
 use Rattle.std.proofs.Common.{◌∙◌, ap, sym, subst, arith, refl}
-use Rattle.irp_core.specs.Runs.{Size}
-use Rattle.csq_words.specs.declared.views.QueueRecord.{QueueRecord}
-use Rattle.csq_words.specs.Records.{queue_in}
-use Rattle.csq_words.specs.Rule.{table_size, RuleHoldsWith}
+use Rattle.csq_words.proofs.Imports.{Size, QueueRecord, queue_in, table_size, RuleHoldsWith}
 use Rattle.csq_words.proofs.Observing.{tells_queue_as}
 use Rattle.csq_words.proofs.SeatValues.{alone}
 use Rattle.csq_words.proofs.queue_seat.QueueSeat.tell.Goals as goal

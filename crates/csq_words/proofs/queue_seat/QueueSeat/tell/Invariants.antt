@@ -1,5 +1,4 @@
-use Rattle.csq_words.specs.Rule.{table_size}
-use Rattle.csq_words.specs.Plays.{any_step, TellsQueue}
+use Rattle.csq_words.proofs.Imports.{table_size, any_step, TellsQueue}
 use Rattle.csq_words.proofs.queue_seat.QueueSeat.tell.Given as goal
 
 -- what the step reports

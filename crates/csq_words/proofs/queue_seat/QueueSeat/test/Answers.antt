@@ -1,7 +1,5 @@
 use Rattle.std.proofs.Common.{◌∙◌, ap, sym, arith, refl}
-use Rattle.csq_words.specs.Queue.{current}
-use Rattle.csq_words.specs.Records.{queue_of}
-use Rattle.csq_words.specs.Rule.{table_size}
+use Rattle.csq_words.proofs.Imports.{current, queue_of, table_size}
 use Rattle.csq_words.proofs.LockedSteps.{tests_as}
 use Rattle.csq_words.proofs.SeatValues.{test_is, joined, made_found, made_seat, made_told}
 use Rattle.csq_words.proofs.queue_seat.QueueSeat.test.Goals as goal

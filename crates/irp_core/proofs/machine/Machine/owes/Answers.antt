@@ -1,7 +1,5 @@
 use Rattle.std.proofs.Common.{◌≡◌, ◌∙◌, subst, sym}
-use Rattle.irp_core.specs.Owners.{owes}
-use Rattle.irp_core.specs.Lives.{present}
-use Rattle.irp_core.specs.MachineState.{MachineState, Agrees}
+use Rattle.irp_core.proofs.Imports.{owes, present, MachineState, Agrees}
 use Rattle.irp_core.proofs.Agreeing.{agrees_reflects}
 use Rattle.irp_core.proofs.Resting.{state_owed}
 use Rattle.irp_core.proofs.machine.Machine.owes.Goals as goal

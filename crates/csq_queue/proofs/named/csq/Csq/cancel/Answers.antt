@@ -1,8 +1,6 @@
-use Rattle.csq_words.specs.History.{IsExtendedBy}
+use Rattle.csq_queue.proofs.Imports.{IsExtendedBy, IrpLife, named, queue_size}
 use Rattle.std.proofs.Common.{◌≡◌, subst, rules}
-use Rattle.irp_core.specs.declared.ids.IrpLife.{IrpLife}
 use Rattle.csq_queue.specs.Calls.{RunsRoutine}
-use Rattle.csq_queue.specs.Named.{named, queue_size}
 use Rattle.csq_queue.proofs.Cancelling.{marked_follows, adds_before}
 use Rattle.csq_queue.proofs.named.csq.Csq.cancel.Goals as goal
 

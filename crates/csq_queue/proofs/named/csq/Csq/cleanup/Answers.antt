@@ -1,11 +1,7 @@
 use Rattle.std.proofs.Common.{◌≡◌, Some, None, arith, rules}
-use Rattle.irp_core.specs.declared.status.TheConstants.NtStatus.{CANCELLED}
-use Rattle.irp_core.specs.declared.step.Kind.TheVariants.{Done}
-use Rattle.csq_words.specs.Records.{saw, with_step, with_completion}
+use Rattle.csq_queue.proofs.Imports.{CANCELLED, Done, saw, with_step, with_completion, File, end_of}
 use Rattle.csq_queue.proofs.Cleaning.{cleaning_start, cleaning_more, cleaning_room, cleaned_sees, cleaned_completes, cleaned_follows, cleaned_left}
 use Rattle.csq_queue.proofs.Cancelling.{completed_follows}
-use Rattle.csq_list.specs.declared.entry.Peek.TheVariants.{File}
-use Rattle.csq_words.specs.History.{end_of}
 use Rattle.csq_queue.proofs.Giving.{remove_next_gives}
 use Rattle.csq_queue.proofs.named.csq.Csq.cleanup.Goals as goal
 

@@ -1,15 +1,5 @@
 use Rattle.std.proofs.Common.{◌≡◌, ℕ, rules, ◌-◌, ◌≤◌, ◌∙◌, ap, sym, subst, arith}
-use lib.ListN.{get_elem?}
-use Rattle.irp_core.specs.Runs.{Size}
-use Rattle.csq_words.specs.declared.views.PassRecord.{PassRecord}
-use Rattle.csq_words.specs.declared.views.QueueRecord.{QueueRecord}
-use Rattle.csq_words.specs.Queue.{Limits}
-use Rattle.csq_words.specs.History.{IsExtendedBy}
-use Rattle.csq_words.specs.Records.{with_back}
-use Rattle.csq_words.specs.Rule.{QueueAndPassHaveRun}
-use Rattle.csq_queue.specs.Named.{out_count, pass_numbered, is_back}
-use Rattle.csq_queue.specs.Opens.{OpenState, OpenPassState}
-use Rattle.csq_queue.specs.Rests.{AreOut, IsClosed}
+use Rattle.csq_queue.proofs.Imports.{get_elem?, Size, PassRecord, QueueRecord, Limits, IsExtendedBy, with_back, QueueAndPassHaveRun, out_count, pass_numbered, is_back, OpenState, OpenPassState, AreOut, IsClosed}
 use Rattle.csq_queue.proofs.Backing.{none_is_out, none_out}
 use Rattle.csq_queue.proofs.Leftovers.{rest_is, records_are}
 use Rattle.csq_queue.proofs.named.csq.Csq.close_with.Given.{Over}

@@ -1,10 +1,6 @@
 use Rattle.irp_core.specs.declared.inside.Inside.TheVariants as inner
-use Rattle.csq_words.specs.History.{IsExtendedBy}
+use Rattle.csq_queue.proofs.Imports.{IsExtendedBy, IsHistoryOf, extended_on, queue_size, OpenState}
 use Rattle.std.proofs.Common.{◌≡◌, sym, subst, ◌∙◌, rules}
-use Rattle.csq_words.specs.Rule.{IsHistoryOf}
-use Rattle.csq_words.proofs.Facts.{extended_on}
-use Rattle.csq_queue.specs.Named.{queue_size}
-use Rattle.csq_queue.specs.Opens.{OpenState}
 use Rattle.csq_queue.proofs.named.csq.Csq.meet.Goals as goal
 
 pub catch_up-requires-clause-agrees : goal.catch_up-requires-clause-agrees

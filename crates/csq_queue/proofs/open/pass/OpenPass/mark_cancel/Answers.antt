@@ -1,13 +1,6 @@
 use Rattle.std.proofs.Common.{◌≢◌, ◌+◌, ap, ◌∙◌, sym, subst, refl, arith, rules}
-use Rattle.irp_core.specs.Steps.{life_of}
-use Rattle.irp_core.specs.declared.step.Kind.TheVariants.{Flag, Take}
-use Rattle.csq_words.specs.Records.{saw, with_step}
-use Rattle.csq_words.specs.Seats.{pass_record}
-use Rattle.csq_words.specs.Words.{bit_word, bit_in}
-use Rattle.csq_queue.specs.Named.{named, IsPassSeatOf}
-use Rattle.csq_queue.specs.Opens.{OpenPassState}
+use Rattle.csq_queue.proofs.Imports.{life_of, Flag, Take, saw, with_step, pass_record, bit_word, bit_in, named, IsPassSeatOf, OpenPassState, EndsWithTake}
 use Rattle.csq_queue.proofs.Opening.{own_pass, pass_on}
-use Rattle.csq_queue.specs.Owned.{EndsWithTake}
 use Rattle.csq_queue.proofs.Passing.{IsMark, marked_room, marked_pass, marked_is, marked_ends, marked_owes, missed_pass, missed_is, missed_ends}
 use Rattle.csq_queue.proofs.open.pass.OpenPass.mark_cancel.Given.{Over}
 use Rattle.csq_queue.proofs.open.pass.OpenPass.mark_cancel.Goals as goal
@@ -32,8 +25,6 @@ pub returns-then-take-set-clause-call : goal.returns-then-take-set-clause-call
 returns-then-take-set-clause-call g c =
     let w = c.args.words.now in
     let i = named c.args.irp c.args.life in
-    let old = c.self.inside.seat in
-    let mid = c.flag.new.self in
     let new = c.take.new.self in
     let p = own g c.before in
     let m = mark g c.before in
@@ -42,26 +33,23 @@ returns-then-take-set-clause-call g c =
       known = λ _. m.known;
       step = (
         bit_in c.flag.result,
-        missed_is w.table w.size old new c.self.inside.number c.self.inside.tokens c.self.inside.claims i p mid c.flag.result c.take.result m other
+        missed_is w.size new p m other
             ∙ ap (λ (z : OpenPassState). saw (pass_record new).run (with_step (Take i) 0 (with_step (Flag i) (bit_in c.flag.result) z.pass))) c.self.view_is,
         subst (λ (z : OpenPassState). EndsWithTake w.size i (bit_in c.flag.result) 0 z.pass (pass_record new)) c.self.view_is
-            (missed_ends w.table w.size old new c.self.inside.number c.self.inside.tokens c.self.inside.claims i p mid c.flag.result c.take.result m other),
+            (missed_ends w.size new p m other),
       );
       claimed = tt;
-      missed = λ _. missed_pass w.table w.size old new c.self.inside.number c.self.inside.tokens c.self.inside.claims i p mid c.flag.result c.take.result m other;
+      missed = λ _. missed_pass w.size new p m other;
       refused = tt;
     }
 
 pub overflow_add-self : goal.overflow_add-self
 overflow_add-self g c =
     let w = c.args.words.now in
-    let i = named c.args.irp c.args.life in
-    let old = c.self.inside.seat in
-    let mid = c.flag.new.self in
     let new = c.take.new.self in
     let p = own g c.before in
     let m = mark g c.before in
-    let room = marked_room w.table w.size old new c.self.inside.number c.self.inside.tokens c.self.inside.claims i p mid c.flag.result c.take.result m (c.if-take-set.false ∙ c.bit_word-set.ensures) in
+    let room = marked_room w.size new p m (c.if-take-set.false ∙ c.bit_word-set.ensures) in
     let most = c.self.invariant.1 in
     let irps = c.requires.irps in
     let same = ap (λ (z : OpenPassState). z.irps) c.self.view_is in
@@ -70,14 +58,11 @@ overflow_add-self g c =
 pub invariant_of-self-2 : goal.invariant_of-self-2
 invariant_of-self-2 g c =
     let w = c.args.words.now in
-    let i = named c.args.irp c.args.life in
-    let old = c.self.inside.seat in
-    let mid = c.flag.new.self in
     let new = c.take.new.self in
     let p = own g c.before.before in
     let m = mark g c.before.before in (
       own_pass new c.self.inside.irps c.self.inside.passes c.self.inside.number c.self.inside.tokens (c.self.inside.claims + 1) w c.args.self.now (search rules) c.requires
-          (marked_pass w.table w.size old new c.self.inside.number c.self.inside.tokens c.self.inside.claims i p mid c.flag.result c.take.result m (c.if-take-set.false ∙ c.bit_word-set.ensures)),
+          (marked_pass w.size new p m (c.if-take-set.false ∙ c.bit_word-set.ensures)),
       c.self.invariant.1,
     )
 
@@ -85,8 +70,6 @@ pub returns-clause-call : goal.returns-clause-call
 returns-clause-call g c =
     let w = c.args.words.now in
     let i = named c.args.irp c.args.life in
-    let old = c.self.inside.seat in
-    let mid = c.flag.new.self in
     let new = c.take.new.self in
     let p = own g c.before.before in
     let m = mark g c.before.before in
@@ -95,12 +78,12 @@ returns-clause-call g c =
       known = λ _. m.known;
       step = (
         bit_in c.flag.result,
-        marked_is w.table w.size old new c.self.inside.number c.self.inside.tokens c.self.inside.claims i p mid c.flag.result c.take.result m set
+        marked_is w.size new p m set
             ∙ ap (λ (z : OpenPassState). saw (pass_record new).run (with_step (Take i) 1 (with_step (Flag i) (bit_in c.flag.result) z.pass))) c.self.view_is,
         subst (λ (z : OpenPassState). EndsWithTake w.size i (bit_in c.flag.result) 1 z.pass (pass_record new)) c.self.view_is
-            (marked_ends w.table w.size old new c.self.inside.number c.self.inside.tokens c.self.inside.claims i p mid c.flag.result c.take.result m set),
+            (marked_ends w.size new p m set),
       );
-      claimed = (refl, marked_owes w.table w.size old new c.self.inside.number c.self.inside.tokens c.self.inside.claims i p mid c.flag.result c.take.result m set);
+      claimed = (refl, marked_owes w.size new p m set);
       missed = search rules;
       refused = tt;
     }

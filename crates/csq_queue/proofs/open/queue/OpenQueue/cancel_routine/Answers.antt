@@ -1,20 +1,9 @@
 use Rattle.std.proofs.Common.{◌≡◌, ◌+◌, ◌-◌, ◌<◌, ◌∷◌, true, false, ap, subst, sym, ◌∙◌, arith, rules}
-use Rattle.irp_core.specs.Runs.{Size}
-use Rattle.irp_core.specs.Steps.{number}
+use Rattle.csq_queue.proofs.Imports.{Size, number, Out, due_mark, QueueState, end_of, AddsEvents, owes_in, removed_in, held_list, owed_list, queue_of, with_step, joined_record, pass_record, has_life, AreApart, held_count, owed_count, IsPassSeatOf}
 use Rattle.irp_core.specs.declared.step.Kind.TheVariants.{Out as StepOut}
-use Rattle.csq_words.specs.declared.views.Event.TheVariants.{Out}
-use Rattle.csq_words.specs.Calls.{due_mark}
-use Rattle.csq_words.specs.Queue.{QueueState}
-use Rattle.csq_words.specs.History.{end_of}
-use Rattle.csq_queue.specs.Told.{AddsEvents}
-use Rattle.irp_core.specs.Own.{owes_in, removed_in, held_list, owed_list}
-use Rattle.csq_words.specs.Records.{queue_of, with_step}
-use Rattle.csq_words.specs.Seats.{joined_record, pass_record}
-use Rattle.csq_queue.specs.Counts.{has_life, AreApart, held_count, owed_count}
 use Rattle.csq_queue.proofs.Counting.{out_owed, out_none_owed, out_held_apart, out_owed_apart, out_room}
 use Rattle.csq_queue.proofs.Spending.{out_holds}
 use Rattle.csq_queue.proofs.Owning.{owed_no_other, owed_not_removed}
-use Rattle.csq_queue.specs.Named.{IsPassSeatOf}
 use Rattle.csq_queue.proofs.Opening.{on_words, own_adds, own_pass, pass_on}
 use Rattle.csq_queue.proofs.open.queue.OpenQueue.cancel_routine.Goals as goal
 

@@ -1,14 +1,6 @@
 use Rattle.irp_core.specs.declared.inside.Inside.TheVariants as inner
-use Rattle.csq_words.specs.History.{IsExtendedBy}
+use Rattle.csq_queue.proofs.Imports.{IsExtendedBy, Size, own, QueueRecord, caught_up, IsHistoryOf, joined_record, pass_record, OpenState, OpenPassState, SeesRun}
 use Rattle.std.proofs.Common.{◌≡◌, ap, sym, subst, ◌∙◌}
-use Rattle.irp_core.specs.Runs.{Size}
-use Rattle.irp_core.specs.Steps.{own}
-use Rattle.csq_words.specs.declared.views.QueueRecord.{QueueRecord}
-use Rattle.csq_words.specs.Records.{caught_up}
-use Rattle.csq_words.specs.Rule.{IsHistoryOf}
-use Rattle.csq_words.specs.Seats.{joined_record, pass_record}
-use Rattle.csq_queue.specs.Opens.{OpenState, OpenPassState}
-use Rattle.csq_queue.specs.Told.{SeesRun}
 use Rattle.csq_queue.proofs.Meeting.{caught_up_sees}
 use Rattle.csq_queue.proofs.open.queue.OpenQueue.catch_up.Goals as goal
 

@@ -1,7 +1,5 @@
 use Rattle.std.proofs.Common.{◌-◌, sym, subst}
-use Rattle.csq_words.specs.Queue.{Limits}
-use Rattle.csq_words.specs.Finals.{AllBack}
-use Rattle.csq_queue.specs.Rests.{GivenBack, IsClosed}
+use Rattle.csq_queue.proofs.Imports.{Limits, AllBack, GivenBack, IsClosed}
 use Rattle.csq_queue.proofs.Leftovers.{left_so, given_run}
 use Rattle.csq_queue.proofs.Presence.{lives_at}
 use Rattle.csq_queue.proofs.open.queue.OpenQueue.close.Goals as goal

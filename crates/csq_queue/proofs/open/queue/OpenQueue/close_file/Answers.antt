@@ -1,11 +1,7 @@
 use Rattle.std.proofs.Common.{[], ◌∷◌, Some, ap, subst, ◌∙◌, rules}
-use Rattle.csq_words.specs.Rule.{SomeRunAgrees}
-use Rattle.csq_words.specs.Seats.{pass_record}
-use Rattle.csq_queue.specs.Opens.{OpenPassState, limits_on}
+use Rattle.csq_queue.proofs.Imports.{SomeRunAgrees, pass_record, OpenPassState, limits_on, AddsEvents, CloseFile}
 use Rattle.csq_queue.proofs.Leaving.{close_adds}
 use Rattle.csq_queue.proofs.Opening.{own_adds}
-use Rattle.csq_queue.specs.Told.{AddsEvents}
-use Rattle.csq_words.specs.declared.views.Event.TheVariants.{CloseFile}
 use Rattle.csq_queue.proofs.open.queue.OpenQueue.close_file.Goals as goal
 
 pub returns-clause-call : goal.returns-clause-call

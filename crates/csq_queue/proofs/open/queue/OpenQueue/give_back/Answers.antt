@@ -1,11 +1,5 @@
 use Rattle.std.proofs.Common.{◌≡◌, ◌-◌, true, List, ◌∷◌, ◌∙◌, ap, sym, subst, rules}
-use Rattle.std.specs.Prelude.{slice_set}
-use Rattle.csq_words.specs.declared.views.PassRecord.{PassRecord}
-use Rattle.csq_words.specs.Calls.{MayComeBack}
-use Rattle.csq_words.specs.Seats.{joined_record, pass_record}
-use Rattle.csq_queue.specs.Counts.{held_count, owed_count}
-use Rattle.csq_queue.specs.Named.{AreFlags}
-use Rattle.csq_queue.specs.Opens.{OpenPassState, limits_on}
+use Rattle.csq_queue.proofs.Imports.{slice_set, PassRecord, MayComeBack, joined_record, pass_record, held_count, owed_count, AreFlags, OpenPassState, limits_on}
 use Rattle.csq_queue.proofs.Backing.{may_come_back, flags_more}
 use Rattle.csq_queue.proofs.Opening.{IsOpenOn, on_words, own_words, pass_on}
 use Rattle.csq_queue.proofs.open.queue.OpenQueue.give_back.Goals as goal

@@ -1,11 +1,5 @@
 use Rattle.std.proofs.Common.{◌≡◌, ◌-◌, ◌+◌, ◌≤◌, ◌∙◌, ◌∷◌, ap, sym, subst, arith, List}
-use Rattle.csq_words.specs.declared.views.PassRecord.{PassRecord}
-use Rattle.csq_words.specs.declared.views.QueueRecord.{QueueRecord}
-use Rattle.csq_words.specs.Records.{new_pass}
-use Rattle.csq_words.specs.History.{IsExtendedBy}
-use Rattle.csq_queue.specs.Named.{pass_numbered}
-use Rattle.csq_queue.specs.Opens.{OpenState, OpenPassState}
-use Rattle.csq_queue.specs.Rests.{FirstAreBack}
+use Rattle.csq_queue.proofs.Imports.{PassRecord, QueueRecord, new_pass, IsExtendedBy, pass_numbered, OpenState, OpenPassState, FirstAreBack}
 use Rattle.csq_queue.proofs.Backing.{rack_more, rest_more, all_recorded}
 use Rattle.csq_queue.proofs.open.queue.OpenQueue.give_rest.Goals as goal
 

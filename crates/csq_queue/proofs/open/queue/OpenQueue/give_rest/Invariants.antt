@@ -1,6 +1,5 @@
 use Rattle.std.proofs.Common.{◌≡◌, ◌+◌, ◌-◌}
-use Rattle.csq_queue.specs.Opens.{IsRackOn}
-use Rattle.csq_queue.specs.Rests.{FirstAreBack, GivenBack}
+use Rattle.csq_queue.proofs.Imports.{IsRackOn, FirstAreBack, GivenBack}
 use Rattle.csq_queue.proofs.open.queue.OpenQueue.give_rest.Given as goal
 
 -- all that were taken so far are back

@@ -1,24 +1,7 @@
 use Rattle.std.proofs.Common.{◌≡◌, false, List, [], ◌∷◌, Result, IfOk, IfErr, IfSome, Ok, Err, sym, ap, subst, arith, rules}
-use Rattle.irp_core.specs.Runs.{Size}
-use Rattle.irp_core.specs.declared.ids.IrpLife.{IrpLife}
-use Rattle.csq_list.specs.declared.refusals.InsertStatus.{InsertStatus}
-use Rattle.csq_words.specs.declared.views.Event.{Event}
-use Rattle.csq_words.specs.declared.views.Event.TheVariants.{Insert}
-use Rattle.csq_words.specs.declared.views.InsertReply.TheVariants.{Refused}
-use Rattle.csq_words.specs.Queue.{QueueState, current}
-use Rattle.csq_words.specs.History.{end_of}
-use Rattle.csq_words.specs.declared.views.PassRecord.{PassRecord}
-use Rattle.csq_words.specs.Records.{queue_of, caught_up, with_run}
-use Rattle.csq_words.specs.Seats.{joined_record, pass_record}
-use Rattle.csq_queue.specs.Told.{AddsEvents, IsNew}
-use Rattle.csq_queue.specs.declared.tokens.InsertAnswer.{InsertAnswer}
-use Rattle.csq_queue.specs.Adding.{Adds}
-use Rattle.csq_queue.specs.Inserts.{IsInsert, given_in}
-use Rattle.csq_words.specs.Rule.{SomeRunAgrees}
-use Rattle.csq_queue.specs.Opens.{OpenPassState, limits_on}
+use Rattle.csq_queue.proofs.Imports.{Size, IrpLife, InsertStatus, Event, Insert, Refused, QueueState, current, end_of, PassRecord, queue_of, caught_up, with_run, joined_record, pass_record, AddsEvents, IsNew, InsertAnswer, Adds, IsInsert, given_in, SomeRunAgrees, OpenPassState, limits_on, MakesSteps, insert_steps}
 use Rattle.csq_queue.proofs.Leaving.{room_for, left_makes}
 use Rattle.csq_queue.proofs.Opening.{on_words, own_adds, pass_on, own_new}
-use Rattle.csq_queue.specs.Steps.{MakesSteps, insert_steps}
 use Rattle.csq_queue.proofs.Giving.{insert_gives}
 use Rattle.csq_queue.proofs.Spending.{cancelled_holds}
 use Rattle.csq_queue.proofs.open.queue.OpenQueue.insert.Given.{Over}

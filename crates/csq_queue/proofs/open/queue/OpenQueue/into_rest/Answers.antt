@@ -1,6 +1,5 @@
 use Rattle.std.proofs.Common.{sym, subst}
-use Rattle.csq_words.specs.Finals.{AllBack}
-use Rattle.csq_queue.specs.Opens.{OpenState}
+use Rattle.csq_queue.proofs.Imports.{AllBack, OpenState}
 use Rattle.csq_queue.proofs.open.queue.OpenQueue.into_rest.Goals as goal
 
 pub close-requires-clause-back : goal.close-requires-clause-back

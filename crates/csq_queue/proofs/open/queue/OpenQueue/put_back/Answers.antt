@@ -1,29 +1,6 @@
 use Rattle.std.proofs.Common.{◌≡◌, ◌-◌, ◌<◌, List, [], ◌∷◌, length, Result, IfOk, IfErr, Ok, Err, sym, ap, subst, ◌∙◌, arith, rules}
-use Rattle.irp_core.specs.Runs.{Size}
-use Rattle.irp_core.specs.Steps.{number}
-use Rattle.irp_core.specs.declared.ids.IrpLife.{IrpLife}
-use Rattle.irp_core.specs.declared.ids.FileId.{FileId}
-use Rattle.irp_core.specs.Own.{held_list}
-use Rattle.csq_list.specs.declared.refusals.InsertStatus.{InsertStatus}
-use Rattle.csq_words.specs.declared.views.Event.{Event}
-use Rattle.csq_words.specs.declared.views.Event.TheVariants.{PutBack}
-use Rattle.csq_words.specs.declared.views.InsertReply.TheVariants.{Refused}
-use Rattle.csq_words.specs.declared.views.PassRecord.{PassRecord}
-use Rattle.csq_words.specs.Queue.{QueueState}
-use Rattle.csq_words.specs.History.{end_of}
-use Rattle.csq_words.specs.Records.{queue_of, caught_up, with_run}
-use Rattle.csq_words.specs.Rule.{SomeRunAgrees}
-use Rattle.csq_words.specs.Seats.{joined_record, pass_record}
-use Rattle.csq_queue.specs.Adding.{Adds}
+use Rattle.csq_queue.proofs.Imports.{Size, number, IrpLife, FileId, held_list, InsertStatus, Event, PutBack, Refused, PassRecord, QueueState, end_of, queue_of, caught_up, with_run, SomeRunAgrees, joined_record, pass_record, Adds, AreApart, held_count, IsPutBack, IsPassSeatOf, OpenPassState, limits_on, HoldsRemoved, MakesSteps, put_back_steps, AddsEvents, InsertAnswer}
 use Rattle.csq_queue.specs.Calls.{file_at}
-use Rattle.csq_queue.specs.Counts.{AreApart, held_count}
-use Rattle.csq_queue.specs.Inserts.{IsPutBack}
-use Rattle.csq_queue.specs.Named.{IsPassSeatOf}
-use Rattle.csq_queue.specs.Opens.{OpenPassState, limits_on}
-use Rattle.csq_queue.specs.Owned.{HoldsRemoved}
-use Rattle.csq_queue.specs.Steps.{MakesSteps, put_back_steps}
-use Rattle.csq_queue.specs.Told.{AddsEvents}
-use Rattle.csq_queue.specs.declared.tokens.InsertAnswer.{InsertAnswer}
 use Rattle.csq_queue.proofs.Leaving.{left_makes}
 use Rattle.csq_queue.proofs.Opening.{own_adds, own_pass, pass_on}
 use Rattle.csq_queue.proofs.Returning.{Returns, returns, of_accepted, back_some, back_counts, back_apart, pending_none}

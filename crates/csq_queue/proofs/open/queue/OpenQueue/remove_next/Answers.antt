@@ -1,13 +1,7 @@
 use Rattle.std.proofs.Common.{◌≡◌, ◌+◌, true, IfSome, ap, subst, arith, rules}
-use Rattle.csq_words.specs.Queue.{QueueState}
-use Rattle.csq_words.specs.History.{end_of}
-use Rattle.csq_words.specs.Records.{queue_of}
-use Rattle.csq_words.specs.Seats.{joined_record, pass_record}
-use Rattle.csq_queue.specs.Opens.{limits_on}
+use Rattle.csq_queue.proofs.Imports.{QueueState, end_of, queue_of, joined_record, pass_record, limits_on, MakesSteps, remove_next_steps, IsNew}
 use Rattle.csq_queue.proofs.Leaving.{room_for, left_makes, left_pass}
 use Rattle.csq_queue.proofs.Opening.{on_words, own_adds, pass_on, own_new, own_pass}
-use Rattle.csq_queue.specs.Steps.{MakesSteps, remove_next_steps}
-use Rattle.csq_queue.specs.Told.{IsNew}
 use Rattle.csq_queue.proofs.Giving.{remove_next_gives}
 use Rattle.csq_queue.proofs.Spending.{removed_holds}
 use Rattle.csq_queue.proofs.open.queue.OpenQueue.remove_next.Given.{Over}

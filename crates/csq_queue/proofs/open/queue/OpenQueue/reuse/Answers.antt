@@ -1,14 +1,8 @@
 use Rattle.std.proofs.Common.{◌≡◌, IfErr, ap, sym, ◌∙◌, subst, rules}
-use Rattle.irp_core.specs.declared.ids.IrpLife.{IrpLife}
-use Rattle.csq_words.specs.declared.views.PassRecord.{PassRecord}
-use Rattle.csq_words.specs.History.{end_of}
-use Rattle.csq_words.specs.Queue.{current}
-use Rattle.csq_words.specs.Seats.{joined_record, pass_record}
-use Rattle.csq_queue.specs.Opens.{OpenPassState}
+use Rattle.csq_queue.proofs.Imports.{IrpLife, PassRecord, end_of, current, joined_record, pass_record, OpenPassState, AddsEvents}
 use Rattle.csq_queue.specs.Refusals.{IsReuseRefusal, reuse_events}
 use Rattle.csq_queue.proofs.Opening.{own_adds}
 use Rattle.csq_queue.proofs.Reusing.{refused_then}
-use Rattle.csq_queue.specs.Told.{AddsEvents}
 use Rattle.csq_queue.proofs.open.queue.OpenQueue.reuse.Goals as goal
 
 pub returns-clause-call : goal.returns-clause-call

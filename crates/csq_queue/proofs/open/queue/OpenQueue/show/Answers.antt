@@ -1,14 +1,7 @@
 use Rattle.irp_core.specs.declared.inside.Inside.TheVariants as inner
 use Rattle.std.proofs.Common.{◌≡◌, ap, sym, subst, ◌∙◌}
-use Rattle.irp_core.specs.Runs.{Size}
-use Rattle.csq_words.specs.declared.views.QueueRecord.{QueueRecord}
-use Rattle.irp_core.specs.Own.{inside_of}
-use Rattle.csq_words.specs.Records.{with_run}
-use Rattle.csq_words.specs.Rule.{IsHistoryOf}
-use Rattle.csq_words.specs.Seats.{QueueSeatState, joined_record, pass_record}
-use Rattle.irp_core.specs.declared.inside.Inside.TheVariants.{Nothing}
+use Rattle.csq_queue.proofs.Imports.{Size, QueueRecord, inside_of, with_run, IsHistoryOf, QueueSeatState, joined_record, pass_record, Nothing, SeesRun}
 use Rattle.csq_queue.proofs.Meeting.{observed_history}
-use Rattle.csq_queue.specs.Told.{SeesRun}
 use Rattle.csq_queue.proofs.Presence.{sees_run}
 use Rattle.csq_queue.proofs.open.queue.OpenQueue.show.Goals as goal
 

@@ -1,7 +1,5 @@
 use Rattle.std.proofs.Common.{◌≡◌, ℕ, zero, suc, length, refl, ap, ◌∙◌, arith}
-use Rattle.atomic_table.specs.Seated.{TableId}
-use Rattle.csq_words.specs.Seats.{new_seats}
-use Rattle.csq_queue.specs.Opens.{OpenRackState, rack_table}
+use Rattle.csq_queue.proofs.Imports.{TableId, new_seats, OpenRackState, rack_table}
 use Rattle.csq_queue.proofs.open.rack.OpenRack.put_back.Goals as goal
 
 -- so many seats are left

@@ -1,7 +1,5 @@
 use Rattle.std.proofs.Common.{◌≡◌, ℕ, zero, suc, ◌<◌, ◌-◌, List, ◌∷◌, Option, ◌∙◌, ap, sym, arith}
-use Rattle.atomic_table.specs.Seated.{TableId}
-use Rattle.csq_words.specs.Seats.{PassSeatState, new_seats}
-use Rattle.csq_queue.specs.Opens.{OpenRackState, rack_table}
+use Rattle.csq_queue.proofs.Imports.{TableId, PassSeatState, new_seats, OpenRackState, rack_table}
 use Rattle.csq_queue.proofs.open.rack.OpenRack.take.Goals as goal
 
 -- the seats behind the first are of the same table

@@ -1,8 +1,6 @@
 use Rattle.std.proofs.Common.{◌++◌, ◌∷◌, ◌∙◌, Some, ap, sym, refl, append-nil, string_bytes, codes, decimal}
-use Rattle.std.proofs.lemmas.Str.{IsUtf8-from_ascii}
 use Rattle.csq_replay.specs.declared.schedule.outcome.Outcome.TheVariants.{Skipped, Accepted}
-use Rattle.csq_replay.specs.Outcomes.{step_of}
-use Rattle.csq_replay.specs.Schedule.{run_of, claim_line}
+use Rattle.csq_replay.proofs.Imports.{IsUtf8-from_ascii, step_of, run_of, claim_line}
 use Rattle.csq_replay.proofs.Closings.{comes_of_size}
 use Rattle.csq_replay.proofs.StepText.{line_ascii}
 use Rattle.csq_replay.proofs.schedule.replay.ReplayAnswerer.answer_line.Goals as goal

@@ -1,6 +1,5 @@
 use Rattle.std.proofs.Common.{◌++◌, ◌∙◌, ap, sym, codes, string_bytes}
-use Rattle.csq_replay.specs.Schedule.{run_of, claim_lines, irp_lines_text, rest_text}
-use Rattle.csq_replay.specs.Lines.{GrewBy}
+use Rattle.csq_replay.proofs.Imports.{run_of, claim_lines, irp_lines_text, rest_text, GrewBy}
 use Rattle.csq_replay.proofs.Closings.{grew_more, asked, not_asked, closing_of_size}
 use Rattle.csq_replay.proofs.schedule.replay.ReplayAnswerer.close.Goals as goal
 

@@ -1,6 +1,4 @@
-use Rattle.csq_replay.specs.Calls.{after_routine}
-use Rattle.csq_replay.specs.Calls.Calls.{runs_routine}
-use Rattle.csq_replay.specs.Calls.Does.{cancel_claimed, cancel_unclaimed}
+use Rattle.csq_replay.proofs.Imports.{after_routine, runs_routine, cancel_claimed, cancel_unclaimed}
 use Rattle.csq_replay.proofs.Calling.{claimed_owes, out_may_come}
 use Rattle.csq_replay.proofs.Cleaning.{cancel_refused}
 use Rattle.csq_replay.proofs.Handing.{handed_on}

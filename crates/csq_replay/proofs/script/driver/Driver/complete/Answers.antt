@@ -1,8 +1,5 @@
 use Rattle.std.proofs.Common.{refl, sym, ap, ◌∙◌, arith}
-use Rattle.irp_core.specs.Owners.{holds}
-use Rattle.csq_replay.specs.declared.script.call.Call.TheVariants.{Complete}
-use Rattle.csq_replay.specs.Calls.{script_pass, present_of, completing}
-use Rattle.csq_replay.specs.Calls.Calls.{completes}
+use Rattle.csq_replay.proofs.Imports.{holds, Complete, script_pass, present_of, completing, completes}
 use Rattle.csq_replay.proofs.Going.{present_is}
 use Rattle.csq_replay.proofs.Calling.{unknown_keeps, not_held_keeps, pending_keeps, irps_are}
 use Rattle.csq_replay.proofs.script.driver.Driver.complete.Goals as goal

@@ -1,9 +1,5 @@
 use Rattle.std.proofs.Common.{Some, refl, ap, ◌∙◌, arith}
-use Rattle.std.specs.Prelude.{slice_set}
-use Rattle.irp_core.specs.declared.status.NtStatus.{NtStatus}
-use Rattle.irp_core.specs.declared.inside.Inside.TheVariants.{Nothing}
-use Rattle.irp_core.specs.declared.step.Kind.TheVariants.{Done}
-use Rattle.csq_replay.specs.Calls.{present_of}
+use Rattle.csq_replay.proofs.Imports.{slice_set, NtStatus, Nothing, Done, present_of}
 use Rattle.csq_replay.proofs.Going.{starts, may_done, present_is, may_as, done_as}
 use Rattle.csq_replay.proofs.Calling.{done_keeps, irps_are}
 use Rattle.csq_replay.proofs.script.driver.Driver.finish.Goals as goal

@@ -1,10 +1,6 @@
 use Rattle.std.proofs.Common.{◌≡◌, false, ap, inl, inr, sym, ◌∙◌, subst}
-use Rattle.irp_core.specs.Steps.{same_pass}
-use Rattle.irp_core.specs.Lives.{present}
-use Rattle.irp_core.specs.MachineState.{size_of}
-use Rattle.irp_core.specs.declared.standing.IrpPlace.{IrpPlace}
+use Rattle.csq_replay.proofs.Imports.{same_pass, present, size_of, IrpPlace, IsPlace}
 use Rattle.irp_core.specs.declared.standing.IrpPlace.TheVariants.{HeldBy}
-use Rattle.irp_core.specs.Completion.{IsPlace}
 use Rattle.csq_replay.proofs.Calling.{held_there, place_holds}
 use Rattle.csq_replay.proofs.script.driver.Driver.holds.Goals as goal
 

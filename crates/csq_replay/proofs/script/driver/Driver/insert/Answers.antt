@@ -1,15 +1,8 @@
 use Rattle.std.proofs.Common.{refl, ap, ◌∙◌, arith, ◌∷◌, []}
-use Rattle.irp_core.specs.declared.step.Kind.TheVariants.{Arm, Test, Disarm}
-use Rattle.irp_core.specs.declared.status.TheConstants.NtStatus.{CANCELLED}
-use Rattle.irp_core.proofs.Names.{same_irp-refl, same_pass-refl}
-use Rattle.csq_list.specs.Listing.{Listing}
-use Rattle.csq_list.specs.Searches.{is_listed}
-use Rattle.csq_list.proofs.Keeping.{listed-put}
+use Rattle.csq_replay.proofs.Imports.{Arm, Test, Disarm, CANCELLED, same_irp-refl, same_pass-refl, Listing, is_listed, listed-put, next_step, present_of, completing, doing, cancels_insert}
 use Rattle.csq_words.specs.declared.views.InsertReply.TheVariants as reply
 use Rattle.csq_words.specs.declared.views.Event.TheVariants as event
-use Rattle.csq_replay.specs.Calls.{next_step, present_of, completing, doing}
 use Rattle.csq_replay.proofs.Going.{present_is, made_as, may_as}
-use Rattle.csq_replay.specs.Calls.Calls.{cancels_insert}
 use Rattle.csq_replay.proofs.Inserting.{refused_keeps, arm_may, test_may, pending_keeps, disarm_may, taken_keeps, cancel_reply, known}
 use Rattle.csq_replay.proofs.Calling.{irps_are}
 use Rattle.csq_replay.proofs.Handing.{handed_on}

@@ -1,11 +1,5 @@
 use Rattle.std.proofs.Common.{refl, sym, ap, ◌∙◌, arith}
-use Rattle.std.proofs.lemmas.Bool.{not-true, not-false}
-use Rattle.irp_core.specs.Runs.{Size}
-use Rattle.irp_core.specs.Steps.{same_irp}
-use Rattle.irp_core.specs.declared.inside.Inside.TheVariants.{Nothing, Cancelling}
-use Rattle.irp_core.specs.declared.step.Kind.TheVariants.{Flag}
-use Rattle.csq_replay.specs.declared.script.call.Call.TheVariants.{Mark}
-use Rattle.csq_replay.specs.Calls.{next_step}
+use Rattle.csq_replay.proofs.Imports.{not-true, not-false, Size, same_irp, Nothing, Cancelling, Flag, Mark, next_step}
 use Rattle.csq_replay.proofs.Going.{starts, went, may_flag, may_take, present_is, now_named, name_present}
 use Rattle.csq_replay.proofs.Calling.{mark_keeps, unknown_keeps, stale_keeps}
 use Rattle.csq_replay.proofs.script.driver.Driver.mark.Goals as goal

@@ -1,9 +1,5 @@
 use Rattle.std.proofs.Common.{◌≡◌, Some, None, ℕ, refl, ◌∙◌, ap, arith, List, Option, replicate, length}
-use Rattle.std.specs.Prelude.{slice_index_or}
-use Rattle.std.proofs.lemmas.List.{get_or-replicate, length-replicate}
-use Rattle.irp_core.specs.Runs.{Size}
-use Rattle.irp_core.specs.declared.ids.FileId.{FileId}
-use Rattle.irp_core.specs.declared.status.NtStatus.{NtStatus}
+use Rattle.csq_replay.proofs.Imports.{slice_index_or, get_or-replicate, length-replicate, Size, FileId, NtStatus}
 use Rattle.csq_replay.proofs.script.driver.Driver.new.Goals as goal
 
 pub returns : goal.returns

@@ -1,10 +1,6 @@
 use Rattle.std.proofs.Common.{◌≡◌, true, Some, None, refl, ap, ◌∙◌, subst, arith}
-use Rattle.irp_core.specs.Runs.{Size}
-use Rattle.irp_core.specs.declared.step.Kind.TheVariants.{Disarm}
-use Rattle.csq_list.specs.Listing.{Listing, without_irp}
-use Rattle.csq_list.specs.Searches.{is_listed, rest_after}
+use Rattle.csq_replay.proofs.Imports.{Size, Disarm, Listing, without_irp, is_listed, rest_after, present_of}
 use Rattle.csq_list.specs.Searches as plainly
-use Rattle.csq_replay.specs.Calls.{present_of}
 use Rattle.csq_replay.proofs.Going.{may_end, made_as, may_as}
 use Rattle.csq_replay.proofs.Calling.{keeps_as}
 use Rattle.csq_replay.proofs.Removing.{seeks_first, seeks_name, listed_known, may_disarm_next, seeks_more, seeks_hit, seeks_end}

@@ -1,9 +1,5 @@
 use Rattle.std.proofs.Common.{◌≡◌, length}
-use Rattle.irp_core.specs.MachineState.{size_of}
-use Rattle.csq_list.specs.Searches.{rest_after, IsStartIn}
-use Rattle.csq_words.specs.Queue.{Limits}
-use Rattle.csq_replay.specs.Calls.{Script}
-use Rattle.csq_replay.specs.Drivers.{Keeping, Keeps}
+use Rattle.csq_replay.proofs.Imports.{size_of, rest_after, IsStartIn, Limits, Script, Keeping, Keeps}
 use Rattle.csq_replay.proofs.Removing.{Seeks}
 use Rattle.csq_replay.proofs.script.driver.Driver.next.Given as goal
 

@@ -1,14 +1,5 @@
 use Rattle.std.proofs.Common.{◌&&◌, None, refl, sym, ap, ◌∙◌}
-use Rattle.std.proofs.lemmas.Bool.{and_parts}
-use Rattle.irp_core.specs.Steps.{same_irp}
-use Rattle.irp_core.specs.declared.ids.IrpLife.{IrpLife}
-use Rattle.irp_core.specs.declared.inside.Inside.TheVariants.{Nothing}
-use Rattle.irp_core.specs.declared.step.Kind.TheVariants.{Disarm}
-use Rattle.irp_core.proofs.Names.{same_irp-eq}
-use Rattle.csq_list.specs.Searches.{is_listed}
-use Rattle.csq_list.specs.declared.entry.Peek.TheVariants.{Any}
-use Rattle.csq_replay.specs.declared.script.call.Call.TheVariants.{Remove}
-use Rattle.csq_replay.specs.Calls.{next_step, present_of}
+use Rattle.csq_replay.proofs.Imports.{and_parts, same_irp, IrpLife, Nothing, Disarm, same_irp-eq, is_listed, Any, Remove, next_step, present_of}
 use Rattle.csq_replay.proofs.Going.{starts, may_end, may_as, present_is}
 use Rattle.csq_replay.proofs.Calling.{unknown_keeps}
 use Rattle.csq_replay.proofs.Removing.{removed_keeps, marked_keeps, marked_may_end, unlisted_keeps, seeks_first, may_disarm_next}

@@ -1,6 +1,5 @@
 use Rattle.std.proofs.Common.{ap, arith}
-use Rattle.csq_list.specs.Listing.{Listing}
-use Rattle.csq_list.proofs.Keeping.{listed_few}
+use Rattle.csq_replay.proofs.Imports.{Listing, listed_few}
 use Rattle.csq_replay.proofs.Cleaning.{cleans_first, cleans_more, cleans_nearer, cleans_few, cleans_all, got_known, got_held, entries_length}
 use Rattle.csq_replay.proofs.script.driver.Driver.remove_all.Goals as goal
 

@@ -1,7 +1,5 @@
 use Rattle.std.proofs.Common.{length}
-use Rattle.csq_words.specs.Queue.{Limits}
-use Rattle.csq_replay.specs.Calls.{Script}
-use Rattle.csq_replay.specs.Drivers.{Keeping, Keeps}
+use Rattle.csq_replay.proofs.Imports.{Limits, Script, Keeping, Keeps}
 use Rattle.csq_replay.proofs.Cleaning.{CleansSoFar}
 use Rattle.csq_replay.proofs.script.driver.Driver.remove_all.Given as goal
 

@@ -1,8 +1,5 @@
 use Rattle.std.proofs.Common.{refl, sym, ap, ◌∙◌, arith}
-use Rattle.irp_core.specs.Owners.{owes}
-use Rattle.csq_replay.specs.declared.script.call.Call.TheVariants.{Routine}
-use Rattle.csq_replay.specs.Calls.{script_pass, after_routine}
-use Rattle.csq_replay.specs.Calls.Calls.{runs_routine}
+use Rattle.csq_replay.proofs.Imports.{owes, Routine, script_pass, after_routine, runs_routine}
 use Rattle.csq_replay.proofs.Going.{present_is}
 use Rattle.csq_replay.proofs.Calling.{unknown_keeps, no_claim_keeps, out_may_come, irps_are}
 use Rattle.csq_replay.proofs.script.driver.Driver.routine.Goals as goal

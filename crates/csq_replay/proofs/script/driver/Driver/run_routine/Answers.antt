@@ -1,9 +1,6 @@
 use Rattle.std.proofs.Common.{refl, ◌∙◌, arith, ◌∷◌, []}
-use Rattle.irp_core.specs.declared.inside.Inside.TheVariants.{Nothing}
-use Rattle.irp_core.specs.declared.step.Kind.TheVariants.{Out}
-use Rattle.irp_core.proofs.Names.{same_irp-refl, same_pass-refl}
+use Rattle.csq_replay.proofs.Imports.{Nothing, Out, same_irp-refl, same_pass-refl, present_of, doing}
 use Rattle.csq_words.specs.declared.views.Event.TheVariants as event
-use Rattle.csq_replay.specs.Calls.{present_of, doing}
 use Rattle.csq_replay.proofs.Going.{starts, may_out, present_is, made_as, may_as}
 use Rattle.csq_replay.proofs.Calling.{owed_there, out_keeps, irps_are}
 use Rattle.csq_replay.proofs.script.driver.Driver.run_routine.Goals as goal

@@ -1,6 +1,5 @@
 use Rattle.std.proofs.Common.{None, refl, ◌∙◌, arith}
-use Rattle.std.proofs.lemmas.List.{get_or_default}
-use Rattle.csq_replay.specs.declared.script.call.Call.TheVariants.{Status}
+use Rattle.csq_replay.proofs.Imports.{get_or_default, Status}
 use Rattle.csq_replay.proofs.Calling.{irps_are, status_keeps, unknown_keeps}
 use Rattle.csq_replay.proofs.script.driver.Driver.status.Goals as goal
 

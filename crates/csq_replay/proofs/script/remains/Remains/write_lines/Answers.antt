@@ -1,7 +1,6 @@
 use Rattle.std.proofs.Common.{◌++◌, ◌∙◌, List, ap, string_bytes}
-use Rattle.irp_core.specs.declared.ids.IrpId.{IrpId}
+use Rattle.csq_replay.proofs.Imports.{IrpId, left_line, named_line, kept_name}
 use Rattle.csq_replay.specs.declared.script.remains.Kept.TheVariants.{Held, Owed}
-use Rattle.csq_replay.specs.ScriptAnswer.{left_line, named_line, kept_name}
 use Rattle.csq_replay.proofs.LastLines.{grew_thrice}
 use Rattle.csq_replay.proofs.script.remains.Remains.write_lines.Goals as goal
 
