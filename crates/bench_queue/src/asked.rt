@@ -5,7 +5,7 @@ pub(crate) const USAGE: &str =
     "usage: bench_queue remove|cancel|remove-again|cancel-again|reuse vector|chains 1|2|4|8 LISTED shared|owned TURNS
 or: bench_queue list vector|chains TURNS; at most 960 are LISTED";
 
-// What is done in each turn, over which kind of list.
+/// What is done in each turn, over which kind of list.
 #[derive(Clone, Copy)]
 pub(crate) enum Asked {
     Vector(Work),
@@ -15,7 +15,7 @@ pub(crate) enum Asked {
     ListChains,
 }
 
-// How an inserted IRP ends, and whether it is used again, from a word.
+/// How an inserted IRP ends, and whether it is used again, from a word.
 fn read_end(word: &str) -> Option<(End, bool)> {
     match word {
         "remove" => Some((End::Next, false)),
@@ -27,7 +27,7 @@ fn read_end(word: &str) -> Option<(End, bool)> {
     }
 }
 
-// The work, from its words but that for the kind of list.
+/// The work, from its words but that for the kind of list.
 fn read_work(end: &str, threads: &str, listed: &str, owned: &str) -> Option<Work> {
     let (end, again) = read_end(end)?;
     let work = Work {
@@ -45,7 +45,7 @@ fn read_work(end: &str, threads: &str, listed: &str, owned: &str) -> Option<Work
     if work.is_possible() { Some(work) } else { None }
 }
 
-// What all words ask for, and for how many turns.
+/// What all words ask for, and for how many turns.
 pub(crate) fn read(words: &[String]) -> Option<(Asked, u32)> {
     let asked = match words {
         [_, kind, _] => match kind.as_str() {

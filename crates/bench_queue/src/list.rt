@@ -9,14 +9,14 @@ pub(crate) const IRPS: u32 = 1024;
 
 pub(crate) const FILES: u32 = 256;
 
-// Lists every IRP, for one file after the other.
+/// Lists every IRP, for one file after the other.
 fn fill<L: PendingList>(list: &mut L) {
     for number in 0..IRPS {
         let _ = list.insert_ex(IrpId(number), FileId(number % FILES), Place::Back);
     }
 }
 
-// Takes out what is found for a file, until nothing is. Returns how many that were.
+/// Takes out what is found for a file, until nothing is. Returns how many that were.
 fn empty_file<L: PendingList>(list: &mut L, file: FileId) -> u32 {
     let mut removed = 0u32;
     for _ in 0..IRPS {
@@ -29,7 +29,7 @@ fn empty_file<L: PendingList>(list: &mut L, file: FileId) -> u32 {
     removed
 }
 
-// Fills a list and empties it.
+/// Fills a list and empties it.
 fn fill_and_empty<L: PendingList>(rt: &impl Clock, list: &mut L) -> Option<Totals> {
     let start = Instant::now(rt).ok()?;
     fill(list);
@@ -45,7 +45,7 @@ fn fill_and_empty<L: PendingList>(rt: &impl Clock, list: &mut L) -> Option<Total
     })
 }
 
-// A turn of a new list.
+/// A turn of a new list.
 pub(crate) fn turn<L: PendingList + Drop>(rt: &impl Clock, list: Option<L>) -> Option<Totals> {
     let mut list = list?;
     fill_and_empty(rt, &mut list)

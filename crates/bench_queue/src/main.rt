@@ -17,7 +17,7 @@ use std::rt::{Clock, Env};
 use std::sync::Wait;
 use std::thread::Threads;
 
-// What turns did: how many IRPs were completed, or removed from a list, how many weren't, and the time it took.
+/// What turns did: how many IRPs were completed, or removed from a list, how many weren't, and the time it took.
 #[derive(Clone, Copy, Default)]
 struct Totals {
     completed: u32,
@@ -26,7 +26,7 @@ struct Totals {
 }
 
 impl Totals {
-    // These and those of one more turn.
+    /// These and those of one more turn.
     fn plus(self, turn: Totals) -> Totals {
         Totals {
             completed: self.completed.saturating_add(turn.completed),
@@ -36,7 +36,7 @@ impl Totals {
     }
 }
 
-// One turn, unless there is no memory or no clock.
+/// One turn, unless there is no memory or no clock.
 fn turn<R: Clock + Threads + Wait + AllocGlobal + Sync>(rt: &R, asked: Asked) -> Option<Totals> {
     match asked {
         Asked::Vector(work) => {
@@ -63,7 +63,7 @@ where
     Some(totals)
 }
 
-// The words of the command line.
+/// The words of the command line.
 fn words_of(rt: &(impl Env + AllocGlobal)) -> Result<Vec<String>> {
     let mut words = Vec::new(rt.alloc());
     for word in env::args(rt)?.skip(1) {

@@ -12,7 +12,7 @@ use std::sync::Wait;
 use std::thread::{Threads, for_each_mut};
 use std::time::Instant;
 
-// A thread's number and pass, and how many IRPs the thread completed in the turn.
+/// A thread's number and pass, and how many IRPs the thread completed in the turn.
 #[derive(Drop)]
 struct Seat<N: QueueName> {
     thread: u32,
@@ -20,7 +20,7 @@ struct Seat<N: QueueName> {
     completed: u32,
 }
 
-// Inserts an IRP at the back. Returns its context, if it is pending.
+/// Inserts an IRP at the back. Returns its context, if it is pending.
 fn insert<L: PendingList + Drop, N: QueueName, R: Wait>(
     rt: &R,
     queue: &Csq<L, N>,
@@ -40,7 +40,7 @@ fn insert<L: PendingList + Drop, N: QueueName, R: Wait>(
     }
 }
 
-// Ends an inserted IRP. Returns the one that was completed.
+/// Ends an inserted IRP. Returns the one that was completed.
 fn finish<L: PendingList + Drop, N: QueueName, R: Wait>(
     rt: &R,
     queue: &Csq<L, N>,
@@ -63,7 +63,7 @@ fn finish<L: PendingList + Drop, N: QueueName, R: Wait>(
     Some(removed)
 }
 
-// Lists so many IRPs before a turn, for one file object after the other.
+/// Lists so many IRPs before a turn, for one file object after the other.
 fn fill<L: PendingList + Drop, N: QueueName, R: Wait>(
     rt: &R,
     queue: &Csq<L, N>,
@@ -76,7 +76,7 @@ fn fill<L: PendingList + Drop, N: QueueName, R: Wait>(
     }
 }
 
-// One thread's share of a turn. Returns how many IRPs it completed.
+/// One thread's share of a turn. Returns how many IRPs it completed.
 fn share<L: PendingList + Drop, N: QueueName, R: Wait>(
     rt: &R,
     queue: &Csq<L, N>,
@@ -102,7 +102,7 @@ fn share<L: PendingList + Drop, N: QueueName, R: Wait>(
     completed
 }
 
-// The shares of all threads, each in a thread of its own; one of them is this one.
+/// The shares of all threads, each in a thread of its own; one of them is this one.
 fn share_all<L, N, R>(rt: &R, queue: &Csq<L, N>, seats: &mut [Seat<N>], work: Work)
 where
     L: PendingList + Drop + Send,
@@ -119,7 +119,7 @@ where
     );
 }
 
-// How many IRPs the threads completed.
+/// How many IRPs the threads completed.
 fn completed<N: QueueName>(seats: &[Seat<N>]) -> u32 {
     let mut completed = 0u32;
     for seat in seats {
@@ -128,7 +128,7 @@ fn completed<N: QueueName>(seats: &[Seat<N>]) -> u32 {
     completed
 }
 
-// Fills the list, and times a turn's shares.
+/// Fills the list, and times a turn's shares.
 fn time<L, N, R>(rt: &R, queue: &Csq<L, N>, seats: &mut [Seat<N>], work: Work) -> Option<Totals>
 where
     L: PendingList + Drop + Send,
@@ -147,7 +147,7 @@ where
     })
 }
 
-// So many passes, or fewer if there are no more, or no memory.
+/// So many passes, or fewer if there are no more, or no memory.
 fn take_seats<N: QueueName>(
     rt: &impl AllocGlobal,
     rack: &mut PassRack<N>,
@@ -166,7 +166,7 @@ fn take_seats<N: QueueName>(
     seats
 }
 
-// One turn over a new queue.
+/// One turn over a new queue.
 fn turn<L, N, R>(rt: &R, blank: Blank<L>, work: Work) -> Option<Totals>
 where
     L: PendingList + Drop + Send,
@@ -182,7 +182,7 @@ where
     totals
 }
 
-// One turn over a new queue with this list.
+/// One turn over a new queue with this list.
 pub(crate) fn turn_over<L, R>(rt: &R, list: Option<L>, work: Work) -> Option<Totals>
 where
     L: PendingList + Drop + Send,

@@ -98,8 +98,8 @@ impl CheckedQueue {
             Err(InsertStatus::FileClosed) => Err(PutBackRefused::FileClosed),
             Err(InsertStatus::FileFull) => Err(PutBackRefused::FileFull),
             Err(InsertStatus::Full) => Err(PutBackRefused::Full),
-            // The pass holds the IRP, so there is such an IRP, an insert has accepted it for a known file object, and a
-            // put-back asks for none that is home.
+            // The pass holds the IRP, so there is such an IRP, and an insert has accepted it for a known file object;
+            // and a put-back is never refused as NotHome.
             Err(InsertStatus::UnknownIrp) => unreachable!(),
             Err(InsertStatus::UnknownFile) => unreachable!(),
             Err(InsertStatus::NotHome) => unreachable!(),
@@ -197,7 +197,7 @@ impl CheckedQueue {
     }
 }
 
-// Notes that a removal got this IRP.
+/// Notes that a removal got this IRP.
 fn note_removed(held: &mut Slots<Held>, taken: Option<IrpLife>)
     requires { IfSome taken (λ i. i.irp.0 < length held.old) }
     ensures { held.new ≡ with_held true taken held.old }
@@ -214,7 +214,7 @@ fn note_removed(held: &mut Slots<Held>, taken: Option<IrpLife>)
     }
 }
 
-// How the pass holds an IRP after a put-back of it that returned this.
+/// How the pass holds an IRP after a put-back of it that returned this.
 fn held_after(back: &OpenInserted) -> Option<Held>
     ensures { result ≡ held_after_back back.now }
 {

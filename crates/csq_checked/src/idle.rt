@@ -37,7 +37,7 @@ impl Model for BarePass {
 }
 
 impl BarePass {
-    // The pass, without its share of the words.
+    /// The pass, without its share of the words.
     fn of(pass: CheckedPass) -> BarePass
         ensures { result ≡ open_state pass }
     {
@@ -50,7 +50,7 @@ impl BarePass {
         BarePass { pass, held, owed }
     }
 
-    // The pass, with a share of its words.
+    /// The pass, with a share of its words.
     fn with_words(self, words: Arc<Words>) -> CheckedPass
         requires { IsPassOn (arc_value words) self }
         ensures { result ≡ record { words = arc_value words; pass = self.pass } }
@@ -145,7 +145,7 @@ impl IdlePass {
     }
 }
 
-// A bare pass in a new box, with this share of its words.
+/// A bare pass in a new box, with this share of its words.
 fn boxed(alloc: Global, pass: BarePass, words: Arc<Words>) -> Result<Box<CheckedPass>, IdlePass>
     requires { IsPassOn (arc_value words) pass }
     ensures boxed { IfOk result
@@ -227,7 +227,7 @@ impl IdlePasses {
         }
     }
 
-    // Takes its share of the words from the pass in a slot, if there is one.
+    /// Takes its share of the words from the pass in a slot, if there is one.
     #[tactic(auto, using(crate::proofs::Idling::put_same, crate::proofs::Idling::put_none))]
     fn let_go(&mut self, at: usize)
         requires { at < length self.old }
@@ -268,7 +268,7 @@ impl IdlePasses {
     }
 }
 
-// Gives a pass back to its queue, if there is one.
+/// Gives a pass back to its queue, if there is one.
 fn give_one(queue: &mut OpenQueue<AnyList>, words: &Words, pass: Option<IdlePass>)
     requires queue { IsQueueOn words.now queue.old }
     requires pass { IfSome pass (λ p. IsPassOn words.now p × HoldsNothing p.pass) }

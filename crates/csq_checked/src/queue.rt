@@ -110,7 +110,7 @@ impl CheckedQueue {
         CheckedQueue::over(alloc, size, list)
     }
 
-    // A queue over this list, if there is one.
+    /// A queue over this list, if there is one.
     fn over(
         alloc: Global,
         size: Size,
@@ -181,7 +181,7 @@ impl CheckedQueue {
         }
     }
 
-    // The idle pass of this slot, with a share of its words.
+    /// The idle pass of this slot, with a share of its words.
     fn take_idle(
         &mut self,
         alloc: Global,
@@ -208,7 +208,7 @@ impl CheckedQueue {
         }
     }
 
-    // The next pass of the rack, with a share of its words.
+    /// The next pass of the rack, with a share of its words.
     fn take_new(
         &mut self,
         alloc: Global,
@@ -270,7 +270,7 @@ impl CheckedQueue {
         Ok(())
     }
 
-    // Puts a pass into the slot of its number.
+    /// Puts a pass into the slot of its number.
     fn put_idle(&mut self, pass: Box<CheckedPass>)
         requires on { IsPassIn self.old.queue pass.value }
         requires nothing { HoldsNothing pass.value.pass }
@@ -312,7 +312,7 @@ impl CheckedQueue {
     }
 }
 
-// Ends a queue all of whose passes are idle or were never handed out.
+/// Ends a queue all of whose passes are idle or were never handed out.
 fn close_over(
     mut queue: OpenQueue<AnyList>,
     words: Words,

@@ -24,7 +24,7 @@ pub struct Size {
 }
 
 impl Size {
-    // Whether the numbers of the words are in their ranges.
+    /// Whether the numbers of the words are in their ranges.
     pub(crate) fn is_in_limits(&self) -> bool
         ensures { IsTrue result ↔ IsInLimits (size_in self.now) }
     {

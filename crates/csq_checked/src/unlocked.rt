@@ -59,7 +59,7 @@ impl CheckedPass {
         Ok(claim)
     }
 
-    // How the pass holds an IRP in the life named, if it does.
+    /// How the pass holds an IRP in the life named, if it does.
     pub(crate) fn holding(&self, irp: IrpLife) -> Option<Held>
         requires { irp.irp.0 < self.now.words.size.irps }
         ensures held { IsSome result ↔ (holds_in self.now.pass.steps irp ≡ true) }
@@ -75,7 +75,7 @@ impl CheckedPass {
         Some(held)
     }
 
-    // Whether the pass owes an IRP in the life named.
+    /// Whether the pass owes an IRP in the life named.
     pub(crate) fn owes(&self, irp: IrpLife) -> bool
         requires { irp.irp.0 < self.now.words.size.irps }
         ensures { result ≡ owes_in self.now.pass.steps irp }

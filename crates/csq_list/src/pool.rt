@@ -78,7 +78,7 @@ impl<A: Allocator> Pool<A> {
         Ok(Pool::with_counts(alloc, irps, files, limit, counts)?)
     }
 
-    // Unused IRPs and open file objects, with these counts.
+    /// Unused IRPs and open file objects, with these counts.
     fn with_counts(
         alloc: &A,
         irps: u32,
@@ -190,7 +190,7 @@ impl<A: Allocator> Pool<A> {
         self.may_list(full, file)
     }
 
-    // Refuses to list an IRP for a known file object, for the first of the causes that are tested last.
+    /// Refuses to list an IRP for a known file object, for the first of the causes that are tested last.
     #[inline(always)]
     fn may_list(&self, full: bool, file: FileId) -> Result<(), InsertStatus>
         requires known { file.0 < length self.now.closed.items }

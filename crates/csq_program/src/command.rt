@@ -103,7 +103,7 @@ impl From<clap::Error> for CommandFault {
     }
 }
 
-// The headings under which options are told: others are told as options.
+/// The headings under which options are told: others are told as options.
 const SIZE: &str = "Size";
 
 const LIMITS: &str = "Limits";

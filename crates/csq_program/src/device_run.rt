@@ -21,16 +21,16 @@ use thiserror::Error;
 pub enum RunFault {
     /// 1: there is too little memory. Nothing was written.
     #[error("out of memory")]
-    Memory,
+    Memory = 1,
     /// 2: a thread could not be started. Nothing was written.
     #[error("thread refused")]
-    Spawn,
+    Spawn = 2,
     /// 3: the queue was not closed. Nothing was written.
     #[error("close refused")]
-    NotClosed,
+    NotClosed = 3,
     /// 4: the writer gave a fault or took nothing. How much was written isn't said.
     #[error("write failed")]
-    Write,
+    Write = 4,
 }
 
 impl RunFault {
@@ -41,12 +41,7 @@ impl RunFault {
         ensures not_closed { self ≡ NotClosed → result ≡ 3 }
         ensures write { self ≡ RunFault.Write → result ≡ 4 }
     {
-        match self {
-            RunFault::Memory => 1,
-            RunFault::Spawn => 2,
-            RunFault::NotClosed => 3,
-            RunFault::Write => 4,
-        }
+        self as u8
     }
 }
 
@@ -115,6 +110,7 @@ where
         Ok(device) => device,
         Err(refused) => match refused.cause {
             DeviceCause::Memory => return Err(RunFault::Memory),
+            // The list was made for this plan, and nothing was inserted into it.
             DeviceCause::ListNotFresh => unreachable!(),
         },
     };

@@ -42,10 +42,10 @@ impl From<AllocError> for ProgramFault {
     }
 }
 
-// The exit status where all went well.
+/// The exit status where all went well.
 const DONE: u8 = 0;
 
-// The exit status of a fault.
+/// The exit status of a fault.
 const FAULTY: u8 = 1;
 
 /// The exit status of a refused command line, and of a list whose size is refused.

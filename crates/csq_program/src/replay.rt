@@ -78,6 +78,7 @@ pub(crate) fn run_schedule<R: AllocGlobal + Print + Eprint + Input + Files>(
     let input = source.read(rt)?;
     let mut reader = input.as_slice();
     let mut text = Vec::new(rt.alloc());
+    // All is kept in memory until the diagnosis is there too, so that nothing is written where memory is refused.
     let ended = tell_schedule(rt.alloc(), options, &mut reader, &mut text);
     let told = diagnosis_of_schedule(rt.alloc(), irps, passes, &input, ended)?;
     finish(rt, source, ended, &text, &told)

@@ -13,7 +13,7 @@ use irp_core::{MAX_IRPS, MAX_PASSES};
 use std::alloc::{AllocError, Global};
 use thiserror::Error;
 
-// The headings under which options are told.
+/// The headings under which options are told.
 const THREADS: &str = "Threads";
 
 const RUNS: &str = "Runs";
@@ -118,6 +118,7 @@ fn plan_in(options: &ArgMatches<'_>) -> Result<Plan, TooManyBusyWorkers>
         number_in(options, "cancellers", MAX_THREADS, 2),
         number_in(options, "turns", MAX_TURNS, 64),
     ) else {
+        // Each number is within the plan's limits, as the options' ranges or `number_in` left it.
         unreachable!()
     };
     let busy_workers = busy_workers_in(options);

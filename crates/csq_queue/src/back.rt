@@ -30,7 +30,7 @@ impl<N: QueueName> Model for Back<N> {
     ghost invariant = { λ b. IsHere N.table b.receipt };
 }
 
-// Takes in what the receipts show.
+/// Takes in what the receipts show.
 pub(crate) fn see<L: PendingList + Drop, N: QueueName, A: Allocator>(
     queue: &mut OpenQueue<L, A>,
     words: &Words<A>,
@@ -50,7 +50,7 @@ pub(crate) fn see<L: PendingList + Drop, N: QueueName, A: Allocator>(
     }
 }
 
-// Takes in what a receipt shows.
+/// Takes in what a receipt shows.
 fn see_one<L: PendingList + Drop, N: QueueName, A: Allocator>(
     queue: &mut OpenQueue<L, A>,
     words: &Words<A>,

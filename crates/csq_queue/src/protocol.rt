@@ -36,8 +36,8 @@ use csq_words::{Call, Note, PassSeat, QueueSeat, Words, is_set, status_read};
 use irp_core::{FileId, IrpId, IrpLife, Life};
 use std::alloc::Allocator;
 
-// Gives the pass its record back, with the whole history and the execution so far, which the call's last
-// step observed. It adds nothing to the seat's own call but what its contract says of the execution.
+/// Gives the pass its record back, with the whole history and the execution so far, which the call's last
+/// step observed. It adds nothing to the seat's own call but what its contract says of the execution.
 pub(crate) fn leave<A: Allocator>(seat: &mut QueueSeat, words: &Words<A>, pass: &mut PassSeat)
     requires words { seat.old.table ≡ words.now.table }
     requires joined { IsJoined seat.old }
@@ -56,8 +56,8 @@ pub(crate) fn leave<A: Allocator>(seat: &mut QueueSeat, words: &Words<A>, pass: 
     seat.leave(words, pass);
 }
 
-// Lists an IRP, arms it and tests its Cancel flag. Where that is set and the routine is still there,
-// the IRP leaves again.
+/// Lists an IRP, arms it and tests its Cancel flag. Where that is set and the routine is still there,
+/// the IRP leaves again.
 pub(crate) fn list_irp<L: PendingList, A: Allocator>(
     list: &mut L,
     seat: &mut QueueSeat,
@@ -115,8 +115,8 @@ pub(crate) fn list_irp<L: PendingList, A: Allocator>(
     Ok(InsertAnswer::Cancelled(current))
 }
 
-// Lists an IRP again that the joined pass got by a removal, for the file object that it was accepted for:
-// an insert's own steps, in the same life.
+/// Lists an IRP again that the joined pass got by a removal, for the file object that it was accepted for:
+/// an insert's own steps, in the same life.
 pub(crate) fn relist_irp<L: PendingList, A: Allocator>(
     list: &mut L,
     seat: &mut QueueSeat,
@@ -169,7 +169,7 @@ pub(crate) fn relist_irp<L: PendingList, A: Allocator>(
     Ok(InsertAnswer::Cancelled(irp))
 }
 
-// Takes out the first match that no canceller has. Those before it are marked.
+/// Takes out the first match that no canceller has. Those before it are marked.
 pub(crate) fn take_match<L: PendingList, A: Allocator>(
     list: &mut L,
     seat: &mut QueueSeat,
@@ -208,7 +208,7 @@ pub(crate) fn take_match<L: PendingList, A: Allocator>(
     None
 }
 
-// Whether an IRP is listed in the life named.
+/// Whether an IRP is listed in the life named.
 fn is_here<L: PendingList, A: Allocator>(list: &L, kept: &IrpTable<A>, irp: IrpLife) -> bool
     requires { is_listed (L.listing list.now).entries irp.irp ≡ true
         → irp.irp.0 < length kept.now.lives }
@@ -218,7 +218,7 @@ fn is_here<L: PendingList, A: Allocator>(list: &L, kept: &IrpTable<A>, irp: IrpL
     list.is_listed(irp.irp) && kept.is_present(irp)
 }
 
-// Takes out this IRP, unless it isn't listed in the life named or a canceller has it.
+/// Takes out this IRP, unless it isn't listed in the life named or a canceller has it.
 pub(crate) fn take_one<L: PendingList, A: Allocator>(
     list: &mut L,
     seat: &mut QueueSeat,
@@ -256,7 +256,7 @@ pub(crate) fn take_one<L: PendingList, A: Allocator>(
     None
 }
 
-// Takes out an IRP that the joined pass owes.
+/// Takes out an IRP that the joined pass owes.
 pub(crate) fn take_owed<L: PendingList, A: Allocator>(
     list: &mut L,
     seat: &mut QueueSeat,
@@ -282,7 +282,7 @@ pub(crate) fn take_owed<L: PendingList, A: Allocator>(
     list.remove(irp.irp);
 }
 
-// Begins the next life of an IRP, where its present one was completed and isn't the last.
+/// Begins the next life of an IRP, where its present one was completed and isn't the last.
 pub(crate) fn renew_irp<L: PendingList, A: Allocator>(
     list: &mut L,
     seat: &mut QueueSeat,

@@ -30,7 +30,7 @@ impl<N: QueueName> Model for Seen<N> {
     ghost invariant = { λ s. s.open.table ≡ N.table };
 }
 
-// The calls of a queue that hand it on. None takes the lock.
+/// The calls of a queue that hand it on. None takes the lock.
 impl<L: PendingList + Drop, N: QueueName, A: Allocator> Csq<L, N, A> {
     /// What the pass has seen of the history and of the execution. Whoever is told that a call of this pass
     /// returned can be handed it with the news, and let another pass learn it: the calls of that pass then

@@ -5,10 +5,10 @@ ghost use prog.Atomic.{either};
 ghost use Rattle.csq_words.specs.Rule.{table_size};
 ghost use Rattle.csq_words.specs.Plays.{MayStep};
 
-use crate::rule::{Act, SharedWords, Told, WordSeat};
+use crate::rule::{Act, Reports, SharedWords, WordSeat};
 
 /// Loads a word.
-pub(crate) fn load<S: Told, T: Copy>(
+pub(crate) fn load<S: Reports, T: Copy>(
     words: &SharedWords,
     seat: &mut WordSeat,
     _of: T,
@@ -23,7 +23,7 @@ pub(crate) fn load<S: Told, T: Copy>(
 }
 
 /// Exchanges a word for another.
-pub(crate) fn swap<S: Told, T: Copy>(
+pub(crate) fn swap<S: Reports, T: Copy>(
     words: &SharedWords,
     seat: &mut WordSeat,
     _of: T,
@@ -39,7 +39,7 @@ pub(crate) fn swap<S: Told, T: Copy>(
 }
 
 /// Exchanges a word for another if it is this one.
-pub(crate) fn compare_exchange<S: Told, T: Copy>(
+pub(crate) fn compare_exchange<S: Reports, T: Copy>(
     words: &SharedWords,
     seat: &mut WordSeat,
     _of: T,

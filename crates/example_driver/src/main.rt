@@ -12,21 +12,21 @@ use std::marker::Brand;
 use std::sync::Wait;
 use std::thread::{Threads, for_each_mut};
 
-// How many requests are made for each of the two file objects.
+/// How many requests are made for each of the two file objects.
 const SHARE: u32 = 8;
 
 const READS: FileId = FileId(0);
 
 const WRITES: FileId = FileId(1);
 
-// A request that is made late, and one that is made too late.
+/// A request that is made late, and one that is made too late.
 const LATE: IrpId = IrpId(16);
 
 const TOO_LATE: IrpId = IrpId(17);
 
 const IRPS: u32 = 18;
 
-// What a thread of the driver runs.
+/// What a thread of the driver runs.
 #[derive(Clone, Copy)]
 enum Routine {
     // A dispatch routine, of the requests for a file object.
@@ -43,7 +43,7 @@ const ROUTINES: [Routine; 4] = [
     Routine::Cancel,
 ];
 
-// A thread of the driver. It has a pass of its own.
+/// A thread of the driver. It has a pass of its own.
 #[derive(Drop)]
 struct Runner<N: QueueName> {
     routine: Routine,
@@ -51,8 +51,8 @@ struct Runner<N: QueueName> {
     refused: bool,
 }
 
-// What the driver keeps of its device (the device extension): the queue, the threads with their passes, and
-// the rack that these were taken from.
+/// What the driver keeps of its device (the device extension): the queue, the threads with their passes, and
+/// the rack that these were taken from.
 #[derive(Drop)]
 struct Device<N: QueueName> {
     queue: Csq<VecList, N>,
@@ -60,10 +60,10 @@ struct Device<N: QueueName> {
     rack: PassRack<N>,
 }
 
-// Why the driver ended too early.
+/// Why the driver ended too early.
 type Cause = &'static str;
 
-// Makes a request pending (`IoMarkIrpPending`) and queues it (`IoCsqInsertIrpEx`).
+/// Makes a request pending (`IoMarkIrpPending`) and queues it (`IoCsqInsertIrpEx`).
 fn queue_one<N: QueueName>(
     rt: &impl Wait,
     queue: &Csq<VecList, N>,
@@ -80,7 +80,7 @@ fn queue_one<N: QueueName>(
     Ok(())
 }
 
-// A dispatch routine (`IRP_MJ_READ`, `IRP_MJ_WRITE`) of all the requests for one file object.
+/// A dispatch routine (`IRP_MJ_READ`, `IRP_MJ_WRITE`) of all the requests for one file object.
 fn dispatch<N: QueueName>(
     rt: &impl Wait,
     queue: &Csq<VecList, N>,
@@ -94,8 +94,8 @@ fn dispatch<N: QueueName>(
     Ok(())
 }
 
-// The worker takes what is queued for reading (`IoCsqRemoveNextIrp`), and completes it
-// (`IoCompleteRequest`). What it takes nobody can cancel any more.
+/// The worker takes what is queued for reading (`IoCsqRemoveNextIrp`), and completes it
+/// (`IoCompleteRequest`). What it takes nobody can cancel any more.
 fn work<N: QueueName>(rt: &impl Wait, queue: &Csq<VecList, N>, pass: &mut Pass<N>) {
     for _ in 0..SHARE {
         if let Some(token) = queue.remove_next(rt, pass, Peek::File(READS)) {
@@ -104,7 +104,7 @@ fn work<N: QueueName>(rt: &impl Wait, queue: &Csq<VecList, N>, pass: &mut Pass<N
     }
 }
 
-// A caller cancels two requests, queued or not (`IoCancelIrp`).
+/// A caller cancels two requests, queued or not (`IoCancelIrp`).
 fn cancel<N: QueueName>(
     rt: &impl Wait,
     queue: &Csq<VecList, N>,
@@ -117,7 +117,7 @@ fn cancel<N: QueueName>(
     Ok(())
 }
 
-// What one thread does.
+/// What one thread does.
 fn run_one<N: QueueName>(rt: &impl Wait, queue: &Csq<VecList, N>, runner: &mut Runner<N>) {
     let pass = &mut runner.pass;
     runner.refused = match runner.routine {
@@ -130,7 +130,7 @@ fn run_one<N: QueueName>(rt: &impl Wait, queue: &Csq<VecList, N>, runner: &mut R
     };
 }
 
-// The two dispatch routines, the worker and the caller, each in a thread of its own.
+/// The two dispatch routines, the worker and the caller, each in a thread of its own.
 fn serve<N: QueueName + Send + Sync, R: Threads + Wait + Sync>(
     rt: &R,
     queue: &Csq<VecList, N>,
@@ -150,7 +150,7 @@ fn serve<N: QueueName + Send + Sync, R: Threads + Wait + Sync>(
     Ok(())
 }
 
-// The threads are through. The rest is done by this one.
+/// The threads are through. The rest is done by this one.
 fn finish<N: QueueName>(
     rt: &impl Wait,
     queue: &Csq<VecList, N>,
@@ -172,7 +172,7 @@ fn finish<N: QueueName>(
     }
 }
 
-// Serves the device, and finishes what its threads left.
+/// Serves the device, and finishes what its threads left.
 fn run<N: QueueName + Send + Sync, R: Threads + Wait + Sync>(
     rt: &R,
     queue: &Csq<VecList, N>,
@@ -185,7 +185,7 @@ fn run<N: QueueName + Send + Sync, R: Threads + Wait + Sync>(
     }
 }
 
-// A thread for each routine, with the next pass.
+/// A thread for each routine, with the next pass.
 fn new_runners<N: QueueName>(rt: &impl AllocGlobal, rack: &mut PassRack<N>) -> Vec<Runner<N>> {
     let mut runners = Vec::new(rt.alloc());
     for routine in ROUTINES {
@@ -202,7 +202,7 @@ fn new_runners<N: QueueName>(rt: &impl AllocGlobal, rack: &mut PassRack<N>) -> V
     runners
 }
 
-// Starts the device: its queue has a name from here on, and its threads have their passes.
+/// Starts the device: its queue has a name from here on, and its threads have their passes.
 fn start<N: QueueName>(rt: &impl AllocGlobal, blank: Blank<VecList>) -> Device<N>
     requires { blank ≡ record { table = N.table; limits = N.limits } }
 {
@@ -215,7 +215,7 @@ fn start<N: QueueName>(rt: &impl AllocGlobal, blank: Blank<VecList>) -> Device<N
     }
 }
 
-// All passes but one come back. One that hasn't spent what it took doesn't, and the queue can't be closed.
+/// All passes but one come back. One that hasn't spent what it took doesn't, and the queue can't be closed.
 fn give_back<N: QueueName>(rt: &impl Wait, queue: &Csq<VecList, N>, runners: &mut Vec<Runner<N>>) {
     for _ in 1..runners.len() {
         if let Some(Runner { pass, .. }) = runners.pop() {
@@ -224,7 +224,7 @@ fn give_back<N: QueueName>(rt: &impl Wait, queue: &Csq<VecList, N>, runners: &mu
     }
 }
 
-// How many requests were completed, and which one is left.
+/// How many requests were completed, and which one is left.
 fn tell(rest: &Rest<VecList>) -> (u32, Option<IrpId>) {
     let mut completed = 0u32;
     for irp in 0..IRPS {
@@ -235,7 +235,7 @@ fn tell(rest: &Rest<VecList>) -> (u32, Option<IrpId>) {
     (completed, rest.next_listed(None))
 }
 
-// Closes the queue with the pass that is out, and tells what is left of it.
+/// Closes the queue with the pass that is out, and tells what is left of it.
 fn close<N: QueueName>(
     queue: Csq<VecList, N>,
     last: Option<Runner<N>>,
@@ -248,7 +248,7 @@ fn close<N: QueueName>(
     }
 }
 
-// Ends the device, and tells what is left of its queue.
+/// Ends the device, and tells what is left of its queue.
 fn end<N: QueueName>(rt: &impl Wait, device: Device<N>) -> Option<(u32, Option<IrpId>)> {
     let Device {
         queue,
@@ -261,7 +261,7 @@ fn end<N: QueueName>(rt: &impl Wait, device: Device<N>) -> Option<(u32, Option<I
     close(queue, last, rack)
 }
 
-// Runs the driver, and answers what is left of its queue. Its device is ended in any case.
+/// Runs the driver, and answers what is left of its queue. Its device is ended in any case.
 fn drive<N: QueueName + Send + Sync, R: Threads + Wait + AllocGlobal + Sync>(
     rt: &R,
     blank: Blank<VecList>,
@@ -274,7 +274,7 @@ fn drive<N: QueueName + Send + Sync, R: Threads + Wait + AllocGlobal + Sync>(
     served.and(left.ok_or("the queue was not closed"))
 }
 
-// A queue without a name: a list of the requests for two file objects, and a pass for each thread.
+/// A queue without a name: a list of the requests for two file objects, and a pass for each thread.
 fn new_queue(rt: &impl AllocGlobal) -> Option<Blank<VecList>> {
     let list = VecList::new(rt.alloc(), IRPS, 2, IRPS).ok()?;
     match Blank::new(rt.alloc(), list, IRPS, 4) {

@@ -32,6 +32,7 @@ impl Inside {
         ensures { result ≡ follows self kind }
     {
         match (self, kind) {
+            // A test is of an insert or a put-back that was begun, and a take of a cancel.
             (Inside::Nothing, Kind::Test(_) | Kind::Take(_)) => false,
             (Inside::Nothing, _) => true,
             (Inside::Armed(irp), Kind::Test(tested)) => irp == tested,
@@ -55,6 +56,8 @@ impl Inside {
                 Inside::FlagSeenAgain(irp)
             }
             Kind::Test(irp) if found != 0 => Inside::FlagSeen(irp),
+            // A removal that finds no routine passes the IRP over, since a canceller has it, and goes on to the next;
+            // an insert ends with its disarm whatever that finds.
             Kind::Disarm(_)
                 if found == 0 && !matches!(self, Inside::FlagSeen(_) | Inside::FlagSeenAgain(_)) =>
                 { Inside::Removing }

@@ -96,6 +96,7 @@ impl Standing {
     {
         match (self, step.kind) {
             (Standing::Home, Kind::Arm(_)) => Standing::Waiting,
+            // The exchange that found the routine decides: what an insert or a put-back takes back was cancelled.
             (Standing::Waiting, Kind::Disarm(_)) => {
                 let status = if inside.is_insert() {
                     NtStatus::CANCELLED
@@ -108,6 +109,7 @@ impl Standing {
             (Standing::Owed(_), Kind::Out(_)) => Standing::Held(step.pass, NtStatus::CANCELLED),
             (Standing::Held(_, status), Kind::Done(_)) => Standing::Finished(status, step.pass),
             (Standing::Held(..), Kind::Rearm(_)) => Standing::Waiting,
+            // An exchange that found no routine came too late, and changes nothing.
             _ => self,
         }
     }

@@ -14,13 +14,13 @@ pub struct Ration {
 }
 
 impl Ration {
-    // Counts a call, and answers whether it is refused.
+    /// Counts a call, and answers whether it is refused.
     fn refuses(&self) -> bool {
         let call = self.calls.fetch_add(1, Ordering::SeqCst);
         call == self.refused || self.is_used_up.load(Ordering::SeqCst)
     }
 
-    // Whether the one call that is refused was made.
+    /// Whether the one call that is refused was made.
     fn has_refused(&self) -> bool {
         self.calls.load(Ordering::SeqCst) > self.refused
     }
@@ -83,7 +83,7 @@ mod tests {
     use super::RefusingHeap;
     use std::test::Fail;
 
-    // The call of each number is refused alone, and what is asked for before and after is had.
+    /// The call of each number is refused alone, and what is asked for before and after is had.
     #[test]
     fn one_call_is_refused(rt: HostRuntime) -> Result<(), Fail> {
         for refused in 0..4 {
@@ -97,7 +97,7 @@ mod tests {
         Ok(())
     }
 
-    // From then on no call is granted; what was had before is had, and can be given back.
+    /// From then on no call is granted; what was had before is had, and can be given back.
     #[test]
     fn all_calls_are_refused(rt: HostRuntime) -> Result<(), Fail> {
         let heap = RefusingHeap::new(rt.alloc(), 100);

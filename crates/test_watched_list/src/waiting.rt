@@ -2,7 +2,7 @@
 use std::sync::atomic::{AtomicBool, AtomicU64, Ordering};
 use std::thread::yield_now;
 
-// How often a thread yields at most before it gives up.
+/// How often a thread yields at most before it gives up.
 const PATIENCE: u32 = 1_000_000;
 
 /// Yields until so many were counted, or gives up after a million turns and says so. Where some wait gave

@@ -65,7 +65,7 @@ impl<L: PendingList + Drop, N: QueueName, A: Allocator> Csq<L, N, A> {
         }
     }
 
-    // The lock. It is tried once before it is waited for: where it is free, that is the shorter way.
+    /// The lock. It is tried once before it is waited for: where it is free, that is the shorter way.
     #[inline(always)]
     pub(crate) fn lock(&self, rt: &impl Wait) -> MutexGuard<'_, Locked<L, N, A>> {
         match self.locked.try_lock() {
@@ -74,7 +74,7 @@ impl<L: PendingList + Drop, N: QueueName, A: Allocator> Csq<L, N, A> {
         }
     }
 
-    // The number of IRPs.
+    /// The number of IRPs.
     pub(crate) fn irps(&self) -> u32
         ensures { result ≡ N.limits.irps }
     {

@@ -47,7 +47,7 @@ impl<L: PendingList + Drop, A: Allocator> OpenQueue<L, A> {
     }
 }
 
-// Whether a look may start after it: from the head on, or after a listed IRP.
+/// Whether a look may start after it: from the head on, or after a listed IRP.
 fn is_start<L: PendingList>(list: &L, after: Option<IrpId>) -> bool
     ensures { IsTrue result ↔ IsStartIn (L.listing list.now).entries after }
 {

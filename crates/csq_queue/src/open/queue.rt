@@ -355,7 +355,7 @@ impl<L: PendingList + Drop, A: Allocator> OpenQueue<L, A> {
         self.into_rest(words)
     }
 
-    // Gives back the passes that were not handed out, once all others are back.
+    /// Gives back the passes that were not handed out, once all others are back.
     fn give_rest(&mut self, words: &Words<A>, mut rack: OpenRack)
         requires queue { IsQueueOn words.now self.old }
         requires rack { IsRackOn words.now rack }
@@ -375,7 +375,7 @@ impl<L: PendingList + Drop, A: Allocator> OpenQueue<L, A> {
         }
     }
 
-    // What is left, once all passes are back.
+    /// What is left, once all passes are back.
     fn into_rest(self, words: Words<A>) -> Rest<L, A>
         requires queue { IsQueueOn words self }
         requires back { AllBack self.queue }
@@ -400,7 +400,7 @@ impl<L: PendingList + Drop, A: Allocator> OpenQueue<L, A> {
     }
 }
 
-// How many IRPs a removal takes.
+/// How many IRPs a removal takes.
 fn count(taken: Option<IrpLife>) -> u32
     ensures { result ≡ count_given taken }
 {
@@ -410,7 +410,7 @@ fn count(taken: Option<IrpLife>) -> u32
     }
 }
 
-// How many IRPs the pass holds no longer after a put-back.
+/// How many IRPs the pass holds no longer after a put-back.
 fn count_spent(answer: &Result<OpenInserted, InsertStatus>) -> u32
     ensures { result ≡ count_spent answer.now }
 {
@@ -420,7 +420,7 @@ fn count_spent(answer: &Result<OpenInserted, InsertStatus>) -> u32
     }
 }
 
-// How many IRPs an insert gives back to be completed.
+/// How many IRPs an insert gives back to be completed.
 fn count_cancelled(answer: &Result<OpenInserted, InsertStatus>) -> u32
     ensures { result ≡ count_given (given_in answer.now) }
 {

@@ -35,13 +35,13 @@ pub fn exit_status(ended: Ended) -> u8
 pub enum SimFault {
     /// 1: there is too little memory. Nothing was written.
     #[error("out of memory")]
-    Memory,
+    Memory = 1,
     /// 2: the reader gave a fault. Nothing was written.
     #[error("read failed")]
-    Read,
+    Read = 2,
     /// 3: the writer gave a fault or took nothing. How much was written isn't said.
     #[error("write failed")]
-    Write,
+    Write = 3,
 }
 
 impl SimFault {
@@ -51,11 +51,7 @@ impl SimFault {
         ensures read { self ≡ SimFault.Read → result ≡ 2 }
         ensures write { self ≡ SimFault.Write → result ≡ 3 }
     {
-        match self {
-            SimFault::Memory => 1,
-            SimFault::Read => 2,
-            SimFault::Write => 3,
-        }
+        self as u8
     }
 }
 

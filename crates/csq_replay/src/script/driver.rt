@@ -169,6 +169,7 @@ impl<L: PendingList, A: Allocator> Driver<L, A> {
         if make(&mut self.machine, Kind::Test(name)) == 0 {
             return Ok(Inserted::Pending);
         }
+        // The one pass cancels nothing between the two steps, so its disarm finds the routine.
         make(&mut self.machine, Kind::Disarm(name));
         self.list.remove(irp);
         self.finish(irp, FinalStatus::cancelled());
@@ -201,6 +202,7 @@ impl<L: PendingList, A: Allocator> Driver<L, A> {
         if make(&mut self.machine, Kind::Test(name)) == 0 {
             return Ok(Ok(Inserted::Pending));
         }
+        // As in an insert, the disarm finds the routine.
         make(&mut self.machine, Kind::Disarm(name));
         self.list.remove(irp);
         self.finish(irp, FinalStatus::cancelled());
@@ -220,6 +222,7 @@ impl<L: PendingList, A: Allocator> Driver<L, A> {
                 self.list.remove(irp);
                 return Some(irp);
             }
+            // A canceller has it: it stays listed until its cancel routine takes it out.
             after = Some(irp);
         }
         make(&mut self.machine, Kind::End);
@@ -240,6 +243,7 @@ impl<L: PendingList, A: Allocator> Driver<L, A> {
             return Ok(None);
         }
         if make(&mut self.machine, Kind::Disarm(name)) != 1 {
+            // A canceller has it, so the removal ends with nothing.
             make(&mut self.machine, Kind::End);
             return Ok(None);
         }

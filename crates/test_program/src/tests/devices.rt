@@ -211,7 +211,7 @@ fn threads_wait_for_one_another(rt: HostRuntime) -> Result<(), Fail> {
     find_runs(&rt, AT_FEWER_POINTS, 10, 0)
 }
 
-// Yields take long where other programs are busy, so the runs are two tests.
+/// Yields take long where other programs are busy, so the runs are two tests.
 #[test]
 fn each_irp_is_accounted_for_in_fifty_schedules(rt: HostRuntime) -> Result<(), Fail> {
     find_runs(&rt, YIELDING, 50, 0)
@@ -222,7 +222,7 @@ fn each_irp_is_accounted_for_in_fifty_more_schedules(rt: HostRuntime) -> Result<
     find_runs(&rt, YIELDING, 50, 0)
 }
 
-// The gate of a run that has ended is told no more: it was told what the run's totals say.
+/// The gate of a run that has ended is told no more: it was told what the run's totals say.
 #[test]
 fn no_thread_outlives_a_run(rt: HostRuntime) -> Result<(), Fail> {
     find_runs(&rt, LIMITED, 20, 1000)?;
@@ -262,7 +262,7 @@ fn find_refused(rt: &impl Abort, ran: &Ran, told: &Told) -> bool {
     have_run
 }
 
-// How often the text of a run's totals asks for memory: it doubles from 8 bytes to 512.
+/// How often the text of a run's totals asks for memory: it doubles from 8 bytes to 512.
 const CALLS_OF_TEXT: u32 = 7;
 
 /// Refuses each call in turn, over a list of this kind. The last calls are the text's; before all others no thread was

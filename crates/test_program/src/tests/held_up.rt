@@ -276,7 +276,7 @@ const TOO_LONG: Row<'static> = (
     "input too long\n",
 );
 
-// Of an input that is too long no more is read than tells so.
+/// Of an input that is too long no more is read than tells so.
 #[test]
 fn an_input_that_is_too_long_is_left_unread(rt: HostRuntime) -> Result<(), Fail> {
     let feeds = vec![in rt.alloc(); b'\n'; MAX_INPUT + 3]?;

@@ -19,7 +19,7 @@ pub(super) struct Row<'a> {
 
 pub(super) const ALL: u64 = 1_000_000;
 
-// All threads meet at their first points, and the cleanup waits for the inserts.
+/// All threads meet at their first points, and the cleanup waits for the inserts.
 const MEETING: &[(Kind, u64)] = &[(Submitted, 3), (Working, 3), (Cancelling, 4), (Cleaning, 1)];
 
 /// Each turn of each thread, of threads that all run at once: of 300 IRPs the submitters insert 0 to 209, and the
@@ -249,7 +249,7 @@ pub(super) const SHARES: Row<'static> = Row {
     ],
 };
 
-// Each point of a device with two IRPs was told once.
+/// Each point of a device with two IRPs was told once.
 const ONCE: &[(Kind, (u64, u64, u64))] = &[
     (Submitted, (2, 1, 0x3)),
     (Working, (64, 2_016, 0xFFFF_FFFF_FFFF_FFFF)),
@@ -259,7 +259,7 @@ const ONCE: &[(Kind, (u64, u64, u64))] = &[
     (Cleaning, (1, 0, 0x1)),
 ];
 
-// One IRP was removed, and the other one cancelled: before its insert, which then completed it, or after.
+/// One IRP was removed, and the other one cancelled: before its insert, which then completed it, or after.
 const ONE_REMOVED: &[(&str, u32)] = &[
     ("home", 0),
     ("listed", 0),

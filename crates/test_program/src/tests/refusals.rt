@@ -10,7 +10,7 @@ use std::process::Abort;
 use std::test::Fail;
 use test_heap::RefusingHeap;
 
-// The most that each number of a plan may be.
+/// The most that each number of a plan may be.
 const MOST: [u32; 6] = [1024, 256, 20, 20, 20, 100_000];
 
 fn plan_of(numbers: [u32; 6]) -> Option<Plan> {
@@ -33,7 +33,7 @@ fn a_plan_has_its_ranges(rt: HostRuntime) {
     }
 }
 
-// With the most other threads there is room for 3.
+/// With the most other threads there is room for 3.
 #[test]
 fn busy_workers_have_passes(rt: HostRuntime) -> Result<(), Fail> {
     let few = plan_of([1; 6]).ok_or("a plan")?;
@@ -95,7 +95,7 @@ fn make(
 
 const KINDS: [ListKind; 2] = [ListKind::Vector, ListKind::Chains];
 
-// Lists with another limit, other IRPs and other file objects, and one into which an IRP was inserted.
+/// Lists with another limit, other IRPs and other file objects, and one into which an IRP was inserted.
 #[test]
 fn a_list_that_does_not_fit_comes_back(rt: HostRuntime) -> Result<(), Fail> {
     let wanted = Some(DeviceCause::ListNotFresh.number());
@@ -132,7 +132,7 @@ fn find_text(rt: &(impl AllocGlobal + Abort), fault: ProgramFault, text: &str) -
     Ok(())
 }
 
-// What a whole run reads and writes is told by other faults than those of answers.
+/// What a whole run reads and writes is told by other faults than those of answers.
 #[test]
 fn faults_have_numbers_and_texts(rt: HostRuntime) -> Result<(), Fail> {
     for (refused, number, text) in [
@@ -159,7 +159,7 @@ fn faults_have_numbers_and_texts(rt: HostRuntime) -> Result<(), Fail> {
     find_text(&rt, ProgramFault::Run(RunFault::Write), "write failed")
 }
 
-// The IRP is one after a thousand million lives, which no script comes to.
+/// The IRP is one after a thousand million lives, which no script comes to.
 #[test]
 fn an_answer_that_no_script_has_is_explained(rt: HostRuntime) -> Result<(), Fail> {
     let answered = AnsweredCall {

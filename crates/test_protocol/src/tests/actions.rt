@@ -5,7 +5,7 @@ use super::fixture::{By, Case, Status};
 use irp_core::{IrpPlace, Life, NtStatus, PassId, StepRefused};
 use std::process::Abort;
 
-// What a pass does with the IRP, and what it has to find.
+/// What a pass does with the IRP, and what it has to find.
 #[derive(Clone, Copy)]
 pub(super) enum Action {
     // Pass 1 sets the routine of the IRP, which it lists.
@@ -70,7 +70,7 @@ pub(super) enum Action {
 }
 
 impl Case {
-    // The machine and another pass find that the flagged IRP was completed.
+    /// The machine and another pass find that the flagged IRP was completed.
     fn find_completed(&mut self, rt: &impl Abort, by: By, status: NtStatus) {
         let place = IrpPlace::Completed(status, PassId(by.number()));
         assert!(rt; self.machine.place(ZERO) == Some(place));
@@ -82,7 +82,7 @@ impl Case {
         self.find(rt, reader, (life, true), (life, Some(status)));
     }
 
-    // Does it.
+    /// Does it.
     fn act(&mut self, rt: &impl Abort, action: Action) {
         match action {
             Action::Arm => self.arm(rt),
@@ -127,7 +127,7 @@ fn act_on(rt: &impl Abort, case: &mut Case, actions: &[Action]) {
     }
 }
 
-// Does each row's actions with an IRP that is home in the row's life.
+/// Does each row's actions with an IRP that is home in the row's life.
 pub(super) fn play<R: AllocGlobal + Abort>(rt: &R, rows: &[(Life, &[Action])]) {
     for (first, actions) in rows {
         let mut case = Case::begin(rt, *first);

@@ -15,7 +15,7 @@ use csq_words::{Call, Note, PassSeat, QueueSeat, Words, bit_word, flag_read};
 use irp_core::{FinalStatus, IrpLife, Kind, Life, Machine, PassId, Step, StepRefused};
 use std::process::Abort;
 
-// It takes the routine, and returns the word found.
+/// It takes the routine, and returns the word found.
 fn take(
     rt: &impl Abort,
     machine: &mut Machine,
@@ -37,7 +37,7 @@ fn take(
     found
 }
 
-// The cancel routine takes the IRP out, and the pass completes it.
+/// The cancel routine takes the IRP out, and the pass completes it.
 fn finish(
     rt: &impl Abort,
     machine: &mut Machine,
@@ -64,7 +64,7 @@ fn finish(
     compare(rt, machine, 2, Kind::Done(name), 0);
 }
 
-// A flag that names another life than the present one changes no word, and returns the flag found.
+/// A flag that names another life than the present one changes no word, and returns the flag found.
 fn flag_stale(
     rt: &impl Abort,
     machine: &mut Machine,
@@ -94,7 +94,7 @@ fn flag_stale(
 }
 
 impl Case {
-    // Pass 2 flags the IRP in its present life.
+    /// Pass 2 flags the IRP in its present life.
     pub(super) fn flag(&mut self, rt: &impl Abort) {
         let Hand::Here(Doing::Nothing) = self.canceller else {
             panic!(rt; "pass 2 is busy");
@@ -108,8 +108,8 @@ impl Case {
         self.canceller = Hand::Here(Doing::Cancelling(self.life));
     }
 
-    // Its exchange of the routine finds this word. Where that is the routine of the life that it
-    // flagged, it owes the IRP.
+    /// Its exchange of the routine finds this word. Where that is the routine of the life that it
+    /// flagged, it owes the IRP.
     pub(super) fn take(&mut self, rt: &impl Abort, word: u64) {
         let Hand::Here(Doing::Cancelling(life)) = self.canceller else {
             panic!(rt; "pass 2 flagged nothing");
@@ -124,7 +124,7 @@ impl Case {
         }
     }
 
-    // Its cancel routine takes the IRP out, and completes it.
+    /// Its cancel routine takes the IRP out, and completes it.
     pub(super) fn finish(&mut self, rt: &impl Abort) {
         let Hand::Here(Doing::Owing(life)) = self.canceller else {
             panic!(rt; "pass 2 owes nothing");
@@ -156,7 +156,7 @@ impl Case {
         self.canceller = Hand::Away;
     }
 
-    // Pass 2 flags another life than the present one, and finds the flag of the present life so.
+    /// Pass 2 flags another life than the present one, and finds the flag of the present life so.
     pub(super) fn flag_stale(&mut self, rt: &impl Abort, life: Life, wanted: bool) {
         let Hand::Here(Doing::Nothing) = self.canceller else {
             panic!(rt; "pass 2 is busy");

@@ -13,7 +13,7 @@ use std::process::Abort;
 
 pub(super) const FREE: Hand = Hand::Here(Doing::Nothing);
 
-// The passes, by what they do.
+/// The passes, by what they do.
 #[derive(Clone, Copy)]
 pub(super) enum By {
     Inserter,
@@ -31,7 +31,7 @@ impl By {
     }
 }
 
-// A life and the status of a completion in it.
+/// A life and the status of a completion in it.
 pub(super) type Status = (Life, Option<NtStatus>);
 
 #[derive(Drop)]
@@ -62,7 +62,7 @@ impl Model for Case {
         c.canceller c.two c.remover c.three };
 }
 
-// A step finds what the machine finds.
+/// A step finds what the machine finds.
 pub(super) fn compare(rt: &impl Abort, machine: &mut Machine, pass: u32, kind: Kind, found: u64) {
     let step = Step {
         pass: PassId(pass),
@@ -71,7 +71,7 @@ pub(super) fn compare(rt: &impl Abort, machine: &mut Machine, pass: u32, kind: K
     assert!(rt; machine.step(step) == Ok(found));
 }
 
-// A step on a Cancel flag or a routine finds the bit that the machine finds.
+/// A step on a Cancel flag or a routine finds the bit that the machine finds.
 pub(super) fn compare_bit(
     rt: &impl Abort,
     machine: &mut Machine,
@@ -89,7 +89,7 @@ fn new_machine<R: AllocGlobal + Abort>(rt: &R, life: Life) -> Machine {
     }
 }
 
-// Words of one IRP, which is in this life, and the seats.
+/// Words of one IRP, which is in this life, and the seats.
 fn new_words<R: AllocGlobal + Abort>(rt: &R, life: Life) -> (Words, QueueSeat, PassSeats)
     ensures size { result.0.size.irps ≡ 1 }
     ensures queue { result.1
@@ -102,7 +102,7 @@ fn new_words<R: AllocGlobal + Abort>(rt: &R, life: Life) -> (Words, QueueSeat, P
     }
 }
 
-// The next seat, if so many are left.
+/// The next seat, if so many are left.
 fn take_seat(rt: &impl Abort, seats: &mut PassSeats, left: u32) -> PassSeat
     ensures { seats.old ≡ result ∷ seats.new }
 {
@@ -113,7 +113,7 @@ fn take_seat(rt: &impl Abort, seats: &mut PassSeats, left: u32) -> PassSeat
     }
 }
 
-// What a pass reads of the Cancel flag and of the status.
+/// What a pass reads of the Cancel flag and of the status.
 pub(super) fn read(words: &Words, pass: &mut PassSeat) -> ((Life, bool), Status)
     requires irp { 0 < words.now.size.irps }
     requires here { IsHere words.now.table pass.old }
@@ -124,7 +124,7 @@ pub(super) fn read(words: &Words, pass: &mut PassSeat) -> ((Life, bool), Status)
 }
 
 impl Case {
-    // The IRP is home, in this life.
+    /// The IRP is home, in this life.
     pub(super) fn begin<R: AllocGlobal + Abort>(rt: &R, life: Life) -> Case {
         let machine = new_machine(rt, life);
         let (words, queue, mut seats) = new_words(rt, life);
@@ -146,14 +146,14 @@ impl Case {
         }
     }
 
-    // A pass reads this life and Cancel flag, and this life and status.
+    /// A pass reads this life and Cancel flag, and this life and status.
     pub(super) fn find(&mut self, rt: &impl Abort, by: By, flag: (Life, bool), status: Status) {
         let (found_flag, found_status) = self.read(rt, by);
         assert!(rt; found_flag == flag);
         assert!(rt; found_status == status);
     }
 
-    // What a pass reads of the Cancel flag and of the status.
+    /// What a pass reads of the Cancel flag and of the status.
     fn read(&mut self, rt: &impl Abort, by: By) -> ((Life, bool), Status) {
         match by {
             By::Inserter => {

@@ -14,7 +14,7 @@ use csq_words::{PassSeat, QueueSeat, Words, is_set};
 use irp_core::{IrpLife, Kind, Machine};
 use std::process::Abort;
 
-// The pass tests the flag, and finds it clear. Its insert ends.
+/// The pass tests the flag, and finds it clear. Its insert ends.
 fn find_clear(
     rt: &impl Abort,
     machine: &mut Machine,
@@ -40,8 +40,8 @@ fn find_clear(
     queue.leave(words, pass);
 }
 
-// The pass exchanges the routine that it set, and its insert ends. It holds the IRP where it found
-// it.
+/// The pass exchanges the routine that it set, and its insert ends. It holds the IRP where it found
+/// it.
 fn take_back(
     rt: &impl Abort,
     machine: &mut Machine,
@@ -70,7 +70,7 @@ fn take_back(
 }
 
 impl Case {
-    // Pass 1 lists the IRP, and sets its routine.
+    /// Pass 1 lists the IRP, and sets its routine.
     pub(super) fn arm(&mut self, rt: &impl Abort) {
         let Stage::Home = self.stage else {
             panic!(rt; "the IRP isn't home");
@@ -87,7 +87,7 @@ impl Case {
         self.inserter = Hand::Away;
     }
 
-    // It finds the flag clear, and the IRP is pending.
+    /// It finds the flag clear, and the IRP is pending.
     pub(super) fn find_clear(&mut self, rt: &impl Abort) {
         let Stage::Armed = self.stage else {
             panic!(rt; "the routine wasn't set");
@@ -106,7 +106,7 @@ impl Case {
         self.inserter = FREE;
     }
 
-    // It finds the flag set.
+    /// It finds the flag set.
     pub(super) fn find_set(&mut self, rt: &impl Abort) {
         let Stage::Armed = self.stage else {
             panic!(rt; "the routine wasn't set");
@@ -119,8 +119,8 @@ impl Case {
         self.stage = Stage::FlagSeen;
     }
 
-    // Its exchange of the routine then finds this word. Where the routine was there, it holds the
-    // IRP.
+    /// Its exchange of the routine then finds this word. Where the routine was there, it holds the
+    /// IRP.
     pub(super) fn take_back(&mut self, rt: &impl Abort, word: u64) {
         let Stage::FlagSeen = self.stage else {
             panic!(rt; "the flag wasn't found set");
@@ -144,7 +144,7 @@ impl Case {
         }
     }
 
-    // A whole insert, of which the IRP is pending.
+    /// A whole insert, of which the IRP is pending.
     pub(super) fn insert(&mut self, rt: &impl Abort) {
         self.arm(rt);
         self.find_clear(rt);

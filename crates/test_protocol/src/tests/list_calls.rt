@@ -5,7 +5,7 @@ ghost use Rattle.csq_list.specs.Searches.{is_listed};
 use csq_list::{InsertStatus, Peek, PendingList, Place};
 use irp_core::{FileId, IrpId};
 
-// A call of a list, with known numbers and unknown ones.
+/// A call of a list, with known numbers and unknown ones.
 #[derive(Clone, Copy)]
 pub(super) enum Call {
     Insert(IrpId, FileId, Place),
@@ -29,7 +29,7 @@ pub(super) enum Call {
     Limit,
 }
 
-// What a call answers.
+/// What a call answers.
 #[derive(Clone, Copy, PartialEq, Eq)]
 pub(super) enum Answer {
     // It was made, and changed the list.
@@ -45,7 +45,7 @@ pub(super) enum Answer {
     FileLimit(Option<u32>),
 }
 
-// Whether an IRP was used and isn't listed.
+/// Whether an IRP was used and isn't listed.
 fn is_renewable<L: PendingList>(list: &L, irp: IrpId) -> bool
     ensures used { result ≡ true → IsTrue ((L.listing list.now).used irp) }
     ensures unlisted { result ≡ true → is_listed (L.listing list.now).entries irp ≡ false }
@@ -53,7 +53,7 @@ fn is_renewable<L: PendingList>(list: &L, irp: IrpId) -> bool
     irp.0 < list.irps() && !list.is_home(irp) && !list.is_listed(irp)
 }
 
-// An insert's or a put-back's answer.
+/// An insert's or a put-back's answer.
 fn listed(reply: Result<(), InsertStatus>) -> Answer {
     match reply {
         Ok(()) => Answer::Made,
@@ -96,7 +96,7 @@ fn peek_next<L: PendingList>(list: &L, after: Option<IrpId>, peek: Peek) -> Answ
     }
 }
 
-// Makes a call.
+/// Makes a call.
 pub(super) fn make<L: PendingList>(list: &mut L, call: Call) -> Answer {
     match call {
         Call::Insert(irp, file, place) => listed(list.insert_ex(irp, file, place)),

@@ -12,7 +12,7 @@ const IRPS: u32 = 64;
 
 const FILES: u32 = 32;
 
-// Without limits of the files, and with just as many as are listed of each.
+/// Without limits of the files, and with just as many as are listed of each.
 const SIZES: [Size<'static>; 2] = [
     Size {
         irps: IRPS,
@@ -28,8 +28,8 @@ const SIZES: [Size<'static>; 2] = [
     },
 ];
 
-// Fills a list from both ends, where it takes out and puts back each, empties it again and renews what was
-// used. It takes no memory.
+/// Fills a list from both ends, where it takes out and puts back each, empties it again and renews what was
+/// used. It takes no memory.
 fn use_without_memory<L: PendingList>(rt: &impl Abort, heap: &LocalHeap, list: &mut L) {
     let used = heap.used();
     for number in 0..IRPS {
@@ -53,12 +53,12 @@ fn use_without_memory<L: PendingList>(rt: &impl Abort, heap: &LocalHeap, list: &
     assert!(rt; heap.used() == used);
 }
 
-// There was no memory, and none is kept.
+/// There was no memory, and none is kept.
 fn expect_none_kept(rt: &impl Abort, heap: &LocalHeap, cause: ListNew) {
     assert!(rt; cause == ListNew::Memory && heap.used() == 0);
 }
 
-// Uses a list in one vector, if it can be made on the heap. Returns whether it can.
+/// Uses a list in one vector, if it can be made on the heap. Returns whether it can.
 fn use_a_vector(rt: &impl Abort, heap: &LocalHeap, size: Size<'_>) -> bool {
     match size.vector(heap) {
         Ok(mut list) => {
@@ -72,7 +72,7 @@ fn use_a_vector(rt: &impl Abort, heap: &LocalHeap, size: Size<'_>) -> bool {
     }
 }
 
-// And one in chains.
+/// And one in chains.
 fn use_chains(rt: &impl Abort, heap: &LocalHeap, size: Size<'_>) -> bool {
     match size.chains(heap) {
         Ok(mut list) => {
@@ -86,7 +86,7 @@ fn use_chains(rt: &impl Abort, heap: &LocalHeap, size: Size<'_>) -> bool {
     }
 }
 
-// On a heap of so many blocks: whether there is room for a list, of either kind.
+/// On a heap of so many blocks: whether there is room for a list, of either kind.
 fn try_on_a_heap<R: AllocGlobal + Abort>(
     rt: &R,
     blocks: usize,
@@ -98,8 +98,8 @@ fn try_on_a_heap<R: AllocGlobal + Abort>(
     Ok((vector, chains))
 }
 
-// A list is refused on each heap that is too small, and keeps no memory then; on each other, the smallest among
-// them, no call asks for more.
+/// A list is refused on each heap that is too small, and keeps no memory then; on each other, the smallest among
+/// them, no call asks for more.
 #[test]
 fn lists_take_no_memory_later(rt: HostRuntime) -> Result<(), Fail> {
     for size in SIZES {

@@ -10,8 +10,8 @@ use rand_pcg::Pcg32;
 use std::alloc::Allocator;
 use std::process::Abort;
 
-// The numbers of IRPs and files of a list and its limit, and the limits of its files if it is made
-// with limits.
+/// The numbers of IRPs and files of a list and its limit, and the limits of its files if it is made
+/// with limits.
 #[derive(Clone, Copy)]
 pub(super) struct Size<'a> {
     pub(super) irps: u32,
@@ -20,7 +20,7 @@ pub(super) struct Size<'a> {
     pub(super) file_limits: Option<&'a [u32]>,
 }
 
-// Both lists, and the pairs beside them.
+/// Both lists, and the pairs beside them.
 #[derive(Drop)]
 struct Lists<'a> {
     vector: VecList,
@@ -29,7 +29,7 @@ struct Lists<'a> {
 }
 
 impl Size<'_> {
-    // A list in one vector, of this size.
+    /// A list in one vector, of this size.
     pub(super) fn vector<A: Allocator + Clone>(self, alloc: A) -> Result<VecList<A>, ListNew> {
         let Size { irps, files, .. } = self;
         match self.file_limits {
@@ -38,7 +38,7 @@ impl Size<'_> {
         }
     }
 
-    // One in chains.
+    /// One in chains.
     pub(super) fn chains<A: Allocator + Clone>(self, alloc: A) -> Result<ChainList<A>, ListNew> {
         let Size { irps, files, .. } = self;
         match self.file_limits {
@@ -48,7 +48,7 @@ impl Size<'_> {
     }
 }
 
-// A list, which has to be made.
+/// A list, which has to be made.
 fn made<L: Drop>(rt: &impl Abort, list: Result<L, ListNew>) -> L {
     match list {
         Ok(list) => list,
@@ -64,7 +64,7 @@ fn lists_of<'a>(rt: &(impl Abort + AllocGlobal), size: Size<'a>) -> Lists<'a> {
     }
 }
 
-// Makes a call of all, and compares the answers.
+/// Makes a call of all, and compares the answers.
 fn follow(rt: &impl Abort, lists: &mut Lists<'_>, call: Call) -> Answer {
     let answer = lists.pairs.answer(rt, call);
     assert!(rt; make(&mut lists.vector, call) == answer);
@@ -72,7 +72,7 @@ fn follow(rt: &impl Abort, lists: &mut Lists<'_>, call: Call) -> Answer {
     answer
 }
 
-// Compares what is found after a place, for any file and for each.
+/// Compares what is found after a place, for any file and for each.
 fn compare_from(rt: &impl Abort, lists: &mut Lists<'_>, size: Size<'_>, after: Option<IrpId>) {
     follow(rt, lists, Call::PeekNext(after, Peek::Any));
     for file in 0..=size.files {
@@ -81,7 +81,7 @@ fn compare_from(rt: &impl Abort, lists: &mut Lists<'_>, size: Size<'_>, after: O
     }
 }
 
-// Compares all that can be asked.
+/// Compares all that can be asked.
 fn compare(rt: &impl Abort, lists: &mut Lists<'_>, size: Size<'_>) {
     for call in [
         Call::Irps,
@@ -105,7 +105,7 @@ fn compare(rt: &impl Abort, lists: &mut Lists<'_>, size: Size<'_>) {
     }
 }
 
-// The lists that every sequence of calls is tried on.
+/// The lists that every sequence of calls is tried on.
 const SMALL: Size<'static> = Size {
     irps: 3,
     files: 2,
@@ -115,7 +115,7 @@ const SMALL: Size<'static> = Size {
 
 const CALLS: u32 = 28;
 
-// One of the calls of such a list, with known numbers and unknown ones.
+/// One of the calls of such a list, with known numbers and unknown ones.
 fn numbered(number: u32) -> Call {
     let irp = IrpId(number % 3);
     let file = FileId(number % 2);
@@ -134,8 +134,8 @@ fn numbered(number: u32) -> Call {
     }
 }
 
-// Makes so many calls, whose numbers are digits to base `CALLS`, and compares all that can be asked in the
-// end. Returns whether a file was full.
+/// Makes so many calls, whose numbers are digits to base `CALLS`, and compares all that can be asked in the
+/// end. Returns whether a file was full.
 fn play(rt: &impl Abort, lists: &mut Lists<'_>, length: u32, digits: u32) -> bool {
     let mut full = false;
     let mut left = digits;
@@ -160,7 +160,7 @@ fn every_short_sequence_is_answered_as_by_pairs(rt: HostRuntime) {
     assert!(rt; full, "no file was full");
 }
 
-// The lists that long sequences are tried on.
+/// The lists that long sequences are tried on.
 const LARGE: Size<'static> = Size {
     irps: 256,
     files: 8,
@@ -168,7 +168,7 @@ const LARGE: Size<'static> = Size {
     file_limits: Some(&[1, 2, 4, 8, 16, 32, 64, 256]),
 };
 
-// The same without limits of the files: each may have all IRPs.
+/// The same without limits of the files: each may have all IRPs.
 const UNLIMITED: Size<'static> = Size {
     file_limits: None,
     ..LARGE
@@ -178,7 +178,7 @@ const MANY_CALLS: u32 = 2048;
 
 const SEED: u64 = 0x5eed_0f11_57c0_9a1e;
 
-// A call of such a list: more inserts than removals, as many renewals, fewer put-backs, and few closings.
+/// A call of such a list: more inserts than removals, as many renewals, fewer put-backs, and few closings.
 fn drawn<G: Rng>(rng: &mut G) -> Call {
     let irp = IrpId(rng.next_u32() % 257);
     let file = FileId(rng.next_u32() % 9);
@@ -193,7 +193,7 @@ fn drawn<G: Rng>(rng: &mut G) -> Call {
     }
 }
 
-// Makes the calls that a stream of random numbers draws. Returns whether a file was full.
+/// Makes the calls that a stream of random numbers draws. Returns whether a file was full.
 fn play_stream(rt: &impl Abort, lists: &mut Lists<'_>, size: Size<'_>, stream: u64) -> bool {
     let mut rng = Pcg32::new(SEED, stream);
     let mut full = false;
@@ -219,7 +219,7 @@ fn long_sequences_are_answered_as_by_pairs(rt: HostRuntime) {
     assert!(rt; full, "no file was full");
 }
 
-// The lists of three IRPs, of which one or two are listed at a time.
+/// The lists of three IRPs, of which one or two are listed at a time.
 const SHIFTING: Size<'static> = Size {
     irps: 3,
     files: 1,
@@ -227,8 +227,8 @@ const SHIFTING: Size<'static> = Size {
     file_limits: None,
 };
 
-// 60,000 inserts at a place: more than a vector has positions on either side of the middle. Each time the
-// oldest IRP of three goes.
+/// 60,000 inserts at a place: more than a vector has positions on either side of the middle. Each time the
+/// oldest IRP of three goes.
 fn keep_coming(rt: &impl Abort, lists: &mut Lists<'_>, place: Place) {
     for turn in 0u32..60_000 {
         let oldest = IrpId(turn.wrapping_add(1) % 3);
@@ -248,7 +248,7 @@ fn positions_that_come_to_an_end_are_counted_anew(rt: HostRuntime) {
     }
 }
 
-// A look after the first of four IRPs finds this one, and reads so many records.
+/// A look after the first of four IRPs finds this one, and reads so many records.
 fn expect_reads(rt: &impl Abort, list: &ChainList, peek: Peek, found: Option<IrpId>, reads: u32) {
     assert!(rt; list.is_listed(IrpId(0)));
     assert!(rt; list.peek_counted(Some(IrpId(0)), peek) == (found, reads));
@@ -259,9 +259,9 @@ fn expect_removal_reads(rt: &impl Abort, list: &mut ChainList, irp: IrpId, reads
     assert!(rt; list.remove_counted(irp) == reads);
 }
 
-// IRPs 0, 1 and 3 of the first file, and 2 of the second. A look from the head reads no record, one along a
-// chain reads one, and one along another chain each up to what it finds. A removal reads its own and those
-// beside it.
+/// IRPs 0, 1 and 3 of the first file, and 2 of the second. A look from the head reads no record, one along a
+/// chain reads one, and one along another chain each up to what it finds. A removal reads its own and those
+/// beside it.
 fn count_reads(rt: &impl Abort, list: &mut ChainList) {
     for (irp, file) in [(0, 0), (1, 0), (2, 1), (3, 0)] {
         make(list, Call::Insert(IrpId(irp), FileId(file), Place::Back));

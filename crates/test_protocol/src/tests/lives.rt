@@ -17,7 +17,7 @@ const LAST_BUT_ONE: Life = Life(0x3FFF_FFFE);
 
 const SUCCESS: NtStatus = NtStatus::SUCCESS;
 
-// `STATUS_IO_DEVICE_ERROR`: neither success nor cancelled.
+/// `STATUS_IO_DEVICE_ERROR`: neither success nor cancelled.
 const DEVICE_ERROR: NtStatus = NtStatus(0xC000_0185);
 
 const LARGEST: NtStatus = NtStatus(0xFFFF_FFFF);
@@ -110,8 +110,8 @@ const THE_LIFE_BEFORE_THE_LAST_IS_RENEWED: &[Action] = &[
     Action::Insert,
 ];
 
-// Pass 2 has flagged the IRP, which pass 3 has removed and then completes. Its take comes once pass
-// 1 has inserted the IRP again, and finds nothing: the new life is removed and completed.
+/// Pass 2 has flagged the IRP, which pass 3 has removed and then completes. Its take comes once pass
+/// 1 has inserted the IRP again, and finds nothing: the new life is removed and completed.
 const A_LATE_TAKE_LEAVES_THE_NEXT_LIFE_ALONE: &[Action] = &[
     Action::Insert,
     Action::Remove,
@@ -126,7 +126,7 @@ const A_LATE_TAKE_LEAVES_THE_NEXT_LIFE_ALONE: &[Action] = &[
     Action::FindRest,
 ];
 
-// The take comes between the reuse and the next insert.
+/// The take comes between the reuse and the next insert.
 const A_LATE_TAKE_COMES_BEFORE_THE_INSERT: &[Action] = &[
     Action::Insert,
     Action::Remove,
@@ -155,7 +155,7 @@ const EACH_PASS_READS_THE_STATUS_OF_A_COMPLETION: &[Action] = &[
     Action::FindUnflagged(By::Remover, SECOND, None),
 ];
 
-// What was put back is in the same life, and has no status. Its next life begins by a reuse, as ever.
+/// What was put back is in the same life, and has no status. Its next life begins by a reuse, as ever.
 const A_PUT_BACK_BEGINS_NO_LIFE: &[Action] = &[
     Action::Insert,
     Action::Remove,
@@ -171,7 +171,7 @@ const A_PUT_BACK_BEGINS_NO_LIFE: &[Action] = &[
     Action::FindUnflagged(By::Canceller, SIXTH, None),
 ];
 
-// No status word is larger than that of the largest status in the last life.
+/// No status word is larger than that of the largest status in the last life.
 const THE_LARGEST_STATUS_IS_READ_IN_THE_LAST_LIFE: &[Action] = &[
     Action::Insert,
     Action::Remove,

@@ -51,7 +51,7 @@ fn an_irp_is_not_completed_as_pending(rt: HostRuntime) {
     assert!(rt; NtStatus(0x7FFF_FFFF).is_success() && !NtStatus(0x8000_0000).is_success());
 }
 
-// A word of a flag or a routine has its life above its bit, and a word of a status above its status.
+/// A word of a flag or a routine has its life above its bit, and a word of a status above its status.
 #[test]
 fn words_have_lives_above_their_bits(rt: HostRuntime) {
     for (life, set, word) in [

@@ -7,7 +7,7 @@ use super::actions::{Action, play};
 use super::fixture::By;
 use irp_core::{Life, NtStatus};
 
-// How each order ends.
+/// How each order ends.
 const CANCELLED: Action = Action::FindCompleted(By::Canceller, NtStatus::CANCELLED);
 
 const TAKEN_BACK: Action = Action::FindCompleted(By::Inserter, NtStatus::CANCELLED);
@@ -16,7 +16,7 @@ const REMOVED: Action = Action::FindCompleted(By::Remover, NtStatus::SUCCESS);
 
 const TAKEN_BACK_AGAIN: Action = Action::FindCompleted(By::Remover, NtStatus::CANCELLED);
 
-// The insert is pending, and the canceller gets the IRP.
+/// The insert is pending, and the canceller gets the IRP.
 const ARM_TEST_FLAG_TAKE: &[Action] = &[
     Action::Arm,
     Action::FindClear,
@@ -26,7 +26,7 @@ const ARM_TEST_FLAG_TAKE: &[Action] = &[
     CANCELLED,
 ];
 
-// The insert finds the flag, and the canceller is faster.
+/// The insert finds the flag, and the canceller is faster.
 const ARM_FLAG_TEST_TAKE: &[Action] = &[
     Action::Arm,
     Action::Flag,
@@ -37,7 +37,7 @@ const ARM_FLAG_TEST_TAKE: &[Action] = &[
     CANCELLED,
 ];
 
-// The insert finds the flag, and is faster.
+/// The insert finds the flag, and is faster.
 const ARM_FLAG_TEST_DISARM: &[Action] = &[
     Action::Arm,
     Action::Flag,
@@ -48,7 +48,7 @@ const ARM_FLAG_TEST_DISARM: &[Action] = &[
     TAKEN_BACK,
 ];
 
-// The canceller gets the IRP before the insert looks.
+/// The canceller gets the IRP before the insert looks.
 const ARM_FLAG_TAKE_TEST: &[Action] = &[
     Action::Arm,
     Action::Flag,
@@ -59,7 +59,7 @@ const ARM_FLAG_TAKE_TEST: &[Action] = &[
     CANCELLED,
 ];
 
-// The flag comes first, and the canceller is faster.
+/// The flag comes first, and the canceller is faster.
 const FLAG_ARM_TEST_TAKE: &[Action] = &[
     Action::Flag,
     Action::Arm,
@@ -70,7 +70,7 @@ const FLAG_ARM_TEST_TAKE: &[Action] = &[
     CANCELLED,
 ];
 
-// The flag comes first, and the insert is faster.
+/// The flag comes first, and the insert is faster.
 const FLAG_ARM_TEST_DISARM: &[Action] = &[
     Action::Flag,
     Action::Arm,
@@ -81,7 +81,7 @@ const FLAG_ARM_TEST_DISARM: &[Action] = &[
     TAKEN_BACK,
 ];
 
-// The flag comes first, and the canceller gets the IRP before the insert looks.
+/// The flag comes first, and the canceller gets the IRP before the insert looks.
 const FLAG_ARM_TAKE_TEST: &[Action] = &[
     Action::Flag,
     Action::Arm,
@@ -92,7 +92,7 @@ const FLAG_ARM_TAKE_TEST: &[Action] = &[
     CANCELLED,
 ];
 
-// The cancel comes before the insert, which gets the IRP itself.
+/// The cancel comes before the insert, which gets the IRP itself.
 const FLAG_TAKE_ARM_TEST: &[Action] = &[
     Action::Flag,
     Action::Take(0),
@@ -103,7 +103,7 @@ const FLAG_TAKE_ARM_TEST: &[Action] = &[
     TAKEN_BACK,
 ];
 
-// A removal gets the IRP, and the cancel comes too late.
+/// A removal gets the IRP, and the cancel comes too late.
 const DISARM_FLAG_TAKE: &[Action] = &[
     Action::Insert,
     Action::Remove,
@@ -113,7 +113,7 @@ const DISARM_FLAG_TAKE: &[Action] = &[
     REMOVED,
 ];
 
-// A removal gets the flagged IRP, and the take comes too late.
+/// A removal gets the flagged IRP, and the take comes too late.
 const FLAG_DISARM_TAKE: &[Action] = &[
     Action::Insert,
     Action::Flag,
@@ -123,7 +123,7 @@ const FLAG_DISARM_TAKE: &[Action] = &[
     REMOVED,
 ];
 
-// The canceller gets the IRP, and the removal leaves it to it.
+/// The canceller gets the IRP, and the removal leaves it to it.
 const FLAG_TAKE_DISARM: &[Action] = &[
     Action::Insert,
     Action::Flag,
@@ -133,7 +133,7 @@ const FLAG_TAKE_DISARM: &[Action] = &[
     CANCELLED,
 ];
 
-// The cancel finds that pass 3 has the IRP, and the put-back finds the flag.
+/// The cancel finds that pass 3 has the IRP, and the put-back finds the flag.
 const FLAG_DISARM_TAKE_REARM_TEST: &[Action] = &[
     Action::Insert,
     Action::Flag,
@@ -146,7 +146,7 @@ const FLAG_DISARM_TAKE_REARM_TEST: &[Action] = &[
     TAKEN_BACK_AGAIN,
 ];
 
-// The flag comes before the removal, and the canceller gets the IRP before the put-back looks.
+/// The flag comes before the removal, and the canceller gets the IRP before the put-back looks.
 const FLAG_DISARM_REARM_TAKE_TEST: &[Action] = &[
     Action::Insert,
     Action::Flag,
@@ -159,7 +159,7 @@ const FLAG_DISARM_REARM_TAKE_TEST: &[Action] = &[
     CANCELLED,
 ];
 
-// The flag comes before the removal, and the canceller is faster.
+/// The flag comes before the removal, and the canceller is faster.
 const FLAG_DISARM_REARM_TEST_TAKE: &[Action] = &[
     Action::Insert,
     Action::Flag,
@@ -172,7 +172,7 @@ const FLAG_DISARM_REARM_TEST_TAKE: &[Action] = &[
     CANCELLED,
 ];
 
-// The flag comes before the removal, and the put-back is faster.
+/// The flag comes before the removal, and the put-back is faster.
 const FLAG_DISARM_REARM_TEST_DISARM: &[Action] = &[
     Action::Insert,
     Action::Flag,
@@ -185,7 +185,7 @@ const FLAG_DISARM_REARM_TEST_DISARM: &[Action] = &[
     TAKEN_BACK_AGAIN,
 ];
 
-// The cancel comes while pass 3 has the IRP, and the put-back finds the flag.
+/// The cancel comes while pass 3 has the IRP, and the put-back finds the flag.
 const DISARM_FLAG_TAKE_REARM_TEST: &[Action] = &[
     Action::Insert,
     Action::Remove,
@@ -198,7 +198,7 @@ const DISARM_FLAG_TAKE_REARM_TEST: &[Action] = &[
     TAKEN_BACK_AGAIN,
 ];
 
-// The flag comes while pass 3 has the IRP, and the canceller gets it before the put-back looks.
+/// The flag comes while pass 3 has the IRP, and the canceller gets it before the put-back looks.
 const DISARM_FLAG_REARM_TAKE_TEST: &[Action] = &[
     Action::Insert,
     Action::Remove,
@@ -211,7 +211,7 @@ const DISARM_FLAG_REARM_TAKE_TEST: &[Action] = &[
     CANCELLED,
 ];
 
-// The flag comes while pass 3 has the IRP, and the canceller is faster.
+/// The flag comes while pass 3 has the IRP, and the canceller is faster.
 const DISARM_FLAG_REARM_TEST_TAKE: &[Action] = &[
     Action::Insert,
     Action::Remove,
@@ -224,7 +224,7 @@ const DISARM_FLAG_REARM_TEST_TAKE: &[Action] = &[
     CANCELLED,
 ];
 
-// The flag comes while pass 3 has the IRP, and the put-back is faster.
+/// The flag comes while pass 3 has the IRP, and the put-back is faster.
 const DISARM_FLAG_REARM_TEST_DISARM: &[Action] = &[
     Action::Insert,
     Action::Remove,
@@ -237,7 +237,7 @@ const DISARM_FLAG_REARM_TEST_DISARM: &[Action] = &[
     TAKEN_BACK_AGAIN,
 ];
 
-// The canceller gets the IRP before the put-back looks.
+/// The canceller gets the IRP before the put-back looks.
 const REARM_FLAG_TAKE_TEST: &[Action] = &[
     Action::Insert,
     Action::Remove,
@@ -250,7 +250,7 @@ const REARM_FLAG_TAKE_TEST: &[Action] = &[
     CANCELLED,
 ];
 
-// The put-back finds the flag, and the canceller is faster.
+/// The put-back finds the flag, and the canceller is faster.
 const REARM_FLAG_TEST_TAKE: &[Action] = &[
     Action::Insert,
     Action::Remove,
@@ -263,7 +263,7 @@ const REARM_FLAG_TEST_TAKE: &[Action] = &[
     CANCELLED,
 ];
 
-// The put-back finds the flag, and is faster.
+/// The put-back finds the flag, and is faster.
 const REARM_FLAG_TEST_DISARM: &[Action] = &[
     Action::Insert,
     Action::Remove,
@@ -276,7 +276,7 @@ const REARM_FLAG_TEST_DISARM: &[Action] = &[
     TAKEN_BACK_AGAIN,
 ];
 
-// The put-back is pending, and the canceller gets the IRP, which was left lying.
+/// The put-back is pending, and the canceller gets the IRP, which was left lying.
 const REARM_TEST_FLAG_TAKE: &[Action] = &[
     Action::Insert,
     Action::Remove,
@@ -289,7 +289,7 @@ const REARM_TEST_FLAG_TAKE: &[Action] = &[
     CANCELLED,
 ];
 
-// It was put back twice before.
+/// It was put back twice before.
 const PUT_BACK_TWICE_FLAG_TAKE: &[Action] = &[
     Action::Insert,
     Action::Remove,
@@ -303,7 +303,7 @@ const PUT_BACK_TWICE_FLAG_TAKE: &[Action] = &[
     CANCELLED,
 ];
 
-// The cancel comes while pass 3 has the IRP again, and its second put-back finds the flag.
+/// The cancel comes while pass 3 has the IRP again, and its second put-back finds the flag.
 const PUT_BACK_DISARM_FLAG_TAKE_REARM_TEST: &[Action] = &[
     Action::Insert,
     Action::Remove,
@@ -318,7 +318,7 @@ const PUT_BACK_DISARM_FLAG_TAKE_REARM_TEST: &[Action] = &[
     TAKEN_BACK_AGAIN,
 ];
 
-// Pass 3 removes what it put back, and the cancel comes too late.
+/// Pass 3 removes what it put back, and the cancel comes too late.
 const PUT_BACK_DISARM_FLAG_TAKE: &[Action] = &[
     Action::Insert,
     Action::Remove,

@@ -7,7 +7,7 @@ use irp_core::{FileId, IrpId};
 use std::alloc::AllocError;
 use std::process::Abort;
 
-// The listed IRPs with their files, the used IRPs and the closed files.
+/// The listed IRPs with their files, the used IRPs and the closed files.
 #[derive(Drop)]
 pub(super) struct Pairs<'a> {
     size: Size<'a>,
@@ -35,7 +35,7 @@ impl<'a> Pairs<'a> {
         false
     }
 
-    // How many are listed for a file.
+    /// How many are listed for a file.
     fn file_len(&self, file: FileId) -> u32 {
         let mut len = 0u32;
         for pair in &self.listed {
@@ -50,7 +50,7 @@ impl<'a> Pairs<'a> {
         u32::try_from(self.listed.len()).unwrap_or(u32::MAX)
     }
 
-    // How many may be listed for a file.
+    /// How many may be listed for a file.
     fn file_limit(&self, file: FileId) -> Option<u32> {
         if file.0 >= self.size.files {
             return None;
@@ -64,7 +64,7 @@ impl<'a> Pairs<'a> {
         }
     }
 
-    // Why an insert is refused.
+    /// Why an insert is refused.
     fn refusal(&self, irp: IrpId, file: FileId) -> Option<InsertStatus> {
         if irp.0 >= self.size.irps {
             return Some(InsertStatus::UnknownIrp);
@@ -122,7 +122,7 @@ impl<'a> Pairs<'a> {
         Answer::Made
     }
 
-    // An insert, as if the IRP were renewed. A refusal leaves it used.
+    /// An insert, as if the IRP were renewed. A refusal leaves it used.
     fn put_back(&mut self, rt: &impl Abort, irp: IrpId, file: FileId, place: Place) -> Answer {
         if self.renew(irp) == Answer::Unmade {
             return Answer::Unmade;

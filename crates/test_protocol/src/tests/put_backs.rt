@@ -15,7 +15,7 @@ use csq_words::{Call, PassSeat, QueueSeat, Words, is_set};
 use irp_core::{FileId, IrpLife, Kind, Machine};
 use std::process::Abort;
 
-// The pass tests the flag, and finds it clear. Its put-back ends.
+/// The pass tests the flag, and finds it clear. Its put-back ends.
 fn find_clear_again(
     rt: &impl Abort,
     machine: &mut Machine,
@@ -42,8 +42,8 @@ fn find_clear_again(
     queue.leave(words, pass);
 }
 
-// The pass exchanges the routine that it set again, and its put-back ends. It holds the IRP where it
-// found it.
+/// The pass exchanges the routine that it set again, and its put-back ends. It holds the IRP where it
+/// found it.
 fn take_back_again(
     rt: &impl Abort,
     machine: &mut Machine,
@@ -73,7 +73,7 @@ fn take_back_again(
 }
 
 impl Case {
-    // Pass 3 lists the IRP again, which it removed, and sets its routine.
+    /// Pass 3 lists the IRP again, which it removed, and sets its routine.
     pub(super) fn rearm(&mut self, rt: &impl Abort) {
         let Stage::Removed = self.stage else {
             panic!(rt; "the IRP wasn't removed");
@@ -93,7 +93,7 @@ impl Case {
         self.remover = Hand::Away;
     }
 
-    // It finds the flag clear, and the IRP is pending.
+    /// It finds the flag clear, and the IRP is pending.
     pub(super) fn find_clear_again(&mut self, rt: &impl Abort) {
         let Stage::Rearmed = self.stage else {
             panic!(rt; "the routine wasn't set again");
@@ -112,7 +112,7 @@ impl Case {
         self.remover = FREE;
     }
 
-    // It finds the flag set.
+    /// It finds the flag set.
     pub(super) fn find_set_again(&mut self, rt: &impl Abort) {
         let Stage::Rearmed = self.stage else {
             panic!(rt; "the routine wasn't set again");
@@ -126,8 +126,8 @@ impl Case {
         self.stage = Stage::FlagSeenAgain;
     }
 
-    // Its exchange of the routine then finds this word. Where the routine was there, it holds the
-    // IRP.
+    /// Its exchange of the routine then finds this word. Where the routine was there, it holds the
+    /// IRP.
     pub(super) fn take_back_again(&mut self, rt: &impl Abort, word: u64) {
         let Stage::FlagSeenAgain = self.stage else {
             panic!(rt; "the flag wasn't found set");
@@ -151,7 +151,7 @@ impl Case {
         }
     }
 
-    // A whole put-back, of which the IRP is pending.
+    /// A whole put-back, of which the IRP is pending.
     pub(super) fn put_back(&mut self, rt: &impl Abort) {
         self.rearm(rt);
         self.find_clear_again(rt);

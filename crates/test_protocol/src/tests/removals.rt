@@ -14,14 +14,14 @@ use csq_words::{Call, Note, PassSeat, QueueSeat, Words, bit_word, is_set};
 use irp_core::{FinalStatus, IrpLife, Kind, Machine, NtStatus};
 use std::process::Abort;
 
-// An exchange found the routine.
+/// An exchange found the routine.
 fn expect_found(rt: &impl Abort, found: u64)
     ensures { bit_in found ≡ 1 }
 {
     assert!(rt; is_set(found));
 }
 
-// A removal by pass 3 takes the routine of the IRP, and the pass then holds the IRP.
+/// A removal by pass 3 takes the routine of the IRP, and the pass then holds the IRP.
 fn remove(
     rt: &impl Abort,
     machine: &mut Machine,
@@ -51,7 +51,7 @@ fn remove(
     queue.leave(words, pass);
 }
 
-// Pass 3 finds that the routine was taken, and its removal ends with no IRP.
+/// Pass 3 finds that the routine was taken, and its removal ends with no IRP.
 fn find_taken(
     rt: &impl Abort,
     machine: &mut Machine,
@@ -83,7 +83,7 @@ fn find_taken(
 }
 
 impl Case {
-    // Pass 3 removes the IRP.
+    /// Pass 3 removes the IRP.
     pub(super) fn remove(&mut self, rt: &impl Abort) {
         let Stage::Listed = self.stage else {
             panic!(rt; "the IRP isn't listed");
@@ -105,7 +105,7 @@ impl Case {
         self.remover = Hand::Here(Doing::HoldingRemoved(self.life));
     }
 
-    // Its removal finds that the routine was taken.
+    /// Its removal finds that the routine was taken.
     pub(super) fn find_taken(&mut self, rt: &impl Abort) {
         let Stage::Listed = self.stage else {
             panic!(rt; "the IRP isn't listed");
@@ -127,7 +127,7 @@ impl Case {
         self.remover = Hand::Away;
     }
 
-    // It completes what it removed.
+    /// It completes what it removed.
     pub(super) fn complete(&mut self, rt: &impl Abort, status: NtStatus) {
         let Hand::Here(Doing::HoldingRemoved(life)) = self.remover else {
             panic!(rt; "pass 3 holds nothing");
@@ -141,7 +141,7 @@ impl Case {
         self.remover = FREE;
     }
 
-    // It completes what its put-back took back.
+    /// It completes what its put-back took back.
     pub(super) fn complete_taken_back(&mut self, rt: &impl Abort) {
         let Hand::Here(Doing::Holding(life)) = self.remover else {
             panic!(rt; "pass 3 holds nothing that it took back");
@@ -152,7 +152,7 @@ impl Case {
         self.remover = FREE;
     }
 
-    // Pass 1 completes what its insert took back.
+    /// Pass 1 completes what its insert took back.
     pub(super) fn complete_own(&mut self, rt: &impl Abort) {
         let Hand::Here(Doing::Holding(life)) = self.inserter else {
             panic!(rt; "pass 1 holds nothing");

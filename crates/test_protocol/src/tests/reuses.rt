@@ -19,7 +19,7 @@ use std::process::Abort;
 
 const REUSE: Call = Call::Reuse(ZERO);
 
-// It renews the Cancel flag, which begins the next life. The reuse ends.
+/// It renews the Cancel flag, which begins the next life. The reuse ends.
 fn renew_cancel(
     rt: &impl Abort,
     machine: &mut Machine,
@@ -47,7 +47,7 @@ fn renew_cancel(
     flag_read(found)
 }
 
-// A look by pass 1 that begins no reuse.
+/// A look by pass 1 that begins no reuse.
 fn look_alone(
     words: &Words,
     queue: &mut QueueSeat,
@@ -74,7 +74,7 @@ fn look_alone(
 }
 
 impl Case {
-    // Pass 1 finds this status, and begins a reuse.
+    /// Pass 1 finds this status, and begins a reuse.
     pub(super) fn look(&mut self, rt: &impl Abort, due: NtStatus) {
         let Stage::Removed = self.stage else {
             panic!(rt; "the IRP wasn't removed");
@@ -95,7 +95,7 @@ impl Case {
         self.inserter = Hand::Away;
     }
 
-    // It renews the status.
+    /// It renews the status.
     pub(super) fn renew_status(&mut self, rt: &impl Abort, due: NtStatus) {
         let Stage::Looked = self.stage else {
             panic!(rt; "no reuse has begun");
@@ -107,7 +107,7 @@ impl Case {
         self.stage = Stage::StatusRenewed;
     }
 
-    // It renews the routine.
+    /// It renews the routine.
     pub(super) fn renew_routine(&mut self, rt: &impl Abort) {
         let Stage::StatusRenewed = self.stage else {
             panic!(rt; "the status wasn't renewed");
@@ -119,7 +119,7 @@ impl Case {
         self.stage = Stage::RoutineRenewed;
     }
 
-    // It renews the Cancel flag, which it finds so. The next life begins.
+    /// It renews the Cancel flag, which it finds so. The next life begins.
     pub(super) fn renew_cancel(&mut self, rt: &impl Abort, set: bool) {
         let Stage::RoutineRenewed = self.stage else {
             panic!(rt; "the routine wasn't renewed");
@@ -140,7 +140,7 @@ impl Case {
         self.inserter = FREE;
     }
 
-    // A whole reuse of an IRP that was completed with success, whose Cancel flag was set or clear.
+    /// A whole reuse of an IRP that was completed with success, whose Cancel flag was set or clear.
     pub(super) fn reuse(&mut self, rt: &impl Abort, set: bool) {
         self.look(rt, NtStatus::SUCCESS);
         self.renew_status(rt, NtStatus::SUCCESS);
@@ -148,7 +148,7 @@ impl Case {
         self.renew_cancel(rt, set);
     }
 
-    // It finds this status in the last life, and begins no reuse.
+    /// It finds this status in the last life, and begins no reuse.
     pub(super) fn look_alone(&mut self, rt: &impl Abort, due: Option<NtStatus>) {
         let Stage::Removed = self.stage else {
             panic!(rt; "the IRP wasn't removed");
@@ -165,7 +165,7 @@ impl Case {
         assert!(rt; found == (life, due));
     }
 
-    // The machine refuses to end the present life.
+    /// The machine refuses to end the present life.
     pub(super) fn refuse_renewal(&mut self, rt: &impl Abort, cause: StepRefused) {
         let life = self.life;
         let name = IrpLife { irp: ZERO, life };

@@ -6,7 +6,7 @@ use csq_words::Words;
 use irp_core::{Life, Machine};
 use std::process::Abort;
 
-// Both lists are made of this size, or are refused for this cause.
+/// Both lists are made of this size, or are refused for this cause.
 fn expect_lists<R: AllocGlobal + Abort>(rt: &R, size: Size<'_>, refusal: Option<ListNew>) {
     assert!(rt; size.vector(rt.alloc()).err() == refusal);
     assert!(rt; size.chains(rt.alloc()).err() == refusal);
@@ -42,7 +42,7 @@ fn lists_have_sizes(rt: HostRuntime) {
     }
 }
 
-// Each file has one limit, from 1 to the number of IRPs.
+/// Each file has one limit, from 1 to the number of IRPs.
 #[test]
 fn file_limits_have_sizes(rt: HostRuntime) {
     let limits = [1; 256];
@@ -67,7 +67,7 @@ fn file_limits_have_sizes(rt: HostRuntime) {
     }
 }
 
-// The number of the cause for which there is no machine of this size, or 0.
+/// The number of the cause for which there is no machine of this size, or 0.
 fn machine_refusal<R: AllocGlobal>(rt: &R, irps: u32, passes: u32, first: u32) -> u8 {
     match Machine::new_at(rt.alloc(), irps, passes, Life(first)) {
         Ok(_) => 0,
@@ -75,7 +75,7 @@ fn machine_refusal<R: AllocGlobal>(rt: &R, irps: u32, passes: u32, first: u32) -
     }
 }
 
-// And of words.
+/// And of words.
 fn words_refusal<R: AllocGlobal>(rt: &R, irps: u32, passes: u32, first: u32) -> u8 {
     match Words::new_at(rt.alloc(), irps, passes, Life(first)) {
         Ok(_) => 0,

@@ -19,7 +19,7 @@ use std::process::Abort;
 use std::sync::Wait;
 use test_heap::RefusingHeap;
 
-// The first match, which is completed with STATUS_SUCCESS.
+/// The first match, which is completed with STATUS_SUCCESS.
 fn serve<L: PendingList + Drop, N: QueueName, A: Allocator>(
     rt: &impl Wait,
     queue: &Csq<L, N, A>,
@@ -36,7 +36,7 @@ fn serve<L: PendingList + Drop, N: QueueName, A: Allocator>(
     }
 }
 
-// The same of the IRP that a context names.
+/// The same of the IRP that a context names.
 fn serve_named<L: PendingList + Drop, N: QueueName, A: Allocator>(
     rt: &impl Wait,
     queue: &Csq<L, N, A>,
@@ -56,7 +56,7 @@ fn serve_named<L: PendingList + Drop, N: QueueName, A: Allocator>(
     }
 }
 
-// What a context names.
+/// What a context names.
 fn named<N: QueueName>(context: &Option<InsertContext<N>>) -> Option<IrpLife> {
     match context {
         None => None,
@@ -67,7 +67,7 @@ fn named<N: QueueName>(context: &Option<InsertContext<N>>) -> Option<IrpLife> {
     }
 }
 
-// A context names its IRP in its life, and removes it once. What was completed is used again, in its next life.
+/// A context names its IRP in its life, and removes it once. What was completed is used again, in its next life.
 fn remove_and_reuse<L: PendingList + Drop, N: QueueName, A: Allocator, R: Wait>(
     rt: &R,
     queue: &Csq<L, N, A>,
@@ -90,7 +90,7 @@ fn remove_and_reuse<L: PendingList + Drop, N: QueueName, A: Allocator, R: Wait>(
     rows.note(serve(rt, queue, two, Peek::Any) == Some(second(ZERO)));
 }
 
-// Whether an insert at the front finds its IRP cancelled.
+/// Whether an insert at the front finds its IRP cancelled.
 fn finds_cancelled<L: PendingList + Drop, N: QueueName, A: Allocator>(
     rt: &impl Wait,
     queue: &Csq<L, N, A>,
@@ -108,7 +108,7 @@ fn finds_cancelled<L: PendingList + Drop, N: QueueName, A: Allocator>(
     }
 }
 
-// A cancel completes what is listed in the life that it names, and flags what isn't.
+/// A cancel completes what is listed in the life that it names, and flags what isn't.
 fn cancel_each<L: PendingList + Drop, N: QueueName, A: Allocator, R: Wait>(
     rt: &R,
     queue: &Csq<L, N, A>,
@@ -130,7 +130,7 @@ fn cancel_each<L: PendingList + Drop, N: QueueName, A: Allocator, R: Wait>(
     rows.note(finds_cancelled(rt, queue, one, TWO));
 }
 
-// Claims an IRP, and cleans up beside it. Returns whether the cleanup completed one IRP, and left the claimed one.
+/// Claims an IRP, and cleans up beside it. Returns whether the cleanup completed one IRP, and left the claimed one.
 fn clean_up_beside<L: PendingList + Drop, N: QueueName, A: Allocator>(
     rt: &impl Wait,
     queue: &Csq<L, N, A>,
@@ -151,7 +151,7 @@ fn clean_up_beside<L: PendingList + Drop, N: QueueName, A: Allocator>(
     }
 }
 
-// A cleanup completes what is listed for its file object and isn't claimed, and closes the file object.
+/// A cleanup completes what is listed for its file object and isn't claimed, and closes the file object.
 fn clean_up<L: PendingList + Drop, N: QueueName, A: Allocator, R: Wait>(
     rt: &R,
     queue: &Csq<L, N, A>,
@@ -171,7 +171,7 @@ fn clean_up<L: PendingList + Drop, N: QueueName, A: Allocator, R: Wait>(
     rows.note(queue.close_file(rt, one, FileId(0)) == Ok(()));
 }
 
-// What isn't there is refused. Each refusal has its number.
+/// What isn't there is refused. Each refusal has its number.
 fn refuse_unknown<L: PendingList + Drop, N: QueueName, A: Allocator, R: Wait>(
     rt: &R,
     queue: &Csq<L, N, A>,
@@ -189,7 +189,7 @@ fn refuse_unknown<L: PendingList + Drop, N: QueueName, A: Allocator, R: Wait>(
     rows.note(CloseCause::Holding(1, 0).number() == 1);
 }
 
-// The present life of an IRP, whether no insert accepted it there, its Cancel flag and its status.
+/// The present life of an IRP, whether no insert accepted it there, its Cancel flag and its status.
 type State = (Option<Life>, bool, bool, Option<NtStatus>);
 
 fn state_of<L: PendingList + Drop, A: Allocator>(rest: &Rest<L, A>, irp: IrpId) -> State {
@@ -201,7 +201,7 @@ fn state_of<L: PendingList + Drop, A: Allocator>(rest: &Rest<L, A>, irp: IrpId) 
     )
 }
 
-// What is left of each IRP. The first one is listed, alone.
+/// What is left of each IRP. The first one is listed, alone.
 fn check_rest<L: PendingList + Drop, A: Allocator>(rest: &Rest<L, A>, rows: &mut Rows) {
     let cancelled = Some(NtStatus::CANCELLED);
     let listed = rest.next_listed(None);
@@ -228,7 +228,7 @@ fn make_each<L: PendingList + Drop, N: QueueName, A: Allocator, R: Wait>(
     queue.meet(rt, one, two);
 }
 
-// Makes the calls with a queue and its two passes, and closes it.
+/// Makes the calls with a queue and its two passes, and closes it.
 fn begin_and_end<L: PendingList + Drop, N: QueueName, A: Allocator, R: Wait + Abort>(
     rt: &R,
     blank: Blank<L, A>,
@@ -247,7 +247,7 @@ fn begin_and_end<L: PendingList + Drop, N: QueueName, A: Allocator, R: Wait + Ab
     }
 }
 
-// Makes a queue on the heap of its list, and refuses all memory from then on.
+/// Makes a queue on the heap of its list, and refuses all memory from then on.
 fn run<B: Allocator, L: PendingList + Drop, R: Wait + Abort>(
     rt: &R,
     heap: &RefusingHeap<B>,

@@ -19,7 +19,7 @@ use std::process::Abort;
 use std::sync::Wait;
 use std::thread::{Threads, join};
 
-// The next IRP, which is listed.
+/// The next IRP, which is listed.
 fn remove<L: PendingList + Drop, N: QueueName, R: Wait + Abort>(
     rt: &R,
     queue: &Csq<L, N>,
@@ -33,7 +33,7 @@ fn remove<L: PendingList + Drop, N: QueueName, R: Wait + Abort>(
     }
 }
 
-// Whether an insert after a flag finds it.
+/// Whether an insert after a flag finds it.
 fn finds_flag<L: PendingList + Drop, N: QueueName, R: Wait>(
     rt: &R,
     queue: &Csq<L, N>,
@@ -50,7 +50,7 @@ fn finds_flag<L: PendingList + Drop, N: QueueName, R: Wait>(
     }
 }
 
-// Whether a put-back after a flag finds it.
+/// Whether a put-back after a flag finds it.
 fn finds_flag_again<L: PendingList + Drop, N: QueueName, R: Wait + Abort>(
     rt: &R,
     queue: &Csq<L, N>,
@@ -73,7 +73,7 @@ fn finds_flag_again<L: PendingList + Drop, N: QueueName, R: Wait + Abort>(
     }
 }
 
-// A reuse after a status that was read, and after a completion that was told.
+/// A reuse after a status that was read, and after a completion that was told.
 fn reuse_twice<L: PendingList + Drop, N: QueueName, R: Wait + Abort>(
     rt: &R,
     queue: &Csq<L, N>,
@@ -90,7 +90,7 @@ fn reuse_twice<L: PendingList + Drop, N: QueueName, R: Wait + Abort>(
     rows.note(again == Ok(Life(7)));
 }
 
-// Two reads each, and an IRP that is served.
+/// Two reads each, and an IRP that is served.
 fn read_twice<L: PendingList + Drop, N: QueueName, R: Wait>(
     rt: &R,
     queue: &Csq<L, N>,
@@ -105,7 +105,7 @@ fn read_twice<L: PendingList + Drop, N: QueueName, R: Wait>(
     rows.note(earlier == Ok((Life(7), Some(NtStatus::SUCCESS))) && later == earlier);
 }
 
-// Draws all conclusions with two passes.
+/// Draws all conclusions with two passes.
 fn draw_each<L: PendingList + Drop, N: QueueName, R: Wait + Abort>(
     rt: &R,
     queue: &Csq<L, N>,
@@ -125,7 +125,7 @@ fn draw_each<L: PendingList + Drop, N: QueueName, R: Wait + Abort>(
     rows.judge(rt);
 }
 
-// Draws them over a queue of this name.
+/// Draws them over a queue of this name.
 fn draw_all<N: QueueName, R: Wait + Abort>(rt: &R, blank: Blank<VecList>)
     requires { blank ≡ record { table = N.table; limits = N.limits } }
 {
@@ -141,7 +141,7 @@ fn conclusions_hold_of_a_queue_of_two_passes(rt: HostRuntime) {
     draw_all::<Brand, _>(&rt, blank(&rt, rt.alloc(), list, 2));
 }
 
-// Whether an insert by a pass that was told of a cancel finds it.
+/// Whether an insert by a pass that was told of a cancel finds it.
 fn finds_what_was_told<L: PendingList + Drop, N: QueueName, R: Wait>(
     rt: &R,
     queue: &Csq<L, N>,
@@ -158,7 +158,7 @@ fn finds_what_was_told<L: PendingList + Drop, N: QueueName, R: Wait>(
     }
 }
 
-// Whether a removal by a pass that was told finds none.
+/// Whether a removal by a pass that was told finds none.
 fn finds_none<L: PendingList + Drop, N: QueueName, R: Wait>(
     rt: &R,
     queue: &Csq<L, N>,
@@ -174,7 +174,7 @@ fn finds_none<L: PendingList + Drop, N: QueueName, R: Wait>(
     }
 }
 
-// A cancel in one thread, and an insert in another that was told of it: nobody met. Then a removal, told of both.
+/// A cancel in one thread, and an insert in another that was told of it: nobody met. Then a removal, told of both.
 fn tell_each<L, N, R>(rt: &R, queue: &Csq<L, N>, one: &mut Pass<N>, two: &mut Pass<N>)
 where
     L: PendingList + Drop + Send,
@@ -193,7 +193,7 @@ where
     assert!(rt; done == Ok(false) && found && none);
 }
 
-// Lets two threads tell each other over a queue of this name.
+/// Lets two threads tell each other over a queue of this name.
 fn tell_over<N: QueueName + Send + Sync, R: Threads + Wait + Abort + Sync>(
     rt: &R,
     blank: Blank<VecList>,

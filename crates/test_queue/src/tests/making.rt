@@ -6,7 +6,7 @@ use irp_core::FileId;
 use std::alloc::Allocator;
 use std::process::Abort;
 
-// Asks for a queue of so many IRPs over a list, which comes back as it was.
+/// Asks for a queue of so many IRPs over a list, which comes back as it was.
 fn refuse<L: PendingList + Drop, A: Allocator + Copy, R: Abort>(
     rt: &R,
     alloc: A,
@@ -24,7 +24,7 @@ fn refuse<L: PendingList + Drop, A: Allocator + Copy, R: Abort>(
     }
 }
 
-// Over a list into which an IRP was inserted.
+/// Over a list into which an IRP was inserted.
 fn refuse_used<L: PendingList + Drop, A: Allocator + Copy, R: Abort>(
     rt: &R,
     alloc: A,
@@ -34,7 +34,7 @@ fn refuse_used<L: PendingList + Drop, A: Allocator + Copy, R: Abort>(
     refuse(rt, alloc, list, 4, NewCause::ListNotFresh);
 }
 
-// Over a list with a closed file object.
+/// Over a list with a closed file object.
 fn refuse_closed<L: PendingList + Drop, A: Allocator + Copy, R: Abort>(
     rt: &R,
     alloc: A,
@@ -53,7 +53,7 @@ fn a_list_that_is_not_fresh_comes_back(rt: HostRuntime) {
     assert!(rt; NewCause::ListNotFresh.number() == 3);
 }
 
-// For a queue of another size than its list, and of one that no queue has.
+/// For a queue of another size than its list, and of one that no queue has.
 #[test]
 fn a_list_of_another_size_comes_back(rt: HostRuntime) {
     for (irps, cause) in [

@@ -27,7 +27,7 @@ const NEXT: IrpLife = IrpLife {
     life: Life(1),
 };
 
-// A life that is cancelled past a removal, and one that is removed, with each kind of step and what it finds.
+/// A life that is cancelled past a removal, and one that is removed, with each kind of step and what it finds.
 const STEPS: [(u32, Kind, u64); 12] = [
     (1, Kind::Arm(LAST), 0),
     (1, Kind::Test(LAST), 0),
@@ -43,13 +43,13 @@ const STEPS: [(u32, Kind, u64); 12] = [
     (3, Kind::Disarm(NEXT), 1),
 ];
 
-// More than the memory of what is made here.
+/// More than the memory of what is made here.
 const ROOM: usize = 1 << 16;
 
-// More than the calls for memory of what is made here.
+/// More than the calls for memory of what is made here.
 const CALLS: u64 = 64;
 
-// What is made.
+/// What is made.
 #[derive(Clone, Copy)]
 enum Product {
     Machine,
@@ -63,7 +63,7 @@ enum Product {
     UsedQueue,
 }
 
-// How it ended.
+/// How it ended.
 #[derive(Clone, Copy, PartialEq, Eq)]
 enum Outcome {
     // It was made and works, or its list was told not to be fresh.
@@ -72,7 +72,7 @@ enum Outcome {
     Wrong,
 }
 
-// Makes these steps. The room has as much in use after each as before.
+/// Makes these steps. The room has as much in use after each as before.
 fn step_in_room<A: Allocator>(rt: &impl Abort, room: &LocalHeap, machine: &mut Machine<A>) {
     let used = room.used();
     for (pass, kind, found) in STEPS {
@@ -97,7 +97,7 @@ fn make_machine<A: Allocator + Copy>(rt: &impl Abort, heap: A, room: &LocalHeap)
     }
 }
 
-// A pass finds the last IRP neither flagged nor armed.
+/// A pass finds the last IRP neither flagged nor armed.
 fn flag_and_take<A: Allocator>(rt: &impl Abort, words: &Words<A>, seats: &mut PassSeats)
     requires size { words.now.size.irps ≡ 64 }
     requires seats { seats.old ≡ new_seats words.now.table 1 16 }
@@ -109,7 +109,7 @@ fn flag_and_take<A: Allocator>(rt: &impl Abort, words: &Words<A>, seats: &mut Pa
     assert!(rt; pass.take(words, LAST) == 0);
 }
 
-// Words take nothing of the room that is left.
+/// Words take nothing of the room that is left.
 fn make_words<A: Allocator + Copy>(rt: &impl Abort, heap: A, room: &LocalHeap) -> Outcome {
     match Words::new(heap, IRPS, PASSES) {
         Ok((words, _queue, mut seats)) => {
@@ -173,8 +173,8 @@ fn make_over_used<L: PendingList + Drop, A: Allocator + Copy>(
     }
 }
 
-// Makes something on a heap that refuses one call for memory of this room. The list of a queue is on
-// another heap.
+/// Makes something on a heap that refuses one call for memory of this room. The list of a queue is on
+/// another heap.
 fn make<A: Allocator + Copy>(
     rt: &(impl AllocGlobal + Abort),
     product: Product,
@@ -192,8 +192,8 @@ fn make<A: Allocator + Copy>(
     }
 }
 
-// Refuses one call for memory. Returns whether it came to that call: want of memory is told then, and
-// not otherwise.
+/// Refuses one call for memory. Returns whether it came to that call: want of memory is told then, and
+/// not otherwise.
 fn refuse_call(
     rt: &(impl AllocGlobal + Abort),
     product: Product,
@@ -208,7 +208,7 @@ fn refuse_call(
     refused
 }
 
-// Refuses one call for memory, and finds that all memory was given back.
+/// Refuses one call for memory, and finds that all memory was given back.
 fn refuse_and_give_back(rt: &(impl AllocGlobal + Abort), product: Product, call: u64) -> bool {
     let room = match LocalHeap::new(rt.alloc(), ROOM) {
         Ok(room) => room,
@@ -219,7 +219,7 @@ fn refuse_and_give_back(rt: &(impl AllocGlobal + Abort), product: Product, call:
     refused
 }
 
-// Refuses each call for memory in turn. Returns how many there are, which is at least one.
+/// Refuses each call for memory in turn. Returns how many there are, which is at least one.
 fn refuse_each_call(rt: &(impl AllocGlobal + Abort), product: Product) -> u64 {
     for call in 0..CALLS {
         if !refuse_and_give_back(rt, product, call) {
@@ -230,7 +230,7 @@ fn refuse_each_call(rt: &(impl AllocGlobal + Abort), product: Product) -> u64 {
     panic!(rt; "each call was refused")
 }
 
-// A queue makes as many calls for memory over one list as over the other.
+/// A queue makes as many calls for memory over one list as over the other.
 #[test]
 fn each_call_for_memory_is_refused_in_turn(rt: HostRuntime) {
     for product in [

@@ -11,7 +11,7 @@ use irp_core::{FileId, FinalStatus, IrpId, IrpLife, NtStatus};
 use std::alloc::Allocator;
 use std::process::Abort;
 
-// A queue, its words and its first pass.
+/// A queue, its words and its first pass.
 #[derive(Drop)]
 struct Open<L: PendingList + Drop, A: Allocator> {
     queue: OpenQueue<L, A>,
@@ -22,7 +22,7 @@ struct Open<L: PendingList + Drop, A: Allocator> {
 }
 
 impl<L: PendingList + Drop, A: Allocator> Open<L, A> {
-    // Whether an IRP is inserted last, and pending then, which is answered as STATUS_PENDING.
+    /// Whether an IRP is inserted last, and pending then, which is answered as STATUS_PENDING.
     fn insert(&mut self, irp: IrpId, file: u32) -> bool {
         match self.queue.insert(&self.words, &mut self.pass, irp, FileId(file), Place::Back) {
             Err(_) => false,
@@ -36,7 +36,7 @@ impl<L: PendingList + Drop, A: Allocator> Open<L, A> {
         }
     }
 
-    // Removes the first listed IRP and completes it, and returns which.
+    /// Removes the first listed IRP and completes it, and returns which.
     fn serve(&mut self) -> Option<IrpLife> {
         let irp = self
             .queue
@@ -45,7 +45,7 @@ impl<L: PendingList + Drop, A: Allocator> Open<L, A> {
         Some(irp)
     }
 
-    // Removes the first listed IRP and puts it back at the front, and returns which.
+    /// Removes the first listed IRP and puts it back at the front, and returns which.
     fn return_first(&mut self) -> Option<IrpLife> {
         let irp = self
             .queue
@@ -60,14 +60,14 @@ impl<L: PendingList + Drop, A: Allocator> Open<L, A> {
         }
     }
 
-    // Removes this one and completes it.
+    /// Removes this one and completes it.
     fn serve_named(&mut self, irp: IrpLife) -> Option<IrpLife> {
         let irp = self.queue.remove(&self.words, &mut self.pass, irp)?;
         self.pass.complete(&self.words, irp, FinalStatus::success());
         Some(irp)
     }
 
-    // Cancels an IRP: takes its cancel routine, takes it out and completes it. Returns how many are listed in between.
+    /// Cancels an IRP: takes its cancel routine, takes it out and completes it. Returns how many are listed in between.
     fn cancel(&mut self, irp: IrpLife) -> Option<u32> {
         let Ok(Some(irp)) = self.pass.mark_cancel(&self.words, irp.irp, irp.life) else {
             return None;
@@ -78,19 +78,19 @@ impl<L: PendingList + Drop, A: Allocator> Open<L, A> {
         Some(len)
     }
 
-    // Begins the next life of an IRP.
+    /// Begins the next life of an IRP.
     fn reuse(&mut self, irp: IrpId) -> bool {
         self.queue.reuse(&self.words, &mut self.pass, irp) == Ok(SECOND)
     }
 
-    // Closes a file object.
+    /// Closes a file object.
     fn close_file(&mut self, file: u32) -> Result<(), UnknownFile> {
         self.queue
             .close_file(&self.words, &mut self.pass, FileId(file))
     }
 }
 
-// An empty list.
+/// An empty list.
 fn look_at_none<L: PendingList + Drop, A: Allocator>(queue: &OpenQueue<L, A>, rows: &mut Rows) {
     rows.note(queue.len() == 0);
     rows.note(queue.file_len(FileId(1)) == Some(0));
@@ -99,7 +99,7 @@ fn look_at_none<L: PendingList + Drop, A: Allocator>(queue: &OpenQueue<L, A>, ro
     rows.note(queue.peek_next(Some(ZERO), Peek::Any) == Err(NotListed));
 }
 
-// Of the first file object 0 and 2 are listed, of the other 1.
+/// Of the first file object 0 and 2 are listed, of the other 1.
 fn look_at_three<L: PendingList + Drop, A: Allocator>(queue: &OpenQueue<L, A>, rows: &mut Rows) {
     rows.note(queue.len() == 3);
     rows.note(queue.file_len(FileId(0)) == Some(2));
@@ -110,7 +110,7 @@ fn look_at_three<L: PendingList + Drop, A: Allocator>(queue: &OpenQueue<L, A>, r
     rows.note(queue.peek_next(Some(THREE), Peek::Any) == Err(NotListed));
 }
 
-// The first IRP is in its next life, and is listed alone.
+/// The first IRP is in its next life, and is listed alone.
 fn look_at_one<L: PendingList + Drop, A: Allocator>(queue: &OpenQueue<L, A>, rows: &mut Rows) {
     rows.note(queue.len() == 1);
     rows.note(queue.peek_next(None, Peek::Any) == Ok(Some(second(ZERO))));
@@ -119,7 +119,7 @@ fn look_at_one<L: PendingList + Drop, A: Allocator>(queue: &OpenQueue<L, A>, row
     rows.note(queue.life(UNKNOWN).is_none());
 }
 
-// Looks at a new queue, at one in which three IRPs are listed, and after these were cancelled and removed.
+/// Looks at a new queue, at one in which three IRPs are listed, and after these were cancelled and removed.
 fn look_through<L: PendingList + Drop, A: Allocator>(open: &mut Open<L, A>, rows: &mut Rows) {
     look_at_none(&open.queue, rows);
     rows.note(open.insert(ZERO, 0));
@@ -136,7 +136,7 @@ fn look_through<L: PendingList + Drop, A: Allocator>(open: &mut Open<L, A>, rows
     rows.note(open.close_file(0) == Ok(()));
 }
 
-// A queue without a lock, and its first pass.
+/// A queue without a lock, and its first pass.
 fn begin<L: PendingList + Drop, A: Allocator, R: Abort>(rt: &R, blank: Blank<L, A>) -> Open<L, A> {
     let (queue, words, mut rack) = blank.into_open();
     match rack.take() {
@@ -145,7 +145,7 @@ fn begin<L: PendingList + Drop, A: Allocator, R: Abort>(rt: &R, blank: Blank<L, 
     }
 }
 
-// Looks at a queue over this list.
+/// Looks at a queue over this list.
 fn look_over<L: PendingList + Drop, A: Allocator + Copy, R: Abort>(rt: &R, alloc: A, list: L) {
     let mut rows = Rows::new();
     look_through(&mut begin(rt, blank(rt, alloc, list, 1)), &mut rows);

@@ -16,7 +16,7 @@ use std::marker::Brand;
 use std::process::Abort;
 use std::sync::Wait;
 
-// What a pass removed and has yet to complete, and what it claimed and has yet to take out.
+/// What a pass removed and has yet to complete, and what it claimed and has yet to take out.
 struct Busy<N: QueueName> {
     pass: Pass<N>,
     token: Token<N>,
@@ -25,7 +25,7 @@ struct Busy<N: QueueName> {
     ghost owes: { Owes pass claim },
 }
 
-// Removes the first IRP.
+/// Removes the first IRP.
 fn remove<L: PendingList + Drop, N: QueueName, A: Allocator, R: Wait + Abort>(
     rt: &R,
     queue: &Csq<L, N, A>,
@@ -39,7 +39,7 @@ fn remove<L: PendingList + Drop, N: QueueName, A: Allocator, R: Wait + Abort>(
     }
 }
 
-// Claims another, beside the one that is held.
+/// Claims another, beside the one that is held.
 fn claim<L: PendingList + Drop, N: QueueName, A: Allocator, R: Wait + Abort>(
     rt: &R,
     queue: &Csq<L, N, A>,
@@ -55,7 +55,7 @@ fn claim<L: PendingList + Drop, N: QueueName, A: Allocator, R: Wait + Abort>(
     }
 }
 
-// Gives a busy pass back, which is refused.
+/// Gives a busy pass back, which is refused.
 fn give_busy_back<L: PendingList + Drop, N: QueueName, A: Allocator, R: Wait + Abort>(
     rt: &R,
     queue: &Csq<L, N, A>,
@@ -70,7 +70,7 @@ fn give_busy_back<L: PendingList + Drop, N: QueueName, A: Allocator, R: Wait + A
     Busy { pass, token, claim }
 }
 
-// Completes what a busy pass holds, and what it owes.
+/// Completes what a busy pass holds, and what it owes.
 fn settle<L: PendingList + Drop, N: QueueName, A: Allocator, R: Wait + Abort>(
     rt: &R,
     queue: &Csq<L, N, A>,
@@ -87,7 +87,7 @@ fn settle<L: PendingList + Drop, N: QueueName, A: Allocator, R: Wait + Abort>(
     pass
 }
 
-// A queue with the pass that is to close it, and its rack.
+/// A queue with the pass that is to close it, and its rack.
 #[derive(Drop)]
 struct Closing<L: PendingList + Drop, N: QueueName> {
     queue: Csq<L, N>,
@@ -95,7 +95,7 @@ struct Closing<L: PendingList + Drop, N: QueueName> {
     rack: PassRack<N>,
 }
 
-// Closes a queue, which is refused for this cause.
+/// Closes a queue, which is refused for this cause.
 fn refuse<L: PendingList + Drop, N: QueueName, R: Abort>(
     rt: &R,
     closing: Closing<L, N>,
@@ -106,7 +106,7 @@ fn refuse<L: PendingList + Drop, N: QueueName, R: Abort>(
     Closing { queue, pass, rack }
 }
 
-// Closes a queue with the receipt of the third pass while the second is out, which is refused.
+/// Closes a queue with the receipt of the third pass while the second is out, which is refused.
 fn refuse_with<L: PendingList + Drop, N: QueueName, R: Abort>(
     rt: &R,
     closing: Closing<L, N>,
@@ -127,7 +127,7 @@ fn refuse_with<L: PendingList + Drop, N: QueueName, R: Abort>(
     Closing { queue, pass, rack }
 }
 
-// Closes a queue with a busy pass, which is refused.
+/// Closes a queue with a busy pass, which is refused.
 fn close_busy<L: PendingList + Drop, N: QueueName, R: Abort>(
     rt: &R,
     queue: Csq<L, N>,
@@ -140,7 +140,7 @@ fn close_busy<L: PendingList + Drop, N: QueueName, R: Abort>(
     (queue, Busy { pass, token, claim }, rack)
 }
 
-// A pass that holds and owes an IRP is neither given back nor closes its queue, until it has completed both.
+/// A pass that holds and owes an IRP is neither given back nor closes its queue, until it has completed both.
 fn keep_busy<L: PendingList + Drop, N: QueueName, R: Wait + Abort>(
     rt: &R,
     closing: Closing<L, N>,
@@ -155,7 +155,7 @@ fn keep_busy<L: PendingList + Drop, N: QueueName, R: Wait + Abort>(
     (Closing { queue, pass, rack }, two)
 }
 
-// Gives a pass back that holds and owes nothing, for its receipt.
+/// Gives a pass back that holds and owes nothing, for its receipt.
 fn receipt<L: PendingList + Drop, N: QueueName, A: Allocator, R: Wait + Abort>(
     rt: &R,
     queue: &Csq<L, N, A>,
@@ -167,14 +167,14 @@ fn receipt<L: PendingList + Drop, N: QueueName, A: Allocator, R: Wait + Abort>(
     }
 }
 
-// One IRP was removed, and the other one cancelled.
+/// One IRP was removed, and the other one cancelled.
 fn check_rest<L: PendingList + Drop, A: Allocator, R: Abort>(rt: &R, rest: &Rest<L, A>) {
     assert!(rt; rest.next_listed(None).is_none());
     assert!(rt; rest.status(ZERO) == Some(NtStatus::SUCCESS));
     assert!(rt; rest.status(ONE) == Some(NtStatus::CANCELLED));
 }
 
-// Lets a pass learn what a pass that is back had seen.
+/// Lets a pass learn what a pass that is back had seen.
 fn learn_from<L: PendingList + Drop, N: QueueName>(
     queue: &Csq<L, N>,
     pass: &mut Pass<N>,
@@ -184,7 +184,7 @@ fn learn_from<L: PendingList + Drop, N: QueueName>(
     queue.learn(pass, seen);
 }
 
-// Closes a queue with the receipts of both other passes.
+/// Closes a queue with the receipts of both other passes.
 fn close_with_both<L: PendingList + Drop, N: QueueName, R: Wait + Abort>(
     rt: &R,
     closing: Closing<L, N>,
@@ -214,7 +214,7 @@ fn insert_two<L: PendingList + Drop, N: QueueName, R: Wait>(
     let _ = insert(rt, queue, pass, ONE, 0);
 }
 
-// Asks for the close while two passes are out, then one, which is counted, and then none.
+/// Asks for the close while two passes are out, then one, which is counted, and then none.
 fn close_early<L: PendingList + Drop, N: QueueName, R: Wait + Abort>(rt: &R, blank: Blank<L>)
     requires { blank ≡ record { table = N.table; limits = N.limits } }
 {
@@ -241,7 +241,7 @@ fn passes_that_are_out_or_busy_keep_a_queue_open(rt: HostRuntime) {
     close_early_over(&rt, chains(&rt, rt.alloc()));
 }
 
-// Inserts an IRP through a pass, and lets the pass go: it isn't given back.
+/// Inserts an IRP through a pass, and lets the pass go: it isn't given back.
 fn insert_and_let_go<L: PendingList + Drop, N: QueueName, A: Allocator, R: Wait>(
     rt: &R,
     queue: &Csq<L, N, A>,
@@ -250,8 +250,8 @@ fn insert_and_let_go<L: PendingList + Drop, N: QueueName, A: Allocator, R: Wait>
     let _ = insert(rt, queue, &mut pass, ZERO, 0);
 }
 
-// Closes a queue whose second pass was let go, which is refused each time. Then gives the last pass back, and lets the
-// queue go.
+/// Closes a queue whose second pass was let go, which is refused each time. Then gives the last pass back, and lets the
+/// queue go.
 fn close_without_a_pass<L: PendingList + Drop, N: QueueName, R: Wait + Abort>(
     rt: &R,
     blank: Blank<L>,

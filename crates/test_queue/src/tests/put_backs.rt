@@ -14,7 +14,7 @@ use std::marker::Brand;
 use std::process::Abort;
 use std::sync::Wait;
 
-// What comes between a removal and the put-back.
+/// What comes between a removal and the put-back.
 #[derive(Clone, Copy)]
 enum Between {
     Nothing,
@@ -24,7 +24,7 @@ enum Between {
     Close(FileId),
 }
 
-// What became of a put-back.
+/// What became of a put-back.
 #[derive(Clone, Copy, PartialEq, Eq)]
 enum Returned {
     // There was nothing to remove.
@@ -36,7 +36,7 @@ enum Returned {
     Refused(InsertStatus),
 }
 
-// Puts a request back, and completes what isn't listed then.
+/// Puts a request back, and completes what isn't listed then.
 fn return_one<L: PendingList + Drop, N: QueueName, A: Allocator>(
     rt: &impl Wait,
     queue: &Csq<L, N, A>,
@@ -59,7 +59,7 @@ fn return_one<L: PendingList + Drop, N: QueueName, A: Allocator>(
     }
 }
 
-// What the other pass does meanwhile. Returns whether it was as expected.
+/// What the other pass does meanwhile. Returns whether it was as expected.
 fn meanwhile<L: PendingList + Drop, N: QueueName, A: Allocator>(
     rt: &impl Wait,
     queue: &Csq<L, N, A>,
@@ -75,7 +75,7 @@ fn meanwhile<L: PendingList + Drop, N: QueueName, A: Allocator>(
     }
 }
 
-// Removes the first request and puts it back.
+/// Removes the first request and puts it back.
 fn remove_and_return<L: PendingList + Drop, N: QueueName, A: Allocator>(
     rt: &impl Wait,
     queue: &Csq<L, N, A>,
@@ -98,7 +98,7 @@ fn remove_and_return<L: PendingList + Drop, N: QueueName, A: Allocator>(
     }
 }
 
-// The first request, which is completed.
+/// The first request, which is completed.
 fn serve<L: PendingList + Drop, N: QueueName, A: Allocator>(
     rt: &impl Wait,
     queue: &Csq<L, N, A>,
@@ -114,7 +114,7 @@ fn serve<L: PendingList + Drop, N: QueueName, A: Allocator>(
     }
 }
 
-// What is put back stands first or last, as often as it is, and a later cancel finds its routine.
+/// What is put back stands first or last, as often as it is, and a later cancel finds its routine.
 fn return_and_find<L: PendingList + Drop, N: QueueName, A: Allocator, R: Wait>(
     rt: &R,
     queue: &Csq<L, N, A>,
@@ -136,7 +136,7 @@ fn return_and_find<L: PendingList + Drop, N: QueueName, A: Allocator, R: Wait>(
     rows.note(serve(rt, queue, one) == Some(TWO));
 }
 
-// A cancel that came while the pass had the request isn't lost, and a closed file object takes it no longer.
+/// A cancel that came while the pass had the request isn't lost, and a closed file object takes it no longer.
 fn return_too_late<L: PendingList + Drop, N: QueueName, A: Allocator, R: Wait>(
     rt: &R,
     queue: &Csq<L, N, A>,
@@ -159,7 +159,7 @@ fn return_too_late<L: PendingList + Drop, N: QueueName, A: Allocator, R: Wait>(
     rows.note(remove_and_return(rt, queue, one, two, Between::Nothing, first) == Returned::Nothing);
 }
 
-// Makes the calls with a queue and its two passes, and closes it.
+/// Makes the calls with a queue and its two passes, and closes it.
 fn begin_and_end<L: PendingList + Drop, N: QueueName, A: Allocator, R: Wait + Abort>(
     rt: &R,
     blank: Blank<L, A>,
@@ -179,7 +179,7 @@ fn begin_and_end<L: PendingList + Drop, N: QueueName, A: Allocator, R: Wait + Ab
     }
 }
 
-// Makes a queue over this list.
+/// Makes a queue over this list.
 fn run<L: PendingList + Drop, A: Allocator + Copy, R: Wait + Abort>(rt: &R, alloc: A, list: L) {
     let mut rows = Rows::new();
     begin_and_end::<L, Brand, _, R>(rt, blank(rt, alloc, list, 2), &mut rows);

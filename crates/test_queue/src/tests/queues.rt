@@ -20,25 +20,25 @@ pub(super) const TWO: IrpId = IrpId(2);
 
 pub(super) const THREE: IrpId = IrpId(3);
 
-// There is none of this number.
+/// There is none of this number.
 pub(super) const UNKNOWN: IrpId = IrpId(4);
 
-// The life in which the IRPs of these queues begin, and the next one.
+/// The life in which the IRPs of these queues begin, and the next one.
 pub(super) const FIRST: Life = Life(5);
 
 pub(super) const SECOND: Life = Life(6);
 
-// An IRP in its first life.
+/// An IRP in its first life.
 pub(super) fn first(irp: IrpId) -> IrpLife {
     IrpLife { irp, life: FIRST }
 }
 
-// An IRP in the next one.
+/// An IRP in the next one.
 pub(super) fn second(irp: IrpId) -> IrpLife {
     IrpLife { irp, life: SECOND }
 }
 
-// Which rows of a test were right. A function that makes many calls has no branches but these.
+/// Which rows of a test were right. A function that makes many calls has no branches but these.
 #[derive(Clone, Copy)]
 pub(super) struct Rows {
     made: u32,
@@ -53,7 +53,7 @@ impl Rows {
         }
     }
 
-    // Notes whether the next row is right.
+    /// Notes whether the next row is right.
     pub(super) fn note(&mut self, right: bool) {
         if !right && self.wrong.is_none() {
             self.wrong = Some(self.made);
@@ -61,7 +61,7 @@ impl Rows {
         self.made = self.made.wrapping_add(1);
     }
 
-    // Tells the first row that wasn't.
+    /// Tells the first row that wasn't.
     pub(super) fn judge(&self, rt: &impl Abort) {
         if let Some(row) = self.wrong {
             panic!(rt; "row {row} is wrong");
@@ -69,7 +69,7 @@ impl Rows {
     }
 }
 
-// A list of 4 IRPs and 2 file objects in a vector.
+/// A list of 4 IRPs and 2 file objects in a vector.
 pub(super) fn vector<A: Allocator + Copy, R: Abort>(rt: &R, alloc: A) -> VecList<A> {
     match VecList::new(alloc, 4, 2, 4) {
         Ok(list) => list,
@@ -77,7 +77,7 @@ pub(super) fn vector<A: Allocator + Copy, R: Abort>(rt: &R, alloc: A) -> VecList
     }
 }
 
-// The same in chains.
+/// The same in chains.
 pub(super) fn chains<A: Allocator + Copy, R: Abort>(rt: &R, alloc: A) -> ChainList<A> {
     match ChainList::new(alloc, 4, 2, 4) {
         Ok(list) => list,
@@ -85,7 +85,7 @@ pub(super) fn chains<A: Allocator + Copy, R: Abort>(rt: &R, alloc: A) -> ChainLi
     }
 }
 
-// A new queue of 4 IRPs and so many passes over this list.
+/// A new queue of 4 IRPs and so many passes over this list.
 pub(super) fn blank<L: PendingList + Drop, A: Allocator + Copy, R: Abort>(
     rt: &R,
     alloc: A,
@@ -100,7 +100,7 @@ pub(super) fn blank<L: PendingList + Drop, A: Allocator + Copy, R: Abort>(
     }
 }
 
-// The next pass.
+/// The next pass.
 pub(super) fn take<N: QueueName, R: Abort>(rt: &R, rack: &mut PassRack<N>) -> Pass<N>
     ensures new { result ≡ new_pass (pass_numbered (N.limits.passes + 1 - rack.old)) }
     ensures left { rack.new + 1 ≡ rack.old }
@@ -111,8 +111,8 @@ pub(super) fn take<N: QueueName, R: Abort>(rt: &R, rack: &mut PassRack<N>) -> Pa
     }
 }
 
-// Inserts an IRP last, and returns its context if it is pending then. None if the insert was refused, or found
-// the IRP cancelled: that one is completed.
+/// Inserts an IRP last, and returns its context if it is pending then. None if the insert was refused, or found
+/// the IRP cancelled: that one is completed.
 pub(super) fn insert<L: PendingList + Drop, N: QueueName, A: Allocator>(
     rt: &impl Wait,
     queue: &Csq<L, N, A>,
@@ -130,7 +130,7 @@ pub(super) fn insert<L: PendingList + Drop, N: QueueName, A: Allocator>(
     }
 }
 
-// Gives a pass back that holds and owes nothing.
+/// Gives a pass back that holds and owes nothing.
 pub(super) fn give_back<L: PendingList + Drop, N: QueueName, A: Allocator, R: Wait + Abort>(
     rt: &R,
     queue: &Csq<L, N, A>,
@@ -141,7 +141,7 @@ pub(super) fn give_back<L: PendingList + Drop, N: QueueName, A: Allocator, R: Wa
     }
 }
 
-// Closes a queue, which is refused for this cause. Queue, pass and rack come back.
+/// Closes a queue, which is refused for this cause. Queue, pass and rack come back.
 pub(super) fn close_refused<L: PendingList + Drop, N: QueueName, A: Allocator, R: Abort>(
     rt: &R,
     queue: Csq<L, N, A>,

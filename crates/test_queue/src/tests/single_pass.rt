@@ -15,8 +15,8 @@ use std::marker::Brand;
 use std::process::Abort;
 use std::sync::Wait;
 
-// An insert into a queue of one pass. Where it finds its IRP cancelled, that pass has set the Cancel
-// flag, since no other could: the contract of the call alone shows it.
+/// An insert into a queue of one pass. Where it finds its IRP cancelled, that pass has set the Cancel
+/// flag, since no other could: the contract of the call alone shows it.
 fn insert_alone<L: PendingList + Drop, N: QueueName, A: Allocator>(
     rt: &impl Wait,
     queue: &Csq<L, N, A>,
@@ -34,7 +34,7 @@ fn insert_alone<L: PendingList + Drop, N: QueueName, A: Allocator>(
     queue.insert(rt, pass, irp, file, Place::Back)
 }
 
-// Sets the Cancel flag of an IRP, and finds it by an insert.
+/// Sets the Cancel flag of an IRP, and finds it by an insert.
 fn find_flag<L: PendingList + Drop, N: QueueName, A: Allocator, R: Wait + Abort>(
     rt: &R,
     queue: &Csq<L, N, A>,

@@ -9,7 +9,7 @@ use irp_core::{FileId, IrpId, Life};
 use std::process::Abort;
 use std::thread::{Threads, join};
 
-// A queue of two passes for one IRP.
+/// A queue of two passes for one IRP.
 fn made<R: AllocGlobal + Abort>(rt: &R, list: ListKind) -> CheckedQueue {
     let size = Size {
         irps: 1,
@@ -25,7 +25,7 @@ fn made<R: AllocGlobal + Abort>(rt: &R, list: ListKind) -> CheckedQueue {
     }
 }
 
-// The next pass.
+/// The next pass.
 fn take<R: AllocGlobal + Abort>(rt: &R, queue: &mut CheckedQueue) -> Box<CheckedPass>
     ensures pass { IsPassIn queue.new.queue result.value }
     ensures queue { queue.new.queue ≡ queue.old.queue }
@@ -36,7 +36,7 @@ fn take<R: AllocGlobal + Abort>(rt: &R, queue: &mut CheckedQueue) -> Box<Checked
     }
 }
 
-// Inserts the IRP.
+/// Inserts the IRP.
 fn insert<R: Abort>(rt: &R, queue: &mut CheckedQueue, pass: &mut CheckedPass)
     requires { IsPassIn queue.old.queue pass.old }
 {
@@ -47,7 +47,7 @@ fn insert<R: Abort>(rt: &R, queue: &mut CheckedQueue, pass: &mut CheckedPass)
     }
 }
 
-// Cancels the IRP, and returns whether its cancel routine was there.
+/// Cancels the IRP, and returns whether its cancel routine was there.
 fn claims(mut pass: Box<CheckedPass>) -> Result<bool, CancelRefused> {
     match pass.mark_cancel(IrpId(0), Life(0)) {
         Ok(claim) => Ok(claim.is_some()),
@@ -55,7 +55,7 @@ fn claims(mut pass: Box<CheckedPass>) -> Result<bool, CancelRefused> {
     }
 }
 
-// What a queue and its two passes answer in two threads.
+/// What a queue and its two passes answer in two threads.
 type Answers = (
     (u32, Result<bool, CancelRefused>),
     Result<bool, CancelRefused>,
@@ -74,7 +74,7 @@ fn hand_over<R: Threads>(
     )
 }
 
-// Hands a queue and its passes over.
+/// Hands a queue and its passes over.
 fn answers<R: Threads + AllocGlobal + Abort>(rt: &R, list: ListKind) -> Answers {
     let mut queue = made(rt, list);
     let mut one = take(rt, &mut queue);

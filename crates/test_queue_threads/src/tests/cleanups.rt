@@ -13,14 +13,14 @@ use std::test::Fail;
 use std::thread::{Threads, join};
 use test_watched_list::{Moment, Watch, wait_for};
 
-// How many IRPs are cleaned up.
+/// How many IRPs are cleaned up.
 const SHARE: u32 = 1000;
 
-// How many cleanups there are at most. The lock isn't handed on in turn, so that an insert may find it taken
-// again by each next removal; a lock that is kept for all of them lets no insert in between, ever.
+/// How many cleanups there are at most. The lock isn't handed on in turn, so that an insert may find it taken
+/// again by each next removal; a lock that is kept for all of them lets no insert in between, ever.
 const ROUNDS: u32 = 200;
 
-// What a list and the threads of a test tell each other.
+/// What a list and the threads of a test tell each other.
 #[derive(Drop)]
 struct Counts {
     // How many IRPs are removed, or being removed.
@@ -33,8 +33,8 @@ struct Counts {
     gave_up: AtomicBool,
 }
 
-// A list waits at its first removal for an insert to be about to be made. An insert for file 1 then tells
-// whether it came between two removals.
+/// A list waits at its first removal for an insert to be about to be made. An insert for file 1 then tells
+/// whether it came between two removals.
 impl Watch for Counts {
     fn at(&self, moment: Moment) {
         match moment {
@@ -54,7 +54,7 @@ impl Watch for Counts {
     }
 }
 
-// Inserts all that is to be cleaned up.
+/// Inserts all that is to be cleaned up.
 fn insert_share<L: PendingList + Drop, N: QueueName, R: Wait>(
     rt: &R,
     queue: &Csq<L, N>,
@@ -67,7 +67,7 @@ fn insert_share<L: PendingList + Drop, N: QueueName, R: Wait>(
     all
 }
 
-// One thread cleans a file up, and another inserts for another file once the first IRP is being removed.
+/// One thread cleans a file up, and another inserts for another file once the first IRP is being removed.
 fn clean_up_and_insert<L, N, R>(
     rt: &R,
     queue: &Csq<L, N>,
@@ -109,7 +109,7 @@ where
     close(rt, queue, one, rack);
 }
 
-// The same with a new queue over this list, which is watched.
+/// The same with a new queue over this list, which is watched.
 fn clean_up<L, R>(rt: &R, list: L, counts: &Counts)
 where
     L: PendingList + Drop + Send,
@@ -119,7 +119,7 @@ where
     clean_up_beside_an_insert::<_, Brand, R>(rt, blank(rt, list, 2), counts);
 }
 
-// A list in chains, of which a removal is short, so that the lock is free for a larger part of the time.
+/// A list in chains, of which a removal is short, so that the lock is free for a larger part of the time.
 fn chains<R: AllocGlobal + Abort>(rt: &R) -> ChainList {
     match ChainList::new(rt.alloc(), SHARE + 1, 2, SHARE + 1) {
         Ok(list) => list,
@@ -127,7 +127,7 @@ fn chains<R: AllocGlobal + Abort>(rt: &R) -> ChainList {
     }
 }
 
-// Whether an insert came between two removals of a cleanup.
+/// Whether an insert came between two removals of a cleanup.
 fn comes_between<R: Threads + Wait + AllocGlobal + Abort + Sync>(rt: &R) -> bool {
     let counts = Counts {
         removing: AtomicU64::new(0),

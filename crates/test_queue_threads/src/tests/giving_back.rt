@@ -12,10 +12,10 @@ use std::sync::Wait;
 use std::sync::atomic::Ordering;
 use std::thread::{Threads, join, yield_now};
 
-// How often a thread yields, so that another comes to the lock.
+/// How often a thread yields, so that another comes to the lock.
 const WHILE: u32 = 1000;
 
-// Lets a call that has the lock go on, a while after a pass is about to be given back.
+/// Lets a call that has the lock go on, a while after a pass is about to be given back.
 fn let_go_on(signals: &Signals) {
     signals.wait_for(&signals.giving);
     for _ in 0..WHILE {
@@ -24,7 +24,7 @@ fn let_go_on(signals: &Signals) {
     signals.give(&signals.go_on);
 }
 
-// One thread closes a file slowly, while another gives its pass back.
+/// One thread closes a file slowly, while another gives its pass back.
 fn close_file_and_give_back<L, N, R>(
     rt: &R,
     queue: &Csq<L, N>,
@@ -56,7 +56,7 @@ where
     assert!(rt; !signals.gave_up.load(Ordering::SeqCst));
 }
 
-// Once both threads are done no pass is out, and the queue is closed.
+/// Once both threads are done no pass is out, and the queue is closed.
 fn give_back_at_the_lock<L, N, R>(rt: &R, blank: Blank<L>, signals: &Signals)
 where
     L: PendingList + Drop + Send,
@@ -71,7 +71,7 @@ where
     close(rt, queue, one, rack);
 }
 
-// The same with a new queue over this list, which is watched.
+/// The same with a new queue over this list, which is watched.
 fn give_back_over<L, R>(rt: &R, list: L)
 where
     L: PendingList + Drop + Send,

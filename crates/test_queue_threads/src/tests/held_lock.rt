@@ -13,25 +13,25 @@ use std::sync::atomic::{AtomicBool, Ordering};
 use std::thread::{Threads, join, yield_now};
 use test_watched_list::wait_for;
 
-// The one that was removed before the lock is held, and is only to be completed.
+/// The one that was removed before the lock is held, and is only to be completed.
 const REMOVED: IrpId = IrpId(0);
 
-// The one that was cancelled before, and is only to be completed.
+/// The one that was cancelled before, and is only to be completed.
 const TAKEN: IrpId = IrpId(1);
 
-// The one that is cancelled while the lock is held.
+/// The one that is cancelled while the lock is held.
 const CANCELLED: IrpId = IrpId(2);
 
-// The one that is marked while the lock is held.
+/// The one that is marked while the lock is held.
 const MARKED: IrpId = IrpId(3);
 
-// The one that isn't inserted.
+/// The one that isn't inserted.
 const HOME: IrpId = IrpId(4);
 
-// How often a thread yields at most before it gives up.
+/// How often a thread yields at most before it gives up.
 const PATIENCE: u32 = 1_000_000;
 
-// Whether all but one were inserted.
+/// Whether all but one were inserted.
 fn insert_all<L: PendingList + Drop, N: QueueName, R: Wait>(
     rt: &R,
     queue: &Csq<L, N>,
@@ -44,7 +44,7 @@ fn insert_all<L: PendingList + Drop, N: QueueName, R: Wait>(
     all
 }
 
-// Makes cancels that find no routine, and reads a flag and a status. Returns whether each answered so.
+/// Makes cancels that find no routine, and reads a flag and a status. Returns whether each answered so.
 fn cancel_in_vain<L: PendingList + Drop, N: QueueName, R: Wait>(
     rt: &R,
     queue: &Csq<L, N>,
@@ -66,7 +66,7 @@ fn cancel_in_vain<L: PendingList + Drop, N: QueueName, R: Wait>(
         && status == Ok((LIFE, Some(NtStatus::CANCELLED)))
 }
 
-// Yields until an IRP's Cancel flag is set, or gives up. Where some wait gave up, this one doesn't go on.
+/// Yields until an IRP's Cancel flag is set, or gives up. Where some wait gave up, this one doesn't go on.
 fn wait_for_cancel<L: PendingList + Drop, N: QueueName>(
     queue: &Csq<L, N>,
     pass: &mut Pass<N>,
@@ -82,8 +82,8 @@ fn wait_for_cancel<L: PendingList + Drop, N: QueueName>(
     gave_up.store(true, Ordering::SeqCst);
 }
 
-// What is made past a held lock, but for the completions: the cancels in vain, and once another cancel has set its flag
-// a mark. Then it lets the call go on, and takes out what it has marked.
+/// What is made past a held lock, but for the completions: the cancels in vain, and once another cancel has set its flag
+/// a mark. Then it lets the call go on, and takes out what it has marked.
 fn cancel_past<L: PendingList + Drop, N: QueueName, R: Wait>(
     rt: &R,
     queue: &Csq<L, N>,
@@ -105,7 +105,7 @@ fn cancel_past<L: PendingList + Drop, N: QueueName, R: Wait>(
     }
 }
 
-// Takes an IRP out as its canceller. Once a call is then inside the lock, completes it, and cancels.
+/// Takes an IRP out as its canceller. Once a call is then inside the lock, completes it, and cancels.
 fn take_out_and_cancel<L: PendingList + Drop, N: QueueName, R: Wait>(
     rt: &R,
     queue: &Csq<L, N>,
@@ -125,7 +125,7 @@ fn take_out_and_cancel<L: PendingList + Drop, N: QueueName, R: Wait>(
     }
 }
 
-// Removes an IRP. Once a call is then inside the lock, completes it, and cancels another.
+/// Removes an IRP. Once a call is then inside the lock, completes it, and cancels another.
 fn remove_and_cancel<L: PendingList + Drop, N: QueueName, R: Wait>(
     rt: &R,
     queue: &Csq<L, N>,
@@ -141,8 +141,8 @@ fn remove_and_cancel<L: PendingList + Drop, N: QueueName, R: Wait>(
     queue.cancel(rt, pass, CANCELLED, LIFE) == Ok(true)
 }
 
-// What the cancels have left: all but the removed one and the one at home were completed as cancelled. The lock is free
-// again.
+/// What the cancels have left: all but the removed one and the one at home were completed as cancelled. The lock is free
+/// again.
 fn judge<L: PendingList + Drop, N: QueueName, R: Wait + Abort>(
     rt: &R,
     queue: &Csq<L, N>,
@@ -156,7 +156,7 @@ fn judge<L: PendingList + Drop, N: QueueName, R: Wait + Abort>(
     assert!(rt; queue.close_file(rt, pass, FileId(0)) == Ok(()));
 }
 
-// One thread closes a file slowly, while two others complete and cancel.
+/// One thread closes a file slowly, while two others complete and cancel.
 fn close_file_and_cancel<L, N, R>(
     rt: &R,
     queue: &Csq<L, N>,
@@ -207,7 +207,7 @@ where
     close(rt, queue, closer, rack);
 }
 
-// The same with a new queue over this list, which is watched.
+/// The same with a new queue over this list, which is watched.
 fn cancel_over<L, R>(rt: &R, list: L)
 where
     L: PendingList + Drop + Send,

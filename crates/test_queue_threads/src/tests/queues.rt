@@ -6,10 +6,10 @@ use std::process::Abort;
 use std::sync::Wait;
 use test_watched_list::{Watch, WatchedList};
 
-// The life in which all IRPs begin.
+/// The life in which all IRPs begin.
 pub(super) const LIFE: Life = Life(1);
 
-// A list of so many IRPs and file objects in a vector.
+/// A list of so many IRPs and file objects in a vector.
 pub(super) fn vector<R: AllocGlobal + Abort>(rt: &R, irps: u32, files: u32) -> VecList {
     match VecList::new(rt.alloc(), irps, files, irps) {
         Ok(list) => list,
@@ -17,7 +17,7 @@ pub(super) fn vector<R: AllocGlobal + Abort>(rt: &R, irps: u32, files: u32) -> V
     }
 }
 
-// A list that tells a watch of its calls.
+/// A list that tells a watch of its calls.
 pub(super) fn watched<L: PendingList + Drop, W: Watch>(
     list: L,
     watch: &W,
@@ -25,7 +25,7 @@ pub(super) fn watched<L: PendingList + Drop, W: Watch>(
     WatchedList { list, watch }
 }
 
-// A new queue over this list, with so many passes.
+/// A new queue over this list, with so many passes.
 pub(super) fn blank<L: PendingList + Drop, R: AllocGlobal + Abort>(
     rt: &R,
     list: L,
@@ -38,7 +38,7 @@ pub(super) fn blank<L: PendingList + Drop, R: AllocGlobal + Abort>(
     }
 }
 
-// The next pass.
+/// The next pass.
 pub(super) fn take<N: QueueName, R: Abort>(rt: &R, rack: &mut PassRack<N>) -> Pass<N> {
     match rack.take() {
         Some(pass) => pass,
@@ -46,7 +46,7 @@ pub(super) fn take<N: QueueName, R: Abort>(rt: &R, rack: &mut PassRack<N>) -> Pa
     }
 }
 
-// Whether an IRP is inserted last, and pending then.
+/// Whether an IRP is inserted last, and pending then.
 pub(super) fn inserts<L: PendingList + Drop, N: QueueName, R: Wait>(
     rt: &R,
     queue: &Csq<L, N>,
@@ -64,7 +64,7 @@ pub(super) fn inserts<L: PendingList + Drop, N: QueueName, R: Wait>(
     }
 }
 
-// Gives a pass back that holds and owes nothing.
+/// Gives a pass back that holds and owes nothing.
 pub(super) fn give_back<L: PendingList + Drop, N: QueueName, R: Wait + Abort>(
     rt: &R,
     queue: &Csq<L, N>,
@@ -75,7 +75,7 @@ pub(super) fn give_back<L: PendingList + Drop, N: QueueName, R: Wait + Abort>(
     }
 }
 
-// Closes a queue with its last pass.
+/// Closes a queue with its last pass.
 pub(super) fn close<L: PendingList + Drop, N: QueueName, R: Abort>(
     rt: &R,
     queue: Csq<L, N>,

@@ -11,13 +11,13 @@ use std::sync::Wait;
 use std::sync::atomic::{AtomicBool, AtomicU64, Ordering};
 use std::thread::{Threads, join, yield_now};
 
-// How many IRPs there are.
+/// How many IRPs there are.
 const IRPS: u32 = 16;
 
-// How many lives each IRP has.
+/// How many lives each IRP has.
 const LIVES: u32 = 10_000;
 
-// What both threads count.
+/// What both threads count.
 #[derive(Drop)]
 struct Counts {
     completed: AtomicU64,
@@ -39,7 +39,7 @@ impl Counts {
     }
 }
 
-// Inserts each. It is pending, or found cancelled.
+/// Inserts each. It is pending, or found cancelled.
 fn insert_each<L: PendingList + Drop, N: QueueName, R: Wait>(
     rt: &R,
     queue: &Csq<L, N>,
@@ -58,7 +58,7 @@ fn insert_each<L: PendingList + Drop, N: QueueName, R: Wait>(
     }
 }
 
-// Removes what is left of them and completes it.
+/// Removes what is left of them and completes it.
 fn remove_each<L: PendingList + Drop, N: QueueName, R: Wait>(
     rt: &R,
     queue: &Csq<L, N>,
@@ -73,7 +73,7 @@ fn remove_each<L: PendingList + Drop, N: QueueName, R: Wait>(
     }
 }
 
-// Begins the next life of each, once it is completed, by its canceller perhaps.
+/// Begins the next life of each, once it is completed, by its canceller perhaps.
 fn reuse_each<L: PendingList + Drop, N: QueueName, R: Wait>(
     rt: &R,
     queue: &Csq<L, N>,
@@ -92,7 +92,7 @@ fn reuse_each<L: PendingList + Drop, N: QueueName, R: Wait>(
     }
 }
 
-// Leads all IRPs through their lives.
+/// Leads all IRPs through their lives.
 fn submit<L: PendingList + Drop, N: QueueName, R: Wait>(
     rt: &R,
     queue: &Csq<L, N>,
@@ -108,7 +108,7 @@ fn submit<L: PendingList + Drop, N: QueueName, R: Wait>(
     counts.done.store(true, Ordering::SeqCst);
 }
 
-// Cancels an IRP in the life in which it was just now, or in one behind that, which must be stale.
+/// Cancels an IRP in the life in which it was just now, or in one behind that, which must be stale.
 fn cancel_one<L: PendingList + Drop, N: QueueName, R: Wait>(
     rt: &R,
     queue: &Csq<L, N>,
@@ -133,7 +133,7 @@ fn cancel_one<L: PendingList + Drop, N: QueueName, R: Wait>(
     }
 }
 
-// Cancels IRPs in a random order, in their present lives and in lives behind them, until all are over.
+/// Cancels IRPs in a random order, in their present lives and in lives behind them, until all are over.
 fn cancel_at_random<L: PendingList + Drop, N: QueueName, R: Wait>(
     rt: &R,
     queue: &Csq<L, N>,
@@ -151,7 +151,7 @@ fn cancel_at_random<L: PendingList + Drop, N: QueueName, R: Wait>(
     }
 }
 
-// As many completions are counted as there are lives. No life is followed by another before it was completed.
+/// As many completions are counted as there are lives. No life is followed by another before it was completed.
 fn submit_beside_cancels<L, N, R>(
     rt: &R,
     queue: &Csq<L, N>,
