@@ -83,6 +83,9 @@ static void complain(const struct iocsq_search *s, const struct iocsq_irp *answe
     if (judgement.verdict == CSQ_PEEK_SKIPS && !skipped) {
         iocsq_disagree(answer, "%s: the list changes while this thread has its lock", s->when);
     }
+    if (judgement.verdict != CSQ_PEEK_SKIPS && !answer) {
+        iocsq_fail("%s: CsqPeekNextIrp answered none, which can only skip a match", s->when);
+    }
     switch (judgement.verdict) {
     case CSQ_PEEK_SKIPS:
         iocsq_disagree(skipped, "%s: CsqPeekNextIrp answered %s, and skipped irp %u, a match", s->when, given,
