@@ -88,7 +88,11 @@
 //!
 //! To link: the variable `CSQ_LIBRARY` of the environment names the library's archives, in the linker's order, with
 //! colons between them. A relative path is of the folder from which the build is started.
-#![deny(missing_docs, unsafe_op_in_unsafe_fn, clippy::undocumented_unsafe_blocks)]
+#![deny(
+    missing_docs,
+    unsafe_op_in_unsafe_fn,
+    clippy::undocumented_unsafe_blocks
+)]
 
 mod errors;
 mod pass;
