@@ -14,7 +14,7 @@ use Rattle.csq_words.specs.declared.views.Event.{Event}
 use Rattle.csq_words.specs.declared.views.Event.TheVariants.{FlagSeen, Mark, Insert, RemoveNext, Remove, Out, CloseFile, Reuse, PutBack}
 use Rattle.csq_words.specs.declared.views.InsertReply.TheVariants.{Pending, Cancelled, Refused}
 use Rattle.csq_queue.specs.Calls.{PutsBack, file_at}
-use Rattle.csq_queue.proofs.Crowding.{pending_none}
+use Rattle.csq_queue.proofs.Crowding.{pending_none, cancelled_none}
 
 -- the cause is the file object's or the list's
 abbrev pub is_of_place : InsertStatus → Bool
@@ -24,10 +24,6 @@ is_of_place NotHome = false
 is_of_place FileClosed = true
 is_of_place FileFull = true
 is_of_place Full = true
-
-cancelled_none : (o : Option InsertStatus) (b : Bool) → Cancelled ≡ reply_to_insert o b → o ≡ None
-cancelled_none None b h = refl
-cancelled_none (Some cause) b h = absurd (cc)
 
 module _ (l : Limits) (u : QueueState) (n : IrpId) (f : FileId) (i : IrpLife) (before : has_irp u.used i ≡ true → (u.file_of i.irp).0 < l.files) where
   -- the file object of what an insert accepts is known

@@ -8,7 +8,7 @@ pub pending_none : (o : Option InsertStatus) (b : Bool) → Pending ≡ reply_to
 pending_none None b h = refl
 pending_none (Some cause) b h = absurd (cc)
 
-cancelled_none : (o : Option InsertStatus) (b : Bool) → Cancelled ≡ reply_to_insert o b → o ≡ None
+pub cancelled_none : (o : Option InsertStatus) (b : Bool) → Cancelled ≡ reply_to_insert o b → o ≡ None
 cancelled_none None b h = refl
 cancelled_none (Some cause) b h = absurd (cc)
 

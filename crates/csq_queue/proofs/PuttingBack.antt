@@ -3,11 +3,12 @@ use Rattle.std.proofs.Common.{◌≡◌, ℕ, not, ◌&&◌, ◌||◌, Bool, tru
 use Rattle.csq_queue.proofs.Imports.{false_from_ne_true, or_right, slice_index, IsTrue, length, ◌<◌, TableId, same_irp, number, IrpLife, FileId, Made, Rearm, Test, Disarm, holds_in, removed_in, owes, holds, listed, armed, was_armed, same_irp-refl, same_irp-eq, holds_in-own, removed_in-own, Rearmed, Place, InsertStatus, Listing, put_at, inserted, without_irp, is_listed, MayMake, after_step, with_noted, FlagSeen, Mark, PutBack, Pending, Cancelled, Refused, current, has_irp, has_entry, back_refusal, reply_to_insert, plain, new_entry, Limits, IsGone, end_of, queue_of, with_run, SomeRunAgrees, RecordsAgree, lists, inserts, QueueSeatState, joined_record, with_view, open_now, held_gone, irp_eq, ArePresent, listing-relisted, listing-put_and_taken, listing-marked, one_marked, queue_size, IrpNumbers, IsListOf, HoldsRemoved, IsEntered, Adds, MakesSteps, put_back_steps, InsertAnswer}
 use Rattle.csq_words.specs.declared.calls.Call.TheVariants.{PutBack as PutBackCall}
 use Rattle.csq_words.proofs.Truths.{flags_cancelled}
+use Rattle.csq_words.proofs.Marking.{placed_unmarked}
 use Rattle.csq_queue.specs.declared.tokens.InsertAnswer.TheVariants as answer
 use Rattle.csq_queue.proofs.Presence.{sound_lives, listed_is}
 use Rattle.csq_queue.proofs.Searching.{with_made, adds_none, adds_more}
 use Rattle.csq_queue.proofs.Giving.{makes_none, makes_more}
-use Rattle.csq_queue.proofs.Inserting.{unmarked-put_at, listed-put_at, clear-put_at, pending_steps}
+use Rattle.csq_queue.proofs.Inserting.{listed-put_at, clear-put_at, pending_steps}
 
 module _ {t : TableId} {l : Limits} {s : Listing} {v : IrpNumbers} {old : QueueSeatState} (h : IsEntered t l s v old) (i : IrpLife) (held : HoldsRemoved l.irps (joined_record old) i) where
   -- the execution that the records agree with
@@ -159,7 +160,7 @@ module _ {t : TableId} {l : Limits} {s : Listing} {v : IrpNumbers} {old : QueueS
             let es = Mark i ∷ PutBack i f place Pending ∷ [] in
             let x = with_made (Disarm i) 0 es r3 seen_set in
             let u = record (queue_of old.queue) { entries = put_at place (new_entry i f) (queue_of old.queue).entries } in (
-              adds_more l old [] es s s' v v seen_set (Disarm i) 0 r3 adds_seen (unmarked-put_at place i f (queue_of old.queue).entries, ((is_gone, f_is, pending), h.legal)) record {
+              adds_more l old [] es s s' v v seen_set (Disarm i) 0 r3 adds_seen (placed_unmarked place i f (queue_of old.queue).entries, ((is_gone, f_is, pending), h.legal)) record {
                 listing_is = relisted.listing_is ∙ listing-marked l u i;
                 lives_are = record { one_each = h.list_is.lives_are.one_each; each = h.list_is.lives_are.each };
                 files_are = record { one_each = h.list_is.files_are.one_each; each = h.list_is.files_are.each };

@@ -1,7 +1,7 @@
 -- The one claim of an IRP, and the pass that made it.
 use Rattle.std.proofs.Common.{◌≡◌, Bool, true, false, cond, ◌||◌, List, [], ◌∷◌, map, Some, refl, sym, ap, ◌∙◌}
 use Rattle.csq_words.proofs.Imports.{PassId, NtStatus, CANCELLED, Kind, Done, Made, same_irp, same_kind, is, by, own, IrpLife, dones, same_irp-eq, same_pass-eq, same_some, removed_in, Completion, has_irp, is_done, with_done, completed_in, AreDue, status_recorded, any_filtered, own_made}
-use Rattle.csq_words.proofs.Facts.{off, dones_some}
+use Rattle.csq_words.proofs.Facts.{off, dones_some, completed_in_done}
 use Rattle.csq_words.proofs.Keeping.{none_is}
 use Rattle.csq_words.proofs.Truths.{own_any}
 
@@ -59,7 +59,7 @@ done_by (m ∷ E) d i p h o = go (done_by E d i p) (is (Done i) m) (by p m) refl
 
 -- the IRP of a status that was recorded was completed by a step
 pub recorded_done : (steps : List Made) (cs : List Completion) (i : IrpLife) (status : NtStatus) → map (λ (c : Completion). c.irp) cs ≡ completed_in steps → status_recorded i cs ≡ Some status → is_done steps i ≡ true
-recorded_done steps cs i status are h = has_done steps (ap (λ is. has_irp is i) (sym are) ∙ recorded_has cs h)
+recorded_done steps cs i status are h = completed_in_done steps i (ap (λ is. has_irp is i) (sym are) ∙ recorded_has cs h)
   where
     recorded_has : (cs : List Completion) → status_recorded i cs ≡ Some status → has_irp (map (λ (c : Completion). c.irp) cs) i ≡ true
     recorded_has [] h = none_is status h
@@ -68,15 +68,3 @@ recorded_done steps cs i status are h = has_done steps (ap (λ is. has_irp is i)
         go : (b : Bool) → (status_recorded i cs ≡ Some status → has_irp (map (λ (c : Completion). c.irp) cs) i ≡ true) → cond b (Some c.status) (status_recorded i cs) ≡ Some status → (b || has_irp (map (λ (c : Completion). c.irp) cs) i) ≡ true
         go true rest h = refl
         go false rest h = rest h
-
-    has_done : (steps : List Made) → has_irp (completed_in steps) i ≡ true → is_done steps i ≡ true
-    has_done [] h = h
-    has_done (m ∷ steps) h = go m.kind (has_done steps) h
-      where
-        either' : (b : Bool) → (has_irp (completed_in steps) i ≡ true → is_done steps i ≡ true) → (b || has_irp (completed_in steps) i) ≡ true → (b || is_done steps i) ≡ true
-        either' true rest h = refl
-        either' false rest h = rest h
-
-        go : (k : Kind) → (has_irp (completed_in steps) i ≡ true → is_done steps i ≡ true) → has_irp (with_done k (completed_in steps)) i ≡ true → (same_kind k (Done i) || is_done steps i) ≡ true
-        go (Done j) rest h = either' (same_irp j i) rest h
-        go k rest h = rest h
