@@ -25,13 +25,13 @@ module _ (es : List Entry) (distinct : is_distinct es ≡ true) where
       same [] x rest s n = cc
       same (y ∷ before) x rest s n = absurd (cc)
 
-  pub tells : (rest : List Entry) (after : Option IrpId) → rest_after after es ≡ rest → (is : List IrpId) → AllAgree es after is ↔ (is ≡ numbers rest)
-  tells [] after h [] = (λ a. refl, λ e. (answers after None).1 (sym (ap (first_match Any) h)))
-  tells [] after h (i ∷ is) = (λ a. absurd (let none : Some i ≡ None = (answers after (Some i)).0 a.0 ∙ ap (first_match Any) h in cc), λ e. absurd (cc))
-  tells (x ∷ rest) after h [] = (λ a. absurd (let some : None ≡ Some x.irp = (answers after None).0 a ∙ ap (first_match Any) h in cc), λ e. absurd (cc))
-  tells (x ∷ rest) after h (i ∷ is) =
+  pub gives : (rest : List Entry) (after : Option IrpId) → rest_after after es ≡ rest → (is : List IrpId) → AllAgree es after is ↔ (is ≡ numbers rest)
+  gives [] after h [] = (λ a. refl, λ e. (answers after None).1 (sym (ap (first_match Any) h)))
+  gives [] after h (i ∷ is) = (λ a. absurd (let none : Some i ≡ None = (answers after (Some i)).0 a.0 ∙ ap (first_match Any) h in cc), λ e. absurd (cc))
+  gives (x ∷ rest) after h [] = (λ a. absurd (let some : None ≡ Some x.irp = (answers after None).0 a ∙ ap (first_match Any) h in cc), λ e. absurd (cc))
+  gives (x ∷ rest) after h (i ∷ is) =
       let on = goes_on after x rest h in
-      let more = tells rest (Some x.irp) on is in (
+      let more = gives rest (Some x.irp) on is in (
         λ a.
             let here : Some i ≡ Some x.irp = (answers after (Some i)).0 a.0 ∙ ap (first_match Any) h in
             let is_x : i ≡ x.irp = cc in

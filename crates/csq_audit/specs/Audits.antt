@@ -13,5 +13,5 @@ AllAgree es after [] = peek_verdict es after Any None ≡ Agrees
 AllAgree es after (i ∷ is) = (peek_verdict es after Any (Some i) ≡ Agrees) × AllAgree es (Some i) is
 
 -- peeks from the first to the last all agree exactly where they tell the queue's list
-abbrev pub AgreeingPeeksTellTheList : Type 0
-AgreeingPeeksTellTheList = (es : List Entry) → IsTrue (is_distinct es) → (is : List IrpId) → AllAgree es None is ↔ (is ≡ map (λ (e : Entry). e.irp) es)
+abbrev pub AgreeingPeeksGiveTheList : Type 0
+AgreeingPeeksGiveTheList = (es : List Entry) → IsTrue (is_distinct es) → (is : List IrpId) → AllAgree es None is ↔ (is ≡ map (λ (e : Entry). e.irp) es)

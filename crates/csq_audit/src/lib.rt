@@ -10,7 +10,7 @@ mod remove;
 mod uses;
 
 pub use cleanup::{CleanupVerdict, judge_cleanup};
-pub use laws::agreeing_peeks_tell_the_list;
+pub use laws::agreeing_peeks_give_the_list;
 pub use peek::{PeekVerdict, judge_peek};
 pub use remove::{RemoveVerdict, judge_remove};
 pub use uses::{UseVerdict, judge_complete, judge_insert};

@@ -77,10 +77,10 @@ passing from to = record {
 
 -- what lies behind the pointer goes over with it
 module _ {M : Type 1} {𝓤 : Ura M} (𝓛 : Logic 𝓤) (C : Calls 𝓤 𝓛.H) (Λ : Loops 𝓤 𝓛.H) (from to : Sym) where
-  pub passes : (p : Ptr) (F : Fml) (vs : List Val) (tokens asked told : SProp 𝓤) (Post : Val → SProp 𝓤) → ent 𝓤 (emp 𝓤) told
-      → ent 𝓤 (sep 𝓤 tokens (sep 𝓤 (sem 𝓛 (fsep ftrue ftrue)) (sep 𝓤 (sem 𝓛 (owns_beside p F (word p ∷ []))) told))) (Post (word p))
+  pub passes : (p : Ptr) (F : Fml) (vs : List Val) (tokens asked stored : SProp 𝓤) (Post : Val → SProp 𝓤) → ent 𝓤 (emp 𝓤) stored
+      → ent 𝓤 (sep 𝓤 tokens (sep 𝓤 (sem 𝓛 (fsep ftrue ftrue)) (sep 𝓤 (sem 𝓛 (owns_beside p F (word p ∷ []))) stored))) (Post (word p))
       → ent 𝓤 (sep 𝓤 (sep 𝓤 tokens (sem 𝓛 (fsep (owns_beside p F vs) ftrue))) asked) (WpFn 𝓤 𝓛.H C Λ (passing from to) (vs ++ []) Post)
-  passes p F vs tokens asked told Post tells ends =
+  passes p F vs tokens asked stored Post tells ends =
       qed 𝓛 ((raw tokens ⊛ ‵ (fsep (owns_beside p F vs) ftrue)) ∷ raw asked ∷ []) ∵
       split ! $ move ! (1 ∷ []) $ fsplit ! $ taken_apart ! p F vs (λ is. keep ! (0 ∷ 2 ∷ []) $
       regoal ! (λ (us : List Val). prop (WpFn 𝓤 𝓛.H C Λ (passing from to) us Post)) (λ i. is i ++ []) refl $
@@ -89,4 +89,4 @@ module _ {M : Type 1} {𝓤 : Ura M} (𝓛 : Logic 𝓤) (C : Calls 𝓤 𝓛.H)
       sets ! (of_opd ! (get ! refl)) refl (pointer_typed p) $
       sets ! (agg ! (and_then ! (get ! refl) (no_more !))) refl (word_typed p) $
       returns ! (look_at ! 0 refl) $ free_all ! refl $
-      made ! p F $ nothing ! $ nothing ! $ fjoin ! $ use0 𝓛 (raw told) tells $ move ! (3 ∷ 1 ∷ 2 ∷ 0 ∷ []) $ by ! ends))
+      made ! p F $ nothing ! $ nothing ! $ fjoin ! $ use0 𝓛 (raw stored) tells $ move ! (3 ∷ 1 ∷ 2 ∷ 0 ∷ []) $ by ! ends))

@@ -16,24 +16,24 @@ use Rattle.csq_checked.specs.declared.calls.PutBackRefused.{PutBackRefused}
 use Rattle.csq_checked.specs.declared.calls.ReuseRefused.{ReuseRefused}
 use Rattle.csq_checked.specs.declared.unlocked.RoutineRefused.{RoutineRefused}
 use Rattle.csq_c.specs.Bodies.{QueueBodyState}
-use Rattle.csq_c.specs.Codes.{insert_code, inserted_irp, put_back_code, put_back_irp, removal_code, routine_code, close_file_code, reuse_code, life_told}
+use Rattle.csq_c.specs.Codes.{insert_code, inserted_irp, put_back_code, put_back_irp, removal_code, routine_code, close_file_code, reuse_code, life_stored}
 use Rattle.csq_c.specs.Exports.{OnQueue}
 use Rattle.csq_c.specs.declared.codes.Code.{Code}
 
 -- an insert answers this code, and tells of this IRP
 abbrev pub InsertsInto : IrpId → FileId → Place → QueueBodyState → QueueBodyState → CheckedPassState → CheckedPassState → Code → Option IrpLife → Type 0
-InsertsInto irp file place body body' p p' code told = OnQueue body body' p p' code (told ≡ None)
-    (λ q q'. (answer : Result (InsertAnswer IrpLife IrpLife) InsertStatus) × MakesCall (Inserts irp file place answer) q p q' p' × (code ≡ insert_code answer) × (told ≡ inserted_irp answer))
+InsertsInto irp file place body body' p p' code stored = OnQueue body body' p p' code (stored ≡ None)
+    (λ q q'. (answer : Result (InsertAnswer IrpLife IrpLife) InsertStatus) × MakesCall (Inserts irp file place answer) q p q' p' × (code ≡ insert_code answer) × (stored ≡ inserted_irp answer))
 
 -- a put-back answers this code, and tells of this IRP
 abbrev pub PutsBackInto : IrpLife → Place → QueueBodyState → QueueBodyState → CheckedPassState → CheckedPassState → Code → Option IrpLife → Type 0
-PutsBackInto i place body body' p p' code told = OnQueue body body' p p' code (told ≡ None)
-    (λ q q'. (answer : Result (InsertAnswer IrpLife IrpLife) PutBackRefused) × PutsBackRemoved i place answer q p q' p' × (code ≡ put_back_code answer) × (told ≡ put_back_irp answer))
+PutsBackInto i place body body' p p' code stored = OnQueue body body' p p' code (stored ≡ None)
+    (λ q q'. (answer : Result (InsertAnswer IrpLife IrpLife) PutBackRefused) × PutsBackRemoved i place answer q p q' p' × (code ≡ put_back_code answer) × (stored ≡ put_back_irp answer))
 
 -- so does a removal of the next match
 abbrev pub RemovesNextFrom : Peek → QueueBodyState → QueueBodyState → CheckedPassState → CheckedPassState → Code → Option IrpLife → Type 0
-RemovesNextFrom peek body body' p p' code told = OnQueue body body' p p' code (told ≡ None)
-    (λ q q'. MakesCall (RemovesNext peek told) q p q' p' × (code ≡ removal_code told))
+RemovesNextFrom peek body body' p p' code stored = OnQueue body body' p p' code (stored ≡ None)
+    (λ q q'. MakesCall (RemovesNext peek stored) q p q' p' × (code ≡ removal_code stored))
 
 -- and a removal of the IRP named
 abbrev pub RemovesFrom : IrpLife → QueueBodyState → QueueBodyState → CheckedPassState → CheckedPassState → Code → Type 0
@@ -57,5 +57,5 @@ ClosesFileOf file body body' p p' code = OnQueue body body' p p' code (Unit {0})
 
 -- a reuse answers this code, and tells of this life
 abbrev pub ReusesOf : IrpLife → QueueBodyState → QueueBodyState → CheckedPassState → CheckedPassState → Code → Option ℕ → Type 0
-ReusesOf i body body' p p' code told = OnQueue body body' p p' code (told ≡ None)
-    (λ q q'. (answer : Result Life ReuseRefused) × ReusesPresentLife i answer q p q' p' × (code ≡ reuse_code answer) × (told ≡ life_told answer))
+ReusesOf i body body' p p' code stored = OnQueue body body' p p' code (stored ≡ None)
+    (λ q q'. (answer : Result Life ReuseRefused) × ReusesPresentLife i answer q p q' p' × (code ≡ reuse_code answer) × (stored ≡ life_stored answer))

@@ -152,31 +152,31 @@ pass_code pass.NoPass = NoPass
 pass_code pass.Memory = NoMemory
 
 -- the life that a reuse answered
-abbrev pub life_told : Result Life ReuseRefused → Option ℕ
-life_told (Ok life) = Some life.0
-life_told (Err refused) = None
+abbrev pub life_stored : Result Life ReuseRefused → Option ℕ
+life_stored (Ok life) = Some life.0
+life_stored (Err refused) = None
 
 -- whether a cancel found the routine there: 1, or 0
-abbrev pub claim_told : Result (Option IrpLife) CancelRefused → Option ℕ
-claim_told (Ok (Some i)) = Some 1
-claim_told (Ok None) = Some 0
-claim_told (Err refused) = None
+abbrev pub claim_stored : Result (Option IrpLife) CancelRefused → Option ℕ
+claim_stored (Ok (Some i)) = Some 1
+claim_stored (Ok None) = Some 0
+claim_stored (Err refused) = None
 
 -- the life that a look at the Cancel flag told, and 1 where the flag is set in it, or 0
-abbrev pub flag_life_told : Result (Life × Bool) NoIrp → Option ℕ
-flag_life_told (Ok read) = Some read.0.0
-flag_life_told (Err refused) = None
+abbrev pub flag_life_stored : Result (Life × Bool) NoIrp → Option ℕ
+flag_life_stored (Ok read) = Some read.0.0
+flag_life_stored (Err refused) = None
 
-abbrev pub flag_told : Result (Life × Bool) NoIrp → Option ℕ
-flag_told (Ok read) = Some (if read.1 then 1 else 0)
-flag_told (Err refused) = None
+abbrev pub flag_stored : Result (Life × Bool) NoIrp → Option ℕ
+flag_stored (Ok read) = Some (if read.1 then 1 else 0)
+flag_stored (Err refused) = None
 
 -- the life that a look at the status told, and the status, where there is one
-abbrev pub status_life_told : Result (Life × Option NtStatus) NoIrp → Option ℕ
-status_life_told (Ok read) = Some read.0.0
-status_life_told (Err refused) = None
+abbrev pub status_life_stored : Result (Life × Option NtStatus) NoIrp → Option ℕ
+status_life_stored (Ok read) = Some read.0.0
+status_life_stored (Err refused) = None
 
-abbrev pub status_told : Result (Life × Option NtStatus) NoIrp → Option ℕ
-status_told (Ok (life, Some status)) = Some status.0
-status_told (Ok (life, None)) = None
-status_told (Err refused) = None
+abbrev pub status_stored : Result (Life × Option NtStatus) NoIrp → Option ℕ
+status_stored (Ok (life, Some status)) = Some status.0
+status_stored (Ok (life, None)) = None
+status_stored (Err refused) = None

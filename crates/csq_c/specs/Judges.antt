@@ -28,7 +28,7 @@ judge_code None = NotListed
 
 -- an open queue's verdict of a peek's answer
 abbrev pub JudgesPeekOf : Option IrpId → Peek → Option IrpId → QueueBodyState → Code → Option PeekVerdict → Type 0
-JudgesPeekOf after k answer body code told = OnOpen body code (told ≡ None) (λ q. (told ≡ judged (listed q) after k answer) × (code ≡ judge_code told))
+JudgesPeekOf after k answer body code stored = OnOpen body code (stored ≡ None) (λ q. (stored ≡ judged (listed q) after k answer) × (code ≡ judge_code stored))
 
 -- the number of a verdict
 abbrev pub verdict_number : PeekVerdict → ℕ
@@ -44,17 +44,17 @@ skipped_by (verdict.Skips i) = Some i.0
 skipped_by _ = None
 
 -- both, where there is a verdict
-abbrev pub verdict_told : Option PeekVerdict → Option ℕ
-verdict_told None = None
-verdict_told (Some v) = Some (verdict_number v)
+abbrev pub verdict_stored : Option PeekVerdict → Option ℕ
+verdict_stored None = None
+verdict_stored (Some v) = Some (verdict_number v)
 
-abbrev pub skipped_told : Option PeekVerdict → Option ℕ
-skipped_told None = None
-skipped_told (Some v) = skipped_by v
+abbrev pub skipped_stored : Option PeekVerdict → Option ℕ
+skipped_stored None = None
+skipped_stored (Some v) = skipped_by v
 
 -- an open queue's verdict of what a cleanup of f left, but for the excused
 abbrev pub JudgesCleanupOf : FileId → List ℕ → QueueBodyState → Code → Option CleanupVerdict → Type 0
-JudgesCleanupOf f excused body code told = OnOpen body code (told ≡ None) (λ q. (code ≡ Done) × (told ≡ Some (cleanup_verdict (first_left excused f (listed q)))))
+JudgesCleanupOf f excused body code stored = OnOpen body code (stored ≡ None) (λ q. (code ≡ Done) × (stored ≡ Some (cleanup_verdict (first_left excused f (listed q)))))
 
 -- the number of the IRP that is left, or the largest one
 abbrev pub left_number : CleanupVerdict → ℕ
@@ -62,6 +62,6 @@ left_number cleanup.Clean = 4294967295
 left_number (cleanup.Leaves i) = i.0
 
 -- where there is a verdict
-abbrev pub left_told : Option CleanupVerdict → Option ℕ
-left_told None = None
-left_told (Some v) = Some (left_number v)
+abbrev pub left_stored : Option CleanupVerdict → Option ℕ
+left_stored None = None
+left_stored (Some v) = Some (left_number v)

@@ -31,9 +31,9 @@ abbrev pub next_code : List Entry → Option IrpId → Code
 next_code es after = if is_start es after then (if is_some (first_match Any (rest_after after es)) then Done else Nothing) else NotListed
 
 -- its number, if there is one
-abbrev pub number_told : Option IrpId → Option ℕ
-number_told None = None
-number_told (Some i) = Some i.0
+abbrev pub number_stored : Option IrpId → Option ℕ
+number_stored None = None
+number_stored (Some i) = Some i.0
 
 -- 1 and the status where an IRP was completed, else 0 and 0
 abbrev pub completed_of : Option NtStatus → ℕ

@@ -13,18 +13,18 @@ use Rattle.csq_c.specs.declared.codes.Code.{Code}
 use Rattle.csq_c.specs.declared.codes.Code.TheVariants.{Done, UnknownFile, Nothing, EmptyHandle, NotListed, Closed}
 
 -- a look at an open queue is as told of it. Of a closed one the code says so, and nothing is told
-pub record OnOpen (body : QueueBodyState) (code : Code) (nothing : Type 0) (told : CheckedState → Type 0) : Type 0 where
+pub record OnOpen (body : QueueBodyState) (code : Code) (nothing : Type 0) (stored : CheckedState → Type 0) : Type 0 where
   pub closed : body.queue ≡ None → (code ≡ Closed) × nothing
-  pub looked : (q : CheckedState) → body.queue ≡ Some q → told q
+  pub looked : (q : CheckedState) → body.queue ≡ Some q → stored q
 
 -- a look through the handle of a queue is as told of what it holds. Where it is empty the code says so, and nothing is written
-pub record OnQueueHandle (queue : Option QueueBodyState) (result : ℕ) (kept : Type 0) (told : QueueBodyState → Code → Type 0) : Type 0 where
+pub record OnQueueHandle (queue : Option QueueBodyState) (result : ℕ) (kept : Type 0) (stored : QueueBodyState → Code → Type 0) : Type 0 where
   pub empty : queue ≡ None → (result ≡ number_of EmptyHandle) × kept
-  pub looked : (body : QueueBodyState) → queue ≡ Some body → (code : Code) × (result ≡ number_of code) × told body code
+  pub looked : (body : QueueBodyState) → queue ≡ Some body → (code : Code) × (result ≡ number_of code) × stored body code
 
 -- it tells how many IRPs are listed
 abbrev pub CountsListed : QueueBodyState → Code → Option ℕ → Type 0
-CountsListed body code told = OnOpen body code (told ≡ None) (λ q. (code ≡ Done) × (told ≡ Some (listed_count q.queue)))
+CountsListed body code stored = OnOpen body code (stored ≡ None) (λ q. (code ≡ Done) × (stored ≡ Some (listed_count q.queue)))
 
 -- whether there is such a file object
 abbrev pub file_code : Option ℕ → Code
@@ -33,7 +33,7 @@ file_code None = UnknownFile
 
 -- it tells how many are listed for a file object
 abbrev pub CountsListedFor : FileId → QueueBodyState → Code → Option ℕ → Type 0
-CountsListedFor f body code told = OnOpen body code (told ≡ None) (λ q. (code ≡ file_code told) × (told ≡ listed_for q.queue f))
+CountsListedFor f body code stored = OnOpen body code (stored ≡ None) (λ q. (code ≡ file_code stored) × (stored ≡ listed_for q.queue f))
 
 -- whether the next match was found
 abbrev pub peek_code : Result (Option IrpLife) Unlisted → Code
@@ -48,5 +48,5 @@ peeked_irp (Err refused) = None
 
 -- it tells the next match after this IRP, or the first one
 abbrev pub PeeksNextOf : Option IrpId → Peek → QueueBodyState → Code → Option IrpLife → Type 0
-PeeksNextOf after peek body code told = OnOpen body code (told ≡ None)
-    (λ q. (answer : Result (Option IrpLife) Unlisted) × PeeksNext after peek answer q.queue × (code ≡ peek_code answer) × (told ≡ peeked_irp answer))
+PeeksNextOf after peek body code stored = OnOpen body code (stored ≡ None)
+    (λ q. (answer : Result (Option IrpLife) Unlisted) × PeeksNext after peek answer q.queue × (code ≡ peek_code answer) × (stored ≡ peeked_irp answer))

@@ -22,18 +22,18 @@ use Rattle.csq_c.specs.declared.codes.Code.TheVariants.{Done}
 
 -- an open queue's verdict of a completion of i with this status, made where it agrees, as it does just where the pass may complete i so
 abbrev pub JudgesCompletionOf : IrpLife → NtStatus → QueueBodyState → CheckedPassState → CheckedPassState → Code → Option UseVerdict → Type 0
-JudgesCompletionOf i status body p p' code told = OnOpen body code ((told ≡ None) × (p' ≡ p))
-    (λ q. (verdict : UseVerdict) × JudgesUse i status verdict q p p' × ((verdict ≡ Agrees) ↔ IsTrue (may_complete p i status)) × (code ≡ Done) × (told ≡ Some verdict))
+JudgesCompletionOf i status body p p' code stored = OnOpen body code ((stored ≡ None) × (p' ≡ p))
+    (λ q. (verdict : UseVerdict) × JudgesUse i status verdict q p p' × ((verdict ≡ Agrees) ↔ IsTrue (may_complete p i status)) × (code ≡ Done) × (stored ≡ Some verdict))
 
 -- the same of another insert of i, which agrees just where the pass got i by a removal and holds it
 abbrev pub JudgesInsertOf : IrpLife → QueueBodyState → CheckedPassState → CheckedPassState → Code → Option UseVerdict → Type 0
-JudgesInsertOf i body p p' code told = OnOpen body code ((told ≡ None) × (p' ≡ p))
-    (λ q. (verdict : UseVerdict) × JudgesUse i SUCCESS verdict q p p' × ((verdict ≡ Agrees) ↔ HoldsRemoved p.words.size.irps p.pass i) × (code ≡ Done) × (told ≡ Some verdict))
+JudgesInsertOf i body p p' code stored = OnOpen body code ((stored ≡ None) × (p' ≡ p))
+    (λ q. (verdict : UseVerdict) × JudgesUse i SUCCESS verdict q p p' × ((verdict ≡ Agrees) ↔ HoldsRemoved p.words.size.irps p.pass i) × (code ≡ Done) × (stored ≡ Some verdict))
 
 -- an open queue's verdict of a removal of i, which agrees just where the queue's own gets it
 abbrev pub JudgesRemovalOf : IrpLife → QueueBodyState → QueueBodyState → CheckedPassState → CheckedPassState → Code → Option RemoveVerdict → Type 0
-JudgesRemovalOf i body body' p p' code told = OnQueue body body' p p' code (told ≡ None)
-    (λ q q'. (verdict : RemoveVerdict) × MakesCall (RemovesOne i (removed_by verdict i)) q p q' p' × (¬ (verdict ≡ removal.Agrees) → verdict ≡ unremoved_verdict (listed q) i.irp) × (code ≡ Done) × (told ≡ Some verdict))
+JudgesRemovalOf i body body' p p' code stored = OnQueue body body' p p' code (stored ≡ None)
+    (λ q q'. (verdict : RemoveVerdict) × MakesCall (RemovesOne i (removed_by verdict i)) q p q' p' × (¬ (verdict ≡ removal.Agrees) → verdict ≡ unremoved_verdict (listed q) i.irp) × (code ≡ Done) × (stored ≡ Some verdict))
 
 -- the number of a verdict
 abbrev pub use_number : UseVerdict → ℕ
@@ -49,10 +49,10 @@ remove_number removal.Claimed = 1
 remove_number removal.NotListed = 2
 
 -- where there is one
-abbrev pub use_told : Option UseVerdict → Option ℕ
-use_told None = None
-use_told (Some v) = Some (use_number v)
+abbrev pub use_stored : Option UseVerdict → Option ℕ
+use_stored None = None
+use_stored (Some v) = Some (use_number v)
 
-abbrev pub remove_told : Option RemoveVerdict → Option ℕ
-remove_told None = None
-remove_told (Some v) = Some (remove_number v)
+abbrev pub remove_stored : Option RemoveVerdict → Option ℕ
+remove_stored None = None
+remove_stored (Some v) = Some (remove_number v)

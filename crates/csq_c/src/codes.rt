@@ -1,6 +1,6 @@
 //! The codes that calls answer.
 ghost use Rattle.std.specs.Prelude.{◌≡◌};
-ghost use Rattle.csq_c.specs.Codes.{number_of, refusal_code, insert_code, inserted_irp, put_back_code, put_back_irp, removal_code, routine_code, close_file_code, reuse_code, life_told, mark_code, claim_told, complete_code, flag_code, flag_life_told, flag_told, status_code, status_life_told, status_told, new_code, pass_code};
+ghost use Rattle.csq_c.specs.Codes.{number_of, refusal_code, insert_code, inserted_irp, put_back_code, put_back_irp, removal_code, routine_code, close_file_code, reuse_code, life_stored, mark_code, claim_stored, complete_code, flag_code, flag_life_stored, flag_stored, status_code, status_life_stored, status_stored, new_code, pass_code};
 
 use csq_checked::{
     CompleteRefused, NewRefused, PassRefused, PutBackRefused, ReuseRefused, RoutineRefused,
@@ -123,7 +123,7 @@ pub(crate) fn of_close_file(answer: Result<(), UnknownFile>) -> Code
 
 /// What a reuse answered, and the life that it told.
 pub(crate) fn of_reuse(answer: Result<Life, ReuseRefused>) -> (Code, Option<u32>)
-    ensures { result ≡ (reuse_code answer, life_told answer) }
+    ensures { result ≡ (reuse_code answer, life_stored answer) }
 {
     match answer {
         Ok(life) => (Code::Done, Some(life.0)),
@@ -136,7 +136,7 @@ pub(crate) fn of_reuse(answer: Result<Life, ReuseRefused>) -> (Code, Option<u32>
 
 /// What a cancel answered, and whether the routine was there.
 pub(crate) fn of_mark(answer: Result<Option<IrpLife>, CancelRefused>) -> (Code, Option<u32>)
-    ensures { result ≡ (mark_code answer, claim_told answer) }
+    ensures { result ≡ (mark_code answer, claim_stored answer) }
 {
     match answer {
         Ok(Some(_)) => (Code::Done, Some(1)),
@@ -161,7 +161,7 @@ pub(crate) fn of_complete(answer: Result<(), CompleteRefused>) -> Code
 
 /// What a look at the Cancel flag answered: a code, the life and whether the flag is set.
 pub(crate) fn of_flag(answer: Result<(Life, bool), UnknownIrp>) -> (Code, Option<u32>, Option<u32>)
-    ensures { result ≡ (flag_code answer, flag_life_told answer, flag_told answer) }
+    ensures { result ≡ (flag_code answer, flag_life_stored answer, flag_stored answer) }
 {
     match answer {
         Ok((life, true)) => (Code::Done, Some(life.0), Some(1)),
@@ -174,7 +174,7 @@ pub(crate) fn of_flag(answer: Result<(Life, bool), UnknownIrp>) -> (Code, Option
 pub(crate) fn of_status(
     answer: Result<(Life, Option<NtStatus>), UnknownIrp>,
 ) -> (Code, Option<u32>, Option<u32>)
-    ensures { result ≡ (status_code answer, status_life_told answer, status_told answer) }
+    ensures { result ≡ (status_code answer, status_life_stored answer, status_stored answer) }
 {
     match answer {
         Ok((life, Some(status))) => (Code::Done, Some(life.0), Some(status.0)),

@@ -4,7 +4,7 @@ ghost use Rattle.std.specs.Prelude.{◌≡◌, Option};
 ghost use Rattle.csq_audit.specs.declared.cleanup.CleanupVerdict.{CleanupVerdict as Left};
 ghost use Rattle.csq_audit.specs.declared.peek.PeekVerdict.{PeekVerdict as Verdict};
 ghost use Rattle.csq_c.specs.Exports.{IsQueueKept};
-ghost use Rattle.csq_c.specs.Judges.{JudgesCleanupOf, JudgesPeekOf, left_told, skipped_by, skipped_told, verdict_number, verdict_told};
+ghost use Rattle.csq_c.specs.Judges.{JudgesCleanupOf, JudgesPeekOf, left_stored, skipped_by, skipped_stored, verdict_number, verdict_stored};
 ghost use Rattle.csq_c.specs.Lefts.{start_of};
 ghost use Rattle.csq_c.specs.Looks.{OnQueueHandle};
 ghost use Rattle.csq_c.specs.Shapes.{file_numbered, peek_of, set_to};
@@ -61,8 +61,8 @@ fn numbers_of(verdict: PeekVerdict) -> (u32, Option<u32>)
 }
 
 /// Those of a verdict, where there is one.
-fn told(verdict: Option<PeekVerdict>) -> (Option<u32>, Option<u32>)
-    ensures { result ≡ (verdict_told verdict, skipped_told verdict) }
+fn stored(verdict: Option<PeekVerdict>) -> (Option<u32>, Option<u32>)
+    ensures { result ≡ (verdict_stored verdict, skipped_stored verdict) }
 {
     let Some(verdict) = verdict else {
         return (None, None);
@@ -88,16 +88,16 @@ pub extern "C" fn csq_judge_peek(
     ensures same { IsQueueKept queue.old queue.new }
     ensures judged { OnQueueHandle queue.old.boxed.body result
         ((verdict.new ≡ verdict.old) × (skipped.new ≡ skipped.old))
-        (λ body code. (told : Option Verdict)
-        × JudgesPeekOf (start_of after) (peek_of file) (start_of answer) body code told
-        × (verdict.new ≡ set_to (verdict_told told) verdict.old)
-        × (skipped.new ≡ set_to (skipped_told told) skipped.old)) }
+        (λ body code. (stored : Option Verdict)
+        × JudgesPeekOf (start_of after) (peek_of file) (start_of answer) body code stored
+        × (verdict.new ≡ set_to (verdict_stored stored) verdict.old)
+        × (skipped.new ≡ set_to (skipped_stored stored) skipped.old)) }
 {
     let Some(body) = queue.boxed.lent() else {
         return Code::EmptyHandle.number();
     };
     let (code, judged) = body.judge_peek(start(after), peek(file), start(answer));
-    let (number, first) = told(judged);
+    let (number, first) = stored(judged);
     write(verdict, number);
     write(skipped, first);
     code.number()
@@ -105,7 +105,7 @@ pub extern "C" fn csq_judge_peek(
 
 /// The number of the IRP that is left, or the largest one, where there is a verdict.
 fn left_of(verdict: Option<CleanupVerdict>) -> Option<u32>
-    ensures { result ≡ left_told verdict }
+    ensures { result ≡ left_stored verdict }
 {
     match verdict? {
         CleanupVerdict::Clean => Some(u32::MAX),
@@ -124,9 +124,9 @@ pub extern "C" fn csq_judge_cleanup(
 ) -> u32
     ensures same { IsQueueKept queue.old queue.new }
     ensures judged { OnQueueHandle queue.old.boxed.body result (left.new ≡ left.old)
-        (λ body code. (told : Option Left)
-        × JudgesCleanupOf (file_numbered file) excused.now body code told
-        × (left.new ≡ set_to (left_told told) left.old)) }
+        (λ body code. (stored : Option Left)
+        × JudgesCleanupOf (file_numbered file) excused.now body code stored
+        × (left.new ≡ set_to (left_stored stored) left.old)) }
 {
     let Some(body) = queue.boxed.lent() else {
         return Code::EmptyHandle.number();

@@ -2,7 +2,7 @@
 ghost use Rattle.std.specs.Prelude.{◌≡◌, ℕ, Some, None, IfSome};
 ghost use Rattle.csq_c.specs.Codes.{number_of};
 ghost use Rattle.csq_c.specs.Exports.{IsQueueKept};
-ghost use Rattle.csq_c.specs.Lefts.{left_code, left_of, left_written, next_after, next_code, number_told, start_of};
+ghost use Rattle.csq_c.specs.Lefts.{left_code, left_of, left_written, next_after, next_code, number_stored, start_of};
 ghost use Rattle.csq_c.specs.Shapes.{irp_numbered, set_to};
 
 use crate::body::QueueBody;
@@ -17,7 +17,7 @@ impl QueueBody {
     fn next_listed(&self, after: Option<IrpId>) -> (Code, Option<u32>)
         ensures unclosed { self.now.rest ≡ None → result ≡ (Code.NotClosed, None) }
         ensures next { IfSome self.now.rest (λ rest. result
-            ≡ (next_code rest.entries after, number_told (next_after rest.entries after))) }
+            ≡ (next_code rest.entries after, number_stored (next_after rest.entries after))) }
     {
         let Some(rest) = &self.rest else {
             return (Code::NotClosed, None);
@@ -71,7 +71,7 @@ pub extern "C" fn csq_read_listed(queue: &mut CsqQueue, after: u32, irp: &mut u3
         → (result ≡ number_of Code.NotClosed) × (irp.new ≡ irp.old)) }
     ensures next { IfSome queue.old.boxed.body (λ body. IfSome body.rest
         (λ rest. (result ≡ number_of (next_code rest.entries (start_of after)))
-        × (irp.new ≡ set_to (number_told (next_after rest.entries (start_of after))) irp.old))) }
+        × (irp.new ≡ set_to (number_stored (next_after rest.entries (start_of after))) irp.old))) }
 {
     let Some(body) = queue.boxed.lent() else {
         return Code::EmptyHandle.number();
@@ -97,7 +97,7 @@ pub extern "C" fn csq_read_left(queue: &mut CsqQueue, irp: u32, left: &mut CsqLe
     let Some(body) = queue.boxed.lent() else {
         return Code::EmptyHandle.number();
     };
-    let (code, told) = body.left(IrpId(irp));
-    left.write(told);
+    let (code, stored) = body.left(IrpId(irp));
+    left.write(stored);
     code.number()
 }

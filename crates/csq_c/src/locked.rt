@@ -28,14 +28,14 @@ pub extern "C" fn csq_insert(
     requires { ArePaired queue.old pass.old }
     ensures { OnHandles queue.old queue.new pass.old pass.new result
         (context.new ≡ context.old)
-        (λ body body' p p' code. (told : Option IrpLife)
+        (λ body body' p p' code. (stored : Option IrpLife)
         × InsertsInto (irp_numbered irp) (file_numbered file)
-        (place_numbered front) body body' p p' code told
-        × (context.new ≡ written told context.old)) }
+        (place_numbered front) body body' p p' code stored
+        × (context.new ≡ written stored context.old)) }
 {
     lend!(body in queue, by in pass);
-    let (code, told) = body.insert(by, IrpId(irp), FileId(file), place(front));
-    context.write(told);
+    let (code, stored) = body.insert(by, IrpId(irp), FileId(file), place(front));
+    context.write(stored);
     code.number()
 }
 
@@ -56,13 +56,13 @@ pub extern "C" fn csq_put_back(
     requires { ArePaired queue.old pass.old }
     ensures { OnHandles queue.old queue.new pass.old pass.new result
         (context.new ≡ context.old)
-        (λ body body' p p' code. (told : Option IrpLife)
-        × PutsBackInto (irp_named irp) (place_numbered front) body body' p p' code told
-        × (context.new ≡ written told context.old)) }
+        (λ body body' p p' code. (stored : Option IrpLife)
+        × PutsBackInto (irp_named irp) (place_numbered front) body body' p p' code stored
+        × (context.new ≡ written stored context.old)) }
 {
     lend!(body in queue, by in pass);
-    let (code, told) = body.put_back(by, irp.named(), place(front));
-    context.write(told);
+    let (code, stored) = body.put_back(by, irp.named(), place(front));
+    context.write(stored);
     code.number()
 }
 
@@ -79,13 +79,13 @@ pub extern "C" fn csq_remove_next(
     requires { ArePaired queue.old pass.old }
     ensures { OnHandles queue.old queue.new pass.old pass.new result
         (irp.new ≡ irp.old)
-        (λ body body' p p' code. (told : Option IrpLife)
-        × RemovesNextFrom (peek_of file) body body' p p' code told
-        × (irp.new ≡ written told irp.old)) }
+        (λ body body' p p' code. (stored : Option IrpLife)
+        × RemovesNextFrom (peek_of file) body body' p p' code stored
+        × (irp.new ≡ written stored irp.old)) }
 {
     lend!(body in queue, by in pass);
-    let (code, told) = body.remove_next(by, peek(file));
-    irp.write(told);
+    let (code, stored) = body.remove_next(by, peek(file));
+    irp.write(stored);
     code.number()
 }
 
@@ -153,12 +153,12 @@ pub extern "C" fn csq_reuse(
     requires { ArePaired queue.old pass.old }
     ensures { OnHandles queue.old queue.new pass.old pass.new result
         (life.new ≡ life.old)
-        (λ body body' p p' code. (told : Option ℕ)
-        × ReusesOf (irp_named irp) body body' p p' code told
-        × (life.new ≡ set_to told life.old)) }
+        (λ body body' p p' code. (stored : Option ℕ)
+        × ReusesOf (irp_named irp) body body' p p' code stored
+        × (life.new ≡ set_to stored life.old)) }
 {
     lend!(body in queue, by in pass);
-    let (code, told) = body.reuse(by, irp.named());
-    write(life, told);
+    let (code, stored) = body.reuse(by, irp.named());
+    write(life, stored);
     code.number()
 }

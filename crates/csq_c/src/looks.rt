@@ -59,14 +59,14 @@ impl QueueBody {
 pub extern "C" fn csq_len(queue: &mut CsqQueue, len: &mut u32) -> u32
     ensures same { IsQueueKept queue.old queue.new }
     ensures look { OnQueueHandle queue.old.boxed.body result (len.new ≡ len.old)
-        (λ body code. (told : Option ℕ) × CountsListed body code told
-        × (len.new ≡ set_to told len.old)) }
+        (λ body code. (stored : Option ℕ) × CountsListed body code stored
+        × (len.new ≡ set_to stored len.old)) }
 {
     let Some(body) = queue.boxed.lent() else {
         return Code::EmptyHandle.number();
     };
-    let (code, told) = body.len();
-    write(len, told);
+    let (code, stored) = body.len();
+    write(len, stored);
     code.number()
 }
 
@@ -76,14 +76,14 @@ pub extern "C" fn csq_len(queue: &mut CsqQueue, len: &mut u32) -> u32
 pub extern "C" fn csq_file_len(queue: &mut CsqQueue, file: u32, len: &mut u32) -> u32
     ensures same { IsQueueKept queue.old queue.new }
     ensures look { OnQueueHandle queue.old.boxed.body result (len.new ≡ len.old)
-        (λ body code. (told : Option ℕ) × CountsListedFor (file_numbered file) body code told
-        × (len.new ≡ set_to told len.old)) }
+        (λ body code. (stored : Option ℕ) × CountsListedFor (file_numbered file) body code stored
+        × (len.new ≡ set_to stored len.old)) }
 {
     let Some(body) = queue.boxed.lent() else {
         return Code::EmptyHandle.number();
     };
-    let (code, told) = body.file_len(FileId(file));
-    write(len, told);
+    let (code, stored) = body.file_len(FileId(file));
+    write(len, stored);
     code.number()
 }
 
@@ -100,14 +100,14 @@ pub extern "C" fn csq_peek_next(
 ) -> u32
     ensures same { IsQueueKept queue.old queue.new }
     ensures look { OnQueueHandle queue.old.boxed.body result (irp.new ≡ irp.old)
-        (λ body code. (told : Option IrpLife)
-        × PeeksNextOf (start_of after) (peek_of file) body code told
-        × (irp.new ≡ written told irp.old)) }
+        (λ body code. (stored : Option IrpLife)
+        × PeeksNextOf (start_of after) (peek_of file) body code stored
+        × (irp.new ≡ written stored irp.old)) }
 {
     let Some(body) = queue.boxed.lent() else {
         return Code::EmptyHandle.number();
     };
-    let (code, told) = body.peek_next(start(after), peek(file));
-    irp.write(told);
+    let (code, stored) = body.peek_next(start(after), peek(file));
+    irp.write(stored);
     code.number()
 }

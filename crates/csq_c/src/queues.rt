@@ -158,9 +158,9 @@ pub extern "C" fn csq_count_passes_out(queue: &mut CsqQueue, out: &mut u32) -> u
     let Some(body) = queue.boxed.lent() else {
         return Code::EmptyHandle.number();
     };
-    let told = body.passes_out();
-    write(out, told);
-    match told {
+    let stored = body.passes_out();
+    write(out, stored);
+    match stored {
         Some(_) => Code::Done.number(),
         None => Code::Closed.number(),
     }

@@ -10,7 +10,7 @@ ghost use Rattle.csq_queue.specs.declared.refusals.UnknownIrp.{UnknownIrp};
 ghost use Rattle.csq_queue.specs.Calls.{MarksCancel, ReadsFlag, ReadsStatus};
 ghost use Rattle.csq_checked.specs.Calls.{MakesOwnCall, CompletesRemoved, CompletesHeld};
 ghost use Rattle.csq_checked.specs.declared.unlocked.CompleteRefused.{CompleteRefused};
-ghost use Rattle.csq_c.specs.Codes.{mark_code, claim_told, complete_code, flag_code, flag_life_told, flag_told, status_code, status_life_told, status_told};
+ghost use Rattle.csq_c.specs.Codes.{mark_code, claim_stored, complete_code, flag_code, flag_life_stored, flag_stored, status_code, status_life_stored, status_stored};
 ghost use Rattle.csq_c.specs.Exports.{OnPass};
 ghost use Rattle.csq_c.specs.Shapes.{irp_named, irp_numbered, life_numbered, status_numbered, set_to};
 
@@ -27,13 +27,13 @@ pub extern "C" fn csq_mark_cancel(pass: &mut CsqPass, irp: CsqIrp, found: &mut u
     ensures { OnPass pass.old pass.new result (found.new ≡ found.old)
         (λ p p' code. (answer : Result (Option IrpLife) CancelRefused)
         × MakesOwnCall (MarksCancel (irp_numbered irp.irp) (life_numbered irp.life) answer) p p'
-        × (code ≡ mark_code answer) × (found.new ≡ set_to (claim_told answer) found.old)) }
+        × (code ≡ mark_code answer) × (found.new ≡ set_to (claim_stored answer) found.old)) }
 {
     let Some(by) = pass.boxed.lent() else {
         return Code::EmptyHandle.number();
     };
-    let (code, told) = of_mark(by.mark_cancel(IrpId(irp.irp), Life(irp.life)));
-    write(found, told);
+    let (code, stored) = of_mark(by.mark_cancel(IrpId(irp.irp), Life(irp.life)));
+    write(found, stored);
     code.number()
 }
 
@@ -81,8 +81,8 @@ pub extern "C" fn csq_read_cancel(
         ((life.new ≡ life.old) × (cancelled.new ≡ cancelled.old))
         (λ p p' code. (answer : Result (Life × Bool) UnknownIrp)
         × MakesOwnCall (ReadsFlag (irp_numbered irp) answer) p p' × (code ≡ flag_code answer)
-        × (life.new ≡ set_to (flag_life_told answer) life.old)
-        × (cancelled.new ≡ set_to (flag_told answer) cancelled.old)) }
+        × (life.new ≡ set_to (flag_life_stored answer) life.old)
+        × (cancelled.new ≡ set_to (flag_stored answer) cancelled.old)) }
 {
     let Some(by) = pass.boxed.lent() else {
         return Code::EmptyHandle.number();
@@ -106,15 +106,15 @@ pub extern "C" fn csq_read_status(
         ((life.new ≡ life.old) × (status.new ≡ status.old))
         (λ p p' code. (answer : Result (Life × Option Status) UnknownIrp)
         × MakesOwnCall (ReadsStatus (irp_numbered irp) answer) p p' × (code ≡ status_code answer)
-        × (life.new ≡ set_to (status_life_told answer) life.old)
-        × (status.new ≡ set_to (status_told answer) status.old)) }
+        × (life.new ≡ set_to (status_life_stored answer) life.old)
+        × (status.new ≡ set_to (status_stored answer) status.old)) }
 {
     let Some(by) = pass.boxed.lent() else {
         return Code::EmptyHandle.number();
     };
-    let (code, lived, told) = of_status(by.status(IrpId(irp)));
+    let (code, lived, stored) = of_status(by.status(IrpId(irp)));
     write(life, lived);
-    write(status, told);
+    write(status, stored);
     code.number()
 }
 

@@ -7,7 +7,7 @@ ghost use Rattle.csq_audit.specs.declared.uses.UseVerdict.{UseVerdict as Use};
 ghost use Rattle.csq_c.specs.Bodies.{IsPassFor};
 ghost use Rattle.csq_c.specs.Exports.{ArePaired, OnHandles};
 ghost use Rattle.csq_c.specs.Shapes.{irp_named, set_to, status_numbered};
-ghost use Rattle.csq_c.specs.Uses.{JudgesCompletionOf, JudgesInsertOf, JudgesRemovalOf, remove_told, use_told};
+ghost use Rattle.csq_c.specs.Uses.{JudgesCompletionOf, JudgesInsertOf, JudgesRemovalOf, remove_stored, use_stored};
 
 use crate::body::QueueBody;
 use crate::codes::Code;
@@ -57,14 +57,14 @@ impl QueueBody {
 
 /// The number of a verdict, where there is one.
 fn use_of(verdict: Option<UseVerdict>) -> Option<u32>
-    ensures { result ≡ use_told verdict }
+    ensures { result ≡ use_stored verdict }
 {
     Some(verdict? as u32)
 }
 
 /// The same of a removal.
 fn removal_of(verdict: Option<RemoveVerdict>) -> Option<u32>
-    ensures { result ≡ remove_told verdict }
+    ensures { result ≡ remove_stored verdict }
 {
     Some(verdict? as u32)
 }
@@ -83,9 +83,9 @@ pub extern "C" fn csq_judge_complete(
     requires { ArePaired queue.old pass.old }
     ensures { OnHandles queue.old queue.new pass.old pass.new result
         (verdict.new ≡ verdict.old)
-        (λ body body' p p' code. (told : Option Use) × (body' ≡ body)
-        × JudgesCompletionOf (irp_named irp) (status_numbered status) body p p' code told
-        × (verdict.new ≡ set_to (use_told told) verdict.old)) }
+        (λ body body' p p' code. (stored : Option Use) × (body' ≡ body)
+        × JudgesCompletionOf (irp_named irp) (status_numbered status) body p p' code stored
+        × (verdict.new ≡ set_to (use_stored stored) verdict.old)) }
 {
     lend!(body in queue, by in pass);
     let (code, judged) = body.judge_complete(by, irp.named(), NtStatus(status));
@@ -107,9 +107,9 @@ pub extern "C" fn csq_judge_insert(
     requires { ArePaired queue.old pass.old }
     ensures { OnHandles queue.old queue.new pass.old pass.new result
         (verdict.new ≡ verdict.old)
-        (λ body body' p p' code. (told : Option Use) × (body' ≡ body)
-        × JudgesInsertOf (irp_named irp) body p p' code told
-        × (verdict.new ≡ set_to (use_told told) verdict.old)) }
+        (λ body body' p p' code. (stored : Option Use) × (body' ≡ body)
+        × JudgesInsertOf (irp_named irp) body p p' code stored
+        × (verdict.new ≡ set_to (use_stored stored) verdict.old)) }
 {
     lend!(body in queue, by in pass);
     let (code, judged) = body.judge_insert(by, irp.named());
@@ -130,9 +130,9 @@ pub extern "C" fn csq_judge_remove(
     requires { ArePaired queue.old pass.old }
     ensures { OnHandles queue.old queue.new pass.old pass.new result
         (verdict.new ≡ verdict.old)
-        (λ body body' p p' code. (told : Option Removal)
-        × JudgesRemovalOf (irp_named irp) body body' p p' code told
-        × (verdict.new ≡ set_to (remove_told told) verdict.old)) }
+        (λ body body' p p' code. (stored : Option Removal)
+        × JudgesRemovalOf (irp_named irp) body body' p p' code stored
+        × (verdict.new ≡ set_to (remove_stored stored) verdict.old)) }
 {
     lend!(body in queue, by in pass);
     let (code, judged) = body.judge_remove(by, irp.named());

@@ -8,7 +8,7 @@ use Rattle.csq_queue.specs.declared.tokens.InsertAnswer.TheVariants.{Pending, Ca
 use Rattle.csq_queue.specs.Inserts.{given_by}
 use Rattle.csq_queue.specs.Steps.{MakesSteps, put_back_steps}
 use Rattle.csq_queue.specs.Owned.{Holds, HoldsRemoved, Owes}
-use Rattle.csq_checked.proofs.Knowing.{holds_told, owes_told, not_held, not_owed}
+use Rattle.csq_checked.proofs.Knowing.{holds_found, owes_found, not_held, not_owed}
 use Rattle.csq_checked.proofs.Relisting.{others_removed}
 use Rattle.csq_checked.proofs.Keeping.{kept_done, kept_out, kept_back, kept_given}
 
@@ -21,14 +21,14 @@ module _ (words : WordsState) (pass : OpenPassState) (held : List (Option Held))
     pub slot_holds : (slot : Held) → slot_at held (number i) ≡ Some slot → i.life ≡ slot.life → Holds words.size.irps pass.pass i
     slot_holds slot e life = record {
       known = known;
-      held = (holds_told words.size.irps pass.pass.steps held owed was.own i known slot e life).0;
+      held = (holds_found words.size.irps pass.pass.steps held owed was.own i known slot e life).0;
     }
 
     pub slot_got : (slot : Held) → slot_at held (number i) ≡ Some slot → i.life ≡ slot.life → removed_in pass.pass.steps i ≡ slot.removed
-    slot_got slot e life = (holds_told words.size.irps pass.pass.steps held owed was.own i known slot e life).1
+    slot_got slot e life = (holds_found words.size.irps pass.pass.steps held owed was.own i known slot e life).1
 
     pub slot_owes : slot_at owed (number i) ≡ Some i.life → Owes pass.pass i
-    slot_owes e = owes_told words.size.irps pass.pass.steps held owed was.own i known e
+    slot_owes e = owes_found words.size.irps pass.pass.steps held owed was.own i known e
 
     -- what it holds and owes no two lives of, it holds and owes in the life that a slot tells alone
     pub slot_not_held : (some : ℕ) → AreApart some (held_list pass.pass.steps) → ((slot : Held) → slot_at held (number i) ≡ Some slot → slot.life ≡ i.life → ⊥) → holds_in pass.pass.steps i ≡ false
@@ -43,7 +43,7 @@ module _ (words : WordsState) (pass : OpenPassState) (held : List (Option Held))
       where
         at : (b : Bool) → (life.0 == i.life.0) ≡ b → b ≡ owes_in pass.pass.steps i
         at true same = sym (slot_owes (e ∙ ap (λ (n : ℕ). Some (record { 0 = n })) (eqb-true life.0 i.life.0 same)))
-        at false other = sym (slot_not_owed some apart (λ f. let told : ◌≡◌ (Some life) (Some i.life) = sym e ∙ f in let is : life ≡ i.life = cc in true≢false (sym (eq-eqb life.0 i.life.0 (ap (λ (l : Life). l.0) is)) ∙ other)))
+        at false other = sym (slot_not_owed some apart (λ f. let promised : ◌≡◌ (Some life) (Some i.life) = sym e ∙ f in let is : life ≡ i.life = cc in true≢false (sym (eq-eqb life.0 i.life.0 (ap (λ (l : Life). l.0) is)) ∙ other)))
 
     -- it completed i
     pub completion_keeps : (status : NtStatus) (pass' : OpenPassState) (held' : List (Option Held)) → pass' ≡ record pass { pass = saw pass'.pass.run (with_completion i status (with_step (Done i) 0 pass.pass)) }

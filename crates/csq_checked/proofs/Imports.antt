@@ -11,7 +11,7 @@ pub use Rattle.csq_queue.specs.Opens.{IsPassOn, IsQueueOn, OpenPassState, OpenSt
 pub use Rattle.csq_queue.specs.Rests.{FirstAreBack, HoldsNothing}
 pub use Rattle.csq_queue.specs.declared.tokens.InsertAnswer.{InsertAnswer}
 pub use Rattle.csq_words.specs.History.{IsLegal, MayCome, end_of}
-pub use Rattle.csq_words.specs.Queue.{Limits, QueueState, after_event, current, has_irp, has_marked, plain_listing, refusal, reply_to_insert, with_file}
+pub use Rattle.csq_words.specs.Queue.{Limits, QueueState, after_event, present_in, has_irp, has_marked, plain_listing, refusal, reply_to_insert, with_file}
 pub use Rattle.csq_words.specs.Seats.{WordsState}
 pub use Rattle.csq_words.specs.declared.views.PassRecord.{PassRecord}
 pub use Rattle.irp_core.proofs.Names.{named, same_id-refl, same_irp-eq, same_irp-refl, same_pass-is}

@@ -137,13 +137,13 @@ owed_absent irps (j ∷ is) i apart none = at (number j == number i) refl none (
 
 -- what a slot tells is so, and what it doesn't tell isn't, where no two are lives of one IRP
 module _ (irps : ℕ) (steps : List Made) (held : List (Option Held)) (owed : List (Option Life)) (own : KnowsItsOwn irps steps held owed) (i : IrpLife) (known : number i < irps) where
-  pub holds_told : (slot : Held) → slot_at held (number i) ≡ Some slot → i.life ≡ slot.life → (holds_in steps i ≡ true) × (removed_in steps i ≡ slot.removed)
-  holds_told slot e life =
+  pub holds_found : (slot : Held) → slot_at held (number i) ≡ Some slot → i.life ≡ slot.life → (holds_in steps i ≡ true) × (removed_in steps i ≡ slot.removed)
+  holds_found slot e life =
       let found = held_found steps (held_list steps) i slot (sym (own.held_is (number i) known) ∙ e) life in
       (sym (held_list-is steps i) ∙ found.0, found.1)
 
-  pub owes_told : slot_at owed (number i) ≡ Some i.life → owes_in steps i ≡ true
-  owes_told e = sym (owed_list-is steps i) ∙ owed_found (owed_list steps) i (sym (own.owed_is (number i) known) ∙ e)
+  pub owes_found : slot_at owed (number i) ≡ Some i.life → owes_in steps i ≡ true
+  owes_found e = sym (owed_list-is steps i) ∙ owed_found (owed_list steps) i (sym (own.owed_is (number i) known) ∙ e)
 
   pub not_held : (some : ℕ) → AreApart some (held_list steps) → ((slot : Held) → slot_at held (number i) ≡ Some slot → slot.life ≡ i.life → ⊥) → holds_in steps i ≡ false
   not_held some apart none = sym (held_list-is steps i) ∙ held_absent some steps (held_list steps) i apart (λ slot e. none slot (own.held_is (number i) known ∙ e))

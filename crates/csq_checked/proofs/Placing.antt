@@ -1,6 +1,6 @@
 -- A put-back of what a pass holds is refused for its file object or for the list alone.
 use Rattle.std.proofs.Common.{◌≡◌, ◌<◌, ◌||◌, ◌&&◌, not, cond, Bool, true, false, true≢false, List, [], ◌∷◌, Option, Some, None, Err, refl, sym, ap, ◌∙◌, subst}
-use Rattle.csq_checked.proofs.Imports.{false_from_ne_true, leb-false, lt-leb, Size, number, same_id, same_irp, IrpLife, same_irp-eq, same_id-refl, PassRecord, IsLegal, MayCome, end_of, Limits, QueueState, current, has_irp, plain_listing, refusal, reply_to_insert, with_file, after_event, WordsState, OpenState, IsQueueOn}
+use Rattle.csq_checked.proofs.Imports.{false_from_ne_true, leb-false, lt-leb, Size, number, same_id, same_irp, IrpLife, same_irp-eq, same_id-refl, PassRecord, IsLegal, MayCome, end_of, Limits, QueueState, present_in, has_irp, plain_listing, refusal, reply_to_insert, with_file, after_event, WordsState, OpenState, IsQueueOn}
 use Rattle.irp_core.specs.declared.ids.IrpId.{IrpId}
 use Rattle.irp_core.specs.declared.ids.FileId.{FileId}
 use Rattle.csq_list.specs.Causes.{is_cause, first_cause}
@@ -27,11 +27,11 @@ is_of_place Full = true
 
 module _ (l : Limits) (u : QueueState) (n : IrpId) (f : FileId) (i : IrpLife) (before : has_irp u.used i ≡ true → (u.file_of i.irp).0 < l.files) where
   -- the file object of what an insert accepts is known
-  inserted_known : refusal l u n f ≡ None → has_irp (current u n ∷ u.used) i ≡ true → (with_file n f u.file_of i.irp).0 < l.files
+  inserted_known : refusal l u n f ≡ None → has_irp (present_in u n ∷ u.used) i ≡ true → (with_file n f u.file_of i.irp).0 < l.files
   inserted_known accepted used = at (same_id n i.irp) refl
     where
-      unlike : same_id n i.irp ≡ false → same_irp (current u n) i ≡ false
-      unlike e = false_from_ne_true (same_irp (current u n) i) (λ s. true≢false (sym (same_id-refl i.irp) ∙ (ap (λ (m : IrpId). same_id m i.irp) (sym (ap (λ (j : IrpLife). j.irp) (same_irp-eq (current u n) i s))) ∙ e)))
+      unlike : same_id n i.irp ≡ false → same_irp (present_in u n) i ≡ false
+      unlike e = false_from_ne_true (same_irp (present_in u n) i) (λ s. true≢false (sym (same_id-refl i.irp) ∙ (ap (λ (m : IrpId). same_id m i.irp) (sym (ap (λ (j : IrpLife). j.irp) (same_irp-eq (present_in u n) i s))) ∙ e)))
 
       at : (b : Bool) → same_id n i.irp ≡ b → (cond b f (u.file_of i.irp)).0 < l.files
       at true e = leb-false l.files f.0 (no_cause (plain_listing l u) n f accepted UnknownFile)
@@ -45,8 +45,8 @@ file_known l (e ∷ h) legal i used = at (end_of l.first h) e.event legal.0 (fil
     at : (u : QueueState) (event : Event) → MayCome l u event → (has_irp u.used i ≡ true → (u.file_of i.irp).0 < l.files) → has_irp (after_event u event).used i ≡ true → ((after_event u event).file_of i.irp).0 < l.files
     at u (FlagSeen j) may before now = before now
     at u (Mark j) may before now = before now
-    at u (Insert n f place Pending) may before now = inserted_known l u n f i before (pending_none (refusal l u n f) (has_irp u.flags (current u n)) may) now
-    at u (Insert n f place Cancelled) may before now = inserted_known l u n f i before (cancelled_none (refusal l u n f) (has_irp u.flags (current u n)) may) now
+    at u (Insert n f place Pending) may before now = inserted_known l u n f i before (pending_none (refusal l u n f) (has_irp u.flags (present_in u n)) may) now
+    at u (Insert n f place Cancelled) may before now = inserted_known l u n f i before (cancelled_none (refusal l u n f) (has_irp u.flags (present_in u n)) may) now
     at u (Insert n f place (Refused cause)) may before now = before now
     at u (PutBack j f place Pending) may before now = before now
     at u (PutBack j f place Cancelled) may before now = before now
@@ -83,7 +83,7 @@ refused_place i place cause l h p p' known back =
     let legal : IsLegal l (record { pass = p.pass; event = PutBack i f place (Refused cause) } ∷ h) = subst (IsLegal l) back.refused.ends back.refused.legal in
     place_cause (renewed i.irp (plain_listing l u)) i.irp f cause
     (lt-leb l.irps i.irp.0 known) (lt-leb l.files f.0 (file_known l h legal.1 i legal.0.0.0))
-    (ap (λ b. not b && has_irp u.used (current u i.irp)) (same_id-refl i.irp)) back.cause
+    (ap (λ b. not b && has_irp u.used (present_in u i.irp)) (same_id-refl i.irp)) back.cause
 
 -- of an open queue of these words none is refused for another cause
 pub not_refused : (words : WordsState) (queue : OpenState) → IsQueueOn words queue → (i : IrpLife) (place : Place) (cause other : InsertStatus) (p p' : PassRecord) → number i < words.size.irps → PutsBack i place (Err cause) queue.limits queue.queue.history p p' → cause ≡ other → is_of_place other ≡ false → ⊥

@@ -15,7 +15,7 @@ use Rattle.csq_list.specs.declared.refusals.UnknownFile.{UnknownFile}
 use Rattle.csq_words.specs.declared.views.Entry.{Entry}
 use Rattle.csq_words.specs.declared.views.PassRecord.{PassRecord}
 use Rattle.csq_words.specs.History.{end_of}
-use Rattle.csq_words.specs.Queue.{Limits, current}
+use Rattle.csq_words.specs.Queue.{Limits, present_in}
 use Rattle.csq_queue.specs.declared.refusals.ReuseRefused.{ReuseRefused as QueueRefused}
 use Rattle.csq_queue.specs.declared.refusals.ReuseRefused.TheVariants as of_queue
 use Rattle.csq_queue.specs.declared.tokens.InsertAnswer.{InsertAnswer}
@@ -82,7 +82,7 @@ pub record ClosesKnownFile (file : FileId) (answer : Result (Unit {0}) UnknownFi
 
 -- i is its IRP's present life at the end of the history
 abbrev pub IsPresentIn : OpenState → IrpLife → Type 0
-IsPresentIn queue i = i ≡ current (end_of queue.limits.first queue.queue.history) i.irp
+IsPresentIn queue i = i ≡ present_in (end_of queue.limits.first queue.queue.history) i.irp
 
 -- what the open queue answered, if it was asked
 abbrev pub asked : Result Life ReuseRefused → Option (Result Life QueueRefused)

@@ -21,7 +21,7 @@ pub use Rattle.csq_queue.specs.Rests.{FirstAreBack, HoldsNothing, IsLeftComplete
 pub use Rattle.csq_queue.specs.declared.tokens.InsertAnswer.{InsertAnswer}
 pub use Rattle.csq_words.specs.Finals.{FinalWords, IsFinal, final_status, is_cancelled}
 pub use Rattle.csq_words.specs.History.{calls_of, end_of, is_call}
-pub use Rattle.csq_words.specs.Queue.{Limits, QueueState, after_event, current, has_marked, has_unmarked}
+pub use Rattle.csq_words.specs.Queue.{Limits, QueueState, after_event, present_in, has_marked, has_unmarked}
 pub use Rattle.csq_words.specs.Records.{entries_of, only_calls, queue_of, saw, with_completion, with_step}
 pub use Rattle.csq_words.specs.declared.views.Completion.{Completion}
 pub use Rattle.csq_words.specs.declared.views.Entry.{Entry}

@@ -10,7 +10,7 @@ use Rattle.csq_words.specs.declared.views.InsertReply.{InsertReply}
 use Rattle.csq_words.specs.declared.views.InsertReply.TheVariants as reply
 use Rattle.csq_queue.specs.declared.tokens.InsertAnswer.TheVariants.{Pending, Cancelled}
 use Rattle.csq_queue.specs.Steps.{made_by, MakesSteps, put_back_steps}
-use Rattle.csq_queue.specs.Told.{AddsEvents}
+use Rattle.csq_queue.specs.Effects.{AddsEvents}
 use Rattle.csq_device.proofs.Working.{alone}
 
 -- no step of a put-back is a Flag

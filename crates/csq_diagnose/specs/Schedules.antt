@@ -19,19 +19,19 @@ use Rattle.csq_diagnose.specs.LineTexts.{long_text, malformed_line_text}
 use Rattle.csq_diagnose.specs.RefusedTexts.{cure_of, refused_text}
 
 -- the nth line ends the handling for this reason, and is told so
-abbrev pub IsToldStop : ℕ → List ℕ → Reason → Stop → List ℕ → Type 0
-IsToldStop n line reason TooLong text = text ≡ long_text n (length line) ++ codes "\n"
-IsToldStop n line reason NoStep text = (fault : Malformed) × IsMalformed Schedule line fault × (text ≡ malformed_line_text n fault ++ codes "\n")
-IsToldStop n line reason (Refused s cause) text = text ≡ refused_text n s reason (cure_of s reason.stop) ++ codes "\n"
+abbrev pub IsReportedStop : ℕ → List ℕ → Reason → Stop → List ℕ → Type 0
+IsReportedStop n line reason TooLong text = text ≡ long_text n (length line) ++ codes "\n"
+IsReportedStop n line reason NoStep text = (fault : Malformed) × IsMalformed Schedule line fault × (text ≡ malformed_line_text n fault ++ codes "\n")
+IsReportedStop n line reason (Refused s cause) text = text ≡ refused_text n s reason (cure_of s reason.stop) ++ codes "\n"
 
 -- after the steps W this is told of the nth line, of which this came
-abbrev pub IsToldOutcome : Size → List Numbered → ℕ → List ℕ → Outcome → List ℕ → Type 0
-IsToldOutcome size W n line (Stopped stop) text = IsToldStop n line (reason_of size (all_passes size W) stop) stop text
-IsToldOutcome size W n line _ text = text ≡ []
+abbrev pub IsReportedOutcome : Size → List Numbered → ℕ → List ℕ → Outcome → List ℕ → Type 0
+IsReportedOutcome size W n line (Stopped stop) text = IsReportedStop n line (reason_of size (all_passes size W) stop) stop text
+IsReportedOutcome size W n line _ text = text ≡ []
 
 -- after the steps W the nth line is told so, by what comes of it, which W grows by
 abbrev pub DiagnosesStep : Size → List Numbered → ℕ → List ℕ → List ℕ → Option (List Numbered) → Type 0
-DiagnosesStep size W n line text more = (comes : Outcome) × ComesTo size (run_of W) line comes × IsToldOutcome size W n line comes text × (more ≡ grown W n comes)
+DiagnosesStep size W n line text more = (comes : Outcome) × ComesTo size (run_of W) line comes × IsReportedOutcome size W n line comes text × (more ≡ grown W n comes)
 
 -- a schedule is diagnosed so: by the line that ends it, if there is one
 abbrev pub IsScheduleDiagnosis : Size → List ℕ → List ℕ → Ended → Type 0

@@ -10,7 +10,7 @@ ghost use Rattle.csq_diagnose.specs.declared.malformed.Malformed.{Malformed as M
 ghost use Rattle.csq_diagnose.specs.Malforms.{IsMalformed};
 ghost use Rattle.csq_diagnose.specs.LineTexts.{long_text, malformed_line_text};
 ghost use Rattle.csq_diagnose.specs.RefusedTexts.{cure_of, refused_text};
-ghost use Rattle.csq_diagnose.specs.Schedules.{IsToldStop, DiagnosesSchedule};
+ghost use Rattle.csq_diagnose.specs.Schedules.{IsReportedStop, DiagnosesSchedule};
 
 use crate::grammar::Grammar;
 use crate::lines::{LongLine, MalformedLine};
@@ -30,7 +30,7 @@ struct ScheduleDiagnoser<A: Allocator> {
 }
 
 /// Tells a line that is too long.
-fn tell_long<A: Allocator>(
+fn report_long<A: Allocator>(
     number: usize,
     line: &[u8],
     text: &mut String<A>,
@@ -43,7 +43,7 @@ fn tell_long<A: Allocator>(
 }
 
 /// Tells a line that names no step.
-fn tell_malformed<A: Allocator + Copy>(
+fn report_malformed<A: Allocator + Copy>(
     alloc: A,
     number: usize,
     line: &[u8],
@@ -63,7 +63,7 @@ fn tell_malformed<A: Allocator + Copy>(
 }
 
 /// Tells a line whose step is refused.
-fn tell_refused<A: Allocator>(
+fn report_refused<A: Allocator>(
     number: usize,
     step: Step,
     reason: Reason,
@@ -83,7 +83,7 @@ fn tell_refused<A: Allocator>(
 }
 
 /// Tells why the line of this number ends a schedule.
-fn tell_stop<A: Allocator + Copy>(
+fn report_stop<A: Allocator + Copy>(
     alloc: A,
     number: usize,
     line: &[u8],
@@ -91,13 +91,13 @@ fn tell_stop<A: Allocator + Copy>(
     text: &mut String<A>,
 ) -> Result<(), AllocError>
     requires { reason.stop ≡ Stop.Malformed → ¬ ((s : StepOf) × IsStepLine line.now s) }
-    ensures { OnOk result ((told : List ℕ) × GrewBy (string_bytes text.old) (string_bytes text.new) told
-        × IsToldStop number line.now reason reason.stop told) }
+    ensures { OnOk result ((reported : List ℕ) × GrewBy (string_bytes text.old) (string_bytes text.new) reported
+        × IsReportedStop number line.now reason reason.stop reported) }
 {
     match reason.stop {
-        Stop::TooLong => tell_long(number, line, text),
-        Stop::Malformed => tell_malformed(alloc, number, line, text),
-        Stop::Refused(step, _) => tell_refused(number, step, reason, text),
+        Stop::TooLong => report_long(number, line, text),
+        Stop::Malformed => report_malformed(alloc, number, line, text),
+        Stop::Refused(step, _) => report_refused(number, step, reason, text),
     }
 }
 
@@ -128,7 +128,7 @@ impl<A: Allocator + Copy> Answerer<A> for ScheduleDiagnoser<A> {
             Explained::Skipped => Ok(Handling::GoesOn),
             Explained::Accepted(_) => Ok(Handling::GoesOn),
             Explained::Stopped(reason) => {
-                tell_stop(self.alloc, number, line, reason, text)?;
+                report_stop(self.alloc, number, line, reason, text)?;
                 Ok(Handling::Stops)
             }
         }

@@ -37,11 +37,11 @@ impl<A: Allocator + Copy> Answerer<A> for ScriptDiagnoser<A> {
         text: &mut String<A>,
     ) -> Result<Handling, AllocError> {
         if line.len() > MAX_LINE {
-            let told = LongLine {
+            let reported = LongLine {
                 number,
                 length: line.len(),
             };
-            writeln!(text, "{told}")?;
+            writeln!(text, "{reported}")?;
             return Ok(Handling::Stops);
         }
         if is_skipped(line) {
@@ -50,8 +50,8 @@ impl<A: Allocator + Copy> Answerer<A> for ScriptDiagnoser<A> {
         let Some(fault) = Malformed::find(self.alloc, Grammar::Script, line)? else {
             return Ok(Handling::GoesOn);
         };
-        let told = MalformedLine { number, fault };
-        writeln!(text, "{told}")?;
+        let reported = MalformedLine { number, fault };
+        writeln!(text, "{reported}")?;
         Ok(Handling::Stops)
     }
 

@@ -5,7 +5,7 @@ pub use Rattle.csq_draw.specs.Elements.{element_text, elements_text, picture}
 pub use Rattle.csq_draw.specs.Owners.{ended_by, is_of_irp, owner, owner_after, owner_by, owner_named, owners}
 pub use Rattle.csq_draw.specs.Passes.{column_of, columns, lock_at, lock_of}
 pub use Rattle.csq_draw.specs.Pictures.{Drawn, DrawsClosing, DrawsLine, at_rest_element, closed_elements, closed_picture, closed_text, closing_elements, column_elements, drawn_after, drawn_text, each, first_elements, mark_element, new_drawn, number_element, open_elements, picture_head, refused_elements, row_elements, shown_elements, stopped_elements, stopped_picture, stopped_text}
-pub use Rattle.csq_draw.specs.Terminal.{closed_lines, each_text, in_width, irp_line_told, pass_cell, row_text, rows_text, spaces, stopped_lines}
+pub use Rattle.csq_draw.specs.Terminal.{closed_lines, each_text, in_width, irp_line_reported, pass_cell, row_text, rows_text, spaces, stopped_lines}
 pub use Rattle.csq_draw.specs.declared.format.Format.{Format}
 pub use Rattle.csq_draw.specs.declared.owners.Owner.{Owner}
 pub use Rattle.csq_draw.specs.declared.rows.Row.{Row}

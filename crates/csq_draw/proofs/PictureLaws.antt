@@ -39,11 +39,11 @@ module _ (size : Size) (format : Format) where
 
   -- the steps that a line leads to make a run
   drawn_on : (d e : Drawn) (n : ℕ) (line text : List ℕ) → IsRun size (run_of d.steps) → DrawsLine size format d n line text (Some e) → IsRun size (run_of e.steps)
-  drawn_on d e n line text r (o, comes, told, same) = run_after d e n line o r comes same
+  drawn_on d e n line text r (o, comes, reported, same) = run_after d e n line o r comes same
 
   one_closing : (d : Drawn) → IsRun size (run_of d.steps) → (t u : List ℕ) → DrawsClosing size format d t → DrawsClosing size format d u → t ≡ u
-  one_closing d r t u (told, rest, closes, e) (other, otherwise, closes', f) =
-      let same = one_close size (run_of d.steps) r told other rest otherwise closes closes' in
+  one_closing d r t u (reported, rest, closes, e) (other, otherwise, closes', f) =
+      let same = one_close size (run_of d.steps) r reported other rest otherwise closes closes' in
       e ∙ ap (λ x. closed_text size format d x rest) same.0 ∙ ap (λ x. closed_text size format d other x) same.1 ∙ sym f
 
 pub one_picture : (size : Size) (format : Format) (input : List ℕ) → HasOnePicture size format input
@@ -135,10 +135,10 @@ module _ {A : Type 0} (mark : Mark → List A) (number : Number → List A) (sha
           stopped = λ n stop.
               let refused = refused_elements (length W) n (reason_of size passes stop) in
               picked-append shown refused ∙ ap (λ t. t ++ picked pick refused) shown_picked ∙ ap (λ t. added (of_step passes) W ++ t) (append-nil (number (record { row = length W; line = n })));
-          closed = λ told at_rest.
-              let last = at_rest_element (length W) (length told) at_rest in
-              then_none shown (each (closing_elements (length W)) 0 told ++ last ∷ []) _ shown_picked
-              (none_then (each (closing_elements (length W)) 0 told) (last ∷ []) [] (none_picked (closing_elements (length W)) (λ n line. refl) 0 told) refl);
+          closed = λ reported at_rest.
+              let last = at_rest_element (length W) (length reported) at_rest in
+              then_none shown (each (closing_elements (length W)) 0 reported ++ last ∷ []) _ shown_picked
+              (none_then (each (closing_elements (length W)) 0 reported) (last ∷ []) [] (none_picked (closing_elements (length W)) (λ n line. refl) 0 reported) refl);
         }
 
 all_shades : (ps : List PassNow) (row : Row) (lock : Option PassId) → row_with (λ m. []) (λ n. []) (λ s. s ∷ []) ps row lock ≡ shade_by ps row.row (lets_go row.step) lock

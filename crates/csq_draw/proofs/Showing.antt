@@ -92,26 +92,26 @@ module _ (size : Size) (rows : List Row) (os : List (Option Owner)) (w : Numbere
   row_is : (step : StepInCall) (held : Option PassId) (words : Option WordValues) → step ≡ in_call (run_of W) w.step → held ≡ lock_of (all_passes size W) → OfIrp (λ i. number i < size.irps) w.step.kind
       → words ≡ words_named size.first (run_of (w ∷ W)) w.step.kind
       → record { row = length rows; line = w.line; step = step; lock = lock_at held step.made; ended = ended_by step.made.kind (owner_in os step.made.kind); words = words } ≡ row_of size w W
-  row_is step held words told lock known are =
+  row_is step held words reported lock known are =
       let row : ℕ → StepInCall → Option PassId → Option Owner → Option WordValues → Row = λ n s q o x. record { row = n; line = w.line; step = s; lock = lock_at q s.made; ended = ended_by s.made.kind o; words = x } in
       ap (λ n. row n step held (owner_in os step.made.kind) words) (ap length h.shown_rows ∙ length-rows size W)
       ∙ ap (λ q. row (length W) step q (owner_in os step.made.kind) words) lock
-      ∙ ap (λ (s : StepInCall). row (length W) s (lock_of (all_passes size W)) (owner_in os s.made.kind) words) told
+      ∙ ap (λ (s : StepInCall). row (length W) s (lock_of (all_passes size W)) (owner_in os s.made.kind) words) reported
       ∙ ap (λ o. row (length W) (in_call (run_of W) w.step) (lock_of (all_passes size W)) o words) (ap (λ x. owner_in x w.step.kind) h.shown_owners ∙ owner_is w.step (run_of W) size.irps known)
       ∙ ap (row (length W) (in_call (run_of W) w.step) (lock_of (all_passes size W)) (owner_named size.irps (run_of W) w.step.kind)) are
 
   module _ (step : StepInCall) (held : Option PassId) (words : Option WordValues) (rows' : List Row) (os' : List (Option Owner)) (noted : NotesStep rows os w.line step held words rows' os')
-      (told : step ≡ in_call (run_of W) w.step) (known : OfIrp (λ i. number i < size.irps) w.step.kind) where
+      (reported : step ≡ in_call (run_of W) w.step) (known : OfIrp (λ i. number i < size.irps) w.step.kind) where
     owners_then : os' ≡ owners size.irps (run_of (w ∷ W))
     owners_then =
-        noted.noted_owners ∙ ap (λ (s : StepInCall). with_owner os s.made (length rows)) told ∙ ap (λ x. with_owner x w.step (length rows)) h.shown_owners
+        noted.noted_owners ∙ ap (λ (s : StepInCall). with_owner os s.made (length rows)) reported ∙ ap (λ x. with_owner x w.step (length rows)) h.shown_owners
         ∙ ap (λ n. with_owner (owners size.irps (run_of W)) w.step n) (ap length h.shown_rows ∙ length-rows size W ∙ sym (length-run W)) ∙ owners_more w.step (run_of W) size.irps known
 
     -- these are the words of its IRP, by the machine that made it
     words_then : (machine : MachineState) → size_of machine ≡ size → Agrees machine (run_of (w ∷ W)) → AreWordsNamed machine step.made.kind (owner_in os' step.made.kind) words
         → words ≡ words_named size.first (run_of (w ∷ W)) w.step.kind
     words_then machine same agrees are =
-        let kinds : step.made.kind ≡ w.step.kind = ap (λ (s : StepInCall). s.made.kind) told in
+        let kinds : step.made.kind ≡ w.step.kind = ap (λ (s : StepInCall). s.made.kind) reported in
         let E = run_of (w ∷ W) in
         let his : owner_in os' w.step.kind ≡ owner_named size.irps E w.step.kind = ap (λ x. owner_in x w.step.kind) owners_then ∙ owner_is w.step E size.irps known in
         let P : Kind → Type 0 = λ k. AreWordsNamed machine k (owner_in os' k) words in
@@ -120,7 +120,7 @@ module _ (size : Size) (rows : List Row) (os : List (Option Owner)) (w : Numbere
     pub shows_more : held ≡ lock_of (all_passes size W) → (machine : MachineState) → size_of machine ≡ size → Agrees machine (run_of (w ∷ W)) → AreWordsNamed machine step.made.kind (owner_in os' step.made.kind) words
         → Shows size rows' os' (w ∷ W)
     shows_more lock machine same agrees are = record {
-      shown_rows = noted.noted_rows ∙ ap (λ r. rows ++ r ∷ []) (row_is step held words told lock known (words_then machine same agrees are)) ∙ ap (λ rs. rs ++ row_of size w W ∷ []) h.shown_rows;
+      shown_rows = noted.noted_rows ∙ ap (λ r. rows ++ r ∷ []) (row_is step held words reported lock known (words_then machine same agrees are)) ∙ ap (λ rs. rs ++ row_of size w W ∷ []) h.shown_rows;
       shown_owners = owners_then;
     }
 
@@ -164,10 +164,10 @@ module _ (size : Size) (rows : List Row) (passes : List PassNow) (os : List (Opt
         ∙ ap (λ rs. drawn passes rs (owners size.irps (run_of W)) (length W) (reason_of size (all_passes size W) stop)) h.shown_rows
         ∙ ap (λ ps. drawn ps (rows_of size W) (owners size.irps (run_of W)) (length W) (reason_of size (all_passes size W) stop)) kept
 
-    pub closed_shown : (count : ℕ) (told : List IrpLine) (rest : Bool) → count ≡ length rows → GrewBy old new (picture (closed_elements passes rows os count told rest))
-        → GrewBy old new (picture (closed_picture size W told rest))
-    closed_shown count told rest is grew =
-        let drawn : List PassNow → List Row → List (Option Owner) → ℕ → List ℕ = λ ps rs xs k. old ++ picture (closed_elements ps rs xs k told rest) in
+    pub closed_shown : (count : ℕ) (reported : List IrpLine) (rest : Bool) → count ≡ length rows → GrewBy old new (picture (closed_elements passes rows os count reported rest))
+        → GrewBy old new (picture (closed_picture size W reported rest))
+    closed_shown count reported rest is grew =
+        let drawn : List PassNow → List Row → List (Option Owner) → ℕ → List ℕ = λ ps rs xs k. old ++ picture (closed_elements ps rs xs k reported rest) in
         grew ∙ ap (drawn passes rows os) (rows_are count is)
         ∙ ap (λ xs. drawn passes rows xs (length W)) h.shown_owners
         ∙ ap (λ rs. drawn passes rs (owners size.irps (run_of W)) (length W)) h.shown_rows
@@ -181,8 +181,8 @@ module _ (size : Size) (W : List Numbered) (caption wanted : CaptionText) (rows 
       let written : List PassNow → List Row → Reason → List ℕ = λ ps rs r. old ++ stopped_lines wanted ps rs n r in
       grew ∙ ap (λ c. old ++ stopped_lines c passes rows n reason) same ∙ ap (written passes rows) why ∙ ap (λ rs. written passes rs (reason_of size (all_passes size W) stop)) shown ∙ ap (λ ps. written ps (rows_of size W) (reason_of size (all_passes size W) stop)) kept
 
-  pub closed_written : (told : List IrpLine) (rest : Bool) → caption ≡ wanted → passes ≡ all_passes size W → rows ≡ rows_of size W
-      → GrewBy old new (closed_lines caption passes rows told rest) → GrewBy old new (closed_lines wanted (all_passes size W) (rows_of size W) told rest)
-  closed_written told rest same kept shown grew =
-      let written : List PassNow → List Row → List ℕ = λ ps rs. old ++ closed_lines wanted ps rs told rest in
-      grew ∙ ap (λ c. old ++ closed_lines c passes rows told rest) same ∙ ap (written passes) shown ∙ ap (λ ps. written ps (rows_of size W)) kept
+  pub closed_written : (reported : List IrpLine) (rest : Bool) → caption ≡ wanted → passes ≡ all_passes size W → rows ≡ rows_of size W
+      → GrewBy old new (closed_lines caption passes rows reported rest) → GrewBy old new (closed_lines wanted (all_passes size W) (rows_of size W) reported rest)
+  closed_written reported rest same kept shown grew =
+      let written : List PassNow → List Row → List ℕ = λ ps rs. old ++ closed_lines wanted ps rs reported rest in
+      grew ∙ ap (λ c. old ++ closed_lines c passes rows reported rest) same ∙ ap (written passes) shown ∙ ap (λ ps. written ps (rows_of size W)) kept

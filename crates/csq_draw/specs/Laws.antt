@@ -51,7 +51,7 @@ added of_step (w ∷ W) = added of_step W ++ of_step w W
 -- of the picture of the steps W, and of the nth line, which ended the handling: what is picked out of it is what each step adds, in order, and then this of that line; and of the one of the steps and of what is told in the end it is what each step adds
 pub record AddsStepByStep {A : Type 0} (size : Size) (W : List Numbered) (pick : Element → List A) (of_step : Numbered → List Numbered → List A) (of_line : ℕ → List A) : Type 0 where
   pub stopped : (n : ℕ) (stop : Stop) → picked pick (stopped_picture size W n stop) ≡ added of_step W ++ of_line n
-  pub closed : (told : List IrpLine) (at_rest : Bool) → picked pick (closed_picture size W told at_rest) ≡ added of_step W
+  pub closed : (reported : List IrpLine) (at_rest : Bool) → picked pick (closed_picture size W reported at_rest) ≡ added of_step W
 
 -- what these pick out of an element: of a mark, of the number of a line, of a shade, and nothing out of any other
 abbrev pub pick_of : {A : Type 0} → (Mark → List A) → (Number → List A) → (Shade → List A) → Element → List A

@@ -105,8 +105,8 @@ stopped_elements passes rows owners count n reason = shown_elements passes rows 
 
 -- and then of what is told in the end
 abbrev pub closed_elements : List PassNow → List Row → List (Option Owner) → ℕ → List IrpLine → Bool → List Element
-closed_elements passes rows owners count told at_rest = shown_elements passes rows owners count
-    ++ (each (closing_elements count) 0 told ++ at_rest_element count (length told) at_rest ∷ [])
+closed_elements passes rows owners count reported at_rest = shown_elements passes rows owners count
+    ++ (each (closing_elements count) 0 reported ++ at_rest_element count (length reported) at_rest ∷ [])
 
 -- the picture of the steps W, and of the nth line, which ended the handling
 abbrev pub stopped_picture : Size → List Numbered → ℕ → Stop → List Element
@@ -145,11 +145,11 @@ DrawsLine size format d n line text more = (comes : Outcome) × ComesTo size (ru
 
 -- where all lines were handled, it is the picture of the steps and of what is told in the end
 abbrev pub closed_text : Size → Format → Drawn → List IrpLine → Bool → List ℕ
-closed_text size Svg d told at_rest = picture_head (columns (all_passes size d.steps)) (length d.steps) (length told + 1) d.caption ++ picture (closed_picture size d.steps told at_rest)
-closed_text size Text d told at_rest = closed_lines d.caption (all_passes size d.steps) (rows_of size d.steps) told at_rest
+closed_text size Svg d reported at_rest = picture_head (columns (all_passes size d.steps)) (length d.steps) (length reported + 1) d.caption ++ picture (closed_picture size d.steps reported at_rest)
+closed_text size Text d reported at_rest = closed_lines d.caption (all_passes size d.steps) (rows_of size d.steps) reported at_rest
 
 abbrev pub DrawsClosing : Size → Format → Drawn → List ℕ → Type 0
-DrawsClosing size format d text = (told : List IrpLine) × (at_rest : Bool) × Closes size (run_of d.steps) told at_rest × (text ≡ closed_text size format d told at_rest)
+DrawsClosing size format d text = (reported : List IrpLine) × (at_rest : Bool) × Closes size (run_of d.steps) reported at_rest × (text ≡ closed_text size format d reported at_rest)
 
 -- a schedule is drawn so, in this format: of the longest run that its lines make
 abbrev pub IsDrawing : Size → Format → List ℕ → List ℕ → Ended → Type 0

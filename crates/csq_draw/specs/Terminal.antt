@@ -77,9 +77,9 @@ abbrev pub stopped_lines : CaptionText → List PassNow → List Row → ℕ →
 stopped_lines c passes rows n reason = c.plain ++ (rows_text passes rows ++ (codes "line " ++ (decimal n ++ (codes ": " ++ (ended_line_text reason.stop ++ (codes "\n  " ++ (reason_text reason ++ codes "\n")))))))
 
 -- where an IRP is in the end
-abbrev pub irp_line_told : ℕ → IrpLine → List ℕ
-irp_line_told n line = irp_sentence line ++ codes "\n"
+abbrev pub irp_line_reported : ℕ → IrpLine → List ℕ
+irp_line_reported n line = irp_sentence line ++ codes "\n"
 
 -- the caption, the steps, where each IRP is in the end, and whether all is at rest
 abbrev pub closed_lines : CaptionText → List PassNow → List Row → List IrpLine → Bool → List ℕ
-closed_lines c passes rows told at_rest = c.plain ++ (rows_text passes rows ++ (each_text irp_line_told 0 told ++ (rest_sentence at_rest ++ codes "\n")))
+closed_lines c passes rows reported at_rest = c.plain ++ (rows_text passes rows ++ (each_text irp_line_reported 0 reported ++ (rest_sentence at_rest ++ codes "\n")))

@@ -153,20 +153,20 @@ impl<A: Allocator + Copy> Drawing<A> {
     /// Draws the steps, and what is told in the end, as a picture.
     fn draw_end_as_svg(
         &self,
-        told: &[IrpLine],
+        reported: &[IrpLine],
         rest: bool,
         text: &mut String<A>,
     ) -> Result<(), AllocError>
         requires few { length self.now.execution.passes.items ≤ 65 }
-        requires told { length told.now ≤ 1024 }
+        requires reported { length reported.now ≤ 1024 }
         ensures { OnOk result ((size : Size) (d : Drawn) → DrawingStandsAfter self.now size d
             → GrewBy (string_bytes text.old) (string_bytes text.new)
-            (closed_text size Format.Svg d told.now rest)) }
+            (closed_text size Format.Svg d reported.now rest)) }
     {
         let count = self.count_rows()?;
-        self.draw_head(count, told.len() as u32 + 1, text)?;
+        self.draw_head(count, reported.len() as u32 + 1, text)?;
         let (passes, rows, owners) = (&self.execution.passes, &self.rows, &self.owners);
-        draw_closed(passes, rows, owners, count, told, rest, text)?;
+        draw_closed(passes, rows, owners, count, reported, rest, text)?;
         Ok(())
     }
 
@@ -192,21 +192,21 @@ impl<A: Allocator + Copy> Drawing<A> {
     }
 
     /// Draws the steps, and what is told in the end.
-    fn draw_end(&self, told: &[IrpLine], rest: bool, text: &mut String<A>) -> Result<(), AllocError>
+    fn draw_end(&self, reported: &[IrpLine], rest: bool, text: &mut String<A>) -> Result<(), AllocError>
         requires few { length self.now.execution.passes.items ≤ 65 }
-        requires told { length told.now ≤ 1024 }
+        requires reported { length reported.now ≤ 1024 }
         ensures { OnOk result ((size : Size) (d : Drawn) → DrawingStandsAfter self.now size d
             → GrewBy (string_bytes text.old) (string_bytes text.new)
-            (closed_text size self.now.format d told.now rest)) }
+            (closed_text size self.now.format d reported.now rest)) }
     {
         match self.format {
             Format::Svg => {
-                self.draw_end_as_svg(told, rest, text)?;
+                self.draw_end_as_svg(reported, rest, text)?;
                 Ok(())
             }
             Format::Text => {
                 let (caption, passes) = (&self.caption, &self.execution.passes);
-                write_closed(caption, passes, &self.rows, told, rest, text)?;
+                write_closed(caption, passes, &self.rows, reported, rest, text)?;
                 Ok(())
             }
         }
@@ -252,7 +252,7 @@ impl<A: Allocator + Copy> Answerer<A> for Drawing<A> {
 
     fn close(&self, text: &mut String<A>) -> Result<(), AllocError> {
         let closing = self.execution.close(self.alloc)?;
-        self.draw_end(&closing.told, closing.rest, text)?;
+        self.draw_end(&closing.reported, closing.rest, text)?;
         Ok(())
     }
 }

@@ -90,7 +90,7 @@ impl fmt::Display for FoundWords {
     ghost use Rattle.std.specs.Prelude.{Some};
     ghost use Rattle.csq_draw.specs.Marks.{found_words};
 
-    ghost output = { λ told. Some (found_words told.0) };
+    ghost output = { λ reported. Some (found_words reported.0) };
 
     fn fmt<W: fmt::Write>(&self, f: &mut fmt::Formatter<W>) -> fmt::Result {
         let StepInCall { made, status, .. } = self.0;

@@ -195,16 +195,16 @@ fn draw_owners<A: Allocator>(
 }
 
 /// Where each IRP is in the end.
-fn draw_told<A: Allocator>(
+fn draw_reported<A: Allocator>(
     rows: u32,
-    told: &[IrpLine],
+    reported: &[IrpLine],
     text: &mut String<A>,
 ) -> Result<(), AllocError>
-    requires { length told.now ≤ 1024 }
+    requires { length reported.now ≤ 1024 }
     ensures { OnOk result (GrewBy (string_bytes text.old) (string_bytes text.new)
-        (elements_text (each (closing_elements rows) 0 told.now))) }
+        (elements_text (each (closing_elements rows) 0 reported.now))) }
 {
-    for (nth, line) in told.iter().enumerate() {
+    for (nth, line) in reported.iter().enumerate() {
         draw(Element::Below(rows, Below::Irp(nth as u32, *line)), text)?;
     }
     Ok(())
@@ -298,19 +298,19 @@ pub(crate) fn draw_closed<A: Allocator>(
     rows: &[Row],
     owners: &[Option<Owner>],
     count: u32,
-    told: &[IrpLine],
+    reported: &[IrpLine],
     at_rest: bool,
     text: &mut String<A>,
 ) -> Result<(), AllocError>
     requires few { length passes.now ≤ 65 }
     requires count { count ≡ length rows.now }
-    requires told { length told.now ≤ 1024 }
+    requires reported { length reported.now ≤ 1024 }
     ensures { OnOk result (GrewBy (string_bytes text.old) (string_bytes text.new)
-        (picture (closed_elements passes.now rows.now owners.now count told.now at_rest))) }
+        (picture (closed_elements passes.now rows.now owners.now count reported.now at_rest))) }
 {
-    let nth = told.len() as u32;
+    let nth = reported.len() as u32;
     draw_steps(passes, rows, owners, count, text)?;
-    draw_told(count, told, text)?;
+    draw_reported(count, reported, text)?;
     draw(Element::Below(count, Below::AtRest(nth, at_rest)), text)?;
     draw_foot(text)?;
     Ok(())

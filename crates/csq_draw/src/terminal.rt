@@ -3,7 +3,7 @@ ghost use Rattle.std.specs.Prelude.{◌≡◌, ◌-◌, ◌*◌, ◌≤◌, leng
 ghost use Rattle.csq_replay.specs.Lines.{GrewBy};
 ghost use Rattle.csq_draw.specs.Captions.{caption_of};
 ghost use Rattle.csq_draw.specs.Passes.{columns, column_of};
-ghost use Rattle.csq_draw.specs.Terminal.{each_text, spaces, in_width, cell_text, words_cells, row_text, pass_cell, rows_text, irp_line_told, stopped_lines, closed_lines};
+ghost use Rattle.csq_draw.specs.Terminal.{each_text, spaces, in_width, cell_text, words_cells, row_text, pass_cell, rows_text, irp_line_reported, stopped_lines, closed_lines};
 
 use crate::caption::Caption;
 use crate::cells::Cell;
@@ -143,11 +143,11 @@ fn push_steps<A: Allocator>(
 }
 
 /// Adds where each IRP is in the end.
-fn push_told<A: Allocator>(told: &[IrpLine], text: &mut String<A>) -> Result<(), AllocError>
+fn push_reported<A: Allocator>(reported: &[IrpLine], text: &mut String<A>) -> Result<(), AllocError>
     ensures { OnOk result (GrewBy (string_bytes text.old) (string_bytes text.new)
-        (each_text irp_line_told 0 told.now)) }
+        (each_text irp_line_reported 0 reported.now)) }
 {
-    for line in told {
+    for line in reported {
         writeln!(text, "{}", IrpSentence(*line))?;
     }
     Ok(())
@@ -178,17 +178,17 @@ pub(crate) fn write_closed<A: Allocator>(
     caption: &Caption<A>,
     passes: &[PassNow],
     rows: &[Row],
-    told: &[IrpLine],
+    reported: &[IrpLine],
     at_rest: bool,
     text: &mut String<A>,
 ) -> Result<(), AllocError>
     requires { length passes.now ≤ 65 }
     ensures { OnOk result (GrewBy (string_bytes text.old) (string_bytes text.new)
-        (closed_lines (caption_of caption.now) passes.now rows.now told.now at_rest)) }
+        (closed_lines (caption_of caption.now) passes.now rows.now reported.now at_rest)) }
 {
     text.push_str(caption.plain.as_str())?;
     push_steps(passes, rows, text)?;
-    push_told(told, text)?;
+    push_reported(reported, text)?;
     writeln!(text, "{}", RestSentence(at_rest))?;
     Ok(())
 }

@@ -30,12 +30,12 @@ claimed_remark m i (inl kind) found = rw (kind, same_irp-refl i, found) refl
 claimed_remark m i (inr kind) found = rw (kind, same_irp-refl i, found) refl
 
 -- an answer to a step, and a sentence below it
-pub step_remark : (line found told : List ℕ) → line ++ (codes " found " ++ (found ++ (codes "\n  " ++ (told ++ codes "\n")))) ≡ (line ++ (codes " found " ++ (found ++ codes "\n"))) ++ remark told
-step_remark line found told = sym (append_assoc line (codes " found " ++ (found ++ codes "\n")) (remark told) ∙ ap (λ t. line ++ (codes " found " ++ t)) (append_assoc found (codes "\n") (remark told)))
+pub step_remark : (line found reported : List ℕ) → line ++ (codes " found " ++ (found ++ (codes "\n  " ++ (reported ++ codes "\n")))) ≡ (line ++ (codes " found " ++ (found ++ codes "\n"))) ++ remark reported
+step_remark line found reported = sym (append_assoc line (codes " found " ++ (found ++ codes "\n")) (remark reported) ∙ ap (λ t. line ++ (codes " found " ++ t)) (append_assoc found (codes "\n") (remark reported)))
 
 -- an answer to a line that ends the handling, and a sentence below it
-pub stop_remark : (number stop told : List ℕ) → codes "line " ++ (number ++ (codes " " ++ (stop ++ (codes "\n  " ++ (told ++ codes "\n"))))) ≡ (codes "line " ++ (number ++ (codes " " ++ (stop ++ codes "\n")))) ++ remark told
-stop_remark number stop told = ap (λ t. codes "line " ++ t) (sym (append_assoc number (codes " " ++ (stop ++ codes "\n")) (remark told) ∙ ap (λ t. number ++ (codes " " ++ t)) (append_assoc stop (codes "\n") (remark told))))
+pub stop_remark : (number stop reported : List ℕ) → codes "line " ++ (number ++ (codes " " ++ (stop ++ (codes "\n  " ++ (reported ++ codes "\n"))))) ≡ (codes "line " ++ (number ++ (codes " " ++ (stop ++ codes "\n")))) ++ remark reported
+stop_remark number stop reported = ap (λ t. codes "line " ++ t) (sym (append_assoc number (codes " " ++ (stop ++ codes "\n")) (remark reported) ∙ ap (λ t. number ++ (codes " " ++ t)) (append_assoc stop (codes "\n") (remark reported))))
 
 -- all were
 pub grew_irps : (xs : List IrpLine) (k : ℕ) (old new : List ℕ) → length xs ≤ k → GrewBy old new (explained_irps (take k xs)) → GrewBy old new (explained_irps xs)

@@ -64,8 +64,8 @@ module _ (size : Size) (W : List Numbered) (w : Numbered) (to : w.step.pass.0 �
       ∙ inside_is w.step.pass W
 
 -- a step is told in its call
-pub told_in_call : (E : List Made) (m : Made) (x : Inside) (status : Option NtStatus) → x ≡ inside E m.pass → status ≡ status_at E m.kind
+pub reported_in_call : (E : List Made) (m : Made) (x : Inside) (status : Option NtStatus) → x ≡ inside E m.pass → status ≡ status_at E m.kind
     → record { made = m; inside = x; status = status } ≡ in_call E m
-told_in_call E m x status a b =
-    let told : Inside → Option NtStatus → StepInCall = λ y s. record { made = m; inside = y; status = s } in
-    ap (λ y. told y status) a ∙ ap (told (inside E m.pass)) b
+reported_in_call E m x status a b =
+    let reported : Inside → Option NtStatus → StepInCall = λ y s. record { made = m; inside = y; status = s } in
+    ap (λ y. reported y status) a ∙ ap (reported (inside E m.pass)) b

@@ -5,8 +5,8 @@ pub use Rattle.csq_explain.specs.Passes.{all_passes, new_pass_now, pass_after, p
 pub use Rattle.csq_explain.specs.Reasons.{reason_of, reason_text}
 pub use Rattle.csq_explain.specs.Sentences.{in_call, sentence, status_at}
 pub use Rattle.csq_explain.specs.declared.sentences.StepInCall.{StepInCall}
-pub use Rattle.csq_replay.proofs.Closings.{comes_of_size, grew_more, told_more}
-pub use Rattle.csq_replay.specs.Schedule.{AreToldOf, Numbered, claim_line, irp_line_text, run_of}
+pub use Rattle.csq_replay.proofs.Closings.{comes_of_size, grew_more, reported_more}
+pub use Rattle.csq_replay.specs.Schedule.{AreReportedOf, Numbered, claim_line, irp_line_text, run_of}
 pub use Rattle.csq_replay.specs.declared.schedule.closing.IrpLine.{IrpLine}
 pub use Rattle.csq_replay.specs.declared.schedule.outcome.Outcome.TheVariants.{Accepted, Skipped, Stopped}
 pub use Rattle.irp_core.proofs.Names.{named, same_irp-refl, same_pass-eq, same_pass-refl}

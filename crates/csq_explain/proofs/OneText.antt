@@ -7,8 +7,8 @@ use Rattle.csq_replay.proofs.OneAnswer.{one_close, one_line, run_on}
 use Rattle.csq_explain.specs.Laws.{HasOneExplanation}
 
 one_closing : (size : Size) (claims : Bool) (W : List Numbered) → IsRun size (run_of W) → (t u : List ℕ) → IsExplainedClosing size claims W t → IsExplainedClosing size claims W u → t ≡ u
-one_closing size claims W r t u (told, rest, closes, e) (other, otherwise, closes', f) =
-    let same = one_close size (run_of W) r told other rest otherwise closes closes' in
+one_closing size claims W r t u (reported, rest, closes, e) (other, otherwise, closes', f) =
+    let same = one_close size (run_of W) r reported other rest otherwise closes closes' in
     let text : List IrpLine → Bool → List ℕ = λ lines b. explained_irps lines ++ (explained_rest b ++ cond claims (explained_claims W) []) in
     e ∙ ap (λ x. text x rest) same.0 ∙ ap (λ x. text other x) same.1 ∙ sym f
 

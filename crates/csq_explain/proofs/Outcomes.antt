@@ -19,10 +19,10 @@ module _ {A : Type 0} (size : Size) (W : List Numbered) (n : ℕ) (line : List �
       → ComesTo size (run_of W) line (Accepted step.made) × (step ≡ in_call (run_of W) step.made) × Follows size new (record { line = n; step = step.made } ∷ W)
   was_accepted step (Skipped, comes, is, on) = absurd (cc is)
   was_accepted step (Accepted m, comes, is, on) =
-      let told : step ≡ in_call (run_of W) m = cc is in
-      let same : m ≡ step.made = sym (ap (λ (s : StepInCall). s.made) told) in
+      let reported : step ≡ in_call (run_of W) m = cc is in
+      let same : m ≡ step.made = sym (ap (λ (s : StepInCall). s.made) reported) in
       let P : Made → Type 0 = λ x. ComesTo size (run_of W) line (Accepted x) × (step ≡ in_call (run_of W) x) × Follows size new (record { line = n; step = x } ∷ W) in
-      subst P same (comes, told, on)
+      subst P same (comes, reported, on)
   was_accepted step (Stopped stop, comes, is, on) = absurd (cc is)
 
   -- it ends the handling for this reason, and the execution stays
@@ -31,7 +31,7 @@ module _ {A : Type 0} (size : Size) (W : List Numbered) (n : ℕ) (line : List �
   was_stopped reason (Skipped, comes, is, on) = absurd (cc is)
   was_stopped reason (Accepted m, comes, is, on) = absurd (cc is)
   was_stopped reason (Stopped stop, comes, is, on) =
-      let told : reason ≡ reason_of size (all_passes size W) stop = cc is in
-      let same : stop ≡ reason.stop = sym (ap (λ (r : Reason). r.stop) told) in
+      let reported : reason ≡ reason_of size (all_passes size W) stop = cc is in
+      let same : stop ≡ reason.stop = sym (ap (λ (r : Reason). r.stop) reported) in
       let P : Stop → Type 0 = λ x. ComesTo size (run_of W) line (Stopped x) × (reason ≡ reason_of size (all_passes size W) x) × Follows size new W in
-      subst P same (comes, told, on)
+      subst P same (comes, reported, on)

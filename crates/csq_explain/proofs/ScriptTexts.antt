@@ -23,8 +23,8 @@ commas-append (i ∷ is) js = ap (λ t. (codes ", " ++ irp_text i) ++ t) (commas
 -- one more number was added
 pub commas_more : (irps : List IrpId) (k : ℕ) (d : IrpId) (first old new : List ℕ) → k < length irps → old ≡ first ++ after_commas (take k irps)
     → new ≡ old ++ (codes ", " ++ irp_text (get_or irps k d)) → new ≡ first ++ after_commas (take (k + 1) irps)
-commas_more irps k d first old new lt told written =
-    written ∙ ap (λ t. t ++ (codes ", " ++ irp_text (get_or irps k d))) told ∙ append_assoc first (after_commas (take k irps)) (codes ", " ++ irp_text (get_or irps k d))
+commas_more irps k d first old new lt reported written =
+    written ∙ ap (λ t. t ++ (codes ", " ++ irp_text (get_or irps k d))) reported ∙ append_assoc first (after_commas (take k irps)) (codes ", " ++ irp_text (get_or irps k d))
     ∙ ap (λ t. first ++ (after_commas (take k irps) ++ t)) (sym (append-nil (codes ", " ++ irp_text (get_or irps k d))))
     ∙ ap (λ t. first ++ t) (sym (commas-append (take k irps) (get_or irps k d ∷ [])))
     ∙ ap (λ l. first ++ after_commas l) (sym (take_more irps k d lt))

@@ -45,7 +45,7 @@ explained_of size W (Stopped stop) = explained.Stopped (reason_of size (all_pass
 
 -- after the steps W this comes of the nth line, and is told so, and the execution goes on
 abbrev pub Explains : {A : Type 0} → Size → List Numbered → ℕ → List ℕ → Explained → Execution A → Type 0
-Explains size W n line told new = (comes : Outcome) × ComesTo size (run_of W) line comes × (told ≡ explained_of size W comes) × Follows size new (steps_after W n comes)
+Explains size W n line reported new = (comes : Outcome) × ComesTo size (run_of W) line comes × (reported ≡ explained_of size W comes) × Follows size new (steps_after W n comes)
 
 -- the status with which an IRP at this place was completed
 abbrev pub status_of_place : IrpPlace → Option NtStatus

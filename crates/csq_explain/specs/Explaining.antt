@@ -10,7 +10,7 @@ use Rattle.csq_replay.specs.declared.schedule.closing.IrpLine.{IrpLine}
 use Rattle.csq_replay.specs.declared.schedule.outcome.Outcome.{Outcome}
 use Rattle.csq_replay.specs.declared.schedule.outcome.Outcome.TheVariants.{Skipped, Accepted, Stopped}
 use Rattle.csq_replay.specs.Lines.{IsAnswer, RepliesTo}
-use Rattle.csq_replay.specs.Schedule.{Numbered, run_of, TellsLine, answer_text, irp_line_text, rest_text, claim_line, exchanged_irp, Closes}
+use Rattle.csq_replay.specs.Schedule.{Numbered, run_of, ReportsLine, answer_text, irp_line_text, rest_text, claim_line, exchanged_irp, Closes}
 use Rattle.csq_explain.specs.Endings.{irp_sentence, rest_sentence}
 use Rattle.csq_explain.specs.Passes.{all_passes}
 use Rattle.csq_explain.specs.Reasons.{reason_of, reason_text}
@@ -31,7 +31,7 @@ abbrev pub explained_text : Size → List Numbered → ℕ → List ℕ → Outc
 explained_text size W n line comes = answer_text W n line comes ++ line_remark size W comes
 
 abbrev pub ExplainsLine : Size → List Numbered → ℕ → List ℕ → List ℕ → Option (List Numbered) → Type 0
-ExplainsLine size = TellsLine (explained_text size) size
+ExplainsLine size = ReportsLine (explained_text size) size
 
 -- of each IRP that is told of its closing line, and a sentence
 abbrev pub explained_irps : List IrpLine → List ℕ
@@ -55,8 +55,8 @@ explained_claims (w ∷ W) = (explained_claims W ++ claim_line w) ++ claim_remar
 
 -- the closing lines after the steps W, each with a sentence, with the claims where they are asked for
 abbrev pub IsExplainedClosing : Size → Bool → List Numbered → List ℕ → Type 0
-IsExplainedClosing size claims W text = (told : List IrpLine) × (rest : Bool) × Closes size (run_of W) told rest
-    × (text ≡ explained_irps told ++ (explained_rest rest ++ (if claims then explained_claims W else [])))
+IsExplainedClosing size claims W text = (reported : List IrpLine) × (rest : Bool) × Closes size (run_of W) reported rest
+    × (text ≡ explained_irps reported ++ (explained_rest rest ++ (if claims then explained_claims W else [])))
 
 -- a schedule is answered this text, which explains it
 abbrev pub IsExplanation : Size → Bool → List ℕ → List ℕ → Ended → Type 0

@@ -6,7 +6,7 @@ use Rattle.csq_replay.specs.declared.script.outcome.CallOutcome.{CallOutcome}
 use Rattle.csq_replay.specs.declared.script.outcome.CallOutcome.TheVariants.{Skipped, Answered, Stopped}
 use Rattle.csq_replay.specs.Lines.{IsAnswer, RepliesTo}
 use Rattle.csq_replay.specs.Calls.{Script, new_script}
-use Rattle.csq_replay.specs.ScriptAnswer.{TellsCall, call_text}
+use Rattle.csq_replay.specs.ScriptAnswer.{ReportsCall, call_text}
 use Rattle.csq_explain.specs.CallSentences.{reply_sentence, call_stop_sentence}
 use Rattle.csq_explain.specs.Explaining.{remark}
 use Rattle.csq_explain.specs.ScriptEndings.{explained_closing}
@@ -22,7 +22,7 @@ abbrev pub explained_call : Limits → ℕ → CallOutcome → List ℕ
 explained_call l n comes = call_text n comes ++ call_remark l comes
 
 abbrev pub ExplainsCall : Limits → Script → ℕ → List ℕ → List ℕ → Option Script → Type 0
-ExplainsCall l = TellsCall (explained_call l) l
+ExplainsCall l = ReportsCall (explained_call l) l
 
 -- a script is answered this text, which explains it
 abbrev pub IsScriptExplanation : Limits → List ℕ → List ℕ → Ended → Type 0

@@ -49,7 +49,7 @@ impl fmt::Display for FileWords {
     ghost use Rattle.std.specs.Prelude.{Some};
     ghost use Rattle.csq_explain.specs.CallSentences.{file_words};
 
-    ghost output = { λ told. Some (file_words told.0) };
+    ghost output = { λ reported. Some (file_words reported.0) };
 
     fn fmt<W: fmt::Write>(&self, f: &mut fmt::Formatter<W>) -> fmt::Result {
         match self.0 {
@@ -68,7 +68,7 @@ impl fmt::Display for ObjectName {
     ghost use Rattle.std.specs.Prelude.{Some};
     ghost use Rattle.csq_explain.specs.CallSentences.{object_name};
 
-    ghost output = { λ told. Some (object_name told.0) };
+    ghost output = { λ reported. Some (object_name reported.0) };
 
     #[tactic(auto, unfolding(crate::specs::CallSentences::object_name))]
     fn fmt<W: fmt::Write>(&self, f: &mut fmt::Formatter<W>) -> fmt::Result {
@@ -97,7 +97,7 @@ impl fmt::Display for PlaceWords {
     ghost use Rattle.std.specs.Prelude.{Some};
     ghost use Rattle.csq_explain.specs.CallSentences.{place_words};
 
-    ghost output = { λ told. Some (place_words told.0) };
+    ghost output = { λ reported. Some (place_words reported.0) };
 
     fn fmt<W: fmt::Write>(&self, f: &mut fmt::Formatter<W>) -> fmt::Result {
         match self.0 {
@@ -137,7 +137,7 @@ impl fmt::Display for NoneWords {
     ghost use Rattle.std.specs.Prelude.{Some};
     ghost use Rattle.csq_explain.specs.CallSentences.{none_words};
 
-    ghost output = { λ told. Some (none_words told.0.files told.0.call) };
+    ghost output = { λ reported. Some (none_words reported.0.files reported.0.call) };
 
     fn fmt<W: fmt::Write>(&self, f: &mut fmt::Formatter<W>) -> fmt::Result {
         let (files, call) = (self.0.files, self.0.call);
@@ -166,7 +166,7 @@ impl fmt::Display for CancelWords {
     ghost use Rattle.std.specs.Prelude.{Some};
     ghost use Rattle.csq_explain.specs.CallSentences.{cancel_words};
 
-    ghost output = { λ told. Some (cancel_words told.0.call told.0.reply) };
+    ghost output = { λ reported. Some (cancel_words reported.0.call reported.0.reply) };
 
     fn fmt<W: fmt::Write>(&self, f: &mut fmt::Formatter<W>) -> fmt::Result {
         let call = self.0.call;
@@ -215,7 +215,7 @@ impl fmt::Display for RefusedFile {
     ghost use Rattle.std.specs.Prelude.{Some};
     ghost use Rattle.csq_explain.specs.CallSentences.{refused_file};
 
-    ghost output = { λ told. Some (refused_file told.0) };
+    ghost output = { λ reported. Some (refused_file reported.0) };
 
     fn fmt<W: fmt::Write>(&self, f: &mut fmt::Formatter<W>) -> fmt::Result {
         match self.0 {
@@ -234,8 +234,8 @@ impl fmt::Display for CallRefusal {
     ghost use Rattle.std.specs.Prelude.{Some};
     ghost use Rattle.csq_explain.specs.CallSentences.{call_refusal};
 
-    ghost output = { λ told. Some
-        (call_refusal told.0.irps told.0.files told.0.call told.0.reply) };
+    ghost output = { λ reported. Some
+        (call_refusal reported.0.irps reported.0.files reported.0.call reported.0.reply) };
 
     fn fmt<W: fmt::Write>(&self, f: &mut fmt::Formatter<W>) -> fmt::Result {
         let (irps, files, call) = (self.0.irps, self.0.files, self.0.call);
@@ -284,7 +284,7 @@ impl fmt::Display for AnsweredCall {
     ghost use Rattle.std.specs.Prelude.{Some};
     ghost use Rattle.csq_explain.specs.CallSentences.{call_sentence};
 
-    ghost output = { λ told. Some (call_sentence told) };
+    ghost output = { λ reported. Some (call_sentence reported) };
 
     fn fmt<W: fmt::Write>(&self, f: &mut fmt::Formatter<W>) -> fmt::Result {
         let (call, routine) = (self.call, routine_name(self.call));
@@ -336,7 +336,7 @@ impl fmt::Display for CallStopSentence {
     ghost use Rattle.std.specs.Prelude.{Some};
     ghost use Rattle.csq_explain.specs.CallSentences.{call_stop_sentence};
 
-    ghost output = { λ told. Some (call_stop_sentence told.0) };
+    ghost output = { λ reported. Some (call_stop_sentence reported.0) };
 
     fn fmt<W: fmt::Write>(&self, f: &mut fmt::Formatter<W>) -> fmt::Result {
         match self.0 {

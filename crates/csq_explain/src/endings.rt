@@ -13,7 +13,7 @@ impl fmt::Display for PlaceWords {
     ghost use Rattle.std.specs.Prelude.{Some};
     ghost use Rattle.csq_explain.specs.Endings.{place_words};
 
-    ghost output = { λ told. Some (place_words told.0) };
+    ghost output = { λ reported. Some (place_words reported.0) };
 
     fn fmt<W: fmt::Write>(&self, f: &mut fmt::Formatter<W>) -> fmt::Result {
         match self.0 {
@@ -36,7 +36,7 @@ impl fmt::Display for IrpSentence {
     ghost use Rattle.std.specs.Prelude.{Some};
     ghost use Rattle.csq_explain.specs.Endings.{irp_sentence};
 
-    ghost output = { λ told. Some (irp_sentence told.0) };
+    ghost output = { λ reported. Some (irp_sentence reported.0) };
 
     fn fmt<W: fmt::Write>(&self, f: &mut fmt::Formatter<W>) -> fmt::Result {
         let IrpSentence(line) = *self;
@@ -57,7 +57,7 @@ impl fmt::Display for RestSentence {
     ghost use Rattle.std.specs.Prelude.{Some};
     ghost use Rattle.csq_explain.specs.Endings.{rest_sentence};
 
-    ghost output = { λ told. Some (rest_sentence told.0) };
+    ghost output = { λ reported. Some (rest_sentence reported.0) };
 
     fn fmt<W: fmt::Write>(&self, f: &mut fmt::Formatter<W>) -> fmt::Result {
         if self.0 {

@@ -6,7 +6,7 @@ ghost use Rattle.irp_core.specs.MachineState.{Agrees, size_of};
 ghost use Rattle.irp_core.specs.Runs.{Size, OfIrp, IsInLimits};
 ghost use Rattle.irp_core.specs.Steps.{number};
 ghost use Rattle.csq_replay.specs.declared.schedule.closing.IrpLine.{IrpLine as IrpLineOf};
-ghost use Rattle.csq_replay.specs.Schedule.{Numbered, run_of, AreToldOf, IsToldOf, Closes};
+ghost use Rattle.csq_replay.specs.Schedule.{Numbered, run_of, AreReportedOf, IsReportedOf, Closes};
 ghost use Rattle.csq_explain.specs.Executions.{Follows, IsFollowing, Explains, IsStatusAfter};
 ghost use Rattle.csq_explain.specs.Passes.{new_pass_now, pass_after};
 ghost use Rattle.csq_explain.specs.Reasons.{reason_of};
@@ -42,7 +42,7 @@ pub enum Explained {
 #[derive(Drop)]
 pub struct Closing<A: Allocator> {
     /// Of each IRP that is told of.
-    pub told: Vec<IrpLine, A>,
+    pub reported: Vec<IrpLine, A>,
     /// Whether all is at rest.
     pub rest: bool,
 }
@@ -133,46 +133,46 @@ impl<A: Allocator + Copy> Execution<A> {
     /// number, and whether all is at rest. Own rule.
     pub fn close(&self, alloc: A) -> Result<Closing<A>, AllocError>
         ensures closes { IfOk result (λ closing. (size : Size) (W : List Numbered)
-            → Follows size self.now W → Closes size (run_of W) closing.told.items closing.rest) }
+            → Follows size self.now W → Closes size (run_of W) closing.reported.items closing.rest) }
         ensures few { IfOk result
-            (λ closing. vec_len closing.told ≤ (size_of self.now.machine).irps) }
+            (λ closing. vec_len closing.reported ≤ (size_of self.now.machine).irps) }
     {
         Ok(Closing {
-            told: told_irps(alloc, &self.machine)?,
+            reported: reported_irps(alloc, &self.machine)?,
             rest: self.machine.at_rest(),
         })
     }
 }
 
 /// What is told of the IRPs in the end.
-fn told_irps<A: Allocator>(alloc: A, machine: &Machine<A>) -> Result<Vec<IrpLine, A>, AllocError>
-    ensures told { IfOk result (λ told. (E : List MadeOf) → Agrees machine.now E
-        → AreToldOf (size_of machine.now).first E
-        (size_of machine.now).irps told.items) }
-    ensures few { IfOk result (λ told. vec_len told ≤ (size_of machine.now).irps) }
+fn reported_irps<A: Allocator>(alloc: A, machine: &Machine<A>) -> Result<Vec<IrpLine, A>, AllocError>
+    ensures reported { IfOk result (λ reported. (E : List MadeOf) → Agrees machine.now E
+        → AreReportedOf (size_of machine.now).first E
+        (size_of machine.now).irps reported.items) }
+    ensures few { IfOk result (λ reported. vec_len reported ≤ (size_of machine.now).irps) }
 {
-    let mut told = Vec::new(alloc);
+    let mut reported = Vec::new(alloc);
     for number in 0..machine.irps() {
-        push_told(machine, IrpId(number), &mut told)?;
+        push_reported(machine, IrpId(number), &mut reported)?;
     }
-    Ok(told)
+    Ok(reported)
 }
 
 /// Adds what is told of an IRP, if it is told of.
-fn push_told<A: Allocator>(
+fn push_reported<A: Allocator>(
     machine: &Machine<A>,
     irp: IrpId,
-    told: &mut Vec<IrpLine, A>,
+    reported: &mut Vec<IrpLine, A>,
 ) -> Result<(), AllocError>
     requires { irp.0 < (size_of machine.now).irps }
-    ensures told { OnOk result ((more : List IrpLineOf) × (told.new.items ≡ told.old.items ++ more)
+    ensures reported { OnOk result ((more : List IrpLineOf) × (reported.new.items ≡ reported.old.items ++ more)
         × ((E : List MadeOf) → Agrees machine.now E
-        → IsToldOf E (present (size_of machine.now).first E irp) more)) }
-    ensures few { OnOk result (vec_len told.new ≤ vec_len told.old + 1) }
+        → IsReportedOf E (present (size_of machine.now).first E irp) more)) }
+    ensures few { OnOk result (vec_len reported.new ≤ vec_len reported.old + 1) }
 {
     let Some(line) = irp_line(machine, irp) else {
         return Ok(());
     };
-    told.push(line)?;
+    reported.push(line)?;
     Ok(())
 }

@@ -43,11 +43,11 @@ fn explain_claim<A: Allocator>(claims: &mut String<A>, made: Made) -> Result<(),
 }
 
 /// The closing lines of the IRPs, each with a sentence.
-fn explain_irps<A: Allocator>(told: &[IrpLine], text: &mut String<A>) -> Result<(), AllocError>
+fn explain_irps<A: Allocator>(reported: &[IrpLine], text: &mut String<A>) -> Result<(), AllocError>
     ensures { OnOk result
-        (GrewBy (string_bytes text.old) (string_bytes text.new) (explained_irps told.now)) }
+        (GrewBy (string_bytes text.old) (string_bytes text.new) (explained_irps reported.now)) }
 {
-    for line in told {
+    for line in reported {
         writeln!(text, "{line}\n  {}", IrpSentence(*line))?;
     }
     Ok(())
@@ -108,7 +108,7 @@ impl<A: Allocator + Copy> Answerer<A> for Explanation<A> {
 
     fn close(&self, text: &mut String<A>) -> Result<(), AllocError> {
         let closing = self.execution.close(self.alloc)?;
-        explain_irps(&closing.told, text)?;
+        explain_irps(&closing.reported, text)?;
         explain_rest(closing.rest, text)?;
         self.push_claims(text)?;
         Ok(())

@@ -76,8 +76,8 @@ impl fmt::Display for Refusal {
     ghost use Rattle.std.specs.Prelude.{Some};
     ghost use Rattle.csq_explain.specs.Reasons.{cause_text};
 
-    ghost output = { λ told. Some (cause_text
-        told.0.irps told.0.passes told.0.now told.1.pass told.1.kind told.2) };
+    ghost output = { λ reported. Some (cause_text
+        reported.0.irps reported.0.passes reported.0.now reported.1.pass reported.1.kind reported.2) };
 
     fn fmt<W: fmt::Write>(&self, f: &mut fmt::Formatter<W>) -> fmt::Result {
         let Refusal(reason, step, cause) = *self;

@@ -19,7 +19,7 @@ impl fmt::Display for LeftSentence<'_> {
     ghost use Rattle.std.specs.Prelude.{Some};
     ghost use Rattle.csq_explain.specs.ScriptEndings.{left_words};
 
-    ghost output = { λ told. Some (left_words told.count told.numbers.now) };
+    ghost output = { λ reported. Some (left_words reported.count reported.numbers.now) };
 
     fn fmt<W: fmt::Write>(&self, f: &mut fmt::Formatter<W>) -> fmt::Result {
         let LeftSentence { count, numbers } = *self;
@@ -44,7 +44,7 @@ impl fmt::Display for KeptSentence<'_> {
     ghost use Rattle.std.specs.Prelude.{Some};
     ghost use Rattle.csq_explain.specs.ScriptEndings.{kept_words};
 
-    ghost output = { λ told. Some (kept_words told.kept told.count told.numbers.now) };
+    ghost output = { λ reported. Some (kept_words reported.kept reported.count reported.numbers.now) };
 
     fn fmt<W: fmt::Write>(&self, f: &mut fmt::Formatter<W>) -> fmt::Result {
         let (numbers, is_one) = (self.numbers, self.count == 1);

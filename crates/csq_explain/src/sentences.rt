@@ -45,7 +45,7 @@ impl fmt::Display for WithStatus {
     ghost use Rattle.std.specs.Prelude.{Some};
     ghost use Rattle.csq_explain.specs.Sentences.{with_status};
 
-    ghost output = { λ told. Some (with_status told.0) };
+    ghost output = { λ reported. Some (with_status reported.0) };
 
     fn fmt<W: fmt::Write>(&self, f: &mut fmt::Formatter<W>) -> fmt::Result {
         match self.0 {
@@ -64,7 +64,7 @@ impl fmt::Display for InsertWord {
     ghost use Rattle.std.specs.Prelude.{Some};
     ghost use Rattle.csq_explain.specs.Sentences.{insert_word};
 
-    ghost output = { λ told. Some (insert_word told.0) };
+    ghost output = { λ reported. Some (insert_word reported.0) };
 
     fn fmt<W: fmt::Write>(&self, f: &mut fmt::Formatter<W>) -> fmt::Result {
         match self.0 {
@@ -83,8 +83,8 @@ impl fmt::Display for Finding {
     ghost use Rattle.std.specs.Prelude.{Some, ◌==◌, not};
     ghost use Rattle.csq_explain.specs.Sentences.{finding};
 
-    ghost output = { λ told. Some
-        (finding told.0.inside told.0.made.kind (not (told.0.made.found == 0))) };
+    ghost output = { λ reported. Some
+        (finding reported.0.inside reported.0.made.kind (not (reported.0.made.found == 0))) };
 
     fn fmt<W: fmt::Write>(&self, f: &mut fmt::Formatter<W>) -> fmt::Result {
         let (made, inside) = (self.0.made, self.0.inside);
@@ -136,7 +136,7 @@ impl fmt::Display for Sentence {
     ghost use Rattle.std.specs.Prelude.{Some};
     ghost use Rattle.csq_explain.specs.Sentences.{sentence};
 
-    ghost output = { λ told. Some (sentence told.0) };
+    ghost output = { λ reported. Some (sentence reported.0) };
 
     fn fmt<W: fmt::Write>(&self, f: &mut fmt::Formatter<W>) -> fmt::Result {
         let Sentence(step) = *self;

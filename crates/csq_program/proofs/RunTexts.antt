@@ -5,7 +5,7 @@ use Rattle.std.proofs.KnownBytes.{Appends-nil, Appends-trans, Appends-kept}
 use Rattle.std.specs.declared.time.Duration.{Duration}
 use Rattle.csq_device.specs.declared.plan.Plan.{Plan}
 use Rattle.csq_device.specs.declared.totals.Totals.{Totals}
-use Rattle.csq_program.specs.Totals.{line, has_busy, totals_text, run_text, counts_text, told_text, AreTotalsOf, IsRunText, WritesRun, WritesRuns, WritesFewerRuns}
+use Rattle.csq_program.specs.Totals.{line, has_busy, totals_text, run_text, counts_text, reported_text, AreTotalsOf, IsRunText, WritesRun, WritesRuns, WritesFewerRuns}
 
 -- the first lines are those of the plan
 first_lines : (plan : Plan) (t : Totals) → AreTotalsOf plan t → totals_text t ≡ run_text plan.irps
@@ -17,9 +17,9 @@ first_lines plan t h =
     λ k. line (codes "irps ") (irps k) ++ line (codes "accounted ") (accounted k) ++ line (codes "cancelled and listed ") (h.flagged k)
 
 -- what is told of totals of a plan's device is told of a run of the plan
-pub told_run : (plan : Plan) (t : Totals) (took : Option Duration) (all : Bool) → AreTotalsOf plan t → IsRunText plan all (told_text all (has_busy plan) t took)
-told_run plan t took false h = first_lines plan t h
-told_run plan t took true h = (t, took, h, ap (λ (text : List ℕ). text ++ counts_text (has_busy plan) t took) (first_lines plan t h))
+pub reported_run : (plan : Plan) (t : Totals) (took : Option Duration) (all : Bool) → AreTotalsOf plan t → IsRunText plan all (reported_text all (has_busy plan) t took)
+reported_run plan t took false h = first_lines plan t h
+reported_run plan t took true h = (t, took, h, ap (λ (text : List ℕ). text ++ counts_text (has_busy plan) t took) (first_lines plan t h))
 
 -- no run
 pub runs_none : (plan : Plan) (all : Bool) (known : Option (List ℕ)) → WritesRuns plan all 0 known known

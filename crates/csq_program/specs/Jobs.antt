@@ -36,11 +36,11 @@ pub record IsFlag (options : ArgMatches) (name : List ℕ) (flag : Bool) : Type 
   pub absent : one_text (found_of options) name ≡ None → flag ≡ false
 
 -- the job's flags, if it has some, are those of the options
-abbrev pub TellsJobFlag : ArgMatches → Job → Type 0
-TellsJobFlag options (Schedule source irps passes claims explain) = IsFlag options (codes "claims") claims × IsFlag options (codes "explain") explain
-TellsJobFlag options (Draw source irps passes text) = IsFlag options (codes "text") text
-TellsJobFlag options (Script source irps files limit file_limit list explain) = IsFlag options (codes "chain") (is_chained list) × IsFlag options (codes "explain") explain
-TellsJobFlag options (Run plan list totals repeat) = IsFlag options (codes "chain") (is_chained list) × IsFlag options (codes "totals") totals
+abbrev pub ReportsJobFlag : ArgMatches → Job → Type 0
+ReportsJobFlag options (Schedule source irps passes claims explain) = IsFlag options (codes "claims") claims × IsFlag options (codes "explain") explain
+ReportsJobFlag options (Draw source irps passes text) = IsFlag options (codes "text") text
+ReportsJobFlag options (Script source irps files limit file_limit list explain) = IsFlag options (codes "chain") (is_chained list) × IsFlag options (codes "explain") explain
+ReportsJobFlag options (Run plan list totals repeat) = IsFlag options (codes "chain") (is_chained list) × IsFlag options (codes "totals") totals
 
 -- the file that is named, other than by a hyphen, or where there is none standard input
 abbrev pub IsSource : ArgMatches → Source → Type 0
@@ -48,11 +48,11 @@ IsSource options Standard = (first_value (found_of options) (codes "file") ≡ N
 IsSource options (File name) = (first_value (found_of options) (codes "file") ≡ Some name.now) × (name.now ≢ codes "-")
 
 -- the job's source, if it has one, is that of the options
-abbrev pub TellsSource : ArgMatches → Job → Type 0
-TellsSource options (Schedule source irps passes claims explain) = IsSource options source
-TellsSource options (Draw source irps passes text) = IsSource options source
-TellsSource options (Script source irps files limit file_limit list explain) = IsSource options source
-TellsSource options (Run plan list totals repeat) = Unit {0}
+abbrev pub ReportsSource : ArgMatches → Job → Type 0
+ReportsSource options (Schedule source irps passes claims explain) = IsSource options source
+ReportsSource options (Draw source irps passes text) = IsSource options source
+ReportsSource options (Script source irps files limit file_limit list explain) = IsSource options source
+ReportsSource options (Run plan list totals repeat) = Unit {0}
 
 -- an option of this name: the number that its text writes, where that is from 1 to `most`, and the default without a text
 pub record IsNumberOption (options : ArgMatches) (name : List ℕ) (most default number : ℕ) : Type 0 where
@@ -93,11 +93,11 @@ pub record AreTooMany (options : ArgMatches) (busy_workers left : ℕ) : Type 0 
   pub more : left < busy_workers
 
 -- the job's numbers are those of the options
-abbrev pub TellsNumbers : ArgMatches → Job → Type 0
-TellsNumbers options (Schedule source irps passes claims explain) = IsNumberOption options (codes "irps") 1024 8 irps × IsNumberOption options (codes "passes") 64 4 passes
-TellsNumbers options (Draw source irps passes text) = IsNumberOption options (codes "irps") 1024 8 irps × IsNumberOption options (codes "passes") 64 4 passes
-TellsNumbers options (Script source irps files limit file_limit list explain) = IsNumberOption options (codes "irps") 1024 8 irps × IsNumberOption options (codes "files") 256 4 files × IsLimit options (codes "limit") limit × IsLimit options (codes "file-limit") file_limit
-TellsNumbers options (Run plan list totals repeat) = ArePlanned options plan × IsNumberOption options (codes "repeat") 1000 1 repeat
+abbrev pub ReportsNumbers : ArgMatches → Job → Type 0
+ReportsNumbers options (Schedule source irps passes claims explain) = IsNumberOption options (codes "irps") 1024 8 irps × IsNumberOption options (codes "passes") 64 4 passes
+ReportsNumbers options (Draw source irps passes text) = IsNumberOption options (codes "irps") 1024 8 irps × IsNumberOption options (codes "passes") 64 4 passes
+ReportsNumbers options (Script source irps files limit file_limit list explain) = IsNumberOption options (codes "irps") 1024 8 irps × IsNumberOption options (codes "files") 256 4 files × IsLimit options (codes "limit") limit × IsLimit options (codes "file-limit") file_limit
+ReportsNumbers options (Run plan list totals repeat) = ArePlanned options plan × IsNumberOption options (codes "repeat") 1000 1 repeat
 
 -- the number of a fault
 abbrev pub fault_number : CommandFault → ℕ

@@ -11,14 +11,14 @@ use Rattle.csq_words.specs.Queue.{Limits as ListLimits}
 use Rattle.csq_program.specs.declared.replay.Limits.{Limits}
 
 -- of a reader and a writer that tell their bytes: a schedule was read, and its answer was written, each line with a sentence where these are asked for
-abbrev pub TellsSchedule : Size → Bool → Bool → Option (List ℕ) → Option (List ℕ) → Option (List ℕ) → Option (List ℕ) → Ended → Type 0
-TellsSchedule size claims true = ExplainsSchedule size claims
-TellsSchedule size claims false = RepliesToSchedule size claims
+abbrev pub ReportsSchedule : Size → Bool → Bool → Option (List ℕ) → Option (List ℕ) → Option (List ℕ) → Option (List ℕ) → Ended → Type 0
+ReportsSchedule size claims true = ExplainsSchedule size claims
+ReportsSchedule size claims false = RepliesToSchedule size claims
 
 -- the same of a script
-abbrev pub TellsScript : ListLimits → Bool → Option (List ℕ) → Option (List ℕ) → Option (List ℕ) → Option (List ℕ) → Ended → Type 0
-TellsScript l true = ExplainsScript l
-TellsScript l false = RepliesToScript l
+abbrev pub ReportsScript : ListLimits → Bool → Option (List ℕ) → Option (List ℕ) → Option (List ℕ) → Option (List ℕ) → Ended → Type 0
+ReportsScript l true = ExplainsScript l
+ReportsScript l false = RepliesToScript l
 
 -- the sizes of a script's list, whose limits are the number of IRPs where none is given
 abbrev pub limits_or_all : ℕ → ℕ → Option ℕ → Option ℕ → Limits

@@ -53,9 +53,9 @@ abbrev pub counts_text : Bool → Totals → Option Duration → List ℕ
 counts_text busy t took = states_text t ++ completions_text busy t ++ calls_text busy t ++ time_text took
 
 -- what is told of a run
-abbrev pub told_text : Bool → Bool → Totals → Option Duration → List ℕ
-told_text false busy t took = totals_text t
-told_text true busy t took = totals_text t ++ counts_text busy t took
+abbrev pub reported_text : Bool → Bool → Totals → Option Duration → List ℕ
+reported_text false busy t took = totals_text t
+reported_text true busy t took = totals_text t ++ counts_text busy t took
 
 -- the plan has busy workers
 abbrev pub has_busy : Plan → Bool

@@ -2,7 +2,7 @@
 ghost use Rattle.std.specs.Prelude.{◌≡◌, ◌≤◌, codes, IfErr, IfOk, IfSome};
 ghost use Rattle.irp_core.specs.Runs.{IsInLimits};
 ghost use Rattle.csq_list.specs.AnyLists.{is_chained};
-ghost use Rattle.csq_program.specs.Jobs.{AreTooMany, IsFlag, IsInRange, IsJobOf, IsLimit, IsNumberOption, IsRefusalOf, IsSource, TellsJobFlag, TellsNumbers, TellsSource, fault_number};
+ghost use Rattle.csq_program.specs.Jobs.{AreTooMany, IsFlag, IsInRange, IsJobOf, IsLimit, IsNumberOption, IsRefusalOf, IsSource, ReportsJobFlag, ReportsNumbers, ReportsSource, fault_number};
 
 use crate::help::{
     ABOUT, DRAW_ABOUT, DRAW_HELP, HELP, SCHEDULE_ABOUT, SCHEDULE_HELP, SCRIPT_ABOUT, SCRIPT_HELP,
@@ -348,9 +348,9 @@ fn machine_size(options: &ArgMatches<'_>) -> (u32, u32)
 fn schedule_job<'a>(options: &ArgMatches<'a>) -> Job<'a>
     ensures range { IsInRange result }
     ensures command { IsJobOf (codes "schedule") result }
-    ensures source { TellsSource options.now result }
-    ensures flag { TellsJobFlag options.now result }
-    ensures numbers { TellsNumbers options.now result }
+    ensures source { ReportsSource options.now result }
+    ensures flag { ReportsJobFlag options.now result }
+    ensures numbers { ReportsNumbers options.now result }
 {
     let (irps, passes) = machine_size(options);
     Job::Schedule {
@@ -365,9 +365,9 @@ fn schedule_job<'a>(options: &ArgMatches<'a>) -> Job<'a>
 fn draw_job<'a>(options: &ArgMatches<'a>) -> Job<'a>
     ensures range { IsInRange result }
     ensures command { IsJobOf (codes "draw") result }
-    ensures source { TellsSource options.now result }
-    ensures flag { TellsJobFlag options.now result }
-    ensures numbers { TellsNumbers options.now result }
+    ensures source { ReportsSource options.now result }
+    ensures flag { ReportsJobFlag options.now result }
+    ensures numbers { ReportsNumbers options.now result }
 {
     let (irps, passes) = machine_size(options);
     Job::Draw {
@@ -381,9 +381,9 @@ fn draw_job<'a>(options: &ArgMatches<'a>) -> Job<'a>
 fn script_job<'a>(options: &ArgMatches<'a>) -> Job<'a>
     ensures range { IsInRange result }
     ensures command { IsJobOf (codes "script") result }
-    ensures source { TellsSource options.now result }
-    ensures flag { TellsJobFlag options.now result }
-    ensures numbers { TellsNumbers options.now result }
+    ensures source { ReportsSource options.now result }
+    ensures flag { ReportsJobFlag options.now result }
+    ensures numbers { ReportsNumbers options.now result }
 {
     Job::Script {
         source: source_in(options),
@@ -401,9 +401,9 @@ fn script_job<'a>(options: &ArgMatches<'a>) -> Job<'a>
 fn job_of<'a>(name: &str, options: &ArgMatches<'a>) -> Result<Job<'a>, TooManyBusyWorkers>
     ensures range { IfOk result IsInRange }
     ensures command { IfOk result (IsJobOf name.now) }
-    ensures source { IfOk result (TellsSource options.now) }
-    ensures flag { IfOk result (TellsJobFlag options.now) }
-    ensures numbers { IfOk result (TellsNumbers options.now) }
+    ensures source { IfOk result (ReportsSource options.now) }
+    ensures flag { IfOk result (ReportsJobFlag options.now) }
+    ensures numbers { IfOk result (ReportsNumbers options.now) }
     ensures refused { IfErr result (λ refused. (name.now ≡ codes "run")
         × AreTooMany options.now refused.busy_workers refused.left) }
 {

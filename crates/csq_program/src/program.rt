@@ -67,7 +67,7 @@ where
 {
     match read_words(rt) {
         Ok(words) => run_words(rt, words.as_slice()),
-        Err(fault) => tell_command_fault(rt, fault),
+        Err(fault) => report_command_fault(rt, fault),
     }
 }
 
@@ -78,13 +78,13 @@ where
 {
     match read_command(rt.alloc(), words) {
         Ok(job) => run_job(rt, job),
-        Err(fault) => tell_command_fault(rt, fault),
+        Err(fault) => report_command_fault(rt, fault),
     }
 }
 
 /// Prints why a command line was refused, or the help that it asks for. A refusal that can't be written is
 /// one all the same; a help that can't be written is a fault.
-fn tell_command_fault<R: Print + Eprint>(rt: &R, fault: CommandFault) -> Result<u8, ProgramFault> {
+fn report_command_fault<R: Print + Eprint>(rt: &R, fault: CommandFault) -> Result<u8, ProgramFault> {
     match fault {
         CommandFault::Memory => Err(ProgramFault::from(AllocError)),
         CommandFault::Refused(error) => {

@@ -5,7 +5,7 @@ ghost use Rattle.csq_list.specs.Listing.{IsFresh};
 ghost use Rattle.csq_list.specs.declared.refusals.ListNew.TheVariants.{BadSize};
 ghost use Rattle.csq_words.specs.Queue.{limits_of};
 ghost use Rattle.csq_program.specs.declared.program.ProgramFault.TheVariants.{Replay};
-ghost use Rattle.csq_program.specs.Replays.{TellsSchedule, TellsScript, limits_or_all};
+ghost use Rattle.csq_program.specs.Replays.{ReportsSchedule, ReportsScript, limits_or_all};
 
 use crate::program::{ProgramFault, REFUSED};
 use crate::source::Source;
@@ -33,7 +33,7 @@ struct ScheduleOptions {
 }
 
 /// Answers a schedule, and explains each line of the answer where that is asked for.
-fn tell_schedule<R: Read, W: Write>(
+fn report_schedule<R: Read, W: Write>(
     alloc: Global,
     options: ScheduleOptions,
     reader: &mut R,
@@ -41,7 +41,7 @@ fn tell_schedule<R: Read, W: Write>(
 ) -> Result<Ended, SimFault>
     requires { IsInLimits (record { irps = options.irps; passes = options.passes; first = 0 }) }
     ensures { IfOk result
-        (TellsSchedule (record { irps = options.irps; passes = options.passes; first = 0 })
+        (ReportsSchedule (record { irps = options.irps; passes = options.passes; first = 0 })
         options.claims options.explain
         (R.remaining reader.old) (R.remaining reader.new) (W.contents writer.old) (W.contents writer.new)) }
 {
@@ -79,9 +79,9 @@ pub(crate) fn run_schedule<R: AllocGlobal + Print + Eprint + Input + Files>(
     let mut reader = input.as_slice();
     let mut text = Vec::new(rt.alloc());
     // All is kept in memory until the diagnosis is there too, so that nothing is written where memory is refused.
-    let ended = tell_schedule(rt.alloc(), options, &mut reader, &mut text);
-    let told = diagnosis_of_schedule(rt.alloc(), irps, passes, &input, ended)?;
-    finish(rt, source, ended, &text, &told)
+    let ended = report_schedule(rt.alloc(), options, &mut reader, &mut text);
+    let reported = diagnosis_of_schedule(rt.alloc(), irps, passes, &input, ended)?;
+    finish(rt, source, ended, &text, &reported)
 }
 
 /// Draws a schedule, as text or as an SVG picture.
@@ -102,8 +102,8 @@ pub(crate) fn run_drawing<R: AllocGlobal + Print + Eprint + Input + Files>(
     } else {
         draw_schedule(rt.alloc(), irps, passes, &mut reader, &mut drawn)
     };
-    let told = diagnosis_of_schedule(rt.alloc(), irps, passes, &input, ended)?;
-    finish(rt, source, ended, &drawn, &told)
+    let reported = diagnosis_of_schedule(rt.alloc(), irps, passes, &input, ended)?;
+    finish(rt, source, ended, &drawn, &reported)
 }
 
 /// Why a schedule ended, if a line ended it.
@@ -116,15 +116,15 @@ fn diagnosis_of_schedule(
 ) -> Result<Vec<u8>, AllocError>
     requires { IsInLimits (record { irps = irps; passes = passes; first = 0 }) }
 {
-    let mut told = Vec::new(alloc);
+    let mut reported = Vec::new(alloc);
     if let Ok(Ended::Stopped) = ended {
         let mut reader = input;
-        match diagnose_schedule(alloc, irps, passes, &mut reader, &mut told) {
+        match diagnose_schedule(alloc, irps, passes, &mut reader, &mut reported) {
             Ok(_) => {}
             Err(_) => return Err(AllocError),
         }
     }
-    Ok(told)
+    Ok(reported)
 }
 
 /// Why a script ended, if a line ended it.
@@ -133,15 +133,15 @@ fn diagnosis_of_script(
     input: &[u8],
     ended: Result<Ended, SimFault>,
 ) -> Result<Vec<u8>, AllocError> {
-    let mut told = Vec::new(alloc);
+    let mut reported = Vec::new(alloc);
     if let Ok(Ended::Stopped) = ended {
         let mut reader = input;
-        match diagnose_script(alloc, &mut reader, &mut told) {
+        match diagnose_script(alloc, &mut reader, &mut reported) {
             Ok(_) => {}
             Err(_) => return Err(AllocError),
         }
     }
-    Ok(told)
+    Ok(reported)
 }
 
 /// Writes an answer, and on standard error why a line ended the handling, and gives the exit status. Both were
@@ -152,7 +152,7 @@ fn finish<R: Print + Eprint>(
     source: Source<'_>,
     ended: Result<Ended, SimFault>,
     text: &[u8],
-    told: &[u8],
+    reported: &[u8],
 ) -> Result<u8, ProgramFault>
     ensures memory { IfErr ended (λ _. result ≡ Err (Replay SimFault.Memory)) }
 {
@@ -162,8 +162,8 @@ fn finish<R: Print + Eprint>(
     if rt.write_all(text).is_err() {
         return Err(ProgramFault::Replay(SimFault::Write));
     }
-    if let (Ended::Stopped, Ok(told)) = (ended, str::from_utf8(told)) {
-        let _ = eprint!(rt; "csqsim: {source}{told}");
+    if let (Ended::Stopped, Ok(reported)) = (ended, str::from_utf8(reported)) {
+        let _ = eprint!(rt; "csqsim: {source}{reported}");
     }
     Ok(exit_status(ended))
 }
@@ -207,7 +207,7 @@ fn file_limits_of<A: Allocator>(
 }
 
 /// Answers a script over a fresh list, and explains each line of the answer where that is asked for.
-fn tell_script<L: PendingList + Drop, R: Read, W: Write>(
+fn report_script<L: PendingList + Drop, R: Read, W: Write>(
     alloc: Global,
     list: L,
     explain: bool,
@@ -216,7 +216,7 @@ fn tell_script<L: PendingList + Drop, R: Read, W: Write>(
 ) -> Result<Ended, SimFault>
     requires fresh { IsFresh (L.listing list) }
     requires irps { (1 ≤ (L.listing list).irps) × ((L.listing list).irps ≤ 1024) }
-    ensures { IfOk result (TellsScript (limits_of 1 0 (L.listing list)) explain
+    ensures { IfOk result (ReportsScript (limits_of 1 0 (L.listing list)) explain
         (R.remaining reader.old) (R.remaining reader.new) (W.contents writer.old) (W.contents writer.new)) }
 {
     if explain {
@@ -265,7 +265,7 @@ fn run_script<L: PendingList + Drop, R: AllocGlobal + Print + Eprint + Input + F
         Ok(list) => run_list(rt, source, list, explain),
         Err(ListNew::Memory) => Err(ProgramFault::from(AllocError)),
         Err(ListNew::BadSize) => {
-            tell_bad_size(rt, limits);
+            report_bad_size(rt, limits);
             Ok(REFUSED)
         }
     }
@@ -284,9 +284,9 @@ fn run_list<L: PendingList + Drop, R: AllocGlobal + Print + Eprint + Input + Fil
     let input = source.read(rt)?;
     let mut reader = input.as_slice();
     let mut text = Vec::new(rt.alloc());
-    let ended = tell_script(rt.alloc(), list, explain, &mut reader, &mut text);
-    let told = diagnosis_of_script(rt.alloc(), &input, ended)?;
-    finish(rt, source, ended, &text, &told)
+    let ended = report_script(rt.alloc(), list, explain, &mut reader, &mut text);
+    let reported = diagnosis_of_script(rt.alloc(), &input, ended)?;
+    finish(rt, source, ended, &text, &reported)
 }
 
 /// A limit that is above the number of IRPs.
@@ -313,7 +313,7 @@ impl fmt::Display for HighLimit<'_> {
 }
 
 /// Says on standard error that the size is refused, and which limits are above the number of IRPs.
-fn tell_bad_size<R: Eprint>(rt: &R, limits: Limits) {
+fn report_bad_size<R: Eprint>(rt: &R, limits: Limits) {
     let Limits {
         irps,
         limit,

@@ -1,6 +1,6 @@
 //! The command line of a run.
 ghost use Rattle.std.specs.Prelude.{◌≤◌, codes, IfErr, IfOk};
-ghost use Rattle.csq_program.specs.Jobs.{ArePlanned, AreTooMany, IsCountOption, IsInRange, IsJobOf, TellsJobFlag, TellsNumbers, TellsSource};
+ghost use Rattle.csq_program.specs.Jobs.{ArePlanned, AreTooMany, IsCountOption, IsInRange, IsJobOf, ReportsJobFlag, ReportsNumbers, ReportsSource};
 
 use crate::command::{
     Job, NumberOption, files_option, irps_option, list_kind, number_command, number_in, with_flag,
@@ -135,9 +135,9 @@ fn plan_in(options: &ArgMatches<'_>) -> Result<Plan, TooManyBusyWorkers>
 pub(crate) fn device_job<'a>(options: &ArgMatches<'a>) -> Result<Job<'a>, TooManyBusyWorkers>
     ensures range { IfOk result IsInRange }
     ensures command { IfOk result (IsJobOf (codes "run")) }
-    ensures source { IfOk result (TellsSource options.now) }
-    ensures flag { IfOk result (TellsJobFlag options.now) }
-    ensures numbers { IfOk result (TellsNumbers options.now) }
+    ensures source { IfOk result (ReportsSource options.now) }
+    ensures flag { IfOk result (ReportsJobFlag options.now) }
+    ensures numbers { IfOk result (ReportsNumbers options.now) }
     ensures refused { IfErr result (λ refused. AreTooMany options.now refused.busy_workers
         refused.left) }
 {

@@ -1,6 +1,6 @@
 //! The text of a device's totals.
 ghost use Rattle.std.specs.Prelude.{◌≡◌, ◌++◌, codes, if◌then◌else◌, string_bytes, OnOk};
-ghost use Rattle.csq_program.specs.Totals.{line_if, totals_text, states_text, completions_text, calls_text, time_text, told_text};
+ghost use Rattle.csq_program.specs.Totals.{line_if, totals_text, states_text, completions_text, calls_text, time_text, reported_text};
 
 use csq_device::Totals;
 use std::alloc::{AllocError, Allocator};
@@ -142,7 +142,7 @@ pub(crate) fn write_run<A: Allocator>(
     text: &mut String<A>,
 ) -> Result<(), AllocError>
     ensures { OnOk result (string_bytes text.new
-        ≡ string_bytes text.old ++ told_text all busy totals.now took) }
+        ≡ string_bytes text.old ++ reported_text all busy totals.now took) }
 {
     write_totals(totals, text)?;
     if !all {

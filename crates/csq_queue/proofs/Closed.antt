@@ -1,6 +1,6 @@
 -- Once a file is closed, no event lists an IRP for it.
 use Rattle.std.proofs.Common.{◌≡◌, ℕ, suc, ◌≤◌, ◌<◌, ◌==◌, not, ◌&&◌, ◌||◌, cond, Bool, true, false, true≢false, List, [], ◌∷◌, ◌++◌, length, filter, Some, None, refl, sym, ap, ◌∙◌, subst, eqb-true, arith}
-use Rattle.csq_queue.proofs.Imports.{or_right, and_parts, same_irp, IrpLife, FileId, IrpId, same_irp-refl, same_some, Peek, File, Place, put_at, renewed, same_file, FileClosed, no_cause, Entry, Event, FlagSeen, Mark, Insert, RemoveNext, Remove, Out, CloseFile, Reuse, PutBack, Pending, Cancelled, Refused, IsLegal, MayCome, end_of, Queued, QueueState, Limits, current, has_irp, has_file, marking, without, first_unmarked, refusal, back_refusal, after_event, new_entry, plain_listing, none_head, none_both, none_marking}
+use Rattle.csq_queue.proofs.Imports.{or_right, and_parts, same_irp, IrpLife, FileId, IrpId, same_irp-refl, same_some, Peek, File, Place, put_at, renewed, same_file, FileClosed, no_cause, Entry, Event, FlagSeen, Mark, Insert, RemoveNext, Remove, Out, CloseFile, Reuse, PutBack, Pending, Cancelled, Refused, IsLegal, MayCome, end_of, Queued, QueueState, Limits, present_in, has_irp, has_file, marking, without, first_unmarked, refusal, back_refusal, after_event, new_entry, plain_listing, none_head, none_both, none_marking}
 use Rattle.csq_list.specs.declared.entry.Place.TheVariants.{Back, Front}
 use Rattle.csq_queue.proofs.Crowding.{pending_none}
 
@@ -64,7 +64,7 @@ none_put_at f g Back i es d h = none_both (File f) es (new_entry i g ∷ []) h (
 none_after : (l : Limits) (q : QueueState) (e : Event) (f : FileId) → MayCome l q e → has_file q.closed f ≡ true → first_unmarked (File f) q.entries ≡ None → first_unmarked (File f) (after_event q e).entries ≡ None
 none_after l q (FlagSeen i) f may c h = h
 none_after l q (Mark i) f may c h = none_marking (File f) i q.entries h
-none_after l q (Insert n g place Pending) f may c h = none_put_at f g place (current q n) q.entries (other_file l q n g f (pending_none (refusal l q n g) (has_irp q.flags (current q n)) may) c) h
+none_after l q (Insert n g place Pending) f may c h = none_put_at f g place (present_in q n) q.entries (other_file l q n g f (pending_none (refusal l q n g) (has_irp q.flags (present_in q n)) may) c) h
 none_after l q (Insert n g place Cancelled) f may c h = h
 none_after l q (Insert n g place (Refused cause)) f may c h = h
 none_after l q (PutBack i g place Pending) f may c h = none_put_at f g place i q.entries (other_again l q i g f (pending_none (back_refusal l q i g) (has_irp q.flags i) may.2) c) h
@@ -138,7 +138,7 @@ count_after : (l : Limits) (q : QueueState) (e : Event) (f : FileId) → MayCome
 count_after l q (FlagSeen i) f may c = omega arith
 count_after l q (Mark i) f may c = let same = count_marking f i q.entries in omega arith
 count_after l q (Insert n g place Pending) f may c =
-    let same = count_placed f place (new_entry (current q n) g) q.entries (other_file l q n g f (pending_none (refusal l q n g) (has_irp q.flags (current q n)) may) c) in omega arith
+    let same = count_placed f place (new_entry (present_in q n) g) q.entries (other_file l q n g f (pending_none (refusal l q n g) (has_irp q.flags (present_in q n)) may) c) in omega arith
 count_after l q (Insert n g place Cancelled) f may c = omega arith
 count_after l q (Insert n g place (Refused cause)) f may c = omega arith
 count_after l q (PutBack i g place Pending) f may c =

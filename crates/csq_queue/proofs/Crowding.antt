@@ -1,6 +1,6 @@
 -- In the queue of one thread that a legal history leaves no more is listed than there are IRPs.
 use Rattle.std.proofs.Common.{◌≡◌, ℕ, ◌<◌, ◌≤◌, ◌==◌, ◌||◌, not, Bool, true, false, true≢false, List, [], ◌∷◌, length, map, Option, Some, None, refl, sym, ap, ◌∙◌, subst, ◌⊎◌, inl, inr, eqb-true}
-use Rattle.csq_queue.proofs.Imports.{and_parts, or_cases, or_right, not-true, length-map, life_of, same_irp, same_id, IrpLife, FileId, IrpId, same_irp-eq, same_id-refl, Place, InsertStatus, NotHome, no_cause, sound-accepted, IsSound, inserted, renewed, is_listed, is_distinct, filter-none, unused-unlisted, sound-fresh, sound-removed, sound-renewed, Entry, Event, FlagSeen, Mark, Insert, RemoveNext, Remove, Out, CloseFile, Reuse, PutBack, Pending, Cancelled, Refused, irp_eq, IsLegal, IsGone, MayCome, end_of, Queued, QueueState, Limits, current, has_irp, has_file, has_entry, without, plain, new_entry, plain_listing, refusal, reply_to_insert, after_event, back_refusal, ArePresent, HasSoundLives, legal_lives, is_listed-plain, listing-inserted, listing-marked, listing-removed, listing-taken_back, listing-renewed, listing-put_back, has_life, AreApart}
+use Rattle.csq_queue.proofs.Imports.{and_parts, or_cases, or_right, not-true, length-map, life_of, same_irp, same_id, IrpLife, FileId, IrpId, same_irp-eq, same_id-refl, Place, InsertStatus, NotHome, no_cause, sound-accepted, IsSound, inserted, renewed, is_listed, is_distinct, filter-none, unused-unlisted, sound-fresh, sound-removed, sound-renewed, Entry, Event, FlagSeen, Mark, Insert, RemoveNext, Remove, Out, CloseFile, Reuse, PutBack, Pending, Cancelled, Refused, irp_eq, IsLegal, IsGone, MayCome, end_of, Queued, QueueState, Limits, present_in, has_irp, has_file, has_entry, without, plain, new_entry, plain_listing, refusal, reply_to_insert, after_event, back_refusal, ArePresent, HasSoundLives, legal_lives, is_listed-plain, listing-inserted, listing-marked, listing-removed, listing-taken_back, listing-renewed, listing-put_back, has_life, AreApart}
 use Rattle.csq_queue.proofs.Counting.{apart_most}
 
 -- an insert is pending, or finds its IRP cancelled, only where no cause refuses it
@@ -32,27 +32,27 @@ module _ (l : Limits) (u : QueueState) (lives : HasSoundLives u) (sound : IsSoun
 
   -- and as an IRP is listed
   module _ (n : IrpId) (f : FileId) (accepted : refusal l u n f ≡ None) (place : Place) where
-    sound_listed : IsSound (inserted place (plain (new_entry (current u n) f)) (plain_listing l u))
-    sound_listed = sound-accepted (plain_listing l u) sound place (plain (new_entry (current u n) f)) accepted
+    sound_listed : IsSound (inserted place (plain (new_entry (present_in u n) f)) (plain_listing l u))
+    sound_listed = sound-accepted (plain_listing l u) sound place (plain (new_entry (present_in u n) f)) accepted
 
-    absent : has_entry u.entries (current u n) ≡ false
-    absent = sym (is_listed-plain u.lives (current u n) refl u.entries lives.entries) ∙ unused-unlisted (plain_listing l u) sound n (no_cause (plain_listing l u) n f accepted NotHome)
+    absent : has_entry u.entries (present_in u n) ≡ false
+    absent = sym (is_listed-plain u.lives (present_in u n) refl u.entries lives.entries) ∙ unused-unlisted (plain_listing l u) sound n (no_cause (plain_listing l u) n f accepted NotHome)
 
   sound_event : (e : Event) → MayCome l u e → IsSound (plain_listing l (after_event u e))
   sound_event (FlagSeen i) may = sound
   sound_event (Mark i) may = subst IsSound (listing-marked l u i) sound
   sound_event (Insert n f place Pending) may =
-      let accepted = pending_none (refusal l u n f) (has_irp u.flags (current u n)) may in
+      let accepted = pending_none (refusal l u n f) (has_irp u.flags (present_in u n)) may in
       subst IsSound (listing-inserted l u n f place) (sound_listed n f accepted place)
   sound_event (Insert n f place Cancelled) may =
-      let accepted = cancelled_none (refusal l u n f) (has_irp u.flags (current u n)) may in
-      subst IsSound (listing-taken_back l u n f place lives.entries (absent n f accepted place)) (sound-removed (inserted place (plain (new_entry (current u n) f)) (plain_listing l u)) (sound_listed n f accepted place) n)
+      let accepted = cancelled_none (refusal l u n f) (has_irp u.flags (present_in u n)) may in
+      subst IsSound (listing-taken_back l u n f place lives.entries (absent n f accepted place)) (sound-removed (inserted place (plain (new_entry (present_in u n) f)) (plain_listing l u)) (sound_listed n f accepted place) n)
   sound_event (Insert n f place (Refused cause)) may = sound
   sound_event (PutBack i f place Pending) may =
       let accepted = pending_none (back_refusal l u i f) (has_irp u.flags i) may.2 in
       let gone : IsGone u i = may.0 in
-      let same : current u i.irp ≡ i = irp_eq (current u i.irp) i refl (sym gone.2) in
-      let unlisted = is_listed-plain u.lives (current u i.irp) refl u.entries lives.entries ∙ (ap (has_entry u.entries) same ∙ gone.1) in
+      let same : present_in u i.irp ≡ i = irp_eq (present_in u i.irp) i refl (sym gone.2) in
+      let unlisted = is_listed-plain u.lives (present_in u i.irp) refl u.entries lives.entries ∙ (ap (has_entry u.entries) same ∙ gone.1) in
       subst IsSound (listing-put_back l u i f place same gone.0) (sound-accepted (renewed i.irp (plain_listing l u)) (sound-renewed (plain_listing l u) sound i.irp unlisted) place (plain (new_entry i f)) accepted)
   sound_event (PutBack i f place Cancelled) may = sound
   sound_event (PutBack i f place (Refused cause)) may = sound
@@ -74,7 +74,7 @@ module _ (l : Limits) (u : QueueState) (lives : HasSoundLives u) (sound : IsSoun
       at : (g : FileId) → ((f.0 == g.0) ≡ true) ⊎ (has_file u.closed g ≡ true) → g.0 < l.files
       at g (inl h) = subst (λ (m : ℕ). m < l.files) (eqb-true f.0 g.0 h) may
       at g (inr h) = sound.closed_known g h
-  sound_event (Reuse n life) may = subst IsSound (listing-renewed l u n lives) (sound-renewed (plain_listing l u) sound n (is_listed-plain u.lives (current u n) refl u.entries lives.entries ∙ may.1))
+  sound_event (Reuse n life) may = subst IsSound (listing-renewed l u n lives) (sound-renewed (plain_listing l u) sound n (is_listed-plain u.lives (present_in u n) refl u.entries lives.entries ∙ may.1))
 
 sound_later : (l : Limits) (h : List Entry) → IsLegal l h → IsSound (plain_listing l (end_of l.first h))
 sound_later l [] legal = sound-fresh l.irps l.files l.limit l.file_limits

@@ -18,7 +18,7 @@ pub use Rattle.csq_queue.specs.Owned.{EndsWithTake, Holds, HoldsRemoved, MissedT
 pub use Rattle.csq_queue.specs.Rests.{AreOut, FirstAreBack, GivenBack, HasShown, IsClosed, IsLeftCompleted, IsLeftHome, IsLeftListed, IsLeftSo, IsRestOf, KeepsRecord}
 pub use Rattle.csq_queue.specs.Searches.{IsSearch, marked}
 pub use Rattle.csq_queue.specs.Steps.{MakesSteps, gave, insert_steps, last_step, life_before, listing_steps, made_by, misses, passed_over, put_back_steps, remove_next_steps, remove_steps, reuse_steps}
-pub use Rattle.csq_queue.specs.Told.{AddsEvents, IsNew, SeesRun, count_given, queue_with}
+pub use Rattle.csq_queue.specs.Effects.{AddsEvents, IsNew, SeesRun, count_given, queue_with}
 pub use Rattle.csq_queue.specs.declared.tokens.InsertAnswer.{InsertAnswer}
 pub use Rattle.csq_words.proofs.Facts.{bit_true, extended_more, held_gone, listed_now, none_filtered, open_now, owed_listed, set_listed}
 unfoldable pub use Rattle.csq_words.proofs.Facts.{extended_on}
@@ -30,7 +30,7 @@ pub use Rattle.csq_words.proofs.Named.{by_id, irp_eq, same_id-is, same_id-not, s
 pub use Rattle.csq_words.specs.Calls.{IsNextMatch, MayComeBack, MayMake, MayRemove, after_look, after_renewal, after_step, due_mark, with_noted}
 pub use Rattle.csq_words.specs.Finals.{AllBack, FinalWords, IsCompletedAt, IsFinal, IsHomeAt, IsLeft, IsListedAt, final_life, final_status}
 pub use Rattle.csq_words.specs.History.{IsExtendedBy, IsGone, IsLegal, MayCome, calls_of, end_of, is_call}
-pub use Rattle.csq_words.specs.Queue.{Limits, QueueState, Queued, after_event, back_refusal, begin_next, current, first_unmarked, has_entry, has_file, has_irp, has_marked, has_unmarked, limits_of, marking, new_entry, plain, plain_listing, refusal, reply_to_insert, with_file, without}
+pub use Rattle.csq_words.specs.Queue.{Limits, QueueState, Queued, after_event, back_refusal, begin_next, present_in, first_unmarked, has_entry, has_file, has_irp, has_marked, has_unmarked, limits_of, marking, new_entry, plain, plain_listing, refusal, reply_to_insert, with_file, without}
 pub use Rattle.csq_words.specs.Records.{caught_up, entries_of, new_pass, only_calls, queue_of, saw, with_back, with_calls, with_completion, with_events, with_life, with_reusing, with_run, with_shown, with_step}
 pub use Rattle.csq_words.specs.Rule.{AreShown, FindsLife, FindsUnset, HasBack, IsHistoryOf, IsLastOf, QueueAndPassHaveRun, RecordsAgree, SomeRunAgrees, again, in_flight, inserts, is_done, lists, next_life}
 pub use Rattle.csq_words.specs.Seats.{PassSeatState, QueueSeatState, WordsState, joined_record, new_seats, pass_at, pass_record, with_view}

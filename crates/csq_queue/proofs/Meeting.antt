@@ -28,16 +28,16 @@ own_between p first then last one two same =
 -- a pass that took no step since an earlier time sees what was observed since
 pub caught_up_sees : (size : Size) (q : QueueRecord) (r : PassRecord) → inside_of r.steps ≡ Nothing → r.steps ≡ own r.pass r.run → IsExtendedBy r.run q.run → IsHistoryOf size q.run q Nothing → SomeRunAgrees size q r
     → SeesRun size (caught_up q r)
-caught_up_sees size q r outside steps since history told =
-    let mine = told.1.pass_is in
-    let between = own_between r.pass r.run q.run told.0 since told.1.seen (sym steps ∙ mine.steps_is) in
+caught_up_sees size q r outside steps since history agreed =
+    let mine = agreed.1.pass_is in
+    let between = own_between r.pass r.run q.run agreed.0 since agreed.1.seen (sym steps ∙ mine.steps_is) in
     sees_run size q.run q r record {
       history_is = same_flight size q.run q Nothing (in_flight (Some r)) (λ i. (sym (ap (λ s. lists s i) outside), sym (ap (λ s. inserts s i) outside), sym (ap (λ s. again s i) outside))) history;
       pass_is = record { seen_is = mine.seen_is; mine_is = mine.mine_is; steps_is = steps ∙ sym between; completed_is = mine.completed_is; run_is = since };
-      callers = told.1.callers;
+      callers = agreed.1.callers;
       seen = ([], refl);
     } outside
 
 -- what a pass that is inside no program has observed agrees with the history
 pub observed_history : (size : Size) (run : List Made) (q : QueueRecord) (r : PassRecord) → inside_of r.steps ≡ Nothing → RecordsAgree size run q r → IsHistoryOf size run q Nothing
-observed_history size run q r outside told = same_flight size run q (in_flight (Some r)) Nothing (λ i. (ap (λ s. lists s i) outside, ap (λ s. inserts s i) outside, ap (λ s. again s i) outside)) told.history_is
+observed_history size run q r outside agreed = same_flight size run q (in_flight (Some r)) Nothing (λ i. (ap (λ s. lists s i) outside, ap (λ s. inserts s i) outside, ap (λ s. again s i) outside)) agreed.history_is

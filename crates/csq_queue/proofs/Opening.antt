@@ -40,10 +40,10 @@ module _ (w : WordsState) (s : Listing) (seat : QueueSeatState) (flags : List Bo
   pub own_adds : (r new : PassRecord) (entered seat' : QueueSeatState) → entered ≡ record seat { joined = Some r } → SomeRunAgrees w.size seat.queue r → new ≡ caught_up (with_run new.run seat'.queue) (joined_record seat')
       → RecordsAgree w.size new.run (with_run new.run seat'.queue) (joined_record seat')
       → inside_of (joined_record seat').steps ≡ Nothing → (events : List Event) (s' : Listing) (kept : IrpNumbers) → Adds (limits_on w s) entered events s' kept seat' → AddsEvents q.limits q.queue.history r new events
-  own_adds r new entered seat' e told new_is look outside events s' kept a =
+  own_adds r new entered seat' e agreed new_is look outside events s' kept a =
       subst (λ (l : Limits). AddsEvents l q.queue.history r new events) limits_are
       (left_adds (limits_on w s) q.queue r entered seat' (ap (λ (z : QueueSeatState). z.queue) e ∙ ap (λ (z : OpenState). z.queue) is) (ap joined_record e) events s' kept a
-      (sym (ap (λ (z : OpenState). z.queue.first) is) ∙ ap (λ (l : Limits). l.first) limits_at) (subst (λ (z : OpenState). SomeRunAgrees w.size z.queue r) is told) new new_is look outside)
+      (sym (ap (λ (z : OpenState). z.queue.first) is) ∙ ap (λ (l : Limits). l.first) limits_at) (subst (λ (z : OpenState). SomeRunAgrees w.size z.queue r) is agreed) new new_is look outside)
 
 module _ (t : TableId) (l : Limits) (s : Listing) (kept : IrpNumbers) (seat : QueueSeatState) (flags : List Bool) (h : IsLockedOf t l s kept seat flags) where
   own_limits : limits_of (length flags) seat.queue.first s ≡ l

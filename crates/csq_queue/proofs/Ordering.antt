@@ -7,7 +7,7 @@ use Rattle.csq_words.proofs.OneHistory.{one_begins}
 use Rattle.csq_words.proofs.Placing.{own_entry, in_order}
 use Rattle.csq_queue.specs.Cleanups.{SeesCalls}
 use Rattle.csq_queue.specs.Order.{LockedCall, entries, ComesBefore, StandBefore, CallsAreOrdered, CallsComeAfterWhatWasSeen, StepsComeAfterWhatWasSeen, CallsToldOfCameFirst, EventsLeftStandInOrder, EventsOfAnOpenQueueStandInOrder}
-use Rattle.csq_queue.proofs.Telling.{closing_see}
+use Rattle.csq_queue.proofs.StoriesLeft.{closing_see}
 use Rattle.csq_queue.proofs.Meeting.{own-append, none_added}
 
 module _ {limits : Limits} where

@@ -24,7 +24,7 @@ use Rattle.csq_words.specs.Calls.{due_mark}
 use Rattle.csq_words.specs.History.{end_of}
 use Rattle.irp_core.specs.Own.{owes_in, holds_in, removed_in, held_list, owed_list}
 use Rattle.csq_words.specs.Plays.{IsFlagOf, IsStatusOf, flag_read, status_read, shows_flagged, status_recorded}
-use Rattle.csq_words.specs.Queue.{Limits, current, refusal, back_refusal}
+use Rattle.csq_words.specs.Queue.{Limits, present_in, refusal, back_refusal}
 use Rattle.csq_words.specs.declared.views.Prefix.{Prefix}
 use Rattle.csq_words.specs.Records.{saw, saw_prefix, prefix_of, with_step, with_completion}
 use Rattle.csq_words.specs.Rule.{FindsUnset, SeesPrefix}
@@ -40,7 +40,7 @@ use Rattle.csq_queue.specs.Owned.{Holds, HoldsRemoved, Owes, EndsWithTake, Misse
 use Rattle.csq_queue.specs.Refusals.{reuse_events, IsReuseRefusal, IsCancelRefusal}
 use Rattle.csq_queue.specs.Searches.{marked}
 use Rattle.csq_queue.specs.Steps.{MakesSteps, insert_steps, put_back_steps, remove_next_steps, remove_steps, reuse_steps}
-use Rattle.csq_queue.specs.Told.{AddsEvents, IsNew, count_given}
+use Rattle.csq_queue.specs.Effects.{AddsEvents, IsNew, count_given}
 
 -- the file object that i was accepted for, at the end of this history
 abbrev pub file_at : Limits → List Entry → IrpLife → FileId
@@ -48,7 +48,7 @@ file_at limits history i = (end_of limits.first history).file_of i.irp
 
 -- an insert: it queued the IRP, or found it cancelled and gave it back, which the pass holds then, or refused it for the first cause
 pub record Inserts (irp : IrpId) (file : FileId) (place : Place) (answer : Result (InsertAnswer IrpLife IrpLife) InsertStatus) (limits : Limits) (history : List Entry) (p p' : PassRecord) : Type 0 where
-  pub accepted : IfOk answer (λ inserted. (events : List Event) × IsInsert (current (end_of limits.first history) irp) file place inserted events × AddsEvents limits history p p' events)
+  pub accepted : IfOk answer (λ inserted. (events : List Event) × IsInsert (present_in (end_of limits.first history) irp) file place inserted events × AddsEvents limits history p p' events)
   pub steps : MakesSteps (insert_steps answer (end_of limits.first p'.seen)) p p'
   pub new : IfSome (given_in answer) (IsNew limits p)
   pub token : IfOk answer (λ inserted. IfSome (given_by inserted) (Holds limits.irps p'))
@@ -102,7 +102,7 @@ pub record Reuses (irp : IrpId) (answer : Result Life ReuseRefused) (limits : Li
   pub unknown : answer ≡ Err reuse.UnknownIrp → p' ≡ p
   pub call : irp.0 < limits.irps → AddsEvents limits history p p' (reuse_events irp answer)
   pub steps : MakesSteps (reuse_steps irp answer) p p'
-  pub refused : irp.0 < limits.irps → IfErr answer (IsReuseRefusal (current (end_of limits.first p'.seen) irp) p p')
+  pub refused : irp.0 < limits.irps → IfErr answer (IsReuseRefusal (present_in (end_of limits.first p'.seen) irp) p p')
 
 -- a cancel up to its exchange, without the lock: the flag is set in the life named, and where the routine was there, the pass owes the IRP
 pub record MarksCancel (irp : IrpId) (life : Life) (answer : Result (Option IrpLife) CancelRefused) (size : Size) (p p' : PassRecord) : Type 0 where
@@ -141,4 +141,4 @@ pub record ReadsStatus (irp : IrpId) (answer : Result (Life × Option NtStatus) 
 -- the pass learned what another had seen: it has then seen a history and an execution that begin with this and with what it had seen itself, and nothing else is new
 pub record Learns (s : Prefix) (size : Size) (p p' : PassRecord) : Type 0 where
   pub same : p' ≡ saw_prefix (prefix_of p') p
-  pub told : SeesPrefix size s p p'
+  pub agreed : SeesPrefix size s p p'

@@ -8,7 +8,7 @@ use Rattle.csq_list.specs.declared.entry.Peek.{Peek}
 use Rattle.csq_list.specs.Listing.{Listing, file_len}
 use Rattle.csq_list.specs.Searches.{first_match, rest_after, IsStartIn}
 use Rattle.csq_words.specs.History.{end_of}
-use Rattle.csq_words.specs.Queue.{QueueState, current, plain_listing}
+use Rattle.csq_words.specs.Queue.{QueueState, present_in, plain_listing}
 use Rattle.csq_queue.specs.Opens.{OpenState}
 use Rattle.csq_queue.specs.declared.refusals.NotListed.{NotListed}
 
@@ -30,7 +30,7 @@ listed_for q f = if nat_lt f.0 q.limits.files then Some (file_len (present_listi
 
 -- the first match after a listed IRP, or from the first listed one on, in its present life
 abbrev pub next_listed : OpenState → Option IrpId → Peek → Option IrpLife
-next_listed q after peek = option_map (current (present_queue q)) (first_match peek (rest_after after (present_listing q).entries))
+next_listed q after peek = option_map (present_in (present_queue q)) (first_match peek (rest_after after (present_listing q).entries))
 
 -- a look after this IRP: refused exactly where it isn't listed
 pub record PeeksNext (after : Option IrpId) (peek : Peek) (answer : Result (Option IrpLife) NotListed) (q : OpenState) : Type 0 where

@@ -15,7 +15,7 @@ use Rattle.csq_words.specs.History.{IsExtendedBy, calls_of}
 use Rattle.csq_words.specs.Records.{entries_of}
 use Rattle.csq_words.specs.Recorded.{StandInOrder}
 use Rattle.csq_words.specs.Finals.{FinalWords}
-use Rattle.csq_queue.specs.Told.{AddsEvents}
+use Rattle.csq_queue.specs.Effects.{AddsEvents}
 use Rattle.csq_queue.specs.Cleanups.{SeesCalls}
 use Rattle.csq_queue.specs.Rests.{IsClosed, IsRestOf}
 use Rattle.csq_queue.specs.Steps.{made_by}

@@ -9,7 +9,7 @@ use Rattle.csq_words.specs.Queue.{Limits}
 use Rattle.csq_words.specs.Finals.{FinalWords}
 use Rattle.csq_words.specs.Stories.{Story, IsGivenOnce, StaysHaveStories, SeeOneHistory}
 use Rattle.csq_queue.specs.Named.{queue_size}
-use Rattle.csq_queue.specs.Told.{queue_with, SeesRun}
+use Rattle.csq_queue.specs.Effects.{queue_with, SeesRun}
 use Rattle.csq_queue.specs.Rests.{IsClosed, IsRestOf}
 
 -- in what is left of a closed queue, each IRP has a story in each life that has begun

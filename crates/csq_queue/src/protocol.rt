@@ -10,14 +10,14 @@ ghost use Rattle.csq_words.specs.declared.views.Event.TheVariants.{Insert, Remov
 ghost use Rattle.csq_words.specs.declared.views.InsertReply.TheVariants.{Refused};
 ghost use Rattle.irp_core.specs.Own.{inside_of, owes_in};
 ghost use Rattle.csq_words.specs.Calls.{due_mark};
-ghost use Rattle.csq_words.specs.Queue.{current, refusal, back_refusal};
+ghost use Rattle.csq_words.specs.Queue.{present_in, refusal, back_refusal};
 ghost use Rattle.csq_words.specs.History.{end_of};
 ghost use Rattle.csq_words.specs.Records.{queue_of, caught_up, with_run, with_step};
 ghost use Rattle.csq_words.specs.Seats.{IsJoined, joined_record, pass_at, pass_record};
 ghost use Rattle.csq_words.specs.Rule.{RecordsAgree};
 ghost use Rattle.csq_words.specs.declared.views.Reusing.TheVariants.{Nothing as IdleQueue};
 ghost use Rattle.irp_core.specs.Inside.{has_lock};
-ghost use Rattle.csq_queue.specs.Told.{IsNew};
+ghost use Rattle.csq_queue.specs.Effects.{IsNew};
 ghost use Rattle.csq_queue.specs.Steps.{MakesSteps, insert_steps, put_back_steps, remove_next_steps, remove_steps, reuse_steps};
 ghost use Rattle.csq_queue.specs.Opens.{limits_on};
 ghost use Rattle.csq_queue.specs.Adding.{IsEntered, Adds};
@@ -43,7 +43,7 @@ pub(crate) fn leave<A: Allocator>(seat: &mut QueueSeat, words: &Words<A>, pass: 
     requires joined { IsJoined seat.old }
     requires ended { has_lock (inside_of (joined_record seat.old).steps) ≡ false }
     requires idle { seat.old.queue.reusing ≡ IdleQueue }
-    requires told { RecordsAgree words.now.size seat.old.queue.run seat.old.queue
+    requires agreed { RecordsAgree words.now.size seat.old.queue.run seat.old.queue
         (joined_record seat.old) }
     ensures queue { seat.new ≡ record seat.old
         { joined = None; queue = with_run (pass_record pass.new).run seat.old.queue } }
@@ -70,7 +70,7 @@ pub(crate) fn list_irp<L: PendingList, A: Allocator>(
     requires entered { IsEntered words.now.table (limits_on words.now (L.listing list.old))
         (L.listing list.old) kept.old seat.old }
     ensures accepted { IfOk result (λ inserted. (events : List Event)
-        × IsInsert (current (queue_of seat.old.queue) irp) file place inserted events
+        × IsInsert (present_in (queue_of seat.old.queue) irp) file place inserted events
         × Adds (limits_on words.now (L.listing list.old)) seat.old events (L.listing list.new)
         kept.new seat.new) }
     ensures steps { MakesSteps (insert_steps result
@@ -83,7 +83,7 @@ pub(crate) fn list_irp<L: PendingList, A: Allocator>(
         seat.new) }
     ensures cause { IfErr result (λ cause. refusal (limits_on words.now (L.listing list.old))
         (queue_of seat.old.queue) irp file ≡ Some cause) }
-    ensures told { RecordsAgree words.now.size seat.new.queue.run seat.new.queue
+    ensures agreed { RecordsAgree words.now.size seat.new.queue.run seat.new.queue
         (joined_record seat.new) }
     ensures outside { inside_of (joined_record seat.new).steps ≡ Nothing }
 {
@@ -93,26 +93,26 @@ pub(crate) fn list_irp<L: PendingList, A: Allocator>(
         seat.note(words, call, Note::Refused(cause));
         return Err(cause);
     }
-    let current = kept.present(irp);
+    let present = kept.present(irp);
     // So that a put-back finds the file object, which the list forgets when the IRP leaves it.
     kept.set_file(irp, file);
     // The insert arms, then tests; a canceller flags, then takes. Each writes its word before it looks
     // at the other's (Dekker's pattern), so that at least one of the two sees what the other wrote.
-    seat.arm(words, call, current);
+    seat.arm(words, call, present);
     // Linearization point where the flag is clear. A flag that is set from now on is followed by a take
     // that finds the routine, unless another exchange has found it before.
     if !is_set(seat.test(words, call, irp)) {
-        return Ok(InsertAnswer::Pending(current));
+        return Ok(InsertAnswer::Pending(present));
     }
     // The flag is set: a canceller may want the IRP too. This exchange decides, and is the
     // linearization point either way. Where it finds no routine, the canceller has the IRP, and takes
     // it out under the lock.
-    if !is_set(seat.disarm(words, call, current)) {
-        return Ok(InsertAnswer::Pending(current));
+    if !is_set(seat.disarm(words, call, present)) {
+        return Ok(InsertAnswer::Pending(present));
     }
     // No canceller can get the IRP any more: this pass has to complete it.
     list.remove(irp);
-    Ok(InsertAnswer::Cancelled(current))
+    Ok(InsertAnswer::Cancelled(present))
 }
 
 /// Lists an IRP again that the joined pass got by a removal, for the file object that it was accepted for:
@@ -141,7 +141,7 @@ pub(crate) fn relist_irp<L: PendingList, A: Allocator>(
     ensures cause { IfErr result (λ cause. back_refusal
         (limits_on words.now (L.listing list.old)) (queue_of seat.old.queue) irp
         ((queue_of seat.old.queue).file_of irp.irp) ≡ Some cause) }
-    ensures told { RecordsAgree words.now.size seat.new.queue.run seat.new.queue
+    ensures agreed { RecordsAgree words.now.size seat.new.queue.run seat.new.queue
         (joined_record seat.new) }
     ensures outside { inside_of (joined_record seat.new).steps ≡ Nothing }
 {
@@ -186,18 +186,18 @@ pub(crate) fn take_match<L: PendingList, A: Allocator>(
         (joined_record seat.old) (joined_record seat.new) }
     ensures new { IfSome result (IsNew (limits_on words.now (L.listing list.old))
         (joined_record seat.old)) }
-    ensures told { RecordsAgree words.now.size seat.new.queue.run seat.new.queue
+    ensures agreed { RecordsAgree words.now.size seat.new.queue.run seat.new.queue
         (joined_record seat.new) }
     ensures outside { inside_of (joined_record seat.new).steps ≡ Nothing }
 {
     let call = Call::RemoveNext(peek);
     let mut after = None;
     'search: while let Some(next) = list.peek_next(after, peek) {
-        let current = kept.present(next);
+        let present = kept.present(next);
         // Linearization point where this finds the routine: no cancel can get the IRP any more.
-        if is_set(seat.disarm(words, call, current)) {
+        if is_set(seat.disarm(words, call, present)) {
             list.remove(next);
-            return Some(current);
+            return Some(present);
         }
         // A canceller's exchange was first, and the IRP stays listed until that canceller has the lock.
         // The search goes on behind it: what waits there is to be had.
@@ -236,7 +236,7 @@ pub(crate) fn take_one<L: PendingList, A: Allocator>(
         (joined_record seat.old) (joined_record seat.new) }
     ensures new { IfSome result (IsNew (limits_on words.now (L.listing list.old))
         (joined_record seat.old)) }
-    ensures told { RecordsAgree words.now.size seat.new.queue.run seat.new.queue
+    ensures agreed { RecordsAgree words.now.size seat.new.queue.run seat.new.queue
         (joined_record seat.new) }
     ensures outside { inside_of (joined_record seat.new).steps ≡ Nothing }
 {
@@ -272,7 +272,7 @@ pub(crate) fn take_owed<L: PendingList, A: Allocator>(
     ensures steps { (joined_record seat.new).steps
         ≡ (with_step (StepOut irp) 0 (joined_record seat.old)).steps }
     ensures known { irp.irp.0 < words.now.size.irps }
-    ensures told { RecordsAgree words.now.size seat.new.queue.run seat.new.queue
+    ensures agreed { RecordsAgree words.now.size seat.new.queue.run seat.new.queue
         (joined_record seat.new) }
     ensures outside { inside_of (joined_record seat.new).steps ≡ Nothing }
 {
@@ -298,9 +298,9 @@ pub(crate) fn renew_irp<L: PendingList, A: Allocator>(
         (reuse_events irp result) (L.listing list.new) kept.new seat.new }
     ensures steps { MakesSteps (reuse_steps irp result) (joined_record seat.old)
         (joined_record seat.new) }
-    ensures refused { IfErr result (IsLookRefusal (current (queue_of seat.new.queue) irp)
+    ensures refused { IfErr result (IsLookRefusal (present_in (queue_of seat.new.queue) irp)
         (joined_record seat.old) seat.new.queue) }
-    ensures told { RecordsAgree words.now.size seat.new.queue.run seat.new.queue
+    ensures agreed { RecordsAgree words.now.size seat.new.queue.run seat.new.queue
         (joined_record seat.new) }
     ensures outside { inside_of (joined_record seat.new).steps ≡ Nothing }
 {
@@ -313,12 +313,12 @@ pub(crate) fn renew_irp<L: PendingList, A: Allocator>(
     if life.0 == Life::LAST.0 {
         return Err(ReuseRefused::LivesSpent);
     }
-    let current = IrpLife { irp, life };
+    let present = IrpLife { irp, life };
     // The flag comes last, and is the linearization point. Until then a late cancel flags the life that
     // ends, where no routine is left to take; from then on it finds another life.
-    seat.renew_status(words, call, current);
-    seat.renew_routine(words, call, current);
-    seat.renew_cancel(words, call, current);
+    seat.renew_status(words, call, present);
+    seat.renew_routine(words, call, present);
+    seat.renew_cancel(words, call, present);
     // Still under the lock, so no call that takes it sees list, lives and words apart.
     list.renew(irp);
     kept.begin_next(irp);

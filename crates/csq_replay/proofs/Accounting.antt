@@ -1,6 +1,6 @@
 -- Each IRP that an insert accepted is accounted for.
 use Rattle.std.proofs.Common.{◌≡◌, ℕ, Bool, true, false, cond, not, ◌&&◌, ◌||◌, ◌==◌, ◌⊎◌, inl, inr, List, [], ◌∷◌, Option, Some, None, refl, ap, sym, ◌∙◌, subst}
-use Rattle.csq_replay.proofs.Imports.{or_left, or_right, and_parts, not-true, or-false, and-false, FileId, IrpId, NtStatus, CANCELLED, Kind, Arm, Test, Disarm, End, Flag, Take, Out, Done, Renew, Rearm, Made, same_irp, same_pass, IrpLife, bit, armed, holds, same_irp-refl, same_irp-eq, same_pass-refl, status_recorded, Place, Peek, File, InsertStatus, matches, Queued, Limits, plain_listing, refusal, reply_to_insert, first_unmarked, has_irp, has_entry, has_unmarked, has_marked, marking, without, new_entry, Call, Next, Mark, Routine, Complete, Close, Reply, Removed, NoIrp, Claimed, Unclaimed, Completed, Closed, Script, script_pass, new_script, present_of, after_reuse, next_step, after_steps, removal_steps, named_removal_steps, doing, completing, after_mark, Calls, Cleans, Does, refuses_insert, lists, cancels_insert, removes_next, removes, removes_none, claims, claims_none, runs_routine, has_no_claim, completes, holds_none, refuses_pending, refuses_put_back, puts_back, cancels_put_back, closes, is_stale, reuses, not_completed, lives_spent, tells_flag, tells_status, knows_no_irp, knows_no_file, none_left, one_more, calls, cancel_claimed, cancel_unclaimed, cleaned, LeadTo, AreMarked}
+use Rattle.csq_replay.proofs.Imports.{or_left, or_right, and_parts, not-true, or-false, and-false, FileId, IrpId, NtStatus, CANCELLED, Kind, Arm, Test, Disarm, End, Flag, Take, Out, Done, Renew, Rearm, Made, same_irp, same_pass, IrpLife, bit, armed, holds, same_irp-refl, same_irp-eq, same_pass-refl, status_recorded, Place, Peek, File, InsertStatus, matches, Queued, Limits, plain_listing, refusal, reply_to_insert, first_unmarked, has_irp, has_entry, has_unmarked, has_marked, marking, without, new_entry, Call, Next, Mark, Routine, Complete, Close, Reply, Removed, NoIrp, Claimed, Unclaimed, Completed, Closed, Script, script_pass, new_script, present_of, after_reuse, next_step, after_steps, removal_steps, named_removal_steps, doing, completing, after_mark, Calls, Cleans, Does, refuses_insert, lists, cancels_insert, removes_next, removes, removes_none, claims, claims_none, runs_routine, has_no_claim, completes, holds_none, refuses_pending, refuses_put_back, puts_back, cancels_put_back, closes, is_stale, reuses, not_completed, lives_spent, reports_flag, reports_status, knows_no_irp, knows_no_file, none_left, one_more, calls, cancel_claimed, cancel_unclaimed, cleaned, LeadTo, AreMarked}
 use Rattle.csq_list.specs.declared.refusals.InsertStatus.TheVariants.{NotHome}
 use Rattle.csq_list.proofs.Causes.{no_cause}
 use Rattle.csq_words.specs.declared.views.InsertReply.{InsertReply}
@@ -38,8 +38,8 @@ holds_more E (Rearm j) i n h = absurd cc
 holds_more E k i n h = h
 
 -- what an IRP was completed with stays, and one more is completed
-told_more : (completed : List Completion) (j : IrpLife) (status : NtStatus) (i : IrpLife) → (x : NtStatus) × (status_recorded i completed ≡ Some x) → (x : NtStatus) × (status_recorded i (record { irp = j; status = status } ∷ completed) ≡ Some x)
-told_more completed j status i h = go (same_irp j i)
+reported_more : (completed : List Completion) (j : IrpLife) (status : NtStatus) (i : IrpLife) → (x : NtStatus) × (status_recorded i completed ≡ Some x) → (x : NtStatus) × (status_recorded i (record { irp = j; status = status } ∷ completed) ≡ Some x)
+reported_more completed j status i h = go (same_irp j i)
   where
     go : (b : Bool) → (x : NtStatus) × (cond b (Some status) (status_recorded i completed) ≡ Some x)
     go true = (status, refl)
@@ -53,7 +53,7 @@ done_accounted s j status i (inr (inl h)) = go (same_irp j i) refl
     go : (b : Bool) → same_irp j i ≡ b → Accounted (completing j status s) i
     go true e = inr (inr (status, rw e refl))
     go false e = inr (inl (rw (e, h) refl))
-done_accounted s j status i (inr (inr h)) = inr (inr (told_more s.completed j status i h))
+done_accounted s j status i (inr (inr h)) = inr (inr (reported_more s.completed j status i h))
 
 pub done_accounts : (s : Script) (j : IrpLife) (status : NtStatus) → Accounts s → Accounts (completing j status s)
 done_accounts s j status a = record {
@@ -309,13 +309,13 @@ calls_account l s t c r (refuses_put_back n place cause known held may) a = a
 calls_account l s t c r (puts_back n place known held may) a = puts_back_accounts s a (present_of s n) (s.queue.file_of n) place may.0
 calls_account l s t c r (cancels_put_back n place known held may) a = done_accounts _ (present_of s n) CANCELLED (cancels_back_accounts s a (present_of s n) (s.queue.file_of n) place may.0)
 calls_account l s t c r (closes f known) a = record { marks = a.marks; used = a.used; each = a.each }
-calls_account l s t c r (tells_flag n known) a = a
-calls_account l s t c r (tells_status n known) a = a
-calls_account l s t c r (reuses n status known told room may) a =
+calls_account l s t c r (reports_flag n known) a = a
+calls_account l s t c r (reports_status n known) a = a
+calls_account l s t c r (reuses n status known reported room may) a =
     stays_accounts s a (next_step s.run (Renew (present_of s n))) s.queue.closed s.queue.flags (after_reuse n s).queue.lives (λ j. holds_more s.run (Renew (present_of s n)) j refl) s.queue.entries (λ j. refl)
     (marks_stay s.run (next_step s.run (Renew (present_of s n))) s.queue.entries (λ j there. refl) a.marks)
 calls_account l s t c r (not_completed n known none) a = a
-calls_account l s t c r (lives_spent n status known told last) a = a
+calls_account l s t c r (lives_spent n status known reported last) a = a
 calls_account l s t c r (knows_no_irp c' n names le) a = a
 calls_account l s t c r (knows_no_file c' f names le) a = a
 

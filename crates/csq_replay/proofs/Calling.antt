@@ -1,6 +1,6 @@
 -- What a driver keeps after a call.
 use Rattle.std.proofs.Common.{◌≡◌, ℕ, ◌<◌, Bool, true, false, cond, not, ◌==◌, List, [], ◌∷◌, length, Option, Some, None, refl, ap, sym, ◌∙◌, subst, arith}
-use Rattle.csq_replay.proofs.Imports.{slice_index_or, slice_set, get_or-set_same, get_or-set_other, length-set, FileId, IrpId, NtStatus, PENDING, Take, Out, Done, Made, IrpPlace, IsPlace, number, same_id, same_irp, same_pass, IrpLife, bit, armed, flagged, owes, holds, listed, dones, present, Size, IsRun, MachineState, Agrees, size_of, same_id-eq, same_id-ne, same_irp-refl, same_irp-eq, same_irp-ne, same_pass-refl, same_pass-eq, status_recorded, is_listed, Listing, with_closed, without_irp, Limits, with_file, after_event, has_entry, has_marked, has_unmarked, id_eq, is_listed-plain, listing-removed, listing-marked, Call, UnknownIrp, UnknownFile, NoClaim, NotHeld, StatusPending, Stale, Claimed, Unclaimed, Closed, Refused, Script, script_pass, script_size, present_of, IsNow, next_step, doing, completing, after_mark, status_reply, irp_of, token_of, cancelled_life, file_of, Calls, has_no_claim, holds_none, refuses_pending, closes, tells_flag, tells_status, knows_no_irp, knows_no_file, claims_none, is_stale, Keeping, Keeps, IsOfRun}
+use Rattle.csq_replay.proofs.Imports.{slice_index_or, slice_set, get_or-set_same, get_or-set_other, length-set, FileId, IrpId, NtStatus, PENDING, Take, Out, Done, Made, IrpPlace, IsPlace, number, same_id, same_irp, same_pass, IrpLife, bit, armed, flagged, owes, holds, listed, dones, present, Size, IsRun, MachineState, Agrees, size_of, same_id-eq, same_id-ne, same_irp-refl, same_irp-eq, same_irp-ne, same_pass-refl, same_pass-eq, status_recorded, is_listed, Listing, with_closed, without_irp, Limits, with_file, after_event, has_entry, has_marked, has_unmarked, id_eq, is_listed-plain, listing-removed, listing-marked, Call, UnknownIrp, UnknownFile, NoClaim, NotHeld, StatusPending, Stale, Claimed, Unclaimed, Closed, Refused, Script, script_pass, script_size, present_of, IsPresentOf, next_step, doing, completing, after_mark, status_reply, irp_of, token_of, cancelled_life, file_of, Calls, has_no_claim, holds_none, refuses_pending, closes, reports_flag, reports_status, knows_no_irp, knows_no_file, claims_none, is_stale, Keeping, Keeps, IsOfRun}
 use Rattle.irp_core.specs.declared.step.Kind.TheVariants as step
 use Rattle.irp_core.specs.declared.standing.IrpPlace.TheVariants.{HeldBy}
 use Rattle.csq_replay.proofs.OneAnswer.{one_place}
@@ -39,14 +39,14 @@ module _ (l : Limits) (kept : Keeping) (s : Script) (k : Keeps l kept s) where
       → (t : Script) × Calls l s (Flag n) (reply.Flag b) t × Keeps l kept t
   flag_keeps n known b is =
       let P : Bool → Type 0 = λ x. Calls l s (Flag n) (reply.Flag x) s in
-      (s, subst P (sym (is ∙ ap (flagged s.run) (present_is l kept s k n))) (tells_flag n (omega (arith, known, irps_are))), k)
+      (s, subst P (sym (is ∙ ap (flagged s.run) (present_is l kept s k n))) (reports_flag n (omega (arith, known, irps_are))), k)
 
   pub status_keeps : (n : IrpId) → n.0 < (size_of kept.machine).irps → (o : Option NtStatus) → o ≡ slice_index_or kept.statuses n.0 None
       → (t : Script) × Calls l s (Status n) (status_reply o) t × Keeps l kept t
   status_keeps n known o is =
       let here : n.0 < l.irps = omega (arith, known, irps_are) in
       let P : Option NtStatus → Type 0 = λ x. Calls l s (Status n) (status_reply x) s in
-      (s, subst P (sym (is ∙ k.statuses n here)) (tells_status n here), k)
+      (s, subst P (sym (is ∙ k.statuses n here)) (reports_status n here), k)
 
   pub close_keeps : (f : FileId) → f.0 < kept.listing.files → (new : Listing) → new ≡ with_closed f kept.listing
       → (t : Script) × Calls l s (Close f) Closed t × Keeps l (record kept { listing = new }) t
@@ -60,7 +60,7 @@ module _ (l : Limits) (kept : Keeping) (s : Script) (k : Keeps l kept s) where
       listing = is ∙ ap (with_closed f) k.listing;
       queue = record { lives = k.queue.lives; used = k.queue.used; entries = k.queue.entries; flags = k.queue.flags; marks = k.queue.marks };
       outside = k.outside;
-      told = k.told;
+      reported = k.reported;
       statuses = k.statuses;
       statuses_size = k.statuses_size;
       files = k.files;
@@ -86,30 +86,30 @@ module _ (l : Limits) (kept : Keeping) (s : Script) (k : Keeps l kept s) where
     listing = k.listing;
     queue = queue_done s.run s.queue k.queue (present_of s n);
     outside = rw same_pass-refl refl;
-    told = λ i none. untold i (same_irp (present_of s n) i) refl none;
-    statuses = λ j in_range. ap (λ x. slice_index_or x j.0 None) is ∙ told j in_range (same_irp (present_of s n) (present_of s j)) refl;
+    reported = λ i none. unreported i (same_irp (present_of s n) i) refl none;
+    statuses = λ j in_range. ap (λ x. slice_index_or x j.0 None) is ∙ reported j in_range (same_irp (present_of s n) (present_of s j)) refl;
     statuses_size = ap length is ∙ length-set kept.statuses n.0 (Some status) ∙ k.statuses_size;
     files = k.files;
     files_size = k.files_size;
   }
     where
-      told : (j : IrpId) → j.0 < l.irps → (b : Bool) → same_irp (present_of s n) (present_of s j) ≡ b
+      reported : (j : IrpId) → j.0 < l.irps → (b : Bool) → same_irp (present_of s n) (present_of s j) ≡ b
           → slice_index_or (slice_set kept.statuses n.0 (Some status)) j.0 None
           ≡ cond (same_irp (present_of s n) (present_of s j)) (Some status) (status_recorded (present_of s j) s.completed)
-      told j in_range true e =
+      reported j in_range true e =
           rw (e, number_of_now n j e) (get_or-set_same kept.statuses n.0 (Some status) None (omega (arith, known, k.statuses_size)))
-      told j in_range false e =
+      reported j in_range false e =
           rw e (get_or-set_other kept.statuses n.0 j.0 (Some status) None (other_number n j e) ∙ k.statuses j in_range)
 
-      untold : (i : IrpLife) (b : Bool) → same_irp (present_of s n) i ≡ b → dones (next_step s.run (Done (present_of s n))) i ≡ []
+      unreported : (i : IrpLife) (b : Bool) → same_irp (present_of s n) i ≡ b → dones (next_step s.run (Done (present_of s n))) i ≡ []
           → cond (same_irp (present_of s n) i) (Some status) (status_recorded i s.completed) ≡ None
-      untold i true e none = absurd (cc (rw e at none))
-      untold i false e none = rw e (k.told i (rw e at none))
+      unreported i true e none = absurd (cc (rw e at none))
+      unreported i false e none = rw e (k.reported i (rw e at none))
 
   flagged_queue : (i : IrpLife) → IsOfRun l.first (next_step s.run (step.Flag i)) (after_event s.queue (event.FlagSeen i))
   flagged_queue i = queue_flag s.run s.queue k.queue i
 
-  unclaimed_keeps : (i : IrpLife) → number i < (size_of kept.machine).irps → IsNow s i → armed s.run i ≡ false → (machine : MachineState)
+  unclaimed_keeps : (i : IrpLife) → number i < (size_of kept.machine).irps → IsPresentOf s i → armed s.run i ≡ false → (machine : MachineState)
       → Agrees machine (next_step (next_step s.run (step.Flag i)) (Take i)) → size_of machine ≡ size_of kept.machine
       → (t : Script) × Calls l s (Mark i) Unclaimed t × Keeps l (record kept { machine = machine }) t
   unclaimed_keeps i known now none machine a same = (
@@ -122,7 +122,7 @@ module _ (l : Limits) (kept : Keeping) (s : Script) (k : Keeps l kept s) where
       listing = k.listing;
       queue = queue_take_none (next_step s.run (step.Flag i)) (after_event s.queue (event.FlagSeen i)) (flagged_queue i) i (bit (armed s.run i)) none;
       outside = rw same_pass-refl refl;
-      told = k.told;
+      reported = k.reported;
       statuses = k.statuses;
       statuses_size = k.statuses_size;
       files = k.files;
@@ -130,7 +130,7 @@ module _ (l : Limits) (kept : Keeping) (s : Script) (k : Keeps l kept s) where
     },
   )
 
-  claimed_keeps : (i : IrpLife) → number i < (size_of kept.machine).irps → IsNow s i → armed s.run i ≡ true → (machine : MachineState)
+  claimed_keeps : (i : IrpLife) → number i < (size_of kept.machine).irps → IsPresentOf s i → armed s.run i ≡ true → (machine : MachineState)
       → Agrees machine (next_step (next_step s.run (step.Flag i)) (Take i)) → size_of machine ≡ size_of kept.machine
       → (t : Script) × Calls l s (Mark i) Claimed t × Keeps l (record kept { machine = machine }) t
   claimed_keeps i known now set machine a same =
@@ -146,7 +146,7 @@ module _ (l : Limits) (kept : Keeping) (s : Script) (k : Keeps l kept s) where
           listing = k.listing ∙ listing-marked l (after_event s.queue (event.FlagSeen i)) i;
           queue = queue_take (next_step s.run (step.Flag i)) (after_event s.queue (event.FlagSeen i)) (flagged_queue i) i (bit (armed s.run i));
           outside = rw same_pass-refl refl;
-          told = k.told;
+          reported = k.reported;
           statuses = k.statuses;
           statuses_size = k.statuses_size;
           files = k.files;
@@ -155,7 +155,7 @@ module _ (l : Limits) (kept : Keeping) (s : Script) (k : Keeps l kept s) where
       )
 
   -- a mark answers whether its Take found the routine
-  pub mark_keeps : (i : IrpLife) → number i < (size_of kept.machine).irps → IsNow s i → (v : ℕ) → v ≡ bit (armed s.run i) → (machine : MachineState)
+  pub mark_keeps : (i : IrpLife) → number i < (size_of kept.machine).irps → IsPresentOf s i → (v : ℕ) → v ≡ bit (armed s.run i) → (machine : MachineState)
       → Agrees machine (next_step (next_step s.run (step.Flag i)) (Take i)) → size_of machine ≡ size_of kept.machine
       → (t : Script) × Calls l s (Mark i) (mark_reply (not (v == 0))) t × Keeps l (record kept { machine = machine }) t
   mark_keeps i known now v found machine a same = go (armed s.run i) refl
@@ -180,7 +180,7 @@ module _ (l : Limits) (kept : Keeping) (s : Script) (k : Keeps l kept s) where
     listing = without_n ∙ ap (without_irp n) k.listing ∙ listing-removed l s.queue (present_of s n) refl (sound_lives (script_size l) s.run (run_for l kept s k) s.queue k.queue).entries;
     queue = queue_out s.run s.queue k.queue (present_of s n) 0;
     outside = rw same_pass-refl refl;
-    told = k.told;
+    reported = k.reported;
     statuses = k.statuses;
     statuses_size = k.statuses_size;
     files = k.files;
@@ -215,7 +215,7 @@ module _ (l : Limits) (kept : Keeping) (s : Script) (k : Keeps l kept s) where
     listing = k.listing;
     queue = record { lives = k.queue.lives; used = k.queue.used; entries = k.queue.entries; flags = k.queue.flags; marks = k.queue.marks };
     outside = k.outside;
-    told = k.told;
+    reported = k.reported;
     statuses = k.statuses;
     statuses_size = k.statuses_size;
     files = λ m in_range. ap (λ x. slice_index_or x m.0 (record { 0 = 0 })) is ∙ noted m in_range (same_id n m) refl;

@@ -1,6 +1,6 @@
 -- What the calls answer that other calls are made of.
 use Rattle.std.proofs.Common.{◌≡◌, ◌≢◌, ℕ, ◌+◌, ◌<◌, Bool, true, false, cond, not, ◌&&◌, ◌||◌, List, [], ◌∷◌, map, length, Some, None, refl, ap, sym, ◌∙◌, subst, arith}
-use Rattle.csq_replay.proofs.Imports.{and_parts, not-true, not-false, or-false, and-false, or-true, length-map, FileId, IrpId, NtStatus, PENDING, CANCELLED, Disarm, Made, life_of, same_irp, IrpLife, armed, holds, Size, same_irp-refl, same_irp-eq, same_pass-refl, Peek, File, matches, is_listed, is_distinct, Listing, IsSound, filter-none, Queued, QueueState, Limits, current, first_unmarked, has_entry, without, after_event, plain, is_listed-plain, ArePresent, Next, Mark, Cancel, Close, Cleanup, Reply, Removed, NoIrp, Refused, Script, script_pass, present_of, completing, next_step, after_steps, removal_steps, Calls, Cleans, Does, removes_next, completes, holds_none, is_stale, knows_no_irp, knows_no_file, none_left, one_more, calls, Keeping, Keeps, AreMarked}
+use Rattle.csq_replay.proofs.Imports.{and_parts, not-true, not-false, or-false, and-false, or-true, length-map, FileId, IrpId, NtStatus, PENDING, CANCELLED, Disarm, Made, life_of, same_irp, IrpLife, armed, holds, Size, same_irp-refl, same_irp-eq, same_pass-refl, Peek, File, matches, is_listed, is_distinct, Listing, IsSound, filter-none, Queued, QueueState, Limits, present_in, first_unmarked, has_entry, without, after_event, plain, is_listed-plain, ArePresent, Next, Mark, Cancel, Close, Cleanup, Reply, Removed, NoIrp, Refused, Script, script_pass, present_of, completing, next_step, after_steps, removal_steps, Calls, Cleans, Does, removes_next, completes, holds_none, is_stale, knows_no_irp, knows_no_file, none_left, one_more, calls, Keeping, Keeps, AreMarked}
 use Rattle.csq_words.specs.declared.views.Event.TheVariants as event
 use Rattle.csq_replay.specs.declared.script.call.Refusal.{Refusal}
 use Rattle.csq_replay.proofs.Removing.{present, entry_now, listed_is, listed_known}
@@ -119,7 +119,7 @@ module _ (l : Limits) (f : FileId) (s : Script) (kept : Keeping) (count : ℕ) (
     pub got_held : holds t.run script_pass (present_of t i) ≡ true
     got_held =
         let mine : holds t.run script_pass got.0 ≡ true = ap (λ E. holds E script_pass got.0) got.3 ∙ removal_holds (File f) got.0 h.now.queue.entries h.now.run h.keeps.queue.marks got.2 in
-        let name : present_of t i ≡ got.0 = ap (λ (q : QueueState). current q i) got.4 ∙ got_now in
+        let name : present_of t i ≡ got.0 = ap (λ (q : QueueState). present_in q i) got.4 ∙ got_now in
         ap (holds t.run script_pass) name ∙ mine
 
     -- what was removed is completed

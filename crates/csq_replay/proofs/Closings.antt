@@ -1,6 +1,6 @@
 -- The closing lines.
 use Rattle.std.proofs.Common.{◌≡◌, ℕ, ◌+◌, Bool, true, false, cond, List, [], ◌∷◌, ◌++◌, ap, append_assoc, append-nil, ◌∙◌, sym, subst, add-one, refl, codes}
-use Rattle.csq_replay.proofs.Imports.{Made, present, Size, IrpLine, ComesTo, Numbered, irp_line_text, irp_lines_text, IsToldOf, AreToldOf, IsClosing, GrewBy}
+use Rattle.csq_replay.proofs.Imports.{Made, present, Size, IrpLine, ComesTo, Numbered, irp_line_text, irp_lines_text, IsReportedOf, AreReportedOf, IsClosing, GrewBy}
 use Rattle.csq_replay.specs.declared.schedule.outcome.Outcome.{Outcome}
 
 -- a text that grew twice grew by both
@@ -23,15 +23,15 @@ pub grew_line : (old new : List ℕ) (line : IrpLine) → new ≡ old ++ (irp_li
 grew_line old new line e = e ∙ ap (λ t. old ++ t) (sym (append-nil (irp_line_text line ++ codes "\n")))
 
 -- one more IRP is told of
-pub told_more : (first : ℕ) (E : List Made) (n : ℕ) (before last : List IrpLine) → AreToldOf first E n before → IsToldOf E (present first E (record { 0 = n })) last → AreToldOf first E (n + 1) (before ++ last)
-told_more first E n before last lines line =
-    let P : ℕ → Type 0 = λ k. AreToldOf first E k (before ++ last) in
+pub reported_more : (first : ℕ) (E : List Made) (n : ℕ) (before last : List IrpLine) → AreReportedOf first E n before → IsReportedOf E (present first E (record { 0 = n })) last → AreReportedOf first E (n + 1) (before ++ last)
+reported_more first E n before last lines line =
+    let P : ℕ → Type 0 = λ k. AreReportedOf first E k (before ++ last) in
     subst P (sym (add-one n)) (before, last, lines, line, refl)
 
 -- the claims, where they are asked for
-pub asked : (irps rest told_claims claims : List ℕ) (asks : Bool) → asks ≡ true → told_claims ≡ claims
-    → irps ++ (rest ++ told_claims) ≡ irps ++ (rest ++ cond asks claims [])
-asked irps rest told_claims claims asks on same = rw (on, same) refl
+pub asked : (irps rest reported_claims claims : List ℕ) (asks : Bool) → asks ≡ true → reported_claims ≡ claims
+    → irps ++ (rest ++ reported_claims) ≡ irps ++ (rest ++ cond asks claims [])
+asked irps rest reported_claims claims asks on same = rw (on, same) refl
 
 pub not_asked : (irps rest claims : List ℕ) (asks : Bool) → asks ≡ false → irps ++ rest ≡ irps ++ (rest ++ cond asks claims [])
 not_asked irps rest claims asks off = rw off (ap (λ t. irps ++ t) (sym (append-nil rest)))

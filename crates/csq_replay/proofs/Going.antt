@@ -1,6 +1,6 @@
 -- The run of a script's one pass goes on.
 use Rattle.std.proofs.Common.{◌≡◌, ◌≢◌, ℕ, ◌<◌, ◌≤◌, Bool, true, false, cond, List, [], ◌∷◌, refl, ap, sym, ◌∙◌, subst, arith, lit≤}
-use Rattle.csq_replay.proofs.Imports.{IrpId, PassId, Kind, Arm, Test, Disarm, End, Flag, Take, Out, Done, Renew, Rearm, Made, Inside, Nothing, Armed, FlagSeen, Cancelling, Rearmed, FlagSeenAgain, number, life_of, same_irp, same_pass, Each, IrpLife, was_armed, found_by, inside, inside_after, follows, has_lock, owes, holds, listed, dones, removed, holds_removed, last_life, present_life, present, IsPresent, Size, IsKnown, IsRun, MachineState, Agrees, size_of, same_irp-eq, same_pass-refl, same_pass-eq, Limits, Script, script_pass, script_size, present_of, IsNow, next_step, Keeping, Keeps}
+use Rattle.csq_replay.proofs.Imports.{IrpId, PassId, Kind, Arm, Test, Disarm, End, Flag, Take, Out, Done, Renew, Rearm, Made, Inside, Nothing, Armed, FlagSeen, Cancelling, Rearmed, FlagSeenAgain, number, life_of, same_irp, same_pass, Each, IrpLife, was_armed, found_by, inside, inside_after, follows, has_lock, owes, holds, listed, dones, removed, holds_removed, last_life, present_life, present, IsPresent, Size, IsKnown, IsRun, MachineState, Agrees, size_of, same_irp-eq, same_pass-refl, same_pass-eq, Limits, Script, script_pass, script_size, present_of, IsPresentOf, next_step, Keeping, Keeps}
 use Rattle.irp_core.proofs.Next.{IsFreeFor, grows_by_arm, grows_by_test, grows_by_insert_disarm, grows_by_removal_disarm, grows_by_end, grows_by_flag, grows_by_take, grows_by_out, grows_by_done, grows_by_renew, grows_by_rearm, grows_by_test_again, grows_by_disarm_again}
 
 the_pass : (q : PassId) → q.0 ≡ 1 → q ≡ script_pass
@@ -37,10 +37,10 @@ module _ (l : Limits) (kept : Keeping) (s : Script) (k : Keeps l kept s) where
   present_is n = let at_life : ℕ → IrpLife = λ g. record { irp = n; life = record { 0 = g } } in ap at_life (sym (now_present n))
 
   -- a name that the machine says is present
-  pub now_named : (x i : IrpLife) → x ≡ present (size_of kept.machine).first s.run i.irp → same_irp x i ≡ true → IsNow s i
-  now_named x i is same = sym (is ∙ present_is i.irp) ∙ same_irp-eq x i same
+  pub present_named : (x i : IrpLife) → x ≡ present (size_of kept.machine).first s.run i.irp → same_irp x i ≡ true → IsPresentOf s i
+  present_named x i is same = sym (is ∙ present_is i.irp) ∙ same_irp-eq x i same
 
-  pub name_present : (i : IrpLife) → IsNow s i → IsPresent (size_of kept.machine).first s.run i
+  pub name_present : (i : IrpLife) → IsPresentOf s i → IsPresent (size_of kept.machine).first s.run i
   name_present i now = sym (ap life_of now) ∙ now_present i.irp
 
 -- of one name, and of the same name written another way

@@ -22,11 +22,11 @@ module _ (l : Limits) where
 
   lines_end : (s : Script) (n : ℕ) (lines : List (List ℕ)) (text : List ℕ) (ended : Ended) → AnswersAll (AnswersCall l) (λ s text. text ≡ closing_lines l s) s n lines text ended → ended ≡ AllHandled
       → (last : Script) × LeadTo l s lines last × EndsWith text (closing_lines l last)
-  lines_end s n lines text ended (all_handled a m told closed) e = (s, at_end s, ([], closed))
-  lines_end s n lines text ended (goes_on a t m line left told rest ended' (comes, u, came, is_told, on) answers) e =
+  lines_end s n lines text ended (all_handled a m reported closed) e = (s, at_end s, ([], closed))
+  lines_end s n lines text ended (goes_on a t m line left reported rest ended' (comes, u, came, is_reported, on) answers) e =
       let (last, led, (front, is)) = lines_end t (n + 1) left rest ended answers e in
-      (last, led_by s t u line left last comes came on led, (told ++ front, ap (λ x. told ++ x) is ∙ sym (append_assoc told front (closing_lines l last))))
-  lines_end s n lines text ended (stops a m line left told h) e = absurd (cc e)
+      (last, led_by s t u line left last comes came on led, (reported ++ front, ap (λ x. reported ++ x) is ∙ sym (append_assoc reported front (closing_lines l last))))
+  lines_end s n lines text ended (stops a m line left reported h) e = absurd (cc e)
 
   handled : (input text : List ℕ) (ended : Ended) → IsScriptAnswer l input text ended → ended ≡ AllHandled
       → (last : Script) × LeadTo l (new_script l) (lines_of input) last × EndsWith text (closing_lines l last)

@@ -8,8 +8,8 @@ pub use Rattle.csq_list.specs.declared.entry.Peek.{Peek}
 pub use Rattle.csq_list.specs.declared.entry.Peek.TheVariants.{Any, File}
 pub use Rattle.csq_list.specs.declared.entry.Place.{Place}
 pub use Rattle.csq_list.specs.declared.refusals.InsertStatus.{InsertStatus}
-pub use Rattle.csq_replay.specs.Calls.{Calls, Cleans, Does, IsNow, Script, after_mark, after_reuse, after_routine, after_steps, cancelled_life, completing, doing, file_of, irp_of, life_after, life_now, named_removal_steps, new_script, next_step, present_of, removal_reply, removal_steps, script_pass, script_size, status_reply, token_of}
-pub use Rattle.csq_replay.specs.Calls.Calls.{cancels_insert, cancels_put_back, claims, claims_none, closes, completes, has_no_claim, holds_none, is_stale, knows_no_file, knows_no_irp, lists, lives_spent, not_completed, puts_back, refuses_insert, refuses_pending, refuses_put_back, removes, removes_next, removes_none, reuses, runs_routine, tells_flag, tells_status}
+pub use Rattle.csq_replay.specs.Calls.{Calls, Cleans, Does, IsPresentOf, Script, after_mark, after_reuse, after_routine, after_steps, cancelled_life, completing, doing, file_of, irp_of, life_after, life_now, named_removal_steps, new_script, next_step, present_of, removal_reply, removal_steps, script_pass, script_size, status_reply, token_of}
+pub use Rattle.csq_replay.specs.Calls.Calls.{cancels_insert, cancels_put_back, claims, claims_none, closes, completes, has_no_claim, holds_none, is_stale, knows_no_file, knows_no_irp, lists, lives_spent, not_completed, puts_back, refuses_insert, refuses_pending, refuses_put_back, removes, removes_next, removes_none, reuses, runs_routine, reports_flag, reports_status}
 pub use Rattle.csq_replay.specs.Calls.Cleans.{none_left, one_more}
 pub use Rattle.csq_replay.specs.Calls.Does.{calls, cancel_claimed, cancel_unclaimed, cleaned}
 pub use Rattle.csq_replay.specs.Drivers.{AreMarked, HoldsRemoved, IsOfRun, Keeping, Keeps, keeping}
@@ -17,8 +17,8 @@ pub use Rattle.csq_replay.specs.Laws.{EachInsertedIrpIsAccountedFor, EndsWith, H
 pub use Rattle.csq_replay.specs.Lines.{AnswersAll, GrewBy, IsAnswer, IsSkipped, IsWithinLine, Leaves}
 pub use Rattle.csq_replay.specs.Outcomes.{ComesTo, step_of}
 pub use Rattle.csq_replay.specs.Pieces.{IsNumber, IsShort, lines_of, pieces, without_empty_last, words_of}
-pub use Rattle.csq_replay.specs.Schedule.{AnswersLine, AreToldOf, Closes, IsClosing, IsToldOf, Numbered, TellsLine, TellsRest, answer_text, claim_line, claim_lines, grown, irp_line_text, irp_lines_text, rest_text, run_of, unless_silent}
-pub use Rattle.csq_replay.specs.ScriptAnswer.{AnswersCall, AreLeft, IsScriptAnswer, TellsCall, call_text, closing_lines, going_on, irps_below, is_kept, kept_irps, kept_name, left_line, left_lines, listed_irps, named_line, numbers}
+pub use Rattle.csq_replay.specs.Schedule.{AnswersLine, AreReportedOf, Closes, IsClosing, IsReportedOf, Numbered, ReportsLine, ReportsRest, answer_text, claim_line, claim_lines, grown, irp_line_text, irp_lines_text, rest_text, run_of, unless_silent}
+pub use Rattle.csq_replay.specs.ScriptAnswer.{AnswersCall, AreLeft, IsScriptAnswer, ReportsCall, call_text, closing_lines, going_on, irps_below, is_kept, kept_irps, kept_name, left_line, left_lines, listed_irps, named_line, numbers}
 pub use Rattle.csq_replay.specs.StepLine.{AreKindWords, AreNameWords, IsNameWord, IsStepLine, verb_of}
 pub use Rattle.csq_replay.specs.declared.lines.answer.Ended.{Ended}
 pub use Rattle.csq_replay.specs.declared.schedule.closing.IrpLine.{IrpLine}
@@ -31,7 +31,7 @@ pub use Rattle.csq_words.proofs.Listings.{is_listed-plain, listing-inserted, lis
 pub use Rattle.csq_words.proofs.Lives.{AreBegun, ArePresent, HasSoundLives}
 pub use Rattle.csq_words.proofs.Named.{id_eq, irp_eq, same_irp-is, same_irp-not}
 pub use Rattle.csq_words.specs.Plays.{status_recorded}
-pub use Rattle.csq_words.specs.Queue.{Limits, QueueState, Queued, after_event, back_refusal, begin_next, current, first_unmarked, has_entry, has_irp, has_marked, has_unmarked, limits_of, marking, new_entry, plain, plain_listing, refusal, reply_to_insert, with_file, without}
+pub use Rattle.csq_words.specs.Queue.{Limits, QueueState, Queued, after_event, back_refusal, begin_next, present_in, first_unmarked, has_entry, has_irp, has_marked, has_unmarked, limits_of, marking, new_entry, plain, plain_listing, refusal, reply_to_insert, with_file, without}
 pub use Rattle.irp_core.proofs.Lives.{life_next, life_same, listed_present, unborn_home, used_begun}
 pub use Rattle.irp_core.proofs.Names.{named, same_id-eq, same_id-ne, same_irp-eq, same_irp-ne, same_irp-refl, same_pass-eq, same_pass-refl}
 pub use Rattle.irp_core.proofs.Owning.{done_gone, stands}

@@ -31,8 +31,8 @@ numbers-append (i ∷ is) js = ap (λ t. (codes " " ++ irp_text i) ++ t) (number
 -- one more number was written
 pub numbers_more : (irps : List IrpId) (k : ℕ) (d : IrpId) (first old new : List ℕ) → k < length irps → old ≡ first ++ numbers (take k irps)
     → new ≡ old ++ (codes " " ++ irp_text (get_or irps k d)) → new ≡ first ++ numbers (take (k + 1) irps)
-numbers_more irps k d first old new lt told written =
-    written ∙ ap (λ t. t ++ (codes " " ++ irp_text (get_or irps k d))) told ∙ append_assoc first (numbers (take k irps)) (codes " " ++ irp_text (get_or irps k d))
+numbers_more irps k d first old new lt reported written =
+    written ∙ ap (λ t. t ++ (codes " " ++ irp_text (get_or irps k d))) reported ∙ append_assoc first (numbers (take k irps)) (codes " " ++ irp_text (get_or irps k d))
     ∙ ap (λ t. first ++ (numbers (take k irps) ++ t)) (sym (append-nil (codes " " ++ irp_text (get_or irps k d))))
     ∙ ap (λ t. first ++ t) (sym (numbers-append (take k irps) (get_or irps k d ∷ [])))
     ∙ ap (λ l. first ++ numbers l) (sym (take_more irps k d lt))

@@ -1,7 +1,7 @@
 -- A schedule has one answer.
 use Rattle.std.proofs.Common.{◌≡◌, ℕ, zero, suc, ◌<◌, Bool, true, false, cond, not, ◌&&◌, List, [], ◌∷◌, ◌++◌, Option, Some, refl, ap, sym, ◌∙◌, arith, subst, codes}
 use Rattle.irp_core.specs.declared.ids.Life.{Life}
-use Rattle.csq_replay.proofs.Imports.{PassId, Kind, Arm, Flag, Renew, Made, Step, IrpPlace, Standing, made, IrpLife, flagged, was_armed, found_by, Size, IsRun, holds, has_gone, IsPlace, completed_by, removed, status_due, same_pass-eq, done_at, has_left, IsDue, stands, IrpLine, step_of, ComesTo, Numbered, run_of, grown, TellsLine, answer_text, AnswersLine, unless_silent, IsToldOf, AreToldOf, TellsRest, Closes, IsClosing, irp_lines_text, rest_text, claim_lines, HasOneAnswer}
+use Rattle.csq_replay.proofs.Imports.{PassId, Kind, Arm, Flag, Renew, Made, Step, IrpPlace, Standing, made, IrpLife, flagged, was_armed, found_by, Size, IsRun, holds, has_gone, IsPlace, completed_by, removed, status_due, same_pass-eq, done_at, has_left, IsDue, stands, IrpLine, step_of, ComesTo, Numbered, run_of, grown, ReportsLine, answer_text, AnswersLine, unless_silent, IsReportedOf, AreReportedOf, ReportsRest, Closes, IsClosing, irp_lines_text, rest_text, claim_lines, HasOneAnswer}
 use Rattle.irp_core.specs.declared.refusals.StepRefused.{StepRefused}
 use Rattle.irp_core.specs.declared.refusals.StepRefused.TheVariants.{UnknownIrp, UnknownPass, LockHeld, NotNext, NotHome, NotListed, NotOwed, NotHeld, Stale, NotCompleted, LivesSpent}
 use Rattle.irp_core.specs.declared.standing.IrpPlace.TheVariants as place
@@ -62,29 +62,29 @@ one_place size E r i p q a b =
     let is = λ (x : IrpPlace) (e : IsPlace E i x). place_row _ _ _ _ _ s h.ever_is h.left_is h.holding_is h.done_is h.due x (places E i x e) in
     is p a ∙ sym (is q b)
 
-one_told : (size : Size) (E : List Made) → IsRun size E → (i : IrpLife) (t u : List IrpLine) → IsToldOf E i t → IsToldOf E i u → t ≡ u
-one_told size E r i t u (p, a, e) (q, b, f) =
+one_reported : (size : Size) (E : List Made) → IsRun size E → (i : IrpLife) (t u : List IrpLine) → IsReportedOf E i t → IsReportedOf E i u → t ≡ u
+one_reported size E r i t u (p, a, e) (q, b, f) =
     let line : IrpPlace → IrpLine = λ x. record { name = i; place = x; cancelled = flagged E i } in
     e ∙ ap (λ x. unless_silent (line x)) (one_place size E r i p q a b) ∙ sym f
 
-all_told : (size : Size) (E : List Made) → IsRun size E → (n : ℕ) (t u : List IrpLine) → AreToldOf size.first E n t → AreToldOf size.first E n u → t ≡ u
-all_told size E r zero t u a b = a ∙ sym b
-all_told size E r (suc n) t u (before, last, lines, line, e) (before', last', lines', line', f) =
-    e ∙ ap (λ x. x ++ last) (all_told size E r n before before' lines lines') ∙ ap (λ x. before' ++ x) (one_told size E r _ last last' line line') ∙ sym f
+all_reported : (size : Size) (E : List Made) → IsRun size E → (n : ℕ) (t u : List IrpLine) → AreReportedOf size.first E n t → AreReportedOf size.first E n u → t ≡ u
+all_reported size E r zero t u a b = a ∙ sym b
+all_reported size E r (suc n) t u (before, last, lines, line, e) (before', last', lines', line', f) =
+    e ∙ ap (λ x. x ++ last) (all_reported size E r n before before' lines lines') ∙ ap (λ x. before' ++ x) (one_reported size E r _ last last' line line') ∙ sym f
 
-one_rest : (E : List Made) (b c : Bool) → TellsRest E b → TellsRest E c → b ≡ c
+one_rest : (E : List Made) (b c : Bool) → ReportsRest E b → ReportsRest E c → b ≡ c
 one_rest E true true h g = refl
 one_rest E false false h g = refl
 one_rest E true false h g = absurd (cc (g.1 (h.0 refl)))
 one_rest E false true h g = absurd (cc (h.1 (g.0 refl)))
 
 -- what is told in the end is one
-pub one_close : (size : Size) (E : List Made) → IsRun size E → (told other : List IrpLine) (rest otherwise : Bool) → Closes size E told rest → Closes size E other otherwise → (told ≡ other) × (rest ≡ otherwise)
-one_close size E r told other rest otherwise a b = (all_told size E r size.irps told other a.irps b.irps, one_rest E rest otherwise a.rest b.rest)
+pub one_close : (size : Size) (E : List Made) → IsRun size E → (reported other : List IrpLine) (rest otherwise : Bool) → Closes size E reported rest → Closes size E other otherwise → (reported ≡ other) × (rest ≡ otherwise)
+one_close size E r reported other rest otherwise a b = (all_reported size E r size.irps reported other a.irps b.irps, one_rest E rest otherwise a.rest b.rest)
 
 one_closing : (size : Size) (claims : Bool) (W : List Numbered) → IsRun size (run_of W) → (t u : List ℕ) → IsClosing size claims W t → IsClosing size claims W u → t ≡ u
-one_closing size claims W r t u (told, rest, closes, e) (other, otherwise, closes', f) =
-    let same = one_close size (run_of W) r told other rest otherwise closes closes' in
+one_closing size claims W r t u (reported, rest, closes, e) (other, otherwise, closes', f) =
+    let same = one_close size (run_of W) r reported other rest otherwise closes closes' in
     let text : List IrpLine → Bool → List ℕ = λ lines b. irp_lines_text lines ++ ((rest_text b ++ codes "\n") ++ cond claims (claim_lines W) []) in
     e ∙ ap (λ x. text x rest) same.0 ∙ ap (λ x. text other x) same.1 ∙ sym f
 
@@ -166,11 +166,11 @@ module _ (size : Size) (E : List Made) (line : List ℕ) (r : IsRun size E) wher
       ap (λ x. Stopped (Refused x c)) same ∙ ap (λ x. Stopped (Refused t x)) (both_refused s t c d same a.1 b.1)
 
 -- what is told of a line is one, however it is told
-module _ (tell : List Numbered → ℕ → List ℕ → Outcome → List ℕ) (size : Size) where
-  pub one_line : (W : List Numbered) (n : ℕ) (line t u : List ℕ) (m k : Option (List Numbered)) → IsRun size (run_of W) → TellsLine tell size W n line t m → TellsLine tell size W n line u k → (t ≡ u) × (m ≡ k)
+module _ (report : List Numbered → ℕ → List ℕ → Outcome → List ℕ) (size : Size) where
+  pub one_line : (W : List Numbered) (n : ℕ) (line t u : List ℕ) (m k : Option (List Numbered)) → IsRun size (run_of W) → ReportsLine report size W n line t m → ReportsLine report size W n line u k → (t ≡ u) × (m ≡ k)
   one_line W n line t u m k r (o, comes, e, f) (p, comes', g, h) =
       let same = one_outcome size (run_of W) line r o p comes comes' in
-      (e ∙ ap (tell W n line) same ∙ sym g, f ∙ ap (grown W n) same ∙ sym h)
+      (e ∙ ap (report W n line) same ∙ sym g, f ∙ ap (grown W n) same ∙ sym h)
 
   run_grown : (W V : List Numbered) (n : ℕ) (line : List ℕ) (o : Outcome) → IsRun size (run_of W) → ComesTo size (run_of W) line o → Some V ≡ grown W n o → IsRun size (run_of V)
   run_grown W V n line Skipped r is e = let same : W ≡ V = cc e in let P : List Numbered → Type 0 = λ x. IsRun size (run_of x) in subst P same r
@@ -178,7 +178,7 @@ module _ (tell : List Numbered → ℕ → List ℕ → Outcome → List ℕ) (s
   run_grown W V n line (Stopped stop) r is e = absurd (cc e)
 
   -- the steps with which the handling goes on make a run
-  pub run_on : (W V : List Numbered) (n : ℕ) (line text : List ℕ) → IsRun size (run_of W) → TellsLine tell size W n line text (Some V) → IsRun size (run_of V)
+  pub run_on : (W V : List Numbered) (n : ℕ) (line text : List ℕ) → IsRun size (run_of W) → ReportsLine report size W n line text (Some V) → IsRun size (run_of V)
   run_on W V n line text r (o, comes, e, f) = run_grown W V n line o r comes f
 
 pub one_schedule_answer : (size : Size) (claims : Bool) (input : List ℕ) → HasOneAnswer size claims input

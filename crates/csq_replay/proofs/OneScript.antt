@@ -1,6 +1,6 @@
 -- A script has one answer.
 use Rattle.std.proofs.Common.{◌≡◌, ℕ, zero, suc, ◌+◌, ◌<◌, ◌≤◌, ◌==◌, ◌⊎◌, inl, inr, Bool, true, false, cond, List, [], ◌∷◌, Option, Some, None, ltb, eq-eqb, refl, ap, sym, ◌∙◌, subst, arith}
-use Rattle.csq_replay.proofs.Imports.{lt-ltb, le-ltb, ne_eqb, FileId, IrpId, last_life, same_irp-is, same_irp-not, NtStatus, PENDING, CANCELLED, number, same_irp, IrpLife, flagged, found_by, owes, holds, status_recorded, Place, Peek, File, Limits, has_irp, has_unmarked, first_unmarked, refusal, back_refusal, reply_to_insert, Call, UnknownIrp, UnknownFile, NoClaim, NotHeld, StatusPending, Stale, NotCompleted, LivesSpent, Reply, Pending, Cancelled, InsertRefused, Removed, NoIrp, Claimed, Unclaimed, Completed, Closed, Cleaned, Begun, Refused, Script, script_pass, new_script, present_of, IsNow, life_now, life_after, after_reuse, cancelled_life, doing, completing, removal_steps, named_removal_steps, removal_reply, status_reply, irp_of, token_of, file_of, after_mark, Calls, Cleans, Does, refuses_insert, lists, cancels_insert, removes_next, removes, removes_none, claims, claims_none, runs_routine, has_no_claim, completes, holds_none, refuses_pending, refuses_put_back, puts_back, cancels_put_back, closes, is_stale, reuses, not_completed, lives_spent, tells_flag, tells_status, knows_no_irp, knows_no_file, none_left, one_more, calls, cancel_claimed, cancel_unclaimed, cleaned, Ended, IsAnswer, TellsCall, going_on, call_text, closing_lines, HasOneScriptAnswer}
+use Rattle.csq_replay.proofs.Imports.{lt-ltb, le-ltb, ne_eqb, FileId, IrpId, last_life, same_irp-is, same_irp-not, NtStatus, PENDING, CANCELLED, number, same_irp, IrpLife, flagged, found_by, owes, holds, status_recorded, Place, Peek, File, Limits, has_irp, has_unmarked, first_unmarked, refusal, back_refusal, reply_to_insert, Call, UnknownIrp, UnknownFile, NoClaim, NotHeld, StatusPending, Stale, NotCompleted, LivesSpent, Reply, Pending, Cancelled, InsertRefused, Removed, NoIrp, Claimed, Unclaimed, Completed, Closed, Cleaned, Begun, Refused, Script, script_pass, new_script, present_of, IsPresentOf, life_now, life_after, after_reuse, cancelled_life, doing, completing, removal_steps, named_removal_steps, removal_reply, status_reply, irp_of, token_of, file_of, after_mark, Calls, Cleans, Does, refuses_insert, lists, cancels_insert, removes_next, removes, removes_none, claims, claims_none, runs_routine, has_no_claim, completes, holds_none, refuses_pending, refuses_put_back, puts_back, cancels_put_back, closes, is_stale, reuses, not_completed, lives_spent, reports_flag, reports_status, knows_no_irp, knows_no_file, none_left, one_more, calls, cancel_claimed, cancel_unclaimed, cleaned, Ended, IsAnswer, ReportsCall, going_on, call_text, closing_lines, HasOneScriptAnswer}
 use Rattle.irp_core.specs.declared.step.Kind.TheVariants as step
 use Rattle.csq_words.specs.declared.views.InsertReply.{InsertReply}
 use Rattle.csq_words.specs.declared.views.InsertReply.TheVariants as insert
@@ -87,13 +87,13 @@ module _ (l : Limits) (s : Script) where
   beyond : (n m : IrpId) → n ≡ m → l.irps ≤ m.0 → (y : Outcome) → (Refused UnknownIrp, s) ≡ of_known l s n y
   beyond n m same le y = rw (le-ltb n.0 l.irps (omega (arith, le, ap (λ (x : IrpId). x.0) same))) refl
 
-  now_is : (i : IrpLife) → IsNow s i → (y : Outcome) → y ≡ if_now s i y
+  now_is : (i : IrpLife) → IsPresentOf s i → (y : Outcome) → y ≡ if_now s i y
   now_is i now y = rw (same_irp-is (present_of s i.irp) i now) refl
 
-  stale_is : (i : IrpLife) → ¬ IsNow s i → (y : Outcome) → (Refused (Stale (life_now s i.irp)), s) ≡ if_now s i y
+  stale_is : (i : IrpLife) → ¬ IsPresentOf s i → (y : Outcome) → (Refused (Stale (life_now s i.irp)), s) ≡ if_now s i y
   stale_is i stale y = rw (same_irp-not (present_of s i.irp) i stale) refl
 
-  stale_call : (c : Call) (i : IrpLife) → cancelled_life c ≡ Some i → number i < l.irps → ¬ IsNow s i → (Refused (Stale (life_now s i.irp)), s) ≡ outcome l s c
+  stale_call : (c : Call) (i : IrpLife) → cancelled_life c ≡ Some i → number i < l.irps → ¬ IsPresentOf s i → (Refused (Stale (life_now s i.irp)), s) ≡ outcome l s c
   stale_call (Mark j) i e lt stale =
       let same : i ≡ j = cc e in
       let P : IrpLife → Type 0 = λ x. (Refused (Stale (life_now s i.irp)), s) ≡ outcome l s (Mark x) in
@@ -156,13 +156,13 @@ module _ (l : Limits) (s : Script) where
   calls_outcome c r t (puts_back i place lt held may) = known i lt _ _ (held_is _ held _ _ (ap (put_back i place s) may.2))
   calls_outcome c r t (cancels_put_back i place lt held may) = known i lt _ _ (held_is _ held _ _ (ap (put_back i place s) may.2))
   calls_outcome c r t (closes f lt) = rw (lt-ltb f.0 l.files lt) refl
-  calls_outcome c r t (tells_flag i lt) = known i lt _ _ refl
-  calls_outcome c r t (tells_status i lt) = known i lt _ _ refl
-  calls_outcome c r t (reuses n status lt told room may) =
-      known n lt _ _ (ap (reused n s (Some status)) (sym (lt-ltb (s.queue.lives n) last_life room)) ∙ ap (λ o. reused n s o (ltb (s.queue.lives n) last_life)) (sym told))
+  calls_outcome c r t (reports_flag i lt) = known i lt _ _ refl
+  calls_outcome c r t (reports_status i lt) = known i lt _ _ refl
+  calls_outcome c r t (reuses n status lt reported room may) =
+      known n lt _ _ (ap (reused n s (Some status)) (sym (lt-ltb (s.queue.lives n) last_life room)) ∙ ap (λ o. reused n s o (ltb (s.queue.lives n) last_life)) (sym reported))
   calls_outcome c r t (not_completed n lt none) = known n lt _ _ (ap (λ o. reused n s o (ltb (s.queue.lives n) last_life)) (sym none))
-  calls_outcome c r t (lives_spent n status lt told last) =
-      known n lt _ _ (ap (reused n s (Some status)) (sym (le-ltb (s.queue.lives n) last_life last)) ∙ ap (λ o. reused n s o (ltb (s.queue.lives n) last_life)) (sym told))
+  calls_outcome c r t (lives_spent n status lt reported last) =
+      known n lt _ _ (ap (reused n s (Some status)) (sym (le-ltb (s.queue.lives n) last_life last)) ∙ ap (λ o. reused n s o (ltb (s.queue.lives n) last_life)) (sym reported))
   calls_outcome c r t (knows_no_irp c' i names le) = unknown_irp c i names le
   calls_outcome c r t (knows_no_file c' f names le) = unknown_file c f names le
 
@@ -172,9 +172,9 @@ module _ (l : Limits) (s : Script) where
       (ap (λ (x : Outcome). x.0) e, ap (λ (x : Outcome). x.1) e)
 
   -- a call that is made of others is of what is known
-  cancel_unknown : (i : IrpLife) (r : Reply) (t : Script) → Calls l s (Cancel i) r t → (l.irps ≤ number i) ⊎ (¬ IsNow s i)
+  cancel_unknown : (i : IrpLife) (r : Reply) (t : Script) → Calls l s (Cancel i) r t → (l.irps ≤ number i) ⊎ (¬ IsPresentOf s i)
   cancel_unknown i r t (knows_no_irp c j names le) = let same : i.irp ≡ j = cc names in inl (omega (arith, le, ap (λ (x : IrpId). x.0) same))
-  cancel_unknown i r t (is_stale c j names known stale) = let same : j ≡ i = cc names in inr (let P : IrpLife → Type 0 = λ x. ¬ IsNow s x in subst P same stale)
+  cancel_unknown i r t (is_stale c j names known stale) = let same : j ≡ i = cc names in inr (let P : IrpLife → Type 0 = λ x. ¬ IsPresentOf s x in subst P same stale)
   cancel_unknown i r t (knows_no_file c f names le) = absurd (cc names)
   cancel_unknown i r t (holds_none c n takes lt none) = absurd (cc takes)
 
@@ -184,14 +184,14 @@ module _ (l : Limits) (s : Script) where
   cleanup_unknown f r t (knows_no_irp c i names le) = absurd (cc names)
   cleanup_unknown f r t (knows_no_file c g names le) = let same : f ≡ g = cc names in omega (arith, le, ap (λ (x : FileId). x.0) same)
 
-  claimed_known : (i : IrpLife) (t : Script) → Calls l s (Mark i) Claimed t → (number i < l.irps) × IsNow s i
+  claimed_known : (i : IrpLife) (t : Script) → Calls l s (Mark i) Claimed t → (number i < l.irps) × IsPresentOf s i
   claimed_known i t (claims j lt now found may) = (lt, now)
 
-  unclaimed_known : (i : IrpLife) (t : Script) → Calls l s (Mark i) Unclaimed t → (number i < l.irps) × IsNow s i
+  unclaimed_known : (i : IrpLife) (t : Script) → Calls l s (Mark i) Unclaimed t → (number i < l.irps) × IsPresentOf s i
   unclaimed_known i t (claims_none j lt now found) = (lt, now)
 
   -- no life is both
-  not_both : (i : IrpLife) → (l.irps ≤ number i) ⊎ (¬ IsNow s i) → (number i < l.irps) × IsNow s i → ⊥
+  not_both : (i : IrpLife) → (l.irps ≤ number i) ⊎ (¬ IsPresentOf s i) → (number i < l.irps) × IsPresentOf s i → ⊥
   not_both i (inl le) (lt, now) = omega (arith, le, lt)
   not_both i (inr stale) (lt, now) = stale now
 
@@ -257,17 +257,17 @@ module _ (l : Limits) where
   one_outcome s line (Stopped Malformed) (Stopped Malformed) t u a b = (refl, a.3 ∙ sym b.3)
 
   -- a script is told in one way, however its lines and its end are told
-  module _ (tell : ℕ → CallOutcome → List ℕ) (closing : Script → List ℕ) where
-    one_line : (s : Script) (n : ℕ) (line t u : List ℕ) (m k : Option Script) → TellsCall tell l s n line t m → TellsCall tell l s n line u k → (t ≡ u) × (m ≡ k)
+  module _ (report : ℕ → CallOutcome → List ℕ) (closing : Script → List ℕ) where
+    one_line : (s : Script) (n : ℕ) (line t u : List ℕ) (m k : Option Script) → ReportsCall report l s n line t m → ReportsCall report l s n line u k → (t ≡ u) × (m ≡ k)
     one_line s n line t u m k (o, v, comes, e, f) (p, w, comes', g, h) =
         let same = one_outcome s line o p v w comes comes' in
-        (e ∙ ap (tell n) same.0 ∙ sym g, f ∙ ap (λ x. going_on x v) same.0 ∙ ap (going_on p) same.1 ∙ sym h)
+        (e ∙ ap (report n) same.0 ∙ sym g, f ∙ ap (λ x. going_on x v) same.0 ∙ ap (going_on p) same.1 ∙ sym h)
 
-    pub one_telling : (input t u : List ℕ) (e f : Ended) → IsAnswer (TellsCall tell l) (λ s text. text ≡ closing s) (new_script l) input t e
-        → IsAnswer (TellsCall tell l) (λ s text. text ≡ closing s) (new_script l) input u f → (t ≡ u) × (e ≡ f)
-    one_telling input t u e f is other =
-        one_input_answer (TellsCall tell l) (λ s text. text ≡ closing s) (λ s. Unit {0}) (λ s n line x y m k fits. one_line s n line x y m k) (λ s v n line text fits h. tt)
+    pub one_report : (input t u : List ℕ) (e f : Ended) → IsAnswer (ReportsCall report l) (λ s text. text ≡ closing s) (new_script l) input t e
+        → IsAnswer (ReportsCall report l) (λ s text. text ≡ closing s) (new_script l) input u f → (t ≡ u) × (e ≡ f)
+    one_report input t u e f is other =
+        one_input_answer (ReportsCall report l) (λ s text. text ≡ closing s) (λ s. Unit {0}) (λ s n line x y m k fits. one_line s n line x y m k) (λ s v n line text fits h. tt)
         (λ s x y fits closed closed'. closed ∙ sym closed') (new_script l) tt input t u e f is other
 
 pub one_script_answer : (l : Limits) (input : List ℕ) → HasOneScriptAnswer l input
-one_script_answer l input = one_telling l call_text (closing_lines l) input
+one_script_answer l input = one_report l call_text (closing_lines l) input

@@ -1,6 +1,6 @@
 -- The queue of one thread says of each IRP what the run says, step by step.
 use Rattle.std.proofs.Common.{◌≡◌, ℕ, ◌+◌, ◌≤◌, Bool, true, false, cond, not, ◌&&◌, ◌||◌, List, [], ◌∷◌, refl, ap, sym, ◌∙◌, arith}
-use Rattle.csq_replay.proofs.Imports.{or-false, or-true, or_right, PassId, FileId, Kind, Arm, Test, Disarm, End, Flag, Take, Out, Done, Renew, Rearm, Made, Standing, IrpId, life_of, same_id, same_irp, IrpLife, present_life, IsPresent, life_same, life_next, listed_present, used_begun, ArePresent, AreBegun, HasSoundLives, armed, flagged, was_armed, owes, holds, has_gone, listed, Size, IsRun, same_irp-refl, same_irp-eq, Row, stands, Place, put_at, Queued, QueueState, current, begin_next, has_irp, has_entry, has_marked, has_unmarked, marking, without, after_event, new_entry, script_pass, next_step, AreMarked, IsOfRun}
+use Rattle.csq_replay.proofs.Imports.{or-false, or-true, or_right, PassId, FileId, Kind, Arm, Test, Disarm, End, Flag, Take, Out, Done, Renew, Rearm, Made, Standing, IrpId, life_of, same_id, same_irp, IrpLife, present_life, IsPresent, life_same, life_next, listed_present, used_begun, ArePresent, AreBegun, HasSoundLives, armed, flagged, was_armed, owes, holds, has_gone, listed, Size, IsRun, same_irp-refl, same_irp-eq, Row, stands, Place, put_at, Queued, QueueState, present_in, begin_next, has_irp, has_entry, has_marked, has_unmarked, marking, without, after_event, new_entry, script_pass, next_step, AreMarked, IsOfRun}
 use Rattle.irp_core.specs.declared.standing.Standing.TheVariants.{Home, Waiting, Owed, Held}
 use Rattle.irp_core.specs.declared.ids.Life.{Life}
 use Rattle.csq_list.specs.declared.entry.Place.TheVariants.{Back, Front}
@@ -136,15 +136,15 @@ module _ (size : Size) (E : List Made) (r : IsRun size E) (q : QueueState) (h : 
   }
 
   -- an Arm lists its IRP
-  pub queue_arm : (n : IrpId) (f : FileId) (place : Place) → was_armed E (current q n) ≡ false → IsOfRun size.first (next_step E (Arm (current q n))) (after_event q (event.Insert n f place Pending))
+  pub queue_arm : (n : IrpId) (f : FileId) (place : Place) → was_armed E (present_in q n) ≡ false → IsOfRun size.first (next_step E (Arm (present_in q n))) (after_event q (event.Insert n f place Pending))
   queue_arm n f place home = record {
     lives = h.lives;
-    used = λ j. ap (λ b. same_irp (current q n) j || b) (h.used j);
-    entries = λ j. has_entry-placed place (new_entry (current q n) f) q.entries j ∙ ap (λ b. same_irp (current q n) j || b) (h.entries j)
-        ∙ sym (joins (same_irp (current q n) j) (was_armed E j) (has_gone E j) (λ e. ap (has_gone E) (sym (same_irp-eq (current q n) j e)) ∙ home_left size E r (current q n) home));
+    used = λ j. ap (λ b. same_irp (present_in q n) j || b) (h.used j);
+    entries = λ j. has_entry-placed place (new_entry (present_in q n) f) q.entries j ∙ ap (λ b. same_irp (present_in q n) j || b) (h.entries j)
+        ∙ sym (joins (same_irp (present_in q n) j) (was_armed E j) (has_gone E j) (λ e. ap (has_gone E) (sym (same_irp-eq (present_in q n) j e)) ∙ home_left size E r (present_in q n) home));
     flags = h.flags;
-    marks = marks_placed (next_step E (Arm (current q n))) place (new_entry (current q n) f) q.entries (rw same_irp-refl refl)
-        (marks_stay E (next_step E (Arm (current q n))) q.entries (λ j there. ap (λ b. (b || false) || armed E j) (other_entry q.entries (current q n) j (unlisted (current q n) home) there)) h.marks);
+    marks = marks_placed (next_step E (Arm (present_in q n))) place (new_entry (present_in q n) f) q.entries (rw same_irp-refl refl)
+        (marks_stay E (next_step E (Arm (present_in q n))) q.entries (λ j there. ap (λ b. (b || false) || armed E j) (other_entry q.entries (present_in q n) j (unlisted (present_in q n) home) there)) h.marks);
   }
     where
       joins : (b w x : Bool) → (b ≡ true → x ≡ false) → ((b || w) && not x) ≡ (b || (w && not x))
@@ -171,18 +171,18 @@ module _ (size : Size) (E : List Made) (r : IsRun size E) (q : QueueState) (h : 
       absent = h.entries i ∙ (held_gone size E r i held).1
 
   -- a Renew begins the next life
-  pub queue_renew : (n : IrpId) (life : Life) → IsOfRun size.first (next_step E (Renew (current q n))) (after_event q (event.Reuse n life))
+  pub queue_renew : (n : IrpId) (life : Life) → IsOfRun size.first (next_step E (Renew (present_in q n))) (after_event q (event.Reuse n life))
   queue_renew n life = record {
     lives = λ m. go m (same_id n m) refl;
     used = h.used;
     entries = h.entries;
     flags = h.flags;
-    marks = marks_stay E (next_step E (Renew (current q n))) q.entries (λ j there. refl) h.marks;
+    marks = marks_stay E (next_step E (Renew (present_in q n))) q.entries (λ j there. refl) h.marks;
   }
     where
-      go : (m : IrpId) (b : Bool) → same_id n m ≡ b → begin_next n q.lives m ≡ present_life size.first (next_step E (Renew (current q n))) m
-      go m true e = ap (λ b. cond b (q.lives m + 1) (q.lives m)) e ∙ ap (λ g. g + 1) (h.lives m) ∙ sym (life_next size.first (record { pass = script_pass; kind = Renew (current q n); found = 0 }) E m e)
-      go m false e = ap (λ b. cond b (q.lives m + 1) (q.lives m)) e ∙ h.lives m ∙ sym (life_same size.first (record { pass = script_pass; kind = Renew (current q n); found = 0 }) E m e)
+      go : (m : IrpId) (b : Bool) → same_id n m ≡ b → begin_next n q.lives m ≡ present_life size.first (next_step E (Renew (present_in q n))) m
+      go m true e = ap (λ b. cond b (q.lives m + 1) (q.lives m)) e ∙ ap (λ g. g + 1) (h.lives m) ∙ sym (life_next size.first (record { pass = script_pass; kind = Renew (present_in q n); found = 0 }) E m e)
+      go m false e = ap (λ b. cond b (q.lives m + 1) (q.lives m)) e ∙ h.lives m ∙ sym (life_same size.first (record { pass = script_pass; kind = Renew (present_in q n); found = 0 }) E m e)
 
 -- a step that takes the routine of i, which it had or not
 pub taken_routine : (E : List Made) (i j : IrpLife) (b : Bool) → b ≡ same_irp i j → armed E i ≡ false → (not b && armed E j) ≡ armed E j

@@ -1,6 +1,6 @@
 -- Between two calls the pass holds only what it got by removals.
 use Rattle.std.proofs.Common.{◌≡◌, ℕ, Bool, true, false, cond, not, ◌&&◌, ◌||◌, ◌==◌, List, [], ◌∷◌, refl}
-use Rattle.csq_replay.proofs.Imports.{FileId, IrpId, NtStatus, CANCELLED, Kind, Arm, Test, Disarm, End, Flag, Take, Out, Done, Renew, Rearm, Made, Inside, Nothing, Removing, Cancelling, same_irp, same_pass, IrpLife, bit, armed, inside, inside_after, in_insert, holds, removed, same_pass-refl, Peek, File, matches, Queued, Limits, has_unmarked, has_marked, Call, Next, Mark, Routine, Complete, Close, Reply, Removed, NoIrp, Claimed, Unclaimed, Completed, Closed, Script, script_pass, present_of, next_step, after_steps, removal_steps, named_removal_steps, Calls, Cleans, Does, refuses_insert, lists, cancels_insert, removes_next, removes, removes_none, claims, claims_none, runs_routine, has_no_claim, completes, holds_none, refuses_pending, refuses_put_back, puts_back, cancels_put_back, closes, is_stale, reuses, not_completed, lives_spent, tells_flag, tells_status, knows_no_irp, knows_no_file, none_left, one_more, calls, cancel_claimed, cancel_unclaimed, cleaned, HoldsRemoved}
+use Rattle.csq_replay.proofs.Imports.{FileId, IrpId, NtStatus, CANCELLED, Kind, Arm, Test, Disarm, End, Flag, Take, Out, Done, Renew, Rearm, Made, Inside, Nothing, Removing, Cancelling, same_irp, same_pass, IrpLife, bit, armed, inside, inside_after, in_insert, holds, removed, same_pass-refl, Peek, File, matches, Queued, Limits, has_unmarked, has_marked, Call, Next, Mark, Routine, Complete, Close, Reply, Removed, NoIrp, Claimed, Unclaimed, Completed, Closed, Script, script_pass, present_of, next_step, after_steps, removal_steps, named_removal_steps, Calls, Cleans, Does, refuses_insert, lists, cancels_insert, removes_next, removes, removes_none, claims, claims_none, runs_routine, has_no_claim, completes, holds_none, refuses_pending, refuses_put_back, puts_back, cancels_put_back, closes, is_stale, reuses, not_completed, lives_spent, reports_flag, reports_status, knows_no_irp, knows_no_file, none_left, one_more, calls, cancel_claimed, cancel_unclaimed, cleaned, HoldsRemoved}
 
 -- the pass isn't inside of an insert or a put-back
 abbrev IsNoInsert : List Made → Type 0
@@ -106,22 +106,22 @@ calls_kept l s t c r (completes n status known held final) outside h = one_step 
 calls_kept l s t c r (puts_back n place known held may) outside h = two_steps s.run h (Rearm (present_of s n)) (Test (present_of s n)) refl refl
 calls_kept l s t c r (cancels_put_back n place known held may) outside h = taken_back (after_steps (Rearm (present_of s n) ∷ Test (present_of s n) ∷ []) s.run) (present_of s n) (two_steps s.run h (Rearm (present_of s n)) (Test (present_of s n)) refl refl)
 calls_kept l s t c r (closes f known) outside h = h
-calls_kept l s t c r (reuses n status known told room may) outside h = one_step s.run h (Renew (present_of s n)) refl
+calls_kept l s t c r (reuses n status known reported room may) outside h = one_step s.run h (Renew (present_of s n)) refl
 calls_kept l s t c r (is_stale c' i names known stale) outside h = h
 calls_kept l s t c r (has_no_claim n known none) outside h = h
 calls_kept l s t c r (holds_none c' n takes known none) outside h = h
 calls_kept l s t c r (refuses_pending n known held) outside h = h
 calls_kept l s t c r (refuses_put_back n place cause known held may) outside h = h
-calls_kept l s t c r (tells_flag n known) outside h = h
-calls_kept l s t c r (tells_status n known) outside h = h
+calls_kept l s t c r (reports_flag n known) outside h = h
+calls_kept l s t c r (reports_status n known) outside h = h
 calls_kept l s t c r (not_completed n known none) outside h = h
-calls_kept l s t c r (lives_spent n status known told last) outside h = h
+calls_kept l s t c r (lives_spent n status known reported last) outside h = h
 calls_kept l s t c r (knows_no_irp c' n names le) outside h = h
 calls_kept l s t c r (knows_no_file c' f names le) outside h = h
 
 -- after a completion the pass is inside of nothing
-completed_kept : (l : Limits) (s t : Script) (i : IrpId) (status told : NtStatus) → Calls l s (Complete i status) (Completed told) t → HoldsRemoved s.run → IsNoInsert t.run × HoldsRemoved t.run
-completed_kept l s t i status told (completes n x known held final) h = (rw same_pass-refl refl, one_step s.run h (Done (present_of s n)) refl)
+completed_kept : (l : Limits) (s t : Script) (i : IrpId) (status reported : NtStatus) → Calls l s (Complete i status) (Completed reported) t → HoldsRemoved s.run → IsNoInsert t.run × HoldsRemoved t.run
+completed_kept l s t i status reported (completes n x known held final) h = (rw same_pass-refl refl, one_step s.run h (Done (present_of s n)) refl)
 
 cleans_kept : (l : Limits) (f : FileId) (s t : Script) (n : ℕ) → Cleans l f s n t → IsNoInsert s.run → HoldsRemoved s.run → HoldsRemoved t.run
 cleans_kept l f s t n (none_left s' t' next) outside h = calls_kept l s t (Next (File f)) NoIrp next outside h

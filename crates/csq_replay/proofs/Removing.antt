@@ -1,6 +1,6 @@
 -- Removals: the matches that are looked at, and what the driver keeps in the end.
 use Rattle.std.proofs.Common.{◌≡◌, ℕ, ◌<◌, Bool, true, false, cond, not, ◌&&◌, List, [], ◌∷◌, ◌++◌, map, Option, Some, None, refl, ap, sym, ◌∙◌, subst, arith, append_assoc}
-use Rattle.csq_replay.proofs.Imports.{map-append, and-false, IrpId, Disarm, End, Made, Inside, Nothing, Removing, number, life_of, same_irp, IrpLife, bit, armed, found_by, inside, inside_after, follows, listed, dones, Size, MachineState, Agrees, size_of, same_pass-refl, listed_present, status_recorded, Entry, Peek, matches, is_listed, is_distinct, rest_after, Listing, IsSound, without_irp, Queued, QueueState, Limits, current, plain_listing, first_unmarked, has_entry, has_marked, has_unmarked, after_event, plain, ArePresent, irp_eq, same_irp-is, is_listed-plain, listing-removed, Next, Remove, Removed, NoIrp, Script, script_pass, script_size, present_of, IsNow, next_step, after_steps, doing, removal_steps, named_removal_steps, Calls, removes_next, removes, removes_none, Keeping, Keeps, IsOfRun, AreMarked}
+use Rattle.csq_replay.proofs.Imports.{map-append, and-false, IrpId, Disarm, End, Made, Inside, Nothing, Removing, number, life_of, same_irp, IrpLife, bit, armed, found_by, inside, inside_after, follows, listed, dones, Size, MachineState, Agrees, size_of, same_pass-refl, listed_present, status_recorded, Entry, Peek, matches, is_listed, is_distinct, rest_after, Listing, IsSound, without_irp, Queued, QueueState, Limits, present_in, plain_listing, first_unmarked, has_entry, has_marked, has_unmarked, after_event, plain, ArePresent, irp_eq, same_irp-is, is_listed-plain, listing-removed, Next, Remove, Removed, NoIrp, Script, script_pass, script_size, present_of, IsPresentOf, next_step, after_steps, doing, removal_steps, named_removal_steps, Calls, removes_next, removes, removes_none, Keeping, Keeps, IsOfRun, AreMarked}
 use Rattle.irp_core.specs.Lives as life
 use Rattle.csq_list.specs.Searches as plainly
 use Rattle.csq_list.proofs.Finding.{rest_after-ends, rest_after-among}
@@ -115,14 +115,14 @@ module _ (l : Limits) (kept : Keeping) (s : Script) (k : Keeps l kept s) where
     listing = is;
     queue = queue;
     outside = outside;
-    told = λ i none. k.told i (sym (over i) ∙ none);
+    reported = λ i none. k.reported i (sym (over i) ∙ none);
     statuses = λ n in_range. k.statuses n in_range ∙ ap (λ (y : IrpLife). status_recorded y s.completed) (sym (still n));
     statuses_size = k.statuses_size;
     files = λ n in_range. k.files n in_range ∙ sym (files n);
     files_size = k.files_size;
   }
     where
-      still : (n : IrpId) → current q n ≡ present_of s n
+      still : (n : IrpId) → present_in q n ≡ present_of s n
       still n = let at_life : ℕ → IrpLife = λ g. record { irp = n; life = record { 0 = g } } in ap at_life (lives n)
 
   -- each entry is of its IRP's present life
@@ -262,7 +262,7 @@ module _ (l : Limits) (kept : Keeping) (s : Script) (k : Keeps l kept s) where
         )
 
   -- a removal of one IRP
-  pub removed_keeps : (i : IrpLife) → number i < (size_of kept.machine).irps → IsNow s i → is_listed kept.listing.entries i.irp ≡ true → (new : MachineState) (v : ℕ) → Agrees new (next_step s.run (Disarm i))
+  pub removed_keeps : (i : IrpLife) → number i < (size_of kept.machine).irps → IsPresentOf s i → is_listed kept.listing.entries i.irp ≡ true → (new : MachineState) (v : ℕ) → Agrees new (next_step s.run (Disarm i))
       → size_of new ≡ size_of kept.machine → v ≡ found_by s.run (Disarm i) → v ≡ 1 → (listing : Listing) → listing ≡ without_irp i.irp kept.listing
       → (t : Script) × Calls l s (Remove i) (Removed i.irp) t × Keeps l (record kept { machine = new; listing = listing }) t
   removed_keeps i known now there new v a same value hit listing without_i =
@@ -294,7 +294,7 @@ module _ (l : Limits) (kept : Keeping) (s : Script) (k : Keeps l kept s) where
       )
 
   -- of an IRP that is claimed
-  pub marked_keeps : (i : IrpLife) → number i < (size_of kept.machine).irps → IsNow s i → is_listed kept.listing.entries i.irp ≡ true → (new : MachineState) (v : ℕ)
+  pub marked_keeps : (i : IrpLife) → number i < (size_of kept.machine).irps → IsPresentOf s i → is_listed kept.listing.entries i.irp ≡ true → (new : MachineState) (v : ℕ)
       → Agrees new (next_step (next_step s.run (Disarm i)) End) → size_of new ≡ size_of kept.machine → v ≡ found_by s.run (Disarm i) → (v ≡ 1 → ⊥)
       → (t : Script) × Calls l s (Remove i) NoIrp t × Keeps l (record kept { machine = new }) t
   marked_keeps i known now there new v a same value miss =

@@ -36,7 +36,7 @@ module _ (l : Limits) (kept : Keeping) (s : Script) (k : Keeps l kept s) (n : Ir
 
     -- so it was completed, and is over
     over : dones s.run (present_of s n) ≢ []
-    over none = let untold = k.told (present_of s n) none in let told = has_status in absurd (cc (untold, told))
+    over none = let unreported = k.reported (present_of s n) none in let reported = has_status in absurd (cc (unreported, reported))
 
     used : was_armed s.run (present_of s n) ≡ true
     used = let x = stands (script_size l) s.run (run_for l kept s k) (present_of s n) in row_done _ _ _ _ _ _ _ _ _ (present_of s n) x.0 x.1 over
@@ -81,14 +81,14 @@ module _ (l : Limits) (kept : Keeping) (s : Script) (k : Keeps l kept s) (n : Ir
       status_now : (m : IrpId) → m.0 < l.irps → (b : Bool) → same_id n m ≡ b → slice_index_or (slice_set kept.statuses n.0 None) m.0 None ≡ status_recorded (present_of (after_reuse n s) m) s.completed
       status_now m in_range true e =
           ap (λ (x : IrpId). slice_index_or (slice_set kept.statuses n.0 None) x.0 None) (sym (same_id-eq n m e)) ∙ get_or-set_same kept.statuses n.0 None None (omega (arith, here, k.statuses_size))
-          ∙ sym (ap (λ (y : IrpLife). status_recorded y s.completed) (here_now m e) ∙ k.told next unborn)
+          ∙ sym (ap (λ (y : IrpLife). status_recorded y s.completed) (here_now m e) ∙ k.reported next unborn)
       status_now m in_range false e =
           get_or-set_other kept.statuses n.0 m.0 None None (λ same. same_id-ne n m e (sym same)) ∙ k.statuses m in_range ∙ ap (λ (y : IrpLife). status_recorded y s.completed) (sym (there_now m e))
 
       pub renewed_keeps : (machine : MachineState) → Agrees machine (next_step s.run (Renew (present_of s n))) → size_of machine ≡ size_of kept.machine
           → (new : Listing) → new ≡ renewed n kept.listing → (statuses : List (Option NtStatus)) → statuses ≡ slice_set kept.statuses n.0 None
           → (t : Script) × Calls l s (Reuse n) (Begun (life_after s n)) t × Keeps l (record kept { machine = machine; listing = new; statuses = statuses }) t
-      renewed_keeps machine a same new is statuses told = (
+      renewed_keeps machine a same new is statuses reported = (
         after_reuse n s,
         reuses n status here has_status room (k.queue.used (present_of s n) ∙ used, k.queue.entries (present_of s n) ∙ gone, refl),
         record {
@@ -98,9 +98,9 @@ module _ (l : Limits) (kept : Keeping) (s : Script) (k : Keeps l kept s) (n : Ir
           listing = is ∙ ap (renewed n) k.listing ∙ listing-renewed l s.queue n (sound_lives (script_size l) s.run (run_for l kept s k) s.queue k.queue);
           queue = queue_renew (script_size l) s.run (run_for l kept s k) s.queue k.queue n (life_after s n);
           outside = rw same_pass-refl refl;
-          told = k.told;
-          statuses = λ m in_range. ap (λ x. slice_index_or x m.0 None) told ∙ status_now m in_range (same_id n m) refl;
-          statuses_size = ap length told ∙ length-set kept.statuses n.0 None ∙ k.statuses_size;
+          reported = k.reported;
+          statuses = λ m in_range. ap (λ x. slice_index_or x m.0 None) reported ∙ status_now m in_range (same_id n m) refl;
+          statuses_size = ap length reported ∙ length-set kept.statuses n.0 None ∙ k.statuses_size;
           files = k.files;
           files_size = k.files_size;
         },

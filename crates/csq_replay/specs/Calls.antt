@@ -24,7 +24,7 @@ use Rattle.csq_words.specs.declared.views.Completion.{Completion}
 use Rattle.csq_words.specs.declared.views.InsertReply.TheVariants as insert
 use Rattle.csq_words.specs.declared.views.Event.{Event}
 use Rattle.csq_words.specs.declared.views.Event.TheVariants as event
-use Rattle.csq_words.specs.Queue.{Queued, QueueState, Limits, empty_queue, current, has_marked, has_unmarked, after_event}
+use Rattle.csq_words.specs.Queue.{Queued, QueueState, Limits, empty_queue, present_in, has_marked, has_unmarked, after_event}
 use Rattle.csq_words.specs.History.{MayCome}
 use Rattle.csq_words.specs.Plays.{status_recorded}
 use Rattle.csq_replay.specs.declared.script.call.Call.{Call}
@@ -54,11 +54,11 @@ new_script l = record { run = []; queue = empty_queue l.first; completed = [] }
 
 -- IRP n in its present life
 abbrev pub present_of : Script → IrpId → IrpLife
-present_of s n = current s.queue n
+present_of s n = present_in s.queue n
 
 -- i names the present life of its IRP
-abbrev pub IsNow : Script → IrpLife → Type 0
-IsNow s i = present_of s i.irp ≡ i
+abbrev pub IsPresentOf : Script → IrpLife → Type 0
+IsPresentOf s i = present_of s i.irp ≡ i
 
 -- the present life of IRP n, and the one after it
 abbrev pub life_now : Script → IrpId → Life
@@ -161,11 +161,11 @@ pub data Calls (l : Limits) (s : Script) : Call → Reply → Script → Type 0 
       → Calls l s (Remove i) (Removed i.irp) (doing (named_removal_steps i s.queue.entries) (event.Remove i true) s)
   removes_none : (i : IrpLife) → number i < l.irps → MayCome l s.queue (event.Remove i false)
       → Calls l s (Remove i) NoIrp (doing (named_removal_steps i s.queue.entries) (event.Remove i false) s)
-  claims : (i : IrpLife) → number i < l.irps → IsNow s i → found_by s.run (step.Take i) ≡ 1 → MayCome l s.queue (event.Mark i)
+  claims : (i : IrpLife) → number i < l.irps → IsPresentOf s i → found_by s.run (step.Take i) ≡ 1 → MayCome l s.queue (event.Mark i)
       → Calls l s (Mark i) Claimed (doing [] (event.Mark i) (after_mark i s))
-  claims_none : (i : IrpLife) → number i < l.irps → IsNow s i → found_by s.run (step.Take i) ≡ 0
+  claims_none : (i : IrpLife) → number i < l.irps → IsPresentOf s i → found_by s.run (step.Take i) ≡ 0
       → Calls l s (Mark i) Unclaimed (after_mark i s)
-  is_stale : (c : Call) (i : IrpLife) → cancelled_life c ≡ Some i → number i < l.irps → ¬ IsNow s i → Calls l s c (Refused (Stale (life_now s i.irp))) s
+  is_stale : (c : Call) (i : IrpLife) → cancelled_life c ≡ Some i → number i < l.irps → ¬ IsPresentOf s i → Calls l s c (Refused (Stale (life_now s i.irp))) s
   runs_routine : (n : IrpId) → n.0 < l.irps → owes s.run script_pass (present_of s n) ≡ true → MayCome l s.queue (event.Out (present_of s n))
       → Calls l s (Routine n) (Completed CANCELLED) (after_routine n s)
   has_no_claim : (n : IrpId) → n.0 < l.irps → owes s.run script_pass (present_of s n) ≡ false → Calls l s (Routine n) (Refused NoClaim) s
@@ -182,8 +182,8 @@ pub data Calls (l : Limits) (s : Script) : Call → Reply → Script → Type 0 
       (completing (present_of s n) CANCELLED
       (doing (step.Rearm (present_of s n) ∷ step.Test (present_of s n) ∷ step.Disarm (present_of s n) ∷ []) (event.PutBack (present_of s n) (s.queue.file_of n) place insert.Cancelled) s))
   closes : (f : FileId) → MayCome l s.queue (event.CloseFile f) → Calls l s (Close f) Closed (doing [] (event.CloseFile f) s)
-  tells_flag : (n : IrpId) → n.0 < l.irps → Calls l s (Flag n) (reply.Flag (flagged s.run (present_of s n))) s
-  tells_status : (n : IrpId) → n.0 < l.irps → Calls l s (Status n) (status_reply (status_recorded (present_of s n) s.completed)) s
+  reports_flag : (n : IrpId) → n.0 < l.irps → Calls l s (Flag n) (reply.Flag (flagged s.run (present_of s n))) s
+  reports_status : (n : IrpId) → n.0 < l.irps → Calls l s (Status n) (status_reply (status_recorded (present_of s n) s.completed)) s
   reuses : (n : IrpId) (status : NtStatus) → n.0 < l.irps → status_recorded (present_of s n) s.completed ≡ Some status → s.queue.lives n < last_life
       → MayCome l s.queue (event.Reuse n (life_after s n)) → Calls l s (Reuse n) (Begun (life_after s n)) (after_reuse n s)
   not_completed : (n : IrpId) → n.0 < l.irps → status_recorded (present_of s n) s.completed ≡ None → Calls l s (Reuse n) (Refused NotCompleted) s

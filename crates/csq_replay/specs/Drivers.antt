@@ -53,7 +53,7 @@ pub record Keeps (l : Limits) (kept : Keeping) (s : Script) : Type 0 where
   pub queue : IsOfRun l.first s.run s.queue
   pub outside : inside s.run script_pass ≡ Nothing
   -- only what was completed has a status
-  pub told : (i : IrpLife) → dones s.run i ≡ [] → status_recorded i s.completed ≡ None
+  pub reported : (i : IrpLife) → dones s.run i ≡ [] → status_recorded i s.completed ≡ None
   pub statuses : (n : IrpId) → n.0 < l.irps → slice_index_or kept.statuses n.0 None ≡ status_recorded (present_of s n) s.completed
   pub statuses_size : length kept.statuses ≡ l.irps
   pub files : (n : IrpId) → n.0 < l.irps → slice_index_or kept.files n.0 (record { 0 = 0 }) ≡ s.queue.file_of n

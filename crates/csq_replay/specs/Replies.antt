@@ -9,9 +9,9 @@ use Rattle.csq_replay.specs.declared.script.call.Reply.{Reply}
 use Rattle.csq_replay.specs.declared.script.call.Reply.TheVariants.{Pending, Cancelled, InsertRefused, Removed, NoIrp, Claimed, Unclaimed, Refused}
 
 -- a call's value is told so, and a refusal by its name
-abbrev pub told : {T : Type 0} → (T → Reply) → Result T Refusal → Reply
-told tell (Ok value) = tell value
-told tell (Err refusal) = Refused refusal
+abbrev pub reported : {T : Type 0} → (T → Reply) → Result T Refusal → Reply
+reported report (Ok value) = report value
+reported report (Err refusal) = Refused refusal
 
 -- of an insert
 abbrev pub insert_reply : Result Inserted InsertStatus → Reply

@@ -37,8 +37,8 @@ grown W n (Accepted m) = Some (record { line = n; step = m } ∷ W)
 grown W n (Stopped stop) = None
 
 -- after the steps W the nth line is told so: by what comes of it, which W grows by
-abbrev pub TellsLine : (List Numbered → ℕ → List ℕ → Outcome → List ℕ) → Size → List Numbered → ℕ → List ℕ → List ℕ → Option (List Numbered) → Type 0
-TellsLine tell size W n line text more = (comes : Outcome) × ComesTo size (run_of W) line comes × (text ≡ tell W n line comes) × (more ≡ grown W n comes)
+abbrev pub ReportsLine : (List Numbered → ℕ → List ℕ → Outcome → List ℕ) → Size → List Numbered → ℕ → List ℕ → List ℕ → Option (List Numbered) → Type 0
+ReportsLine report size W n line text more = (comes : Outcome) × ComesTo size (run_of W) line comes × (text ≡ report W n line comes) × (more ≡ grown W n comes)
 
 -- the answer to the nth line, of which this came
 abbrev pub answer_text : List Numbered → ℕ → List ℕ → Outcome → List ℕ
@@ -47,7 +47,7 @@ answer_text W n line (Accepted m) = line ++ (codes " found " ++ (decimal m.found
 answer_text W n line (Stopped stop) = of_line n (stop_text stop ++ codes "\n")
 
 abbrev pub AnswersLine : Size → List Numbered → ℕ → List ℕ → List ℕ → Option (List Numbered) → Type 0
-AnswersLine = TellsLine answer_text
+AnswersLine = ReportsLine answer_text
 
 -- whether i is home in life 0, with a clear Cancel flag
 abbrev pub is_untouched : IrpPlace → Bool → IrpLife → Bool
@@ -71,27 +71,27 @@ abbrev pub unless_silent : IrpLine → List IrpLine
 unless_silent line = if is_silent line then [] else line ∷ []
 
 -- what is told, if anything is
-abbrev pub told_of : Option IrpLine → List IrpLine
-told_of (Some line) = line ∷ []
-told_of None = []
+abbrev pub reported_of : Option IrpLine → List IrpLine
+reported_of (Some line) = line ∷ []
+reported_of None = []
 
 -- so i is told of after E
-abbrev pub IsToldOf : List Made → IrpLife → List IrpLine → Type 0
-IsToldOf E i told = (place : IrpPlace) × IsPlace E i place × (told ≡ unless_silent (record { name = i; place = place; cancelled = flagged E i }))
+abbrev pub IsReportedOf : List Made → IrpLife → List IrpLine → Type 0
+IsReportedOf E i reported = (place : IrpPlace) × IsPlace E i place × (reported ≡ unless_silent (record { name = i; place = place; cancelled = flagged E i }))
 
 -- so the first IRPs are told of in their present lives, by rising number
-abbrev pub AreToldOf : ℕ → List Made → ℕ → List IrpLine → Type 0
-AreToldOf first E zero told = told ≡ []
-AreToldOf first E (suc n) told = (before : List IrpLine) × (last : List IrpLine) × AreToldOf first E n before
-    × IsToldOf E (present first E (record { 0 = n })) last × (told ≡ before ++ last)
+abbrev pub AreReportedOf : ℕ → List Made → ℕ → List IrpLine → Type 0
+AreReportedOf first E zero reported = reported ≡ []
+AreReportedOf first E (suc n) reported = (before : List IrpLine) × (last : List IrpLine) × AreReportedOf first E n before
+    × IsReportedOf E (present first E (record { 0 = n })) last × (reported ≡ before ++ last)
 
 -- whether all is at rest
 abbrev pub rest_text : Bool → List ℕ
 rest_text rest = if rest then codes "rest yes" else codes "rest no"
 
 -- it says whether E is at rest
-abbrev pub TellsRest : List Made → Bool → Type 0
-TellsRest E rest = (IsTrue rest) ↔ IsAtRest E
+abbrev pub ReportsRest : List Made → Bool → Type 0
+ReportsRest E rest = (IsTrue rest) ↔ IsAtRest E
 
 -- the IRP whose routine a step of this kind takes out
 abbrev pub exchanged_irp : Kind → Option IrpLife
@@ -111,14 +111,14 @@ claim_lines [] = []
 claim_lines (w ∷ W) = claim_lines W ++ claim_line w
 
 -- what is told in the end, after the run E
-pub record Closes (size : Size) (E : List Made) (told : List IrpLine) (at_rest : Bool) : Type 0 where
-  pub irps : AreToldOf size.first E size.irps told
-  pub rest : TellsRest E at_rest
+pub record Closes (size : Size) (E : List Made) (reported : List IrpLine) (at_rest : Bool) : Type 0 where
+  pub irps : AreReportedOf size.first E size.irps reported
+  pub rest : ReportsRest E at_rest
 
 -- the closing lines after the steps W, with the claims where they are asked for
 abbrev pub IsClosing : Size → Bool → List Numbered → List ℕ → Type 0
-IsClosing size claims W text = (told : List IrpLine) × (rest : Bool) × Closes size (run_of W) told rest
-    × (text ≡ irp_lines_text told ++ ((rest_text rest ++ codes "\n") ++ (if claims then claim_lines W else [])))
+IsClosing size claims W text = (reported : List IrpLine) × (rest : Bool) × Closes size (run_of W) reported rest
+    × (text ≡ irp_lines_text reported ++ ((rest_text rest ++ codes "\n") ++ (if claims then claim_lines W else [])))
 
 -- a schedule is answered this text
 abbrev pub IsScheduleAnswer : Size → Bool → List ℕ → List ℕ → Ended → Type 0

@@ -23,8 +23,8 @@ going_on (Answered c r) t = Some t
 going_on (Stopped stop) t = None
 
 -- after s the nth line is told so: by what comes of it, with which s grows to the script with which the handling goes on
-abbrev pub TellsCall : (ℕ → CallOutcome → List ℕ) → Limits → Script → ℕ → List ℕ → List ℕ → Option Script → Type 0
-TellsCall tell l s n line text more = (comes : CallOutcome) × (t : Script) × CallComesTo l s line comes t × (text ≡ tell n comes) × (more ≡ going_on comes t)
+abbrev pub ReportsCall : (ℕ → CallOutcome → List ℕ) → Limits → Script → ℕ → List ℕ → List ℕ → Option Script → Type 0
+ReportsCall report l s n line text more = (comes : CallOutcome) × (t : Script) × CallComesTo l s line comes t × (text ≡ report n comes) × (more ≡ going_on comes t)
 
 -- the answer to the nth line, of which this came
 abbrev pub call_text : ℕ → CallOutcome → List ℕ
@@ -34,7 +34,7 @@ call_text n (Stopped stop) = of_line n (call_stop_text stop ++ codes "\n")
 
 -- after s the nth line is answered this text, and s grows to the script with which the handling goes on, if it does
 abbrev pub AnswersCall : Limits → Script → ℕ → List ℕ → List ℕ → Option Script → Type 0
-AnswersCall = TellsCall call_text
+AnswersCall = ReportsCall call_text
 
 -- the numbers of these IRPs, each after a space
 abbrev pub numbers : List IrpId → List ℕ

@@ -69,9 +69,9 @@ abbrev pub ObservedAfter : Size → List ℕ → List View → ℕ → (PassId �
 ObservedAfter size words views id seat old q r = RuleHoldsBy size words (set views id (view_of q (Some r))) q.run id q (Some r) seat × HasObserved size old q r
 
 -- two records with which the rule says that the run agrees
-pub told_kept : (size : Size) (words : List ℕ) (views : List View) (run : List Made) (id : ℕ) (q : QueueRecord) (r : PassRecord) (seat : PassId → ℕ)
+pub agreed_kept : (size : Size) (words : List ℕ) (views : List View) (run : List Made) (id : ℕ) (q : QueueRecord) (r : PassRecord) (seat : PassId → ℕ)
     → IsHistoryOf size run q (in_flight (Some r)) → IsPassOf run q.history r → RuleHoldsBy size words views run id q (Some r) seat → RuleHoldsBy size words views run id q (Some r) seat × RecordsAgree size run q r
-told_kept size words views run id q r seat history pass k = (k, record { history_is = history; pass_is = pass; callers = λ p s. (k.agrees.nobody p (nobody_in q.made size.passes p k.agrees.few s)).1; seen = k.agrees.seen })
+agreed_kept size words views run id q r seat history pass k = (k, record { history_is = history; pass_is = pass; callers = λ p s. (k.agrees.nobody p (nobody_in q.made size.passes p k.agrees.few s)).1; seen = k.agrees.seen })
 
 pub made_kept : (size : Size) (words words' : List ℕ) (views : List View) (run : List Made) (id : ℕ) (q : QueueRecord) (r : PassRecord) (seat : PassId → ℕ) (kind : Kind) (n : ℕ) (es : List Event) (reuse : Reusing)
     → RuleHoldsBy size words views run id q (Some r) seat → IsMade size words words' run q r kind n es reuse → IsPlaced q.first (record { pass = r.pass; kind = kind; found = n } ∷ run) (entries_of r.pass es ++ q.history)
@@ -107,7 +107,7 @@ made_kept size words words' views run id q r seat kind n es reuse k x placed =
       completed_is = was.completed_is ∙ sym (x.inert (completed_in r.steps));
       run_is = extended_more m r.run run was.run_is;
     } in
-    let kept = told_kept size words' (set views id (view_of q' (Some r'))) (m ∷ run) id q' r' seat history_is pass_is
+    let kept = agreed_kept size words' (set views id (view_of q' (Some r'))) (m ∷ run) id q' r' seat history_is pass_is
     (locked_step size words words' views run (m ∷ run) id q q' seat r r' k record {
       same_pass = refl;
       same_made = refl;
@@ -133,4 +133,4 @@ made_kept size words words' views run id q r seat kind n es reuse k x placed =
       seen = ([], refl);
       grows = λ s g. (begins_more s.history q.history (entries_of r.pass es) g.0, extended_more m s.run run g.1);
       mine = record { of_pass = pass_is; stored = x.stored r.completed owner.2.stored; due = x.due owner.2.due; begun = begun_more q.first m run r.lives owner.2.begun };
-    }) in (kept.0, record { told = kept.1; follows = extended_more m q.run run k.agrees.seen })
+    }) in (kept.0, record { agreed = kept.1; follows = extended_more m q.run run k.agrees.seen })

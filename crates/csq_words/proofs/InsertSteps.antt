@@ -1,6 +1,6 @@
 -- The steps of an insert: arm, test, and its own disarm.
 use Rattle.std.proofs.Common.{◌≡◌, ℕ, zero, suc, ◌<◌, Bool, true, false, cond, not, ◌&&◌, ◌||◌, List, ◌∷◌, set, refl, sym, ap, ◌∙◌, subst, arith, length-set}
-use Rattle.csq_words.proofs.Imports.{and-false, and_parts, false_from_ne_true, inside_of, FileId, PassId, Arm, Test, Disarm, Made, life_of, same_irp, is, found_one, own, IrpLife, IsPresent, IrpId, armed, flagged, found_by, was_armed, inside, listed, removed, Size, IsRun, same_irp-refl, inserted_listed, grows_by_arm, grows_by_test, grows_by_insert_disarm, Place, PassRecord, QueueRecord, current, has_entry, has_irp, new_entry, put_at, queue_of, routine_at, bit_word, WasCancelled, is_done, inserts, lists, again, recorded, Pending, own_made, own_stays}
+use Rattle.csq_words.proofs.Imports.{and-false, and_parts, false_from_ne_true, inside_of, FileId, PassId, Arm, Test, Disarm, Made, life_of, same_irp, is, found_one, own, IrpLife, IsPresent, IrpId, armed, flagged, found_by, was_armed, inside, listed, removed, Size, IsRun, same_irp-refl, inserted_listed, grows_by_arm, grows_by_test, grows_by_insert_disarm, Place, PassRecord, QueueRecord, present_in, has_entry, has_irp, new_entry, put_at, queue_of, routine_at, bit_word, WasCancelled, is_done, inserts, lists, again, recorded, Pending, own_made, own_stays}
 use Rattle.irp_core.specs.declared.inside.Inside.TheVariants.{Nothing, Armed, FlagSeen}
 use Rattle.csq_words.specs.declared.calls.Call.TheVariants.{Insert}
 use Rattle.csq_words.specs.declared.views.Event.TheVariants as event
@@ -32,7 +32,7 @@ listed_hit p i j run = go (same_irp i j) refl
 module _ (size : Size) (words : List ℕ) (run : List Made) (q : QueueRecord) (r : PassRecord) (x : Sees size words run q r) (n : IrpId) (f : FileId) (place : Place) (inside' : n.0 < size.irps) where
   -- the insert is of the present life
   abbrev pub i : IrpLife
-  i = current (queue_of q) n
+  i = present_in (queue_of q) n
 
   now : IsPresent size.first run i
   now = x.history_is.lives_are n

@@ -1,6 +1,6 @@
 -- What a step or a note under the lock may do to the table.
 use Rattle.std.proofs.Common.{◌≡◌, ◌≢◌, ℕ, zero, suc, ◌<◌, ◌≤◌, ⊎_elim, true, false, ◌||◌, List, [], ◌∷◌, ◌++◌, set, Option, Some, None, refl, sym, ap, ◌∙◌, subst, arith}
-use Rattle.csq_words.proofs.Imports.{set-get_or, cases_lt, false_from_ne_true, slice_index, some, none, some-injective, get_elem?, Allows, step, keeps, set_here, inside_of, owes_in, holds_in, removed_in, PassId, Kind, Arm, Test, Disarm, End, Out, Rearm, Made, number, life_of, IrpLife, armed, flagged, cancel, routine, found_by, owes, holds, listed, IsPresent, inside, has_lock, Size, OfIrp, same_irp-refl, inserted_listed, Call, Event, Entry, Reusing, Nothing, PassRecord, QueueRecord, View, cancel_at, routine_at, bit_word, life_in, bit_in, current, has_entry, has_irp, has_marked, given_to, end_of, MayStand, IsOrderly, OwnersPutBack, view_of, queue_in, pass_in, queue_of, entries_of, with_events, with_calls, with_step, with_run, with_back, HasQueue, IsOfCall, IsPlaced, recording, noting, HasWords, is_done, in_flight, AreTrueOf, IsReuse, IsHistoryOf, IsPassOf, IsRecord, IsResting, IsBack, IsOut, BackOnce, Fits, RuleHoldsBy, RuleHolds, recorded, MayRemove, MayMake, MayComeBack, MayNote, after_note, SeatView, IsFound, FindsUnmarked, Makes, ObservesNote, Notes, owes_in-own, holds_in-own}
+use Rattle.csq_words.proofs.Imports.{set-get_or, cases_lt, false_from_ne_true, slice_index, some, none, some-injective, get_elem?, Allows, step, keeps, set_here, inside_of, owes_in, holds_in, removed_in, PassId, Kind, Arm, Test, Disarm, End, Out, Rearm, Made, number, life_of, IrpLife, armed, flagged, cancel, routine, found_by, owes, holds, listed, IsPresent, inside, has_lock, Size, OfIrp, same_irp-refl, inserted_listed, Call, Event, Entry, Reusing, Nothing, PassRecord, QueueRecord, View, cancel_at, routine_at, bit_word, life_in, bit_in, present_in, has_entry, has_irp, has_marked, given_to, end_of, MayStand, IsOrderly, OwnersPutBack, view_of, queue_in, pass_in, queue_of, entries_of, with_events, with_calls, with_step, with_run, with_back, HasQueue, IsOfCall, IsPlaced, recording, noting, HasWords, is_done, in_flight, AreTrueOf, IsReuse, IsHistoryOf, IsPassOf, IsRecord, IsResting, IsBack, IsOut, BackOnce, Fits, RuleHoldsBy, RuleHolds, recorded, MayRemove, MayMake, MayComeBack, MayNote, after_note, SeatView, IsFound, FindsUnmarked, Makes, ObservesNote, Notes, owes_in-own, holds_in-own}
 use Rattle.irp_core.specs.declared.inside.Inside.TheVariants.{Armed, FlagSeen, Rearmed, FlagSeenAgain}
 use Rattle.irp_core.specs.declared.inside.Inside.TheVariants as inner
 use Rattle.irp_core.proofs.Resting.{unknown_stands}
@@ -20,7 +20,7 @@ use Rattle.csq_words.proofs.SeatSteps.{locked_step}
 use Rattle.csq_words.proofs.Entries.{begins_more, calls_of-other, calls_of-mine}
 use Rattle.csq_words.proofs.Marks.{marked_taken}
 use Rattle.csq_words.proofs.Marking.{next_first, unmarked_else}
-use Rattle.csq_words.proofs.CallSteps.{Sees, sees, IsMade, ObservedAfter, told_kept, made_record, made_kept}
+use Rattle.csq_words.proofs.CallSteps.{Sees, sees, IsMade, ObservedAfter, agreed_kept, made_record, made_kept}
 use Rattle.csq_words.proofs.PutBackSteps.{rearm_made, back_now, rearm_finds, test_again_made, disarm_again_made}
 use Rattle.csq_words.proofs.InsertSteps.{undone, arm_made, arm_finds, test_made, disarm_made}
 use Rattle.csq_words.proofs.RemovalSteps.{TakesOut, next_listed, entries_are, miss_made, hit_made, end_made, out_made}
@@ -275,7 +275,7 @@ module _ (size : Size) (words : List ℕ) (views : List View) (run : List Made) 
         completed_is = was.completed_is;
         run_is = was.run_is;
       } in
-      let kept = told_kept size words (set views id (view_of q' (Some r'))) run id q' r' seat history_is pass_is
+      let kept = agreed_kept size words (set views id (view_of q' (Some r'))) run id q' r' seat history_is pass_is
       (locked_step size words words views run run id q q' seat r r' k record {
         same_pass = refl;
         same_made = refl;
@@ -301,7 +301,7 @@ module _ (size : Size) (words : List ℕ) (views : List View) (run : List Made) 
         seen = ([], refl);
         grows = λ s g. (begins_more s.history q.history (entries_of r.pass es) g.0, g.1);
         mine = record { of_pass = pass_is; stored = owner.2.stored; due = owner.2.due; begun = owner.2.begun };
-      }) in (kept.0, record { told = kept.1; follows = k.agrees.seen })
+      }) in (kept.0, record { agreed = kept.1; follows = k.agrees.seen })
 
   -- a pass that may come back rests
   rests : MayComeBack size.irps r → IsResting r
@@ -369,27 +369,27 @@ module _ (size : Size) (words : List ℕ) (views : List View) (run : List Made) 
     joined : Option PassRecord
     records : view_of queue joined ≡ after_note call n (with_run queue.run q) r
     kept : RuleHoldsBy size words (set views id (view_of queue joined)) left id queue joined seat
-    told : ObservesNote size call q queue (pass_in (view_of queue joined))
+    agreed : ObservesNote size call q queue (pass_in (view_of queue joined))
 
   note_kept : (call : Call) (n : Note) → MayNote size.irps call n q r → Noted call n
   note_kept (Insert i f place) (Refused cause) may =
       let es = event.Insert i f place (reply.Refused cause) ∷ [] in
       let kept = noted_kept es record { listed_same = λ h f. refl; used_same = λ h f. refl; lives_same = λ h f. refl; plain = λ f E h t. (tt, t); orderly = λ f h o. (tt, o); given_same = λ f h i. refl; owners = λ f h o. ((λ i n. off n), o) } (noting (Insert i f place) (Refused cause) r.pass (nobody_locks may) k.agrees.history_is.placed) in
-      record { left = run; queue = with_events r.pass es (with_run run q); joined = Some (with_calls es r); records = refl; kept = kept.0; told = kept.1 }
+      record { left = run; queue = with_events r.pass es (with_run run q); joined = Some (with_calls es r); records = refl; kept = kept.0; agreed = kept.1 }
   note_kept (PutBack i f place) (Refused cause) may =
       let es = event.PutBack i f place (reply.Refused cause) ∷ [] in
       let kept = noted_kept es record { listed_same = λ h f. refl; used_same = λ h f. refl; lives_same = λ h f. refl; plain = λ f E h t. (tt, t); orderly = λ f h o. (tt, o); given_same = λ f h i. refl; owners = λ f h o. ((λ i n. off n), o) } (noting (PutBack i f place) (Refused cause) r.pass (nobody_locks may) k.agrees.history_is.placed) in
-      record { left = run; queue = with_events r.pass es (with_run run q); joined = Some (with_calls es r); records = refl; kept = kept.0; told = kept.1 }
+      record { left = run; queue = with_events r.pass es (with_run run q); joined = Some (with_calls es r); records = refl; kept = kept.0; agreed = kept.1 }
   note_kept (CloseFile f) note.Event may =
       let es = event.CloseFile f ∷ [] in
       let kept = noted_kept es record { listed_same = λ h f. refl; used_same = λ h f. refl; lives_same = λ h f. refl; plain = λ f E h t. (tt, t); orderly = λ f h o. (tt, o); given_same = λ f h i. refl; owners = λ f h o. ((λ i n. off n), o) } (noting (CloseFile f) note.Event r.pass (nobody_locks may) k.agrees.history_is.placed) in
-      record { left = run; queue = with_events r.pass es (with_run run q); joined = Some (with_calls es r); records = refl; kept = kept.0; told = kept.1 }
+      record { left = run; queue = with_events r.pass es (with_run run q); joined = Some (with_calls es r); records = refl; kept = kept.0; agreed = kept.1 }
   note_kept (RemoveNext k') n may =
       let es = event.RemoveNext k' None ∷ [] in
       let may' : MayMake (RemoveNext k') End q r = removal_may n may in
       let kept = made_kept size words words views run id q r seat End 0 es q.reusing k (making size words run q r (sees size words views run id q r seat k) (RemoveNext k') End may' tt 0 refl) (recording (RemoveNext k') (record { pass = r.pass; kind = End; found = 0 }) tt k.agrees.history_is.placed) in
       let run' : List Made = record { pass = r.pass; kind = End; found = 0 } ∷ run in
-      record { left = run'; queue = made_record r es q.reusing run' q; joined = Some (with_calls es (with_step End 0 r)); records = refl; kept = kept.0; told = kept.1 }
+      record { left = run'; queue = made_record r es q.reusing run' q; joined = Some (with_calls es (with_step End 0 r)); records = refl; kept = kept.0; agreed = kept.1 }
     where
       removal_may : (n : Note) → MayNote size.irps (RemoveNext k') n q r → MayMake (RemoveNext k') End q r
       removal_may note.Event h = h
@@ -399,23 +399,23 @@ module _ (size : Size) (words : List ℕ) (views : List View) (run : List Made) 
       let may' : MayMake (Remove i) End q r = removal_may n may in
       let kept = made_kept size words words views run id q r seat End 0 es q.reusing k (making size words run q r (sees size words views run id q r seat k) (Remove i) End may' tt 0 refl) (recording (Remove i) (record { pass = r.pass; kind = End; found = 0 }) tt k.agrees.history_is.placed) in
       let run' : List Made = record { pass = r.pass; kind = End; found = 0 } ∷ run in
-      record { left = run'; queue = made_record r es q.reusing run' q; joined = Some (with_calls es (with_step End 0 r)); records = refl; kept = kept.0; told = kept.1 }
+      record { left = run'; queue = made_record r es q.reusing run' q; joined = Some (with_calls es (with_step End 0 r)); records = refl; kept = kept.0; agreed = kept.1 }
     where
       removal_may : (n : Note) → MayNote size.irps (Remove i) n q r → MayMake (Remove i) End q r
       removal_may note.Event h = h
       removal_may (Refused cause) h = absurd h
   note_kept (CancelRoutine m) n may =
-      let i = current (queue_of q) m in
+      let i = present_in (queue_of q) m in
       let es = recorded (CancelRoutine m) (Out i) 0 (queue_of q) in
       let may' : (m.0 < size.irps) × MayMake (CancelRoutine m) (Out i) q r = out_may n may in
       let kept = made_kept size words words views run id q r seat (Out i) 0 es q.reusing k (making size words run q r (sees size words views run id q r seat k) (CancelRoutine m) (Out i) may'.1 may'.0 0 refl) (recording (CancelRoutine m) (record { pass = r.pass; kind = Out i; found = 0 }) refl k.agrees.history_is.placed) in
       let run' : List Made = record { pass = r.pass; kind = Out i; found = 0 } ∷ run in
-      record { left = run'; queue = made_record r es q.reusing run' q; joined = Some (with_calls es (with_step (Out i) 0 r)); records = refl; kept = kept.0; told = kept.1 }
+      record { left = run'; queue = made_record r es q.reusing run' q; joined = Some (with_calls es (with_step (Out i) 0 r)); records = refl; kept = kept.0; agreed = kept.1 }
     where
-      out_may : (n : Note) → MayNote size.irps (CancelRoutine m) n q r → (m.0 < size.irps) × MayMake (CancelRoutine m) (Out (current (queue_of q) m)) q r
+      out_may : (n : Note) → MayNote size.irps (CancelRoutine m) n q r → (m.0 < size.irps) × MayMake (CancelRoutine m) (Out (present_in (queue_of q) m)) q r
       out_may note.Event h = h
       out_may (Refused cause) h = absurd h
-  note_kept GiveBack n may = let m = back_may n may in record { left = run; queue = with_back r q; joined = None; records = refl; kept = back_kept m.0 m.1; told = refl }
+  note_kept GiveBack n may = let m = back_may n may in record { left = run; queue = with_back r q; joined = None; records = refl; kept = back_kept m.0 m.1; agreed = refl }
     where
       back_may : (n : Note) → MayNote size.irps GiveBack n q r → MayComeBack size.irps r × (q.reusing ≡ Nothing)
       back_may note.Event h = h
@@ -437,7 +437,7 @@ notes size slots id q r held call n may s h _ here _ =
       keeps,
       tt,
       (x.left, id, x.queue, x.joined, seat, subst (λ (ws : List ℕ). RuleHoldsBy size ws (set s.views id v) x.left id x.queue x.joined seat) unread x.kept),
-      ((λ i. (x.records i, held)), subst (λ (z : View). ObservesNote size call q (queue_in z) (pass_in z)) x.records x.told),
+      ((λ i. (x.records i, held)), subst (λ (z : View). ObservesNote size call q (queue_in z) (pass_in z)) x.records x.agreed),
     )
 
 pub notes_as : (size : Size) (slots id : ℕ) (m : SeatView) (q : QueueRecord) (r : PassRecord) (call : Call) (n : Note) → m.0 ≡ view_of q (Some r) → (other : Size) → other ≡ size → MayNote size.irps call n q r

@@ -1,6 +1,6 @@
 -- The queue's seat observes the execution: this keeps the rule, which tells of the records then.
 use Rattle.std.proofs.Common.{◌≡◌, ℕ, false, List, [], Some, None, refl, sym, subst, set}
-use Rattle.csq_words.proofs.Imports.{set-get_or, none, Allows, step, keeps, set_here, has_lock, PassId, Made, Size, PassRecord, QueueRecord, View, view_of, with_run, inside_of, in_flight, IsOut, WordsAgree, Fits, RuleHoldsBy, RuleHolds, QueueHasRun, SeatView, Observes, TellsQueue, TellsBoth}
+use Rattle.csq_words.proofs.Imports.{set-get_or, none, Allows, step, keeps, set_here, has_lock, PassId, Made, Size, PassRecord, QueueRecord, View, view_of, with_run, inside_of, in_flight, IsOut, WordsAgree, Fits, RuleHoldsBy, RuleHolds, QueueHasRun, SeatView, Observes, ObservesQueue, ObservesBoth}
 use Rattle.irp_core.specs.declared.inside.Inside.TheVariants as inner
 use Rattle.csq_words.proofs.Indexes.{at_below}
 use Rattle.csq_words.proofs.Keeping.{none_is, same_history, all_set, present_else, apart, at_queue, nobody_in, agrees_same, free_flight, are_back}
@@ -16,7 +16,7 @@ observes size slots id q r held s h _ at _ =
       keeps,
       tt,
       (run, id, q', Some r, seat, subst (λ ws. RuleHoldsBy size ws (set s.views id (view_of q' (Some r))) run id q' (Some r) seat) (sym (set-get_or s.words 0 0)) kept.0),
-      (refl, record { told = kept.1; follows = k.agrees.seen }),
+      (refl, record { agreed = kept.1; follows = k.agrees.seen }),
     )
 
 -- the same at a view that is known
@@ -31,11 +31,11 @@ alone_kept size words views run id q seat k =
     let at = k.queue_is in
     let fits : ℕ → View → Type 0 = Fits words run q' id seat in
     let a = k.agrees in
-    let told = a.history_is in record {
+    let agreed = a.history_is in record {
       agrees = record {
         wide = a.wide;
         words_are = a.words_are;
-        history_is = same_history told;
+        history_is = same_history agreed;
         reuse_is = a.reuse_is;
         backs = λ i o e. let b = a.backs i o e in record { is_record = b.is_record; rests = b.rests; made = b.made };
         back_once = a.back_once;
@@ -60,11 +60,11 @@ alone_kept size words views run id q seat k =
     outside' o = record { from = o.from; to = o.to; not_back = o.not_back }
 
 -- what the rule tells of the record then, where no insert is in flight
-told_of : (size : Size) (words : List ℕ) (q : QueueRecord) → WordsAgree size words q.run q inner.Nothing → QueueHasRun size q
-told_of size words q a = record { history_is = a.history_is; callers = λ p s. (a.nobody p (nobody_in q.made size.passes p a.few s)).1; backs = are_back size words q.run q inner.Nothing a; shown = a.shown }
+agreed_of : (size : Size) (words : List ℕ) (q : QueueRecord) → WordsAgree size words q.run q inner.Nothing → QueueHasRun size q
+agreed_of size words q a = record { history_is = a.history_is; callers = λ p s. (a.nobody p (nobody_in q.made size.passes p a.few s)).1; backs = are_back size words q.run q inner.Nothing a; shown = a.shown }
 
-tells_queue : (size : Size) (slots id : ℕ) (q : QueueRecord) (held : List (ℕ × Unit {0})) → Allows (RuleHolds size) slots id (view_of q None, held) 0 (λ n. n) (TellsQueue size (step slots 0 0 0 none) (view_of q None, held))
-tells_queue size slots id q held s h _ at _ =
+observes_queue : (size : Size) (slots id : ℕ) (q : QueueRecord) (held : List (ℕ × Unit {0})) → Allows (RuleHolds size) slots id (view_of q None, held) 0 (λ n. n) (ObservesQueue size (step slots 0 0 0 none) (view_of q None, held))
+observes_queue size slots id q held s h _ at _ =
     let (run, seat, k) = at_queue size s id q None h at in
     let q' = with_run run q in
     let kept = alone_kept size s.words s.views run id q seat k in
@@ -73,12 +73,12 @@ tells_queue size slots id q held s h _ at _ =
       keeps,
       tt,
       (run, id, q', None, seat, subst (λ ws. RuleHoldsBy size ws views run id q' None seat) (sym (set-get_or s.words 0 0)) kept),
-      (refl, told_of size s.words q' kept.agrees, (record { words = s.words; homes = s.homes; views = views }, (run, id, q', None, seat, kept), (id, kept.queue_is)), k.agrees.seen),
+      (refl, agreed_of size s.words q' kept.agrees, (record { words = s.words; homes = s.homes; views = views }, (run, id, q', None, seat, kept), (id, kept.queue_is)), k.agrees.seen),
     )
 
-tells_both : (size : Size) (slots id : ℕ) (q : QueueRecord) (r : PassRecord) (held : List (ℕ × Unit {0})) → has_lock (inside_of r.steps) ≡ false
-    → Allows (RuleHolds size) slots id (view_of q (Some r), held) 0 (λ n. n) (TellsBoth size (step slots 0 0 0 none) (view_of q (Some r), held))
-tells_both size slots id q r held done s h _ at _ =
+observes_both : (size : Size) (slots id : ℕ) (q : QueueRecord) (r : PassRecord) (held : List (ℕ × Unit {0})) → has_lock (inside_of r.steps) ≡ false
+    → Allows (RuleHolds size) slots id (view_of q (Some r), held) 0 (λ n. n) (ObservesBoth size (step slots 0 0 0 none) (view_of q (Some r), held))
+observes_both size slots id q r held done s h _ at _ =
     let (run, seat, k) = at_queue size s id q (Some r) h at in
     let q' = with_run run q in
     let kept = renewal_kept size s.words s.words s.views run run id q r seat q.reusing ([], refl) k refl k.agrees.words_are k.agrees.reuse_is (λ cs h. h) in
@@ -87,12 +87,12 @@ tells_both size slots id q r held done s h _ at _ =
       keeps,
       tt,
       (run, id, q', Some r, seat, subst (λ ws. RuleHoldsBy size ws (set s.views id (view_of q' (Some r))) run id q' (Some r) seat) (sym (set-get_or s.words 0 0)) kept.0),
-      (refl, record { told = told_of size s.words q' free; pass_is = kept.1.pass_is }, k.agrees.seen),
+      (refl, record { agreed = agreed_of size s.words q' free; pass_is = kept.1.pass_is }, k.agrees.seen),
     )
 
 -- the same at views that are known
-pub tells_queue_as : (size : Size) (slots id : ℕ) (m : SeatView) (q : QueueRecord) → m.0 ≡ view_of q None → (other : Size) → other ≡ size → Allows (RuleHolds size) slots id m 0 (λ n. n) (TellsQueue other (step slots 0 0 0 none) m)
-tells_queue_as size slots id m q is other sized = subst (λ (z : View × Size). Allows (RuleHolds size) slots id (z.0, m.1) 0 (λ n. n) (TellsQueue z.1 (step slots 0 0 0 none) (z.0, m.1))) (λ k. (sym is k, sym sized k)) (tells_queue size slots id q m.1)
+pub observes_queue_as : (size : Size) (slots id : ℕ) (m : SeatView) (q : QueueRecord) → m.0 ≡ view_of q None → (other : Size) → other ≡ size → Allows (RuleHolds size) slots id m 0 (λ n. n) (ObservesQueue other (step slots 0 0 0 none) m)
+observes_queue_as size slots id m q is other sized = subst (λ (z : View × Size). Allows (RuleHolds size) slots id (z.0, m.1) 0 (λ n. n) (ObservesQueue z.1 (step slots 0 0 0 none) (z.0, m.1))) (λ k. (sym is k, sym sized k)) (observes_queue size slots id q m.1)
 
-pub tells_both_as : (size : Size) (slots id : ℕ) (m : SeatView) (q : QueueRecord) (r : PassRecord) → m.0 ≡ view_of q (Some r) → has_lock (inside_of r.steps) ≡ false → (other : Size) → other ≡ size → Allows (RuleHolds size) slots id m 0 (λ n. n) (TellsBoth other (step slots 0 0 0 none) m)
-tells_both_as size slots id m q r is done other sized = subst (λ (z : View × Size). Allows (RuleHolds size) slots id (z.0, m.1) 0 (λ n. n) (TellsBoth z.1 (step slots 0 0 0 none) (z.0, m.1))) (λ k. (sym is k, sym sized k)) (tells_both size slots id q r m.1 done)
+pub observes_both_as : (size : Size) (slots id : ℕ) (m : SeatView) (q : QueueRecord) (r : PassRecord) → m.0 ≡ view_of q (Some r) → has_lock (inside_of r.steps) ≡ false → (other : Size) → other ≡ size → Allows (RuleHolds size) slots id m 0 (λ n. n) (ObservesBoth other (step slots 0 0 0 none) m)
+observes_both_as size slots id m q r is done other sized = subst (λ (z : View × Size). Allows (RuleHolds size) slots id (z.0, m.1) 0 (λ n. n) (ObservesBoth z.1 (step slots 0 0 0 none) (z.0, m.1))) (λ k. (sym is k, sym sized k)) (observes_both size slots id q r m.1 done)

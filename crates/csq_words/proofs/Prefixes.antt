@@ -74,7 +74,7 @@ sees_all size slots id r s held st (run, queue_at, queue, joined, seat, k) _ at 
     let seen = f.prefix_here s refl in
     let rec = mine.2 in
     let was = rec.of_pass in
-    let told = k.agrees.history_is in
+    let agreed = k.agrees.history_is in
     let r' = saw_prefix (record { history = queue.history; run = run }) r in
     let fits : ℕ → View → Type 0 = Fits st.words run queue queue_at seat in
     let newer : IsRecord queue.first st.words run queue.history r' = record {
@@ -98,7 +98,7 @@ sees_all size slots id r s held st (run, queue_at, queue, joined, seat, k) _ at 
           (λ e. (pass_view r', r', ap (get_elem? (set st.views id (pass_view r'))) (ap seat e ∙ mine.0) ∙ set_here st.views id (pass_view r') (at_below st.views id (pass_prefix_view r s) at), refl, sym e))
           (λ no. let was' = k.present p out in present_else st.views id (pass_view r') (seat p) p (apart_from st.views id (pass_prefix_view r s) r (seat p) p at refl no was') was');
     } in
-    let first : queue.first ≡ size.first = told.first_is in (
+    let first : queue.first ≡ size.first = agreed.first_is in (
       pass_view r',
       keeps,
       tt,
@@ -106,14 +106,14 @@ sees_all size slots id r s held st (run, queue_at, queue, joined, seat, k) _ at 
       (
         refl,
         record {
-          sees = record { follows = was.run_is; is_run = told.is_run; steps_are = was.steps_is };
+          sees = record { follows = was.run_is; is_run = agreed.is_run; steps_are = was.steps_is };
           begins = was.seen_is;
           history = seen.0;
           run = seen.1;
           once = was.mine_is;
-          orderly = subst (λ n. IsOrderly n queue.history) first told.orderly;
-          true_of = subst (λ n. AreTrueOf n run queue.history) first told.true_of;
-          placed = subst (λ n. IsPlaced n run queue.history) first told.placed;
+          orderly = subst (λ n. IsOrderly n queue.history) first agreed.orderly;
+          true_of = subst (λ n. AreTrueOf n run queue.history) first agreed.true_of;
+          placed = subst (λ n. IsPlaced n run queue.history) first agreed.placed;
         },
       ),
     )

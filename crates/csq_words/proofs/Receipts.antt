@@ -45,7 +45,7 @@ shows size id other q r s h at ne there' =
     let both = set s.views id (view_of q' None) in
     let fits : ℕ → View → Type 0 = Fits s.words run q' id seat in
     let a = k.agrees in
-    let told = a.history_is in (
+    let agreed = a.history_is in (
       run,
       id,
       q',
@@ -55,7 +55,7 @@ shows size id other q r s h at ne there' =
         agrees = record {
           wide = a.wide;
           words_are = a.words_are;
-          history_is = same_history told;
+          history_is = same_history agreed;
           reuse_is = a.reuse_is;
           backs = λ i o e. let b = a.backs i o e in record { is_record = b.is_record; rests = b.rests; made = b.made };
           back_once = a.back_once;

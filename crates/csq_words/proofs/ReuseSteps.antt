@@ -1,5 +1,5 @@
 -- The four steps of a reuse keep the rule.
-use Rattle.csq_words.proofs.Imports.{IsExtendedBy, and_parts, ltb-true, set-get_or, slice_index, is_some, IsSome, none, Allows, step, keeps, inside_of, IrpId, PassId, NtStatus, Renew, Made, life_of, same_id, same_irp, is, IrpLife, was_armed, bit, routine, flagged, listed, removed, last_life, renewals, present_life, present, Size, IsRun, same_irp-refl, same_irp-eq, grows_by_renew, Reusing, Nothing, Looked, StatusRenewed, RoutineRenewed, Completion, PassRecord, QueueRecord, View, cancel_at, routine_at, status_at, bit_word, life_in, unset_word, status_life_in, status_in, current, has_entry, has_irp, begin_next, view_of, queue_of, with_calls, with_step, with_reusing, with_run, recording, next_life, is_done, inserts, lists, again, in_flight, SaysStatus, HasWords, MayRenew, IsReuse, IsHistoryOf, AreStored, RuleHoldsBy, RuleHolds, after_look, after_renewal, SeatView, status_recorded, SaysStatusOf, Looks, RenewsStatus, RenewsRoutine, RenewsCancel, own_made}
+use Rattle.csq_words.proofs.Imports.{IsExtendedBy, and_parts, ltb-true, set-get_or, slice_index, is_some, IsSome, none, Allows, step, keeps, inside_of, IrpId, PassId, NtStatus, Renew, Made, life_of, same_id, same_irp, is, IrpLife, was_armed, bit, routine, flagged, listed, removed, last_life, renewals, present_life, present, Size, IsRun, same_irp-refl, same_irp-eq, grows_by_renew, Reusing, Nothing, Looked, StatusRenewed, RoutineRenewed, Completion, PassRecord, QueueRecord, View, cancel_at, routine_at, status_at, bit_word, life_in, unset_word, status_life_in, status_in, present_in, has_entry, has_irp, begin_next, view_of, queue_of, with_calls, with_step, with_reusing, with_run, recording, next_life, is_done, inserts, lists, again, in_flight, SaysStatus, HasWords, MayRenew, IsReuse, IsHistoryOf, AreStored, RuleHoldsBy, RuleHolds, after_look, after_renewal, SeatView, status_recorded, SaysStatusOf, Looks, RenewsStatus, RenewsRoutine, RenewsCancel, own_made}
 use Rattle.std.proofs.Common.{◌≡◌, ℕ, ◌+◌, ◌<◌, nat_lt, cond, Bool, true, false, not, ◌&&◌, List, [], ◌∷◌, length, set, Option, Some, None, ⊎_elim, refl, sym, ap, ◌∙◌, subst, arith, length-set}
 use Rattle.irp_core.specs.declared.inside.Inside.TheVariants as inner
 use Rattle.csq_words.specs.declared.views.Event.TheVariants as event
@@ -12,7 +12,7 @@ use Rattle.csq_words.proofs.Keeping.{none_is, same_history, at_queue}
 use Rattle.csq_words.proofs.SeatSteps.{locked_step}
 use Rattle.csq_words.proofs.Changes.{present_is, renewed_status_words, renewed_routine_words, renewed_words, stored_else, stored_put, stored_later, status_routine, status_cancel}
 use Rattle.csq_words.proofs.PassSteps.{AllWords}
-use Rattle.csq_words.proofs.CallSteps.{sees, IsMade, KeptAfter, told_kept, made_record, made_kept}
+use Rattle.csq_words.proofs.CallSteps.{sees, IsMade, KeptAfter, agreed_kept, made_record, made_kept}
 
 -- a step that ends no life: the words, the progress of a reuse and what was seen of the execution change, and nothing else
 pub renewal_kept : (size : Size) (words words' : List ℕ) (views : List View) (run seen : List Made) (id : ℕ) (q : QueueRecord) (r : PassRecord) (seat : PassId → ℕ) (reuse : Reusing) → IsExtendedBy seen run
@@ -23,7 +23,7 @@ renewal_kept size words words' views run seen id q r seat reuse follows k wide w
     let h = k.agrees.history_is in
     let owner = (k.each_view id (view_of q (Some r)) k.queue_is).pass_here r refl in
     let was = owner.2.of_pass in
-    let history_is : IsHistoryOf size run q' (in_flight (Some r)) = same_history h in told_kept size words' (set views id (view_of q' (Some r))) run id q' r seat history_is was
+    let history_is : IsHistoryOf size run q' (in_flight (Some r)) = same_history h in agreed_kept size words' (set views id (view_of q' (Some r))) run id q' r seat history_is was
     (locked_step size words words' views run run id q q' seat r r k record {
       same_pass = refl;
       same_made = refl;
@@ -125,8 +125,8 @@ module _ (size : Size) (words : List ℕ) (views : List View) (run : List Made) 
         x.history_is.used_is j ∙ (ap (λ s. not (inserts s j) && was_armed run j) outside ∙ (ap (was_armed run) e ∙ over.0)),
         x.history_is.listed_is j ∙ (ap (λ s. not (lists s j) && listed run j) outside ∙ (ap (listed run) e ∙ over.2)),
       ) in
-      let now : current (queue_of q) i.irp ≡ i = (let g : (queue_of q).lives i.irp ≡ life_of i = k.agrees.history_is.lives_are i.irp ∙ sym may.is_present in irp_eq (current (queue_of q) i.irp) i refl g) in
-      let both = here (current (queue_of q) i.irp) now in (
+      let now : present_in (queue_of q) i.irp ≡ i = (let g : (queue_of q).lives i.irp ≡ life_of i = k.agrees.history_is.lives_are i.irp ∙ sym may.is_present in irp_eq (present_in (queue_of q) i.irp) i refl g) in
+      let both = here (present_in (queue_of q) i.irp) now in (
         record {
           wide = length-set words (cancel_at i.irp) (bit_word (life_of i + 1) 0);
           is_run = grown;
@@ -137,7 +137,7 @@ module _ (size : Size) (words : List ℕ) (views : List View) (run : List Made) 
           listed_is = λ j. x.history_is.listed_is j ∙ ap (λ s. not (lists s j) && listed run j) outside;
           used_is = λ j. x.history_is.used_is j ∙ ap (λ s. not (inserts s j) && was_armed run j) outside;
           lives_are = λ m. lives_next m (x.history_is.lives_are m);
-          true_of = (record { done = ap (is_done run) now ∙ may.done; renew = own_made r.pass _ run refl (is (Renew (current (queue_of q) i.irp))) (ap (same_irp i) now ∙ same_irp-refl i) }, truths_stay size (record { pass = r.pass; kind = Renew i; found = 0 }) run grown q.first q.history x.history_is.true_of);
+          true_of = (record { done = ap (is_done run) now ∙ may.done; renew = own_made r.pass _ run refl (is (Renew (present_in (queue_of q) i.irp))) (ap (same_irp i) now ∙ same_irp-refl i) }, truths_stay size (record { pass = r.pass; kind = Renew i; found = 0 }) run grown q.first q.history x.history_is.true_of);
           orderly = ((both.0, both.1, ap (λ (j : IrpLife). life_of j + 1) (sym now)), x.history_is.orderly);
           given_is = λ j n. x.history_is.given_is j (ap (λ s. again s j) outside);
           putting_back = λ j n. off n;
@@ -166,7 +166,7 @@ recorded_stored words i status (c ∷ cs) h e = go (recorded_stored words i stat
 
 module _ (size : Size) (words : List ℕ) (views : List View) (run : List Made) (id : ℕ) (q : QueueRecord) (r : PassRecord) (seat : PassId → ℕ) (k : RuleHoldsBy size words views run id q (Some r) seat) (n : IrpId) (known : n.0 < size.irps) (idle : q.reusing ≡ Nothing) where
   abbrev seen_irp : IrpLife
-  seen_irp = current (queue_of q) n
+  seen_irp = present_in (queue_of q) n
 
   abbrev seen_word : ℕ
   seen_word = slice_index words (status_at n)
@@ -221,7 +221,7 @@ module _ (size : Size) (slots id : ℕ) (q : QueueRecord) (r : PassRecord) (held
   looks : (n : IrpId) → n.0 < size.irps → q.reusing ≡ Nothing → Allows (RuleHolds size) slots id (view_of q (Some r), held) (status_at n) (λ w. w) (Looks size n (step slots (status_at n) 0 0 none) (view_of q (Some r), held))
   looks n known idle s h _ here _ =
       let (run, seat, k) = at_queue size s id q (Some r) h here in
-      let i = current (queue_of q) n in
+      let i = present_in (queue_of q) n in
       let w = slice_index s.words (status_at n) in
       let q' = after_look i w (with_run run q) in
       let kept = look_kept size s.words s.views run id q r seat k n known idle (is_some (status_in w) && nat_lt (life_of i) last_life) refl in (
@@ -229,7 +229,7 @@ module _ (size : Size) (slots id : ℕ) (q : QueueRecord) (r : PassRecord) (held
         keeps,
         tt,
         (run, id, q', Some r, seat, subst (λ ws. RuleHoldsBy size ws (set s.views id (view_of q' (Some r))) run id q' (Some r) seat) (sym (set-get_or s.words (status_at n) 0)) kept.0),
-        (refl, life_seen w (life_of i) (is_done run i) (removed run i) (says size s.words s.views run id q r seat k n known idle), record { told = kept.1; follows = k.agrees.seen }, finds_done size s.words s.views run id q r seat k n known idle, none_seen size s.words s.views run id q r seat k n known idle),
+        (refl, life_seen w (life_of i) (is_done run i) (removed run i) (says size s.words s.views run id q r seat k n known idle), record { agreed = kept.1; follows = k.agrees.seen }, finds_done size s.words s.views run id q r seat k n known idle, none_seen size s.words s.views run id q r seat k n known idle),
       )
 
   module _ (i : IrpLife) where

@@ -2,7 +2,7 @@
 use Rattle.std.proofs.Common.{◌≡◌, ℕ, [], Option, Some, None, refl, sym, ap, ◌∙◌, subst}
 use Rattle.std.specs.Option.{option_map}
 use Rattle.atomic_table.specs.Seated.{TableId}
-use Rattle.csq_words.proofs.Imports.{Kind, Test, Call, View, PassRecord, QueueRecord, bit_in, view_of, pass_view, receipt_view, prefix_view, queue_in, pass_in, queue_of, with_run, with_reusing, IrpId, Size, IrpLife, StatusRenewed, RoutineRenewed, current, after_step, after_look, after_renewal, any_step, SeatView, Makes, IsFound, FindsUnmarked, Looks, RenewsStatus, RenewsRoutine, RenewsCancel, HasObserved, WordSeat, QueueSeatState, PassSeatState, queue_seat_of, HasQueue, IsQueueSeat, pass_seat_of, IsPassSeat, receipt_seat_of, IsReceipt, SeenState, seen_seat_of, IsSeenSeat, pass_record, pass_at, IsHere, joined_record, IsJoined, with_view}
+use Rattle.csq_words.proofs.Imports.{Kind, Test, Call, View, PassRecord, QueueRecord, bit_in, view_of, pass_view, receipt_view, prefix_view, queue_in, pass_in, queue_of, with_run, with_reusing, IrpId, Size, IrpLife, StatusRenewed, RoutineRenewed, present_in, after_step, after_look, after_renewal, any_step, SeatView, Makes, IsFound, FindsUnmarked, Looks, RenewsStatus, RenewsRoutine, RenewsCancel, HasObserved, WordSeat, QueueSeatState, PassSeatState, queue_seat_of, HasQueue, IsQueueSeat, pass_seat_of, IsPassSeat, receipt_seat_of, IsReceipt, SeenState, seen_seat_of, IsSeenSeat, pass_record, pass_at, IsHere, joined_record, IsJoined, with_view}
 
 -- a pass's seat that is here
 pub here : {o : Option WordSeat} {s : WordSeat} {p : Option PassSeatState} {t : TableId} → o ≡ Some s → option_map pass_seat_of o ≡ p → IsPassSeat o → IsHere t p
@@ -57,8 +57,8 @@ stepped s s' {q} f view inv is table has me =
     stepped_queue s' (f q.queue (joined_record q)) q.table (table ∙ ap (λ z. z.table) view) (has q.queue (joined_record q)) me'
 
 -- the test of an IRP in its present life, by the seat's record
-pub test_is : (s : WordSeat) {q : QueueSeatState} → queue_seat_of s ≡ q → (n : IrpId) → Test (current (queue_of (queue_in s.me.0)) n) ≡ Test (current (queue_of q.queue) n)
-test_is s view n = ap (λ (z : QueueSeatState). Test (current (queue_of z.queue) n)) view
+pub test_is : (s : WordSeat) {q : QueueSeatState} → queue_seat_of s ≡ q → (n : IrpId) → Test (present_in (queue_of (queue_in s.me.0)) n) ≡ Test (present_in (queue_of q.queue) n)
+test_is s view n = ap (λ (z : QueueSeatState). Test (present_in (queue_of z.queue) n)) view
 
 -- the queue's seat after a step of a call, of a kind that goes by another name
 module _ {size : Size} (call : Call) {named kind : Kind} (is : named ≡ kind) (s s' : WordSeat) {q : QueueSeatState} (n : ℕ) (view : queue_seat_of s ≡ q) (inv : IsQueueSeat s) (joins : IsJoined q)
@@ -72,8 +72,8 @@ module _ {size : Size} (call : Call) {named kind : Kind} (is : named ≡ kind) (
   pub made_seat : IsQueueSeat s' × (queue_seat_of s' ≡ with_view (after_step call kind (bit_in n) (with_run (queue_in s'.me.0).run q.queue) (joined_record q)) q)
   made_seat = stepped s s' (λ a b. after_step call kind (bit_in n) (with_run (queue_in s'.me.0).run a) b) view inv joins table (λ a b. (refl, refl, refl)) made.0
 
-  pub made_told : (told : Size) → size ≡ told → HasObserved told q.queue (queue_in s'.me.0) (pass_in s'.me.0)
-  made_told told same = subst (λ (z : Size × View × View). HasObserved z.0 (queue_in z.1) (queue_in z.2) (pass_in z.2)) (λ k. (same k, joined s view inv joins k, sym (ap (λ m. m.0) made.0) k)) made.2
+  pub made_agreed : (agreed : Size) → size ≡ agreed → HasObserved agreed q.queue (queue_in s'.me.0) (pass_in s'.me.0)
+  made_agreed agreed same = subst (λ (z : Size × View × View). HasObserved z.0 (queue_in z.1) (queue_in z.2) (pass_in z.2)) (λ k. (same k, joined s view inv joins k, sym (ap (λ m. m.0) made.0) k)) made.2
 
   pub made_unmarked : FindsUnmarked kind (bit_in n) (queue_of q.queue)
   made_unmarked = subst (λ (v : View). FindsUnmarked kind (bit_in n) (queue_of (queue_in v))) (joined s view inv joins) made.3
@@ -89,7 +89,7 @@ module _ (s s' : WordSeat) {q : QueueSeatState} (view : queue_seat_of s ≡ q) (
   after : (v : QueueRecord) → s'.me ≡ (view_of v (Some (joined_record q)), []) → IsQueueSeat s' × (queue_seat_of s' ≡ record q { queue = v })
   after v me = let h = stepped_queue s' (view_of v (Some (joined_record q))) q.table (table ∙ ap (λ z. z.table) view) (refl, refl, refl) me in (h.0, h.1 ∙ (λ k. record { table = q.table; queue = v; joined = sym joins k }))
 
-  pub looked : {size : Size} {n m : IrpId} → m ≡ n → Looks size m any_step s.me w s'.me → IsQueueSeat s' × (queue_seat_of s' ≡ record q { queue = after_look (current (queue_of q.queue) n) w (with_run (queue_in s'.me.0).run q.queue) }) × Looks size n any_step joined_at w s'.me
+  pub looked : {size : Size} {n m : IrpId} → m ≡ n → Looks size m any_step s.me w s'.me → IsQueueSeat s' × (queue_seat_of s' ≡ record q { queue = after_look (present_in (queue_of q.queue) n) w (with_run (queue_in s'.me.0).run q.queue) }) × Looks size n any_step joined_at w s'.me
   looked {size} {n} {m} same looks = let x = subst (λ (z : IrpId × SeatView). Looks size z.0 any_step z.1 w s'.me) (λ k. (same k, was k)) looks in let h = after _ x.0 in (h.0, h.1, x)
 
   module _ {size : Size} {i j : IrpLife} (same : j ≡ i) where

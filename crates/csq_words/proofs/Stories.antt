@@ -1,7 +1,7 @@
 -- Where every pass is back, each life that has begun has a story.
 use Rattle.std.proofs.Common.{◌≡◌, ◌⊎◌, ℕ, ◌<◌, ◌≤◌, Bool, true, false, cond, not, ◌&&◌, ◌||◌, List, [], ◌∷◌, ◌++◌, map, length, Some, None, inl, inr, ⊎_elim, refl, sym, ap, ◌∙◌, subst, arith}
 use Rattle.std.specs.Option.{option_map}
-use Rattle.csq_words.proofs.Imports.{list_any, find, some-injective, get_elem?, cases_lt, false_from_ne_true, or_right, FileId, IrpId, PassId, NtStatus, CANCELLED, Arm, Done, Rearm, Made, Standing, Home, Waiting, Owed, Held, Finished, number, life_of, same_irp, is, by, own, IrpLife, flagged, was_armed, claims, dones, listed, present_life, IsPresent, HasBegun, Size, IsRun, same_irp-refl, same_irp-eq, same_pass-refl, same_some, Row, stands, rest_flagged, removed_in-own, inserted_listed, inside, Inside, removed, Place, Peek, put_at, matches, Pending, Cancelled, Refused, Event, FlagSeen, Mark, Insert, RemoveNext, Remove, CloseFile, Reuse, PutBack, Entry, Completion, PassRecord, QueueRecord, Queued, QueueState, current, has_irp, has_entry, first_unmarked, without, new_entry, after_event, end_of, MayStand, IsOrderly, OwnersPutBack, IsGone, puts_back, gives, given_to, queue_of, inside_of, removed_in, status_recorded, is_done, was_set, was_put_back, IsTrueOf, AreTrueOf, inserts, lists, again, RecordsAgree, FinalWords, final_status, IsRecordedBack, AllBack, IsFinal, InLife, any_filtered, inside_of-own}
+use Rattle.csq_words.proofs.Imports.{list_any, find, some-injective, get_elem?, cases_lt, false_from_ne_true, or_right, FileId, IrpId, PassId, NtStatus, CANCELLED, Arm, Done, Rearm, Made, Standing, Home, Waiting, Owed, Held, Finished, number, life_of, same_irp, is, by, own, IrpLife, flagged, was_armed, claims, dones, listed, present_life, IsPresent, HasBegun, Size, IsRun, same_irp-refl, same_irp-eq, same_pass-refl, same_some, Row, stands, rest_flagged, removed_in-own, inserted_listed, inside, Inside, removed, Place, Peek, put_at, matches, Pending, Cancelled, Refused, Event, FlagSeen, Mark, Insert, RemoveNext, Remove, CloseFile, Reuse, PutBack, Entry, Completion, PassRecord, QueueRecord, Queued, QueueState, present_in, has_irp, has_entry, first_unmarked, without, new_entry, after_event, end_of, MayStand, IsOrderly, OwnersPutBack, IsGone, puts_back, gives, given_to, queue_of, inside_of, removed_in, status_recorded, is_done, was_set, was_put_back, IsTrueOf, AreTrueOf, inserts, lists, again, RecordsAgree, FinalWords, final_status, IsRecordedBack, AllBack, IsFinal, InLife, any_filtered, inside_of-own}
 use Rattle.irp_core.proofs.Resting.{unknown_stands}
 use Rattle.irp_core.proofs.Next as growing
 use Rattle.irp_core.specs.declared.inside.Inside.TheVariants.{Nothing, Armed, FlagSeen, Removing, Cancelling}
@@ -104,29 +104,29 @@ module _ (size : Size) (run : List Made) (r : IsRun size run) (i : IrpLife) (u :
   abbrev Next : PassId → Event → Type 0
   Next p e = SoFar run i (has_irp (after_event u e).used i) (has_entry (after_event u e).entries i) (cond (accepts u i e) (p ∷ kept i e inserted) (kept i e inserted)) (cond (gives u i e) (p ∷ kept i e given) (kept i e given))
 
-  pending : (p : PassId) (n : IrpId) (f : FileId) (place : Place) → has_irp u.used (current u n) ≡ false → was_armed (own p run) (current u n) ≡ true → Next p (Insert n f place Pending)
-  pending p n f place fresh armed = go (same_irp (current u n) i) refl
+  pending : (p : PassId) (n : IrpId) (f : FileId) (place : Place) → has_irp u.used (present_in u n) ≡ false → was_armed (own p run) (present_in u n) ≡ true → Next p (Insert n f place Pending)
+  pending p n f place fresh armed = go (same_irp (present_in u n) i) refl
     where
-      go : (b : Bool) → same_irp (current u n) i ≡ b → SoFar run i (b || has_irp u.used i) (has_entry (put_at place (new_entry (current u n) f) u.entries) i) (cond b (p ∷ inserted) inserted) given
-      go false e = subst (λ x. SoFar run i (has_irp u.used i) x inserted given) (sym (has_entry-placed place (new_entry (current u n) f) u.entries i ∙ ap (λ b. b || has_entry u.entries i) e)) s
+      go : (b : Bool) → same_irp (present_in u n) i ≡ b → SoFar run i (b || has_irp u.used i) (has_entry (put_at place (new_entry (present_in u n) f) u.entries) i) (cond b (p ∷ inserted) inserted) given
+      go false e = subst (λ x. SoFar run i (has_irp u.used i) x inserted given) (sym (has_entry-placed place (new_entry (present_in u n) f) u.entries i ∙ ap (λ b. b || has_entry u.entries i) e)) s
       go true e =
-          let same = same_irp-eq (current u n) i e in
+          let same = same_irp-eq (present_in u n) i e in
           let h = only_unused run i _ _ _ _ s (ap (has_irp u.used) (sym same) ∙ fresh) in inr (inl record {
             used_is = refl;
-            listed_is = has_entry-placed place (new_entry (current u n) f) u.entries i ∙ ap (λ b. b || has_entry u.entries i) e;
+            listed_is = has_entry-placed place (new_entry (present_in u n) f) u.entries i ∙ ap (λ b. b || has_entry u.entries i) e;
             inserter = p;
             one = ap (λ l. p ∷ l) h.none;
             armed = set_by_arm i (own p run) (ap (was_armed (own p run)) (sym same) ∙ armed);
             to_none = h.to_none;
           })
 
-  took_back : (p : PassId) (n : IrpId) (f : FileId) (place : Place) → has_irp u.used (current u n) ≡ false → was_armed (own p run) (current u n) ≡ true → Next p (Insert n f place Cancelled)
-  took_back p n f place fresh armed = go (same_irp (current u n) i) refl
+  took_back : (p : PassId) (n : IrpId) (f : FileId) (place : Place) → has_irp u.used (present_in u n) ≡ false → was_armed (own p run) (present_in u n) ≡ true → Next p (Insert n f place Cancelled)
+  took_back p n f place fresh armed = go (same_irp (present_in u n) i) refl
     where
-      go : (b : Bool) → same_irp (current u n) i ≡ b → SoFar run i (b || has_irp u.used i) (has_entry u.entries i) (cond b (p ∷ inserted) inserted) (cond b (p ∷ given) given)
+      go : (b : Bool) → same_irp (present_in u n) i ≡ b → SoFar run i (b || has_irp u.used i) (has_entry u.entries i) (cond b (p ∷ inserted) inserted) (cond b (p ∷ given) given)
       go false e = s
       go true e =
-          let same = same_irp-eq (current u n) i e in
+          let same = same_irp-eq (present_in u n) i e in
           let h = only_unused run i _ _ _ _ s (ap (has_irp u.used) (sym same) ∙ fresh) in inr (inr record {
             used_is = refl;
             unlisted = h.unlisted;
@@ -231,8 +231,8 @@ module _ (size : Size) (words : List ℕ) (q : QueueRecord) (f : IsFinal size wo
   abbrev finally : FinalWords
   finally = record { irps = size.irps; words = words; queue = q }
 
-  told : SoFar q.run i (has_irp (queue_of q).used i) (has_entry (queue_of q).entries i) (inserted_by q.first i q.history) (given_to q.first i q.history)
-  told = so_far size q.run is_run i q.first q.history f.agrees.history_is.orderly f.agrees.history_is.true_of
+  agreed : SoFar q.run i (has_irp (queue_of q).used i) (has_entry (queue_of q).entries i) (inserted_by q.first i q.history) (given_to q.first i q.history)
+  agreed = so_far size q.run is_run i q.first q.history f.agrees.history_is.orderly f.agrees.history_is.true_of
 
   -- the status of i that p recorded
   record HasStatus (p : PassId) : Type 0 where
@@ -275,11 +275,11 @@ module _ (size : Size) (words : List ℕ) (q : QueueRecord) (f : IsFinal size wo
           ⊎ (((was_armed q.run i ≡ true) × (left q.run i ≡ false) × (claims q.run i ≡ []) × (dones q.run i ≡ [])) ⊎ ((was_armed q.run i ≡ true) × (left q.run i ≡ true) × Over (claims q.run i) (dones q.run i)))
           → Story finally i
       go (inl h) =
-          let u = only_unused q.run i _ _ _ _ told (f.agrees.history_is.used_is i ∙ h.0) in
+          let u = only_unused q.run i _ _ _ _ agreed (f.agrees.history_is.used_is i ∙ h.0) in
           inl (record { is_present = now_present h.2; inserted = u.none; given = u.to_none; claimed = h.1; completed = h.2 })
       go (inr (inl h)) =
           let there : listed q.run i ≡ true = rw (h.0, h.1) refl in
-          let u = only_waiting q.run i _ _ _ _ told (f.agrees.history_is.listed_is i ∙ there) in
+          let u = only_waiting q.run i _ _ _ _ agreed (f.agrees.history_is.listed_is i ∙ there) in
           inr (inl record {
             is_present = now_present h.3;
             listed = u.listed_is;
@@ -293,7 +293,7 @@ module _ (size : Size) (words : List ℕ) (q : QueueRecord) (f : IsFinal size wo
           })
       go (inr (inr h)) =
           let gone : listed q.run i ≡ false = rw (h.0, h.1) refl in
-          let u = only_given q.run i _ _ _ _ told (f.agrees.history_is.used_is i ∙ h.0) (f.agrees.history_is.listed_is i ∙ gone) in
+          let u = only_given q.run i _ _ _ _ agreed (f.agrees.history_is.used_is i ∙ h.0) (f.agrees.history_is.listed_is i ∙ gone) in
           let claimed = given_claim q.run i u.owner (sym (f.agrees.history_is.given_is i refl) ∙ u.to_one) in
           let same_claim : claimed.0 ≡ h.2.one_claim'.0 = cc (claimed.1, h.2.one_claim'.1) in
           let owner : h.2.owner ≡ u.owner = sym h.2.one_claim'.2 ∙ (ap (λ (m : Made). m.pass) (sym same_claim) ∙ claimed.2) in
@@ -356,16 +356,16 @@ module _ (run : List Made) (i : IrpLife) (used entry : Bool) (inserted given : L
   given_once (inr (inl h)) = rw h.to_none (omega arith)
   given_once (inr (inr h)) = rw h.to_one (omega arith)
 
-module _ (size : Size) (q : QueueRecord) (r : PassRecord) (run : List Made) (told : RecordsAgree size run q r) (i : IrpLife) (quiet : again (inside_of r.steps) i ≡ false) where
+module _ (size : Size) (q : QueueRecord) (r : PassRecord) (run : List Made) (agreed : RecordsAgree size run q r) (i : IrpLife) (quiet : again (inside_of r.steps) i ≡ false) where
   is_run' : IsRun size run
-  is_run' = told.history_is.is_run
+  is_run' = agreed.history_is.is_run
 
   far : SoFar run i (has_irp (queue_of q).used i) (has_entry (queue_of q).entries i) (inserted_by q.first i q.history) (given_to q.first i q.history)
-  far = so_far size run is_run' i q.first q.history told.history_is.orderly told.history_is.true_of
+  far = so_far size run is_run' i q.first q.history agreed.history_is.orderly agreed.history_is.true_of
 
   -- what was completed is in no insert
   no_insert : listed run i ≡ false → lists (inside_of r.steps) i ≡ false
-  no_insert gone = false_from_ne_true _ (λ h. off (sym gone ∙ inserted_listed size run is_run' r.pass i (in_insert_listed (inside run r.pass) i (ap (λ s. lists s i) (sym (inside_of-own r.pass run)) ∙ (ap (λ t. lists (inside_of t) i) (sym told.pass_is.steps_is) ∙ h)))))
+  no_insert gone = false_from_ne_true _ (λ h. off (sym gone ∙ inserted_listed size run is_run' r.pass i (in_insert_listed (inside run r.pass) i (ap (λ s. lists s i) (sym (inside_of-own r.pass run)) ∙ (ap (λ t. lists (inside_of t) i) (sym agreed.pass_is.steps_is) ∙ h)))))
 
   done_given : (p : PassId) → IsOneOf p (dones run i) → given_to q.first i q.history ≡ p ∷ []
   done_given p d =
@@ -374,8 +374,8 @@ module _ (size : Size) (q : QueueRecord) (r : PassRecord) (run : List Made) (tol
       let over = done_over size run is_run' i (any_filtered (is (Done i)) (by d.0.pass) run (done_own run d.0 i d.1)) in
       let out = no_insert over.2 in
       let none = insert_lists (inside_of r.steps) i out in
-      let u = only_given run i _ _ _ _ far (told.history_is.used_is i ∙ rw (none, over.0) refl) (told.history_is.listed_is i ∙ rw (out, over.2) refl) in
-      let claimed = given_claim run i u.owner (sym (told.history_is.given_is i quiet) ∙ u.to_one) in
+      let u = only_given run i _ _ _ _ far (agreed.history_is.used_is i ∙ rw (none, over.0) refl) (agreed.history_is.listed_is i ∙ rw (out, over.2) refl) in
+      let claimed = given_claim run i u.owner (sym (agreed.history_is.given_is i quiet) ∙ u.to_one) in
       let same : claimed.0 ≡ claim.0 = cc (claimed.1, claim.1) in
       let owner : u.owner ≡ p = sym claimed.2 ∙ (ap (λ (m : Made). m.pass) same ∙ claim.2) in
       u.to_one ∙ ap (λ (x : PassId). x ∷ []) owner
@@ -384,7 +384,7 @@ module _ (size : Size) (q : QueueRecord) (r : PassRecord) (run : List Made) (tol
   is_given_once = record {
     inserted = inserted_once run i _ _ _ _ far;
     given = given_once run i _ _ _ _ far;
-    claimed = λ p e. given_claim run i p (sym (told.history_is.given_is i quiet) ∙ e);
+    claimed = λ p e. given_claim run i p (sym (agreed.history_is.given_is i quiet) ∙ e);
     completed = done_given;
   }
 

@@ -20,7 +20,7 @@ use Rattle.csq_words.specs.declared.views.Event.{Event}
 use Rattle.csq_words.specs.declared.views.Event.TheVariants.{FlagSeen, Mark, Out}
 use Rattle.csq_words.specs.declared.views.Event.TheVariants as event
 use Rattle.csq_words.specs.declared.views.Entry.{Entry}
-use Rattle.csq_words.specs.Queue.{QueueState, current, has_unmarked}
+use Rattle.csq_words.specs.Queue.{QueueState, present_in, has_unmarked}
 use Rattle.csq_words.specs.History.{end_of}
 use Rattle.csq_words.specs.Records.{entries_of}
 
@@ -59,14 +59,14 @@ noted _ _ = []
 
 -- the step is one of this call, and of the IRP that the call is of, beside this queue
 abbrev pub IsOfCall : Call → Kind → QueueState → Type 0
-IsOfCall (Insert n f place) (Arm j) u = j ≡ current u n
-IsOfCall (Insert n f place) (Test j) u = j ≡ current u n
-IsOfCall (Insert n f place) (Disarm j) u = j ≡ current u n
+IsOfCall (Insert n f place) (Arm j) u = j ≡ present_in u n
+IsOfCall (Insert n f place) (Test j) u = j ≡ present_in u n
+IsOfCall (Insert n f place) (Disarm j) u = j ≡ present_in u n
 IsOfCall (RemoveNext k) (Disarm j) u = Unit {0}
 IsOfCall (RemoveNext k) End u = Unit {0}
 IsOfCall (Remove i) (Disarm j) u = j ≡ i
 IsOfCall (Remove i) End u = Unit {0}
-IsOfCall (CancelRoutine n) (step.Out j) u = j ≡ current u n
+IsOfCall (CancelRoutine n) (step.Out j) u = j ≡ present_in u n
 IsOfCall (PutBack i f place) (Rearm j) u = j ≡ i
 IsOfCall (PutBack i f place) (Test j) u = j ≡ i
 IsOfCall (PutBack i f place) (Disarm j) u = j ≡ i

@@ -19,7 +19,7 @@ use Rattle.csq_words.specs.declared.views.Event.TheVariants.{Insert, PutBack}
 use Rattle.csq_words.specs.declared.views.Entry.{Entry}
 use Rattle.csq_words.specs.declared.views.PassRecord.{PassRecord}
 use Rattle.csq_words.specs.declared.views.QueueRecord.{QueueRecord}
-use Rattle.csq_words.specs.Queue.{QueueState, current, has_entry}
+use Rattle.csq_words.specs.Queue.{QueueState, present_in, has_entry}
 use Rattle.csq_words.specs.History.{end_of, puts_back, given_to, calls_of, IsExtendedBy}
 use Rattle.csq_words.specs.Records.{queue_of}
 use Rattle.csq_words.specs.Rule.{was_set, was_put_back, again, IsHistoryOf, HasBack, RecordsAgree, QueueHasRun}
@@ -29,8 +29,8 @@ use Rattle.csq_words.specs.Finals.{FinalWords, final_status, AllBack, IsFinal, I
 
 -- the event, which finds the queue so, is an insert or a put-back that accepted i
 abbrev pub accepts : QueueState → IrpLife → Event → Bool
-accepts u i (Insert n f place Pending) = same_irp (current u n) i
-accepts u i (Insert n f place Cancelled) = same_irp (current u n) i
+accepts u i (Insert n f place Pending) = same_irp (present_in u n) i
+accepts u i (Insert n f place Cancelled) = same_irp (present_in u n) i
 accepts u i (PutBack j f place Pending) = same_irp j i
 accepts u i (PutBack j f place Cancelled) = same_irp j i
 accepts u i _ = false

@@ -17,7 +17,7 @@ pub(crate) fn load<S: Reports, T: Copy>(
     requires { MayStep words.now.table_id (table_size words.now.key) seat.old word (λ n. n)
         (S.then seat.old.me) }
     ensures table { seat.new.table_id ≡ seat.old.table_id }
-    ensures told { S.then seat.old.me result seat.new.me }
+    ensures agreed { S.then seat.old.me result seat.new.me }
 {
     words.load::<Act<S>>(seat, word)
 }
@@ -33,7 +33,7 @@ pub(crate) fn swap<S: Reports, T: Copy>(
     requires { MayStep words.now.table_id (table_size words.now.key) seat.old word (λ _. new)
         (S.then seat.old.me) }
     ensures table { seat.new.table_id ≡ seat.old.table_id }
-    ensures told { S.then seat.old.me result seat.new.me }
+    ensures agreed { S.then seat.old.me result seat.new.me }
 {
     words.swap::<Act<S>>(seat, word, new)
 }
@@ -50,7 +50,7 @@ pub(crate) fn compare_exchange<S: Reports, T: Copy>(
     requires { MayStep words.now.table_id (table_size words.now.key) seat.old word
         (λ n. either (n == old) new n) (S.then seat.old.me) }
     ensures table { seat.new.table_id ≡ seat.old.table_id }
-    ensures told { S.then seat.old.me result seat.new.me }
+    ensures agreed { S.then seat.old.me result seat.new.me }
 {
     words.compare_exchange::<Act<S>>(seat, word, old, new)
 }

@@ -225,7 +225,7 @@ fn give_back<N: QueueName>(rt: &impl Wait, queue: &Csq<VecList, N>, runners: &mu
 }
 
 /// How many requests were completed, and which one is left.
-fn tell(rest: &Rest<VecList>) -> (u32, Option<IrpId>) {
+fn report(rest: &Rest<VecList>) -> (u32, Option<IrpId>) {
     let mut completed = 0u32;
     for irp in 0..IRPS {
         if rest.status(IrpId(irp)).is_some() {
@@ -243,7 +243,7 @@ fn close<N: QueueName>(
 ) -> Option<(u32, Option<IrpId>)> {
     let Runner { pass, .. } = last?;
     match queue.close(pass, rack) {
-        Ok(rest) => Some(tell(&rest)),
+        Ok(rest) => Some(report(&rest)),
         Err(_) => None,
     }
 }
@@ -288,7 +288,7 @@ fn main(rt: HostRuntime) -> Result<()> {
         bail!("out of memory");
     };
     let (completed, left) = match drive::<Brand, _>(&rt, blank) {
-        Ok(told) => told,
+        Ok(reported) => reported,
         Err(cause) => bail!(cause),
     };
     println!(rt; "{completed} requests were completed")?;

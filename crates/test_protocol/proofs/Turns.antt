@@ -17,7 +17,7 @@ use Rattle.csq_words.specs.declared.views.Event.{Event}
 use Rattle.csq_words.specs.declared.views.InsertReply.TheVariants.{Pending}
 use Rattle.csq_words.specs.declared.views.QueueRecord.{QueueRecord}
 use Rattle.csq_words.specs.declared.views.Reusing.TheVariants.{Nothing}
-use Rattle.csq_words.specs.Queue.{Queued, current, new_entry, has_irp, without}
+use Rattle.csq_words.specs.Queue.{Queued, present_in, new_entry, has_irp, without}
 use Rattle.irp_core.specs.declared.step.Made.{Made}
 use Rattle.csq_words.specs.Records.{queue_of, queue_in, with_events, with_run, with_reusing}
 use Rattle.csq_words.specs.Rule.{next_life}
@@ -30,7 +30,7 @@ pending_event = event.Insert record { 0 = 0 } record { 0 = 0 } Back Pending
 pub after_pending : (i : IrpLife) (q : QueueRecord) (p : PassId) → IsHome i q → IsInserted i (only_entry i) (with_events p (pending_event ∷ []) q)
 after_pending i q p h =
     let u = queue_of q in
-    let put : List Queued → List Queued = λ es. put_at Back (new_entry (current u record { 0 = 0 }) record { 0 = 0 }) es in
+    let put : List Queued → List Queued = λ es. put_at Back (new_entry (present_in u record { 0 = 0 }) record { 0 = 0 }) es in
     let alone : IrpLife → List Queued = λ k. new_entry k record { 0 = 0 } ∷ [] in
     record {
       idle = h.idle;

@@ -4,12 +4,12 @@ use Rattle.irp_core.specs.Steps.{life_of}
 use Rattle.irp_core.specs.declared.ids.IrpLife.{IrpLife}
 use Rattle.csq_words.specs.declared.views.QueueRecord.{QueueRecord}
 use Rattle.csq_words.specs.declared.views.Reusing.TheVariants.{Nothing}
-use Rattle.csq_words.specs.Queue.{Queued, current, new_entry, has_irp}
+use Rattle.csq_words.specs.Queue.{Queued, present_in, new_entry, has_irp}
 use Rattle.csq_words.specs.Records.{queue_of}
 
 -- i is IRP 0 in its present life
 abbrev pub IsIrpZero : IrpLife → QueueRecord → Type 0
-IsIrpZero i q = i ≡ current (queue_of q) record { 0 = 0 }
+IsIrpZero i q = i ≡ present_in (queue_of q) record { 0 = 0 }
 
 -- i alone is listed, for file object 0, and isn't marked
 abbrev pub only_entry : IrpLife → List Queued

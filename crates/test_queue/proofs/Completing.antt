@@ -15,7 +15,7 @@ use Rattle.irp_core.specs.declared.step.Made.{Made}
 use Rattle.irp_core.proofs.Names.{same_irp-refl}
 use Rattle.irp_core.proofs.Lives.{used_begun}
 use Rattle.csq_words.specs.declared.views.PassRecord.{PassRecord}
-use Rattle.csq_words.specs.Queue.{current}
+use Rattle.csq_words.specs.Queue.{present_in}
 use Rattle.csq_words.specs.History.{end_of, IsExtendedBy}
 use Rattle.csq_words.specs.Plays.{IsStatusOf, status_read}
 use Rattle.csq_words.specs.Rule.{FindsUnset, is_done, SaysStatus, stands_for}
@@ -24,7 +24,7 @@ use Rattle.csq_words.proofs.Decoding.{status_in-unset}
 use Rattle.csq_words.proofs.Keeping.{none_is}
 use Rattle.csq_words.proofs.Facts.{off, done_stays, done_over}
 use Rattle.csq_words.proofs.Named.{irp_eq}
-use Rattle.csq_queue.specs.Told.{SeesRun}
+use Rattle.csq_queue.specs.Effects.{SeesRun}
 use Rattle.csq_queue.specs.Refusals.{IsReuseRefusal}
 use Rattle.csq_queue.specs.declared.refusals.UnknownIrp.{UnknownIrp as UnknownIrpError}
 use Rattle.csq_queue.specs.declared.refusals.ReuseRefused.{ReuseRefused}
@@ -33,11 +33,11 @@ use Rattle.test_queue.specs.Conclusions.{IsLater}
 
 -- a life that the pass has seen completed isn't the one of which a reuse says that it isn't
 pub reuse_later : (size : Size) (i : IrpLife) (old new : PassRecord) (answer : Result Life ReuseRefused) → is_done old.run i ≡ true → IsExtendedBy old.run new.run → SeesRun size new
-    → IfErr answer (IsReuseRefusal (current (end_of size.first new.seen) i.irp) old new) → IsLater size.first i new answer
+    → IfErr answer (IsReuseRefusal (present_in (end_of size.first new.seen) i.irp) old new) → IsLater size.first i new answer
 reuse_later size i old new answer done follows sees refused e = go answer e refused
   where
     here : IrpLife
-    here = current (end_of size.first new.seen) i.irp
+    here = present_in (end_of size.first new.seen) i.irp
 
     begun : life_of i ≤ (end_of size.first new.seen).lives i.irp
     begun =

@@ -20,7 +20,7 @@ use Rattle.csq_words.proofs.Facts.{off}
 use Rattle.csq_words.proofs.Marking.{none_head}
 use Rattle.csq_words.proofs.Marks.{marked_taken}
 use Rattle.csq_queue.specs.Searches.{marked}
-use Rattle.csq_queue.specs.Told.{AddsEvents}
+use Rattle.csq_queue.specs.Effects.{AddsEvents}
 
 -- what was armed stays so
 pub armed_stays : (i : IrpLife) (shorter longer : List Made) → IsExtendedBy shorter longer → was_armed shorter i ≡ true → was_armed longer i ≡ true

@@ -19,7 +19,7 @@ use Rattle.csq_words.specs.History.{end_of, IsExtendedBy}
 use Rattle.csq_words.proofs.Marks.{marked_taken}
 use Rattle.irp_core.proofs.Own.{any_filtered}
 use Rattle.csq_queue.specs.Steps.{made_by, listing_steps}
-use Rattle.csq_queue.specs.Told.{SeesRun}
+use Rattle.csq_queue.specs.Effects.{SeesRun}
 use Rattle.csq_queue.specs.declared.tokens.InsertAnswer.TheVariants.{Pending}
 use Rattle.csq_queue.proofs.Meeting.{own-append}
 

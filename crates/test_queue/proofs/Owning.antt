@@ -8,7 +8,7 @@ use Rattle.irp_core.proofs.Owning.{owner_one}
 use Rattle.csq_words.specs.declared.views.PassRecord.{PassRecord}
 use Rattle.irp_core.specs.Own.{owes_in, holds_in}
 use Rattle.irp_core.proofs.Own.{owes_in-own, holds_in-own}
-use Rattle.csq_queue.specs.Told.{SeesRun}
+use Rattle.csq_queue.specs.Effects.{SeesRun}
 use Rattle.test_queue.specs.Conclusions.{has}
 
 -- what a pass owes or holds by its own steps it owes or holds in the execution that it has seen

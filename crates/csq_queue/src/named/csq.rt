@@ -18,7 +18,7 @@ ghost use Rattle.csq_queue.specs.Named.{named, queue_size};
 ghost use Rattle.csq_queue.specs.Owned.{Holds, HoldsRemoved, Owes, EndsWithTake, MissedTheRoutine};
 ghost use Rattle.csq_queue.specs.Refusals.{IsCancelRefusal};
 ghost use Rattle.csq_queue.specs.Rests.{FirstAreBack, IsRestOf, KeepsRecord, HoldsNothing, IsCloseCause};
-ghost use Rattle.csq_queue.specs.Told.{SeesRun, AddsEvents};
+ghost use Rattle.csq_queue.specs.Effects.{SeesRun, AddsEvents};
 
 use crate::back::{Back, see};
 use crate::named::waiting::wait_for;
@@ -461,7 +461,7 @@ impl<L: PendingList + Drop, N: QueueName, A: Allocator> Csq<L, N, A> {
         let Csq { words, locked } = self;
         let mut locked = locked.into_inner();
         see::<L, N, A>(&mut locked.open, &words, receipts);
-        locked.open.tell(&words, &mut pass.open);
+        locked.open.observe(&words, &mut pass.open);
         let out = locked.open.out(rack.open.taken(), pass.open.number());
         if out > 0 {
             return Err(CloseRefused {

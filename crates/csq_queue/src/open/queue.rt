@@ -5,7 +5,7 @@ ghost use Rattle.irp_core.specs.declared.ids.IrpId.{IrpId as IrpNumber};
 ghost use Rattle.irp_core.specs.Steps.{own};
 ghost use Rattle.csq_words.specs.Finals.{AllBack, IsFinal, IsLeft, KeepsRecords};
 ghost use Rattle.csq_words.specs.History.{IsLegal, IsExtendedBy, calls_of, end_of};
-ghost use Rattle.csq_words.specs.Queue.{current, plain_listing};
+ghost use Rattle.csq_words.specs.Queue.{present_in, plain_listing};
 ghost use Rattle.csq_words.specs.Records.{caught_up, queue_of, with_run, with_back, with_shown};
 ghost use Rattle.irp_core.specs.declared.inside.Inside.TheVariants as inner;
 ghost use Rattle.csq_words.specs.Rule.{IsHistoryOf, QueueAndPassHaveRun};
@@ -15,7 +15,7 @@ ghost use Rattle.csq_queue.specs.Named.{named, queue_size, out_count};
 ghost use Rattle.csq_queue.specs.Opens.{IsQueueOn, IsPassOn, IsRackOn, after_call};
 ghost use Rattle.csq_queue.specs.Owned.{HoldsRemoved, Owes};
 ghost use Rattle.csq_queue.specs.Rests.{HoldsNothing, FirstAreBack, GivenBack, IsClosed};
-ghost use Rattle.csq_queue.specs.Told.{SeesRun, count_given};
+ghost use Rattle.csq_queue.specs.Effects.{SeesRun, count_given};
 ghost use Rattle.csq_queue.specs.Inserts.{given_in, count_spent};
 
 use crate::irp_table::IrpTable;
@@ -240,7 +240,7 @@ impl<L: PendingList + Drop, A: Allocator> OpenQueue<L, A> {
     pub fn life(&self, irp: IrpId) -> Option<Life>
         ensures known { IsSome result ↔ (irp.0 < self.now.limits.irps) }
         ensures present { IfSome result (λ life. named irp life
-            ≡ current (end_of self.now.limits.first self.now.queue.history) irp) }
+            ≡ present_in (end_of self.now.limits.first self.now.queue.history) irp) }
     {
         self.kept.get(irp)
     }
@@ -313,16 +313,16 @@ impl<L: PendingList + Drop, A: Allocator> OpenQueue<L, A> {
 
     /// Observes the execution, and tells what is known of the queue by its passes that are back and by this
     /// one, which stays as it is.
-    pub(crate) fn tell(&mut self, words: &Words<A>, pass: &mut OpenPass)
+    pub(crate) fn observe(&mut self, words: &Words<A>, pass: &mut OpenPass)
         requires queue { IsQueueOn words.now self.old }
         requires pass { IsPassOn words.now pass.old }
         ensures step { self.new ≡ record self.old
             { queue = with_run self.new.queue.run self.old.queue } }
         ensures kept { pass.new ≡ pass.old }
-        ensures told { QueueAndPassHaveRun words.now.size self.new.queue pass.old.pass }
+        ensures agreed { QueueAndPassHaveRun words.now.size self.new.queue pass.old.pass }
         ensures made { self.new.queue.made ≡ self.new.limits.passes }
     {
-        self.seat.tell_with(words, &mut pass.seat);
+        self.seat.observe_with(words, &mut pass.seat);
     }
 
     /// How many of the first passes, so many of which were taken, are not back, beside this one. Own rule.

@@ -4,7 +4,7 @@ ghost use Rattle.irp_core.specs.declared.step.Made.{Made};
 ghost use Rattle.irp_core.specs.Lives.{present};
 ghost use Rattle.irp_core.specs.MachineState.{Agrees, size_of};
 ghost use Rattle.csq_replay.specs.declared.schedule.closing.IrpLine.{IrpLine as IrpLineOf};
-ghost use Rattle.csq_replay.specs.Schedule.{is_silent, told_of, irp_lines_text, rest_text, IsToldOf, AreToldOf, TellsRest};
+ghost use Rattle.csq_replay.specs.Schedule.{is_silent, reported_of, irp_lines_text, rest_text, IsReportedOf, AreReportedOf, ReportsRest};
 ghost use Rattle.csq_replay.specs.Lines.{GrewBy};
 
 use irp_core::{IrpId, IrpLife, IrpPlace, Machine};
@@ -45,7 +45,7 @@ fn is_silent(line: IrpLine) -> bool
 pub fn irp_line<A: Allocator>(machine: &Machine<A>, irp: IrpId) -> Option<IrpLine>
     requires { irp.0 < (size_of machine.now).irps }
     ensures { (E : List Made) → Agrees machine.now E
-        → IsToldOf E (present (size_of machine.now).first E irp) (told_of result) }
+        → IsReportedOf E (present (size_of machine.now).first E irp) (reported_of result) }
 {
     let life = machine.life(irp).unwrap();
     let name = IrpLife { irp, life };
@@ -66,10 +66,10 @@ fn close_irp<A: Allocator>(
     text: &mut String<A>,
 ) -> Result<(), AllocError>
     requires { irp.0 < (size_of machine.now).irps }
-    ensures { OnOk result ((told : List IrpLineOf)
-        × GrewBy (string_bytes text.old) (string_bytes text.new) (irp_lines_text told)
+    ensures { OnOk result ((reported : List IrpLineOf)
+        × GrewBy (string_bytes text.old) (string_bytes text.new) (irp_lines_text reported)
         × ((E : List Made) → Agrees machine.now E
-        → IsToldOf E (present (size_of machine.now).first E irp) told)) }
+        → IsReportedOf E (present (size_of machine.now).first E irp) reported)) }
 {
     let Some(line) = irp_line(machine, irp) else {
         return Ok(());
@@ -83,10 +83,10 @@ pub(crate) fn close_irps<A: Allocator>(
     machine: &Machine<A>,
     text: &mut String<A>,
 ) -> Result<(), AllocError>
-    ensures { OnOk result ((told : List IrpLineOf)
-        × GrewBy (string_bytes text.old) (string_bytes text.new) (irp_lines_text told)
+    ensures { OnOk result ((reported : List IrpLineOf)
+        × GrewBy (string_bytes text.old) (string_bytes text.new) (irp_lines_text reported)
         × ((E : List Made) → Agrees machine.now E
-        → AreToldOf (size_of machine.now).first E (size_of machine.now).irps told)) }
+        → AreReportedOf (size_of machine.now).first E (size_of machine.now).irps reported)) }
 {
     for number in 0..machine.irps() {
         close_irp(machine, IrpId(number), text)?;
@@ -100,7 +100,7 @@ pub(crate) fn close_rest<A: Allocator>(
     text: &mut String<A>,
 ) -> Result<(), AllocError>
     ensures { OnOk result ((rest : Bool) × GrewBy (string_bytes text.old) (string_bytes text.new) (rest_text rest ++ codes "\n")
-        × ((E : List Made) → Agrees machine.now E → TellsRest E rest)) }
+        × ((E : List Made) → Agrees machine.now E → ReportsRest E rest)) }
 {
     if machine.at_rest() {
         writeln!(text, "rest yes")

@@ -14,7 +14,7 @@ ghost use Rattle.csq_replay.specs.declared.script.call.Call.TheVariants as call;
 ghost use Rattle.csq_replay.specs.declared.script.call.Reply.TheVariants as reply;
 ghost use Rattle.csq_replay.specs.Calls.{Script, script_pass, new_script, next_step, present_of, completing, after_routine, status_reply, Cleans};
 ghost use Rattle.csq_replay.specs.Drivers.{Keeps, IsKeeping, StandsAt, IsStanding, IsOwing, IsHolding, Called, Did, DidNext, keeping};
-ghost use Rattle.csq_replay.specs.Replies.{told, insert_reply, taken_reply, mark_reply};
+ghost use Rattle.csq_replay.specs.Replies.{reported, insert_reply, taken_reply, mark_reply};
 
 use crate::script::call::{Inserted, Refusal};
 use csq_list::{InsertStatus, Peek, PendingList, Place};
@@ -85,7 +85,7 @@ impl<L: PendingList, A: Allocator> Driver<L, A> {
     }
 
     /// The IRP in its present life.
-    fn current(&self, irp: IrpId) -> IrpLife
+    fn present(&self, irp: IrpId) -> IrpLife
         requires { irp.0 < (size_of self.now.machine).irps }
         ensures { (E : List Made) → Agrees self.now.machine E
             → result ≡ present (size_of self.now.machine).first E irp }
@@ -104,7 +104,7 @@ impl<L: PendingList, A: Allocator> Driver<L, A> {
             → result ≡ (same_irp (present (size_of self.now.machine).first E name.irp) name
             && is_listed (L.listing self.now.list).entries name.irp) }
     {
-        self.current(name.irp) == name && self.list.is_listed(name.irp)
+        self.present(name.irp) == name && self.list.is_listed(name.irp)
     }
 
     /// Whether the pass holds the IRP in its present life.
@@ -134,7 +134,7 @@ impl<L: PendingList, A: Allocator> Driver<L, A> {
         ensures { (l : Limits) (s : Script) → Keeps l (keeping L.listing self.old) s
             → Keeps l (keeping L.listing self.new) (completing (present_of s irp) status s) }
     {
-        let name = self.current(irp);
+        let name = self.present(irp);
         make(&mut self.machine, Kind::Done(name));
         self.statuses[irp.0 as usize] = Some(status.status());
     }
@@ -145,7 +145,7 @@ impl<L: PendingList, A: Allocator> Driver<L, A> {
         ensures { (l : Limits) (s : Script) → Keeps l (keeping L.listing self.old) s
             → Keeps l (keeping L.listing self.new) (after_routine irp s) }
     {
-        let name = self.current(irp);
+        let name = self.present(irp);
         make(&mut self.machine, Kind::Out(name));
         self.list.remove(irp);
         self.finish(irp, FinalStatus::cancelled());
@@ -164,7 +164,7 @@ impl<L: PendingList, A: Allocator> Driver<L, A> {
     {
         self.list.insert_ex(irp, file, place)?;
         self.files[irp.0 as usize] = file;
-        let name = self.current(irp);
+        let name = self.present(irp);
         make(&mut self.machine, Kind::Arm(name));
         if make(&mut self.machine, Kind::Test(name)) == 0 {
             return Ok(Inserted::Pending);
@@ -185,7 +185,7 @@ impl<L: PendingList, A: Allocator> Driver<L, A> {
     ) -> Result<Result<Inserted, InsertStatus>, Refusal>
         requires { IsStanding (keeping L.listing self.old) }
         ensures { DidNext (keeping L.listing self.old) (call.PutBack irp place)
-            (told insert_reply result) (keeping L.listing self.new) }
+            (reported insert_reply result) (keeping L.listing self.new) }
     {
         if !self.is_known(irp) {
             return Err(Refusal::UnknownIrp);
@@ -197,7 +197,7 @@ impl<L: PendingList, A: Allocator> Driver<L, A> {
         if let Err(cause) = self.list.put_back_ex(irp, file, place) {
             return Ok(Err(cause));
         }
-        let name = self.current(irp);
+        let name = self.present(irp);
         make(&mut self.machine, Kind::Rearm(name));
         if make(&mut self.machine, Kind::Test(name)) == 0 {
             return Ok(Ok(Inserted::Pending));
@@ -217,7 +217,7 @@ impl<L: PendingList, A: Allocator> Driver<L, A> {
     {
         let mut after = None;
         while let Some(irp) = self.list.peek_next(after, peek) {
-            let name = self.current(irp);
+            let name = self.present(irp);
             if make(&mut self.machine, Kind::Disarm(name)) == 1 {
                 self.list.remove(irp);
                 return Some(irp);
@@ -232,7 +232,7 @@ impl<L: PendingList, A: Allocator> Driver<L, A> {
     /// Removes an IRP, where it is listed in this life and no cancel claimed it.
     pub(crate) fn remove(&mut self, name: IrpLife) -> Result<Option<IrpId>, Refusal>
         requires { IsKeeping (keeping L.listing self.old) }
-        ensures { Called (keeping L.listing self.old) (call.Remove name) (told taken_reply result)
+        ensures { Called (keeping L.listing self.old) (call.Remove name) (reported taken_reply result)
             (keeping L.listing self.new) }
     {
         if !self.is_known(name.irp) {
@@ -255,13 +255,13 @@ impl<L: PendingList, A: Allocator> Driver<L, A> {
     #[tactic(auto, unfolding(irp_core::specs::Steps::same_irp))]
     pub(crate) fn mark(&mut self, name: IrpLife) -> Result<bool, Refusal>
         requires { IsKeeping (keeping L.listing self.old) }
-        ensures { Called (keeping L.listing self.old) (call.Mark name) (told mark_reply result)
+        ensures { Called (keeping L.listing self.old) (call.Mark name) (reported mark_reply result)
             (keeping L.listing self.new) }
     {
         if !self.is_known(name.irp) {
             return Err(Refusal::UnknownIrp);
         }
-        let present = self.current(name.irp);
+        let present = self.present(name.irp);
         if present != name {
             return Err(Refusal::Stale(present.life));
         }
@@ -273,7 +273,7 @@ impl<L: PendingList, A: Allocator> Driver<L, A> {
     pub(crate) fn routine(&mut self, irp: IrpId) -> Result<NtStatus, Refusal>
         requires { IsKeeping (keeping L.listing self.old) }
         ensures { Called (keeping L.listing self.old) (call.Routine irp)
-            (told reply.Completed result) (keeping L.listing self.new) }
+            (reported reply.Completed result) (keeping L.listing self.new) }
     {
         if !self.is_known(irp) {
             return Err(Refusal::UnknownIrp);
@@ -289,7 +289,7 @@ impl<L: PendingList, A: Allocator> Driver<L, A> {
     pub(crate) fn cancel(&mut self, name: IrpLife) -> Result<bool, Refusal>
         requires { IsKeeping (keeping L.listing self.old) }
         ensures { Did (keeping L.listing self.old) (call.Cancel name)
-            (told reply.CancelAnswered result) (keeping L.listing self.new) }
+            (reported reply.CancelAnswered result) (keeping L.listing self.new) }
     {
         let claimed = self.mark(name)?;
         if !claimed {
@@ -303,7 +303,7 @@ impl<L: PendingList, A: Allocator> Driver<L, A> {
     pub(crate) fn complete(&mut self, irp: IrpId, status: NtStatus) -> Result<NtStatus, Refusal>
         requires { IsKeeping (keeping L.listing self.old) }
         ensures { Called (keeping L.listing self.old) (call.Complete irp status)
-            (told reply.Completed result) (keeping L.listing self.new) }
+            (reported reply.Completed result) (keeping L.listing self.new) }
     {
         if !self.is_known(irp) {
             return Err(Refusal::UnknownIrp);
@@ -322,7 +322,7 @@ impl<L: PendingList, A: Allocator> Driver<L, A> {
     pub(crate) fn close(&mut self, file: FileId) -> Result<(), Refusal>
         requires { IsKeeping (keeping L.listing self.old) }
         ensures { Called (keeping L.listing self.old) (call.Close file)
-            (told (λ _. reply.Closed) result) (keeping L.listing self.new) }
+            (reported (λ _. reply.Closed) result) (keeping L.listing self.new) }
     {
         match self.list.close_file(file) {
             Ok(()) => Ok(()),
@@ -333,7 +333,7 @@ impl<L: PendingList, A: Allocator> Driver<L, A> {
     /// Closes a file object, and completes what is queued for it as cancelled. Answers how many it completed.
     pub(crate) fn cleanup(&mut self, file: FileId) -> Result<u32, Refusal>
         requires { IsKeeping (keeping L.listing self.old) }
-        ensures { Did (keeping L.listing self.old) (call.Cleanup file) (told reply.Cleaned result)
+        ensures { Did (keeping L.listing self.old) (call.Cleanup file) (reported reply.Cleaned result)
             (keeping L.listing self.new) }
     {
         self.close(file)?;
@@ -357,7 +357,7 @@ impl<L: PendingList, A: Allocator> Driver<L, A> {
     /// Whether the Cancel flag is set.
     pub(crate) fn flag(&self, irp: IrpId) -> Result<bool, Refusal>
         requires { IsKeeping (keeping L.listing self.now) }
-        ensures { Called (keeping L.listing self.now) (call.Flag irp) (told reply.Flag result)
+        ensures { Called (keeping L.listing self.now) (call.Flag irp) (reported reply.Flag result)
             (keeping L.listing self.now) }
     {
         if self.is_known(irp) {
@@ -370,7 +370,7 @@ impl<L: PendingList, A: Allocator> Driver<L, A> {
     /// The status with which the present life was completed, if it was.
     pub(crate) fn status(&self, irp: IrpId) -> Result<Option<NtStatus>, Refusal>
         requires { IsKeeping (keeping L.listing self.now) }
-        ensures { Called (keeping L.listing self.now) (call.Status irp) (told status_reply result)
+        ensures { Called (keeping L.listing self.now) (call.Status irp) (reported status_reply result)
             (keeping L.listing self.now) }
     {
         if self.is_known(irp) {
@@ -383,7 +383,7 @@ impl<L: PendingList, A: Allocator> Driver<L, A> {
     /// Begins the next life, and answers it.
     pub(crate) fn reuse(&mut self, irp: IrpId) -> Result<Life, Refusal>
         requires { IsKeeping (keeping L.listing self.old) }
-        ensures { Called (keeping L.listing self.old) (call.Reuse irp) (told reply.Begun result)
+        ensures { Called (keeping L.listing self.old) (call.Reuse irp) (reported reply.Begun result)
             (keeping L.listing self.new) }
     {
         if !self.is_known(irp) {
@@ -392,7 +392,7 @@ impl<L: PendingList, A: Allocator> Driver<L, A> {
         if self.statuses[irp.0 as usize].is_none() {
             return Err(Refusal::NotCompleted);
         }
-        let ended = self.current(irp);
+        let ended = self.present(irp);
         if ended.life.0 >= Life::LAST.0 {
             return Err(Refusal::LivesSpent);
         }

@@ -4,7 +4,7 @@ ghost use Rattle.csq_words.specs.Queue.{Limits};
 ghost use Rattle.csq_replay.specs.Calls.{Script, Does, status_reply};
 ghost use Rattle.csq_replay.specs.CallOutcomes.{CallComesTo};
 ghost use Rattle.csq_replay.specs.Drivers.{StandsAt, IsStanding, DidNext, keeping};
-ghost use Rattle.csq_replay.specs.Replies.{told, insert_reply, taken_reply, mark_reply};
+ghost use Rattle.csq_replay.specs.Replies.{reported, insert_reply, taken_reply, mark_reply};
 
 use crate::lines::{MAX_LINE, is_skipped};
 use crate::script::call::{Call, Inserted, Refusal, Reply};
@@ -80,16 +80,16 @@ impl<L: PendingList, A: Allocator> Driver<L, A> {
         ensures { (l : Limits) (s : Script) → StandsAt l (keeping L.listing self.old) s
             → (t : Script) × Does l s call result t × StandsAt l (keeping L.listing self.new) t }
     {
-        match self.tell(call) {
+        match self.report(call) {
             Ok(reply) => reply,
             Err(refusal) => Reply::Refused(refusal),
         }
     }
 
     /// Makes a call, and tells what it answers where it isn't refused.
-    fn tell(&mut self, call: Call) -> Result<Reply, Refusal>
+    fn report(&mut self, call: Call) -> Result<Reply, Refusal>
         requires { IsStanding (keeping L.listing self.old) }
-        ensures { DidNext (keeping L.listing self.old) call (told (λ reply. reply) result)
+        ensures { DidNext (keeping L.listing self.old) call (reported (λ reply. reply) result)
             (keeping L.listing self.new) }
     {
         match call {

@@ -1,27 +1,27 @@
 use Rattle.std.proofs.Common.{◌*◌, ◌≤◌, min, ap, ◌∙◌, subst, rules}
 use Rattle.std.specs.Io.KnownBytes.{Appends}
 use Rattle.csq_device.specs.declared.plan.Plan.{Plan}
-use Rattle.csq_program.specs.Totals.{has_busy, told_text, AreTotalsOf}
-use Rattle.csq_program.proofs.RunTexts.{told_run}
+use Rattle.csq_program.specs.Totals.{has_busy, reported_text, AreTotalsOf}
+use Rattle.csq_program.proofs.RunTexts.{reported_run}
 use Rattle.csq_program.proofs.device_run.answer_run.Goals as goal
 
 pub returns-in-Ok-write_all-clause-written : goal.returns-in-Ok-write_all-clause-written
 returns-in-Ok-write_all-clause-written g c =
     let found = c.in_ok-found.found in
-    let told = c.in_ok-found.ensures in
+    let reported = c.in_ok-found.ensures in
     let made = c.in-Ok.ensures.made in
     let totals : AreTotalsOf c.args.plan found = record {
-      irps = told.irps ∙ ap (λ (p : Plan). p.irps) made;
-      sum = told.sum;
-      flagged = told.flagged;
-      statuses = told.statuses;
-      handed = told.handed;
-      kinds = told.kinds;
-      inserts = told.inserts ∙ ap (λ (p : Plan). min p.irps (p.submitters * p.turns)) made;
-      removals = told.removals ∙ ap (λ (p : Plan). p.workers * p.turns) made;
-      cancels = told.cancels ∙ ap (λ (p : Plan). min p.irps (p.cancellers * p.turns)) made;
-      put_backs = subst (λ (p : Plan). found.put_backs.made ≤ p.busy_workers * p.turns) made told.put_backs;
+      irps = reported.irps ∙ ap (λ (p : Plan). p.irps) made;
+      sum = reported.sum;
+      flagged = reported.flagged;
+      statuses = reported.statuses;
+      handed = reported.handed;
+      kinds = reported.kinds;
+      inserts = reported.inserts ∙ ap (λ (p : Plan). min p.irps (p.submitters * p.turns)) made;
+      removals = reported.removals ∙ ap (λ (p : Plan). p.workers * p.turns) made;
+      cancels = reported.cancels ∙ ap (λ (p : Plan). min p.irps (p.cancellers * p.turns)) made;
+      put_backs = subst (λ (p : Plan). found.put_backs.made ≤ p.busy_workers * p.turns) made reported.put_backs;
     } in
-    let text = told_text c.args.totals (has_busy c.args.plan) found c.time_since-took.result in
+    let text = reported_text c.args.totals (has_busy c.args.plan) found c.time_since-took.result in
     let written : Appends (g.W.Write.contents c.args.writer.now) (g.W.Write.contents c.write_all.new.self) text = search rules in
-    (text, told_run c.args.plan found c.time_since-took.result c.args.totals totals, written)
+    (text, reported_run c.args.plan found c.time_since-took.result c.args.totals totals, written)

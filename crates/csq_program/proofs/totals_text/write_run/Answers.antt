@@ -1,6 +1,6 @@
 use Rattle.std.proofs.Common.{◌≡◌, ◌++◌, Bool, subst, sym}
 use Rattle.std.specs.Prelude.{OnOk, string_bytes}
-use Rattle.csq_program.specs.Totals.{totals_text, states_text, completions_text, calls_text, time_text, counts_text, told_text}
+use Rattle.csq_program.specs.Totals.{totals_text, states_text, completions_text, calls_text, time_text, counts_text, reported_text}
 use Rattle.csq_program.proofs.Appending.{grown, grown_last}
 use Rattle.csq_program.proofs.totals_text.write_run.Goals as goal
 
@@ -21,4 +21,4 @@ returns g c =
     let three = grown first third fourth (states ++ completions) calls two c.in_ok-write_calls.ensures in
     let four = grown_last c.write_time.result first fourth new (states ++ completions ++ calls) (time_text c.args.took) three c.write_time.ensures in
     let all = grown_last c.write_time.result old first new (totals_text t) (counts_text busy t c.args.took) c.in_ok-write_totals.ensures four in
-    subst (λ (b : Bool). OnOk c.write_time.result (new ≡ old ++ told_text b busy t c.args.took)) (sym c.if-not-all.false) all
+    subst (λ (b : Bool). OnOk c.write_time.result (new ≡ old ++ reported_text b busy t c.args.took)) (sym c.if-not-all.false) all

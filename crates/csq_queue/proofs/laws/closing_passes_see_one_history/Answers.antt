@@ -1,4 +1,4 @@
-use Rattle.csq_queue.proofs.Telling.{closing_see}
+use Rattle.csq_queue.proofs.StoriesLeft.{closing_see}
 use Rattle.csq_queue.proofs.laws.closing_passes_see_one_history.Goals as goal
 
 pub returns : goal.returns

@@ -1,4 +1,4 @@
-use Rattle.csq_queue.proofs.Telling.{story_left}
+use Rattle.csq_queue.proofs.StoriesLeft.{story_left}
 use Rattle.csq_queue.proofs.laws.each_irp_of_an_open_queue_has_a_story.Goals as goal
 
 pub returns : goal.returns

@@ -1,4 +1,4 @@
-use Rattle.csq_queue.proofs.Telling.{stay_left}
+use Rattle.csq_queue.proofs.StoriesLeft.{stay_left}
 use Rattle.csq_queue.proofs.laws.each_stay_left_has_a_story.Goals as goal
 
 pub returns : goal.returns

@@ -11,7 +11,7 @@ use Rattle.csq_queue.proofs.protocol.relist_irp.Goals.{After-test, After-disarm}
 
 -- what agrees with a seat agrees with one that is the same
 agree : (size : Size) {z z' : QueueSeatState} → z ≡ z' → SomeRunAgrees size z.queue (joined_record z) → SomeRunAgrees size z'.queue (joined_record z')
-agree size e told = subst (λ (w : QueueSeatState). SomeRunAgrees size w.queue (joined_record w)) e told
+agree size e agreed = subst (λ (w : QueueSeatState). SomeRunAgrees size w.queue (joined_record w)) e agreed
 
 pub put_back_ex-requires-clause-used : goal.put_back_ex-requires-clause-used
 put_back_ex-requires-clause-used g c = was_used c.requires.entered c.args.irp c.requires.held
@@ -29,7 +29,7 @@ returns-in-Err-clause-refused g c =
     let l = limits_on c.args.words.now (g.L.PendingList.listing c.args.list.now) in
     let f_is = file_is c.requires.entered c.args.irp c.requires.held c.file-file.result c.file-file.ensures in
     subst (λ (f : FileId). Adds l c.args.seat.now (PutBack c.args.irp f c.args.place (Refused c.in-Err.cause) ∷ []) (g.L.PendingList.listing c.put_back_ex.new.self) c.args.kept.now c.note.new.self) f_is
-    (back_refused c.requires.entered c.args.irp c.requires.held c.file-file.result c.args.place c.in-Err.cause f_is (search rules) (g.L.PendingList.listing c.put_back_ex.new.self) (search rules) c.note.new.self c.note.ensures.noted (c.note.new.self.queue.run, c.note.ensures.told.told))
+    (back_refused c.requires.entered c.args.irp c.requires.held c.file-file.result c.args.place c.in-Err.cause f_is (search rules) (g.L.PendingList.listing c.put_back_ex.new.self) (search rules) c.note.new.self c.note.ensures.noted (c.note.new.self.queue.run, c.note.ensures.agreed.agreed))
 
 -- the put-back has set the routine again, and tested the flag
 module _ (g : Over) (c : After-test g) where
@@ -51,8 +51,8 @@ module _ (g : Over) (c : After-test g) where
   to_set : c.rearm.new.self ≡ set_again
   to_set = rearmed_is c.requires.entered c.args.irp c.requires.held c.file-file.result c.args.place (bit_in c.rearm.result) (was_clear c.args.irp.life.0 c.rearm.result c.rearm.ensures.found) c.rearm.new.self c.rearm.ensures.step
 
-  told_set : SomeRunAgrees (queue_size limits) set_again.queue (joined_record set_again)
-  told_set = agree (queue_size limits) to_set (c.rearm.new.self.queue.run, c.rearm.ensures.told.told)
+  agreed_set : SomeRunAgrees (queue_size limits) set_again.queue (joined_record set_again)
+  agreed_set = agree (queue_size limits) to_set (c.rearm.new.self.queue.run, c.rearm.ensures.agreed.agreed)
 
   abbrev tested : ℕ → QueueSeatState
   tested n = with_view (after_step (PutBackCall c.args.irp c.file-file.result c.args.place) (Test c.args.irp) n (with_run c.test.new.self.queue.run set_again.queue) (joined_record set_again)) set_again
@@ -60,14 +60,14 @@ module _ (g : Over) (c : After-test g) where
   to_tested : (n : ℕ) → bit_in c.test.result ≡ n → c.test.new.self ≡ tested n
   to_tested n found = tested_is c.requires.entered c.args.irp c.requires.held c.file-file.result c.args.place (bit_in c.test.result) n found c.rearm.new.self.queue.run c.rearm.new.self c.test.new.self to_set c.test.ensures.step
 
-  told_tested : (n : ℕ) → bit_in c.test.result ≡ n → SomeRunAgrees (queue_size limits) (tested n).queue (joined_record (tested n))
-  told_tested n found = agree (queue_size limits) (to_tested n found) (c.test.new.self.queue.run, c.test.ensures.told.told)
+  agreed_tested : (n : ℕ) → bit_in c.test.result ≡ n → SomeRunAgrees (queue_size limits) (tested n).queue (joined_record (tested n))
+  agreed_tested n found = agree (queue_size limits) (to_tested n found) (c.test.new.self.queue.run, c.test.ensures.agreed.agreed)
 
   -- the flag was clear
   pending : bit_in c.test.result ≡ 0 → Adds limits old (PutBack c.args.irp c.file-file.result c.args.place Pending ∷ []) (g.L.PendingList.listing c.put_back_ex.new.self) c.args.kept.now c.test.new.self
       × MakesSteps (put_back_steps (Ok (answer.Pending c.args.irp)) (end_of limits.first c.test.new.self.queue.history)) (joined_record old) (joined_record c.test.new.self)
   pending clear =
-      let back = back_pending c.requires.entered c.args.irp c.requires.held c.file-file.result f_is c.args.place accepted (g.L.PendingList.listing c.put_back_ex.new.self) (search rules) c.rearm.new.self.queue.run told_set c.test.new.self.queue.run (told_tested 0 clear) in
+      let back = back_pending c.requires.entered c.args.irp c.requires.held c.file-file.result f_is c.args.place accepted (g.L.PendingList.listing c.put_back_ex.new.self) (search rules) c.rearm.new.self.queue.run agreed_set c.test.new.self.queue.run (agreed_tested 0 clear) in
       subst (λ (w : QueueSeatState). Adds limits old (PutBack c.args.irp c.file-file.result c.args.place Pending ∷ []) (g.L.PendingList.listing c.put_back_ex.new.self) c.args.kept.now w × MakesSteps (put_back_steps (Ok (answer.Pending c.args.irp)) (end_of limits.first w.queue.history)) (joined_record old) (joined_record w))
       (sym (to_tested 0 clear)) (back.0, first_left c.requires.entered c.args.irp c.requires.held (answer.Pending c.args.irp) (tested 0) refl back.1)
 
@@ -85,14 +85,14 @@ module _ (g : Over) (c : After-disarm g) (seen : bit_in c.test.result ≡ 1) whe
   to_disarmed : (n : ℕ) → bit_in c.disarm.result ≡ n → c.disarm.new.self ≡ disarmed n
   to_disarmed n found = disarmed_is c.requires.entered c.args.irp c.requires.held c.file-file.result c.args.place (bit_in c.disarm.result) n found c.test.new.self (tested g test 1) c.disarm.new.self (to_tested g test 1 seen) c.disarm.ensures.step
 
-  told_disarmed : (n : ℕ) → bit_in c.disarm.result ≡ n → SomeRunAgrees (queue_size (limits g test)) (disarmed n).queue (joined_record (disarmed n))
-  told_disarmed n found = agree (queue_size (limits g test)) (to_disarmed n found) (c.disarm.new.self.queue.run, c.disarm.ensures.told.told)
+  agreed_disarmed : (n : ℕ) → bit_in c.disarm.result ≡ n → SomeRunAgrees (queue_size (limits g test)) (disarmed n).queue (joined_record (disarmed n))
+  agreed_disarmed n found = agree (queue_size (limits g test)) (to_disarmed n found) (c.disarm.new.self.queue.run, c.disarm.ensures.agreed.agreed)
 
   -- its canceller has taken the routine
   missed : bit_in c.disarm.result ≡ 0 → Adds (limits g test) (old g test) (Mark c.args.irp ∷ PutBack c.args.irp c.file-file.result c.args.place Pending ∷ []) (g.L.PendingList.listing c.put_back_ex.new.self) c.args.kept.now c.disarm.new.self
       × MakesSteps (put_back_steps (Ok (answer.Pending c.args.irp)) (end_of (limits g test).first c.disarm.new.self.queue.history)) (joined_record (old g test)) (joined_record c.disarm.new.self)
   missed gone =
-      let back = back_missed c.requires.entered c.args.irp c.requires.held c.file-file.result (f_is g test) c.args.place (accepted g test) (g.L.PendingList.listing c.put_back_ex.new.self) (search rules) c.rearm.new.self.queue.run (told_set g test) c.test.new.self.queue.run (told_tested g test 1 seen) c.disarm.new.self.queue.run (told_disarmed 0 gone) in
+      let back = back_missed c.requires.entered c.args.irp c.requires.held c.file-file.result (f_is g test) c.args.place (accepted g test) (g.L.PendingList.listing c.put_back_ex.new.self) (search rules) c.rearm.new.self.queue.run (agreed_set g test) c.test.new.self.queue.run (agreed_tested g test 1 seen) c.disarm.new.self.queue.run (agreed_disarmed 0 gone) in
       subst (λ (w : QueueSeatState). Adds (limits g test) (old g test) (Mark c.args.irp ∷ PutBack c.args.irp c.file-file.result c.args.place Pending ∷ []) (g.L.PendingList.listing c.put_back_ex.new.self) c.args.kept.now w
       × MakesSteps (put_back_steps (Ok (answer.Pending c.args.irp)) (end_of (limits g test).first w.queue.history)) (joined_record (old g test)) (joined_record w))
       (sym (to_disarmed 0 gone)) (back.0, first_left c.requires.entered c.args.irp c.requires.held (answer.Pending c.args.irp) (disarmed 0) refl back.1)
@@ -131,7 +131,7 @@ returns-clause-accepted g c =
     let seen = c.is_set.ensures.set c.if-not-is_set.false in
     let found = c.is_set-2.ensures.set c.if-not-is_set-2.false in
     let es = PutBack c.args.irp c.file-file.result c.args.place Cancelled ∷ FlagSeen c.args.irp ∷ [] in
-    let back = back_cancelled c.requires.entered c.args.irp c.requires.held c.file-file.result (f_is g t) c.args.place (accepted g t) (g.L.PendingList.listing c.put_back_ex.new.self) (search rules) c.rearm.new.self.queue.run (told_set g t) c.test.new.self.queue.run (told_tested g t 1 seen) (g.L.PendingList.listing c.remove.new.self) c.remove.ensures c.disarm.new.self.queue.run (told_disarmed g d seen 1 found) in
+    let back = back_cancelled c.requires.entered c.args.irp c.requires.held c.file-file.result (f_is g t) c.args.place (accepted g t) (g.L.PendingList.listing c.put_back_ex.new.self) (search rules) c.rearm.new.self.queue.run (agreed_set g t) c.test.new.self.queue.run (agreed_tested g t 1 seen) (g.L.PendingList.listing c.remove.new.self) c.remove.ensures c.disarm.new.self.queue.run (agreed_disarmed g d seen 1 found) in
     (es, (refl, ap (λ (n : FileId). PutBack c.args.irp n c.args.place Cancelled ∷ FlagSeen c.args.irp ∷ []) (f_is g t)), subst (λ (w : QueueSeatState). Adds (limits g t) (old g t) es (g.L.PendingList.listing c.remove.new.self) c.args.kept.now w) (sym (to_disarmed g d seen 1 found)) back.0)
 
 pub remove-requires : goal.remove-requires

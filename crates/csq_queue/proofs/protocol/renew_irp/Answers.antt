@@ -1,5 +1,5 @@
 use Rattle.std.proofs.Common.{◌≡◌, ℕ, ◌+◌, ◌<◌, ◌∷◌, [], true, ap, ◌∙◌, sym, subst}
-use Rattle.csq_queue.proofs.Imports.{is_some, last_life, Life, IrpLife, after_renewal, Reuse, current, queue_of, with_run, with_reusing, joined_record, with_view, status_in, limits_on, Adds}
+use Rattle.csq_queue.proofs.Imports.{is_some, last_life, Life, IrpLife, after_renewal, Reuse, present_in, queue_of, with_run, with_reusing, joined_record, with_view, status_in, limits_on, Adds}
 use Rattle.csq_words.specs.declared.views.Reusing.TheVariants.{Looked, StatusRenewed, RoutineRenewed}
 use Rattle.csq_queue.proofs.Reusing.{life_few, looked, was_used, was_unlisted, reuse_makes, reuse_adds}
 use Rattle.csq_queue.proofs.protocol.renew_irp.Given.{Over}
@@ -11,8 +11,8 @@ renew_status-requires-clause-next g c =
     let old = c.args.seat.now in
     let n = c.args.irp in
     let u = queue_of old.queue in
-    let life_is : c.status_read-status.result.0 ≡ (current u n).life = ap (λ p. p.0) c.status_read-status.ensures ∙ (λ k. record { 0 = c.look.ensures.found k }) in
-    let cur : record { irp = n; life = c.status_read-status.result.0 } ≡ current u n = λ k. record { irp = n; life = life_is k } in
+    let life_is : c.status_read-status.result.0 ≡ (present_in u n).life = ap (λ p. p.0) c.status_read-status.ensures ∙ (λ k. record { 0 = c.look.ensures.found k }) in
+    let cur : record { irp = n; life = c.status_read-status.result.0 } ≡ present_in u n = λ k. record { irp = n; life = life_is k } in
     let set' : is_some (status_in c.look.result) ≡ true = ap (λ p. is_some p.1) (sym c.status_read-status.ensures) ∙ c.if-is_none.ensures in
     let few : u.lives n < last_life = life_few c.requires.entered n c.requires.first (λ e. c.if-life.false (ap (λ (x : Life). x.0) life_is ∙ e)) in
     ap (λ z. z.queue.reusing) c.look.ensures.step ∙ (ap (λ q. q.reusing) (looked c.requires.entered n c.look.result set' few c.look.new.self.queue.run) ∙ (λ k. Looked (sym cur k)))
@@ -20,7 +20,7 @@ renew_status-requires-clause-next g c =
 -- the reuse found the present life completed
 module _ (g : Over) (c : After-renew_cancel g) where
   abbrev now : IrpLife
-  now = current (queue_of c.args.seat.now.queue) c.args.irp
+  now = present_in (queue_of c.args.seat.now.queue) c.args.irp
 
   life_is : c.status_read-status.result.0 ≡ now.life
   life_is = ap (λ p. p.0) c.status_read-status.ensures ∙ (λ k. record { 0 = c.look.ensures.found k })
@@ -46,12 +46,12 @@ module _ (g : Over) (c : After-renew_cancel g) where
 pub renew-requires-clause-used : goal.renew-requires-clause-used
 renew-requires-clause-used g c =
     let d = (goal.at.renew-requires-clause-used g c).After-renew_cancel in
-    was_used c.requires.entered c.args.irp c.look.result (set' g d) (few g d) c.look.new.self.queue.run c.look.new.self c.renew_status.new.self c.renew_routine.new.self c.renew_cancel.new.self c.look.ensures.step (two g d) (three g d) (four g d) (c.renew_cancel.new.self.queue.run, c.renew_cancel.ensures.told.told)
+    was_used c.requires.entered c.args.irp c.look.result (set' g d) (few g d) c.look.new.self.queue.run c.look.new.self c.renew_status.new.self c.renew_routine.new.self c.renew_cancel.new.self c.look.ensures.step (two g d) (three g d) (four g d) (c.renew_cancel.new.self.queue.run, c.renew_cancel.ensures.agreed.agreed)
 
 pub renew-requires-clause-unlisted : goal.renew-requires-clause-unlisted
 renew-requires-clause-unlisted g c =
     let d = (goal.at.renew-requires-clause-unlisted g c).After-renew_cancel in
-    was_unlisted c.requires.entered c.args.irp c.look.result (set' g d) (few g d) c.look.new.self.queue.run c.look.new.self c.renew_status.new.self c.renew_routine.new.self c.renew_cancel.new.self c.look.ensures.step (two g d) (three g d) (four g d) (c.renew_cancel.new.self.queue.run, c.renew_cancel.ensures.told.told)
+    was_unlisted c.requires.entered c.args.irp c.look.result (set' g d) (few g d) c.look.new.self.queue.run c.look.new.self c.renew_status.new.self c.renew_routine.new.self c.renew_cancel.new.self c.look.ensures.step (two g d) (three g d) (four g d) (c.renew_cancel.new.self.queue.run, c.renew_cancel.ensures.agreed.agreed)
 
 pub begin_next-requires-clause-few : goal.begin_next-requires-clause-few
 begin_next-requires-clause-few g c = subst (λ (x : ℕ). x < last_life) (sym (c.requires.entered.list_is.lives_are.each c.args.irp c.requires.known)) (few g (goal.at.begin_next-requires-clause-few g c).After-renew_cancel)
@@ -60,7 +60,7 @@ pub returns-clause-adds : goal.returns-clause-adds
 returns-clause-adds g c =
     let d = (goal.at.returns-clause-adds g c).After-renew_cancel in
     subst (λ (x : Life). Adds (limits_on c.args.words.now (g.L.PendingList.listing c.args.list.now)) c.args.seat.now (Reuse c.args.irp (record { 0 = x.0 + 1 }) ∷ []) (g.L.PendingList.listing c.renew.new.self) c.begin_next.new.self c.renew_cancel.new.self) (sym (life_is g d))
-    (reuse_adds c.requires.entered c.args.irp c.look.result (set' g d) (few g d) c.look.new.self.queue.run c.look.new.self c.renew_status.new.self c.renew_routine.new.self c.renew_cancel.new.self c.look.ensures.step (two g d) (three g d) (four g d) (c.renew_cancel.new.self.queue.run, c.renew_cancel.ensures.told.told) c.look.ensures.told.told (g.L.PendingList.listing c.renew.new.self) c.begin_next.new.self c.requires.known c.renew.ensures c.begin_next.ensures)
+    (reuse_adds c.requires.entered c.args.irp c.look.result (set' g d) (few g d) c.look.new.self.queue.run c.look.new.self c.renew_status.new.self c.renew_routine.new.self c.renew_cancel.new.self c.look.ensures.step (two g d) (three g d) (four g d) (c.renew_cancel.new.self.queue.run, c.renew_cancel.ensures.agreed.agreed) c.look.ensures.agreed.agreed (g.L.PendingList.listing c.renew.new.self) c.begin_next.new.self c.requires.known c.renew.ensures c.begin_next.ensures)
 
 pub returns-clause-steps : goal.returns-clause-steps
 returns-clause-steps g c =

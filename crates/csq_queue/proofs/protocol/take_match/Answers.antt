@@ -13,21 +13,21 @@ search-init g c = search_start c.args.words.now.table (limits_on c.args.words.no
 
 pub disarm-requires-clause-next : goal.disarm-requires-clause-next
 disarm-requires-clause-next g c =
-    let now = listed_life _ _ _ _ c.search.invariant.adds.list_is c.in-Some.next (g.met.L.PendingList.sound c.search.list) (search rules) c.present-current.result c.present-current.ensures in
-    (c.search.invariant.removes, next_match c.search.invariant (g.met.L.PendingList.sound c.search.list) c.present-current.result now (ap (λ (m : IrpId). Some m) (ap (λ (j : IrpLife). j.irp) c.present-current.ensures) ∙ c.in-Some.ensures.found))
+    let now = listed_life _ _ _ _ c.search.invariant.adds.list_is c.in-Some.next (g.met.L.PendingList.sound c.search.list) (search rules) c.present-present_in.result c.present-present_in.ensures in
+    (c.search.invariant.removes, next_match c.search.invariant (g.met.L.PendingList.sound c.search.list) c.present-present_in.result now (ap (λ (m : IrpId). Some m) (ap (λ (j : IrpLife). j.irp) c.present-present_in.ensures) ∙ c.in-Some.ensures.found))
 
 -- the removal found the routine of the next match
-hit : (g : Over) (c : After-remove g) → ((marks : List IrpLife) × Adds (limits_on c.args.words.now (g.L.PendingList.listing c.args.list.now)) c.args.seat.now (RemoveNext c.args.peek (Some c.present-current.result) ∷ marked marks) (g.L.PendingList.listing c.remove.new.self) c.args.kept.now c.disarm.new.self)
-    × MakesSteps (remove_next_steps c.args.peek (Some c.present-current.result) (queue_of c.args.seat.now.queue)) (joined_record c.args.seat.now) (joined_record c.disarm.new.self)
-    × IsNew (limits_on c.args.words.now (g.L.PendingList.listing c.args.list.now)) (joined_record c.args.seat.now) c.present-current.result
+hit : (g : Over) (c : After-remove g) → ((marks : List IrpLife) × Adds (limits_on c.args.words.now (g.L.PendingList.listing c.args.list.now)) c.args.seat.now (RemoveNext c.args.peek (Some c.present-present_in.result) ∷ marked marks) (g.L.PendingList.listing c.remove.new.self) c.args.kept.now c.disarm.new.self)
+    × MakesSteps (remove_next_steps c.args.peek (Some c.present-present_in.result) (queue_of c.args.seat.now.queue)) (joined_record c.args.seat.now) (joined_record c.disarm.new.self)
+    × IsNew (limits_on c.args.words.now (g.L.PendingList.listing c.args.list.now)) (joined_record c.args.seat.now) c.present-present_in.result
 hit g c =
     let l = limits_on c.args.words.now (g.L.PendingList.listing c.args.list.now) in
     let s = g.L.PendingList.listing c.search.list in
     let v = c.args.kept.now in
     let z = c.search.seat in
-    let i = c.present-current.result in
-    let named = ap (λ (j : IrpLife). j.irp) c.present-current.ensures in
-    let now = listed_life _ _ _ _ c.search.invariant.adds.list_is c.in-Some.next (g.met.L.PendingList.sound c.search.list) (search rules) c.present-current.result c.present-current.ensures in
+    let i = c.present-present_in.result in
+    let named = ap (λ (j : IrpLife). j.irp) c.present-present_in.ensures in
+    let now = listed_life _ _ _ _ c.search.invariant.adds.list_is c.in-Some.next (g.met.L.PendingList.sound c.search.list) (search rules) c.present-present_in.result c.present-present_in.ensures in
     let sound = g.met.L.PendingList.sound c.search.list in
     let peeked = ap (λ (m : IrpId). Some m) named ∙ c.in-Some.ensures.found in
     let one = c.is_set.ensures.set c.if-is_set.true in
@@ -37,7 +37,7 @@ hit g c =
     subst (λ (y : Listing × QueueSeatState). ((marks : List IrpLife) × Adds l c.args.seat.now (RemoveNext c.args.peek (Some i) ∷ marked marks) y.0 v y.1)
     × MakesSteps (remove_next_steps c.args.peek (Some i) (queue_of c.args.seat.now.queue)) (joined_record c.args.seat.now) (joined_record y.1) × IsNew l (joined_record c.args.seat.now) i)
     (λ k. (sym out k, sym is k))
-    (search_hit c.search.invariant sound i now peeked c.disarm.new.self.queue.run (c.disarm.ensures.unmarked some) (subst (λ (y : QueueSeatState). SomeRunAgrees c.args.words.now.size y.queue (joined_record y)) is (c.disarm.new.self.queue.run, c.disarm.ensures.told.told)))
+    (search_hit c.search.invariant sound i now peeked c.disarm.new.self.queue.run (c.disarm.ensures.unmarked some) (subst (λ (y : QueueSeatState). SomeRunAgrees c.args.words.now.size y.queue (joined_record y)) is (c.disarm.new.self.queue.run, c.disarm.ensures.agreed.agreed)))
 
 pub returns-then-is_set-clause-adds : goal.returns-then-is_set-clause-adds
 returns-then-is_set-clause-adds g c = (hit g c).0
@@ -51,11 +51,11 @@ returns-then-is_set-clause-new g c = (hit g c).2
 pub search-preserved : goal.search-preserved
 search-preserved g c =
     let z = c.search.seat in
-    let i = c.present-current.result in
-    let named = ap (λ (j : IrpLife). j.irp) c.present-current.ensures in
-    let now = listed_life _ _ _ _ c.search.invariant.adds.list_is c.in-Some.next (g.met.L.PendingList.sound c.search.list) (search rules) c.present-current.result c.present-current.ensures in
+    let i = c.present-present_in.result in
+    let named = ap (λ (j : IrpLife). j.irp) c.present-present_in.ensures in
+    let now = listed_life _ _ _ _ c.search.invariant.adds.list_is c.in-Some.next (g.met.L.PendingList.sound c.search.list) (search rules) c.present-present_in.result c.present-present_in.ensures in
     let is : c.disarm.new.self ≡ with_made (Disarm i) 0 (due_mark i (queue_of z.queue)) c.disarm.new.self.queue.run z = c.disarm.ensures.step ∙ ap (λ w. with_view (after_step (RemoveNextCall c.args.peek) (Disarm i) w (with_run c.disarm.new.self.queue.run z.queue) (joined_record z)) z) (c.is_set.ensures.clear c.if-is_set.false) in
-    let missed = search_miss c.search.invariant (g.met.L.PendingList.sound c.search.list) i now (ap (λ (m : IrpId). Some m) named ∙ c.in-Some.ensures.found) c.disarm.new.self.queue.run (subst (λ (y : QueueSeatState). SomeRunAgrees c.args.words.now.size y.queue (joined_record y)) is (c.disarm.new.self.queue.run, c.disarm.ensures.told.told)) in
+    let missed = search_miss c.search.invariant (g.met.L.PendingList.sound c.search.list) i now (ap (λ (m : IrpId). Some m) named ∙ c.in-Some.ensures.found) c.disarm.new.self.queue.run (subst (λ (y : QueueSeatState). SomeRunAgrees c.args.words.now.size y.queue (joined_record y)) is (c.disarm.new.self.queue.run, c.disarm.ensures.agreed.agreed)) in
     subst (λ (y : IrpId × QueueSeatState). IsSearch (limits_on c.args.words.now (g.L.PendingList.listing c.args.list.now)) c.args.seat.now c.args.peek (Some y.0) (g.L.PendingList.listing c.search.list) c.args.kept.now y.1) (λ k. (named k, sym is k)) missed
 
 pub note-requires-clause-may : goal.note-requires-clause-may
@@ -70,7 +70,7 @@ ended : (g : Over) (c : After-note g) → ((marks : List IrpLife) × Adds (limit
 ended g c =
     subst (λ (z : QueueSeatState). SomeRunAgrees c.args.words.now.size z.queue (joined_record z) → ((marks : List IrpLife) × Adds (limits_on c.args.words.now (g.L.PendingList.listing c.args.list.now)) c.args.seat.now (RemoveNext c.args.peek None ∷ marked marks) (g.L.PendingList.listing c.search.list) c.args.kept.now z)
     × MakesSteps (remove_next_steps c.args.peek None (queue_of c.args.seat.now.queue)) (joined_record c.args.seat.now) (joined_record z))
-    (sym c.note.ensures.noted) (search_end c.search.invariant c.note.new.self.queue.run (search rules)) (c.note.new.self.queue.run, c.note.ensures.told.told)
+    (sym c.note.ensures.noted) (search_end c.search.invariant c.note.new.self.queue.run (search rules)) (c.note.new.self.queue.run, c.note.ensures.agreed.agreed)
 
 pub returns-clause-adds : goal.returns-clause-adds
 returns-clause-adds g c = (ended g c).0

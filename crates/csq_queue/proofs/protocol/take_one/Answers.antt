@@ -21,7 +21,7 @@ absent g c =
     let away = one_away c.requires.entered i (g.met.L.PendingList.sound c.args.list.now) (sym c.is_here.ensures ∙ c.if-not-is_here.true) in
     subst (λ (y : QueueSeatState). SomeRunAgrees c.args.words.now.size y.queue (joined_record y) → Adds (limits_on c.args.words.now (g.L.PendingList.listing c.args.list.now)) z (Remove i false ∷ []) (g.L.PendingList.listing c.args.list.now) c.args.kept.now y
     × MakesSteps (remove_steps i None (queue_of z.queue)) (joined_record z) (joined_record y))
-    (sym c.note.ensures.noted) (one_none c.requires.entered i c.note.new.self.queue.run away) (c.note.new.self.queue.run, c.note.ensures.told.told)
+    (sym c.note.ensures.noted) (one_none c.requires.entered i c.note.new.self.queue.run away) (c.note.new.self.queue.run, c.note.ensures.agreed.agreed)
 
 pub returns-then-not-is_here-clause-adds : goal.returns-then-not-is_here-clause-adds
 returns-then-not-is_here-clause-adds g c = ([], (absent g c).0)
@@ -51,7 +51,7 @@ hit g c =
     let is : c.disarm.new.self ≡ with_made (Disarm i) 1 (Remove i true ∷ []) c.disarm.new.self.queue.run z = c.disarm.ensures.step ∙ ap (λ w. with_view (after_step (RemoveCall i) (Disarm i) w (with_run c.disarm.new.self.queue.run z.queue) (joined_record z)) z) one in
     subst (λ (y : Listing × QueueSeatState). Adds l z (Remove i true ∷ []) y.0 v y.1 × MakesSteps (remove_steps i (Some i) (queue_of z.queue)) (joined_record z) (joined_record y.1) × IsNew l (joined_record z) i)
     (λ k. (sym c.remove.ensures k, sym is k))
-    (one_hit c.requires.entered i c.disarm.new.self.queue.run here.1 sound here.0 (c.disarm.ensures.unmarked some) (subst (λ (y : QueueSeatState). SomeRunAgrees c.args.words.now.size y.queue (joined_record y)) is (c.disarm.new.self.queue.run, c.disarm.ensures.told.told)))
+    (one_hit c.requires.entered i c.disarm.new.self.queue.run here.1 sound here.0 (c.disarm.ensures.unmarked some) (subst (λ (y : QueueSeatState). SomeRunAgrees c.args.words.now.size y.queue (joined_record y)) is (c.disarm.new.self.queue.run, c.disarm.ensures.agreed.agreed)))
 
 pub returns-then-is_set-clause-adds : goal.returns-then-is_set-clause-adds
 returns-then-is_set-clause-adds g c = ([], (hit g c).0)
@@ -83,8 +83,8 @@ missed g c is =
     subst (λ (y : QueueSeatState). SomeRunAgrees c.args.words.now.size y.queue (joined_record y) → ((marks : List IrpLife) × Adds (limits_on c.args.words.now (g.L.PendingList.listing c.args.list.now)) z (Remove i false ∷ marked marks) (g.L.PendingList.listing c.args.list.now) c.args.kept.now y)
     × MakesSteps (remove_steps i None (queue_of z.queue)) (joined_record z) (joined_record y))
     (sym (c.note-2.ensures.noted ∙ ap (with_made End 0 (Remove i false ∷ []) c.note-2.new.self.queue.run) is))
-    (one_miss c.requires.entered i c.disarm.new.self.queue.run c.note-2.new.self.queue.run (one_listed c.requires.entered i here.1 here.0) (subst (λ (y : QueueSeatState). SomeRunAgrees c.args.words.now.size y.queue (joined_record y)) is (c.disarm.new.self.queue.run, c.disarm.ensures.told.told)))
-    (c.note-2.new.self.queue.run, c.note-2.ensures.told.told)
+    (one_miss c.requires.entered i c.disarm.new.self.queue.run c.note-2.new.self.queue.run (one_listed c.requires.entered i here.1 here.0) (subst (λ (y : QueueSeatState). SomeRunAgrees c.args.words.now.size y.queue (joined_record y)) is (c.disarm.new.self.queue.run, c.disarm.ensures.agreed.agreed)))
+    (c.note-2.new.self.queue.run, c.note-2.ensures.agreed.agreed)
 
 pub returns-clause-adds : goal.returns-clause-adds
 returns-clause-adds g c = (missed g c (to_missed g (goal.at.returns-clause-adds g c).After-disarm (c.is_set.ensures.clear c.if-is_set.false))).0

@@ -45,11 +45,11 @@ module _ {M : Type 1} {𝓤 : Ura M} (𝓛 : Logic 𝓤) (at_mem : Memory → SP
   exits : (p : Ptr) (body : Option R.Denot) (v : Val) (r : Option (MutBor R.Denot)) (F : Fml) → MatchOption r (body ≡ None) (λ (x : MutBor R.Denot). body ≡ Some x.now)
       → ent 𝓤 (sem 𝓛 F) (sem 𝓛 (LendsPass (self p body) r))
       → ent 𝓤 (⋆ 𝓛 (‵ (flft κ q) ∷ ‵ ((option.the_row (Lent κ)).own_val r (v ∷ [])) ∷ ‵ F ∷ [])) (Post p body v)
-  exits p body v r F told follow =
+  exits p body v r F stored follow =
       qed 𝓛 (‵ (flft κ q) ∷ ‵ ((option.the_row (Lent κ)).own_val r (v ∷ [])) ∷ ‵ F ∷ []) ∵
       suffices ! _ (ends_at 𝓛 f.ended stayed (f.clauses 𝓛 at_mem run) (bound p body) v r (tt, tt) (tt, tt)) $
       nothing ! $ move ! (1 ∷ 0 ∷ []) $ join ! $ nothing ! $ nothing ! $ fjoin ! $ move ! (0 ∷ 2 ∷ []) $ join ! $ move ! (1 ∷ 0 ∷ []) $ join ! $ frame ! $
-      by ! (qed 𝓛 (‵ F ∷ []) ∵ use1 𝓛 (‵ (LendsPass (self p body) r)) follow $ says ! told $ done !)
+      by ! (qed 𝓛 (‵ F ∷ []) ∵ use1 𝓛 (‵ (LendsPass (self p body) r)) follow $ says ! stored $ done !)
 
   -- what is left of a handle while the value at b and o is lent, and the handle with that back
   abbrev Rest : ℕ → ℕ → Fml

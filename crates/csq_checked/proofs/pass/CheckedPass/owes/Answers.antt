@@ -8,8 +8,8 @@ returns-in-Some c =
     let words = arc_value c.self.inside.words in
     let known : c.args.irp.irp.0 < words.size.irps = search rules in
     let found : slot_at c.self.inside.owed c.args.irp.irp.0 ≡ Some c.in-Some.life = sym c.in-Some.ensures in
-    let told = slot_owed_is words c.self.inside.pass c.self.inside.held c.self.inside.owed c.self.invariant c.args.irp known _ c.claims.ensures.apart c.in-Some.life found in
-    subst (λ (p : CheckedPassState). (c.in-Some.life.0 == c.args.irp.life.0) ≡ owes_in p.pass.steps c.args.irp) c.self.view_is told
+    let promised = slot_owed_is words c.self.inside.pass c.self.inside.held c.self.inside.owed c.self.invariant c.args.irp known _ c.claims.ensures.apart c.in-Some.life found in
+    subst (λ (p : CheckedPassState). (c.in-Some.life.0 == c.args.irp.life.0) ≡ owes_in p.pass.steps c.args.irp) c.self.view_is promised
 
 pub returns-in-None : goal.returns-in-None
 returns-in-None c =

@@ -9,6 +9,6 @@ invariant_of-by-in_default c =
     let words = arc_value c.by.inside.words in
     let on : IsQueueOn words c.self.inside.queue = search rules in
     let q = c.self.inside.queue in
-    let told = c.in_ok-inserted.ensures in
-    let gives = insert_gives q.limits (Ok c.in_ok-inserted.inserted) (end_of q.limits.first c.insert.new.pass.pass.seen) c.by.inside.pass.pass c.insert.new.pass.pass told.call.steps told.call.new in
-    giving_keeps words c.by.inside.pass c.by.inside.held c.by.inside.owed c.by.invariant q on None false _ _ (subst (λ (a : InsertAnswer IrpLife IrpLife). GivesOut q.limits (given_by a) false c.by.inside.pass.pass c.insert.new.pass.pass) c.in_default.is gives) told.place refl
+    let promised = c.in_ok-inserted.ensures in
+    let gives = insert_gives q.limits (Ok c.in_ok-inserted.inserted) (end_of q.limits.first c.insert.new.pass.pass.seen) c.by.inside.pass.pass c.insert.new.pass.pass promised.call.steps promised.call.new in
+    giving_keeps words c.by.inside.pass c.by.inside.held c.by.inside.owed c.by.invariant q on None false _ _ (subst (λ (a : InsertAnswer IrpLife IrpLife). GivesOut q.limits (given_by a) false c.by.inside.pass.pass c.insert.new.pass.pass) c.in_default.is gives) promised.place refl

@@ -1,7 +1,7 @@
 use Rattle.std.proofs.Common.{◌<◌, Ok, refl, rules}
 use Rattle.csq_checked.proofs.Imports.{arc_value, end_of, of_accepted}
 use Rattle.csq_queue.specs.Calls.{file_at}
-use Rattle.csq_queue.specs.Told.{AddsEvents}
+use Rattle.csq_queue.specs.Effects.{AddsEvents}
 use Rattle.csq_checked.proofs.Checking.{back_keeps}
 use Rattle.csq_checked.proofs.Placing.{not_refused}
 use Rattle.csq_checked.proofs.queue.CheckedQueue.put_back.Goals as goal
@@ -11,9 +11,9 @@ invariant_of-by c =
     let words = arc_value c.by.inside.words in
     let known : c.args.irp.irp.0 < words.size.irps = search rules in
     let q = c.self.inside.queue in
-    let told = c.in-Ok.ensures in
+    let promised = c.in-Ok.ensures in
     back_keeps words c.by.inside.pass c.by.inside.held c.by.inside.owed c.by.invariant c.args.irp known c.in-Ok.back (end_of q.limits.first c.put_back.new.pass.pass.seen) _ _
-    told.call.steps (of_accepted c.args.irp (file_at q.limits q.queue.history c.args.irp) c.args.place (λ a events. AddsEvents q.limits q.queue.history c.by.inside.pass.pass c.put_back.new.pass.pass events) (Ok c.in-Ok.back) told.call.accepted) (search rules) told.call.none_held told.place (search rules)
+    promised.call.steps (of_accepted c.args.irp (file_at q.limits q.queue.history c.args.irp) c.args.place (λ a events. AddsEvents q.limits q.queue.history c.by.inside.pass.pass c.put_back.new.pass.pass events) (Ok c.in-Ok.back) promised.call.accepted) (search rules) promised.call.none_held promised.place (search rules)
 
 pub unreachable-requires-in-Err-UnknownFile : goal.unreachable-requires-in-Err-UnknownFile
 unreachable-requires-in-Err-UnknownFile c =

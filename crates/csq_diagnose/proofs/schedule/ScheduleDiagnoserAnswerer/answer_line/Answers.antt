@@ -5,11 +5,11 @@ use Rattle.csq_replay.specs.Outcomes.{ComesTo}
 use Rattle.csq_replay.specs.Schedule.{Numbered, run_of}
 use Rattle.csq_explain.specs.declared.reasons.Reason.{Reason}
 use Rattle.csq_explain.proofs.Outcomes.{was_skipped, was_accepted, was_stopped}
-use Rattle.csq_diagnose.specs.Schedules.{IsToldStop}
+use Rattle.csq_diagnose.specs.Schedules.{IsReportedStop}
 use Rattle.csq_diagnose.proofs.schedule.ScheduleDiagnoserAnswerer.answer_line.Goals as goal
 
-pub tell_stop-requires : goal.tell_stop-requires
-tell_stop-requires g c = λ is step.
+pub report_stop-requires : goal.report_stop-requires
+report_stop-requires g c = λ is step.
     let (size, W, a) = c.requires in
     let came = was_stopped size W c.args.number c.args.line.now _ c.in-Stopped.reason (c.in-Stopped.ensures size W a) in
     let none = subst (λ (stop : Stop). ComesTo size (run_of W) c.args.line.now (Stopped stop)) is came.0 in
@@ -27,10 +27,10 @@ returns-in-Accepted g c = λ size W a.
     let came = was_accepted size W c.args.number c.args.line.now _ step (c.in-Accepted.ensures size W a) in
     ([], sym (append-nil _), (Some (w ∷ W), (Accepted step.made, came.0, refl, refl), came.2))
 
-pub returns-in_ok-tell_stop-in-Stopped : goal.returns-in_ok-tell_stop-in-Stopped
-returns-in_ok-tell_stop-in-Stopped g c = λ size W a.
+pub returns-in_ok-report_stop-in-Stopped : goal.returns-in_ok-report_stop-in-Stopped
+returns-in_ok-report_stop-in-Stopped g c = λ size W a.
     let reason = c.in-Stopped.reason in
     let came = was_stopped size W c.args.number c.args.line.now _ reason (c.in-Stopped.ensures size W a) in
-    let told = c.in_ok-tell_stop-in-Stopped.ensures in
-    let of_run = subst (λ (r : Reason). IsToldStop c.args.number c.args.line.now r reason.stop told.0) came.1 told.2 in
-    (told.0, told.1, (None, (Stopped reason.stop, came.0, of_run, refl), tt))
+    let reported = c.in_ok-report_stop-in-Stopped.ensures in
+    let of_run = subst (λ (r : Reason). IsReportedStop c.args.number c.args.line.now r reason.stop reported.0) came.1 reported.2 in
+    (reported.0, reported.1, (None, (Stopped reason.stop, came.0, of_run, refl), tt))

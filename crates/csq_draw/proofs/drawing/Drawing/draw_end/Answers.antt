@@ -5,9 +5,9 @@ use Rattle.csq_draw.proofs.Showing.{closed_written}
 use Rattle.csq_draw.proofs.drawing.Drawing.draw_end.Goals as goal
 
 pub returns-in_ok-draw_end_as_svg-in-Svg : goal.returns-in_ok-draw_end_as_svg-in-Svg
-returns-in_ok-draw_end_as_svg-in-Svg g c = λ size d stands. grew_same _ _ (λ (f : Format). closed_text size f d c.args.told.now c.args.rest) _ _ (sym c.in-Svg.is) (c.in_ok-draw_end_as_svg-in-Svg.ensures size d stands)
+returns-in_ok-draw_end_as_svg-in-Svg g c = λ size d stands. grew_same _ _ (λ (f : Format). closed_text size f d c.args.reported.now c.args.rest) _ _ (sym c.in-Svg.is) (c.in_ok-draw_end_as_svg-in-Svg.ensures size d stands)
 
 pub returns-in_ok-write_closed-in-Text : goal.returns-in_ok-write_closed-in-Text
 returns-in_ok-write_closed-in-Text g c = λ size d stands.
-    grew_same _ _ (λ (f : Format). closed_text size f d c.args.told.now c.args.rest) _ _ (sym c.in-Text.is)
-    (closed_written size d.steps _ _ _ _ _ _ c.args.told.now c.args.rest stands.captioned (c.deref.ensures.value ∙ stands.follows.passes) (c.deref-in-Text.ensures.value ∙ stands.shows.shown_rows) c.in_ok-write_closed-in-Text.ensures)
+    grew_same _ _ (λ (f : Format). closed_text size f d c.args.reported.now c.args.rest) _ _ (sym c.in-Text.is)
+    (closed_written size d.steps _ _ _ _ _ _ c.args.reported.now c.args.rest stands.captioned (c.deref.ensures.value ∙ stands.follows.passes) (c.deref-in-Text.ensures.value ∙ stands.shows.shown_rows) c.in_ok-write_closed-in-Text.ensures)

@@ -12,10 +12,10 @@ draw_end-requires-clause-few g c =
 
 pub returns : goal.returns
 returns g c = λ k d a.
-    let told = c.in_ok-closing.closing.told.items in
+    let reported = c.in_ok-closing.closing.reported.items in
     let rest = c.in_ok-closing.closing.rest in
-    let grew = grew_same _ _ (λ (ts : List IrpLine). closed_text k.0 c.args.self.now.format d ts rest) _ told c.deref.ensures.value (c.in_ok-draw_end.ensures k.0 d a.0) in (
-      closed_text k.0 k.1 d told rest,
-      grew_same _ _ (λ (f : Format). closed_text k.0 f d told rest) _ _ a.1 grew,
-      (told, rest, c.in_ok-closing.ensures.closes k.0 d.steps a.0.follows, refl),
+    let grew = grew_same _ _ (λ (ts : List IrpLine). closed_text k.0 c.args.self.now.format d ts rest) _ reported c.deref.ensures.value (c.in_ok-draw_end.ensures k.0 d a.0) in (
+      closed_text k.0 k.1 d reported rest,
+      grew_same _ _ (λ (f : Format). closed_text k.0 f d reported rest) _ _ a.1 grew,
+      (reported, rest, c.in_ok-closing.ensures.closes k.0 d.steps a.0.follows, refl),
     )

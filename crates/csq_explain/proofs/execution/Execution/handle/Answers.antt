@@ -1,7 +1,7 @@
 use Rattle.std.proofs.Common.{◌∷◌, ◌∙◌, ap, sym, refl, subst, arith, length}
 use Rattle.csq_explain.proofs.Imports.{MachineState, Agrees, size_of, Size, Skipped, Accepted, Stopped, Numbered, run_of, comes_of_size, IsStatusAfter, reason_of}
 use Rattle.csq_explain.specs.declared.execution.Explained.TheVariants as explained
-use Rattle.csq_explain.proofs.Following.{length-passes, passes_noted, noted_inside, told_in_call}
+use Rattle.csq_explain.proofs.Following.{length-passes, passes_noted, noted_inside, reported_in_call}
 use Rattle.csq_explain.proofs.Statuses.{status_is}
 use Rattle.csq_explain.proofs.execution.Execution.handle.Goals as goal
 
@@ -32,7 +32,7 @@ returns-in-Accepted g c = λ size W a.
     let inside = noted_inside size W w to _ a.passes c.note_pass-inside.result c.note_pass-inside.ensures.inside in (
       Accepted made,
       comes,
-      ap explained.Accepted (told_in_call (run_of W) made c.note_pass-inside.result c.status_after-status.result inside status),
+      ap explained.Accepted (reported_in_call (run_of W) made c.note_pass-inside.result c.status_after-status.result inside status),
       record {
         same = same;
         limits = a.limits;

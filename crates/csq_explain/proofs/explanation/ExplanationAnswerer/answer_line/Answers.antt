@@ -31,10 +31,10 @@ returns-in_ok-writeln-in-Accepted g c = λ k W a.
     let came = was_accepted k.0 W c.args.number c.args.line.now _ step (c.in-Accepted.ensures k.0 W a.follows) in
     let answer : List ℕ = c.args.line.now ++ (codes " found " ++ (decimal made.found ++ codes "\n")) in
     let line = ap (λ line. old ++ (line ++ (codes " found " ++ (decimal made.found ++ (codes "\n  " ++ (sentence step ++ codes "\n")))))) c.in-Ok.ensures.cases.0 in
-    let told = ap (λ (s : StepInCall). old ++ (c.args.line.now ++ (codes " found " ++ (decimal made.found ++ (codes "\n  " ++ (sentence s ++ codes "\n")))))) came.1 in
+    let reported = ap (λ (s : StepInCall). old ++ (c.args.line.now ++ (codes " found " ++ (decimal made.found ++ (codes "\n  " ++ (sentence s ++ codes "\n")))))) came.1 in
     let claims = c.in_ok-explain_claim-in-Accepted.ensures ∙ ap (λ t. t ++ claim_remark made) (c.in_ok-note_claim-in-Accepted.ensures ∙ ap (λ t. t ++ claim_line w) a.claims) in (
       answer ++ remark (sentence (in_call (run_of W) made)),
-      c.in_ok-writeln-in-Accepted.ensures.bytes ∙ line ∙ told ∙ ap (λ t. old ++ t) (step_remark c.args.line.now (decimal made.found) (sentence (in_call (run_of W) made))),
+      c.in_ok-writeln-in-Accepted.ensures.bytes ∙ line ∙ reported ∙ ap (λ t. old ++ t) (step_remark c.args.line.now (decimal made.found) (sentence (in_call (run_of W) made))),
       (Some (w ∷ W), (Accepted made, came.0, refl, refl), record { follows = came.2; asks = a.asks; claims = claims }),
     )
 

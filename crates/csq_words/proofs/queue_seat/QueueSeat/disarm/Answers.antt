@@ -1,7 +1,7 @@
 use Rattle.std.proofs.Common.{◌≡◌, ℕ, zero, suc, ◌<◌, false, ◌∙◌, ap, sym, arith, refl}
 use Rattle.csq_words.proofs.Imports.{Disarm, bit_in, QueueState, has_marked, queue_of, table_size, FindsUnmarked}
 use Rattle.csq_words.proofs.LockedSteps.{disarms_as}
-use Rattle.csq_words.proofs.SeatValues.{joined, made_found, made_seat, made_told, made_unmarked}
+use Rattle.csq_words.proofs.SeatValues.{joined, made_found, made_seat, made_agreed, made_unmarked}
 use Rattle.csq_words.proofs.queue_seat.QueueSeat.disarm.Goals as goal
 
 pub swap-requires : goal.swap-requires
@@ -16,23 +16,23 @@ swap-requires g c =
 
 pub invariant_of-self : goal.invariant_of-self
 invariant_of-self g c =
-    (made_seat c.args.call refl c.self.inside.seat c.swap.new.seat c.swap.result c.self.view_is c.self.invariant c.requires.joined c.swap.ensures.table c.swap.ensures.told).0
+    (made_seat c.args.call refl c.self.inside.seat c.swap.new.seat c.swap.result c.self.view_is c.self.invariant c.requires.joined c.swap.ensures.table c.swap.ensures.agreed).0
 
 pub returns-clause-found : goal.returns-clause-found
 returns-clause-found g c =
-    made_found c.args.call refl c.self.inside.seat c.swap.new.seat c.swap.result c.self.view_is c.self.invariant c.requires.joined c.swap.ensures.table c.swap.ensures.told
+    made_found c.args.call refl c.self.inside.seat c.swap.new.seat c.swap.result c.self.view_is c.self.invariant c.requires.joined c.swap.ensures.table c.swap.ensures.agreed
 
 pub returns-clause-step : goal.returns-clause-step
 returns-clause-step g c =
-    (made_seat c.args.call refl c.self.inside.seat c.swap.new.seat c.swap.result c.self.view_is c.self.invariant c.requires.joined c.swap.ensures.table c.swap.ensures.told).1
+    (made_seat c.args.call refl c.self.inside.seat c.swap.new.seat c.swap.result c.self.view_is c.self.invariant c.requires.joined c.swap.ensures.table c.swap.ensures.agreed).1
 
-pub returns-clause-told : goal.returns-clause-told
-returns-clause-told g c =
-    made_told c.args.call refl c.self.inside.seat c.swap.new.seat c.swap.result c.self.view_is c.self.invariant c.requires.joined c.swap.ensures.table c.swap.ensures.told _ (ap (λ w. w.size) c.words.view_is)
+pub returns-clause-agreed : goal.returns-clause-agreed
+returns-clause-agreed g c =
+    made_agreed c.args.call refl c.self.inside.seat c.swap.new.seat c.swap.result c.self.view_is c.self.invariant c.requires.joined c.swap.ensures.table c.swap.ensures.agreed _ (ap (λ w. w.size) c.words.view_is)
 
 pub returns-clause-unmarked : goal.returns-clause-unmarked
 returns-clause-unmarked g c = λ some. unmarked (bit_in c.swap.result) some (queue_of c.args.self.now.queue)
-    (made_unmarked c.args.call refl c.self.inside.seat c.swap.new.seat c.swap.result c.self.view_is c.self.invariant c.requires.joined c.swap.ensures.table c.swap.ensures.told)
+    (made_unmarked c.args.call refl c.self.inside.seat c.swap.new.seat c.swap.result c.self.view_is c.self.invariant c.requires.joined c.swap.ensures.table c.swap.ensures.agreed)
   where
     unmarked : (n : ℕ) → 0 < n → (u : QueueState) → FindsUnmarked (Disarm c.args.irp) n u → has_marked u.entries c.args.irp ≡ false
     unmarked zero h u x = absurd (omega arith)

@@ -15,21 +15,21 @@ load-requires g c =
     )
 
 pub invariant_of-self : goal.invariant_of-self
-invariant_of-self g c = (looked c.self.inside.seat c.load.new.seat c.self.view_is c.self.invariant c.requires.joined c.load.ensures.table c.load.result refl c.load.ensures.told).0
+invariant_of-self g c = (looked c.self.inside.seat c.load.new.seat c.self.view_is c.self.invariant c.requires.joined c.load.ensures.table c.load.result refl c.load.ensures.agreed).0
 
 pub returns-clause-found : goal.returns-clause-found
-returns-clause-found g c = (looked c.self.inside.seat c.load.new.seat c.self.view_is c.self.invariant c.requires.joined c.load.ensures.table c.load.result refl c.load.ensures.told).2.1
+returns-clause-found g c = (looked c.self.inside.seat c.load.new.seat c.self.view_is c.self.invariant c.requires.joined c.load.ensures.table c.load.result refl c.load.ensures.agreed).2.1
 
 pub returns-clause-step : goal.returns-clause-step
-returns-clause-step g c = (looked c.self.inside.seat c.load.new.seat c.self.view_is c.self.invariant c.requires.joined c.load.ensures.table c.load.result refl c.load.ensures.told).1
+returns-clause-step g c = (looked c.self.inside.seat c.load.new.seat c.self.view_is c.self.invariant c.requires.joined c.load.ensures.table c.load.result refl c.load.ensures.agreed).1
 
-pub returns-clause-told : goal.returns-clause-told
-returns-clause-told g c =
-    let look = (looked c.self.inside.seat c.load.new.seat c.self.view_is c.self.invariant c.requires.joined c.load.ensures.table c.load.result refl c.load.ensures.told).2 in
+pub returns-clause-agreed : goal.returns-clause-agreed
+returns-clause-agreed g c =
+    let look = (looked c.self.inside.seat c.load.new.seat c.self.view_is c.self.invariant c.requires.joined c.load.ensures.table c.load.result refl c.load.ensures.agreed).2 in
     subst (λ (z : Size × View). HasObserved z.0 c.args.self.now.queue (queue_in z.1) (pass_in z.1)) (λ k. (ap (λ w. w.size) c.words.view_is k, sym (ap (λ m. m.0) look.0) k)) look.2
 
 pub returns-clause-done : goal.returns-clause-done
-returns-clause-done g c = (looked c.self.inside.seat c.load.new.seat c.self.view_is c.self.invariant c.requires.joined c.load.ensures.table c.load.result refl c.load.ensures.told).2.3
+returns-clause-done g c = (looked c.self.inside.seat c.load.new.seat c.self.view_is c.self.invariant c.requires.joined c.load.ensures.table c.load.result refl c.load.ensures.agreed).2.3
 
 pub returns-clause-unset : goal.returns-clause-unset
-returns-clause-unset g c = (looked c.self.inside.seat c.load.new.seat c.self.view_is c.self.invariant c.requires.joined c.load.ensures.table c.load.result refl c.load.ensures.told).2.4
+returns-clause-unset g c = (looked c.self.inside.seat c.load.new.seat c.self.view_is c.self.invariant c.requires.joined c.load.ensures.table c.load.result refl c.load.ensures.agreed).2.4

@@ -16,14 +16,14 @@ load-requires g c =
 
 pub invariant_of-self : goal.invariant_of-self
 invariant_of-self g c =
-    (stepped c.self.inside.seat c.load.new.seat (λ a b. after_note c.args.call c.args.note (with_run (queue_in c.load.new.seat.me.0).run a) b) c.self.view_is c.self.invariant c.requires.joined c.load.ensures.table (λ a b. note_has c.args.call c.args.note (with_run (queue_in c.load.new.seat.me.0).run a) b) c.load.ensures.told.0).0
+    (stepped c.self.inside.seat c.load.new.seat (λ a b. after_note c.args.call c.args.note (with_run (queue_in c.load.new.seat.me.0).run a) b) c.self.view_is c.self.invariant c.requires.joined c.load.ensures.table (λ a b. note_has c.args.call c.args.note (with_run (queue_in c.load.new.seat.me.0).run a) b) c.load.ensures.agreed.0).0
 
 pub returns-clause-noted : goal.returns-clause-noted
 returns-clause-noted g c =
-    (stepped c.self.inside.seat c.load.new.seat (λ a b. after_note c.args.call c.args.note (with_run (queue_in c.load.new.seat.me.0).run a) b) c.self.view_is c.self.invariant c.requires.joined c.load.ensures.table (λ a b. note_has c.args.call c.args.note (with_run (queue_in c.load.new.seat.me.0).run a) b) c.load.ensures.told.0).1
+    (stepped c.self.inside.seat c.load.new.seat (λ a b. after_note c.args.call c.args.note (with_run (queue_in c.load.new.seat.me.0).run a) b) c.self.view_is c.self.invariant c.requires.joined c.load.ensures.table (λ a b. note_has c.args.call c.args.note (with_run (queue_in c.load.new.seat.me.0).run a) b) c.load.ensures.agreed.0).1
 
-pub returns-clause-told : goal.returns-clause-told
-returns-clause-told g c =
-    let x = c.load.ensures.told in
+pub returns-clause-agreed : goal.returns-clause-agreed
+returns-clause-agreed g c =
+    let x = c.load.ensures.agreed in
     let was = joined c.self.inside.seat c.self.view_is c.self.invariant c.requires.joined in
     subst (λ (z : Size × View × View). ObservesNote z.0 c.args.call (queue_in z.1) (queue_in z.2) (pass_in z.2)) (λ k. (ap (λ w. w.size) c.words.view_is k, was k, sym (ap (λ m. m.0) x.0) k)) x.1

@@ -1,7 +1,7 @@
 use Rattle.std.proofs.Common.{◌∙◌, ap, sym, arith, refl}
 use Rattle.csq_words.specs.Rule.{table_size}
 use Rattle.csq_words.proofs.LockedSteps.{rearms_as}
-use Rattle.csq_words.proofs.SeatValues.{joined, made_found, made_seat, made_told}
+use Rattle.csq_words.proofs.SeatValues.{joined, made_found, made_seat, made_agreed}
 use Rattle.csq_words.proofs.queue_seat.QueueSeat.rearm.Goals as goal
 
 pub swap-requires : goal.swap-requires
@@ -16,16 +16,16 @@ swap-requires g c =
 
 pub invariant_of-self : goal.invariant_of-self
 invariant_of-self g c =
-    (made_seat c.args.call refl c.self.inside.seat c.swap.new.seat c.swap.result c.self.view_is c.self.invariant c.requires.joined c.swap.ensures.table c.swap.ensures.told).0
+    (made_seat c.args.call refl c.self.inside.seat c.swap.new.seat c.swap.result c.self.view_is c.self.invariant c.requires.joined c.swap.ensures.table c.swap.ensures.agreed).0
 
 pub returns-clause-found : goal.returns-clause-found
 returns-clause-found g c =
-    made_found c.args.call refl c.self.inside.seat c.swap.new.seat c.swap.result c.self.view_is c.self.invariant c.requires.joined c.swap.ensures.table c.swap.ensures.told
+    made_found c.args.call refl c.self.inside.seat c.swap.new.seat c.swap.result c.self.view_is c.self.invariant c.requires.joined c.swap.ensures.table c.swap.ensures.agreed
 
 pub returns-clause-step : goal.returns-clause-step
 returns-clause-step g c =
-    (made_seat c.args.call refl c.self.inside.seat c.swap.new.seat c.swap.result c.self.view_is c.self.invariant c.requires.joined c.swap.ensures.table c.swap.ensures.told).1
+    (made_seat c.args.call refl c.self.inside.seat c.swap.new.seat c.swap.result c.self.view_is c.self.invariant c.requires.joined c.swap.ensures.table c.swap.ensures.agreed).1
 
-pub returns-clause-told : goal.returns-clause-told
-returns-clause-told g c =
-    made_told c.args.call refl c.self.inside.seat c.swap.new.seat c.swap.result c.self.view_is c.self.invariant c.requires.joined c.swap.ensures.table c.swap.ensures.told _ (ap (λ w. w.size) c.words.view_is)
+pub returns-clause-agreed : goal.returns-clause-agreed
+returns-clause-agreed g c =
+    made_agreed c.args.call refl c.self.inside.seat c.swap.new.seat c.swap.result c.self.view_is c.self.invariant c.requires.joined c.swap.ensures.table c.swap.ensures.agreed _ (ap (λ w. w.size) c.words.view_is)

@@ -15,15 +15,15 @@ swap-requires g c =
     )
 
 pub invariant_of-self : goal.invariant_of-self
-invariant_of-self g c = (cancel_renewed c.self.inside.seat c.swap.new.seat c.self.view_is c.self.invariant c.requires.joined c.swap.ensures.table c.swap.result refl c.swap.ensures.told).0
+invariant_of-self g c = (cancel_renewed c.self.inside.seat c.swap.new.seat c.self.view_is c.self.invariant c.requires.joined c.swap.ensures.table c.swap.result refl c.swap.ensures.agreed).0
 
 pub returns-clause-found : goal.returns-clause-found
-returns-clause-found g c = (cancel_renewed c.self.inside.seat c.swap.new.seat c.self.view_is c.self.invariant c.requires.joined c.swap.ensures.table c.swap.result refl c.swap.ensures.told).2.1
+returns-clause-found g c = (cancel_renewed c.self.inside.seat c.swap.new.seat c.self.view_is c.self.invariant c.requires.joined c.swap.ensures.table c.swap.result refl c.swap.ensures.agreed).2.1
 
 pub returns-clause-step : goal.returns-clause-step
-returns-clause-step g c = (cancel_renewed c.self.inside.seat c.swap.new.seat c.self.view_is c.self.invariant c.requires.joined c.swap.ensures.table c.swap.result refl c.swap.ensures.told).1
+returns-clause-step g c = (cancel_renewed c.self.inside.seat c.swap.new.seat c.self.view_is c.self.invariant c.requires.joined c.swap.ensures.table c.swap.result refl c.swap.ensures.agreed).1
 
-pub returns-clause-told : goal.returns-clause-told
-returns-clause-told g c =
-    let x = (cancel_renewed c.self.inside.seat c.swap.new.seat c.self.view_is c.self.invariant c.requires.joined c.swap.ensures.table c.swap.result refl c.swap.ensures.told).2 in
+pub returns-clause-agreed : goal.returns-clause-agreed
+returns-clause-agreed g c =
+    let x = (cancel_renewed c.self.inside.seat c.swap.new.seat c.self.view_is c.self.invariant c.requires.joined c.swap.ensures.table c.swap.result refl c.swap.ensures.agreed).2 in
     subst (λ (z : Size × View). HasObserved z.0 c.args.self.now.queue (queue_in z.1) (pass_in z.1)) (λ k. (ap (λ w. w.size) c.words.view_is k, sym (ap (λ m. m.0) x.0) k)) x.2

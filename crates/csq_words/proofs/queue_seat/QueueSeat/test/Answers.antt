@@ -1,7 +1,7 @@
 use Rattle.std.proofs.Common.{◌∙◌, ap, sym, arith, refl}
-use Rattle.csq_words.proofs.Imports.{current, queue_of, table_size}
+use Rattle.csq_words.proofs.Imports.{present_in, queue_of, table_size}
 use Rattle.csq_words.proofs.LockedSteps.{tests_as}
-use Rattle.csq_words.proofs.SeatValues.{test_is, joined, made_found, made_seat, made_told}
+use Rattle.csq_words.proofs.SeatValues.{test_is, joined, made_found, made_seat, made_agreed}
 use Rattle.csq_words.proofs.queue_seat.QueueSeat.test.Goals as goal
 
 pub load-requires : goal.load-requires
@@ -11,21 +11,21 @@ load-requires g c =
     let irps = ap (λ w. w.size.irps) c.words.view_is in (
       ap (λ z. z.table) c.self.view_is ∙ (c.requires.words ∙ sym (ap (λ w. w.table) c.words.view_is)),
       omega (arith, c.words.invariant.0, c.words.invariant.1, irps, c.requires.irp, c.place-word.ensures),
-      tests_as (table_size words.table.shared.key) words.table.shared.table_id.slots c.self.inside.seat.id c.self.inside.seat.me _ _ queue c.args.call _ (current (queue_of c.args.self.now.queue) c.args.irp) (omega (arith, irps, c.requires.irp)) _ refl _ c.place-word.ensures (test_is c.self.inside.seat c.self.view_is c.args.irp) c.requires.next,
+      tests_as (table_size words.table.shared.key) words.table.shared.table_id.slots c.self.inside.seat.id c.self.inside.seat.me _ _ queue c.args.call _ (present_in (queue_of c.args.self.now.queue) c.args.irp) (omega (arith, irps, c.requires.irp)) _ refl _ c.place-word.ensures (test_is c.self.inside.seat c.self.view_is c.args.irp) c.requires.next,
     )
 
 pub invariant_of-self : goal.invariant_of-self
 invariant_of-self g c =
-    (made_seat c.args.call (test_is c.self.inside.seat c.self.view_is c.args.irp) c.self.inside.seat c.load.new.seat c.load.result c.self.view_is c.self.invariant c.requires.joined c.load.ensures.table c.load.ensures.told).0
+    (made_seat c.args.call (test_is c.self.inside.seat c.self.view_is c.args.irp) c.self.inside.seat c.load.new.seat c.load.result c.self.view_is c.self.invariant c.requires.joined c.load.ensures.table c.load.ensures.agreed).0
 
 pub returns-clause-found : goal.returns-clause-found
 returns-clause-found g c =
-    made_found c.args.call (test_is c.self.inside.seat c.self.view_is c.args.irp) c.self.inside.seat c.load.new.seat c.load.result c.self.view_is c.self.invariant c.requires.joined c.load.ensures.table c.load.ensures.told
+    made_found c.args.call (test_is c.self.inside.seat c.self.view_is c.args.irp) c.self.inside.seat c.load.new.seat c.load.result c.self.view_is c.self.invariant c.requires.joined c.load.ensures.table c.load.ensures.agreed
 
 pub returns-clause-step : goal.returns-clause-step
 returns-clause-step g c =
-    (made_seat c.args.call (test_is c.self.inside.seat c.self.view_is c.args.irp) c.self.inside.seat c.load.new.seat c.load.result c.self.view_is c.self.invariant c.requires.joined c.load.ensures.table c.load.ensures.told).1
+    (made_seat c.args.call (test_is c.self.inside.seat c.self.view_is c.args.irp) c.self.inside.seat c.load.new.seat c.load.result c.self.view_is c.self.invariant c.requires.joined c.load.ensures.table c.load.ensures.agreed).1
 
-pub returns-clause-told : goal.returns-clause-told
-returns-clause-told g c =
-    made_told c.args.call (test_is c.self.inside.seat c.self.view_is c.args.irp) c.self.inside.seat c.load.new.seat c.load.result c.self.view_is c.self.invariant c.requires.joined c.load.ensures.table c.load.ensures.told _ (ap (λ w. w.size) c.words.view_is)
+pub returns-clause-agreed : goal.returns-clause-agreed
+returns-clause-agreed g c =
+    made_agreed c.args.call (test_is c.self.inside.seat c.self.view_is c.args.irp) c.self.inside.seat c.load.new.seat c.load.result c.self.view_is c.self.invariant c.requires.joined c.load.ensures.table c.load.ensures.agreed _ (ap (λ w. w.size) c.words.view_is)

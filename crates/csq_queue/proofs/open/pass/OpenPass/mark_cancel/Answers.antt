@@ -15,7 +15,7 @@ mark : (g : Over) (c : After-take g) → IsMark c.args.words.now.table c.args.wo
 mark g c = record {
   known = let known = c.requires.irps in let inside = c.if-irp-self.false in let irps = ap (λ (z : OpenPassState). z.irps) c.self.view_is in omega arith;
   flagged = search rules;
-  told = c.flag.ensures.told;
+  agreed = c.flag.ensures.agreed;
   now = sym (ap (λ z. z.0.0) c.flag_read.ensures) ∙ c.if-found-life.false;
   taken = search rules;
   last = c.take.ensures.last;

@@ -12,7 +12,7 @@ overflow_sub-pass g c =
     let r = pass_record c.pass.inside.seat in
     let p = pass_on c.pass.inside.seat c.pass.inside.irps c.pass.inside.passes c.pass.inside.number c.pass.inside.tokens c.pass.inside.claims c.args.words.now c.args.pass.now c.pass.view_is c.requires.pass c.pass.invariant.0 in
     let owed : owes_in r.steps c.args.irp ≡ true = search rules in
-    let new : has_life (held_list r.steps) c.args.irp.irp ≡ false = owed_no_other _ _ r c.args.irp c.enter.ensures.told owed in
+    let new : has_life (held_list r.steps) c.args.irp.irp ≡ false = owed_no_other _ _ r c.args.irp c.enter.ensures.agreed owed in
     let some = out_owed c.args.words.now.size.irps r.pass c.args.irp r.steps c.take_owed.ensures.known owed new p.held_apart p.owed_apart in
     let claims = p.claims_are in
     omega arith
@@ -22,7 +22,7 @@ overflow_add-pass g c =
     let r = pass_record c.pass.inside.seat in
     let p = pass_on c.pass.inside.seat c.pass.inside.irps c.pass.inside.passes c.pass.inside.number c.pass.inside.tokens c.pass.inside.claims c.args.words.now c.args.pass.now c.pass.view_is c.requires.pass c.pass.invariant.0 in
     let owed : owes_in r.steps c.args.irp ≡ true = search rules in
-    let new : has_life (held_list r.steps) c.args.irp.irp ≡ false = owed_no_other _ _ r c.args.irp c.enter.ensures.told owed in
+    let new : has_life (held_list r.steps) c.args.irp.irp ≡ false = owed_no_other _ _ r c.args.irp c.enter.ensures.agreed owed in
     let room = out_room c.args.words.now.size.irps r.pass c.args.irp r.steps c.take_owed.ensures.known owed new p.held_apart p.owed_apart in
     let tokens = p.tokens_are in
     let most = (on_words c.args.words.now (g.L.PendingList.listing c.self.inside.list) c.self.inside.seat c.self.inside.back.items c.args.self.now c.self.view_is c.requires.queue c.self.inside.kept c.self.invariant).most in
@@ -34,7 +34,7 @@ invariant_of-pass g c =
     let r = pass_record c.pass.inside.seat in
     let p = pass_on c.pass.inside.seat c.pass.inside.irps c.pass.inside.passes c.pass.inside.number c.pass.inside.tokens c.pass.inside.claims c.args.words.now c.args.pass.now c.pass.view_is c.requires.pass c.pass.invariant.0 in
     let owed : owes_in r.steps c.args.irp ≡ true = search rules in
-    let new : has_life (held_list r.steps) c.args.irp.irp ≡ false = owed_no_other _ _ r c.args.irp c.enter.ensures.told owed in
+    let new : has_life (held_list r.steps) c.args.irp.irp ≡ false = owed_no_other _ _ r c.args.irp c.enter.ensures.agreed owed in
     let steps : (pass_record c.leave.new.pass).steps ≡ (with_step (StepOut c.args.irp) 0 r).steps = ap (λ p. (pass_record p).steps) c.leave.ensures.pass ∙ (c.take_owed.ensures.steps ∙ ap (λ s. (with_step (StepOut c.args.irp) 0 (joined_record s)).steps) c.enter.ensures.joined) in
     let paid = out_owed n r.pass c.args.irp r.steps c.take_owed.ensures.known owed new p.held_apart p.owed_apart in
     let tokens = p.tokens_are in
@@ -61,7 +61,7 @@ returns-clause-call g c =
     let r = pass_record c.pass.inside.seat in
     let p = pass_on c.pass.inside.seat c.pass.inside.irps c.pass.inside.passes c.pass.inside.number c.pass.inside.tokens c.pass.inside.claims c.args.words.now c.args.pass.now c.pass.view_is c.requires.pass c.pass.invariant.0 in
     let owed : owes_in r.steps i ≡ true = search rules in
-    let new : has_life (held_list r.steps) i.irp ≡ false = owed_no_other _ _ r i c.enter.ensures.told owed in
+    let new : has_life (held_list r.steps) i.irp ≡ false = owed_no_other _ _ r i c.enter.ensures.agreed owed in
     let steps : (pass_record c.leave.new.pass).steps ≡ (with_step (StepOut i) 0 r).steps = ap (λ p. (pass_record p).steps) c.leave.ensures.pass ∙ (c.take_owed.ensures.steps ∙ ap (λ s. (with_step (StepOut i) 0 (joined_record s)).steps) c.enter.ensures.joined) in
     let queue_is : queue_of c.enter.new.self.queue ≡ end_of c.args.self.now.limits.first c.args.self.now.queue.history = search rules in
     record {
@@ -70,6 +70,6 @@ returns-clause-call g c =
           c.args.pass.now.pass (pass_record c.leave.new.pass) c.enter.new.self c.take_owed.new.seat (search rules) (search rules) (search rules) c.leave.ensures.run (search rules) _ _ _ c.take_owed.ensures.adds);
       step = search rules;
       token = out_holds c.args.self.now.limits i r (pass_record c.leave.new.pass) (subst (λ (z : Size). number i < z.irps) (sym c.requires.queue.size) c.take_owed.ensures.known) steps;
-      cancelled = ap (λ m. removed_in m i) steps ∙ owed_not_removed _ _ r i c.enter.ensures.told owed;
+      cancelled = ap (λ m. removed_in m i) steps ∙ owed_not_removed _ _ r i c.enter.ensures.agreed owed;
       none_owed = ap (λ m. has_life (owed_list m) i.irp) steps ∙ out_none_owed n r.pass i r.steps c.take_owed.ensures.known owed new p.held_apart p.owed_apart;
     }

@@ -11,8 +11,8 @@ returns-clause-call g c = record { known = search rules; call = adds; steps = se
     adds =
         let w = c.args.words.now in
         let s = g.L.PendingList.listing c.self.inside.list in
-        let adds = close_adds w.table (limits_on w s) s (g.L.PendingList.listing c.close_file.new.self) c.self.inside.kept c.enter.new.self c.note.new.self c.args.file (search rules) (search rules) (search rules) c.note.ensures.noted (c.note.new.self.queue.run, c.note.ensures.told.told) in
+        let adds = close_adds w.table (limits_on w s) s (g.L.PendingList.listing c.close_file.new.self) c.self.inside.kept c.enter.new.self c.note.new.self c.args.file (search rules) (search rules) (search rules) c.note.ensures.noted (c.note.new.self.queue.run, c.note.ensures.agreed.agreed) in
         own_adds c.args.words.now (g.L.PendingList.listing c.self.inside.list) c.self.inside.seat c.self.inside.back.items c.args.self.now c.self.view_is c.requires.queue
         c.args.pass.now.pass (pass_record c.leave.new.pass) c.enter.new.self c.note.new.self
         (c.enter.ensures.joined ∙ (λ k. record c.self.inside.seat { joined = Some (c.pass.view_is k).pass }))
-        (subst (λ (z : OpenPassState). SomeRunAgrees c.args.words.now.size c.self.inside.seat.queue z.pass) c.pass.view_is c.enter.ensures.told) (ap pass_record c.leave.ensures.pass) c.leave.ensures.run (search rules) _ _ _ adds
+        (subst (λ (z : OpenPassState). SomeRunAgrees c.args.words.now.size c.self.inside.seat.queue z.pass) c.pass.view_is c.enter.ensures.agreed) (ap pass_record c.leave.ensures.pass) c.leave.ensures.run (search rules) _ _ _ adds

@@ -1,5 +1,5 @@
 use Rattle.std.proofs.Common.{◌≡◌, false, List, [], ◌∷◌, Result, IfOk, IfErr, IfSome, Ok, Err, sym, ap, subst, arith, rules}
-use Rattle.csq_queue.proofs.Imports.{Size, IrpLife, InsertStatus, Event, Insert, Refused, QueueState, current, end_of, PassRecord, queue_of, caught_up, with_run, joined_record, pass_record, AddsEvents, IsNew, InsertAnswer, Adds, IsInsert, given_in, SomeRunAgrees, OpenPassState, limits_on, MakesSteps, insert_steps}
+use Rattle.csq_queue.proofs.Imports.{Size, IrpLife, InsertStatus, Event, Insert, Refused, QueueState, present_in, end_of, PassRecord, queue_of, caught_up, with_run, joined_record, pass_record, AddsEvents, IsNew, InsertAnswer, Adds, IsInsert, given_in, SomeRunAgrees, OpenPassState, limits_on, MakesSteps, insert_steps}
 use Rattle.csq_queue.proofs.Leaving.{room_for, left_makes}
 use Rattle.csq_queue.proofs.Opening.{on_words, own_adds, pass_on, own_new}
 use Rattle.csq_queue.proofs.Giving.{insert_gives}
@@ -25,15 +25,15 @@ adds : (g : Over) (c : After-leave g) (events : List Event) → Adds (limits_on 
 adds g c events a =
     own_adds c.args.words.now (g.L.PendingList.listing c.self.inside.list) c.self.inside.seat c.self.inside.back.items c.args.self.now c.self.view_is c.requires.queue
     c.args.pass.now.pass (pass_record c.leave.new.pass) c.enter.new.self c.list_irp-inserted.new.seat (search rules)
-    (subst (λ (z : OpenPassState). SomeRunAgrees c.args.words.now.size c.self.inside.seat.queue z.pass) c.pass.view_is c.enter.ensures.told) (search rules) c.leave.ensures.run (search rules) events (g.L.PendingList.listing c.list_irp-inserted.new.list) c.list_irp-inserted.new.kept a
+    (subst (λ (z : OpenPassState). SomeRunAgrees c.args.words.now.size c.self.inside.seat.queue z.pass) c.pass.view_is c.enter.ensures.agreed) (search rules) c.leave.ensures.run (search rules) events (g.L.PendingList.listing c.list_irp-inserted.new.list) c.list_irp-inserted.new.kept a
 
 -- what is told of an accepted insert, of the queue that it was made of
 abbrev Accepted : (g : Over) (c : After-leave g) → QueueState → Type 0
-Accepted g c u = IfOk c.list_irp-inserted.result (λ inserted. (events : List Event) × IsInsert (current u c.args.irp) c.args.file c.args.place inserted events
+Accepted g c u = IfOk c.list_irp-inserted.result (λ inserted. (events : List Event) × IsInsert (present_in u c.args.irp) c.args.file c.args.place inserted events
     × Adds (limits_on c.args.words.now (g.L.PendingList.listing c.self.inside.list)) c.enter.new.self events (g.L.PendingList.listing c.list_irp-inserted.new.list) c.list_irp-inserted.new.kept c.list_irp-inserted.new.seat)
 
 -- an accepted insert, as its pass sees it
-accepted : (g : Over) (c : After-leave g) → IfOk c.list_irp-inserted.result (λ inserted. (events : List Event) × IsInsert (current (end_of c.args.self.now.limits.first c.args.self.now.queue.history) c.args.irp) c.args.file c.args.place inserted events
+accepted : (g : Over) (c : After-leave g) → IfOk c.list_irp-inserted.result (λ inserted. (events : List Event) × IsInsert (present_in (end_of c.args.self.now.limits.first c.args.self.now.queue.history) c.args.irp) c.args.file c.args.place inserted events
     × AddsEvents c.args.self.now.limits c.args.self.now.queue.history c.args.pass.now.pass (pass_record c.leave.new.pass) events)
 accepted g c = go c.list_irp-inserted.result (subst (λ (u : QueueState). Accepted g c u) queue_is c.list_irp-inserted.ensures.accepted)
   where
@@ -44,9 +44,9 @@ accepted g c = go c.list_irp-inserted.result (subst (λ (u : QueueState). Accept
     queue_is = search rules
 
     go : (answer : Result (InsertAnswer IrpLife IrpLife) InsertStatus)
-        → IfOk answer (λ inserted. (events : List Event) × IsInsert (current now c.args.irp) c.args.file c.args.place inserted events
+        → IfOk answer (λ inserted. (events : List Event) × IsInsert (present_in now c.args.irp) c.args.file c.args.place inserted events
         × Adds (limits_on c.args.words.now (g.L.PendingList.listing c.self.inside.list)) c.enter.new.self events (g.L.PendingList.listing c.list_irp-inserted.new.list) c.list_irp-inserted.new.kept c.list_irp-inserted.new.seat)
-        → IfOk answer (λ inserted. (events : List Event) × IsInsert (current now c.args.irp) c.args.file c.args.place inserted events × AddsEvents c.args.self.now.limits c.args.self.now.queue.history c.args.pass.now.pass (pass_record c.leave.new.pass) events)
+        → IfOk answer (λ inserted. (events : List Event) × IsInsert (present_in now c.args.irp) c.args.file c.args.place inserted events × AddsEvents c.args.self.now.limits c.args.self.now.queue.history c.args.pass.now.pass (pass_record c.leave.new.pass) events)
     go (Ok inserted) h = (h.0, h.1, adds g c h.0 h.2)
     go (Err cause) h = h
 

@@ -16,7 +16,7 @@ returns g c =
         listing = c.requires.fresh;
         queue = record { lives = λ n. refl; used = λ i. refl; entries = λ i. refl; flags = λ i. refl; marks = tt };
         outside = refl;
-        told = λ i none. refl;
+        reported = λ i none. refl;
         statuses = λ n known. ap (λ (xs : List (Option NtStatus)). slice_index_or xs n.0 none) nones ∙ get_or-replicate c.irps-irps.result n.0 none none (omega (arith, known, c.irps-irps.ensures));
         statuses_size = ap length nones ∙ length-replicate c.irps-irps.result none ∙ c.irps-irps.ensures;
         files = λ n known. ap (λ (xs : List FileId). slice_index_or xs n.0 file) files ∙ get_or-replicate c.irps-irps.result n.0 file file (omega (arith, known, c.irps-irps.ensures));

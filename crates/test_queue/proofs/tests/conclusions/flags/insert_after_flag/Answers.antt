@@ -6,13 +6,13 @@ use Rattle.irp_core.specs.Words.{flagged}
 use Rattle.csq_list.specs.declared.refusals.InsertStatus.{InsertStatus}
 use Rattle.csq_words.specs.declared.views.Event.{Event}
 use Rattle.csq_words.specs.declared.views.PassRecord.{PassRecord}
-use Rattle.csq_words.specs.Queue.{current}
+use Rattle.csq_words.specs.Queue.{present_in}
 use Rattle.csq_words.specs.History.{end_of}
 use Rattle.irp_core.proofs.Own.{flagged_own}
 use Rattle.csq_queue.specs.Named.{queue_size}
 use Rattle.csq_queue.specs.Inserts.{IsInsert}
 use Rattle.csq_queue.specs.Steps.{MakesSteps, insert_steps}
-use Rattle.csq_queue.specs.Told.{AddsEvents}
+use Rattle.csq_queue.specs.Effects.{AddsEvents}
 use Rattle.csq_queue.specs.declared.tokens.InsertAnswer.{InsertAnswer}
 use Rattle.csq_queue.specs.declared.tokens.InsertAnswer.TheVariants.{Pending}
 use Rattle.test_queue.proofs.Flagging.{pending_taken}
@@ -29,8 +29,8 @@ returns g c = record {
       let made : MakesSteps (insert_steps (Ok (Pending i)) (end_of l.first new.seen)) old new =
       subst (λ (r : Result (InsertAnswer IrpLife IrpLife) InsertStatus). MakesSteps (insert_steps r (end_of l.first new.seen)) old new) answer c.insert.ensures.call.1.steps in
       let history = c.insert.ensures.call.0 in
-      let told : (events : List Event) × IsInsert (current (end_of l.first history) c.args.irp) c.args.file c.args.place (Pending i) events × AddsEvents l history old new events =
-      subst (λ (r : Result (InsertAnswer IrpLife IrpLife) InsertStatus). IfOk r (λ inserted. (events : List Event) × IsInsert (current (end_of l.first history) c.args.irp) c.args.file c.args.place inserted events × AddsEvents l history old new events))
+      let told : (events : List Event) × IsInsert (present_in (end_of l.first history) c.args.irp) c.args.file c.args.place (Pending i) events × AddsEvents l history old new events =
+      subst (λ (r : Result (InsertAnswer IrpLife IrpLife) InsertStatus). IfOk r (λ inserted. (events : List Event) × IsInsert (present_in (end_of l.first history) c.args.irp) c.args.file c.args.place inserted events × AddsEvents l history old new events))
       answer c.insert.ensures.call.1.accepted in
       let steps = ap (λ (r : PassRecord). r.steps) met.one_kept in
       let own' = met.one_sees.agrees.pass_is.steps_is in

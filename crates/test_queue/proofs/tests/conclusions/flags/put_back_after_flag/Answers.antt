@@ -12,7 +12,7 @@ use Rattle.csq_queue.specs.Calls.{file_at}
 use Rattle.csq_queue.specs.Named.{queue_size}
 use Rattle.csq_queue.specs.Inserts.{IsPutBack, without_token}
 use Rattle.csq_queue.specs.Steps.{MakesSteps, put_back_steps}
-use Rattle.csq_queue.specs.Told.{AddsEvents}
+use Rattle.csq_queue.specs.Effects.{AddsEvents}
 use Rattle.csq_queue.specs.declared.tokens.InsertAnswer.{InsertAnswer}
 use Rattle.csq_queue.specs.declared.tokens.InsertAnswer.TheVariants.{Pending}
 use Rattle.test_queue.proofs.Flagging.{pending_taken}

@@ -1,7 +1,7 @@
 use Rattle.std.proofs.Common.{◌≡◌, ◌<◌, true, sym, ap, subst, ◌∙◌}
 use Rattle.std.specs.Prelude.{IfErr}
 use Rattle.irp_core.specs.declared.ids.IrpId.{IrpId}
-use Rattle.csq_words.specs.Queue.{current}
+use Rattle.csq_words.specs.Queue.{present_in}
 use Rattle.csq_words.specs.History.{end_of}
 use Rattle.csq_words.specs.Rule.{is_done}
 use Rattle.csq_words.proofs.Facts.{done_stays}
@@ -19,5 +19,5 @@ returns g c =
     let known : c.irp-irp.result.0 < l.irps = subst (λ (n : IrpId). n.0 < l.irps) (sym irp) c.requires.token.known in
     let call = c.reuse.ensures.call.1.call known in
     let done : is_done c.meet.new.other.run i ≡ true = ap (λ run. is_done run i) (sym met.run) ∙ done_stays i c.complete.new.pass.run c.meet.new.one.run met.one_follows (completed_now (queue_size l) i c.args.one.now c.complete.new.pass c.complete.ensures.call.unset) in
-    let refused = subst (λ (n : IrpId). IfErr c.reuse.result (IsReuseRefusal (current (end_of l.first c.reuse.new.pass.seen) n) c.meet.new.other c.reuse.new.pass)) irp (c.reuse.ensures.call.1.refused known) in
+    let refused = subst (λ (n : IrpId). IfErr c.reuse.result (IsReuseRefusal (present_in (end_of l.first c.reuse.new.pass.seen) n) c.meet.new.other c.reuse.new.pass)) irp (c.reuse.ensures.call.1.refused known) in
     record { later = reuse_later (queue_size l) i c.meet.new.other c.reuse.new.pass c.reuse.result done call.follows call.sees refused }

@@ -19,7 +19,7 @@ use Rattle.csq_queue.specs.declared.refusals.CancelRefused.{CancelRefused}
 use Rattle.csq_queue.specs.Cleanups.{cancelled_by}
 use Rattle.csq_queue.specs.Named.{named, queue_size}
 use Rattle.csq_queue.specs.Owned.{EndsWithTake}
-use Rattle.csq_queue.specs.Told.{AddsEvents}
+use Rattle.csq_queue.specs.Effects.{AddsEvents}
 use Rattle.test_queue.proofs.tests.conclusions.told.cancel_and_tell.Goals as goal
 
 -- what a pass flagged is flagged in what it has seen of the execution

@@ -18,7 +18,7 @@ returns g c =
     let new = c.remove_next.new.pass in
     let history = c.remove_next.ensures.call.0 in
     let call = c.remove_next.ensures.call.1.call in
-    let told = c.learn.ensures.call.told in
+    let told = c.learn.ensures.call.agreed in
     let d : LockedCall l = record { old = old; new = new; found = history; events = RemoveNext Any c.remove_next.result ∷ marked call.0; adds = call.1 } in
     record {
       token = c.remove_next.ensures.call.1.token;

@@ -1,7 +1,0 @@
-use Rattle.std.proofs.Common.{arith}
-use Rattle.csq_draw.specs.Pictures.{closing_elements}
-use Rattle.csq_draw.proofs.Growing.{grew_each}
-use Rattle.csq_draw.proofs.picture.draw_told.Goals as goal
-
-pub loop-nth-preserved : goal.loop-nth-preserved
-loop-nth-preserved g c = grew_each (closing_elements c.args.rows) c.args.told.now c.loop-nth.nth _ _ _ _ (omega arith) c.loop-nth.invariant c.in_ok-draw.ensures

@@ -1,0 +1,6 @@
+use Rattle.csq_words.proofs.Imports.{table_size, any_step, ObservesQueue}
+use Rattle.csq_words.proofs.queue_seat.QueueSeat.observe_alone.Given as goal
+
+-- what the step reports
+abbrev pub ghosts-load : goal.ghosts-load
+ghosts-load g a = record { then = ObservesQueue (table_size a.words.now.key) any_step }

@@ -1,6 +1,0 @@
-use Rattle.csq_words.proofs.Imports.{table_size, any_step, TellsQueue}
-use Rattle.csq_words.proofs.queue_seat.QueueSeat.tell.Given as goal
-
--- what the step reports
-abbrev pub ghosts-load : goal.ghosts-load
-ghosts-load g a = record { then = TellsQueue (table_size a.words.now.key) any_step }
