@@ -192,7 +192,12 @@ impl<A: Allocator + Copy> Drawing<A> {
     }
 
     /// Draws the steps, and what is told in the end.
-    fn draw_end(&self, reported: &[IrpLine], rest: bool, text: &mut String<A>) -> Result<(), AllocError>
+    fn draw_end(
+        &self,
+        reported: &[IrpLine],
+        rest: bool,
+        text: &mut String<A>,
+    ) -> Result<(), AllocError>
         requires few { length self.now.execution.passes.items ≤ 65 }
         requires reported { length reported.now ≤ 1024 }
         ensures { OnOk result ((size : Size) (d : Drawn) → DrawingStandsAfter self.now size d

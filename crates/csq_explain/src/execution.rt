@@ -145,7 +145,10 @@ impl<A: Allocator + Copy> Execution<A> {
 }
 
 /// What is told of the IRPs in the end.
-fn reported_irps<A: Allocator>(alloc: A, machine: &Machine<A>) -> Result<Vec<IrpLine, A>, AllocError>
+fn reported_irps<A: Allocator>(
+    alloc: A,
+    machine: &Machine<A>,
+) -> Result<Vec<IrpLine, A>, AllocError>
     ensures reported { IfOk result (λ reported. (E : List MadeOf) → Agrees machine.now E
         → AreReportedOf (size_of machine.now).first E
         (size_of machine.now).irps reported.items) }

@@ -84,7 +84,10 @@ where
 
 /// Prints why a command line was refused, or the help that it asks for. A refusal that can't be written is
 /// one all the same; a help that can't be written is a fault.
-fn report_command_fault<R: Print + Eprint>(rt: &R, fault: CommandFault) -> Result<u8, ProgramFault> {
+fn report_command_fault<R: Print + Eprint>(
+    rt: &R,
+    fault: CommandFault,
+) -> Result<u8, ProgramFault> {
     match fault {
         CommandFault::Memory => Err(ProgramFault::from(AllocError)),
         CommandFault::Refused(error) => {
