@@ -13,7 +13,7 @@ use Rattle.csq_queue.specs.Calls.{Inserts, RemovesNext, RemovesOne}
 use Rattle.csq_checked.specs.Calls.{MakesCall, PutsBackRemoved, RunsOwedRoutine, CancelsOwed, ClosesKnownFile, ReusesPresentLife}
 use Rattle.csq_checked.specs.Passes.{CheckedPassState}
 use Rattle.csq_checked.specs.declared.calls.PutBackRefused.{PutBackRefused}
-use Rattle.csq_checked.specs.declared.calls.ReuseRefused.{ReuseRefused}
+use Rattle.csq_checked.specs.declared.calls.CheckedReuseRefused.{CheckedReuseRefused}
 use Rattle.csq_checked.specs.declared.unlocked.RoutineRefused.{RoutineRefused}
 use Rattle.csq_c.specs.Bodies.{QueueBodyState}
 use Rattle.csq_c.specs.Codes.{insert_code, inserted_irp, put_back_code, put_back_irp, removal_code, routine_code, close_file_code, reuse_code, life_stored}
@@ -58,4 +58,4 @@ ClosesFileOf file body body' p p' code = OnQueue body body' p p' code (Unit {0})
 -- a reuse answers this code, and tells of this life
 abbrev pub ReusesOf : IrpLife → QueueBodyState → QueueBodyState → CheckedPassState → CheckedPassState → Code → Option ℕ → Type 0
 ReusesOf i body body' p p' code stored = OnQueue body body' p p' code (stored ≡ None)
-    (λ q q'. (answer : Result Life ReuseRefused) × ReusesPresentLife i answer q p q' p' × (code ≡ reuse_code answer) × (stored ≡ life_stored answer))
+    (λ q q'. (answer : Result Life CheckedReuseRefused) × ReusesPresentLife i answer q p q' p' × (code ≡ reuse_code answer) × (stored ≡ life_stored answer))

@@ -13,14 +13,14 @@ use Rattle.csq_queue.specs.declared.refusals.CancelRefused.TheVariants as cancel
 use Rattle.csq_queue.specs.declared.refusals.UnknownIrp.{UnknownIrp as NoIrp}
 use Rattle.csq_checked.specs.declared.calls.PutBackRefused.{PutBackRefused}
 use Rattle.csq_checked.specs.declared.calls.PutBackRefused.TheVariants as back
-use Rattle.csq_checked.specs.declared.calls.ReuseRefused.{ReuseRefused}
-use Rattle.csq_checked.specs.declared.calls.ReuseRefused.TheVariants as reuse
+use Rattle.csq_checked.specs.declared.calls.CheckedReuseRefused.{CheckedReuseRefused}
+use Rattle.csq_checked.specs.declared.calls.CheckedReuseRefused.TheVariants as reuse
 use Rattle.csq_checked.specs.declared.unlocked.CompleteRefused.{CompleteRefused}
 use Rattle.csq_checked.specs.declared.unlocked.CompleteRefused.TheVariants as complete
 use Rattle.csq_checked.specs.declared.unlocked.RoutineRefused.{RoutineRefused}
 use Rattle.csq_checked.specs.declared.unlocked.RoutineRefused.TheVariants as routine
-use Rattle.csq_checked.specs.declared.size.NewRefused.{NewRefused}
-use Rattle.csq_checked.specs.declared.size.NewRefused.TheVariants as new
+use Rattle.csq_checked.specs.declared.size.CheckedNewRefused.{CheckedNewRefused}
+use Rattle.csq_checked.specs.declared.size.CheckedNewRefused.TheVariants as new
 use Rattle.csq_checked.specs.declared.size.PassRefused.{PassRefused}
 use Rattle.csq_checked.specs.declared.size.PassRefused.TheVariants as pass
 use Rattle.csq_c.specs.declared.codes.Code.{Code}
@@ -109,7 +109,7 @@ close_file_code (Ok done) = Done
 close_file_code (Err refused) = UnknownFile
 
 -- what a reuse answered
-abbrev pub reuse_code : Result Life ReuseRefused → Code
+abbrev pub reuse_code : Result Life CheckedReuseRefused → Code
 reuse_code (Ok life) = Done
 reuse_code (Err reuse.UnknownIrp) = UnknownIrp
 reuse_code (Err reuse.Stale) = Stale
@@ -142,7 +142,7 @@ status_code (Ok (life, None)) = Nothing
 status_code (Err refused) = UnknownIrp
 
 -- why there is no queue
-abbrev pub new_code : NewRefused → Code
+abbrev pub new_code : CheckedNewRefused → Code
 new_code new.BadSize = BadSize
 new_code new.Memory = NoMemory
 
@@ -152,7 +152,7 @@ pass_code pass.NoPass = NoPass
 pass_code pass.Memory = NoMemory
 
 -- the life that a reuse answered
-abbrev pub life_stored : Result Life ReuseRefused → Option ℕ
+abbrev pub life_stored : Result Life CheckedReuseRefused → Option ℕ
 life_stored (Ok life) = Some life.0
 life_stored (Err refused) = None
 

@@ -6,7 +6,7 @@ use Rattle.csq_words.specs.declared.views.PassRecord.{PassRecord}
 use Rattle.csq_queue.specs.Counts.{held_count, owed_count}
 use Rattle.csq_queue.specs.Rests.{IsClosed}
 use Rattle.csq_checked.specs.Idle.{with_idle_back}
-use Rattle.csq_checked.specs.Passes.{CheckedState, CheckedPassState, IsPassIn, HandsOutNew, HandsOutAgain, IsBack, out_of}
+use Rattle.csq_checked.specs.Passes.{CheckedState, CheckedPassState, IsPassIn, HandsOutNew, HandsOutAgain, HasComeBack, out_of}
 use Rattle.csq_c.specs.Bodies.{QueueBodyState, RestState}
 use Rattle.csq_c.specs.declared.codes.Code.{Code}
 use Rattle.csq_c.specs.declared.codes.Code.TheVariants.{Done, Holding, PassesOut, EmptyHandle, NotEmpty, Closed}
@@ -50,7 +50,7 @@ pub record IsTakenBack (body body' : QueueBodyState) (p : PassRecord) : Type 0 w
   pub after : CheckedState
   pub was : body.queue ≡ Some before
   pub queue_is : body' ≡ record body { queue = Some after }
-  pub back : IsBack p before after
+  pub back : HasComeBack p before after
 
 -- what is left of a queue with this record that was closed, once its idle passes gave themselves back
 pub record IsLeftOf (q : CheckedState) (rest : RestState) : Type 0 where

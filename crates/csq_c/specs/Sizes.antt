@@ -6,7 +6,7 @@ use Rattle.atomic_table.specs.Seated.{TableId}
 use Rattle.csq_words.specs.Queue.{limits_of}
 use Rattle.csq_words.specs.Records.{new_queue}
 use Rattle.csq_checked.specs.Passes.{CheckedState}
-use Rattle.csq_checked.specs.declared.size.Size.{Size as Given}
+use Rattle.csq_checked.specs.declared.size.QueueSize.{QueueSize as Given}
 use Rattle.csq_list.specs.declared.any_list.ListKind.{ListKind}
 use Rattle.csq_list.specs.declared.any_list.ListKind.TheVariants as kinds
 use Rattle.csq_c.specs.Bodies.{QueueBodyState}

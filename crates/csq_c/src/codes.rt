@@ -3,7 +3,8 @@ ghost use Rattle.std.specs.Prelude.{◌≡◌};
 ghost use Rattle.csq_c.specs.Codes.{number_of, refusal_code, insert_code, inserted_irp, put_back_code, put_back_irp, removal_code, routine_code, close_file_code, reuse_code, life_stored, mark_code, claim_stored, complete_code, flag_code, flag_life_stored, flag_stored, status_code, status_life_stored, status_stored, new_code, pass_code};
 
 use csq_checked::{
-    CompleteRefused, NewRefused, PassRefused, PutBackRefused, ReuseRefused, RoutineRefused,
+    CheckedNewRefused, CheckedReuseRefused, CompleteRefused, PassRefused, PutBackRefused,
+    RoutineRefused,
 };
 use csq_list::{InsertStatus, UnknownFile};
 use csq_queue::{CancelRefused, InsertAnswer, OpenInserted, UnknownIrp};
@@ -122,15 +123,15 @@ pub(crate) fn of_close_file(answer: Result<(), UnknownFile>) -> Code
 }
 
 /// What a reuse answered, and the life that it told.
-pub(crate) fn of_reuse(answer: Result<Life, ReuseRefused>) -> (Code, Option<u32>)
+pub(crate) fn of_reuse(answer: Result<Life, CheckedReuseRefused>) -> (Code, Option<u32>)
     ensures { result ≡ (reuse_code answer, life_stored answer) }
 {
     match answer {
         Ok(life) => (Code::Done, Some(life.0)),
-        Err(ReuseRefused::UnknownIrp) => (Code::UnknownIrp, None),
-        Err(ReuseRefused::Stale) => (Code::Stale, None),
-        Err(ReuseRefused::NotCompleted) => (Code::NotCompleted, None),
-        Err(ReuseRefused::LivesSpent) => (Code::LivesSpent, None),
+        Err(CheckedReuseRefused::UnknownIrp) => (Code::UnknownIrp, None),
+        Err(CheckedReuseRefused::Stale) => (Code::Stale, None),
+        Err(CheckedReuseRefused::NotCompleted) => (Code::NotCompleted, None),
+        Err(CheckedReuseRefused::LivesSpent) => (Code::LivesSpent, None),
     }
 }
 
@@ -184,12 +185,12 @@ pub(crate) fn of_status(
 }
 
 /// Why there is no queue.
-pub(crate) fn of_new(refused: NewRefused) -> Code
+pub(crate) fn of_new(refused: CheckedNewRefused) -> Code
     ensures { result ≡ new_code refused }
 {
     match refused {
-        NewRefused::BadSize => Code::BadSize,
-        NewRefused::Memory => Code::NoMemory,
+        CheckedNewRefused::BadSize => Code::BadSize,
+        CheckedNewRefused::Memory => Code::NoMemory,
     }
 }
 

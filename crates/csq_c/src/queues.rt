@@ -14,31 +14,35 @@ use crate::codes::Code;
 use crate::handles::CsqQueue;
 use crate::hold::{put, take};
 use crate::shapes::{CsqSize, write};
-use csq_checked::{CheckedQueue, NewRefused};
+use csq_checked::{CheckedNewRefused, CheckedQueue};
 use std::alloc::Global;
 
 /// A queue of this size, whose file objects have no limit of their own.
-fn made(alloc: Global, size: &CsqSize) -> Result<CheckedQueue, NewRefused>
+fn made(alloc: Global, size: &CsqSize) -> Result<CheckedQueue, CheckedNewRefused>
     ensures made { IfOk result (λ queue. queue
         ≡ new_checked_state size.now (replicate size.now.files size.now.irps) queue.queue.table) }
-    ensures bad_size { (result ≡ Err NewRefused.BadSize) ↔ ¬ IsGoodSize size.now }
+    ensures bad_size { (result ≡ Err CheckedNewRefused.BadSize) ↔ ¬ IsGoodSize size.now }
 {
     let Some(size) = size.given() else {
-        return Err(NewRefused::BadSize);
+        return Err(CheckedNewRefused::BadSize);
     };
     CheckedQueue::new(alloc, size)
 }
 
 /// A queue of this size, each file object with a limit of its own.
-fn made_with(alloc: Global, size: &CsqSize, file_limits: &[u32]) -> Result<CheckedQueue, NewRefused>
+fn made_with(
+    alloc: Global,
+    size: &CsqSize,
+    file_limits: &[u32],
+) -> Result<CheckedQueue, CheckedNewRefused>
     ensures made { IfOk result (λ queue. queue
         ≡ new_checked_state size.now file_limits.now queue.queue.table) }
-    ensures bad_size { (result ≡ Err NewRefused.BadSize)
+    ensures bad_size { (result ≡ Err CheckedNewRefused.BadSize)
         ↔ ¬ (IsGoodSize size.now
         × IsTrue (are_file_limits size.now.irps size.now.files file_limits.now)) }
 {
     let Some(size) = size.given() else {
-        return Err(NewRefused::BadSize);
+        return Err(CheckedNewRefused::BadSize);
     };
     CheckedQueue::with_file_limits(alloc, size, file_limits)
 }

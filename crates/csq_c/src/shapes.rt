@@ -4,7 +4,7 @@ ghost use Rattle.csq_c.specs.Sizes.{given_size};
 ghost use Rattle.csq_c.specs.Lefts.{start_of, left_written};
 ghost use Rattle.csq_c.specs.Shapes.{irp_named, place_numbered, peek_of, written, set_to};
 
-use csq_checked::{ListKind, Size};
+use csq_checked::{ListKind, QueueSize};
 use csq_list::{Peek, Place};
 use irp_core::{FileId, IrpId, IrpLife, Life};
 
@@ -89,7 +89,7 @@ pub struct CsqSize {
 
 impl CsqSize {
     /// The size, where its list is of a kind that there is.
-    pub(crate) fn given(&self) -> Option<Size>
+    pub(crate) fn given(&self) -> Option<QueueSize>
         ensures given { result ≡ given_size self.now }
         ensures numbers { IfSome result (λ size. size
             ≡ record {
@@ -107,7 +107,7 @@ impl CsqSize {
             1 => ListKind::Chains,
             _ => return None,
         };
-        Some(Size {
+        Some(QueueSize {
             irps: self.irps,
             files: self.files,
             limit: self.limit,

@@ -9,7 +9,7 @@ use Rattle.csq_list.specs.declared.entry.Place.{Place}
 use Rattle.csq_list.specs.declared.refusals.InsertStatus.{InsertStatus}
 use Rattle.csq_list.specs.declared.refusals.InsertStatus.TheVariants.{UnknownIrp, UnknownFile, NotHome, FileClosed, FileFull, Full}
 use Rattle.csq_list.proofs.Causes.{no_cause}
-use Rattle.csq_words.specs.declared.views.Entry.{Entry}
+use Rattle.csq_words.specs.declared.views.HistoryEntry.{HistoryEntry}
 use Rattle.csq_words.specs.declared.views.Event.{Event}
 use Rattle.csq_words.specs.declared.views.Event.TheVariants.{FlagSeen, Mark, Insert, RemoveNext, Remove, Out, CloseFile, Reuse, PutBack}
 use Rattle.csq_words.specs.declared.views.InsertReply.TheVariants.{Pending, Cancelled, Refused}
@@ -38,7 +38,7 @@ module _ (l : Limits) (u : QueueState) (n : IrpId) (f : FileId) (i : IrpLife) (b
       at false e = before (sym (ap (λ b. b || has_irp u.used i) (unlike e)) ∙ used)
 
 -- so that of an IRP that was accepted is
-file_known : (l : Limits) (h : List Entry) → IsLegal l h → (i : IrpLife) → has_irp (end_of l.first h).used i ≡ true → ((end_of l.first h).file_of i.irp).0 < l.files
+file_known : (l : Limits) (h : List HistoryEntry) → IsLegal l h → (i : IrpLife) → has_irp (end_of l.first h).used i ≡ true → ((end_of l.first h).file_of i.irp).0 < l.files
 file_known l [] legal i used = absurd (true≢false (sym used))
 file_known l (e ∷ h) legal i used = at (end_of l.first h) e.event legal.0 (file_known l h legal.1 i) used
   where
@@ -76,7 +76,7 @@ place_cause s i f cause known file home first = at (is_cause s i f FileClosed) (
     at false false false e = absurd (cc)
 
 -- why a put-back of an IRP that there is, is refused
-refused_place : (i : IrpLife) (place : Place) (cause : InsertStatus) (l : Limits) (h : List Entry) (p p' : PassRecord) → number i < l.irps → PutsBack i place (Err cause) l h p p' → is_of_place cause ≡ true
+refused_place : (i : IrpLife) (place : Place) (cause : InsertStatus) (l : Limits) (h : List HistoryEntry) (p p' : PassRecord) → number i < l.irps → PutsBack i place (Err cause) l h p p' → is_of_place cause ≡ true
 refused_place i place cause l h p p' known back =
     let f = file_at l h i in
     let u = end_of l.first h in

@@ -12,7 +12,7 @@ use Rattle.csq_list.specs.declared.entry.Place.{Place}
 use Rattle.csq_list.specs.declared.refusals.InsertStatus.{InsertStatus}
 use Rattle.csq_list.specs.declared.refusals.InsertStatus.TheVariants as insert
 use Rattle.csq_list.specs.declared.refusals.UnknownFile.{UnknownFile}
-use Rattle.csq_words.specs.declared.views.Entry.{Entry}
+use Rattle.csq_words.specs.declared.views.HistoryEntry.{HistoryEntry}
 use Rattle.csq_words.specs.declared.views.PassRecord.{PassRecord}
 use Rattle.csq_words.specs.History.{end_of}
 use Rattle.csq_words.specs.Queue.{Limits, present_in}
@@ -24,8 +24,8 @@ use Rattle.csq_queue.specs.Opens.{OpenState, after_call}
 use Rattle.csq_queue.specs.Owned.{Holds, HoldsRemoved, Owes}
 use Rattle.csq_checked.specs.declared.calls.PutBackRefused.{PutBackRefused}
 use Rattle.csq_checked.specs.declared.calls.PutBackRefused.TheVariants as back
-use Rattle.csq_checked.specs.declared.calls.ReuseRefused.{ReuseRefused}
-use Rattle.csq_checked.specs.declared.calls.ReuseRefused.TheVariants.{UnknownIrp, Stale, NotCompleted, LivesSpent}
+use Rattle.csq_checked.specs.declared.calls.CheckedReuseRefused.{CheckedReuseRefused}
+use Rattle.csq_checked.specs.declared.calls.CheckedReuseRefused.TheVariants.{UnknownIrp, Stale, NotCompleted, LivesSpent}
 use Rattle.csq_checked.specs.declared.unlocked.CompleteRefused.{CompleteRefused}
 use Rattle.csq_checked.specs.declared.unlocked.RoutineRefused.{RoutineRefused}
 use Rattle.csq_checked.specs.Causes.{complete_cause, cancelled_cause, put_back_cause, routine_cause}
@@ -41,7 +41,7 @@ abbrev pub AreKept : CheckedState → CheckedPassState → CheckedState → Chec
 AreKept q p q' p' = (q' ≡ q) × (p' ≡ p)
 
 -- p made this call of the open queue, and nothing else is new
-pub record MakesCall (call_is : Limits → List Entry → PassRecord → PassRecord → Type 0) (q : CheckedState) (p : CheckedPassState) (q' : CheckedState) (p' : CheckedPassState) : Type 0 where
+pub record MakesCall (call_is : Limits → List HistoryEntry → PassRecord → PassRecord → Type 0) (q : CheckedState) (p : CheckedPassState) (q' : CheckedState) (p' : CheckedPassState) : Type 0 where
   pub call : call_is q.queue.limits q.queue.queue.history p.pass p'.pass
   pub after : IsAfter q p q' p'
 
@@ -85,7 +85,7 @@ abbrev pub IsPresentIn : OpenState → IrpLife → Type 0
 IsPresentIn queue i = i ≡ present_in (end_of queue.limits.first queue.queue.history) i.irp
 
 -- what the open queue answered, if it was asked
-abbrev pub asked : Result Life ReuseRefused → Option (Result Life QueueRefused)
+abbrev pub asked : Result Life CheckedReuseRefused → Option (Result Life QueueRefused)
 asked (Ok life) = Some (Ok life)
 asked (Err UnknownIrp) = None
 asked (Err Stale) = None
@@ -93,7 +93,7 @@ asked (Err NotCompleted) = Some (Err of_queue.NotCompleted)
 asked (Err LivesSpent) = Some (Err of_queue.LivesSpent)
 
 -- a reuse of i, where it is a present life; else nothing is new
-pub record ReusesPresentLife (i : IrpLife) (answer : Result Life ReuseRefused) (q : CheckedState) (p : CheckedPassState) (q' : CheckedState) (p' : CheckedPassState) : Type 0 where
+pub record ReusesPresentLife (i : IrpLife) (answer : Result Life CheckedReuseRefused) (q : CheckedState) (p : CheckedPassState) (q' : CheckedState) (p' : CheckedPassState) : Type 0 where
   pub unknown : (answer ≡ Err UnknownIrp) ↔ ¬ (number i < q.queue.limits.irps)
   pub stale : (answer ≡ Err Stale) ↔ ((number i < q.queue.limits.irps) × ¬ IsPresentIn q.queue i)
   pub call : IfSome (asked answer) (λ a. MakesCall (Reuses i.irp a) q p q' p')

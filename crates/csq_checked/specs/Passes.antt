@@ -60,7 +60,7 @@ abbrev pub out_of : CheckedState → ℕ
 out_of q = count_out q.idle (q.queue.limits.passes - q.left)
 
 -- this pass came back, and is idle: nothing else is new
-pub record IsBack (p : PassRecord) (q q' : CheckedState) : Type 0 where
+pub record HasComeBack (p : PassRecord) (q q' : CheckedState) : Type 0 where
   pub pass : OpenPassState
   pub same : pass.pass ≡ p
   pub slot : ℕ

@@ -3,7 +3,7 @@ use Rattle.std.specs.Prelude.{◌≡◌, ℕ, List}
 use Rattle.irp_core.specs.Runs.{Size}
 use Rattle.csq_list.specs.Listing.{Listing, IsFresh, fresh}
 use Rattle.csq_words.specs.Queue.{Limits, limits_of}
-use Rattle.csq_checked.specs.declared.size.Size.{Size as Given}
+use Rattle.csq_checked.specs.declared.size.QueueSize.{QueueSize as Given}
 
 -- the numbers of a queue's words
 abbrev pub size_in : Given → Size

@@ -32,7 +32,7 @@ pub enum PutBackRefused {
 
 /// Why an IRP was not given its next life, in the order in which the causes are tested. Own rule.
 #[derive(Clone, Copy, Debug, PartialEq, Eq)]
-pub enum ReuseRefused {
+pub enum CheckedReuseRefused {
     /// There is no such IRP.
     UnknownIrp,
     /// The life named isn't its present one.
@@ -179,18 +179,21 @@ impl CheckedQueue {
 
     /// Begins the next life of an IRP that was completed in the life named, as `Csq::reuse` does. A refusal
     /// is the first cause that holds.
-    pub fn reuse(&mut self, by: &mut CheckedPass, irp: IrpLife) -> Result<Life, ReuseRefused>
+    pub fn reuse(&mut self, by: &mut CheckedPass, irp: IrpLife) -> Result<Life, CheckedReuseRefused>
         requires { IsPassIn self.old.queue by.old }
         ensures call { ReusesPresentLife irp result self.old by.old self.new by.new }
     {
-        let present = self.queue.life(irp.irp).ok_or(ReuseRefused::UnknownIrp)?;
+        let present = self
+            .queue
+            .life(irp.irp)
+            .ok_or(CheckedReuseRefused::UnknownIrp)?;
         if present.0 != irp.life.0 {
-            return Err(ReuseRefused::Stale);
+            return Err(CheckedReuseRefused::Stale);
         }
         match self.queue.reuse(&by.words, &mut by.pass, irp.irp) {
             Ok(life) => Ok(life),
-            Err(csq_queue::ReuseRefused::NotCompleted) => Err(ReuseRefused::NotCompleted),
-            Err(csq_queue::ReuseRefused::LivesSpent) => Err(ReuseRefused::LivesSpent),
+            Err(csq_queue::ReuseRefused::NotCompleted) => Err(CheckedReuseRefused::NotCompleted),
+            Err(csq_queue::ReuseRefused::LivesSpent) => Err(CheckedReuseRefused::LivesSpent),
             // Its life was found above.
             Err(csq_queue::ReuseRefused::UnknownIrp) => unreachable!(),
         }

@@ -11,9 +11,9 @@ mod size;
 mod slots;
 mod unlocked;
 
-pub use calls::{PutBackRefused, ReuseRefused};
+pub use calls::{CheckedReuseRefused, PutBackRefused};
 pub use csq_list::{AnyList, ListKind};
 pub use pass::CheckedPass;
 pub use queue::CheckedQueue;
-pub use size::{NewRefused, PassRefused, Size};
+pub use size::{CheckedNewRefused, PassRefused, QueueSize};
 pub use unlocked::{CompleteRefused, RoutineRefused};

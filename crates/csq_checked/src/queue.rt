@@ -9,12 +9,12 @@ ghost use Rattle.csq_queue.specs.Rests.{HoldsNothing, FirstAreBack, IsClosed};
 ghost use Rattle.std.specs.Arc.{arc_value};
 ghost use Rattle.csq_queue.specs.Opens.{IsQueueOn, IsRackOn};
 ghost use Rattle.csq_checked.specs.Idle.{AreIdle, IsFirstIdle, NoneIsIdle, count_out, with_idle_back};
-ghost use Rattle.csq_checked.specs.Passes.{IsPassIn, IsBack, HandsOutNew, HandsOutAgain, out_of};
+ghost use Rattle.csq_checked.specs.Passes.{IsPassIn, HasComeBack, HandsOutNew, HandsOutAgain, out_of};
 ghost use Rattle.csq_checked.specs.Sizes.{IsFreshOf, size_in, limits_given};
 
 use crate::idle::{IdlePass, IdlePasses};
 use crate::pass::CheckedPass;
-use crate::size::{NewRefused, PassRefused, Size};
+use crate::size::{CheckedNewRefused, PassRefused, QueueSize};
 use crate::slots::Slots;
 use csq_list::{AnyList, ListNew, PendingList};
 use csq_queue::{Blank, OpenQueue, OpenRack, Rest};
@@ -49,7 +49,7 @@ impl Model for CheckedQueue {
 impl CheckedQueue {
     /// A queue of this size, whose file objects have no limit of their own. `BadSize` comes exactly where a
     /// number is out of its range, then `Memory`.
-    pub fn new(alloc: Global, size: Size) -> Result<CheckedQueue, NewRefused>
+    pub fn new(alloc: Global, size: QueueSize) -> Result<CheckedQueue, CheckedNewRefused>
         ensures made { IfOk result (λ q. q
             ≡ record {
               queue = record {
@@ -62,11 +62,11 @@ impl CheckedQueue {
               left = size.passes;
               idle = replicate size.passes None;
             }) }
-        ensures bad_size { (result ≡ Err NewRefused.BadSize)
+        ensures bad_size { (result ≡ Err CheckedNewRefused.BadSize)
             ↔ ¬ (IsInLimits (size_in size) × IsListSize size.irps size.files size.limit) }
     {
         if !size.is_in_limits() {
-            return Err(NewRefused::BadSize);
+            return Err(CheckedNewRefused::BadSize);
         }
         let list = AnyList::new(alloc, size.list, size.irps, size.files, size.limit);
         CheckedQueue::over(alloc, size, list)
@@ -76,9 +76,9 @@ impl CheckedQueue {
     /// `BadSize` also where the limits aren't one for each file object, each 1 to `irps`.
     pub fn with_file_limits(
         alloc: Global,
-        size: Size,
+        size: QueueSize,
         file_limits: &[u32],
-    ) -> Result<CheckedQueue, NewRefused>
+    ) -> Result<CheckedQueue, CheckedNewRefused>
         ensures made { IfOk result (λ q. q
             ≡ record {
               queue = record {
@@ -92,12 +92,12 @@ impl CheckedQueue {
               idle
                   = replicate size.passes None;
             }) }
-        ensures bad_size { (result ≡ Err NewRefused.BadSize)
+        ensures bad_size { (result ≡ Err CheckedNewRefused.BadSize)
             ↔ ¬ (IsInLimits (size_in size) × IsListSize size.irps size.files size.limit
             × IsTrue (are_file_limits size.irps size.files file_limits.now)) }
     {
         if !size.is_in_limits() {
-            return Err(NewRefused::BadSize);
+            return Err(CheckedNewRefused::BadSize);
         }
         let list = AnyList::with_file_limits(
             alloc,
@@ -113,9 +113,9 @@ impl CheckedQueue {
     /// A queue over this list, if there is one.
     fn over(
         alloc: Global,
-        size: Size,
+        size: QueueSize,
         list: Result<AnyList, ListNew>,
-    ) -> Result<CheckedQueue, NewRefused>
+    ) -> Result<CheckedQueue, CheckedNewRefused>
         requires size { IsInLimits (size_in size) }
         requires fresh { IfOk list (λ list. IsFreshOf size
             (⟦<AnyList as PendingList>⟧.listing list)) }
@@ -131,23 +131,23 @@ impl CheckedQueue {
               left = size.passes;
               idle = replicate size.passes None;
             })) }
-        ensures bad_size { (result ≡ Err NewRefused.BadSize) ↔ (list ≡ Err ListNew.BadSize) }
+        ensures bad_size { (result ≡ Err CheckedNewRefused.BadSize) ↔ (list ≡ Err ListNew.BadSize) }
         ensures ok { IsOk result → IsOk list }
     {
         let list = match list {
             Ok(list) => list,
-            Err(ListNew::BadSize) => return Err(NewRefused::BadSize),
-            Err(ListNew::Memory) => return Err(NewRefused::Memory),
+            Err(ListNew::BadSize) => return Err(CheckedNewRefused::BadSize),
+            Err(ListNew::Memory) => return Err(CheckedNewRefused::Memory),
         };
         let Ok(blank) = Blank::new_at(alloc, list, size.irps, size.passes, size.first) else {
-            return Err(NewRefused::Memory);
+            return Err(CheckedNewRefused::Memory);
         };
         let (queue, words, rack) = blank.into_open();
         let Ok(words) = Arc::new(alloc, words) else {
-            return Err(NewRefused::Memory);
+            return Err(CheckedNewRefused::Memory);
         };
         let Ok(idle) = IdlePasses::new(alloc, size.passes) else {
-            return Err(NewRefused::Memory);
+            return Err(CheckedNewRefused::Memory);
         };
         Ok(CheckedQueue {
             words,
@@ -258,7 +258,7 @@ impl CheckedQueue {
     /// owes IRPs.
     pub fn give_back(&mut self, pass: Box<CheckedPass>) -> Result<(), Box<CheckedPass>>
         requires { IsPassIn self.old.queue pass.value }
-        ensures back { OnOk result (IsBack pass.value.pass self.old self.new) }
+        ensures back { OnOk result (HasComeBack pass.value.pass self.old self.new) }
         ensures nothing { OnOk result (HoldsNothing pass.value.pass) }
         ensures holding { OnErr result (¬ HoldsNothing pass.value.pass) }
         ensures kept { IfErr result (λ same. (same ≡ pass) × (self.new ≡ self.old)) }
@@ -274,7 +274,7 @@ impl CheckedQueue {
     fn put_idle(&mut self, pass: Box<CheckedPass>)
         requires on { IsPassIn self.old.queue pass.value }
         requires nothing { HoldsNothing pass.value.pass }
-        ensures { IsBack pass.value.pass self.old self.new }
+        ensures { HasComeBack pass.value.pass self.old self.new }
     {
         let at = pass.number() as usize - 1;
         self.idle.put(at, IdlePass::of(pass));

@@ -8,7 +8,7 @@ use irp_core::Life;
 
 /// How large a queue is to be. Own rule.
 #[derive(Clone, Copy, Debug, PartialEq, Eq)]
-pub struct Size {
+pub struct QueueSize {
     /// The number of IRPs, 1 to 1,024.
     pub irps: u32,
     /// The number of file objects, 1 to 256.
@@ -23,7 +23,7 @@ pub struct Size {
     pub list: ListKind,
 }
 
-impl Size {
+impl QueueSize {
     /// Whether the numbers of the words are in their ranges.
     pub(crate) fn is_in_limits(&self) -> bool
         ensures { IsTrue result ↔ IsInLimits (size_in self.now) }
@@ -36,7 +36,7 @@ impl Size {
 
 /// Why there is no queue, in the order in which the causes are tested. Own rule.
 #[derive(Clone, Copy, Debug, PartialEq, Eq)]
-pub enum NewRefused {
+pub enum CheckedNewRefused {
     /// A number is out of its range.
     BadSize,
     /// Memory that the queue needs was refused.

@@ -1,11 +1,11 @@
 -- No thread of a device uses an IRP again, and each counts what its pass completed.
 use Rattle.std.proofs.Common.{◌≡◌, ℕ, zero, suc, ◌+◌, ◌*◌, ◌||◌, false, List, [], ◌∷◌, ◌++◌, length, refl, sym, ap, ◌∙◌, ⊎_elim}
 use Rattle.std.proofs.lemmas.List.{append-nil, length-map}
-use Rattle.csq_device.proofs.Imports.{or_parts, IrpLife, Size, FileId, PassId, NtStatus, Back, Front, Entry, Event, Insert, RemoveNext, Out, CloseFile, PassRecord, Limits, entries_of, removals, cleanup_calls, CallsByKind, Plan, Role, Submitter, Worker, Canceller, BusyWorker, completed_by, is_reuse, has_reuse, HasServed, last_file, IsInsertOf, AreInserts, IsRemoval, AreRemovals, CancelsOne, CancelsEach, PutsOneBack, PutsEachBack, CleansUp, Plays, in_first_life, IsIdle, completions, HasCompleted, status_by}
+use Rattle.csq_device.proofs.Imports.{or_parts, IrpLife, Size, FileId, PassId, NtStatus, Back, Front, HistoryEntry, Event, Insert, RemoveNext, Out, CloseFile, PassRecord, Limits, entries_of, removals, cleanup_calls, CallsByKind, Plan, Role, Submitter, Worker, Canceller, BusyWorker, completed_by, is_reuse, has_reuse, HasServed, last_file, IsInsertOf, AreInserts, IsRemoval, AreRemovals, CancelsOne, CancelsEach, PutsOneBack, PutsEachBack, CleansUp, Plays, in_first_life, OwnsNothing, completions, HasCompleted, status_by}
 use Rattle.csq_device.proofs.Working.{nothing_held, nothing_owed}
 
 -- of these events none is a reuse, and so none of the longer calls
-more_calls : (p : PassId) (events : List Event) (mine : List Entry) → has_reuse (entries_of p events) ≡ false → has_reuse mine ≡ false → has_reuse (entries_of p events ++ mine) ≡ false
+more_calls : (p : PassId) (events : List Event) (mine : List HistoryEntry) → has_reuse (entries_of p events) ≡ false → has_reuse mine ≡ false → has_reuse (entries_of p events ++ mine) ≡ false
 more_calls p [] mine h g = g
 more_calls p (e ∷ events) mine h g =
     let parts = or_parts (is_reuse e) (has_reuse (entries_of p events)) h in
@@ -101,7 +101,7 @@ completed_count_is status count old new h none =
     ∙ ap length (sym (h.completed ∙ (ap (λ cs. completions status h.irps ++ cs) none ∙ append-nil (completions status h.irps)))))
 
 -- what a thread of a role hands back
-pub served : (size : Size) (plan : Plan) (role : Role) (calls : CallsByKind) (old new : PassRecord) → IsIdle old → old.completed ≡ [] → old.mine ≡ [] → HasCompleted (status_by role) (completed_by calls) old new → Plays size plan role calls old new → HasServed old.pass.0 (completed_by calls) new
+pub served : (size : Size) (plan : Plan) (role : Role) (calls : CallsByKind) (old new : PassRecord) → OwnsNothing old → old.completed ≡ [] → old.mine ≡ [] → HasCompleted (status_by role) (completed_by calls) old new → Plays size plan role calls old new → HasServed old.pass.0 (completed_by calls) new
 served size plan role calls old new idle none_done none_called completed plays = record {
   pass = plays_pass size plan role calls old new plays;
   count_is = completed_count_is (status_by role) (completed_by calls) old new completed none_done;
@@ -110,7 +110,7 @@ served size plan role calls old new idle none_done none_called completed plays =
 }
 
 -- and the one that cleans up
-pub served_last : (limits : Limits) (plan : Plan) (status : NtStatus) (count : ℕ) (old new : PassRecord) → IsIdle old → old.completed ≡ [] → old.mine ≡ [] → HasCompleted status count old new → CleansUp limits plan count old new → HasServed old.pass.0 count new
+pub served_last : (limits : Limits) (plan : Plan) (status : NtStatus) (count : ℕ) (old new : PassRecord) → OwnsNothing old → old.completed ≡ [] → old.mine ≡ [] → HasCompleted status count old new → CleansUp limits plan count old new → HasServed old.pass.0 count new
 served_last limits plan status count old new idle none_done none_called completed cleans = record {
   pass = cleans.completes.pass;
   count_is = completed_count_is status count old new completed none_done;

@@ -4,7 +4,7 @@ use Rattle.std.specs.Prelude.{slice_index}
 use Rattle.std.proofs.lemmas.List.{length-map}
 use mathlib.Core.Option.{some}
 use lib.ListN.{get_elem?}
-use Rattle.csq_device.proofs.Imports.{cases_lt, lt-ltb, or_parts, or_right, and_from, false_from_ne_true, number, same_irp, same_pass, own, Each, IrpLife, Size, IsRun, IsKnown, IrpId, PassId, NtStatus, same_irp-refl, other_irp, same_pass-refl, Completion, Entry, Event, FlagSeen, Mark, Insert, RemoveNext, Remove, CloseFile, Reuse, PutBack, PassRecord, QueueState, after_event, end_of, is_call, calls_of, queue_of, FinalWords, IsFinal, final_status, same_pass-is, same_pass-not, tally, pass_numbered, by_number, tally_same, tally_more, tally_zero, irp_at, completed_count, is_reuse, has_reuse, AreServed, completions_of}
+use Rattle.csq_device.proofs.Imports.{cases_lt, lt-ltb, or_parts, or_right, and_from, false_from_ne_true, number, same_irp, same_pass, own, Each, IrpLife, Size, IsRun, IsKnown, IrpId, PassId, NtStatus, same_irp-refl, other_irp, same_pass-refl, Completion, HistoryEntry, Event, FlagSeen, Mark, Insert, RemoveNext, Remove, CloseFile, Reuse, PutBack, PassRecord, QueueState, after_event, end_of, is_call, calls_of, queue_of, FinalWords, IsFinal, final_status, same_pass-is, same_pass-not, tally, pass_numbered, by_number, tally_same, tally_more, tally_zero, irp_at, completed_count, is_reuse, has_reuse, AreServed, completions_of}
 use Rattle.irp_core.specs.Lives.{present_life}
 use Rattle.irp_core.specs.Owners.{owes, holds}
 use Rattle.irp_core.specs.declared.step.Kind.{Kind}
@@ -123,11 +123,11 @@ reuse_is_call (Mark i) h = absurd (true≢false (sym h))
 reuse_is_call x h = refl
 
 -- so some pass called it
-reuse_called : (history : List Entry) → has_reuse history ≡ true → (p : PassId) × (has_reuse (calls_of p history) ≡ true)
+reuse_called : (history : List HistoryEntry) → has_reuse history ≡ true → (p : PassId) × (has_reuse (calls_of p history) ≡ true)
 reuse_called [] h = absurd (true≢false (sym h))
 reuse_called (e ∷ history) h = at (is_reuse e.event) refl (reuse_called history)
   where
-    more : (b : Bool) (xs : List Entry) → has_reuse xs ≡ true → has_reuse (cond b (e ∷ xs) xs) ≡ true
+    more : (b : Bool) (xs : List HistoryEntry) → has_reuse xs ≡ true → has_reuse (cond b (e ∷ xs) xs) ≡ true
     more true xs g = or_right (is_reuse e.event) (has_reuse xs) g
     more false xs g = g
 
@@ -142,7 +142,7 @@ reuse_called (e ∷ history) h = at (is_reuse e.event) refl (reuse_called histor
         (found.0, more (same_pass e.pass found.0 && is_call e.event) (calls_of found.0 history) found.1)
 
 -- where no event is a reuse, all lives are the first
-lives_stay : (first : ℕ) (history : List Entry) → has_reuse history ≡ false → (n : IrpId) → (end_of first history).lives n ≡ first
+lives_stay : (first : ℕ) (history : List HistoryEntry) → has_reuse history ≡ false → (n : IrpId) → (end_of first history).lives n ≡ first
 lives_stay first [] h n = refl
 lives_stay first (e ∷ history) h n =
     let parts = or_parts (is_reuse e.event) (has_reuse history) h in

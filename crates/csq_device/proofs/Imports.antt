@@ -3,7 +3,7 @@ pub use Rattle.csq_device.specs.Duties.{AreCallsBy, AreCallsOf, AreCallsOfAll, A
 pub use Rattle.csq_device.specs.Rests.{IsRest, completed_count, flagged_count, home_count, irp_at, is_status, status_count}
 pub use Rattle.csq_device.specs.Served.{AreReceipts, AreServed, HasServed, IsShift, completions_of, has_reuse, is_reuse}
 pub use Rattle.csq_device.specs.Turns.{AreInserts, AreRemovals, CancelTakes, Cancels, CancelsEach, CancelsOne, CleansUp, IsInsertOf, IsRemoval, IsTurns, MakesCalls, Plays, PutsEachBack, PutsOneBack, Submits, in_first_life, last_file, roles_in}
-pub use Rattle.csq_device.specs.Work.{HasCompleted, IsIdle, completions, status_by}
+pub use Rattle.csq_device.specs.Work.{HasCompleted, OwnsNothing, completions, status_by}
 pub use Rattle.csq_device.specs.declared.kinds.CallsByKind.{CallsByKind}
 pub use Rattle.csq_device.specs.declared.plan.Plan.{Plan}
 pub use Rattle.csq_device.specs.declared.roles.Role.{Role}
@@ -24,7 +24,7 @@ pub use Rattle.csq_words.specs.History.{calls_of, end_of, is_call}
 pub use Rattle.csq_words.specs.Queue.{Limits, QueueState, after_event, present_in, has_marked, has_unmarked}
 pub use Rattle.csq_words.specs.Records.{entries_of, only_calls, queue_of, saw, with_completion, with_step}
 pub use Rattle.csq_words.specs.declared.views.Completion.{Completion}
-pub use Rattle.csq_words.specs.declared.views.Entry.{Entry}
+pub use Rattle.csq_words.specs.declared.views.HistoryEntry.{HistoryEntry}
 pub use Rattle.csq_words.specs.declared.views.Event.{Event}
 pub use Rattle.csq_words.specs.declared.views.Event.TheVariants.{CloseFile, FlagSeen, Insert, Mark, Out, PutBack, Remove, RemoveNext, Reuse}
 pub use Rattle.csq_words.specs.declared.views.PassRecord.{PassRecord}

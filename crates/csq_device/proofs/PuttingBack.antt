@@ -1,6 +1,6 @@
 -- A busy worker's turn: what it removed it puts back, or completes.
 use Rattle.std.proofs.Common.{◌≡◌, ℕ, ◌+◌, Bool, true, false, not, cond, List, [], ◌∷◌, ◌++◌, filter, Some, Result, Ok, Err, refl, sym, ap, ◌∙◌, subst, ⊎_elim, add-one}
-use Rattle.csq_device.proofs.Imports.{same_irp, FileId, IrpLife, PassId, NtStatus, Test, Disarm, Done, Rearm, same_irp-refl, Completion, Entry, Event, PutBack, PassRecord, QueueState, Limits, has_marked, saw, entries_of, only_calls, with_step, with_completion, InsertAnswer, IsPutBack, GivesOut, MakesCalls, PutsOneBack, PutsEachBack, IsIdle, HasCompleted}
+use Rattle.csq_device.proofs.Imports.{same_irp, FileId, IrpLife, PassId, NtStatus, Test, Disarm, Done, Rearm, same_irp-refl, Completion, HistoryEntry, Event, PutBack, PassRecord, QueueState, Limits, has_marked, saw, entries_of, only_calls, with_step, with_completion, InsertAnswer, IsPutBack, GivesOut, MakesCalls, PutsOneBack, PutsEachBack, OwnsNothing, HasCompleted}
 use Rattle.irp_core.specs.Words.{flagged}
 use Rattle.irp_core.specs.Own.{held_list, owed_list}
 use Rattle.irp_core.specs.declared.step.Made.{Made}
@@ -33,14 +33,14 @@ call_of_back p i f place (Pending context) events h = (
 call_of_back p i f place (Cancelled token) events h = (reply.Cancelled, ap (λ (es : List Event). only_calls (entries_of p es)) h.1)
 
 -- an accepted put-back
-pub back_calls : (l : Limits) (i : IrpLife) (f : FileId) (place : Place) (back : InsertAnswer IrpLife IrpLife) (u : QueueState) (events : List Event) (history : List Entry) (old new : PassRecord)
+pub back_calls : (l : Limits) (i : IrpLife) (f : FileId) (place : Place) (back : InsertAnswer IrpLife IrpLife) (u : QueueState) (events : List Event) (history : List HistoryEntry) (old new : PassRecord)
     → IsPutBack i f place back events → AddsEvents l history old new events → MakesSteps (put_back_steps (Ok back) u) old new → (r : InsertReply) × MakesCalls (PutBack i f place r ∷ []) old new
 back_calls l i f place back u events history old new is adds made =
     let call = call_of_back old.pass i f place back events is in
-    (call.0, record { pass = made.pass; mine = adds.calls ∙ ap (λ (es : List Entry). es ++ old.mine) call.1; unflagged = λ j. ap (λ (s : List Made). flagged s j) made.steps ∙ no_flag old.pass (Ok back) u old.steps j; found = made.found })
+    (call.0, record { pass = made.pass; mine = adds.calls ∙ ap (λ (es : List HistoryEntry). es ++ old.mine) call.1; unflagged = λ j. ap (λ (s : List Made). flagged s j) made.steps ∙ no_flag old.pass (Ok back) u old.steps j; found = made.found })
 
 -- a refused one
-pub refused_back_calls : (l : Limits) (i : IrpLife) (f : FileId) (place : Place) (r : InsertReply) (history : List Entry) (old new : PassRecord) → AddsEvents l history old new (PutBack i f place r ∷ []) → MakesSteps [] old new → MakesCalls (PutBack i f place r ∷ []) old new
+pub refused_back_calls : (l : Limits) (i : IrpLife) (f : FileId) (place : Place) (r : InsertReply) (history : List HistoryEntry) (old new : PassRecord) → AddsEvents l history old new (PutBack i f place r ∷ []) → MakesSteps [] old new → MakesCalls (PutBack i f place r ∷ []) old new
 refused_back_calls l i f place r history old new adds made = record { pass = made.pass; mine = adds.calls; unflagged = λ j. ap (λ (s : List Made). flagged s j) made.steps; found = made.found }
 
 -- i alone, put back and got again, and then completed
@@ -51,7 +51,7 @@ alone_again i =
 
 module _ (status : NtStatus) (l : Limits) (i : IrpLife) (old mid new : PassRecord) (g : GivesOut l (Some i) true old mid) where
   -- where the pass was idle it holds i alone
-  holds_one : IsIdle old → held_list mid.steps ≡ i ∷ []
+  holds_one : OwnsNothing old → held_list mid.steps ≡ i ∷ []
   holds_one was = g.holding ∙ ap (λ (is : List IrpLife). i ∷ is) was.held
 
   -- i was put back, and the pass has it no longer

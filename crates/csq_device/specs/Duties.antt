@@ -5,11 +5,11 @@ use Rattle.csq_device.specs.declared.plan.Plan.{Plan}
 use Rattle.csq_device.specs.declared.roles.Role.{Role}
 use Rattle.csq_device.specs.declared.roles.Role.TheVariants.{Submitter, Worker, Canceller, BusyWorker}
 use Rattle.csq_device.specs.declared.roles.Duty.{Duty}
-use Rattle.csq_device.specs.declared.calls.Calls.{Calls}
+use Rattle.csq_device.specs.declared.calls.CallCounts.{CallCounts}
 use Rattle.csq_device.specs.declared.kinds.CallsByKind.{CallsByKind}
 
 -- these calls are those and others
-pub record AddsUp (calls others sum : Calls) : Type 0 where
+pub record AddsUp (calls others sum : CallCounts) : Type 0 where
   pub made : sum.made ≡ calls.made + others.made
   pub completed : sum.completed ≡ calls.completed + others.completed
 

@@ -3,7 +3,7 @@ use Rattle.std.specs.Prelude.{◌≡◌, ℕ, suc, ◌+◌, Bool, true, false, L
 use Rattle.std.specs.List.{list_any}
 use mathlib.Core.Option.{some}
 use lib.ListN.{get_elem?}
-use Rattle.csq_words.specs.declared.views.Entry.{Entry}
+use Rattle.csq_words.specs.declared.views.HistoryEntry.{HistoryEntry}
 use Rattle.csq_words.specs.declared.views.Event.{Event}
 use Rattle.csq_words.specs.declared.views.Event.TheVariants.{Reuse}
 use Rattle.csq_words.specs.declared.views.PassRecord.{PassRecord}
@@ -22,8 +22,8 @@ is_reuse (Reuse n life) = true
 is_reuse _ = false
 
 -- some event of the history is one
-abbrev pub has_reuse : List Entry → Bool
-has_reuse history = list_any (λ (e : Entry). is_reuse e.event) history
+abbrev pub has_reuse : List HistoryEntry → Bool
+has_reuse history = list_any (λ (e : HistoryEntry). is_reuse e.event) history
 
 -- the pass of this number completed so many IRPs in all, reused none, and holds and owes nothing
 pub record HasServed (number count : ℕ) (r : PassRecord) : Type 0 where

@@ -3,7 +3,7 @@ ghost use Rattle.std.specs.Prelude.{◌≡◌, ◌+◌, ◌<◌, ◌≤◌, ◌^
 
 /// Calls of one kind. Each completes one IRP or none.
 #[derive(Clone, Copy, PartialEq, Eq)]
-pub struct Calls {
+pub struct CallCounts {
     /// How many calls were made.
     pub made: u32,
     /// How many of them completed an IRP.
@@ -11,25 +11,25 @@ pub struct Calls {
     pub ghost most: { completed ≤ made },
 }
 
-impl Calls {
+impl CallCounts {
     /// No calls.
-    pub(crate) fn none() -> Calls
+    pub(crate) fn none() -> CallCounts
         ensures made { result.made ≡ 0 }
         ensures completed { result.completed ≡ 0 }
     {
-        Calls {
+        CallCounts {
             made: 0,
             completed: 0,
         }
     }
 
     /// One call, which completed so many IRPs: one or none.
-    pub(crate) fn one(completed: u32) -> Calls
+    pub(crate) fn one(completed: u32) -> CallCounts
         requires { completed ≤ 1 }
         ensures made { result.made ≡ 1 }
         ensures completed { result.completed ≡ completed }
     {
-        Calls { made: 1, completed }
+        CallCounts { made: 1, completed }
     }
 
     /// The calls that completed no IRP.
@@ -40,12 +40,12 @@ impl Calls {
     }
 
     /// These calls and others.
-    pub(crate) fn plus(self, other: Calls) -> Calls
+    pub(crate) fn plus(self, other: CallCounts) -> CallCounts
         requires { self.made + other.made < 2 ^ 32 }
         ensures made { result.made ≡ self.made + other.made }
         ensures completed { result.completed ≡ self.completed + other.completed }
     {
-        Calls {
+        CallCounts {
             made: self.made + other.made,
             completed: self.completed + other.completed,
         }

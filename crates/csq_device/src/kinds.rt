@@ -2,16 +2,16 @@
 ghost use Rattle.std.specs.Prelude.{◌≡◌, ◌+◌, ◌<◌, ◌^◌};
 ghost use Rattle.csq_device.specs.Duties.{AddsUp, completed_by};
 
-use crate::calls::Calls;
+use crate::calls::CallCounts;
 
 /// The calls of submitters, workers, cancellers and busy workers. What a busy worker removes it puts back: its
 /// removals aren't among the others.
 #[derive(Clone, Copy)]
 pub(crate) struct CallsByKind {
-    pub(crate) inserts: Calls,
-    pub(crate) removals: Calls,
-    pub(crate) cancels: Calls,
-    pub(crate) put_backs: Calls,
+    pub(crate) inserts: CallCounts,
+    pub(crate) removals: CallCounts,
+    pub(crate) cancels: CallCounts,
+    pub(crate) put_backs: CallCounts,
 }
 
 impl CallsByKind {
@@ -24,15 +24,15 @@ impl CallsByKind {
         ensures completed { completed_by result ≡ 0 }
     {
         CallsByKind {
-            inserts: Calls::none(),
-            removals: Calls::none(),
-            cancels: Calls::none(),
-            put_backs: Calls::none(),
+            inserts: CallCounts::none(),
+            removals: CallCounts::none(),
+            cancels: CallCounts::none(),
+            put_backs: CallCounts::none(),
         }
     }
 
     /// These inserts alone.
-    pub(crate) fn inserts(inserts: Calls) -> CallsByKind
+    pub(crate) fn inserts(inserts: CallCounts) -> CallsByKind
         ensures inserts { result.inserts ≡ inserts }
         ensures removals { result.removals.made ≡ 0 }
         ensures cancels { result.cancels.made ≡ 0 }
@@ -46,7 +46,7 @@ impl CallsByKind {
     }
 
     /// These removals alone.
-    pub(crate) fn removals(removals: Calls) -> CallsByKind
+    pub(crate) fn removals(removals: CallCounts) -> CallsByKind
         ensures inserts { result.inserts.made ≡ 0 }
         ensures removals { result.removals ≡ removals }
         ensures cancels { result.cancels.made ≡ 0 }
@@ -60,7 +60,7 @@ impl CallsByKind {
     }
 
     /// These cancels alone.
-    pub(crate) fn cancels(cancels: Calls) -> CallsByKind
+    pub(crate) fn cancels(cancels: CallCounts) -> CallsByKind
         ensures inserts { result.inserts.made ≡ 0 }
         ensures removals { result.removals.made ≡ 0 }
         ensures cancels { result.cancels ≡ cancels }
@@ -74,7 +74,7 @@ impl CallsByKind {
     }
 
     /// These put-backs alone.
-    pub(crate) fn put_backs(put_backs: Calls) -> CallsByKind
+    pub(crate) fn put_backs(put_backs: CallCounts) -> CallsByKind
         ensures inserts { result.inserts.made ≡ 0 }
         ensures removals { result.removals.made ≡ 0 }
         ensures cancels { result.cancels.made ≡ 0 }

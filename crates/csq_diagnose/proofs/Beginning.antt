@@ -9,8 +9,8 @@ use Rattle.csq_diagnose.proofs.Imports.{IsNumber, Expected, IrpInLife, Irp, File
 use Rattle.csq_replay.specs.StepLine.{verb_of, AreKindWords, IsNameWord}
 use Rattle.csq_list.specs.declared.entry.Place.{Place as PlaceOf}
 use Rattle.csq_replay.specs.CallLine.{call_name, AreOperands, IsNamed, place_word}
-use Rattle.csq_replay.specs.declared.script.call.Call.{Call as CallOf}
-use Rattle.csq_replay.specs.declared.script.call.Call.TheVariants as call
+use Rattle.csq_replay.specs.declared.script.call.ScriptCall.{ScriptCall as CallOf}
+use Rattle.csq_replay.specs.declared.script.call.ScriptCall.TheVariants as call
 use Rattle.csq_explain.specs.Words.{step_words, call_words}
 use Rattle.csq_diagnose.specs.declared.grammar.Grammar.TheVariants.{Schedule, Script}
 

@@ -1,13 +1,13 @@
 -- Words that fit the places of a line.
 use Rattle.std.proofs.Common.{ℕ, zero, suc, ◌≤◌, Bool, true, false, List, [], ◌∷◌, ◌++◌, take, drop, length, map, refl, inl, inr, arith, rules, codes, decimal}
 use Rattle.irp_core.specs.Texts.{irp_text, pass_text}
-use Rattle.csq_diagnose.proofs.Imports.{◌||◌, if◌then◌else◌, bytes_eq, Expected, Pass, Step, Call, IrpInLife, Irp, File, Peek, Place, Status, Nothing, Admits, Fit, expected_at, named, operands}
+use Rattle.csq_diagnose.proofs.Imports.{◌||◌, if◌then◌else◌, bytes_eq, Expected, Pass, Step, ScriptCall, IrpInLife, Irp, File, Peek, Place, Status, Nothing, Admits, Fit, expected_at, named, operands}
 
 -- a word that may stand there
 abbrev pub sample : Expected → List ℕ
 sample Pass = pass_text (record { 0 = 1 })
 sample Step = codes "end"
-sample Call = codes "flag"
+sample ScriptCall = codes "flag"
 sample IrpInLife = irp_text (record { 0 = 0 })
 sample Irp = decimal 0
 sample File = decimal 0
@@ -68,7 +68,7 @@ pass_sample = (record { 0 = 1 }, (refl, omega arith))
 pub step_sample : Admits Step (codes "end")
 step_sample = inr (inr (inr (inl refl)))
 
-pub call_sample : Admits Call (codes "flag")
+pub call_sample : Admits ScriptCall (codes "flag")
 call_sample = inr (inr (inr (inr (inr (inr (inr (inr (inr (inl refl)))))))))
 
 pub irp_sample : Admits Irp (decimal 0)

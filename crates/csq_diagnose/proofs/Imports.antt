@@ -3,7 +3,7 @@ pub use Rattle.csq_diagnose.specs.Expecting.{Admits, IsOneOf}
 pub use Rattle.csq_diagnose.specs.Grammars.{AreLineWords, Fit, MayBegin, expected_at, named, operands, places_of}
 pub use Rattle.csq_diagnose.specs.Misfits.{IsEnd, IsFirstMisfit, IsMisfit, StandsThere, column_of}
 pub use Rattle.csq_diagnose.specs.declared.expected.Expected.{Expected}
-pub use Rattle.csq_diagnose.specs.declared.expected.Expected.TheVariants.{Call, File, Irp, IrpInLife, Nothing, Pass, Peek, Place, Status, Step}
+pub use Rattle.csq_diagnose.specs.declared.expected.Expected.TheVariants.{ScriptCall, File, Irp, IrpInLife, Nothing, Pass, Peek, Place, Status, Step}
 pub use Rattle.csq_replay.specs.Pieces.{IsNumber, words_of}
 pub use Rattle.std.specs.Borrow.{Bor}
 pub use Rattle.std.specs.List.{All, join_with_byte, list_any, position_or_len}

@@ -1,7 +1,7 @@
 -- Which line ends a schedule or a script, and why.
 use Rattle.std.specs.Prelude.{◌≡◌, ℕ, ◌<◌, List, [], ◌++◌, length, codes, Option, Some, None}
 use Rattle.csq_replay.specs.declared.lines.answer.Ended.{Ended}
-use Rattle.csq_replay.specs.declared.script.call.Call.{Call}
+use Rattle.csq_replay.specs.declared.script.call.ScriptCall.{ScriptCall}
 use Rattle.csq_replay.specs.Lines.{IsWithinLine, IsSkipped, IsAnswer, RepliesTo}
 use Rattle.csq_replay.specs.CallLine.{IsCallLine}
 use Rattle.csq_diagnose.specs.declared.grammar.Grammar.TheVariants.{Script}
@@ -13,7 +13,7 @@ use Rattle.csq_diagnose.specs.LineTexts.{long_text, malformed_line_text}
 pub data DiagnosesCall (n : ℕ) (line : List ℕ) : List ℕ → Option (Unit {0}) → Type 0 where
   is_long : 64 < length line → DiagnosesCall n line (long_text n (length line) ++ codes "\n") None
   is_skipped : IsWithinLine line → IsSkipped line → DiagnosesCall n line [] (Some tt)
-  is_call : IsWithinLine line → ¬ IsSkipped line → (c : Call) → IsCallLine line c → DiagnosesCall n line [] (Some tt)
+  is_call : IsWithinLine line → ¬ IsSkipped line → (c : ScriptCall) → IsCallLine line c → DiagnosesCall n line [] (Some tt)
   is_malformed : IsWithinLine line → ¬ IsSkipped line → (fault : Malformed) → IsMalformed Script line fault → DiagnosesCall n line (malformed_line_text n fault ++ codes "\n") None
 
 -- a script is diagnosed so: by its first line that ends it, if there is one

@@ -11,7 +11,7 @@ use Rattle.csq_replay.specs.CallLine.{IsHexStatus}
 use Rattle.csq_explain.specs.Words.{step_words, call_words}
 use Rattle.csq_diagnose.specs.declared.expected.TheConstants.{PLACES}
 use Rattle.csq_diagnose.specs.declared.expected.Expected.{Expected}
-use Rattle.csq_diagnose.specs.declared.expected.Expected.TheVariants.{Pass, Step, Call, IrpInLife, Irp, File, Peek, Place, Status, Nothing}
+use Rattle.csq_diagnose.specs.declared.expected.Expected.TheVariants.{Pass, Step, ScriptCall, IrpInLife, Irp, File, Peek, Place, Status, Nothing}
 
 -- whether a word begins a call
 abbrev pub is_call_word : List ℕ → Bool
@@ -24,7 +24,7 @@ place_words = map (λ word. word.now) PLACES
 -- the words that may stand there, where they can be listed
 abbrev pub expected_words : Expected → List (List ℕ)
 expected_words Step = step_words
-expected_words Call = call_words
+expected_words ScriptCall = call_words
 expected_words Place = place_words
 expected_words _ = []
 
@@ -37,7 +37,7 @@ IsOneOf (one ∷ more) word = (word ≡ one) ⊎ IsOneOf more word
 abbrev pub Admits : Expected → List ℕ → Type 0
 Admits Pass word = (p : PassId) × IsPassWord word p
 Admits Step word = IsOneOf step_words word
-Admits Call word = IsOneOf call_words word
+Admits ScriptCall word = IsOneOf call_words word
 Admits IrpInLife word = (i : IrpLife) × IsNameWord word i
 Admits Irp word = (n : ℕ) × IsNumber word n
 Admits File word = (n : ℕ) × IsNumber word n

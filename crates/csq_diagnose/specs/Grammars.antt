@@ -3,10 +3,10 @@ use Rattle.std.specs.Prelude.{◌≡◌, ◌||◌, ℕ, zero, suc, List, [], ◌
 use Rattle.std.specs.Str.{bytes_eq}
 use Rattle.irp_core.specs.declared.step.Step.{Step as StepOf}
 use Rattle.csq_replay.specs.StepLine.{IsPassWord, AreKindWords}
-use Rattle.csq_replay.specs.declared.script.call.Call.{Call as CallOf}
+use Rattle.csq_replay.specs.declared.script.call.ScriptCall.{ScriptCall as CallOf}
 use Rattle.csq_replay.specs.CallLine.{IsNamed}
 use Rattle.csq_diagnose.specs.declared.expected.Expected.{Expected}
-use Rattle.csq_diagnose.specs.declared.expected.Expected.TheVariants.{Pass, Step, Call, IrpInLife, Irp, File, Peek, Place, Status, Nothing}
+use Rattle.csq_diagnose.specs.declared.expected.Expected.TheVariants.{Pass, Step, ScriptCall, IrpInLife, Irp, File, Peek, Place, Status, Nothing}
 use Rattle.csq_diagnose.specs.declared.grammar.Grammar.{Grammar}
 use Rattle.csq_diagnose.specs.declared.grammar.Grammar.TheVariants.{Schedule, Script}
 use Rattle.csq_diagnose.specs.Expecting.{Admits}
@@ -41,7 +41,7 @@ operands name =
 
 -- what may stand in each place of a call with this first word
 abbrev pub call_places : List ℕ → List Expected
-call_places name = Call ∷ operands name
+call_places name = ScriptCall ∷ operands name
 
 -- what may stand in each place of a line of these words
 abbrev pub places_of : Grammar → List (List ℕ) → List Expected

@@ -2,7 +2,7 @@
 use Rattle.std.specs.Prelude.{ℕ, ◌==◌, ◌&&◌, nat_le, Bool, false, List, [], ◌∷◌, ◌++◌, codes, decimal, Option, Some, None, if◌then◌else◌}
 use Rattle.csq_explain.specs.Words.{step_words, call_words, listed}
 use Rattle.csq_diagnose.specs.declared.expected.Expected.{Expected}
-use Rattle.csq_diagnose.specs.declared.expected.Expected.TheVariants.{Pass, Step, Call, IrpInLife, Irp, File, Peek, Place, Status, Nothing}
+use Rattle.csq_diagnose.specs.declared.expected.Expected.TheVariants.{Pass, Step, ScriptCall, IrpInLife, Irp, File, Peek, Place, Status, Nothing}
 use Rattle.csq_diagnose.specs.Expecting.{is_call_word, place_words}
 use Rattle.csq_diagnose.specs.declared.found.Found.{Found}
 use Rattle.csq_diagnose.specs.declared.found.Found.TheVariants.{End, FirstSpace, TwoSpaces, LastSpace, Byte, Word}
@@ -13,7 +13,7 @@ use Rattle.csq_diagnose.specs.declared.nearest.Near.{Near}
 abbrev pub noun_text : Expected → List ℕ
 noun_text Pass = codes "pass"
 noun_text Step = codes "step"
-noun_text Call = codes "call"
+noun_text ScriptCall = codes "call"
 noun_text IrpInLife = codes "IRP"
 noun_text Irp = codes "IRP"
 noun_text File = codes "file object"
@@ -26,7 +26,7 @@ noun_text Nothing = codes "end"
 abbrev pub rule_text : Expected → List ℕ
 rule_text Pass = codes "a pass is the letter p and its number, as p1"
 rule_text Step = codes "a step is " ++ listed 0 step_words
-rule_text Call = codes "a call is " ++ listed 8 call_words
+rule_text ScriptCall = codes "a call is " ++ listed 8 call_words
 rule_text IrpInLife = codes "an IRP is its number, as 0, or in its life 1 as 0@1"
 rule_text Irp = codes "an IRP is its number, as 0"
 rule_text File = codes "a file object is its number, as 0"
@@ -68,7 +68,7 @@ begins_a_step _ = false
 -- a line of the other kind of input, by its first word: a schedule has steps, a script has calls
 abbrev pub other_input_text : Expected → List ℕ → List ℕ
 other_input_text Pass word = if is_call_word word then codes "\n  a script has calls: csqsim script reads it" else []
-other_input_text Call word = if begins_a_step word then codes "\n  a schedule has steps: csqsim schedule reads it" else []
+other_input_text ScriptCall word = if begins_a_step word then codes "\n  a schedule has steps: csqsim schedule reads it" else []
 other_input_text e word = []
 
 -- what is found where a word is expected

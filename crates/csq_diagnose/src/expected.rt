@@ -15,7 +15,7 @@ pub enum Expected {
     /// What a step does, as `arm`.
     Step,
     /// What a call does, as `insert`.
-    Call,
+    ScriptCall,
     /// An IRP in one of its lives, as `0` or `0@1`.
     IrpInLife,
     /// An IRP in its present life, as `0`.
@@ -63,7 +63,7 @@ impl Expected {
     {
         match self {
             Expected::Step => &STEPS,
-            Expected::Call => &CALLS,
+            Expected::ScriptCall => &CALLS,
             Expected::Place => &PLACES,
             _ => &[],
         }
@@ -76,7 +76,7 @@ impl Expected {
         match self {
             Expected::Pass => parse_pass(word).is_some(),
             Expected::Step => is_one_of(word, &STEPS),
-            Expected::Call => is_one_of(word, &CALLS),
+            Expected::ScriptCall => is_one_of(word, &CALLS),
             Expected::Place => is_one_of(word, &PLACES),
             Expected::IrpInLife => parse_name(word).is_some(),
             Expected::Irp | Expected::File => parse_number(word).is_some(),

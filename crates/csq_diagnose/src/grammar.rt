@@ -4,7 +4,9 @@ ghost use Rattle.csq_replay.specs.Pieces.{words_of};
 ghost use Rattle.csq_diagnose.specs.Grammars.{call_places, first_word, places_of, second_word, step_places};
 
 use crate::expected::Expected;
-use crate::expected::Expected::{Call, File, Irp, IrpInLife, Pass, Peek, Place, Status, Step};
+use crate::expected::Expected::{
+    File, Irp, IrpInLife, Pass, Peek, Place, ScriptCall, Status, Step,
+};
 use csq_replay::split_piece;
 
 /// What the lines of a text name. Own rule.
@@ -48,24 +50,24 @@ fn call_places(name: &[u8]) -> &'static [Expected]
     ensures { result.now ≡ call_places name.now }
 {
     if name == b"insert".as_slice() {
-        return &[Call, Irp, File, Place];
+        return &[ScriptCall, Irp, File, Place];
     }
     if name == b"next".as_slice() {
-        return &[Call, Peek];
+        return &[ScriptCall, Peek];
     }
     if name == b"complete".as_slice() {
-        return &[Call, Irp, Status];
+        return &[ScriptCall, Irp, Status];
     }
     if name == b"put_back".as_slice() {
-        return &[Call, Irp, Place];
+        return &[ScriptCall, Irp, Place];
     }
     if name == b"remove".as_slice() || name == b"mark".as_slice() || name == b"cancel".as_slice() {
-        return &[Call, IrpInLife];
+        return &[ScriptCall, IrpInLife];
     }
     if name == b"close".as_slice() || name == b"cleanup".as_slice() {
-        return &[Call, File];
+        return &[ScriptCall, File];
     }
-    &[Call, Irp]
+    &[ScriptCall, Irp]
 }
 
 impl Grammar {

@@ -15,7 +15,7 @@ fn noun(expected: Expected) -> &'static str
     match expected {
         Expected::Pass => "pass",
         Expected::Step => "step",
-        Expected::Call => "call",
+        Expected::ScriptCall => "call",
         Expected::IrpInLife | Expected::Irp => "IRP",
         Expected::File => "file object",
         Expected::Peek => "file object or *",
@@ -32,7 +32,7 @@ fn rule(expected: Expected) -> &'static str
     match expected {
         Expected::Pass => "a pass is the letter p and its number, as p1",
         Expected::Step => "a step is arm, test, disarm, end, flag, take, out, done, renew or rearm",
-        Expected::Call => {
+        Expected::ScriptCall => {
             "a call is insert, next, remove, mark, routine, cancel, complete, close,\n  cleanup, flag, status, reuse or put_back"
         }
         Expected::IrpInLife => "an IRP is its number, as 0, or in its life 1 as 0@1",
@@ -150,7 +150,7 @@ fn other_input(expected: Expected, word: &str) -> &'static str
         Expected::Pass if is_call_word(word.as_bytes()) => {
             "\n  a script has calls: csqsim script reads it"
         }
-        Expected::Call if begins_a_step(word.as_bytes()) => {
+        Expected::ScriptCall if begins_a_step(word.as_bytes()) => {
             "\n  a schedule has steps: csqsim schedule reads it"
         }
         _ => "",

@@ -6,9 +6,9 @@ use std::fmt;
 
 /// A line that ended the handling, as it is told: its step, if it names one, and why it ended it.
 #[derive(Clone, Copy)]
-pub(crate) struct Refusal(pub(crate) Stop);
+pub(crate) struct StopText(pub(crate) Stop);
 
-impl fmt::Display for Refusal {
+impl fmt::Display for StopText {
     ghost use Rattle.std.specs.Prelude.{Some};
     ghost use Rattle.csq_draw.specs.Endings.{ended_line_text};
 
@@ -61,7 +61,7 @@ impl fmt::Display for BelowRows {
                 )
             }
             Below::Refused(stop) => {
-                write!(f, "<text x='73' y='{}'>{}</text>", y + 34, Refusal(stop))
+                write!(f, "<text x='73' y='{}'>{}</text>", y + 34, StopText(stop))
             }
             Below::Because(reason) => write!(f, "<text x='73' y='{}'>{reason}</text>", y + 76),
             Below::Irp(nth, line) => {

@@ -7,7 +7,7 @@ ghost use Rattle.csq_draw.specs.Terminal.{each_text, spaces, in_width, cell_text
 
 use crate::caption::Caption;
 use crate::cells::Cell;
-use crate::ending::Refusal;
+use crate::ending::StopText;
 use crate::passes::{column_of, columns};
 use crate::rows::Row;
 use crate::words::WordValues;
@@ -168,7 +168,7 @@ pub(crate) fn write_stopped<A: Allocator>(
 {
     text.push_str(caption.plain.as_str())?;
     push_steps(passes, rows, text)?;
-    let refusal = Refusal(reason.stop);
+    let refusal = StopText(reason.stop);
     writeln!(text, "line {line}: {refusal}\n  {reason}")?;
     Ok(())
 }

@@ -4,7 +4,7 @@ use Rattle.std.proofs.lemmas.List.{take_more}
 use Rattle.irp_core.specs.declared.ids.IrpId.{IrpId}
 use Rattle.irp_core.specs.Texts.{irp_text}
 use Rattle.csq_words.specs.Queue.{Limits}
-use Rattle.csq_replay.specs.declared.script.call.Call.{Call}
+use Rattle.csq_replay.specs.declared.script.call.ScriptCall.{ScriptCall}
 use Rattle.csq_replay.specs.declared.script.call.Reply.{Reply}
 use Rattle.csq_replay.specs.declared.script.outcome.CallOutcome.TheVariants.{Answered}
 use Rattle.csq_replay.specs.declared.script.remains.Kept.TheVariants.{Held}
@@ -30,7 +30,7 @@ commas_more irps k d first old new lt reported written =
     ∙ ap (λ l. first ++ after_commas l) (sym (take_more irps k d lt))
 
 -- an answer to a call, and a sentence below it, by the sizes of the machine and the list
-pub answered_text : (l : Limits) (n : ℕ) (c : Call) (r : Reply) (irps files : ℕ) → irps ≡ l.irps → files ≡ l.files
+pub answered_text : (l : Limits) (n : ℕ) (c : ScriptCall) (r : Reply) (irps files : ℕ) → irps ≡ l.irps → files ≡ l.files
     → reply_text r ++ (codes "\n  " ++ (reply_sentence irps files c r ++ codes "\n")) ≡ explained_call l n (Answered c r)
 answered_text l n c r irps files a b =
     ap (λ x. reply_text r ++ (codes "\n  " ++ (reply_sentence x files c r ++ codes "\n"))) a

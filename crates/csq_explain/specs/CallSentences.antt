@@ -6,9 +6,9 @@ use Rattle.irp_core.specs.Texts.{irp_text, name_text, life_text}
 use Rattle.csq_list.specs.declared.entry.Place.TheVariants.{Back, Front}
 use Rattle.csq_list.specs.declared.entry.Peek.TheVariants.{File}
 use Rattle.csq_list.specs.declared.refusals.InsertStatus.TheVariants as insert
-use Rattle.csq_replay.specs.declared.script.call.Call.{Call}
-use Rattle.csq_replay.specs.declared.script.call.Call.TheVariants.{Insert, Next, Remove, Mark, Routine, Cancel, Complete, Close, Cleanup, Flag, Status, Reuse, PutBack}
-use Rattle.csq_replay.specs.declared.script.call.Refusal.TheVariants.{UnknownIrp, UnknownFile, NoClaim, NotHeld, StatusPending, Stale, NotCompleted, LivesSpent}
+use Rattle.csq_replay.specs.declared.script.call.ScriptCall.{ScriptCall}
+use Rattle.csq_replay.specs.declared.script.call.ScriptCall.TheVariants.{Insert, Next, Remove, Mark, Routine, Cancel, Complete, Close, Cleanup, Flag, Status, Reuse, PutBack}
+use Rattle.csq_replay.specs.declared.script.call.ScriptRefusal.TheVariants.{UnknownIrp, UnknownFile, NoClaim, NotHeld, StatusPending, Stale, NotCompleted, LivesSpent}
 use Rattle.csq_replay.specs.declared.script.call.Reply.{Reply}
 use Rattle.csq_replay.specs.declared.script.call.Reply.TheVariants.{Pending, Cancelled, InsertRefused, Removed, NoIrp, Claimed, Unclaimed, Completed, CancelAnswered, Closed, Cleaned, Unset, Begun, Refused}
 use Rattle.csq_replay.specs.declared.script.call.Reply.TheVariants as reply
@@ -20,7 +20,7 @@ use Rattle.csq_explain.specs.Sentences.{status_name}
 use Rattle.csq_explain.specs.Words.{call_words, listed}
 
 -- the routine that a call stands for, or the field that it reads
-abbrev pub routine_name : Call → List ℕ
+abbrev pub routine_name : ScriptCall → List ℕ
 routine_name (Insert n f place) = codes "IoCsqInsertIrpEx"
 routine_name (Next k) = codes "IoCsqRemoveNextIrp"
 routine_name (Remove i) = codes "IoCsqRemoveIrp"
@@ -36,7 +36,7 @@ routine_name (Reuse n) = codes "IoReuseIrp"
 routine_name (PutBack n place) = codes "IoCsqInsertIrpEx"
 
 -- the file object that a call names
-abbrev pub named_file : Call → Option FileId
+abbrev pub named_file : ScriptCall → Option FileId
 named_file (Insert n f place) = Some f
 named_file (Next (File f)) = Some f
 named_file (Close f) = Some f
@@ -48,7 +48,7 @@ file_words (Some f) = codes "file object " ++ decimal f.0
 file_words None = codes "any file object"
 
 -- what a call is of: an IRP, in a life where it names one, or a file object
-unfoldable pub object_name : Call → List ℕ
+unfoldable pub object_name : ScriptCall → List ℕ
 object_name (Insert n f place) = codes "IRP " ++ irp_text n
 object_name (Next k) = file_words (named_file (Next k))
 object_name (Remove i) = codes "IRP " ++ name_text i
@@ -64,7 +64,7 @@ object_name (Reuse n) = codes "IRP " ++ irp_text n
 object_name (PutBack n place) = codes "IRP " ++ irp_text n
 
 -- where an insert puts its IRP
-abbrev pub place_words : Call → List ℕ
+abbrev pub place_words : ScriptCall → List ℕ
 place_words (Insert n f Back) = codes " for file object " ++ (decimal f.0 ++ codes " at the back")
 place_words (Insert n f Front) = codes " for file object " ++ (decimal f.0 ++ codes " at the front")
 place_words (PutBack n Back) = codes " again at the back"
@@ -81,17 +81,17 @@ none_of files (Some f) = if nat_le files f.0 then codes "a file object's number 
 none_of files None = none_listed None
 
 -- why a removal took no IRP: the one that it names, or any of its file object
-abbrev pub none_words : ℕ → Call → List ℕ
+abbrev pub none_words : ℕ → ScriptCall → List ℕ
 none_words files (Remove i) = codes "IRP " ++ (name_text i ++ codes " isn't listed in that life, or a cancel has it")
 none_words files c = none_of files (named_file c)
 
 -- what a call did that completed its IRP with this status
-abbrev pub done_words : Call → NtStatus → List ℕ
+abbrev pub done_words : ScriptCall → NtStatus → List ℕ
 done_words (Routine n) status = codes " took IRP " ++ (irp_text n ++ (codes " out of the list (CsqRemoveIrp), and completed it with " ++ status_name status))
 done_words c status = codes " completed " ++ (object_name c ++ (codes " with " ++ status_name status))
 
 -- what a mark, a cancel or a completion did that was answered so
-abbrev pub cancel_words : Call → Reply → List ℕ
+abbrev pub cancel_words : ScriptCall → Reply → List ℕ
 cancel_words c Claimed = codes " set the Cancel flag of " ++ (object_name c ++ codes " and took its cancel routine: the pass owes the IRP now")
 cancel_words c Unclaimed = codes " set the Cancel flag of " ++ (object_name c ++ codes ", and found no cancel routine")
 cancel_words c (CancelAnswered true) = codes " returned TRUE: it set the Cancel flag of " ++ (object_name c ++ codes " and ran the cancel routine, which completed the IRP with STATUS_CANCELLED")
@@ -100,12 +100,12 @@ cancel_words c (Completed status) = done_words c status
 cancel_words c _ = []
 
 -- the file object of an insert or a put-back, which names none
-abbrev pub refused_file : Call → List ℕ
+abbrev pub refused_file : ScriptCall → List ℕ
 refused_file (PutBack n place) = codes "the file object of IRP " ++ irp_text n
 refused_file c = file_words (named_file c)
 
 -- why a call that is answered so is refused, where there are so many IRPs and file objects
-abbrev pub call_refusal : ℕ → ℕ → Call → Reply → List ℕ
+abbrev pub call_refusal : ℕ → ℕ → ScriptCall → Reply → List ℕ
 call_refusal irps files c (InsertRefused insert.UnknownIrp) = codes "an IRP's number is below " ++ decimal irps
 call_refusal irps files c (InsertRefused insert.UnknownFile) = codes "a file object's number is below " ++ decimal files
 call_refusal irps files c (InsertRefused insert.NotHome) = object_name c ++ codes " was inserted before in its present life"
@@ -123,7 +123,7 @@ call_refusal irps files c (Refused LivesSpent) = object_name c ++ codes " is in 
 call_refusal irps files c _ = []
 
 -- a call that is answered so
-abbrev pub reply_sentence : ℕ → ℕ → Call → Reply → List ℕ
+abbrev pub reply_sentence : ℕ → ℕ → ScriptCall → Reply → List ℕ
 reply_sentence irps files c Pending = routine_name c ++ (codes " listed " ++ (object_name c ++ (place_words c ++ codes ", and returned STATUS_PENDING")))
 reply_sentence irps files c Cancelled = routine_name c ++ (codes " found the Cancel flag of " ++ (object_name c ++ codes " set, completed it with STATUS_CANCELLED (CsqCompleteCanceledIrp), and returned STATUS_PENDING"))
 reply_sentence irps files c (Removed n) = routine_name c ++ (codes " took IRP " ++ (irp_text n ++ codes " out of the list, and the pass holds it now"))

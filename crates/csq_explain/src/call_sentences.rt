@@ -4,38 +4,38 @@ ghost use Rattle.csq_explain.specs.CallSentences.{named_file, routine_name};
 
 use crate::sentences::StatusName;
 use csq_list::{InsertStatus, Peek, Place};
-use csq_replay::{Call, CallStop, MAX_LINE, Refusal, Reply};
+use csq_replay::{CallStop, MAX_LINE, Reply, ScriptCall, ScriptRefusal};
 use irp_core::FileId;
 use std::fmt;
 
 /// The routine that a call stands for, or the field that it reads, as `IoCsqInsertIrpEx`.
-fn routine_name(call: Call) -> &'static str
+fn routine_name(call: ScriptCall) -> &'static str
     ensures { result.now ≡ routine_name call }
 {
     match call {
-        Call::Insert(..) | Call::PutBack(..) => "IoCsqInsertIrpEx",
-        Call::Next(_) => "IoCsqRemoveNextIrp",
-        Call::Remove(_) => "IoCsqRemoveIrp",
-        Call::Mark(_) | Call::Cancel(_) => "IoCancelIrp",
-        Call::Routine(_) => "the cancel routine",
-        Call::Complete(..) => "IoCompleteRequest",
-        Call::Close(_) => "the driver",
-        Call::Cleanup(_) => "IRP_MJ_CLEANUP",
-        Call::Flag(_) => "Irp->Cancel",
-        Call::Status(_) => "Irp->IoStatus.Status",
-        Call::Reuse(_) => "IoReuseIrp",
+        ScriptCall::Insert(..) | ScriptCall::PutBack(..) => "IoCsqInsertIrpEx",
+        ScriptCall::Next(_) => "IoCsqRemoveNextIrp",
+        ScriptCall::Remove(_) => "IoCsqRemoveIrp",
+        ScriptCall::Mark(_) | ScriptCall::Cancel(_) => "IoCancelIrp",
+        ScriptCall::Routine(_) => "the cancel routine",
+        ScriptCall::Complete(..) => "IoCompleteRequest",
+        ScriptCall::Close(_) => "the driver",
+        ScriptCall::Cleanup(_) => "IRP_MJ_CLEANUP",
+        ScriptCall::Flag(_) => "Irp->Cancel",
+        ScriptCall::Status(_) => "Irp->IoStatus.Status",
+        ScriptCall::Reuse(_) => "IoReuseIrp",
     }
 }
 
 /// The file object that a call names, if it names one.
-fn named_file(call: Call) -> Option<FileId>
+fn named_file(call: ScriptCall) -> Option<FileId>
     ensures { result ≡ named_file call }
 {
     match call {
-        Call::Insert(_, file, _)
-        | Call::Next(Peek::File(file))
-        | Call::Close(file)
-        | Call::Cleanup(file) => Some(file),
+        ScriptCall::Insert(_, file, _)
+        | ScriptCall::Next(Peek::File(file))
+        | ScriptCall::Close(file)
+        | ScriptCall::Cleanup(file) => Some(file),
         _ => None,
     }
 }
@@ -61,7 +61,7 @@ impl fmt::Display for FileWords {
 
 /// What a call is of.
 #[derive(Clone, Copy)]
-struct ObjectName(Call);
+struct ObjectName(ScriptCall);
 
 /// As `IRP 0@1`, or `file object 1`.
 impl fmt::Display for ObjectName {
@@ -73,15 +73,18 @@ impl fmt::Display for ObjectName {
     #[tactic(auto, unfolding(crate::specs::CallSentences::object_name))]
     fn fmt<W: fmt::Write>(&self, f: &mut fmt::Formatter<W>) -> fmt::Result {
         match self.0 {
-            Call::Remove(irp) | Call::Mark(irp) | Call::Cancel(irp) => write!(f, "IRP {irp}"),
-            Call::Insert(irp, ..)
-            | Call::Routine(irp)
-            | Call::Complete(irp, _)
-            | Call::Flag(irp)
-            | Call::Status(irp)
-            | Call::Reuse(irp)
-            | Call::PutBack(irp, _) => write!(f, "IRP {irp}"),
-            Call::Next(_) | Call::Close(_) | Call::Cleanup(_) => {
+            ScriptCall::Remove(irp) | ScriptCall::Mark(irp) | ScriptCall::Cancel(irp) => write!(
+                f,
+                "IRP {irp}"
+            ),
+            ScriptCall::Insert(irp, ..)
+            | ScriptCall::Routine(irp)
+            | ScriptCall::Complete(irp, _)
+            | ScriptCall::Flag(irp)
+            | ScriptCall::Status(irp)
+            | ScriptCall::Reuse(irp)
+            | ScriptCall::PutBack(irp, _) => write!(f, "IRP {irp}"),
+            ScriptCall::Next(_) | ScriptCall::Close(_) | ScriptCall::Cleanup(_) => {
                 write!(f, "{}", FileWords(named_file(self.0)))
             }
         }
@@ -90,10 +93,10 @@ impl fmt::Display for ObjectName {
 
 /// Where an insert or a put-back puts its IRP.
 #[derive(Clone, Copy)]
-struct PlaceWords(Call);
+struct QueueEnd(ScriptCall);
 
 /// As ` for file object 1 at the back`, or ` again at the back`; nothing for another call.
-impl fmt::Display for PlaceWords {
+impl fmt::Display for QueueEnd {
     ghost use Rattle.std.specs.Prelude.{Some};
     ghost use Rattle.csq_explain.specs.CallSentences.{place_words};
 
@@ -101,14 +104,14 @@ impl fmt::Display for PlaceWords {
 
     fn fmt<W: fmt::Write>(&self, f: &mut fmt::Formatter<W>) -> fmt::Result {
         match self.0 {
-            Call::Insert(_, file, Place::Back) => {
+            ScriptCall::Insert(_, file, Place::Back) => {
                 write!(f, " for file object {} at the back", file.0)
             }
-            Call::Insert(_, file, Place::Front) => {
+            ScriptCall::Insert(_, file, Place::Front) => {
                 write!(f, " for file object {} at the front", file.0)
             }
-            Call::PutBack(_, Place::Back) => write!(f, " again at the back"),
-            Call::PutBack(_, Place::Front) => write!(f, " again at the front"),
+            ScriptCall::PutBack(_, Place::Back) => write!(f, " again at the back"),
+            ScriptCall::PutBack(_, Place::Front) => write!(f, " again at the front"),
             _ => Ok(()),
         }
     }
@@ -123,7 +126,7 @@ pub struct AnsweredCall {
     /// How many file objects there are.
     pub files: u32,
     /// The call.
-    pub call: Call,
+    pub call: ScriptCall,
     /// Its answer.
     pub reply: Reply,
 }
@@ -142,7 +145,7 @@ impl fmt::Display for NoneWords {
     fn fmt<W: fmt::Write>(&self, f: &mut fmt::Formatter<W>) -> fmt::Result {
         let (files, call) = (self.0.files, self.0.call);
         match (call, named_file(call)) {
-            (Call::Remove(irp), _) => {
+            (ScriptCall::Remove(irp), _) => {
                 write!(f, "IRP {irp} isn't listed in that life, or a cancel has it")
             }
             (_, Some(file)) if file.0 >= files => {
@@ -189,7 +192,7 @@ impl fmt::Display for CancelWords {
                 " returned FALSE: it set the Cancel flag of {irp}, and found no cancel routine"
             ),
             Reply::Completed(status) => match call {
-                Call::Routine(irp) => write!(
+                ScriptCall::Routine(irp) => write!(
                     f,
                     " took IRP {irp} out of the list (CsqRemoveIrp), and completed it with {}",
                     StatusName(status)
@@ -208,7 +211,7 @@ impl fmt::Display for CancelWords {
 
 /// The file object of an insert or a put-back, which names none.
 #[derive(Clone, Copy)]
-struct RefusedFile(Call);
+struct RefusedFile(ScriptCall);
 
 /// As `file object 1`, or `the file object of IRP 0`.
 impl fmt::Display for RefusedFile {
@@ -219,7 +222,7 @@ impl fmt::Display for RefusedFile {
 
     fn fmt<W: fmt::Write>(&self, f: &mut fmt::Formatter<W>) -> fmt::Result {
         match self.0 {
-            Call::PutBack(irp, _) => write!(f, "the file object of IRP {irp}"),
+            ScriptCall::PutBack(irp, _) => write!(f, "the file object of IRP {irp}"),
             call => write!(f, "{}", FileWords(named_file(call))),
         }
     }
@@ -259,20 +262,26 @@ impl fmt::Display for CallRefusal {
                 ),
             },
             Reply::Refused(cause) => match cause {
-                Refusal::UnknownIrp => write!(f, "an IRP's number is below {irps}"),
-                Refusal::UnknownFile => write!(f, "a file object's number is below {files}"),
-                Refusal::NoClaim => write!(
+                ScriptRefusal::UnknownIrp => write!(f, "an IRP's number is below {irps}"),
+                ScriptRefusal::UnknownFile => write!(f, "a file object's number is below {files}"),
+                ScriptRefusal::NoClaim => write!(
                     f,
                     "the pass doesn't owe {irp}: no mark claimed it, or its cancel routine has run"
                 ),
-                Refusal::NotHeld => write!(
+                ScriptRefusal::NotHeld => write!(
                     f,
                     "the pass doesn't hold {irp}: no removal took it, or it was completed or put back since"
                 ),
-                Refusal::StatusPending => write!(f, "no IRP is completed with STATUS_PENDING"),
-                Refusal::Stale(life) => write!(f, "the IRP is in its life {life}"),
-                Refusal::NotCompleted => write!(f, "{irp} isn't completed in its present life"),
-                Refusal::LivesSpent => write!(f, "{irp} is in its last life"),
+                ScriptRefusal::StatusPending => write!(
+                    f,
+                    "no IRP is completed with STATUS_PENDING"
+                ),
+                ScriptRefusal::Stale(life) => write!(f, "the IRP is in its life {life}"),
+                ScriptRefusal::NotCompleted => write!(
+                    f,
+                    "{irp} isn't completed in its present life"
+                ),
+                ScriptRefusal::LivesSpent => write!(f, "{irp} is in its last life"),
             },
             _ => Ok(()),
         }
@@ -288,7 +297,7 @@ impl fmt::Display for AnsweredCall {
 
     fn fmt<W: fmt::Write>(&self, f: &mut fmt::Formatter<W>) -> fmt::Result {
         let (call, routine) = (self.call, routine_name(self.call));
-        let (object, place) = (ObjectName(call), PlaceWords(call));
+        let (object, place) = (ObjectName(call), QueueEnd(call));
         match self.reply {
             Reply::Pending => write!(
                 f,

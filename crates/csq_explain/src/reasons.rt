@@ -69,10 +69,10 @@ impl fmt::Display for NextStep {
 
 /// Why a step is refused.
 #[derive(Clone, Copy)]
-struct Refusal(Reason, Step, StepRefused);
+struct StepRefusal(Reason, Step, StepRefused);
 
 /// As `p3 has had the lock since line 5, inside a removal; its next step is a disarm or an end`.
-impl fmt::Display for Refusal {
+impl fmt::Display for StepRefusal {
     ghost use Rattle.std.specs.Prelude.{Some};
     ghost use Rattle.csq_explain.specs.Reasons.{cause_text};
 
@@ -80,7 +80,7 @@ impl fmt::Display for Refusal {
         reported.0.irps reported.0.passes reported.0.now reported.1.pass reported.1.kind reported.2) };
 
     fn fmt<W: fmt::Write>(&self, f: &mut fmt::Formatter<W>) -> fmt::Result {
-        let Refusal(reason, step, cause) = *self;
+        let StepRefusal(reason, step, cause) = *self;
         let (pass, now) = (step.pass, reason.now);
         let (line, call, next) = (now.line, call_name(now.inside), NextStep(now.inside));
         match cause {
@@ -132,7 +132,7 @@ impl fmt::Display for Reason {
                 f,
                 "this is no step, as p1 arm 0: arm, test, disarm, flag, take, out, done, renew or rearm, or p1 end"
             ),
-            Stop::Refused(step, cause) => write!(f, "{}", Refusal(*self, step, cause)),
+            Stop::Refused(step, cause) => write!(f, "{}", StepRefusal(*self, step, cause)),
         }
     }
 }

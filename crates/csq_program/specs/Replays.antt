@@ -8,7 +8,7 @@ use Rattle.csq_replay.specs.ScriptAnswer.{RepliesToScript}
 use Rattle.csq_explain.specs.Explaining.{ExplainsSchedule}
 use Rattle.csq_explain.specs.ExplainingCalls.{ExplainsScript}
 use Rattle.csq_words.specs.Queue.{Limits as ListLimits}
-use Rattle.csq_program.specs.declared.replay.Limits.{Limits}
+use Rattle.csq_program.specs.declared.replay.ScriptLimits.{ScriptLimits}
 
 -- of a reader and a writer that tell their bytes: a schedule was read, and its answer was written, each line with a sentence where these are asked for
 abbrev pub ReportsSchedule : Size → Bool → Bool → Option (List ℕ) → Option (List ℕ) → Option (List ℕ) → Option (List ℕ) → Ended → Type 0
@@ -21,5 +21,5 @@ ReportsScript l true = ExplainsScript l
 ReportsScript l false = RepliesToScript l
 
 -- the sizes of a script's list, whose limits are the number of IRPs where none is given
-abbrev pub limits_or_all : ℕ → ℕ → Option ℕ → Option ℕ → Limits
+abbrev pub limits_or_all : ℕ → ℕ → Option ℕ → Option ℕ → ScriptLimits
 limits_or_all irps files limit file_limit = record { irps = irps; files = files; limit = unwrap_or limit irps; file_limit = unwrap_or file_limit irps }

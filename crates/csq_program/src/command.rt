@@ -106,7 +106,7 @@ impl From<clap::Error> for CommandFault {
 /// The headings under which options are told: others are told as options.
 const SIZE: &str = "Size";
 
-const LIMITS: &str = "Limits";
+const LIMITS: &str = "ScriptLimits";
 
 /// An option that takes a number in a range.
 #[derive(Clone, Copy)]

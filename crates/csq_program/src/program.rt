@@ -4,7 +4,7 @@ ghost use Rattle.csq_program.specs.Jobs.{IsInRange};
 
 use crate::command::{CommandFault, Job, read_command, refuse_bytes};
 use crate::device_run::{RunFault, answer_runs};
-use crate::replay::{Limits, run_drawing, run_limited_script, run_schedule};
+use crate::replay::{ScriptLimits, run_drawing, run_limited_script, run_schedule};
 use crate::source::SourceFault;
 use csq_replay::SimFault;
 use std::alloc::AllocError;
@@ -134,7 +134,7 @@ where
             list,
             explain,
         } => {
-            let limits = Limits::new(irps, files, limit, file_limit);
+            let limits = ScriptLimits::new(irps, files, limit, file_limit);
             run_limited_script(rt, source, list, limits, explain)
         }
         Job::Run {

@@ -170,7 +170,7 @@ fn finish<R: Print + Eprint>(
 
 /// The sizes of a script's list.
 #[derive(Clone, Copy)]
-pub(crate) struct Limits {
+pub(crate) struct ScriptLimits {
     /// The IRPs.
     pub(crate) irps: u32,
     /// The file objects.
@@ -181,12 +181,17 @@ pub(crate) struct Limits {
     pub(crate) file_limit: u32,
 }
 
-impl Limits {
+impl ScriptLimits {
     /// The sizes with these limits, each of which is the number of IRPs where none is given.
-    pub(crate) fn new(irps: u32, files: u32, limit: Option<u32>, file_limit: Option<u32>) -> Limits
+    pub(crate) fn new(
+        irps: u32,
+        files: u32,
+        limit: Option<u32>,
+        file_limit: Option<u32>,
+    ) -> ScriptLimits
         ensures { result ≡ limits_or_all irps files limit file_limit }
     {
-        Limits {
+        ScriptLimits {
             irps,
             files,
             limit: limit.unwrap_or(irps),
@@ -231,12 +236,12 @@ pub(crate) fn run_limited_script<R: AllocGlobal + Print + Eprint + Input + Files
     rt: &R,
     source: Source<'_>,
     kind: ListKind,
-    limits: Limits,
+    limits: ScriptLimits,
     explain: bool,
 ) -> Result<u8, ProgramFault>
     requires { (1 ≤ limits.irps) × (limits.irps ≤ 1024) }
 {
-    let Limits {
+    let ScriptLimits {
         irps,
         files,
         limit,
@@ -251,7 +256,7 @@ pub(crate) fn run_limited_script<R: AllocGlobal + Print + Eprint + Input + Files
 fn run_script<L: PendingList + Drop, R: AllocGlobal + Print + Eprint + Input + Files>(
     rt: &R,
     source: Source<'_>,
-    limits: Limits,
+    limits: ScriptLimits,
     list: Result<L, ListNew>,
     explain: bool,
 ) -> Result<u8, ProgramFault>
@@ -313,8 +318,8 @@ impl fmt::Display for HighLimit<'_> {
 }
 
 /// Says on standard error that the size is refused, and which limits are above the number of IRPs.
-fn report_bad_size<R: Eprint>(rt: &R, limits: Limits) {
-    let Limits {
+fn report_bad_size<R: Eprint>(rt: &R, limits: ScriptLimits) {
+    let ScriptLimits {
         irps,
         limit,
         file_limit,

@@ -1,6 +1,6 @@
 -- A cancel, whose pass sees the execution at each of its steps.
 use Rattle.std.proofs.Common.{◌≡◌, ℕ, List, ◌++◌, ap, sym, subst, ◌∙◌}
-use Rattle.csq_queue.proofs.Imports.{IrpLife, Size, Flag, Take, Entry, Event, PassRecord, Limits, IsExtendedBy, entries_of, saw, with_step, with_calls, FindsUnset, extended_more, extended_on, AddsEvents, EndsWithTake}
+use Rattle.csq_queue.proofs.Imports.{IrpLife, Size, Flag, Take, HistoryEntry, Event, PassRecord, Limits, IsExtendedBy, entries_of, saw, with_step, with_calls, FindsUnset, extended_more, extended_on, AddsEvents, EndsWithTake}
 
 -- the steps of a cancel go on from what its pass had seen
 pub marked_follows : (size : Size) (i : IrpLife) (flag found : ℕ) (old new : PassRecord) → EndsWithTake size i flag found old new → IsExtendedBy old.run new.run
@@ -14,15 +14,15 @@ pub completed_follows : (size : Size) (i : IrpLife) (old new : PassRecord) → F
 completed_follows size i old new f = subst (IsExtendedBy old.run) (sym f.last.run_is) (extended_more _ old.run f.last.before f.last.follows)
 
 -- what a cancel routine adds to what its pass saw it adds to what the pass had seen before it marked the IRP
-pub adds_before : (l : Limits) (history : List Entry) (old mid out : PassRecord) (es : List Event) (i : IrpLife) (flag found : ℕ) → mid ≡ saw mid.run (with_step (Take i) found (with_step (Flag i) flag old))
+pub adds_before : (l : Limits) (history : List HistoryEntry) (old mid out : PassRecord) (es : List Event) (i : IrpLife) (flag found : ℕ) → mid ≡ saw mid.run (with_step (Take i) found (with_step (Flag i) flag old))
     → IsExtendedBy old.run mid.run → AddsEvents l history mid out es → AddsEvents l history old out es
 adds_before l history old mid out es i flag found e follows a = record {
   legal = a.legal;
   sees = a.sees;
   follows = extended_on _ _ _ follows a.follows;
-  begins = subst (λ (seen : List Entry). IsExtendedBy seen out.seen) (ap (λ (r : PassRecord). r.seen) e) a.begins;
+  begins = subst (λ (seen : List HistoryEntry). IsExtendedBy seen out.seen) (ap (λ (r : PassRecord). r.seen) e) a.begins;
   calls = a.calls ∙ ap (λ (r : PassRecord). (with_calls es r).mine) e;
   once = a.once;
   ends = a.ends ∙ ap (λ (r : PassRecord). entries_of r.pass es ++ history) e;
-  since = subst (λ (seen : List Entry). IsExtendedBy seen history) (ap (λ (r : PassRecord). r.seen) e) a.since;
+  since = subst (λ (seen : List HistoryEntry). IsExtendedBy seen history) (ap (λ (r : PassRecord). r.seen) e) a.since;
 }

@@ -1,6 +1,6 @@
 -- Once a file is closed, no event lists an IRP for it.
 use Rattle.std.proofs.Common.{◌≡◌, ℕ, suc, ◌≤◌, ◌<◌, ◌==◌, not, ◌&&◌, ◌||◌, cond, Bool, true, false, true≢false, List, [], ◌∷◌, ◌++◌, length, filter, Some, None, refl, sym, ap, ◌∙◌, subst, eqb-true, arith}
-use Rattle.csq_queue.proofs.Imports.{or_right, and_parts, same_irp, IrpLife, FileId, IrpId, same_irp-refl, same_some, Peek, File, Place, put_at, renewed, same_file, FileClosed, no_cause, Entry, Event, FlagSeen, Mark, Insert, RemoveNext, Remove, Out, CloseFile, Reuse, PutBack, Pending, Cancelled, Refused, IsLegal, MayCome, end_of, Queued, QueueState, Limits, present_in, has_irp, has_file, marking, without, first_unmarked, refusal, back_refusal, after_event, new_entry, plain_listing, none_head, none_both, none_marking}
+use Rattle.csq_queue.proofs.Imports.{or_right, and_parts, same_irp, IrpLife, FileId, IrpId, same_irp-refl, same_some, Peek, File, Place, put_at, renewed, same_file, FileClosed, no_cause, HistoryEntry, Event, FlagSeen, Mark, Insert, RemoveNext, Remove, Out, CloseFile, Reuse, PutBack, Pending, Cancelled, Refused, IsLegal, MayCome, end_of, Queued, QueueState, Limits, present_in, has_irp, has_file, marking, without, first_unmarked, refusal, back_refusal, after_event, new_entry, plain_listing, none_head, none_both, none_marking}
 use Rattle.csq_list.specs.declared.entry.Place.TheVariants.{Back, Front}
 use Rattle.csq_queue.proofs.Crowding.{pending_none}
 
@@ -26,7 +26,7 @@ closed_after q (Out i) f h = h
 closed_after q (CloseFile g) f h = or_right (g.0 == f.0) (has_file q.closed f) h
 closed_after q (Reuse n life) f h = h
 
-pub closed_later : (first : ℕ) (newer h : List Entry) (f : FileId) → has_file (end_of first h).closed f ≡ true → has_file (end_of first (newer ++ h)).closed f ≡ true
+pub closed_later : (first : ℕ) (newer h : List HistoryEntry) (f : FileId) → has_file (end_of first h).closed f ≡ true → has_file (end_of first (newer ++ h)).closed f ≡ true
 closed_later first [] h f c = c
 closed_later first (e ∷ newer) h f c = closed_after (end_of first (newer ++ h)) e.event f (closed_later first newer h f c)
 
@@ -78,7 +78,7 @@ none_after l q (Out i) f may c h = none_without (File f) i q.entries h
 none_after l q (CloseFile g) f may c h = h
 none_after l q (Reuse n life) f may c h = h
 
-pub none_later : (l : Limits) (newer h : List Entry) (f : FileId) → has_file (end_of l.first h).closed f ≡ true → first_unmarked (File f) (end_of l.first h).entries ≡ None → IsLegal l (newer ++ h) → first_unmarked (File f) (end_of l.first (newer ++ h)).entries ≡ None
+pub none_later : (l : Limits) (newer h : List HistoryEntry) (f : FileId) → has_file (end_of l.first h).closed f ≡ true → first_unmarked (File f) (end_of l.first h).entries ≡ None → IsLegal l (newer ++ h) → first_unmarked (File f) (end_of l.first (newer ++ h)).entries ≡ None
 none_later l [] h f c n legal = n
 none_later l (e ∷ newer) h f c n legal = none_after l (end_of l.first (newer ++ h)) e.event f legal.0 (closed_later l.first newer h f c) (none_later l newer h f c n legal.1)
 
@@ -154,7 +154,7 @@ count_after l q (CloseFile g) f may c = omega arith
 count_after l q (Reuse n life) f may c = omega arith
 
 -- nor along a longer legal history
-pub count_later : (l : Limits) (newer h : List Entry) (f : FileId) → has_file (end_of l.first h).closed f ≡ true → IsLegal l (newer ++ h) → length (of_file f (end_of l.first (newer ++ h)).entries) ≤ length (of_file f (end_of l.first h).entries)
+pub count_later : (l : Limits) (newer h : List HistoryEntry) (f : FileId) → has_file (end_of l.first h).closed f ≡ true → IsLegal l (newer ++ h) → length (of_file f (end_of l.first (newer ++ h)).entries) ≤ length (of_file f (end_of l.first h).entries)
 count_later l [] h f c legal = omega arith
 count_later l (e ∷ newer) h f c legal =
     let step = count_after l (end_of l.first (newer ++ h)) e.event f legal.0 (closed_later l.first newer h f c) in
@@ -162,7 +162,7 @@ count_later l (e ∷ newer) h f c legal =
     omega arith
 
 -- a removal of the closed file that answers takes one away
-pub count_taken : (l : Limits) (newer h : List Entry) (e : Entry) (f : FileId) (i : IrpLife) → has_file (end_of l.first h).closed f ≡ true → IsLegal l (e ∷ newer ++ h) → e.event ≡ RemoveNext (File f) (Some i)
+pub count_taken : (l : Limits) (newer h : List HistoryEntry) (e : HistoryEntry) (f : FileId) (i : IrpLife) → has_file (end_of l.first h).closed f ≡ true → IsLegal l (e ∷ newer ++ h) → e.event ≡ RemoveNext (File f) (Some i)
     → length (of_file f (end_of l.first (e ∷ newer ++ h)).entries) < length (of_file f (end_of l.first h).entries)
 count_taken l newer h e f i c legal is =
     let q = end_of l.first (newer ++ h) in

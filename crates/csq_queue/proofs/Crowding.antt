@@ -1,6 +1,6 @@
 -- In the queue of one thread that a legal history leaves no more is listed than there are IRPs.
 use Rattle.std.proofs.Common.{◌≡◌, ℕ, ◌<◌, ◌≤◌, ◌==◌, ◌||◌, not, Bool, true, false, true≢false, List, [], ◌∷◌, length, map, Option, Some, None, refl, sym, ap, ◌∙◌, subst, ◌⊎◌, inl, inr, eqb-true}
-use Rattle.csq_queue.proofs.Imports.{and_parts, or_cases, or_right, not-true, length-map, life_of, same_irp, same_id, IrpLife, FileId, IrpId, same_irp-eq, same_id-refl, Place, InsertStatus, NotHome, no_cause, sound-accepted, IsSound, inserted, renewed, is_listed, is_distinct, filter-none, unused-unlisted, sound-fresh, sound-removed, sound-renewed, Entry, Event, FlagSeen, Mark, Insert, RemoveNext, Remove, Out, CloseFile, Reuse, PutBack, Pending, Cancelled, Refused, irp_eq, IsLegal, IsGone, MayCome, end_of, Queued, QueueState, Limits, present_in, has_irp, has_file, has_entry, without, plain, new_entry, plain_listing, refusal, reply_to_insert, after_event, back_refusal, ArePresent, HasSoundLives, legal_lives, is_listed-plain, listing-inserted, listing-marked, listing-removed, listing-taken_back, listing-renewed, listing-put_back, has_life, AreApart}
+use Rattle.csq_queue.proofs.Imports.{and_parts, or_cases, or_right, not-true, length-map, life_of, same_irp, same_id, IrpLife, FileId, IrpId, same_irp-eq, same_id-refl, Place, InsertStatus, NotHome, no_cause, sound-accepted, IsSound, inserted, renewed, is_listed, is_distinct, filter-none, unused-unlisted, sound-fresh, sound-removed, sound-renewed, HistoryEntry, Event, FlagSeen, Mark, Insert, RemoveNext, Remove, Out, CloseFile, Reuse, PutBack, Pending, Cancelled, Refused, irp_eq, IsLegal, IsGone, MayCome, end_of, Queued, QueueState, Limits, present_in, has_irp, has_file, has_entry, without, plain, new_entry, plain_listing, refusal, reply_to_insert, after_event, back_refusal, ArePresent, HasSoundLives, legal_lives, is_listed-plain, listing-inserted, listing-marked, listing-removed, listing-taken_back, listing-renewed, listing-put_back, has_life, AreApart}
 use Rattle.csq_queue.proofs.Counting.{apart_most}
 
 -- an insert is pending, or finds its IRP cancelled, only where no cause refuses it
@@ -76,7 +76,7 @@ module _ (l : Limits) (u : QueueState) (lives : HasSoundLives u) (sound : IsSoun
       at g (inr h) = sound.closed_known g h
   sound_event (Reuse n life) may = subst IsSound (listing-renewed l u n lives) (sound-renewed (plain_listing l u) sound n (is_listed-plain u.lives (present_in u n) refl u.entries lives.entries ∙ may.1))
 
-sound_later : (l : Limits) (h : List Entry) → IsLegal l h → IsSound (plain_listing l (end_of l.first h))
+sound_later : (l : Limits) (h : List HistoryEntry) → IsLegal l h → IsSound (plain_listing l (end_of l.first h))
 sound_later l [] legal = sound-fresh l.irps l.files l.limit l.file_limits
 sound_later l (e ∷ h) legal = sound_event l (end_of l.first h) (legal_lives l h legal.1) (sound_later l h legal.1) e.event legal.0
 
@@ -99,7 +99,7 @@ listed_apart irps (e ∷ es) d known =
     )
 
 -- no more is listed than there are IRPs
-pub crowded : (l : Limits) (h : List Entry) → IsLegal l h → length (end_of l.first h).entries ≤ l.irps
+pub crowded : (l : Limits) (h : List HistoryEntry) → IsLegal l h → length (end_of l.first h).entries ≤ l.irps
 crowded l h legal =
     let sound = sound_later l h legal in
     let es = (end_of l.first h).entries in

@@ -35,7 +35,7 @@ pub use Rattle.csq_words.specs.Records.{caught_up, entries_of, new_pass, only_ca
 pub use Rattle.csq_words.specs.Rule.{AreShown, FindsLife, FindsUnset, HasBack, IsHistoryOf, IsLastOf, QueueAndPassHaveRun, RecordsAgree, SomeRunAgrees, again, in_flight, inserts, is_done, lists, next_life}
 pub use Rattle.csq_words.specs.Seats.{PassSeatState, QueueSeatState, WordsState, joined_record, new_seats, pass_at, pass_record, with_view}
 pub use Rattle.csq_words.specs.Words.{bit_in, bit_word, cancel_at, life_in, status_at, status_in}
-pub use Rattle.csq_words.specs.declared.views.Entry.{Entry}
+pub use Rattle.csq_words.specs.declared.views.HistoryEntry.{HistoryEntry}
 pub use Rattle.csq_words.specs.declared.views.Event.{Event}
 pub use Rattle.csq_words.specs.declared.views.Event.TheVariants.{CloseFile, FlagSeen, Insert, Mark, Out, PutBack, Remove, RemoveNext, Reuse}
 pub use Rattle.csq_words.specs.declared.views.InsertReply.TheVariants.{Cancelled, Pending, Refused}

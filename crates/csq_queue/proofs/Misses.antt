@@ -1,6 +1,6 @@
 -- The matches that a removal passes over.
 use Rattle.std.proofs.Common.{◌≡◌, ℕ, not, ◌&&◌, cond, Bool, true, false, true≢false, List, [], ◌∷◌, ◌++◌, map, Option, Some, None, refl, sym, ap, ◌∙◌, append_assoc, append-nil}
-use Rattle.csq_queue.proofs.Imports.{false_from_ne_true, or_parts, same_irp, IrpLife, PassId, same_irp-eq, Peek, matches, Entry, QueueRecord, Queued, has_marked, marking, first_unmarked, plain, end_of, queue_of, entries_of, with_events, none_head, same_irp-is, marked, gave, passed_over}
+use Rattle.csq_queue.proofs.Imports.{false_from_ne_true, or_parts, same_irp, IrpLife, PassId, same_irp-eq, Peek, matches, HistoryEntry, QueueRecord, Queued, has_marked, marking, first_unmarked, plain, end_of, queue_of, entries_of, with_events, none_head, same_irp-is, marked, gave, passed_over}
 use Rattle.csq_list.specs.Searches as list
 
 -- of a part in which nothing was given out all matches were passed over
@@ -64,7 +64,7 @@ passed-marking k given i [] = refl
 passed-marking k given i (e ∷ es) = ap (λ (is : List IrpLife). cond (matches k e.file) (cond (gave given e.irp) [] (is ++ e.irp ∷ [])) is) (passed-marking k given i es)
 
 -- nor do the marks of a removal
-passed-marks : (k : Peek) (given : Option IrpLife) (p : PassId) (marks : List IrpLife) (first : ℕ) (h : List Entry) → passed_over k given (end_of first (entries_of p (marked marks) ++ h)).entries ≡ passed_over k given (end_of first h).entries
+passed-marks : (k : Peek) (given : Option IrpLife) (p : PassId) (marks : List IrpLife) (first : ℕ) (h : List HistoryEntry) → passed_over k given (end_of first (entries_of p (marked marks) ++ h)).entries ≡ passed_over k given (end_of first h).entries
 passed-marks k given p [] first h = refl
 passed-marks k given p (i ∷ marks) first h = passed-marking k given i (end_of first (entries_of p (marked marks) ++ h)).entries ∙ passed-marks k given p marks first h
 

@@ -1,6 +1,6 @@
 -- The order of the calls follows from what each call's pass had seen before it.
 use Rattle.std.proofs.Common.{◌≡◌, ◌≢◌, ◌⊎◌, inl, inr, ℕ, Bool, ◌&&◌, List, [], ◌∷◌, ◌++◌, length, append_assoc, refl, sym, ap, ◌∙◌, subst}
-use Rattle.csq_queue.proofs.Imports.{append_cancel_right, filter-append, own, same_pass, PassId, Made, Entry, Event, PassRecord, Limits, IsExtendedBy, is_call, calls_of, entries_of, extended_on, made_by}
+use Rattle.csq_queue.proofs.Imports.{append_cancel_right, filter-append, own, same_pass, PassId, Made, HistoryEntry, Event, PassRecord, Limits, IsExtendedBy, is_call, calls_of, entries_of, extended_on, made_by}
 use Rattle.csq_words.specs.Recorded.{StandInOrder}
 use Rattle.csq_words.specs.Stories.{AreComparable}
 use Rattle.csq_words.proofs.OneHistory.{one_begins}
@@ -16,10 +16,10 @@ module _ {limits : Limits} where
   found_in c = (entries c, c.adds.ends)
 
   -- in each history that goes on from what d left, the events of a call before it stand before its own
-  stands : (c d : LockedCall limits) → ComesBefore c d → (history : List Entry) → IsExtendedBy d.new.seen history → StandBefore history c d
+  stands : (c d : LockedCall limits) → ComesBefore c d → (history : List HistoryEntry) → IsExtendedBy d.new.seen history → StandBefore history c d
   stands c d before history more =
-      let found : d.found ≡ before.0 ++ (entries c ++ c.found) = before.1 ∙ ap (λ (h : List Entry). before.0 ++ h) c.adds.ends in
-      (more.0, before.0, more.1 ∙ ap (λ (h : List Entry). more.0 ++ h) (d.adds.ends ∙ ap (λ (h : List Entry). entries d ++ h) found))
+      let found : d.found ≡ before.0 ++ (entries c ++ c.found) = before.1 ∙ ap (λ (h : List HistoryEntry). before.0 ++ h) c.adds.ends in
+      (more.0, before.0, more.1 ∙ ap (λ (h : List HistoryEntry). more.0 ++ h) (d.adds.ends ∙ ap (λ (h : List HistoryEntry). entries d ++ h) found))
 
 -- lists
 module _ {A : Type 0} where
@@ -54,35 +54,35 @@ module _ {limits : Limits} where
   -- a call that comes before itself has added nothing
   adds_nothing : (c : LockedCall limits) → ComesBefore c c → c.events ≡ []
   adds_nothing c itself =
-      let whole : c.found ≡ (itself.0 ++ entries c) ++ c.found = itself.1 ∙ (ap (λ (h : List Entry). itself.0 ++ h) c.adds.ends ∙ sym (append_assoc itself.0 (entries c) c.found)) in
+      let whole : c.found ≡ (itself.0 ++ entries c) ++ c.found = itself.1 ∙ (ap (λ (h : List HistoryEntry). itself.0 ++ h) c.adds.ends ∙ sym (append_assoc itself.0 (entries c) c.found)) in
       no_entries c.old.pass c.events (none_after itself.0 (entries c) (none_added (itself.0 ++ entries c) c.found (ap length (sym whole))))
     where
-      none_after : (xs ys : List Entry) → xs ++ ys ≡ [] → ys ≡ []
+      none_after : (xs ys : List HistoryEntry) → xs ++ ys ≡ [] → ys ≡ []
       none_after [] ys none = none
       none_after (x ∷ xs) ys none = absurd cc
 
   -- of two calls of different passes, that which found the older history comes before the other: else an entry would be of both
-  comes_first : (c d : LockedCall limits) (history : List Entry) → IsExtendedBy c.new.seen history → IsExtendedBy d.new.seen history → c.old.pass ≢ d.old.pass → d.events ≢ [] → IsExtendedBy c.found d.found → ComesBefore c d
+  comes_first : (c d : LockedCall limits) (history : List HistoryEntry) → IsExtendedBy c.new.seen history → IsExtendedBy d.new.seen history → c.old.pass ≢ d.old.pass → d.events ≢ [] → IsExtendedBy c.found d.found → ComesBefore c d
   comes_first c d history one two apart some older =
       let there = extended_on d.found d.new.seen history (found_in d) two in
       go (one_begins one.0 there.0 c.new.seen d.found (sym one.1 ∙ there.1))
     where
-      overlap : (x : List Entry) → c.new.seen ≡ x ++ d.found → (x ≡ []) ⊎ ((newer : List Entry) × (e : Entry) × (x ≡ newer ++ (e ∷ []))) → (entries d ≡ []) ⊎ ((newer : List Entry) × (f : Entry) × (entries d ≡ newer ++ (f ∷ []))) → ComesBefore c d
+      overlap : (x : List HistoryEntry) → c.new.seen ≡ x ++ d.found → (x ≡ []) ⊎ ((newer : List HistoryEntry) × (e : HistoryEntry) × (x ≡ newer ++ (e ∷ []))) → (entries d ≡ []) ⊎ ((newer : List HistoryEntry) × (f : HistoryEntry) × (entries d ≡ newer ++ (f ∷ []))) → ComesBefore c d
       overlap x is (inl none) ends = ([], sym (is ∙ ap (λ l. l ++ d.found) none))
       overlap x is (inr (newer, e, ends)) (inl none) = absurd (some (no_entries d.old.pass d.events none))
       overlap x is (inr (newer, e, ends)) (inr (newer', f, ends')) =
           let mine : entries c ≡ newer ++ (e ∷ older.0) = append_cancel_right (entries c) (newer ++ (e ∷ older.0)) c.found
           (sym c.adds.ends ∙ (is ∙ ((λ k. ends k ++ older.1 k) ∙ (append_assoc newer (e ∷ []) (older.0 ++ c.found) ∙ sym (append_assoc newer (e ∷ older.0) c.found))))) in
-          let here : history ≡ (one.0 ++ newer) ++ (e ∷ d.found) = one.1 ∙ (ap (λ (h : List Entry). one.0 ++ h) (is ∙ (ap (λ l. l ++ d.found) ends ∙ append_assoc newer (e ∷ []) d.found)) ∙ sym (append_assoc one.0 newer (e ∷ d.found))) in
-          let there : history ≡ (two.0 ++ newer') ++ (f ∷ d.found) = two.1 ∙ (ap (λ (h : List Entry). two.0 ++ h) (d.adds.ends ∙ (ap (λ l. l ++ d.found) ends' ∙ append_assoc newer' (f ∷ []) d.found)) ∙ sym (append_assoc two.0 newer' (f ∷ d.found))) in
+          let here : history ≡ (one.0 ++ newer) ++ (e ∷ d.found) = one.1 ∙ (ap (λ (h : List HistoryEntry). one.0 ++ h) (is ∙ (ap (λ l. l ++ d.found) ends ∙ append_assoc newer (e ∷ []) d.found)) ∙ sym (append_assoc one.0 newer (e ∷ d.found))) in
+          let there : history ≡ (two.0 ++ newer') ++ (f ∷ d.found) = two.1 ∙ (ap (λ (h : List HistoryEntry). two.0 ++ h) (d.adds.ends ∙ (ap (λ l. l ++ d.found) ends' ∙ append_assoc newer' (f ∷ []) d.found)) ∙ sym (append_assoc two.0 newer' (f ∷ d.found))) in
           let same : e ≡ f = same_at (one.0 ++ newer) (two.0 ++ newer') d.found e f (sym here ∙ there) in
-          absurd (apart (own_entry c.old.pass c.events newer older.0 e mine ∙ (ap (λ (z : Entry). z.pass) same ∙ sym (own_entry d.old.pass d.events newer' [] f ends'))))
+          absurd (apart (own_entry c.old.pass c.events newer older.0 e mine ∙ (ap (λ (z : HistoryEntry). z.pass) same ∙ sym (own_entry d.old.pass d.events newer' [] f ends'))))
 
       go : AreComparable c.new.seen d.found → ComesBefore c d
       go (inl before) = before
       go (inr (x, is)) = overlap x is (oldest_of x) (oldest_of (entries d))
 
-  either_first : (c d : LockedCall limits) (history : List Entry) → IsExtendedBy c.new.seen history → IsExtendedBy d.new.seen history → c.old.pass ≢ d.old.pass → c.events ≢ [] → d.events ≢ [] → ComesBefore c d ⊎ ComesBefore d c
+  either_first : (c d : LockedCall limits) (history : List HistoryEntry) → IsExtendedBy c.new.seen history → IsExtendedBy d.new.seen history → c.old.pass ≢ d.old.pass → c.events ≢ [] → d.events ≢ [] → ComesBefore c d ⊎ ComesBefore d c
   either_first c d history one two apart some some' =
       let here = extended_on c.found c.new.seen history (found_in c) one in
       let there = extended_on d.found d.new.seen history (found_in d) two in
@@ -103,16 +103,16 @@ ordered = record {
 }
 
 -- the calls of a cleanup come after what its pass had seen
-cleaned : (limits : Limits) (old new : PassRecord) (calls : List Event) → SeesCalls limits old new calls → (seen : List Entry) → IsExtendedBy seen old.seen
-    → (newer others : List Entry) × (new.seen ≡ newer ++ seen) × (calls_of old.pass newer ≡ entries_of old.pass calls ++ others)
+cleaned : (limits : Limits) (old new : PassRecord) (calls : List Event) → SeesCalls limits old new calls → (seen : List HistoryEntry) → IsExtendedBy seen old.seen
+    → (newer others : List HistoryEntry) × (new.seen ≡ newer ++ seen) × (calls_of old.pass newer ≡ entries_of old.pass calls ++ others)
 unfolding extended_on
 cleaned limits old new calls sees seen told =
     let all = extended_on seen old.seen new.seen told sees.begins in
-    let own : Entry → Bool = λ e. same_pass e.pass old.pass && is_call e.event in (
+    let own : HistoryEntry → Bool = λ e. same_pass e.pass old.pass && is_call e.event in (
       all.0,
       sees.since.0 ++ calls_of old.pass told.0,
       all.1,
-      filter-append own sees.begins.0 told.0 ∙ (ap (λ (l : List Entry). l ++ calls_of old.pass told.0) sees.since.1 ∙ append_assoc (entries_of old.pass calls) sees.since.0 (calls_of old.pass told.0)),
+      filter-append own sees.begins.0 told.0 ∙ (ap (λ (l : List HistoryEntry). l ++ calls_of old.pass told.0) sees.since.1 ∙ append_assoc (entries_of old.pass calls) sees.since.0 (calls_of old.pass told.0)),
     )
 
 -- a call finds what its pass had seen, and the calls of a cleanup come after it
@@ -142,4 +142,4 @@ left_in_order limits pass receipts taken listing finals rest = subst (λ n. Stan
 
 pub open_in_order : EventsOfAnOpenQueueStandInOrder
 open_in_order limits taken old listing finals closed =
-    subst (λ (z : ℕ × List Entry). StandInOrder z.0 finals.queue.run z.1) (λ k. (closed.first_is k, closed.given.history k)) (in_order finals.queue.first finals.queue.run finals.queue.history closed.last.agrees.history_is.placed)
+    subst (λ (z : ℕ × List HistoryEntry). StandInOrder z.0 finals.queue.run z.1) (λ k. (closed.first_is k, closed.given.history k)) (in_order finals.queue.first finals.queue.run finals.queue.history closed.last.agrees.history_is.placed)

@@ -1,6 +1,6 @@
 -- What is left of a queue that was closed tells the story of each IRP, and what the passes have seen.
 use Rattle.std.proofs.Common.{◌≡◌, ℕ, zero, suc, List, ◌∷◌, ap, ◌∙◌, sym, subst}
-use Rattle.csq_queue.proofs.Imports.{some, some-injective, get_elem?, IrpLife, Nothing, HasBegun, Listing, Entry, PassRecord, QueueRecord, Limits, HasBack, FinalWords, AllBack, IsFinal, queue_size, IsRestOf, IsClosed}
+use Rattle.csq_queue.proofs.Imports.{some, some-injective, get_elem?, IrpLife, Nothing, HasBegun, Listing, HistoryEntry, PassRecord, QueueRecord, Limits, HasBack, FinalWords, AllBack, IsFinal, queue_size, IsRestOf, IsClosed}
 use Rattle.csq_words.specs.Stories.{Story, StaysHaveStories, SeeOneHistory}
 use Rattle.csq_words.proofs.Stories.{a_story, stay_story}
 use Rattle.csq_words.proofs.OneHistory.{recorded_see}
@@ -17,7 +17,7 @@ stay_left limits pass receipts taken listing finals rest =
 
 pub stay_in_open : (limits : Limits) (taken : ℕ) (old : QueueRecord) (listing : Listing) (finals : FinalWords) → IsClosed limits taken old listing finals → StaysHaveStories limits.first finals.queue.run old.history
 stay_in_open limits taken old listing finals closed =
-    subst (λ (z : ℕ × List Entry). StaysHaveStories z.0 finals.queue.run z.1) (λ k. (closed.first_is k, closed.given.history k)) (stay_story (queue_size limits) finals.queue.run finals.queue Nothing closed.last.agrees.history_is)
+    subst (λ (z : ℕ × List HistoryEntry). StaysHaveStories z.0 finals.queue.run z.1) (λ k. (closed.first_is k, closed.given.history k)) (stay_story (queue_size limits) finals.queue.run finals.queue Nothing closed.last.agrees.history_is)
 
 pub closing_see : (limits : Limits) (pass : PassRecord) (receipts : List PassRecord) (taken : ℕ) (listing : Listing) (finals : FinalWords)
     → IsRestOf limits pass receipts taken listing finals → SeeOneHistory finals.queue.history finals.queue.run (pass ∷ receipts)
@@ -30,6 +30,6 @@ closing_see limits pass receipts taken listing finals rest = recorded_see (queue
 pub open_see : (limits : Limits) (taken : ℕ) (old : QueueRecord) (listing : Listing) (finals : FinalWords) → IsClosed limits taken old listing finals → SeeOneHistory old.history finals.queue.run old.back
 open_see limits taken old listing finals closed =
     let given = closed.given in
-    subst (λ (history : List Entry). SeeOneHistory history finals.queue.run old.back) given.history
+    subst (λ (history : List HistoryEntry). SeeOneHistory history finals.queue.run old.back) given.history
     (recorded_see (queue_size limits) finals.words finals.queue closed.last old.back
     (λ k r at. let there = still_at given.newer old.back r (k, at) in (there.0, ap (λ (back : List PassRecord). get_elem? back there.0) given.kept ∙ there.1)))

@@ -15,7 +15,7 @@ use Rattle.csq_list.specs.declared.entry.Peek.{Peek}
 use Rattle.csq_list.specs.declared.entry.Place.{Place}
 use Rattle.csq_list.specs.declared.refusals.InsertStatus.{InsertStatus}
 use Rattle.csq_list.specs.declared.refusals.UnknownFile.{UnknownFile}
-use Rattle.csq_words.specs.declared.views.Entry.{Entry}
+use Rattle.csq_words.specs.declared.views.HistoryEntry.{HistoryEntry}
 use Rattle.csq_words.specs.declared.views.Event.{Event}
 use Rattle.csq_words.specs.declared.views.Event.TheVariants.{CloseFile, Insert, RemoveNext, Remove, Out, PutBack}
 use Rattle.csq_words.specs.declared.views.InsertReply.TheVariants.{Refused}
@@ -43,11 +43,11 @@ use Rattle.csq_queue.specs.Steps.{MakesSteps, insert_steps, put_back_steps, remo
 use Rattle.csq_queue.specs.Effects.{AddsEvents, IsNew, count_given}
 
 -- the file object that i was accepted for, at the end of this history
-abbrev pub file_at : Limits → List Entry → IrpLife → FileId
+abbrev pub file_at : Limits → List HistoryEntry → IrpLife → FileId
 file_at limits history i = (end_of limits.first history).file_of i.irp
 
 -- an insert: it queued the IRP, or found it cancelled and gave it back, which the pass holds then, or refused it for the first cause
-pub record Inserts (irp : IrpId) (file : FileId) (place : Place) (answer : Result (InsertAnswer IrpLife IrpLife) InsertStatus) (limits : Limits) (history : List Entry) (p p' : PassRecord) : Type 0 where
+pub record Inserts (irp : IrpId) (file : FileId) (place : Place) (answer : Result (InsertAnswer IrpLife IrpLife) InsertStatus) (limits : Limits) (history : List HistoryEntry) (p p' : PassRecord) : Type 0 where
   pub accepted : IfOk answer (λ inserted. (events : List Event) × IsInsert (present_in (end_of limits.first history) irp) file place inserted events × AddsEvents limits history p p' events)
   pub steps : MakesSteps (insert_steps answer (end_of limits.first p'.seen)) p p'
   pub new : IfSome (given_in answer) (IsNew limits p)
@@ -56,7 +56,7 @@ pub record Inserts (irp : IrpId) (file : FileId) (place : Place) (answer : Resul
   pub cause : IfErr answer (λ cause. refusal limits (end_of limits.first history) irp file ≡ Some cause)
 
 -- a put-back of i, which the pass got by a removal, for the file object that it was accepted for: it queued i, which the pass then holds no longer, or found it cancelled, so that the pass holds it as cancelled, or refused it for the first cause, so that the pass holds it as before
-pub record PutsBack (i : IrpLife) (place : Place) (answer : Result (InsertAnswer IrpLife IrpLife) InsertStatus) (limits : Limits) (history : List Entry) (p p' : PassRecord) : Type 0 where
+pub record PutsBack (i : IrpLife) (place : Place) (answer : Result (InsertAnswer IrpLife IrpLife) InsertStatus) (limits : Limits) (history : List HistoryEntry) (p p' : PassRecord) : Type 0 where
   pub accepted : IfOk answer (λ inserted. (events : List Event) × IsPutBack i (file_at limits history i) place inserted events × AddsEvents limits history p p' events)
   pub steps : MakesSteps (put_back_steps answer (end_of limits.first p'.seen)) p p'
   pub token : IfOk answer (λ inserted. IfSome (given_by inserted) (Holds limits.irps p'))
@@ -67,14 +67,14 @@ pub record PutsBack (i : IrpLife) (place : Place) (answer : Result (InsertAnswer
   pub kept : OnErr answer (HoldsRemoved limits.irps p' i)
 
 -- a removal of the first match that no canceller has: the pass holds it then
-pub record RemovesNext (peek : Peek) (taken : Option IrpLife) (limits : Limits) (history : List Entry) (p p' : PassRecord) : Type 0 where
+pub record RemovesNext (peek : Peek) (taken : Option IrpLife) (limits : Limits) (history : List HistoryEntry) (p p' : PassRecord) : Type 0 where
   pub call : (marks : List IrpLife) × AddsEvents limits history p p' (RemoveNext peek taken ∷ marked marks)
   pub steps : MakesSteps (remove_next_steps peek taken (end_of limits.first history)) p p'
   pub new : IfSome taken (IsNew limits p)
   pub token : IfSome taken (HoldsRemoved limits.irps p')
 
 -- a removal of i, in its life
-pub record RemovesOne (i : IrpLife) (taken : Option IrpLife) (limits : Limits) (history : List Entry) (p p' : PassRecord) : Type 0 where
+pub record RemovesOne (i : IrpLife) (taken : Option IrpLife) (limits : Limits) (history : List HistoryEntry) (p p' : PassRecord) : Type 0 where
   pub irp : IfSome taken (λ got. got ≡ i)
   pub call : (marks : List IrpLife) × AddsEvents limits history p p' (Remove i (is_some taken) ∷ marked marks)
   pub steps : MakesSteps (remove_steps i taken (end_of limits.first history)) p p'
@@ -82,7 +82,7 @@ pub record RemovesOne (i : IrpLife) (taken : Option IrpLife) (limits : Limits) (
   pub token : IfSome taken (HoldsRemoved limits.irps p')
 
 -- a cancel routine takes out i: the pass holds i then as cancelled, and owes the IRP in no life
-pub record RunsRoutine (i : IrpLife) (limits : Limits) (history : List Entry) (p p' : PassRecord) : Type 0 where
+pub record RunsRoutine (i : IrpLife) (limits : Limits) (history : List HistoryEntry) (p p' : PassRecord) : Type 0 where
   pub call : AddsEvents limits history p p' (Out i ∷ due_mark i (end_of limits.first history))
   pub step : p' ≡ record (with_step (StepOut i) 0 p) { seen = p'.seen; mine = p'.mine; run = p'.run }
   pub token : Holds limits.irps p' i
@@ -90,14 +90,14 @@ pub record RunsRoutine (i : IrpLife) (limits : Limits) (history : List Entry) (p
   pub none_owed : has_life (owed_list p'.steps) i.irp ≡ false
 
 -- a file object is closed for good, if there is one
-pub record ClosesFile (file : FileId) (answer : Result (Unit {0}) UnknownFile) (limits : Limits) (history : List Entry) (p p' : PassRecord) : Type 0 where
+pub record ClosesFile (file : FileId) (answer : Result (Unit {0}) UnknownFile) (limits : Limits) (history : List HistoryEntry) (p p' : PassRecord) : Type 0 where
   pub known : IsOk answer ↔ (file.0 < limits.files)
   pub call : OnOk answer (AddsEvents limits history p p' (CloseFile file ∷ []))
   pub steps : OnOk answer (MakesSteps [] p p')
   pub unknown : OnErr answer (p' ≡ p)
 
 -- the next life of a completed IRP begins, or the cause why not
-pub record Reuses (irp : IrpId) (answer : Result Life ReuseRefused) (limits : Limits) (history : List Entry) (p p' : PassRecord) : Type 0 where
+pub record Reuses (irp : IrpId) (answer : Result Life ReuseRefused) (limits : Limits) (history : List HistoryEntry) (p p' : PassRecord) : Type 0 where
   pub known : (answer ≡ Err reuse.UnknownIrp) ↔ ¬ (irp.0 < limits.irps)
   pub unknown : answer ≡ Err reuse.UnknownIrp → p' ≡ p
   pub call : irp.0 < limits.irps → AddsEvents limits history p p' (reuse_events irp answer)

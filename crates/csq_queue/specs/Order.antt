@@ -6,7 +6,7 @@ use Rattle.irp_core.specs.Programs.{Act}
 use Rattle.irp_core.specs.Steps.{own}
 use Rattle.irp_core.specs.declared.step.Made.{Made}
 use Rattle.csq_list.specs.Listing.{Listing}
-use Rattle.csq_words.specs.declared.views.Entry.{Entry}
+use Rattle.csq_words.specs.declared.views.HistoryEntry.{HistoryEntry}
 use Rattle.csq_words.specs.declared.views.Event.{Event}
 use Rattle.csq_words.specs.declared.views.PassRecord.{PassRecord}
 use Rattle.csq_words.specs.declared.views.QueueRecord.{QueueRecord}
@@ -24,13 +24,13 @@ use Rattle.csq_queue.specs.Steps.{made_by}
 pub record LockedCall (limits : Limits) : Type 0 where
   pub old : PassRecord
   pub new : PassRecord
-  pub found : List Entry
+  pub found : List HistoryEntry
   pub events : List Event
   pub adds : AddsEvents limits found old new events
 
 module _ {limits : Limits} where
   -- the events of c, as they stand in the history
-  abbrev pub entries : LockedCall limits → List Entry
+  abbrev pub entries : LockedCall limits → List HistoryEntry
   entries c = entries_of c.old.pass c.events
 
   -- the caller of d was told that c had returned: d's pass had seen, before its call, all that c's had seen after its own. It made both calls itself, or it learned what was handed on, by one caller or by several
@@ -42,23 +42,23 @@ module _ {limits : Limits} where
   ComesBefore c d = IsExtendedBy c.new.seen d.found
 
   -- in this history the events of c stand before those of d, each where its own call left them
-  abbrev pub StandBefore : List Entry → LockedCall limits → LockedCall limits → Type 0
-  StandBefore history c d = (after between : List Entry) × (history ≡ after ++ (entries d ++ (between ++ (entries c ++ c.found))))
+  abbrev pub StandBefore : List HistoryEntry → LockedCall limits → LockedCall limits → Type 0
+  StandBefore history c d = (after between : List HistoryEntry) × (history ≡ after ++ (entries d ++ (between ++ (entries c ++ c.found))))
 
 -- the calls that add events are in one order, that of the history. Whoever was told of a call comes after it
 pub record CallsAreOrdered : Type 0 where
   pub told : (limits : Limits) (c d : LockedCall limits) → IsToldOf d c → ComesBefore c d
   pub transitive : (limits : Limits) (c d e : LockedCall limits) → ComesBefore c d → ComesBefore d e → ComesBefore c e
   pub irreflexive : (limits : Limits) (c : LockedCall limits) → ComesBefore c c → c.events ≡ []
-  pub stand : (limits : Limits) (c d : LockedCall limits) → ComesBefore c d → (history : List Entry) → IsExtendedBy d.new.seen history → StandBefore history c d
-  pub total : (limits : Limits) (c d : LockedCall limits) (history : List Entry) → IsExtendedBy c.new.seen history → IsExtendedBy d.new.seen history
+  pub stand : (limits : Limits) (c d : LockedCall limits) → ComesBefore c d → (history : List HistoryEntry) → IsExtendedBy d.new.seen history → StandBefore history c d
+  pub total : (limits : Limits) (c d : LockedCall limits) (history : List HistoryEntry) → IsExtendedBy c.new.seen history → IsExtendedBy d.new.seen history
       → c.old.pass ≢ d.old.pass → c.events ≢ [] → d.events ≢ [] → ComesBefore c d ⊎ ComesBefore d c
 
 -- whatever its pass had seen before it, a call found a history that begins with it, and the calls of a cleanup came after it
 pub record CallsComeAfterWhatWasSeen : Type 0 where
-  pub call : (limits : Limits) (d : LockedCall limits) (seen : List Entry) → IsExtendedBy seen d.old.seen → IsExtendedBy seen d.found
-  pub cleanup : (limits : Limits) (old new : PassRecord) (calls : List Event) → SeesCalls limits old new calls → (seen : List Entry) → IsExtendedBy seen old.seen
-      → (newer others : List Entry) × (new.seen ≡ newer ++ seen) × (calls_of old.pass newer ≡ entries_of old.pass calls ++ others)
+  pub call : (limits : Limits) (d : LockedCall limits) (seen : List HistoryEntry) → IsExtendedBy seen d.old.seen → IsExtendedBy seen d.found
+  pub cleanup : (limits : Limits) (old new : PassRecord) (calls : List Event) → SeesCalls limits old new calls → (seen : List HistoryEntry) → IsExtendedBy seen old.seen
+      → (newer others : List HistoryEntry) × (new.seen ≡ newer ++ seen) × (calls_of old.pass newer ≡ entries_of old.pass calls ++ others)
 
 -- whatever its pass had seen of the execution before it, the steps of a call come after it
 abbrev pub StepsComeAfterWhatWasSeen : Type 0

@@ -15,7 +15,7 @@ use std::marker::{Model, PhantomData};
 /// two prefixes. Own rule.
 #[derive(Drop)]
 pub struct Seen<N: QueueName> {
-    pub(crate) open: csq_words::Seen,
+    pub(crate) open: csq_words::SeenPrefix,
     pub(crate) name: PhantomData<N>,
 }
 

@@ -1,6 +1,6 @@
 -- Each IRP that an insert accepted is accounted for.
 use Rattle.std.proofs.Common.{◌≡◌, ℕ, Bool, true, false, cond, not, ◌&&◌, ◌||◌, ◌==◌, ◌⊎◌, inl, inr, List, [], ◌∷◌, Option, Some, None, refl, ap, sym, ◌∙◌, subst}
-use Rattle.csq_replay.proofs.Imports.{or_left, or_right, and_parts, not-true, or-false, and-false, FileId, IrpId, NtStatus, CANCELLED, Kind, Arm, Test, Disarm, End, Flag, Take, Out, Done, Renew, Rearm, Made, same_irp, same_pass, IrpLife, bit, armed, holds, same_irp-refl, same_irp-eq, same_pass-refl, status_recorded, Place, Peek, File, InsertStatus, matches, Queued, Limits, plain_listing, refusal, reply_to_insert, first_unmarked, has_irp, has_entry, has_unmarked, has_marked, marking, without, new_entry, Call, Next, Mark, Routine, Complete, Close, Reply, Removed, NoIrp, Claimed, Unclaimed, Completed, Closed, Script, script_pass, new_script, present_of, after_reuse, next_step, after_steps, removal_steps, named_removal_steps, doing, completing, after_mark, Calls, Cleans, Does, refuses_insert, lists, cancels_insert, removes_next, removes, removes_none, claims, claims_none, runs_routine, has_no_claim, completes, holds_none, refuses_pending, refuses_put_back, puts_back, cancels_put_back, closes, is_stale, reuses, not_completed, lives_spent, reports_flag, reports_status, knows_no_irp, knows_no_file, none_left, one_more, calls, cancel_claimed, cancel_unclaimed, cleaned, LeadTo, AreMarked}
+use Rattle.csq_replay.proofs.Imports.{or_left, or_right, and_parts, not-true, or-false, and-false, FileId, IrpId, NtStatus, CANCELLED, Kind, Arm, Test, Disarm, End, Flag, Take, Out, Done, Renew, Rearm, Made, same_irp, same_pass, IrpLife, bit, armed, holds, same_irp-refl, same_irp-eq, same_pass-refl, status_recorded, Place, Peek, File, InsertStatus, matches, Queued, Limits, plain_listing, refusal, reply_to_insert, first_unmarked, has_irp, has_entry, has_unmarked, has_marked, marking, without, new_entry, ScriptCall, Next, Mark, Routine, Complete, Close, Reply, Removed, NoIrp, Claimed, Unclaimed, Completed, Closed, Script, script_pass, new_script, present_of, after_reuse, next_step, after_steps, removal_steps, named_removal_steps, doing, completing, after_mark, Calls, Cleans, Does, refuses_insert, lists, cancels_insert, removes_next, removes, removes_none, claims, claims_none, runs_routine, has_no_claim, completes, holds_none, refuses_pending, refuses_put_back, puts_back, cancels_put_back, closes, is_stale, reuses, not_completed, lives_spent, reports_flag, reports_status, knows_no_irp, knows_no_file, none_left, one_more, calls, cancel_claimed, cancel_unclaimed, cleaned, LeadTo, AreMarked}
 use Rattle.csq_list.specs.declared.refusals.InsertStatus.TheVariants.{NotHome}
 use Rattle.csq_list.proofs.Causes.{no_cause}
 use Rattle.csq_words.specs.declared.views.InsertReply.{InsertReply}
@@ -285,7 +285,7 @@ module _ (s : Script) (a : Accounts s) (k : Peek) where
       stays_accounts s a (after_steps (removal_steps k s.queue.entries) s.run) s.queue.closed s.queue.flags s.queue.lives (holds_removal k s.queue.entries s.run) s.queue.entries (λ j. refl)
       (subst P (sym may) (marks_removal k s.queue.entries s.queue.entries s.run a.marks a.marks))
 
-calls_account : (l : Limits) (s t : Script) (c : Call) (r : Reply) → Calls l s c r t → Accounts s → Accounts t
+calls_account : (l : Limits) (s t : Script) (c : ScriptCall) (r : Reply) → Calls l s c r t → Accounts s → Accounts t
 calls_account l s t c r (refuses_insert n f place cause may) a = a
 calls_account l s t c r (lists n f place may) a =
     lists_accounts l s a n f place
@@ -324,7 +324,7 @@ cleans_account l f s t n (none_left s' t' next) a = calls_account l s t (Next (F
 cleans_account l f s t n (one_more i s' u v w m next complete rest) a =
     cleans_account l f v t m rest (calls_account l u v (Complete i CANCELLED) (Completed CANCELLED) complete (calls_account l s u (Next (File f)) (Removed i) next a))
 
-does_account : (l : Limits) (s t : Script) (c : Call) (r : Reply) → Does l s c r t → Accounts s → Accounts t
+does_account : (l : Limits) (s t : Script) (c : ScriptCall) (r : Reply) → Does l s c r t → Accounts s → Accounts t
 does_account l s t c r (calls c' r' t' call) a = calls_account l s t c r call a
 does_account l s t c r (cancel_claimed i u v mark routine) a = calls_account l u t (Routine i.irp) (Completed CANCELLED) routine (calls_account l s u (Mark i) Claimed mark a)
 does_account l s t c r (cancel_unclaimed i u mark) a = calls_account l s t (Mark i) Unclaimed mark a

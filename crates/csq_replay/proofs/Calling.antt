@@ -1,11 +1,11 @@
 -- What a driver keeps after a call.
 use Rattle.std.proofs.Common.{◌≡◌, ℕ, ◌<◌, Bool, true, false, cond, not, ◌==◌, List, [], ◌∷◌, length, Option, Some, None, refl, ap, sym, ◌∙◌, subst, arith}
-use Rattle.csq_replay.proofs.Imports.{slice_index_or, slice_set, get_or-set_same, get_or-set_other, length-set, FileId, IrpId, NtStatus, PENDING, Take, Out, Done, Made, IrpPlace, IsPlace, number, same_id, same_irp, same_pass, IrpLife, bit, armed, flagged, owes, holds, listed, dones, present, Size, IsRun, MachineState, Agrees, size_of, same_id-eq, same_id-ne, same_irp-refl, same_irp-eq, same_irp-ne, same_pass-refl, same_pass-eq, status_recorded, is_listed, Listing, with_closed, without_irp, Limits, with_file, after_event, has_entry, has_marked, has_unmarked, id_eq, is_listed-plain, listing-removed, listing-marked, Call, UnknownIrp, UnknownFile, NoClaim, NotHeld, StatusPending, Stale, Claimed, Unclaimed, Closed, Refused, Script, script_pass, script_size, present_of, IsPresentOf, next_step, doing, completing, after_mark, status_reply, irp_of, token_of, cancelled_life, file_of, Calls, has_no_claim, holds_none, refuses_pending, closes, reports_flag, reports_status, knows_no_irp, knows_no_file, claims_none, is_stale, Keeping, Keeps, IsOfRun}
+use Rattle.csq_replay.proofs.Imports.{slice_index_or, slice_set, get_or-set_same, get_or-set_other, length-set, FileId, IrpId, NtStatus, PENDING, Take, Out, Done, Made, IrpPlace, IsPlace, number, same_id, same_irp, same_pass, IrpLife, bit, armed, flagged, owes, holds, listed, dones, present, Size, IsRun, MachineState, Agrees, size_of, same_id-eq, same_id-ne, same_irp-refl, same_irp-eq, same_irp-ne, same_pass-refl, same_pass-eq, status_recorded, is_listed, Listing, with_closed, without_irp, Limits, with_file, after_event, has_entry, has_marked, has_unmarked, id_eq, is_listed-plain, listing-removed, listing-marked, ScriptCall, UnknownIrp, UnknownFile, NoClaim, NotHeld, StatusPending, Stale, Claimed, Unclaimed, Closed, Refused, Script, script_pass, script_size, present_of, IsPresentOf, next_step, doing, completing, after_mark, status_reply, irp_of, token_of, cancelled_life, file_of, Calls, has_no_claim, holds_none, refuses_pending, closes, reports_flag, reports_status, knows_no_irp, knows_no_file, claims_none, is_stale, Keeping, Keeps, IsOfRun}
 use Rattle.irp_core.specs.declared.step.Kind.TheVariants as step
 use Rattle.irp_core.specs.declared.standing.IrpPlace.TheVariants.{HeldBy}
 use Rattle.csq_replay.proofs.OneAnswer.{one_place}
 use Rattle.csq_words.specs.declared.views.Event.TheVariants as event
-use Rattle.csq_replay.specs.declared.script.call.Call.TheVariants.{Mark, Routine, Complete, Close, Flag, Status}
+use Rattle.csq_replay.specs.declared.script.call.ScriptCall.TheVariants.{Mark, Routine, Complete, Close, Flag, Status}
 use Rattle.csq_replay.specs.declared.script.call.Reply.TheVariants as reply
 use Rattle.csq_replay.specs.Calls.Calls.{claims as claims_it}
 use Rattle.csq_replay.specs.Replies.{mark_reply}
@@ -17,18 +17,18 @@ module _ (l : Limits) (kept : Keeping) (s : Script) (k : Keeps l kept s) where
   irps_are = ap (λ (n : Size). n.irps) k.size
 
   -- an IRP that the machine doesn't have
-  pub unknown_keeps : (c : Call) (n : IrpId) → irp_of c ≡ Some n → (n.0 < (size_of kept.machine).irps → ⊥)
+  pub unknown_keeps : (c : ScriptCall) (n : IrpId) → irp_of c ≡ Some n → (n.0 < (size_of kept.machine).irps → ⊥)
       → (t : Script) × Calls l s c (Refused UnknownIrp) t × Keeps l kept t
   unknown_keeps c n names none = (s, knows_no_irp c n names (omega (arith, none, irps_are)), k)
 
   -- a life that isn't the present one
-  pub stale_keeps : (c : Call) (i : IrpLife) → cancelled_life c ≡ Some i → number i < (size_of kept.machine).irps → (x : IrpLife) → x ≡ present_of s i.irp → same_irp x i ≡ false
+  pub stale_keeps : (c : ScriptCall) (i : IrpLife) → cancelled_life c ≡ Some i → number i < (size_of kept.machine).irps → (x : IrpLife) → x ≡ present_of s i.irp → same_irp x i ≡ false
       → (t : Script) × Calls l s c (Refused (Stale x.life)) t × Keeps l kept t
   stale_keeps c i names known x is other =
       let P : IrpLife → Type 0 = λ y. Calls l s c (Refused (Stale y.life)) s in
       (s, subst P (sym is) (is_stale c i names (omega (arith, known, irps_are)) (λ now. same_irp-ne x i other (is ∙ now))), k)
 
-  pub unknown_file_keeps : (c : Call) (f : FileId) → file_of c ≡ Some f → (f.0 < kept.listing.files → ⊥) → (new : Listing) → new ≡ kept.listing
+  pub unknown_file_keeps : (c : ScriptCall) (f : FileId) → file_of c ≡ Some f → (f.0 < kept.listing.files → ⊥) → (new : Listing) → new ≡ kept.listing
       → (t : Script) × Calls l s c (Refused UnknownFile) t × Keeps l (record kept { listing = new }) t
   unknown_file_keeps c f names none new same =
       let files : kept.listing.files ≡ l.files = ap (λ (x : Listing). x.files) k.listing in
@@ -192,7 +192,7 @@ module _ (l : Limits) (kept : Keeping) (s : Script) (k : Keeps l kept s) where
       let h = owed_listed (size_of kept.machine) s.run k.agrees.run i owed in
       (marked_is s.run s.queue.entries k.queue.marks i).1 ∙ rw (k.queue.entries i ∙ h.0, h.1) refl
 
-  pub not_held_keeps : (c : Call) (n : IrpId) → token_of c ≡ Some n → n.0 < (size_of kept.machine).irps → holds s.run script_pass (present_of s n) ≡ false
+  pub not_held_keeps : (c : ScriptCall) (n : IrpId) → token_of c ≡ Some n → n.0 < (size_of kept.machine).irps → holds s.run script_pass (present_of s n) ≡ false
       → (t : Script) × Calls l s c (Refused NotHeld) t × Keeps l kept t
   not_held_keeps c n takes known none = (s, holds_none c n takes (omega (arith, known, irps_are)) none, k)
 

@@ -1,9 +1,9 @@
 -- A line names at most one call.
 use Rattle.std.proofs.Common.{◌≡◌, ℕ, ◌≤◌, List, [], ◌∷◌, ◌++◌, length, refl, ap, sym, ◌∙◌, arith, decimal, codes, length-append, subst, lit≤, lit<}
 use Rattle.std.proofs.lemmas.Str.Parse.{digit_at, numerals_by_value, reports_digits}
-use Rattle.csq_replay.proofs.Imports.{join_with_byte, AllDigits, join_with_byte-slice_split, digits_decimal, FileId, NtStatus, IrpId, IrpLife, Place, Any, File, Call, words_of, IsShort, IsSkipped, IsWithinLine, IsNameWord}
+use Rattle.csq_replay.proofs.Imports.{join_with_byte, AllDigits, join_with_byte-slice_split, digits_decimal, FileId, NtStatus, IrpId, IrpLife, Place, Any, File, ScriptCall, words_of, IsShort, IsSkipped, IsWithinLine, IsNameWord}
 use Rattle.csq_list.specs.declared.entry.Place.TheVariants.{Back, Front}
-use Rattle.csq_replay.specs.declared.script.call.Call.TheVariants.{Insert, Next, Remove, Mark, Routine, Cancel, Complete, Close, Cleanup, Flag, Status, Reuse, PutBack}
+use Rattle.csq_replay.specs.declared.script.call.ScriptCall.TheVariants.{Insert, Next, Remove, Mark, Routine, Cancel, Complete, Close, Cleanup, Flag, Status, Reuse, PutBack}
 use Rattle.csq_replay.specs.CallLine.{call_name, place_word, IsIrpWord, IsFileWord, IsHexStatus, IsOne, AreOperands, IsCallLine}
 use Rattle.csq_replay.proofs.CallWords.{letters}
 use Rattle.csq_replay.proofs.NameWords.{number_by_text, irp_by_text, same_name, short_number}
@@ -57,7 +57,7 @@ module _ (words : List (List ℕ)) where
   no_star f star (word, is, named) = let e : codes "*" ≡ word = cc (star, is) in star_no_number f.0 named.1 (e ∙ named.0)
 
   -- three letters of its name tell a call, and its operands the rest
-  same_operands : (c d : Call) → call_name c ≡ call_name d → AreOperands words c → AreOperands words d → c ≡ d
+  same_operands : (c d : ScriptCall) → call_name c ≡ call_name d → AreOperands words c → AreOperands words d → c ≡ d
   same_operands (Insert i f p) (Insert j g q) e (irp, file, is, first, second) (irp', file', is', first', second') =
       let same : irp' ≡ irp = cc (is, is') in
       let too : file' ≡ file = cc (is, is') in
@@ -91,7 +91,7 @@ module _ (words : List (List ℕ)) where
       ap (λ x. PutBack x p) (one_irp irp i j first (subst P same first')) ∙ ap (PutBack j) (one_place p q last)
   same_operands c d e a b = let names = ap letters e in absurd (omega (arith, names))
 
-pub same_call : (line : List ℕ) (c d : Call) → IsCallLine line c → IsCallLine line d → c ≡ d
+pub same_call : (line : List ℕ) (c d : ScriptCall) → IsCallLine line c → IsCallLine line d → c ≡ d
 same_call line c d (name, operands, cut, is) (name', operands', cut', is') =
     let names : name ≡ name' = cc (cut, cut') in
     let others : operands' ≡ operands = cc (cut, cut') in
@@ -103,7 +103,7 @@ line_is : (line : List ℕ) (words : List (List ℕ)) → words_of line ≡ word
 line_is line words cut = sym (join_with_byte-slice_split 32 line) ∙ ap (join_with_byte 32) cut
 
 -- no call's name begins with #
-no_comment : (c : Call) (operands : List (List ℕ)) → ¬ IsSkipped (join_with_byte 32 (call_name c ∷ operands))
+no_comment : (c : ScriptCall) (operands : List (List ℕ)) → ¬ IsSkipped (join_with_byte 32 (call_name c ∷ operands))
 no_comment (Insert i f p) [] h = absurd (omega (arith, h))
 no_comment (Insert i f p) (w ∷ ws) h = absurd (omega (arith, h))
 no_comment (Next k) [] h = absurd (omega (arith, h))
@@ -132,7 +132,7 @@ no_comment (PutBack i p) [] h = absurd (omega (arith, h))
 no_comment (PutBack i p) (w ∷ ws) h = absurd (omega (arith, h))
 
 -- a line that names a call is no comment
-pub call_not_skipped : (line : List ℕ) (c : Call) → IsCallLine line c → ¬ IsSkipped line
+pub call_not_skipped : (line : List ℕ) (c : ScriptCall) → IsCallLine line c → ¬ IsSkipped line
 call_not_skipped line c (name, operands, cut, is) skipped =
     no_comment c operands (subst IsSkipped (line_is line (name ∷ operands) cut ∙ ap (λ w. join_with_byte 32 (w ∷ operands)) is.0) skipped)
 
@@ -151,7 +151,7 @@ place_short Back = lit≤ tt
 place_short Front = lit≤ tt
 
 -- the operands of a call are short
-operands_short : (words : List (List ℕ)) (c : Call) → AreOperands words c → length (join_with_byte 32 words) ≤ 25
+operands_short : (words : List (List ℕ)) (c : ScriptCall) → AreOperands words c → length (join_with_byte 32 words) ≤ 25
 operands_short words (Insert i f p) (irp, file, is, first, second) =
     rw is (omega (arith, length-append irp (32 ∷ (file ++ (32 ∷ place_word p))), length-append file (32 ∷ place_word p), ap length first.0, ap length second.0, short_number i.0 first.1, short_number f.0 second.1, place_short p))
 operands_short words (Next Any) is = rw is (lit≤ tt)
@@ -170,7 +170,7 @@ operands_short words (Reuse i) h = omega (arith, one_irp_short words i h)
 operands_short words (PutBack i p) (irp, is, first) =
     rw is (omega (arith, length-append irp (32 ∷ place_word p), ap length first.0, short_number i.0 first.1, place_short p))
 
-name_short : (c : Call) → length (call_name c) ≤ 8
+name_short : (c : ScriptCall) → length (call_name c) ≤ 8
 name_short (Insert i f p) = lit≤ tt
 name_short k = lit≤ tt
 
@@ -179,6 +179,6 @@ joined_short name [] a b = omega (arith, a)
 joined_short name (w ∷ ws) a b = omega (arith, a, b, length-append name (32 ∷ join_with_byte 32 (w ∷ ws)))
 
 -- a line that names a call isn't too long
-pub call_is_within : (line : List ℕ) (c : Call) → IsCallLine line c → IsWithinLine line
+pub call_is_within : (line : List ℕ) (c : ScriptCall) → IsCallLine line c → IsWithinLine line
 call_is_within line c (name, operands, cut, is) =
     rw (line_is line (name ∷ operands) cut) (joined_short name operands (rw is.0 (name_short c)) (operands_short operands c is.1))

@@ -1,11 +1,11 @@
 -- A script has one answer.
 use Rattle.std.proofs.Common.{◌≡◌, ℕ, zero, suc, ◌+◌, ◌<◌, ◌≤◌, ◌==◌, ◌⊎◌, inl, inr, Bool, true, false, cond, List, [], ◌∷◌, Option, Some, None, ltb, eq-eqb, refl, ap, sym, ◌∙◌, subst, arith}
-use Rattle.csq_replay.proofs.Imports.{lt-ltb, le-ltb, ne_eqb, FileId, IrpId, last_life, same_irp-is, same_irp-not, NtStatus, PENDING, CANCELLED, number, same_irp, IrpLife, flagged, found_by, owes, holds, status_recorded, Place, Peek, File, Limits, has_irp, has_unmarked, first_unmarked, refusal, back_refusal, reply_to_insert, Call, UnknownIrp, UnknownFile, NoClaim, NotHeld, StatusPending, Stale, NotCompleted, LivesSpent, Reply, Pending, Cancelled, InsertRefused, Removed, NoIrp, Claimed, Unclaimed, Completed, Closed, Cleaned, Begun, Refused, Script, script_pass, new_script, present_of, IsPresentOf, life_now, life_after, after_reuse, cancelled_life, doing, completing, removal_steps, named_removal_steps, removal_reply, status_reply, irp_of, token_of, file_of, after_mark, Calls, Cleans, Does, refuses_insert, lists, cancels_insert, removes_next, removes, removes_none, claims, claims_none, runs_routine, has_no_claim, completes, holds_none, refuses_pending, refuses_put_back, puts_back, cancels_put_back, closes, is_stale, reuses, not_completed, lives_spent, reports_flag, reports_status, knows_no_irp, knows_no_file, none_left, one_more, calls, cancel_claimed, cancel_unclaimed, cleaned, Ended, IsAnswer, ReportsCall, going_on, call_text, closing_lines, HasOneScriptAnswer}
+use Rattle.csq_replay.proofs.Imports.{lt-ltb, le-ltb, ne_eqb, FileId, IrpId, last_life, same_irp-is, same_irp-not, NtStatus, PENDING, CANCELLED, number, same_irp, IrpLife, flagged, found_by, owes, holds, status_recorded, Place, Peek, File, Limits, has_irp, has_unmarked, first_unmarked, refusal, back_refusal, reply_to_insert, ScriptCall, UnknownIrp, UnknownFile, NoClaim, NotHeld, StatusPending, Stale, NotCompleted, LivesSpent, Reply, Pending, Cancelled, InsertRefused, Removed, NoIrp, Claimed, Unclaimed, Completed, Closed, Cleaned, Begun, Refused, Script, script_pass, new_script, present_of, IsPresentOf, life_now, life_after, after_reuse, cancelled_life, doing, completing, removal_steps, named_removal_steps, removal_reply, status_reply, irp_of, token_of, file_of, after_mark, Calls, Cleans, Does, refuses_insert, lists, cancels_insert, removes_next, removes, removes_none, claims, claims_none, runs_routine, has_no_claim, completes, holds_none, refuses_pending, refuses_put_back, puts_back, cancels_put_back, closes, is_stale, reuses, not_completed, lives_spent, reports_flag, reports_status, knows_no_irp, knows_no_file, none_left, one_more, calls, cancel_claimed, cancel_unclaimed, cleaned, Ended, IsAnswer, ReportsCall, going_on, call_text, closing_lines, HasOneScriptAnswer}
 use Rattle.irp_core.specs.declared.step.Kind.TheVariants as step
 use Rattle.csq_words.specs.declared.views.InsertReply.{InsertReply}
 use Rattle.csq_words.specs.declared.views.InsertReply.TheVariants as insert
 use Rattle.csq_words.specs.declared.views.Event.TheVariants as event
-use Rattle.csq_replay.specs.declared.script.call.Call.TheVariants.{Insert, Next, Remove, Mark, Routine, Cancel, Complete, Close, Cleanup, Flag, Status, Reuse, PutBack}
+use Rattle.csq_replay.specs.declared.script.call.ScriptCall.TheVariants.{Insert, Next, Remove, Mark, Routine, Cancel, Complete, Close, Cleanup, Flag, Status, Reuse, PutBack}
 use Rattle.csq_replay.specs.declared.script.call.Reply.TheVariants as reply
 use Rattle.csq_replay.specs.declared.script.outcome.CallStop.TheVariants.{TooLong, Malformed}
 use Rattle.csq_replay.specs.declared.script.outcome.CallOutcome.{CallOutcome}
@@ -64,7 +64,7 @@ abbrev if_now : Script → IrpLife → Outcome → Outcome
 if_now s i outcome = cond (same_irp (present_of s i.irp) i) outcome (Refused (Stale (life_now s i.irp)), s)
 
 -- what a call that isn't made of others comes to
-abbrev outcome : Limits → Script → Call → Outcome
+abbrev outcome : Limits → Script → ScriptCall → Outcome
 outcome l s (Insert n f place) = inserted n f place s (reply_to_insert (refusal l s.queue n f) (has_irp s.queue.flags (present_of s n)))
 outcome l s (Next k) = removed_next k s (first_unmarked k s.queue.entries)
 outcome l s (Remove i) = of_known l s i.irp (removed i s (has_unmarked s.queue.entries i))
@@ -93,7 +93,7 @@ module _ (l : Limits) (s : Script) where
   stale_is : (i : IrpLife) → ¬ IsPresentOf s i → (y : Outcome) → (Refused (Stale (life_now s i.irp)), s) ≡ if_now s i y
   stale_is i stale y = rw (same_irp-not (present_of s i.irp) i stale) refl
 
-  stale_call : (c : Call) (i : IrpLife) → cancelled_life c ≡ Some i → number i < l.irps → ¬ IsPresentOf s i → (Refused (Stale (life_now s i.irp)), s) ≡ outcome l s c
+  stale_call : (c : ScriptCall) (i : IrpLife) → cancelled_life c ≡ Some i → number i < l.irps → ¬ IsPresentOf s i → (Refused (Stale (life_now s i.irp)), s) ≡ outcome l s c
   stale_call (Mark j) i e lt stale =
       let same : i ≡ j = cc e in
       let P : IrpLife → Type 0 = λ x. (Refused (Stale (life_now s i.irp)), s) ≡ outcome l s (Mark x) in
@@ -107,7 +107,7 @@ module _ (l : Limits) (s : Script) where
   held_is : (b : Bool) → b ≡ true → (x y : Outcome) → x ≡ y → x ≡ if_held s b y
   held_is b held x y e = rw held e
 
-  not_held : (c : Call) (n : IrpId) → token_of c ≡ Some n → n.0 < l.irps → holds s.run script_pass (present_of s n) ≡ false → (Refused NotHeld, s) ≡ outcome l s c
+  not_held : (c : ScriptCall) (n : IrpId) → token_of c ≡ Some n → n.0 < l.irps → holds s.run script_pass (present_of s n) ≡ false → (Refused NotHeld, s) ≡ outcome l s c
   not_held (Complete m status) n e lt none =
       let same : n ≡ m = cc e in
       let P : IrpId → Type 0 = λ x. (Refused NotHeld, s) ≡ outcome l s (Complete x status) in
@@ -118,7 +118,7 @@ module _ (l : Limits) (s : Script) where
       subst P same (known n lt _ _ (rw none refl))
   not_held c n e lt none = absurd (cc e)
 
-  unknown_irp : (c : Call) (n : IrpId) → irp_of c ≡ Some n → l.irps ≤ n.0 → (Refused UnknownIrp, s) ≡ outcome l s c
+  unknown_irp : (c : ScriptCall) (n : IrpId) → irp_of c ≡ Some n → l.irps ≤ n.0 → (Refused UnknownIrp, s) ≡ outcome l s c
   unknown_irp (Remove j) n e le = beyond j.irp n (cc e) le _
   unknown_irp (Mark j) n e le = beyond j.irp n (cc e) le _
   unknown_irp (Routine j) n e le = beyond j n (cc e) le _
@@ -130,12 +130,12 @@ module _ (l : Limits) (s : Script) where
   unknown_irp (PutBack j place) n e le = beyond j n (cc e) le _
   unknown_irp c n e le = absurd (cc e)
 
-  unknown_file : (c : Call) (f : FileId) → file_of c ≡ Some f → l.files ≤ f.0 → (Refused UnknownFile, s) ≡ outcome l s c
+  unknown_file : (c : ScriptCall) (f : FileId) → file_of c ≡ Some f → l.files ≤ f.0 → (Refused UnknownFile, s) ≡ outcome l s c
   unknown_file (Close g) f e le = let same : g ≡ f = cc e in rw (le-ltb g.0 l.files (omega (arith, le, ap (λ (x : FileId). x.0) same))) refl
   unknown_file (Cleanup g) f e le = refl
   unknown_file c f e le = absurd (cc e)
 
-  calls_outcome : (c : Call) (r : Reply) (t : Script) → Calls l s c r t → (r, t) ≡ outcome l s c
+  calls_outcome : (c : ScriptCall) (r : Reply) (t : Script) → Calls l s c r t → (r, t) ≡ outcome l s c
   calls_outcome c r t (refuses_insert n f place cause may) = ap (inserted n f place s) may
   calls_outcome c r t (lists i f place may) = ap (inserted i f place s) may
   calls_outcome c r t (cancels_insert i f place may) = ap (inserted i f place s) may
@@ -166,7 +166,7 @@ module _ (l : Limits) (s : Script) where
   calls_outcome c r t (knows_no_irp c' i names le) = unknown_irp c i names le
   calls_outcome c r t (knows_no_file c' f names le) = unknown_file c f names le
 
-  calls_one : (c : Call) (r r' : Reply) (t t' : Script) → Calls l s c r t → Calls l s c r' t' → (r ≡ r') × (t ≡ t')
+  calls_one : (c : ScriptCall) (r r' : Reply) (t t' : Script) → Calls l s c r t → Calls l s c r' t' → (r ≡ r') × (t ≡ t')
   calls_one c r r' t t' a b =
       let e = calls_outcome c r t a ∙ sym (calls_outcome c r' t' b) in
       (ap (λ (x : Outcome). x.0) e, ap (λ (x : Outcome). x.1) e)
@@ -213,7 +213,7 @@ module _ (l : Limits) where
       let more = cleans_one f v t t' m m' rest (subst R (sym two.1) rest') in
       (ap (λ k. k + 1) more.0, more.1)
 
-  does_one : (s : Script) (c : Call) (r r' : Reply) (t t' : Script) → Does l s c r t → Does l s c r' t' → (r ≡ r') × (t ≡ t')
+  does_one : (s : Script) (c : ScriptCall) (r r' : Reply) (t t' : Script) → Does l s c r t → Does l s c r' t' → (r ≡ r') × (t ≡ t')
   does_one s c r r' t t' (calls c1 r1 t1 a) (calls c2 r2 t2 b) = calls_one l s c r r' t t' a b
   does_one s c r r' t t' (calls c1 r1 t1 a) (cancel_claimed i u v mark routine) = absurd (not_both l s i (cancel_unknown l s i r t a) (claimed_known l s i u mark))
   does_one s c r r' t t' (calls c1 r1 t1 a) (cancel_unclaimed i u mark) = absurd (not_both l s i (cancel_unknown l s i r t a) (unclaimed_known l s i t' mark))
@@ -242,7 +242,7 @@ module _ (l : Limits) where
   one_outcome s line Skipped (Stopped Malformed) t u a b = absurd (b.1 a.1)
   one_outcome s line (Answered c r) Skipped t u a b = absurd (call_not_skipped line c a.0 b.1)
   one_outcome s line (Answered c r) (Answered d q) t u a b =
-      let P : Call → Type 0 = λ x. Does l s x q u in
+      let P : ScriptCall → Type 0 = λ x. Does l s x q u in
       let one = does_one s c r q t u a.1 (subst P (same_call line d c b.0 a.0) b.1) in
       (ap (λ x. Answered x r) (same_call line c d a.0 b.0) ∙ ap (Answered d) one.0, one.1)
   one_outcome s line (Answered c r) (Stopped TooLong) t u a b = absurd (omega (arith, b.0, call_is_within line c a.0))

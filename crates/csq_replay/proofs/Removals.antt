@@ -1,6 +1,6 @@
 -- Between two calls the pass holds only what it got by removals.
 use Rattle.std.proofs.Common.{◌≡◌, ℕ, Bool, true, false, cond, not, ◌&&◌, ◌||◌, ◌==◌, List, [], ◌∷◌, refl}
-use Rattle.csq_replay.proofs.Imports.{FileId, IrpId, NtStatus, CANCELLED, Kind, Arm, Test, Disarm, End, Flag, Take, Out, Done, Renew, Rearm, Made, Inside, Nothing, Removing, Cancelling, same_irp, same_pass, IrpLife, bit, armed, inside, inside_after, in_insert, holds, removed, same_pass-refl, Peek, File, matches, Queued, Limits, has_unmarked, has_marked, Call, Next, Mark, Routine, Complete, Close, Reply, Removed, NoIrp, Claimed, Unclaimed, Completed, Closed, Script, script_pass, present_of, next_step, after_steps, removal_steps, named_removal_steps, Calls, Cleans, Does, refuses_insert, lists, cancels_insert, removes_next, removes, removes_none, claims, claims_none, runs_routine, has_no_claim, completes, holds_none, refuses_pending, refuses_put_back, puts_back, cancels_put_back, closes, is_stale, reuses, not_completed, lives_spent, reports_flag, reports_status, knows_no_irp, knows_no_file, none_left, one_more, calls, cancel_claimed, cancel_unclaimed, cleaned, HoldsRemoved}
+use Rattle.csq_replay.proofs.Imports.{FileId, IrpId, NtStatus, CANCELLED, Kind, Arm, Test, Disarm, End, Flag, Take, Out, Done, Renew, Rearm, Made, Inside, Nothing, Removing, Cancelling, same_irp, same_pass, IrpLife, bit, armed, inside, inside_after, in_insert, holds, removed, same_pass-refl, Peek, File, matches, Queued, Limits, has_unmarked, has_marked, ScriptCall, Next, Mark, Routine, Complete, Close, Reply, Removed, NoIrp, Claimed, Unclaimed, Completed, Closed, Script, script_pass, present_of, next_step, after_steps, removal_steps, named_removal_steps, Calls, Cleans, Does, refuses_insert, lists, cancels_insert, removes_next, removes, removes_none, claims, claims_none, runs_routine, has_no_claim, completes, holds_none, refuses_pending, refuses_put_back, puts_back, cancels_put_back, closes, is_stale, reuses, not_completed, lives_spent, reports_flag, reports_status, knows_no_irp, knows_no_file, none_left, one_more, calls, cancel_claimed, cancel_unclaimed, cleaned, HoldsRemoved}
 
 -- the pass isn't inside of an insert or a put-back
 abbrev IsNoInsert : List Made → Type 0
@@ -92,7 +92,7 @@ taken_out E i h = completed_step (next_step E (Out i)) i (λ j other held. h j (
 two_steps : (E : List Made) → HoldsRemoved E → (k j : Kind) → gives_none k ≡ true → gives_none j ≡ true → HoldsRemoved (next_step (next_step E k) j)
 two_steps E h k j a b = one_step (next_step E k) (one_step E h k a) j b
 
-calls_kept : (l : Limits) (s t : Script) (c : Call) (r : Reply) → Calls l s c r t → IsNoInsert s.run → HoldsRemoved s.run → HoldsRemoved t.run
+calls_kept : (l : Limits) (s t : Script) (c : ScriptCall) (r : Reply) → Calls l s c r t → IsNoInsert s.run → HoldsRemoved s.run → HoldsRemoved t.run
 calls_kept l s t c r (refuses_insert n f place cause may) outside h = h
 calls_kept l s t c r (lists n f place may) outside h = two_steps s.run h (Arm (present_of s n)) (Test (present_of s n)) refl refl
 calls_kept l s t c r (cancels_insert n f place may) outside h = taken_back (after_steps (Arm (present_of s n) ∷ Test (present_of s n) ∷ []) s.run) (present_of s n) (two_steps s.run h (Arm (present_of s n)) (Test (present_of s n)) refl refl)
@@ -133,7 +133,7 @@ routine_kept : (l : Limits) (s t : Script) (n : IrpId) (status : NtStatus) → C
 routine_kept l s t n status (runs_routine m known owed may) h = taken_out s.run (present_of s m) h
 
 -- what a call leads to holds only what removals got
-pub does_kept : (l : Limits) (s t : Script) (c : Call) (r : Reply) → Does l s c r t → inside s.run script_pass ≡ Nothing → HoldsRemoved s.run → HoldsRemoved t.run
+pub does_kept : (l : Limits) (s t : Script) (c : ScriptCall) (r : Reply) → Does l s c r t → inside s.run script_pass ≡ Nothing → HoldsRemoved s.run → HoldsRemoved t.run
 does_kept l s t c r (calls c' r' t' call) outside h = calls_kept l s t c r call (rw outside refl) h
 does_kept l s t c r (cancel_claimed i u v mark routine) outside h = routine_kept l u t i.irp CANCELLED routine (calls_kept l s u (Mark i) Claimed mark (rw outside refl) h)
 does_kept l s t c r (cancel_unclaimed i u mark) outside h = calls_kept l s t (Mark i) Unclaimed mark (rw outside refl) h

@@ -8,13 +8,13 @@ use Rattle.irp_core.specs.Texts.{irp_text}
 use Rattle.csq_list.specs.declared.entry.Place.{Place}
 use Rattle.csq_list.specs.declared.entry.Place.TheVariants.{Back, Front}
 use Rattle.csq_list.specs.declared.entry.Peek.TheVariants.{Any, File}
-use Rattle.csq_replay.specs.declared.script.call.Call.{Call}
-use Rattle.csq_replay.specs.declared.script.call.Call.TheVariants.{Insert, Next, Remove, Mark, Routine, Cancel, Complete, Close, Cleanup, Flag, Status, Reuse, PutBack}
+use Rattle.csq_replay.specs.declared.script.call.ScriptCall.{ScriptCall}
+use Rattle.csq_replay.specs.declared.script.call.ScriptCall.TheVariants.{Insert, Next, Remove, Mark, Routine, Cancel, Complete, Close, Cleanup, Flag, Status, Reuse, PutBack}
 use Rattle.csq_replay.specs.Pieces.{words_of, IsShort}
 use Rattle.csq_replay.specs.StepLine.{IsNameWord}
 
 -- the word that a call begins with
-abbrev pub call_name : Call → List ℕ
+abbrev pub call_name : ScriptCall → List ℕ
 call_name (Insert i f place) = codes "insert"
 call_name (Next k) = codes "next"
 call_name (Remove i) = codes "remove"
@@ -34,7 +34,7 @@ place_word Back = codes "back"
 place_word Front = codes "front"
 
 -- the IRP and life that a call names, where it names a life
-abbrev pub named_life : Call → Option IrpLife
+abbrev pub named_life : ScriptCall → Option IrpLife
 named_life (Remove i) = Some i
 named_life (Mark i) = Some i
 named_life (Cancel i) = Some i
@@ -61,7 +61,7 @@ abbrev pub IsOne : (List ℕ → Type 0) → List (List ℕ) → Type 0
 IsOne P words = (word : List ℕ) × (words ≡ word ∷ []) × P word
 
 -- the words after its name are those of this call
-abbrev pub AreOperands : List (List ℕ) → Call → Type 0
+abbrev pub AreOperands : List (List ℕ) → ScriptCall → Type 0
 AreOperands words (Insert i f place) = (irp file : List ℕ) × (words ≡ irp ∷ file ∷ place_word place ∷ []) × IsIrpWord irp i × IsFileWord file f
 AreOperands words (Next Any) = words ≡ codes "*" ∷ []
 AreOperands words (Next (File f)) = IsOne (λ word. IsFileWord word f) words
@@ -78,9 +78,9 @@ AreOperands words (Reuse i) = IsOne (λ word. IsIrpWord word i) words
 AreOperands words (PutBack i place) = (irp : List ℕ) × (words ≡ irp ∷ place_word place ∷ []) × IsIrpWord irp i
 
 -- this name and these operands are of this call
-abbrev pub IsNamed : List ℕ → List (List ℕ) → Call → Type 0
+abbrev pub IsNamed : List ℕ → List (List ℕ) → ScriptCall → Type 0
 IsNamed name operands c = (name ≡ call_name c) × AreOperands operands c
 
 -- the line names this call: its name, and then its operands
-abbrev pub IsCallLine : List ℕ → Call → Type 0
+abbrev pub IsCallLine : List ℕ → ScriptCall → Type 0
 IsCallLine line c = (name : List ℕ) × (operands : List (List ℕ)) × (words_of line ≡ name ∷ operands) × IsNamed name operands c

@@ -2,7 +2,7 @@
 use Rattle.std.specs.Prelude.{◌≡◌, ◌<◌, List, ℕ, length, codes}
 use Rattle.csq_words.specs.Queue.{Limits}
 use Rattle.irp_core.specs.Runs.{IsRun}
-use Rattle.csq_replay.specs.declared.script.call.Call.{Call}
+use Rattle.csq_replay.specs.declared.script.call.ScriptCall.{ScriptCall}
 use Rattle.csq_replay.specs.declared.script.outcome.CallStop.{CallStop}
 use Rattle.csq_replay.specs.declared.script.outcome.CallStop.TheVariants.{TooLong, Malformed}
 use Rattle.csq_replay.specs.declared.script.outcome.CallOutcome.{CallOutcome}
@@ -16,7 +16,7 @@ abbrev pub CallComesTo : Limits → Script → List ℕ → CallOutcome → Scri
 CallComesTo l s line Skipped t = IsWithinLine line × IsSkipped line × (t ≡ s)
 CallComesTo l s line (Answered c r) t = IsCallLine line c × Does l s c r t × IsRun (script_size l) t.run
 CallComesTo l s line (Stopped TooLong) t = (64 < length line) × (t ≡ s)
-CallComesTo l s line (Stopped Malformed) t = IsWithinLine line × (¬ IsSkipped line) × ((c : Call) → ¬ IsCallLine line c) × (t ≡ s)
+CallComesTo l s line (Stopped Malformed) t = IsWithinLine line × (¬ IsSkipped line) × ((c : ScriptCall) → ¬ IsCallLine line c) × (t ≡ s)
 
 -- why a line ends the handling
 abbrev pub call_stop_text : CallStop → List ℕ

@@ -27,9 +27,9 @@ use Rattle.csq_words.specs.declared.views.Event.TheVariants as event
 use Rattle.csq_words.specs.Queue.{Queued, QueueState, Limits, empty_queue, present_in, has_marked, has_unmarked, after_event}
 use Rattle.csq_words.specs.History.{MayCome}
 use Rattle.csq_words.specs.Plays.{status_recorded}
-use Rattle.csq_replay.specs.declared.script.call.Call.{Call}
-use Rattle.csq_replay.specs.declared.script.call.Call.TheVariants.{Insert, Next, Remove, Mark, Routine, Cancel, Complete, Close, Cleanup, Flag, Status, Reuse, PutBack}
-use Rattle.csq_replay.specs.declared.script.call.Refusal.TheVariants.{UnknownIrp, UnknownFile, NoClaim, NotHeld, StatusPending, Stale, NotCompleted, LivesSpent}
+use Rattle.csq_replay.specs.declared.script.call.ScriptCall.{ScriptCall}
+use Rattle.csq_replay.specs.declared.script.call.ScriptCall.TheVariants.{Insert, Next, Remove, Mark, Routine, Cancel, Complete, Close, Cleanup, Flag, Status, Reuse, PutBack}
+use Rattle.csq_replay.specs.declared.script.call.ScriptRefusal.TheVariants.{UnknownIrp, UnknownFile, NoClaim, NotHeld, StatusPending, Stale, NotCompleted, LivesSpent}
 use Rattle.csq_replay.specs.declared.script.call.Reply.{Reply}
 use Rattle.csq_replay.specs.declared.script.call.Reply.TheVariants.{Pending, Cancelled, InsertRefused, Removed, NoIrp, Claimed, Unclaimed, Completed, CancelAnswered, Closed, Cleaned, Unset, Begun, Refused}
 use Rattle.csq_replay.specs.declared.script.call.Reply.TheVariants as reply
@@ -103,7 +103,7 @@ status_reply (Some status) = reply.Status status
 status_reply None = Unset
 
 -- the IRP that a call names, an insert's aside
-abbrev pub irp_of : Call → Option IrpId
+abbrev pub irp_of : ScriptCall → Option IrpId
 irp_of (Remove i) = Some i.irp
 irp_of (Mark i) = Some i.irp
 irp_of (Routine n) = Some n
@@ -116,19 +116,19 @@ irp_of (PutBack n place) = Some n
 irp_of _ = None
 
 -- the IRP whose token a call takes
-abbrev pub token_of : Call → Option IrpId
+abbrev pub token_of : ScriptCall → Option IrpId
 token_of (Complete n status) = Some n
 token_of (PutBack n place) = Some n
 token_of _ = None
 
 -- the life that a call is to cancel
-abbrev pub cancelled_life : Call → Option IrpLife
+abbrev pub cancelled_life : ScriptCall → Option IrpLife
 cancelled_life (Mark i) = Some i
 cancelled_life (Cancel i) = Some i
 cancelled_life _ = None
 
 -- the file object that a call closes
-abbrev pub file_of : Call → Option FileId
+abbrev pub file_of : ScriptCall → Option FileId
 file_of (Close f) = Some f
 file_of (Cleanup f) = Some f
 file_of _ = None
@@ -146,7 +146,7 @@ abbrev pub after_reuse : IrpId → Script → Script
 after_reuse n s = doing (step.Renew (present_of s n) ∷ []) (event.Reuse n (life_after s n)) s
 
 -- a call that isn't made of others, in a script that did s before: what it answers, and the script after it
-pub data Calls (l : Limits) (s : Script) : Call → Reply → Script → Type 0 where
+pub data Calls (l : Limits) (s : Script) : ScriptCall → Reply → Script → Type 0 where
   refuses_insert : (n : IrpId) (f : FileId) (place : Place) (cause : InsertStatus) → MayCome l s.queue (event.Insert n f place (insert.Refused cause))
       → Calls l s (Insert n f place) (InsertRefused cause) s
   lists : (n : IrpId) (f : FileId) (place : Place) → MayCome l s.queue (event.Insert n f place insert.Pending)
@@ -165,13 +165,13 @@ pub data Calls (l : Limits) (s : Script) : Call → Reply → Script → Type 0 
       → Calls l s (Mark i) Claimed (doing [] (event.Mark i) (after_mark i s))
   claims_none : (i : IrpLife) → number i < l.irps → IsPresentOf s i → found_by s.run (step.Take i) ≡ 0
       → Calls l s (Mark i) Unclaimed (after_mark i s)
-  is_stale : (c : Call) (i : IrpLife) → cancelled_life c ≡ Some i → number i < l.irps → ¬ IsPresentOf s i → Calls l s c (Refused (Stale (life_now s i.irp))) s
+  is_stale : (c : ScriptCall) (i : IrpLife) → cancelled_life c ≡ Some i → number i < l.irps → ¬ IsPresentOf s i → Calls l s c (Refused (Stale (life_now s i.irp))) s
   runs_routine : (n : IrpId) → n.0 < l.irps → owes s.run script_pass (present_of s n) ≡ true → MayCome l s.queue (event.Out (present_of s n))
       → Calls l s (Routine n) (Completed CANCELLED) (after_routine n s)
   has_no_claim : (n : IrpId) → n.0 < l.irps → owes s.run script_pass (present_of s n) ≡ false → Calls l s (Routine n) (Refused NoClaim) s
   completes : (n : IrpId) (status : NtStatus) → n.0 < l.irps → holds s.run script_pass (present_of s n) ≡ true → status ≢ PENDING
       → Calls l s (Complete n status) (Completed status) (completing (present_of s n) status s)
-  holds_none : (c : Call) (n : IrpId) → token_of c ≡ Some n → n.0 < l.irps → holds s.run script_pass (present_of s n) ≡ false → Calls l s c (Refused NotHeld) s
+  holds_none : (c : ScriptCall) (n : IrpId) → token_of c ≡ Some n → n.0 < l.irps → holds s.run script_pass (present_of s n) ≡ false → Calls l s c (Refused NotHeld) s
   refuses_pending : (n : IrpId) → n.0 < l.irps → holds s.run script_pass (present_of s n) ≡ true → Calls l s (Complete n PENDING) (Refused StatusPending) s
   refuses_put_back : (n : IrpId) (place : Place) (cause : InsertStatus) → n.0 < l.irps → holds s.run script_pass (present_of s n) ≡ true
       → MayCome l s.queue (event.PutBack (present_of s n) (s.queue.file_of n) place (insert.Refused cause)) → Calls l s (PutBack n place) (InsertRefused cause) s
@@ -189,8 +189,8 @@ pub data Calls (l : Limits) (s : Script) : Call → Reply → Script → Type 0 
   not_completed : (n : IrpId) → n.0 < l.irps → status_recorded (present_of s n) s.completed ≡ None → Calls l s (Reuse n) (Refused NotCompleted) s
   lives_spent : (n : IrpId) (status : NtStatus) → n.0 < l.irps → status_recorded (present_of s n) s.completed ≡ Some status → last_life ≤ s.queue.lives n
       → Calls l s (Reuse n) (Refused LivesSpent) s
-  knows_no_irp : (c : Call) (n : IrpId) → irp_of c ≡ Some n → l.irps ≤ n.0 → Calls l s c (Refused UnknownIrp) s
-  knows_no_file : (c : Call) (f : FileId) → file_of c ≡ Some f → l.files ≤ f.0 → Calls l s c (Refused UnknownFile) s
+  knows_no_irp : (c : ScriptCall) (n : IrpId) → irp_of c ≡ Some n → l.irps ≤ n.0 → Calls l s c (Refused UnknownIrp) s
+  knows_no_file : (c : ScriptCall) (f : FileId) → file_of c ≡ Some f → l.files ≤ f.0 → Calls l s c (Refused UnknownFile) s
 
 -- removals for a file object, with the completion of each IRP, until none is answered: how many there were
 pub data Cleans (l : Limits) (f : FileId) : Script → ℕ → Script → Type 0 where
@@ -199,8 +199,8 @@ pub data Cleans (l : Limits) (f : FileId) : Script → ℕ → Script → Type 0
       → Cleans l f u n v → Cleans l f s (n + 1) v
 
 -- a call, which may be made of others: a cancel is a mark and, with its claim, the cancel routine; a cleanup closes and cleans
-pub data Does (l : Limits) (s : Script) : Call → Reply → Script → Type 0 where
-  calls : (c : Call) (r : Reply) (t : Script) → Calls l s c r t → Does l s c r t
+pub data Does (l : Limits) (s : Script) : ScriptCall → Reply → Script → Type 0 where
+  calls : (c : ScriptCall) (r : Reply) (t : Script) → Calls l s c r t → Does l s c r t
   cancel_claimed : (i : IrpLife) (t u : Script) → Calls l s (Mark i) Claimed t → Calls l t (Routine i.irp) (Completed CANCELLED) u → Does l s (Cancel i) (CancelAnswered true) u
   cancel_unclaimed : (i : IrpLife) (t : Script) → Calls l s (Mark i) Unclaimed t → Does l s (Cancel i) (CancelAnswered false) t
   cleaned : (f : FileId) (t u : Script) (n : ℕ) → Calls l s (Close f) Closed t → Cleans l f t n u → Does l s (Cleanup f) (Cleaned n) u

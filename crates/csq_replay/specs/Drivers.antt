@@ -15,7 +15,7 @@ use Rattle.irp_core.specs.MachineState.{MachineState, Agrees, size_of}
 use Rattle.csq_words.specs.Plays.{status_recorded}
 use Rattle.csq_list.specs.Listing.{Listing}
 use Rattle.csq_words.specs.Queue.{Queued, QueueState, Limits, plain_listing, has_irp, has_entry}
-use Rattle.csq_replay.specs.declared.script.call.Call.{Call}
+use Rattle.csq_replay.specs.declared.script.call.ScriptCall.{ScriptCall}
 use Rattle.csq_replay.specs.declared.script.call.Reply.{Reply}
 use Rattle.csq_replay.specs.declared.script.driver.Driver.{Driver}
 use Rattle.csq_replay.specs.Calls.{Script, script_pass, script_size, present_of, Calls, Does}
@@ -84,13 +84,13 @@ abbrev pub IsHolding : Keeping → IrpId → Type 0
 IsHolding kept n = (l : Limits) × (s : Script) × Keeps l kept s × (n.0 < l.irps) × (holds s.run script_pass (present_of s n) ≡ true)
 
 -- whatever script was kept, it went on by this call
-abbrev pub Called : Keeping → Call → Reply → Keeping → Type 0
+abbrev pub Called : Keeping → ScriptCall → Reply → Keeping → Type 0
 Called old c r new = (l : Limits) (s : Script) → Keeps l old s → (t : Script) × Calls l s c r t × Keeps l new t
 
 -- the same, where the call may be made of others
-abbrev pub Did : Keeping → Call → Reply → Keeping → Type 0
+abbrev pub Did : Keeping → ScriptCall → Reply → Keeping → Type 0
 Did old c r new = (l : Limits) (s : Script) → Keeps l old s → (t : Script) × Does l s c r t × Keeps l new t
 
 -- the same, of a driver that stood between two calls
-abbrev pub DidNext : Keeping → Call → Reply → Keeping → Type 0
+abbrev pub DidNext : Keeping → ScriptCall → Reply → Keeping → Type 0
 DidNext old c r new = (l : Limits) (s : Script) → StandsAt l old s → (t : Script) × Does l s c r t × Keeps l new t

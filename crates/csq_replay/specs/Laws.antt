@@ -12,7 +12,7 @@ use Rattle.irp_core.specs.declared.ids.IrpLife.{IrpLife}
 use Rattle.irp_core.specs.Owners.{holds}
 use Rattle.csq_words.specs.Plays.{status_recorded}
 use Rattle.csq_words.specs.Queue.{Limits, has_irp, has_entry}
-use Rattle.csq_replay.specs.declared.script.call.Call.{Call}
+use Rattle.csq_replay.specs.declared.script.call.ScriptCall.{ScriptCall}
 use Rattle.csq_replay.specs.declared.script.call.Reply.{Reply}
 use Rattle.csq_replay.specs.Calls.{Script, script_pass, new_script, Does}
 use Rattle.csq_replay.specs.ScriptAnswer.{IsScriptAnswer, closing_lines}
@@ -31,7 +31,7 @@ HasOneScriptAnswer l input = (text other : List ℕ) (ended otherwise : Ended)
 pub data LeadTo (l : Limits) : Script → List (List ℕ) → Script → Type 0 where
   at_end : (s : Script) → LeadTo l s [] s
   by_nothing : (s t : Script) (line : List ℕ) (lines : List (List ℕ)) → IsSkipped line → LeadTo l s lines t → LeadTo l s (line ∷ lines) t
-  by_call : (s t u : Script) (line : List ℕ) (lines : List (List ℕ)) (c : Call) (r : Reply) → IsCallLine line c → Does l s c r t → LeadTo l t lines u
+  by_call : (s t u : Script) (line : List ℕ) (lines : List (List ℕ)) (c : ScriptCall) (r : Reply) → IsCallLine line c → Does l s c r t → LeadTo l t lines u
       → LeadTo l s (line ∷ lines) u
 
 -- the IRP in this life is listed, held, or completed with a status that is told

@@ -2,19 +2,19 @@
 use Rattle.std.specs.Prelude.{Bool, true, false, Option, Some, None, Result, Ok, Err}
 use Rattle.irp_core.specs.declared.ids.IrpId.{IrpId}
 use Rattle.csq_list.specs.declared.refusals.InsertStatus.{InsertStatus}
-use Rattle.csq_replay.specs.declared.script.call.Inserted.{Inserted}
-use Rattle.csq_replay.specs.declared.script.call.Inserted.TheVariants as insert
-use Rattle.csq_replay.specs.declared.script.call.Refusal.{Refusal}
+use Rattle.csq_replay.specs.declared.script.call.InsertOutcome.{InsertOutcome}
+use Rattle.csq_replay.specs.declared.script.call.InsertOutcome.TheVariants as insert
+use Rattle.csq_replay.specs.declared.script.call.ScriptRefusal.{ScriptRefusal}
 use Rattle.csq_replay.specs.declared.script.call.Reply.{Reply}
 use Rattle.csq_replay.specs.declared.script.call.Reply.TheVariants.{Pending, Cancelled, InsertRefused, Removed, NoIrp, Claimed, Unclaimed, Refused}
 
 -- a call's value is told so, and a refusal by its name
-abbrev pub reported : {T : Type 0} → (T → Reply) → Result T Refusal → Reply
+abbrev pub reported : {T : Type 0} → (T → Reply) → Result T ScriptRefusal → Reply
 reported report (Ok value) = report value
 reported report (Err refusal) = Refused refusal
 
 -- of an insert
-abbrev pub insert_reply : Result Inserted InsertStatus → Reply
+abbrev pub insert_reply : Result InsertOutcome InsertStatus → Reply
 insert_reply (Ok insert.Pending) = Pending
 insert_reply (Ok insert.Cancelled) = Cancelled
 insert_reply (Err cause) = InsertRefused cause

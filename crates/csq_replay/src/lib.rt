@@ -20,7 +20,7 @@ pub use schedule::outcome::{Outcome, Stop, handle_line};
 pub use schedule::replay::note_claim;
 pub use schedule::step_line::parse_pass;
 pub use script::answer_script;
-pub use script::call::{Call, Refusal, Reply};
+pub use script::call::{Reply, ScriptCall, ScriptRefusal};
 pub use script::driver::Driver;
 pub use script::outcome::{CallOutcome, CallStop};
 pub use script::remains::{Kept, Remains, write_kept, write_left};

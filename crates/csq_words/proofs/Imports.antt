@@ -19,7 +19,7 @@ pub use Rattle.csq_words.specs.Seats.{HasQueue, IsHere, IsJoined, IsPassSeat, Is
 pub use Rattle.csq_words.specs.Words.{bit_in, bit_word, cancel_at, life_in, new_words, routine_at, status_at, status_in, status_life_in, status_word, unset_word}
 pub use Rattle.csq_words.specs.declared.calls.Call.{Call}
 pub use Rattle.csq_words.specs.declared.views.Completion.{Completion}
-pub use Rattle.csq_words.specs.declared.views.Entry.{Entry}
+pub use Rattle.csq_words.specs.declared.views.HistoryEntry.{HistoryEntry}
 pub use Rattle.csq_words.specs.declared.views.Event.{Event}
 pub use Rattle.csq_words.specs.declared.views.Event.TheVariants.{CloseFile, FlagSeen, Insert, Mark, PutBack, Remove, RemoveNext, Reuse}
 pub use Rattle.csq_words.specs.declared.views.InsertReply.TheVariants.{Cancelled, Pending, Refused}

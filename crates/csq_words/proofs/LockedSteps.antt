@@ -1,6 +1,6 @@
 -- What a step or a note under the lock may do to the table.
 use Rattle.std.proofs.Common.{◌≡◌, ◌≢◌, ℕ, zero, suc, ◌<◌, ◌≤◌, ⊎_elim, true, false, ◌||◌, List, [], ◌∷◌, ◌++◌, set, Option, Some, None, refl, sym, ap, ◌∙◌, subst, arith}
-use Rattle.csq_words.proofs.Imports.{set-get_or, cases_lt, false_from_ne_true, slice_index, some, none, some-injective, get_elem?, Allows, step, keeps, set_here, inside_of, owes_in, holds_in, removed_in, PassId, Kind, Arm, Test, Disarm, End, Out, Rearm, Made, number, life_of, IrpLife, armed, flagged, cancel, routine, found_by, owes, holds, listed, IsPresent, inside, has_lock, Size, OfIrp, same_irp-refl, inserted_listed, Call, Event, Entry, Reusing, Nothing, PassRecord, QueueRecord, View, cancel_at, routine_at, bit_word, life_in, bit_in, present_in, has_entry, has_irp, has_marked, given_to, end_of, MayStand, IsOrderly, OwnersPutBack, view_of, queue_in, pass_in, queue_of, entries_of, with_events, with_calls, with_step, with_run, with_back, HasQueue, IsOfCall, IsPlaced, recording, noting, HasWords, is_done, in_flight, AreTrueOf, IsReuse, IsHistoryOf, IsPassOf, IsRecord, IsResting, IsBack, IsOut, BackOnce, Fits, RuleHoldsBy, RuleHolds, recorded, MayRemove, MayMake, MayComeBack, MayNote, after_note, SeatView, IsFound, FindsUnmarked, Makes, ObservesNote, Notes, owes_in-own, holds_in-own}
+use Rattle.csq_words.proofs.Imports.{set-get_or, cases_lt, false_from_ne_true, slice_index, some, none, some-injective, get_elem?, Allows, step, keeps, set_here, inside_of, owes_in, holds_in, removed_in, PassId, Kind, Arm, Test, Disarm, End, Out, Rearm, Made, number, life_of, IrpLife, armed, flagged, cancel, routine, found_by, owes, holds, listed, IsPresent, inside, has_lock, Size, OfIrp, same_irp-refl, inserted_listed, Call, Event, HistoryEntry, Reusing, Nothing, PassRecord, QueueRecord, View, cancel_at, routine_at, bit_word, life_in, bit_in, present_in, has_entry, has_irp, has_marked, given_to, end_of, MayStand, IsOrderly, OwnersPutBack, view_of, queue_in, pass_in, queue_of, entries_of, with_events, with_calls, with_step, with_run, with_back, HasQueue, IsOfCall, IsPlaced, recording, noting, HasWords, is_done, in_flight, AreTrueOf, IsReuse, IsHistoryOf, IsPassOf, IsRecord, IsResting, IsBack, IsOut, BackOnce, Fits, RuleHoldsBy, RuleHolds, recorded, MayRemove, MayMake, MayComeBack, MayNote, after_note, SeatView, IsFound, FindsUnmarked, Makes, ObservesNote, Notes, owes_in-own, holds_in-own}
 use Rattle.irp_core.specs.declared.inside.Inside.TheVariants.{Armed, FlagSeen, Rearmed, FlagSeenAgain}
 use Rattle.irp_core.specs.declared.inside.Inside.TheVariants as inner
 use Rattle.irp_core.proofs.Resting.{unknown_stands}
@@ -229,13 +229,13 @@ module _ (size : Size) (slots id : ℕ) (m : SeatView) (q : QueueRecord) (r : Pa
 
 -- the events leave the list and the used IRPs, and say nothing of the run
 record AreSilent (p : PassId) (es : List Event) : Type 0 where
-  listed_same : (history : List Entry) → (first : ℕ) → (end_of first (entries_of p es ++ history)).entries ≡ (end_of first history).entries
-  used_same : (history : List Entry) → (first : ℕ) → (end_of first (entries_of p es ++ history)).used ≡ (end_of first history).used
-  lives_same : (history : List Entry) → (first : ℕ) → (end_of first (entries_of p es ++ history)).lives ≡ (end_of first history).lives
-  plain : (first : ℕ) (run : List Made) (history : List Entry) → AreTrueOf first run history → AreTrueOf first run (entries_of p es ++ history)
-  orderly : (first : ℕ) (history : List Entry) → IsOrderly first history → IsOrderly first (entries_of p es ++ history)
-  given_same : (first : ℕ) (history : List Entry) (i : IrpLife) → given_to first i (entries_of p es ++ history) ≡ given_to first i history
-  owners : (first : ℕ) (history : List Entry) → OwnersPutBack first history → OwnersPutBack first (entries_of p es ++ history)
+  listed_same : (history : List HistoryEntry) → (first : ℕ) → (end_of first (entries_of p es ++ history)).entries ≡ (end_of first history).entries
+  used_same : (history : List HistoryEntry) → (first : ℕ) → (end_of first (entries_of p es ++ history)).used ≡ (end_of first history).used
+  lives_same : (history : List HistoryEntry) → (first : ℕ) → (end_of first (entries_of p es ++ history)).lives ≡ (end_of first history).lives
+  plain : (first : ℕ) (run : List Made) (history : List HistoryEntry) → AreTrueOf first run history → AreTrueOf first run (entries_of p es ++ history)
+  orderly : (first : ℕ) (history : List HistoryEntry) → IsOrderly first history → IsOrderly first (entries_of p es ++ history)
+  given_same : (first : ℕ) (history : List HistoryEntry) (i : IrpLife) → given_to first i (entries_of p es ++ history) ≡ given_to first i history
+  owners : (first : ℕ) (history : List HistoryEntry) → OwnersPutBack first history → OwnersPutBack first (entries_of p es ++ history)
 
 module _ (size : Size) (words : List ℕ) (views : List View) (run : List Made) (id : ℕ) (q : QueueRecord) (r : PassRecord) (seat : PassId → ℕ) (k : RuleHoldsBy size words views run id q (Some r) seat) where
   owner : (seat r.pass ≡ id) × IsOut q r.pass × IsRecord q.first words run q.history r

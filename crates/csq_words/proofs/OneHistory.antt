@@ -1,6 +1,6 @@
 -- What passes have seen of one history and one execution.
 use Rattle.std.proofs.Common.{◌≡◌, ℕ, zero, suc, List, [], ◌∷◌, ◌++◌, inl, inr, sym, ◌∙◌, subst}
-use Rattle.csq_words.proofs.Imports.{some, some-injective, some-ne-none, get_elem?, Made, Size, PassRecord, QueueRecord, Entry, IsPassOf, HasBack, RecordsAgree, QueueHasRun, IsFinal}
+use Rattle.csq_words.proofs.Imports.{some, some-injective, some-ne-none, get_elem?, Made, Size, PassRecord, QueueRecord, HistoryEntry, IsPassOf, HasBack, RecordsAgree, QueueHasRun, IsFinal}
 use Rattle.csq_words.specs.Stories.{AreComparable, SeeOneHistory}
 
 module _ {A : Type 0} where
@@ -10,7 +10,7 @@ module _ {A : Type 0} where
   one_begins (x ∷ a) [] h g e = inl (x ∷ a, sym e)
   one_begins (x ∷ a) (y ∷ b) h g e = let rest : a ++ h ≡ b ++ g = cc in one_begins a b h g rest
 
-see_one_history : (history : List Entry) (run : List Made) (passes : List PassRecord) → ((k : ℕ) (r : PassRecord) → get_elem? passes k ≡ some r → IsPassOf run history r) → SeeOneHistory history run passes
+see_one_history : (history : List HistoryEntry) (run : List Made) (passes : List PassRecord) → ((k : ℕ) (r : PassRecord) → get_elem? passes k ≡ some r → IsPassOf run history r) → SeeOneHistory history run passes
 see_one_history history run passes each = record {
   seen = λ k r at. (each k r at).seen_is;
   calls = λ k r at. (each k r at).mine_is;

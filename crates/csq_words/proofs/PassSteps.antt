@@ -1,7 +1,7 @@
 -- The steps of a pass's own seat keep the rule.
 use Rattle.std.proofs.Common.{◌≡◌, ◌≢◌, ℕ, ◌+◌, ◌*◌, ◌^◌, ◌<◌, ◌≤◌, ◌==◌, inl, Bool, true, false, cond, if◌then◌else◌, List, [], ◌∷◌, ◌++◌, Some, None, length, set, Option, eqb-true, eq-eqb, refl, sym, ap, ◌∙◌, subst, arith, length-set, get_or-set_same}
 use prog.Atomic.{either}
-use Rattle.csq_words.proofs.Imports.{false_from_ne_true, or_right, set-get_or, slice_index, some, none, get_elem?, Allows, step, keeps, inside_of, holds_in, removed_in, IrpId, PassId, NtStatus, Flag, Take, Done, Made, Inside, number, life_of, same_id, IrpLife, bit, armed, flagged, cancel, routine, found_by, has_lock, owes, holds, removed, last_life, present_life, present, IsPresent, Size, IsRun, same_pass-refl, life_bound, grows_by_flag, grows_by_take, grows_by_done, Pending, Cancelled, Refused, Event, Insert, RemoveNext, Remove, Reuse, PutBack, Entry, QueueState, after_event, Reusing, Looked, StatusRenewed, RoutineRenewed, Completion, PassRecord, QueueRecord, View, pass_view, with_step, with_completion, with_life, saw, CANCELLED, end_of, cancel_at, routine_at, status_at, bit_word, life_in, bit_in, unset_word, status_word, status_life_in, status_in, renewed_routine, renewed_status, stands_for, is_done, SaysStatus, HasWords, AreTrueOf, MayRenew, IsReuse, IsStored, in_flight, IsHistoryOf, IsPassOf, IsOut, IsRecord, RuleHoldsBy, RuleHolds, SeatView, life_found, after_flag, SeesFlag, Flags, taken_by, Takes, Completes, own-mine, holds_in-own, removed_in-own}
+use Rattle.csq_words.proofs.Imports.{false_from_ne_true, or_right, set-get_or, slice_index, some, none, get_elem?, Allows, step, keeps, inside_of, holds_in, removed_in, IrpId, PassId, NtStatus, Flag, Take, Done, Made, Inside, number, life_of, same_id, IrpLife, bit, armed, flagged, cancel, routine, found_by, has_lock, owes, holds, removed, last_life, present_life, present, IsPresent, Size, IsRun, same_pass-refl, life_bound, grows_by_flag, grows_by_take, grows_by_done, Pending, Cancelled, Refused, Event, Insert, RemoveNext, Remove, Reuse, PutBack, HistoryEntry, QueueState, after_event, Reusing, Looked, StatusRenewed, RoutineRenewed, Completion, PassRecord, QueueRecord, View, pass_view, with_step, with_completion, with_life, saw, CANCELLED, end_of, cancel_at, routine_at, status_at, bit_word, life_in, bit_in, unset_word, status_word, status_life_in, status_in, renewed_routine, renewed_status, stands_for, is_done, SaysStatus, HasWords, AreTrueOf, MayRenew, IsReuse, IsStored, in_flight, IsHistoryOf, IsPassOf, IsOut, IsRecord, RuleHoldsBy, RuleHolds, SeatView, life_found, after_flag, SeesFlag, Flags, taken_by, Takes, Completes, own-mine, holds_in-own, removed_in-own}
 use Rattle.irp_core.specs.declared.inside.Inside.TheVariants.{Nothing, Cancelling}
 use Rattle.csq_words.specs.declared.views.Reusing.TheVariants as reusing
 use Rattle.csq_words.proofs.Facts.{off, due_more, given_take, bit_bound, bit_true, set_listed, listed_now, listed_undone, open_now, open_undone}
@@ -134,7 +134,7 @@ event_lives u (Reuse m life) n = go (same_id m n)
     go false = omega arith
 event_lives u e n = omega arith
 
-lives_more : (first : ℕ) (newer older : List Entry) (n : IrpId) → (end_of first older).lives n ≤ (end_of first (newer ++ older)).lives n
+lives_more : (first : ℕ) (newer older : List HistoryEntry) (n : IrpId) → (end_of first older).lives n ≤ (end_of first (newer ++ older)).lives n
 lives_more first [] older n = omega arith
 lives_more first (e ∷ newer) older n = let h = lives_more first newer older n in let g = event_lives (end_of first (newer ++ older)) e.event n in omega (arith, h, g)
 

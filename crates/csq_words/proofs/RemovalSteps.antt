@@ -1,6 +1,6 @@
 -- The steps of a removal and of the cancel routine: disarm, end, out.
 use Rattle.std.proofs.Common.{◌≡◌, ℕ, ◌<◌, Bool, true, false, cond, not, ◌&&◌, List, [], ◌∷◌, ◌++◌, set, refl, sym, ap, ◌∙◌, subst, arith, length-set}
-use Rattle.csq_words.proofs.Imports.{and-false, or_right, inside_of, owes_in, was_removed_in, PassId, Disarm, End, Out, Made, Inside, number, life_of, same_irp, is, own, IrpLife, present, IrpId, armed, found_by, was_armed, after_disarm, follows, in_insert, owes, listed, taken, removed, Size, IsRun, same_irp-refl, grows_by_removal_disarm, grows_by_end, grows_by_out, Peek, Event, Mark, PassRecord, QueueRecord, Queued, QueueState, has_entry, has_unmarked, has_irp, marking, without, after_event, end_of, MayStand, IsOrderly, given_to, puts_back, OwnersPutBack, Entry, queue_of, entries_of, routine_at, bit_word, inserts, lists, again, passes_given, WasCancelled, IsTrueOf, AreTrueOf, due_mark, IsNextMatch, MayRemove, own-mine, own_made, owes_in-own}
+use Rattle.csq_words.proofs.Imports.{and-false, or_right, inside_of, owes_in, was_removed_in, PassId, Disarm, End, Out, Made, Inside, number, life_of, same_irp, is, own, IrpLife, present, IrpId, armed, found_by, was_armed, after_disarm, follows, in_insert, owes, listed, taken, removed, Size, IsRun, same_irp-refl, grows_by_removal_disarm, grows_by_end, grows_by_out, Peek, Event, Mark, PassRecord, QueueRecord, Queued, QueueState, has_entry, has_unmarked, has_irp, marking, without, after_event, end_of, MayStand, IsOrderly, given_to, puts_back, OwnersPutBack, HistoryEntry, queue_of, entries_of, routine_at, bit_word, inserts, lists, again, passes_given, WasCancelled, IsTrueOf, AreTrueOf, due_mark, IsNextMatch, MayRemove, own-mine, own_made, owes_in-own}
 use Rattle.irp_core.specs.declared.inside.Inside.TheVariants.{Nothing, Removing}
 use Rattle.csq_words.specs.declared.views.Event.TheVariants as event
 use Rattle.csq_words.proofs.Facts.{off, due_more, given_hit, given_miss, given_out, bit_true, owed_listed, listed_taken, listed_now, listed_undone, again_disarm}
@@ -39,14 +39,14 @@ removal_no_insert s h = off h
 pub record TakesOut (i : IrpLife) (e : Event) : Type 0 where
   pub taken : (q : QueueState) → after_event q e ≡ record q { entries = without i q.entries }
   pub says : (run : List Made) (u : QueueState) (p : PassId) → was_removed_in (own p run) i ≡ true → IsTrueOf run u p e
-  pub gives_out : (first : ℕ) (p : PassId) (history : List Entry) (j : IrpLife) → given_to first j (record { pass = p; event = e } ∷ history) ≡ cond (same_irp i j) (p ∷ given_to first j history) (given_to first j history)
+  pub gives_out : (first : ℕ) (p : PassId) (history : List HistoryEntry) (j : IrpLife) → given_to first j (record { pass = p; event = e } ∷ history) ≡ cond (same_irp i j) (p ∷ given_to first j history) (given_to first j history)
   pub no_put_back : (j : IrpLife) → puts_back j e ≡ false
 
 -- the event leaves the queue as it is
 pub record Leaves (e : Event) : Type 0 where
   pub left : (q : QueueState) → after_event q e ≡ q
   pub plain : (run : List Made) (u : QueueState) (p : PassId) → IsTrueOf run u p e
-  pub gives_none : (first : ℕ) (p : PassId) (history : List Entry) (j : IrpLife) → given_to first j (record { pass = p; event = e } ∷ history) ≡ given_to first j history
+  pub gives_none : (first : ℕ) (p : PassId) (history : List HistoryEntry) (j : IrpLife) → given_to first j (record { pass = p; event = e } ∷ history) ≡ given_to first j history
   pub no_put_back : (j : IrpLife) → puts_back j e ≡ false
 
 -- the next match is listed

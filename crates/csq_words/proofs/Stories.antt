@@ -1,7 +1,7 @@
 -- Where every pass is back, each life that has begun has a story.
 use Rattle.std.proofs.Common.{◌≡◌, ◌⊎◌, ℕ, ◌<◌, ◌≤◌, Bool, true, false, cond, not, ◌&&◌, ◌||◌, List, [], ◌∷◌, ◌++◌, map, length, Some, None, inl, inr, ⊎_elim, refl, sym, ap, ◌∙◌, subst, arith}
 use Rattle.std.specs.Option.{option_map}
-use Rattle.csq_words.proofs.Imports.{list_any, find, some-injective, get_elem?, cases_lt, false_from_ne_true, or_right, FileId, IrpId, PassId, NtStatus, CANCELLED, Arm, Done, Rearm, Made, Standing, Home, Waiting, Owed, Held, Finished, number, life_of, same_irp, is, by, own, IrpLife, flagged, was_armed, claims, dones, listed, present_life, IsPresent, HasBegun, Size, IsRun, same_irp-refl, same_irp-eq, same_pass-refl, same_some, Row, stands, rest_flagged, removed_in-own, inserted_listed, inside, Inside, removed, Place, Peek, put_at, matches, Pending, Cancelled, Refused, Event, FlagSeen, Mark, Insert, RemoveNext, Remove, CloseFile, Reuse, PutBack, Entry, Completion, PassRecord, QueueRecord, Queued, QueueState, present_in, has_irp, has_entry, first_unmarked, without, new_entry, after_event, end_of, MayStand, IsOrderly, OwnersPutBack, IsGone, puts_back, gives, given_to, queue_of, inside_of, removed_in, status_recorded, is_done, was_set, was_put_back, IsTrueOf, AreTrueOf, inserts, lists, again, RecordsAgree, FinalWords, final_status, IsRecordedBack, AllBack, IsFinal, InLife, any_filtered, inside_of-own}
+use Rattle.csq_words.proofs.Imports.{list_any, find, some-injective, get_elem?, cases_lt, false_from_ne_true, or_right, FileId, IrpId, PassId, NtStatus, CANCELLED, Arm, Done, Rearm, Made, Standing, Home, Waiting, Owed, Held, Finished, number, life_of, same_irp, is, by, own, IrpLife, flagged, was_armed, claims, dones, listed, present_life, IsPresent, HasBegun, Size, IsRun, same_irp-refl, same_irp-eq, same_pass-refl, same_some, Row, stands, rest_flagged, removed_in-own, inserted_listed, inside, Inside, removed, Place, Peek, put_at, matches, Pending, Cancelled, Refused, Event, FlagSeen, Mark, Insert, RemoveNext, Remove, CloseFile, Reuse, PutBack, HistoryEntry, Completion, PassRecord, QueueRecord, Queued, QueueState, present_in, has_irp, has_entry, first_unmarked, without, new_entry, after_event, end_of, MayStand, IsOrderly, OwnersPutBack, IsGone, puts_back, gives, given_to, queue_of, inside_of, removed_in, status_recorded, is_done, was_set, was_put_back, IsTrueOf, AreTrueOf, inserts, lists, again, RecordsAgree, FinalWords, final_status, IsRecordedBack, AllBack, IsFinal, InLife, any_filtered, inside_of-own}
 use Rattle.irp_core.proofs.Resting.{unknown_stands}
 use Rattle.irp_core.proofs.Next as growing
 use Rattle.irp_core.specs.declared.inside.Inside.TheVariants.{Nothing, Armed, FlagSeen, Removing, Cancelling}
@@ -203,7 +203,7 @@ module _ (size : Size) (run : List Made) (r : IsRun size run) (i : IrpLife) (u :
   next p (PutBack j f place (Refused cause)) may t = s
 
 -- how far the story of i is at the end of a history
-so_far : (size : Size) (run : List Made) → IsRun size run → (i : IrpLife) (first : ℕ) (history : List Entry) → IsOrderly first history → AreTrueOf first run history
+so_far : (size : Size) (run : List Made) → IsRun size run → (i : IrpLife) (first : ℕ) (history : List HistoryEntry) → IsOrderly first history → AreTrueOf first run history
     → SoFar run i (has_irp (end_of first history).used i) (has_entry (end_of first history).entries i) (inserted_by first i history) (given_to first i history)
 so_far size run r i first [] o t = inl record { unused = refl; unlisted = refl; none = refl; to_none = refl }
 so_far size run r i first (e ∷ history) o t = next size run r i (end_of first history) (inserted_by first i history) (given_to first i history) (so_far size run r i first history o.1 t.1) e.pass e.event o.0 t.0
@@ -389,7 +389,7 @@ module _ (size : Size) (q : QueueRecord) (r : PassRecord) (run : List Made) (agr
   }
 
 -- what stands before an event of a history, and the event itself
-before_event : (first : ℕ) (run : List Made) (newer before : List Entry) (e : Entry) → IsOrderly first (newer ++ (e ∷ before)) → AreTrueOf first run (newer ++ (e ∷ before)) → OwnersPutBack first (newer ++ (e ∷ before))
+before_event : (first : ℕ) (run : List Made) (newer before : List HistoryEntry) (e : HistoryEntry) → IsOrderly first (newer ++ (e ∷ before)) → AreTrueOf first run (newer ++ (e ∷ before)) → OwnersPutBack first (newer ++ (e ∷ before))
     → IsOrderly first (e ∷ before) × AreTrueOf first run (e ∷ before) × OwnersPutBack first (e ∷ before)
 before_event first run [] before e o t w = (o, t, w)
 before_event first run (x ∷ newer) before e o t w = before_event first run newer before e o.1 t.1 w.1

@@ -16,7 +16,7 @@ use Rattle.irp_core.specs.declared.inside.Inside.{Inside}
 use Rattle.csq_words.specs.declared.views.InsertReply.TheVariants.{Pending, Cancelled}
 use Rattle.csq_words.specs.declared.views.Event.{Event}
 use Rattle.csq_words.specs.declared.views.Event.TheVariants.{Insert, PutBack}
-use Rattle.csq_words.specs.declared.views.Entry.{Entry}
+use Rattle.csq_words.specs.declared.views.HistoryEntry.{HistoryEntry}
 use Rattle.csq_words.specs.declared.views.PassRecord.{PassRecord}
 use Rattle.csq_words.specs.declared.views.QueueRecord.{QueueRecord}
 use Rattle.csq_words.specs.Queue.{QueueState, present_in, has_entry}
@@ -36,7 +36,7 @@ accepts u i (PutBack j f place Cancelled) = same_irp j i
 accepts u i _ = false
 
 -- the passes whose inserts accepted i, the newest first; if it was put back, the pass that did so last
-abbrev pub inserted_by : ℕ → IrpLife → List Entry → List PassId
+abbrev pub inserted_by : ℕ → IrpLife → List HistoryEntry → List PassId
 inserted_by first i [] = []
 inserted_by first i (e ∷ history) =
     let rest = if puts_back i e.event then [] else inserted_by first i history in if accepts (end_of first history) i e.event then e.pass ∷ rest else rest
@@ -105,7 +105,7 @@ abbrev pub EachIrpIsGivenOnce : Type 0
 EachIrpIsGivenOnce = (size : Size) (q : QueueRecord) (r : PassRecord) (run : List Made) → RecordsAgree size run q r → (i : IrpLife) → again (inside_of r.steps) i ≡ false → IsGivenOnce q run i
 
 -- how a stay of i in the queue came to an end that p put back, by the events before that: one pass had inserted i, or put it back before, and one was given it, p
-pub record StayEnded (first : ℕ) (run : List Made) (before : List Entry) (i : IrpLife) (p : PassId) : Type 0 where
+pub record StayEnded (first : ℕ) (run : List Made) (before : List HistoryEntry) (i : IrpLife) (p : PassId) : Type 0 where
   pub inserter : PassId
   pub inserted : inserted_by first i before ≡ inserter ∷ []
   pub armed : was_set (own inserter run) i ≡ true
@@ -113,8 +113,8 @@ pub record StayEnded (first : ℕ) (run : List Made) (before : List Entry) (i : 
   pub rearmed : was_put_back (own p run) i ≡ true
 
 -- so ended each stay of this history that a put-back ended
-abbrev pub StaysHaveStories : ℕ → List Made → List Entry → Type 0
-StaysHaveStories first run history = (newer before : List Entry) (e : Entry) → history ≡ newer ++ (e ∷ before) → (i : IrpLife) → puts_back i e.event ≡ true → StayEnded first run before i e.pass
+abbrev pub StaysHaveStories : ℕ → List Made → List HistoryEntry → Type 0
+StaysHaveStories first run history = (newer before : List HistoryEntry) (e : HistoryEntry) → history ≡ newer ++ (e ∷ before) → (i : IrpLife) → puts_back i e.event ≡ true → StayEnded first run before i e.pass
 
 -- at every step, each stay that a put-back ended has its story
 abbrev pub EachStayHasAStory : Type 0
@@ -139,7 +139,7 @@ module _ {A : Type 0} where
   AreComparable h g = IsExtendedBy h g ⊎ IsExtendedBy g h
 
 -- these passes have seen one history and one execution. It begins with what each of them has seen, and the calls and the steps of each are its calls and its steps there, in that order. So what one of them has seen begins with what another has, or the other way round
-pub record SeeOneHistory (history : List Entry) (run : List Made) (passes : List PassRecord) : Type 0 where
+pub record SeeOneHistory (history : List HistoryEntry) (run : List Made) (passes : List PassRecord) : Type 0 where
   pub seen : (k : ℕ) (r : PassRecord) → get_elem? passes k ≡ some r → IsExtendedBy r.seen history
   pub calls : (k : ℕ) (r : PassRecord) → get_elem? passes k ≡ some r → r.mine ≡ calls_of r.pass history
   pub runs : (k : ℕ) (r : PassRecord) → get_elem? passes k ≡ some r → IsExtendedBy r.run run

@@ -4,7 +4,7 @@ ghost use Rattle.csq_words.specs.Records.{prefix_of};
 ghost use Rattle.csq_words.specs.Seats.{pass_record, seen_at, IsHere};
 
 use crate::rule::{CutSeen, WordSeat};
-use crate::seen::Seen;
+use crate::seen::SeenPrefix;
 use crate::words::Words;
 use std::alloc::Allocator;
 use std::marker::Model;
@@ -30,7 +30,7 @@ impl Model for Receipt {
 
 impl Receipt {
     /// What the pass had seen when it came back, to be handed to other passes.
-    pub fn seen<A: Allocator>(&mut self, words: &Words<A>) -> Seen
+    pub fn seen<A: Allocator>(&mut self, words: &Words<A>) -> SeenPrefix
         requires words { IsHere words.now.table self.old }
         ensures same { self.new ≡ self.old }
         ensures prefix { result ≡ seen_at words.now.table (prefix_of (pass_record self.old)) }
@@ -40,6 +40,6 @@ impl Receipt {
             unreachable!()
         };
         let seat = words.table.shared.split_seat::<CutSeen>(seat);
-        Seen { seat }
+        SeenPrefix { seat }
     }
 }

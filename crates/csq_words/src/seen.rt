@@ -10,11 +10,11 @@ use std::marker::Model;
 /// which only grow. It has no bytes at run time, and may go to other threads. A contract sees the table
 /// that it belongs to, and the two prefixes. Own rule.
 #[derive(Drop)]
-pub struct Seen {
+pub struct SeenPrefix {
     pub(crate) seat: WordSeat,
 }
 
-impl Model for Seen {
+impl Model for SeenPrefix {
     ghost use Rattle.csq_words.specs.Seats.{SeenState, seen_seat_of, IsSeenSeat};
 
     ghost Value = { SeenState };
@@ -24,14 +24,14 @@ impl Model for Seen {
     ghost invariant = { λ s. IsSeenSeat s.seat };
 }
 
-impl Seen {
+impl SeenPrefix {
     /// The same once more.
-    pub fn again<A: Allocator>(&mut self, words: &Words<A>) -> Seen
+    pub fn again<A: Allocator>(&mut self, words: &Words<A>) -> SeenPrefix
         requires words { self.old.table ≡ words.now.table }
         ensures same { self.new ≡ self.old }
         ensures again { result ≡ self.old }
     {
         let seat = words.table.shared.split_seat::<CopySeen>(&mut self.seat);
-        Seen { seat }
+        SeenPrefix { seat }
     }
 }

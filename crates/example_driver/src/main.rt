@@ -54,7 +54,7 @@ struct Runner<N: QueueName> {
 /// What the driver keeps of its device (the device extension): the queue, the threads with their passes, and
 /// the rack that these were taken from.
 #[derive(Drop)]
-struct Device<N: QueueName> {
+struct DeviceExtension<N: QueueName> {
     queue: Csq<VecList, N>,
     runners: Vec<Runner<N>>,
     rack: PassRack<N>,
@@ -203,12 +203,12 @@ fn new_runners<N: QueueName>(rt: &impl AllocGlobal, rack: &mut PassRack<N>) -> V
 }
 
 /// Starts the device: its queue has a name from here on, and its threads have their passes.
-fn start<N: QueueName>(rt: &impl AllocGlobal, blank: Blank<VecList>) -> Device<N>
+fn start<N: QueueName>(rt: &impl AllocGlobal, blank: Blank<VecList>) -> DeviceExtension<N>
     requires { blank ≡ record { table = N.table; limits = N.limits } }
 {
     let (queue, mut rack) = blank.into_queue::<N>();
     let runners = new_runners(rt, &mut rack);
-    Device {
+    DeviceExtension {
         queue,
         runners,
         rack,
@@ -249,8 +249,8 @@ fn close<N: QueueName>(
 }
 
 /// Ends the device, and tells what is left of its queue.
-fn end<N: QueueName>(rt: &impl Wait, device: Device<N>) -> Option<(u32, Option<IrpId>)> {
-    let Device {
+fn end<N: QueueName>(rt: &impl Wait, device: DeviceExtension<N>) -> Option<(u32, Option<IrpId>)> {
+    let DeviceExtension {
         queue,
         mut runners,
         rack,

@@ -19,7 +19,7 @@ use Rattle.csq_list.specs.declared.refusals.InsertStatus.{InsertStatus}
 use Rattle.csq_words.specs.declared.views.InsertReply.TheVariants.{Pending}
 use Rattle.csq_words.specs.declared.views.Event.{Event}
 use Rattle.csq_words.specs.declared.views.Event.TheVariants as event
-use Rattle.csq_words.specs.declared.views.Entry.{Entry}
+use Rattle.csq_words.specs.declared.views.HistoryEntry.{HistoryEntry}
 use Rattle.csq_words.specs.Queue.{QueueState, has_unmarked, reply_to_insert}
 use Rattle.csq_words.specs.History.{end_of}
 use Rattle.csq_words.specs.Records.{entries_of}
@@ -58,7 +58,7 @@ none_is_a_run = record {
 }
 
 -- an event that isn't noted stands at a step
-step_of : {first : ℕ} {e : Entry} {older : List Entry} {now : List Made} → StandsAt first e older now → is_noted e.event ≡ false → (m : Made) × (run : List Made) × (now ≡ m ∷ run) × HasRecordedAt first m e older
+step_of : {first : ℕ} {e : HistoryEntry} {older : List HistoryEntry} {now : List Made} → StandsAt first e older now → is_noted e.event ≡ false → (m : Made) × (run : List Made) × (now ≡ m ∷ run) × HasRecordedAt first m e older
 step_of (at_step m {run = run} h) quiet = (m, run, refl, h)
 step_of (between noted) quiet = absurd (true≢false (sym noted ∙ quiet))
 
@@ -80,10 +80,10 @@ in_turn g g' x rest wrong none (y ∷ later) now at m' older' is' h' since was m
     nowhere g rest none (later ++ since) was (tail ∙ (ap (λ (l : List Made). later ++ l) more ∙ sym (append_assoc later since was))) m older is h
 
 -- what is said of an event holds of one of those that its step recorded
-any_said : (f : Event → Bool) (p : PassId) (es : List Event) (newer within : List Entry) (e : Entry) → entries_of p es ≡ newer ++ (e ∷ within) → f e.event ≡ true → list_any f es ≡ true
+any_said : (f : Event → Bool) (p : PassId) (es : List Event) (newer within : List HistoryEntry) (e : HistoryEntry) → entries_of p es ≡ newer ++ (e ∷ within) → f e.event ≡ true → list_any f es ≡ true
 any_said f p [] [] within e is h = absurd cc
 any_said f p [] (x ∷ newer) within e is h = absurd cc
-any_said f p (v ∷ es) [] within e is h = let same : record { pass = p; event = v } ≡ e = cc in ap (λ b. b || list_any f es) (ap (λ (x : Entry). f x.event) same ∙ h)
+any_said f p (v ∷ es) [] within e is h = let same : record { pass = p; event = v } ≡ e = cc in ap (λ b. b || list_any f es) (ap (λ (x : HistoryEntry). f x.event) same ∙ h)
 any_said f p (v ∷ es) (x ∷ newer) within e is h = let rest : entries_of p es ≡ newer ++ (e ∷ within) = cc in or_right (f v) (list_any f es) (any_said f p es newer within e rest h)
 
 -- an insert of IRP n, which is pending
@@ -177,16 +177,16 @@ mark_needs GiveBack kind v u h = absurd cc
 by_own : (p : PassId) (m : Made) → m.pass ≡ p → by p m ≡ true
 by_own p m is = ap (λ q. same_pass q p) is ∙ same_pass-refl p
 
-module _ (run : List Made) (history : List Entry) (placed : IsPlaced 0 run history) where
+module _ (run : List Made) (history : List HistoryEntry) (placed : IsPlaced 0 run history) where
   -- the one event of a history stands nowhere in an execution that has no such step
-  stands_nowhere : (g : Made → Bool) → list_any g run ≡ false → (newer older : List Entry) (e : Entry) → history ≡ newer ++ (e ∷ older) → is_noted e.event ≡ false → ((m : Made) → HasRecordedAt 0 m e older → g m ≡ true) → ⊥
+  stands_nowhere : (g : Made → Bool) → list_any g run ≡ false → (newer older : List HistoryEntry) (e : HistoryEntry) → history ≡ newer ++ (e ∷ older) → is_noted e.event ≡ false → ((m : Made) → HasRecordedAt 0 m e older → g m ≡ true) → ⊥
   stands_nowhere g none newer older e at quiet owed =
       let (later, now, run_is, stands, before) = (in_order 0 run history placed).each_event newer older e at in
       let (m, others, is, h) = step_of stands quiet in
       nowhere g run none later now run_is m others is (owed m h)
 
   -- two events whose steps stand in the other order
-  stand_turned : (g g' : Made → Bool) (x : Made) (rest : List Made) → run ≡ x ∷ rest → g' x ≡ false → list_any g rest ≡ false → (o e : Entry) → history ≡ e ∷ o ∷ [] → is_noted e.event ≡ false → is_noted o.event ≡ false
+  stand_turned : (g g' : Made → Bool) (x : Made) (rest : List Made) → run ≡ x ∷ rest → g' x ≡ false → list_any g rest ≡ false → (o e : HistoryEntry) → history ≡ e ∷ o ∷ [] → is_noted e.event ≡ false → is_noted o.event ≡ false
       → ((m : Made) → HasRecordedAt 0 m e (o ∷ []) → g' m ≡ true) → ((m : Made) → HasRecordedAt 0 m o [] → g m ≡ true) → ⊥
   stand_turned g g' x rest begins wrong none o e are quiet quiet' owed owed' =
       let (later, now, run_is, stands, before) = (in_order 0 run history placed).each_event [] (o ∷ []) e are in
@@ -196,7 +196,7 @@ module _ (run : List Made) (history : List Entry) (placed : IsPlaced 0 run histo
       in_turn g g' x rest wrong none later now (sym begins ∙ run_is) m' others' is' (owed m' h') since was more m others is (owed' m h)
 
 -- a step of an insert of IRP n
-step_of_insert : (p n : ℕ) (m : Made) (older : List Entry) → HasRecordedAt 0 m (inserted p n) older → ends_insert (record { 0 = n }) m.kind ≡ true
+step_of_insert : (p n : ℕ) (m : Made) (older : List HistoryEntry) → HasRecordedAt 0 m (inserted p n) older → ends_insert (record { 0 = n }) m.kind ≡ true
 unfolding inserts_irp same_id
 step_of_insert p n m older h = insert_ends (record { 0 = n }) h.call m.kind m.found (end_of 0 h.history) h.of_call
     (any_said (inserts_irp (record { 0 = n })) m.pass (recorded h.call m.kind m.found (end_of 0 h.history)) h.newer h.within (inserted p n) h.recorded_is (same_id-refl (record { 0 = n })))
@@ -227,9 +227,9 @@ end_says GiveBack u of none = absurd of
 left_out_is : IsPlaced 0 (did 2 End 0 ∷ inserts_of 0 []) (inserted 1 0 ∷ []) → ⊥
 left_out_is placed = let r = (in_order 0 (did 2 End 0 ∷ inserts_of 0 []) (inserted 1 0 ∷ []) placed).each_step [] (inserts_of 0 []) (did 2 End 0) refl refl in go r.newer (recorded r.call End 0 (end_of 0 r.before)) r.before (end_says r.call (end_of 0 r.before) r.of_call) r.history_is
   where
-    go : (newer : List Entry) (es : List Event) (before : List Entry) → es ≢ [] → inserted 1 0 ∷ [] ≡ newer ++ (entries_of (pass 2) es ++ before) → ⊥
+    go : (newer : List HistoryEntry) (es : List Event) (before : List HistoryEntry) → es ≢ [] → inserted 1 0 ∷ [] ≡ newer ++ (entries_of (pass 2) es ++ before) → ⊥
     go newer [] before says is = says refl
-    go [] (v ∷ es) before says is = let same : inserted 1 0 ≡ record { pass = pass 2; event = v } = cc in let e : 1 ≡ 2 = ap (λ (x : Entry). x.pass.0) same in absurd (omega (arith, e))
+    go [] (v ∷ es) before says is = let same : inserted 1 0 ≡ record { pass = pass 2; event = v } = cc in let e : 1 ≡ 2 = ap (λ (x : HistoryEntry). x.pass.0) same in absurd (omega (arith, e))
     go (x ∷ []) (v ∷ es) before says is = absurd cc
     go (x ∷ y ∷ newer) (v ∷ es) before says is = absurd cc
 
@@ -252,8 +252,8 @@ test_says (Reuse n) u of = absurd of
 test_says GiveBack u of = absurd of
 
 -- it is none of the other events
-other_event : (e : Entry) (p : ℕ) (v : Event) → is_pending v ≡ true → is_pending e.event ≡ false → e ≡ said p v → ⊥
-other_event e p v pending not_pending is = true≢false (sym pending ∙ (sym (ap (λ (x : Entry). is_pending x.event) is) ∙ not_pending))
+other_event : (e : HistoryEntry) (p : ℕ) (v : Event) → is_pending v ≡ true → is_pending e.event ≡ false → e ≡ said p v → ⊥
+other_event e p v pending not_pending is = true≢false (sym pending ∙ (sym (ap (λ (x : HistoryEntry). is_pending x.event) is) ∙ not_pending))
 
 -- it is the newest of the history, if its test is the last step
 unrecorded_is : IsPlaced 0 (did 2 (Test (irp 0 0)) 0 ∷ did 2 (Rearm (irp 0 0)) 0 ∷ removed_by_2) (removed 2 ∷ inserted 1 0 ∷ []) → ⊥
@@ -263,9 +263,9 @@ unrecorded_is placed =
     let r = (in_order 0 (did 2 (Test (irp 0 0)) 0 ∷ earlier) (removed 2 ∷ inserted 1 0 ∷ []) placed).each_step [] earlier (did 2 (Test (irp 0 0)) 0) refl refl in
     let said' = test_says r.call (end_of 0 r.before) r.of_call in go r.newer r.before said'.0 said'.1 (r.history_is ∙ ap (λ (es : List Event). r.newer ++ (entries_of (pass 2) es ++ r.before)) said'.2)
   where
-    go : (newer before : List Entry) (v : Event) → is_pending v ≡ true → removed 2 ∷ inserted 1 0 ∷ [] ≡ newer ++ (said 2 v ∷ before) → ⊥
+    go : (newer before : List HistoryEntry) (v : Event) → is_pending v ≡ true → removed 2 ∷ inserted 1 0 ∷ [] ≡ newer ++ (said 2 v ∷ before) → ⊥
     go [] before v pending is = other_event (removed 2) 2 v pending refl cc
-    go (x ∷ []) before v pending is = let same : inserted 1 0 ≡ said 2 v = cc in let e : 1 ≡ 2 = ap (λ (y : Entry). y.pass.0) same in absurd (omega (arith, e))
+    go (x ∷ []) before v pending is = let same : inserted 1 0 ≡ said 2 v = cc in let e : 1 ≡ 2 = ap (λ (y : HistoryEntry). y.pass.0) same in absurd (omega (arith, e))
     go (x ∷ y ∷ []) before v pending is = absurd cc
     go (x ∷ y ∷ z ∷ newer) before v pending is = absurd cc
 
@@ -278,7 +278,7 @@ recorded_late_is placed =
     let said' = test_says r.call (end_of 0 r.before) r.of_call in
     go r.newer r.before said'.0 said'.1 (r.history_is ∙ ap (λ (es : List Event). r.newer ++ (entries_of (pass 1) es ++ r.before)) said'.2) r.placed
   where
-    go : (newer before : List Entry) (v : Event) → is_pending v ≡ true → found_none 1 ∷ said 1 (event.Mark (irp 0 0)) ∷ inserted 1 0 ∷ found_none 2 ∷ [] ≡ newer ++ (said 1 v ∷ before) → IsPlaced 0 (did 1 (Arm (irp 0 0)) 0 ∷ []) before → ⊥
+    go : (newer before : List HistoryEntry) (v : Event) → is_pending v ≡ true → found_none 1 ∷ said 1 (event.Mark (irp 0 0)) ∷ inserted 1 0 ∷ found_none 2 ∷ [] ≡ newer ++ (said 1 v ∷ before) → IsPlaced 0 (did 1 (Arm (irp 0 0)) 0 ∷ []) before → ⊥
     go [] before v pending is placed' = other_event (found_none 1) 1 v pending refl cc
     go (x ∷ []) before v pending is placed' = other_event (said 1 (event.Mark (irp 0 0))) 1 v pending refl cc
     go (x ∷ y ∷ []) before v pending is placed' = let rest : found_none 2 ∷ [] ≡ before = cc in

@@ -12,7 +12,7 @@ use Rattle.csq_list.specs.declared.entry.Peek.TheVariants.{Any}
 use Rattle.csq_words.specs.declared.views.InsertReply.TheVariants.{Pending, Cancelled}
 use Rattle.csq_words.specs.declared.views.Event.{Event}
 use Rattle.csq_words.specs.declared.views.Event.TheVariants.{FlagSeen, Insert, RemoveNext, Mark, PutBack}
-use Rattle.csq_words.specs.declared.views.Entry.{Entry}
+use Rattle.csq_words.specs.declared.views.HistoryEntry.{HistoryEntry}
 use Rattle.csq_words.specs.declared.views.Completion.{Completion}
 use Rattle.csq_words.specs.declared.views.PassRecord.{PassRecord}
 use Rattle.csq_words.specs.declared.views.QueueRecord.{QueueRecord}
@@ -35,23 +35,23 @@ abbrev pub did : ℕ → Kind → ℕ → Made
 did p kind found = record { pass = pass p; kind = kind; found = found }
 
 -- an event of pass p
-abbrev pub said : ℕ → Event → Entry
+abbrev pub said : ℕ → Event → HistoryEntry
 said p e = record { pass = pass p; event = e }
 
 -- p's insert of IRP n, which is pending
-abbrev pub inserted : ℕ → ℕ → Entry
+abbrev pub inserted : ℕ → ℕ → HistoryEntry
 inserted p n = said p (Insert (record { 0 = n }) (record { 0 = 0 }) Back Pending)
 
 -- p's removal of IRP 0
-abbrev pub removed : ℕ → Entry
+abbrev pub removed : ℕ → HistoryEntry
 removed p = said p (RemoveNext Any (Some (irp 0 0)))
 
 -- p's put-back of IRP 0 for this file object, which is pending
-abbrev pub put_back : ℕ → ℕ → Entry
+abbrev pub put_back : ℕ → ℕ → HistoryEntry
 put_back p f = said p (PutBack (irp 0 0) (record { 0 = f }) Back Pending)
 
 -- p's removal, which found none
-abbrev pub found_none : ℕ → Entry
+abbrev pub found_none : ℕ → HistoryEntry
 found_none p = said p (RemoveNext Any None)
 
 -- pass 1 inserts IRP n
@@ -98,15 +98,15 @@ abbrev pub two : Size
 two = record { irps = 2; passes = 2; first = 0 }
 
 -- what a queue's record has of a history and an execution
-abbrev pub queue : List Entry → List Made → QueueRecord
+abbrev pub queue : List HistoryEntry → List Made → QueueRecord
 queue history run = record (new_queue 0 2) { history = history; run = run }
 
 -- the record of pass p, which has seen both and completed these
-abbrev pub record_of : ℕ → List Entry → List Made → List Completion → PassRecord
+abbrev pub record_of : ℕ → List HistoryEntry → List Made → List Completion → PassRecord
 record_of p history run completed = record { pass = pass p; seen = history; mine = calls_of (pass p) history; steps = own (pass p) run; completed = completed; lives = []; run = run }
 
 -- they agree, as after a call of pass 1
-abbrev pub Agree : List Entry → List Made → Type 0
+abbrev pub Agree : List HistoryEntry → List Made → Type 0
 Agree history run = RecordsAgree two run (queue history run) (record_of 1 history run [])
 
 -- a pass that completed IRP 0 in life 0 with this status is back

@@ -3,7 +3,7 @@ ghost use Rattle.std.specs.Prelude.{◌≡◌, ℕ, ◌+◌, ◌-◌, ◌<◌, �
 ghost use Rattle.irp_core.specs.declared.ids.IrpLife.{IrpLife};
 ghost use Rattle.irp_core.specs.declared.status.TheConstants.NtStatus.{CANCELLED};
 ghost use Rattle.irp_core.specs.declared.step.Kind.TheVariants.{Flag, Take, Done};
-ghost use Rattle.csq_words.specs.declared.views.Entry.{Entry};
+ghost use Rattle.csq_words.specs.declared.views.HistoryEntry.{HistoryEntry};
 ghost use Rattle.csq_words.specs.declared.views.Event.TheVariants.{Out};
 ghost use Rattle.csq_words.specs.declared.views.PassRecord.{PassRecord};
 ghost use Rattle.csq_words.specs.Calls.{due_mark};
@@ -94,7 +94,7 @@ impl<L: PendingList + Drop, N: QueueName, A: Allocator> Csq<L, N, A> {
         file: FileId,
         place: Place,
     ) -> Result<Inserted<N>, InsertStatus>
-        ensures call { (history : List Entry)
+        ensures call { (history : List HistoryEntry)
             × Inserts irp file place result N.limits history pass.old pass.new }
     {
         let mut locked = self.lock(rt);
@@ -119,7 +119,7 @@ impl<L: PendingList + Drop, N: QueueName, A: Allocator> Csq<L, N, A> {
         place: Place,
     ) -> Result<Inserted<N>, (InsertStatus, Token<N>)>
         requires token { HoldsRemoved N.limits.irps pass.old token }
-        ensures call { (history : List Entry) × PutsBack token place (without_token result)
+        ensures call { (history : List HistoryEntry) × PutsBack token place (without_token result)
             N.limits history pass.old pass.new }
         ensures kept { IfErr result (λ refused. refused.1 ≡ token) }
     {
@@ -137,7 +137,7 @@ impl<L: PendingList + Drop, N: QueueName, A: Allocator> Csq<L, N, A> {
     /// Removes the first match that no canceller has (`IoCsqRemoveNextIrp`). None where no match is
     /// left.
     pub fn remove_next(&self, rt: &impl Wait, pass: &mut Pass<N>, peek: Peek) -> Option<Token<N>>
-        ensures call { (history : List Entry)
+        ensures call { (history : List HistoryEntry)
             × RemovesNext peek result N.limits history pass.old pass.new }
     {
         let mut locked = self.lock(rt);
@@ -153,7 +153,7 @@ impl<L: PendingList + Drop, N: QueueName, A: Allocator> Csq<L, N, A> {
         pass: &mut Pass<N>,
         context: InsertContext<N>,
     ) -> Option<Token<N>>
-        ensures call { (history : List Entry)
+        ensures call { (history : List HistoryEntry)
             × RemovesOne context result N.limits history pass.old pass.new }
     {
         let mut locked = self.lock(rt);
@@ -193,7 +193,7 @@ impl<L: PendingList + Drop, N: QueueName, A: Allocator> Csq<L, N, A> {
     ) -> CancelToken<N>
         requires owed { Owes pass.old claim }
         ensures irp { result ≡ claim }
-        ensures call { (history : List Entry)
+        ensures call { (history : List HistoryEntry)
             × RunsRoutine claim N.limits history pass.old pass.new }
     {
         let irp = claim.spend();
@@ -234,7 +234,7 @@ impl<L: PendingList + Drop, N: QueueName, A: Allocator> Csq<L, N, A> {
         life: Life,
     ) -> Result<bool, CancelRefused>
         ensures known { IsOk result → irp.0 < N.limits.irps }
-        ensures call { IfOk result (λ done. done ≡ true → (history : List Entry)
+        ensures call { IfOk result (λ done. done ≡ true → (history : List HistoryEntry)
             × (out : PassRecord) × AddsEvents N.limits history pass.old out
             (Out (named irp life) ∷ due_mark (named irp life) (end_of N.limits.first history))
             × (pass.new ≡ saw pass.new.run (with_completion (named irp life) CANCELLED
@@ -301,7 +301,7 @@ impl<L: PendingList + Drop, N: QueueName, A: Allocator> Csq<L, N, A> {
         pass: &mut Pass<N>,
         file: FileId,
     ) -> Result<(), UnknownFile>
-        ensures call { (history : List Entry)
+        ensures call { (history : List HistoryEntry)
             × ClosesFile file result N.limits history pass.old pass.new }
     {
         let mut locked = self.lock(rt);
@@ -318,7 +318,7 @@ impl<L: PendingList + Drop, N: QueueName, A: Allocator> Csq<L, N, A> {
         pass: &mut Pass<N>,
         irp: IrpId,
     ) -> Result<Life, ReuseRefused>
-        ensures call { (history : List Entry)
+        ensures call { (history : List HistoryEntry)
             × Reuses irp result N.limits history pass.old pass.new }
     {
         if irp.0 >= pass.open.irps {

@@ -10,7 +10,7 @@ ghost use Rattle.csq_queue.specs.Opens.{IsPassOn};
 ghost use Rattle.csq_queue.specs.Owned.{Holds, HoldsRemoved};
 
 use crate::refusals::{CancelRefused, UnknownIrp};
-use csq_words::{PassSeat, Seen, Words, bit_word, flag_read};
+use csq_words::{PassSeat, SeenPrefix, Words, bit_word, flag_read};
 use irp_core::{FinalStatus, IrpId, IrpLife, Life, NtStatus};
 use std::alloc::Allocator;
 use std::marker::Model;
@@ -174,7 +174,7 @@ impl OpenPass {
     }
 
     /// What the pass has seen, to be handed to other passes, as `Csq::seen` does.
-    pub fn seen<A: Allocator>(&mut self, words: &Words<A>) -> Seen
+    pub fn seen<A: Allocator>(&mut self, words: &Words<A>) -> SeenPrefix
         requires { IsPassOn words.now self.old }
         ensures same { self.new ≡ self.old }
         ensures prefix { result ≡ seen_at words.now.table (prefix_of self.old.pass) }
@@ -183,7 +183,7 @@ impl OpenPass {
     }
 
     /// Learns what another pass had seen, as `Csq::learn` does.
-    pub fn learn<A: Allocator>(&mut self, words: &Words<A>, seen: Seen)
+    pub fn learn<A: Allocator>(&mut self, words: &Words<A>, seen: SeenPrefix)
         requires pass { IsPassOn words.now self.old }
         requires table { seen.table ≡ words.now.table }
         ensures call { Learns seen.prefix words.now.size self.old.pass self.new.pass }

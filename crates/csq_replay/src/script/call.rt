@@ -5,7 +5,7 @@ use std::fmt;
 
 /// A call of the script's one pass. Where it names no life, it is of the IRP's present one.
 #[derive(Clone, Copy)]
-pub enum Call {
+pub enum ScriptCall {
     /// `IoCsqInsertIrpEx` of the IRP for the file object, at the place.
     Insert(IrpId, FileId, Place),
     /// `IoCsqRemoveNextIrp` with the peek context.
@@ -37,7 +37,7 @@ pub enum Call {
 
 /// Why a call is refused, what an insert or a put-back of the list is refused for aside. Own rule.
 #[derive(Clone, Copy)]
-pub enum Refusal {
+pub enum ScriptRefusal {
     /// There is no IRP of this number.
     UnknownIrp,
     /// There is no file object of this number.
@@ -58,7 +58,7 @@ pub enum Refusal {
 
 /// What an insert or a put-back answers that isn't refused.
 #[derive(Clone, Copy)]
-pub(crate) enum Inserted {
+pub(crate) enum InsertOutcome {
     /// The IRP is listed.
     Pending,
     /// The IRP was found cancelled, and is completed.
@@ -99,11 +99,11 @@ pub enum Reply {
     /// This life has begun.
     Begun(Life),
     /// The call is refused.
-    Refused(Refusal),
+    Refused(ScriptRefusal),
 }
 
 /// Its name, with the present life where it is `Stale`.
-impl fmt::Display for Refusal {
+impl fmt::Display for ScriptRefusal {
     ghost use Rattle.std.specs.Prelude.{Some};
     ghost use Rattle.csq_replay.specs.ReplyText.{refusal_name};
 
@@ -111,14 +111,14 @@ impl fmt::Display for Refusal {
 
     fn fmt<W: fmt::Write>(&self, f: &mut fmt::Formatter<W>) -> fmt::Result {
         match self {
-            Refusal::UnknownIrp => write!(f, "UnknownIrp"),
-            Refusal::UnknownFile => write!(f, "UnknownFile"),
-            Refusal::NoClaim => write!(f, "NoClaim"),
-            Refusal::NotHeld => write!(f, "NotHeld"),
-            Refusal::StatusPending => write!(f, "StatusPending"),
-            Refusal::Stale(life) => write!(f, "Stale {life}"),
-            Refusal::NotCompleted => write!(f, "NotCompleted"),
-            Refusal::LivesSpent => write!(f, "LivesSpent"),
+            ScriptRefusal::UnknownIrp => write!(f, "UnknownIrp"),
+            ScriptRefusal::UnknownFile => write!(f, "UnknownFile"),
+            ScriptRefusal::NoClaim => write!(f, "NoClaim"),
+            ScriptRefusal::NotHeld => write!(f, "NotHeld"),
+            ScriptRefusal::StatusPending => write!(f, "StatusPending"),
+            ScriptRefusal::Stale(life) => write!(f, "Stale {life}"),
+            ScriptRefusal::NotCompleted => write!(f, "NotCompleted"),
+            ScriptRefusal::LivesSpent => write!(f, "LivesSpent"),
         }
     }
 }

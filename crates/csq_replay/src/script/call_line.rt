@@ -1,13 +1,13 @@
 //! Lines that name a call.
 ghost use Rattle.std.specs.Prelude.{◌≡◌, ◌≢◌, ◌<◌, ◌↔◌, [], ◌∷◌, Some, codes, decimal, IsTrue, MatchOption};
 ghost use Rattle.csq_list.specs.declared.entry.Place.{Place};
-ghost use Rattle.csq_replay.specs.declared.script.call.Call.{Call};
+ghost use Rattle.csq_replay.specs.declared.script.call.ScriptCall.{ScriptCall};
 ghost use Rattle.csq_replay.specs.Pieces.{words_of};
 ghost use Rattle.csq_replay.specs.CallLine.{call_name, named_life, place_word, IsLifeName, IsCallLine, IsNamed};
 
 use crate::lines::names::parse_name;
 use crate::lines::pieces::{parse_number, parse_status, split_piece};
-use crate::script::call::Call;
+use crate::script::call::ScriptCall;
 use csq_list::{Peek, Place};
 use irp_core::{FileId, IrpId, IrpLife};
 
@@ -23,42 +23,42 @@ fn parse_place(word: &[u8]) -> Option<Place>
 }
 
 /// Of an IRP, a file object and a place.
-fn parse_insert(operands: &[u8]) -> Option<Call>
-    ensures { MatchOption result ((c : Call) → ¬ IsNamed (codes "insert") (words_of operands.now) c) (IsNamed (codes "insert") (words_of operands.now)) }
+fn parse_insert(operands: &[u8]) -> Option<ScriptCall>
+    ensures { MatchOption result ((c : ScriptCall) → ¬ IsNamed (codes "insert") (words_of operands.now) c) (IsNamed (codes "insert") (words_of operands.now)) }
 {
     let (irp, rest) = split_piece(operands, b' ');
     let irp = IrpId(parse_number(irp)?);
     let (file, place) = split_piece(rest?, b' ');
     let file = FileId(parse_number(file)?);
-    Some(Call::Insert(irp, file, parse_place(place?)?))
+    Some(ScriptCall::Insert(irp, file, parse_place(place?)?))
 }
 
 /// Of an IRP and a place.
-fn parse_put_back(operands: &[u8]) -> Option<Call>
-    ensures { MatchOption result ((c : Call) → ¬ IsNamed (codes "put_back") (words_of operands.now) c) (IsNamed (codes "put_back") (words_of operands.now)) }
+fn parse_put_back(operands: &[u8]) -> Option<ScriptCall>
+    ensures { MatchOption result ((c : ScriptCall) → ¬ IsNamed (codes "put_back") (words_of operands.now) c) (IsNamed (codes "put_back") (words_of operands.now)) }
 {
     let (irp, place) = split_piece(operands, b' ');
     let irp = IrpId(parse_number(irp)?);
-    Some(Call::PutBack(irp, parse_place(place?)?))
+    Some(ScriptCall::PutBack(irp, parse_place(place?)?))
 }
 
 /// Of a file object, or of any.
-fn parse_next(operand: &[u8]) -> Option<Call>
-    ensures { MatchOption result ((c : Call) → ¬ IsNamed (codes "next") (words_of operand.now) c) (IsNamed (codes "next") (words_of operand.now)) }
+fn parse_next(operand: &[u8]) -> Option<ScriptCall>
+    ensures { MatchOption result ((c : ScriptCall) → ¬ IsNamed (codes "next") (words_of operand.now) c) (IsNamed (codes "next") (words_of operand.now)) }
 {
     if operand == b"*".as_slice() {
-        return Some(Call::Next(Peek::Any));
+        return Some(ScriptCall::Next(Peek::Any));
     }
-    Some(Call::Next(Peek::File(FileId(parse_number(operand)?))))
+    Some(ScriptCall::Next(Peek::File(FileId(parse_number(operand)?))))
 }
 
 /// Of an IRP and a status.
-fn parse_complete(operands: &[u8]) -> Option<Call>
-    ensures { MatchOption result ((c : Call) → ¬ IsNamed (codes "complete") (words_of operands.now) c) (IsNamed (codes "complete") (words_of operands.now)) }
+fn parse_complete(operands: &[u8]) -> Option<ScriptCall>
+    ensures { MatchOption result ((c : ScriptCall) → ¬ IsNamed (codes "complete") (words_of operands.now) c) (IsNamed (codes "complete") (words_of operands.now)) }
 {
     let (irp, status) = split_piece(operands, b' ');
     let irp = IrpId(parse_number(irp)?);
-    Some(Call::Complete(irp, parse_status(status?)?))
+    Some(ScriptCall::Complete(irp, parse_status(status?)?))
 }
 
 /// Whether calls of this name name an IRP in one of its lives.
@@ -69,40 +69,40 @@ fn names_life(name: &[u8]) -> bool
 }
 
 /// The call of this name, of an IRP in one of its lives.
-fn call_of_life(name: &[u8], irp: IrpLife) -> Option<Call>
+fn call_of_life(name: &[u8], irp: IrpLife) -> Option<ScriptCall>
     ensures { MatchOption result
-        ((c : Call) → ¬ ((call_name c ≡ name.now) × (named_life c ≡ Some irp)))
+        ((c : ScriptCall) → ¬ ((call_name c ≡ name.now) × (named_life c ≡ Some irp)))
         (λ c. (call_name c ≡ name.now) × (named_life c ≡ Some irp)) }
 {
     match name {
-        b"remove" => Some(Call::Remove(irp)),
-        b"mark" => Some(Call::Mark(irp)),
-        b"cancel" => Some(Call::Cancel(irp)),
+        b"remove" => Some(ScriptCall::Remove(irp)),
+        b"mark" => Some(ScriptCall::Mark(irp)),
+        b"cancel" => Some(ScriptCall::Cancel(irp)),
         _ => None,
     }
 }
 
 /// The call of this name whose one operand is this number.
-fn call_of_number(name: &[u8], number: u32) -> Option<Call>
+fn call_of_number(name: &[u8], number: u32) -> Option<ScriptCall>
     requires short { number < 1000000000 }
     requires other { name.now ≢ codes "next" }
     requires no_life { ¬ IsLifeName name.now }
-    ensures { MatchOption result ((c : Call) → ¬ IsNamed name.now (decimal number ∷ []) c)
+    ensures { MatchOption result ((c : ScriptCall) → ¬ IsNamed name.now (decimal number ∷ []) c)
         (IsNamed name.now (decimal number ∷ [])) }
 {
     match name {
-        b"routine" => Some(Call::Routine(IrpId(number))),
-        b"close" => Some(Call::Close(FileId(number))),
-        b"cleanup" => Some(Call::Cleanup(FileId(number))),
-        b"flag" => Some(Call::Flag(IrpId(number))),
-        b"status" => Some(Call::Status(IrpId(number))),
-        b"reuse" => Some(Call::Reuse(IrpId(number))),
+        b"routine" => Some(ScriptCall::Routine(IrpId(number))),
+        b"close" => Some(ScriptCall::Close(FileId(number))),
+        b"cleanup" => Some(ScriptCall::Cleanup(FileId(number))),
+        b"flag" => Some(ScriptCall::Flag(IrpId(number))),
+        b"status" => Some(ScriptCall::Status(IrpId(number))),
+        b"reuse" => Some(ScriptCall::Reuse(IrpId(number))),
         _ => None,
     }
 }
 
-fn parse_operands(name: &[u8], operands: &[u8]) -> Option<Call>
-    ensures { MatchOption result ((c : Call) → ¬ IsNamed name.now (words_of operands.now) c)
+fn parse_operands(name: &[u8], operands: &[u8]) -> Option<ScriptCall>
+    ensures { MatchOption result ((c : ScriptCall) → ¬ IsNamed name.now (words_of operands.now) c)
         (IsNamed name.now (words_of operands.now)) }
 {
     if name == b"insert".as_slice() {
@@ -124,8 +124,8 @@ fn parse_operands(name: &[u8], operands: &[u8]) -> Option<Call>
 }
 
 /// The call that a line names.
-pub(crate) fn parse_call(line: &[u8]) -> Option<Call>
-    ensures { MatchOption result ((c : Call) → ¬ IsCallLine line.now c) (IsCallLine line.now) }
+pub(crate) fn parse_call(line: &[u8]) -> Option<ScriptCall>
+    ensures { MatchOption result ((c : ScriptCall) → ¬ IsCallLine line.now c) (IsCallLine line.now) }
 {
     let (name, operands) = split_piece(line, b' ');
     parse_operands(name, operands?)

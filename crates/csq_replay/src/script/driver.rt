@@ -10,13 +10,13 @@ ghost use Rattle.irp_core.specs.Steps.{number, same_irp};
 ghost use Rattle.csq_list.specs.Listing.{IsFresh};
 ghost use Rattle.csq_list.specs.Searches.{is_listed};
 ghost use Rattle.csq_words.specs.Queue.{Limits, limits_of};
-ghost use Rattle.csq_replay.specs.declared.script.call.Call.TheVariants as call;
+ghost use Rattle.csq_replay.specs.declared.script.call.ScriptCall.TheVariants as call;
 ghost use Rattle.csq_replay.specs.declared.script.call.Reply.TheVariants as reply;
 ghost use Rattle.csq_replay.specs.Calls.{Script, script_pass, new_script, next_step, present_of, completing, after_routine, status_reply, Cleans};
 ghost use Rattle.csq_replay.specs.Drivers.{Keeps, IsKeeping, StandsAt, IsStanding, IsOwing, IsHolding, Called, Did, DidNext, keeping};
 ghost use Rattle.csq_replay.specs.Replies.{reported, insert_reply, taken_reply, mark_reply};
 
-use crate::script::call::{Inserted, Refusal};
+use crate::script::call::{InsertOutcome, ScriptRefusal};
 use csq_list::{InsertStatus, Peek, PendingList, Place};
 use irp_core::{
     FileId, FinalStatus, IrpId, IrpLife, IrpPlace, Kind, Life, Machine, NtStatus, PassId, Step,
@@ -157,7 +157,7 @@ impl<L: PendingList, A: Allocator> Driver<L, A> {
         irp: IrpId,
         file: FileId,
         place: Place,
-    ) -> Result<Inserted, InsertStatus>
+    ) -> Result<InsertOutcome, InsertStatus>
         requires { IsKeeping (keeping L.listing self.old) }
         ensures { Called (keeping L.listing self.old) (call.Insert irp file place)
             (insert_reply result) (keeping L.listing self.new) }
@@ -167,13 +167,13 @@ impl<L: PendingList, A: Allocator> Driver<L, A> {
         let name = self.present(irp);
         make(&mut self.machine, Kind::Arm(name));
         if make(&mut self.machine, Kind::Test(name)) == 0 {
-            return Ok(Inserted::Pending);
+            return Ok(InsertOutcome::Pending);
         }
         // The one pass cancels nothing between the two steps, so its disarm finds the routine.
         make(&mut self.machine, Kind::Disarm(name));
         self.list.remove(irp);
         self.finish(irp, FinalStatus::cancelled());
-        Ok(Inserted::Cancelled)
+        Ok(InsertOutcome::Cancelled)
     }
 
     /// Lists an IRP again that the pass got by a removal and holds, for the file object that it was inserted
@@ -182,16 +182,16 @@ impl<L: PendingList, A: Allocator> Driver<L, A> {
         &mut self,
         irp: IrpId,
         place: Place,
-    ) -> Result<Result<Inserted, InsertStatus>, Refusal>
+    ) -> Result<Result<InsertOutcome, InsertStatus>, ScriptRefusal>
         requires { IsStanding (keeping L.listing self.old) }
         ensures { DidNext (keeping L.listing self.old) (call.PutBack irp place)
             (reported insert_reply result) (keeping L.listing self.new) }
     {
         if !self.is_known(irp) {
-            return Err(Refusal::UnknownIrp);
+            return Err(ScriptRefusal::UnknownIrp);
         }
         if !self.holds(irp) {
-            return Err(Refusal::NotHeld);
+            return Err(ScriptRefusal::NotHeld);
         }
         let file = self.files[irp.0 as usize];
         if let Err(cause) = self.list.put_back_ex(irp, file, place) {
@@ -200,13 +200,13 @@ impl<L: PendingList, A: Allocator> Driver<L, A> {
         let name = self.present(irp);
         make(&mut self.machine, Kind::Rearm(name));
         if make(&mut self.machine, Kind::Test(name)) == 0 {
-            return Ok(Ok(Inserted::Pending));
+            return Ok(Ok(InsertOutcome::Pending));
         }
         // As in an insert, the disarm finds the routine.
         make(&mut self.machine, Kind::Disarm(name));
         self.list.remove(irp);
         self.finish(irp, FinalStatus::cancelled());
-        Ok(Ok(Inserted::Cancelled))
+        Ok(Ok(InsertOutcome::Cancelled))
     }
 
     /// Removes the first match that no cancel claimed.
@@ -230,13 +230,13 @@ impl<L: PendingList, A: Allocator> Driver<L, A> {
     }
 
     /// Removes an IRP, where it is listed in this life and no cancel claimed it.
-    pub(crate) fn remove(&mut self, name: IrpLife) -> Result<Option<IrpId>, Refusal>
+    pub(crate) fn remove(&mut self, name: IrpLife) -> Result<Option<IrpId>, ScriptRefusal>
         requires { IsKeeping (keeping L.listing self.old) }
         ensures { Called (keeping L.listing self.old) (call.Remove name) (reported taken_reply result)
             (keeping L.listing self.new) }
     {
         if !self.is_known(name.irp) {
-            return Err(Refusal::UnknownIrp);
+            return Err(ScriptRefusal::UnknownIrp);
         }
         if !self.lists(name) {
             make(&mut self.machine, Kind::End);
@@ -253,40 +253,40 @@ impl<L: PendingList, A: Allocator> Driver<L, A> {
 
     /// Sets the Cancel flag and takes the cancel routine. Answers whether the routine was there.
     #[tactic(auto, unfolding(irp_core::specs::Steps::same_irp))]
-    pub(crate) fn mark(&mut self, name: IrpLife) -> Result<bool, Refusal>
+    pub(crate) fn mark(&mut self, name: IrpLife) -> Result<bool, ScriptRefusal>
         requires { IsKeeping (keeping L.listing self.old) }
         ensures { Called (keeping L.listing self.old) (call.Mark name) (reported mark_reply result)
             (keeping L.listing self.new) }
     {
         if !self.is_known(name.irp) {
-            return Err(Refusal::UnknownIrp);
+            return Err(ScriptRefusal::UnknownIrp);
         }
         let present = self.present(name.irp);
         if present != name {
-            return Err(Refusal::Stale(present.life));
+            return Err(ScriptRefusal::Stale(present.life));
         }
         make(&mut self.machine, Kind::Flag(name));
         Ok(make(&mut self.machine, Kind::Take(name)) != 0)
     }
 
     /// Runs the cancel routine of an IRP that the pass owes. Answers the status of its completion.
-    pub(crate) fn routine(&mut self, irp: IrpId) -> Result<NtStatus, Refusal>
+    pub(crate) fn routine(&mut self, irp: IrpId) -> Result<NtStatus, ScriptRefusal>
         requires { IsKeeping (keeping L.listing self.old) }
         ensures { Called (keeping L.listing self.old) (call.Routine irp)
             (reported reply.Completed result) (keeping L.listing self.new) }
     {
         if !self.is_known(irp) {
-            return Err(Refusal::UnknownIrp);
+            return Err(ScriptRefusal::UnknownIrp);
         }
         if !self.owes(irp) {
-            return Err(Refusal::NoClaim);
+            return Err(ScriptRefusal::NoClaim);
         }
         self.run_routine(irp);
         Ok(NtStatus::CANCELLED)
     }
 
     /// Marks an IRP, and runs its routine where it was there. Answers whether it was.
-    pub(crate) fn cancel(&mut self, name: IrpLife) -> Result<bool, Refusal>
+    pub(crate) fn cancel(&mut self, name: IrpLife) -> Result<bool, ScriptRefusal>
         requires { IsKeeping (keeping L.listing self.old) }
         ensures { Did (keeping L.listing self.old) (call.Cancel name)
             (reported reply.CancelAnswered result) (keeping L.listing self.new) }
@@ -300,38 +300,42 @@ impl<L: PendingList, A: Allocator> Driver<L, A> {
     }
 
     /// Completes an IRP that the pass holds. Answers the status.
-    pub(crate) fn complete(&mut self, irp: IrpId, status: NtStatus) -> Result<NtStatus, Refusal>
+    pub(crate) fn complete(
+        &mut self,
+        irp: IrpId,
+        status: NtStatus,
+    ) -> Result<NtStatus, ScriptRefusal>
         requires { IsKeeping (keeping L.listing self.old) }
         ensures { Called (keeping L.listing self.old) (call.Complete irp status)
             (reported reply.Completed result) (keeping L.listing self.new) }
     {
         if !self.is_known(irp) {
-            return Err(Refusal::UnknownIrp);
+            return Err(ScriptRefusal::UnknownIrp);
         }
         if !self.holds(irp) {
-            return Err(Refusal::NotHeld);
+            return Err(ScriptRefusal::NotHeld);
         }
         let Some(last) = FinalStatus::new(status) else {
-            return Err(Refusal::StatusPending);
+            return Err(ScriptRefusal::StatusPending);
         };
         self.finish(irp, last);
         Ok(status)
     }
 
     /// Closes a file object.
-    pub(crate) fn close(&mut self, file: FileId) -> Result<(), Refusal>
+    pub(crate) fn close(&mut self, file: FileId) -> Result<(), ScriptRefusal>
         requires { IsKeeping (keeping L.listing self.old) }
         ensures { Called (keeping L.listing self.old) (call.Close file)
             (reported (λ _. reply.Closed) result) (keeping L.listing self.new) }
     {
         match self.list.close_file(file) {
             Ok(()) => Ok(()),
-            Err(_) => Err(Refusal::UnknownFile),
+            Err(_) => Err(ScriptRefusal::UnknownFile),
         }
     }
 
     /// Closes a file object, and completes what is queued for it as cancelled. Answers how many it completed.
-    pub(crate) fn cleanup(&mut self, file: FileId) -> Result<u32, Refusal>
+    pub(crate) fn cleanup(&mut self, file: FileId) -> Result<u32, ScriptRefusal>
         requires { IsKeeping (keeping L.listing self.old) }
         ensures { Did (keeping L.listing self.old) (call.Cleanup file) (reported reply.Cleaned result)
             (keeping L.listing self.new) }
@@ -355,7 +359,7 @@ impl<L: PendingList, A: Allocator> Driver<L, A> {
     }
 
     /// Whether the Cancel flag is set.
-    pub(crate) fn flag(&self, irp: IrpId) -> Result<bool, Refusal>
+    pub(crate) fn flag(&self, irp: IrpId) -> Result<bool, ScriptRefusal>
         requires { IsKeeping (keeping L.listing self.now) }
         ensures { Called (keeping L.listing self.now) (call.Flag irp) (reported reply.Flag result)
             (keeping L.listing self.now) }
@@ -363,12 +367,12 @@ impl<L: PendingList, A: Allocator> Driver<L, A> {
         if self.is_known(irp) {
             Ok(self.machine.cancelled(irp))
         } else {
-            Err(Refusal::UnknownIrp)
+            Err(ScriptRefusal::UnknownIrp)
         }
     }
 
     /// The status with which the present life was completed, if it was.
-    pub(crate) fn status(&self, irp: IrpId) -> Result<Option<NtStatus>, Refusal>
+    pub(crate) fn status(&self, irp: IrpId) -> Result<Option<NtStatus>, ScriptRefusal>
         requires { IsKeeping (keeping L.listing self.now) }
         ensures { Called (keeping L.listing self.now) (call.Status irp) (reported status_reply result)
             (keeping L.listing self.now) }
@@ -376,25 +380,25 @@ impl<L: PendingList, A: Allocator> Driver<L, A> {
         if self.is_known(irp) {
             Ok(self.statuses[irp.0 as usize])
         } else {
-            Err(Refusal::UnknownIrp)
+            Err(ScriptRefusal::UnknownIrp)
         }
     }
 
     /// Begins the next life, and answers it.
-    pub(crate) fn reuse(&mut self, irp: IrpId) -> Result<Life, Refusal>
+    pub(crate) fn reuse(&mut self, irp: IrpId) -> Result<Life, ScriptRefusal>
         requires { IsKeeping (keeping L.listing self.old) }
         ensures { Called (keeping L.listing self.old) (call.Reuse irp) (reported reply.Begun result)
             (keeping L.listing self.new) }
     {
         if !self.is_known(irp) {
-            return Err(Refusal::UnknownIrp);
+            return Err(ScriptRefusal::UnknownIrp);
         }
         if self.statuses[irp.0 as usize].is_none() {
-            return Err(Refusal::NotCompleted);
+            return Err(ScriptRefusal::NotCompleted);
         }
         let ended = self.present(irp);
         if ended.life.0 >= Life::LAST.0 {
-            return Err(Refusal::LivesSpent);
+            return Err(ScriptRefusal::LivesSpent);
         }
         make(&mut self.machine, Kind::Renew(ended));
         self.list.renew(irp);

@@ -1,5 +1,5 @@
 //! What comes of a line of a script.
-use crate::script::call::{Call, Reply};
+use crate::script::call::{Reply, ScriptCall};
 use std::fmt;
 
 /// Why a line ends a script. Own rule.
@@ -32,7 +32,7 @@ pub enum CallOutcome {
     /// Nothing: it is empty, or a comment.
     Skipped,
     /// Its call was made, and answered so.
-    Answered(Call, Reply),
+    Answered(ScriptCall, Reply),
     /// It ends the handling.
     Stopped(CallStop),
 }

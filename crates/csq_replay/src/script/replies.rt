@@ -7,7 +7,7 @@ ghost use Rattle.csq_replay.specs.Drivers.{StandsAt, IsStanding, DidNext, keepin
 ghost use Rattle.csq_replay.specs.Replies.{reported, insert_reply, taken_reply, mark_reply};
 
 use crate::lines::{MAX_LINE, is_skipped};
-use crate::script::call::{Call, Inserted, Refusal, Reply};
+use crate::script::call::{InsertOutcome, Reply, ScriptCall, ScriptRefusal};
 use crate::script::call_line::parse_call;
 use crate::script::driver::Driver;
 use crate::script::outcome::{CallOutcome, CallStop};
@@ -15,12 +15,12 @@ use csq_list::{InsertStatus, PendingList};
 use irp_core::{IrpId, NtStatus};
 use std::alloc::Allocator;
 
-fn insert_reply(answer: Result<Inserted, InsertStatus>) -> Reply
+fn insert_reply(answer: Result<InsertOutcome, InsertStatus>) -> Reply
     ensures { result ≡ insert_reply answer }
 {
     match answer {
-        Ok(Inserted::Pending) => Reply::Pending,
-        Ok(Inserted::Cancelled) => Reply::Cancelled,
+        Ok(InsertOutcome::Pending) => Reply::Pending,
+        Ok(InsertOutcome::Cancelled) => Reply::Cancelled,
         Err(cause) => Reply::InsertRefused(cause),
     }
 }
@@ -75,7 +75,7 @@ impl<L: PendingList, A: Allocator> Driver<L, A> {
     }
 
     /// Makes a call, and tells what it answers.
-    fn answer(&mut self, call: Call) -> Reply
+    fn answer(&mut self, call: ScriptCall) -> Reply
         requires { IsStanding (keeping L.listing self.old) }
         ensures { (l : Limits) (s : Script) → StandsAt l (keeping L.listing self.old) s
             → (t : Script) × Does l s call result t × StandsAt l (keeping L.listing self.new) t }
@@ -87,28 +87,28 @@ impl<L: PendingList, A: Allocator> Driver<L, A> {
     }
 
     /// Makes a call, and tells what it answers where it isn't refused.
-    fn report(&mut self, call: Call) -> Result<Reply, Refusal>
+    fn report(&mut self, call: ScriptCall) -> Result<Reply, ScriptRefusal>
         requires { IsStanding (keeping L.listing self.old) }
         ensures { DidNext (keeping L.listing self.old) call (reported (λ reply. reply) result)
             (keeping L.listing self.new) }
     {
         match call {
-            Call::Insert(irp, file, place) => Ok(insert_reply(self.insert(irp, file, place))),
-            Call::Next(peek) => Ok(taken_reply(self.next(peek))),
-            Call::Remove(name) => Ok(taken_reply(self.remove(name)?)),
-            Call::Mark(name) => Ok(mark_reply(self.mark(name)?)),
-            Call::Routine(irp) => Ok(Reply::Completed(self.routine(irp)?)),
-            Call::Cancel(name) => Ok(Reply::CancelAnswered(self.cancel(name)?)),
-            Call::Complete(irp, status) => Ok(Reply::Completed(self.complete(irp, status)?)),
-            Call::Close(file) => {
+            ScriptCall::Insert(irp, file, place) => Ok(insert_reply(self.insert(irp, file, place))),
+            ScriptCall::Next(peek) => Ok(taken_reply(self.next(peek))),
+            ScriptCall::Remove(name) => Ok(taken_reply(self.remove(name)?)),
+            ScriptCall::Mark(name) => Ok(mark_reply(self.mark(name)?)),
+            ScriptCall::Routine(irp) => Ok(Reply::Completed(self.routine(irp)?)),
+            ScriptCall::Cancel(name) => Ok(Reply::CancelAnswered(self.cancel(name)?)),
+            ScriptCall::Complete(irp, status) => Ok(Reply::Completed(self.complete(irp, status)?)),
+            ScriptCall::Close(file) => {
                 self.close(file)?;
                 Ok(Reply::Closed)
             }
-            Call::Cleanup(file) => Ok(Reply::Cleaned(self.cleanup(file)?)),
-            Call::Flag(irp) => Ok(Reply::Flag(self.flag(irp)?)),
-            Call::Status(irp) => Ok(status_reply(self.status(irp)?)),
-            Call::Reuse(irp) => Ok(Reply::Begun(self.reuse(irp)?)),
-            Call::PutBack(irp, place) => Ok(insert_reply(self.put_back(irp, place)?)),
+            ScriptCall::Cleanup(file) => Ok(Reply::Cleaned(self.cleanup(file)?)),
+            ScriptCall::Flag(irp) => Ok(Reply::Flag(self.flag(irp)?)),
+            ScriptCall::Status(irp) => Ok(status_reply(self.status(irp)?)),
+            ScriptCall::Reuse(irp) => Ok(Reply::Begun(self.reuse(irp)?)),
+            ScriptCall::PutBack(irp, place) => Ok(insert_reply(self.put_back(irp, place)?)),
         }
     }
 }

@@ -3,7 +3,7 @@ use csq_device::{Device, DeviceCause, DeviceNew, Free, Plan, RunRefused};
 use csq_explain::AnsweredCall;
 use csq_list::{AnyList, ListKind, PendingList, Place};
 use csq_program::{CommandFault, ProgramFault, RunFault, status_of};
-use csq_replay::{Call, Refusal, Reply, SimFault};
+use csq_replay::{Reply, ScriptCall, ScriptRefusal, SimFault};
 use irp_core::{FileId, IrpId};
 use linked_list_allocator::LocalHeap;
 use std::process::Abort;
@@ -165,8 +165,8 @@ fn an_answer_that_no_script_has_is_explained(rt: HostRuntime) -> Result<(), Fail
     let answered = AnsweredCall {
         irps: 8,
         files: 4,
-        call: Call::Reuse(IrpId(0)),
-        reply: Reply::Refused(Refusal::LivesSpent),
+        call: ScriptCall::Reuse(IrpId(0)),
+        reply: Reply::Refused(ScriptRefusal::LivesSpent),
     };
     let told = format!(in rt.alloc(); "{answered}")?;
     assert_eq!(rt; told.as_str(), "IRP 0 is in its last life");

@@ -6,8 +6,8 @@ use Rattle.csq_diagnose.proofs.expected.Expected.admits.Goals as goal
 pub returns-in-Step : goal.returns-in-Step
 returns-in-Step c = rw c.in-Step.is c.is_one_of.ensures
 
-pub returns-in-Call : goal.returns-in-Call
-returns-in-Call c = rw c.in-Call.is c.is_one_of-in-Call.ensures
+pub returns-in-ScriptCall : goal.returns-in-ScriptCall
+returns-in-ScriptCall c = rw c.in-ScriptCall.is c.is_one_of-in-ScriptCall.ensures
 
 pub returns-in-Place : goal.returns-in-Place
 returns-in-Place c = rw c.in-Place.is c.is_one_of-in-Place.ensures

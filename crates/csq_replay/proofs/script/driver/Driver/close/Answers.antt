@@ -1,5 +1,5 @@
 use Rattle.std.proofs.Common.{refl}
-use Rattle.csq_replay.specs.declared.script.call.Call.TheVariants.{Close}
+use Rattle.csq_replay.specs.declared.script.call.ScriptCall.TheVariants.{Close}
 use Rattle.csq_replay.proofs.Calling.{close_keeps, unknown_file_keeps}
 use Rattle.csq_replay.proofs.script.driver.Driver.close.Goals as goal
 

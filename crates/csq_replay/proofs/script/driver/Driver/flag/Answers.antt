@@ -1,5 +1,5 @@
 use Rattle.std.proofs.Common.{refl}
-use Rattle.csq_replay.specs.declared.script.call.Call.TheVariants.{Flag}
+use Rattle.csq_replay.specs.declared.script.call.ScriptCall.TheVariants.{Flag}
 use Rattle.csq_replay.proofs.Calling.{flag_keeps, unknown_keeps}
 use Rattle.csq_replay.proofs.script.driver.Driver.flag.Goals as goal
 

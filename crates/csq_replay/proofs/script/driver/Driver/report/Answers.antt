@@ -1,4 +1,4 @@
-use Rattle.csq_replay.specs.declared.script.call.Call.TheVariants.{Insert, Next, Remove, Mark, Routine, Complete, Close, Flag, Status, Reuse}
+use Rattle.csq_replay.specs.declared.script.call.ScriptCall.TheVariants.{Insert, Next, Remove, Mark, Routine, Complete, Close, Flag, Status, Reuse}
 use Rattle.csq_replay.specs.Calls.Does.{calls}
 use Rattle.csq_replay.proofs.Handing.{handed_on}
 use Rattle.csq_replay.proofs.script.driver.Driver.report.Goals as goal

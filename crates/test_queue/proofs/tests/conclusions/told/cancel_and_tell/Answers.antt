@@ -8,7 +8,7 @@ use Rattle.irp_core.specs.Words.{flagged}
 use Rattle.irp_core.specs.Steps.{own}
 use Rattle.irp_core.proofs.Names.{same_irp-refl}
 use Rattle.irp_core.proofs.Own.{flagged_own}
-use Rattle.csq_words.specs.declared.views.Entry.{Entry}
+use Rattle.csq_words.specs.declared.views.HistoryEntry.{HistoryEntry}
 use Rattle.csq_words.specs.declared.views.Event.TheVariants.{Out}
 use Rattle.csq_words.specs.declared.views.PassRecord.{PassRecord}
 use Rattle.csq_words.specs.Calls.{due_mark}
@@ -33,7 +33,7 @@ returns g c = record {
       let i = named c.args.irp c.args.life in
       let old = c.args.canceller.now in
       let new = c.cancel-done.new.pass in
-      let Completes : Bool → Type 0 = λ d. d ≡ true → (history : List Entry) × (out : PassRecord) × AddsEvents l history old out (Out i ∷ due_mark i (end_of l.first history))
+      let Completes : Bool → Type 0 = λ d. d ≡ true → (history : List HistoryEntry) × (out : PassRecord) × AddsEvents l history old out (Out i ∷ due_mark i (end_of l.first history))
       × (new ≡ saw new.run (with_completion i CANCELLED (with_step (Done i) 0 out))) × FindsUnset (queue_size l) i out new in
       let Steps : Bool → Type 0 = λ d. d ≡ true → (flag : ℕ) × (new ≡ record (cancelled_by i flag old) { seen = new.seen; mine = new.mine; run = new.run }) in
       let Leaves : Bool → Type 0 = λ d. d ≡ false → (flag : ℕ) × (new ≡ saw new.run (with_step (Take i) 0 (with_step (Flag i) flag old))) × EndsWithTake (queue_size l) i flag 0 old new in

@@ -1,7 +1,7 @@
 use Rattle.std.proofs.Common.{◌∙◌, ap, sym, arith}
 use Rattle.csq_words.specs.Rule.{table_size}
 use Rattle.csq_words.proofs.Prefixes.{copies_seen_as}
-use Rattle.csq_words.proofs.seen.Seen.again.Goals as goal
+use Rattle.csq_words.proofs.seen.SeenPrefix.again.Goals as goal
 
 pub split_seat-seat-requires : goal.split_seat-seat-requires
 split_seat-seat-requires g c =
