@@ -11,7 +11,7 @@
  *     IoCsqInsertIrpEx of what was removed     csq_put_back
  *     IoCancelIrp                              csq_cancel; its halves are csq_mark_cancel and csq_cancel_owed
  *     CsqPeekNextIrp                           csq_peek_next
- *     CsqCompleteCanceledIrp                   csq_complete_cancelled; struct csq_callback is told before it
+ *     CsqCompleteCanceledIrp                   csq_complete_cancelled; struct csq_callback is called before it
  *     IoCompleteRequest                        csq_complete
  *     IRP_MJ_CLEANUP                           csq_cleanup; csq_close_file, csq_drain
  *     IoReuseIrp                               csq_reuse
@@ -53,7 +53,7 @@
  * queue is closed; then the causes in the order in which the call's comment names them. A closed queue has no pass, so
  * a call that takes a queue and a filled pass answers CSQ_OTHER_QUEUE of it. A refusal, which is any answer but CSQ_OK
  * and the CSQ_CANCELLED of csq_insert and csq_put_back, changes nothing and writes nothing, but for the life that
- * csq_read_status tells. (csq_drain and csq_cleanup are made of several calls: what they did before a refusal stays
+ * csq_read_status stores. (csq_drain and csq_cleanup are made of several calls: what they did before a refusal stays
  * done.) CSQ_EMPTY_HANDLE of a handle that is filled says that two calls had it at once: the lock is missing somewhere.
  *
  * What the caller must uphold, which nothing checks:
@@ -237,7 +237,7 @@ struct csq_size {
     uint32_t list;       /* CSQ_VECTOR or CSQ_CHAINS */
 };
 
-/* What a closed queue tells of an IRP in its present life. */
+/* What a closed queue reports of an IRP in its present life. */
 struct csq_left {
     uint32_t life;
     uint32_t cancelled; /* 1 where its Cancel flag is set, else 0 */
@@ -288,10 +288,10 @@ CSQ_NODISCARD static inline uint32_t csq_free(struct csq_queue *queue) {
     return code;
 }
 
-/* Tells how many passes are out. CSQ_EMPTY_HANDLE; CSQ_CLOSED. Lock: held. */
+/* Stores in *out the number of passes that are out. CSQ_EMPTY_HANDLE; CSQ_CLOSED. Lock: held. */
 uint32_t csq_count_passes_out(const struct csq_queue *queue, uint32_t *out);
 
-/* Closes the queue, once no pass is out. The same handle is the closed queue then, which tells what is left
+/* Closes the queue, once no pass is out. The same handle is the closed queue then, which reports what is left
  * (csq_read_listed, csq_read_left), is freed by csq_free, and answers CSQ_CLOSED to csq_take_pass and to any call of a
  * queue alone that wants it open.
  * CSQ_EMPTY_HANDLE; CSQ_CLOSED; CSQ_PASSES_OUT. Lock: held, or no other thread uses the queue any more. */
@@ -326,7 +326,7 @@ CSQ_NODISCARD uint32_t csq_give_back(struct csq_queue *queue, struct csq_pass *p
  * CSQ_EMPTY_HANDLE; CSQ_HOLDING. Lock: not needed. */
 CSQ_NODISCARD uint32_t csq_abandon_pass(struct csq_pass *pass);
 
-/* Tells how many IRPs the pass holds, and how many it owes. CSQ_EMPTY_HANDLE. Lock: not needed. */
+/* Stores how many IRPs the pass holds, and how many it owes. CSQ_EMPTY_HANDLE. Lock: not needed. */
 uint32_t csq_count_held(const struct csq_pass *pass, uint32_t *held, uint32_t *owed);
 
 /* ---- Under the lock ---- */
@@ -379,34 +379,34 @@ CSQ_NODISCARD uint32_t csq_cancel_owed(struct csq_queue *queue, struct csq_pass 
 CSQ_NODISCARD uint32_t csq_close_file(struct csq_queue *queue, struct csq_pass *pass, uint32_t file);
 
 /* Begins the next life of an IRP that is completed in the life named, its present one (IoReuseIrp). It is home then.
- * Tells that next life.
+ * Stores that next life.
  * CSQ_EMPTY_HANDLE; CSQ_OTHER_QUEUE; CSQ_UNKNOWN_IRP; CSQ_STALE (the present life is another); CSQ_NOT_COMPLETED;
  * CSQ_LIVES_SPENT. Lock: held. */
 CSQ_NODISCARD uint32_t csq_reuse(struct csq_queue *queue, struct csq_pass *pass, struct csq_irp irp, uint32_t *life);
 
 /* ---- What a driver does, beside this queue, under the lock ---- */
 
-/* Removes an IRP beside a driver that removes it (IoCsqRemoveIrp), as csq_remove does, and tells one of enum
+/* Removes an IRP beside a driver that removes it (IoCsqRemoveIrp), as csq_remove does, and stores one of enum
  * csq_remove_verdict: where it agrees, csq_remove would answer CSQ_OK, and the pass holds the IRP then. Whether another
- * is listed is told by its number. CSQ_EMPTY_HANDLE; CSQ_OTHER_QUEUE. Lock: held. */
+ * is listed is decided by its number. CSQ_EMPTY_HANDLE; CSQ_OTHER_QUEUE. Lock: held. */
 uint32_t csq_judge_remove(struct csq_queue *queue, struct csq_pass *pass, struct csq_irp irp, uint32_t *verdict);
 
 /* Completes an IRP beside a driver that completes it with this status (IoCompleteRequest), through the pass that holds
- * it: as csq_complete_cancelled does for STATUS_CANCELLED, and as csq_complete for another. Tells one of enum
- * csq_use_verdict; nothing is completed unless it agrees. Whether an IRP that the pass doesn't hold is listed is told
- * by its number. CSQ_EMPTY_HANDLE; CSQ_OTHER_QUEUE. Lock: held. */
+ * it: as csq_complete_cancelled does for STATUS_CANCELLED, and as csq_complete for another. Stores one of enum
+ * csq_use_verdict; nothing is completed unless it agrees. Whether an IRP that the pass doesn't hold is listed is
+ * decided by its number. CSQ_EMPTY_HANDLE; CSQ_OTHER_QUEUE. Lock: held. */
 uint32_t csq_judge_complete(struct csq_queue *queue, struct csq_pass *pass, struct csq_irp irp, uint32_t status,
                             uint32_t *verdict);
 
 /* Judges the insert of an IRP that was in this queue before, in the life that it has there (IoCsqInsertIrpEx). A driver
- * may insert again what it removed, but not what is listed, or was given to it as cancelled. Tells one of enum
+ * may insert again what it removed, but not what is listed, or was given to it as cancelled. Stores one of enum
  * csq_use_verdict, never CSQ_USE_NOT_FINAL. Where it agrees the IRP is completed, so that csq_reuse begins its next
  * life, in which csq_insert takes it. CSQ_EMPTY_HANDLE; CSQ_OTHER_QUEUE. Lock: held. */
 uint32_t csq_judge_insert(struct csq_queue *queue, struct csq_pass *pass, struct csq_irp irp, uint32_t *verdict);
 
 /* ---- Looks at an open queue, under the lock ---- */
 
-/* Tells the first listed IRP of a file object, or of any for CSQ_ANY, in its present life: from the first on where
+/* Stores the first listed IRP of a file object, or of any for CSQ_ANY, in its present life: from the first on where
  * `after` is CSQ_ANY, else after that one (CsqPeekNextIrp). It may be one whose cancel routine a canceller has taken,
  * which is listed until that canceller has run it. CSQ_NONE also for an unknown file object.
  * CSQ_EMPTY_HANDLE; CSQ_CLOSED; CSQ_NOT_LISTED (`after` isn't listed); CSQ_NONE. Lock: held. */
@@ -414,7 +414,7 @@ uint32_t csq_peek_next(const struct csq_queue *queue, uint32_t after, uint32_t f
 
 /* Judges what a driver's own CsqPeekNextIrp answered for its list, beside this queue's: `answer`, or CSQ_ANY for none,
  * to a peek that went on after `after`, or from the first on for CSQ_ANY, for a file object, or for any with CSQ_ANY.
- * Tells one of enum csq_peek_verdict, and for CSQ_PEEK_SKIPS in *skipped the match that comes first.
+ * Stores one of enum csq_peek_verdict, and for CSQ_PEEK_SKIPS in *skipped the match that comes first.
  * CSQ_EMPTY_HANDLE; CSQ_CLOSED; CSQ_NOT_LISTED (`after` isn't listed). Lock: held. */
 uint32_t csq_judge_peek(const struct csq_queue *queue, uint32_t after, uint32_t file, uint32_t answer,
                         uint32_t *verdict, uint32_t *skipped);
@@ -425,10 +425,10 @@ uint32_t csq_judge_peek(const struct csq_queue *queue, uint32_t after, uint32_t 
 uint32_t csq_judge_cleanup(const struct csq_queue *queue, uint32_t file, const uint32_t *excused, size_t count,
                            uint32_t *left);
 
-/* Tells how many IRPs are listed. CSQ_EMPTY_HANDLE; CSQ_CLOSED. Lock: held. */
+/* Stores how many IRPs are listed. CSQ_EMPTY_HANDLE; CSQ_CLOSED. Lock: held. */
 uint32_t csq_len(const struct csq_queue *queue, uint32_t *len);
 
-/* Tells how many IRPs are listed for a file object. CSQ_EMPTY_HANDLE; CSQ_CLOSED; CSQ_UNKNOWN_FILE. Lock: held. */
+/* Stores how many IRPs are listed for a file object. CSQ_EMPTY_HANDLE; CSQ_CLOSED; CSQ_UNKNOWN_FILE. Lock: held. */
 uint32_t csq_file_len(const struct csq_queue *queue, uint32_t file, uint32_t *len);
 
 /* ---- Without the lock ---- */
@@ -498,7 +498,7 @@ struct csq_lock {
     void *context;
 };
 
-/* A function that is told of an IRP that is about to be completed as cancelled, as CsqCompleteCanceledIrp is told, and
+/* A function that is called with an IRP that is about to be completed as cancelled, as CsqCompleteCanceledIrp is, and
  * what it is called with. The lock is free then, and the IRP is the calling pass's alone: what the function writes for
  * the IRP's owner is seen by whoever learns of the completion. It returns to its caller (by no exception and no
  * longjmp), makes no call with this pass, and may make any other call. */
@@ -509,7 +509,7 @@ struct csq_callback {
 
 /* Cancels an IRP in the life named (IoCancelIrp): csq_mark_cancel, and where the routine was there the callback, which
  * may be NULL, and csq_cancel_owed under the lock. *completed is 1 where the IRP was completed here, else 0. While the
- * callback is told of the IRP it is listed still, so it counts for the limits and for csq_file_len.
+ * callback is called with the IRP it is listed still, so it counts for the limits and for csq_file_len.
  * CSQ_EMPTY_HANDLE; CSQ_OTHER_QUEUE; CSQ_UNKNOWN_IRP; CSQ_STALE. Lock: not held; it is taken only where the routine was
  * there. */
 CSQ_NODISCARD static inline uint32_t csq_cancel(struct csq_queue *queue, struct csq_pass *pass, struct csq_irp irp,
@@ -537,8 +537,8 @@ CSQ_NODISCARD static inline uint32_t csq_cancel(struct csq_queue *queue, struct 
 }
 
 /* Removes each IRP that is listed for a file object, or each for CSQ_ANY, and completes it as cancelled; before that
- * the callback, which may be NULL, is told of it, when it isn't listed any more. The file object stays open. *completed
- * is how many. What a canceller has is left to that canceller, and is listed until then (csq_file_len). What was
+ * the callback, which may be NULL, is called with it, when it isn't listed any more. The file object stays open.
+ * *completed is how many. What a canceller has is left to that canceller, and is listed until then (csq_file_len). What was
  * removed before isn't listed, and is for this file object again if it is put back. It ends once it finds none, so it
  * may go on for as long as others insert or put back.
  * CSQ_EMPTY_HANDLE; CSQ_OTHER_QUEUE; CSQ_UNKNOWN_FILE. Lock: not held; it is taken for each removal, and free between

@@ -8,7 +8,7 @@
  *     iocsq/queue.h     IO_CSQ and IoCsqXxx, with the driver's own callbacks
  *
  * The driver's callbacks keep the driver's list, as in the kernel. Beside it runs a queue of csq.h, which decides who
- * gets which IRP. The first disagreement of the two is told, with the calls before it (iocsq_test.h).
+ * gets which IRP. The first disagreement of the two is reported, with the calls before it (iocsq_test.h).
  *
  * A driver includes <wdm.h>, <ntddk.h> or <csq.h> as ever, with include/wdk in front of the compiler's folders. Names,
  * types and numbers are those of the WDK. A driver may not rely on sizes and offsets of the structs here.

@@ -28,7 +28,7 @@ VOID IocsqSetPolicy(PIO_CSQ Csq, const IOCSQ_POLICY *Policy);
 PDRIVER_OBJECT IocsqLoad(PDRIVER_INITIALIZE DriverEntry); /* null where DriverEntry fails, or makes no device */
 PFILE_OBJECT IocsqOpen(PDRIVER_OBJECT Driver);            /* IRP_MJ_CREATE; null where that fails */
 VOID IocsqClose(PFILE_OBJECT File);                       /* IRP_MJ_CLEANUP, then IRP_MJ_CLOSE */
-VOID IocsqUnload(PDRIVER_OBJECT Driver);                  /* and tells each IRP that was never completed */
+VOID IocsqUnload(PDRIVER_OBJECT Driver);                  /* and reports each IRP that was never completed */
 
 /* A file object that is open, at random: its IRP_MJ_CLEANUP may be sent meanwhile, as where another thread closes its
  * handle, but IRP_MJ_CLOSE comes only once it was released. Null: none is open. */

@@ -92,7 +92,7 @@ static void run_first_dpc(void) {
     running_dpc = dpc;
     iocsq_unlock_state();
     iocsq_point();
-    iocsq_tell(NULL, "a DPC");
+    iocsq_log(NULL, "a DPC");
     iocsq_set_irql(DISPATCH_LEVEL);
     call.DeferredRoutine(dpc, call.DeferredContext, call.SystemArgument1, call.SystemArgument2);
     if (KeGetCurrentIrql() != DISPATCH_LEVEL) {
@@ -255,7 +255,7 @@ static void run_first_work(void) {
     item->queued = false;
     iocsq_unlock_state();
     iocsq_point();
-    iocsq_tell(NULL, "a work item");
+    iocsq_log(NULL, "a work item");
     call.routine(call.device, call.context);
     check_left("a work item");
     iocsq_lock_state();

@@ -90,8 +90,8 @@ bool iocsq_rarely(uint32_t in); /* once in so many times */
 void iocsq_point(void);         /* another thread may come between here */
 void iocsq_long_point(uint32_t in); /* and once in so many times others come between for long */
 /* Notes a call, for the reports; `about` may be null. */
-void iocsq_tell(const struct iocsq_irp *about, const char *format, ...) __attribute__((format(printf, 2, 3)));
-void iocsq_tell_sent(const struct iocsq_irp *about, const char *format, ...) __attribute__((format(printf, 2, 3)));
+void iocsq_log(const struct iocsq_irp *about, const char *format, ...) __attribute__((format(printf, 2, 3)));
+void iocsq_log_sent(const struct iocsq_irp *about, const char *format, ...) __attribute__((format(printf, 2, 3)));
 /* The driver's fault: reports it, and ends the program. `about` may be null. */
 void iocsq_disagree(const struct iocsq_irp *about, const char *format, ...)
     __attribute__((format(printf, 2, 3), noreturn));
@@ -121,7 +121,7 @@ void iocsq_end_turns_of_thread(void);
 void iocsq_lock_state(void); /* the lock of what threads wait for, of the IRPs' table and of the file objects */
 void iocsq_unlock_state(void);
 void iocsq_state_changed(void);
-/* Waits until it holds or the time is over, and tells whether it holds. The state's lock is held before and after. */
+/* Waits until it holds or the time is over, and returns whether it holds. The state's lock is held before and after. */
 bool iocsq_await(bool (*holds)(void *), void *of, uint64_t nanoseconds, const char *what);
 uint64_t iocsq_now(void); /* nanoseconds, in turns those of the turns */
 bool iocsq_is_signaled(void *header);

@@ -260,7 +260,7 @@ NTSTATUS NTAPI IofCallDriver(PDEVICE_OBJECT DeviceObject, PIRP Irp) {
     if (Irp->CancelRoutine) {
         iocsq_disagree(i, "IoCallDriver of irp %u, which still has a cancel routine", i->index);
     }
-    iocsq_tell(i, "IoCallDriver(irp %u)", i->index);
+    iocsq_log(i, "IoCallDriver(irp %u)", i->index);
     i->passed_on = true;
     iocsq_point();
     return iocsq_dispatch(DeviceObject, i);
@@ -272,7 +272,7 @@ static void check_completion(struct iocsq_irp *i) {
         iocsq_step_again(i, "done");
         iocsq_disagree(i, "IoCompleteRequest of irp %u, which was completed before", i->index);
     }
-    iocsq_tell(i, "IoCompleteRequest(irp %u, %08X)", i->index, (unsigned)i->irp.IoStatus.Status);
+    iocsq_log(i, "IoCompleteRequest(irp %u, %08X)", i->index, (unsigned)i->irp.IoStatus.Status);
     if (iocsq_spin_lock_count() > 0) {
         iocsq_disagree(i, "IoCompleteRequest of irp %u with a spin lock held", i->index);
     }
@@ -300,7 +300,7 @@ static bool run_completion_routine(struct iocsq_irp *i, const IO_STACK_LOCATION 
     bool above = i->irp.CurrentLocation <= i->irp.StackCount;
     PDEVICE_OBJECT device = above ? IoGetCurrentIrpStackLocation(&i->irp)->DeviceObject : NULL;
     iocsq_point();
-    iocsq_tell(i, "  a completion routine of irp %u", i->index);
+    iocsq_log(i, "  a completion routine of irp %u", i->index);
     NTSTATUS status = stack->CompletionRoutine(device, &i->irp, stack->Context);
     if (status == STATUS_MORE_PROCESSING_REQUIRED) {
         return false;
@@ -402,7 +402,7 @@ BOOLEAN NTAPI IoCancelIrp(PIRP Irp) {
     if (i->own && i->place == IOCSQ_DONE) {
         iocsq_disagree(i, "IoCancelIrp of irp %u, which was freed", i->index);
     }
-    iocsq_tell(i, "IoCancelIrp(irp %u)", i->index);
+    iocsq_log(i, "IoCancelIrp(irp %u)", i->index);
     Irp->Cancel = TRUE;
     iocsq_long_point(8);
     if (iocsq_cancel_queued(i)) {
@@ -429,7 +429,7 @@ PIRP NTAPI IoAllocateIrp(CCHAR StackSize, BOOLEAN ChargeQuota) {
     if (!i) {
         return NULL;
     }
-    iocsq_tell_sent(i, "IoAllocateIrp = irp %u", i->index);
+    iocsq_log_sent(i, "IoAllocateIrp = irp %u", i->index);
     return &i->irp;
 }
 
@@ -448,7 +448,7 @@ static struct iocsq_irp *own_irp(PIRP irp, const char *call) {
 VOID NTAPI IoFreeIrp(PIRP Irp) {
     iocsq_lock_state();
     struct iocsq_irp *i = own_irp(Irp, "IoFreeIrp");
-    iocsq_tell(i, "IoFreeIrp(irp %u)", i->index);
+    iocsq_log(i, "IoFreeIrp(irp %u)", i->index);
     i->use++;
     i->pending = (uint64_t)i->use << 32;
     i->place = IOCSQ_DONE;
@@ -460,7 +460,7 @@ VOID NTAPI IoFreeIrp(PIRP Irp) {
 VOID NTAPI IoReuseIrp(PIRP Irp, NTSTATUS Status) {
     iocsq_lock_state();
     struct iocsq_irp *i = own_irp(Irp, "IoReuseIrp");
-    iocsq_tell_sent(i, "IoReuseIrp(irp %u)", i->index);
+    iocsq_log_sent(i, "IoReuseIrp(irp %u)", i->index);
     i->use++;
     Irp->Cancel = FALSE;
     begin_irp(i, Irp->StackCount);

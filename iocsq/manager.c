@@ -134,9 +134,9 @@ static void check_after_dispatch(struct iocsq_irp *i, NTSTATUS status) {
 }
 
 static IOCSQ_REQUEST *send(struct iocsq_irp *i, PFILE_OBJECT file) {
-    iocsq_tell_sent(i, "dispatch(irp %u, major %02x, file %u)", i->index, i->major, iocsq_file_number(file));
+    iocsq_log_sent(i, "dispatch(irp %u, major %02x, file %u)", i->index, i->major, iocsq_file_number(file));
     NTSTATUS status = iocsq_dispatch(top_of(file->DeviceObject), i);
-    iocsq_tell(i, "dispatch(irp %u) = %08X", i->index, (unsigned)status);
+    iocsq_log(i, "dispatch(irp %u) = %08X", i->index, (unsigned)status);
     check_after_dispatch(i, status);
     return (IOCSQ_REQUEST *)(void *)i;
 }
@@ -216,7 +216,7 @@ VOID IocsqComplain(IOCSQ_REQUEST *Request, const char *Text) {
 }
 
 /* Whether it is a test's request that isn't completed or cancelled, but for a cleanup, which nobody cancels, and for what
- * a cleanup left: that should be told. Then it stays until end_cancel, as a caller of IoCancelIrp has to see to. */
+ * a cleanup left: that should be reported. Then it stays until end_cancel, as a caller of IoCancelIrp has to see to. */
 static bool begin_cancel(struct iocsq_irp *i) {
     iocsq_lock_state();
     bool may = i->used && !i->own && i->file && i->place != IOCSQ_DONE && !i->irp.Cancel &&
@@ -393,9 +393,9 @@ static NTSTATUS refuse(PDEVICE_OBJECT device, PIRP irp) {
     return STATUS_INVALID_DEVICE_REQUEST;
 }
 
-/* Where the driver uses a bad address, or the time is over, the calls before it are told too. The text is written
+/* Where the driver uses a bad address, or the time is over, the calls before it are printed too. The text is written
  * first, since nothing else is safe in a signal's handler. */
-static void tell_bad_address(int signal_number) {
+static void report_bad_address(int signal_number) {
     static const char text[] = "iocsq: the driver used a bad address.\n";
     signal(signal_number, SIG_DFL);
     if (write(STDERR_FILENO, text, sizeof text - 1) > 0) {
@@ -404,7 +404,7 @@ static void tell_bad_address(int signal_number) {
     raise(signal_number);
 }
 
-static void tell_time_over(int signal_number) {
+static void report_time_over(int signal_number) {
     static const char text[] = "iocsq: the run takes longer than it may: a thread waits for ever, or goes round.\n";
     signal(signal_number, SIG_DFL);
     if (write(STDERR_FILENO, text, sizeof text - 1) > 0) {
@@ -414,12 +414,12 @@ static void tell_time_over(int signal_number) {
 }
 
 VOID IocsqLimit(ULONG Seconds) {
-    signal(SIGALRM, tell_time_over);
+    signal(SIGALRM, report_time_over);
     alarm(Seconds);
 }
 
 static void catch_bad_addresses(void) {
-    void (*before)(int) = signal(SIGSEGV, tell_bad_address);
+    void (*before)(int) = signal(SIGSEGV, report_bad_address);
     if (before != SIG_DFL) {
         signal(SIGSEGV, before); /* a sanitizer's */
     }

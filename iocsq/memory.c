@@ -1,4 +1,4 @@
-/* The pool, strings, and devices: each is told of where it is used otherwise than it was made. */
+/* The pool, strings, and devices: each is checked for uses other than it was made for. */
 #include "internal.h"
 
 #include <stdlib.h>

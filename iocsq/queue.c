@@ -59,7 +59,7 @@ static void leave(struct iocsq_queue *q, struct held held, bool last) {
 }
 
 static void remove_by_driver(struct iocsq_queue *q, struct iocsq_irp *i) {
-    iocsq_tell(i, "  CsqRemoveIrp(irp %u)", i->index);
+    iocsq_log(i, "  CsqRemoveIrp(irp %u)", i->index);
     q->csq->CsqRemoveIrp(q->csq, &i->irp);
     if (i->context) {
         i->context->Irp = NULL;
@@ -72,7 +72,7 @@ static void remove_by_driver(struct iocsq_queue *q, struct iocsq_irp *i) {
 static void complete_by_driver(struct iocsq_queue *q, struct iocsq_irp *i) {
     uint32_t completions = i->completions;
     iocsq_point();
-    iocsq_tell(i, "  CsqCompleteCanceledIrp(irp %u)", i->index);
+    iocsq_log(i, "  CsqCompleteCanceledIrp(irp %u)", i->index);
     i->call_of = q;
     q->csq->CsqCompleteCanceledIrp(q->csq, &i->irp);
     if (completions == i->completions && !q->policy.CompletesLater) {
@@ -90,7 +90,7 @@ bool iocsq_cancel_queued(struct iocsq_irp *i) {
     struct iocsq_queue *q = iocsq_queue_at(claim.reference->index);
     q->calls++;
     iocsq_long_point(2); /* the routine is taken, and has yet to run */
-    iocsq_tell(i, "  the queue's cancel routine of irp %u", i->index);
+    iocsq_log(i, "  the queue's cancel routine of irp %u", i->index);
     struct held held = enter(q);
     iocsq_reference_run_routine(&claim, i);
     remove_by_driver(q, i);
@@ -138,9 +138,9 @@ static NTSTATUS insert_by_driver(PIO_CSQ csq, struct iocsq_irp *i, PIO_CSQ_IRP_C
     if (csq->Type == IO_TYPE_CSQ_EX) {
         void (*insert)(void) = (void (*)(void))csq->CsqInsertIrp;
         status = ((PIO_CSQ_INSERT_IRP_EX)insert)(csq, &i->irp, insert_context);
-        iocsq_tell(i, "  CsqInsertIrpEx(irp %u) = %08X", i->index, (unsigned)status);
+        iocsq_log(i, "  CsqInsertIrpEx(irp %u) = %08X", i->index, (unsigned)status);
     } else {
-        iocsq_tell(i, "  CsqInsertIrp(irp %u)", i->index);
+        iocsq_log(i, "  CsqInsertIrp(irp %u)", i->index);
         csq->CsqInsertIrp(csq, &i->irp);
     }
     if (i->irp.Tail.Overlay.DriverContext[3] != kept) {
@@ -211,7 +211,7 @@ NTSTATUS NTAPI IoCsqInsertIrpEx(PIO_CSQ Csq, PIRP Irp, PIO_CSQ_IRP_CONTEXT Conte
     q->calls++;
     struct iocsq_irp *i = iocsq_known(Irp, "IoCsqInsertIrp of");
     struct held held = enter(q);
-    iocsq_tell(i, "IoCsqInsertIrp%s(irp %u)", Csq->Type == IO_TYPE_CSQ_EX ? "Ex" : "", i->index);
+    iocsq_log(i, "IoCsqInsertIrp%s(irp %u)", Csq->Type == IO_TYPE_CSQ_EX ? "Ex" : "", i->index);
     bool again = i->stay != 0; /* looked at first: another thread may end the stay meanwhile */
     check_insert(i);
     check_context(i, Context);
@@ -232,7 +232,7 @@ NTSTATUS NTAPI IoCsqInsertIrpEx(PIO_CSQ Csq, PIRP Irp, PIO_CSQ_IRP_CONTEXT Conte
         iocsq_stay_behind();
         return status;
     }
-    iocsq_tell(i, "  irp %u was cancelled before", i->index);
+    iocsq_log(i, "  irp %u was cancelled before", i->index);
     check_flag_stays(i);
     remove_by_driver(q, i);
     leave(q, held, false);
@@ -245,12 +245,12 @@ VOID NTAPI IoCsqInsertIrp(PIO_CSQ Csq, PIRP Irp, PIO_CSQ_IRP_CONTEXT Context) {
 }
 
 /* ---- Removal ---- */
-static void tell_peek(const struct iocsq_irp *before, const struct iocsq_irp *answer) {
+static void log_peek(const struct iocsq_irp *before, const struct iocsq_irp *answer) {
     const char *from = before ? "after that" : "from the first";
     if (answer) {
-        iocsq_tell(answer, "  CsqPeekNextIrp(%s) = irp %u", from, answer->index);
+        iocsq_log(answer, "  CsqPeekNextIrp(%s) = irp %u", from, answer->index);
     } else {
-        iocsq_tell(NULL, "  CsqPeekNextIrp(%s) = none", from);
+        iocsq_log(NULL, "  CsqPeekNextIrp(%s) = none", from);
     }
 }
 
@@ -263,7 +263,7 @@ static bool take(struct iocsq_queue *q, struct iocsq_irp *answer) {
         iocsq_disagree(answer, "irp %u has gone from the list while this thread has its lock", answer->index);
     }
     if (verdict == CSQ_REMOVE_CLAIMED) {
-        iocsq_tell(answer, "    irp %u is a canceller's", answer->index);
+        iocsq_log(answer, "    irp %u is a canceller's", answer->index);
     }
     return verdict == CSQ_REMOVE_AGREES;
 }
@@ -274,11 +274,11 @@ PIRP NTAPI IoCsqRemoveNextIrp(PIO_CSQ Csq, PVOID PeekContext) {
     struct held held = enter(q);
     struct iocsq_search s = { .q = q, .context = PeekContext, .when = "in IoCsqRemoveNextIrp" };
     struct iocsq_irp *answer, *before;
-    iocsq_tell(NULL, "IoCsqRemoveNextIrp(%s)", PeekContext ? "a peek context" : "any");
+    iocsq_log(NULL, "IoCsqRemoveNextIrp(%s)", PeekContext ? "a peek context" : "any");
     do {
         before = s.before;
         answer = iocsq_peek(&s);
-        tell_peek(before, answer);
+        log_peek(before, answer);
     } while (answer && !take(q, answer));
     if (answer) {
         IOCSQ_COUNT(Removed);
@@ -292,11 +292,11 @@ PIRP NTAPI IoCsqRemoveNextIrp(PIO_CSQ Csq, PVOID PeekContext) {
 /* The IRP that a context names, if it names one. */
 static struct iocsq_irp *irp_of_context(PIO_CSQ csq, PIO_CSQ_IRP_CONTEXT context) {
     if (!context->Irp) {
-        iocsq_tell(NULL, "IoCsqRemoveIrp(a context without IRP)");
+        iocsq_log(NULL, "IoCsqRemoveIrp(a context without IRP)");
         return NULL;
     }
     struct iocsq_irp *i = iocsq_known(context->Irp, "IoCsqRemoveIrp of a context with");
-    iocsq_tell(i, "IoCsqRemoveIrp(irp %u)", i->index);
+    iocsq_log(i, "IoCsqRemoveIrp(irp %u)", i->index);
     if (context->Csq != csq || i->context != context) {
         iocsq_disagree(i, "IoCsqRemoveIrp of a context that irp %u was not inserted with", i->index);
     }
@@ -329,7 +329,7 @@ void iocsq_complete_held(struct iocsq_irp *i, NTSTATUS status) {
     case CSQ_USE_LISTED: iocsq_disagree(i, "irp %u is completed while it is in the queue", i->index);
     case CSQ_USE_GOT_CANCELLED:
         iocsq_disagree(i, "irp %u was got cancelled, and is completed with %08X", i->index, (unsigned)status);
-    /* check_completion has told STATUS_PENDING: here it is one that another thread wrote since, running freely. */
+    /* check_completion has reported STATUS_PENDING: here it is one that another thread wrote since, running freely. */
     case CSQ_USE_NOT_FINAL: iocsq_disagree(i, "irp %u is completed with STATUS_PENDING", i->index);
     default: iocsq_disagree(i, "irp %u is completed while another thread completes or inserts it", i->index);
     }

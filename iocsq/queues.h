@@ -27,7 +27,7 @@ struct iocsq_search {
 };
 /* The driver's next answer, which agrees with the reference. Null: none. */
 struct iocsq_irp *iocsq_peek(struct iocsq_search *s);
-/* Compares the driver's whole list, as peeks tell it, with the reference's. */
+/* Compares the driver's whole list, as peeks give it, with the reference's. */
 void iocsq_audit(struct iocsq_queue *q, const char *when);
 
 #endif

@@ -1,4 +1,4 @@
-/* What is told: each call as a line, and in the end a report with the last of them. */
+/* What is printed: each call as a line, and in the end a report with the last of them. */
 #define _GNU_SOURCE
 #include "internal.h"
 
@@ -97,14 +97,14 @@ add_line(const struct iocsq_irp *about, bool sent, const char *format, va_list r
     }
 }
 
-void iocsq_tell(const struct iocsq_irp *about, const char *format, ...) {
+void iocsq_log(const struct iocsq_irp *about, const char *format, ...) {
     va_list rest;
     va_start(rest, format);
     add_line(about, false, format, rest);
     va_end(rest);
 }
 
-void iocsq_tell_sent(const struct iocsq_irp *about, const char *format, ...) {
+void iocsq_log_sent(const struct iocsq_irp *about, const char *format, ...) {
     va_list rest;
     va_start(rest, format);
     add_line(about, true, format, rest);

@@ -2,7 +2,7 @@
  * Only in turns they are kept: where threads run freely, the order of two steps of different threads isn't known. */
 #include "reference.h"
 
-enum { CSQSIM_PASSES = 4 }; /* unless it is told otherwise */
+enum { CSQSIM_PASSES = 4 }; /* unless it is set otherwise */
 
 void iocsq_begin_steps(struct iocsq_irp *i) {
     if (iocsq_in_turns()) {

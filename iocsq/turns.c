@@ -1,5 +1,5 @@
 /* Turns: with a seed one thread runs at a time, and at each point the next one is drawn from the seed. So a run is the
- * same whenever its seed is, a wait takes no time, and threads that all wait for each other are told. */
+ * same whenever its seed is, a wait takes no time, and threads that all wait for each other are reported. */
 #define _GNU_SOURCE
 #include "internal.h"
 
@@ -20,7 +20,7 @@ struct task {
     const char *waits_for;
     uint64_t until;  /* when it goes on in any case */
     uint64_t rests;  /* until so many turns were given: now and then a thread is passed over for long */
-    uint32_t number; /* as iocsq_thread tells it */
+    uint32_t number; /* as iocsq_thread returns it */
     bool done;
 };
 static pthread_mutex_t baton = PTHREAD_MUTEX_INITIALIZER; /* of all that follows */
@@ -81,16 +81,16 @@ static bool is_ready(const struct task *t) {
 }
 
 /* ---- Who is next: the baton is held ---- */
-static void tell_deadlock(void) {
+static void report_deadlock(void) {
     for (uint32_t at = 0; at < task_count; at++) {
         if (!tasks[at].done) {
-            iocsq_tell(NULL, "t%u waits for ever, for %s", tasks[at].number, tasks[at].waits_for);
+            iocsq_log(NULL, "t%u waits for ever, for %s", tasks[at].number, tasks[at].waits_for);
         }
     }
     iocsq_disagree(NULL, "every thread waits for another");
 }
 
-/* Fills in the tasks that may go and don't rest, and tells how many. Where all that may go rest, none rests on. */
+/* Fills in the tasks that may go and don't rest, and returns how many. Where all that may go rest, none rests on. */
 static uint32_t find_able(struct task **able) {
     uint32_t count = 0, resting = 0;
     for (uint32_t at = 0; at < task_count; at++) {
@@ -131,7 +131,7 @@ static void hand_over(void) {
     while ((count = find_able(able)) == 0) {
         now = soonest_end_of_wait();
         if (now == IOCSQ_FOR_EVER) {
-            tell_deadlock();
+            report_deadlock();
         }
     }
     struct task *next = able[draw(count)];

@@ -1,5 +1,5 @@
 /* What threads wait for: events, mutexes, semaphores, timers, threads; and the threads of the driver. All of it, with
- * the table of IRPs, is under one lock, the state's, and one condition tells of each change. */
+ * the table of IRPs, is under one lock, the state's, and one condition signals each change. */
 #define _GNU_SOURCE
 #include "internal.h"
 

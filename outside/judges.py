@@ -107,7 +107,7 @@ def wrong_ends():
     yield 'one thread less', wrong_threads(up_to(5, NO_THREAD, 'REFUSE_THREAD'), ['run'], 7, {})
     yield 'one thread more', wrong_threads(up_to(7, NO_THREAD, 'REFUSE_THREAD'), ['run'], 7, {})
     yield 'memory that is never refused', wrong_memory(always(ONE_RUN, reported=b''), ['run'], b'', 0, {})
-    yield 'memory that is told otherwise', wrong_memory(up_to(3, NO_MEMORY, 'REFUSE_AT'), ['schedule'], b'', 5, {})
+    yield 'memory that is reported otherwise', wrong_memory(up_to(3, NO_MEMORY, 'REFUSE_AT'), ['schedule'], b'', 5, {})
     yield 'reads that are not reported', wrong_reads(always(b'all'), [], b'p1 end\n', b'csqsim: read failed\n')
     slow = ends(lambda settings: (Ended(b'half' if 'INTERRUPTED' in settings else b'whole', b'', 0), b''))
     yield 'an answer that is cut', wrong_slowly(slow, [], b'')

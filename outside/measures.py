@@ -97,7 +97,7 @@ def test_totals(program, results):
     threads = ['--submitters=20', '--workers=20', '--cancellers=20', '--irps=1024', '--files=256', '--turns=100']
     # The IRPs are few, so that most turns of a worker find none.
     turns = ['--irps=8', '--files=2', '--turns=100000']
-    rows = [('each_total_has_its_line', 1, [], 128), ('five runs tell their times', 5, [], 128),
+    rows = [('each_total_has_its_line', 1, [], 128), ('five runs report their times', 5, [], 128),
             ('each_run_has_its_totals', 20, [], 128), ('each_irp_is_accounted_for', 10, [], 128),
             ('one_irp_is_accounted_for', 1, least, 1), ('the_most_threads_run', 1, threads, 2_000),
             ('the_most_turns_are_taken', 1, turns, 200_000), ('put_backs_are_counted', 20, ['--busy-workers=2'], 128),

@@ -17,7 +17,7 @@ extern void *__libc_realloc(void *block, size_t size);
 
 static long calls;
 static long refused_at = -1;
-static int refuses_all, tells_sizes, report = -1, is_ready;
+static int refuses_all, reports_sizes, report = -1, is_ready;
 
 static long number_of(const char *name)
 {
@@ -31,24 +31,24 @@ __attribute__((constructor)) static void begin(void)
 {
     refused_at = number_of("REFUSE_AT");
     refuses_all = getenv("REFUSE_ALL") != NULL;
-    tells_sizes = getenv("SIZES") != NULL;
+    reports_sizes = getenv("SIZES") != NULL;
     report = (int)number_of("REPORT");
     is_ready = 1;
 }
 
-static void tell(const char *text, size_t length)
+static void write_text(const char *text, size_t length)
 {
     if (report >= 0 && write(report, text, length) < 0)
         report = -1;
 }
 
-static void tell_size(size_t size)
+static void report_size(size_t size)
 {
     char text[32];
     int length = snprintf(text, sizeof text, "%zu\n", size);
 
     if (length > 0)
-        tell(text, (size_t)length);
+        write_text(text, (size_t)length);
 }
 
 static int is_refused(size_t size)
@@ -57,12 +57,12 @@ static int is_refused(size_t size)
 
     if (!is_ready)
         return 0;
-    if (tells_sizes)
-        tell_size(size);
+    if (reports_sizes)
+        report_size(size);
     call = __atomic_fetch_add(&calls, 1, __ATOMIC_SEQ_CST);
     if (refused_at < 0 || (refuses_all ? call < refused_at : call != refused_at))
         return 0;
-    tell("x", 1);
+    write_text("x", 1);
     errno = ENOMEM;
     return 1;
 }

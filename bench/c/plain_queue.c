@@ -59,8 +59,8 @@ static uint64_t unset(uint32_t life) {
     return (uint64_t)life << STATUS_LIFE;
 }
 
-/* What is in the handle of a call that changes something. It is written too, so that the thread sanitizer tells a call
- * without the lock, whatever the call changes behind the handle. */
+/* What is in the handle of a call that changes something. It is written too, so that the thread sanitizer reports a
+ * call without the lock, whatever the call changes behind the handle. */
 static void *taken(void *volatile *handle) {
     void *at = *handle;
     *handle = at;

@@ -45,9 +45,9 @@ fn archive_of(given: &Path) -> Result<Archive, String> {
     } else {
         println!("cargo:rerun-if-env-changed=PWD");
         let folder = started_in().ok_or_else(|| {
-            let told =
+            let advice =
                 "is a relative path, and the folder from which the build was started isn't known";
-            format!("\"{shown}\" {told}; give the whole path, as /folder/lib{name}.a")
+            format!("\"{shown}\" {advice}; give the whole path, as /folder/lib{name}.a")
         })?;
         folder.join(given)
     };
@@ -65,7 +65,7 @@ fn archive_of(given: &Path) -> Result<Archive, String> {
     })
 }
 
-/// Tells Cargo of the archives, all or none.
+/// Names the archives to Cargo, all or none.
 fn link(archives: &OsStr) -> Result<(), String> {
     let archives = env::split_paths(archives).map(|path| archive_of(&path));
     for archive in archives.collect::<Result<Vec<_>, _>>()? {

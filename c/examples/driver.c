@@ -79,7 +79,7 @@ int main(void) {
     /* The last handle to a file object goes: what is queued for it is cancelled (IRP_MJ_CLEANUP). */
     must(csq_cleanup(&queue, &passes[0], WRITES, &queue_lock, NULL, &cleaned) == CSQ_OK, "no such file object");
     must(queue_one(&passes[0], LATE, WRITES) == CSQ_FILE_CLOSED, "not refused");
-    must(queue_one(&passes[0], LATE, READS) == CSQ_OK, "refused"); /* left, to show what a closed queue tells */
+    must(queue_one(&passes[0], LATE, READS) == CSQ_OK, "refused"); /* left, to show what a closed queue reports */
     for (int at = 0; at < THREADS; at++) {
         must(csq_give_back(&queue, &passes[at]) == CSQ_OK, "a request was not completed");
     }

@@ -1,4 +1,4 @@
-/* What every test program uses: checks that tell where they failed, and a queue with its passes. */
+/* What every test program uses: checks that say where they failed, and a queue with its passes. */
 #ifndef CHECK_H
 #define CHECK_H
 
@@ -11,7 +11,7 @@
 #define UNWRITTEN UINT32_C(0xABABABAB)
 
 static const char *check_test = "";
-/* What a test wants to be told beside its name. */
+/* What a test is given beside its name. */
 static char check_note[200];
 static int check_failed;
 static int check_failures;
@@ -30,7 +30,7 @@ static inline void check_number(unsigned long got, unsigned long want, const cha
     }
 }
 
-/* Some condition; a number, most often a call's code. A test tells its first failure alone. */
+/* Some condition; a number, most often a call's code. A test reports its first failure alone. */
 #define CHECK(condition) check_that((condition) != 0, #condition, __FILE__, __LINE__)
 #define IS(got, want) check_number((got), (want), #got, __FILE__, __LINE__)
 
@@ -130,12 +130,12 @@ static inline uint32_t take(struct device *device, int pass, uint32_t file) {
     return code == CSQ_OK ? irp.irp : CSQ_ANY;
 }
 
-/* Puts an IRP back, and answers the code. An answer that tells the IRP tells it by the name that it has. */
+/* Puts an IRP back, and answers the code. An answer that stores the IRP stores it by the name that it has. */
 static inline uint32_t put_back(struct device *device, int pass, struct csq_irp irp, uint32_t front) {
     struct csq_irp context = { UNWRITTEN, UNWRITTEN };
     uint32_t code = csq_put_back(&device->queue, &device->passes[pass], irp, front, &context);
-    int told = code == CSQ_OK || code == CSQ_CANCELLED;
-    CHECK(context.irp == (told ? irp.irp : UNWRITTEN) && context.life == (told ? irp.life : UNWRITTEN));
+    int stored = code == CSQ_OK || code == CSQ_CANCELLED;
+    CHECK(context.irp == (stored ? irp.irp : UNWRITTEN) && context.life == (stored ? irp.life : UNWRITTEN));
     return code;
 }
 

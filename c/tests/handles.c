@@ -1,4 +1,4 @@
-/* Empty, filled and closed handles in every call, and what a closed queue tells. */
+/* Empty, filled and closed handles in every call, and what a closed queue reports. */
 #include "check.h"
 
 /* What a call is handed: every call of the header takes some of these. */
@@ -269,7 +269,7 @@ static void what_takes_the_lock_itself_refuses_an_empty_queue(void) {
     IS(csq_free(&queue), CSQ_OK);
 }
 
-static void only_a_closed_queue_tells_what_is_left(void) {
+static void only_a_closed_queue_reports_what_is_left(void) {
     struct csq_queue queue = CSQ_EMPTY;
     struct arguments alone = { &queue, NULL };
     IS(csq_new(&queue, &small), CSQ_OK);
@@ -331,7 +331,7 @@ static struct device device_to_close(uint32_t list) {
     return device;
 }
 
-static void a_closed_queue_tells_what_is_left(uint32_t list) {
+static void a_closed_queue_reports_what_is_left(uint32_t list) {
     static const uint32_t listed[] = { 7, 5, 6 };
     struct device device = device_to_close(list);
     uint32_t irp = UNWRITTEN;
@@ -363,7 +363,7 @@ int main(void) {
     RUN(a_queue_made_after_another_is_another);
     RUN(a_closed_queue_refuses_every_other_call);
     RUN(what_takes_the_lock_itself_refuses_an_empty_queue);
-    RUN(only_a_closed_queue_tells_what_is_left);
-    RUN_BOTH(a_closed_queue_tells_what_is_left);
+    RUN(only_a_closed_queue_reports_what_is_left);
+    RUN_BOTH(a_closed_queue_reports_what_is_left);
     return DONE();
 }

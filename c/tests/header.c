@@ -91,7 +91,7 @@ static uint32_t way(void) {
 
 static int failed;
 
-static void tell(const char *test, int holds) {
+static void report(const char *test, int holds) {
     printf("%s %s\n", holds ? "passed" : "FAILED", test);
     failed |= !holds;
 }
@@ -130,8 +130,8 @@ int main(void) {
     }
     int fits = named == CSQ_OTHER_QUEUE + 1 && sizeof(struct csq_irp) == 8 && sizeof(struct csq_size) == 24 &&
                sizeof(struct csq_left) == 16 && sizeof queue == 16 && sizeof pass == 16;
-    tell("the_header_names_what_is_there", fits && way() == 0);
-    tell("each_code_has_its_name", names_are_right(named));
-    tell("an_insert_has_its_status", insert_statuses_are_right());
+    report("the_header_names_what_is_there", fits && way() == 0);
+    report("each_code_has_its_name", names_are_right(named));
+    report("an_insert_has_its_status", insert_statuses_are_right());
     return failed;
 }

@@ -44,7 +44,7 @@ struct cleaned {
     uint32_t file, excused[2], left;
 };
 
-static void what_a_cleanup_left_is_told(uint32_t list) {
+static void what_a_cleanup_left_is_reported(uint32_t list) {
     /* The list is 0 (file object 0), 1 (1), 2 (0), 3 (1). */
     static const struct cleaned rows[] = {
         { 0, { 9, 9 }, 0 },       { 1, { 9, 9 }, 1 },       { 0, { 0, 9 }, 2 }, { 0, { 2, 9 }, 0 },
@@ -139,7 +139,7 @@ static void what_was_removed_is_inserted_again(uint32_t list) {
 
 int main(void) {
     RUN_BOTH(the_peeks_of_a_driver_are_judged);
-    RUN_BOTH(what_a_cleanup_left_is_told);
+    RUN_BOTH(what_a_cleanup_left_is_reported);
     RUN_BOTH(what_was_removed_is_completed_once);
     RUN_BOTH(what_was_got_cancelled_is_completed_so);
     RUN_BOTH(what_was_removed_is_inserted_again);

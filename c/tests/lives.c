@@ -161,7 +161,7 @@ static void the_last_life_is_the_end(uint32_t list) {
     end(&device);
 }
 
-static void not_completed_is_told_before_lives_spent(uint32_t list) {
+static void not_completed_is_returned_before_lives_spent(uint32_t list) {
     struct csq_size size = size_of(1, 1, list);
     struct csq_irp last = irp_in(0, CSQ_LAST_LIFE);
     uint32_t life = UNWRITTEN;
@@ -230,7 +230,7 @@ int main(void) {
     RUN_BOTH(what_names_another_life_is_refused);
     RUN_BOTH(contexts_name_the_present_life);
     RUN_BOTH(the_last_life_is_the_end);
-    RUN_BOTH(not_completed_is_told_before_lives_spent);
+    RUN_BOTH(not_completed_is_returned_before_lives_spent);
     RUN_BOTH(what_is_held_or_owed_is_so_in_its_life);
     RUN_BOTH(lives_of_irps_are_their_own);
     return DONE();

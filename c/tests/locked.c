@@ -1,11 +1,11 @@
-/* The calls that take the caller's lock themselves: what they complete, whom they tell of it, and when. */
+/* The calls that take the caller's lock themselves: what they complete, whom they notify of it, and when. */
 #include "check.h"
 
-/* The caller's lock, and what the callback was told. */
+/* The caller's lock, and what the callback was called with. */
 struct watch {
     int taken;
     int held;
-    uint32_t told[8];
+    uint32_t notified[8];
     uint32_t count;
     struct device *device;
 };
@@ -33,7 +33,7 @@ static void note_it(void *context, struct csq_irp irp) {
     IS(csq_remove(&watch->device->queue, &watch->device->passes[0], irp), CSQ_NONE);
     IS(csq_mark_cancel(&watch->device->passes[0], irp, &found), CSQ_OK);
     IS(found, 0);
-    watch->told[watch->count++] = irp.irp;
+    watch->notified[watch->count++] = irp.irp;
 }
 
 static struct watch watch_of(struct device *device) {
@@ -41,16 +41,16 @@ static struct watch watch_of(struct device *device) {
     return watch;
 }
 
-static void was_told_of(const struct watch *watch, const uint32_t *irps, uint32_t count) {
+static void was_notified_of(const struct watch *watch, const uint32_t *irps, uint32_t count) {
     IS(watch->count, count);
     for (uint32_t at = 0; at < count; at++) {
-        IS(watch->told[at], irps[at]);
+        IS(watch->notified[at], irps[at]);
         status_of(watch->device, irps[at], CSQ_STATUS_CANCELLED);
     }
 }
 
 static void cancels_through_the_callers_lock(uint32_t list) {
-    static const uint32_t told[] = { 0 };
+    static const uint32_t notified[] = { 0 };
     struct device device = device_of(size_of(2, 1, list));
     struct watch watch = watch_of(&device);
     struct csq_lock lock = { lock_it, unlock_it, &watch };
@@ -67,7 +67,7 @@ static void cancels_through_the_callers_lock(uint32_t list) {
     IS(csq_cancel(&device.queue, by, irp_in(0, 0), &lock, &callback, &completed), CSQ_OK);
     IS(completed, 1);
     IS(watch.taken, 1);
-    was_told_of(&watch, told, 1);
+    was_notified_of(&watch, notified, 1);
     IS(put(&device, 0, 1, 0), CSQ_CANCELLED);
     end(&device);
 }
@@ -105,7 +105,7 @@ static void cancels_what_is_owed_in_one_call(uint32_t list) {
 }
 
 static void cleans_up_through_the_callers_lock(uint32_t list) {
-    static const uint32_t told[] = { 1, 5 };
+    static const uint32_t notified[] = { 1, 5 };
     struct device device = device_of(size_of(6, 2, list));
     struct watch watch = watch_of(&device);
     struct csq_lock lock = { lock_it, unlock_it, &watch };
@@ -125,7 +125,7 @@ static void cleans_up_through_the_callers_lock(uint32_t list) {
     /* One to close the file object, one for each removal, and one for that which finds none. */
     IS(watch.taken, 4);
     IS(watch.held, 0);
-    was_told_of(&watch, told, 2);
+    was_notified_of(&watch, notified, 2);
     IS(csq_cancel_routine(&device.queue, &device.passes[2], irp_in(3, 0)), CSQ_OK);
     IS(take(&device, 0, CSQ_ANY), 0);
     IS(csq_cleanup(&device.queue, by, 1, &lock, NULL, &completed), CSQ_OK);
@@ -135,7 +135,7 @@ static void cleans_up_through_the_callers_lock(uint32_t list) {
 
 /* A file object's number serves one handle after the other. */
 static void a_drained_file_object_is_used_again(uint32_t list) {
-    static const uint32_t told[] = { 0, 2 };
+    static const uint32_t notified[] = { 0, 2 };
     struct device device = device_of(size_of(5, 2, list));
     struct watch watch = watch_of(&device);
     struct csq_lock lock = { lock_it, unlock_it, &watch };
@@ -150,7 +150,7 @@ static void a_drained_file_object_is_used_again(uint32_t list) {
     IS(completed, UNWRITTEN);
     IS(csq_drain(&device.queue, &device.passes[1], 1, &lock, &callback, &completed), CSQ_OK);
     IS(completed, 2);
-    was_told_of(&watch, told, 2);
+    was_notified_of(&watch, notified, 2);
     /* What a canceller has is listed until it has run the routine. */
     IS(csq_file_len(&device.queue, 1, &len), CSQ_OK);
     IS(len, 1);
@@ -166,7 +166,7 @@ static void a_drained_file_object_is_used_again(uint32_t list) {
 /* A drain ends what is listed. What was removed before is for the file object still, and so for its next owner, unless
  * a cleanup has closed it. */
 static void a_drain_leaves_what_was_removed_before(uint32_t list) {
-    static const uint32_t told[] = { 1 };
+    static const uint32_t notified[] = { 1 };
     struct device device = device_of(size_of(2, 1, list));
     struct watch watch = watch_of(&device);
     struct csq_lock lock = { lock_it, unlock_it, &watch };
@@ -177,7 +177,7 @@ static void a_drain_leaves_what_was_removed_before(uint32_t list) {
     IS(take(&device, 2, 0), 0);
     IS(csq_drain(&device.queue, &device.passes[1], 0, &lock, &callback, &completed), CSQ_OK);
     IS(completed, 1);
-    was_told_of(&watch, told, 1);
+    was_notified_of(&watch, notified, 1);
     IS(csq_file_len(&device.queue, 0, &len), CSQ_OK);
     IS(len, 0);
     IS(put_back(&device, 2, irp_in(0, 0), 0), CSQ_OK);
@@ -191,7 +191,7 @@ static void a_drain_leaves_what_was_removed_before(uint32_t list) {
 }
 
 static void drains_every_file_object(uint32_t list) {
-    static const uint32_t told[] = { 0, 1, 2, 3, 4 };
+    static const uint32_t notified[] = { 0, 1, 2, 3, 4 };
     struct device device = device_of(size_of(5, 2, list));
     struct watch watch = watch_of(&device);
     struct csq_lock lock = { lock_it, unlock_it, &watch };
@@ -202,7 +202,7 @@ static void drains_every_file_object(uint32_t list) {
     }
     IS(csq_drain(&device.queue, &device.passes[1], CSQ_ANY, &lock, &callback, &completed), CSQ_OK);
     IS(completed, 5);
-    was_told_of(&watch, told, 5);
+    was_notified_of(&watch, notified, 5);
     IS(csq_drain(&device.queue, &device.passes[1], CSQ_ANY, &lock, &callback, &completed), CSQ_OK);
     IS(completed, 0);
     end(&device);
@@ -235,7 +235,7 @@ static void count_listed(void *context, struct csq_irp irp) {
     uint32_t len = UNWRITTEN;
     IS(csq_len(&watch->device->queue, &len), CSQ_OK);
     IS(irp.life, 0);
-    watch->told[watch->count++] = len;
+    watch->notified[watch->count++] = len;
 }
 
 static void an_irp_is_listed_until_its_cancel_routine_has_run(uint32_t list) {
@@ -251,9 +251,9 @@ static void an_irp_is_listed_until_its_cancel_routine_has_run(uint32_t list) {
     IS(csq_cancel(&device.queue, by, irp_in(0, 0), &lock, &callback, &completed), CSQ_OK);
     IS(csq_drain(&device.queue, by, 0, &lock, &callback, &completed), CSQ_OK);
     IS(watch.count, 3);
-    IS(watch.told[0], 3);
-    IS(watch.told[1], 1);
-    IS(watch.told[2], 0);
+    IS(watch.notified[0], 3);
+    IS(watch.notified[1], 1);
+    IS(watch.notified[2], 0);
     end(&device);
 }
 

@@ -1,7 +1,7 @@
-/* What an open queue tells of its list. */
+/* What an open queue reports of its list. */
 #include "check.h"
 
-/* The number of the IRP that csq_peek_next tells, in the first life; CSQ_ANY if there is none. */
+/* The number of the IRP that csq_peek_next stores, in the first life; CSQ_ANY if there is none. */
 static uint32_t peek(const struct device *device, uint32_t after, uint32_t file) {
     struct csq_irp irp = { UNWRITTEN, UNWRITTEN };
     uint32_t code = csq_peek_next(&device->queue, after, file, &irp);
@@ -91,7 +91,7 @@ static void what_a_canceller_has_is_listed_until_its_routine_has_run(uint32_t li
     end(&device);
 }
 
-static void a_peek_tells_the_present_life(uint32_t list) {
+static void a_peek_returns_the_present_life(uint32_t list) {
     struct csq_size size = size_of(1, 1, list);
     struct csq_irp irp = { UNWRITTEN, UNWRITTEN };
     uint32_t life = UNWRITTEN;
@@ -116,6 +116,6 @@ int main(void) {
     RUN_BOTH(peeks_go_through_the_list_in_order);
     RUN_BOTH(a_look_changes_nothing);
     RUN_BOTH(what_a_canceller_has_is_listed_until_its_routine_has_run);
-    RUN_BOTH(a_peek_tells_the_present_life);
+    RUN_BOTH(a_peek_returns_the_present_life);
     return DONE();
 }

@@ -238,11 +238,11 @@ static void lead_each_through_two_lives(struct device *device) {
     }
 }
 
-/* What is told of a queue in which all IRPs are listed in their third life, the even ones with a canceller. */
+/* What is reported of a queue in which all IRPs are listed in their third life, the even ones with a canceller. */
 static void look_at(struct device *device) {
     static const uint32_t excused[] = { 7 };
     struct csq_irp irp = irp_in(UNWRITTEN, UNWRITTEN);
-    uint32_t told = UNWRITTEN, skipped = UNWRITTEN;
+    uint32_t stored = UNWRITTEN, skipped = UNWRITTEN;
     IS(csq_version(), CSQ_VERSION_NUMBER);
     CHECK(csq_name(CSQ_OK) != NULL);
     IS(csq_insert_status(CSQ_OK), CSQ_STATUS_PENDING);
@@ -250,16 +250,16 @@ static void look_at(struct device *device) {
     IS(csq_peek_next(&device->queue, irp.irp, 7, &irp), CSQ_OK);
     IS(irp.irp, 7);
     IS(csq_peek_next(&device->queue, CSQ_MOST_IRPS - 1, 7, &irp), CSQ_NONE);
-    IS(csq_len(&device->queue, &told), CSQ_OK);
-    IS(told, CSQ_MOST_IRPS);
-    IS(csq_file_len(&device->queue, 7, &told), CSQ_OK);
-    IS(told, CSQ_MOST_IRPS / CSQ_MOST_FILES);
-    IS(csq_judge_peek(&device->queue, CSQ_ANY, 7, 7, &told, &skipped), CSQ_OK);
-    IS(told, CSQ_PEEK_AGREES);
-    IS(csq_judge_peek(&device->queue, CSQ_ANY, 7, CSQ_ANY, &told, &skipped), CSQ_OK);
-    IS(told, CSQ_PEEK_SKIPS);
-    IS(csq_judge_cleanup(&device->queue, 7, excused, 1, &told), CSQ_OK);
-    IS(told, 7 + CSQ_MOST_FILES);
+    IS(csq_len(&device->queue, &stored), CSQ_OK);
+    IS(stored, CSQ_MOST_IRPS);
+    IS(csq_file_len(&device->queue, 7, &stored), CSQ_OK);
+    IS(stored, CSQ_MOST_IRPS / CSQ_MOST_FILES);
+    IS(csq_judge_peek(&device->queue, CSQ_ANY, 7, 7, &stored, &skipped), CSQ_OK);
+    IS(stored, CSQ_PEEK_AGREES);
+    IS(csq_judge_peek(&device->queue, CSQ_ANY, 7, CSQ_ANY, &stored, &skipped), CSQ_OK);
+    IS(stored, CSQ_PEEK_SKIPS);
+    IS(csq_judge_cleanup(&device->queue, 7, excused, 1, &stored), CSQ_OK);
+    IS(stored, 7 + CSQ_MOST_FILES);
 }
 
 /* What a driver does beside it: a removal and a completion, a removal and an insert; and each of what is listed. */

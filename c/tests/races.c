@@ -15,7 +15,7 @@ static unsigned long queues = 100;
 /* The pace: how many IRPs the first thread has come to, and how many the second is ready for. */
 static atomic_uint come_to, ready_for;
 static atomic_uint completed[IRPS];
-/* What each is completed with: whoever completes it tells before. */
+/* What each is completed with: whoever completes it says so before. */
 static atomic_uint statuses[IRPS];
 static unsigned long by_first, by_cancel, faults_of_first, faults_of_cancel;
 static uint64_t states[2];

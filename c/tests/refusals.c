@@ -89,7 +89,7 @@ static void a_cancel_is_refused_for_its_first_cause(uint32_t list) {
     end(&device);
 }
 
-static void the_code_of_a_refused_cancel_tells_why(uint32_t list) {
+static void the_code_of_a_refused_cancel_says_why(uint32_t list) {
     struct device device = device_of(size_of(2, 1, list));
     struct csq_irp unknown = { 2, 9 }, stale = { 0, 1 };
     uint32_t found = UNWRITTEN;
@@ -214,7 +214,7 @@ int main(void) {
     RUN_BOTH(a_refused_insert_leaves_a_cancel_where_it_is);
     RUN_BOTH(a_completion_is_refused_for_its_first_cause);
     RUN_BOTH(a_cancel_is_refused_for_its_first_cause);
-    RUN_BOTH(the_code_of_a_refused_cancel_tells_why);
+    RUN_BOTH(the_code_of_a_refused_cancel_says_why);
     RUN_BOTH(reads_of_an_unknown_irp_are_refused);
     RUN_BOTH(a_pass_that_holds_or_owes_is_not_given_back);
     RUN_BOTH(a_queue_with_passes_out_is_not_ended);

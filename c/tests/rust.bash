@@ -1,8 +1,8 @@
 # The tests of the Rust bindings, for c/run-tests, whose variables and functions they use: source this.
 # shellcheck disable=SC2154 # c/run-tests sets the variables
 
-# cargo_in FOLDER WORD..: cargo there. `told` is the folder that it is told it is in.
-cargo_in() { (cd "$1" && PWD=${told-$PWD} cargo "${@:2}"); }
+# cargo_in FOLDER WORD..: cargo there. `named` is the folder that PWD names.
+cargo_in() { (cd "$1" && PWD=${named-$PWD} cargo "${@:2}"); }
 
 # refuse_library CASE LIBRARY WORDS: the build refuses this CSQ_LIBRARY in these words.
 refuse_library() {
@@ -20,7 +20,7 @@ run_rust_library() {
   local file names=
   refuse_library "a missing archive" "$work/libnone.a" "there is no file"
   refuse_library "a file of another name" "$work/none.so" "\"$work/none.so\" is not named as an archive is"
-  told=/nowhere refuse_library "a relative path of an unknown folder" libnone.a '"libnone.a" is a relative path'
+  named=/nowhere refuse_library "a relative path of an unknown folder" libnone.a '"libnone.a" is a relative path'
   mkdir "$work/relative"
   for file in "${files[@]}"; do
     ln -s "$file" "$work/relative/"

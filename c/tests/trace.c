@@ -15,20 +15,20 @@ static struct csq_irp contexts[IRPS];
 static struct csq_irp got[PASSES], owes[PASSES];
 static uint64_t state, digest = 14695981039346656037u;
 static unsigned long calls;
-static int tells_each;
+static int reports_each;
 
 static uint32_t pick(uint32_t below) {
     state = state * 6364136223846793005u + 1442695040888963407u;
     return (uint32_t)(state >> 33) % below;
 }
 
-static void tell(const char *call, uint32_t code, uint32_t one, uint32_t two) {
+static void report(const char *call, uint32_t code, uint32_t one, uint32_t two) {
     uint32_t numbers[] = { (uint32_t)call[0], code, one, two };
     for (size_t at = 0; at < 4; at++) {
         digest = (digest ^ numbers[at]) * 1099511628211u;
     }
     calls++;
-    if (tells_each) {
+    if (reports_each) {
         printf("%lu %s: %u, %u %u\n", calls, call, code, one, two);
     } else if (calls % 1000 == 0) {
         printf("%lu calls: %016llx\n", calls, (unsigned long long)digest);
@@ -60,7 +60,7 @@ static void make_insert(int by) {
     if (code == CSQ_CANCELLED) {
         got[by] = context;
     }
-    tell("insert", code, context.irp, context.life);
+    report("insert", code, context.irp, context.life);
 }
 
 static void make_removal(int by) {
@@ -68,10 +68,10 @@ static void make_removal(int by) {
     uint32_t code;
     if (pick(2)) {
         code = csq_remove_next(&queue, &passes[by], pick(2) ? CSQ_ANY : some_file(), &irp);
-        tell("next", code, irp.irp, irp.life);
+        report("next", code, irp.irp, irp.life);
     } else {
         code = csq_remove(&queue, &passes[by], irp);
-        tell("remove", code, irp.irp, irp.life);
+        report("remove", code, irp.irp, irp.life);
     }
     if (code == CSQ_OK) {
         got[by] = irp;
@@ -84,14 +84,14 @@ static void make_put_back(int by) {
     if (code == CSQ_CANCELLED) {
         got[by] = context;
     }
-    tell("put back", code, context.irp, context.life);
+    report("put back", code, context.irp, context.life);
 }
 
 static void make_cancel(int by) {
     struct csq_irp irp = some_name();
     uint32_t found = 99;
     uint32_t code = csq_mark_cancel(&passes[by], irp, &found);
-    tell("mark", code, irp.irp, found);
+    report("mark", code, irp.irp, found);
     if (code == CSQ_OK && found) {
         owes[by] = irp;
     }
@@ -102,10 +102,10 @@ static void make_routine(int by) {
     uint32_t code;
     if (pick(3)) {
         code = csq_cancel_routine(&queue, &passes[by], irp);
-        tell("routine", code, irp.irp, irp.life);
+        report("routine", code, irp.irp, irp.life);
     } else {
         code = csq_cancel_owed(&queue, &passes[by], irp);
-        tell("owed", code, irp.irp, irp.life);
+        report("owed", code, irp.irp, irp.life);
     }
     if (code == CSQ_OK) {
         got[by] = irp;
@@ -116,9 +116,9 @@ static void make_completion(int by) {
     struct csq_irp irp = pick(3) ? got[by] : some_name();
     if (pick(2)) {
         uint32_t status = pick(5) ? pick(5) : CSQ_STATUS_PENDING;
-        tell("complete", csq_complete(&passes[by], irp, status), irp.irp, status);
+        report("complete", csq_complete(&passes[by], irp, status), irp.irp, status);
     } else {
-        tell("cancelled", csq_complete_cancelled(&passes[by], irp), irp.irp, irp.life);
+        report("cancelled", csq_complete_cancelled(&passes[by], irp), irp.irp, irp.life);
     }
 }
 
@@ -134,18 +134,18 @@ static void make_judgement(int by) {
     switch (pick(3)) {
     case 0:
         code = csq_judge_remove(&queue, &passes[by], irp, &verdict);
-        tell("remove", code, irp.irp, verdict);
+        report("remove", code, irp.irp, verdict);
         if (code == CSQ_OK && verdict == CSQ_REMOVE_AGREES) {
             got[by] = irp;
         }
         break;
     case 1:
         code = csq_judge_insert(&queue, &passes[by], irp, &verdict);
-        tell("again", code, irp.irp, verdict);
+        report("again", code, irp.irp, verdict);
         break;
     default:
         code = csq_judge_complete(&queue, &passes[by], irp, some_status(), &verdict);
-        tell("complete", code, irp.irp, verdict);
+        report("complete", code, irp.irp, verdict);
     }
 }
 
@@ -155,24 +155,24 @@ static void make_reuse(int by) {
     if (code == CSQ_OK) {
         contexts[irp.irp].life = life;
     }
-    tell("reuse", code, irp.irp, life);
+    report("reuse", code, irp.irp, life);
 }
 
 static void make_look(void) {
     struct csq_irp irp = { 99, 99 };
     uint32_t len = 99, file = some_file();
     uint32_t code = csq_peek_next(&queue, pick(2) ? CSQ_ANY : some_irp(), pick(2) ? CSQ_ANY : file, &irp);
-    tell("peek", code, irp.irp, irp.life);
+    report("peek", code, irp.irp, irp.life);
     uint32_t verdict = 99, skipped = 99, after = pick(2) ? CSQ_ANY : some_irp();
     code = csq_judge_peek(&queue, after, pick(2) ? CSQ_ANY : file, pick(4) ? some_irp() : CSQ_ANY, &verdict, &skipped);
-    tell("judge", code, verdict, skipped);
+    report("judge", code, verdict, skipped);
     uint32_t excused[] = { some_irp(), some_irp() }, left = 99;
     code = csq_judge_cleanup(&queue, file, excused, pick(3), &left);
-    tell("left", code, file, left);
+    report("left", code, file, left);
     code = csq_file_len(&queue, file, &len);
-    tell("file len", code, file, len);
+    report("file len", code, file, len);
     code = csq_len(&queue, &len);
-    tell("len", code, len, 0);
+    report("len", code, len, 0);
 }
 
 static void make_read(int by) {
@@ -180,19 +180,19 @@ static void make_read(int by) {
     switch (pick(5)) {
     case 0:
         code = csq_read_status(&passes[by], irp, &one, &two);
-        tell("status", code, one, two);
+        report("status", code, one, two);
         break;
     case 1:
         code = csq_read_cancel(&passes[by], irp, &one, &two);
-        tell("flag", code, one, two);
+        report("flag", code, one, two);
         break;
     case 2:
         code = csq_count_held(&passes[by], &one, &two);
-        tell("holding", code, one, two);
+        report("holding", code, one, two);
         break;
     case 3:
         code = csq_count_passes_out(&queue, &one);
-        tell("out", code, one, 0);
+        report("out", code, one, 0);
         break;
     default:
         make_look();
@@ -207,7 +207,7 @@ static void make_call(void) {
     int by = (int)pick(PASSES);
     if (pick(200) == 0) {
         uint32_t file = some_file();
-        tell("file", csq_close_file(&queue, &passes[by], file), file, 0);
+        report("file", csq_close_file(&queue, &passes[by], file), file, 0);
     } else {
         kinds[pick(sizeof kinds / sizeof *kinds)](by);
     }
@@ -217,13 +217,13 @@ static void begin(uint32_t list) {
     uint32_t first = pick(4) ? pick(3) : CSQ_LAST_LIFE - pick(6);
     uint32_t limits[FILES] = { 1 + pick(IRPS), 1 + pick(IRPS), 1 + pick(3) };
     struct csq_size size = { IRPS, FILES, 1 + pick(IRPS), PASSES, first, list };
-    tell("new", csq_new_with_file_limits(&queue, &size, limits, FILES), first, 0);
+    report("new", csq_new_with_file_limits(&queue, &size, limits, FILES), first, 0);
     for (uint32_t irp = 0; irp < IRPS; irp++) {
         contexts[irp].irp = irp;
         contexts[irp].life = first;
     }
     for (int at = 0; at < PASSES; at++) {
-        tell("pass", csq_take_pass(&queue, &passes[at]), 0, 0);
+        report("pass", csq_take_pass(&queue, &passes[at]), 0, 0);
     }
 }
 
@@ -231,23 +231,23 @@ static void end(void) {
     struct csq_left left = { 99, 99, 99, 99 };
     uint32_t irp = CSQ_ANY;
     for (int at = 0; at < PASSES; at++) {
-        tell("back", csq_give_back(&queue, &passes[at]), 0, 0);
+        report("back", csq_give_back(&queue, &passes[at]), 0, 0);
         for (uint32_t each = 0; each < IRPS; each++) {
-            tell("routine", csq_cancel_routine(&queue, &passes[at], contexts[each]), each, 0);
-            tell("cancelled", csq_complete_cancelled(&passes[at], contexts[each]), each, 0);
+            report("routine", csq_cancel_routine(&queue, &passes[at], contexts[each]), each, 0);
+            report("cancelled", csq_complete_cancelled(&passes[at], contexts[each]), each, 0);
         }
-        tell("back", csq_give_back(&queue, &passes[at]), 0, 0);
+        report("back", csq_give_back(&queue, &passes[at]), 0, 0);
     }
-    tell("close", csq_close(&queue), 0, 0);
+    report("close", csq_close(&queue), 0, 0);
     while (csq_read_listed(&queue, irp, &irp) == CSQ_OK) {
-        tell("listed", 0, irp, 0);
+        report("listed", 0, irp, 0);
     }
     for (uint32_t each = 0; each < IRPS; each++) {
         uint32_t code = csq_read_left(&queue, each, &left);
-        tell("left", code, left.life, left.cancelled);
-        tell("left", code, left.completed, left.status);
+        report("left", code, left.life, left.cancelled);
+        report("left", code, left.completed, left.status);
     }
-    tell("free", csq_free(&queue), 0, 0);
+    report("free", csq_free(&queue), 0, 0);
 }
 
 int main(int count, char **words) {
@@ -258,7 +258,7 @@ int main(int count, char **words) {
     state = strtoul(words[1], NULL, 10);
     uint32_t list = words[2][0] == 'c' ? CSQ_CHAINS : CSQ_VECTOR;
     unsigned long most = strtoul(words[3], NULL, 10) / QUEUES;
-    tells_each = count > 4;
+    reports_each = count > 4;
     for (int at = 0; at < QUEUES; at++) {
         begin(list);
         for (unsigned long made = 0; made < most; made++) {

@@ -1,5 +1,5 @@
 /* A program that forgets the lock in one thread, for a call that only reads. It is the program's fault: over the plain
- * queue the thread sanitizer has to tell it. But the thread that has the lock is answered right all the same, and
+ * queue the thread sanitizer has to report it. But the thread that has the lock is answered right all the same, and
  * nothing is freed twice, since a call that only reads doesn't write its handle. */
 #include "check.h"
 

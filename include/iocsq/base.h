@@ -113,7 +113,7 @@ typedef struct _LIST_ENTRY {
     struct _LIST_ENTRY *Blink;
 } LIST_ENTRY, *PLIST_ENTRY;
 
-/* Tells the checker of an entry that is linked between two others, or unlinked: where one of the three is of a queued
+/* Names to the checker an entry that is linked between two others, or unlinked: where one of the three is of a queued
  * IRP, that wants its queue's lock. */
 VOID IocsqTouch(const LIST_ENTRY *Entry, const LIST_ENTRY *Before, const LIST_ENTRY *After, const char *Call);
 

@@ -1,6 +1,6 @@
 /*
  * The inverted call: a program can't be called by a driver, so it calls the driver first. It sends a device control
- * (IOCTL_WAIT_FOR_EVENT) that the driver keeps, and the driver completes it when there is something to tell. Here
+ * (IOCTL_WAIT_FOR_EVENT) that the driver keeps, and the driver completes it when there is something to report. Here
  * another device control (IOCTL_RAISE_EVENT) is what happens; in a real driver it would be an interrupt.
  *
  * What is difficult: an event may come while no call waits, and a call may come while no event is there. Whoever comes
@@ -16,7 +16,7 @@ typedef struct _EXTENSION {
     IRP_QUEUE Calls; /* that wait; under QueueLock */
     KSPIN_LOCK QueueLock;
     KSPIN_LOCK EventLock; /* taken before QueueLock */
-    UCHAR Events[MOST_EVENTS]; /* that no call has told yet, the oldest first; with their count under EventLock */
+    UCHAR Events[MOST_EVENTS]; /* that no call has reported yet, the oldest first; with their count under EventLock */
     ULONG EventCount;
 } EXTENSION, *PEXTENSION;
 

@@ -120,7 +120,7 @@ static void send_beside(struct user *u, struct request *r) {
     }
 }
 
-/* What a cleanup of another user left isn't cancelled, so that it is told. */
+/* What a cleanup of another user left isn't cancelled, so that it is reported. */
 static void cancel(struct user *u, struct request *r) {
     if (!r->sent || r->beside) {
         return;
@@ -217,7 +217,7 @@ static void run(int threads, uint32_t seed) {
     IocsqUnload(driver);
 }
 
-static void tell_counts(void) {
+static void print_counts(void) {
     IOCSQ_COUNTS c = IocsqCounts();
     printf("inserted %llu refused %llu removed %llu cancelled %llu completed %llu, peeks %llu, audits %llu; "
            "succeeded %lu cancelled %lu timed out %lu refused %lu of %lu cancels; %llu switches\n",
@@ -254,6 +254,6 @@ int main(int argc, char **argv) {
         IocsqSetPolicy(NULL, &DriverPolicy);
     }
     run(threads, seed);
-    tell_counts();
+    print_counts();
     return 0;
 }

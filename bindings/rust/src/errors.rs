@@ -2,6 +2,7 @@
 
 use crate::pass::Pass;
 use crate::queue::Queue;
+use crate::raw;
 use std::error::Error;
 use std::fmt;
 
@@ -75,6 +76,21 @@ refusal!(InsertError {
     Full => "the queue has as many IRPs listed as it may",
 });
 
+impl InsertError {
+    /// The cause that `csq_insert` returned as this code.
+    pub(crate) fn of(code: u32) -> InsertError {
+        match code {
+            raw::UNKNOWN_IRP => InsertError::UnknownIrp,
+            raw::UNKNOWN_FILE => InsertError::UnknownFile,
+            raw::NOT_HOME => InsertError::NotHome,
+            raw::FILE_CLOSED => InsertError::FileClosed,
+            raw::FILE_FULL => InsertError::FileFull,
+            raw::FULL => InsertError::Full,
+            code => unreachable!("csq_insert returned {code}"),
+        }
+    }
+}
+
 /// Why what was removed isn't put back, in the order in which the causes are tested.
 #[derive(Clone, Copy, Debug, PartialEq, Eq, Hash)]
 pub enum PutBackError {
@@ -91,6 +107,19 @@ refusal!(PutBackError {
     FileFull => "the file object has as many IRPs listed as it may",
     Full => "the queue has as many IRPs listed as it may",
 });
+
+impl PutBackError {
+    /// The cause that `csq_put_back` returned as this code. A token is of what its pass holds, so what is refused is
+    /// refused for its file object or for the list alone.
+    pub(crate) fn of(code: u32) -> PutBackError {
+        match code {
+            raw::FILE_CLOSED => PutBackError::FileClosed,
+            raw::FILE_FULL => PutBackError::FileFull,
+            raw::FULL => PutBackError::Full,
+            code => unreachable!("csq_put_back returned {code}"),
+        }
+    }
+}
 
 /// What wasn't put back: a token ([`Removed`](crate::Removed)) or a request ([`Request`](crate::Request)). It comes back.
 pub struct NotPutBack<R> {
@@ -295,8 +324,9 @@ pub enum Missed {
     OtherQueue,
     /// The request was completed.
     Completed,
-    /// Somebody else has the request. Who took it is told ([`Request::is_cancelled`](crate::Request::is_cancelled)), also
-    /// by a put-back ([`PutBack::Cancelled`](crate::PutBack::Cancelled)), unless another cancel gets it then.
+    /// Somebody else has the request. Whoever took it learns of the cancel
+    /// ([`Request::is_cancelled`](crate::Request::is_cancelled)), also by a put-back
+    /// ([`PutBack::Cancelled`](crate::PutBack::Cancelled)), unless another cancel gets it then.
     Taken,
 }
 

@@ -92,13 +92,7 @@ impl Pass {
                 pass: self,
                 irp: Irp::of(context),
             })),
-            raw::UNKNOWN_IRP => Err(InsertError::UnknownIrp),
-            raw::UNKNOWN_FILE => Err(InsertError::UnknownFile),
-            raw::NOT_HOME => Err(InsertError::NotHome),
-            raw::FILE_CLOSED => Err(InsertError::FileClosed),
-            raw::FILE_FULL => Err(InsertError::FileFull),
-            raw::FULL => Err(InsertError::Full),
-            code => unreachable!("csq_insert answered {code}"),
+            code => Err(InsertError::of(code)),
         }
     }
 
@@ -146,7 +140,7 @@ impl Pass {
         self.cleanup_with(file, |_| ())
     }
 
-    /// [`Pass::cleanup`], and `before` is told of each IRP before it is completed.
+    /// [`Pass::cleanup`], and `before` is called with each IRP before it is completed.
     pub fn cleanup_with(&self, file: u32, before: impl FnMut(Irp)) -> Result<u32, UnknownFile> {
         self.close_file(file)?;
         Ok(self.complete_listed(Peek::File(file), before))
@@ -160,7 +154,7 @@ impl Pass {
         self.drain_with(peek, |_| ())
     }
 
-    /// [`Pass::drain`], and `before` is told of each IRP before it is completed.
+    /// [`Pass::drain`], and `before` is called with each IRP before it is completed.
     pub fn drain_with(&self, peek: Peek, before: impl FnMut(Irp)) -> Result<u32, UnknownFile> {
         if let Peek::File(file) = peek {
             self.file_len(file)?;
@@ -221,7 +215,7 @@ impl Pass {
         self.cancel_with(irp, |_| ())
     }
 
-    /// [`Pass::cancel`], and `before` is told of the IRP before it is completed, where it is completed here.
+    /// [`Pass::cancel`], and `before` is called with the IRP before it is completed, where it is completed here.
     pub fn cancel_with(&self, irp: Irp, before: impl FnOnce(Irp)) -> Result<bool, CancelError> {
         match self.mark_cancel(irp)? {
             None => Ok(false),
@@ -268,10 +262,7 @@ impl Pass {
                 pass: self,
                 irp: Irp::of(context),
             })),
-            raw::FILE_CLOSED => Err(PutBackError::FileClosed),
-            raw::FILE_FULL => Err(PutBackError::FileFull),
-            raw::FULL => Err(PutBackError::Full),
-            code => unreachable!("csq_put_back answered {code}"),
+            code => Err(PutBackError::of(code)),
         }
     }
 

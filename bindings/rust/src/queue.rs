@@ -175,7 +175,7 @@ fn passes_out(handle: &RawQueue) -> u32 {
     out
 }
 
-/// A file object as C is told of it.
+/// A file object as it is passed to C.
 pub(crate) fn file_of(peek: Peek) -> u32 {
     match peek {
         Peek::Any => raw::ANY,
@@ -183,7 +183,7 @@ pub(crate) fn file_of(peek: Peek) -> u32 {
     }
 }
 
-/// A queue that was closed. It tells what is left.
+/// A queue that was closed. It reports what is left.
 pub struct Closed {
     shared: Arc<Shared>,
 }
@@ -203,7 +203,7 @@ impl Closed {
         }
     }
 
-    /// What is told of an IRP. None for an unknown one.
+    /// What is reported of an IRP. None for an unknown one.
     pub fn irp(&self, irp: u32) -> Option<Left> {
         let mut left = RawLeft::default();
         // SAFETY: the handle is locked.

@@ -157,7 +157,7 @@ impl fmt::Display for FinalStatus {
     }
 }
 
-/// What a closed queue tells of an IRP in its present life.
+/// What a closed queue reports of an IRP in its present life.
 #[derive(Clone, Copy, Debug, PartialEq, Eq, Hash)]
 pub struct Left {
     /// Its present life.

@@ -82,7 +82,7 @@ fn cancels_before_and_after_an_insert() {
 }
 
 #[test]
-fn refusals_tell_their_causes() {
+fn refusals_name_their_causes() {
     for size in sizes(4, 3) {
         let size = Size { limit: 2, ..size };
         let queue = Queue::with_file_limits(&size, &[1, 4, 4]).unwrap();
@@ -174,7 +174,7 @@ fn a_completed_irp_is_used_again() {
 }
 
 #[test]
-fn a_closed_queue_tells_what_is_left() {
+fn a_closed_queue_reports_what_is_left() {
     for size in sizes(5, 1) {
         let queue = Queue::new(&size).unwrap();
         let pass = queue.pass().unwrap();

@@ -1,4 +1,4 @@
-//! What an open queue tells of its list, and calls that complete all that is listed.
+//! What an open queue reports of its list, and calls that complete all that is listed.
 
 use csq::{
     FinalStatus, Inserted, Irp, List, NotListed, Peek, Place, Queue, Requests, Size, UnknownFile,
@@ -65,13 +65,13 @@ fn a_drained_file_object_is_used_again() {
         for irp in 0..5 {
             let _ = pass.insert(irp, irp % 2, Place::Back).unwrap();
         }
-        let mut told = Vec::new();
+        let mut notified = Vec::new();
         let before = |irp: Irp| {
             assert_eq!(pass.status(irp.irp), Ok((5, None)));
-            told.push(irp);
+            notified.push(irp);
         };
         assert_eq!(pass.drain_with(Peek::File(1), before), Ok(2));
-        assert_eq!(told, [1, 3].map(named));
+        assert_eq!(notified, [1, 3].map(named));
         assert_eq!(pass.drain(Peek::File(1)), Ok(0));
         let _ = pass.insert(5, 1, Place::Back).unwrap();
         assert_eq!(pass.cleanup(1), Ok(1));
@@ -83,22 +83,22 @@ fn a_drained_file_object_is_used_again() {
 }
 
 #[test]
-fn who_waits_is_told_before_the_completion() {
+fn whoever_waits_is_notified_before_the_completion() {
     for queue in queues() {
         let pass = queue.pass().unwrap();
         let _ = pass.insert(0, 0, Place::Back).unwrap();
         let _ = pass.insert(1, 0, Place::Back).unwrap();
-        let mut told = Vec::new();
+        let mut notified = Vec::new();
         let cancelled = pass.cancel_with(named(0), |irp| {
             assert_eq!(pass.status(irp.irp), Ok((5, None)));
-            told.push(irp);
+            notified.push(irp);
         });
         assert_eq!(cancelled, Ok(true));
         let status = Some(FinalStatus::CANCELLED);
         assert_eq!(pass.status(0), Ok((5, status)));
-        assert_eq!(pass.cancel_with(named(0), |irp| told.push(irp)), Ok(false));
-        assert_eq!(pass.cleanup_with(0, |irp| told.push(irp)), Ok(1));
-        assert_eq!(told, [0, 1].map(named));
+        assert_eq!(pass.cancel_with(named(0), |irp| notified.push(irp)), Ok(false));
+        assert_eq!(pass.cleanup_with(0, |irp| notified.push(irp)), Ok(1));
+        assert_eq!(notified, [0, 1].map(named));
     }
 }
 
@@ -107,7 +107,7 @@ fn an_irp_is_completed_where_its_callback_panics() {
     for queue in queues() {
         let pass = queue.pass().unwrap();
         let _ = pass.insert(0, 0, Place::Back).unwrap();
-        let call = || pass.cancel_with(named(0), |_| panic!("told"));
+        let call = || pass.cancel_with(named(0), |_| panic!("notified"));
         let caught = std::panic::catch_unwind(std::panic::AssertUnwindSafe(call));
         assert!(caught.is_err());
         assert_eq!(pass.status(0), Ok((5, Some(FinalStatus::CANCELLED))));
@@ -132,7 +132,7 @@ fn requests_are_counted_and_drained() {
 }
 
 #[test]
-fn the_library_tells_its_version() {
+fn the_library_returns_its_version() {
     let version = csq::library_version();
     assert_eq!(
         format!("{}.{}.{}", version.0, version.1, version.2),

@@ -83,9 +83,7 @@ put_back_code (Ok answer) = insert_code (Ok answer)
 put_back_code (Err back.UnknownIrp) = UnknownIrp
 put_back_code (Err back.NotHeld) = NotHeld
 put_back_code (Err back.NotRemoved) = NotRemoved
-put_back_code (Err back.FileClosed) = FileClosed
-put_back_code (Err back.FileFull) = FileFull
-put_back_code (Err back.Full) = Full
+put_back_code (Err (back.ByQueue cause)) = refusal_code cause
 
 -- which IRP a put-back told of
 abbrev pub put_back_irp : Result (InsertAnswer IrpLife IrpLife) PutBackRefused → Option IrpLife

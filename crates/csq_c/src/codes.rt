@@ -85,9 +85,7 @@ pub(crate) fn of_put_back(answer: Result<OpenInserted, PutBackRefused>) -> (Code
         Err(PutBackRefused::UnknownIrp) => (Code::UnknownIrp, None),
         Err(PutBackRefused::NotHeld) => (Code::NotHeld, None),
         Err(PutBackRefused::NotRemoved) => (Code::NotRemoved, None),
-        Err(PutBackRefused::FileClosed) => (Code::FileClosed, None),
-        Err(PutBackRefused::FileFull) => (Code::FileFull, None),
-        Err(PutBackRefused::Full) => (Code::Full, None),
+        Err(PutBackRefused::ByQueue(cause)) => (refusal(cause), None),
     }
 }
 

@@ -3,27 +3,20 @@ use Rattle.std.proofs.Common.{◌≡◌, ◌<◌, ◌||◌, ◌&&◌, not, cond,
 use Rattle.csq_checked.proofs.Imports.{false_from_ne_true, leb-false, lt-leb, Size, number, same_id, same_irp, IrpLife, same_irp-eq, same_id-refl, PassRecord, IsLegal, MayCome, end_of, Limits, QueueState, present_in, has_irp, plain_listing, refusal, reply_to_insert, with_file, after_event, WordsState, OpenState, IsQueueOn}
 use Rattle.irp_core.specs.declared.ids.IrpId.{IrpId}
 use Rattle.irp_core.specs.declared.ids.FileId.{FileId}
-use Rattle.csq_list.specs.Causes.{is_cause, first_cause}
+use Rattle.std.specs.List.{find}
+use Rattle.csq_list.specs.Causes.{causes, is_cause, first_cause}
 use Rattle.csq_list.specs.Listing.{Listing, renewed}
 use Rattle.csq_list.specs.declared.entry.Place.{Place}
 use Rattle.csq_list.specs.declared.refusals.InsertStatus.{InsertStatus}
-use Rattle.csq_list.specs.declared.refusals.InsertStatus.TheVariants.{UnknownIrp, UnknownFile, NotHome, FileClosed, FileFull, Full}
+use Rattle.csq_list.specs.declared.refusals.InsertStatus.TheVariants.{UnknownIrp, UnknownFile, NotHome}
 use Rattle.csq_list.proofs.Causes.{no_cause}
 use Rattle.csq_words.specs.declared.views.HistoryEntry.{HistoryEntry}
 use Rattle.csq_words.specs.declared.views.Event.{Event}
 use Rattle.csq_words.specs.declared.views.Event.TheVariants.{FlagSeen, Mark, Insert, RemoveNext, Remove, Out, CloseFile, Reuse, PutBack}
 use Rattle.csq_words.specs.declared.views.InsertReply.TheVariants.{Pending, Cancelled, Refused}
 use Rattle.csq_queue.specs.Calls.{PutsBack, file_at}
+use Rattle.csq_checked.specs.Causes.{is_of_place}
 use Rattle.csq_queue.proofs.Crowding.{pending_none, cancelled_none}
-
--- the cause is the file object's or the list's
-abbrev pub is_of_place : InsertStatus → Bool
-is_of_place UnknownIrp = false
-is_of_place UnknownFile = false
-is_of_place NotHome = false
-is_of_place FileClosed = true
-is_of_place FileFull = true
-is_of_place Full = true
 
 module _ (l : Limits) (u : QueueState) (n : IrpId) (f : FileId) (i : IrpLife) (before : has_irp u.used i ≡ true → (u.file_of i.irp).0 < l.files) where
   -- the file object of what an insert accepts is known
@@ -59,23 +52,26 @@ file_known l (e ∷ h) legal i used = at (end_of l.first h) e.event legal.0 (fil
     at u (CloseFile f) may before now = before now
     at u (Reuse n life) may before now = before now
 
+-- what is found passes the test
+found_passes : {X : Type 0} (test : X → Bool) (xs : List X) (x : X) → find test xs ≡ Some x → test x ≡ true
+found_passes test [] x h = absurd cc
+found_passes {X} test (y ∷ ys) x h = by_case (test y) refl (found_passes test ys x) h
+  where
+    by_case : (b : Bool) → test y ≡ b → (find test ys ≡ Some x → test x ≡ true) → cond b (Some y) (find test ys) ≡ Some x → test x ≡ true
+    by_case true e rest h = let same : y ≡ x = cc in ap test (sym same) ∙ e
+    by_case false e rest h = rest h
+
 -- of an IRP and a file object that there are, where the IRP is home
 place_cause : (s : Listing) (i : IrpId) (f : FileId) (cause : InsertStatus) → is_cause s i f UnknownIrp ≡ false → is_cause s i f UnknownFile ≡ false → is_cause s i f NotHome ≡ false → first_cause s i f ≡ Some cause → is_of_place cause ≡ true
-place_cause s i f cause known file home first = at (is_cause s i f FileClosed) (is_cause s i f FileFull) (is_cause s i f Full) (sym skipped ∙ first)
+place_cause s i f cause known file home first = at cause (found_passes (is_cause s i f) causes cause first)
   where
-    left : Option InsertStatus
-    left = cond (is_cause s i f FileClosed) (Some FileClosed) (cond (is_cause s i f FileFull) (Some FileFull) (cond (is_cause s i f Full) (Some Full) None))
+    at : (cause : InsertStatus) → is_cause s i f cause ≡ true → is_of_place cause ≡ true
+    at UnknownIrp holds = absurd (true≢false (sym holds ∙ known))
+    at UnknownFile holds = absurd (true≢false (sym holds ∙ file))
+    at NotHome holds = absurd (true≢false (sym holds ∙ home))
+    at cause holds = refl
 
-    skipped : first_cause s i f ≡ left
-    skipped = λ k. cond (known k) (Some UnknownIrp) (cond (file k) (Some UnknownFile) (cond (home k) (Some NotHome) left))
-
-    at : (closed file_full full : Bool) → cond closed (Some FileClosed) (cond file_full (Some FileFull) (cond full (Some Full) None)) ≡ Some cause → is_of_place cause ≡ true
-    at true b d e = let is : FileClosed ≡ cause = cc in ap is_of_place (sym is)
-    at false true d e = let is : FileFull ≡ cause = cc in ap is_of_place (sym is)
-    at false false true e = let is : Full ≡ cause = cc in ap is_of_place (sym is)
-    at false false false e = absurd (cc)
-
--- why a put-back of an IRP that there is, is refused
+-- a put-back of an IRP that there is, is refused for no other cause
 refused_place : (i : IrpLife) (place : Place) (cause : InsertStatus) (l : Limits) (h : List HistoryEntry) (p p' : PassRecord) → number i < l.irps → PutsBack i place (Err cause) l h p p' → is_of_place cause ≡ true
 refused_place i place cause l h p p' known back =
     let f = file_at l h i in
@@ -85,8 +81,7 @@ refused_place i place cause l h p p' known back =
     (lt-leb l.irps i.irp.0 known) (lt-leb l.files f.0 (file_known l h legal.1 i legal.0.0.0))
     (ap (λ b. not b && has_irp u.used (present_in u i.irp)) (same_id-refl i.irp)) back.cause
 
--- of an open queue of these words none is refused for another cause
-pub not_refused : (words : WordsState) (queue : OpenState) → IsQueueOn words queue → (i : IrpLife) (place : Place) (cause other : InsertStatus) (p p' : PassRecord) → number i < words.size.irps → PutsBack i place (Err cause) queue.limits queue.queue.history p p' → cause ≡ other → is_of_place other ≡ false → ⊥
-not_refused words queue on i place cause other p p' known back same unlike =
-    let inside = subst (λ (s : Size). number i < s.irps) (sym on.size) known in
-    true≢false (sym (refused_place i place cause queue.limits queue.queue.history p p' inside back) ∙ (ap is_of_place same ∙ unlike))
+-- nor by an open queue of these words
+pub refused_there : (words : WordsState) (queue : OpenState) → IsQueueOn words queue → (i : IrpLife) (place : Place) (cause : InsertStatus) (p p' : PassRecord) → number i < words.size.irps → PutsBack i place (Err cause) queue.limits queue.queue.history p p' → is_of_place cause ≡ true
+refused_there words queue on i place cause p p' known back =
+    refused_place i place cause queue.limits queue.queue.history p p' (subst (λ (s : Size). number i < s.irps) (sym on.size) known) back

@@ -1,5 +1,5 @@
 -- What a call of a checked queue, or of its pass alone, answers and leaves: it is the open queue's call, or is refused for the first cause that holds.
-use Rattle.std.specs.Prelude.{◌≡◌, ◌<◌, ◌↔◌, List, Option, Some, None, Result, Ok, Err, IfSome, OnOk, OnErr}
+use Rattle.std.specs.Prelude.{◌≡◌, ◌<◌, ◌↔◌, true, List, Option, Some, None, Result, Ok, Err, IfSome, OnOk, OnErr}
 use Rattle.std.specs.Result.{result_err}
 use Rattle.irp_core.specs.Runs.{Size}
 use Rattle.irp_core.specs.Steps.{number}
@@ -10,7 +10,6 @@ use Rattle.irp_core.specs.declared.status.NtStatus.{NtStatus}
 use Rattle.irp_core.specs.declared.status.TheConstants.NtStatus.{CANCELLED}
 use Rattle.csq_list.specs.declared.entry.Place.{Place}
 use Rattle.csq_list.specs.declared.refusals.InsertStatus.{InsertStatus}
-use Rattle.csq_list.specs.declared.refusals.InsertStatus.TheVariants as insert
 use Rattle.csq_list.specs.declared.refusals.UnknownFile.{UnknownFile}
 use Rattle.csq_words.specs.declared.views.HistoryEntry.{HistoryEntry}
 use Rattle.csq_words.specs.declared.views.PassRecord.{PassRecord}
@@ -28,7 +27,7 @@ use Rattle.csq_checked.specs.declared.calls.CheckedReuseRefused.{CheckedReuseRef
 use Rattle.csq_checked.specs.declared.calls.CheckedReuseRefused.TheVariants.{UnknownIrp, Stale, NotCompleted, LivesSpent}
 use Rattle.csq_checked.specs.declared.unlocked.CompleteRefused.{CompleteRefused}
 use Rattle.csq_checked.specs.declared.unlocked.RoutineRefused.{RoutineRefused}
-use Rattle.csq_checked.specs.Causes.{complete_cause, cancelled_cause, put_back_cause, routine_cause}
+use Rattle.csq_checked.specs.Causes.{complete_cause, cancelled_cause, put_back_cause, is_of_place, routine_cause}
 use Rattle.csq_checked.specs.Passes.{CheckedPassState, CheckedState}
 
 -- the pass is of the same words, and has seen the queue's history and the execution, which alone are new of the queue
@@ -53,17 +52,14 @@ pub record MakesOwnCall (call_is : Size → PassRecord → PassRecord → Type 0
 -- what the open queue returned, if it was asked to put an IRP back
 abbrev pub asked_back : Result (InsertAnswer IrpLife IrpLife) PutBackRefused → Option (Result (InsertAnswer IrpLife IrpLife) InsertStatus)
 asked_back (Ok inserted) = Some (Ok inserted)
-asked_back (Err back.FileClosed) = Some (Err insert.FileClosed)
-asked_back (Err back.FileFull) = Some (Err insert.FileFull)
-asked_back (Err back.Full) = Some (Err insert.Full)
-asked_back (Err back.UnknownIrp) = None
-asked_back (Err back.NotHeld) = None
-asked_back (Err back.NotRemoved) = None
+asked_back (Err (back.ByQueue cause)) = Some (Err cause)
+asked_back (Err refused) = None
 
--- a put-back of i, which a removal got, or the first cause why not
+-- a put-back of i, which a removal got, or the first cause why not: the queue refuses it for its file object or for the list alone
 pub record PutsBackRemoved (i : IrpLife) (place : Place) (answer : Result (InsertAnswer IrpLife IrpLife) PutBackRefused) (q : CheckedState) (p : CheckedPassState) (q' : CheckedState) (p' : CheckedPassState) : Type 0 where
   pub cause : asked_back answer ≡ None → result_err answer ≡ put_back_cause q.queue.limits.irps p.pass.steps i
   pub held : IfSome (asked_back answer) (λ a. HoldsRemoved q.queue.limits.irps p.pass i)
+  pub of_place : (cause : InsertStatus) → answer ≡ Err (back.ByQueue cause) → is_of_place cause ≡ true
   pub call : IfSome (asked_back answer) (λ a. MakesCall (PutsBack i place a) q p q' p')
   pub kept : asked_back answer ≡ None → AreKept q p q' p'
 

@@ -22,12 +22,8 @@ pub enum PutBackRefused {
     NotHeld,
     /// The pass holds it, but got it cancelled: it is completed as cancelled alone.
     NotRemoved,
-    /// Its file object was closed.
-    FileClosed,
-    /// As many IRPs are listed for its file object as that one's limit allows.
-    FileFull,
-    /// As many IRPs are listed as the limit allows.
-    Full,
+    /// The queue refused it: its file object is closed, or no more IRPs may be listed for it or in all.
+    ByQueue(InsertStatus),
 }
 
 /// Why an IRP was not given its next life, in the order in which the causes are tested. Own rule.
@@ -95,14 +91,7 @@ impl CheckedQueue {
                 by.held.set(irp.irp, held_after(&back));
                 Ok(back)
             }
-            Err(InsertStatus::FileClosed) => Err(PutBackRefused::FileClosed),
-            Err(InsertStatus::FileFull) => Err(PutBackRefused::FileFull),
-            Err(InsertStatus::Full) => Err(PutBackRefused::Full),
-            // The pass holds the IRP, so there is such an IRP, and an insert has accepted it for a known file object;
-            // and a put-back is never refused as NotHome.
-            Err(InsertStatus::UnknownIrp) => unreachable!(),
-            Err(InsertStatus::UnknownFile) => unreachable!(),
-            Err(InsertStatus::NotHome) => unreachable!(),
+            Err(cause) => Err(PutBackRefused::ByQueue(cause)),
         }
     }
 

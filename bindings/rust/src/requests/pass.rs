@@ -76,7 +76,7 @@ impl<T> RequestPass<T> {
         let claim = match self.pass.mark_cancel(request.irp) {
             Ok(Some(claim)) => claim,
             Ok(None) if !self.is_completed(request) => return Err(Missed::Taken),
-            // A refusal tells of another life: this one is over.
+            // A refusal names another life: this one is over.
             Ok(None) | Err(_) => return Err(Missed::Completed),
         };
         let token = claim.run();

@@ -119,7 +119,7 @@ mod tests {
     }
 
     #[test]
-    fn spent_numbers_are_told_once_all_are() {
+    fn spent_numbers_are_reported_once_all_are() {
         let slots = Slots::<()>::new(2);
         slots.spend_number(slots.take_number().unwrap());
         let last = slots.take_number().unwrap();

@@ -17,8 +17,8 @@ pub(crate) struct Replay<A: Allocator> {
     pub(crate) asks: bool,
 }
 
-/// Adds the line of the claim that a step made, which this line of the schedule names, as
-/// `claim 3 line 7 p1`; nothing if it made none. Refused where there is too little memory. Own rule.
+/// Adds the claim that a step made, with the number of the line that names the step, as
+/// `claim 3 line 7 p1`; nothing if the step claimed no IRP. Refused if there is too little memory. Own rule.
 #[tactic(auto, unfolding(irp_core::specs::Steps::same_irp))]
 pub fn note_claim<A: Allocator>(
     claims: &mut String<A>,

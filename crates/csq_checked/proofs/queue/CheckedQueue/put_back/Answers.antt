@@ -3,7 +3,7 @@ use Rattle.csq_checked.proofs.Imports.{arc_value, end_of, of_accepted}
 use Rattle.csq_queue.specs.Calls.{file_at}
 use Rattle.csq_queue.specs.Effects.{AddsEvents}
 use Rattle.csq_checked.proofs.Checking.{back_keeps}
-use Rattle.csq_checked.proofs.Placing.{not_refused}
+use Rattle.csq_checked.proofs.Placing.{refused_there}
 use Rattle.csq_checked.proofs.queue.CheckedQueue.put_back.Goals as goal
 
 pub invariant_of-by : goal.invariant_of-by
@@ -14,11 +14,3 @@ invariant_of-by c =
     let promised = c.in-Ok.ensures in
     back_keeps words c.by.inside.pass c.by.inside.held c.by.inside.owed c.by.invariant c.args.irp known c.in-Ok.back (end_of q.limits.first c.put_back.new.pass.pass.seen) _ _
     promised.call.steps (of_accepted c.args.irp (file_at q.limits q.queue.history c.args.irp) c.args.place (λ a events. AddsEvents q.limits q.queue.history c.by.inside.pass.pass c.put_back.new.pass.pass events) (Ok c.in-Ok.back) promised.call.accepted) (search rules) promised.call.none_held promised.place (search rules)
-
-pub unreachable-requires-in-Err-UnknownFile : goal.unreachable-requires-in-Err-UnknownFile
-unreachable-requires-in-Err-UnknownFile c =
-    not_refused (arc_value c.by.inside.words) c.self.inside.queue (search rules) c.args.irp c.args.place c.in-Err-UnknownFile.field-0 _ c.by.inside.pass.pass c.put_back.new.pass.pass (search rules) c.in-Err-UnknownFile.ensures.call c.in-Err-UnknownFile.field-0-is refl
-
-pub unreachable-requires-in-Err-NotHome : goal.unreachable-requires-in-Err-NotHome
-unreachable-requires-in-Err-NotHome c =
-    not_refused (arc_value c.by.inside.words) c.self.inside.queue (search rules) c.args.irp c.args.place c.in-Err-NotHome.field-0 _ c.by.inside.pass.pass c.put_back.new.pass.pass (search rules) c.in-Err-NotHome.ensures.call c.in-Err-NotHome.field-0-is refl
