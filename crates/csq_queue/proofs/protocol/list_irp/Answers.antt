@@ -22,14 +22,14 @@ module _ (g : Over) (c : After-test g) where
   accepted : refusal limits (queue_of old.queue) c.args.irp c.args.file ≡ None
   accepted = search rules
 
-  named : c.present-present_in.result ≡ name
-  named = present_is limits (g.L.PendingList.listing c.args.list.now) c.args.kept.now (queue_of old.queue) c.requires.entered.list_is c.args.irp c.present-present_in.result (accepted_irp limits (queue_of old.queue) c.args.irp c.args.file accepted).0 c.present-present_in.ensures
+  named : c.present-present.result ≡ name
+  named = present_is limits (g.L.PendingList.listing c.args.list.now) c.args.kept.now (queue_of old.queue) c.requires.entered.list_is c.args.irp c.present-present.result (accepted_irp limits (queue_of old.queue) c.args.irp c.args.file accepted).0 c.present-present.ensures
 
   to_armed : c.arm.new.self ≡ armed c.args.irp c.args.file c.args.place (bit_in c.arm.result) c.arm.new.self.queue.run old
   to_armed = c.arm.ensures.step ∙ (λ k. with_view (after_step (InsertCall c.args.irp c.args.file c.args.place) (Arm (named k)) (bit_in c.arm.result) (with_run c.arm.new.self.queue.run old.queue) (joined_record old)) old)
 
   routine_clear : bit_in c.arm.result ≡ 0
-  routine_clear = was_clear c.present-present_in.result.life.0 c.arm.result c.arm.ensures.found
+  routine_clear = was_clear c.present-present.result.life.0 c.arm.result c.arm.ensures.found
 
 pub is_set-requires-2 : goal.is_set-requires-2
 is_set-requires-2 g c = search rules

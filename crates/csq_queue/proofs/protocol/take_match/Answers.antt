@@ -13,21 +13,21 @@ search-init g c = search_start c.args.words.now.table (limits_on c.args.words.no
 
 pub disarm-requires-clause-next : goal.disarm-requires-clause-next
 disarm-requires-clause-next g c =
-    let now = listed_life _ _ _ _ c.search.invariant.adds.list_is c.in-Some.next (g.met.L.PendingList.sound c.search.list) (search rules) c.present-present_in.result c.present-present_in.ensures in
-    (c.search.invariant.removes, next_match c.search.invariant (g.met.L.PendingList.sound c.search.list) c.present-present_in.result now (ap (λ (m : IrpId). Some m) (ap (λ (j : IrpLife). j.irp) c.present-present_in.ensures) ∙ c.in-Some.ensures.found))
+    let now = listed_life _ _ _ _ c.search.invariant.adds.list_is c.in-Some.next (g.met.L.PendingList.sound c.search.list) (search rules) c.present-present.result c.present-present.ensures in
+    (c.search.invariant.removes, next_match c.search.invariant (g.met.L.PendingList.sound c.search.list) c.present-present.result now (ap (λ (m : IrpId). Some m) (ap (λ (j : IrpLife). j.irp) c.present-present.ensures) ∙ c.in-Some.ensures.found))
 
 -- the removal found the routine of the next match
-hit : (g : Over) (c : After-remove g) → ((marks : List IrpLife) × Adds (limits_on c.args.words.now (g.L.PendingList.listing c.args.list.now)) c.args.seat.now (RemoveNext c.args.peek (Some c.present-present_in.result) ∷ marked marks) (g.L.PendingList.listing c.remove.new.self) c.args.kept.now c.disarm.new.self)
-    × MakesSteps (remove_next_steps c.args.peek (Some c.present-present_in.result) (queue_of c.args.seat.now.queue)) (joined_record c.args.seat.now) (joined_record c.disarm.new.self)
-    × IsNew (limits_on c.args.words.now (g.L.PendingList.listing c.args.list.now)) (joined_record c.args.seat.now) c.present-present_in.result
+hit : (g : Over) (c : After-remove g) → ((marks : List IrpLife) × Adds (limits_on c.args.words.now (g.L.PendingList.listing c.args.list.now)) c.args.seat.now (RemoveNext c.args.peek (Some c.present-present.result) ∷ marked marks) (g.L.PendingList.listing c.remove.new.self) c.args.kept.now c.disarm.new.self)
+    × MakesSteps (remove_next_steps c.args.peek (Some c.present-present.result) (queue_of c.args.seat.now.queue)) (joined_record c.args.seat.now) (joined_record c.disarm.new.self)
+    × IsNew (limits_on c.args.words.now (g.L.PendingList.listing c.args.list.now)) (joined_record c.args.seat.now) c.present-present.result
 hit g c =
     let l = limits_on c.args.words.now (g.L.PendingList.listing c.args.list.now) in
     let s = g.L.PendingList.listing c.search.list in
     let v = c.args.kept.now in
     let z = c.search.seat in
-    let i = c.present-present_in.result in
-    let named = ap (λ (j : IrpLife). j.irp) c.present-present_in.ensures in
-    let now = listed_life _ _ _ _ c.search.invariant.adds.list_is c.in-Some.next (g.met.L.PendingList.sound c.search.list) (search rules) c.present-present_in.result c.present-present_in.ensures in
+    let i = c.present-present.result in
+    let named = ap (λ (j : IrpLife). j.irp) c.present-present.ensures in
+    let now = listed_life _ _ _ _ c.search.invariant.adds.list_is c.in-Some.next (g.met.L.PendingList.sound c.search.list) (search rules) c.present-present.result c.present-present.ensures in
     let sound = g.met.L.PendingList.sound c.search.list in
     let peeked = ap (λ (m : IrpId). Some m) named ∙ c.in-Some.ensures.found in
     let one = c.is_set.ensures.set c.if-is_set.true in
@@ -51,9 +51,9 @@ returns-then-is_set-clause-new g c = (hit g c).2
 pub search-preserved : goal.search-preserved
 search-preserved g c =
     let z = c.search.seat in
-    let i = c.present-present_in.result in
-    let named = ap (λ (j : IrpLife). j.irp) c.present-present_in.ensures in
-    let now = listed_life _ _ _ _ c.search.invariant.adds.list_is c.in-Some.next (g.met.L.PendingList.sound c.search.list) (search rules) c.present-present_in.result c.present-present_in.ensures in
+    let i = c.present-present.result in
+    let named = ap (λ (j : IrpLife). j.irp) c.present-present.ensures in
+    let now = listed_life _ _ _ _ c.search.invariant.adds.list_is c.in-Some.next (g.met.L.PendingList.sound c.search.list) (search rules) c.present-present.result c.present-present.ensures in
     let is : c.disarm.new.self ≡ with_made (Disarm i) 0 (due_mark i (queue_of z.queue)) c.disarm.new.self.queue.run z = c.disarm.ensures.step ∙ ap (λ w. with_view (after_step (RemoveNextCall c.args.peek) (Disarm i) w (with_run c.disarm.new.self.queue.run z.queue) (joined_record z)) z) (c.is_set.ensures.clear c.if-is_set.false) in
     let missed = search_miss c.search.invariant (g.met.L.PendingList.sound c.search.list) i now (ap (λ (m : IrpId). Some m) named ∙ c.in-Some.ensures.found) c.disarm.new.self.queue.run (subst (λ (y : QueueSeatState). SomeRunAgrees c.args.words.now.size y.queue (joined_record y)) is (c.disarm.new.self.queue.run, c.disarm.ensures.agreed.agreed)) in
     subst (λ (y : IrpId × QueueSeatState). IsSearch (limits_on c.args.words.now (g.L.PendingList.listing c.args.list.now)) c.args.seat.now c.args.peek (Some y.0) (g.L.PendingList.listing c.search.list) c.args.kept.now y.1) (λ k. (named k, sym is k)) missed

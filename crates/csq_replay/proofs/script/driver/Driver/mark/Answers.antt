@@ -10,15 +10,15 @@ returns-then-not-is_known g c = λ l s k. unknown_keeps l _ s k (Mark c.args.nam
 pub returns-then-ne : goal.returns-then-ne
 unfolding same_irp
 returns-then-ne g c = λ l s k.
-    let other = not-true (same_irp c.present_in-present.result c.args.name) (sym c.ne.ensures ∙ c.if-ne.true) in
-    stale_keeps l _ s k (Mark c.args.name) c.args.name refl (c.is_known.ensures.0 c.if-not-is_known.false) c.present_in-present.result (c.present_in-present.ensures s.run k.agrees ∙ present_is l _ s k c.args.name.irp) other
+    let other = not-true (same_irp c.present-present.result c.args.name) (sym c.ne.ensures ∙ c.if-ne.true) in
+    stale_keeps l _ s k (Mark c.args.name) c.args.name refl (c.is_known.ensures.0 c.if-not-is_known.false) c.present-present.result (c.present-present.ensures s.run k.agrees ∙ present_is l _ s k c.args.name.irp) other
 
 pub make-requires : goal.make-requires
 unfolding same_irp
 make-requires g c =
     let (l, s, k) = c.requires in
-    let same = not-false (same_irp c.present_in-present.result c.args.name) (sym c.ne.ensures ∙ c.if-ne.false) in
-    let now = present_named l _ s k c.present_in-present.result c.args.name (c.present_in-present.ensures s.run k.agrees) same in
+    let same = not-false (same_irp c.present-present.result c.args.name) (sym c.ne.ensures ∙ c.if-ne.false) in
+    let now = present_named l _ s k c.present-present.result c.args.name (c.present-present.ensures s.run k.agrees) same in
     may_flag _ s.run Nothing (starts l _ s k) c.args.name refl (c.is_known.ensures.0 c.if-not-is_known.false) (name_present l _ s k c.args.name now)
 
 pub make-requires-2 : goal.make-requires-2
@@ -30,8 +30,8 @@ make-requires-2 g c =
 pub returns : goal.returns
 unfolding same_irp
 returns g c = λ l s k.
-    let same = not-false (same_irp c.present_in-present.result c.args.name) (sym c.ne.ensures ∙ c.if-ne.false) in
-    let now = present_named l _ s k c.present_in-present.result c.args.name (c.present_in-present.ensures s.run k.agrees) same in
+    let same = not-false (same_irp c.present-present.result c.args.name) (sym c.ne.ensures ∙ c.if-ne.false) in
+    let now = present_named l _ s k c.present-present.result c.args.name (c.present-present.ensures s.run k.agrees) same in
     let flagged = c.make.ensures.made s.run k.agrees in
     let taken = c.make-2.ensures.made (next_step s.run (Flag c.args.name)) flagged.0 in
     mark_keeps l _ s k c.args.name (c.is_known.ensures.0 c.if-not-is_known.false) now _ taken.1 _ taken.0 (c.make-2.ensures.size ∙ c.make.ensures.size)

@@ -69,7 +69,7 @@ make-requires g c =
     let (l, s, (k, removals)) = c.requires in
     let n = c.args.irp in
     let d = (goal.at.make-requires g c).In_default in
-    let e = c.present_in-name.ensures s.run k.agrees ∙ present_is l _ s k n in
+    let e = c.present-name.ensures s.run k.agrees ∙ present_is l _ s k n in
     may_as _ Rearm _ _ e (rearm_may l _ s k n c.args.place (known g d k) (held g d k) removals)
 
 pub make-requires-2 : goal.make-requires-2
@@ -77,7 +77,7 @@ make-requires-2 g c =
     let (l, s, (k, removals)) = c.requires in
     let n = c.args.irp in
     let d = (goal.at.make-requires-2 g c).In_default in
-    let e = c.present_in-name.ensures s.run k.agrees ∙ present_is l _ s k n in
+    let e = c.present-name.ensures s.run k.agrees ∙ present_is l _ s k n in
     let a1 = (made_as _ _ s.run Rearm _ _ e (c.make.ensures.made s.run k.agrees)).0 in
     may_as _ Test _ _ e (test_may l _ s k n c.args.place (known g d k) (held g d k) _ a1 c.make.ensures.size)
 
@@ -86,7 +86,7 @@ returns-then-make-eq0 g c = λ l s (k, removals).
     let n = c.args.irp in
     let i = present_of s n in
     let d = (goal.at.returns-then-make-eq0 g c).In_default in
-    let e = c.present_in-name.ensures s.run k.agrees ∙ present_is l _ s k n in
+    let e = c.present-name.ensures s.run k.agrees ∙ present_is l _ s k n in
     let a1 = (made_as _ _ s.run Rearm _ i e (c.make.ensures.made s.run k.agrees)).0 in
     let a2 = made_as _ _ (next_step s.run (Rearm i)) Test _ i e (c.make-2.ensures.made (next_step s.run (Rearm i)) a1) in
     let (t, call, kept) = pending_keeps l _ s k n c.args.place (known g d k) (held g d k) _ a1 c.make.ensures.size _ a2.0 c.make-2.ensures.size _ a2.1 _ (listed g d k) (accepted g d k) c.if-make-eq0.true in
@@ -98,7 +98,7 @@ make-requires-3 g c =
     let n = c.args.irp in
     let i = present_of s n in
     let d = (goal.at.make-requires-3 g c).In_default in
-    let e = c.present_in-name.ensures s.run k.agrees ∙ present_is l _ s k n in
+    let e = c.present-name.ensures s.run k.agrees ∙ present_is l _ s k n in
     let a1 = (made_as _ _ s.run Rearm _ i e (c.make.ensures.made s.run k.agrees)).0 in
     let a2 = made_as _ _ (next_step s.run (Rearm i)) Test _ i e (c.make-2.ensures.made (next_step s.run (Rearm i)) a1) in
     may_as _ Disarm _ _ e (disarm_may l _ s k n c.args.place (known g d k) (held g d k) _ a1 c.make.ensures.size _ a2.0 c.make-2.ensures.size _ a2.1 c.if-make-eq0.false)
@@ -112,7 +112,7 @@ finish-requires g c =
     let n = c.args.irp in
     let i = present_of s n in
     let d = (goal.at.finish-requires g c).In_default in
-    let e = c.present_in-name.ensures s.run k.agrees ∙ present_is l _ s k n in
+    let e = c.present-name.ensures s.run k.agrees ∙ present_is l _ s k n in
     let a1 = (made_as _ _ s.run Rearm _ i e (c.make.ensures.made s.run k.agrees)).0 in
     let a2 = made_as _ _ (next_step s.run (Rearm i)) Test _ i e (c.make-2.ensures.made (next_step s.run (Rearm i)) a1) in
     let a3 = made_as _ _ (next_step (next_step s.run (Rearm i)) (Test i)) Disarm _ i e (c.make-3.ensures.made (next_step (next_step s.run (Rearm i)) (Test i)) a2.0) in
@@ -125,7 +125,7 @@ returns g c = λ l s (k, removals).
     let n = c.args.irp in
     let i = present_of s n in
     let d = (goal.at.returns g c).In_default in
-    let e = c.present_in-name.ensures s.run k.agrees ∙ present_is l _ s k n in
+    let e = c.present-name.ensures s.run k.agrees ∙ present_is l _ s k n in
     let a1 = (made_as _ _ s.run Rearm _ i e (c.make.ensures.made s.run k.agrees)).0 in
     let a2 = made_as _ _ (next_step s.run (Rearm i)) Test _ i e (c.make-2.ensures.made (next_step s.run (Rearm i)) a1) in
     let a3 = made_as _ _ (next_step (next_step s.run (Rearm i)) (Test i)) Disarm _ i e (c.make-3.ensures.made (next_step (next_step s.run (Rearm i)) (Test i)) a2.0) in

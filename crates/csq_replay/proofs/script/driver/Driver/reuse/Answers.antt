@@ -31,14 +31,14 @@ module _ (g : Over) (c : Else-is_none g) where
 pub returns-then-ended : goal.returns-then-ended
 returns-then-ended g c = λ l s k.
     let d = (goal.at.returns-then-ended g c).Else-is_none in
-    let e = c.present_in-ended.ensures s.run k.agrees ∙ present_is l _ s k c.args.irp in
+    let e = c.present-ended.ensures s.run k.agrees ∙ present_is l _ s k c.args.irp in
     spent_keeps l _ s k c.args.irp (known g d) (status g d).0 (status_is g d k) (omega (arith, c.if-ended.true, ap life_of e))
 
 pub make-requires : goal.make-requires
 make-requires g c =
     let (l, s, k) = c.requires in
     let d = (goal.at.make-requires g c).Else-is_none in
-    let e = c.present_in-ended.ensures s.run k.agrees ∙ present_is l _ s k c.args.irp in
+    let e = c.present-ended.ensures s.run k.agrees ∙ present_is l _ s k c.args.irp in
     may_as _ Renew _ _ e (renew_may l _ s k c.args.irp (known g d) (status g d).0 (status_is g d k) (omega (arith, c.if-ended.false, ap life_of e)))
 
 pub renew-requires-clause-used : goal.renew-requires-clause-used
@@ -56,7 +56,7 @@ renew-requires-clause-unlisted g c =
 pub returns : goal.returns
 returns g c = λ l s k.
     let d = (goal.at.returns g c).Else-is_none in
-    let e = c.present_in-ended.ensures s.run k.agrees ∙ present_is l _ s k c.args.irp in
+    let e = c.present-ended.ensures s.run k.agrees ∙ present_is l _ s k c.args.irp in
     let made = (made_as _ _ s.run Renew _ (present_of s c.args.irp) e (c.make.ensures.made s.run k.agrees)).0 in
     let done = renewed_keeps l _ s k c.args.irp (known g d) (status g d).0 (status_is g d k) (omega (arith, c.if-ended.false, ap life_of e)) _ made c.make.ensures.size _ c.renew.ensures _ refl in
     (done.0, subst (λ (x : IrpLife). Calls l s (Reuse c.args.irp) (Begun (record { 0 = life_of x + 1 })) done.0) (sym e) done.1, done.2)
