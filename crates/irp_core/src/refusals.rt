@@ -1,6 +1,11 @@
-//! Why the machine refuses a step.
+//! Why the machine refuses a step, and why nothing of some size is made.
+ghost use Rattle.std.specs.Prelude.{◌≡◌, Some};
+ghost use Rattle.irp_core.specs.Refusals.{refusal_number};
+ghost use Rattle.irp_core.specs.Texts.{refusal_text};
+ghost use Rattle.irp_core.specs.declared.refusals.SizeRefused.TheVariants.{Memory};
 
 use crate::ids::{Life, PassId};
+use std::alloc::AllocError;
 use std::fmt;
 
 /// Why a step is refused. The causes are tested in this order, and a refusal changes nothing (own rule).
@@ -33,9 +38,6 @@ pub enum StepRefused {
 }
 
 impl StepRefused {
-    ghost use Rattle.std.specs.Prelude.{◌≡◌};
-    ghost use Rattle.irp_core.specs.Refusals.{refusal_number};
-
     /// The place among the causes, from 1, in the order in which they are tested.
     pub fn number(self) -> u8
         ensures { result ≡ refusal_number self }
@@ -59,9 +61,6 @@ impl StepRefused {
 /// Its name; `LockHeld` is followed by the pass that has the lock, as `LockHeld p1`, and `Stale` by the life
 /// that is present, as `Stale 1`.
 impl fmt::Display for StepRefused {
-    ghost use Rattle.std.specs.Prelude.{Some};
-    ghost use Rattle.irp_core.specs.Texts.{refusal_text};
-
     ghost output = { λ cause. Some (refusal_text cause) };
 
     fn fmt<W: fmt::Write>(&self, f: &mut fmt::Formatter<W>) -> fmt::Result {
@@ -78,5 +77,32 @@ impl fmt::Display for StepRefused {
             StepRefused::NotCompleted => write!(f, "NotCompleted"),
             StepRefused::LivesSpent => write!(f, "LivesSpent"),
         }
+    }
+}
+
+/// Why no machine, list, words or queue of a size is made.
+#[derive(Clone, Copy, Debug, PartialEq, Eq)]
+pub enum SizeRefused {
+    /// One of the numbers is outside its range.
+    BadSize = 1,
+    /// The memory that it needs was refused.
+    Memory = 2,
+}
+
+impl SizeRefused {
+    /// The number of the refusal: 1 for `BadSize`, 2 for `Memory` (own rule).
+    pub fn number(self) -> u8
+        ensures bad_size { self ≡ SizeRefused.BadSize → result ≡ 1 }
+        ensures memory { self ≡ SizeRefused.Memory → result ≡ 2 }
+    {
+        self as u8
+    }
+}
+
+impl From<AllocError> for SizeRefused {
+    ghost from_gives = { λ _ e. e ≡ Memory };
+
+    fn from(_: AllocError) -> Self {
+        SizeRefused::Memory
     }
 }

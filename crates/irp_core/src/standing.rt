@@ -1,4 +1,7 @@
 //! How an IRP stands in one of its lives: who is to complete it, and what each step makes of that.
+ghost use Rattle.std.specs.Prelude.{◌≡◌, Some};
+ghost use Rattle.irp_core.specs.Standings.{moved, place_of, is_free, is_finished, is_waiting, stands_home, stands_listed, is_owed_by, is_held_by, is_removed_by};
+ghost use Rattle.irp_core.specs.Texts.{place_text};
 
 use crate::ids::PassId;
 use crate::inside::Inside;
@@ -22,9 +25,6 @@ pub enum Standing {
 }
 
 impl Standing {
-    ghost use Rattle.std.specs.Prelude.{◌≡◌};
-    ghost use Rattle.irp_core.specs.Standings.{moved, place_of, is_free, is_finished, is_waiting, stands_home, stands_listed, is_owed_by, is_held_by, is_removed_by};
-
     /// Whether the routine is set.
     pub(crate) fn is_waiting(self) -> bool
         ensures { result ≡ is_waiting self }
@@ -130,9 +130,6 @@ pub enum IrpPlace {
 
 /// The place, with the pass that got the IRP and the status, as `completed C0000120 by p2`.
 impl fmt::Display for IrpPlace {
-    ghost use Rattle.std.specs.Prelude.{Some};
-    ghost use Rattle.irp_core.specs.Texts.{place_text};
-
     ghost output = { λ place. Some (place_text place) };
 
     fn fmt<W: fmt::Write>(&self, f: &mut fmt::Formatter<W>) -> fmt::Result {
