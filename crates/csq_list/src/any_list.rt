@@ -6,9 +6,9 @@ ghost use Rattle.csq_list.specs.AnyLists.{kind_of, any_listing, any_sound};
 use crate::chain_list::ChainList;
 use crate::entry::{Peek, Place};
 use crate::pending::PendingList;
-use crate::refusals::{InsertStatus, ListNew, UnknownFile};
+use crate::refusals::{InsertStatus, UnknownFile};
 use crate::vec_list::VecList;
-use irp_core::{FileId, IrpId};
+use irp_core::{FileId, IrpId, SizeRefused};
 use std::alloc::Global;
 
 /// How a list is kept. Own rule.
@@ -27,6 +27,16 @@ pub enum AnyList {
     Chains(ChainList),
 }
 
+/// Makes a call on the list inside, of whichever kind it is. Own rule.
+macro_rules! inner {
+    ($any:expr, $list:ident => $call:expr) => {
+        match $any {
+            AnyList::Vector($list) => $call,
+            AnyList::Chains($list) => $call,
+        }
+    };
+}
+
 impl AnyList {
     /// An empty list of this kind, as `VecList::new` makes it. `BadSize` comes exactly where a number is out
     /// of its range, then `Memory` where an allocation was refused.
@@ -36,11 +46,11 @@ impl AnyList {
         irps: u32,
         files: u32,
         limit: u32,
-    ) -> Result<AnyList, ListNew>
+    ) -> Result<AnyList, SizeRefused>
         ensures made { IfOk result (λ list. ⟦<AnyList as PendingList>⟧.listing list
             ≡ fresh irps files limit (replicate files irps)) }
         ensures kind { IfOk result (λ list. kind_of list ≡ kind) }
-        ensures bad_size { (result ≡ Err ListNew.BadSize) ↔ ¬ IsListSize irps files limit }
+        ensures bad_size { (result ≡ Err SizeRefused.BadSize) ↔ ¬ IsListSize irps files limit }
     {
         match kind {
             ListKind::Vector => Ok(AnyList::Vector(VecList::new(alloc, irps, files, limit)?)),
@@ -58,11 +68,11 @@ impl AnyList {
         files: u32,
         limit: u32,
         file_limits: &[u32],
-    ) -> Result<AnyList, ListNew>
+    ) -> Result<AnyList, SizeRefused>
         ensures made { IfOk result (λ list. ⟦<AnyList as PendingList>⟧.listing list
             ≡ fresh irps files limit file_limits.now) }
         ensures kind { IfOk result (λ list. kind_of list ≡ kind) }
-        ensures bad_size { (result ≡ Err ListNew.BadSize)
+        ensures bad_size { (result ≡ Err SizeRefused.BadSize)
             ↔ ¬ (IsListSize irps files limit
             × IsTrue (are_file_limits irps files file_limits.now)) }
     {
@@ -93,107 +103,62 @@ impl PendingList for AnyList {
         ⟦<ChainList as PendingList>⟧.listing (λ list. list.sound) (λ list. list.sound) };
 
     fn irps(&self) -> u32 {
-        match self {
-            AnyList::Vector(list) => list.irps(),
-            AnyList::Chains(list) => list.irps(),
-        }
+        inner!(self, list => list.irps())
     }
 
     fn files(&self) -> u32 {
-        match self {
-            AnyList::Vector(list) => list.files(),
-            AnyList::Chains(list) => list.files(),
-        }
+        inner!(self, list => list.files())
     }
 
     fn limit(&self) -> u32 {
-        match self {
-            AnyList::Vector(list) => list.limit(),
-            AnyList::Chains(list) => list.limit(),
-        }
+        inner!(self, list => list.limit())
     }
 
     fn file_len(&self, file: FileId) -> u32 {
-        match self {
-            AnyList::Vector(list) => list.file_len(file),
-            AnyList::Chains(list) => list.file_len(file),
-        }
+        inner!(self, list => list.file_len(file))
     }
 
     fn file_limit(&self, file: FileId) -> Option<u32> {
-        match self {
-            AnyList::Vector(list) => list.file_limit(file),
-            AnyList::Chains(list) => list.file_limit(file),
-        }
+        inner!(self, list => list.file_limit(file))
     }
 
     fn len(&self) -> u32 {
-        match self {
-            AnyList::Vector(list) => list.len(),
-            AnyList::Chains(list) => list.len(),
-        }
+        inner!(self, list => list.len())
     }
 
     fn is_fresh(&self) -> bool {
-        match self {
-            AnyList::Vector(list) => list.is_fresh(),
-            AnyList::Chains(list) => list.is_fresh(),
-        }
+        inner!(self, list => list.is_fresh())
     }
 
     fn is_home(&self, irp: IrpId) -> bool {
-        match self {
-            AnyList::Vector(list) => list.is_home(irp),
-            AnyList::Chains(list) => list.is_home(irp),
-        }
+        inner!(self, list => list.is_home(irp))
     }
 
     fn is_listed(&self, irp: IrpId) -> bool {
-        match self {
-            AnyList::Vector(list) => list.is_listed(irp),
-            AnyList::Chains(list) => list.is_listed(irp),
-        }
+        inner!(self, list => list.is_listed(irp))
     }
 
     fn insert_ex(&mut self, irp: IrpId, file: FileId, place: Place) -> Result<(), InsertStatus> {
-        match self {
-            AnyList::Vector(list) => list.insert_ex(irp, file, place),
-            AnyList::Chains(list) => list.insert_ex(irp, file, place),
-        }
+        inner!(self, list => list.insert_ex(irp, file, place))
     }
 
     fn put_back_ex(&mut self, irp: IrpId, file: FileId, place: Place) -> Result<(), InsertStatus> {
-        match self {
-            AnyList::Vector(list) => list.put_back_ex(irp, file, place),
-            AnyList::Chains(list) => list.put_back_ex(irp, file, place),
-        }
+        inner!(self, list => list.put_back_ex(irp, file, place))
     }
 
     fn peek_next(&self, after: Option<IrpId>, peek: Peek) -> Option<IrpId> {
-        match self {
-            AnyList::Vector(list) => list.peek_next(after, peek),
-            AnyList::Chains(list) => list.peek_next(after, peek),
-        }
+        inner!(self, list => list.peek_next(after, peek))
     }
 
     fn remove(&mut self, irp: IrpId) {
-        match self {
-            AnyList::Vector(list) => list.remove(irp),
-            AnyList::Chains(list) => list.remove(irp),
-        }
+        inner!(self, list => list.remove(irp))
     }
 
     fn renew(&mut self, irp: IrpId) {
-        match self {
-            AnyList::Vector(list) => list.renew(irp),
-            AnyList::Chains(list) => list.renew(irp),
-        }
+        inner!(self, list => list.renew(irp))
     }
 
     fn close_file(&mut self, file: FileId) -> Result<(), UnknownFile> {
-        match self {
-            AnyList::Vector(list) => list.close_file(file),
-            AnyList::Chains(list) => list.close_file(file),
-        }
+        inner!(self, list => list.close_file(file))
     }
 }

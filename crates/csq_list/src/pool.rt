@@ -9,9 +9,9 @@ ghost use Rattle.csq_list.specs.Listing.{IsListSize, are_file_limits, fresh, is_
 ghost use Rattle.csq_list.specs.VecParts.{listing_of, HasFileLens};
 
 use crate::file_counts::FileCounts;
-use crate::refusals::{InsertStatus, ListNew};
+use crate::refusals::InsertStatus;
 use crate::size::{are_file_limits, is_list_size};
-use irp_core::{FileId, IrpId};
+use irp_core::{FileId, IrpId, SizeRefused};
 use std::alloc::{AllocError, Allocator};
 
 /// Which IRPs are used, which file objects are closed, how many IRPs may be listed, and how many are
@@ -37,17 +37,17 @@ fn are_clear(flags: &[bool]) -> bool
 impl<A: Allocator> Pool<A> {
     /// Unused IRPs and open file objects, numbered from 0, and a limit; that of each file object is the
     /// number of IRPs. BadSize where a list may not be made so, and then want of memory.
-    pub(crate) fn new(alloc: &A, irps: u32, files: u32, limit: u32) -> Result<Pool<A>, ListNew>
+    pub(crate) fn new(alloc: &A, irps: u32, files: u32, limit: u32) -> Result<Pool<A>, SizeRefused>
     where
         A: Clone,
         ensures made { IfOk result
             (λ pool. listing_of [] pool.used.items pool.closed.items pool.limit
             pool.counts.limits.items ≡ fresh irps files limit (replicate files irps)) }
         ensures none { IfOk result (λ pool. HasFileLens pool.counts.lens.items []) }
-        ensures bad_size { (result ≡ Err ListNew.BadSize) ↔ ¬ IsListSize irps files limit }
+        ensures bad_size { (result ≡ Err SizeRefused.BadSize) ↔ ¬ IsListSize irps files limit }
     {
         if !is_list_size(irps, files, limit) {
-            return Err(ListNew::BadSize);
+            return Err(SizeRefused::BadSize);
         }
         let counts = FileCounts::new(alloc, files, irps)?;
         Ok(Pool::with_counts(alloc, irps, files, limit, counts)?)
@@ -60,19 +60,19 @@ impl<A: Allocator> Pool<A> {
         files: u32,
         limit: u32,
         file_limits: &[u32],
-    ) -> Result<Pool<A>, ListNew>
+    ) -> Result<Pool<A>, SizeRefused>
     where
         A: Clone,
         ensures made { IfOk result
             (λ pool. listing_of [] pool.used.items pool.closed.items pool.limit
             pool.counts.limits.items ≡ fresh irps files limit file_limits.now) }
         ensures none { IfOk result (λ pool. HasFileLens pool.counts.lens.items []) }
-        ensures bad_size { (result ≡ Err ListNew.BadSize)
+        ensures bad_size { (result ≡ Err SizeRefused.BadSize)
             ↔ ¬ (IsListSize irps files limit
             × IsTrue (are_file_limits irps files file_limits.now)) }
     {
         if !is_list_size(irps, files, limit) || !are_file_limits(irps, files, file_limits) {
-            return Err(ListNew::BadSize);
+            return Err(SizeRefused::BadSize);
         }
         let counts = FileCounts::with_limits(alloc, file_limits)?;
         Ok(Pool::with_counts(alloc, irps, files, limit, counts)?)
