@@ -77,20 +77,14 @@ impl AnyList {
             × IsTrue (are_file_limits irps files file_limits.now)) }
     {
         match kind {
-            ListKind::Vector => Ok(AnyList::Vector(VecList::with_file_limits(
-                alloc,
-                irps,
-                files,
-                limit,
-                file_limits,
-            )?)),
-            ListKind::Chains => Ok(AnyList::Chains(ChainList::with_file_limits(
-                alloc,
-                irps,
-                files,
-                limit,
-                file_limits,
-            )?)),
+            ListKind::Vector => {
+                let list = VecList::with_file_limits(alloc, irps, files, limit, file_limits)?;
+                Ok(AnyList::Vector(list))
+            }
+            ListKind::Chains => {
+                let list = ChainList::with_file_limits(alloc, irps, files, limit, file_limits)?;
+                Ok(AnyList::Chains(list))
+            }
         }
     }
 }

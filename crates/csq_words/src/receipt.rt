@@ -3,6 +3,7 @@ ghost use Rattle.std.specs.Prelude.{◌≡◌};
 ghost use Rattle.csq_words.specs.Records.{prefix_of};
 ghost use Rattle.csq_words.specs.Seats.{pass_record, seen_at, IsHere};
 
+use crate::pass_seat::here;
 use crate::rule::{CutSeen, WordSeat};
 use crate::seen::SeenPrefix;
 use crate::words::Words;
@@ -35,10 +36,7 @@ impl Receipt {
         ensures same { self.new ≡ self.old }
         ensures prefix { result ≡ seen_at words.now.table (prefix_of (pass_record self.old)) }
     {
-        let Some(seat) = &mut self.seat else {
-            // The seat of a receipt is away only while it is shown.
-            unreachable!()
-        };
+        here!(seat in self);
         let seat = words.table.shared.split_seat::<CutSeen>(seat);
         SeenPrefix { seat }
     }
