@@ -6,7 +6,7 @@ pub(crate) const USAGE: &str =
 or: bench_queue list vector|chains TURNS; at most 960 are LISTED";
 
 /// What is done in each turn, over which kind of list.
-#[derive(Clone, Copy)]
+#[derive(Drop)]
 pub(crate) enum Asked {
     Vector(Work),
     Chains(Work),

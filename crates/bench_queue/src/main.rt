@@ -37,7 +37,7 @@ impl Totals {
 }
 
 /// One turn, unless there is no memory or no clock.
-fn turn<R: Clock + Threads + Wait + AllocGlobal + Sync>(rt: &R, asked: Asked) -> Option<Totals> {
+fn turn<R: Clock + Threads + Wait + AllocGlobal + Sync>(rt: &R, asked: &Asked) -> Option<Totals> {
     match asked {
         Asked::Vector(work) => {
             let list = VecList::new(rt.alloc(), work.irps(), MOST_THREADS, work.irps());
@@ -52,7 +52,7 @@ fn turn<R: Clock + Threads + Wait + AllocGlobal + Sync>(rt: &R, asked: Asked) ->
     }
 }
 
-fn run<R>(rt: &R, asked: Asked, turns: u32) -> Option<Totals>
+fn run<R>(rt: &R, asked: &Asked, turns: u32) -> Option<Totals>
 where
     R: Clock + Threads + Wait + AllocGlobal + Sync,
 {
@@ -75,7 +75,7 @@ fn words_of(rt: &(impl Env + AllocGlobal)) -> Result<Vec<String>> {
 fn main(rt: HostRuntime) -> Result<()> {
     let words = words_of(&rt)?;
     let (asked, turns) = read(words.as_slice()).context(USAGE)?;
-    let totals = run(&rt, asked, turns).context("no memory, or no clock")?;
+    let totals = run(&rt, &asked, turns).context("no memory, or no clock")?;
     println!(rt; "completed {}, left {}", totals.completed, totals.left)?;
     eprintln!(rt; "{} ns", totals.nanoseconds)?;
     if totals.left > 0 {

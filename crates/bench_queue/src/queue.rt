@@ -20,90 +20,79 @@ struct Seat<N: QueueName> {
     completed: u32,
 }
 
-/// Inserts an IRP at the back. Returns its context, if it is pending.
-fn insert<L: PendingList + Drop, N: QueueName, R: Wait>(
-    rt: &R,
-    queue: &Csq<L, N>,
-    pass: &mut Pass<N>,
-    irp: IrpId,
-    file: FileId,
-) -> Option<InsertContext<N>> {
-    match queue.insert(rt, pass, irp, file, Place::Back) {
-        Err(_) => None,
-        Ok(inserted) => match inserted {
+/// A queue, and the work of a turn over it.
+struct Turn<'a, L: PendingList + Drop, N: QueueName, R: Wait> {
+    rt: &'a R,
+    queue: &'a Csq<L, N>,
+    work: &'a Work,
+}
+
+impl<L: PendingList + Drop, N: QueueName, R: Wait> Turn<'_, L, N, R> {
+    /// Inserts an IRP at the back. Returns its context, if it is pending.
+    fn insert(&self, pass: &mut Pass<N>, irp: IrpId, file: FileId) -> Option<InsertContext<N>> {
+        let inserted = self.queue.insert(self.rt, pass, irp, file, Place::Back);
+        match inserted.ok()? {
             Inserted::Pending(context) => Some(context),
             Inserted::Cancelled(token) => {
-                queue.complete_cancelled(pass, token);
+                self.queue.complete_cancelled(pass, token);
                 None
             }
-        },
-    }
-}
-
-/// Ends an inserted IRP. Returns the one that was completed.
-fn finish<L: PendingList + Drop, N: QueueName, R: Wait>(
-    rt: &R,
-    queue: &Csq<L, N>,
-    pass: &mut Pass<N>,
-    end: End,
-    peek: Peek,
-    irp: IrpId,
-    context: InsertContext<N>,
-) -> Option<IrpId> {
-    let token = match end {
-        End::Cancel => {
-            let cancelled = queue.cancel(rt, pass, irp, context.life()) == Ok(true);
-            return if cancelled { Some(irp) } else { None };
         }
-        End::One => queue.remove(rt, pass, context)?,
-        End::Next => queue.remove_next(rt, pass, peek)?,
-    };
-    let removed = token.irp();
-    queue.complete(pass, token, FinalStatus::success());
-    Some(removed)
-}
-
-/// Lists so many IRPs before a turn, for one file object after the other.
-fn fill<L: PendingList + Drop, N: QueueName, R: Wait>(
-    rt: &R,
-    queue: &Csq<L, N>,
-    pass: &mut Pass<N>,
-    work: Work,
-) {
-    for number in 0..work.listed {
-        let file = work.file(number.checked_rem(work.threads).unwrap_or(0));
-        let _ = insert(rt, queue, pass, IrpId(number), file);
     }
-}
 
-/// One thread's share of a turn. Returns how many IRPs it completed.
-fn share<L: PendingList + Drop, N: QueueName, R: Wait>(
-    rt: &R,
-    queue: &Csq<L, N>,
-    pass: &mut Pass<N>,
-    work: Work,
-    thread: u32,
-) -> u32 {
-    let (own, file, peek) = (work.own(thread), work.file(thread), work.peek(thread));
-    let (mut completed, mut irp) = (0u32, IrpId(own.first));
-    for _ in 0..work.share() {
-        let Some(context) = insert(rt, queue, pass, irp, file) else {
-            continue;
+    /// Ends an inserted IRP. Returns the one that was completed.
+    fn finish(
+        &self,
+        pass: &mut Pass<N>,
+        peek: Peek,
+        irp: IrpId,
+        context: InsertContext<N>,
+    ) -> Option<IrpId> {
+        let token = match self.work.end {
+            End::Cancel => {
+                let cancelled = self.queue.cancel(self.rt, pass, irp, context.life()) == Ok(true);
+                return if cancelled { Some(irp) } else { None };
+            }
+            End::One => self.queue.remove(self.rt, pass, context)?,
+            End::Next => self.queue.remove_next(self.rt, pass, peek)?,
         };
-        let Some(ended) = finish(rt, queue, pass, work.end, peek, irp, context) else {
-            continue;
-        };
-        if work.again && queue.reuse(rt, pass, ended).is_err() {
-            continue;
+        let removed = token.irp();
+        self.queue.complete(pass, token, FinalStatus::success());
+        Some(removed)
+    }
+
+    /// Lists so many IRPs before a turn, for one file object after the other.
+    fn fill(&self, pass: &mut Pass<N>) {
+        for number in 0..self.work.listed {
+            let thread = number.checked_rem(self.work.threads).unwrap_or(0);
+            let _ = self.insert(pass, IrpId(number), self.work.file(thread));
         }
-        completed = completed.wrapping_add(1);
-        irp = work.next(own, irp, ended);
     }
-    completed
+
+    /// One thread's share of the turn. Returns how many IRPs it completed.
+    fn share(&self, pass: &mut Pass<N>, thread: u32) -> u32 {
+        let work = self.work;
+        let (own, file, peek) = (work.own(thread), work.file(thread), work.peek(thread));
+        let (mut completed, mut irp) = (0u32, IrpId(own.first));
+        for _ in 0..work.share() {
+            let Some(context) = self.insert(pass, irp, file) else {
+                continue;
+            };
+            let Some(ended) = self.finish(pass, peek, irp, context) else {
+                continue;
+            };
+            if work.again && self.queue.reuse(self.rt, pass, ended).is_err() {
+                continue;
+            }
+            completed = completed.wrapping_add(1);
+            irp = work.next(own, irp, ended);
+        }
+        completed
+    }
 }
 
 /// The shares of all threads, each in a thread of its own; one of them is this one.
-fn share_all<L, N, R>(rt: &R, queue: &Csq<L, N>, seats: &mut [Seat<N>], work: Work)
+fn share_all<L, N, R>(rt: &R, queue: &Csq<L, N>, seats: &mut [Seat<N>], work: &Work)
 where
     L: PendingList + Drop + Send,
     N: QueueName + Send + Sync,
@@ -114,7 +103,8 @@ where
         seats,
         MOST_THREADS as usize,
         &|_, seat| {
-            seat.completed = share(rt, queue, &mut seat.pass, work, seat.thread);
+            let turn = Turn { rt, queue, work };
+            seat.completed = turn.share(&mut seat.pass, seat.thread);
         },
     );
 }
@@ -129,13 +119,13 @@ fn completed<N: QueueName>(seats: &[Seat<N>]) -> u32 {
 }
 
 /// Fills the list, and times a turn's shares.
-fn time<L, N, R>(rt: &R, queue: &Csq<L, N>, seats: &mut [Seat<N>], work: Work) -> Option<Totals>
+fn time<L, N, R>(rt: &R, queue: &Csq<L, N>, seats: &mut [Seat<N>], work: &Work) -> Option<Totals>
 where
     L: PendingList + Drop + Send,
     N: QueueName + Send + Sync,
     R: Clock + Threads + Wait + Sync,
 {
-    fill(rt, queue, &mut seats.first_mut()?.pass, work);
+    Turn { rt, queue, work }.fill(&mut seats.first_mut()?.pass);
     let start = Instant::now(rt).ok()?;
     share_all(rt, queue, seats, work);
     let taken = start.elapsed(rt).ok()?.as_nanos();
@@ -167,7 +157,7 @@ fn take_seats<N: QueueName>(
 }
 
 /// One turn over a new queue.
-fn turn<L, N, R>(rt: &R, blank: Blank<L>, work: Work) -> Option<Totals>
+fn turn<L, N, R>(rt: &R, blank: Blank<L>, work: &Work) -> Option<Totals>
 where
     L: PendingList + Drop + Send,
     N: QueueName + Send + Sync,
@@ -183,7 +173,7 @@ where
 }
 
 /// One turn over a new queue with this list.
-pub(crate) fn turn_over<L, R>(rt: &R, list: Option<L>, work: Work) -> Option<Totals>
+pub(crate) fn turn_over<L, R>(rt: &R, list: Option<L>, work: &Work) -> Option<Totals>
 where
     L: PendingList + Drop + Send,
     R: Clock + Threads + Wait + AllocGlobal + Sync,

@@ -27,7 +27,7 @@ pub(crate) enum End {
 
 /// What a turn does: its inserts are shared by so many threads, each with a file object of its own or all with
 /// one, while so many other IRPs are listed.
-#[derive(Clone, Copy)]
+#[derive(Drop)]
 pub(crate) struct Work {
     pub(crate) end: End,
     // Whether an IRP is used again, once it was completed.
@@ -39,7 +39,7 @@ pub(crate) struct Work {
 
 impl Work {
     /// How many IRPs the threads share, to insert them.
-    fn inserted(self) -> u32 {
+    fn inserted(&self) -> u32 {
         if self.again {
             REUSED_IRPS
         } else {
@@ -48,27 +48,27 @@ impl Work {
     }
 
     /// Whether there are enough IRPs for all threads, and so many threads can be started.
-    pub(crate) fn is_possible(self) -> bool {
+    pub(crate) fn is_possible(&self) -> bool {
         matches!(self.threads, 1 | 2 | 4 | 8) && self.listed <= IRPS - REUSED_IRPS
     }
 
     /// How many IRPs a queue has.
-    pub(crate) fn irps(self) -> u32 {
+    pub(crate) fn irps(&self) -> u32 {
         self.listed.saturating_add(self.inserted())
     }
 
     /// How many inserts a turn makes.
-    pub(crate) fn inserts(self) -> u32 {
+    pub(crate) fn inserts(&self) -> u32 {
         if self.again { REUSES } else { self.inserted() }
     }
 
     /// How many of them each thread makes.
-    pub(crate) fn share(self) -> u32 {
+    pub(crate) fn share(&self) -> u32 {
         self.inserts().checked_div(self.threads).unwrap_or(0)
     }
 
     /// The IRPs that are a thread's own.
-    pub(crate) fn own(self, thread: u32) -> Own {
+    pub(crate) fn own(&self, thread: u32) -> Own {
         let own = self.inserted().checked_div(self.threads).unwrap_or(0);
         let first = self.listed.wrapping_add(thread.wrapping_mul(own));
         Own {
@@ -79,7 +79,7 @@ impl Work {
 
     /// The IRP that a thread inserts after this one, once one was completed: where any may be removed, the one
     /// that was, so that each thread has one to insert; else the next of its own.
-    pub(crate) fn next(self, own: Own, irp: IrpId, completed: IrpId) -> IrpId {
+    pub(crate) fn next(&self, own: Own, irp: IrpId, completed: IrpId) -> IrpId {
         match (self.again, self.end) {
             (true, End::Next) => completed,
             _ => own.after(irp),
@@ -87,12 +87,12 @@ impl Work {
     }
 
     /// The file object of the thread of this number.
-    pub(crate) fn file(self, thread: u32) -> FileId {
+    pub(crate) fn file(&self, thread: u32) -> FileId {
         FileId(if self.owned { thread } else { 0 })
     }
 
     /// The peek context of the thread of this number.
-    pub(crate) fn peek(self, thread: u32) -> Peek {
+    pub(crate) fn peek(&self, thread: u32) -> Peek {
         if self.owned {
             Peek::File(FileId(thread))
         } else {

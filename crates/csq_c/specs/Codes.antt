@@ -19,8 +19,8 @@ use Rattle.csq_checked.specs.declared.unlocked.CompleteRefused.{CompleteRefused}
 use Rattle.csq_checked.specs.declared.unlocked.CompleteRefused.TheVariants as complete
 use Rattle.csq_checked.specs.declared.unlocked.RoutineRefused.{RoutineRefused}
 use Rattle.csq_checked.specs.declared.unlocked.RoutineRefused.TheVariants as routine
-use Rattle.csq_checked.specs.declared.size.CheckedNewRefused.{CheckedNewRefused}
-use Rattle.csq_checked.specs.declared.size.CheckedNewRefused.TheVariants as new
+use Rattle.irp_core.specs.declared.refusals.SizeRefused.{SizeRefused}
+use Rattle.irp_core.specs.declared.refusals.SizeRefused.TheVariants as new
 use Rattle.csq_checked.specs.declared.size.PassRefused.{PassRefused}
 use Rattle.csq_checked.specs.declared.size.PassRefused.TheVariants as pass
 use Rattle.csq_c.specs.declared.codes.Code.{Code}
@@ -140,7 +140,7 @@ status_code (Ok (life, None)) = Nothing
 status_code (Err refused) = UnknownIrp
 
 -- why there is no queue
-abbrev pub new_code : CheckedNewRefused → Code
+abbrev pub new_code : SizeRefused → Code
 new_code new.BadSize = BadSize
 new_code new.Memory = NoMemory
 

@@ -3,12 +3,11 @@ ghost use Rattle.std.specs.Prelude.{◌≡◌};
 ghost use Rattle.csq_c.specs.Codes.{number_of, refusal_code, insert_code, inserted_irp, put_back_code, put_back_irp, removal_code, routine_code, close_file_code, reuse_code, life_stored, mark_code, claim_stored, complete_code, flag_code, flag_life_stored, flag_stored, status_code, status_life_stored, status_stored, new_code, pass_code};
 
 use csq_checked::{
-    CheckedNewRefused, CheckedReuseRefused, CompleteRefused, PassRefused, PutBackRefused,
-    RoutineRefused,
+    CheckedReuseRefused, CompleteRefused, PassRefused, PutBackRefused, RoutineRefused,
 };
 use csq_list::{InsertStatus, UnknownFile};
 use csq_queue::{CancelRefused, InsertAnswer, OpenInserted, UnknownIrp};
-use irp_core::{IrpLife, Life, NtStatus};
+use irp_core::{IrpLife, Life, NtStatus, SizeRefused};
 
 /// What a call answers. Each has its number and its name in `csq.h`. Own rule.
 #[derive(Clone, Copy)]
@@ -183,12 +182,12 @@ pub(crate) fn of_status(
 }
 
 /// Why there is no queue.
-pub(crate) fn of_new(refused: CheckedNewRefused) -> Code
+pub(crate) fn of_new(refused: SizeRefused) -> Code
     ensures { result ≡ new_code refused }
 {
     match refused {
-        CheckedNewRefused::BadSize => Code::BadSize,
-        CheckedNewRefused::Memory => Code::NoMemory,
+        SizeRefused::BadSize => Code::BadSize,
+        SizeRefused::Memory => Code::NoMemory,
     }
 }
 

@@ -7,19 +7,20 @@ ghost use Rattle.csq_c.specs.Ends.{IsHandedOut, IsLeftOf, IsTakenBack, give_back
 
 use crate::body::QueueBody;
 use crate::codes::{Code, of_new, of_pass};
-use csq_checked::{CheckedNewRefused, CheckedPass, CheckedQueue};
+use csq_checked::{CheckedPass, CheckedQueue};
+use irp_core::SizeRefused;
 use std::alloc::Global;
 
 impl QueueBody {
     /// A queue that was made, or why there is none.
     pub(crate) fn opened(
         alloc: Global,
-        made: Result<CheckedQueue, CheckedNewRefused>,
+        made: Result<CheckedQueue, SizeRefused>,
     ) -> Result<Box<QueueBody>, Code>
         ensures opened { IfOk result (λ body. IfOk made
             (λ queue. body.value ≡ record { queue = Some queue; rest = None })) }
         ensures made { IsOk result → IsOk made }
-        ensures bad_size { (result ≡ Err Code.BadSize) ↔ (made ≡ Err CheckedNewRefused.BadSize) }
+        ensures bad_size { (result ≡ Err Code.BadSize) ↔ (made ≡ Err SizeRefused.BadSize) }
         ensures cause { IfErr result (λ code. (code ≡ Code.BadSize) ⊎ (code ≡ Code.NoMemory)) }
     {
         let queue = match made {

@@ -11,7 +11,7 @@ ghost use Rattle.csq_c.specs.Shapes.{file_numbered, peek_of, set_to};
 
 use crate::body::QueueBody;
 use crate::codes::Code;
-use crate::handles::CsqQueue;
+use crate::handles::{CsqQueue, lend};
 use crate::shapes::{peek, start, write};
 use csq_audit::{CleanupVerdict, PeekVerdict, judge_cleanup, judge_peek};
 use csq_list::Peek;
@@ -93,9 +93,7 @@ pub extern "C" fn csq_judge_peek(
         × (verdict.new ≡ set_to (verdict_stored stored) verdict.old)
         × (skipped.new ≡ set_to (skipped_stored stored) skipped.old)) }
 {
-    let Some(body) = queue.boxed.lent() else {
-        return Code::EmptyHandle.number();
-    };
+    lend!(body in queue);
     let (code, judged) = body.judge_peek(start(after), peek(file), start(answer));
     let (number, first) = stored(judged);
     write(verdict, number);
@@ -128,9 +126,7 @@ pub extern "C" fn csq_judge_cleanup(
         × JudgesCleanupOf (file_numbered file) excused.now body code stored
         × (left.new ≡ set_to (left_stored stored) left.old)) }
 {
-    let Some(body) = queue.boxed.lent() else {
-        return Code::EmptyHandle.number();
-    };
+    lend!(body in queue);
     let (code, judged) = body.judge_cleanup(FileId(file), excused);
     write(left, left_of(judged));
     code.number()

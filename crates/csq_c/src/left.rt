@@ -7,7 +7,7 @@ ghost use Rattle.csq_c.specs.Shapes.{irp_numbered, set_to};
 
 use crate::body::QueueBody;
 use crate::codes::Code;
-use crate::handles::CsqQueue;
+use crate::handles::{CsqQueue, lend};
 use crate::shapes::{CsqLeft, start, write};
 use csq_list::PendingList;
 use irp_core::IrpId;
@@ -73,9 +73,7 @@ pub extern "C" fn csq_read_listed(queue: &mut CsqQueue, after: u32, irp: &mut u3
         (λ rest. (result ≡ number_of (next_code rest.entries (start_of after)))
         × (irp.new ≡ set_to (number_stored (next_after rest.entries (start_of after))) irp.old))) }
 {
-    let Some(body) = queue.boxed.lent() else {
-        return Code::EmptyHandle.number();
-    };
+    lend!(body in queue);
     let (code, next) = body.next_listed(start(after));
     write(irp, next);
     code.number()
@@ -94,9 +92,7 @@ pub extern "C" fn csq_read_left(queue: &mut CsqQueue, irp: u32, left: &mut CsqLe
         (λ rest. (result ≡ number_of (left_code (left_of rest.finals (irp_numbered irp))))
         × (left.new ≡ left_written (left_of rest.finals (irp_numbered irp)) left.old))) }
 {
-    let Some(body) = queue.boxed.lent() else {
-        return Code::EmptyHandle.number();
-    };
+    lend!(body in queue);
     let (code, stored) = body.left(IrpId(irp));
     left.write(stored);
     code.number()

@@ -9,7 +9,7 @@ ghost use Rattle.csq_c.specs.Shapes.{file_numbered, peek_of, set_to, written};
 
 use crate::body::QueueBody;
 use crate::codes::Code;
-use crate::handles::CsqQueue;
+use crate::handles::{CsqQueue, lend};
 use crate::shapes::{CsqIrp, peek, start, write};
 use csq_list::Peek;
 use irp_core::{FileId, IrpId, IrpLife};
@@ -62,9 +62,7 @@ pub extern "C" fn csq_len(queue: &mut CsqQueue, len: &mut u32) -> u32
         (λ body code. (stored : Option ℕ) × CountsListed body code stored
         × (len.new ≡ set_to stored len.old)) }
 {
-    let Some(body) = queue.boxed.lent() else {
-        return Code::EmptyHandle.number();
-    };
+    lend!(body in queue);
     let (code, stored) = body.len();
     write(len, stored);
     code.number()
@@ -79,9 +77,7 @@ pub extern "C" fn csq_file_len(queue: &mut CsqQueue, file: u32, len: &mut u32) -
         (λ body code. (stored : Option ℕ) × CountsListedFor (file_numbered file) body code stored
         × (len.new ≡ set_to stored len.old)) }
 {
-    let Some(body) = queue.boxed.lent() else {
-        return Code::EmptyHandle.number();
-    };
+    lend!(body in queue);
     let (code, stored) = body.file_len(FileId(file));
     write(len, stored);
     code.number()
@@ -104,9 +100,7 @@ pub extern "C" fn csq_peek_next(
         × PeeksNextOf (start_of after) (peek_of file) body code stored
         × (irp.new ≡ written stored irp.old)) }
 {
-    let Some(body) = queue.boxed.lent() else {
-        return Code::EmptyHandle.number();
-    };
+    lend!(body in queue);
     let (code, stored) = body.peek_next(start(after), peek(file));
     irp.write(stored);
     code.number()

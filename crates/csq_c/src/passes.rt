@@ -8,7 +8,7 @@ ghost use Rattle.csq_checked.specs.Idle.{NoneIsIdle};
 ghost use Rattle.csq_c.specs.Ends.{IsHandedOut, IsTakenBack, abandon_code, give_back_code, take_cause};
 
 use crate::codes::Code;
-use crate::handles::{CsqPass, CsqQueue};
+use crate::handles::{CsqPass, CsqQueue, lend};
 use crate::hold::{put, take};
 use std::alloc::Global;
 
@@ -31,9 +31,7 @@ pub extern "C" fn csq_take_pass(alloc: Global, queue: &mut CsqQueue, pass: &mut 
     ensures number { queue.new.number ≡ queue.old.number }
     ensures kept { 0 < result → AreHandlesKept queue.old queue.new pass.old pass.new }
 {
-    let Some(body) = queue.boxed.lent() else {
-        return Code::EmptyHandle.number();
-    };
+    lend!(body in queue);
     if pass.boxed.is_filled() {
         return Code::NotEmpty.number();
     }
@@ -67,9 +65,7 @@ pub extern "C" fn csq_give_back(alloc: Global, queue: &mut CsqQueue, pass: &mut 
     ensures number { queue.new.number ≡ queue.old.number }
     ensures kept { 0 < result → AreHandlesKept queue.old queue.new pass.old pass.new }
 {
-    let Some(body) = queue.boxed.lent() else {
-        return Code::EmptyHandle.number();
-    };
+    lend!(body in queue);
     // An empty handle has whatever number C gave it, so it is looked at only of a pass.
     if pass.boxed.is_filled() && pass.queue != queue.number {
         return Code::OtherQueue.number();
@@ -94,9 +90,7 @@ pub extern "C" fn csq_abandon_pass(alloc: Global, pass: &mut CsqPass) -> u32
     ensures freed { result ≡ number_of Code.Done → pass.new.boxed.body ≡ None }
     ensures kept { 0 < result → IsPassKept pass.old pass.new }
 {
-    let Some(by) = pass.boxed.lent() else {
-        return Code::EmptyHandle.number();
-    };
+    lend!(by in pass);
     if by.tokens() > 0 || by.claims() > 0 {
         return Code::Holding.number();
     }

@@ -11,20 +11,21 @@ ghost use Rattle.csq_c.specs.Sizes.{IsGoodSize, IsNewQueue, new_checked_state};
 
 use crate::body::QueueBody;
 use crate::codes::Code;
-use crate::handles::CsqQueue;
+use crate::handles::{CsqQueue, lend};
 use crate::hold::{put, take};
 use crate::shapes::{CsqSize, write};
-use csq_checked::{CheckedNewRefused, CheckedQueue};
+use csq_checked::CheckedQueue;
+use irp_core::SizeRefused;
 use std::alloc::Global;
 
 /// A queue of this size, whose file objects have no limit of their own.
-fn made(alloc: Global, size: &CsqSize) -> Result<CheckedQueue, CheckedNewRefused>
+fn made(alloc: Global, size: &CsqSize) -> Result<CheckedQueue, SizeRefused>
     ensures made { IfOk result (λ queue. queue
         ≡ new_checked_state size.now (replicate size.now.files size.now.irps) queue.queue.table) }
-    ensures bad_size { (result ≡ Err CheckedNewRefused.BadSize) ↔ ¬ IsGoodSize size.now }
+    ensures bad_size { (result ≡ Err SizeRefused.BadSize) ↔ ¬ IsGoodSize size.now }
 {
     let Some(size) = size.given() else {
-        return Err(CheckedNewRefused::BadSize);
+        return Err(SizeRefused::BadSize);
     };
     CheckedQueue::new(alloc, size)
 }
@@ -34,17 +35,33 @@ fn made_with(
     alloc: Global,
     size: &CsqSize,
     file_limits: &[u32],
-) -> Result<CheckedQueue, CheckedNewRefused>
+) -> Result<CheckedQueue, SizeRefused>
     ensures made { IfOk result (λ queue. queue
         ≡ new_checked_state size.now file_limits.now queue.queue.table) }
-    ensures bad_size { (result ≡ Err CheckedNewRefused.BadSize)
+    ensures bad_size { (result ≡ Err SizeRefused.BadSize)
         ↔ ¬ (IsGoodSize size.now
         × IsTrue (are_file_limits size.now.irps size.now.files file_limits.now)) }
 {
     let Some(size) = size.given() else {
-        return Err(CheckedNewRefused::BadSize);
+        return Err(SizeRefused::BadSize);
     };
     CheckedQueue::with_file_limits(alloc, size, file_limits)
+}
+
+/// Puts what is made of a queue into an empty handle. Own rule.
+macro_rules! fill {
+    ($queue:ident, $alloc:ident, $made:expr) => {{
+        if $queue.boxed.is_filled() {
+            return Code::NotEmpty.number();
+        }
+        match QueueBody::opened($alloc, $made) {
+            Err(code) => code.number(),
+            Ok(body) => {
+                put(&mut $queue.boxed, body);
+                Code::Done.number()
+            }
+        }
+    }};
 }
 
 /// Makes a queue of this size, whose file objects have no limit of their own: CSQ_OK, else
@@ -62,16 +79,7 @@ pub extern "C" fn csq_new_queue(alloc: Global, queue: &mut CsqQueue, size: &CsqS
         ⊎ ((result ≡ number_of Code.BadSize) ⊎ (result ≡ number_of Code.NoMemory)) }
     ensures number { queue.new.number ≡ queue.old.number }
 {
-    if queue.boxed.is_filled() {
-        return Code::NotEmpty.number();
-    }
-    match QueueBody::opened(alloc, made(alloc, size)) {
-        Err(code) => code.number(),
-        Ok(body) => {
-            put(&mut queue.boxed, body);
-            Code::Done.number()
-        }
-    }
+    fill!(queue, alloc, made(alloc, size))
 }
 
 /// Makes a queue of this size, each file object with a limit of its own: as `csq_new_queue`, and
@@ -94,16 +102,7 @@ pub extern "C" fn csq_new_queue_with_file_limits(
         ⊎ ((result ≡ number_of Code.BadSize) ⊎ (result ≡ number_of Code.NoMemory)) }
     ensures number { queue.new.number ≡ queue.old.number }
 {
-    if queue.boxed.is_filled() {
-        return Code::NotEmpty.number();
-    }
-    match QueueBody::opened(alloc, made_with(alloc, size, file_limits)) {
-        Err(code) => code.number(),
-        Ok(body) => {
-            put(&mut queue.boxed, body);
-            Code::Done.number()
-        }
-    }
+    fill!(queue, alloc, made_with(alloc, size, file_limits))
 }
 
 /// Frees a queue, open or closed: CSQ_OK, and the handle is empty, also where it was, else
@@ -143,11 +142,8 @@ pub extern "C" fn csq_close(queue: &mut CsqQueue) -> u32
     ensures there { ¬ (queue.old.boxed.body ≡ None) → ¬ (queue.new.boxed.body ≡ None) }
     ensures number { queue.new.number ≡ queue.old.number }
 {
-    let Some(body) = queue.boxed.lent() else {
-        return Code::EmptyHandle.number();
-    };
-    let code = body.close();
-    code.number()
+    lend!(body in queue);
+    body.close().number()
 }
 
 /// How many passes are out: CSQ_OK, else CSQ_EMPTY_HANDLE or CSQ_CLOSED. Own rule.
@@ -159,9 +155,7 @@ pub extern "C" fn csq_count_passes_out(queue: &mut CsqQueue, out: &mut u32) -> u
     ensures empty { queue.old.boxed.body ≡ None → out.new ≡ out.old }
     ensures same { IsQueueKept queue.old queue.new }
 {
-    let Some(body) = queue.boxed.lent() else {
-        return Code::EmptyHandle.number();
-    };
+    lend!(body in queue);
     let stored = body.passes_out();
     write(out, stored);
     match stored {

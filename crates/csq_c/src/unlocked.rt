@@ -15,7 +15,7 @@ ghost use Rattle.csq_c.specs.Exports.{OnPass};
 ghost use Rattle.csq_c.specs.Shapes.{irp_named, irp_numbered, life_numbered, status_numbered, set_to};
 
 use crate::codes::{Code, of_complete, of_flag, of_mark, of_status};
-use crate::handles::CsqPass;
+use crate::handles::{CsqPass, lend};
 use crate::shapes::{CsqIrp, write};
 use irp_core::{IrpId, Life, NtStatus};
 
@@ -29,9 +29,7 @@ pub extern "C" fn csq_mark_cancel(pass: &mut CsqPass, irp: CsqIrp, found: &mut u
         × MakesOwnCall (MarksCancel (irp_numbered irp.irp) (life_numbered irp.life) answer) p p'
         × (code ≡ mark_code answer) × (found.new ≡ set_to (claim_stored answer) found.old)) }
 {
-    let Some(by) = pass.boxed.lent() else {
-        return Code::EmptyHandle.number();
-    };
+    lend!(by in pass);
     let (code, stored) = of_mark(by.mark_cancel(IrpId(irp.irp), Life(irp.life)));
     write(found, stored);
     code.number()
@@ -46,11 +44,8 @@ pub extern "C" fn csq_complete(pass: &mut CsqPass, irp: CsqIrp, status: u32) -> 
         × CompletesRemoved (irp_named irp) (status_numbered status) answer p p'
         × (code ≡ complete_code answer)) }
 {
-    let Some(by) = pass.boxed.lent() else {
-        return Code::EmptyHandle.number();
-    };
-    let code = of_complete(by.complete(irp.named(), NtStatus(status)));
-    code.number()
+    lend!(by in pass);
+    of_complete(by.complete(irp.named(), NtStatus(status))).number()
 }
 
 /// Completes an IRP that the pass holds in the life named with STATUS_CANCELLED: CSQ_OK, else
@@ -61,11 +56,8 @@ pub extern "C" fn csq_complete_cancelled(pass: &mut CsqPass, irp: CsqIrp) -> u32
         (λ p p' code. (answer : Result (Unit {0}) CompleteRefused)
         × CompletesHeld (irp_named irp) answer p p' × (code ≡ complete_code answer)) }
 {
-    let Some(by) = pass.boxed.lent() else {
-        return Code::EmptyHandle.number();
-    };
-    let code = of_complete(by.complete_cancelled(irp.named()));
-    code.number()
+    lend!(by in pass);
+    of_complete(by.complete_cancelled(irp.named())).number()
 }
 
 /// The life that an IRP's Cancel flag stands for, and whether it is set there: CSQ_OK, or
@@ -84,9 +76,7 @@ pub extern "C" fn csq_read_cancel(
         × (life.new ≡ set_to (flag_life_stored answer) life.old)
         × (cancelled.new ≡ set_to (flag_stored answer) cancelled.old)) }
 {
-    let Some(by) = pass.boxed.lent() else {
-        return Code::EmptyHandle.number();
-    };
+    lend!(by in pass);
     let (code, lived, flag) = of_flag(by.is_cancelled(IrpId(irp)));
     write(life, lived);
     write(cancelled, flag);
@@ -109,9 +99,7 @@ pub extern "C" fn csq_read_status(
         × (life.new ≡ set_to (status_life_stored answer) life.old)
         × (status.new ≡ set_to (status_stored answer) status.old)) }
 {
-    let Some(by) = pass.boxed.lent() else {
-        return Code::EmptyHandle.number();
-    };
+    lend!(by in pass);
     let (code, lived, stored) = of_status(by.status(IrpId(irp)));
     write(life, lived);
     write(status, stored);
@@ -125,9 +113,7 @@ pub extern "C" fn csq_count_held(pass: &mut CsqPass, held: &mut u32, owed: &mut 
         ((held.new ≡ held.old) × (owed.new ≡ owed.old)) (λ p p' code. (p' ≡ p) × (code ≡ Code.Done)
         × (held.new ≡ held_count p.pass.steps) × (owed.new ≡ owed_count p.pass.steps)) }
 {
-    let Some(by) = pass.boxed.lent() else {
-        return Code::EmptyHandle.number();
-    };
+    lend!(by in pass);
     let (tokens, claims) = (by.tokens(), by.claims());
     *held = tokens;
     *owed = claims;

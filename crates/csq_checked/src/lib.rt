@@ -15,5 +15,5 @@ pub use calls::{CheckedReuseRefused, PutBackRefused};
 pub use csq_list::{AnyList, ListKind};
 pub use pass::CheckedPass;
 pub use queue::CheckedQueue;
-pub use size::{CheckedNewRefused, PassRefused, QueueSize};
+pub use size::{PassRefused, QueueSize};
 pub use unlocked::{CompleteRefused, RoutineRefused};

@@ -14,11 +14,12 @@ ghost use Rattle.csq_checked.specs.Sizes.{IsFreshOf, size_in, limits_given};
 
 use crate::idle::{IdlePass, IdlePasses};
 use crate::pass::CheckedPass;
-use crate::size::{CheckedNewRefused, PassRefused, QueueSize};
+use crate::size::{PassRefused, QueueSize};
 use crate::slots::Slots;
-use csq_list::{AnyList, ListNew, PendingList};
+use csq_list::{AnyList, PendingList};
 use csq_queue::{Blank, OpenQueue, OpenRack, Rest};
 use csq_words::Words;
+use irp_core::SizeRefused;
 use std::alloc::Global;
 use std::marker::Model;
 use std::sync::Arc;
@@ -49,7 +50,7 @@ impl Model for CheckedQueue {
 impl CheckedQueue {
     /// A queue of this size, whose file objects have no limit of their own. `BadSize` comes exactly where a
     /// number is out of its range, then `Memory`.
-    pub fn new(alloc: Global, size: QueueSize) -> Result<CheckedQueue, CheckedNewRefused>
+    pub fn new(alloc: Global, size: QueueSize) -> Result<CheckedQueue, SizeRefused>
         ensures made { IfOk result (λ q. q
             ≡ record {
               queue = record {
@@ -62,11 +63,11 @@ impl CheckedQueue {
               left = size.passes;
               idle = replicate size.passes None;
             }) }
-        ensures bad_size { (result ≡ Err CheckedNewRefused.BadSize)
+        ensures bad_size { (result ≡ Err SizeRefused.BadSize)
             ↔ ¬ (IsInLimits (size_in size) × IsListSize size.irps size.files size.limit) }
     {
         if !size.is_in_limits() {
-            return Err(CheckedNewRefused::BadSize);
+            return Err(SizeRefused::BadSize);
         }
         let list = AnyList::new(alloc, size.list, size.irps, size.files, size.limit);
         CheckedQueue::over(alloc, size, list)
@@ -78,7 +79,7 @@ impl CheckedQueue {
         alloc: Global,
         size: QueueSize,
         file_limits: &[u32],
-    ) -> Result<CheckedQueue, CheckedNewRefused>
+    ) -> Result<CheckedQueue, SizeRefused>
         ensures made { IfOk result (λ q. q
             ≡ record {
               queue = record {
@@ -92,12 +93,12 @@ impl CheckedQueue {
               idle
                   = replicate size.passes None;
             }) }
-        ensures bad_size { (result ≡ Err CheckedNewRefused.BadSize)
+        ensures bad_size { (result ≡ Err SizeRefused.BadSize)
             ↔ ¬ (IsInLimits (size_in size) × IsListSize size.irps size.files size.limit
             × IsTrue (are_file_limits size.irps size.files file_limits.now)) }
     {
         if !size.is_in_limits() {
-            return Err(CheckedNewRefused::BadSize);
+            return Err(SizeRefused::BadSize);
         }
         let list = AnyList::with_file_limits(
             alloc,
@@ -114,8 +115,8 @@ impl CheckedQueue {
     fn over(
         alloc: Global,
         size: QueueSize,
-        list: Result<AnyList, ListNew>,
-    ) -> Result<CheckedQueue, CheckedNewRefused>
+        list: Result<AnyList, SizeRefused>,
+    ) -> Result<CheckedQueue, SizeRefused>
         requires size { IsInLimits (size_in size) }
         requires fresh { IfOk list (λ list. IsFreshOf size
             (⟦<AnyList as PendingList>⟧.listing list)) }
@@ -131,24 +132,18 @@ impl CheckedQueue {
               left = size.passes;
               idle = replicate size.passes None;
             })) }
-        ensures bad_size { (result ≡ Err CheckedNewRefused.BadSize) ↔ (list ≡ Err ListNew.BadSize) }
+        ensures bad_size { (result ≡ Err SizeRefused.BadSize) ↔ (list ≡ Err SizeRefused.BadSize) }
         ensures ok { IsOk result → IsOk list }
     {
-        let list = match list {
-            Ok(list) => list,
-            Err(ListNew::BadSize) => return Err(CheckedNewRefused::BadSize),
-            Err(ListNew::Memory) => return Err(CheckedNewRefused::Memory),
-        };
+        let list = list?;
         let Ok(blank) = Blank::new_at(alloc, list, size.irps, size.passes, size.first) else {
-            return Err(CheckedNewRefused::Memory);
+            return Err(SizeRefused::Memory);
         };
         let (queue, words, rack) = blank.into_open();
         let Ok(words) = Arc::new(alloc, words) else {
-            return Err(CheckedNewRefused::Memory);
+            return Err(SizeRefused::Memory);
         };
-        let Ok(idle) = IdlePasses::new(alloc, size.passes) else {
-            return Err(CheckedNewRefused::Memory);
-        };
+        let idle = IdlePasses::new(alloc, size.passes)?;
         Ok(CheckedQueue {
             words,
             queue,

@@ -4,7 +4,7 @@ ghost use Rattle.irp_core.specs.Runs.{IsInLimits};
 ghost use Rattle.csq_checked.specs.Sizes.{size_in};
 
 use csq_list::ListKind;
-use irp_core::Life;
+use irp_core::{Life, are_in_limits};
 
 /// How large a queue is to be. Own rule.
 #[derive(Clone, Copy, Debug, PartialEq, Eq)]
@@ -28,19 +28,8 @@ impl QueueSize {
     pub(crate) fn is_in_limits(&self) -> bool
         ensures { IsTrue result ↔ IsInLimits (size_in self.now) }
     {
-        (1..=1024).contains(&self.irps)
-            && (1..=64).contains(&self.passes)
-            && self.first.0 <= Life::LAST.0
+        are_in_limits(self.irps, self.passes, self.first)
     }
-}
-
-/// Why there is no queue, in the order in which the causes are tested. Own rule.
-#[derive(Clone, Copy, Debug, PartialEq, Eq)]
-pub enum CheckedNewRefused {
-    /// A number is out of its range.
-    BadSize,
-    /// Memory that the queue needs was refused.
-    Memory,
 }
 
 /// Why no pass is handed out, in the order in which the causes are tested. Own rule.

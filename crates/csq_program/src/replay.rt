@@ -2,7 +2,7 @@
 ghost use Rattle.std.specs.Prelude.{◌≡◌, ◌≤◌, Ok, Err, IfOk, IfErr, replicate};
 ghost use Rattle.irp_core.specs.Runs.{IsInLimits};
 ghost use Rattle.csq_list.specs.Listing.{IsFresh};
-ghost use Rattle.csq_list.specs.declared.refusals.ListNew.TheVariants.{BadSize};
+ghost use Rattle.irp_core.specs.declared.refusals.SizeRefused.TheVariants.{BadSize};
 ghost use Rattle.csq_words.specs.Queue.{limits_of};
 ghost use Rattle.csq_program.specs.declared.program.ProgramFault.TheVariants.{Replay};
 ghost use Rattle.csq_program.specs.Replays.{ReportsSchedule, ReportsScript, limits_or_all};
@@ -12,8 +12,9 @@ use crate::source::Source;
 use csq_diagnose::{diagnose_schedule, diagnose_script};
 use csq_draw::{draw_schedule, draw_schedule_as_text};
 use csq_explain::{explain_schedule, explain_script};
-use csq_list::{AnyList, ListKind, ListNew, PendingList};
+use csq_list::{AnyList, ListKind, PendingList};
 use csq_replay::{Ended, SimFault, answer_schedule, answer_script, exit_status};
+use irp_core::SizeRefused;
 use std::alloc::{AllocError, Allocator, Global};
 use std::io::{Read, Write};
 use std::rt::Files;
@@ -257,19 +258,19 @@ fn run_script<L: PendingList + Drop, R: AllocGlobal + Print + Eprint + Input + F
     rt: &R,
     source: Source<'_>,
     limits: ScriptLimits,
-    list: Result<L, ListNew>,
+    list: Result<L, SizeRefused>,
     explain: bool,
 ) -> Result<u8, ProgramFault>
     requires fresh { IfOk list (λ l. IsFresh (L.listing l)) }
     requires irps { IfOk list (λ l. (1 ≤ (L.listing l).irps) × ((L.listing l).irps ≤ 1024)) }
     ensures memory { IfErr list
-        (λ refused. refused ≡ ListNew.Memory → result ≡ Err (Replay SimFault.Memory)) }
+        (λ refused. refused ≡ SizeRefused.Memory → result ≡ Err (Replay SimFault.Memory)) }
     ensures bad_size { IfErr list (λ refused. refused ≡ BadSize → result ≡ Ok 2) }
 {
     match list {
         Ok(list) => run_list(rt, source, list, explain),
-        Err(ListNew::Memory) => Err(ProgramFault::from(AllocError)),
-        Err(ListNew::BadSize) => {
+        Err(SizeRefused::Memory) => Err(ProgramFault::from(AllocError)),
+        Err(SizeRefused::BadSize) => {
             report_bad_size(rt, limits);
             Ok(REFUSED)
         }

@@ -7,16 +7,17 @@ use crate::body::QueueBody;
 use crate::handles::{PassBox, QueueBox};
 use csq_checked::CheckedPass;
 
-/// Lends what the handles of a queue and of a pass hold to one call, or ends the call with the code of an empty
-/// handle, or of a pass that is another queue's. Own rule.
+/// Lends what a handle holds to one call, or ends the call with the code of an empty handle; or what the handles of
+/// a queue and of a pass hold, or ends it with that code, or with that of a pass of another queue. Own rule.
 macro_rules! lend {
+    ($body:ident in $handle:ident) => {
+        let Some($body) = $handle.boxed.lent() else {
+            return Code::EmptyHandle.number();
+        };
+    };
     ($body:ident in $queue:ident, $by:ident in $pass:ident) => {
-        let Some($body) = $queue.boxed.lent() else {
-            return Code::EmptyHandle.number();
-        };
-        let Some($by) = $pass.boxed.lent() else {
-            return Code::EmptyHandle.number();
-        };
+        lend!($body in $queue);
+        lend!($by in $pass);
         if $pass.queue != $queue.number {
             return Code::OtherQueue.number();
         }

@@ -2,8 +2,8 @@
 
 use super::list_calls::{Answer, Call, make};
 use super::lists::Size;
-use csq_list::{InsertStatus, ListNew, PendingList, Place};
-use irp_core::{FileId, IrpId};
+use csq_list::{InsertStatus, PendingList, Place};
+use irp_core::{FileId, IrpId, SizeRefused};
 use linked_list_allocator::LocalHeap;
 use std::process::Abort;
 use std::test::Fail;
@@ -54,8 +54,8 @@ fn use_without_memory<L: PendingList>(rt: &impl Abort, heap: &LocalHeap, list: &
 }
 
 /// There was no memory, and none is kept.
-fn expect_none_kept(rt: &impl Abort, heap: &LocalHeap, cause: ListNew) {
-    assert!(rt; cause == ListNew::Memory && heap.used() == 0);
+fn expect_none_kept(rt: &impl Abort, heap: &LocalHeap, cause: SizeRefused) {
+    assert!(rt; cause == SizeRefused::Memory && heap.used() == 0);
 }
 
 /// Uses a list in one vector, if it can be made on the heap. Returns whether it can.

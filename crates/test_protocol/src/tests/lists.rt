@@ -3,8 +3,8 @@
 
 use super::list_calls::{Answer, Call, make};
 use super::pairs::Pairs;
-use csq_list::{ChainList, InsertStatus, ListNew, Peek, PendingList, Place, VecList};
-use irp_core::{FileId, IrpId};
+use csq_list::{ChainList, InsertStatus, Peek, PendingList, Place, VecList};
+use irp_core::{FileId, IrpId, SizeRefused};
 use rand_core::Rng;
 use rand_pcg::Pcg32;
 use std::alloc::Allocator;
@@ -30,7 +30,7 @@ struct Lists<'a> {
 
 impl Size<'_> {
     /// A list in one vector, of this size.
-    pub(super) fn vector<A: Allocator + Clone>(self, alloc: A) -> Result<VecList<A>, ListNew> {
+    pub(super) fn vector<A: Allocator + Clone>(self, alloc: A) -> Result<VecList<A>, SizeRefused> {
         let Size { irps, files, .. } = self;
         match self.file_limits {
             None => VecList::new(alloc, irps, files, self.limit),
@@ -39,7 +39,10 @@ impl Size<'_> {
     }
 
     /// One in chains.
-    pub(super) fn chains<A: Allocator + Clone>(self, alloc: A) -> Result<ChainList<A>, ListNew> {
+    pub(super) fn chains<A: Allocator + Clone>(
+        self,
+        alloc: A,
+    ) -> Result<ChainList<A>, SizeRefused> {
         let Size { irps, files, .. } = self;
         match self.file_limits {
             None => ChainList::new(alloc, irps, files, self.limit),
@@ -49,7 +52,7 @@ impl Size<'_> {
 }
 
 /// A list, which has to be made.
-fn made<L: Drop>(rt: &impl Abort, list: Result<L, ListNew>) -> L {
+fn made<L: Drop>(rt: &impl Abort, list: Result<L, SizeRefused>) -> L {
     match list {
         Ok(list) => list,
         Err(_) => panic!(rt; "no list"),

@@ -1,8 +1,8 @@
 //! The numbers of refusals and statuses, and the words by their bits, as they were written by hand.
 
-use csq_list::{InsertStatus, ListNew, UnknownFile};
-use csq_words::{WordsNew, bit_word, flag_read, is_set, status_read};
-use irp_core::{FinalStatus, Life, MachineNew, NtStatus, PassId, StepRefused};
+use csq_list::{InsertStatus, UnknownFile};
+use csq_words::{bit_word, flag_read, is_set, status_read};
+use irp_core::{FinalStatus, Life, NtStatus, PassId, SizeRefused, StepRefused};
 
 #[test]
 fn refusals_have_numbers(rt: HostRuntime) {
@@ -22,9 +22,7 @@ fn refusals_have_numbers(rt: HostRuntime) {
     for (n, refused) in steps.iter().enumerate() {
         assert!(rt; refused.number() as usize == n + 1);
     }
-    assert!(rt; [MachineNew::BadSize.number(), MachineNew::Memory.number()] == [1, 2]);
-    assert!(rt; [ListNew::BadSize.number(), ListNew::Memory.number()] == [1, 2]);
-    assert!(rt; [WordsNew::BadSize.number(), WordsNew::Memory.number()] == [1, 2]);
+    assert!(rt; [SizeRefused::BadSize.number(), SizeRefused::Memory.number()] == [1, 2]);
     assert!(rt; UnknownFile.number() == 1);
 }
 

@@ -1,13 +1,12 @@
 //! Of which sizes lists, machines and words are made.
 
 use super::lists::Size;
-use csq_list::ListNew;
 use csq_words::Words;
-use irp_core::{Life, Machine};
+use irp_core::{Life, Machine, SizeRefused};
 use std::process::Abort;
 
 /// Both lists are made of this size, or are refused for this cause.
-fn expect_lists<R: AllocGlobal + Abort>(rt: &R, size: Size<'_>, refusal: Option<ListNew>) {
+fn expect_lists<R: AllocGlobal + Abort>(rt: &R, size: Size<'_>, refusal: Option<SizeRefused>) {
     assert!(rt; size.vector(rt.alloc()).err() == refusal);
     assert!(rt; size.chains(rt.alloc()).err() == refusal);
 }
@@ -38,7 +37,7 @@ fn lists_have_sizes(rt: HostRuntime) {
         (4, 1, 0),
         (4, 1, 5),
     ] {
-        expect_lists(&rt, size_of(irps, files, limit), Some(ListNew::BadSize));
+        expect_lists(&rt, size_of(irps, files, limit), Some(SizeRefused::BadSize));
     }
 }
 
@@ -63,7 +62,7 @@ fn file_limits_have_sizes(rt: HostRuntime) {
             file_limits: Some(limits),
             ..size_of(4, 2, 2)
         };
-        expect_lists(&rt, size, Some(ListNew::BadSize));
+        expect_lists(&rt, size, Some(SizeRefused::BadSize));
     }
 }
 

@@ -4,10 +4,10 @@ ghost use Rattle.std.specs.Prelude.{◌≡◌};
 ghost use Rattle.csq_words.specs.Seats.{new_seats};
 
 use super::queues::{chains, vector};
-use csq_list::{ChainList, ListNew, PendingList, VecList};
+use csq_list::{ChainList, PendingList, VecList};
 use csq_queue::{Blank, NewCause};
-use csq_words::{PassSeats, Words, WordsNew};
-use irp_core::{FileId, IrpId, IrpLife, Kind, Life, Machine, MachineNew, PassId, Step};
+use csq_words::{PassSeats, Words};
+use irp_core::{FileId, IrpId, IrpLife, Kind, Life, Machine, PassId, SizeRefused, Step};
 use linked_list_allocator::LocalHeap;
 use std::alloc::Allocator;
 use std::process::Abort;
@@ -92,7 +92,7 @@ fn make_machine<A: Allocator + Copy>(rt: &impl Abort, heap: A, room: &LocalHeap)
             step_in_room(rt, room, &mut machine);
             Outcome::Done
         }
-        Err(MachineNew::Memory) => Outcome::WantOfMemory,
+        Err(SizeRefused::Memory) => Outcome::WantOfMemory,
         Err(_) => Outcome::Wrong,
     }
 }
@@ -118,7 +118,7 @@ fn make_words<A: Allocator + Copy>(rt: &impl Abort, heap: A, room: &LocalHeap) -
             assert!(rt; room.used() == used);
             Outcome::Done
         }
-        Err(WordsNew::Memory) => Outcome::WantOfMemory,
+        Err(SizeRefused::Memory) => Outcome::WantOfMemory,
         Err(_) => Outcome::Wrong,
     }
 }
@@ -130,7 +130,7 @@ fn done_if(right: bool) -> Outcome {
 fn make_vector<A: Allocator + Copy>(heap: A) -> Outcome {
     match VecList::with_file_limits(heap, IRPS, 2, IRPS, &[IRPS, 1]) {
         Ok(list) => done_if(list.is_fresh()),
-        Err(ListNew::Memory) => Outcome::WantOfMemory,
+        Err(SizeRefused::Memory) => Outcome::WantOfMemory,
         Err(_) => Outcome::Wrong,
     }
 }
@@ -138,7 +138,7 @@ fn make_vector<A: Allocator + Copy>(heap: A) -> Outcome {
 fn make_chains<A: Allocator + Copy>(heap: A) -> Outcome {
     match ChainList::with_file_limits(heap, IRPS, 2, IRPS, &[IRPS, 1]) {
         Ok(list) => done_if(list.is_fresh()),
-        Err(ListNew::Memory) => Outcome::WantOfMemory,
+        Err(SizeRefused::Memory) => Outcome::WantOfMemory,
         Err(_) => Outcome::Wrong,
     }
 }
