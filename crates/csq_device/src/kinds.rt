@@ -6,7 +6,7 @@ use crate::calls::CallCounts;
 
 /// The calls of submitters, workers, cancellers and busy workers. What a busy worker removes it puts back: its
 /// removals aren't among the others.
-#[derive(Clone, Copy)]
+#[derive(Drop)]
 pub(crate) struct CallsByKind {
     pub(crate) inserts: CallCounts,
     pub(crate) removals: CallCounts,
@@ -31,65 +31,9 @@ impl CallsByKind {
         }
     }
 
-    /// These inserts alone.
-    pub(crate) fn inserts(inserts: CallCounts) -> CallsByKind
-        ensures inserts { result.inserts ≡ inserts }
-        ensures removals { result.removals.made ≡ 0 }
-        ensures cancels { result.cancels.made ≡ 0 }
-        ensures put_backs { result.put_backs.made ≡ 0 }
-        ensures completed { completed_by result ≡ inserts.completed }
-    {
-        CallsByKind {
-            inserts,
-            ..CallsByKind::none()
-        }
-    }
-
-    /// These removals alone.
-    pub(crate) fn removals(removals: CallCounts) -> CallsByKind
-        ensures inserts { result.inserts.made ≡ 0 }
-        ensures removals { result.removals ≡ removals }
-        ensures cancels { result.cancels.made ≡ 0 }
-        ensures put_backs { result.put_backs.made ≡ 0 }
-        ensures completed { completed_by result ≡ removals.completed }
-    {
-        CallsByKind {
-            removals,
-            ..CallsByKind::none()
-        }
-    }
-
-    /// These cancels alone.
-    pub(crate) fn cancels(cancels: CallCounts) -> CallsByKind
-        ensures inserts { result.inserts.made ≡ 0 }
-        ensures removals { result.removals.made ≡ 0 }
-        ensures cancels { result.cancels ≡ cancels }
-        ensures put_backs { result.put_backs.made ≡ 0 }
-        ensures completed { completed_by result ≡ cancels.completed }
-    {
-        CallsByKind {
-            cancels,
-            ..CallsByKind::none()
-        }
-    }
-
-    /// These put-backs alone.
-    pub(crate) fn put_backs(put_backs: CallCounts) -> CallsByKind
-        ensures inserts { result.inserts.made ≡ 0 }
-        ensures removals { result.removals.made ≡ 0 }
-        ensures cancels { result.cancels.made ≡ 0 }
-        ensures put_backs { result.put_backs ≡ put_backs }
-        ensures completed { completed_by result ≡ put_backs.completed }
-    {
-        CallsByKind {
-            put_backs,
-            ..CallsByKind::none()
-        }
-    }
-
     /// How many IRPs these calls completed.
-    pub(crate) fn completed(self) -> u64
-        ensures sum { result ≡ completed_by self }
+    pub(crate) fn completed(&self) -> u64
+        ensures sum { result ≡ completed_by self.now }
         ensures few { result < 2 ^ 34 }
     {
         u64::from(self.inserts.completed)
