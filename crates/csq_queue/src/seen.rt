@@ -7,6 +7,7 @@ ghost use Rattle.csq_queue.specs.Named.{queue_size};
 use crate::back::Back;
 use crate::named::{Csq, Pass, QueueName};
 use csq_list::PendingList;
+use csq_words::SeenPrefix;
 use std::alloc::Allocator;
 use std::marker::{Model, PhantomData};
 
@@ -15,7 +16,7 @@ use std::marker::{Model, PhantomData};
 /// two prefixes. Own rule.
 #[derive(Drop)]
 pub struct Seen<N: QueueName> {
-    pub(crate) open: csq_words::SeenPrefix,
+    pub(crate) open: SeenPrefix,
     pub(crate) name: PhantomData<N>,
 }
 
@@ -30,6 +31,19 @@ impl<N: QueueName> Model for Seen<N> {
     ghost invariant = { λ s. s.open.table ≡ N.table };
 }
 
+impl<N: QueueName> Seen<N> {
+    /// Of this prefix.
+    fn of(open: SeenPrefix) -> Seen<N>
+        requires { open.table ≡ N.table }
+        ensures { result ≡ open.prefix }
+    {
+        Seen {
+            open,
+            name: PhantomData,
+        }
+    }
+}
+
 /// The calls of a queue that hand it on. None takes the lock.
 impl<L: PendingList + Drop, N: QueueName, A: Allocator> Csq<L, N, A> {
     /// What the pass has seen of the history and of the execution. Whoever is told that a call of this pass
@@ -39,10 +53,7 @@ impl<L: PendingList + Drop, N: QueueName, A: Allocator> Csq<L, N, A> {
         ensures same { pass.new ≡ pass.old }
         ensures prefix { result ≡ prefix_of pass.old }
     {
-        Seen {
-            open: pass.open.seen(&self.words),
-            name: PhantomData,
-        }
+        Seen::of(pass.open.seen(&self.words))
     }
 
     /// What a pass had seen when it was given back. Takes no lock. Own rule.
@@ -50,10 +61,7 @@ impl<L: PendingList + Drop, N: QueueName, A: Allocator> Csq<L, N, A> {
         ensures same { back.new ≡ back.old }
         ensures prefix { result ≡ prefix_of back.old }
     {
-        Seen {
-            open: back.receipt.seen(&self.words),
-            name: PhantomData,
-        }
+        Seen::of(back.receipt.seen(&self.words))
     }
 
     /// The same once more, for one more receiver. Takes no lock. Own rule.
@@ -61,10 +69,7 @@ impl<L: PendingList + Drop, N: QueueName, A: Allocator> Csq<L, N, A> {
         ensures same { seen.new ≡ seen.old }
         ensures again { result ≡ seen.old }
     {
-        Seen {
-            open: seen.open.again(&self.words),
-            name: PhantomData,
-        }
+        Seen::of(seen.open.again(&self.words))
     }
 
     /// Learns what another pass had seen: the pass has then seen the history and the execution so far, which
