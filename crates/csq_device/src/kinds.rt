@@ -36,10 +36,16 @@ impl CallsByKind {
         ensures sum { result ≡ completed_by self.now }
         ensures few { result < 2 ^ 34 }
     {
-        u64::from(self.inserts.completed)
-            + u64::from(self.removals.completed)
-            + u64::from(self.cancels.completed)
-            + u64::from(self.put_backs.completed)
+        let CallsByKind {
+            inserts,
+            removals,
+            cancels,
+            put_backs,
+        } = *self;
+        u64::from(inserts.completed)
+            + u64::from(removals.completed)
+            + u64::from(cancels.completed)
+            + u64::from(put_backs.completed)
     }
 
     /// These calls and others.
