@@ -1,13 +1,13 @@
 -- The words that name an IRP in a life.
 use Rattle.std.proofs.Common.{length, ◌≡◌, ℕ, ◌<◌, ◌≤◌, ◌^◌, ◌⊎◌, inl, inr, List, [], ◌∷◌, ◌++◌, get_or, refl, ap, sym, ◌∙◌, arith, decimal, false}
-use Rattle.std.proofs.lemmas.Str.Parse.{digit_at, numerals_by_value, reports_digits}
+use Rattle.std.proofs.lemmas.Str.Parse.{digit_at, numerals_by_value, tells_digits}
 use Rattle.std.proofs.lemmas.Str.Ascii.{IsAscii-from_all}
 use Rattle.csq_replay.proofs.Imports.{◌==◌, All, join_with_byte, IsAscii, All-append, All-cons, All-nil, slice_split_none, slice_split_at, length-slice_split, join_with_byte-slice_split, IsAscii-append, digits_decimal, decimal_injective, IsAscii-decimal, length-decimal-le, get_or_default, ne_eqb, IrpId, number, life_of, IrpLife, irp_text, named, pieces, words_of, IsShort, IsNumber, IsNameWord}
 
 -- a byte that is no digit doesn't stand in a number
 no_digit : (byte n : ℕ) → n < 2 ^ 64 → (byte < 48) ⊎ (57 < byte) → All (λ x. (x == byte) ≡ false) (decimal n)
 no_digit byte n lt out = λ k d in_range.
-    let digits = digits_decimal (numerals_by_value _ reports_digits) n lt in
+    let digits = digits_decimal (numerals_by_value _ tells_digits) n lt in
     let digit = digit_at (decimal n) k digits in_range in
     let same = get_or_default (decimal n) k d 0 in_range in
     ne_eqb (get_or (decimal n) k d) byte (λ e. differ (get_or (decimal n) k d) (get_or (decimal n) k 0) same digit.0 digit.1 e out)

@@ -1,6 +1,6 @@
 -- A line names at most one call.
 use Rattle.std.proofs.Common.{◌≡◌, ℕ, ◌≤◌, List, [], ◌∷◌, ◌++◌, length, refl, ap, sym, ◌∙◌, arith, decimal, codes, length-append, subst, lit≤, lit<}
-use Rattle.std.proofs.lemmas.Str.Parse.{digit_at, numerals_by_value, reports_digits}
+use Rattle.std.proofs.lemmas.Str.Parse.{digit_at, numerals_by_value, tells_digits}
 use Rattle.csq_replay.proofs.Imports.{join_with_byte, AllDigits, join_with_byte-slice_split, digits_decimal, FileId, NtStatus, IrpId, IrpLife, Place, Any, File, ScriptCall, words_of, IsShort, IsSkipped, IsWithinLine, IsNameWord}
 use Rattle.csq_list.specs.declared.entry.Place.TheVariants.{Back, Front}
 use Rattle.csq_replay.specs.declared.script.call.ScriptCall.TheVariants.{Insert, Next, Remove, Mark, Routine, Cancel, Complete, Close, Cleanup, Flag, Status, Reuse, PutBack}
@@ -31,7 +31,7 @@ one_status word a b is others = let status : ℕ → NtStatus = λ n. record { 0
 star_no_number : (n : ℕ) → IsShort n → codes "*" ≡ decimal n → ⊥
 star_no_number n lt e =
     let D : List ℕ → Type 0 = λ word. AllDigits 10 word in
-    let digits = subst D (sym e) (digits_decimal (numerals_by_value _ reports_digits) n (omega (arith, lt))) in
+    let digits = subst D (sym e) (digits_decimal (numerals_by_value _ tells_digits) n (omega (arith, lt))) in
     absurd (omega (arith, digit_at (codes "*") 0 digits (lit< tt)))
 
 module _ (words : List (List ℕ)) where
