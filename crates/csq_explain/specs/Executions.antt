@@ -17,6 +17,7 @@ use Rattle.csq_replay.specs.Schedule.{Numbered, run_of}
 use Rattle.csq_explain.specs.declared.execution.Execution.{Execution}
 use Rattle.csq_explain.specs.declared.execution.Explained.{Explained}
 use Rattle.csq_explain.specs.declared.execution.Explained.TheVariants as explained
+use Rattle.csq_explain.specs.declared.reasons.Reason.{Reason}
 use Rattle.csq_explain.specs.Passes.{all_passes}
 use Rattle.csq_explain.specs.Reasons.{reason_of}
 use Rattle.csq_explain.specs.Sentences.{in_call}
@@ -46,6 +47,10 @@ explained_of size W (Stopped stop) = explained.Stopped (reason_of size (all_pass
 -- after the steps W this comes of the nth line, and is told so, and the execution goes on
 abbrev pub Explains : {A : Type 0} → Size → List Numbered → ℕ → List ℕ → Explained → Execution A → Type 0
 Explains size W n line reported new = (comes : Outcome) × ComesTo size (run_of W) line comes × (reported ≡ explained_of size W comes) × Follows size new (steps_after W n comes)
+
+-- after the steps W the nth line ends the handling for this reason
+abbrev pub StopsFor : Size → List Numbered → ℕ → List ℕ → Reason → Type 0
+StopsFor size W n line reason = ComesTo size (run_of W) line (Stopped reason.stop) × (reason ≡ reason_of size (all_passes size W) reason.stop)
 
 -- the status with which an IRP at this place was completed
 abbrev pub status_of_place : IrpPlace → Option NtStatus

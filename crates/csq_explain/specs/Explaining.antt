@@ -1,5 +1,5 @@
 -- What a schedule is answered, with a sentence after each line.
-use Rattle.std.specs.Prelude.{◌≡◌, ℕ, Bool, List, [], ◌∷◌, ◌++◌, codes, Option, if◌then◌else◌}
+use Rattle.std.specs.Prelude.{◌≡◌, ℕ, Bool, true, false, List, [], ◌∷◌, ◌++◌, codes, Option, if◌then◌else◌}
 use Rattle.std.specs.Option.{option_map_or}
 use Rattle.irp_core.specs.declared.step.Made.{Made}
 use Rattle.irp_core.specs.Owners.{is_claim}
@@ -10,7 +10,7 @@ use Rattle.csq_replay.specs.declared.schedule.closing.IrpLine.{IrpLine}
 use Rattle.csq_replay.specs.declared.schedule.outcome.Outcome.{Outcome}
 use Rattle.csq_replay.specs.declared.schedule.outcome.Outcome.TheVariants.{Skipped, Accepted, Stopped}
 use Rattle.csq_replay.specs.Lines.{IsAnswer, RepliesTo}
-use Rattle.csq_replay.specs.Schedule.{Numbered, run_of, ReportsLine, answer_text, irp_line_text, rest_text, claim_line, exchanged_irp, Closes}
+use Rattle.csq_replay.specs.Schedule.{Numbered, run_of, ReportsLine, answer_text, irp_line_text, rest_text, claim_line, exchanged_irp, Closes, IsScheduleAnswer}
 use Rattle.csq_explain.specs.Endings.{irp_sentence, rest_sentence}
 use Rattle.csq_explain.specs.Passes.{all_passes}
 use Rattle.csq_explain.specs.Reasons.{reason_of, reason_text}
@@ -61,6 +61,11 @@ IsExplainedClosing size claims W text = (reported : List IrpLine) × (rest : Boo
 -- a schedule is answered this text, which explains it
 abbrev pub IsExplanation : Size → Bool → List ℕ → List ℕ → Ended → Type 0
 IsExplanation size claims = IsAnswer (ExplainsLine size) (IsExplainedClosing size claims) []
+
+-- a schedule is answered this text, with a sentence after each line where these are asked for
+abbrev pub IsScheduleText : Bool → Size → Bool → List ℕ → List ℕ → Ended → Type 0
+IsScheduleText true = IsExplanation
+IsScheduleText false = IsScheduleAnswer
 
 -- of a reader and a writer that tell their bytes: a schedule was read, and its explanation was written
 abbrev pub ExplainsSchedule : Size → Bool → Option (List ℕ) → Option (List ℕ) → Option (List ℕ) → Option (List ℕ) → Ended → Type 0

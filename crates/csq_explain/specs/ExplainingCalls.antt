@@ -1,12 +1,12 @@
 -- What a script is answered, with a sentence after each line.
-use Rattle.std.specs.Prelude.{◌≡◌, ℕ, List, [], ◌++◌, Option}
+use Rattle.std.specs.Prelude.{◌≡◌, ℕ, Bool, true, false, List, [], ◌++◌, Option}
 use Rattle.csq_words.specs.Queue.{Limits}
 use Rattle.csq_replay.specs.declared.lines.answer.Ended.{Ended}
 use Rattle.csq_replay.specs.declared.script.outcome.CallOutcome.{CallOutcome}
 use Rattle.csq_replay.specs.declared.script.outcome.CallOutcome.TheVariants.{Skipped, Answered, Stopped}
 use Rattle.csq_replay.specs.Lines.{IsAnswer, RepliesTo}
 use Rattle.csq_replay.specs.Calls.{Script, new_script}
-use Rattle.csq_replay.specs.ScriptAnswer.{ReportsCall, call_text}
+use Rattle.csq_replay.specs.ScriptAnswer.{ReportsCall, call_text, IsScriptAnswer}
 use Rattle.csq_explain.specs.CallSentences.{reply_sentence, call_stop_sentence}
 use Rattle.csq_explain.specs.Explaining.{remark}
 use Rattle.csq_explain.specs.ScriptEndings.{explained_closing}
@@ -27,6 +27,11 @@ ExplainsCall l = ReportsCall (explained_call l) l
 -- a script is answered this text, which explains it
 abbrev pub IsScriptExplanation : Limits → List ℕ → List ℕ → Ended → Type 0
 IsScriptExplanation l = IsAnswer (ExplainsCall l) (λ s text. text ≡ explained_closing l s) (new_script l)
+
+-- a script is answered this text, with a sentence after each line where these are asked for
+abbrev pub IsScriptText : Bool → Limits → List ℕ → List ℕ → Ended → Type 0
+IsScriptText true = IsScriptExplanation
+IsScriptText false = IsScriptAnswer
 
 -- of a reader and a writer that tell their bytes: a script was read, and its explanation was written
 abbrev pub ExplainsScript : Limits → Option (List ℕ) → Option (List ℕ) → Option (List ℕ) → Option (List ℕ) → Ended → Type 0

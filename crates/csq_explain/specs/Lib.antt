@@ -10,4 +10,5 @@ pub mod Explaining
 pub mod CallSentences
 pub mod ScriptEndings
 pub mod ExplainingCalls
+pub mod ScriptExplanations
 pub mod Laws

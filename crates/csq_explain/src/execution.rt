@@ -14,7 +14,7 @@ ghost use Rattle.csq_explain.specs.Reasons.{reason_of};
 use crate::passes::{PassNow, new_passes, pass_after};
 use crate::reasons::{Reason, pass_asked};
 use crate::sentences::StepInCall;
-use csq_replay::{IrpLine, Outcome, Stop, handle_line, irp_line};
+use csq_replay::{IrpLine, Line, Outcome, Stop, handle_line, irp_line};
 use irp_core::{Inside, IrpId, IrpPlace, Kind, Machine, Made, NtStatus};
 use std::alloc::{AllocError, Allocator};
 
@@ -80,15 +80,15 @@ impl<A: Allocator + Copy> Execution<A> {
 
     /// Makes the step that the line of this number names, if it may come next, and tells what is known of
     /// what comes of the line. Own rule.
-    pub fn handle(&mut self, number: usize, line: &[u8]) -> Explained
+    pub fn handle(&mut self, line: Line<'_>) -> Explained
         requires { IsFollowing self.old }
         ensures { (size : Size) (W : List Numbered) → Follows size self.old W
-            → Explains size W number line.now result self.new }
+            → Explains size W line.entry.number line.entry.bytes.now result self.new }
     {
-        match handle_line(&mut self.machine, line) {
+        match handle_line(&mut self.machine, line.bytes) {
             Outcome::Skipped => Explained::Skipped,
             Outcome::Accepted(made) => {
-                let inside = self.note_pass(number, made);
+                let inside = self.note_pass(line.number, made);
                 let status = status_after(&self.machine, made.kind);
                 Explained::Accepted(StepInCall {
                     made,

@@ -1,121 +1,122 @@
-//! Schedules, answered with a sentence after each line.
-ghost use Rattle.std.specs.Prelude.{◌≡◌, ◌≢◌, ◌++◌, [], if◌then◌else◌, string_bytes, IfOk, IfErr, OnOk};
+//! Schedules, answered line by line, plainly or with a sentence after each line.
+ghost use Rattle.std.specs.Prelude.{◌≡◌, ◌≢◌, ◌++◌, [], if◌then◌else◌, string_bytes, IfOk, IfErr, IfSome, OnOk};
 ghost use Rattle.std.specs.Io.KnownBytes.{Keeps};
 ghost use Rattle.irp_core.specs.Runs.{IsInLimits};
 ghost use Rattle.csq_replay.specs.Lines.{GrewBy};
-ghost use Rattle.csq_explain.specs.Explaining.{ExplainsSchedule, explained_irps, explained_rest, claim_remark};
+ghost use Rattle.csq_replay.specs.Schedule.{RepliesToSchedule};
+ghost use Rattle.csq_explain.specs.Explaining.{ExplainsSchedule, remark};
+ghost use Rattle.csq_explain.specs.Explanations.{ExplainsAfter, irps_text, rest_line, noted_claim};
 
 use crate::endings::{IrpSentence, RestSentence};
 use crate::execution::{Execution, Explained};
+use crate::reasons::Reason;
 use crate::sentences::Sentence;
-use csq_replay::{Answerer, Ended, Handling, IrpLine, SimFault, note_claim, reply};
+use csq_replay::{Answerer, Ended, IrpLine, Line, SimFault, reply};
 use irp_core::{Kind, Made};
 use std::alloc::{AllocError, Allocator};
 use std::io::{Read, Write};
-use std::str;
+use std::{fmt, str};
 
-/// An execution, a line and a sentence for each claim that its steps made, and whether these are asked for.
+/// An execution, a line for each claim that its steps made, whether these lines are asked for, and whether
+/// sentences are.
 #[derive(Drop)]
-pub(crate) struct Explanation<A: Allocator> {
+pub struct Explanation<A: Allocator> {
     pub(crate) alloc: A,
     pub(crate) execution: Execution<A>,
     pub(crate) claims: String<A>,
     pub(crate) asks: bool,
+    pub(crate) explains: bool,
 }
 
-/// Notes a sentence on the claim of a step, if it made one.
+/// Adds a sentence as a line of its own, where sentences are asked for.
+pub(crate) fn add_remark<D: fmt::Display + Copy, A: Allocator>(
+    explains: bool,
+    sentence: D,
+    text: &mut String<A>,
+) -> Result<(), AllocError>
+    ensures { OnOk result (IfSome (D.output sentence) (λ said.
+        GrewBy (string_bytes text.old) (string_bytes text.new) (if explains then remark said else []))) }
+{
+    if explains {
+        writeln!(text, "  {sentence}")?;
+    }
+    Ok(())
+}
+
+/// Notes the line of the claim that a step made, which this line of the schedule names, as
+/// `claim 3 line 7 p1`, and where it is asked for a sentence; nothing if it made none.
 #[tactic(auto, unfolding(irp_core::specs::Steps::same_irp))]
-fn explain_claim<A: Allocator>(claims: &mut String<A>, made: Made) -> Result<(), AllocError>
-    ensures { OnOk result
-        (string_bytes claims.new ≡ string_bytes claims.old ++ claim_remark made) }
+fn note_claim<A: Allocator>(
+    claims: &mut String<A>,
+    explains: bool,
+    number: usize,
+    made: Made,
+) -> Result<(), AllocError>
+    ensures { OnOk result (string_bytes claims.new
+        ≡ string_bytes claims.old ++ noted_claim explains (record { line = number; step = made })) }
 {
     match made.kind {
         Kind::Disarm(name) | Kind::Take(name) if made.found == 1 => {
             let pass = made.pass;
-            writeln!(
-                claims,
-                "  IRP {name} was claimed by {pass}, whose exchange found the cancel routine"
-            )?;
+            writeln!(claims, "claim {name} line {number} {pass}")?;
+            if explains {
+                writeln!(
+                    claims,
+                    "  IRP {name} was claimed by {pass}, whose exchange found the cancel routine"
+                )?;
+            }
             Ok(())
         }
         _ => Ok(()),
     }
 }
 
-/// The closing lines of the IRPs, each with a sentence.
-fn explain_irps<A: Allocator>(reported: &[IrpLine], text: &mut String<A>) -> Result<(), AllocError>
-    ensures { OnOk result
-        (GrewBy (string_bytes text.old) (string_bytes text.new) (explained_irps reported.now)) }
-{
-    for line in reported {
-        writeln!(text, "{line}\n  {}", IrpSentence(*line))?;
+impl<A: Allocator + Copy> Explanation<A> {
+    /// The answer before the first line of a schedule of IRPs 0 to `irps` - 1 and passes 1 to `passes`, with the
+    /// claims where they are asked for, and where `explains` with a sentence after each line. Refused if there is too
+    /// little memory. Own rule.
+    pub fn new(
+        alloc: A,
+        irps: u32,
+        passes: u32,
+        claims: bool,
+        explains: bool,
+    ) -> Result<Explanation<A>, AllocError>
+        requires { IsInLimits (record { irps = irps; passes = passes; first = 0 }) }
+        ensures { IfOk result (λ explanation. ExplainsAfter explanation
+            (record { irps = irps; passes = passes; first = 0 }, claims, explains) []) }
+    {
+        Ok(Explanation {
+            alloc,
+            execution: Execution::new(alloc, irps, passes)?,
+            claims: String::new(alloc),
+            asks: claims,
+            explains,
+        })
     }
-    Ok(())
-}
 
-/// Whether all is at rest, with a sentence.
-fn explain_rest<A: Allocator>(rest: bool, text: &mut String<A>) -> Result<(), AllocError>
-    ensures { OnOk result
-        (GrewBy (string_bytes text.old) (string_bytes text.new) (explained_rest rest)) }
-{
-    let answer = if rest { "yes" } else { "no" };
-    writeln!(text, "rest {answer}\n  {}", RestSentence(rest))
-}
-
-impl<A: Allocator + Copy> Answerer<A> for Explanation<A> {
-    ghost use Rattle.std.specs.Prelude.{Bool, List};
-    ghost use Rattle.irp_core.specs.Runs.{Size};
-    ghost use Rattle.csq_replay.specs.Schedule.{Numbered};
-    ghost use Rattle.csq_explain.specs.Explaining.{ExplainsLine, IsExplainedClosing};
-    ghost use Rattle.csq_explain.specs.Explanations.{ExplainsAfter};
-
-    ghost Kind = { Size × Bool };
-
-    ghost State = { List Numbered };
-
-    ghost stands = { λ explanation c W. ExplainsAfter explanation c W };
-
-    ghost answers = { λ c W. ExplainsLine c.0 W };
-
-    ghost closes = { λ c W. IsExplainedClosing c.0 c.1 W };
-
-    fn answer_line(
-        &mut self,
-        number: usize,
-        line: &[u8],
-        text: &mut String<A>,
-    ) -> Result<Handling, AllocError> {
-        match self.execution.handle(number, line) {
-            Explained::Skipped => Ok(Handling::GoesOn),
-            Explained::Accepted(step) => {
-                let Ok(written) = str::from_utf8(line) else {
-                    // A line that was accepted is ASCII, as its grammar is.
-                    unreachable!()
-                };
-                let (found, sentence) = (step.made.found, Sentence(step));
-                note_claim(&mut self.claims, number, step.made)?;
-                explain_claim(&mut self.claims, step.made)?;
-                writeln!(text, "{written} found {found}\n  {sentence}")?;
-                Ok(Handling::GoesOn)
-            }
-            Explained::Stopped(reason) => {
-                let stop = reason.stop;
-                writeln!(text, "line {number} {stop}\n  {reason}")?;
-                Ok(Handling::Stops)
-            }
+    /// Adds the closing lines of the IRPs.
+    fn close_irps(&self, reported: &[IrpLine], text: &mut String<A>) -> Result<(), AllocError>
+        ensures { OnOk result (GrewBy (string_bytes text.old) (string_bytes text.new)
+            (irps_text self.now.explains reported.now)) }
+    {
+        for line in reported {
+            writeln!(text, "{line}")?;
+            add_remark(self.explains, IrpSentence(*line), text)?;
         }
-    }
-
-    fn close(&self, text: &mut String<A>) -> Result<(), AllocError> {
-        let closing = self.execution.close(self.alloc)?;
-        explain_irps(&closing.reported, text)?;
-        explain_rest(closing.rest, text)?;
-        self.push_claims(text)?;
         Ok(())
     }
-}
 
-impl<A: Allocator> Explanation<A> {
+    /// Adds whether all is at rest.
+    fn close_rest(&self, rest: bool, text: &mut String<A>) -> Result<(), AllocError>
+        ensures { OnOk result (GrewBy (string_bytes text.old) (string_bytes text.new)
+            (rest_line self.now.explains rest)) }
+    {
+        let answer = if rest { "yes" } else { "no" };
+        writeln!(text, "rest {answer}")?;
+        add_remark(self.explains, RestSentence(rest), text)
+    }
+
     /// Adds the claims, where they are asked for.
     fn push_claims(&self, text: &mut String<A>) -> Result<(), AllocError>
         ensures { OnOk result (GrewBy (string_bytes text.old) (string_bytes text.new)
@@ -126,6 +127,87 @@ impl<A: Allocator> Explanation<A> {
         }
         Ok(())
     }
+}
+
+impl<A: Allocator + Copy> Answerer<A, Reason> for Explanation<A> {
+    ghost use Rattle.std.specs.Prelude.{Bool, List};
+    ghost use Rattle.irp_core.specs.Runs.{Size};
+    ghost use Rattle.csq_replay.specs.Schedule.{Numbered, ReportsLine};
+    ghost use Rattle.csq_explain.specs.Executions.{StopsFor};
+    ghost use Rattle.csq_explain.specs.Explanations.{ExplainsAfter, line_text, IsTextClosing};
+
+    ghost Kind = { Size × Bool × Bool };
+
+    ghost State = { List Numbered };
+
+    ghost stands = { λ explanation c W. ExplainsAfter explanation c W };
+
+    ghost answers = { λ c W. ReportsLine (line_text c.2 c.0) c.0 W };
+
+    ghost stops = { λ c W. StopsFor c.0 W };
+
+    ghost closes = { λ c W. IsTextClosing c.2 c.0 c.1 W };
+
+    fn answer_line(
+        &mut self,
+        line: Line<'_>,
+        text: &mut String<A>,
+    ) -> Result<Option<Reason>, AllocError> {
+        match self.execution.handle(line) {
+            Explained::Skipped => Ok(None),
+            Explained::Accepted(step) => {
+                let Ok(written) = str::from_utf8(line.bytes) else {
+                    // A line that was accepted is ASCII, as its grammar is.
+                    unreachable!()
+                };
+                let found = step.made.found;
+                note_claim(&mut self.claims, self.explains, line.number, step.made)?;
+                writeln!(text, "{written} found {found}")?;
+                add_remark(self.explains, Sentence(step), text)?;
+                Ok(None)
+            }
+            Explained::Stopped(reason) => {
+                let (number, stop) = (line.number, reason.stop);
+                writeln!(text, "line {number} {stop}")?;
+                add_remark(self.explains, reason, text)?;
+                Ok(Some(reason))
+            }
+        }
+    }
+
+    fn close(&self, text: &mut String<A>) -> Result<(), AllocError> {
+        let closing = self.execution.close(self.alloc)?;
+        self.close_irps(&closing.reported, text)?;
+        self.close_rest(closing.rest, text)?;
+        self.push_claims(text)?;
+        Ok(())
+    }
+}
+
+/// Reads a schedule, replays its steps over a machine of IRPs 0 to `irps` - 1 and passes 1 to
+/// `passes`, and writes what each line is answered, and then where each IRP is and whether all is at
+/// rest; with `claims` also each claim.
+///
+/// All of the input is read, up to 1,048,577 bytes; more stays unread. `irps` is 1 to 1,024 and
+/// `passes` 1 to 64. Faults: 1 Memory and 2 Read, after which nothing was written; 3 Write.
+/// Own rule.
+pub fn answer_schedule<A: Allocator + Copy, R: Read, W: Write>(
+    alloc: A,
+    irps: u32,
+    passes: u32,
+    claims: bool,
+    reader: &mut R,
+    writer: &mut W,
+) -> Result<Ended, SimFault>
+    requires { IsInLimits (record { irps = irps; passes = passes; first = 0 }) }
+    ensures answered { IfOk result
+        (RepliesToSchedule (record { irps = irps; passes = passes; first = 0 }) claims
+        (R.remaining reader.old) (R.remaining reader.new) (W.contents writer.old) (W.contents writer.new)) }
+    ensures unwritten { IfErr result (λ fault. fault ≢ SimFault.Write
+        → Keeps (W.contents writer.old) (W.contents writer.new)) }
+{
+    let mut explanation = Explanation::new(alloc, irps, passes, claims, false)?;
+    reply(alloc, &mut explanation, reader, writer)
 }
 
 /// Reads a schedule and writes the answer of `answer_schedule`, each line of it followed by a line of two
@@ -150,11 +232,6 @@ pub fn explain_schedule<A: Allocator + Copy, R: Read, W: Write>(
     ensures unwritten { IfErr result (λ fault. fault ≢ SimFault.Write
         → Keeps (W.contents writer.old) (W.contents writer.new)) }
 {
-    let mut explanation = Explanation {
-        alloc,
-        execution: Execution::new(alloc, irps, passes)?,
-        claims: String::new(alloc),
-        asks: claims,
-    };
+    let mut explanation = Explanation::new(alloc, irps, passes, claims, true)?;
     reply(alloc, &mut explanation, reader, writer)
 }

@@ -1,4 +1,4 @@
-//! Schedules and scripts of a cancel-safe IRP queue, explained: each line of their answers in a sentence.
+//! The answers to schedules and scripts of a cancel-safe IRP queue, and each of their lines in a sentence.
 #![tactic(auto)]
 
 mod call_sentences;
@@ -16,10 +16,10 @@ mod words;
 pub use call_sentences::{AnsweredCall, CallStopSentence};
 pub use endings::{IrpSentence, RestSentence};
 pub use execution::{Closing, Execution, Explained};
-pub use explanation::explain_schedule;
+pub use explanation::{Explanation, answer_schedule, explain_schedule};
 pub use laws::{a_schedule_has_one_explanation, a_script_has_one_explanation};
 pub use passes::PassNow;
 pub use reasons::Reason;
-pub use script_explanation::explain_script;
+pub use script_explanation::{ScriptExplanation, answer_script, explain_script};
 pub use sentences::{InsertWord, Sentence, StatusName, StepInCall};
 pub use words::{CALLS, STEPS};

@@ -1,49 +1,68 @@
-//! Scripts, answered with a sentence after each line.
+//! Scripts, answered line by line, plainly or with a sentence after each line.
 ghost use Rattle.std.specs.Prelude.{◌≡◌, ◌≢◌, ◌≤◌, IfOk, IfErr};
 ghost use Rattle.std.specs.Io.KnownBytes.{Keeps as KeepsBytes};
 ghost use Rattle.csq_list.specs.Listing.{Listing, IsFresh};
 ghost use Rattle.csq_words.specs.Queue.{limits_of};
+ghost use Rattle.csq_replay.specs.Calls.{new_script};
+ghost use Rattle.csq_replay.specs.ScriptAnswer.{RepliesToScript};
 ghost use Rattle.csq_explain.specs.ExplainingCalls.{ExplainsScript};
+ghost use Rattle.csq_explain.specs.ScriptExplanations.{ExplainsScriptAfter};
 
 use crate::call_sentences::{AnsweredCall, CallStopSentence};
+use crate::explanation::add_remark;
 use crate::script_endings::explain_remains;
 use csq_list::PendingList;
-use csq_replay::{Answerer, CallOutcome, Driver, Ended, Handling, SimFault, reply};
+use csq_replay::{Answerer, CallOutcome, CallStop, Driver, Ended, Line, SimFault, reply};
 use std::alloc::{AllocError, Allocator};
 use std::io::{Read, Write};
 
-/// A driver whose calls are explained.
+/// A driver, and whether its calls are explained.
 #[derive(Drop)]
-pub(crate) struct ScriptExplanation<L, A: Allocator> {
+pub struct ScriptExplanation<L, A: Allocator> {
     pub(crate) driver: Driver<L, A>,
+    pub(crate) explains: bool,
 }
 
-impl<L: PendingList, A: Allocator + Copy> Answerer<A> for ScriptExplanation<L, A> {
-    ghost use Rattle.std.specs.Prelude.{◌≡◌};
+impl<L: PendingList + Drop, A: Allocator + Copy> ScriptExplanation<L, A> {
+    /// The answer before the first line of a script over this list, and where `explains` with a sentence after each
+    /// line. The list is fresh and has 1 to 1,024 IRPs. Refused if there is too little memory. Own rule.
+    pub fn new(alloc: A, list: L, explains: bool) -> Result<ScriptExplanation<L, A>, AllocError>
+        requires fresh { IsFresh (L.listing list) }
+        requires irps { (1 ≤ (L.listing list).irps) × ((L.listing list).irps ≤ 1024) }
+        ensures { IfOk result (λ explanation. ExplainsScriptAfter L.listing explanation
+            (limits_of 1 0 (L.listing list), explains) (new_script (limits_of 1 0 (L.listing list)))) }
+    {
+        let driver = Driver::new(alloc, list)?;
+        Ok(ScriptExplanation { driver, explains })
+    }
+}
+
+impl<L: PendingList, A: Allocator + Copy> Answerer<A, CallStop> for ScriptExplanation<L, A> {
+    ghost use Rattle.std.specs.Prelude.{Bool};
     ghost use Rattle.csq_words.specs.Queue.{Limits};
     ghost use Rattle.csq_replay.specs.Calls.{Script};
-    ghost use Rattle.csq_replay.specs.Drivers.{StandsAt, keeping};
-    ghost use Rattle.csq_explain.specs.ExplainingCalls.{ExplainsCall};
-    ghost use Rattle.csq_explain.specs.ScriptEndings.{explained_closing};
+    ghost use Rattle.csq_replay.specs.ScriptAnswer.{ReportsCall};
+    ghost use Rattle.csq_explain.specs.ScriptExplanations.{ExplainsScriptAfter, call_line_text, closing_text, CallStopsFor};
 
-    ghost Kind = { Limits };
+    ghost Kind = { Limits × Bool };
 
     ghost State = { Script };
 
-    ghost stands = { λ explanation l s. StandsAt l (keeping L.listing explanation.driver) s };
+    ghost stands = { λ explanation c s. ExplainsScriptAfter L.listing explanation c s };
 
-    ghost answers = { λ l s. ExplainsCall l s };
+    ghost answers = { λ c s. ReportsCall (call_line_text c.1 c.0) c.0 s };
 
-    ghost closes = { λ l s text. text ≡ explained_closing l s };
+    ghost stops = { λ c s. CallStopsFor c.0 s };
+
+    ghost closes = { λ c s text. text ≡ closing_text c.1 c.0 s };
 
     fn answer_line(
         &mut self,
-        number: usize,
-        line: &[u8],
+        line: Line<'_>,
         text: &mut String<A>,
-    ) -> Result<Handling, AllocError> {
-        match self.driver.handle(line) {
-            CallOutcome::Skipped => Ok(Handling::GoesOn),
+    ) -> Result<Option<CallStop>, AllocError> {
+        match self.driver.handle(line.bytes) {
+            CallOutcome::Skipped => Ok(None),
             CallOutcome::Answered(call, reply) => {
                 let answered = AnsweredCall {
                     irps: self.driver.machine.irps(),
@@ -51,21 +70,50 @@ impl<L: PendingList, A: Allocator + Copy> Answerer<A> for ScriptExplanation<L, A
                     call,
                     reply,
                 };
-                writeln!(text, "{reply}\n  {answered}")?;
-                Ok(Handling::GoesOn)
+                writeln!(text, "{reply}")?;
+                add_remark(self.explains, answered, text)?;
+                Ok(None)
             }
             CallOutcome::Stopped(stop) => {
-                writeln!(text, "line {number} {stop}\n  {}", CallStopSentence(stop))?;
-                Ok(Handling::Stops)
+                let number = line.number;
+                writeln!(text, "line {number} {stop}")?;
+                add_remark(self.explains, CallStopSentence(stop), text)?;
+                Ok(Some(stop))
             }
         }
     }
 
     fn close(&self, text: &mut String<A>) -> Result<(), AllocError> {
         let remains = self.driver.remains()?;
-        explain_remains(self.driver.alloc, &remains, text)?;
+        if self.explains {
+            explain_remains(self.driver.alloc, &remains, text)?;
+            return Ok(());
+        }
+        remains.write_lines(text)?;
         Ok(())
     }
+}
+
+/// Reads a script, makes its calls as one pass over a machine and this list, and writes what each is
+/// answered, and then what is listed, held and owed.
+///
+/// All of the input is read, up to 1,048,577 bytes; more stays unread. The list is fresh and has 1 to
+/// 1,024 IRPs. Faults: 1 Memory and 2 Read, after which nothing was written; 3 Write. Own rule.
+pub fn answer_script<L: PendingList + Drop, A: Allocator + Copy, R: Read, W: Write>(
+    alloc: A,
+    list: L,
+    reader: &mut R,
+    writer: &mut W,
+) -> Result<Ended, SimFault>
+    requires fresh { IsFresh (L.listing list) }
+    requires irps { (1 ≤ (L.listing list).irps) × ((L.listing list).irps ≤ 1024) }
+    ensures answered { IfOk result (RepliesToScript (limits_of 1 0 (L.listing list))
+        (R.remaining reader.old) (R.remaining reader.new) (W.contents writer.old) (W.contents writer.new)) }
+    ensures unwritten { IfErr result (λ fault. fault ≢ SimFault.Write
+        → KeepsBytes (W.contents writer.old) (W.contents writer.new)) }
+{
+    let mut explanation = ScriptExplanation::new(alloc, list, false)?;
+    reply(alloc, &mut explanation, reader, writer)
 }
 
 /// Reads a script and writes the answer of `answer_script`, each line of it followed by a line of two spaces and
@@ -88,8 +136,6 @@ pub fn explain_script<L: PendingList + Drop, A: Allocator + Copy, R: Read, W: Wr
     ensures unwritten { IfErr result (λ fault. fault ≢ SimFault.Write
         → KeepsBytes (W.contents writer.old) (W.contents writer.new)) }
 {
-    let mut explanation = ScriptExplanation {
-        driver: Driver::new(alloc, list)?,
-    };
+    let mut explanation = ScriptExplanation::new(alloc, list, true)?;
     reply(alloc, &mut explanation, reader, writer)
 }

@@ -1,68 +1,88 @@
 -- Answers, line after line.
 use Rattle.std.proofs.Common.{◌≡◌, ℕ, ◌+◌, List, ◌∷◌, ◌++◌, Option, Some, None, Result, Ok, Err, IfOk, ◌≤◌, append_assoc, refl, ap, subst, sym, ◌∙◌, length, true, eqb-true, arith}
 use Rattle.csq_replay.proofs.Imports.{nil_from_length, ◌==◌, Ended, lines_of, GrewBy, Leaves, AnswersAll, IsAnswer}
+use Rattle.csq_replay.specs.Lines.{AnswersUntil, IsAnswerUntil, ended_of}
+use Rattle.csq_replay.specs.declared.lines.Line.{Line}
+use Rattle.csq_replay.specs.declared.lines.Ending.{Ending}
+use Rattle.csq_replay.specs.declared.lines.Ending.TheVariants as ending
 use Rattle.csq_replay.specs.declared.lines.answer.Ended.TheVariants.{AllHandled, Stopped}
-use Rattle.csq_replay.specs.declared.lines.Handling.{Handling}
-use Rattle.csq_replay.specs.declared.lines.Handling.TheVariants.{GoesOn, Stops}
 use Rattle.csq_replay.specs.Inputs.{input_limit}
 use Rattle.csq_replay.specs.Lines.AnswersAll.{all_handled, goes_on, stops}
 use Rattle.csq_replay.specs.Lines.IsAnswer.{too_long_input, answered}
 
 -- the handling goes on at the state that it left
-pub went_on : {S : Type 0} (stands : S → Type 0) (handling : Handling) (more : Option S) → Leaves stands handling more → handling ≡ GoesOn → (s : S) × stands s
-went_on stands GoesOn (Some s) at is = (s, at)
-went_on stands GoesOn None at is = absurd at
-went_on stands Stops more at is = absurd cc
+pub went_on : {S W : Type 0} (stands : S → Type 0) (fits : W → Type 0) (why : Option W) (more : Option S) → Leaves stands fits why more → why ≡ None → (s : S) × stands s
+went_on stands fits None (Some s) at is = (s, at)
+went_on stands fits None None at is = absurd at
+went_on stands fits (Some why) more at is = absurd cc
 
-module _ {S : Type 0} (answers : S → ℕ → List ℕ → List ℕ → Option S → Type 0) (closes : S → List ℕ → Type 0) where
+module _ {S W : Type 0} (answers : S → ℕ → List ℕ → List ℕ → Option S → Type 0) (fits : S → ℕ → List ℕ → W → Type 0) (closes : S → List ℕ → Type 0) where
+  -- the lines are answered so, where the handling ends so
+  abbrev pub Until : Ending W → S → ℕ → List (List ℕ) → List ℕ → Ended → Type 0
+  Until end = AnswersAll (AnswersUntil answers fits end) closes
+
   -- whatever the lines that are left are answered after s, with `added` before it it answers all
   abbrev pub Completes : List (List ℕ) → S → S → ℕ → List (List ℕ) → List ℕ → Type 0
   Completes whole first s n left added =
-      (more : List ℕ) (ended : Ended) → AnswersAll answers closes s n left more ended → AnswersAll answers closes first 1 whole (added ++ more) ended
+      (end : Ending W) (more : List ℕ) (ended : Ended) → Until end s n left more ended → Until end first 1 whole (added ++ more) ended
 
-  module _ (whole : List (List ℕ)) (first s : S) (n : ℕ) (lines : List (List ℕ)) (line : List ℕ) (left : List (List ℕ)) (cut : lines ≡ line ∷ left)
-      (added : List ℕ) (complete : Completes whole first s n lines added) (text : List ℕ) (more : Option S) (answer : answers s n line text more)
-      (stands : S → Type 0) (handling : Handling) (leaves : Leaves stands handling more) where
-    with_line : Completes whole first s n (line ∷ left) added
-    with_line = let P : List (List ℕ) → Type 0 = λ ls. Completes whole first s n ls added in subst P cut complete
+  module _ (whole : List (List ℕ)) (first s : S) (line : Line) (lines left : List (List ℕ)) (cut : lines ≡ line.bytes.now ∷ left)
+      (added : List ℕ) (complete : Completes whole first s line.number lines added) (text : List ℕ) (more : Option S) (answer : answers s line.number line.bytes.now text more)
+      (stands : S → Type 0) where
+    with_line : Completes whole first s line.number (line.bytes.now ∷ left) added
+    with_line = let P : List (List ℕ) → Type 0 = λ ls. Completes whole first s line.number ls added in subst P cut complete
 
-    left_by : (h : Handling) → handling ≡ h → Leaves stands h more
-    left_by h is = let P : Handling → Type 0 = λ x. Leaves stands x more in subst P is leaves
+    left_by : (why led : Option W) → why ≡ led → Leaves stands (fits s line.number line.bytes.now) why more → Leaves stands (fits s line.number line.bytes.now) led more
+    left_by why led is leaves = let P : Option W → Type 0 = λ o. Leaves stands (fits s line.number line.bytes.now) o more in subst P is leaves
 
-    pub line_stops : handling ≡ Stops → AnswersAll answers closes first 1 whole (added ++ text) Stopped
-    line_stops is = go more answer (left_by Stops is)
+    pub line_stops : (led : Option W) (why : W) → led ≡ Some why → Leaves stands (fits s line.number line.bytes.now) led more → Until (ending.StoppedAt line why) first 1 whole (added ++ text) Stopped
+    line_stops led why is leaves = go more answer (left_by led (Some why) is leaves)
       where
-        go : (m : Option S) → answers s n line text m → Leaves stands Stops m → AnswersAll answers closes first 1 whole (added ++ text) Stopped
-        go None h at = with_line text Stopped (stops s n line left text h)
+        go : (m : Option S) → answers s line.number line.bytes.now text m → Leaves stands (fits s line.number line.bytes.now) (Some why) m → Until (ending.StoppedAt line why) first 1 whole (added ++ text) Stopped
+        go None h at = with_line (ending.StoppedAt line why) text Stopped (stops s line.number line.bytes.now left text (h, (refl, refl, at)))
         go (Some t) h at = absurd at
 
-    pub line_goes_on : handling ≡ GoesOn → (t : S) × stands t × Completes whole first t (n + 1) left (added ++ text)
-    line_goes_on is = go more answer (left_by GoesOn is)
+    pub line_goes_on : (led : Option W) → led ≡ None → Leaves stands (fits s line.number line.bytes.now) led more → (t : S) × stands t × Completes whole first t (line.number + 1) left (added ++ text)
+    line_goes_on led is leaves = go more answer (left_by led None is leaves)
       where
-        go : (m : Option S) → answers s n line text m → Leaves stands GoesOn m → (t : S) × stands t × Completes whole first t (n + 1) left (added ++ text)
+        go : (m : Option S) → answers s line.number line.bytes.now text m → Leaves stands (fits s line.number line.bytes.now) None m → (t : S) × stands t × Completes whole first t (line.number + 1) left (added ++ text)
         go None h at = absurd at
         go (Some t) h at = (
           t,
           at,
-          λ rest ended others.
-              let P : List ℕ → Type 0 = λ x. AnswersAll answers closes first 1 whole x ended in
-              subst P (sym (append_assoc added text rest)) (with_line (text ++ rest) ended (goes_on s t n line left text rest ended h others)),
+          λ end rest ended others.
+              let P : List ℕ → Type 0 = λ x. Until end first 1 whole x ended in
+              subst P (sym (append_assoc added text rest)) (with_line end (text ++ rest) ended (goes_on s t line.number line.bytes.now left text rest ended (h, tt) others)),
         )
 
   -- where no bytes are left, the closing lines complete the answer
   pub lines_end : (whole : List (List ℕ)) (first s : S) (n : ℕ) (rest added closing : List ℕ) → true ≡ (length rest == 0) → Completes whole first s n (lines_of rest) added
-      → closes s closing → AnswersAll answers closes first 1 whole (added ++ closing) AllHandled
+      → closes s closing → Until ending.AllHandled first 1 whole (added ++ closing) AllHandled
   lines_end whole first s n rest added closing none complete closed =
       let C : List ℕ → Type 0 = λ bytes. Completes whole first s n (lines_of bytes) added in
-      subst C (nil_from_length rest (eqb-true (length rest) 0 (sym none))) complete closing AllHandled (all_handled s n closing closed)
+      subst C (nil_from_length rest (eqb-true (length rest) 0 (sym none))) complete ending.AllHandled closing AllHandled (all_handled s n closing closed)
 
   -- what each of its lines is answered answers an input that isn't too long
-  pub each_answer : {X : Type 0} (s : S) (input old new : List ℕ) (result : Result Ended X) → length input ≤ input_limit
-      → IfOk result (λ ended. (added : List ℕ) × GrewBy old new added × AnswersAll answers closes s 1 (lines_of input) added ended)
-      → IfOk result (λ ended. (added : List ℕ) × GrewBy old new added × IsAnswer answers closes s input added ended)
-  each_answer s input old new (Ok ended) le (added, grown, all) = (added, grown, answered added ended le all)
+  pub each_answer : {X : Type 0} (s : S) (input old new : List ℕ) (result : Result (Ending W) X) → length input ≤ input_limit
+      → IfOk result (λ end. (added : List ℕ) × GrewBy old new added × Until end s 1 (lines_of input) added (ended_of end))
+      → IfOk result (λ end. (added : List ℕ) × GrewBy old new added × IsAnswerUntil answers fits closes s input added end)
+  each_answer s input old new (Ok end) le (added, grown, all) = (added, grown, record { answer = answered added (ended_of end) le all; long = λ lt. absurd (omega (arith, lt, le)) })
   each_answer s input old new (Err e) le h = h
 
+  -- where its handling ended so, it is answered so
+  until_all : (end : Ending W) (s : S) (n : ℕ) (lines : List (List ℕ)) (text : List ℕ) (ended : Ended) → Until end s n lines text ended → AnswersAll answers closes s n lines text ended
+  until_all end s n lines text ended (all_handled a m t closed) = all_handled s n text closed
+  until_all end s n lines text ended (goes_on a t m line left piece rest e h others) = goes_on s t n line left piece rest ended h.0 (until_all end t (n + 1) left rest ended others)
+  until_all end s n lines text ended (stops a m line left piece h) = stops s n line left text h.0
+
+  pub until_answer : (s : S) (input text : List ℕ) (end : Ending W) → IsAnswerUntil answers fits closes s input text end → IsAnswer answers closes s input text (ended_of end)
+  until_answer s input text end is = go (ended_of end) text is.answer
+    where
+      go : (ended : Ended) (text : List ℕ) → IsAnswer (AnswersUntil answers fits end) closes s input text ended → IsAnswer answers closes s input text ended
+      go ended text (too_long_input lt) = too_long_input lt
+      go ended text (answered t e le all) = answered text ended le (until_all end s 1 (lines_of input) text ended all)
+
+module _ {S : Type 0} (answers : S → ℕ → List ℕ → List ℕ → Option S → Type 0) (closes : S → List ℕ → Type 0) where
   -- two answers are one, where two answers to a line are, and two closings are, after every state that fits
   module _ (Fits : S → Type 0)
       (one_line : (s : S) (n : ℕ) (line t u : List ℕ) (m k : Option S) → Fits s → answers s n line t m → answers s n line u k → (t ≡ u) × (m ≡ k))

@@ -1,6 +1,6 @@
 -- The closing lines.
-use Rattle.std.proofs.Common.{◌≡◌, ℕ, ◌+◌, Bool, true, false, cond, List, [], ◌∷◌, ◌++◌, ap, append_assoc, append-nil, ◌∙◌, sym, subst, add-one, refl, codes}
-use Rattle.csq_replay.proofs.Imports.{Made, present, Size, IrpLine, ComesTo, Numbered, irp_line_text, irp_lines_text, IsReportedOf, AreReportedOf, IsClosing, GrewBy}
+use Rattle.std.proofs.Common.{◌≡◌, ℕ, ◌+◌, List, [], ◌∷◌, ◌++◌, ap, append_assoc, append-nil, ◌∙◌, sym, subst, add-one, refl, codes}
+use Rattle.csq_replay.proofs.Imports.{Made, present, Size, IrpLine, ComesTo, irp_line_text, irp_lines_text, IsReportedOf, AreReportedOf, GrewBy}
 use Rattle.csq_replay.specs.declared.schedule.outcome.Outcome.{Outcome}
 
 -- a text that grew twice grew by both
@@ -14,31 +14,12 @@ pub lines-append : (xs ys : List IrpLine) → irp_lines_text (xs ++ ys) ≡ irp_
 lines-append [] ys = refl
 lines-append (x ∷ xs) ys = ap (λ t. (irp_line_text x ++ codes "\n") ++ t) (lines-append xs ys) ∙ sym (append_assoc (irp_line_text x ++ codes "\n") (irp_lines_text xs) (irp_lines_text ys))
 
--- a text that grew by these lines, and then by those, grew by all
-pub grew_lines : (old between new : List ℕ) (first second : List IrpLine) → GrewBy old between (irp_lines_text first) → GrewBy between new (irp_lines_text second) → GrewBy old new (irp_lines_text (first ++ second))
-grew_lines old between new first second a b = grew_more old between new (irp_lines_text first) (irp_lines_text second) a b ∙ ap (λ t. old ++ t) (sym (lines-append first second))
-
--- a text that grew by a line
-pub grew_line : (old new : List ℕ) (line : IrpLine) → new ≡ old ++ (irp_line_text line ++ codes "\n") → GrewBy old new (irp_lines_text (line ∷ []))
-grew_line old new line e = e ∙ ap (λ t. old ++ t) (sym (append-nil (irp_line_text line ++ codes "\n")))
-
 -- one more IRP is told of
 pub reported_more : (first : ℕ) (E : List Made) (n : ℕ) (before last : List IrpLine) → AreReportedOf first E n before → IsReportedOf E (present first E (record { 0 = n })) last → AreReportedOf first E (n + 1) (before ++ last)
 reported_more first E n before last lines line =
     let P : ℕ → Type 0 = λ k. AreReportedOf first E k (before ++ last) in
     subst P (sym (add-one n)) (before, last, lines, line, refl)
 
--- the claims, where they are asked for
-pub asked : (irps rest reported_claims claims : List ℕ) (asks : Bool) → asks ≡ true → reported_claims ≡ claims
-    → irps ++ (rest ++ reported_claims) ≡ irps ++ (rest ++ cond asks claims [])
-asked irps rest reported_claims claims asks on same = rw (on, same) refl
-
-pub not_asked : (irps rest claims : List ℕ) (asks : Bool) → asks ≡ false → irps ++ rest ≡ irps ++ (rest ++ cond asks claims [])
-not_asked irps rest claims asks off = rw off (ap (λ t. irps ++ t) (sym (append-nil rest)))
-
 -- the same, of a machine whose size is known by another name
 pub comes_of_size : (now size : Size) (E : List Made) (line : List ℕ) (comes : Outcome) → now ≡ size → ComesTo now E line comes → ComesTo size E line comes
 comes_of_size now size E line comes same is = let P : Size → Type 0 = λ n. ComesTo n E line comes in subst P same is
-
-pub closing_of_size : (now size : Size) → now ≡ size → (claims : Bool) (W : List Numbered) (text : List ℕ) → IsClosing now claims W text → IsClosing size claims W text
-closing_of_size now size same claims W text closes = let P : Size → Type 0 = λ n. IsClosing n claims W text in subst P same closes

@@ -4,7 +4,6 @@ pub mod Inputs
 pub mod Lines
 pub mod Outcomes
 pub mod Schedule
-pub mod Replays
 pub mod Laws
 pub mod ReplyText
 pub mod CallLine

@@ -10,16 +10,13 @@ mod script;
 pub use laws::{
     a_schedule_has_one_answer, a_script_has_one_answer, each_inserted_irp_is_accounted_for,
 };
-pub use lines::answer::{Ended, MAX_INPUT, SimFault, exit_status};
+pub use lines::answer::{Ended, MAX_INPUT, SimFault, exit_status, read_input, write_answer};
 pub use lines::names::parse_name;
 pub use lines::pieces::{parse_number, parse_status, split_piece};
-pub use lines::{Answerer, Handling, MAX_LINE, is_skipped, reply};
-pub use schedule::answer_schedule;
+pub use lines::{Answerer, Ending, Line, MAX_LINE, answer_input, is_skipped, reply};
 pub use schedule::closing::{IrpLine, irp_line};
 pub use schedule::outcome::{Outcome, Stop, handle_line};
-pub use schedule::replay::note_claim;
 pub use schedule::step_line::parse_pass;
-pub use script::answer_script;
 pub use script::call::{Reply, ScriptCall, ScriptRefusal};
 pub use script::driver::Driver;
 pub use script::outcome::{CallOutcome, CallStop};

@@ -2,7 +2,7 @@
 ghost use Rattle.std.specs.Prelude.{◌≡◌, ◌≢◌, ◌↔◌, ℕ, List, Option, string_bytes, IfOk, IfErr, OnOk, IsTrue};
 ghost use Rattle.std.specs.Io.KnownBytes.{Keeps};
 ghost use Rattle.csq_replay.specs.Pieces.{lines_of};
-ghost use Rattle.csq_replay.specs.Lines.{IsSkipped, GrewBy, Leaves, AnswersAll, IsAnswer, RepliesTo};
+ghost use Rattle.csq_replay.specs.Lines.{IsSkipped, GrewBy, Leaves, AnswersAll, AnswersUntil, IsAnswer, IsAnswerUntil, RepliesTo, ended_of};
 
 pub(crate) mod answer;
 pub(crate) mod names;
@@ -16,13 +16,36 @@ use std::io::{Read, Write};
 /// The most bytes of a line, without its line feed. Own rule.
 pub const MAX_LINE: usize = 64;
 
-/// Whether the handling goes on after a line.
+/// A line of an input.
 #[derive(Clone, Copy)]
-pub enum Handling {
-    /// With the next line, or with the closing lines.
-    GoesOn,
-    /// It ends here.
-    Stops,
+pub struct Line<'a> {
+    /// Its number, from 1.
+    pub number: usize,
+    /// Its bytes, without its line feed.
+    pub bytes: &'a [u8],
+}
+
+/// How the handling of an input ended, and at which line.
+#[derive(Clone, Copy)]
+pub enum Ending<'a, W> {
+    /// All lines were handled.
+    AllHandled,
+    /// No line was, since the input has more than 1,048,576 bytes.
+    TooLong,
+    /// This line ended it, for this reason.
+    StoppedAt(Line<'a>, W),
+}
+
+impl<W> Ending<'_, W> {
+    /// How it ended, whatever the line and the reason. Own rule.
+    pub fn ended(&self) -> Ended
+        ensures { result ≡ ended_of self.now }
+    {
+        match self {
+            Ending::AllHandled => Ended::AllHandled,
+            Ending::TooLong | Ending::StoppedAt(..) => Ended::Stopped,
+        }
+    }
 }
 
 /// Whether a line is empty or a comment.
@@ -35,8 +58,8 @@ pub fn is_skipped(line: &[u8]) -> bool
     }
 }
 
-/// What answers lines.
-pub trait Answerer<A: Allocator> {
+/// What answers lines, some of which end the handling for a reason `W`.
+pub trait Answerer<A: Allocator, W> {
     /// What no line changes.
     ghost Kind: { Type 0 };
 
@@ -49,21 +72,19 @@ pub trait Answerer<A: Allocator> {
     /// After a state the line of this number is answered this text, and leads to another state, if the handling goes on.
     ghost answers: { Self.Kind → Self.State → ℕ → List ℕ → List ℕ → Option Self.State → Type 0 };
 
+    /// After a state the line of this number ends the handling, for this reason.
+    ghost stops: { Self.Kind → Self.State → ℕ → List ℕ → W → Type 0 };
+
     /// The closing lines after a state.
     ghost closes: { Self.Kind → Self.State → List ℕ → Type 0 };
 
-    /// Answers the line of this number.
-    fn answer_line(
-        &mut self,
-        number: usize,
-        line: &[u8],
-        text: &mut String<A>,
-    ) -> Result<Handling, AllocError>
+    /// Answers a line, and returns why it ends the handling, if it does.
+    fn answer_line(&mut self, line: Line<'_>, text: &mut String<A>) -> Result<Option<W>, AllocError>
         requires { (c : Self.Kind) × (s : Self.State) × stands self.old c s }
-        ensures { (c : Self.Kind) (s : Self.State) → stands self.old c s → IfOk result (λ handling.
+        ensures { (c : Self.Kind) (s : Self.State) → stands self.old c s → IfOk result (λ why.
             (added : List ℕ) × GrewBy (string_bytes text.old) (string_bytes text.new) added
-            × ((more : Option Self.State) × answers c s number line.now added more
-            × Leaves (stands self.new c) handling more)) };
+            × ((more : Option Self.State) × answers c s line.entry.number line.entry.bytes.now added more
+            × Leaves (stands self.new c) (stops c s line.entry.number line.entry.bytes.now) why more)) };
 
     /// Writes the closing lines.
     fn close(&self, text: &mut String<A>) -> Result<(), AllocError>
@@ -74,67 +95,69 @@ pub trait Answerer<A: Allocator> {
 }
 
 /// Answers each line, one after the other, and closes.
-fn answer_lines<X: Answerer<A>, A: Allocator>(
+fn answer_lines<'a, X: Answerer<A, W>, A: Allocator, W: Copy>(
     answerer: &mut X,
-    input: &[u8],
+    input: &'a [u8],
     text: &mut String<A>,
-) -> Result<Ended, AllocError>
+) -> Result<Ending<'a, W>, AllocError>
     requires { (c : X.Kind) × (s : X.State) × X.stands answerer.old c s }
-    ensures { (c : X.Kind) (s : X.State) → X.stands answerer.old c s → IfOk result (λ ended.
+    ensures { (c : X.Kind) (s : X.State) → X.stands answerer.old c s → IfOk result (λ ending.
         (added : List ℕ) × GrewBy (string_bytes text.old) (string_bytes text.new) added
-        × AnswersAll (X.answers c) (X.closes c) s 1 (lines_of input.now) added ended) }
+        × AnswersAll (AnswersUntil (X.answers c) (X.stops c) ending) (X.closes c) s 1 (lines_of input.now) added
+        (ended_of ending)) }
 {
     let mut rest = input;
     let mut number = 1;
     'lines: while !rest.is_empty() {
-        let (line, after) = split_line(rest);
-        match answerer.answer_line(number, line, text)? {
-            Handling::Stops => return Ok(Ended::Stopped),
-            Handling::GoesOn => {}
+        let (bytes, after) = split_line(rest);
+        let line = Line { number, bytes };
+        if let Some(why) = answerer.answer_line(line, text)? {
+            return Ok(Ending::StoppedAt(line, why));
         }
         rest = after;
         number += 1;
     }
     answerer.close(text)?;
-    Ok(Ended::AllHandled)
+    Ok(Ending::AllHandled)
 }
 
-/// Answers an input: with `input too long`, or line after line.
-fn answer_input<X: Answerer<A>, A: Allocator>(
+/// Adds what an input is answered: line after line, and then the closing lines, or `input too long`. Returns
+/// which line ended the handling, and why, if one did. Own rule.
+pub fn answer_input<'a, X: Answerer<A, W>, A: Allocator, W: Copy>(
     answerer: &mut X,
-    input: &[u8],
+    input: &'a [u8],
     text: &mut String<A>,
-) -> Result<Ended, AllocError>
+) -> Result<Ending<'a, W>, AllocError>
     requires { (c : X.Kind) × (s : X.State) × X.stands answerer.old c s }
-    ensures { (c : X.Kind) (s : X.State) → X.stands answerer.old c s → IfOk result (λ ended.
+    ensures { (c : X.Kind) (s : X.State) → X.stands answerer.old c s → IfOk result (λ ending.
         (added : List ℕ) × GrewBy (string_bytes text.old) (string_bytes text.new) added
-        × IsAnswer (X.answers c) (X.closes c) s input.now added ended) }
+        × IsAnswerUntil (X.answers c) (X.stops c) (X.closes c) s input.now added ending) }
 {
     if input.len() > MAX_INPUT {
         writeln!(text, "input too long")?;
-        return Ok(Ended::Stopped);
+        return Ok(Ending::TooLong);
     }
     answer_lines(answerer, input, text)
 }
 
 /// Reads an input whole, up to 1,048,577 bytes, and writes what it is answered: line after line, and then
 /// the closing lines. Faults: 1 Memory and 2 Read, after which nothing was written; 3 Write. Own rule.
-pub fn reply<X: Answerer<A>, A: Allocator + Copy, R: Read, W: Write>(
+pub fn reply<X: Answerer<A, W>, A: Allocator + Copy, W: Copy, R: Read, Out: Write>(
     alloc: A,
     answerer: &mut X,
     reader: &mut R,
-    writer: &mut W,
+    writer: &mut Out,
 ) -> Result<Ended, SimFault>
     requires { (c : X.Kind) × (s : X.State) × X.stands answerer.old c s }
     ensures answered { (c : X.Kind) (s : X.State) → X.stands answerer.old c s
         → IfOk result (RepliesTo (IsAnswer (X.answers c) (X.closes c) s)
-        (R.remaining reader.old) (R.remaining reader.new) (W.contents writer.old) (W.contents writer.new)) }
+        (R.remaining reader.old) (R.remaining reader.new) (Out.contents writer.old) (Out.contents writer.new)) }
     ensures unwritten { IfErr result (λ fault. fault ≢ SimFault.Write
-        → Keeps (W.contents writer.old) (W.contents writer.new)) }
+        → Keeps (Out.contents writer.old) (Out.contents writer.new)) }
 {
     let input = read_input(alloc, reader)?;
     let mut text = String::new(alloc);
-    let ended = answer_input(answerer, &input, &mut text)?;
+    let ending = answer_input(answerer, &input, &mut text)?;
     write_answer(writer, text.as_bytes())?;
-    Ok(ended)
+    Ok(ending.ended())
 }

@@ -88,10 +88,7 @@ fn read_piece<R: Read>(reader: &mut R, piece: &mut [u8]) -> Result<usize, SimFau
 }
 
 /// All bytes of a reader, or the first 1,048,577 where there are more.
-pub(crate) fn read_input<A: Allocator, R: Read>(
-    alloc: A,
-    reader: &mut R,
-) -> Result<Vec<u8, A>, SimFault>
+pub fn read_input<A: Allocator, R: Read>(alloc: A, reader: &mut R) -> Result<Vec<u8, A>, SimFault>
     ensures read { IfOk result
         (λ input. ReadsInput (R.remaining reader.old) (R.remaining reader.new) input.items) }
     ensures fault { IfErr result (λ fault. fault ≢ SimFault.Write) }
@@ -110,7 +107,7 @@ pub(crate) fn read_input<A: Allocator, R: Read>(
 }
 
 /// Writes a whole answer.
-pub(crate) fn write_answer<W: Write>(writer: &mut W, text: &[u8]) -> Result<(), SimFault>
+pub fn write_answer<W: Write>(writer: &mut W, text: &[u8]) -> Result<(), SimFault>
     ensures ok { OnOk result (Appends (W.contents writer.old) (W.contents writer.new) text.now) }
     ensures fault { IfErr result (λ fault. fault ≡ SimFault.Write) }
 {

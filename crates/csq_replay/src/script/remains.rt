@@ -151,7 +151,7 @@ pub fn write_kept<A: Allocator>(
 
 impl<A: Allocator> Remains<A> {
     /// Writes the closing lines.
-    pub(crate) fn write_lines(&self, text: &mut String<A>) -> Result<(), AllocError>
+    pub fn write_lines(&self, text: &mut String<A>) -> Result<(), AllocError>
         ensures { OnOk result (string_bytes text.new ≡ string_bytes text.old
             ++ left_lines self.now.listed.items self.now.held.items self.now.owed.items) }
     {

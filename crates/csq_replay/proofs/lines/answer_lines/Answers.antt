@@ -8,19 +8,19 @@ pub lines-init : goal.lines-init
 lines-init g c = record {
   bound = omega arith;
   stands = c.requires;
-  answers = λ k first at. (first, [], at, grew_none _, λ more ended others. others);
+  answers = λ k first at. (first, [], at, grew_none _, λ end more ended others. others);
 }
 
 pub answer_line-requires : goal.answer_line-requires
 answer_line-requires g c = c.lines.invariant.stands
 
-pub returns-in-Stops : goal.returns-in-Stops
-returns-in-Stops g c = λ k first at.
+pub returns-in-Some : goal.returns-in-Some
+returns-in-Some g c = λ k first at.
     let (s, added, stands, grown, complete) = c.lines.invariant.answers k first at in
-    let (piece, grown_now, (more, answer, leaves)) = c.in_ok-answer_line.ensures k s stands in (
+    let (piece, grown_now, (more, answer, leaves)) = c.in_ok-why.ensures k s stands in (
       added ++ piece,
       grew_more _ _ _ added piece grown grown_now,
-      line_stops _ _ _ first s _ _ _ (lines_of c.split_line.result.1.now) c.split_line.ensures.lines added complete piece more answer _ _ leaves c.in-Stops.is,
+      line_stops _ _ _ _ first s (record { number = c.lines.number; bytes = c.split_line.result.0 }) _ (lines_of c.split_line.result.1.now) c.split_line.ensures.lines added complete piece more answer _ _ c.in-Some.why c.in-Some.is leaves,
     )
 
 pub lines-preserved : goal.lines-preserved
@@ -28,13 +28,13 @@ lines-preserved g c = record {
   bound = omega (arith, c.lines.invariant.bound, c.split_line.ensures.shorter);
   stands =
       let (k, s, stands) = c.lines.invariant.stands in
-      let (piece, grown_now, (more, answer, leaves)) = c.in_ok-answer_line.ensures k s stands in
-      let next = went_on _ _ more leaves c.in-GoesOn.is in
+      let (piece, grown_now, (more, answer, leaves)) = c.in_ok-why.ensures k s stands in
+      let next = went_on _ _ _ more leaves c.in_default.is in
       (k, next.0, next.1);
   answers = λ k first at.
       let (s, added, stands, grown, complete) = c.lines.invariant.answers k first at in
-      let (piece, grown_now, (more, answer, leaves)) = c.in_ok-answer_line.ensures k s stands in
-      let next = line_goes_on _ _ _ first s _ _ _ (lines_of c.split_line.result.1.now) c.split_line.ensures.lines added complete piece more answer _ _ leaves c.in-GoesOn.is in
+      let (piece, grown_now, (more, answer, leaves)) = c.in_ok-why.ensures k s stands in
+      let next = line_goes_on _ _ _ _ first s (record { number = c.lines.number; bytes = c.split_line.result.0 }) _ (lines_of c.split_line.result.1.now) c.split_line.ensures.lines added complete piece more answer _ _ c.in_default.is leaves in
       (next.0, added ++ piece, next.1, grew_more _ _ _ added piece grown grown_now, next.2);
 }
 
@@ -47,5 +47,5 @@ returns g c = λ k first at.
     let (closing, grown_now, closed) = c.in_ok-close.ensures k s stands in (
       added ++ closing,
       grew_more _ _ _ added closing grown grown_now,
-      lines_end _ _ _ first s c.lines.number c.lines.rest.now added closing c.lines-test.ensures complete closed,
+      lines_end _ _ _ _ first s c.lines.number c.lines.rest.now added closing c.lines-test.ensures complete closed,
     )

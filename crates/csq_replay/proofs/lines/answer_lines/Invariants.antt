@@ -10,7 +10,7 @@ invariant-lines g l = record {
   stands : (c : g.X.Answerer.Kind) × (s : g.X.Answerer.State) × g.X.Answerer.stands l.answerer c s;
   answers : (c : g.X.Answerer.Kind) (first : g.X.Answerer.State) → g.X.Answerer.stands l.fn.answerer c first
       → (s : g.X.Answerer.State) × (added : List ℕ) × g.X.Answerer.stands l.answerer c s × GrewBy (string_bytes l.fn.text) (string_bytes l.text) added
-      × Completes (g.X.Answerer.answers c) (g.X.Answerer.closes c) (lines_of l.fn.input) first s l.number (lines_of l.rest) added;
+      × Completes (g.X.Answerer.answers c) (g.X.Answerer.stops c) (g.X.Answerer.closes c) (lines_of l.fn.input) first s l.number (lines_of l.rest) added;
 }
 
 abbrev pub decreases-lines : goal.decreases-lines

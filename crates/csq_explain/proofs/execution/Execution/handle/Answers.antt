@@ -15,14 +15,14 @@ note_pass-inside-requires g c =
 pub returns-in-Skipped : goal.returns-in-Skipped
 returns-in-Skipped g c = λ size W a.
     let comes = c.in-Skipped.ensures.comes (run_of W) a.agrees in
-    (Skipped, comes_of_size _ _ (run_of W) c.args.line.now Skipped a.same comes.0, refl, record { same = c.in-Skipped.ensures.size ∙ a.same; limits = a.limits; agrees = comes.1; passes = a.passes })
+    (Skipped, comes_of_size _ _ (run_of W) c.args.line.bytes.now Skipped a.same comes.0, refl, record { same = c.in-Skipped.ensures.size ∙ a.same; limits = a.limits; agrees = comes.1; passes = a.passes })
 
 pub returns-in-Accepted : goal.returns-in-Accepted
 returns-in-Accepted g c = λ size W a.
     let made = c.in-Accepted.made in
-    let w : Numbered = record { line = c.args.number; step = made } in
+    let w : Numbered = record { line = c.args.line.number; step = made } in
     let known = c.in-Accepted.ensures.comes (run_of W) a.agrees in
-    let comes = comes_of_size _ _ (run_of W) c.args.line.now (Accepted made) a.same known.0 in
+    let comes = comes_of_size _ _ (run_of W) c.args.line.bytes.now (Accepted made) a.same known.0 in
     let to = comes.1.known.0.to in
     let M : MachineState → Type 0 = λ m. Agrees m (made ∷ run_of W) in
     let agrees = subst M (sym c.note_pass-inside.ensures.machine) known.1 in
@@ -46,7 +46,7 @@ returns-in-Stopped g c = λ size W a.
     let stop = c.in-Stopped.stop in
     let comes = c.in-Stopped.ensures.comes (run_of W) a.agrees in (
       Stopped stop,
-      comes_of_size _ _ (run_of W) c.args.line.now (Stopped stop) a.same comes.0,
+      comes_of_size _ _ (run_of W) c.args.line.bytes.now (Stopped stop) a.same comes.0,
       ap explained.Stopped (c.reason.ensures ∙ ap (λ n. reason_of n c.args.self.now.passes.items stop) (c.in-Stopped.ensures.size ∙ a.same) ∙ ap (λ ps. reason_of size ps stop) a.passes),
       record { same = c.in-Stopped.ensures.size ∙ a.same; limits = a.limits; agrees = comes.1; passes = a.passes },
     )

@@ -1,6 +1,0 @@
-use Rattle.std.proofs.Common.{arith}
-use Rattle.csq_explain.proofs.Closings.{grew_irp}
-use Rattle.csq_explain.proofs.explanation.explain_irps.Goals as goal
-
-pub loop-line-preserved : goal.loop-line-preserved
-loop-line-preserved g c = grew_irp c.args.reported.now c.loop-line.line-index _ _ _ _ (omega arith) c.loop-line.invariant c.in_ok-writeln.ensures.bytes
