@@ -1,4 +1,4 @@
--- Peeks that go from the first IRP to the last, and all agree, tell the list.
+-- Peeks that go from the first IRP to the last, and all agree, give the list.
 use Rattle.std.proofs.Common.{◌≡◌, ◌↔◌, true, List, [], ◌∷◌, ◌++◌, map, Option, Some, None, refl, sym, ap, ◌∙◌, subst}
 use Rattle.csq_audit.proofs.Imports.{IrpId, Entry, first_match, rest_after, is_distinct, IsFound, found, found-rest, Agrees}
 use Rattle.csq_list.specs.declared.entry.Peek.TheVariants.{Any}

@@ -1,8 +1,7 @@
--- What a driver's list is, as its peeks tell it from the first to the last.
+-- What a driver's list is, as its peeks give it from the first to the last.
 use Rattle.std.specs.Prelude.{◌≡◌, ◌↔◌, List, [], ◌∷◌, map, Option, Some, None, IsTrue}
 use Rattle.irp_core.specs.declared.ids.IrpId.{IrpId}
-use Rattle.csq_list.specs.declared.entry.Entry.{Entry}
-use Rattle.csq_list.specs.declared.entry.Peek.TheVariants.{Any}
+use Rattle.csq_list.specs.declared.entry.{Entry.{Entry}, Peek.TheVariants.{Any}}
 use Rattle.csq_list.specs.Searches.{is_distinct}
 use Rattle.csq_audit.specs.Peeks.{peek_verdict}
 use Rattle.csq_audit.specs.declared.peek.PeekVerdict.TheVariants.{Agrees}
@@ -12,6 +11,6 @@ abbrev pub AllAgree : List Entry → Option IrpId → List IrpId → Type 0
 AllAgree es after [] = peek_verdict es after Any None ≡ Agrees
 AllAgree es after (i ∷ is) = (peek_verdict es after Any (Some i) ≡ Agrees) × AllAgree es (Some i) is
 
--- peeks from the first to the last all agree exactly where they tell the queue's list
+-- peeks from the first to the last all agree exactly where they give the queue's list
 abbrev pub AgreeingPeeksGiveTheList : Type 0
 AgreeingPeeksGiveTheList = (es : List Entry) → IsTrue (is_distinct es) → (is : List IrpId) → AllAgree es None is ↔ (is ≡ map (λ (e : Entry). e.irp) es)

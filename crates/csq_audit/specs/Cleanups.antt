@@ -2,13 +2,10 @@
 use Rattle.std.specs.Prelude.{ℕ, ◌==◌, ◌&&◌, not, Bool, List, Option, Some, None}
 use Rattle.std.specs.List.{list_any, find}
 use Rattle.std.specs.Option.{option_map}
-use Rattle.irp_core.specs.declared.ids.FileId.{FileId}
-use Rattle.irp_core.specs.declared.ids.IrpId.{IrpId}
-use Rattle.csq_list.specs.declared.entry.Entry.{Entry}
-use Rattle.csq_list.specs.declared.entry.Peek.TheVariants.{File}
+use Rattle.irp_core.specs.declared.ids.{FileId.{FileId}, IrpId.{IrpId}}
+use Rattle.csq_list.specs.declared.entry.{Entry.{Entry}, Peek.TheVariants.{File}}
 use Rattle.csq_list.specs.Searches.{matches}
-use Rattle.csq_audit.specs.declared.cleanup.CleanupVerdict.{CleanupVerdict}
-use Rattle.csq_audit.specs.declared.cleanup.CleanupVerdict.TheVariants.{Clean, Leaves}
+use Rattle.csq_audit.specs.declared.cleanup.CleanupVerdict.{CleanupVerdict, TheVariants.{Clean, Leaves}}
 
 -- a cleanup may leave an IRP whose number is among these
 abbrev pub is_excused : List ℕ → IrpId → Bool

@@ -1,7 +1,6 @@
 -- The list of a queue, and those of its entries that a peek takes.
 use Rattle.std.specs.Prelude.{List, filter}
-use Rattle.csq_list.specs.declared.entry.Entry.{Entry}
-use Rattle.csq_list.specs.declared.entry.Peek.{Peek}
+use Rattle.csq_list.specs.declared.entry.{Entry.{Entry}, Peek.{Peek}}
 use Rattle.csq_list.specs.Searches.{matches}
 use Rattle.csq_queue.specs.Looks.{present_listing}
 use Rattle.csq_checked.specs.Passes.{CheckedState}

@@ -2,12 +2,10 @@
 use Rattle.std.specs.Prelude.{List, Option, Some, None, if◌then◌else◌}
 use Rattle.irp_core.specs.declared.ids.IrpId.{IrpId}
 use Rattle.irp_core.specs.Steps.{same_id}
-use Rattle.csq_list.specs.declared.entry.Entry.{Entry}
-use Rattle.csq_list.specs.declared.entry.Peek.{Peek}
+use Rattle.csq_list.specs.declared.entry.{Entry.{Entry}, Peek.{Peek}}
 use Rattle.csq_list.specs.Searches.{first_match, is_listed, rest_after}
 use Rattle.csq_audit.specs.Lists.{matching}
-use Rattle.csq_audit.specs.declared.peek.PeekVerdict.{PeekVerdict}
-use Rattle.csq_audit.specs.declared.peek.PeekVerdict.TheVariants.{Agrees, Skips, Backwards, NoMatch, NotListed}
+use Rattle.csq_audit.specs.declared.peek.PeekVerdict.{PeekVerdict, TheVariants.{Agrees, Skips, Backwards, NoMatch, NotListed}}
 
 -- of an answer that is no match after the start: a match before it, no match, or not in the queue
 abbrev pub stray_verdict : List Entry → Peek → IrpId → PeekVerdict

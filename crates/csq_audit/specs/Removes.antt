@@ -1,11 +1,9 @@
 -- What is said of a removal.
 use Rattle.std.specs.Prelude.{if◌then◌else◌, List, Option, Some, None}
-use Rattle.irp_core.specs.declared.ids.IrpId.{IrpId}
-use Rattle.irp_core.specs.declared.ids.IrpLife.{IrpLife}
+use Rattle.irp_core.specs.declared.ids.{IrpId.{IrpId}, IrpLife.{IrpLife}}
 use Rattle.csq_list.specs.declared.entry.Entry.{Entry}
 use Rattle.csq_list.specs.Searches.{is_listed}
-use Rattle.csq_audit.specs.declared.remove.RemoveVerdict.{RemoveVerdict}
-use Rattle.csq_audit.specs.declared.remove.RemoveVerdict.TheVariants.{Agrees, Claimed, NotListed}
+use Rattle.csq_audit.specs.declared.remove.RemoveVerdict.{RemoveVerdict, TheVariants.{Agrees, Claimed, NotListed}}
 
 -- what the queue's own removal of i got, by the verdict
 abbrev pub removed_by : RemoveVerdict → IrpLife → Option IrpLife

@@ -1,9 +1,7 @@
 -- What is said of what a driver does with an IRP that was in its queue.
 use Rattle.std.specs.Prelude.{◌≡◌, ◌==◌, ◌&&◌, ◌||◌, nat_lt, not, if◌then◌else◌, Bool, List, Option, Some, None}
-use Rattle.irp_core.specs.declared.ids.IrpId.{IrpId}
-use Rattle.irp_core.specs.declared.ids.IrpLife.{IrpLife}
-use Rattle.irp_core.specs.declared.status.NtStatus.{NtStatus}
-use Rattle.irp_core.specs.declared.status.TheConstants.NtStatus.{CANCELLED, PENDING}
+use Rattle.irp_core.specs.declared.ids.{IrpId.{IrpId}, IrpLife.{IrpLife}}
+use Rattle.irp_core.specs.declared.status.{NtStatus.{NtStatus}, TheConstants.NtStatus.{CANCELLED, PENDING}}
 use Rattle.irp_core.specs.Own.{holds_in, removed_in}
 use Rattle.irp_core.specs.Steps.{number}
 use Rattle.csq_list.specs.declared.entry.Entry.{Entry}
@@ -15,8 +13,7 @@ use Rattle.csq_checked.specs.Passes.{CheckedPassState, CheckedState}
 use Rattle.csq_checked.specs.declared.unlocked.CompleteRefused.{CompleteRefused}
 use Rattle.csq_checked.specs.declared.unlocked.CompleteRefused.TheVariants as refused
 use Rattle.csq_audit.specs.Lists.{listed}
-use Rattle.csq_audit.specs.declared.uses.UseVerdict.{UseVerdict}
-use Rattle.csq_audit.specs.declared.uses.UseVerdict.TheVariants.{Agrees, Listed, NotHeld, GotCancelled, NotFinal}
+use Rattle.csq_audit.specs.declared.uses.UseVerdict.{UseVerdict, TheVariants.{Agrees, Listed, NotHeld, GotCancelled, NotFinal}}
 
 -- a pass may complete what it holds as cancelled, and with another final status what it got by a removal
 abbrev pub may_complete : CheckedPassState → IrpLife → NtStatus → Bool

@@ -26,7 +26,7 @@ pub enum RemoveVerdict {
 /// caller has the queue's lock.
 ///
 /// `Agrees` comes exactly where the queue's own removal gets it, in the life named. Else whether it is in the
-/// queue is told by its number. Own rule.
+/// queue is decided by its number. Own rule.
 pub fn judge_remove(queue: &mut CheckedQueue, by: &mut CheckedPass, irp: IrpLife) -> RemoveVerdict
     requires { IsPassIn queue.old.queue by.old }
     ensures call { MakesCall (RemovesOne irp (removed_by result irp))

@@ -34,7 +34,7 @@ pub enum UseVerdict {
 /// holds it, or says what is wrong with that; then nothing is completed. The caller has the queue's lock.
 ///
 /// STATUS_CANCELLED ends what the pass got in whatever way, any other final status what it got by a removal.
-/// Whether an IRP is in the queue is told by its number, and of this queue, whatever queue the pass is of. Own
+/// Whether an IRP is in the queue is decided by its number, and of this queue, whatever queue the pass is of. Own
 /// rule.
 pub fn judge_complete(
     queue: &CheckedQueue,

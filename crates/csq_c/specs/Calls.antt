@@ -1,31 +1,25 @@
 -- What the calls of an open queue by a pass answer to C.
 use Rattle.std.specs.Prelude.{◌≡◌, ℕ, Option, None, Result}
-use Rattle.irp_core.specs.declared.ids.IrpLife.{IrpLife}
-use Rattle.irp_core.specs.declared.ids.IrpId.{IrpId}
-use Rattle.irp_core.specs.declared.ids.FileId.{FileId}
-use Rattle.irp_core.specs.declared.ids.Life.{Life}
-use Rattle.csq_list.specs.declared.entry.Peek.{Peek}
-use Rattle.csq_list.specs.declared.entry.Place.{Place}
-use Rattle.csq_list.specs.declared.refusals.InsertStatus.{InsertStatus}
-use Rattle.csq_list.specs.declared.refusals.UnknownFile.{UnknownFile}
+use Rattle.irp_core.specs.declared.ids.{IrpLife.{IrpLife}, IrpId.{IrpId}, FileId.{FileId}, Life.{Life}}
+use Rattle.csq_list.specs.declared.entry.{Peek.{Peek}, Place.{Place}}
+use Rattle.csq_list.specs.declared.refusals.{InsertStatus.{InsertStatus}, UnknownFile.{UnknownFile}}
 use Rattle.csq_queue.specs.declared.tokens.InsertAnswer.{InsertAnswer}
 use Rattle.csq_queue.specs.Calls.{Inserts, RemovesNext, RemovesOne}
 use Rattle.csq_checked.specs.Calls.{MakesCall, PutsBackRemoved, RunsOwedRoutine, CancelsOwed, ClosesKnownFile, ReusesPresentLife}
 use Rattle.csq_checked.specs.Passes.{CheckedPassState}
-use Rattle.csq_checked.specs.declared.calls.PutBackRefused.{PutBackRefused}
-use Rattle.csq_checked.specs.declared.calls.CheckedReuseRefused.{CheckedReuseRefused}
+use Rattle.csq_checked.specs.declared.calls.{PutBackRefused.{PutBackRefused}, CheckedReuseRefused.{CheckedReuseRefused}}
 use Rattle.csq_checked.specs.declared.unlocked.RoutineRefused.{RoutineRefused}
 use Rattle.csq_c.specs.Bodies.{QueueBodyState}
 use Rattle.csq_c.specs.Codes.{insert_code, inserted_irp, put_back_code, put_back_irp, removal_code, routine_code, close_file_code, reuse_code, life_stored}
 use Rattle.csq_c.specs.Exports.{OnQueue}
 use Rattle.csq_c.specs.declared.codes.Code.{Code}
 
--- an insert answers this code, and tells of this IRP
+-- an insert returns this code, and stores this IRP
 abbrev pub InsertsInto : IrpId → FileId → Place → QueueBodyState → QueueBodyState → CheckedPassState → CheckedPassState → Code → Option IrpLife → Type 0
 InsertsInto irp file place body body' p p' code stored = OnQueue body body' p p' code (stored ≡ None)
     (λ q q'. (answer : Result (InsertAnswer IrpLife IrpLife) InsertStatus) × MakesCall (Inserts irp file place answer) q p q' p' × (code ≡ insert_code answer) × (stored ≡ inserted_irp answer))
 
--- a put-back answers this code, and tells of this IRP
+-- a put-back returns this code, and stores this IRP
 abbrev pub PutsBackInto : IrpLife → Place → QueueBodyState → QueueBodyState → CheckedPassState → CheckedPassState → Code → Option IrpLife → Type 0
 PutsBackInto i place body body' p p' code stored = OnQueue body body' p p' code (stored ≡ None)
     (λ q q'. (answer : Result (InsertAnswer IrpLife IrpLife) PutBackRefused) × PutsBackRemoved i place answer q p q' p' × (code ≡ put_back_code answer) × (stored ≡ put_back_irp answer))
@@ -55,7 +49,7 @@ abbrev pub ClosesFileOf : FileId → QueueBodyState → QueueBodyState → Check
 ClosesFileOf file body body' p p' code = OnQueue body body' p p' code (Unit {0})
     (λ q q'. (answer : Result (Unit {0}) UnknownFile) × ClosesKnownFile file answer q p q' p' × (code ≡ close_file_code answer))
 
--- a reuse answers this code, and tells of this life
+-- a reuse returns this code, and stores this life
 abbrev pub ReusesOf : IrpLife → QueueBodyState → QueueBodyState → CheckedPassState → CheckedPassState → Code → Option ℕ → Type 0
 ReusesOf i body body' p p' code stored = OnQueue body body' p p' code (stored ≡ None)
     (λ q q'. (answer : Result Life CheckedReuseRefused) × ReusesPresentLife i answer q p q' p' × (code ≡ reuse_code answer) × (stored ≡ life_stored answer))

@@ -1,30 +1,24 @@
 -- The codes that calls answer, and which answer has which.
 use Rattle.std.specs.Prelude.{ℕ, Bool, Option, Some, None, Result, Ok, Err, if◌then◌else◌}
-use Rattle.irp_core.specs.declared.ids.IrpLife.{IrpLife}
-use Rattle.irp_core.specs.declared.ids.Life.{Life}
+use Rattle.irp_core.specs.declared.ids.{IrpLife.{IrpLife}, Life.{Life}}
 use Rattle.irp_core.specs.declared.status.NtStatus.{NtStatus}
-use Rattle.csq_list.specs.declared.refusals.InsertStatus.{InsertStatus}
+use Rattle.csq_list.specs.declared.refusals.{InsertStatus.{InsertStatus}, UnknownFile.{UnknownFile as NoFile}}
 use Rattle.csq_list.specs.declared.refusals.InsertStatus.TheVariants as insert
-use Rattle.csq_list.specs.declared.refusals.UnknownFile.{UnknownFile as NoFile}
 use Rattle.csq_queue.specs.declared.tokens.InsertAnswer.{InsertAnswer}
 use Rattle.csq_queue.specs.declared.tokens.InsertAnswer.TheVariants as inserted
-use Rattle.csq_queue.specs.declared.refusals.CancelRefused.{CancelRefused}
+use Rattle.csq_queue.specs.declared.refusals.{CancelRefused.{CancelRefused}, UnknownIrp.{UnknownIrp as NoIrp}}
 use Rattle.csq_queue.specs.declared.refusals.CancelRefused.TheVariants as cancel
-use Rattle.csq_queue.specs.declared.refusals.UnknownIrp.{UnknownIrp as NoIrp}
-use Rattle.csq_checked.specs.declared.calls.PutBackRefused.{PutBackRefused}
+use Rattle.csq_checked.specs.declared.calls.{PutBackRefused.{PutBackRefused}, CheckedReuseRefused.{CheckedReuseRefused}}
 use Rattle.csq_checked.specs.declared.calls.PutBackRefused.TheVariants as back
-use Rattle.csq_checked.specs.declared.calls.CheckedReuseRefused.{CheckedReuseRefused}
 use Rattle.csq_checked.specs.declared.calls.CheckedReuseRefused.TheVariants as reuse
-use Rattle.csq_checked.specs.declared.unlocked.CompleteRefused.{CompleteRefused}
+use Rattle.csq_checked.specs.declared.unlocked.{CompleteRefused.{CompleteRefused}, RoutineRefused.{RoutineRefused}}
 use Rattle.csq_checked.specs.declared.unlocked.CompleteRefused.TheVariants as complete
-use Rattle.csq_checked.specs.declared.unlocked.RoutineRefused.{RoutineRefused}
 use Rattle.csq_checked.specs.declared.unlocked.RoutineRefused.TheVariants as routine
 use Rattle.irp_core.specs.declared.refusals.SizeRefused.{SizeRefused}
 use Rattle.irp_core.specs.declared.refusals.SizeRefused.TheVariants as new
 use Rattle.csq_checked.specs.declared.size.PassRefused.{PassRefused}
 use Rattle.csq_checked.specs.declared.size.PassRefused.TheVariants as pass
-use Rattle.csq_c.specs.declared.codes.Code.{Code}
-use Rattle.csq_c.specs.declared.codes.Code.TheVariants.{Done, UnknownIrp, UnknownFile, NotHome, FileClosed, Full, FileFull, Cancelled, Nothing, Stale, NotCompleted, LivesSpent, NotHeld, NotOwed, NotRemoved, NotFinal, Holding, PassesOut, NoPass, BadSize, NoMemory, EmptyHandle, NotEmpty, NotListed, Closed, NotClosed, OtherQueue}
+use Rattle.csq_c.specs.declared.codes.Code.{Code, TheVariants.{Done, UnknownIrp, UnknownFile, NotHome, FileClosed, Full, FileFull, Cancelled, Nothing, Stale, NotCompleted, LivesSpent, NotHeld, NotOwed, NotRemoved, NotFinal, Holding, PassesOut, NoPass, BadSize, NoMemory, EmptyHandle, NotEmpty, NotListed, Closed, NotClosed, OtherQueue}}
 
 -- the number of a code
 abbrev pub number_of : Code → ℕ
@@ -71,7 +65,7 @@ insert_code (Ok (inserted.Pending context)) = Done
 insert_code (Ok (inserted.Cancelled token)) = Cancelled
 insert_code (Err cause) = refusal_code cause
 
--- which IRP an insert told of
+-- which IRP an insert stored
 abbrev pub inserted_irp : Result (InsertAnswer IrpLife IrpLife) InsertStatus → Option IrpLife
 inserted_irp (Ok (inserted.Pending context)) = Some context
 inserted_irp (Ok (inserted.Cancelled token)) = Some token
@@ -85,7 +79,7 @@ put_back_code (Err back.NotHeld) = NotHeld
 put_back_code (Err back.NotRemoved) = NotRemoved
 put_back_code (Err (back.ByQueue cause)) = refusal_code cause
 
--- which IRP a put-back told of
+-- which IRP a put-back stored
 abbrev pub put_back_irp : Result (InsertAnswer IrpLife IrpLife) PutBackRefused → Option IrpLife
 put_back_irp (Ok answer) = inserted_irp (Ok answer)
 put_back_irp (Err cause) = None
@@ -160,7 +154,7 @@ claim_stored (Ok (Some i)) = Some 1
 claim_stored (Ok None) = Some 0
 claim_stored (Err refused) = None
 
--- the life that a look at the Cancel flag told, and 1 where the flag is set in it, or 0
+-- the life that a look at the Cancel flag stored, and 1 where the flag is set in it, or 0
 abbrev pub flag_life_stored : Result (Life × Bool) NoIrp → Option ℕ
 flag_life_stored (Ok read) = Some read.0.0
 flag_life_stored (Err refused) = None
@@ -169,7 +163,7 @@ abbrev pub flag_stored : Result (Life × Bool) NoIrp → Option ℕ
 flag_stored (Ok read) = Some (if read.1 then 1 else 0)
 flag_stored (Err refused) = None
 
--- the life that a look at the status told, and the status, where there is one
+-- the life that a look at the status stored, and the status, where there is one
 abbrev pub status_life_stored : Result (Life × Option NtStatus) NoIrp → Option ℕ
 status_life_stored (Ok read) = Some read.0.0
 status_life_stored (Err refused) = None

@@ -8,8 +8,7 @@ use Rattle.csq_queue.specs.Rests.{IsClosed}
 use Rattle.csq_checked.specs.Idle.{with_idle_back}
 use Rattle.csq_checked.specs.Passes.{CheckedState, CheckedPassState, IsPassIn, HandsOutNew, HandsOutAgain, HasComeBack, out_of}
 use Rattle.csq_c.specs.Bodies.{QueueBodyState, RestState}
-use Rattle.csq_c.specs.declared.codes.Code.{Code}
-use Rattle.csq_c.specs.declared.codes.Code.TheVariants.{Done, Holding, PassesOut, EmptyHandle, NotEmpty, Closed}
+use Rattle.csq_c.specs.declared.codes.Code.{Code, TheVariants.{Done, Holding, PassesOut, EmptyHandle, NotEmpty, Closed}}
 
 -- how many are out, of a queue that is open
 abbrev pub out_of_open : Option CheckedState → Option ℕ

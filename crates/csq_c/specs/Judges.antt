@@ -1,9 +1,7 @@
 -- What a judgement of a driver's peek, or of what its cleanup left, answers to C.
 use Rattle.std.specs.Prelude.{◌≡◌, ℕ, List, Option, Some, None, if◌then◌else◌}
-use Rattle.irp_core.specs.declared.ids.FileId.{FileId}
-use Rattle.irp_core.specs.declared.ids.IrpId.{IrpId}
-use Rattle.csq_list.specs.declared.entry.Entry.{Entry}
-use Rattle.csq_list.specs.declared.entry.Peek.{Peek}
+use Rattle.irp_core.specs.declared.ids.{FileId.{FileId}, IrpId.{IrpId}}
+use Rattle.csq_list.specs.declared.entry.{Entry.{Entry}, Peek.{Peek}}
 use Rattle.csq_audit.specs.Cleanups.{cleanup_verdict, first_left}
 use Rattle.csq_audit.specs.Lists.{listed}
 use Rattle.csq_audit.specs.Peeks.{peek_verdict}
@@ -14,8 +12,7 @@ use Rattle.csq_audit.specs.declared.peek.PeekVerdict.TheVariants as verdict
 use Rattle.csq_c.specs.Bodies.{QueueBodyState}
 use Rattle.csq_c.specs.Lefts.{is_start}
 use Rattle.csq_c.specs.Looks.{OnOpen}
-use Rattle.csq_c.specs.declared.codes.Code.{Code}
-use Rattle.csq_c.specs.declared.codes.Code.TheVariants.{Done, NotListed}
+use Rattle.csq_c.specs.declared.codes.Code.{Code, TheVariants.{Done, NotListed}}
 
 -- the verdict of a peek's answer, where the peek may go on after that IRP
 abbrev pub judged : List Entry → Option IrpId → Peek → Option IrpId → Option PeekVerdict

@@ -1,16 +1,13 @@
--- What is told of a closed queue.
+-- What a closed queue reports.
 use Rattle.std.specs.Prelude.{ℕ, ◌==◌, Bool, true, List, Option, Some, None, if◌then◌else◌}
 use Rattle.std.specs.Option.{is_some}
-use Rattle.irp_core.specs.declared.ids.IrpId.{IrpId}
-use Rattle.irp_core.specs.declared.ids.Life.{Life}
+use Rattle.irp_core.specs.declared.ids.{IrpId.{IrpId}, Life.{Life}}
 use Rattle.irp_core.specs.declared.status.NtStatus.{NtStatus}
-use Rattle.csq_list.specs.declared.entry.Entry.{Entry}
-use Rattle.csq_list.specs.declared.entry.Peek.TheVariants.{Any}
+use Rattle.csq_list.specs.declared.entry.{Entry.{Entry}, Peek.TheVariants.{Any}}
 use Rattle.csq_list.specs.Searches.{is_listed, first_match, rest_after}
 use Rattle.csq_words.specs.Finals.{FinalWords, final_life, final_status, is_cancelled}
 use Rattle.csq_c.specs.Shapes.{irp_numbered, flag_number}
-use Rattle.csq_c.specs.declared.codes.Code.{Code}
-use Rattle.csq_c.specs.declared.codes.Code.TheVariants.{Done, UnknownIrp, Nothing, NotListed}
+use Rattle.csq_c.specs.declared.codes.Code.{Code, TheVariants.{Done, UnknownIrp, Nothing, NotListed}}
 use Rattle.csq_c.specs.declared.shapes.CsqLeft.{CsqLeft}
 
 -- the IRP after which the next one is asked for: none by the largest number

@@ -7,8 +7,7 @@ use Rattle.csq_c.specs.Bodies.{QueueBodyState}
 use Rattle.csq_c.specs.contracts.body.QueueBody as body
 use Rattle.csq_c.specs.contracts.handles.PassBox as pass_handle
 use Rattle.csq_c.specs.contracts.handles.QueueBox as queue_handle
-use Rattle.csq_c.specs.declared.handles.PassBox.{PassBox}
-use Rattle.csq_c.specs.declared.handles.QueueBox.{QueueBox}
+use Rattle.csq_c.specs.declared.handles.{PassBox.{PassBox}, QueueBox.{QueueBox}}
 
 -- a queue's handle ends with what the call left of the queue, and an empty one as it was
 abbrev pub LendsQueue : MutBor QueueBox → Option (MutBor QueueBodyState) → Fml

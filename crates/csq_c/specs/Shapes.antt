@@ -1,14 +1,9 @@
 -- What C reads and writes beside the handles.
 use Rattle.std.specs.Prelude.{ℕ, ◌==◌, Bool, true, false, if◌then◌else◌, Option, Some, None}
-use Rattle.irp_core.specs.declared.ids.IrpLife.{IrpLife}
-use Rattle.irp_core.specs.declared.ids.IrpId.{IrpId}
-use Rattle.irp_core.specs.declared.ids.FileId.{FileId}
-use Rattle.irp_core.specs.declared.ids.Life.{Life}
+use Rattle.irp_core.specs.declared.ids.{IrpLife.{IrpLife}, IrpId.{IrpId}, FileId.{FileId}, Life.{Life}}
 use Rattle.irp_core.specs.declared.status.NtStatus.{NtStatus}
-use Rattle.csq_list.specs.declared.entry.Peek.{Peek}
+use Rattle.csq_list.specs.declared.entry.{Peek.{Peek}, Place.{Place, TheVariants.{Back, Front}}}
 use Rattle.csq_list.specs.declared.entry.Peek.TheVariants as peek
-use Rattle.csq_list.specs.declared.entry.Place.{Place}
-use Rattle.csq_list.specs.declared.entry.Place.TheVariants.{Back, Front}
 use Rattle.csq_c.specs.declared.shapes.CsqIrp.{CsqIrp}
 
 -- the IRP, the file object, the life, the status with these numbers

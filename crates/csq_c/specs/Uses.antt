@@ -1,8 +1,7 @@
 -- What a judgement of what a driver does with an IRP answers to C.
 use Rattle.std.specs.Prelude.{◌≡◌, ◌↔◌, ℕ, Option, Some, None, IsTrue}
 use Rattle.irp_core.specs.declared.ids.IrpLife.{IrpLife}
-use Rattle.irp_core.specs.declared.status.NtStatus.{NtStatus}
-use Rattle.irp_core.specs.declared.status.TheConstants.NtStatus.{SUCCESS}
+use Rattle.irp_core.specs.declared.status.{NtStatus.{NtStatus}, TheConstants.NtStatus.{SUCCESS}}
 use Rattle.csq_queue.specs.Calls.{RemovesOne}
 use Rattle.csq_queue.specs.Owned.{HoldsRemoved}
 use Rattle.csq_checked.specs.Calls.{MakesCall}
@@ -12,13 +11,11 @@ use Rattle.csq_audit.specs.Removes.{removed_by, unremoved_verdict}
 use Rattle.csq_audit.specs.Uses.{JudgesUse, may_complete}
 use Rattle.csq_audit.specs.declared.remove.RemoveVerdict.{RemoveVerdict}
 use Rattle.csq_audit.specs.declared.remove.RemoveVerdict.TheVariants as removal
-use Rattle.csq_audit.specs.declared.uses.UseVerdict.{UseVerdict}
-use Rattle.csq_audit.specs.declared.uses.UseVerdict.TheVariants.{Agrees, Listed, NotHeld, GotCancelled, NotFinal}
+use Rattle.csq_audit.specs.declared.uses.UseVerdict.{UseVerdict, TheVariants.{Agrees, Listed, NotHeld, GotCancelled, NotFinal}}
 use Rattle.csq_c.specs.Bodies.{QueueBodyState}
 use Rattle.csq_c.specs.Exports.{OnQueue}
 use Rattle.csq_c.specs.Looks.{OnOpen}
-use Rattle.csq_c.specs.declared.codes.Code.{Code}
-use Rattle.csq_c.specs.declared.codes.Code.TheVariants.{Done}
+use Rattle.csq_c.specs.declared.codes.Code.{Code, TheVariants.{Done}}
 
 -- an open queue's verdict of a completion of i with this status, made where it agrees, as it does just where the pass may complete i so
 abbrev pub JudgesCompletionOf : IrpLife → NtStatus → QueueBodyState → CheckedPassState → CheckedPassState → Code → Option UseVerdict → Type 0

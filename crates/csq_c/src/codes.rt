@@ -64,7 +64,7 @@ fn refusal(cause: InsertStatus) -> Code
     }
 }
 
-/// What an insert answered, and the IRP that it told of.
+/// What an insert answered, and the IRP that it stored.
 pub(crate) fn of_insert(answer: Result<OpenInserted, InsertStatus>) -> (Code, Option<IrpLife>)
     ensures { result ≡ (insert_code answer, inserted_irp answer) }
 {
@@ -75,7 +75,7 @@ pub(crate) fn of_insert(answer: Result<OpenInserted, InsertStatus>) -> (Code, Op
     }
 }
 
-/// What a put-back returned, and the IRP that it told of.
+/// What a put-back returned, and the IRP that it stored.
 pub(crate) fn of_put_back(answer: Result<OpenInserted, PutBackRefused>) -> (Code, Option<IrpLife>)
     ensures { result ≡ (put_back_code answer, put_back_irp answer) }
 {
@@ -119,7 +119,7 @@ pub(crate) fn of_close_file(answer: Result<(), UnknownFile>) -> Code
     }
 }
 
-/// What a reuse answered, and the life that it told.
+/// What a reuse answered, and the life that it stored.
 pub(crate) fn of_reuse(answer: Result<Life, CheckedReuseRefused>) -> (Code, Option<u32>)
     ensures { result ≡ (reuse_code answer, life_stored answer) }
 {

@@ -1,4 +1,4 @@
-//! What is told of a closed queue.
+//! What a closed queue reports.
 ghost use Rattle.std.specs.Prelude.{◌≡◌, ℕ, Some, None, IfSome};
 ghost use Rattle.csq_c.specs.Codes.{number_of};
 ghost use Rattle.csq_c.specs.Exports.{IsQueueKept};

@@ -124,7 +124,7 @@ pub extern "C" fn csq_free_queue(alloc: Global, queue: &mut CsqQueue) -> u32
     Code::Done.number()
 }
 
-/// Closes a queue, of which `csq_read_listed` and `csq_read_left` then tell what is left: CSQ_OK,
+/// Closes a queue, of which `csq_read_listed` and `csq_read_left` then report what is left: CSQ_OK,
 /// else CSQ_EMPTY_HANDLE, CSQ_CLOSED, or CSQ_PASSES_OUT where a pass is out. Own rule.
 #[unsafe(no_mangle)]
 pub extern "C" fn csq_close(queue: &mut CsqQueue) -> u32

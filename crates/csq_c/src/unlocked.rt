@@ -1,12 +1,10 @@
 //! The calls of a pass that take no queue, and no lock. Before any other code each answers
 //! CSQ_EMPTY_HANDLE where the pass's handle is empty.
 ghost use Rattle.std.specs.Prelude.{◌≡◌, ℕ, Bool, Option, Result};
-ghost use Rattle.irp_core.specs.declared.ids.IrpLife.{IrpLife};
-ghost use Rattle.irp_core.specs.declared.ids.Life.{Life};
+ghost use Rattle.irp_core.specs.declared.ids.{IrpLife.{IrpLife}, Life.{Life}};
 ghost use Rattle.irp_core.specs.declared.status.NtStatus.{NtStatus as Status};
 ghost use Rattle.csq_queue.specs.Counts.{held_count, owed_count};
-ghost use Rattle.csq_queue.specs.declared.refusals.CancelRefused.{CancelRefused};
-ghost use Rattle.csq_queue.specs.declared.refusals.UnknownIrp.{UnknownIrp};
+ghost use Rattle.csq_queue.specs.declared.refusals.{CancelRefused.{CancelRefused}, UnknownIrp.{UnknownIrp}};
 ghost use Rattle.csq_queue.specs.Calls.{MarksCancel, ReadsFlag, ReadsStatus};
 ghost use Rattle.csq_checked.specs.Calls.{MakesOwnCall, CompletesRemoved, CompletesHeld};
 ghost use Rattle.csq_checked.specs.declared.unlocked.CompleteRefused.{CompleteRefused};

@@ -1,4 +1,4 @@
--- A pass's slots still tell what it holds and owes, after each of its calls.
+-- A pass's slots still record what it holds and owes, after each of its calls.
 use Rattle.std.proofs.Common.{◌≡◌, ℕ, ◌<◌, ◌==◌, Bool, true, false, true≢false, List, Option, Some, None, Ok, IfSome, refl, sym, ap, ◌∙◌, subst, eqb-true, eq-eqb}
 use Rattle.csq_checked.proofs.Imports.{slice_set, Size, number, IrpLife, Life, holds_in, owes_in, removed_in, held_list, owed_list, WordsState, QueueState, InsertAnswer, has_life, AreApart, OpenState, OpenPassState, IsQueueOn, IsPassOn, GivesOut, IsOfIrp, returns, Held, KnowsItsOwn, slot_at, with_held, held_after_back, IsCheckedPass}
 use Rattle.irp_core.specs.declared.status.NtStatus.{NtStatus}
@@ -30,14 +30,14 @@ module _ (words : WordsState) (pass : OpenPassState) (held : List (Option Held))
     pub slot_owes : slot_at owed (number i) ≡ Some i.life → Owes pass.pass i
     slot_owes e = owes_found words.size.irps pass.pass.steps held owed was.own i known e
 
-    -- what it holds and owes no two lives of, it holds and owes in the life that a slot tells alone
+    -- what it holds and owes no two lives of, it holds and owes in the life that a slot records alone
     pub slot_not_held : (some : ℕ) → AreApart some (held_list pass.pass.steps) → ((slot : Held) → slot_at held (number i) ≡ Some slot → slot.life ≡ i.life → ⊥) → holds_in pass.pass.steps i ≡ false
     slot_not_held some apart none = not_held words.size.irps pass.pass.steps held owed was.own i known some apart none
 
     pub slot_not_owed : (some : ℕ) → AreApart some (owed_list pass.pass.steps) → (slot_at owed (number i) ≡ Some i.life → ⊥) → owes_in pass.pass.steps i ≡ false
     slot_not_owed some apart none = not_owed words.size.irps pass.pass.steps held owed was.own i known some apart none
 
-    -- so a slot that is filled tells by its life whether i is owed
+    -- so a slot that is filled says by its life whether i is owed
     pub slot_owed_is : (some : ℕ) → AreApart some (owed_list pass.pass.steps) → (life : Life) → slot_at owed (number i) ≡ Some life → (life.0 == i.life.0) ≡ owes_in pass.pass.steps i
     slot_owed_is some apart life e = at (life.0 == i.life.0) refl
       where

@@ -1,4 +1,4 @@
--- The slots of a pass tell what it holds and owes, after each of its calls.
+-- The slots of a pass record what it holds and owes, after each of its calls.
 use Rattle.std.proofs.Common.{◌≡◌, ◌≢◌, ℕ, ◌<◌, ◌==◌, ◌||◌, ◌&&◌, cond, Bool, true, false, List, ◌∷◌, length, Option, Some, None, refl, sym, ap, ◌∙◌, subst, eq-eqb, ne_eqb}
 use Rattle.std.proofs.Math.ListN.{length-set}
 use Rattle.csq_checked.proofs.Imports.{false_from_ne_true, IfSome, slice_set, number, same_irp, IrpLife, Life, same_irp-refl, same_irp-eq, PassRecord, removed_in, held_list, owed_list, Limits, has_life, GivesOut, by_number, spent, Held, KnowsItsOwn, slot_at, held_at, owed_at, with_held}

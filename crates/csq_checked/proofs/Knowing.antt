@@ -1,4 +1,4 @@
--- What the slots of a pass tell, from one record of the pass to the next.
+-- What the slots of a pass record, from one record of the pass to the next.
 use Rattle.std.proofs.Common.{◌≡◌, ◌≢◌, ℕ, ◌<◌, ◌==◌, ◌||◌, not, cond, Bool, true, false, true≢false, List, [], ◌∷◌, length, Option, Some, None, refl, sym, ap, ◌∙◌, eqb-true, eq-eqb, ne_eqb}
 use Rattle.std.proofs.lemmas.List.{get_or-set_same, get_or-set_other}
 use Rattle.csq_checked.proofs.Imports.{false_from_ne_true, or_parts, slice_set, number, same_id, same_irp, IrpLife, Life, same_irp-refl, same_irp-eq, named, holds_in, owes_in, removed_in, held_list, owed_list, has_irp, has_life, AreApart, spent, Held, KnowsItsOwn, slot_at, held_at, owed_at}
@@ -13,7 +13,7 @@ module _ {T : Type 0} (slots : List (Option T)) (m : ℕ) (slot : Option T) (kno
   pub slot_kept : (n : ℕ) → n ≢ m → slot_at (slice_set slots m slot) n ≡ slot_at slots n
   slot_kept n ne = get_or-set_other slots m n slot None ne
 
--- of what isn't among these, nothing is told
+-- of what isn't among these, nothing is recorded
 pub held_none : (steps : List Made) (is : List IrpLife) (i : IrpLife) → has_life is i.irp ≡ false → held_at steps is (number i) ≡ None
 unfolding same_id
 held_none steps [] i h = refl
@@ -32,7 +32,7 @@ owed_none (j ∷ is) i h = at (number j == number i) refl h (owed_none is i)
     at true e h rest = absurd (true≢false h)
     at false e h rest = rest h
 
--- what is spent leaves what is told of the others
+-- what is spent leaves what is recorded of the others
 module _ (i : IrpLife) (n : ℕ) (ne : n ≢ number i) where
   other : (j : IrpLife) → same_irp i j ≡ true → (number j == n) ≡ false
   other j e = ne_eqb (number j) n (λ s. ne (sym s ∙ ap number (sym (same_irp-eq i j e))))
@@ -56,7 +56,7 @@ module _ (i : IrpLife) (n : ℕ) (ne : n ≢ number i) where
       at false e rest = ap (cond (number j == n) (Some j.life)) rest
       at true e rest = rest ∙ sym (ap (λ b. cond b (Some j.life) (owed_at is n)) (other j e))
 
--- what is told rests on which of these a removal got alone
+-- what is recorded rests on which of these a removal got alone
 pub held_same : (steps steps' : List Made) (is : List IrpLife) (n : ℕ) → ((j : IrpLife) → number j ≡ n → removed_in steps' j ≡ removed_in steps j) → held_at steps' is n ≡ held_at steps is n
 held_same steps steps' [] n same = refl
 held_same steps steps' (j ∷ is) n same = at (number j == n) refl (held_same steps steps' is n same)
@@ -70,7 +70,7 @@ or_second : (a b : Bool) → b ≡ true → (a || b) ≡ true
 or_second true b e = refl
 or_second false b e = e
 
--- an IRP that is told of is among these, and was got so
+-- an IRP that is recorded is among these, and was got so
 pub held_found : (steps : List Made) (is : List IrpLife) (i : IrpLife) (held : Held) → held_at steps is (number i) ≡ Some held → i.life ≡ held.life → (has_irp is i ≡ true) × (removed_in steps i ≡ held.removed)
 held_found steps [] i held e l = absurd (cc)
 held_found steps (j ∷ is) i held e l = at (number j == number i) refl e (held_found steps is i held)
@@ -113,7 +113,7 @@ no_life (k ∷ is) j i e h =
     let parts = or_parts (number k == number j) (has_life is j.irp) h in
     or_neither (same_irp k i) (has_irp is i) (unlike_number k i (ap (λ n. number k == n) (sym e) ∙ parts.0)) (no_life is j i e parts.1)
 
--- what isn't told of in its life isn't among these, where no two are lives of one IRP
+-- what isn't recorded in its life isn't among these, where no two are lives of one IRP
 pub held_absent : (irps : ℕ) (steps : List Made) (is : List IrpLife) (i : IrpLife) → AreApart irps is → ((held : Held) → held_at steps is (number i) ≡ Some held → held.life ≡ i.life → ⊥) → has_irp is i ≡ false
 held_absent irps steps [] i apart none = refl
 held_absent irps steps (j ∷ is) i apart none = at (number j == number i) refl none (held_absent irps steps is i apart.2)
@@ -135,7 +135,7 @@ owed_absent irps (j ∷ is) i apart none = at (number j == number i) refl none (
     at true same f rest = or_neither (same_irp j i) (has_irp is i) (unlike_life j i (λ (e : j.life ≡ i.life). f (ap (λ (l : Life). Some l) e))) (no_life is j i (eqb-true (number j) (number i) same) apart.1)
     at false unlike f rest = or_neither (same_irp j i) (has_irp is i) (unlike_number j i unlike) (rest f)
 
--- what a slot tells is so, and what it doesn't tell isn't, where no two are lives of one IRP
+-- what a slot records is so, and what it doesn't record isn't, where no two are lives of one IRP
 module _ (irps : ℕ) (steps : List Made) (held : List (Option Held)) (owed : List (Option Life)) (own : KnowsItsOwn irps steps held owed) (i : IrpLife) (known : number i < irps) where
   pub holds_found : (slot : Held) → slot_at held (number i) ≡ Some slot → i.life ≡ slot.life → (holds_in steps i ≡ true) × (removed_in steps i ≡ slot.removed)
   holds_found slot e life =

@@ -3,16 +3,11 @@ use Rattle.std.specs.Prelude.{◌≡◌, ◌<◌, ◌↔◌, true, List, Option,
 use Rattle.std.specs.Result.{result_err}
 use Rattle.irp_core.specs.Runs.{Size}
 use Rattle.irp_core.specs.Steps.{number}
-use Rattle.irp_core.specs.declared.ids.FileId.{FileId}
-use Rattle.irp_core.specs.declared.ids.IrpLife.{IrpLife}
-use Rattle.irp_core.specs.declared.ids.Life.{Life}
-use Rattle.irp_core.specs.declared.status.NtStatus.{NtStatus}
-use Rattle.irp_core.specs.declared.status.TheConstants.NtStatus.{CANCELLED}
+use Rattle.irp_core.specs.declared.ids.{FileId.{FileId}, IrpLife.{IrpLife}, Life.{Life}}
+use Rattle.irp_core.specs.declared.status.{NtStatus.{NtStatus}, TheConstants.NtStatus.{CANCELLED}}
 use Rattle.csq_list.specs.declared.entry.Place.{Place}
-use Rattle.csq_list.specs.declared.refusals.InsertStatus.{InsertStatus}
-use Rattle.csq_list.specs.declared.refusals.UnknownFile.{UnknownFile}
-use Rattle.csq_words.specs.declared.views.HistoryEntry.{HistoryEntry}
-use Rattle.csq_words.specs.declared.views.PassRecord.{PassRecord}
+use Rattle.csq_list.specs.declared.refusals.{InsertStatus.{InsertStatus}, UnknownFile.{UnknownFile}}
+use Rattle.csq_words.specs.declared.views.{HistoryEntry.{HistoryEntry}, PassRecord.{PassRecord}}
 use Rattle.csq_words.specs.History.{end_of}
 use Rattle.csq_words.specs.Queue.{Limits, present_in}
 use Rattle.csq_queue.specs.declared.refusals.ReuseRefused.{ReuseRefused as QueueRefused}
@@ -21,12 +16,9 @@ use Rattle.csq_queue.specs.declared.tokens.InsertAnswer.{InsertAnswer}
 use Rattle.csq_queue.specs.Calls.{PutsBack, RunsRoutine, ClosesFile, Reuses, CompletesOne}
 use Rattle.csq_queue.specs.Opens.{OpenState, after_call}
 use Rattle.csq_queue.specs.Owned.{Holds, HoldsRemoved, Owes}
-use Rattle.csq_checked.specs.declared.calls.PutBackRefused.{PutBackRefused}
+use Rattle.csq_checked.specs.declared.calls.{PutBackRefused.{PutBackRefused}, CheckedReuseRefused.{CheckedReuseRefused, TheVariants.{UnknownIrp, Stale, NotCompleted, LivesSpent}}}
 use Rattle.csq_checked.specs.declared.calls.PutBackRefused.TheVariants as back
-use Rattle.csq_checked.specs.declared.calls.CheckedReuseRefused.{CheckedReuseRefused}
-use Rattle.csq_checked.specs.declared.calls.CheckedReuseRefused.TheVariants.{UnknownIrp, Stale, NotCompleted, LivesSpent}
-use Rattle.csq_checked.specs.declared.unlocked.CompleteRefused.{CompleteRefused}
-use Rattle.csq_checked.specs.declared.unlocked.RoutineRefused.{RoutineRefused}
+use Rattle.csq_checked.specs.declared.unlocked.{CompleteRefused.{CompleteRefused}, RoutineRefused.{RoutineRefused}}
 use Rattle.csq_checked.specs.Causes.{complete_cause, cancelled_cause, put_back_cause, is_of_place, routine_cause}
 use Rattle.csq_checked.specs.Passes.{CheckedPassState, CheckedState}
 

@@ -2,17 +2,14 @@
 use Rattle.std.specs.Prelude.{ℕ, ◌==◌, nat_lt, if◌then◌else◌, Bool, true, false, List, Option, Some, None}
 use Rattle.irp_core.specs.Steps.{number}
 use Rattle.irp_core.specs.declared.ids.IrpLife.{IrpLife}
-use Rattle.irp_core.specs.declared.status.NtStatus.{NtStatus}
-use Rattle.irp_core.specs.declared.status.TheConstants.NtStatus.{PENDING}
+use Rattle.irp_core.specs.declared.status.{NtStatus.{NtStatus}, TheConstants.NtStatus.{PENDING}}
 use Rattle.irp_core.specs.declared.step.Made.{Made}
 use Rattle.irp_core.specs.Own.{holds_in, owes_in, removed_in}
 use Rattle.csq_list.specs.declared.refusals.InsertStatus.{InsertStatus}
 use Rattle.csq_list.specs.declared.refusals.InsertStatus.TheVariants as insert
 use Rattle.csq_checked.specs.declared.calls.PutBackRefused.{PutBackRefused}
 use Rattle.csq_checked.specs.declared.calls.PutBackRefused.TheVariants as back
-use Rattle.csq_checked.specs.declared.unlocked.CompleteRefused.{CompleteRefused}
-use Rattle.csq_checked.specs.declared.unlocked.CompleteRefused.TheVariants.{UnknownIrp, NotHeld, NotRemoved, NotFinal}
-use Rattle.csq_checked.specs.declared.unlocked.RoutineRefused.{RoutineRefused}
+use Rattle.csq_checked.specs.declared.unlocked.{CompleteRefused.{CompleteRefused, TheVariants.{UnknownIrp, NotHeld, NotRemoved, NotFinal}}, RoutineRefused.{RoutineRefused}}
 use Rattle.csq_checked.specs.declared.unlocked.RoutineRefused.TheVariants as routine
 
 -- why an IRP that a removal got, or not, isn't completed with this status

@@ -1,7 +1,6 @@
 -- How idle passes are kept.
 use Rattle.csq_queue.specs.Opens.{OpenPassState}
-use Rattle.csq_checked.specs.declared.idle.IdleForm.{IdleForm}
-use Rattle.csq_checked.specs.declared.idle.IdleForm.TheVariants.{Boxed, Bare}
+use Rattle.csq_checked.specs.declared.idle.IdleForm.{IdleForm, TheVariants.{Boxed, Bare}}
 use Rattle.csq_checked.specs.Passes.{open_state}
 
 -- the pass that is kept so

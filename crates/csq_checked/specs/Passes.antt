@@ -20,7 +20,7 @@ pub record CheckedPassState : Type 0 where
 abbrev pub open_state : CheckedPassState → OpenPassState
 open_state p = record { table = p.words.table; irps = p.words.size.irps; passes = p.words.size.passes; pass = p.pass }
 
--- the pass is of these words, and the slots tell what it holds and owes
+-- the pass is of these words, and the slots record what it holds and owes
 pub record IsCheckedPass (words : WordsState) (pass : OpenPassState) (held : List (Option Held)) (owed : List (Option Life)) : Type 0 where
   pub on : IsPassOn words pass
   pub own : KnowsItsOwn words.size.irps pass.pass.steps held owed

@@ -1,12 +1,10 @@
 -- What a pass knows of the IRPs that it holds and owes.
 use Rattle.std.specs.Prelude.{◌≡◌, ℕ, ◌<◌, ◌==◌, if◌then◌else◌, false, List, [], ◌∷◌, length, Bool, Option, Some, None, slice_index_or, slice_set}
 use Rattle.irp_core.specs.Steps.{number}
-use Rattle.irp_core.specs.declared.ids.IrpLife.{IrpLife}
-use Rattle.irp_core.specs.declared.ids.Life.{Life}
+use Rattle.irp_core.specs.declared.ids.{IrpLife.{IrpLife}, Life.{Life}}
 use Rattle.irp_core.specs.declared.step.Made.{Made}
 use Rattle.irp_core.specs.Own.{removed_in, held_list, owed_list}
-use Rattle.csq_queue.specs.declared.tokens.InsertAnswer.{InsertAnswer}
-use Rattle.csq_queue.specs.declared.tokens.InsertAnswer.TheVariants.{Pending, Cancelled}
+use Rattle.csq_queue.specs.declared.tokens.InsertAnswer.{InsertAnswer, TheVariants.{Pending, Cancelled}}
 use Rattle.csq_checked.specs.declared.slots.Held.{Held}
 
 -- the slot of IRP n, which is empty where there is none
@@ -23,7 +21,7 @@ abbrev pub owed_at : List IrpLife → ℕ → Option Life
 owed_at [] n = None
 owed_at (i ∷ is) n = if number i == n then Some i.life else owed_at is n
 
--- of each of so many IRPs the slots tell how the pass with these steps holds it, and whether it owes it
+-- of each of so many IRPs the slots record how the pass with these steps holds it, and whether it owes it
 pub record KnowsItsOwn (irps : ℕ) (steps : List Made) (held : List (Option Held)) (owed : List (Option Life)) : Type 0 where
   pub held_for : length held ≡ irps
   pub owed_for : length owed ≡ irps

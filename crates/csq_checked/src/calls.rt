@@ -40,7 +40,7 @@ pub enum CheckedReuseRefused {
 }
 
 impl CheckedQueue {
-    /// Inserts an IRP for a file object, last or first, or tells the first cause why not, as `Csq::insert`
+    /// Inserts an IRP for a file object, last or first, or returns the first cause why not, as `Csq::insert`
     /// does. The pass holds an IRP that was found cancelled.
     pub fn insert(
         &mut self,

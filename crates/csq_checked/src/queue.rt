@@ -275,7 +275,7 @@ impl CheckedQueue {
         self.idle.put(at, IdlePass::of(pass));
     }
 
-    /// Ends the queue once all passes that were handed out are back, and tells what is left. The queue comes
+    /// Ends the queue once all passes that were handed out are back, and reports what is left. The queue comes
     /// back where one isn't.
     pub fn close(self) -> Result<Rest<AnyList>, CheckedQueue>
         ensures rest { IfOk result (λ rest. IsClosed self.queue.limits

@@ -2,9 +2,7 @@
 use Rattle.std.specs.Prelude.{◌≡◌, ℕ, suc, ◌+◌, ◌*◌, ◌<◌, ◌≤◌, ◌^◌, min, nat_lt, List, [], ◌∷◌, map}
 use Rattle.csq_queue.specs.Counts.{tally}
 use Rattle.csq_device.specs.declared.plan.Plan.{Plan}
-use Rattle.csq_device.specs.declared.roles.Role.{Role}
-use Rattle.csq_device.specs.declared.roles.Role.TheVariants.{Submitter, Worker, Canceller, BusyWorker}
-use Rattle.csq_device.specs.declared.roles.Duty.{Duty}
+use Rattle.csq_device.specs.declared.roles.{Role.{Role, TheVariants.{Submitter, Worker, Canceller, BusyWorker}}, Duty.{Duty}}
 use Rattle.csq_device.specs.declared.calls.CallCounts.{CallCounts}
 use Rattle.csq_device.specs.declared.kinds.CallsByKind.{CallsByKind}
 

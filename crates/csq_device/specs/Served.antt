@@ -3,11 +3,7 @@ use Rattle.std.specs.Prelude.{◌≡◌, ℕ, suc, ◌+◌, Bool, true, false, L
 use Rattle.std.specs.List.{list_any}
 use mathlib.Core.Option.{some}
 use lib.ListN.{get_elem?}
-use Rattle.csq_words.specs.declared.views.HistoryEntry.{HistoryEntry}
-use Rattle.csq_words.specs.declared.views.Event.{Event}
-use Rattle.csq_words.specs.declared.views.Event.TheVariants.{Reuse}
-use Rattle.csq_words.specs.declared.views.PassRecord.{PassRecord}
-use Rattle.csq_words.specs.declared.views.QueueRecord.{QueueRecord}
+use Rattle.csq_words.specs.declared.views.{HistoryEntry.{HistoryEntry}, Event.{Event, TheVariants.{Reuse}}, PassRecord.{PassRecord}, QueueRecord.{QueueRecord}}
 use Rattle.csq_words.specs.Rule.{HasBack}
 use Rattle.csq_words.specs.Queue.{Limits}
 use Rattle.csq_queue.specs.Named.{pass_numbered}

@@ -1,9 +1,7 @@
 -- What a list of either kind means.
 use Rattle.std.specs.Prelude.{Bool, true, false}
 use Rattle.csq_list.specs.Listing.{Listing, IsSound}
-use Rattle.csq_list.specs.declared.any_list.AnyList.{AnyList}
-use Rattle.csq_list.specs.declared.any_list.AnyList.TheVariants.{Vector, Chains}
-use Rattle.csq_list.specs.declared.any_list.ListKind.{ListKind}
+use Rattle.csq_list.specs.declared.any_list.{AnyList.{AnyList, TheVariants.{Vector, Chains}}, ListKind.{ListKind}}
 use Rattle.csq_list.specs.declared.any_list.ListKind.TheVariants as kinds
 use Rattle.csq_list.specs.declared.vec_list.VecList.{VecList}
 use Rattle.csq_list.specs.declared.chain_list.ChainList.{ChainList}

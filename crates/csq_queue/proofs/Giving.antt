@@ -1,4 +1,4 @@
--- What a call gave out: its steps tell.
+-- What a call gave out, by its steps.
 use Rattle.std.proofs.Common.{◌≡◌, ℕ, ◌<◌, not, ◌&&◌, ◌||◌, cond, Bool, true, false, true≢false, List, [], ◌∷◌, ◌++◌, Option, Some, None, Result, Ok, Err, IfSome, refl, sym, ap, ◌∙◌, subst}
 use Rattle.csq_queue.proofs.Imports.{number, same_irp, IrpLife, flagged, IrpId, Life, PassId, Nothing, Removing, Kind, Arm, Test, Disarm, End, Made, same_some, Peek, InsertStatus, Event, PassRecord, inside_of, owes_in, holds_in, removed_in, held_list, owed_list, QueueState, Limits, has_entry, has_marked, with_step, with_calls, is_done, InsertAnswer, has_life, given_in, made_by, MakesSteps, gave, misses, last_step, passed_over, insert_steps, remove_next_steps, remove_steps, reuse_steps, IsNew}
 use Rattle.irp_core.specs.Inside.{follows, in_insert, after_disarm}

@@ -1,4 +1,4 @@
--- What is left of a queue that was closed tells the story of each IRP, and what the passes have seen.
+-- What is left of a queue that was closed gives the story of each IRP, and what the passes have seen.
 use Rattle.std.proofs.Common.{◌≡◌, ℕ, zero, suc, List, ◌∷◌, ap, ◌∙◌, sym, subst}
 use Rattle.csq_queue.proofs.Imports.{some, some-injective, get_elem?, IrpLife, Nothing, HasBegun, Listing, HistoryEntry, PassRecord, QueueRecord, Limits, HasBack, FinalWords, AllBack, IsFinal, queue_size, IsRestOf, IsClosed}
 use Rattle.csq_words.specs.Stories.{Story, StaysHaveStories, SeeOneHistory}

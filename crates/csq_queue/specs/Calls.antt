@@ -4,34 +4,21 @@ use Rattle.std.specs.Option.{is_some}
 use Rattle.irp_core.specs.Runs.{Size}
 use Rattle.irp_core.specs.Steps.{life_of}
 use Rattle.irp_core.specs.Words.{flagged}
-use Rattle.irp_core.specs.declared.ids.FileId.{FileId}
-use Rattle.irp_core.specs.declared.ids.IrpId.{IrpId}
-use Rattle.irp_core.specs.declared.ids.IrpLife.{IrpLife}
-use Rattle.irp_core.specs.declared.ids.Life.{Life}
+use Rattle.irp_core.specs.declared.ids.{FileId.{FileId}, IrpId.{IrpId}, IrpLife.{IrpLife}, Life.{Life}}
 use Rattle.irp_core.specs.declared.status.NtStatus.{NtStatus}
-use Rattle.irp_core.specs.declared.step.Kind.TheVariants.{Flag, Take, Done}
-use Rattle.irp_core.specs.declared.step.Kind.TheVariants.{Out as StepOut}
-use Rattle.csq_list.specs.declared.entry.Peek.{Peek}
-use Rattle.csq_list.specs.declared.entry.Place.{Place}
-use Rattle.csq_list.specs.declared.refusals.InsertStatus.{InsertStatus}
-use Rattle.csq_list.specs.declared.refusals.UnknownFile.{UnknownFile}
-use Rattle.csq_words.specs.declared.views.HistoryEntry.{HistoryEntry}
-use Rattle.csq_words.specs.declared.views.Event.{Event}
-use Rattle.csq_words.specs.declared.views.Event.TheVariants.{CloseFile, Insert, RemoveNext, Remove, Out, PutBack}
-use Rattle.csq_words.specs.declared.views.InsertReply.TheVariants.{Refused}
-use Rattle.csq_words.specs.declared.views.PassRecord.{PassRecord}
+use Rattle.irp_core.specs.declared.step.Kind.TheVariants.{Flag, Take, Done, Out as StepOut}
+use Rattle.csq_list.specs.declared.entry.{Peek.{Peek}, Place.{Place}}
+use Rattle.csq_list.specs.declared.refusals.{InsertStatus.{InsertStatus}, UnknownFile.{UnknownFile}}
+use Rattle.csq_words.specs.declared.views.{HistoryEntry.{HistoryEntry}, Event.{Event, TheVariants.{CloseFile, Insert, RemoveNext, Remove, Out, PutBack}}, InsertReply.TheVariants.{Refused}, PassRecord.{PassRecord}, Prefix.{Prefix}}
 use Rattle.csq_words.specs.Calls.{due_mark}
 use Rattle.csq_words.specs.History.{end_of}
 use Rattle.irp_core.specs.Own.{owes_in, holds_in, removed_in, held_list, owed_list}
 use Rattle.csq_words.specs.Plays.{IsFlagOf, IsStatusOf, flag_read, status_read, shows_flagged, status_recorded}
 use Rattle.csq_words.specs.Queue.{Limits, present_in, refusal, back_refusal}
-use Rattle.csq_words.specs.declared.views.Prefix.{Prefix}
 use Rattle.csq_words.specs.Records.{saw, saw_prefix, prefix_of, with_step, with_completion}
 use Rattle.csq_words.specs.Rule.{FindsUnset, SeesPrefix}
-use Rattle.csq_queue.specs.declared.refusals.CancelRefused.{CancelRefused}
-use Rattle.csq_queue.specs.declared.refusals.ReuseRefused.{ReuseRefused}
+use Rattle.csq_queue.specs.declared.refusals.{CancelRefused.{CancelRefused}, ReuseRefused.{ReuseRefused}, UnknownIrp.{UnknownIrp}}
 use Rattle.csq_queue.specs.declared.refusals.ReuseRefused.TheVariants as reuse
-use Rattle.csq_queue.specs.declared.refusals.UnknownIrp.{UnknownIrp}
 use Rattle.csq_queue.specs.declared.tokens.InsertAnswer.{InsertAnswer}
 use Rattle.csq_queue.specs.Counts.{has_life}
 use Rattle.csq_queue.specs.Inserts.{IsInsert, IsPutBack, given_by, given_in}

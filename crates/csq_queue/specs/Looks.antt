@@ -1,9 +1,7 @@
 -- What an open queue shows without a pass.
 use Rattle.std.specs.Prelude.{◌≡◌, ◌↔◌, ℕ, nat_lt, length, if◌then◌else◌, Option, Some, None, Result, IsOk, IfOk}
 use Rattle.std.specs.Option.{option_map}
-use Rattle.irp_core.specs.declared.ids.FileId.{FileId}
-use Rattle.irp_core.specs.declared.ids.IrpId.{IrpId}
-use Rattle.irp_core.specs.declared.ids.IrpLife.{IrpLife}
+use Rattle.irp_core.specs.declared.ids.{FileId.{FileId}, IrpId.{IrpId}, IrpLife.{IrpLife}}
 use Rattle.csq_list.specs.declared.entry.Peek.{Peek}
 use Rattle.csq_list.specs.Listing.{Listing, file_len}
 use Rattle.csq_list.specs.Searches.{first_match, rest_after, IsStartIn}

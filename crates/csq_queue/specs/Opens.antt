@@ -2,8 +2,7 @@
 use Rattle.std.specs.Prelude.{◌≡◌, ℕ, ◌+◌, ◌<◌, ◌≤◌, List, [], ◌∷◌, Option, Some, None}
 use Rattle.atomic_table.specs.Seated.{TableId}
 use Rattle.csq_list.specs.Listing.{Listing}
-use Rattle.csq_words.specs.declared.views.PassRecord.{PassRecord}
-use Rattle.csq_words.specs.declared.views.QueueRecord.{QueueRecord}
+use Rattle.csq_words.specs.declared.views.{PassRecord.{PassRecord}, QueueRecord.{QueueRecord}}
 use Rattle.csq_words.specs.Queue.{Limits}
 use Rattle.csq_words.specs.Seats.{WordsState, PassSeatState, new_seats}
 use Rattle.csq_queue.specs.Named.{no_table, queue_size}

@@ -6,10 +6,7 @@ use Rattle.irp_core.specs.Programs.{Act}
 use Rattle.irp_core.specs.Steps.{own}
 use Rattle.irp_core.specs.declared.step.Made.{Made}
 use Rattle.csq_list.specs.Listing.{Listing}
-use Rattle.csq_words.specs.declared.views.HistoryEntry.{HistoryEntry}
-use Rattle.csq_words.specs.declared.views.Event.{Event}
-use Rattle.csq_words.specs.declared.views.PassRecord.{PassRecord}
-use Rattle.csq_words.specs.declared.views.QueueRecord.{QueueRecord}
+use Rattle.csq_words.specs.declared.views.{HistoryEntry.{HistoryEntry}, Event.{Event}, PassRecord.{PassRecord}, QueueRecord.{QueueRecord}}
 use Rattle.csq_words.specs.Queue.{Limits}
 use Rattle.csq_words.specs.History.{IsExtendedBy, calls_of}
 use Rattle.csq_words.specs.Records.{entries_of}

@@ -1,15 +1,10 @@
 -- The steps that each call makes, the newest first.
 use Rattle.std.specs.Prelude.{◌≡◌, ◌-◌, Bool, false, List, [], ◌∷◌, ◌++◌, map, Option, Some, None, Result, Ok, Err, if◌then◌else◌}
 use Rattle.irp_core.specs.Steps.{same_irp}
-use Rattle.irp_core.specs.declared.ids.IrpLife.{IrpLife}
+use Rattle.irp_core.specs.declared.ids.{IrpLife.{IrpLife}, IrpId.{IrpId}, Life.{Life}, PassId.{PassId}}
 use Rattle.irp_core.specs.Programs.{Act}
-use Rattle.irp_core.specs.declared.ids.IrpId.{IrpId}
-use Rattle.irp_core.specs.declared.ids.Life.{Life}
-use Rattle.irp_core.specs.declared.ids.PassId.{PassId}
 use Rattle.irp_core.specs.declared.inside.Inside.TheVariants.{Nothing}
-use Rattle.irp_core.specs.declared.step.Kind.TheVariants.{Arm, Test, Disarm, End, Renew, Rearm}
-use Rattle.irp_core.specs.declared.step.Kind.{Kind}
-use Rattle.irp_core.specs.declared.step.Made.{Made}
+use Rattle.irp_core.specs.declared.step.{Kind.{TheVariants.{Arm, Test, Disarm, End, Renew, Rearm}, Kind}, Made.{Made}}
 use Rattle.csq_list.specs.declared.entry.Peek.{Peek}
 use Rattle.csq_list.specs.declared.refusals.InsertStatus.{InsertStatus}
 use Rattle.csq_list.specs.Searches.{matches}
@@ -17,8 +12,7 @@ use Rattle.csq_words.specs.declared.views.PassRecord.{PassRecord}
 use Rattle.irp_core.specs.Own.{inside_of}
 use Rattle.csq_words.specs.Queue.{Queued, QueueState, has_entry, has_marked}
 use Rattle.csq_queue.specs.declared.refusals.ReuseRefused.{ReuseRefused}
-use Rattle.csq_queue.specs.declared.tokens.InsertAnswer.{InsertAnswer}
-use Rattle.csq_queue.specs.declared.tokens.InsertAnswer.TheVariants.{Pending, Cancelled}
+use Rattle.csq_queue.specs.declared.tokens.InsertAnswer.{InsertAnswer, TheVariants.{Pending, Cancelled}}
 
 -- these steps, made by p
 abbrev pub made_by : PassId → List Act → List Made

@@ -11,7 +11,7 @@ use csq_words::{Receipt, Words};
 use std::alloc::Allocator;
 use std::marker::{Model, PhantomData};
 
-/// The receipt of a pass of the queue N that was given back. It tells nothing at run time. A contract
+/// The receipt of a pass of the queue N that was given back. It holds nothing at run time. A contract
 /// sees the record that the pass had. Own rule.
 #[derive(Drop)]
 pub struct Back<N: QueueName> {

@@ -12,7 +12,7 @@ pub fn each_irp_seen_is_given_once()
 {}
 
 /// Where `Csq::close` or `Csq::close_with` answers `Ok`, the history of all calls and the execution of all
-/// passes, which are left, tell one story of each IRP in each life that has begun. It was never inserted. Or
+/// passes, which are left, give one story of each IRP in each life that has begun. It was never inserted. Or
 /// one pass inserted it, and it is listed. Or one pass inserted it, and one pass was given it, by a removal, by
 /// a cancel or by its own insert: that pass made the one exchange that took its routine and the one completion,
 /// with the status that it recorded. In the present life that is the status that is left. If the IRP was put

@@ -1,4 +1,4 @@
--- What follows from what the rule tells of the two records.
+-- What follows from what the rule says of the two records.
 use Rattle.std.proofs.Common.{◌≡◌, true, false, not, ◌&&◌, List, ◌∷◌, sym, ap, ◌∙◌, subst}
 use Rattle.csq_words.proofs.Imports.{IrpId, Life, was_armed, listed, Made, Size, Reuse, HistoryEntry, PassRecord, QueueRecord, inside_of, present_in, has_entry, has_irp, end_of, inserts, lists, AreTrueOf, RecordsAgree}
 use Rattle.irp_core.specs.declared.inside.Inside.TheVariants.{Nothing}

@@ -1,4 +1,4 @@
--- The queue's seat observes the execution: this keeps the rule, which tells of the records then.
+-- The queue's seat observes the execution: this keeps the rule, which says of the records then.
 use Rattle.std.proofs.Common.{◌≡◌, ℕ, false, List, [], Some, None, refl, sym, subst, set}
 use Rattle.csq_words.proofs.Imports.{set-get_or, none, Allows, step, keeps, set_here, has_lock, PassId, Made, Size, PassRecord, QueueRecord, View, view_of, with_run, inside_of, in_flight, IsOut, WordsAgree, Fits, RuleHoldsBy, RuleHolds, QueueHasRun, SeatView, Observes, ObservesQueue, ObservesBoth}
 use Rattle.irp_core.specs.declared.inside.Inside.TheVariants as inner
@@ -59,7 +59,7 @@ alone_kept size words views run id q seat k =
     outside' : {p : PassId} → IsOut (with_run run q) p → IsOut q p
     outside' o = record { from = o.from; to = o.to; not_back = o.not_back }
 
--- what the rule tells of the record then, where no insert is in flight
+-- what the rule says of the record then, where no insert is in flight
 agreed_of : (size : Size) (words : List ℕ) (q : QueueRecord) → WordsAgree size words q.run q inner.Nothing → QueueHasRun size q
 agreed_of size words q a = record { history_is = a.history_is; callers = λ p s. (a.nobody p (nobody_in q.made size.passes p a.few s)).1; backs = are_back size words q.run q inner.Nothing a; shown = a.shown }
 

@@ -7,7 +7,7 @@ use Rattle.csq_words.proofs.Named.{by_pass}
 use Rattle.csq_words.proofs.Indexes.{at_below, at_once}
 use Rattle.csq_words.proofs.Keeping.{none_is, all_set, all_push, present_else, present_more, apart, apart_from}
 
--- a prefix that the seat's view tells of is cut off
+-- a prefix that the seat's view has is cut off
 cuts_seen : (size : Size) (id : ℕ) (v : View) (s : Prefix)
     → ((words : List ℕ) (run : List Made) (q : QueueRecord) (queue_at : ℕ) (seat : PassId → ℕ) (flight : Inside) → WordsAgree size words run q flight → Fits words run q queue_at seat id v → IsPrefixOf run q.history s)
     → Splits (RuleHolds size) id v v (prefix_view s)

@@ -3,23 +3,14 @@ use Rattle.std.specs.Prelude.{◌≡◌, ℕ, zero, suc, ◌+◌, Bool, true, fa
 use Rattle.irp_core.specs.Steps.{life_of}
 use Rattle.irp_core.specs.Inside.{inside, has_lock}
 use Rattle.irp_core.specs.Lock.{needs_lock}
-use Rattle.irp_core.specs.declared.ids.IrpLife.{IrpLife}
-use Rattle.irp_core.specs.declared.ids.PassId.{PassId}
-use Rattle.irp_core.specs.declared.step.Made.{Made}
-use Rattle.irp_core.specs.declared.step.Kind.{Kind}
-use Rattle.irp_core.specs.declared.step.Kind.TheVariants.{Arm, Test, Disarm, End, Renew, Rearm}
+use Rattle.irp_core.specs.declared.ids.{IrpLife.{IrpLife}, PassId.{PassId}}
+use Rattle.irp_core.specs.declared.step.{Made.{Made}, Kind.{Kind, TheVariants.{Arm, Test, Disarm, End, Renew, Rearm}}}
 use Rattle.irp_core.specs.declared.step.Kind.TheVariants as step
-use Rattle.csq_words.specs.declared.calls.Call.{Call}
-use Rattle.csq_words.specs.declared.calls.Call.TheVariants.{Insert, RemoveNext, Remove, CancelRoutine, CloseFile, Reuse, PutBack}
-use Rattle.csq_words.specs.declared.calls.Note.{Note}
-use Rattle.csq_words.specs.declared.calls.Note.TheVariants.{Refused}
+use Rattle.csq_words.specs.declared.calls.{Call.{Call, TheVariants.{Insert, RemoveNext, Remove, CancelRoutine, CloseFile, Reuse, PutBack}}, Note.{Note, TheVariants.{Refused}}}
 use Rattle.csq_words.specs.declared.calls.Note.TheVariants as note
-use Rattle.csq_words.specs.declared.views.InsertReply.TheVariants.{Pending, Cancelled}
+use Rattle.csq_words.specs.declared.views.{InsertReply.TheVariants.{Pending, Cancelled}, Event.{Event, TheVariants.{FlagSeen, Mark, Out}}, HistoryEntry.{HistoryEntry}}
 use Rattle.csq_words.specs.declared.views.InsertReply.TheVariants as reply
-use Rattle.csq_words.specs.declared.views.Event.{Event}
-use Rattle.csq_words.specs.declared.views.Event.TheVariants.{FlagSeen, Mark, Out}
 use Rattle.csq_words.specs.declared.views.Event.TheVariants as event
-use Rattle.csq_words.specs.declared.views.HistoryEntry.{HistoryEntry}
 use Rattle.csq_words.specs.Queue.{QueueState, present_in, has_unmarked}
 use Rattle.csq_words.specs.History.{end_of}
 use Rattle.csq_words.specs.Records.{entries_of}

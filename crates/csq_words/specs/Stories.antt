@@ -3,22 +3,15 @@ use Rattle.std.specs.Prelude.{◌≡◌, ◌≤◌, ◌⊎◌, ℕ, Bool, true, 
 use mathlib.Core.Option.{some}
 use lib.ListN.{get_elem?}
 use Rattle.irp_core.specs.Steps.{same_irp, own}
-use Rattle.irp_core.specs.declared.ids.IrpLife.{IrpLife}
+use Rattle.irp_core.specs.declared.ids.{IrpLife.{IrpLife}, PassId.{PassId}}
 use Rattle.irp_core.specs.Words.{flagged}
 use Rattle.irp_core.specs.Owners.{claims, dones}
 use Rattle.irp_core.specs.Lives.{IsPresent, HasBegun}
 use Rattle.irp_core.specs.Runs.{Size}
-use Rattle.irp_core.specs.declared.ids.PassId.{PassId}
-use Rattle.irp_core.specs.declared.status.NtStatus.{NtStatus}
-use Rattle.irp_core.specs.declared.status.TheConstants.NtStatus.{CANCELLED}
+use Rattle.irp_core.specs.declared.status.{NtStatus.{NtStatus}, TheConstants.NtStatus.{CANCELLED}}
 use Rattle.irp_core.specs.declared.step.Made.{Made}
 use Rattle.irp_core.specs.declared.inside.Inside.{Inside}
-use Rattle.csq_words.specs.declared.views.InsertReply.TheVariants.{Pending, Cancelled}
-use Rattle.csq_words.specs.declared.views.Event.{Event}
-use Rattle.csq_words.specs.declared.views.Event.TheVariants.{Insert, PutBack}
-use Rattle.csq_words.specs.declared.views.HistoryEntry.{HistoryEntry}
-use Rattle.csq_words.specs.declared.views.PassRecord.{PassRecord}
-use Rattle.csq_words.specs.declared.views.QueueRecord.{QueueRecord}
+use Rattle.csq_words.specs.declared.views.{InsertReply.TheVariants.{Pending, Cancelled}, Event.{Event, TheVariants.{Insert, PutBack}}, HistoryEntry.{HistoryEntry}, PassRecord.{PassRecord}, QueueRecord.{QueueRecord}}
 use Rattle.csq_words.specs.Queue.{QueueState, present_in, has_entry}
 use Rattle.csq_words.specs.History.{end_of, puts_back, given_to, calls_of, IsExtendedBy}
 use Rattle.csq_words.specs.Records.{queue_of}

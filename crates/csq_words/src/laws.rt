@@ -51,7 +51,7 @@ pub fn joined_passes_see_one_history()
     ensures { JoinedPassesSeeOneHistory }
 {}
 
-/// So have all passes that are back, by what the rule tells of the queue's record.
+/// So have all passes that are back, by what the rule says of the queue's record.
 pub fn passes_back_see_one_history()
     ensures { PassesBackSeeOneHistory }
 {}

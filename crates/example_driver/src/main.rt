@@ -161,7 +161,7 @@ fn finish<N: QueueName>(
     if queue.cleanup(rt, pass, WRITES).is_err() {
         return Err("no such file object");
     }
-    // Left on purpose, to show what a closed queue tells: a driver cleans each file object up before that.
+    // Left on purpose, to show what a closed queue reports: a driver cleans each file object up before that.
     if queue_one(rt, queue, pass, LATE, READS).is_err() {
         return Err("a request was refused");
     }
@@ -235,7 +235,7 @@ fn report(rest: &Rest<VecList>) -> (u32, Option<IrpId>) {
     (completed, rest.next_listed(None))
 }
 
-/// Closes the queue with the pass that is out, and tells what is left of it.
+/// Closes the queue with the pass that is out, and reports what is left of it.
 fn close<N: QueueName>(
     queue: Csq<VecList, N>,
     last: Option<Runner<N>>,
@@ -248,7 +248,7 @@ fn close<N: QueueName>(
     }
 }
 
-/// Ends the device, and tells what is left of its queue.
+/// Ends the device, and reports what is left of its queue.
 fn end<N: QueueName>(rt: &impl Wait, device: DeviceExtension<N>) -> Option<(u32, Option<IrpId>)> {
     let DeviceExtension {
         queue,

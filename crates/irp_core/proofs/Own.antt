@@ -37,7 +37,7 @@ module _ (p : PassId) (m : Made) (E : List Made) (mine : m.pass ≡ p) where
 pub flagged_own : (p : PassId) (E : List Made) (i : IrpLife) → flagged (own p E) i ≡ true → flagged E i ≡ true
 flagged_own p E i h = any_filtered (is (Flag i)) (by p) E h
 
--- what a pass is inside of, owes and holds is told by its own steps
+-- what a pass is inside of, owes and holds follows from its own steps
 pub inside_of-own : (p : PassId) (E : List Made) → inside_of (own p E) ≡ inside E p
 inside_of-own p [] = refl
 inside_of-own p (m ∷ E) = go (by p m) (inside_of-own p E)

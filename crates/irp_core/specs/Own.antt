@@ -1,11 +1,8 @@
 -- What a pass's own steps, the newest first, say of it.
 use Rattle.std.specs.Prelude.{ℕ, ◌==◌, Bool, false, not, ◌&&◌, ◌||◌, List, [], ◌∷◌, filter, if◌then◌else◌}
 use Rattle.std.specs.List.{list_any}
-use Rattle.irp_core.specs.declared.step.Kind.{Kind}
-use Rattle.irp_core.specs.declared.step.Kind.TheVariants.{Disarm, Take, Out, Done, Renew, Rearm}
-use Rattle.irp_core.specs.declared.step.Made.{Made}
-use Rattle.irp_core.specs.declared.inside.Inside.{Inside}
-use Rattle.irp_core.specs.declared.inside.Inside.TheVariants.{Nothing}
+use Rattle.irp_core.specs.declared.step.{Kind.{Kind, TheVariants.{Disarm, Take, Out, Done, Renew, Rearm}}, Made.{Made}}
+use Rattle.irp_core.specs.declared.inside.Inside.{Inside, TheVariants.{Nothing}}
 use Rattle.irp_core.specs.Steps.{same_irp, is, found_one, since}
 use Rattle.irp_core.specs.declared.ids.IrpLife.{IrpLife}
 use Rattle.irp_core.specs.Inside.{inside_after, in_insert}

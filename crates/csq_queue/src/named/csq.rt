@@ -3,9 +3,7 @@ ghost use Rattle.std.specs.Prelude.{◌≡◌, ℕ, ◌+◌, ◌-◌, ◌<◌, �
 ghost use Rattle.irp_core.specs.declared.ids.IrpLife.{IrpLife};
 ghost use Rattle.irp_core.specs.declared.status.TheConstants.NtStatus.{CANCELLED};
 ghost use Rattle.irp_core.specs.declared.step.Kind.TheVariants.{Flag, Take, Done};
-ghost use Rattle.csq_words.specs.declared.views.HistoryEntry.{HistoryEntry};
-ghost use Rattle.csq_words.specs.declared.views.Event.TheVariants.{Out};
-ghost use Rattle.csq_words.specs.declared.views.PassRecord.{PassRecord};
+ghost use Rattle.csq_words.specs.declared.views.{HistoryEntry.{HistoryEntry}, Event.TheVariants.{Out}, PassRecord.{PassRecord}};
 ghost use Rattle.csq_words.specs.Calls.{due_mark};
 ghost use Rattle.csq_words.specs.History.{IsLegal, IsExtendedBy, calls_of, end_of};
 ghost use Rattle.csq_words.specs.Records.{saw, with_step, with_completion};
@@ -166,7 +164,7 @@ impl<L: PendingList + Drop, N: QueueName, A: Allocator> Csq<L, N, A> {
     /// Sets the Cancel flag of an IRP in the life named and takes its cancel routine, as `IoCancelIrp`
     /// does. Where the routine was there, the pass owes the IRP, and the answer is a claim. None where
     /// the IRP isn't listed, or some pass has its routine. `UnknownIrp` comes exactly for an unknown
-    /// IRP; `Stale` where the IRP is in another life, which it tells: nothing changed then. Takes no
+    /// IRP; `Stale` where the IRP is in another life, which it names: nothing changed then. Takes no
     /// lock.
     pub fn mark_cancel(
         &self,

@@ -1,4 +1,4 @@
-//! What an open queue shows without a pass. No look is noted in the history: it changes nothing, and tells
+//! What an open queue shows without a pass. No look is noted in the history: it changes nothing, and says
 //! what the calls before it left.
 ghost use Rattle.std.specs.Prelude.{◌≡◌, ◌↔◌, IsTrue};
 ghost use Rattle.csq_list.specs.Searches.{IsStartIn, is_distinct};

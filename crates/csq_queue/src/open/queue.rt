@@ -64,7 +64,7 @@ impl<L: PendingList + Drop, A: Allocator> Model for OpenQueue<L, A> {
 }
 
 impl<L: PendingList + Drop, A: Allocator> OpenQueue<L, A> {
-    /// Inserts an IRP for a file object, last or first, or tells the first cause why not, as `Csq::insert`
+    /// Inserts an IRP for a file object, last or first, or returns the first cause why not, as `Csq::insert`
     /// does.
     #[tactic(auto, using(crate::proofs::Spending::cancelled_holds))]
     pub fn insert(
@@ -311,7 +311,7 @@ impl<L: PendingList + Drop, A: Allocator> OpenQueue<L, A> {
         self.seat.show(words, receipt);
     }
 
-    /// Observes the execution, and tells what is known of the queue by its passes that are back and by this
+    /// Observes the execution, and returns what is known of the queue by its passes that are back and by this
     /// one, which stays as it is.
     pub(crate) fn observe(&mut self, words: &Words<A>, pass: &mut OpenPass)
         requires queue { IsQueueOn words.now self.old }

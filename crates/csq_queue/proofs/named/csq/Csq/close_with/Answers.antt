@@ -56,7 +56,7 @@ shut g c =
     subst (λ (z : Limits × ℕ). IsClosed z.0 (z.0.passes - z.1) c.give_back.new.self.queue (g.L.PendingList.listing c.close.result.list) c.close.result.finals)
     (λ k. (limits k, c.rack.view_is k)) c.close.ensures.rest
 
--- the closing pass, which was told of
+-- the closing pass, which was observed
 agreed_pass : (g : Over) (c : After-close g) → c.observe.new.pass.pass ≡ c.args.pass
 agreed_pass g c = ap (λ (p : OpenPassState). p.pass) c.observe.ensures.kept ∙ c.pass.view_is
 

@@ -27,7 +27,7 @@ adds g c events a =
     c.args.pass.now.pass (pass_record c.leave.new.pass) c.enter.new.self c.list_irp-inserted.new.seat (search rules)
     (subst (λ (z : OpenPassState). SomeRunAgrees c.args.words.now.size c.self.inside.seat.queue z.pass) c.pass.view_is c.enter.ensures.agreed) (search rules) c.leave.ensures.run (search rules) events (g.L.PendingList.listing c.list_irp-inserted.new.list) c.list_irp-inserted.new.kept a
 
--- what is told of an accepted insert, of the queue that it was made of
+-- what is promised of an accepted insert, of the queue that it was made of
 abbrev Accepted : (g : Over) (c : After-leave g) → QueueState → Type 0
 Accepted g c u = IfOk c.list_irp-inserted.result (λ inserted. (events : List Event) × IsInsert (present_in u c.args.irp) c.args.file c.args.place inserted events
     × Adds (limits_on c.args.words.now (g.L.PendingList.listing c.self.inside.list)) c.enter.new.self events (g.L.PendingList.listing c.list_irp-inserted.new.list) c.list_irp-inserted.new.kept c.list_irp-inserted.new.seat)
