@@ -47,10 +47,7 @@ impl QueueBox {
         ensures answer { result ≡ false ↔ self.old.body ≡ None }
         ensures same { self.new.body ≡ self.old.body }
     {
-        match self.lent() {
-            None => false,
-            Some(_) => true,
-        }
+        self.lent().is_some()
     }
 }
 
@@ -74,9 +71,6 @@ impl PassBox {
         ensures answer { result ≡ false ↔ self.old.body ≡ None }
         ensures same { self.new.body ≡ self.old.body }
     {
-        match self.lent() {
-            None => false,
-            Some(_) => true,
-        }
+        self.lent().is_some()
     }
 }
