@@ -47,7 +47,10 @@ impl QueueBox {
         ensures answer { result ≡ false ↔ self.old.body ≡ None }
         ensures same { self.new.body ≡ self.old.body }
     {
-        self.lent().is_some()
+        match self.lent() {
+            None => false,
+            Some(_) => true,
+        }
     }
 }
 
@@ -71,6 +74,9 @@ impl PassBox {
         ensures answer { result ≡ false ↔ self.old.body ≡ None }
         ensures same { self.new.body ≡ self.old.body }
     {
-        self.lent().is_some()
+        match self.lent() {
+            None => false,
+            Some(_) => true,
+        }
     }
 }
