@@ -20,14 +20,15 @@ struct Seat<N: QueueName> {
     completed: u32,
 }
 
-/// A queue, and the work of a turn over it.
-struct Turn<'a, L: PendingList + Drop, N: QueueName, R: Wait> {
+/// What makes a turn's calls: a queue, and the work over it.
+#[derive(Drop)]
+struct Runner<'a, L: PendingList + Drop, N: QueueName, R: Wait> {
     rt: &'a R,
     queue: &'a Csq<L, N>,
     work: &'a Work,
 }
 
-impl<L: PendingList + Drop, N: QueueName, R: Wait> Turn<'_, L, N, R> {
+impl<L: PendingList + Drop, N: QueueName, R: Wait> Runner<'_, L, N, R> {
     /// Inserts an IRP at the back. Returns its context, if it is pending.
     fn insert(&self, pass: &mut Pass<N>, irp: IrpId, file: FileId) -> Option<InsertContext<N>> {
         let inserted = self.queue.insert(self.rt, pass, irp, file, Place::Back);
@@ -103,8 +104,8 @@ where
         seats,
         MOST_THREADS as usize,
         &|_, seat| {
-            let turn = Turn { rt, queue, work };
-            seat.completed = turn.share(&mut seat.pass, seat.thread);
+            let runner = Runner { rt, queue, work };
+            seat.completed = runner.share(&mut seat.pass, seat.thread);
         },
     );
 }
@@ -125,7 +126,7 @@ where
     N: QueueName + Send + Sync,
     R: Clock + Threads + Wait + Sync,
 {
-    Turn { rt, queue, work }.fill(&mut seats.first_mut()?.pass);
+    Runner { rt, queue, work }.fill(&mut seats.first_mut()?.pass);
     let start = Instant::now(rt).ok()?;
     share_all(rt, queue, seats, work);
     let taken = start.elapsed(rt).ok()?.as_nanos();

@@ -1,14 +1,20 @@
 -- What a closed queue reports.
-use Rattle.std.specs.Prelude.{ℕ, ◌==◌, Bool, true, List, Option, Some, None, if◌then◌else◌}
+use Rattle.std.specs.Prelude.{◌≡◌, ℕ, ◌==◌, Bool, true, List, Option, Some, None, if◌then◌else◌}
 use Rattle.std.specs.Option.{is_some}
 use Rattle.irp_core.specs.declared.ids.{IrpId.{IrpId}, Life.{Life}}
 use Rattle.irp_core.specs.declared.status.NtStatus.{NtStatus}
 use Rattle.csq_list.specs.declared.entry.{Entry.{Entry}, Peek.TheVariants.{Any}}
 use Rattle.csq_list.specs.Searches.{is_listed, first_match, rest_after}
 use Rattle.csq_words.specs.Finals.{FinalWords, final_life, final_status, is_cancelled}
+use Rattle.csq_c.specs.Bodies.{QueueBodyState, RestState}
 use Rattle.csq_c.specs.Shapes.{irp_numbered, flag_number}
-use Rattle.csq_c.specs.declared.codes.Code.{Code, TheVariants.{Done, UnknownIrp, Nothing, NotListed}}
+use Rattle.csq_c.specs.declared.codes.Code.{Code, TheVariants.{Done, UnknownIrp, Nothing, NotListed, NotClosed}}
 use Rattle.csq_c.specs.declared.shapes.CsqLeft.{CsqLeft}
+
+-- a look at what is left of a closed queue is as defined for it. Of one that isn't closed the code says so, and nothing is stored
+pub record OnRest (body : QueueBodyState) (code : Code) (nothing : Type 0) (stored : RestState → Type 0) : Type 0 where
+  pub unclosed : body.rest ≡ None → (code ≡ NotClosed) × nothing
+  pub looked : (rest : RestState) → body.rest ≡ Some rest → stored rest
 
 -- the IRP after which the next one is asked for: none by the largest number
 abbrev pub start_of : ℕ → Option IrpId

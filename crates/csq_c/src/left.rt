@@ -1,8 +1,8 @@
 //! What a closed queue reports.
-ghost use Rattle.std.specs.Prelude.{◌≡◌, ℕ, Some, None, IfSome};
-ghost use Rattle.csq_c.specs.Codes.{number_of};
+ghost use Rattle.std.specs.Prelude.{◌≡◌, None};
 ghost use Rattle.csq_c.specs.Exports.{IsQueueKept};
-ghost use Rattle.csq_c.specs.Lefts.{left_code, left_of, left_written, next_after, next_code, number_stored, start_of};
+ghost use Rattle.csq_c.specs.Lefts.{OnRest, left_code, left_of, left_written, next_after, next_code, number_stored, start_of};
+ghost use Rattle.csq_c.specs.Looks.{OnQueueHandle};
 ghost use Rattle.csq_c.specs.Shapes.{irp_numbered, set_to};
 
 use crate::body::QueueBody;
@@ -15,8 +15,7 @@ use irp_core::IrpId;
 impl QueueBody {
     /// The listed IRP after this one, or the first, where the queue is closed.
     fn next_listed(&self, after: Option<IrpId>) -> (Code, Option<u32>)
-        ensures unclosed { self.now.rest ≡ None → result ≡ (Code.NotClosed, None) }
-        ensures next { IfSome self.now.rest (λ rest. result
+        ensures { OnRest self.now result.0 (result.1 ≡ None) (λ rest. result
             ≡ (next_code rest.entries after, number_stored (next_after rest.entries after))) }
     {
         let Some(rest) = &self.rest else {
@@ -35,8 +34,7 @@ impl QueueBody {
 
     /// What is left of an IRP, where the queue is closed.
     fn left(&self, irp: IrpId) -> (Code, Option<CsqLeft>)
-        ensures unclosed { self.now.rest ≡ None → result ≡ (Code.NotClosed, None) }
-        ensures left { IfSome self.now.rest (λ rest. result
+        ensures { OnRest self.now result.0 (result.1 ≡ None) (λ rest. result
             ≡ (left_code (left_of rest.finals irp), left_of rest.finals irp)) }
     {
         let Some(rest) = &self.rest else {
@@ -65,12 +63,9 @@ impl QueueBody {
 #[unsafe(no_mangle)]
 pub extern "C" fn csq_read_listed(queue: &mut CsqQueue, after: u32, irp: &mut u32) -> u32
     ensures same { IsQueueKept queue.old queue.new }
-    ensures empty { queue.old.boxed.body ≡ None → (result ≡ number_of Code.EmptyHandle)
-        × (irp.new ≡ irp.old) }
-    ensures unclosed { IfSome queue.old.boxed.body (λ body. body.rest ≡ None
-        → (result ≡ number_of Code.NotClosed) × (irp.new ≡ irp.old)) }
-    ensures next { IfSome queue.old.boxed.body (λ body. IfSome body.rest
-        (λ rest. (result ≡ number_of (next_code rest.entries (start_of after)))
+    ensures next { OnQueueHandle queue.old.boxed.body result (irp.new ≡ irp.old)
+        (λ body code. OnRest body code (irp.new ≡ irp.old)
+        (λ rest. (code ≡ next_code rest.entries (start_of after))
         × (irp.new ≡ set_to (number_stored (next_after rest.entries (start_of after))) irp.old))) }
 {
     lend!(body in queue);
@@ -84,12 +79,9 @@ pub extern "C" fn csq_read_listed(queue: &mut CsqQueue, after: u32, irp: &mut u3
 #[unsafe(no_mangle)]
 pub extern "C" fn csq_read_left(queue: &mut CsqQueue, irp: u32, left: &mut CsqLeft) -> u32
     ensures same { IsQueueKept queue.old queue.new }
-    ensures empty { queue.old.boxed.body ≡ None → (result ≡ number_of Code.EmptyHandle)
-        × (left.new ≡ left.old) }
-    ensures unclosed { IfSome queue.old.boxed.body (λ body. body.rest ≡ None
-        → (result ≡ number_of Code.NotClosed) × (left.new ≡ left.old)) }
-    ensures left { IfSome queue.old.boxed.body (λ body. IfSome body.rest
-        (λ rest. (result ≡ number_of (left_code (left_of rest.finals (irp_numbered irp))))
+    ensures left { OnQueueHandle queue.old.boxed.body result (left.new ≡ left.old)
+        (λ body code. OnRest body code (left.new ≡ left.old)
+        (λ rest. (code ≡ left_code (left_of rest.finals (irp_numbered irp)))
         × (left.new ≡ left_written (left_of rest.finals (irp_numbered irp)) left.old))) }
 {
     lend!(body in queue);

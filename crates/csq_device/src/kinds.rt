@@ -6,7 +6,7 @@ use crate::calls::CallCounts;
 
 /// The calls of submitters, workers, cancellers and busy workers. What a busy worker removes it puts back: its
 /// removals aren't among the others.
-#[derive(Drop)]
+#[derive(Clone, Copy)]
 pub(crate) struct CallsByKind {
     pub(crate) inserts: CallCounts,
     pub(crate) removals: CallCounts,
@@ -32,20 +32,14 @@ impl CallsByKind {
     }
 
     /// How many IRPs these calls completed.
-    pub(crate) fn completed(&self) -> u64
-        ensures sum { result ≡ completed_by self.now }
+    pub(crate) fn completed(self) -> u64
+        ensures sum { result ≡ completed_by self }
         ensures few { result < 2 ^ 34 }
     {
-        let CallsByKind {
-            inserts,
-            removals,
-            cancels,
-            put_backs,
-        } = *self;
-        u64::from(inserts.completed)
-            + u64::from(removals.completed)
-            + u64::from(cancels.completed)
-            + u64::from(put_backs.completed)
+        u64::from(self.inserts.completed)
+            + u64::from(self.removals.completed)
+            + u64::from(self.cancels.completed)
+            + u64::from(self.put_backs.completed)
     }
 
     /// These calls and others.
