@@ -8,7 +8,7 @@ use Rattle.csq_device.proofs.Imports.{cases_lt, lt-ltb, or_parts, or_right, and_
 use Rattle.irp_core.specs.Lives.{present_life}
 use Rattle.irp_core.specs.Owners.{owes, holds}
 use Rattle.irp_core.specs.declared.step.Kind.{Kind}
-use Rattle.irp_core.specs.declared.step.Kind.TheVariants.{Arm, Test, Disarm, End, Flag, Take, Out, Done, Renew, Rearm}
+use Rattle.irp_core.specs.declared.step.Kind.TheVariants.{Done}
 use Rattle.irp_core.specs.declared.step.Made.{Made}
 use Rattle.irp_core.proofs.Lives.{life_grows}
 use Rattle.irp_core.proofs.Growing.{run_less, run_last}
