@@ -6,3 +6,6 @@ mod OneOf
 mod Printed
 mod Walking
 mod Nearing
+pub mod Reporting
+pub mod Reported
+mod Malforming

@@ -2,6 +2,8 @@
 use Rattle.std.specs.Prelude.{◌≡◌, ℕ, ◌<◌, List, [], ◌++◌, length, codes, Option, Some, None}
 use Rattle.csq_replay.specs.declared.lines.answer.Ended.{Ended}
 use Rattle.csq_replay.specs.declared.script.call.ScriptCall.{ScriptCall}
+use Rattle.csq_replay.specs.declared.script.outcome.CallStop.{CallStop}
+use Rattle.csq_replay.specs.declared.script.outcome.CallStop.TheVariants.{TooLong, Malformed as NoCall}
 use Rattle.csq_replay.specs.Lines.{IsWithinLine, IsSkipped, IsAnswer, RepliesTo}
 use Rattle.csq_replay.specs.CallLine.{IsCallLine}
 use Rattle.csq_diagnose.specs.declared.grammar.Grammar.TheVariants.{Script}
@@ -15,6 +17,11 @@ pub data DiagnosesCall (n : ℕ) (line : List ℕ) : List ℕ → Option (Unit {
   is_skipped : IsWithinLine line → IsSkipped line → DiagnosesCall n line [] (Some tt)
   is_call : IsWithinLine line → ¬ IsSkipped line → (c : ScriptCall) → IsCallLine line c → DiagnosesCall n line [] (Some tt)
   is_malformed : IsWithinLine line → ¬ IsSkipped line → (fault : Malformed) → IsMalformed Script line fault → DiagnosesCall n line (malformed_line_text n fault ++ codes "\n") None
+
+-- the nth line ends a script for this reason, and is reported so, if one that is malformed names no call
+abbrev pub ReportsCallStop : CallStop → ℕ → List ℕ → List ℕ → Type 0
+ReportsCallStop TooLong n line text = text ≡ long_text n (length line) ++ codes "\n"
+ReportsCallStop NoCall n line text = ((c : ScriptCall) → ¬ IsCallLine line c) → (fault : Malformed) × IsMalformed Script line fault × (text ≡ malformed_line_text n fault ++ codes "\n")
 
 -- a script is diagnosed so: by its first line that ends it, if there is one
 abbrev pub IsScriptDiagnosis : List ℕ → List ℕ → Ended → Type 0

@@ -9,3 +9,4 @@ pub mod LineTexts
 pub mod Diagnoses
 pub mod RefusedTexts
 pub mod Schedules
+pub mod Reports

@@ -1,5 +1,5 @@
 -- Lines that end a schedule or a script, in words.
-use Rattle.std.specs.Prelude.{ℕ, List, ◌++◌, codes, decimal}
+use Rattle.std.specs.Prelude.{ℕ, List, [], ◌++◌, codes, decimal, Option, Some, None}
 use Rattle.csq_replay.specs.declared.lines.TheConstants.{MAX_LINE}
 use Rattle.csq_diagnose.specs.declared.malformed.Malformed.{Malformed}
 use Rattle.csq_diagnose.specs.Texts.{malformed_text}
@@ -15,3 +15,8 @@ long_text n length = codes "line " ++ (decimal n ++ (codes ", column 65: the lin
 -- a line that names no step, or no call
 abbrev pub malformed_line_text : ℕ → Malformed → List ℕ
 malformed_line_text n fault = at_text n fault.column (malformed_text fault)
+
+-- what names no step, or no call, in the nth line, if anything
+abbrev pub fault_text : ℕ → Option Malformed → List ℕ
+fault_text n (Some fault) = malformed_line_text n fault ++ codes "\n"
+fault_text n None = []

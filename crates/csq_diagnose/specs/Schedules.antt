@@ -7,7 +7,9 @@ use Rattle.csq_replay.specs.declared.schedule.outcome.Outcome.TheVariants.{Stopp
 use Rattle.csq_replay.specs.declared.schedule.outcome.Stop.{Stop}
 use Rattle.csq_replay.specs.declared.schedule.outcome.Stop.TheVariants.{TooLong, Malformed as NoStep, Refused}
 use Rattle.csq_replay.specs.Lines.{IsAnswer, RepliesTo}
+use Rattle.irp_core.specs.declared.step.Step.{Step}
 use Rattle.csq_replay.specs.Outcomes.{ComesTo}
+use Rattle.csq_replay.specs.StepLine.{IsStepLine}
 use Rattle.csq_replay.specs.Schedule.{Numbered, run_of, grown}
 use Rattle.csq_explain.specs.Passes.{all_passes}
 use Rattle.csq_explain.specs.Reasons.{reason_of}
@@ -23,6 +25,10 @@ abbrev pub IsReportedStop : ℕ → List ℕ → Reason → Stop → List ℕ �
 IsReportedStop n line reason TooLong text = text ≡ long_text n (length line) ++ codes "\n"
 IsReportedStop n line reason NoStep text = (fault : Malformed) × IsMalformed Schedule line fault × (text ≡ malformed_line_text n fault ++ codes "\n")
 IsReportedStop n line reason (Refused s cause) text = text ≡ refused_text n s reason (cure_of s reason.stop) ++ codes "\n"
+
+-- so it is reported, if a line that is malformed names no step
+abbrev pub ReportsReason : Reason → ℕ → List ℕ → List ℕ → Type 0
+ReportsReason reason n line text = (reason.stop ≡ NoStep → (s : Step) → ¬ IsStepLine line s) → IsReportedStop n line reason reason.stop text
 
 -- after the steps W this is told of the nth line, of which this came
 abbrev pub IsReportedOutcome : Size → List Numbered → ℕ → List ℕ → Outcome → List ℕ → Type 0

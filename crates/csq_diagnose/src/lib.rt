@@ -2,6 +2,7 @@
 //! what may stand there, or why its step is refused.
 #![tactic(auto)]
 
+mod diagnosed;
 mod expected;
 mod found;
 mod grammar;
@@ -14,11 +15,12 @@ mod schedule;
 mod script;
 mod texts;
 
+pub use diagnosed::{Diagnose, Report, report_input};
 pub use expected::Expected;
 pub use found::Found;
 pub use grammar::Grammar;
 pub use malformed::Malformed;
 pub use misfit::Misfit;
 pub use nearest::Near;
-pub use schedule::diagnose_schedule;
-pub use script::diagnose_script;
+pub use schedule::{diagnose_schedule, report_schedule};
+pub use script::{diagnose_script, report_script};

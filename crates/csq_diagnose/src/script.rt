@@ -1,14 +1,39 @@
 //! Diagnoses of scripts.
-ghost use Rattle.std.specs.Prelude.{◌≢◌, IfOk, IfErr};
+ghost use Rattle.std.specs.Prelude.{◌≢◌, ◌≤◌, IfOk, IfErr};
 ghost use Rattle.std.specs.Io.KnownBytes.{Keeps};
-ghost use Rattle.csq_diagnose.specs.Diagnoses.{DiagnosesScript};
+ghost use Rattle.csq_list.specs.Listing.{IsFresh};
+ghost use Rattle.csq_words.specs.Queue.{limits_of};
+ghost use Rattle.csq_explain.specs.ExplainingCalls.{IsScriptText};
+ghost use Rattle.csq_diagnose.specs.Diagnoses.{IsScriptDiagnosis, DiagnosesScript};
+ghost use Rattle.csq_diagnose.specs.Reports.{IsReport};
 
+use crate::diagnosed::{Report, add_long, report_input};
 use crate::grammar::Grammar;
-use crate::lines::{LongLine, MalformedLine};
+use crate::lines::MalformedLine;
 use crate::malformed::Malformed;
-use csq_replay::{Answerer, Ended, Handling, MAX_LINE, SimFault, is_skipped, reply};
+use csq_explain::ScriptExplanation;
+use csq_list::PendingList;
+use csq_replay::{Answerer, CallStop, Ended, Line, MAX_LINE, SimFault, is_skipped, reply};
 use std::alloc::{AllocError, Allocator};
 use std::io::{Read, Write};
+
+/// Makes the calls of a script once, over this list: its answer, with `explains` with a sentence after each line, and
+/// which line ended it and why. The list is fresh and has 1 to 1,024 IRPs. Refused if there is too little memory. Own
+/// rule.
+pub fn report_script<L: PendingList + Drop, A: Allocator + Copy>(
+    alloc: A,
+    list: L,
+    explains: bool,
+    input: &[u8],
+) -> Result<Report<A>, AllocError>
+    requires fresh { IsFresh (L.listing list) }
+    requires irps { (1 ≤ (L.listing list).irps) × ((L.listing list).irps ≤ 1024) }
+    ensures { IfOk result (IsReport (IsScriptText explains (limits_of 1 0 (L.listing list)))
+        IsScriptDiagnosis input.now) }
+{
+    let mut explanation = ScriptExplanation::new(alloc, list, explains)?;
+    report_input(alloc, &mut explanation, input)
+}
 
 /// Tells which line ends a script, and why.
 #[derive(Drop)]
@@ -16,7 +41,7 @@ struct ScriptDiagnoser<A: Allocator> {
     alloc: A,
 }
 
-impl<A: Allocator + Copy> Answerer<A> for ScriptDiagnoser<A> {
+impl<A: Allocator + Copy> Answerer<A, CallStop> for ScriptDiagnoser<A> {
     ghost use Rattle.std.specs.Prelude.{◌≡◌, []};
     ghost use Rattle.csq_diagnose.specs.Diagnoses.{DiagnosesCall};
 
@@ -28,31 +53,28 @@ impl<A: Allocator + Copy> Answerer<A> for ScriptDiagnoser<A> {
 
     ghost answers = { λ _ _. DiagnosesCall };
 
+    ghost stops = { λ _ _ _ _ _. Unit {0} };
+
     ghost closes = { λ _ _ text. text ≡ [] };
 
     fn answer_line(
         &mut self,
-        number: usize,
-        line: &[u8],
+        line: Line<'_>,
         text: &mut String<A>,
-    ) -> Result<Handling, AllocError> {
-        if line.len() > MAX_LINE {
-            let reported = LongLine {
-                number,
-                length: line.len(),
-            };
-            writeln!(text, "{reported}")?;
-            return Ok(Handling::Stops);
+    ) -> Result<Option<CallStop>, AllocError> {
+        if line.bytes.len() > MAX_LINE {
+            add_long(line, text)?;
+            return Ok(Some(CallStop::TooLong));
         }
-        if is_skipped(line) {
-            return Ok(Handling::GoesOn);
+        if is_skipped(line.bytes) {
+            return Ok(None);
         }
-        let Some(fault) = Malformed::find(self.alloc, Grammar::Script, line)? else {
-            return Ok(Handling::GoesOn);
+        let Some(fault) = Malformed::find(self.alloc, Grammar::Script, line.bytes)? else {
+            return Ok(None);
         };
-        let reported = MalformedLine { number, fault };
-        writeln!(text, "{reported}")?;
-        Ok(Handling::Stops)
+        let number = line.number;
+        writeln!(text, "{}", MalformedLine { number, fault })?;
+        Ok(Some(CallStop::Malformed))
     }
 
     fn close(&self, _text: &mut String<A>) -> Result<(), AllocError> {

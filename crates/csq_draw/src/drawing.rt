@@ -12,7 +12,7 @@ ghost use Rattle.csq_explain.specs.Passes.{all_passes};
 ghost use Rattle.csq_explain.specs.Reasons.{reason_of};
 ghost use Rattle.csq_draw.specs.Pictures.{Drawn, picture_head, stopped_text, closed_text, new_drawn, DrawsSchedule};
 ghost use Rattle.csq_draw.specs.declared.words.WordValues.{WordValues};
-ghost use Rattle.csq_draw.specs.Drawings.{owner_in, DrawingStandsAfter, NotesStep};
+ghost use Rattle.csq_draw.specs.Drawings.{owner_in, DrawingStandsAfter, NotesStep, StandsInFormat};
 ghost use Rattle.csq_draw.specs.Words.{AreWordsNamed};
 
 use crate::caption::Caption;
@@ -25,7 +25,7 @@ use crate::rows::Row;
 use crate::terminal::{write_closed, write_stopped};
 use crate::words::words_named;
 use csq_explain::{Execution, Explained, Reason, StepInCall};
-use csq_replay::{Answerer, Ended, Handling, IrpLine, SimFault, reply};
+use csq_replay::{Answerer, Ended, IrpLine, Line, SimFault, reply};
 use irp_core::PassId;
 use std::alloc::{AllocError, Allocator};
 use std::io::{Read, Write};
@@ -33,7 +33,7 @@ use std::io::{Read, Write};
 /// The caption of a schedule, its execution, the rows of the steps that this made, and what is known of each
 /// IRP's owner.
 #[derive(Drop)]
-pub(crate) struct Drawing<A: Allocator> {
+pub struct Drawing<A: Allocator> {
     pub(crate) alloc: A,
     pub(crate) format: Format,
     pub(crate) caption: Caption<A>,
@@ -43,12 +43,12 @@ pub(crate) struct Drawing<A: Allocator> {
 }
 
 impl<A: Allocator + Copy> Drawing<A> {
-    /// A drawing before the first line.
-    fn new(alloc: A, irps: u32, passes: u32, format: Format) -> Result<Drawing<A>, AllocError>
+    /// The drawing before the first line of a schedule of IRPs 0 to `irps` - 1 and passes 1 to `passes`. Refused if
+    /// there is too little memory. Own rule.
+    pub fn new(alloc: A, irps: u32, passes: u32, format: Format) -> Result<Drawing<A>, AllocError>
         requires { IsInLimits (record { irps = irps; passes = passes; first = 0 }) }
-        ensures stands { IfOk result (λ drawing. DrawingStandsAfter drawing
-            (record { irps = irps; passes = passes; first = 0 }) new_drawn) }
-        ensures format { IfOk result (λ drawing. drawing.format ≡ format) }
+        ensures { IfOk result (λ drawing. StandsInFormat drawing
+            (record { irps = irps; passes = passes; first = 0 }, format) new_drawn) }
     {
         Ok(Drawing {
             alloc,
@@ -218,7 +218,8 @@ impl<A: Allocator + Copy> Drawing<A> {
     }
 }
 
-impl<A: Allocator + Copy> Answerer<A> for Drawing<A> {
+impl<A: Allocator + Copy> Answerer<A, Reason> for Drawing<A> {
+    ghost use Rattle.csq_explain.specs.Executions.{StopsFor};
     ghost use Rattle.csq_draw.specs.Drawings.{StandsInFormat};
     ghost use Rattle.csq_draw.specs.Pictures.{DrawsLine, DrawsClosing};
 
@@ -230,27 +231,28 @@ impl<A: Allocator + Copy> Answerer<A> for Drawing<A> {
 
     ghost answers = { λ k d. DrawsLine k.0 k.1 d };
 
+    ghost stops = { λ k d. StopsFor k.0 d.steps };
+
     ghost closes = { λ k d. DrawsClosing k.0 k.1 d };
 
     fn answer_line(
         &mut self,
-        number: usize,
-        line: &[u8],
+        line: Line<'_>,
         text: &mut String<A>,
-    ) -> Result<Handling, AllocError> {
+    ) -> Result<Option<Reason>, AllocError> {
         let held = lock_of(&self.execution.passes);
-        match self.execution.handle(number, line) {
+        match self.execution.handle(line) {
             Explained::Skipped => {
-                self.caption.note(line)?;
-                Ok(Handling::GoesOn)
+                self.caption.note(line.bytes)?;
+                Ok(None)
             }
             Explained::Accepted(step) => {
-                self.note(number, step, held)?;
-                Ok(Handling::GoesOn)
+                self.note(line.number, step, held)?;
+                Ok(None)
             }
             Explained::Stopped(reason) => {
-                self.draw_stop(number, reason, text)?;
-                Ok(Handling::Stops)
+                self.draw_stop(line.number, reason, text)?;
+                Ok(Some(reason))
             }
         }
     }

@@ -22,7 +22,7 @@ mod spans;
 mod terminal;
 mod words;
 
-pub use drawing::{draw_schedule, draw_schedule_as_text};
+pub use drawing::{Drawing, draw_schedule, draw_schedule_as_text};
 pub use format::Format;
 pub use heading::PICTURE_HEAD;
 pub use laws::{

@@ -5,9 +5,9 @@ use Rattle.csq_draw.proofs.drawing.draw_schedule.Goals as goal
 pub reply-requires : goal.reply-requires
 reply-requires g c =
     let size : Size = record { irps = c.args.irps; passes = c.args.passes; first = 0 } in
-    ((size, Svg), new_drawn, (c.in_ok-drawing.ensures.stands, c.in_ok-drawing.ensures.format))
+    ((size, Svg), new_drawn, c.in_ok-drawing.ensures)
 
 pub returns-clause-drawn : goal.returns-clause-drawn
 returns-clause-drawn g c =
     let size : Size = record { irps = c.args.irps; passes = c.args.passes; first = 0 } in
-    c.reply.ensures.answered (size, Svg) new_drawn (c.in_ok-drawing.ensures.stands, c.in_ok-drawing.ensures.format)
+    c.reply.ensures.answered (size, Svg) new_drawn c.in_ok-drawing.ensures

@@ -6,7 +6,7 @@ use Rattle.csq_explain.specs.Executions.{Follows}
 use Rattle.csq_explain.proofs.Outcomes.{was_skipped, was_accepted, was_stopped}
 use Rattle.csq_draw.proofs.Growing.{grew_same}
 use Rattle.csq_draw.proofs.Showing.{owners_count, shows_more}
-use Rattle.csq_draw.proofs.drawing.DrawingAnswerer.answer_line.Goals as goal
+use Rattle.csq_draw.proofs.drawing.DrawingAnswererReason.answer_line.Goals as goal
 
 pub lock_of-held-requires : goal.lock_of-held-requires
 lock_of-held-requires g c =
@@ -20,32 +20,32 @@ handle-requires g c = let (k, d, a) = c.requires in (k.0, d.steps, a.0.follows)
 pub note-requires-in-Accepted-clause-owner : goal.note-requires-in-Accepted-clause-owner
 note-requires-in-Accepted-clause-owner g c =
     let (k, d, a) = c.requires in
-    let came = was_accepted k.0 d.steps c.args.number c.args.line.now _ c.in-Accepted.step (c.in-Accepted.ensures k.0 d.steps a.0.follows) in
+    let came = was_accepted k.0 d.steps c.args.line.number c.args.line.bytes.now _ c.in-Accepted.step (c.in-Accepted.ensures k.0 d.steps a.0.follows) in
     let P : ℕ → Type 0 = λ n. OfIrp (λ i. number i < n) c.in-Accepted.step.made.kind in
-    subst P (sym (owners_count k.0 _ _ (record { line = c.args.number; step = c.in-Accepted.step.made }) d.steps a.0.shows)) came.0.1.known.0.irp
+    subst P (sym (owners_count k.0 _ _ (record { line = c.args.line.number; step = c.in-Accepted.step.made }) d.steps a.0.shows)) came.0.1.known.0.irp
 
 pub note-requires-in-Accepted-clause-irp : goal.note-requires-in-Accepted-clause-irp
 note-requires-in-Accepted-clause-irp g c =
     let (k, d, a) = c.requires in
-    let came = was_accepted k.0 d.steps c.args.number c.args.line.now _ c.in-Accepted.step (c.in-Accepted.ensures k.0 d.steps a.0.follows) in
+    let came = was_accepted k.0 d.steps c.args.line.number c.args.line.bytes.now _ c.in-Accepted.step (c.in-Accepted.ensures k.0 d.steps a.0.follows) in
     let P : Size → Type 0 = λ s. OfIrp (λ i. number i < s.irps) c.in-Accepted.step.made.kind in
     subst P (sym came.2.same) came.0.1.known.0.irp
 
 pub draw_stop-requires : goal.draw_stop-requires
 draw_stop-requires g c =
     let (k, d, a) = c.requires in
-    let came = was_stopped k.0 d.steps c.args.number c.args.line.now _ c.in-Stopped.reason (c.in-Stopped.ensures k.0 d.steps a.0.follows) in
+    let came = was_stopped k.0 d.steps c.args.line.number c.args.line.bytes.now _ c.in-Stopped.reason (c.in-Stopped.ensures k.0 d.steps a.0.follows) in
     let most = a.0.follows.limits.3 in
     omega (arith, most, ap length came.2.passes, length-passes k.0 d.steps)
 
 pub returns-in_ok-note-in-Skipped : goal.returns-in_ok-note-in-Skipped
 returns-in_ok-note-in-Skipped g c = λ k d a.
-    let came = was_skipped k.0 d.steps c.args.number c.args.line.now _ (c.in-Skipped.ensures k.0 d.steps a.0.follows) in
-    let captioned = c.in_ok-note-in-Skipped.ensures ∙ ap (λ x. caption_after x c.args.line.now) a.0.captioned in (
+    let came = was_skipped k.0 d.steps c.args.line.number c.args.line.bytes.now _ (c.in-Skipped.ensures k.0 d.steps a.0.follows) in
+    let captioned = c.in_ok-note-in-Skipped.ensures ∙ ap (λ x. caption_after x c.args.line.bytes.now) a.0.captioned in (
       [],
       sym (append-nil _),
       (
-        Some (record { caption = caption_after d.caption c.args.line.now; steps = d.steps }),
+        Some (record { caption = caption_after d.caption c.args.line.bytes.now; steps = d.steps }),
         (Skipped, came.0, refl, refl),
         (record { follows = came.1; shows = a.0.shows; captioned = captioned }, a.1),
       ),
@@ -56,8 +56,8 @@ returns-in_ok-note-in-Accepted g c = λ k d a.
     let size = k.0 in
     let W = d.steps in
     let step = c.in-Accepted.step in
-    let w : Numbered = record { line = c.args.number; step = step.made } in
-    let came = was_accepted size W c.args.number c.args.line.now _ step (c.in-Accepted.ensures size W a.0.follows) in
+    let w : Numbered = record { line = c.args.line.number; step = step.made } in
+    let came = was_accepted size W c.args.line.number c.args.line.bytes.now _ step (c.in-Accepted.ensures size W a.0.follows) in
     let noted = c.in_ok-note-in-Accepted.ensures in
     let P : Execution _ → Type 0 = λ x. Follows size x (w ∷ W) in
     let held = c.lock_of-held.ensures ∙ ap lock_of (c.deref.ensures.value ∙ a.0.follows.passes) in
@@ -76,9 +76,9 @@ pub returns-in_ok-draw_stop-in-Stopped : goal.returns-in_ok-draw_stop-in-Stopped
 returns-in_ok-draw_stop-in-Stopped g c = λ k d a.
     let (size, format) = k in
     let reason = c.in-Stopped.reason in
-    let came = was_stopped size d.steps c.args.number c.args.line.now _ reason (c.in-Stopped.ensures size d.steps a.0.follows) in
+    let came = was_stopped size d.steps c.args.line.number c.args.line.bytes.now _ reason (c.in-Stopped.ensures size d.steps a.0.follows) in
     let stands : DrawingStandsAfter _ size d = record { follows = came.2; shows = a.0.shows; captioned = a.0.captioned } in (
-      stopped_text size format d c.args.number reason.stop,
-      grew_same _ _ (λ (f : Format). stopped_text size f d c.args.number reason.stop) _ _ a.1 (c.in_ok-draw_stop-in-Stopped.ensures size d stands came.1),
-      (None, (Stopped reason.stop, came.0, refl, refl), tt),
+      stopped_text size format d c.args.line.number reason.stop,
+      grew_same _ _ (λ (f : Format). stopped_text size f d c.args.line.number reason.stop) _ _ a.1 (c.in_ok-draw_stop-in-Stopped.ensures size d stands came.1),
+      (None, (Stopped reason.stop, came.0, refl, refl), (came.0, came.1)),
     )

@@ -2,7 +2,7 @@ use Rattle.std.proofs.Common.{List, ap, length, arith, refl}
 use Rattle.csq_draw.proofs.Imports.{length-passes, Format, closed_text}
 use Rattle.csq_replay.specs.declared.schedule.closing.IrpLine.{IrpLine}
 use Rattle.csq_draw.proofs.Growing.{grew_same}
-use Rattle.csq_draw.proofs.drawing.DrawingAnswerer.close.Goals as goal
+use Rattle.csq_draw.proofs.drawing.DrawingAnswererReason.close.Goals as goal
 
 pub draw_end-requires-clause-few : goal.draw_end-requires-clause-few
 draw_end-requires-clause-few g c =
