@@ -2,8 +2,7 @@
 use Rattle.std.specs.Prelude.{◌≡◌, ℕ, ◌<◌, List, [], ◌++◌, length, codes, Option, Some, None}
 use Rattle.csq_replay.specs.declared.lines.answer.Ended.{Ended}
 use Rattle.csq_replay.specs.declared.script.call.ScriptCall.{ScriptCall}
-use Rattle.csq_replay.specs.declared.script.outcome.CallStop.{CallStop}
-use Rattle.csq_replay.specs.declared.script.outcome.CallStop.TheVariants.{TooLong, Malformed as NoCall}
+use Rattle.csq_replay.specs.declared.script.outcome.CallStop.{CallStop, TheVariants.{TooLong, Malformed as NoCall}}
 use Rattle.csq_replay.specs.Lines.{IsWithinLine, IsSkipped, IsAnswer, RepliesTo}
 use Rattle.csq_replay.specs.CallLine.{IsCallLine}
 use Rattle.csq_diagnose.specs.declared.grammar.Grammar.TheVariants.{Script}
@@ -11,7 +10,7 @@ use Rattle.csq_diagnose.specs.declared.malformed.Malformed.{Malformed}
 use Rattle.csq_diagnose.specs.Malforms.{IsMalformed}
 use Rattle.csq_diagnose.specs.LineTexts.{long_text, malformed_line_text}
 
--- the nth line of a script ends it and is told so, or it names a call and nothing is told
+-- the nth line of a script ends it and is reported so, or it names a call and nothing is reported
 pub data DiagnosesCall (n : ℕ) (line : List ℕ) : List ℕ → Option (Unit {0}) → Type 0 where
   is_long : 64 < length line → DiagnosesCall n line (long_text n (length line) ++ codes "\n") None
   is_skipped : IsWithinLine line → IsSkipped line → DiagnosesCall n line [] (Some tt)
@@ -27,6 +26,6 @@ ReportsCallStop NoCall n line text = ((c : ScriptCall) → ¬ IsCallLine line c)
 abbrev pub IsScriptDiagnosis : List ℕ → List ℕ → Ended → Type 0
 IsScriptDiagnosis = IsAnswer (λ (s : Unit {0}). DiagnosesCall) (λ (s : Unit {0}) text. text ≡ []) tt
 
--- of a reader and a writer that tell their bytes: a script was read, and its diagnosis was written
+-- of a reader and a writer whose bytes are known: a script was read, and its diagnosis was written
 abbrev pub DiagnosesScript : Option (List ℕ) → Option (List ℕ) → Option (List ℕ) → Option (List ℕ) → Ended → Type 0
 DiagnosesScript = RepliesTo IsScriptDiagnosis

@@ -2,16 +2,13 @@
 use Rattle.std.specs.Prelude.{◌≡◌, ◌⊎◌, ℕ, Bool, List, [], ◌∷◌, codes, map}
 use Rattle.std.specs.List.{list_any}
 use Rattle.std.specs.Str.{bytes_eq}
-use Rattle.irp_core.specs.declared.ids.PassId.{PassId}
-use Rattle.irp_core.specs.declared.ids.IrpLife.{IrpLife}
+use Rattle.irp_core.specs.declared.ids.{PassId.{PassId}, IrpLife.{IrpLife}}
 use Rattle.irp_core.specs.declared.status.NtStatus.{NtStatus}
 use Rattle.csq_replay.specs.Pieces.{IsNumber}
 use Rattle.csq_replay.specs.StepLine.{IsPassWord, IsNameWord}
 use Rattle.csq_replay.specs.CallLine.{IsHexStatus}
 use Rattle.csq_explain.specs.Words.{step_words, call_words}
-use Rattle.csq_diagnose.specs.declared.expected.TheConstants.{PLACES}
-use Rattle.csq_diagnose.specs.declared.expected.Expected.{Expected}
-use Rattle.csq_diagnose.specs.declared.expected.Expected.TheVariants.{Pass, Step, ScriptCall, IrpInLife, Irp, File, Peek, Place, Status, Nothing}
+use Rattle.csq_diagnose.specs.declared.expected.{TheConstants.{PLACES}, Expected.{Expected, TheVariants.{Pass, Step, ScriptCall, IrpInLife, Irp, File, Peek, Place, Status, Nothing}}}
 
 -- whether a word begins a call
 abbrev pub is_call_word : List ℕ → Bool

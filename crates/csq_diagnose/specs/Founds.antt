@@ -1,8 +1,7 @@
 -- What stands where a line is no step, or no call.
 use Rattle.std.specs.Prelude.{◌≡◌, ◌≢◌, ℕ, ◌+◌, ◌-◌, ◌==◌, Bool, not, List, [], Some, None, position, slice_get, IsSomeAnd, if◌then◌else◌}
 use Rattle.std.specs.Char.{is_ascii_graphic}
-use Rattle.csq_diagnose.specs.declared.found.Found.{Found}
-use Rattle.csq_diagnose.specs.declared.found.Found.TheVariants.{End, FirstSpace, TwoSpaces, LastSpace, Byte, Word}
+use Rattle.csq_diagnose.specs.declared.found.Found.{Found, TheVariants.{End, FirstSpace, TwoSpaces, LastSpace, Byte, Word}}
 use Rattle.csq_diagnose.specs.declared.misfit.Misfit.{Misfit}
 
 -- no word has such a byte

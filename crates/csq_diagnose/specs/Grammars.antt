@@ -5,10 +5,8 @@ use Rattle.irp_core.specs.declared.step.Step.{Step as StepOf}
 use Rattle.csq_replay.specs.StepLine.{IsPassWord, AreKindWords}
 use Rattle.csq_replay.specs.declared.script.call.ScriptCall.{ScriptCall as CallOf}
 use Rattle.csq_replay.specs.CallLine.{IsNamed}
-use Rattle.csq_diagnose.specs.declared.expected.Expected.{Expected}
-use Rattle.csq_diagnose.specs.declared.expected.Expected.TheVariants.{Pass, Step, ScriptCall, IrpInLife, Irp, File, Peek, Place, Status, Nothing}
-use Rattle.csq_diagnose.specs.declared.grammar.Grammar.{Grammar}
-use Rattle.csq_diagnose.specs.declared.grammar.Grammar.TheVariants.{Schedule, Script}
+use Rattle.csq_diagnose.specs.declared.expected.Expected.{Expected, TheVariants.{Pass, Step, ScriptCall, IrpInLife, Irp, File, Peek, Place, Status, Nothing}}
+use Rattle.csq_diagnose.specs.declared.grammar.Grammar.{Grammar, TheVariants.{Schedule, Script}}
 use Rattle.csq_diagnose.specs.Expecting.{Admits}
 
 -- the first two words of a line, empty where it has fewer

@@ -2,8 +2,7 @@
 use Rattle.std.specs.Prelude.{◌≡◌, List, ℕ, [], map, Option, None, MatchOption}
 use Rattle.std.specs.Char.{to_ascii_lowercase}
 use Rattle.csq_diagnose.specs.declared.expected.Expected.{Expected}
-use Rattle.csq_diagnose.specs.declared.found.Found.{Found}
-use Rattle.csq_diagnose.specs.declared.found.Found.TheVariants.{Word}
+use Rattle.csq_diagnose.specs.declared.found.Found.{Found, TheVariants.{Word}}
 use Rattle.csq_diagnose.specs.declared.grammar.Grammar.{Grammar}
 use Rattle.csq_diagnose.specs.declared.malformed.Malformed.{Malformed}
 use Rattle.csq_diagnose.specs.declared.misfit.Misfit.{Misfit}
@@ -22,6 +21,6 @@ abbrev pub IsNearTo : Expected → Found → Option Near → Type 0
 IsNearTo e (Word text) near = MatchOption near (expected_words e ≡ []) (IsNearest (expected_words e) (in_small_letters text.now))
 IsNearTo e _ near = near ≡ None
 
--- it tells the misfit of the line
+-- it reports the misfit of the line
 abbrev pub IsMalformed : Grammar → List ℕ → Malformed → Type 0
 IsMalformed g line fault = (m : Misfit) × IsMisfit g line m × (fault.expected ≡ m.expected) × IsFoundIn m fault.found fault.column × IsNearTo fault.expected fault.found fault.near

@@ -3,16 +3,13 @@ use Rattle.std.specs.Prelude.{ℕ, ◌+◌, nat_lt, nat_le, ◌&&◌, List, [], 
 use Rattle.std.specs.Option.{option_map_or}
 use Rattle.irp_core.specs.declared.ids.PassId.{PassId}
 use Rattle.irp_core.specs.declared.refusals.StepRefused.TheVariants.{UnknownIrp, UnknownPass, NotHome}
-use Rattle.irp_core.specs.declared.step.Kind.{Kind}
-use Rattle.irp_core.specs.declared.step.Step.{Step}
+use Rattle.irp_core.specs.declared.step.{Kind.{Kind}, Step.{Step}}
 use Rattle.irp_core.specs.Steps.{number, name_of}
 use Rattle.irp_core.specs.Texts.{step_text}
 use Rattle.csq_explain.specs.declared.reasons.Reason.{Reason}
 use Rattle.csq_explain.specs.Reasons.{reason_text}
-use Rattle.csq_replay.specs.declared.schedule.outcome.Stop.{Stop}
-use Rattle.csq_replay.specs.declared.schedule.outcome.Stop.TheVariants.{Refused}
-use Rattle.csq_diagnose.specs.declared.refused.Cure.{Cure}
-use Rattle.csq_diagnose.specs.declared.refused.Cure.TheVariants.{Nothing, Irps, Passes, Rearm}
+use Rattle.csq_replay.specs.declared.schedule.outcome.Stop.{Stop, TheVariants.{Refused}}
+use Rattle.csq_diagnose.specs.declared.refused.Cure.{Cure, TheVariants.{Nothing, Irps, Passes, Rearm}}
 
 -- so many IRPs that there is the one that a step of this kind names, where there can be so many
 abbrev pub irps_for : Kind → Cure

@@ -1,8 +1,7 @@
 -- Answers to inputs, each with its diagnosis.
 use Rattle.std.specs.Prelude.{◌≡◌, ℕ, List, [], codes, Option, string_bytes}
 use Rattle.csq_replay.specs.declared.lines.answer.Ended.{Ended}
-use Rattle.csq_replay.specs.declared.lines.Ending.{Ending}
-use Rattle.csq_replay.specs.declared.lines.Ending.TheVariants.{AllHandled, TooLong, StoppedAt}
+use Rattle.csq_replay.specs.declared.lines.Ending.{Ending, TheVariants.{AllHandled, TooLong, StoppedAt}}
 use Rattle.csq_replay.specs.Lines.{IsAnswerUntil, ended_of}
 use Rattle.csq_diagnose.specs.declared.diagnosed.Report.{Report}
 

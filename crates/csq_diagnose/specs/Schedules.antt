@@ -2,10 +2,7 @@
 use Rattle.std.specs.Prelude.{◌≡◌, ℕ, List, [], ◌++◌, length, codes, Option}
 use Rattle.irp_core.specs.Runs.{Size}
 use Rattle.csq_replay.specs.declared.lines.answer.Ended.{Ended}
-use Rattle.csq_replay.specs.declared.schedule.outcome.Outcome.{Outcome}
-use Rattle.csq_replay.specs.declared.schedule.outcome.Outcome.TheVariants.{Stopped}
-use Rattle.csq_replay.specs.declared.schedule.outcome.Stop.{Stop}
-use Rattle.csq_replay.specs.declared.schedule.outcome.Stop.TheVariants.{TooLong, Malformed as NoStep, Refused}
+use Rattle.csq_replay.specs.declared.schedule.outcome.{Outcome.{Outcome, TheVariants.{Stopped}}, Stop.{Stop, TheVariants.{TooLong, Malformed as NoStep, Refused}}}
 use Rattle.csq_replay.specs.Lines.{IsAnswer, RepliesTo}
 use Rattle.irp_core.specs.declared.step.Step.{Step}
 use Rattle.csq_replay.specs.Outcomes.{ComesTo}
@@ -20,7 +17,7 @@ use Rattle.csq_diagnose.specs.Malforms.{IsMalformed}
 use Rattle.csq_diagnose.specs.LineTexts.{long_text, malformed_line_text}
 use Rattle.csq_diagnose.specs.RefusedTexts.{cure_of, refused_text}
 
--- the nth line ends the handling for this reason, and is told so
+-- the nth line ends the handling for this reason, and is reported so
 abbrev pub IsReportedStop : ℕ → List ℕ → Reason → Stop → List ℕ → Type 0
 IsReportedStop n line reason TooLong text = text ≡ long_text n (length line) ++ codes "\n"
 IsReportedStop n line reason NoStep text = (fault : Malformed) × IsMalformed Schedule line fault × (text ≡ malformed_line_text n fault ++ codes "\n")
@@ -30,12 +27,12 @@ IsReportedStop n line reason (Refused s cause) text = text ≡ refused_text n s 
 abbrev pub ReportsReason : Reason → ℕ → List ℕ → List ℕ → Type 0
 ReportsReason reason n line text = (reason.stop ≡ NoStep → (s : Step) → ¬ IsStepLine line s) → IsReportedStop n line reason reason.stop text
 
--- after the steps W this is told of the nth line, of which this came
+-- after the steps W this is reported for the nth line, of which this came
 abbrev pub IsReportedOutcome : Size → List Numbered → ℕ → List ℕ → Outcome → List ℕ → Type 0
 IsReportedOutcome size W n line (Stopped stop) text = IsReportedStop n line (reason_of size (all_passes size W) stop) stop text
 IsReportedOutcome size W n line _ text = text ≡ []
 
--- after the steps W the nth line is told so, by what comes of it, which W grows by
+-- after the steps W the nth line is reported so, by what comes of it, which W grows by
 abbrev pub DiagnosesStep : Size → List Numbered → ℕ → List ℕ → List ℕ → Option (List Numbered) → Type 0
 DiagnosesStep size W n line text more = (comes : Outcome) × ComesTo size (run_of W) line comes × IsReportedOutcome size W n line comes text × (more ≡ grown W n comes)
 
@@ -43,6 +40,6 @@ DiagnosesStep size W n line text more = (comes : Outcome) × ComesTo size (run_o
 abbrev pub IsScheduleDiagnosis : Size → List ℕ → List ℕ → Ended → Type 0
 IsScheduleDiagnosis size = IsAnswer (DiagnosesStep size) (λ W text. text ≡ []) []
 
--- of a reader and a writer that tell their bytes: a schedule was read, and its diagnosis was written
+-- of a reader and a writer whose bytes are known: a schedule was read, and its diagnosis was written
 abbrev pub DiagnosesSchedule : Size → Option (List ℕ) → Option (List ℕ) → Option (List ℕ) → Option (List ℕ) → Ended → Type 0
 DiagnosesSchedule size = RepliesTo (IsScheduleDiagnosis size)

@@ -1,11 +1,9 @@
 -- Diagnoses in words.
 use Rattle.std.specs.Prelude.{ℕ, ◌==◌, ◌&&◌, nat_le, Bool, false, List, [], ◌∷◌, ◌++◌, codes, decimal, Option, Some, None, if◌then◌else◌}
 use Rattle.csq_explain.specs.Words.{step_words, call_words, listed}
-use Rattle.csq_diagnose.specs.declared.expected.Expected.{Expected}
-use Rattle.csq_diagnose.specs.declared.expected.Expected.TheVariants.{Pass, Step, ScriptCall, IrpInLife, Irp, File, Peek, Place, Status, Nothing}
+use Rattle.csq_diagnose.specs.declared.expected.Expected.{Expected, TheVariants.{Pass, Step, ScriptCall, IrpInLife, Irp, File, Peek, Place, Status, Nothing}}
 use Rattle.csq_diagnose.specs.Expecting.{is_call_word, place_words}
-use Rattle.csq_diagnose.specs.declared.found.Found.{Found}
-use Rattle.csq_diagnose.specs.declared.found.Found.TheVariants.{End, FirstSpace, TwoSpaces, LastSpace, Byte, Word}
+use Rattle.csq_diagnose.specs.declared.found.Found.{Found, TheVariants.{End, FirstSpace, TwoSpaces, LastSpace, Byte, Word}}
 use Rattle.csq_diagnose.specs.declared.malformed.Malformed.{Malformed}
 use Rattle.csq_diagnose.specs.declared.nearest.Near.{Near}
 

@@ -35,7 +35,7 @@ pub fn report_script<L: PendingList + Drop, A: Allocator + Copy>(
     report_input(alloc, &mut explanation, input)
 }
 
-/// Tells which line ends a script, and why.
+/// Reports which line ends a script, and why.
 #[derive(Drop)]
 struct ScriptDiagnoser<A: Allocator> {
     alloc: A,

@@ -227,7 +227,7 @@ routine_is size irps E r n p is = let d = drawn size irps n E r in go d.0 (is_st
     go (Held q status) h f = at (place.HeldBy q) h.0
     go (Finished status q) h f = at (place.Completed status q) h
 
--- what a machine tells of the IRP that a step names are its words
+-- what a machine says of the IRP that a step names are its words
 pub words_reported : (size : Size) (E : List Made) → IsRun size E → (k : Kind) (i : IrpLife) → name_of k ≡ Some i → (life : Life) → life.0 ≡ present_life size.first E i.irp
     → (flag : Bool) → flag ≡ flagged E (present size.first E i.irp) → (p : IrpPlace) → IsPlace E (present size.first E i.irp) p → (o : Option Owner) → o ≡ owner_named size.irps E k
     → (routine : Bool) → routine ≡ routine_at p o → Some (record { name = record { irp = i.irp; life = life }; flag = flag; routine = routine }) ≡ words_named size.first E k

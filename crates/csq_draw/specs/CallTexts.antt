@@ -1,8 +1,7 @@
 -- The call that a step is of, and what the call answers where the step ends it, behind an arrow.
 use Rattle.std.specs.Prelude.{ℕ, ◌==◌, Bool, true, false, not, List, ◌++◌, codes, if◌then◌else◌}
 use Rattle.irp_core.specs.declared.inside.Inside.{Inside}
-use Rattle.irp_core.specs.declared.step.Kind.{Kind}
-use Rattle.irp_core.specs.declared.step.Kind.TheVariants.{Arm, Test, Disarm, End, Flag, Take, Out, Done, Renew, Rearm}
+use Rattle.irp_core.specs.declared.step.Kind.{Kind, TheVariants.{Arm, Test, Disarm, End, Flag, Take, Out, Done, Renew, Rearm}}
 use Rattle.irp_core.specs.Inside.{in_insert}
 use Rattle.irp_core.specs.Texts.{name_text}
 use Rattle.csq_explain.specs.declared.sentences.StepInCall.{StepInCall}

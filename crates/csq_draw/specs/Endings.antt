@@ -1,21 +1,19 @@
 -- What stands below the rows of a picture.
 use Rattle.std.specs.Prelude.{ℕ, ◌+◌, ◌*◌, List, ◌++◌, codes, decimal}
 use Rattle.irp_core.specs.Texts.{step_text}
-use Rattle.csq_replay.specs.declared.schedule.outcome.Stop.{Stop}
-use Rattle.csq_replay.specs.declared.schedule.outcome.Stop.TheVariants.{TooLong, Malformed, Refused as RefusedStep}
+use Rattle.csq_replay.specs.declared.schedule.outcome.Stop.{Stop, TheVariants.{TooLong, Malformed, Refused as RefusedStep}}
 use Rattle.csq_replay.specs.Outcomes.{stop_text}
 use Rattle.csq_explain.specs.Endings.{irp_sentence, rest_sentence}
-use Rattle.csq_draw.specs.declared.ending.Below.{Below}
-use Rattle.csq_draw.specs.declared.ending.Below.TheVariants.{Bar, Refused, Because, Irp, AtRest}
+use Rattle.csq_draw.specs.declared.ending.Below.{Below, TheVariants.{Bar, Refused, Because, Irp, AtRest}}
 use Rattle.csq_explain.specs.Reasons.{reason_text}
 
--- a line that ended the handling, as it is told: its step, if it names one, and why it ended it
+-- a line that ended the handling, as it is reported: its step, if it names one, and why it ended it
 unfoldable pub ended_line_text : Stop → List ℕ
 ended_line_text (RefusedStep s cause) = step_text s ++ (codes " " ++ stop_text (RefusedStep s cause))
 ended_line_text TooLong = stop_text TooLong
 ended_line_text Malformed = stop_text Malformed
 
--- what stands below rows that end here: the bar of the line that ended the handling, what is told of that line in its bar, and why it ended it; or the nth line of text that is told in the end
+-- what stands below rows that end here: the bar of the line that ended the handling, what is reported for that line in its bar, and why it ended it; or the nth line of text that is reported in the end
 abbrev pub below_text : ℕ → Below → List ℕ
 below_text y Bar = codes "<rect class='bad' x='64' y='" ++ (decimal (y + 4) ++ codes "' width='660' height='52' rx='6'/>")
 below_text y (Refused stop) = codes "<text x='73' y='" ++ (decimal (y + 34) ++ (codes "'>" ++ (ended_line_text stop ++ codes "</text>")))

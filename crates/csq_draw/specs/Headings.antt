@@ -2,9 +2,7 @@
 use Rattle.std.specs.Prelude.{ℕ, ◌+◌, ◌-◌, ◌*◌, ◌==◌, max, List, [], ◌++◌, length, codes, decimal, if◌then◌else◌}
 use Rattle.irp_core.specs.declared.ids.PassId.{PassId}
 use Rattle.irp_core.specs.Texts.{pass_text}
-use Rattle.csq_draw.specs.declared.heading.Extent.{Extent}
-use Rattle.csq_draw.specs.declared.heading.Column.{Column}
-use Rattle.csq_draw.specs.declared.heading.TheConstants.{PICTURE_HEAD, KEY}
+use Rattle.csq_draw.specs.declared.heading.{Extent.{Extent}, Column.{Column}, TheConstants.{PICTURE_HEAD, KEY}}
 use Rattle.csq_draw.specs.Layout.{left, top}
 
 -- a picture's width, at least that of its longest line of text

@@ -1,8 +1,7 @@
 -- What holds of every picture.
 use Rattle.std.specs.Prelude.{◌≡◌, ◌≢◌, ◌⊎◌, ◌↔◌, ℕ, ◌<◌, Bool, false, List, [], ◌∷◌, ◌++◌, length, Option, Some, None, option_to_list, IsTrue}
 use Rattle.std.specs.List.{list_any}
-use Rattle.irp_core.specs.declared.ids.IrpId.{IrpId}
-use Rattle.irp_core.specs.declared.ids.PassId.{PassId}
+use Rattle.irp_core.specs.declared.ids.{IrpId.{IrpId}, PassId.{PassId}}
 use Rattle.irp_core.specs.declared.step.Made.{Made}
 use Rattle.irp_core.specs.Lives.{present}
 use Rattle.irp_core.specs.Lock.{HasLock, needs_lock}
@@ -14,13 +13,9 @@ use Rattle.csq_replay.specs.declared.schedule.closing.IrpLine.{IrpLine}
 use Rattle.csq_replay.specs.declared.schedule.outcome.Stop.{Stop}
 use Rattle.csq_replay.specs.Schedule.{Numbered, run_of}
 use Rattle.csq_draw.specs.declared.format.Format.{Format}
-use Rattle.csq_draw.specs.declared.marks.Mark.{Mark}
-use Rattle.csq_draw.specs.declared.marks.Number.{Number}
-use Rattle.csq_draw.specs.declared.marks.Shade.{Shade}
-use Rattle.csq_draw.specs.declared.owners.Having.{Having}
-use Rattle.csq_draw.specs.declared.owners.Owner.{Owner}
+use Rattle.csq_draw.specs.declared.marks.{Mark.{Mark}, Number.{Number}, Shade.{Shade}}
+use Rattle.csq_draw.specs.declared.owners.{Having.{Having, TheVariants.{Owes, Holds}}, Owner.{Owner}}
 use Rattle.csq_draw.specs.declared.words.WordValues.{WordValues}
-use Rattle.csq_draw.specs.declared.owners.Having.TheVariants.{Owes, Holds}
 use Rattle.csq_explain.specs.declared.passes.PassNow.{PassNow}
 use Rattle.csq_draw.specs.Lanes.{is_in_lane, is_taken}
 use Rattle.csq_draw.specs.Marks.{lets_go}
@@ -48,7 +43,7 @@ abbrev pub added : {A : Type 0} → (Numbered → List Numbered → List A) → 
 added of_step [] = []
 added of_step (w ∷ W) = added of_step W ++ of_step w W
 
--- of the picture of the steps W, and of the nth line, which ended the handling: what is picked out of it is what each step adds, in order, and then this of that line; and of the one of the steps and of what is told in the end it is what each step adds
+-- of the picture of the steps W, and of the nth line, which ended the handling: what is picked out of it is what each step adds, in order, and then this of that line; and of the one of the steps and of what is reported in the end it is what each step adds
 pub record AddsStepByStep {A : Type 0} (size : Size) (W : List Numbered) (pick : Element → List A) (of_step : Numbered → List Numbered → List A) (of_line : ℕ → List A) : Type 0 where
   pub stopped : (n : ℕ) (stop : Stop) → picked pick (stopped_picture size W n stop) ≡ added of_step W ++ of_line n
   pub closed : (reported : List IrpLine) (at_rest : Bool) → picked pick (closed_picture size W reported at_rest) ≡ added of_step W

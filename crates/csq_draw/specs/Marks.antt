@@ -1,7 +1,6 @@
 -- What is drawn on the row of a step: the number of its line, and the step itself; and who has the lock.
 use Rattle.std.specs.Prelude.{ℕ, ◌+◌, ◌%◌, ◌==◌, ◌&&◌, Bool, true, false, not, List, [], ◌++◌, codes, decimal, Option, Some, None, if◌then◌else◌}
-use Rattle.irp_core.specs.declared.step.Kind.{Kind}
-use Rattle.irp_core.specs.declared.step.Kind.TheVariants.{Arm, Test, Disarm, End, Flag, Take, Out, Done, Renew, Rearm}
+use Rattle.irp_core.specs.declared.step.Kind.{Kind, TheVariants.{Arm, Test, Disarm, End, Flag, Take, Out, Done, Renew, Rearm}}
 use Rattle.irp_core.specs.declared.status.NtStatus.{NtStatus}
 use Rattle.irp_core.specs.Inside.{has_lock, inside_after}
 use Rattle.irp_core.specs.Lock.{needs_lock}
@@ -10,9 +9,7 @@ use Rattle.irp_core.specs.declared.ids.IrpLife.{IrpLife}
 use Rattle.irp_core.specs.Texts.{kind_text}
 use Rattle.csq_explain.specs.declared.sentences.StepInCall.{StepInCall}
 use Rattle.csq_explain.specs.Sentences.{sentence, status_name}
-use Rattle.csq_draw.specs.declared.marks.Number.{Number}
-use Rattle.csq_draw.specs.declared.marks.Shade.{Shade}
-use Rattle.csq_draw.specs.declared.marks.Mark.{Mark}
+use Rattle.csq_draw.specs.declared.marks.{Number.{Number}, Shade.{Shade}, Mark.{Mark}}
 use Rattle.csq_draw.specs.CallTexts.{call_text}
 use Rattle.csq_draw.specs.Circles.{circles_text}
 use Rattle.csq_draw.specs.Layout.{left, top}
@@ -69,7 +66,7 @@ found_by _ found status = []
 abbrev pub found_words : StepInCall → List ℕ
 found_words s = found_by s.made.kind (not (s.made.found == 0)) s.status
 
--- a step, told in a sentence too, at the upper left corner of its row: its box, what it does, what it found, its call of the WDK, the call that it is of, and the words of its IRP
+-- a step, described in a sentence too, at the upper left corner of its row: its box, what it does, what it found, its call of the WDK, the call that it is of, and the words of its IRP
 abbrev pub mark_at : ℕ → ℕ → Mark → List ℕ
 mark_at x y m =
     (codes "<g class='" ++ (step_class (claims m.step.made.kind m.step.made.found) (name_of m.step.made.kind) ++ (codes "'><title>" ++ (sentence m.step ++ (codes "</title><rect x='" ++ (decimal (x + 8) ++ (codes "' y='" ++ (decimal (y + 4) ++ codes "' width='212' height='52' rx='6'/>"))))))))

@@ -1,14 +1,10 @@
 -- Who owes an IRP, or holds it, since which row of the picture, and in which lane.
 use Rattle.std.specs.Prelude.{ℕ, ◌==◌, Bool, false, List, [], ◌∷◌, length, Option, Some, None, if◌then◌else◌}
 use Rattle.std.specs.Option.{option_map_or}
-use Rattle.irp_core.specs.declared.ids.IrpId.{IrpId}
-use Rattle.irp_core.specs.declared.ids.PassId.{PassId}
-use Rattle.irp_core.specs.declared.step.Kind.{Kind}
-use Rattle.irp_core.specs.declared.step.Kind.TheVariants.{Disarm, Take, Out, Done, Rearm}
-use Rattle.irp_core.specs.declared.step.Made.{Made}
+use Rattle.irp_core.specs.declared.ids.{IrpId.{IrpId}, PassId.{PassId}}
+use Rattle.irp_core.specs.declared.step.{Kind.{Kind, TheVariants.{Disarm, Take, Out, Done, Rearm}}, Made.{Made}}
 use Rattle.irp_core.specs.Steps.{same_id, name_of}
-use Rattle.csq_draw.specs.declared.owners.Having.TheVariants.{Owes, Holds}
-use Rattle.csq_draw.specs.declared.owners.Owner.{Owner}
+use Rattle.csq_draw.specs.declared.owners.{Having.TheVariants.{Owes, Holds}, Owner.{Owner}}
 use Rattle.csq_draw.specs.Lanes.{lane_for}
 use Rattle.csq_explain.specs.Tables.{table}
 

@@ -4,16 +4,13 @@ use Rattle.irp_core.specs.declared.ids.PassId.{PassId}
 use Rattle.irp_core.specs.Runs.{Size}
 use Rattle.csq_replay.specs.declared.lines.answer.Ended.{Ended}
 use Rattle.csq_replay.specs.declared.schedule.closing.IrpLine.{IrpLine}
-use Rattle.csq_replay.specs.declared.schedule.outcome.Outcome.{Outcome}
-use Rattle.csq_replay.specs.declared.schedule.outcome.Outcome.TheVariants.{Skipped, Accepted, Stopped}
-use Rattle.csq_replay.specs.declared.schedule.outcome.Stop.{Stop}
+use Rattle.csq_replay.specs.declared.schedule.outcome.{Outcome.{Outcome, TheVariants.{Skipped, Accepted, Stopped}}, Stop.{Stop}}
 use Rattle.csq_replay.specs.Lines.{IsAnswer, RepliesTo}
 use Rattle.csq_replay.specs.Outcomes.{ComesTo}
 use Rattle.csq_replay.specs.Schedule.{Numbered, run_of, Closes}
 use Rattle.csq_draw.specs.Captions.{CaptionText, new_caption, ended_caption, caption_after}
 use Rattle.csq_draw.specs.Headings.{head_text}
-use Rattle.csq_draw.specs.declared.format.Format.{Format}
-use Rattle.csq_draw.specs.declared.format.Format.TheVariants.{Svg, Text}
+use Rattle.csq_draw.specs.declared.format.Format.{Format, TheVariants.{Svg, Text}}
 use Rattle.csq_draw.specs.declared.owners.Owner.{Owner}
 use Rattle.csq_explain.specs.declared.passes.PassNow.{PassNow}
 use Rattle.csq_explain.specs.declared.reasons.Reason.{Reason}
@@ -78,12 +75,12 @@ open_elements passes rows n None = []
 abbrev pub picture_head : ℕ → ℕ → ℕ → CaptionText → List ℕ
 picture_head columns rows lines c = head_text (record { columns = columns; rows = rows; lines = lines; caption = c.lines }) c.title c.below
 
--- of the line that ended the handling: its bar, its number, what is told of it, and why it ended it
+-- of the line that ended the handling: its bar, its number, what is reported for it, and why it ended it
 abbrev pub refused_elements : ℕ → ℕ → Reason → List Element
 refused_elements rows line reason = element.Below rows Bar ∷ (element.Number (record { row = rows; line = line })
     ∷ (element.Below rows (Refused reason.stop) ∷ (element.Below rows (Because reason) ∷ [])))
 
--- of an IRP that is told of in the end
+-- of an IRP that is reported in the end
 abbrev pub closing_elements : ℕ → ℕ → IrpLine → List Element
 closing_elements rows nth line = element.Below rows (Irp nth line) ∷ []
 
@@ -103,7 +100,7 @@ shown_elements passes rows owners count = first_elements (columns passes) count 
 abbrev pub stopped_elements : List PassNow → List Row → List (Option Owner) → ℕ → ℕ → Reason → List Element
 stopped_elements passes rows owners count n reason = shown_elements passes rows owners count ++ refused_elements count n reason
 
--- and then of what is told in the end
+-- and then of what is reported in the end
 abbrev pub closed_elements : List PassNow → List Row → List (Option Owner) → ℕ → List IrpLine → Bool → List Element
 closed_elements passes rows owners count reported at_rest = shown_elements passes rows owners count
     ++ (each (closing_elements count) 0 reported ++ at_rest_element count (length reported) at_rest ∷ [])
@@ -112,7 +109,7 @@ closed_elements passes rows owners count reported at_rest = shown_elements passe
 abbrev pub stopped_picture : Size → List Numbered → ℕ → Stop → List Element
 stopped_picture size W n stop = stopped_elements (all_passes size W) (rows_of size W) (owners size.irps (run_of W)) (length W) n (reason_of size (all_passes size W) stop)
 
--- the picture of the steps W, and of what is told in the end
+-- the picture of the steps W, and of what is reported in the end
 abbrev pub closed_picture : Size → List Numbered → List IrpLine → Bool → List Element
 closed_picture size W = closed_elements (all_passes size W) (rows_of size W) (owners size.irps (run_of W)) (length W)
 
@@ -143,7 +140,7 @@ drawn_text size format d n _ = []
 abbrev pub DrawsLine : Size → Format → Drawn → ℕ → List ℕ → List ℕ → Option Drawn → Type 0
 DrawsLine size format d n line text more = (comes : Outcome) × ComesTo size (run_of d.steps) line comes × (text ≡ drawn_text size format d n comes) × (more ≡ drawn_after d n line comes)
 
--- where all lines were handled, it is the picture of the steps and of what is told in the end
+-- where all lines were handled, it is the picture of the steps and of what is reported in the end
 abbrev pub closed_text : Size → Format → Drawn → List IrpLine → Bool → List ℕ
 closed_text size Svg d reported at_rest = picture_head (columns (all_passes size d.steps)) (length d.steps) (length reported + 1) d.caption ++ picture (closed_picture size d.steps reported at_rest)
 closed_text size Text d reported at_rest = closed_lines d.caption (all_passes size d.steps) (rows_of size d.steps) reported at_rest
@@ -155,6 +152,6 @@ DrawsClosing size format d text = (reported : List IrpLine) × (at_rest : Bool) 
 abbrev pub IsDrawing : Size → Format → List ℕ → List ℕ → Ended → Type 0
 IsDrawing size format = IsAnswer (DrawsLine size format) (DrawsClosing size format) new_drawn
 
--- of a reader and a writer that tell their bytes: a schedule was read, and its picture was written
+-- of a reader and a writer whose bytes are known: a schedule was read, and its picture was written
 abbrev pub DrawsSchedule : Size → Format → Option (List ℕ) → Option (List ℕ) → Option (List ℕ) → Option (List ℕ) → Ended → Type 0
 DrawsSchedule size format = RepliesTo (IsDrawing size format)

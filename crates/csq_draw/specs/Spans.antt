@@ -1,9 +1,7 @@
 -- The lines that run down the column of a pass while it owes an IRP, or holds it.
 use Rattle.std.specs.Prelude.{ℕ, ◌+◌, ◌*◌, ◌%◌, List, [], ◌++◌, codes, decimal, if◌then◌else◌}
 use Rattle.irp_core.specs.Texts.{irp_text, pass_text}
-use Rattle.csq_draw.specs.declared.owners.Having.{Having}
-use Rattle.csq_draw.specs.declared.owners.Having.TheVariants.{Owes, Holds}
-use Rattle.csq_draw.specs.declared.owners.Owner.{Owner}
+use Rattle.csq_draw.specs.declared.owners.{Having.{Having, TheVariants.{Owes, Holds}}, Owner.{Owner}}
 use Rattle.csq_draw.specs.declared.spans.Span.{Span}
 use Rattle.csq_draw.specs.Layout.{left, top}
 

@@ -8,8 +8,7 @@ use Rattle.csq_explain.specs.declared.reasons.Reason.{Reason}
 use Rattle.csq_explain.specs.declared.sentences.StepInCall.{StepInCall}
 use Rattle.csq_explain.specs.Endings.{irp_sentence, rest_sentence}
 use Rattle.csq_explain.specs.Reasons.{reason_text}
-use Rattle.csq_draw.specs.declared.cells.Cell.{Cell}
-use Rattle.csq_draw.specs.declared.cells.Cell.TheVariants.{Line, Lock, Pass, Step, WordValue}
+use Rattle.csq_draw.specs.declared.cells.Cell.{Cell, TheVariants.{Line, Lock, Pass, Step, WordValue}}
 use Rattle.csq_draw.specs.declared.rows.Row.{Row}
 use Rattle.csq_draw.specs.declared.words.WordValues.{WordValues}
 use Rattle.csq_draw.specs.Captions.{CaptionText}

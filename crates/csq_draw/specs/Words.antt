@@ -2,11 +2,8 @@
 use Rattle.std.specs.Prelude.{◌≡◌, ℕ, ◌==◌, Bool, true, false, List, Option, None}
 use Rattle.std.specs.Option.{option_map}
 use Rattle.irp_core.specs.declared.ids.IrpLife.{IrpLife}
-use Rattle.irp_core.specs.declared.standing.IrpPlace.{IrpPlace}
-use Rattle.irp_core.specs.declared.standing.IrpPlace.TheVariants.{Listed}
-use Rattle.irp_core.specs.declared.step.Kind.{Kind}
-use Rattle.irp_core.specs.declared.step.Kind.TheVariants.{Arm, Disarm, Flag, Take, Renew, Rearm}
-use Rattle.irp_core.specs.declared.step.Made.{Made}
+use Rattle.irp_core.specs.declared.standing.IrpPlace.{IrpPlace, TheVariants.{Listed}}
+use Rattle.irp_core.specs.declared.step.{Kind.{Kind, TheVariants.{Arm, Disarm, Flag, Take, Renew, Rearm}}, Made.{Made}}
 use Rattle.irp_core.specs.Lives.{present}
 use Rattle.irp_core.specs.MachineState.{MachineState, Agrees, size_of}
 use Rattle.irp_core.specs.Steps.{name_of}

@@ -150,7 +150,7 @@ impl<A: Allocator + Copy> Drawing<A> {
         Ok(())
     }
 
-    /// Draws the steps, and what is told in the end, as a picture.
+    /// Draws the steps, and what is reported in the end, as a picture.
     fn draw_end_as_svg(
         &self,
         reported: &[IrpLine],
@@ -191,7 +191,7 @@ impl<A: Allocator + Copy> Drawing<A> {
         }
     }
 
-    /// Draws the steps, and what is told in the end.
+    /// Draws the steps, and what is reported in the end.
     fn draw_end(
         &self,
         reported: &[IrpLine],

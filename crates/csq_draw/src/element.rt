@@ -24,7 +24,7 @@ pub(crate) enum Element {
     Span(Span),
     /// A step.
     Mark(Mark),
-    /// What stands below so many rows: the line that ended the handling, or what is told in the end.
+    /// What stands below so many rows: the line that ended the handling, or what is reported in the end.
     Below(u32, Below),
 }
 

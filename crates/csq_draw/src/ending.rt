@@ -4,7 +4,7 @@ use csq_explain::{IrpSentence, Reason, RestSentence};
 use csq_replay::{IrpLine, Stop};
 use std::fmt;
 
-/// A line that ended the handling, as it is told: its step, if it names one, and why it ended it.
+/// A line that ended the handling, as it is reported: its step, if it names one, and why it ended it.
 #[derive(Clone, Copy)]
 pub(crate) struct StopText(pub(crate) Stop);
 
@@ -29,7 +29,7 @@ impl fmt::Display for StopText {
 pub(crate) enum Below {
     /// The bar of the line that ended the handling, on the row below the last step.
     Bar,
-    /// What is told of that line, in its bar.
+    /// What is reported for that line, in its bar.
     Refused(Stop),
     /// Why it ended the handling, below its bar.
     Because(Reason),

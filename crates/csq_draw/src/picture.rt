@@ -292,7 +292,7 @@ pub(crate) fn draw_stopped<A: Allocator>(
     Ok(())
 }
 
-/// A picture of steps, and of what is told in the end, below its head.
+/// A picture of steps, and of what is reported in the end, below its head.
 pub(crate) fn draw_closed<A: Allocator>(
     passes: &[PassNow],
     rows: &[Row],

@@ -173,7 +173,7 @@ pub(crate) fn write_stopped<A: Allocator>(
     Ok(())
 }
 
-/// Writes the caption, the steps, and what is told in the end.
+/// Writes the caption, the steps, and what is reported in the end.
 pub(crate) fn write_closed<A: Allocator>(
     caption: &Caption<A>,
     passes: &[PassNow],

@@ -63,7 +63,7 @@ module _ (size : Size) (W : List Numbered) (w : Numbered) (to : w.step.pass.0 �
       ∙ ap (λ (now : PassNow). now.inside) (get-table (λ p. pass_now W (record { 0 = p })) (size.passes + 1) w.step.pass.0 new_pass_now (omega (arith, to)))
       ∙ inside_is w.step.pass W
 
--- a step is told in its call
+-- a step is described within its call
 pub reported_in_call : (E : List Made) (m : Made) (x : Inside) (status : Option NtStatus) → x ≡ inside E m.pass → status ≡ status_at E m.kind
     → record { made = m; inside = x; status = status } ≡ in_call E m
 reported_in_call E m x status a b =

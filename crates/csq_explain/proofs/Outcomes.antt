@@ -1,4 +1,4 @@
--- What came of a line, by what is told of it.
+-- What came of a line, by what is reported for it.
 use Rattle.std.proofs.Common.{◌≡◌, ℕ, List, ◌∷◌, ap, sym, subst}
 use Rattle.csq_explain.proofs.Imports.{Made, Size, Skipped, Accepted, Stopped, Numbered, run_of, StepInCall, Follows, Explains, all_passes, reason_of, in_call}
 use Rattle.csq_replay.specs.declared.schedule.outcome.Stop.{Stop}

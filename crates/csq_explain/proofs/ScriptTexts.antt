@@ -43,7 +43,7 @@ pub call_skipped_is : (b : Bool) (l : Limits) (n : ℕ) → [] ≡ call_line_tex
 call_skipped_is true l n = refl
 call_skipped_is false l n = refl
 
--- what is left is told in the closing lines
+-- what is left is reported in the closing lines
 pub same_remains : (l : Limits) (s : Script) (listed held owed : List IrpId) → AreLeft l s listed held owed → explained_remains listed held owed ≡ explained_closing l s
 same_remains l s listed held owed left =
     ap (λ x. explained_remains x held owed) left.listed_are ∙ ap (λ x. explained_remains (listed_irps s) x owed) left.held_are ∙ ap (explained_remains (listed_irps s) (kept_irps l s Held)) left.owed_are

@@ -3,18 +3,12 @@ use Rattle.std.specs.Prelude.{ℕ, nat_le, true, false, List, [], ◌++◌, code
 use Rattle.irp_core.specs.declared.ids.FileId.{FileId}
 use Rattle.irp_core.specs.declared.status.NtStatus.{NtStatus}
 use Rattle.irp_core.specs.Texts.{irp_text, name_text, life_text}
-use Rattle.csq_list.specs.declared.entry.Place.TheVariants.{Back, Front}
-use Rattle.csq_list.specs.declared.entry.Peek.TheVariants.{File}
+use Rattle.csq_list.specs.declared.entry.{Place.TheVariants.{Back, Front}, Peek.TheVariants.{File}}
 use Rattle.csq_list.specs.declared.refusals.InsertStatus.TheVariants as insert
-use Rattle.csq_replay.specs.declared.script.call.ScriptCall.{ScriptCall}
-use Rattle.csq_replay.specs.declared.script.call.ScriptCall.TheVariants.{Insert, Next, Remove, Mark, Routine, Cancel, Complete, Close, Cleanup, Flag, Status, Reuse, PutBack}
-use Rattle.csq_replay.specs.declared.script.call.ScriptRefusal.TheVariants.{UnknownIrp, UnknownFile, NoClaim, NotHeld, StatusPending, Stale, NotCompleted, LivesSpent}
-use Rattle.csq_replay.specs.declared.script.call.Reply.{Reply}
-use Rattle.csq_replay.specs.declared.script.call.Reply.TheVariants.{Pending, Cancelled, InsertRefused, Removed, NoIrp, Claimed, Unclaimed, Completed, CancelAnswered, Closed, Cleaned, Unset, Begun, Refused}
+use Rattle.csq_replay.specs.declared.script.call.{ScriptCall.{ScriptCall, TheVariants.{Insert, Next, Remove, Mark, Routine, Cancel, Complete, Close, Cleanup, Flag, Status, Reuse, PutBack}}, CallRefused.TheVariants.{UnknownIrp, UnknownFile, NoClaim, NotHeld, StatusPending, Stale, NotCompleted, LivesSpent}, Reply.{Reply, TheVariants.{Pending, Cancelled, InsertRefused, Removed, NoIrp, Claimed, Unclaimed, Completed, CancelAnswered, Closed, Cleaned, Unset, Begun, Refused}}}
 use Rattle.csq_replay.specs.declared.script.call.Reply.TheVariants as reply
 use Rattle.csq_replay.specs.declared.lines.TheConstants.{MAX_LINE}
-use Rattle.csq_replay.specs.declared.script.outcome.CallStop.{CallStop}
-use Rattle.csq_replay.specs.declared.script.outcome.CallStop.TheVariants.{TooLong, Malformed}
+use Rattle.csq_replay.specs.declared.script.outcome.CallStop.{CallStop, TheVariants.{TooLong, Malformed}}
 use Rattle.csq_explain.specs.declared.call_sentences.AnsweredCall.{AnsweredCall}
 use Rattle.csq_explain.specs.Sentences.{status_name}
 use Rattle.csq_explain.specs.Words.{call_words, listed}

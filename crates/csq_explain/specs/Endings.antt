@@ -1,7 +1,6 @@
 -- Where an IRP is in the end, and whether all is at rest, in sentences.
 use Rattle.std.specs.Prelude.{Bool, List, ℕ, ◌++◌, codes, if◌then◌else◌}
-use Rattle.irp_core.specs.declared.standing.IrpPlace.{IrpPlace}
-use Rattle.irp_core.specs.declared.standing.IrpPlace.TheVariants.{Home, Listed, HeldBy, Completed}
+use Rattle.irp_core.specs.declared.standing.IrpPlace.{IrpPlace, TheVariants.{Home, Listed, HeldBy, Completed}}
 use Rattle.irp_core.specs.Texts.{name_text, pass_text}
 use Rattle.csq_replay.specs.declared.schedule.closing.IrpLine.{IrpLine}
 use Rattle.csq_explain.specs.Sentences.{status_name}

@@ -1,21 +1,16 @@
 -- An execution, followed line by line: the contracts of what follows it.
 use Rattle.std.specs.Prelude.{◌≡◌, ℕ, List, ◌∷◌, Option, Some, None}
-use Rattle.irp_core.specs.declared.standing.IrpPlace.{IrpPlace}
-use Rattle.irp_core.specs.declared.standing.IrpPlace.TheVariants.{Home, Listed, HeldBy, Completed}
+use Rattle.irp_core.specs.declared.standing.IrpPlace.{IrpPlace, TheVariants.{Home, Listed, HeldBy, Completed}}
 use Rattle.irp_core.specs.declared.status.NtStatus.{NtStatus}
-use Rattle.irp_core.specs.declared.step.Kind.{Kind}
-use Rattle.irp_core.specs.declared.step.Kind.TheVariants.{Done}
-use Rattle.irp_core.specs.declared.step.Made.{Made}
+use Rattle.irp_core.specs.declared.step.{Kind.{Kind, TheVariants.{Done}}, Made.{Made}}
 use Rattle.irp_core.specs.Completion.{IsPlace}
 use Rattle.irp_core.specs.Lives.{present}
 use Rattle.irp_core.specs.MachineState.{Agrees, size_of}
 use Rattle.irp_core.specs.Runs.{Size, IsInLimits}
-use Rattle.csq_replay.specs.declared.schedule.outcome.Outcome.{Outcome}
-use Rattle.csq_replay.specs.declared.schedule.outcome.Outcome.TheVariants.{Skipped, Accepted, Stopped}
+use Rattle.csq_replay.specs.declared.schedule.outcome.Outcome.{Outcome, TheVariants.{Skipped, Accepted, Stopped}}
 use Rattle.csq_replay.specs.Outcomes.{ComesTo}
 use Rattle.csq_replay.specs.Schedule.{Numbered, run_of}
-use Rattle.csq_explain.specs.declared.execution.Execution.{Execution}
-use Rattle.csq_explain.specs.declared.execution.Explained.{Explained}
+use Rattle.csq_explain.specs.declared.execution.{Execution.{Execution}, Explained.{Explained}}
 use Rattle.csq_explain.specs.declared.execution.Explained.TheVariants as explained
 use Rattle.csq_explain.specs.declared.reasons.Reason.{Reason}
 use Rattle.csq_explain.specs.Passes.{all_passes}
@@ -44,7 +39,7 @@ explained_of size W Skipped = explained.Skipped
 explained_of size W (Accepted m) = explained.Accepted (in_call (run_of W) m)
 explained_of size W (Stopped stop) = explained.Stopped (reason_of size (all_passes size W) stop)
 
--- after the steps W this comes of the nth line, and is told so, and the execution goes on
+-- after the steps W this comes of the nth line, and is reported so, and the execution goes on
 abbrev pub Explains : {A : Type 0} → Size → List Numbered → ℕ → List ℕ → Explained → Execution A → Type 0
 Explains size W n line reported new = (comes : Outcome) × ComesTo size (run_of W) line comes × (reported ≡ explained_of size W comes) × Follows size new (steps_after W n comes)
 

@@ -7,8 +7,7 @@ use Rattle.irp_core.specs.Runs.{Size}
 use Rattle.irp_core.specs.Texts.{name_text, pass_text}
 use Rattle.csq_replay.specs.declared.lines.answer.Ended.{Ended}
 use Rattle.csq_replay.specs.declared.schedule.closing.IrpLine.{IrpLine}
-use Rattle.csq_replay.specs.declared.schedule.outcome.Outcome.{Outcome}
-use Rattle.csq_replay.specs.declared.schedule.outcome.Outcome.TheVariants.{Skipped, Accepted, Stopped}
+use Rattle.csq_replay.specs.declared.schedule.outcome.Outcome.{Outcome, TheVariants.{Skipped, Accepted, Stopped}}
 use Rattle.csq_replay.specs.Lines.{IsAnswer, RepliesTo}
 use Rattle.csq_replay.specs.Schedule.{Numbered, run_of, ReportsLine, answer_text, irp_line_text, rest_text, claim_line, exchanged_irp, Closes, IsScheduleAnswer}
 use Rattle.csq_explain.specs.Endings.{irp_sentence, rest_sentence}
@@ -33,7 +32,7 @@ explained_text size W n line comes = answer_text W n line comes ++ line_remark s
 abbrev pub ExplainsLine : Size → List Numbered → ℕ → List ℕ → List ℕ → Option (List Numbered) → Type 0
 ExplainsLine size = ReportsLine (explained_text size) size
 
--- of each IRP that is told of its closing line, and a sentence
+-- of each IRP that is reported its closing line, and a sentence
 abbrev pub explained_irps : List IrpLine → List ℕ
 explained_irps [] = []
 explained_irps (line ∷ lines) = ((irp_line_text line ++ codes "\n") ++ remark (irp_sentence line)) ++ explained_irps lines
@@ -67,6 +66,6 @@ abbrev pub IsScheduleText : Bool → Size → Bool → List ℕ → List ℕ →
 IsScheduleText true = IsExplanation
 IsScheduleText false = IsScheduleAnswer
 
--- of a reader and a writer that tell their bytes: a schedule was read, and its explanation was written
+-- of a reader and a writer whose bytes are known: a schedule was read, and its explanation was written
 abbrev pub ExplainsSchedule : Size → Bool → Option (List ℕ) → Option (List ℕ) → Option (List ℕ) → Option (List ℕ) → Ended → Type 0
 ExplainsSchedule size claims = RepliesTo (IsExplanation size claims)

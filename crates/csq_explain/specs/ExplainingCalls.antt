@@ -2,8 +2,7 @@
 use Rattle.std.specs.Prelude.{◌≡◌, ℕ, Bool, true, false, List, [], ◌++◌, Option}
 use Rattle.csq_words.specs.Queue.{Limits}
 use Rattle.csq_replay.specs.declared.lines.answer.Ended.{Ended}
-use Rattle.csq_replay.specs.declared.script.outcome.CallOutcome.{CallOutcome}
-use Rattle.csq_replay.specs.declared.script.outcome.CallOutcome.TheVariants.{Skipped, Answered, Stopped}
+use Rattle.csq_replay.specs.declared.script.outcome.CallOutcome.{CallOutcome, TheVariants.{Skipped, Answered, Stopped}}
 use Rattle.csq_replay.specs.Lines.{IsAnswer, RepliesTo}
 use Rattle.csq_replay.specs.Calls.{Script, new_script}
 use Rattle.csq_replay.specs.ScriptAnswer.{ReportsCall, call_text, IsScriptAnswer}
@@ -33,6 +32,6 @@ abbrev pub IsScriptText : Bool → Limits → List ℕ → List ℕ → Ended �
 IsScriptText true = IsScriptExplanation
 IsScriptText false = IsScriptAnswer
 
--- of a reader and a writer that tell their bytes: a script was read, and its explanation was written
+-- of a reader and a writer whose bytes are known: a script was read, and its explanation was written
 abbrev pub ExplainsScript : Limits → Option (List ℕ) → Option (List ℕ) → Option (List ℕ) → Option (List ℕ) → Ended → Type 0
 ExplainsScript l = RepliesTo (IsScriptExplanation l)

@@ -2,16 +2,12 @@
 use Rattle.std.specs.Prelude.{ℕ, List, ◌++◌, codes, decimal, filter, not, slice_index_or}
 use Rattle.std.specs.Str.{bytes_eq}
 use Rattle.irp_core.specs.declared.ids.PassId.{PassId}
-use Rattle.irp_core.specs.declared.inside.Inside.{Inside}
-use Rattle.irp_core.specs.declared.inside.Inside.TheVariants.{Nothing, Armed, FlagSeen, Removing, Cancelling, Rearmed, FlagSeenAgain}
-use Rattle.irp_core.specs.declared.refusals.StepRefused.{StepRefused}
-use Rattle.irp_core.specs.declared.step.Kind.{Kind}
-use Rattle.irp_core.specs.declared.step.Kind.TheVariants.{Rearm}
-use Rattle.irp_core.specs.declared.refusals.StepRefused.TheVariants.{UnknownIrp, UnknownPass, LockHeld, NotNext, NotHome, NotListed, NotOwed, NotHeld, Stale, NotCompleted, LivesSpent}
+use Rattle.irp_core.specs.declared.inside.Inside.{Inside, TheVariants.{Nothing, Armed, FlagSeen, Removing, Cancelling, Rearmed, FlagSeenAgain}}
+use Rattle.irp_core.specs.declared.refusals.StepRefused.{StepRefused, TheVariants.{UnknownIrp, UnknownPass, LockHeld, NotNext, NotHome, NotListed, NotOwed, NotHeld, Stale, NotCompleted, LivesSpent}}
+use Rattle.irp_core.specs.declared.step.Kind.{Kind, TheVariants.{Rearm}}
 use Rattle.irp_core.specs.Runs.{Size}
 use Rattle.irp_core.specs.Texts.{name_text, pass_text, life_text}
-use Rattle.csq_replay.specs.declared.schedule.outcome.Stop.{Stop}
-use Rattle.csq_replay.specs.declared.schedule.outcome.Stop.TheVariants.{TooLong, Malformed, Refused}
+use Rattle.csq_replay.specs.declared.schedule.outcome.Stop.{Stop, TheVariants.{TooLong, Malformed, Refused}}
 use Rattle.csq_replay.specs.declared.lines.TheConstants.{MAX_LINE}
 use Rattle.csq_explain.specs.declared.passes.PassNow.{PassNow}
 use Rattle.csq_explain.specs.declared.reasons.Reason.{Reason}

@@ -3,8 +3,7 @@ use Rattle.std.specs.Prelude.{ℕ, ◌==◌, List, [], ◌∷◌, ◌++◌, leng
 use Rattle.irp_core.specs.declared.ids.IrpId.{IrpId}
 use Rattle.irp_core.specs.Texts.{irp_text}
 use Rattle.csq_words.specs.Queue.{Limits}
-use Rattle.csq_replay.specs.declared.script.remains.Kept.{Kept}
-use Rattle.csq_replay.specs.declared.script.remains.Kept.TheVariants.{Held, Owed}
+use Rattle.csq_replay.specs.declared.script.remains.Kept.{Kept, TheVariants.{Held, Owed}}
 use Rattle.csq_replay.specs.Calls.{Script}
 use Rattle.csq_replay.specs.ScriptAnswer.{left_line, named_line, kept_name, listed_irps, kept_irps}
 use Rattle.csq_explain.specs.Explaining.{remark}

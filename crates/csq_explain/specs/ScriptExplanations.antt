@@ -2,9 +2,7 @@
 use Rattle.std.specs.Prelude.{◌≡◌, ℕ, Bool, true, false, List}
 use Rattle.csq_list.specs.Listing.{Listing}
 use Rattle.csq_words.specs.Queue.{Limits}
-use Rattle.csq_replay.specs.declared.script.outcome.CallOutcome.{CallOutcome}
-use Rattle.csq_replay.specs.declared.script.outcome.CallOutcome.TheVariants.{Stopped}
-use Rattle.csq_replay.specs.declared.script.outcome.CallStop.{CallStop}
+use Rattle.csq_replay.specs.declared.script.outcome.{CallOutcome.{CallOutcome, TheVariants.{Stopped}}, CallStop.{CallStop}}
 use Rattle.csq_replay.specs.Calls.{Script}
 use Rattle.csq_replay.specs.CallOutcomes.{CallComesTo}
 use Rattle.csq_replay.specs.Drivers.{StandsAt, keeping}

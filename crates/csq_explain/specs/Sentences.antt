@@ -1,11 +1,8 @@
 -- What a step did, in the words of the WDK.
 use Rattle.std.specs.Prelude.{ℕ, ◌==◌, not, Bool, true, false, List, [], ◌++◌, codes, Option, Some, None, if◌then◌else◌}
-use Rattle.irp_core.specs.declared.inside.Inside.{Inside}
-use Rattle.irp_core.specs.declared.inside.Inside.TheVariants.{Rearmed, FlagSeenAgain}
+use Rattle.irp_core.specs.declared.inside.Inside.{Inside, TheVariants.{Rearmed, FlagSeenAgain}}
 use Rattle.irp_core.specs.declared.status.NtStatus.{NtStatus}
-use Rattle.irp_core.specs.declared.step.Kind.{Kind}
-use Rattle.irp_core.specs.declared.step.Kind.TheVariants.{Arm, Test, Disarm, End, Flag, Take, Out, Done, Renew, Rearm}
-use Rattle.irp_core.specs.declared.step.Made.{Made}
+use Rattle.irp_core.specs.declared.step.{Kind.{Kind, TheVariants.{Arm, Test, Disarm, End, Flag, Take, Out, Done, Renew, Rearm}}, Made.{Made}}
 use Rattle.irp_core.specs.Completion.{removed, status_due}
 use Rattle.irp_core.specs.Inside.{inside, in_insert}
 use Rattle.irp_core.specs.Texts.{name_text, pass_text, status_text}
@@ -59,6 +56,6 @@ deed x status (Renew i) found = codes " began the life that comes after IRP " ++
 deed x status (Rearm i) found = codes " put IRP " ++ (name_text i ++ codes " back and set its cancel routine again (IoSetCancelRoutine(Irp, routine) in IoCsqInsertIrpEx), and holds it no longer")
 deed x status k found = finding x k found
 
--- a step, told in a sentence
+-- a step, described in a sentence
 abbrev pub sentence : StepInCall → List ℕ
 sentence s = pass_text s.made.pass ++ deed s.inside s.status s.made.kind (not (s.made.found == 0))

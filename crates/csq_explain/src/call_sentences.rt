@@ -4,7 +4,7 @@ ghost use Rattle.csq_explain.specs.CallSentences.{named_file, routine_name};
 
 use crate::sentences::StatusName;
 use csq_list::{InsertStatus, Peek, Place};
-use csq_replay::{CallStop, MAX_LINE, Reply, ScriptCall, ScriptRefusal};
+use csq_replay::{CallRefused, CallStop, MAX_LINE, Reply, ScriptCall};
 use irp_core::FileId;
 use std::fmt;
 
@@ -230,10 +230,10 @@ impl fmt::Display for RefusedFile {
 
 /// Why a call that was answered so is refused.
 #[derive(Clone, Copy)]
-struct CallRefusal(AnsweredCall);
+struct RefusedCall(AnsweredCall);
 
 /// As `file object 1 was closed by a cleanup or a close: STATUS_FILE_CLOSED`.
-impl fmt::Display for CallRefusal {
+impl fmt::Display for RefusedCall {
     ghost use Rattle.std.specs.Prelude.{Some};
     ghost use Rattle.csq_explain.specs.CallSentences.{call_refusal};
 
@@ -262,26 +262,20 @@ impl fmt::Display for CallRefusal {
                 ),
             },
             Reply::Refused(cause) => match cause {
-                ScriptRefusal::UnknownIrp => write!(f, "an IRP's number is below {irps}"),
-                ScriptRefusal::UnknownFile => write!(f, "a file object's number is below {files}"),
-                ScriptRefusal::NoClaim => write!(
+                CallRefused::UnknownIrp => write!(f, "an IRP's number is below {irps}"),
+                CallRefused::UnknownFile => write!(f, "a file object's number is below {files}"),
+                CallRefused::NoClaim => write!(
                     f,
                     "the pass doesn't owe {irp}: no mark claimed it, or its cancel routine has run"
                 ),
-                ScriptRefusal::NotHeld => write!(
+                CallRefused::NotHeld => write!(
                     f,
                     "the pass doesn't hold {irp}: no removal took it, or it was completed or put back since"
                 ),
-                ScriptRefusal::StatusPending => write!(
-                    f,
-                    "no IRP is completed with STATUS_PENDING"
-                ),
-                ScriptRefusal::Stale(life) => write!(f, "the IRP is in its life {life}"),
-                ScriptRefusal::NotCompleted => write!(
-                    f,
-                    "{irp} isn't completed in its present life"
-                ),
-                ScriptRefusal::LivesSpent => write!(f, "{irp} is in its last life"),
+                CallRefused::StatusPending => write!(f, "no IRP is completed with STATUS_PENDING"),
+                CallRefused::Stale(life) => write!(f, "the IRP is in its life {life}"),
+                CallRefused::NotCompleted => write!(f, "{irp} isn't completed in its present life"),
+                CallRefused::LivesSpent => write!(f, "{irp} is in its last life"),
             },
             _ => Ok(()),
         }
@@ -328,7 +322,7 @@ impl fmt::Display for AnsweredCall {
             ),
             Reply::Status(status) => write!(f, "{routine} of {object} is {}", StatusName(status)),
             Reply::Begun(life) => write!(f, "{routine} began life {life} of {object}"),
-            Reply::InsertRefused(_) | Reply::Refused(_) => write!(f, "{}", CallRefusal(*self)),
+            Reply::InsertRefused(_) | Reply::Refused(_) => write!(f, "{}", RefusedCall(*self)),
             Reply::Claimed | Reply::Unclaimed | Reply::CancelAnswered(_) | Reply::Completed(_) => {
                 write!(f, "{routine}{}", CancelWords(*self))
             }

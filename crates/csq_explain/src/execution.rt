@@ -38,10 +38,10 @@ pub enum Explained {
     Stopped(Reason),
 }
 
-/// What is told in the end.
+/// What is reported in the end.
 #[derive(Drop)]
 pub struct Closing<A: Allocator> {
-    /// Of each IRP that is told of.
+    /// Of each IRP that is reported.
     pub reported: Vec<IrpLine, A>,
     /// Whether all is at rest.
     pub rest: bool,
@@ -78,7 +78,7 @@ impl<A: Allocator + Copy> Execution<A> {
         })
     }
 
-    /// Makes the step that the line of this number names, if it may come next, and tells what is known of
+    /// Makes the step that the line of this number names, if it may come next, and returns what is known of
     /// what comes of the line. Own rule.
     pub fn handle(&mut self, line: Line<'_>) -> Explained
         requires { IsFollowing self.old }
@@ -129,7 +129,7 @@ impl<A: Allocator + Copy> Execution<A> {
         }
     }
 
-    /// What is told in the end: each IRP but those that are home in life 0 with a clear Cancel flag, by rising
+    /// What is reported in the end: each IRP but those that are home in life 0 with a clear Cancel flag, by rising
     /// number, and whether all is at rest. Own rule.
     pub fn close(&self, alloc: A) -> Result<Closing<A>, AllocError>
         ensures closes { IfOk result (λ closing. (size : Size) (W : List Numbered)
@@ -144,7 +144,7 @@ impl<A: Allocator + Copy> Execution<A> {
     }
 }
 
-/// What is told of the IRPs in the end.
+/// What is reported for the IRPs in the end.
 fn reported_irps<A: Allocator>(
     alloc: A,
     machine: &Machine<A>,
@@ -161,7 +161,7 @@ fn reported_irps<A: Allocator>(
     Ok(reported)
 }
 
-/// Adds what is told of an IRP, if it is told of.
+/// Adds what is reported for an IRP, if it is reported.
 fn push_reported<A: Allocator>(
     machine: &Machine<A>,
     irp: IrpId,

@@ -127,7 +127,7 @@ impl fmt::Display for Finding {
     }
 }
 
-/// A step, told in a sentence.
+/// A step, described in a sentence.
 #[derive(Clone, Copy)]
 pub struct Sentence(pub StepInCall);
 

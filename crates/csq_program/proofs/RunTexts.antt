@@ -1,4 +1,4 @@
--- What is told of runs.
+-- What is reported for runs.
 use Rattle.std.proofs.Common.{◌≡◌, ℕ, ◌+◌, ◌<◌, Bool, true, false, List, [], ◌++◌, codes, Option, refl, ap, subst, sym, add-one, arith}
 use Rattle.std.specs.Io.KnownBytes.{Keeps}
 use Rattle.std.proofs.KnownBytes.{Appends-nil, Appends-trans, Appends-kept}
@@ -16,7 +16,7 @@ first_lines plan t h =
     let accounted : t.home + t.listed + t.handed ≡ plan.irps = omega arith in
     λ k. line (codes "irps ") (irps k) ++ line (codes "accounted ") (accounted k) ++ line (codes "cancelled and listed ") (h.flagged k)
 
--- what is told of totals of a plan's device is told of a run of the plan
+-- what is reported for totals of a plan's device is reported for a run of the plan
 pub reported_run : (plan : Plan) (t : Totals) (took : Option Duration) (all : Bool) → AreTotalsOf plan t → IsRunText plan all (reported_text all (has_busy plan) t took)
 reported_run plan t took false h = first_lines plan t h
 reported_run plan t took true h = (t, took, h, ap (λ (text : List ℕ). text ++ counts_text (has_busy plan) t took) (first_lines plan t h))

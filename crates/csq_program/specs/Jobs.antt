@@ -8,12 +8,8 @@ use Rattle.irp_core.specs.Runs.{IsInLimits}
 use Rattle.csq_list.specs.AnyLists.{is_chained}
 use Rattle.csq_device.specs.Plans.{AreBusyWorkers, IsPlan}
 use Rattle.csq_device.specs.declared.plan.Plan.{Plan}
-use Rattle.csq_program.specs.declared.command.Job.{Job}
-use Rattle.csq_program.specs.declared.command.Job.TheVariants.{Schedule, Draw, Script, Run}
-use Rattle.csq_program.specs.declared.source.Source.{Source}
-use Rattle.csq_program.specs.declared.source.Source.TheVariants.{Standard, File}
-use Rattle.csq_program.specs.declared.command.CommandFault.{CommandFault}
-use Rattle.csq_program.specs.declared.command.CommandFault.TheVariants.{Memory, Refused, BusyWorkers}
+use Rattle.csq_program.specs.declared.command.{Job.{Job, TheVariants.{Schedule, Draw, Script, Run}}, CommandFault.{CommandFault, TheVariants.{Memory, Refused, BusyWorkers}}}
+use Rattle.csq_program.specs.declared.source.Source.{Source, TheVariants.{Standard, File}}
 
 -- each number is in its range
 abbrev pub IsInRange : Job → Type 0

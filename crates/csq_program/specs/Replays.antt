@@ -10,7 +10,7 @@ use Rattle.csq_explain.specs.ExplainingCalls.{ExplainsScript}
 use Rattle.csq_words.specs.Queue.{Limits as ListLimits}
 use Rattle.csq_program.specs.declared.replay.ScriptLimits.{ScriptLimits}
 
--- of a reader and a writer that tell their bytes: a schedule was read, and its answer was written, each line with a sentence where these are asked for
+-- of a reader and a writer whose bytes are known: a schedule was read, and its answer was written, each line with a sentence where these are asked for
 abbrev pub ReportsSchedule : Size → Bool → Bool → Option (List ℕ) → Option (List ℕ) → Option (List ℕ) → Option (List ℕ) → Ended → Type 0
 ReportsSchedule size claims true = ExplainsSchedule size claims
 ReportsSchedule size claims false = RepliesToSchedule size claims

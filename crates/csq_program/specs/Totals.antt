@@ -5,8 +5,7 @@ use Rattle.std.specs.Duration.{as_nanos}
 use Rattle.std.specs.declared.time.Duration.{Duration}
 use Rattle.csq_device.specs.declared.plan.Plan.{Plan}
 use Rattle.csq_device.specs.declared.totals.Totals.{Totals}
-use Rattle.csq_device.specs.declared.refusals.RunRefused.{RunRefused}
-use Rattle.csq_device.specs.declared.refusals.RunRefused.TheVariants.{Memory, Spawn, NotClosed}
+use Rattle.csq_device.specs.declared.refusals.RunRefused.{RunRefused, TheVariants.{Memory, Spawn, NotClosed}}
 use Rattle.csq_program.specs.declared.device_run.RunFault.{RunFault}
 use Rattle.csq_program.specs.declared.device_run.RunFault.TheVariants as fault
 
@@ -48,11 +47,11 @@ abbrev pub time_text : Option Duration → List ℕ
 time_text (Some took) = codes "milliseconds " ++ (decimal (as_nanos took / 1_000_000) ++ (codes "." ++ (three_digits (as_nanos took / 1_000 % 1_000) ++ codes "\n")))
 time_text None = codes "milliseconds unknown\n"
 
--- the further lines of a run that is told with its totals, which has busy workers or none
+-- the further lines of a run that is reported with its totals, which has busy workers or none
 abbrev pub counts_text : Bool → Totals → Option Duration → List ℕ
 counts_text busy t took = states_text t ++ completions_text busy t ++ calls_text busy t ++ time_text took
 
--- what is told of a run
+-- what is reported for a run
 abbrev pub reported_text : Bool → Bool → Totals → Option Duration → List ℕ
 reported_text false busy t took = totals_text t
 reported_text true busy t took = totals_text t ++ counts_text busy t took
@@ -74,29 +73,29 @@ pub record AreTotalsOf (plan : Plan) (t : Totals) : Type 0 where
   pub cancels : t.cancels.made ≡ min plan.irps (plan.cancellers * plan.turns)
   pub put_backs : t.put_backs.made ≤ plan.busy_workers * plan.turns
 
--- what is told of a run of the plan: the three lines, and with its totals the further ones
+-- what is reported for a run of the plan: the three lines, and with its totals the further ones
 abbrev pub IsRunText : Plan → Bool → List ℕ → Type 0
 IsRunText plan false text = text ≡ run_text plan.irps
 IsRunText plan true text = (t : Totals) × (took : Option Duration) × AreTotalsOf plan t × (text ≡ run_text plan.irps ++ counts_text (has_busy plan) t took)
 
--- known bytes grow by what is told of a run
+-- known bytes grow by what is reported for a run
 abbrev pub WritesRun : Plan → Bool → Option (List ℕ) → Option (List ℕ) → Type 0
 WritesRun plan totals old new = (text : List ℕ) × IsRunText plan totals text × Appends old new text
 
--- what is told of so many runs, one after the other
+-- what is reported for so many runs, one after the other
 abbrev pub AreRunTexts : Plan → Bool → ℕ → List ℕ → Type 0
 AreRunTexts plan totals zero text = text ≡ []
 AreRunTexts plan totals (suc n) text = (before : List ℕ) × (last : List ℕ) × AreRunTexts plan totals n before × IsRunText plan totals last × (text ≡ before ++ last)
 
--- known bytes grow by what is told of so many runs
+-- known bytes grow by what is reported for so many runs
 abbrev pub WritesRuns : Plan → Bool → ℕ → Option (List ℕ) → Option (List ℕ) → Type 0
 WritesRuns plan totals n old new = (text : List ℕ) × AreRunTexts plan totals n text × Appends old new text
 
--- known bytes grow by what is told of fewer runs than these
+-- known bytes grow by what is reported for fewer runs than these
 abbrev pub WritesFewerRuns : Plan → Bool → ℕ → Option (List ℕ) → Option (List ℕ) → Type 0
 WritesFewerRuns plan totals n old new = (done : ℕ) × (done < n) × WritesRuns plan totals done old new
 
--- the fault that a device's refusal is told as
+-- the fault that a device's refusal is reported as
 abbrev pub fault_of : RunRefused → RunFault
 fault_of Memory = fault.Memory
 fault_of Spawn = fault.Spawn

@@ -22,7 +22,7 @@ use thiserror::Error;
 /// What the program is asked to do.
 #[derive(Clone, Copy, Debug, PartialEq, Eq)]
 pub enum Job<'a> {
-    /// To replay a schedule over this many IRPs and passes, and to tell its claims and explain each line
+    /// To replay a schedule over this many IRPs and passes, and to report its claims and explain each line
     /// of the answer, or not.
     Schedule {
         source: Source<'a>,
@@ -50,7 +50,7 @@ pub enum Job<'a> {
         list: ListKind,
         explain: bool,
     },
-    /// To run so many devices of this plan, one after the other, and to tell all totals of each or not.
+    /// To run so many devices of this plan, one after the other, and to report all totals of each or not.
     /// The lists are of this kind.
     Run {
         plan: Plan,
@@ -103,7 +103,7 @@ impl From<clap::Error> for CommandFault {
     }
 }
 
-/// The headings under which options are told: others are told as options.
+/// The headings under which options are listed: others are listed as options.
 const SIZE: &str = "Size";
 
 const LIMITS: &str = "ScriptLimits";
@@ -437,7 +437,7 @@ pub fn refuse_bytes(alloc: Global) -> CommandFault
     refusal(alloc, ErrorKind::InvalidValue, "an argument isn't UTF-8")
 }
 
-/// A refusal for this reason, as `clap` tells its own, or Memory.
+/// A refusal for this reason, as `clap` reports its own, or Memory.
 fn refusal(alloc: Global, kind: ErrorKind, reason: &str) -> CommandFault
     ensures { IsRefusalOf kind result }
 {

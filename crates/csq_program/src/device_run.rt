@@ -71,7 +71,7 @@ impl From<RunRefused> for RunFault {
     }
 }
 
-/// The time since the clock told this, if it told it and tells the time now.
+/// The time since this was read from the clock, if it was read and the clock can be read now.
 fn time_since<R: Clock>(rt: &R, start: Option<Instant>) -> Option<Duration>
     ensures { start ≡ None → result ≡ None }
 {

@@ -1,4 +1,4 @@
-//! What `--help` and `--version` tell.
+//! What `--help` and `--version` print.
 
 /// The version of the program.
 pub(crate) const VERSION: &str = "1.0.0";

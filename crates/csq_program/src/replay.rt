@@ -20,14 +20,14 @@ use std::io::{Read, Write};
 use std::rt::Files;
 use std::{fmt, str};
 
-/// How large a schedule's machine is, and how the schedule is told.
+/// How large a schedule's machine is, and how the schedule is answered.
 #[derive(Clone, Copy)]
 struct ScheduleOptions {
     /// The IRPs.
     irps: u32,
     /// The passes.
     passes: u32,
-    /// Whether each claim is told.
+    /// Whether each claim is reported.
     claims: bool,
     /// Whether each line of the answer is explained.
     explain: bool,

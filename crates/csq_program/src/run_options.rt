@@ -13,7 +13,7 @@ use irp_core::{MAX_IRPS, MAX_PASSES};
 use std::alloc::{AllocError, Global};
 use thiserror::Error;
 
-/// The headings under which options are told.
+/// The headings under which options are listed.
 const THREADS: &str = "Threads";
 
 const RUNS: &str = "Runs";

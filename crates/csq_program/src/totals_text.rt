@@ -132,7 +132,7 @@ fn write_time<A: Allocator>(took: Option<Duration>, text: &mut String<A>) -> Res
     }
 }
 
-/// What is told of a run that took this long: the lines that each run has, and with `all` the further ones,
+/// What is reported for a run that took this long: the lines that each run has, and with `all` the further ones,
 /// those of busy workers among them if there are some.
 pub(crate) fn write_run<A: Allocator>(
     totals: &Totals,

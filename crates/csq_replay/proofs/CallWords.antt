@@ -7,7 +7,7 @@ use Rattle.csq_replay.specs.CallLine.{call_name, named_life, place_word, IsLifeN
 use Rattle.csq_replay.proofs.NameWords.{alone, word_alone, same_name, words_of-decimal}
 use Rattle.csq_replay.proofs.StatusWords.{words_of-digits}
 
--- three letters tell a name
+-- three letters single out a name
 abbrev pub letters : List ℕ → ℕ
 letters name = slice_index name 0 + (1000 * slice_index name 1 + 1000000 * slice_index name 2)
 
@@ -122,7 +122,7 @@ same_pointwise : (xs : List ℕ) → pointwise nat_eq xs xs ≡ true
 same_pointwise [] = refl
 same_pointwise (x ∷ xs) = rw (eq-eqb x x refl) (same_pointwise xs)
 
--- words that were told apart are not the same
+-- words that differ there are not the same
 pub apart : (word text s : List ℕ) (b : Bool) → b ≡ pointwise nat_eq word s → b ≡ false → s ≡ text → word ≡ text → ⊥
 apart word text s b is differ same e =
     let t : pointwise nat_eq word s ≡ true = ap (λ (x : List ℕ). pointwise nat_eq x s) (e ∙ sym same) ∙ same_pointwise s in cc

@@ -2,19 +2,19 @@
 use Rattle.std.proofs.Common.{◌≡◌, ◌≢◌, ℕ, ◌+◌, ◌<◌, Bool, true, false, cond, not, ◌&&◌, ◌||◌, List, [], ◌∷◌, map, length, Some, None, refl, ap, sym, ◌∙◌, subst, arith}
 use Rattle.csq_replay.proofs.Imports.{and_parts, not-true, not-false, or-false, and-false, or-true, length-map, FileId, IrpId, NtStatus, PENDING, CANCELLED, Disarm, Made, life_of, same_irp, IrpLife, armed, holds, Size, same_irp-refl, same_irp-eq, same_pass-refl, Peek, File, matches, is_listed, is_distinct, Listing, IsSound, filter-none, Queued, QueueState, Limits, present_in, first_unmarked, has_entry, without, after_event, plain, is_listed-plain, ArePresent, Next, Mark, Cancel, Close, Cleanup, Reply, Removed, NoIrp, Refused, Script, script_pass, present_of, completing, next_step, after_steps, removal_steps, Calls, Cleans, Does, removes_next, completes, holds_none, is_stale, knows_no_irp, knows_no_file, none_left, one_more, calls, Keeping, Keeps, AreMarked}
 use Rattle.csq_words.specs.declared.views.Event.TheVariants as event
-use Rattle.csq_replay.specs.declared.script.call.ScriptRefusal.{ScriptRefusal}
+use Rattle.csq_replay.specs.declared.script.call.CallRefused.{CallRefused}
 use Rattle.csq_replay.proofs.Removing.{present, entry_now, listed_is, listed_known}
 use Rattle.csq_replay.proofs.Queueing.{marks_stay, taken_routine}
 
 -- a mark that is refused refuses the cancel
-pub cancel_refused : (l : Limits) (s t : Script) (i : IrpLife) (refusal : ScriptRefusal) → Calls l s (Mark i) (Refused refusal) t → Does l s (Cancel i) (Refused refusal) t
+pub cancel_refused : (l : Limits) (s t : Script) (i : IrpLife) (refusal : CallRefused) → Calls l s (Mark i) (Refused refusal) t → Does l s (Cancel i) (Refused refusal) t
 cancel_refused l s t i refusal (is_stale c k names known stale) = calls (Cancel i) (Refused refusal) t (is_stale (Cancel i) k names known stale)
 cancel_refused l s t i refusal (knows_no_irp c k names le) = calls (Cancel i) (Refused refusal) t (knows_no_irp (Cancel i) k names le)
 cancel_refused l s t i refusal (knows_no_file c f names le) = absurd (cc names)
 cancel_refused l s t i refusal (holds_none c n takes lt none) = absurd (cc takes)
 
 -- a close that is refused refuses the cleanup
-pub cleanup_refused : (l : Limits) (s t : Script) (f : FileId) (refusal : ScriptRefusal) → Calls l s (Close f) (Refused refusal) t → Does l s (Cleanup f) (Refused refusal) t
+pub cleanup_refused : (l : Limits) (s t : Script) (f : FileId) (refusal : CallRefused) → Calls l s (Close f) (Refused refusal) t → Does l s (Cleanup f) (Refused refusal) t
 cleanup_refused l s t f refusal (is_stale c j names known stale) = absurd (cc names)
 cleanup_refused l s t f refusal (holds_none c n takes lt none) = absurd (cc takes)
 cleanup_refused l s t f refusal (knows_no_irp c j names le) = absurd (cc names)
@@ -65,7 +65,7 @@ length_without lives i (e ∷ es) present d h = go (same_irp e.irp i) refl h (le
         omega (arith, ap length (filter-none (λ (e : Queued). same_irp e.irp i) es alone))
     go false other h rest = omega (arith, rest h)
 
--- what a removal of the next match tells
+-- what a removal of the next match reports
 pub next_removed : (l : Limits) (s t : Script) (k : Peek) (n : IrpId) (r : Reply) → r ≡ Removed n → Calls l s (Next k) r t
     → (j : IrpLife) × (j.irp ≡ n) × (first_unmarked k s.queue.entries ≡ Some j) × (t.run ≡ after_steps (removal_steps k s.queue.entries) s.run) × (t.queue ≡ after_event s.queue (event.RemoveNext k (Some j)))
 next_removed l s t k n r is (removes_next k' (Some j) may) = let same : j.irp ≡ n = cc is in (j, same, sym may, refl, refl)

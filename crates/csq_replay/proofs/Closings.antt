@@ -14,7 +14,7 @@ pub lines-append : (xs ys : List IrpLine) → irp_lines_text (xs ++ ys) ≡ irp_
 lines-append [] ys = refl
 lines-append (x ∷ xs) ys = ap (λ t. (irp_line_text x ++ codes "\n") ++ t) (lines-append xs ys) ∙ sym (append_assoc (irp_line_text x ++ codes "\n") (irp_lines_text xs) (irp_lines_text ys))
 
--- one more IRP is told of
+-- one more IRP is reported
 pub reported_more : (first : ℕ) (E : List Made) (n : ℕ) (before last : List IrpLine) → AreReportedOf first E n before → IsReportedOf E (present first E (record { 0 = n })) last → AreReportedOf first E (n + 1) (before ++ last)
 reported_more first E n before last lines line =
     let P : ℕ → Type 0 = λ k. AreReportedOf first E k (before ++ last) in

@@ -24,7 +24,7 @@ pub use Rattle.csq_replay.specs.declared.lines.answer.Ended.{Ended}
 pub use Rattle.csq_replay.specs.declared.schedule.closing.IrpLine.{IrpLine}
 pub use Rattle.csq_replay.specs.declared.script.call.ScriptCall.{ScriptCall}
 pub use Rattle.csq_replay.specs.declared.script.call.ScriptCall.TheVariants.{Cancel, Cleanup, Close, Complete, Insert, Mark, Next, PutBack, Remove, Reuse, Routine, Status}
-pub use Rattle.csq_replay.specs.declared.script.call.ScriptRefusal.TheVariants.{LivesSpent, NoClaim, NotCompleted, NotHeld, Stale, StatusPending, UnknownFile, UnknownIrp}
+pub use Rattle.csq_replay.specs.declared.script.call.CallRefused.TheVariants.{LivesSpent, NoClaim, NotCompleted, NotHeld, Stale, StatusPending, UnknownFile, UnknownIrp}
 pub use Rattle.csq_replay.specs.declared.script.call.Reply.{Reply}
 pub use Rattle.csq_replay.specs.declared.script.call.Reply.TheVariants.{Begun, Cancelled, Claimed, Cleaned, Closed, Completed, InsertRefused, NoIrp, Pending, Refused, Removed, Unclaimed}
 pub use Rattle.csq_words.proofs.Listings.{is_listed-plain, listing-inserted, listing-marked, listing-put_and_taken, listing-relisted, listing-removed, listing-renewed, listing-taken_back}

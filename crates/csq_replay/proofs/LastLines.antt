@@ -67,7 +67,7 @@ pub grew_thrice : (first second third fourth a b c : List ℕ) → second ≡ fi
 grew_thrice first second third fourth a b c x y z =
     z ∙ ap (λ t. t ++ c) (y ∙ ap (λ t. t ++ b) x) ∙ append_assoc (first ++ a) b c ∙ append_assoc first a (b ++ c)
 
--- what is left is told in the closing lines
+-- what is left is reported in the closing lines
 pub same_lines : (l : Limits) (s : Script) (listed held owed : List IrpId) → AreLeft l s listed held owed → left_lines listed held owed ≡ closing_lines l s
 same_lines l s listed held owed left =
     ap (λ x. left_lines x held owed) left.listed_are ∙ ap (λ x. left_lines (listed_irps s) x owed) left.held_are ∙ ap (left_lines (listed_irps s) (kept_irps l s Held)) left.owed_are

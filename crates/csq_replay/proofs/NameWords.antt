@@ -44,7 +44,7 @@ word_alone word i (inr h) =
     (All-cons P 64 (decimal (life_of i)) refl (no_digit 32 (life_of i) (short_fits _ h.2) (inl (omega arith)))) in
     rw h.0 (slice_split_none (λ b. b == 32) (decimal (number i) ++ (64 ∷ decimal (life_of i))) all)
 
--- the pieces of a name: the number, and the life's where it is told
+-- the pieces of a name: the number, and the life's if it is named
 abbrev pub NamePieces : List ℕ → IrpLife → Type 0
 NamePieces word i = ((pieces 64 word ≡ decimal (number i) ∷ []) × (life_of i ≡ 0)) ⊎ (pieces 64 word ≡ decimal (number i) ∷ decimal (life_of i) ∷ [])
 

@@ -78,7 +78,7 @@ one_rest E false false h g = refl
 one_rest E true false h g = absurd (cc (g.1 (h.0 refl)))
 one_rest E false true h g = absurd (cc (h.1 (g.0 refl)))
 
--- what is told in the end is one
+-- what is reported in the end is one
 pub one_close : (size : Size) (E : List Made) → IsRun size E → (reported other : List IrpLine) (rest otherwise : Bool) → Closes size E reported rest → Closes size E other otherwise → (reported ≡ other) × (rest ≡ otherwise)
 one_close size E r reported other rest otherwise a b = (all_reported size E r size.irps reported other a.irps b.irps, one_rest E rest otherwise a.rest b.rest)
 
@@ -165,7 +165,7 @@ module _ (size : Size) (E : List Made) (line : List ℕ) (r : IsRun size E) wher
       let same = same_step line s t a.0 b.0 in
       ap (λ x. Stopped (Refused x c)) same ∙ ap (λ x. Stopped (Refused t x)) (both_refused s t c d same a.1 b.1)
 
--- what is told of a line is one, however it is told
+-- what is reported for a line is one, however it is reported
 module _ (report : List Numbered → ℕ → List ℕ → Outcome → List ℕ) (size : Size) where
   pub one_line : (W : List Numbered) (n : ℕ) (line t u : List ℕ) (m k : Option (List Numbered)) → IsRun size (run_of W) → ReportsLine report size W n line t m → ReportsLine report size W n line u k → (t ≡ u) × (m ≡ k)
   one_line W n line t u m k r (o, comes, e, f) (p, comes', g, h) =

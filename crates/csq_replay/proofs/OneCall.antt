@@ -56,7 +56,7 @@ module _ (words : List (List ℕ)) where
   no_star : (f : FileId) → words ≡ codes "*" ∷ [] → IsOne (λ word. IsFileWord word f) words → ⊥
   no_star f star (word, is, named) = let e : codes "*" ≡ word = cc (star, is) in star_no_number f.0 named.1 (e ∙ named.0)
 
-  -- three letters of its name tell a call, and its operands the rest
+  -- three letters of its name single out a call, and its operands the rest
   same_operands : (c d : ScriptCall) → call_name c ≡ call_name d → AreOperands words c → AreOperands words d → c ≡ d
   same_operands (Insert i f p) (Insert j g q) e (irp, file, is, first, second) (irp', file', is', first', second') =
       let same : irp' ≡ irp = cc (is, is') in

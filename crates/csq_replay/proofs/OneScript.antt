@@ -256,7 +256,7 @@ module _ (l : Limits) where
   one_outcome s line (Stopped Malformed) (Stopped TooLong) t u a b = absurd (omega (arith, a.0, b.0))
   one_outcome s line (Stopped Malformed) (Stopped Malformed) t u a b = (refl, a.3 ∙ sym b.3)
 
-  -- a script is told in one way, however its lines and its end are told
+  -- a script is reported in one way, however its lines and its end are reported
   module _ (report : ℕ → CallOutcome → List ℕ) (closing : Script → List ℕ) where
     one_line : (s : Script) (n : ℕ) (line t u : List ℕ) (m k : Option Script) → ReportsCall report l s n line t m → ReportsCall report l s n line u k → (t ≡ u) × (m ≡ k)
     one_line s n line t u m k (o, v, comes, e, f) (p, w, comes', g, h) =

@@ -10,7 +10,7 @@ same_passes p q a b e =
     let named : ℕ → PassId = λ n. record { 0 = n } in
     ap named (number_by_text p.0 q.0 a b digits)
 
--- the first three letters of its verb tell a kind
+-- the first three letters of its verb single out a kind
 same_verbs : (k l : Kind) (i : IrpLife) → name_of k ≡ Some i → name_of l ≡ Some i → verb_of k ≡ verb_of l → k ≡ l
 same_verbs (Arm i) (Arm j) n e f v = cc (e, f)
 same_verbs (Test i) (Test j) n e f v = cc (e, f)

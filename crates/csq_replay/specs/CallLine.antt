@@ -1,15 +1,10 @@
 -- The lines that name a call.
 use Rattle.std.specs.Prelude.{◌≡◌, ◌⊎◌, ℕ, List, [], ◌∷◌, length, codes, decimal, Option, Some, None}
 use Rattle.std.specs.Str.Parse.{AllDigits, digits_value}
-use Rattle.irp_core.specs.declared.ids.FileId.{FileId}
-use Rattle.irp_core.specs.declared.ids.IrpId.{IrpId}
-use Rattle.irp_core.specs.declared.ids.IrpLife.{IrpLife}
+use Rattle.irp_core.specs.declared.ids.{FileId.{FileId}, IrpId.{IrpId}, IrpLife.{IrpLife}}
 use Rattle.irp_core.specs.Texts.{irp_text}
-use Rattle.csq_list.specs.declared.entry.Place.{Place}
-use Rattle.csq_list.specs.declared.entry.Place.TheVariants.{Back, Front}
-use Rattle.csq_list.specs.declared.entry.Peek.TheVariants.{Any, File}
-use Rattle.csq_replay.specs.declared.script.call.ScriptCall.{ScriptCall}
-use Rattle.csq_replay.specs.declared.script.call.ScriptCall.TheVariants.{Insert, Next, Remove, Mark, Routine, Cancel, Complete, Close, Cleanup, Flag, Status, Reuse, PutBack}
+use Rattle.csq_list.specs.declared.entry.{Place.{Place, TheVariants.{Back, Front}}, Peek.TheVariants.{Any, File}}
+use Rattle.csq_replay.specs.declared.script.call.ScriptCall.{ScriptCall, TheVariants.{Insert, Next, Remove, Mark, Routine, Cancel, Complete, Close, Cleanup, Flag, Status, Reuse, PutBack}}
 use Rattle.csq_replay.specs.Pieces.{words_of, IsShort}
 use Rattle.csq_replay.specs.StepLine.{IsNameWord}
 

@@ -3,10 +3,7 @@ use Rattle.std.specs.Prelude.{◌≡◌, ◌<◌, List, ℕ, length, codes}
 use Rattle.csq_words.specs.Queue.{Limits}
 use Rattle.irp_core.specs.Runs.{IsRun}
 use Rattle.csq_replay.specs.declared.script.call.ScriptCall.{ScriptCall}
-use Rattle.csq_replay.specs.declared.script.outcome.CallStop.{CallStop}
-use Rattle.csq_replay.specs.declared.script.outcome.CallStop.TheVariants.{TooLong, Malformed}
-use Rattle.csq_replay.specs.declared.script.outcome.CallOutcome.{CallOutcome}
-use Rattle.csq_replay.specs.declared.script.outcome.CallOutcome.TheVariants.{Skipped, Answered, Stopped}
+use Rattle.csq_replay.specs.declared.script.outcome.{CallStop.{CallStop, TheVariants.{TooLong, Malformed}}, CallOutcome.{CallOutcome, TheVariants.{Skipped, Answered, Stopped}}}
 use Rattle.csq_replay.specs.Lines.{IsWithinLine, IsSkipped}
 use Rattle.csq_replay.specs.CallLine.{IsCallLine}
 use Rattle.csq_replay.specs.Calls.{Script, script_size, Does}

@@ -1,11 +1,9 @@
 -- What a driver keeps of its script: the contracts of what makes its calls.
 use Rattle.std.specs.Prelude.{◌≡◌, ℕ, ◌<◌, ◌≤◌, true, not, List, [], ◌∷◌, length, Option, None, slice_index_or}
-use Rattle.irp_core.specs.declared.ids.FileId.{FileId}
-use Rattle.irp_core.specs.declared.ids.IrpId.{IrpId}
+use Rattle.irp_core.specs.declared.ids.{FileId.{FileId}, IrpId.{IrpId}, IrpLife.{IrpLife}}
 use Rattle.irp_core.specs.declared.status.NtStatus.{NtStatus}
 use Rattle.irp_core.specs.declared.step.Made.{Made}
 use Rattle.irp_core.specs.declared.inside.Inside.TheVariants.{Nothing}
-use Rattle.irp_core.specs.declared.ids.IrpLife.{IrpLife}
 use Rattle.irp_core.specs.Words.{armed, flagged, was_armed}
 use Rattle.irp_core.specs.Inside.{inside}
 use Rattle.irp_core.specs.Owners.{owes, holds, listed, dones}
@@ -15,8 +13,7 @@ use Rattle.irp_core.specs.MachineState.{MachineState, Agrees, size_of}
 use Rattle.csq_words.specs.Plays.{status_recorded}
 use Rattle.csq_list.specs.Listing.{Listing}
 use Rattle.csq_words.specs.Queue.{Queued, QueueState, Limits, plain_listing, has_irp, has_entry}
-use Rattle.csq_replay.specs.declared.script.call.ScriptCall.{ScriptCall}
-use Rattle.csq_replay.specs.declared.script.call.Reply.{Reply}
+use Rattle.csq_replay.specs.declared.script.call.{ScriptCall.{ScriptCall}, Reply.{Reply}}
 use Rattle.csq_replay.specs.declared.script.driver.Driver.{Driver}
 use Rattle.csq_replay.specs.Calls.{Script, script_pass, script_size, present_of, Calls, Does}
 

@@ -1,8 +1,7 @@
 -- What holds of every schedule, and of every script.
 use Rattle.std.specs.Prelude.{◌≡◌, ◌⊎◌, ℕ, Bool, List, [], ◌∷◌, ◌++◌, Some, IsTrue}
 use Rattle.irp_core.specs.Runs.{Size}
-use Rattle.csq_replay.specs.declared.lines.answer.Ended.{Ended}
-use Rattle.csq_replay.specs.declared.lines.answer.Ended.TheVariants.{AllHandled}
+use Rattle.csq_replay.specs.declared.lines.answer.Ended.{Ended, TheVariants.{AllHandled}}
 use Rattle.csq_replay.specs.Pieces.{lines_of}
 use Rattle.csq_replay.specs.Lines.{IsSkipped}
 use Rattle.csq_replay.specs.Schedule.{IsScheduleAnswer}
@@ -12,8 +11,7 @@ use Rattle.irp_core.specs.declared.ids.IrpLife.{IrpLife}
 use Rattle.irp_core.specs.Owners.{holds}
 use Rattle.csq_words.specs.Plays.{status_recorded}
 use Rattle.csq_words.specs.Queue.{Limits, has_irp, has_entry}
-use Rattle.csq_replay.specs.declared.script.call.ScriptCall.{ScriptCall}
-use Rattle.csq_replay.specs.declared.script.call.Reply.{Reply}
+use Rattle.csq_replay.specs.declared.script.call.{ScriptCall.{ScriptCall}, Reply.{Reply}}
 use Rattle.csq_replay.specs.Calls.{Script, script_pass, new_script, Does}
 use Rattle.csq_replay.specs.ScriptAnswer.{IsScriptAnswer, closing_lines}
 
@@ -34,7 +32,7 @@ pub data LeadTo (l : Limits) : Script → List (List ℕ) → Script → Type 0 
   by_call : (s t u : Script) (line : List ℕ) (lines : List (List ℕ)) (c : ScriptCall) (r : Reply) → IsCallLine line c → Does l s c r t → LeadTo l t lines u
       → LeadTo l s (line ∷ lines) u
 
--- the IRP in this life is listed, held, or completed with a status that is told
+-- the IRP in this life is listed, held, or completed with a status that is reported
 abbrev pub IsAccountedFor : Script → IrpLife → Type 0
 IsAccountedFor s i = IsTrue (has_entry s.queue.entries i) ⊎ (IsTrue (holds s.run script_pass i) ⊎ ((status : NtStatus) × (status_recorded i s.completed ≡ Some status)))
 

@@ -1,8 +1,7 @@
 -- How lines are answered, one after the other: those of a schedule, and those of a script.
 use Rattle.std.specs.Prelude.{◌≡◌, ℕ, ◌+◌, ◌<◌, ◌≤◌, List, [], ◌∷◌, ◌++◌, length, codes, decimal, Option, Some, None, IfNone}
 use Rattle.std.specs.Io.KnownBytes.{Appends}
-use Rattle.csq_replay.specs.declared.lines.answer.Ended.{Ended}
-use Rattle.csq_replay.specs.declared.lines.answer.Ended.TheVariants.{AllHandled, Stopped}
+use Rattle.csq_replay.specs.declared.lines.answer.Ended.{Ended, TheVariants.{AllHandled, Stopped}}
 use Rattle.csq_replay.specs.declared.lines.Ending.{Ending}
 use Rattle.csq_replay.specs.declared.lines.Ending.TheVariants as ending
 use Rattle.csq_replay.specs.Inputs.{input_limit, ReadsInput}
@@ -67,7 +66,7 @@ pub record IsAnswerUntil {S W : Type 0} (answers : S → ℕ → List ℕ → Li
   pub answer : IsAnswer (AnswersUntil answers fits end) closes s input text (ended_of end)
   pub long : input_limit < length input → end ≡ ending.TooLong
 
--- of a reader and a writer that tell their bytes: an input was read, and its answer was written
+-- of a reader and a writer whose bytes are known: an input was read, and its answer was written
 abbrev pub RepliesTo : (List ℕ → List ℕ → Ended → Type 0) → Option (List ℕ) → Option (List ℕ) → Option (List ℕ) → Option (List ℕ) → Ended → Type 0
 RepliesTo is_answer unread left held holds ended =
     (input : List ℕ) × (text : List ℕ) × ReadsInput unread left input × is_answer input text ended × Appends held holds text

@@ -1,14 +1,10 @@
 -- What comes of a line of a schedule.
 use Rattle.std.specs.Prelude.{ℕ, ◌<◌, List, ◌∷◌, ◌++◌, length, codes}
-use Rattle.irp_core.specs.declared.step.Made.{Made}
-use Rattle.irp_core.specs.declared.step.Step.{Step}
+use Rattle.irp_core.specs.declared.step.{Made.{Made}, Step.{Step}}
 use Rattle.irp_core.specs.Runs.{Size, IsRun}
 use Rattle.irp_core.specs.Refusals.{IsFirstCause}
 use Rattle.irp_core.specs.Texts.{refusal_text}
-use Rattle.csq_replay.specs.declared.schedule.outcome.Stop.{Stop}
-use Rattle.csq_replay.specs.declared.schedule.outcome.Stop.TheVariants.{TooLong, Malformed, Refused}
-use Rattle.csq_replay.specs.declared.schedule.outcome.Outcome.{Outcome}
-use Rattle.csq_replay.specs.declared.schedule.outcome.Outcome.TheVariants.{Skipped, Accepted, Stopped}
+use Rattle.csq_replay.specs.declared.schedule.outcome.{Stop.{Stop, TheVariants.{TooLong, Malformed, Refused}}, Outcome.{Outcome, TheVariants.{Skipped, Accepted, Stopped}}}
 use Rattle.csq_replay.specs.Lines.{IsWithinLine, IsSkipped}
 use Rattle.csq_replay.specs.StepLine.{IsStepLine}
 

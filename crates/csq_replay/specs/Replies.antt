@@ -1,15 +1,12 @@
--- How what a call answers is told.
+-- How what a call answers is reported.
 use Rattle.std.specs.Prelude.{Bool, true, false, Option, Some, None, Result, Ok, Err}
 use Rattle.irp_core.specs.declared.ids.IrpId.{IrpId}
 use Rattle.csq_list.specs.declared.refusals.InsertStatus.{InsertStatus}
-use Rattle.csq_replay.specs.declared.script.call.InsertOutcome.{InsertOutcome}
+use Rattle.csq_replay.specs.declared.script.call.{InsertOutcome.{InsertOutcome}, CallRefused.{CallRefused}, Reply.{Reply, TheVariants.{Pending, Cancelled, InsertRefused, Removed, NoIrp, Claimed, Unclaimed, Refused}}}
 use Rattle.csq_replay.specs.declared.script.call.InsertOutcome.TheVariants as insert
-use Rattle.csq_replay.specs.declared.script.call.ScriptRefusal.{ScriptRefusal}
-use Rattle.csq_replay.specs.declared.script.call.Reply.{Reply}
-use Rattle.csq_replay.specs.declared.script.call.Reply.TheVariants.{Pending, Cancelled, InsertRefused, Removed, NoIrp, Claimed, Unclaimed, Refused}
 
--- a call's value is told so, and a refusal by its name
-abbrev pub reported : {T : Type 0} → (T → Reply) → Result T ScriptRefusal → Reply
+-- a call's value is reported so, and a refusal by its name
+abbrev pub reported : {T : Type 0} → (T → Reply) → Result T CallRefused → Reply
 reported report (Ok value) = report value
 reported report (Err refusal) = Refused refusal
 

@@ -3,13 +3,10 @@ use Rattle.std.specs.Prelude.{List, ℕ, ◌++◌, true, false, Option, Some, No
 use Rattle.irp_core.specs.declared.status.NtStatus.{NtStatus}
 use Rattle.irp_core.specs.Texts.{irp_text, life_text, status_text}
 use Rattle.csq_list.specs.Causes.{cause_name, nt_of}
-use Rattle.csq_replay.specs.declared.script.call.ScriptRefusal.{ScriptRefusal}
-use Rattle.csq_replay.specs.declared.script.call.ScriptRefusal.TheVariants.{UnknownIrp, UnknownFile, NoClaim, NotHeld, StatusPending, Stale, NotCompleted, LivesSpent}
-use Rattle.csq_replay.specs.declared.script.call.Reply.{Reply}
-use Rattle.csq_replay.specs.declared.script.call.Reply.TheVariants.{Pending, Cancelled, InsertRefused, Removed, NoIrp, Claimed, Unclaimed, Completed, CancelAnswered, Closed, Cleaned, Flag, Unset, Status, Begun, Refused}
+use Rattle.csq_replay.specs.declared.script.call.{CallRefused.{CallRefused, TheVariants.{UnknownIrp, UnknownFile, NoClaim, NotHeld, StatusPending, Stale, NotCompleted, LivesSpent}}, Reply.{Reply, TheVariants.{Pending, Cancelled, InsertRefused, Removed, NoIrp, Claimed, Unclaimed, Completed, CancelAnswered, Closed, Cleaned, Flag, Unset, Status, Begun, Refused}}}
 
 -- the name of a refusal, with the present life where another one was named
-abbrev pub refusal_name : ScriptRefusal → List ℕ
+abbrev pub refusal_name : CallRefused → List ℕ
 refusal_name UnknownIrp = codes "UnknownIrp"
 refusal_name UnknownFile = codes "UnknownFile"
 refusal_name NoClaim = codes "NoClaim"

@@ -1,11 +1,8 @@
 -- What a schedule is answered.
 use Rattle.std.specs.Prelude.{◌≡◌, ◌↔◌, ℕ, zero, suc, ◌==◌, Bool, false, List, [], ◌∷◌, ◌++◌, map, codes, decimal, Option, Some, None, IsTrue, if◌then◌else◌}
 use Rattle.std.specs.Option.{option_map_or}
-use Rattle.irp_core.specs.declared.step.Kind.{Kind}
-use Rattle.irp_core.specs.declared.step.Kind.TheVariants.{Disarm, Take}
-use Rattle.irp_core.specs.declared.step.Made.{Made}
-use Rattle.irp_core.specs.declared.standing.IrpPlace.{IrpPlace}
-use Rattle.irp_core.specs.declared.standing.IrpPlace.TheVariants.{Home}
+use Rattle.irp_core.specs.declared.step.{Kind.{Kind, TheVariants.{Disarm, Take}}, Made.{Made}}
+use Rattle.irp_core.specs.declared.standing.IrpPlace.{IrpPlace, TheVariants.{Home}}
 use Rattle.irp_core.specs.Steps.{life_of}
 use Rattle.irp_core.specs.declared.ids.IrpLife.{IrpLife}
 use Rattle.irp_core.specs.Words.{bit, flagged}
@@ -16,8 +13,7 @@ use Rattle.irp_core.specs.Runs.{Size, IsAtRest}
 use Rattle.irp_core.specs.Texts.{name_text, pass_text, place_text}
 use Rattle.csq_replay.specs.declared.lines.answer.Ended.{Ended}
 use Rattle.csq_replay.specs.declared.schedule.closing.IrpLine.{IrpLine}
-use Rattle.csq_replay.specs.declared.schedule.outcome.Outcome.{Outcome}
-use Rattle.csq_replay.specs.declared.schedule.outcome.Outcome.TheVariants.{Skipped, Accepted, Stopped}
+use Rattle.csq_replay.specs.declared.schedule.outcome.Outcome.{Outcome, TheVariants.{Skipped, Accepted, Stopped}}
 use Rattle.csq_replay.specs.Lines.{of_line, IsAnswer, RepliesTo}
 use Rattle.csq_replay.specs.Outcomes.{ComesTo, stop_text}
 
@@ -36,7 +32,7 @@ grown W n Skipped = Some W
 grown W n (Accepted m) = Some (record { line = n; step = m } ∷ W)
 grown W n (Stopped stop) = None
 
--- after the steps W the nth line is told so: by what comes of it, which W grows by
+-- after the steps W the nth line is reported so: by what comes of it, which W grows by
 abbrev pub ReportsLine : (List Numbered → ℕ → List ℕ → Outcome → List ℕ) → Size → List Numbered → ℕ → List ℕ → List ℕ → Option (List Numbered) → Type 0
 ReportsLine report size W n line text more = (comes : Outcome) × ComesTo size (run_of W) line comes × (text ≡ report W n line comes) × (more ≡ grown W n comes)
 
@@ -54,7 +50,7 @@ abbrev pub is_untouched : IrpPlace → Bool → IrpLife → Bool
 is_untouched Home false i = life_of i == 0
 is_untouched _ _ i = false
 
--- such an IRP isn't told of
+-- such an IRP isn't reported
 abbrev pub is_silent : IrpLine → Bool
 is_silent line = is_untouched line.place line.cancelled line.name
 
@@ -66,20 +62,20 @@ abbrev pub irp_lines_text : List IrpLine → List ℕ
 irp_lines_text [] = []
 irp_lines_text (line ∷ lines) = (irp_line_text line ++ codes "\n") ++ irp_lines_text lines
 
--- the line, unless it isn't told
+-- the line, unless it isn't reported
 abbrev pub unless_silent : IrpLine → List IrpLine
 unless_silent line = if is_silent line then [] else line ∷ []
 
--- what is told, if anything is
+-- what is reported, if anything is
 abbrev pub reported_of : Option IrpLine → List IrpLine
 reported_of (Some line) = line ∷ []
 reported_of None = []
 
--- so i is told of after E
+-- so i is reported after E
 abbrev pub IsReportedOf : List Made → IrpLife → List IrpLine → Type 0
 IsReportedOf E i reported = (place : IrpPlace) × IsPlace E i place × (reported ≡ unless_silent (record { name = i; place = place; cancelled = flagged E i }))
 
--- so the first IRPs are told of in their present lives, by rising number
+-- so the first IRPs are reported in their present lives, by rising number
 abbrev pub AreReportedOf : ℕ → List Made → ℕ → List IrpLine → Type 0
 AreReportedOf first E zero reported = reported ≡ []
 AreReportedOf first E (suc n) reported = (before : List IrpLine) × (last : List IrpLine) × AreReportedOf first E n before
@@ -110,7 +106,7 @@ abbrev pub claim_lines : List Numbered → List ℕ
 claim_lines [] = []
 claim_lines (w ∷ W) = claim_lines W ++ claim_line w
 
--- what is told in the end, after the run E
+-- what is reported in the end, after the run E
 pub record Closes (size : Size) (E : List Made) (reported : List IrpLine) (at_rest : Bool) : Type 0 where
   pub irps : AreReportedOf size.first E size.irps reported
   pub rest : ReportsRest E at_rest
@@ -124,6 +120,6 @@ IsClosing size claims W text = (reported : List IrpLine) × (rest : Bool) × Clo
 abbrev pub IsScheduleAnswer : Size → Bool → List ℕ → List ℕ → Ended → Type 0
 IsScheduleAnswer size claims = IsAnswer (AnswersLine size) (IsClosing size claims) []
 
--- of a reader and a writer that tell their bytes: a schedule was read, and its answer was written
+-- of a reader and a writer whose bytes are known: a schedule was read, and its answer was written
 abbrev pub RepliesToSchedule : Size → Bool → Option (List ℕ) → Option (List ℕ) → Option (List ℕ) → Option (List ℕ) → Ended → Type 0
 RepliesToSchedule size claims = RepliesTo (IsScheduleAnswer size claims)

@@ -1,16 +1,13 @@
 -- What a script is answered.
 use Rattle.std.specs.Prelude.{◌≡◌, ℕ, zero, suc, Bool, List, [], ◌∷◌, ◌++◌, filter, map, codes, Option, Some, None}
-use Rattle.irp_core.specs.declared.ids.IrpId.{IrpId}
+use Rattle.irp_core.specs.declared.ids.{IrpId.{IrpId}, IrpLife.{IrpLife}}
 use Rattle.irp_core.specs.declared.step.Made.{Made}
 use Rattle.irp_core.specs.Owners.{owes, holds}
-use Rattle.irp_core.specs.declared.ids.IrpLife.{IrpLife}
 use Rattle.irp_core.specs.Texts.{irp_text}
 use Rattle.csq_words.specs.Queue.{Queued, Limits}
 use Rattle.csq_replay.specs.declared.lines.answer.Ended.{Ended}
-use Rattle.csq_replay.specs.declared.script.outcome.CallOutcome.{CallOutcome}
-use Rattle.csq_replay.specs.declared.script.outcome.CallOutcome.TheVariants.{Skipped, Answered, Stopped}
-use Rattle.csq_replay.specs.declared.script.remains.Kept.{Kept}
-use Rattle.csq_replay.specs.declared.script.remains.Kept.TheVariants.{Held, Owed}
+use Rattle.csq_replay.specs.declared.script.outcome.CallOutcome.{CallOutcome, TheVariants.{Skipped, Answered, Stopped}}
+use Rattle.csq_replay.specs.declared.script.remains.Kept.{Kept, TheVariants.{Held, Owed}}
 use Rattle.csq_replay.specs.Lines.{of_line, IsAnswer, RepliesTo}
 use Rattle.csq_replay.specs.ReplyText.{reply_text}
 use Rattle.csq_replay.specs.Calls.{Script, script_pass, new_script, present_of}
@@ -22,7 +19,7 @@ going_on Skipped t = Some t
 going_on (Answered c r) t = Some t
 going_on (Stopped stop) t = None
 
--- after s the nth line is told so: by what comes of it, with which s grows to the script with which the handling goes on
+-- after s the nth line is reported so: by what comes of it, with which s grows to the script with which the handling goes on
 abbrev pub ReportsCall : (ℕ → CallOutcome → List ℕ) → Limits → Script → ℕ → List ℕ → List ℕ → Option Script → Type 0
 ReportsCall report l s n line text more = (comes : CallOutcome) × (t : Script) × CallComesTo l s line comes t × (text ≡ report n comes) × (more ≡ going_on comes t)
 
@@ -65,7 +62,7 @@ abbrev pub kept_name : Kept → List ℕ
 kept_name Held = codes "held"
 kept_name Owed = codes "owed"
 
--- the listed IRPs after s, in the list's order. IRPs are told by their numbers, each in its present life
+-- the listed IRPs after s, in the list's order. IRPs are reported by their numbers, each in its present life
 abbrev pub listed_irps : Script → List IrpId
 listed_irps s = map (λ (e : Queued). e.irp.irp) s.queue.entries
 
@@ -91,6 +88,6 @@ closing_lines l s = left_lines (listed_irps s) (kept_irps l s Held) (kept_irps l
 abbrev pub IsScriptAnswer : Limits → List ℕ → List ℕ → Ended → Type 0
 IsScriptAnswer l = IsAnswer (AnswersCall l) (λ s text. text ≡ closing_lines l s) (new_script l)
 
--- of a reader and a writer that tell their bytes: a script was read, and its answer was written
+-- of a reader and a writer whose bytes are known: a script was read, and its answer was written
 abbrev pub RepliesToScript : Limits → Option (List ℕ) → Option (List ℕ) → Option (List ℕ) → Option (List ℕ) → Ended → Type 0
 RepliesToScript l = RepliesTo (IsScriptAnswer l)

@@ -17,7 +17,7 @@ pub fn a_script_has_one_answer()
 
 /// The answer to a script that is handled to its end closes with the lines of what the calls of its lines
 /// led to: the list of the queue of one thread, and what is held and owed. There, each life of an IRP that
-/// an insert accepted is listed, held, or completed with the status that the script is told of it.
+/// an insert accepted is listed, held, or completed with the status that the script is given for it.
 pub fn each_inserted_irp_is_accounted_for()
     ensures { (l : Limits) → EachInsertedIrpIsAccountedFor l }
 {}

@@ -17,7 +17,7 @@ pub use lines::{Answerer, Ending, Line, MAX_LINE, answer_input, is_skipped, repl
 pub use schedule::closing::{IrpLine, irp_line};
 pub use schedule::outcome::{Outcome, Stop, handle_line};
 pub use schedule::step_line::parse_pass;
-pub use script::call::{Reply, ScriptCall, ScriptRefusal};
+pub use script::call::{CallRefused, Reply, ScriptCall};
 pub use script::driver::Driver;
 pub use script::outcome::{CallOutcome, CallStop};
 pub use script::remains::{Kept, Remains, write_kept, write_left};

@@ -9,7 +9,7 @@ use irp_core::{IrpId, IrpLife, IrpPlace, Machine};
 use std::alloc::Allocator;
 use std::fmt;
 
-/// What is told of an IRP in the end, in its present life.
+/// What is reported for an IRP in the end, in its present life.
 #[derive(Clone, Copy)]
 pub struct IrpLine {
     pub name: IrpLife,
@@ -31,14 +31,14 @@ impl fmt::Display for IrpLine {
     }
 }
 
-/// Whether an IRP isn't told of: one that is home in life 0, and not cancelled.
+/// Whether an IRP isn't reported: one that is home in life 0, and not cancelled.
 fn is_silent(line: IrpLine) -> bool
     ensures { result ≡ is_silent line }
 {
     !line.cancelled && matches!(line.place, IrpPlace::Home) && line.name.life.0 == 0
 }
 
-/// What is told of an IRP, if it is told of: an IRP that is home in life 0 with a clear Cancel flag isn't.
+/// What is reported for an IRP, if it is reported: an IRP that is home in life 0 with a clear Cancel flag isn't.
 /// Own rule.
 pub fn irp_line<A: Allocator>(machine: &Machine<A>, irp: IrpId) -> Option<IrpLine>
     requires { irp.0 < (size_of machine.now).irps }

@@ -21,7 +21,7 @@ pub enum Stop {
     Refused(Step, StepRefused),
 }
 
-/// As it is told after the line's number: `too long`, `malformed`, or as `refused NotHome`.
+/// As it is reported after the line's number: `too long`, `malformed`, or as `refused NotHome`.
 impl fmt::Display for Stop {
     ghost use Rattle.std.specs.Prelude.{Some};
     ghost use Rattle.csq_replay.specs.Outcomes.{stop_text};

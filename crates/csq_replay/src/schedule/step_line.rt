@@ -1,8 +1,7 @@
 //! Lines that name a step.
 ghost use Rattle.std.specs.Prelude.{◌≡◌, Some, MatchOption};
 ghost use Rattle.irp_core.specs.declared.ids.PassId.{PassId};
-ghost use Rattle.irp_core.specs.declared.step.Kind.{Kind};
-ghost use Rattle.irp_core.specs.declared.step.Step.{Step};
+ghost use Rattle.irp_core.specs.declared.step.{Kind.{Kind}, Step.{Step}};
 ghost use Rattle.irp_core.specs.Steps.{name_of};
 ghost use Rattle.csq_replay.specs.Pieces.{words_of};
 ghost use Rattle.csq_replay.specs.StepLine.{verb_of, IsPassWord, AreKindWords, IsStepLine};

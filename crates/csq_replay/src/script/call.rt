@@ -37,7 +37,7 @@ pub enum ScriptCall {
 
 /// Why a call is refused, what an insert or a put-back of the list is refused for aside. Own rule.
 #[derive(Clone, Copy)]
-pub enum ScriptRefusal {
+pub enum CallRefused {
     /// There is no IRP of this number.
     UnknownIrp,
     /// There is no file object of this number.
@@ -65,7 +65,7 @@ pub(crate) enum InsertOutcome {
     Cancelled,
 }
 
-/// What is told of a call.
+/// What is reported for a call.
 #[derive(Clone, Copy)]
 pub enum Reply {
     /// The IRP is listed.
@@ -99,11 +99,11 @@ pub enum Reply {
     /// This life has begun.
     Begun(Life),
     /// The call is refused.
-    Refused(ScriptRefusal),
+    Refused(CallRefused),
 }
 
 /// Its name, with the present life where it is `Stale`.
-impl fmt::Display for ScriptRefusal {
+impl fmt::Display for CallRefused {
     ghost use Rattle.std.specs.Prelude.{Some};
     ghost use Rattle.csq_replay.specs.ReplyText.{refusal_name};
 
@@ -111,14 +111,14 @@ impl fmt::Display for ScriptRefusal {
 
     fn fmt<W: fmt::Write>(&self, f: &mut fmt::Formatter<W>) -> fmt::Result {
         match self {
-            ScriptRefusal::UnknownIrp => write!(f, "UnknownIrp"),
-            ScriptRefusal::UnknownFile => write!(f, "UnknownFile"),
-            ScriptRefusal::NoClaim => write!(f, "NoClaim"),
-            ScriptRefusal::NotHeld => write!(f, "NotHeld"),
-            ScriptRefusal::StatusPending => write!(f, "StatusPending"),
-            ScriptRefusal::Stale(life) => write!(f, "Stale {life}"),
-            ScriptRefusal::NotCompleted => write!(f, "NotCompleted"),
-            ScriptRefusal::LivesSpent => write!(f, "LivesSpent"),
+            CallRefused::UnknownIrp => write!(f, "UnknownIrp"),
+            CallRefused::UnknownFile => write!(f, "UnknownFile"),
+            CallRefused::NoClaim => write!(f, "NoClaim"),
+            CallRefused::NotHeld => write!(f, "NotHeld"),
+            CallRefused::StatusPending => write!(f, "StatusPending"),
+            CallRefused::Stale(life) => write!(f, "Stale {life}"),
+            CallRefused::NotCompleted => write!(f, "NotCompleted"),
+            CallRefused::LivesSpent => write!(f, "LivesSpent"),
         }
     }
 }

@@ -16,7 +16,7 @@ ghost use Rattle.csq_replay.specs.Calls.{Script, script_pass, new_script, next_s
 ghost use Rattle.csq_replay.specs.Drivers.{Keeps, IsKeeping, StandsAt, IsStanding, IsOwing, IsHolding, Called, Did, DidNext, keeping};
 ghost use Rattle.csq_replay.specs.Replies.{reported, insert_reply, taken_reply, mark_reply};
 
-use crate::script::call::{InsertOutcome, ScriptRefusal};
+use crate::script::call::{CallRefused, InsertOutcome};
 use csq_list::{InsertStatus, Peek, PendingList, Place};
 use irp_core::{
     FileId, FinalStatus, IrpId, IrpLife, IrpPlace, Kind, Life, Machine, NtStatus, PassId, Step,
@@ -182,16 +182,16 @@ impl<L: PendingList, A: Allocator> Driver<L, A> {
         &mut self,
         irp: IrpId,
         place: Place,
-    ) -> Result<Result<InsertOutcome, InsertStatus>, ScriptRefusal>
+    ) -> Result<Result<InsertOutcome, InsertStatus>, CallRefused>
         requires { IsStanding (keeping L.listing self.old) }
         ensures { DidNext (keeping L.listing self.old) (call.PutBack irp place)
             (reported insert_reply result) (keeping L.listing self.new) }
     {
         if !self.is_known(irp) {
-            return Err(ScriptRefusal::UnknownIrp);
+            return Err(CallRefused::UnknownIrp);
         }
         if !self.holds(irp) {
-            return Err(ScriptRefusal::NotHeld);
+            return Err(CallRefused::NotHeld);
         }
         let file = self.files[irp.0 as usize];
         if let Err(cause) = self.list.put_back_ex(irp, file, place) {
@@ -230,13 +230,13 @@ impl<L: PendingList, A: Allocator> Driver<L, A> {
     }
 
     /// Removes an IRP, where it is listed in this life and no cancel claimed it.
-    pub(crate) fn remove(&mut self, name: IrpLife) -> Result<Option<IrpId>, ScriptRefusal>
+    pub(crate) fn remove(&mut self, name: IrpLife) -> Result<Option<IrpId>, CallRefused>
         requires { IsKeeping (keeping L.listing self.old) }
         ensures { Called (keeping L.listing self.old) (call.Remove name) (reported taken_reply result)
             (keeping L.listing self.new) }
     {
         if !self.is_known(name.irp) {
-            return Err(ScriptRefusal::UnknownIrp);
+            return Err(CallRefused::UnknownIrp);
         }
         if !self.lists(name) {
             make(&mut self.machine, Kind::End);
@@ -253,40 +253,40 @@ impl<L: PendingList, A: Allocator> Driver<L, A> {
 
     /// Sets the Cancel flag and takes the cancel routine. Answers whether the routine was there.
     #[tactic(auto, unfolding(irp_core::specs::Steps::same_irp))]
-    pub(crate) fn mark(&mut self, name: IrpLife) -> Result<bool, ScriptRefusal>
+    pub(crate) fn mark(&mut self, name: IrpLife) -> Result<bool, CallRefused>
         requires { IsKeeping (keeping L.listing self.old) }
         ensures { Called (keeping L.listing self.old) (call.Mark name) (reported mark_reply result)
             (keeping L.listing self.new) }
     {
         if !self.is_known(name.irp) {
-            return Err(ScriptRefusal::UnknownIrp);
+            return Err(CallRefused::UnknownIrp);
         }
         let present = self.present(name.irp);
         if present != name {
-            return Err(ScriptRefusal::Stale(present.life));
+            return Err(CallRefused::Stale(present.life));
         }
         make(&mut self.machine, Kind::Flag(name));
         Ok(make(&mut self.machine, Kind::Take(name)) != 0)
     }
 
     /// Runs the cancel routine of an IRP that the pass owes. Answers the status of its completion.
-    pub(crate) fn routine(&mut self, irp: IrpId) -> Result<NtStatus, ScriptRefusal>
+    pub(crate) fn routine(&mut self, irp: IrpId) -> Result<NtStatus, CallRefused>
         requires { IsKeeping (keeping L.listing self.old) }
         ensures { Called (keeping L.listing self.old) (call.Routine irp)
             (reported reply.Completed result) (keeping L.listing self.new) }
     {
         if !self.is_known(irp) {
-            return Err(ScriptRefusal::UnknownIrp);
+            return Err(CallRefused::UnknownIrp);
         }
         if !self.owes(irp) {
-            return Err(ScriptRefusal::NoClaim);
+            return Err(CallRefused::NoClaim);
         }
         self.run_routine(irp);
         Ok(NtStatus::CANCELLED)
     }
 
     /// Marks an IRP, and runs its routine where it was there. Answers whether it was.
-    pub(crate) fn cancel(&mut self, name: IrpLife) -> Result<bool, ScriptRefusal>
+    pub(crate) fn cancel(&mut self, name: IrpLife) -> Result<bool, CallRefused>
         requires { IsKeeping (keeping L.listing self.old) }
         ensures { Did (keeping L.listing self.old) (call.Cancel name)
             (reported reply.CancelAnswered result) (keeping L.listing self.new) }
@@ -300,42 +300,38 @@ impl<L: PendingList, A: Allocator> Driver<L, A> {
     }
 
     /// Completes an IRP that the pass holds. Answers the status.
-    pub(crate) fn complete(
-        &mut self,
-        irp: IrpId,
-        status: NtStatus,
-    ) -> Result<NtStatus, ScriptRefusal>
+    pub(crate) fn complete(&mut self, irp: IrpId, status: NtStatus) -> Result<NtStatus, CallRefused>
         requires { IsKeeping (keeping L.listing self.old) }
         ensures { Called (keeping L.listing self.old) (call.Complete irp status)
             (reported reply.Completed result) (keeping L.listing self.new) }
     {
         if !self.is_known(irp) {
-            return Err(ScriptRefusal::UnknownIrp);
+            return Err(CallRefused::UnknownIrp);
         }
         if !self.holds(irp) {
-            return Err(ScriptRefusal::NotHeld);
+            return Err(CallRefused::NotHeld);
         }
         let Some(last) = FinalStatus::new(status) else {
-            return Err(ScriptRefusal::StatusPending);
+            return Err(CallRefused::StatusPending);
         };
         self.finish(irp, last);
         Ok(status)
     }
 
     /// Closes a file object.
-    pub(crate) fn close(&mut self, file: FileId) -> Result<(), ScriptRefusal>
+    pub(crate) fn close(&mut self, file: FileId) -> Result<(), CallRefused>
         requires { IsKeeping (keeping L.listing self.old) }
         ensures { Called (keeping L.listing self.old) (call.Close file)
             (reported (λ _. reply.Closed) result) (keeping L.listing self.new) }
     {
         match self.list.close_file(file) {
             Ok(()) => Ok(()),
-            Err(_) => Err(ScriptRefusal::UnknownFile),
+            Err(_) => Err(CallRefused::UnknownFile),
         }
     }
 
     /// Closes a file object, and completes what is queued for it as cancelled. Answers how many it completed.
-    pub(crate) fn cleanup(&mut self, file: FileId) -> Result<u32, ScriptRefusal>
+    pub(crate) fn cleanup(&mut self, file: FileId) -> Result<u32, CallRefused>
         requires { IsKeeping (keeping L.listing self.old) }
         ensures { Did (keeping L.listing self.old) (call.Cleanup file) (reported reply.Cleaned result)
             (keeping L.listing self.new) }
@@ -359,7 +355,7 @@ impl<L: PendingList, A: Allocator> Driver<L, A> {
     }
 
     /// Whether the Cancel flag is set.
-    pub(crate) fn flag(&self, irp: IrpId) -> Result<bool, ScriptRefusal>
+    pub(crate) fn flag(&self, irp: IrpId) -> Result<bool, CallRefused>
         requires { IsKeeping (keeping L.listing self.now) }
         ensures { Called (keeping L.listing self.now) (call.Flag irp) (reported reply.Flag result)
             (keeping L.listing self.now) }
@@ -367,12 +363,12 @@ impl<L: PendingList, A: Allocator> Driver<L, A> {
         if self.is_known(irp) {
             Ok(self.machine.cancelled(irp))
         } else {
-            Err(ScriptRefusal::UnknownIrp)
+            Err(CallRefused::UnknownIrp)
         }
     }
 
     /// The status with which the present life was completed, if it was.
-    pub(crate) fn status(&self, irp: IrpId) -> Result<Option<NtStatus>, ScriptRefusal>
+    pub(crate) fn status(&self, irp: IrpId) -> Result<Option<NtStatus>, CallRefused>
         requires { IsKeeping (keeping L.listing self.now) }
         ensures { Called (keeping L.listing self.now) (call.Status irp) (reported status_reply result)
             (keeping L.listing self.now) }
@@ -380,25 +376,25 @@ impl<L: PendingList, A: Allocator> Driver<L, A> {
         if self.is_known(irp) {
             Ok(self.statuses[irp.0 as usize])
         } else {
-            Err(ScriptRefusal::UnknownIrp)
+            Err(CallRefused::UnknownIrp)
         }
     }
 
     /// Begins the next life, and answers it.
-    pub(crate) fn reuse(&mut self, irp: IrpId) -> Result<Life, ScriptRefusal>
+    pub(crate) fn reuse(&mut self, irp: IrpId) -> Result<Life, CallRefused>
         requires { IsKeeping (keeping L.listing self.old) }
         ensures { Called (keeping L.listing self.old) (call.Reuse irp) (reported reply.Begun result)
             (keeping L.listing self.new) }
     {
         if !self.is_known(irp) {
-            return Err(ScriptRefusal::UnknownIrp);
+            return Err(CallRefused::UnknownIrp);
         }
         if self.statuses[irp.0 as usize].is_none() {
-            return Err(ScriptRefusal::NotCompleted);
+            return Err(CallRefused::NotCompleted);
         }
         let ended = self.present(irp);
         if ended.life.0 >= Life::LAST.0 {
-            return Err(ScriptRefusal::LivesSpent);
+            return Err(CallRefused::LivesSpent);
         }
         make(&mut self.machine, Kind::Renew(ended));
         self.list.renew(irp);

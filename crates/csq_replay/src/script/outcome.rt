@@ -11,7 +11,7 @@ pub enum CallStop {
     Malformed,
 }
 
-/// As it is told after the line's number: `too long`, or `malformed`.
+/// As it is reported after the line's number: `too long`, or `malformed`.
 impl fmt::Display for CallStop {
     ghost use Rattle.std.specs.Prelude.{Some};
     ghost use Rattle.csq_replay.specs.CallOutcomes.{call_stop_text};

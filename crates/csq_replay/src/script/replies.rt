@@ -1,4 +1,4 @@
-//! What is told of each call.
+//! What is reported for each call.
 ghost use Rattle.std.specs.Prelude.{◌≡◌};
 ghost use Rattle.csq_words.specs.Queue.{Limits};
 ghost use Rattle.csq_replay.specs.Calls.{Script, Does, status_reply};
@@ -7,7 +7,7 @@ ghost use Rattle.csq_replay.specs.Drivers.{StandsAt, IsStanding, DidNext, keepin
 ghost use Rattle.csq_replay.specs.Replies.{reported, insert_reply, taken_reply, mark_reply};
 
 use crate::lines::{MAX_LINE, is_skipped};
-use crate::script::call::{InsertOutcome, Reply, ScriptCall, ScriptRefusal};
+use crate::script::call::{CallRefused, InsertOutcome, Reply, ScriptCall};
 use crate::script::call_line::parse_call;
 use crate::script::driver::Driver;
 use crate::script::outcome::{CallOutcome, CallStop};
@@ -54,7 +54,7 @@ fn status_reply(status: Option<NtStatus>) -> Reply
 }
 
 impl<L: PendingList, A: Allocator> Driver<L, A> {
-    /// Makes the call that a line names, and tells what comes of the line. Own rule.
+    /// Makes the call that a line names, and returns what comes of the line. Own rule.
     pub fn handle(&mut self, line: &[u8]) -> CallOutcome
         requires { IsStanding (keeping L.listing self.old) }
         ensures { (l : Limits) (s : Script) → StandsAt l (keeping L.listing self.old) s
@@ -74,7 +74,7 @@ impl<L: PendingList, A: Allocator> Driver<L, A> {
         CallOutcome::Answered(call, reply)
     }
 
-    /// Makes a call, and tells what it answers.
+    /// Makes a call, and returns its reply.
     fn answer(&mut self, call: ScriptCall) -> Reply
         requires { IsStanding (keeping L.listing self.old) }
         ensures { (l : Limits) (s : Script) → StandsAt l (keeping L.listing self.old) s
@@ -86,8 +86,8 @@ impl<L: PendingList, A: Allocator> Driver<L, A> {
         }
     }
 
-    /// Makes a call, and tells what it answers where it isn't refused.
-    fn report(&mut self, call: ScriptCall) -> Result<Reply, ScriptRefusal>
+    /// Makes a call, and returns its reply where it isn't refused.
+    fn report(&mut self, call: ScriptCall) -> Result<Reply, CallRefused>
         requires { IsStanding (keeping L.listing self.old) }
         ensures { DidNext (keeping L.listing self.old) call (reported (λ reply. reply) result)
             (keeping L.listing self.new) }

@@ -3,7 +3,7 @@ use csq_device::{Device, DeviceCause, DeviceNew, Free, Plan, RunRefused};
 use csq_explain::AnsweredCall;
 use csq_list::{AnyList, ListKind, PendingList, Place};
 use csq_program::{CommandFault, ProgramFault, RunFault, status_of};
-use csq_replay::{Reply, ScriptCall, ScriptRefusal, SimFault};
+use csq_replay::{CallRefused, Reply, ScriptCall, SimFault};
 use irp_core::{FileId, IrpId};
 use linked_list_allocator::LocalHeap;
 use std::process::Abort;
@@ -166,7 +166,7 @@ fn an_answer_that_no_script_has_is_explained(rt: HostRuntime) -> Result<(), Fail
         irps: 8,
         files: 4,
         call: ScriptCall::Reuse(IrpId(0)),
-        reply: Reply::Refused(ScriptRefusal::LivesSpent),
+        reply: Reply::Refused(CallRefused::LivesSpent),
     };
     let told = format!(in rt.alloc(); "{answered}")?;
     assert_eq!(rt; told.as_str(), "IRP 0 is in its last life");
