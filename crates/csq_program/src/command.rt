@@ -106,7 +106,7 @@ impl From<clap::Error> for CommandFault {
 /// The headings under which options are listed: others are listed as options.
 const SIZE: &str = "Size";
 
-const LIMITS: &str = "ScriptLimits";
+const LIMITS: &str = "Limits";
 
 /// An option that takes a number in a range.
 #[derive(Clone, Copy)]
