@@ -10,7 +10,7 @@ import tempfile
 PARTS = ('src', 'specs', 'proofs')
 HEAD = re.compile(r'( *)(?:pub(?:\([^)]*\))? )?(?:const |unsafe |extern "C" )*fn (\w+)')
 SOURCE = re.compile(r'src/[\w/]+\.rt')
-IMPL = re.compile(r'(?:unsafe )?impl(?:<.*?>)? (?:([\w:]+)(?:<.*>)? for )?&?(\w+)')
+IMPL = re.compile(r'(?:unsafe )?impl(<.*?>)? (?:([\w:]+)(?:<(.*)>)? for )?&?(\w+)')
 
 
 @dataclasses.dataclass(frozen=True)
@@ -39,13 +39,20 @@ def name_of(path):
     return '::'.join(parts[-2:] if len(parts) > 1 and parts[-2][0].isupper() else parts)
 
 
+def owner_of(parameters, trait, arguments, of):
+    """The name that the prover gives an impl's methods: its type, its trait, and the types that the trait is of."""
+    own = re.findall(r'\w+', parameters or '')
+    types = [it for it in (arguments or '').split(', ') if re.fullmatch(r'\w+', it) and it not in own]
+    return ''.join([of, (trait or '').rpartition('::')[2], *types])
+
+
 def functions(file, text):
     """The functions of a file, each before those that stand in it. Lines count from 1."""
     lines, found, module, owner = text.split('\n'), [], module_of(file), ''
     for at, line in enumerate(lines):
         if line and line[0] not in ' }':
             impl = IMPL.match(line)
-            owner = impl[2] + (impl[1] or '').rpartition('::')[2] if impl else ''
+            owner = owner_of(*impl.groups()) if impl else ''
         if head := HEAD.match(line):
             indent = head[1]
             end = next((k for k in range(at, len(lines)) if lines[k] == indent + '}'), at)

@@ -1,3 +1,4 @@
 mod Appending
 mod Numbers
 mod RunTexts
+mod Drawings

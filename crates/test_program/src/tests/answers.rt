@@ -1,8 +1,8 @@
 //! What is answered: the kinds of answers, and inputs with what comes of them.
 use csq_draw::{draw_schedule, draw_schedule_as_text};
-use csq_explain::{explain_schedule, explain_script};
+use csq_explain::{answer_schedule, answer_script, explain_schedule, explain_script};
 use csq_list::{AnyList, ListKind};
-use csq_replay::{Ended, SimFault, answer_schedule, answer_script};
+use csq_replay::{Ended, SimFault};
 use std::alloc::{Allocator, Global};
 use std::io::{Read, Write};
 
