@@ -33,12 +33,12 @@ impl<N: QueueName> Model for Seen<N> {
 
 impl<N: QueueName> Seen<N> {
     /// Of this prefix.
-    fn of(open: SeenPrefix) -> Seen<N>
-        requires { open.table ≡ N.table }
-        ensures { result ≡ open.prefix }
+    fn of(prefix: SeenPrefix) -> Seen<N>
+        requires { prefix.table ≡ N.table }
+        ensures { result ≡ prefix.prefix }
     {
         Seen {
-            open,
+            open: prefix,
             name: PhantomData,
         }
     }
