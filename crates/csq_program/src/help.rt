@@ -110,10 +110,10 @@ marks.
 The comment before the first step stands above, its first line as the title; an
 empty line ends it. It has at most eight lines, and a question mark for a byte
 that isn't printable ASCII.
-A browser reports each mark and each line in words where the pointer rests on it,
+A browser tells each mark and each line in words where the pointer rests on it,
 if the picture is opened by itself.
 A line that ends the schedule stands last, marked as refused, with its refusal
-and a sentence why; standard error says it too. Otherwise it is reported below where
+and a sentence why; standard error says it too. Otherwise it is told below where
 each IRP is in the end, and whether all is at rest.
 
 With --text it is drawn for a terminal, in ASCII letters alone: a line for each
@@ -168,7 +168,7 @@ IRPs that it takes out, and the claims of its cancels.
                        or cancelled, as an insert
   put_back 0 front     the same at the front
 A remove, mark or cancel names IRP 0 in its life 1 as 0@1, and as 0 in life 0;
-the others are of the present life. In the end the listed IRPs are reported in the
+the others are of the present life. In the end the listed IRPs are told in the
 list's order, and those that are held or owed, if there are any: left 2 0 or
 left none, held 1, owed 2. With --explain a sentence stands below each line of
 the answer, two spaces in.
