@@ -61,7 +61,7 @@ impl Rows {
         self.made = self.made.wrapping_add(1);
     }
 
-    /// Tells the first row that wasn't.
+    /// Reports the first row that wasn't.
     pub(super) fn judge(&self, rt: &impl Abort) {
         if let Some(row) = self.wrong {
             panic!(rt; "row {row} is wrong");
