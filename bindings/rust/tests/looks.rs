@@ -96,7 +96,10 @@ fn whoever_waits_is_notified_before_the_completion() {
         assert_eq!(cancelled, Ok(true));
         let status = Some(FinalStatus::CANCELLED);
         assert_eq!(pass.status(0), Ok((5, status)));
-        assert_eq!(pass.cancel_with(named(0), |irp| notified.push(irp)), Ok(false));
+        assert_eq!(
+            pass.cancel_with(named(0), |irp| notified.push(irp)),
+            Ok(false)
+        );
         assert_eq!(pass.cleanup_with(0, |irp| notified.push(irp)), Ok(1));
         assert_eq!(notified, [0, 1].map(named));
     }
