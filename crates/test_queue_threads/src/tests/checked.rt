@@ -2,7 +2,7 @@
 ghost use Rattle.std.specs.Prelude.{◌≡◌};
 ghost use Rattle.csq_checked.specs.Passes.{IsPassIn};
 
-use csq_checked::{CheckedPass, CheckedQueue, ListKind, Size};
+use csq_checked::{CheckedPass, CheckedQueue, ListKind, QueueSize};
 use csq_list::Place;
 use csq_queue::{CancelRefused, InsertAnswer};
 use irp_core::{FileId, IrpId, Life};
@@ -11,7 +11,7 @@ use std::thread::{Threads, join};
 
 /// A queue of two passes for one IRP.
 fn made<R: AllocGlobal + Abort>(rt: &R, list: ListKind) -> CheckedQueue {
-    let size = Size {
+    let size = QueueSize {
         irps: 1,
         files: 1,
         limit: 1,
