@@ -2,7 +2,7 @@
 use Rattle.std.specs.Prelude.{ℕ, ◌+◌, ◌-◌, ◌*◌, ◌==◌, max, List, [], ◌++◌, length, codes, decimal, if◌then◌else◌}
 use Rattle.irp_core.specs.declared.ids.PassId.{PassId}
 use Rattle.irp_core.specs.Texts.{pass_text}
-use Rattle.csq_draw.specs.declared.heading.{Extent.{Extent}, Column.{Column}, TheConstants.{PICTURE_HEAD, KEY}}
+use Rattle.csq_draw.specs.declared.heading.{Extent.{Extent}, Column.{Column}, TheConstants.{PICTURE_HEAD}}
 use Rattle.csq_draw.specs.Layout.{left, top}
 
 -- a picture's width, at least that of its longest line of text
@@ -46,7 +46,7 @@ head_text e title below = head_at (width e) (height e) (edge_text (above e)) (na
 
 -- what the parts of a picture mean
 unfoldable pub key_text : List ℕ
-key_text = KEY.now
+key_text = codes "<text class='s' x='56' y='15'>shade: has the lock; bold: the exchange found the routine, and so claims the IRP; dashed line: owes it; solid line: holds it</text><text class='s' x='56' y='28'>circles: the two words of the IRP, in its present life, after the step; filled: set; bold: the step changed it; &#8594;: what the call answers</text><text class='n s' x='46' y='54'>line</text>"
 
 -- the name of a pass over its column, and a line down this column
 abbrev pub column_at : ℕ → ℕ → PassId → List ℕ
