@@ -6,6 +6,8 @@ ghost use Rattle.csq_list.specs.Listing.{IsFresh};
 ghost use Rattle.csq_draw.specs.Pictures.{IsDrawing};
 ghost use Rattle.csq_diagnose.specs.Reports.{IsReport};
 ghost use Rattle.csq_diagnose.specs.Schedules.{IsScheduleDiagnosis};
+ghost use Rattle.csq_replay.specs.declared.lines.answer.Ended.TheVariants as Ended;
+ghost use Rattle.csq_replay.specs.declared.lines.answer.SimFault.TheVariants.{Write};
 ghost use Rattle.csq_program.specs.declared.program.ProgramFault.TheVariants.{Replay};
 ghost use Rattle.csq_program.specs.Replays.{limits_or_all};
 
@@ -76,7 +78,11 @@ fn finish<R: Print + Eprint>(
     rt: &R,
     source: Source<'_>,
     report: &Report<Global>,
-) -> Result<u8, ProgramFault> {
+) -> Result<u8, ProgramFault>
+    ensures all { report.now.ended ≡ Ended.AllHandled → IfOk result (λ status. status ≡ 0) }
+    ensures stopped { report.now.ended ≡ Ended.Stopped → IfOk result (λ status. status ≡ 2) }
+    ensures fault { IfErr result (λ fault. fault ≡ Replay Write) }
+{
     if rt.write_all(report.text.as_bytes()).is_err() {
         return Err(ProgramFault::Replay(SimFault::Write));
     }
