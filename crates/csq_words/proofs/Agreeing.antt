@@ -1,10 +1,13 @@
 -- What follows from what the rule says of the two records.
 use Rattle.std.proofs.Common.{◌≡◌, true, false, not, ◌&&◌, List, ◌∷◌, sym, ap, ◌∙◌, subst}
-use Rattle.csq_words.proofs.Imports.{IrpId, Life, was_armed, listed, Made, Size, Reuse, HistoryEntry, PassRecord, QueueRecord, inside_of, present_in, has_entry, has_irp, end_of, inserts, lists, AreTrueOf, RecordsAgree}
+use Rattle.csq_words.proofs.Imports.{IrpId, Life, was_armed, listed, Made, Tick, steps_in, Size, Reuse, HistoryEntry, PassRecord, QueueRecord, inside_of, present_in, has_entry, has_irp, end_of, inserts, lists, AreTrueOf, RecordsAgree}
 use Rattle.irp_core.specs.declared.inside.Inside.TheVariants.{Nothing}
 use Rattle.csq_words.proofs.Facts.{done_over}
 
-module _ (size : Size) (q : QueueRecord) (r : PassRecord) (run : List Made) (t : RecordsAgree size run q r) where
+module _ (size : Size) (q : QueueRecord) (r : PassRecord) (trace : List Tick) (t : RecordsAgree size trace q r) where
+  abbrev run : List Made
+  run = steps_in trace
+
   -- a reuse that was recorded just now found its IRP used and not listed
   pub reused : (n : IrpId) (life : Life) (e : HistoryEntry) (before : List HistoryEntry) → e.event ≡ Reuse n life → q.history ≡ e ∷ before → inside_of r.steps ≡ Nothing
       → (has_irp (end_of q.first before).used (present_in (end_of q.first before) n) ≡ true) × (has_entry (end_of q.first before).entries (present_in (end_of q.first before) n) ≡ false)

@@ -1,11 +1,13 @@
 -- The steps of a call under the lock keep the rule.
 use Rattle.csq_words.proofs.Named.{by_pass}
-use Rattle.std.proofs.Common.{true, false, cond, ◌≡◌, ℕ, ◌*◌, ◌≤◌, not, ◌&&◌, List, [], ◌∷◌, ◌++◌, map, length, set, Some, refl, sym, ap, ◌∙◌, subst, arith}
-use Rattle.csq_words.proofs.Imports.{inside_of, PassId, Kind, Made, IrpLife, inside, inside_after, listed, Size, IsRun, same_pass-refl, IsFreeFor, Event, Completion, PassRecord, QueueRecord, View, has_entry, has_irp, end_of, IsOrderly, given_to, OwnersPutBack, view_of, entries_of, with_events, with_calls, with_step, with_run, with_reusing, own, was_armed, present_life, IrpId, Reusing, IsPlaced, inserts, lists, again, in_flight, passes_given, AreDue, AreTrueOf, IsReuse, IsHistoryOf, with_done, completed_in, IsPassOf, AreStored, RuleHoldsBy, RecordsAgree, HasObserved, own-mine, own-other}
+use Rattle.std.proofs.Common.{true, false, cond, ◌≡◌, ℕ, ◌*◌, ◌≤◌, not, ◌&&◌, List, [], ◌∷◌, ◌++◌, map, length, set, Some, append_assoc, refl, sym, ap, ◌∙◌, subst, arith}
+use Rattle.csq_words.proofs.Imports.{inside_of, PassId, Kind, Made, IrpLife, inside, inside_after, listed, Size, IsRun, same_pass-refl, IsFreeFor, Event, Completion, PassRecord, QueueRecord, View, has_entry, has_irp, end_of, IsOrderly, given_to, OwnersPutBack, view_of, entries_of, with_events, with_calls, with_step, with_trace, with_reusing, own, was_armed, present_life, IrpId, Reusing, IsPlaced, IsExtendedBy, Tick, Makes, steps_in, inserts, lists, again, in_flight, passes_given, AreDue, AreTrueOf, IsReuse, IsHistoryOf, with_done, completed_in, IsPassOf, AreStored, RuleHoldsBy, RecordsAgree, HasObserved, own-mine, own-other}
 use Rattle.csq_words.proofs.PassSteps.{AllWords}
 use Rattle.csq_words.proofs.Keeping.{inside_is, only_joined, nobody_in}
-use Rattle.csq_words.proofs.SeatSteps.{locked_step, again_locks, inside_other, begun_more}
-use Rattle.csq_words.proofs.Facts.{extended_more}
+use Rattle.csq_words.proofs.SeatSteps.{LockedStep, locked_step, again_locks, inside_other, begun_more}
+use Rattle.csq_words.specs.Traces.{IsTrace, says}
+use Rattle.csq_words.proofs.Facts.{extended_on}
+use Rattle.csq_words.proofs.Traced.{steps_says, traced_made}
 use Rattle.csq_words.proofs.Entries.{begins_more, calls_of-other, calls_of-mine}
 
 -- the rule, as the joined pass sees it
@@ -21,8 +23,9 @@ pub record Sees (size : Size) (words : List ℕ) (run : List Made) (q : QueueRec
   pub from : 1 ≤ r.pass.0
   pub to : r.pass.0 ≤ size.passes
 
-pub sees : (size : Size) (words : List ℕ) (views : List View) (run : List Made) (id : ℕ) (q : QueueRecord) (r : PassRecord) (seat : PassId → ℕ) → RuleHoldsBy size words views run id q (Some r) seat → Sees size words run q r
-sees size words views run id q r seat k =
+pub sees : (size : Size) (words : List ℕ) (views : List View) (trace : List Tick) (id : ℕ) (q : QueueRecord) (r : PassRecord) (seat : PassId → ℕ) → RuleHoldsBy size words views trace id q (Some r) seat → Sees size words (steps_in trace) q r
+sees size words views trace id q r seat k =
+    let run = steps_in trace in
     let mine = (k.each_view id (view_of q (Some r)) k.queue_is).pass_here r refl in
     let to = mine.1.to in
     let few = k.agrees.few in record {
@@ -56,29 +59,41 @@ pub record IsMade (size : Size) (words words' : List ℕ) (run : List Made) (q :
   pub owners : OwnersPutBack q.first (entries_of r.pass es ++ q.history)
   pub due : AreDue r.steps r.completed → AreDue (record { pass = r.pass; kind = kind; found = n } ∷ r.steps) r.completed
 
+-- the execution after it
+abbrev pub made_trace : PassRecord → Kind → ℕ → List Event → List Tick → List Tick
+made_trace r kind n es trace = says (entries_of r.pass es) ++ (Makes record { pass = r.pass; kind = kind; found = n } ∷ trace)
+
 -- the queue's record after it, which has observed this execution
-abbrev pub made_record : PassRecord → List Event → Reusing → List Made → QueueRecord → QueueRecord
-made_record r es reuse run q = with_events r.pass es (with_reusing reuse (with_run run q))
+abbrev pub made_record : PassRecord → List Event → Reusing → List Tick → QueueRecord → QueueRecord
+made_record r es reuse trace q = with_events r.pass es (with_reusing reuse (with_trace trace q))
 
 -- what the rule says after the step
-abbrev pub KeptAfter : Size → List ℕ → List View → List Made → ℕ → (PassId → ℕ) → QueueRecord → PassRecord → Type 0
-KeptAfter size words views run id seat q r = RuleHoldsBy size words (set views id (view_of q (Some r))) run id q (Some r) seat × RecordsAgree size run q r
+abbrev pub KeptAfter : Size → List ℕ → List View → List Tick → ℕ → (PassId → ℕ) → QueueRecord → PassRecord → Type 0
+KeptAfter size words views trace id seat q r = RuleHoldsBy size words (set views id (view_of q (Some r))) trace id q (Some r) seat × RecordsAgree size trace q r
 
 -- the same where the queue's record has the run, and had a beginning of it before
 abbrev pub ObservedAfter : Size → List ℕ → List View → ℕ → (PassId → ℕ) → QueueRecord → QueueRecord → PassRecord → Type 0
-ObservedAfter size words views id seat old q r = RuleHoldsBy size words (set views id (view_of q (Some r))) q.run id q (Some r) seat × HasObserved size old q r
+ObservedAfter size words views id seat old q r = RuleHoldsBy size words (set views id (view_of q (Some r))) q.trace id q (Some r) seat × HasObserved size old q r
 
--- two records with which the rule says that the run agrees
-pub agreed_kept : (size : Size) (words : List ℕ) (views : List View) (run : List Made) (id : ℕ) (q : QueueRecord) (r : PassRecord) (seat : PassId → ℕ)
-    → IsHistoryOf size run q (in_flight (Some r)) → IsPassOf run q.history r → RuleHoldsBy size words views run id q (Some r) seat → RuleHoldsBy size words views run id q (Some r) seat × RecordsAgree size run q r
-agreed_kept size words views run id q r seat history pass k = (k, record { history_is = history; pass_is = pass; callers = λ p s. (k.agrees.nobody p (nobody_in q.made size.passes p k.agrees.few s)).1; seen = k.agrees.seen })
+-- two records with which the rule says that the execution agrees
+pub agreed_kept : (size : Size) (words : List ℕ) (views : List View) (trace : List Tick) (id : ℕ) (q : QueueRecord) (r : PassRecord) (seat : PassId → ℕ)
+    → RuleHoldsBy size words views trace id q (Some r) seat → RuleHoldsBy size words views trace id q (Some r) seat × RecordsAgree size trace q r
+agreed_kept size words views trace id q r seat k =
+    let seen = k.each_seen id (view_of q (Some r)) k.queue_is in
+    let rec = ((k.each_view id (view_of q (Some r)) k.queue_is).pass_here r refl).2 in
+    (k, record { traced = k.traced; history_is = k.agrees.history_is; pass_is = rec.of_pass; callers = λ p s. (k.agrees.nobody p (nobody_in q.made size.passes p k.agrees.few s)).1; seen = seen.queue q refl; pass_seen = seen.pass r refl })
 
-pub made_kept : (size : Size) (words words' : List ℕ) (views : List View) (run : List Made) (id : ℕ) (q : QueueRecord) (r : PassRecord) (seat : PassId → ℕ) (kind : Kind) (n : ℕ) (es : List Event) (reuse : Reusing)
-    → RuleHoldsBy size words views run id q (Some r) seat → IsMade size words words' run q r kind n es reuse → IsPlaced q.first (record { pass = r.pass; kind = kind; found = n } ∷ run) (entries_of r.pass es ++ q.history)
-    → ObservedAfter size words' views id seat q (made_record r es reuse (record { pass = r.pass; kind = kind; found = n } ∷ run) q) (with_calls es (with_step kind n r))
-made_kept size words words' views run id q r seat kind n es reuse k x placed =
+pub made_kept : (size : Size) (words words' : List ℕ) (views : List View) (trace : List Tick) (id : ℕ) (q : QueueRecord) (r : PassRecord) (seat : PassId → ℕ) (kind : Kind) (n : ℕ) (es : List Event) (reuse : Reusing)
+    → RuleHoldsBy size words views trace id q (Some r) seat → IsMade size words words' (steps_in trace) q r kind n es reuse → IsPlaced q.first (record { pass = r.pass; kind = kind; found = n } ∷ steps_in trace) (entries_of r.pass es ++ q.history)
+    → IsTrace q.first (made_trace r kind n es trace) → ObservedAfter size words' views id seat q (made_record r es reuse (made_trace r kind n es trace) q) (with_calls es (with_step kind n r))
+made_kept size words words' views trace id q r seat kind n es reuse k x placed traced =
+    let run = steps_in trace in
+    let trace' = made_trace r kind n es trace in
     let m : Made = record { pass = r.pass; kind = kind; found = n } in
-    let q' = made_record r es reuse (m ∷ run) q in
+    let q' = made_record r es reuse trace' q in
+    let steps_are : steps_in trace' ≡ m ∷ run = steps_says (entries_of r.pass es) (Makes m ∷ trace) in
+    let longer : IsExtendedBy trace trace' = (says (entries_of r.pass es) ++ (Makes m ∷ []), sym (append_assoc (says (entries_of r.pass es)) (Makes m ∷ []) trace)) in
+    let seen = k.each_seen id (view_of q (Some r)) k.queue_is in
     let history' = entries_of r.pass es ++ q.history in
     let r' = with_calls es (with_step kind n r) in
     let owner = (k.each_view id (view_of q (Some r)) k.queue_is).pass_here r refl in
@@ -105,10 +120,9 @@ made_kept size words words' views run id q r seat kind n es reuse k x placed =
       mine_is = calls_of-mine r.pass es q.history r.mine was.mine_is;
       steps_is = ap (λ u. m ∷ u) was.steps_is ∙ sym (own-mine r.pass m run refl);
       completed_is = was.completed_is ∙ sym (x.inert (completed_in r.steps));
-      run_is = extended_more m r.run run was.run_is;
     } in
-    let kept = agreed_kept size words' (set views id (view_of q' (Some r'))) (m ∷ run) id q' r' seat history_is pass_is
-    (locked_step size words words' views run (m ∷ run) id q q' seat r r' k record {
+    let kept = agreed_kept size words' (set views id (view_of q' (Some r'))) trace' id q' r' seat
+    (locked_step size words words' views trace trace' id q q' seat r r' k (subst (λ (e : List Made). LockedStep size words words' run e trace trace' q q' r r') (sym steps_are) record {
       same_pass = refl;
       same_made = refl;
       same_back = refl;
@@ -123,14 +137,16 @@ made_kept size words words' views run id q r seat kind n es reuse k x placed =
           mine_is = rec.of_pass.mine_is ∙ sym (calls_of-other o.pass r.pass es q.history ne);
           steps_is = rec.of_pass.steps_is ∙ sym (own-other o.pass m run (λ e. ne (sym e)));
           completed_is = rec.of_pass.completed_is;
-          run_is = extended_more m o.run run rec.of_pass.run_is;
         };
         stored = x.stored o.completed rec.stored;
         due = rec.due;
         begun = begun_more q.first m run o.lives rec.begun;
       };
       elsewhere = λ p ne. (own-other p m run (λ e. ne (sym e)), calls_of-other p r.pass es q.history ne, inside_other m run p ne);
+      traced = traced_made k.traced (entries_of r.pass es) m r' refl refl traced;
+      longer = longer;
       seen = ([], refl);
-      grows = λ s g. (begins_more s.history q.history (entries_of r.pass es) g.0, extended_more m s.run run g.1);
+      mine_seen = extended_on r.trace trace trace' (seen.pass r refl) longer;
+      grows = λ shorter g. begins_more shorter q.history (entries_of r.pass es) g;
       mine = record { of_pass = pass_is; stored = x.stored r.completed owner.2.stored; due = x.due owner.2.due; begun = begun_more q.first m run r.lives owner.2.begun };
-    }) in (kept.0, record { agreed = kept.1; follows = extended_more m q.run run k.agrees.seen })
+    })) in (kept.0, record { agreed = kept.1; follows = extended_on q.trace trace trace' (seen.queue q refl) longer })

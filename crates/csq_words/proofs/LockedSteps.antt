@@ -1,6 +1,6 @@
 -- What a step or a note under the lock may do to the table.
 use Rattle.std.proofs.Common.{◌≡◌, ◌≢◌, ℕ, zero, suc, ◌<◌, ◌≤◌, ⊎_elim, true, false, ◌||◌, List, [], ◌∷◌, ◌++◌, set, Option, Some, None, refl, sym, ap, ◌∙◌, subst, arith}
-use Rattle.csq_words.proofs.Imports.{set-get_or, cases_lt, false_from_ne_true, slice_index, some, none, some-injective, get_elem?, Allows, step, keeps, set_here, inside_of, owes_in, holds_in, removed_in, PassId, Kind, Arm, Test, Disarm, End, Out, Rearm, Made, number, life_of, IrpLife, armed, flagged, cancel, routine, found_by, owes, holds, listed, IsPresent, inside, has_lock, Size, OfIrp, same_irp-refl, inserted_listed, Call, Event, HistoryEntry, Reusing, Nothing, PassRecord, QueueRecord, View, cancel_at, routine_at, bit_word, life_in, bit_in, present_in, has_entry, has_irp, has_marked, given_to, end_of, MayStand, IsOrderly, OwnersPutBack, view_of, queue_in, pass_in, queue_of, entries_of, with_events, with_calls, with_step, with_run, with_back, HasQueue, IsOfCall, IsPlaced, recording, noting, HasWords, is_done, in_flight, AreTrueOf, IsReuse, IsHistoryOf, IsPassOf, IsRecord, IsResting, IsBack, IsOut, BackOnce, Fits, RuleHoldsBy, RuleHolds, recorded, MayRemove, MayMake, MayComeBack, MayNote, after_note, SeatView, IsFound, FindsUnmarked, Makes, ObservesNote, Notes, owes_in-own, holds_in-own}
+use Rattle.csq_words.proofs.Imports.{set-get_or, cases_lt, false_from_ne_true, slice_index, some, none, some-injective, get_elem?, Allows, step, keeps, set_here, inside_of, owes_in, holds_in, removed_in, PassId, Kind, Arm, Test, Disarm, End, Out, Rearm, Made, number, life_of, IrpLife, armed, flagged, cancel, routine, found_by, owes, holds, listed, IsPresent, inside, has_lock, Size, OfIrp, same_irp-refl, inserted_listed, Call, Event, HistoryEntry, Reusing, Nothing, PassRecord, QueueRecord, View, cancel_at, routine_at, bit_word, life_in, bit_in, present_in, has_entry, has_irp, has_marked, given_to, end_of, MayStand, IsOrderly, OwnersPutBack, view_of, queue_in, pass_in, queue_of, entries_of, with_events, with_calls, with_step, with_trace, with_back, HasQueue, IsOfCall, IsPlaced, recording, noting, IsExtendedBy, Tick, steps_in, HasSeen, HasWords, is_done, in_flight, AreTrueOf, IsReuse, IsHistoryOf, IsPassOf, IsRecord, IsResting, IsBack, IsOut, BackOnce, Fits, RuleHoldsBy, RuleHolds, recorded, MayRemove, MayMake, MayComeBack, MayNote, after_note, SeatView, IsFound, FindsUnmarked, MakesStep, ObservesNote, Notes, owes_in-own, holds_in-own}
 use Rattle.irp_core.specs.declared.inside.Inside.TheVariants.{Armed, FlagSeen, Rearmed, FlagSeenAgain}
 use Rattle.irp_core.specs.declared.inside.Inside.TheVariants as inner
 use Rattle.irp_core.proofs.Resting.{unknown_stands}
@@ -10,17 +10,20 @@ use Rattle.csq_words.specs.declared.calls.Note.TheVariants.{Refused}
 use Rattle.csq_words.specs.declared.calls.Note.TheVariants as note
 use Rattle.csq_words.specs.declared.views.InsertReply.TheVariants as reply
 use Rattle.csq_words.specs.declared.views.Event.TheVariants as event
-use Rattle.csq_words.proofs.Facts.{off, bit_bound, bit_true, set_listed, listed_now, listed_undone, open_now, open_undone}
+use Rattle.csq_words.specs.declared.views.Tick.TheVariants.{Leaves}
+use Rattle.csq_words.specs.Traces.{IsTrace, IsNextStep, says}
+use Rattle.csq_words.proofs.Facts.{off, extended_on, bit_bound, bit_true, set_listed, listed_now, listed_undone, open_now, open_undone}
 use Rattle.csq_words.proofs.Decoding.{life_in-put, bit_in-put}
 use Rattle.csq_words.proofs.Indexes.{at_below}
 use Rattle.csq_words.proofs.Changes.{present_is}
 use Rattle.csq_words.proofs.PassSteps.{routine_here}
-use Rattle.csq_words.proofs.Keeping.{none_is, same_history, all_set, present_else, apart_from, only_joined, at_queue, inside_is, free_flight, agrees_same}
-use Rattle.csq_words.proofs.SeatSteps.{locked_step}
+use Rattle.csq_words.proofs.Keeping.{none_is, seen_more, seen_alone, same_history, all_set, present_else, apart_from, only_joined, at_queue, inside_is, free_flight, agrees_same}
+use Rattle.csq_words.proofs.SeatSteps.{LockedStep, locked_step}
+use Rattle.csq_words.proofs.Traced.{steps_says, step_traced, note_traced, traced_noted, traced_leaves}
 use Rattle.csq_words.proofs.Entries.{begins_more, calls_of-other, calls_of-mine}
 use Rattle.csq_words.proofs.Marks.{marked_taken}
 use Rattle.csq_words.proofs.Marking.{next_first, unmarked_else}
-use Rattle.csq_words.proofs.CallSteps.{Sees, sees, IsMade, ObservedAfter, agreed_kept, made_record, made_kept}
+use Rattle.csq_words.proofs.CallSteps.{Sees, sees, IsMade, ObservedAfter, agreed_kept, made_trace, made_record, made_kept}
 use Rattle.csq_words.proofs.PutBackSteps.{rearm_made, back_now, rearm_finds, test_again_made, disarm_again_made}
 use Rattle.csq_words.proofs.InsertSteps.{undone, arm_made, arm_finds, test_made, disarm_made}
 use Rattle.csq_words.proofs.RemovalSteps.{TakesOut, next_listed, entries_are, miss_made, hit_made, end_made, out_made}
@@ -148,11 +151,40 @@ of_call (PutBack i f place) kind q r may = absurd may
 of_call (Reuse n) kind q r may = absurd may
 of_call GiveBack kind q r may = absurd may
 
+-- the step is the next one by what the pass is inside of
+next_step : (call : Call) (kind : Kind) (q : QueueRecord) (r : PassRecord) → MayMake call kind q r → IsNextStep call kind (inside_of r.steps)
+next_step (Insert n f place) (Arm j) q r may = may.1
+next_step (Insert n f place) (Test j) q r may = may.1
+next_step (Insert n f place) (Disarm j) q r may = may.1
+next_step (Insert n f place) kind q r may = absurd may
+next_step (RemoveNext k) (Disarm j) q r may = may.0
+next_step (RemoveNext k) End q r may = may.0
+next_step (RemoveNext k) kind q r may = absurd may
+next_step (Remove i) (Disarm j) q r may = may.1
+next_step (Remove i) End q r may = may.0
+next_step (Remove i) kind q r may = absurd may
+next_step (CancelRoutine n) (Out j) q r may = may.1
+next_step (CancelRoutine n) kind q r may = absurd may
+next_step (CloseFile f) kind q r may = absurd may
+next_step (PutBack i f place) (Rearm j) q r may = may.1
+next_step (PutBack i f place) (Test j) q r may = may.1
+next_step (PutBack i f place) (Disarm j) q r may = may.1
+next_step (PutBack i f place) kind q r may = absurd may
+next_step (Reuse n) kind q r may = absurd may
+next_step GiveBack kind q r may = absurd may
+
+-- so it and what it records come next in the trace
+made_traced : (size : Size) (words : List ℕ) (views : List View) (trace : List Tick) (id : ℕ) (q : QueueRecord) (r : PassRecord) (seat : PassId → ℕ) → RuleHoldsBy size words views trace id q (Some r) seat
+    → (call : Call) (kind : Kind) (n : ℕ) → MayMake call kind q r → IsTrace q.first (made_trace r kind n (recorded call kind n (queue_of q)) trace)
+made_traced size words views trace id q r seat k call kind n may =
+    step_traced k.traced call kind n (of_call call kind q r may) (subst (IsNextStep call kind) (sees size words views trace id q r seat k).same (next_step call kind q r may))
+
 makes : (size : Size) (slots id : ℕ) (q : QueueRecord) (r : PassRecord) (held : List (ℕ × Unit {0})) (call : Call) (i : IrpLife) (kind : Kind) (at : ℕ) (f : ℕ → ℕ) (a : ℕ) → number i < size.irps → IsStepAt size i kind at f → MayMake call kind q r
-    → Allows (RuleHolds size) slots id (view_of q (Some r), held) at f (Makes size call kind (step slots at a 0 none) (view_of q (Some r), held))
+    → Allows (RuleHolds size) slots id (view_of q (Some r), held) at f (MakesStep size call kind (step slots at a 0 none) (view_of q (Some r), held))
 makes size slots id q r held call i kind at f a inside' p may s h _ here _ =
-    let (run, seat, k) = at_queue size s id q (Some r) h here in
-    let x = sees size s.words s.views run id q r seat k in
+    let (trace, seat, k) = at_queue size s id q (Some r) h here in
+    let run = steps_in trace in
+    let x = sees size s.words s.views trace id q r seat k in
     let w = slice_index s.words at in
     let hand : IsPresent size.first run i × (is_done run i ≡ false) = p.names run (at_hand size s.words run q r x call kind may p.known) in
     let word : w ≡ bit_word (life_of i) (found_by run kind) = p.found_is s.words run q.reusing (x.words_are i.irp inside') hand.0 hand.1 x.reuse_is in
@@ -161,12 +193,14 @@ makes size slots id q r held call i kind at f a inside' p may s h _ here _ =
     let es = recorded call kind found (queue_of q) in
     let r' = with_calls es (with_step kind found r) in
     let m : Made = record { pass = r.pass; kind = kind; found = found } in
-    let q' = made_record r es q.reusing (m ∷ run) q in
-    let kept = made_kept size s.words (words_after kind s.words) s.views run id q r seat kind found es q.reusing k (making size s.words run q r x call kind may p.known found is) (recording call m (of_call call kind q r may) k.agrees.history_is.placed) in (
+    let now = made_trace r kind found es trace in
+    let q' = made_record r es q.reusing now q in
+    let kept = made_kept size s.words (words_after kind s.words) s.views trace id q r seat kind found es q.reusing k (making size s.words run q r x call kind may p.known found is) (recording call m (of_call call kind q r may) k.agrees.history_is.placed)
+        (made_traced size s.words s.views trace id q r seat k call kind found may) in (
       view_of q' (Some r'),
       keeps,
       tt,
-      (m ∷ run, id, q', Some r', seat, subst (λ ws. RuleHoldsBy size ws (set s.views id (view_of q' (Some r'))) (m ∷ run) id q' (Some r') seat) (sym (p.changes s.words)) kept.0),
+      (now, id, q', Some r', seat, subst (λ ws. RuleHoldsBy size ws (set s.views id (view_of q' (Some r'))) now id q' (Some r') seat) (sym (p.changes s.words)) kept.0),
       (refl, finds size s.words run q r x call kind may p.known w (p.says run w word), kept.1, unmarked size s.words run q r x kind found is),
     )
 
@@ -211,20 +245,20 @@ test_at size i inside' = record {
 }
 
 module _ (size : Size) (slots id : ℕ) (m : SeatView) (q : QueueRecord) (r : PassRecord) (is : m.0 ≡ view_of q (Some r)) (call : Call) (kind : Kind) (i : IrpLife) (inside' : number i < size.irps) (other : Size) (sized : other ≡ size) where
-  pub arms_as : (place v : ℕ) → place ≡ routine_at i.irp → v ≡ bit_word (life_of i) 1 → kind ≡ Arm i → MayMake call (Arm i) q r → Allows (RuleHolds size) slots id m place (λ _. v) (Makes other call kind (step slots place v 0 none) m)
-  arms_as place v lies put same may = subst (λ (z : View × Kind × Size × ℕ × ℕ). Allows (RuleHolds size) slots id (z.0, m.1) z.4 (λ _. z.3) (Makes z.2 call z.1 (step slots z.4 z.3 0 none) (z.0, m.1))) (λ k. (sym is k, sym same k, sym sized k, sym put k, sym lies k))
+  pub arms_as : (place v : ℕ) → place ≡ routine_at i.irp → v ≡ bit_word (life_of i) 1 → kind ≡ Arm i → MayMake call (Arm i) q r → Allows (RuleHolds size) slots id m place (λ _. v) (MakesStep other call kind (step slots place v 0 none) m)
+  arms_as place v lies put same may = subst (λ (z : View × Kind × Size × ℕ × ℕ). Allows (RuleHolds size) slots id (z.0, m.1) z.4 (λ _. z.3) (MakesStep z.2 call z.1 (step slots z.4 z.3 0 none) (z.0, m.1))) (λ k. (sym is k, sym same k, sym sized k, sym put k, sym lies k))
       (makes size slots id q r m.1 call i (Arm i) (routine_at i.irp) (λ _. bit_word (life_of i) 1) (bit_word (life_of i) 1) inside' (arm_at size i inside') may)
 
-  pub rearms_as : (place v : ℕ) → place ≡ routine_at i.irp → v ≡ bit_word (life_of i) 1 → kind ≡ Rearm i → MayMake call (Rearm i) q r → Allows (RuleHolds size) slots id m place (λ _. v) (Makes other call kind (step slots place v 0 none) m)
-  rearms_as place v lies put same may = subst (λ (z : View × Kind × Size × ℕ × ℕ). Allows (RuleHolds size) slots id (z.0, m.1) z.4 (λ _. z.3) (Makes z.2 call z.1 (step slots z.4 z.3 0 none) (z.0, m.1))) (λ k. (sym is k, sym same k, sym sized k, sym put k, sym lies k))
+  pub rearms_as : (place v : ℕ) → place ≡ routine_at i.irp → v ≡ bit_word (life_of i) 1 → kind ≡ Rearm i → MayMake call (Rearm i) q r → Allows (RuleHolds size) slots id m place (λ _. v) (MakesStep other call kind (step slots place v 0 none) m)
+  rearms_as place v lies put same may = subst (λ (z : View × Kind × Size × ℕ × ℕ). Allows (RuleHolds size) slots id (z.0, m.1) z.4 (λ _. z.3) (MakesStep z.2 call z.1 (step slots z.4 z.3 0 none) (z.0, m.1))) (λ k. (sym is k, sym same k, sym sized k, sym put k, sym lies k))
       (makes size slots id q r m.1 call i (Rearm i) (routine_at i.irp) (λ _. bit_word (life_of i) 1) (bit_word (life_of i) 1) inside' (rearm_at size i inside') may)
 
-  pub disarms_as : (place v : ℕ) → place ≡ routine_at i.irp → v ≡ bit_word (life_of i) 0 → kind ≡ Disarm i → MayMake call (Disarm i) q r → Allows (RuleHolds size) slots id m place (λ _. v) (Makes other call kind (step slots place v 0 none) m)
-  disarms_as place v lies put same may = subst (λ (z : View × Kind × Size × ℕ × ℕ). Allows (RuleHolds size) slots id (z.0, m.1) z.4 (λ _. z.3) (Makes z.2 call z.1 (step slots z.4 z.3 0 none) (z.0, m.1))) (λ k. (sym is k, sym same k, sym sized k, sym put k, sym lies k))
+  pub disarms_as : (place v : ℕ) → place ≡ routine_at i.irp → v ≡ bit_word (life_of i) 0 → kind ≡ Disarm i → MayMake call (Disarm i) q r → Allows (RuleHolds size) slots id m place (λ _. v) (MakesStep other call kind (step slots place v 0 none) m)
+  disarms_as place v lies put same may = subst (λ (z : View × Kind × Size × ℕ × ℕ). Allows (RuleHolds size) slots id (z.0, m.1) z.4 (λ _. z.3) (MakesStep z.2 call z.1 (step slots z.4 z.3 0 none) (z.0, m.1))) (λ k. (sym is k, sym same k, sym sized k, sym put k, sym lies k))
       (makes size slots id q r m.1 call i (Disarm i) (routine_at i.irp) (λ _. bit_word (life_of i) 0) (bit_word (life_of i) 0) inside' (disarm_at size i inside') may)
 
-  pub tests_as : (place : ℕ) → place ≡ cancel_at i.irp → kind ≡ Test i → MayMake call (Test i) q r → Allows (RuleHolds size) slots id m place (λ n. n) (Makes other call kind (step slots place 0 0 none) m)
-  tests_as place lies same may = subst (λ (z : View × Kind × Size × ℕ). Allows (RuleHolds size) slots id (z.0, m.1) z.3 (λ n. n) (Makes z.2 call z.1 (step slots z.3 0 0 none) (z.0, m.1))) (λ k. (sym is k, sym same k, sym sized k, sym lies k))
+  pub tests_as : (place : ℕ) → place ≡ cancel_at i.irp → kind ≡ Test i → MayMake call (Test i) q r → Allows (RuleHolds size) slots id m place (λ n. n) (MakesStep other call kind (step slots place 0 0 none) m)
+  tests_as place lies same may = subst (λ (z : View × Kind × Size × ℕ). Allows (RuleHolds size) slots id (z.0, m.1) z.3 (λ n. n) (MakesStep z.2 call z.1 (step slots z.3 0 0 none) (z.0, m.1))) (λ k. (sym is k, sym same k, sym sized k, sym lies k))
       (makes size slots id q r m.1 call i (Test i) (cancel_at i.irp) (λ n. n) 0 inside' (test_at size i inside') may)
 
 -- the events leave the list and the used IRPs, and say nothing of the run
@@ -237,7 +271,10 @@ record AreSilent (p : PassId) (es : List Event) : Type 0 where
   given_same : (first : ℕ) (history : List HistoryEntry) (i : IrpLife) → given_to first i (entries_of p es ++ history) ≡ given_to first i history
   owners : (first : ℕ) (history : List HistoryEntry) → OwnersPutBack first history → OwnersPutBack first (entries_of p es ++ history)
 
-module _ (size : Size) (words : List ℕ) (views : List View) (run : List Made) (id : ℕ) (q : QueueRecord) (r : PassRecord) (seat : PassId → ℕ) (k : RuleHoldsBy size words views run id q (Some r) seat) where
+module _ (size : Size) (words : List ℕ) (views : List View) (trace : List Tick) (id : ℕ) (q : QueueRecord) (r : PassRecord) (seat : PassId → ℕ) (k : RuleHoldsBy size words views trace id q (Some r) seat) where
+  abbrev run : List Made
+  run = steps_in trace
+
   owner : (seat r.pass ≡ id) × IsOut q r.pass × IsRecord q.first words run q.history r
   owner = (k.each_view id (view_of q (Some r)) k.queue_is).pass_here r refl
 
@@ -248,13 +285,20 @@ module _ (size : Size) (words : List ℕ) (views : List View) (run : List Made) 
       off (sym (ap has_lock outside) ∙ (ap has_lock (inside_is run r words q owner.2) ∙ (ap (λ (x : PassId). has_lock (inside run x)) (sym same) ∙ l))))
 
   -- events without a step
-  noted_kept : (es : List Event) → AreSilent r.pass es → IsPlaced q.first run (entries_of r.pass es ++ q.history) → ObservedAfter size words views id seat q (with_events r.pass es (with_run run q)) (with_calls es r)
-  noted_kept es quiet placed =
+  abbrev noted_trace : List Event → List Tick
+  noted_trace es = says (entries_of r.pass es) ++ trace
+
+  noted_kept : (es : List Event) → AreSilent r.pass es → IsPlaced q.first run (entries_of r.pass es ++ q.history) → IsTrace q.first (noted_trace es) → ObservedAfter size words views id seat q (with_events r.pass es (with_trace (noted_trace es) q)) (with_calls es r)
+  noted_kept es quiet placed traced =
+      let now = noted_trace es in
+      let steps_are : steps_in now ≡ run = steps_says (entries_of r.pass es) trace in
+      let longer : IsExtendedBy trace now = (says (entries_of r.pass es), refl) in
+      let seen = k.each_seen id (view_of q (Some r)) k.queue_is in
       let history' = entries_of r.pass es ++ q.history in
       let r' = with_calls es r in
       let was = owner.2.of_pass in
       let h = k.agrees.history_is in
-      let q' = with_events r.pass es (with_run run q) in
+      let q' = with_events r.pass es (with_trace now q) in
       let history_is : IsHistoryOf size run q' (in_flight (Some r')) = record {
         is_run = h.is_run;
         first_is = h.first_is;
@@ -273,10 +317,9 @@ module _ (size : Size) (words : List ℕ) (views : List View) (run : List Made) 
         mine_is = calls_of-mine r.pass es q.history r.mine was.mine_is;
         steps_is = was.steps_is;
         completed_is = was.completed_is;
-        run_is = was.run_is;
       } in
-      let kept = agreed_kept size words (set views id (view_of q' (Some r'))) run id q' r' seat history_is pass_is
-      (locked_step size words words views run run id q q' seat r r' k record {
+      let kept = agreed_kept size words (set views id (view_of q' (Some r'))) now id q' r' seat
+      (locked_step size words words views trace now id q q' seat r r' k (subst (λ (e : List Made). LockedStep size words words run e trace now q q' r r') (sym steps_are) record {
         same_pass = refl;
         same_made = refl;
         same_back = refl;
@@ -291,17 +334,19 @@ module _ (size : Size) (words : List ℕ) (views : List View) (run : List Made) 
             mine_is = rec.of_pass.mine_is ∙ sym (calls_of-other o.pass r.pass es q.history ne);
             steps_is = rec.of_pass.steps_is;
             completed_is = rec.of_pass.completed_is;
-            run_is = rec.of_pass.run_is;
           };
           stored = rec.stored;
           due = rec.due;
           begun = rec.begun;
         };
         elsewhere = λ p ne. (refl, calls_of-other p r.pass es q.history ne, refl);
+        traced = traced_noted k.traced (entries_of r.pass es) r' refl refl traced;
+        longer = longer;
         seen = ([], refl);
-        grows = λ s g. (begins_more s.history q.history (entries_of r.pass es) g.0, g.1);
+        mine_seen = extended_on r.trace trace now (seen.pass r refl) longer;
+        grows = λ shorter g. begins_more shorter q.history (entries_of r.pass es) g;
         mine = record { of_pass = pass_is; stored = owner.2.stored; due = owner.2.due; begun = owner.2.begun };
-      }) in (kept.0, record { agreed = kept.1; follows = k.agrees.seen })
+      })) in (kept.0, record { agreed = kept.1; follows = extended_on q.trace trace now (seen.queue q refl) longer })
 
   -- a pass that may come back rests
   rests : MayComeBack size.irps r → IsResting r
@@ -315,10 +360,13 @@ module _ (size : Size) (words : List ℕ) (views : List View) (run : List Made) 
       either i known unknown = ⊎_elim known unknown (cases_lt (number i) size.irps)
 
   -- the joined pass is recorded as back
-  back_kept : MayComeBack size.irps r → q.reusing ≡ Nothing → RuleHoldsBy size words (set views id (view_of (with_back r q) None)) run id (with_back r q) None seat
+  back_kept : MayComeBack size.irps r → q.reusing ≡ Nothing → RuleHoldsBy size words (set views id (view_of (with_back r q) None)) (Leaves r.pass ∷ trace) id (with_back r q) None seat
   back_kept may idle =
       let q' = with_back r q in
       let free : has_lock (inside_of r.steps) ≡ false = ap has_lock may.outside in
+      let seen = k.each_seen id (view_of q (Some r)) k.queue_is in
+      let now : List Tick = Leaves r.pass ∷ trace in
+      let more : IsExtendedBy trace now = (Leaves r.pass ∷ [], refl) in
       let in' : (n : PassId) → IsOut q' n → IsOut q n = λ n o. record { from = o.from; to = o.to; not_back = λ i u e. o.not_back (suc i) u e } in
       let flight = agrees_same size words run q (in_flight (Some r)) (in_flight None) (λ i. free_flight (inside_of r.steps) i free) k.agrees in record {
         agrees = record {
@@ -331,8 +379,10 @@ module _ (size : Size) (words : List ℕ) (views : List View) (run : List Made) 
           back_once = once_more r q.back owner.1.not_back flight.back_once;
           few = flight.few;
           nobody = flight.nobody;
-          seen = flight.seen;
         };
+        traced = traced_leaves r (nobody_locks may.outside r.pass) k.traced;
+        each_seen = all_set (λ i v. HasSeen now v) views id (view_of q' None) (λ i v _ e. seen_more more (k.each_seen i v e))
+            (seen_more more (seen_alone q' (seen.queue q refl) (each_back (λ u. IsExtendedBy u.trace trace) r q.back (seen.pass r refl) (seen.backs q refl))));
         queue_is = set_here views id (view_of q' None) (at_below views id (view_of q (Some r)) k.queue_is);
         idle = λ _. idle;
         lock = λ p l. off (sym (nobody_locks may.outside p) ∙ l);
@@ -364,32 +414,32 @@ module _ (size : Size) (words : List ℕ) (views : List View) (run : List Made) 
 
   -- what the rule says of the two records after a note
   record Noted (call : Call) (n : Note) : Type 0 where
-    left : List Made
+    left : List Tick
     queue : QueueRecord
     joined : Option PassRecord
-    records : view_of queue joined ≡ after_note call n (with_run queue.run q) r
+    records : view_of queue joined ≡ after_note call n (with_trace queue.trace q) r
     kept : RuleHoldsBy size words (set views id (view_of queue joined)) left id queue joined seat
     agreed : ObservesNote size call q queue (pass_in (view_of queue joined))
 
   note_kept : (call : Call) (n : Note) → MayNote size.irps call n q r → Noted call n
   note_kept (Insert i f place) (Refused cause) may =
       let es = event.Insert i f place (reply.Refused cause) ∷ [] in
-      let kept = noted_kept es record { listed_same = λ h f. refl; used_same = λ h f. refl; lives_same = λ h f. refl; plain = λ f E h t. (tt, t); orderly = λ f h o. (tt, o); given_same = λ f h i. refl; owners = λ f h o. ((λ i n. off n), o) } (noting (Insert i f place) (Refused cause) r.pass (nobody_locks may) k.agrees.history_is.placed) in
-      record { left = run; queue = with_events r.pass es (with_run run q); joined = Some (with_calls es r); records = refl; kept = kept.0; agreed = kept.1 }
+      let kept = noted_kept es record { listed_same = λ h f. refl; used_same = λ h f. refl; lives_same = λ h f. refl; plain = λ f E h t. (tt, t); orderly = λ f h o. (tt, o); given_same = λ f h i. refl; owners = λ f h o. ((λ i n. off n), o) } (noting (Insert i f place) (Refused cause) r.pass (nobody_locks may) k.agrees.history_is.placed) (note_traced k.traced (Insert i f place) (Refused cause) (sym (sees size words views trace id q r seat k).same ∙ may)) in
+      record { left = noted_trace es; queue = with_events r.pass es (with_trace (noted_trace es) q); joined = Some (with_calls es r); records = refl; kept = kept.0; agreed = kept.1 }
   note_kept (PutBack i f place) (Refused cause) may =
       let es = event.PutBack i f place (reply.Refused cause) ∷ [] in
-      let kept = noted_kept es record { listed_same = λ h f. refl; used_same = λ h f. refl; lives_same = λ h f. refl; plain = λ f E h t. (tt, t); orderly = λ f h o. (tt, o); given_same = λ f h i. refl; owners = λ f h o. ((λ i n. off n), o) } (noting (PutBack i f place) (Refused cause) r.pass (nobody_locks may) k.agrees.history_is.placed) in
-      record { left = run; queue = with_events r.pass es (with_run run q); joined = Some (with_calls es r); records = refl; kept = kept.0; agreed = kept.1 }
+      let kept = noted_kept es record { listed_same = λ h f. refl; used_same = λ h f. refl; lives_same = λ h f. refl; plain = λ f E h t. (tt, t); orderly = λ f h o. (tt, o); given_same = λ f h i. refl; owners = λ f h o. ((λ i n. off n), o) } (noting (PutBack i f place) (Refused cause) r.pass (nobody_locks may) k.agrees.history_is.placed) (note_traced k.traced (PutBack i f place) (Refused cause) (sym (sees size words views trace id q r seat k).same ∙ may)) in
+      record { left = noted_trace es; queue = with_events r.pass es (with_trace (noted_trace es) q); joined = Some (with_calls es r); records = refl; kept = kept.0; agreed = kept.1 }
   note_kept (CloseFile f) note.Event may =
       let es = event.CloseFile f ∷ [] in
-      let kept = noted_kept es record { listed_same = λ h f. refl; used_same = λ h f. refl; lives_same = λ h f. refl; plain = λ f E h t. (tt, t); orderly = λ f h o. (tt, o); given_same = λ f h i. refl; owners = λ f h o. ((λ i n. off n), o) } (noting (CloseFile f) note.Event r.pass (nobody_locks may) k.agrees.history_is.placed) in
-      record { left = run; queue = with_events r.pass es (with_run run q); joined = Some (with_calls es r); records = refl; kept = kept.0; agreed = kept.1 }
+      let kept = noted_kept es record { listed_same = λ h f. refl; used_same = λ h f. refl; lives_same = λ h f. refl; plain = λ f E h t. (tt, t); orderly = λ f h o. (tt, o); given_same = λ f h i. refl; owners = λ f h o. ((λ i n. off n), o) } (noting (CloseFile f) note.Event r.pass (nobody_locks may) k.agrees.history_is.placed) (note_traced k.traced (CloseFile f) note.Event (sym (sees size words views trace id q r seat k).same ∙ may)) in
+      record { left = noted_trace es; queue = with_events r.pass es (with_trace (noted_trace es) q); joined = Some (with_calls es r); records = refl; kept = kept.0; agreed = kept.1 }
   note_kept (RemoveNext k') n may =
       let es = event.RemoveNext k' None ∷ [] in
       let may' : MayMake (RemoveNext k') End q r = removal_may n may in
-      let kept = made_kept size words words views run id q r seat End 0 es q.reusing k (making size words run q r (sees size words views run id q r seat k) (RemoveNext k') End may' tt 0 refl) (recording (RemoveNext k') (record { pass = r.pass; kind = End; found = 0 }) tt k.agrees.history_is.placed) in
-      let run' : List Made = record { pass = r.pass; kind = End; found = 0 } ∷ run in
-      record { left = run'; queue = made_record r es q.reusing run' q; joined = Some (with_calls es (with_step End 0 r)); records = refl; kept = kept.0; agreed = kept.1 }
+      let kept = made_kept size words words views trace id q r seat End 0 es q.reusing k (making size words run q r (sees size words views trace id q r seat k) (RemoveNext k') End may' tt 0 refl) (recording (RemoveNext k') (record { pass = r.pass; kind = End; found = 0 }) tt k.agrees.history_is.placed) (made_traced size words views trace id q r seat k (RemoveNext k') End 0 may') in
+      let now = made_trace r End 0 es trace in
+      record { left = now; queue = made_record r es q.reusing now q; joined = Some (with_calls es (with_step End 0 r)); records = refl; kept = kept.0; agreed = kept.1 }
     where
       removal_may : (n : Note) → MayNote size.irps (RemoveNext k') n q r → MayMake (RemoveNext k') End q r
       removal_may note.Event h = h
@@ -397,9 +447,9 @@ module _ (size : Size) (words : List ℕ) (views : List View) (run : List Made) 
   note_kept (Remove i) n may =
       let es = event.Remove i false ∷ [] in
       let may' : MayMake (Remove i) End q r = removal_may n may in
-      let kept = made_kept size words words views run id q r seat End 0 es q.reusing k (making size words run q r (sees size words views run id q r seat k) (Remove i) End may' tt 0 refl) (recording (Remove i) (record { pass = r.pass; kind = End; found = 0 }) tt k.agrees.history_is.placed) in
-      let run' : List Made = record { pass = r.pass; kind = End; found = 0 } ∷ run in
-      record { left = run'; queue = made_record r es q.reusing run' q; joined = Some (with_calls es (with_step End 0 r)); records = refl; kept = kept.0; agreed = kept.1 }
+      let kept = made_kept size words words views trace id q r seat End 0 es q.reusing k (making size words run q r (sees size words views trace id q r seat k) (Remove i) End may' tt 0 refl) (recording (Remove i) (record { pass = r.pass; kind = End; found = 0 }) tt k.agrees.history_is.placed) (made_traced size words views trace id q r seat k (Remove i) End 0 may') in
+      let now = made_trace r End 0 es trace in
+      record { left = now; queue = made_record r es q.reusing now q; joined = Some (with_calls es (with_step End 0 r)); records = refl; kept = kept.0; agreed = kept.1 }
     where
       removal_may : (n : Note) → MayNote size.irps (Remove i) n q r → MayMake (Remove i) End q r
       removal_may note.Event h = h
@@ -408,14 +458,14 @@ module _ (size : Size) (words : List ℕ) (views : List View) (run : List Made) 
       let i = present_in (queue_of q) m in
       let es = recorded (CancelRoutine m) (Out i) 0 (queue_of q) in
       let may' : (m.0 < size.irps) × MayMake (CancelRoutine m) (Out i) q r = out_may n may in
-      let kept = made_kept size words words views run id q r seat (Out i) 0 es q.reusing k (making size words run q r (sees size words views run id q r seat k) (CancelRoutine m) (Out i) may'.1 may'.0 0 refl) (recording (CancelRoutine m) (record { pass = r.pass; kind = Out i; found = 0 }) refl k.agrees.history_is.placed) in
-      let run' : List Made = record { pass = r.pass; kind = Out i; found = 0 } ∷ run in
-      record { left = run'; queue = made_record r es q.reusing run' q; joined = Some (with_calls es (with_step (Out i) 0 r)); records = refl; kept = kept.0; agreed = kept.1 }
+      let kept = made_kept size words words views trace id q r seat (Out i) 0 es q.reusing k (making size words run q r (sees size words views trace id q r seat k) (CancelRoutine m) (Out i) may'.1 may'.0 0 refl) (recording (CancelRoutine m) (record { pass = r.pass; kind = Out i; found = 0 }) refl k.agrees.history_is.placed) (made_traced size words views trace id q r seat k (CancelRoutine m) (Out i) 0 may'.1) in
+      let now = made_trace r (Out i) 0 es trace in
+      record { left = now; queue = made_record r es q.reusing now q; joined = Some (with_calls es (with_step (Out i) 0 r)); records = refl; kept = kept.0; agreed = kept.1 }
     where
       out_may : (n : Note) → MayNote size.irps (CancelRoutine m) n q r → (m.0 < size.irps) × MayMake (CancelRoutine m) (Out (present_in (queue_of q) m)) q r
       out_may note.Event h = h
       out_may (Refused cause) h = absurd h
-  note_kept GiveBack n may = let m = back_may n may in record { left = run; queue = with_back r q; joined = None; records = refl; kept = back_kept m.0 m.1; agreed = refl }
+  note_kept GiveBack n may = let m = back_may n may in record { left = Leaves r.pass ∷ trace; queue = with_back r q; joined = None; records = refl; kept = back_kept m.0 m.1; agreed = refl }
     where
       back_may : (n : Note) → MayNote size.irps GiveBack n q r → MayComeBack size.irps r × (q.reusing ≡ Nothing)
       back_may note.Event h = h
@@ -429,8 +479,9 @@ module _ (size : Size) (words : List ℕ) (views : List View) (run : List Made) 
 notes : (size : Size) (slots id : ℕ) (q : QueueRecord) (r : PassRecord) (held : List (ℕ × Unit {0})) (call : Call) (n : Note) → MayNote size.irps call n q r
     → Allows (RuleHolds size) slots id (view_of q (Some r), held) 0 (λ n. n) (Notes size call n (step slots 0 0 0 none) (view_of q (Some r), held))
 notes size slots id q r held call n may s h _ here _ =
-    let (run, seat, k) = at_queue size s id q (Some r) h here in
-    let x = note_kept size s.words s.views run id q r seat k call n may in
+    let (trace, seat, k) = at_queue size s id q (Some r) h here in
+    let run = steps_in trace in
+    let x = note_kept size s.words s.views trace id q r seat k call n may in
     let v = view_of x.queue x.joined in
     let unread : s.words ≡ set s.words 0 (slice_index s.words 0) = sym (set-get_or s.words 0 0) in (
       v,

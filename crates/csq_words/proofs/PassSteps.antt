@@ -1,7 +1,7 @@
 -- The steps of a pass's own seat keep the rule.
 use Rattle.std.proofs.Common.{◌≡◌, ◌≢◌, ℕ, ◌+◌, ◌*◌, ◌^◌, ◌<◌, ◌≤◌, ◌==◌, inl, Bool, true, false, cond, if◌then◌else◌, List, [], ◌∷◌, ◌++◌, Some, None, length, set, Option, eqb-true, eq-eqb, refl, sym, ap, ◌∙◌, subst, arith, length-set, get_or-set_same}
 use prog.Atomic.{either}
-use Rattle.csq_words.proofs.Imports.{false_from_ne_true, or_right, set-get_or, slice_index, some, none, get_elem?, Allows, step, keeps, inside_of, holds_in, removed_in, IrpId, PassId, NtStatus, Flag, Take, Done, Made, Inside, number, life_of, same_id, IrpLife, bit, armed, flagged, cancel, routine, found_by, has_lock, owes, holds, removed, last_life, present_life, present, IsPresent, Size, IsRun, same_pass-refl, life_bound, grows_by_flag, grows_by_take, grows_by_done, Pending, Cancelled, Refused, Event, Insert, RemoveNext, Remove, Reuse, PutBack, HistoryEntry, QueueState, after_event, Reusing, Looked, StatusRenewed, RoutineRenewed, Completion, PassRecord, QueueRecord, View, pass_view, with_step, with_completion, with_life, saw, CANCELLED, end_of, cancel_at, routine_at, status_at, bit_word, life_in, bit_in, unset_word, status_word, status_life_in, status_in, renewed_routine, renewed_status, stands_for, is_done, SaysStatus, HasWords, AreTrueOf, MayRenew, IsReuse, IsStored, in_flight, IsHistoryOf, IsPassOf, IsOut, IsRecord, RuleHoldsBy, RuleHolds, SeatView, life_found, after_flag, SeesFlag, Flags, taken_by, Takes, Completes, own-mine, holds_in-own, removed_in-own}
+use Rattle.csq_words.proofs.Imports.{false_from_ne_true, or_right, set-get_or, slice_index, some, none, get_elem?, Allows, step, keeps, inside_of, holds_in, removed_in, IrpId, PassId, NtStatus, Flag, Take, Done, Made, Inside, number, life_of, same_id, IrpLife, bit, armed, flagged, cancel, routine, found_by, has_lock, owes, holds, removed, last_life, present_life, present, IsPresent, Size, IsRun, same_pass-refl, life_bound, grows_by_flag, grows_by_take, grows_by_done, Pending, Cancelled, Refused, Event, Insert, RemoveNext, Remove, Reuse, PutBack, HistoryEntry, QueueState, after_event, Reusing, Looked, StatusRenewed, RoutineRenewed, Completion, PassRecord, QueueRecord, View, pass_view, with_step, with_completion, with_life, saw, CANCELLED, end_of, cancel_at, routine_at, status_at, bit_word, life_in, bit_in, unset_word, status_word, status_life_in, status_in, renewed_routine, renewed_status, stands_for, is_done, SaysStatus, HasWords, AreTrueOf, MayRenew, IsReuse, IsStored, in_flight, IsHistoryOf, IsPassOf, IsExtendedBy, Tick, Makes, steps_in, IsOut, IsRecord, RuleHoldsBy, RuleHolds, SeatView, life_found, after_flag, SeesFlag, Flags, taken_by, Takes, Completes, own-mine, holds_in-own, removed_in-own}
 use Rattle.irp_core.specs.declared.inside.Inside.TheVariants.{Nothing, Cancelling}
 use Rattle.csq_words.specs.declared.views.Reusing.TheVariants as reusing
 use Rattle.csq_words.proofs.Facts.{off, due_more, given_take, bit_bound, bit_true, set_listed, listed_now, listed_undone, open_now, open_undone}
@@ -47,11 +47,14 @@ flag_put w g true is = go (w == bit_word g 0)
     go false = is
 flag_put w g false is = ap (λ t. either t (bit_word g 1) w) (eq-eqb w (bit_word g 0) is)
 
-module _ (size : Size) (words : List ℕ) (run : List Made) (q : QueueRecord) (r : PassRecord) (i : IrpLife) (known : number i < size.irps) where
+module _ (size : Size) (words : List ℕ) (trace : List Tick) (q : QueueRecord) (r : PassRecord) (i : IrpLife) (known : number i < size.irps) where
+  abbrev run : List Made
+  run = steps_in trace
+
   -- a flag that finds the life that it names
   flag_made : (w : ℕ) → length words ≡ 3 * size.irps → w ≡ slice_index words (cancel_at i.irp) → AllWords size words run q.reusing → IsRun size run → AreTrueOf q.first run q.history → IsReuse size run q.reusing
       → IsOut q r.pass → q.made ≤ size.passes → IsRecord q.first words run q.history r → inside_of r.steps ≡ Nothing → life_in w ≡ life_of i
-      → OwnStep size words (set words (cancel_at i.irp) (bit_word (life_of i) 1)) run (record { pass = r.pass; kind = Flag i; found = bit_in w } ∷ run) q r (saw (record { pass = r.pass; kind = Flag i; found = bit_in w } ∷ run) (with_step (Flag i) (bit_in w) r))
+      → OwnStep size words (set words (cancel_at i.irp) (bit_word (life_of i) 1)) run (record { pass = r.pass; kind = Flag i; found = bit_in w } ∷ run) trace (Makes record { pass = r.pass; kind = Flag i; found = bit_in w } ∷ trace) q r (saw (Makes record { pass = r.pass; kind = Flag i; found = bit_in w } ∷ trace) (with_step (Flag i) (bit_in w) r))
       × (w ≡ bit_word (life_of i) (bit (flagged run i)))
   flag_made w wide is ws is_run true' reuse out few rec outside e =
       let c = is ∙ (ws i.irp known).cancel_is in
@@ -63,7 +66,7 @@ module _ (size : Size) (words : List ℕ) (run : List Made) (q : QueueRecord) (r
       let to = out.to in
       let same = inside_is run r words q rec in
       let is_run' : IsRun size (m ∷ run) = subst (λ n. IsRun size (record { pass = r.pass; kind = Flag i; found = n } ∷ run)) (sym found) (grows_by_flag size run is_run r.pass out.from (omega arith) i known (sym same ∙ outside) now) in (
-        longer_step size words (set words (cancel_at i.irp) (bit_word (life_of i) 1)) run m q r (saw (m ∷ run) (with_step (Flag i) (bit_in w) r)) true' reuse record {
+        longer_step size words (set words (cancel_at i.irp) (bit_word (life_of i) 1)) run trace m q r (saw (Makes m ∷ trace) (with_step (Flag i) (bit_in w) r)) true' reuse record {
           by = refl;
           same_pass = refl;
           wide = length-set words (cancel_at i.irp) (bit_word (life_of i) 1);
@@ -76,8 +79,9 @@ module _ (size : Size) (words : List ℕ) (run : List Made) (q : QueueRecord) (r
           stored = λ o rec. stored_else words (cancel_at i.irp) (bit_word (life_of i) 1) o.completed (λ n. status_cancel n i.irp) rec.stored;
           unlocked = rw same_pass-refl refl;
           free = refl;
+          sees_it = refl;
           mine = record {
-            of_pass = record { seen_is = rec.of_pass.seen_is; mine_is = rec.of_pass.mine_is; steps_is = ap (λ u. m ∷ u) rec.of_pass.steps_is ∙ sym (own-mine r.pass m run refl); completed_is = rec.of_pass.completed_is; run_is = ([], refl) };
+            of_pass = record { seen_is = rec.of_pass.seen_is; mine_is = rec.of_pass.mine_is; steps_is = ap (λ u. m ∷ u) rec.of_pass.steps_is ∙ sym (own-mine r.pass m run refl); completed_is = rec.of_pass.completed_is };
             stored = stored_else words (cancel_at i.irp) (bit_word (life_of i) 1) r.completed (λ n. status_cancel n i.irp) rec.stored;
             due = due_more m r.steps r.completed (λ i. refl) rec.due;
             begun = begun_more q.first m run r.lives rec.begun;
@@ -89,7 +93,7 @@ module _ (size : Size) (words : List ℕ) (run : List Made) (q : QueueRecord) (r
   -- a flag that finds another life
   flag_missed : (w : ℕ) → w ≡ slice_index words (cancel_at i.irp) → AllWords size words run q.reusing → IsRun size run → q.first ≡ size.first → AreTrueOf q.first run q.history → IsReuse size run q.reusing
       → IsRecord q.first words run q.history r → inside_of r.steps ≡ Nothing
-      → OwnStep size words words run run q r (saw run (with_life (life_found i w) r)) × (life_in w ≡ present_life size.first run i.irp)
+      → OwnStep size words words run run trace trace q r (saw trace (with_life (life_found i w) r)) × (life_in w ≡ present_life size.first run i.irp)
   flag_missed w is ws is_run first true' reuse rec outside =
       let c = is ∙ (ws i.irp known).cancel_is in
       let life : life_in w ≡ present_life size.first run i.irp = ap life_in c ∙ life_in-put (present_life size.first run i.irp) _ (bit_bound (flagged run (present size.first run i.irp))) in
@@ -108,9 +112,11 @@ module _ (size : Size) (words : List ℕ) (run : List Made) (q : QueueRecord) (r
           others = λ o ne h. h;
           elsewhere = λ p ne. (refl, refl);
           unlocked = ap has_lock (sym (inside_is run r words q rec) ∙ outside);
-          seen = λ shorter h. h;
+          longer = ([], refl);
+          traced = λ joined t. t;
+          mine_seen = ([], refl);
           placed = λ h. h;
-          mine = record { of_pass = record { seen_is = rec.of_pass.seen_is; mine_is = rec.of_pass.mine_is; steps_is = rec.of_pass.steps_is; completed_is = rec.of_pass.completed_is; run_is = ([], refl) }; stored = rec.stored; due = rec.due; begun = ((omega (arith, life'), omega (arith, life')), rec.begun) };
+          mine = record { of_pass = record { seen_is = rec.of_pass.seen_is; mine_is = rec.of_pass.mine_is; steps_is = rec.of_pass.steps_is; completed_is = rec.of_pass.completed_is }; stored = rec.stored; due = rec.due; begun = ((omega (arith, life'), omega (arith, life')), rec.begun) };
         },
         life,
       )
@@ -146,14 +152,21 @@ seen_lives size run q f r h was n =
     omega (arith, grown, now)
 
 -- the next view of the seat, and that it keeps the rule
-module _ (size : Size) (words : List ℕ) (views : List View) (run : List Made) (queue_at : ℕ) (queue : QueueRecord) (joined : Option PassRecord) (seat : PassId → ℕ) (id : ℕ) (r : PassRecord)
-    (k : RuleHoldsBy size words views run queue_at queue joined seat) (here : get_elem? views id ≡ some (pass_view r)) (i : IrpLife) (known : number i < size.irps) where
-  owner : (seat r.pass ≡ id) × IsOut queue r.pass × IsRecord queue.first words run queue.history r
+module _ (size : Size) (words : List ℕ) (views : List View) (trace : List Tick) (queue_at : ℕ) (queue : QueueRecord) (joined : Option PassRecord) (seat : PassId → ℕ) (id : ℕ) (r : PassRecord)
+    (k : RuleHoldsBy size words views trace queue_at queue joined seat) (here : get_elem? views id ≡ some (pass_view r)) (i : IrpLife) (known : number i < size.irps) where
+  abbrev now_run : List Made
+  now_run = steps_in trace
+
+  -- what the pass had seen
+  had_seen : IsExtendedBy r.trace trace
+  had_seen = (k.each_seen id (pass_view r) here).pass r refl
+
+  owner : (seat r.pass ≡ id) × IsOut queue r.pass × IsRecord queue.first words now_run queue.history r
   owner = (k.each_view id (pass_view r) here).pass_here r refl
 
   -- what is kept after a change of this seat's view and of a word
   abbrev pub KeptWith : List ℕ → PassRecord → Type 0
-  KeptWith words' r' = (run' : List Made) × (queue_at' : ℕ) × (queue' : QueueRecord) × (joined' : Option PassRecord) × (seat' : PassId → ℕ) × RuleHoldsBy size words' (set views id (pass_view r')) run' queue_at' queue' joined' seat'
+  KeptWith words' r' = (trace' : List Tick) × (queue_at' : ℕ) × (queue' : QueueRecord) × (joined' : Option PassRecord) × (seat' : PassId → ℕ) × RuleHoldsBy size words' (set views id (pass_view r')) trace' queue_at' queue' joined' seat'
 
   module _ (outside : inside_of r.steps ≡ Nothing) where
     abbrev found : ℕ
@@ -165,54 +178,54 @@ module _ (size : Size) (words : List ℕ) (views : List View) (run : List Made) 
     abbrev Flagged : PassRecord → Type 0
     Flagged r' = KeptWith (set words (cancel_at i.irp) flag_next) r' × SeesFlag size i found r r'
 
-    -- the run after it
-    abbrev pub flag_run : List Made
-    flag_run = if life_in found == life_of i then record { pass = r.pass; kind = Flag i; found = bit_in found } ∷ run else run
+    -- the execution after it
+    abbrev pub flag_trace : List Tick
+    flag_trace = if life_in found == life_of i then Makes record { pass = r.pass; kind = Flag i; found = bit_in found } ∷ trace else trace
 
     flag_bound : size.first ≤ last_life → life_in found ≤ last_life
     flag_bound few =
         let c = (k.agrees.words_are i.irp known).cancel_is in
-        let life : life_in found ≡ present_life size.first run i.irp = ap life_in c ∙ life_in-put (present_life size.first run i.irp) _ (bit_bound (flagged run (present size.first run i.irp))) in
-        let bound = life_bound size run k.agrees.history_is.is_run few i.irp in
+        let life : life_in found ≡ present_life size.first now_run i.irp = ap life_in c ∙ life_in-put (present_life size.first now_run i.irp) _ (bit_bound (flagged now_run (present size.first now_run i.irp))) in
+        let bound = life_bound size now_run k.agrees.history_is.is_run few i.irp in
         omega (arith, life, bound)
 
-    flag_kept : (b : Bool) → (life_in found == life_of i) ≡ b → Flagged (saw flag_run (after_flag i found r))
+    flag_kept : (b : Bool) → (life_in found == life_of i) ≡ b → Flagged (saw flag_trace (after_flag i found r))
     flag_kept true e =
         let h = k.agrees.history_is in
         let m : Made = record { pass = r.pass; kind = Flag i; found = bit_in found } in
-        let made = flag_made size words run queue r i known found k.agrees.wide refl k.agrees.words_are h.is_run h.true_of k.agrees.reuse_is owner.1 k.agrees.few owner.2 outside (eqb-true (life_in found) (life_of i) e) in
-        let put = flag_put found (life_of i) (flagged run i) made.1 in
-        let r' = saw (m ∷ run) (with_step (Flag i) (bit_in found) r) in
-        let kept = own_step size words (set words (cancel_at i.irp) (bit_word (life_of i) 1)) views run (m ∷ run) queue_at queue joined seat id r r' k here made.0 in
+        let made = flag_made size words trace queue r i known found k.agrees.wide refl k.agrees.words_are h.is_run h.true_of k.agrees.reuse_is owner.1 k.agrees.few owner.2 outside (eqb-true (life_in found) (life_of i) e) in
+        let put = flag_put found (life_of i) (flagged now_run i) made.1 in
+        let r' = saw (Makes m ∷ trace) (with_step (Flag i) (bit_in found) r) in
+        let kept = own_step size words (set words (cancel_at i.irp) (bit_word (life_of i) 1)) views trace (Makes m ∷ trace) queue_at queue joined seat id r r' k here made.0 in
         rw e (
-          (m ∷ run, queue_at, queue, joined, seat, subst (λ n. RuleHoldsBy size (set words (cancel_at i.irp) n) (set views id (pass_view r')) (m ∷ run) queue_at queue joined seat) (sym put) kept),
-          record { before = run; follows = owner.2.of_pass.run_is; run_is = refl; is_run = made.0.is_run; steps_are = made.0.mine.of_pass.steps_is },
+          (Makes m ∷ trace, queue_at, queue, joined, seat, subst (λ n. RuleHoldsBy size (set words (cancel_at i.irp) n) (set views id (pass_view r')) (Makes m ∷ trace) queue_at queue joined seat) (sym put) kept),
+          record { before = trace; follows = had_seen; trace_is = refl; is_run = made.0.is_run; steps_are = made.0.mine.of_pass.steps_is },
         )
     flag_kept false e =
         let h = k.agrees.history_is in
         let was = owner.2.of_pass in
         let other : life_of i ≢ life_in found = λ same. off (sym e ∙ eq-eqb (life_in found) (life_of i) (sym same)) in
-        let missed = flag_missed size words run queue r i known found refl k.agrees.words_are h.is_run h.first_is h.true_of k.agrees.reuse_is owner.2 outside in
+        let missed = flag_missed size words trace queue r i known found refl k.agrees.words_are h.is_run h.first_is h.true_of k.agrees.reuse_is owner.2 outside in
         let none' : (found == bit_word (life_of i) 0) ≡ false = false_from_ne_true (found == bit_word (life_of i) 0) (λ t. other (sym (ap life_in (eqb-true found (bit_word (life_of i) 0) t) ∙ life_in-put (life_of i) 0 (omega arith)))) in
         let same : set words (cancel_at i.irp) flag_next ≡ words = ap (λ b. set words (cancel_at i.irp) (either b (bit_word (life_of i) 1) found)) none' ∙ set-get_or words (cancel_at i.irp) 0 in
-        let r' = saw run (with_life (life_found i found) r) in
-        let kept = own_step size words words views run run queue_at queue joined seat id r r' k here missed.0 in
-        let seen = seen_lives size run queue (in_flight joined) r h was i.irp in
+        let r' = saw trace (with_life (life_found i found) r) in
+        let kept = own_step size words words views trace trace queue_at queue joined seat id r r' k here missed.0 in
+        let seen = seen_lives size now_run queue (in_flight joined) r h was i.irp in
         let life = missed.1 in
         rw e (
-          (run, queue_at, queue, joined, seat, subst (λ ws. RuleHoldsBy size ws (set views id (pass_view r')) run queue_at queue joined seat) (sym same) kept),
-          record { sees = record { follows = was.run_is; is_run = h.is_run; steps_are = was.steps_is }; other = other; life_is = life; seen = omega (arith, seen, life) },
+          (trace, queue_at, queue, joined, seat, subst (λ ws. RuleHoldsBy size ws (set views id (pass_view r')) trace queue_at queue joined seat) (sym same) kept),
+          record { sees = record { follows = had_seen; is_run = h.is_run; steps_are = was.steps_is }; other = other; life_is = life; seen = omega (arith, seen, life) },
         )
 
 -- a flag sets the Cancel flag in the life that it names, or finds another life and changes nothing
 flags : (size : Size) (slots id : ℕ) (r : PassRecord) (held : List (ℕ × Unit {0})) (i : IrpLife) → number i < size.irps → size.first ≤ last_life → inside_of r.steps ≡ Nothing
     → Allows (RuleHolds size) slots id (pass_view r, held) (cancel_at i.irp) (λ n. either (n == bit_word (life_of i) 0) (bit_word (life_of i) 1) n)
     (Flags size i (step slots (cancel_at i.irp) (bit_word (life_of i) 0) (bit_word (life_of i) 1) none) (pass_view r, held))
-flags size slots id r held i known few outside s (run, queue_at, queue, joined, seat, k) _ here _ =
+flags size slots id r held i known few outside s (trace, queue_at, queue, joined, seat, k) _ here _ =
     let w = slice_index s.words (cancel_at i.irp) in
-    let kept = flag_kept size s.words s.views run queue_at queue joined seat id r k here i known outside (life_in w == life_of i) refl in
-    let after = flag_run size s.words s.views run queue_at queue joined seat id r k here i known outside in
-    (pass_view (saw after (after_flag i w r)), keeps, tt, kept.0, (refl, flag_bound size s.words s.views run queue_at queue joined seat id r k here i known outside few, kept.1))
+    let kept = flag_kept size s.words s.views trace queue_at queue joined seat id r k here i known outside (life_in w == life_of i) refl in
+    let after = flag_trace size s.words s.views trace queue_at queue joined seat id r k here i known outside in
+    (pass_view (saw after (after_flag i w r)), keeps, tt, kept.0, (refl, flag_bound size s.words s.views trace queue_at queue joined seat id r k here i known outside few, kept.1))
 
 module _ (size : Size) (words : List ℕ) (run : List Made) (reuse : Reusing) (i : IrpLife) (known : number i < size.irps) (ws : AllWords size words run reuse) (is_run : IsRun size run) (may : IsReuse size run reuse) where
   -- an IRP whose routine is set has it in its word
@@ -241,7 +254,7 @@ module _ (size : Size) (words : List ℕ) (run : List Made) (reuse : Reusing) (i
       go true e = ap bit (sym (word_set (eqb-true _ _ e)).0)
       go false e = ap bit (sym (false_from_ne_true (armed run i) (λ a. off (sym e ∙ eq-eqb _ _ (set_word a)))))
 
-module _ (size : Size) (words : List ℕ) (run : List Made) (q : QueueRecord) (r : PassRecord) (i : IrpLife) (known : number i < size.irps) (wide : length words ≡ 3 * size.irps) (ws : AllWords size words run q.reusing) (is_run : IsRun size run)
+module _ (size : Size) (words : List ℕ) (run : List Made) (trace : List Tick) (q : QueueRecord) (r : PassRecord) (i : IrpLife) (known : number i < size.irps) (wide : length words ≡ 3 * size.irps) (ws : AllWords size words run q.reusing) (is_run : IsRun size run)
     (true' : AreTrueOf q.first run q.history) (reuse : IsReuse size run q.reusing) (out : IsOut q r.pass) (few : q.made ≤ size.passes) (rec : IsRecord q.first words run q.history r) (after_flag' : inside_of r.steps ≡ Cancelling i) where
   abbrev routine_word : ℕ
   routine_word = slice_index words (routine_at i.irp)
@@ -268,8 +281,8 @@ module _ (size : Size) (words : List ℕ) (run : List Made) (q : QueueRecord) (r
       subst (λ us. HasWords size.first us (take_step ∷ run) q.reusing n) (sym (set-get_or words (routine_at i.irp) 0)) (miss_words size.first words run q.reusing r.pass i took n (ws n l) none')
 
   -- a take owes this, whatever it finds
-  take_made : OwnStep size words (set words (routine_at i.irp) take_next) run (take_step ∷ run) q r (saw (take_step ∷ run) (with_step (Take i) took r))
-  take_made = longer_step size words (set words (routine_at i.irp) take_next) run take_step q r (saw (take_step ∷ run) (with_step (Take i) took r)) true' reuse record {
+  take_made : OwnStep size words (set words (routine_at i.irp) take_next) run (take_step ∷ run) trace (Makes take_step ∷ trace) q r (saw (Makes take_step ∷ trace) (with_step (Take i) took r))
+  take_made = longer_step size words (set words (routine_at i.irp) take_next) run trace take_step q r (saw (Makes take_step ∷ trace) (with_step (Take i) took r)) true' reuse record {
     by = refl;
     same_pass = refl;
     wide = length-set words (routine_at i.irp) take_next;
@@ -282,8 +295,9 @@ module _ (size : Size) (words : List ℕ) (run : List Made) (q : QueueRecord) (r
     stored = λ o rec. stored_else words (routine_at i.irp) take_next o.completed (λ n. status_routine n i.irp) rec.stored;
     unlocked = rw same_pass-refl refl;
     free = refl;
+    sees_it = refl;
     mine = record {
-      of_pass = record { seen_is = rec.of_pass.seen_is; mine_is = rec.of_pass.mine_is; steps_is = ap (λ u. take_step ∷ u) rec.of_pass.steps_is ∙ sym (own-mine r.pass take_step run refl); completed_is = rec.of_pass.completed_is; run_is = ([], refl) };
+      of_pass = record { seen_is = rec.of_pass.seen_is; mine_is = rec.of_pass.mine_is; steps_is = ap (λ u. take_step ∷ u) rec.of_pass.steps_is ∙ sym (own-mine r.pass take_step run refl); completed_is = rec.of_pass.completed_is };
       stored = stored_else words (routine_at i.irp) take_next r.completed (λ n. status_routine n i.irp) rec.stored;
       due = due_more take_step r.steps r.completed (λ i. refl) rec.due;
       begun = begun_more q.first take_step run r.lives rec.begun;
@@ -294,19 +308,21 @@ module _ (size : Size) (words : List ℕ) (run : List Made) (q : QueueRecord) (r
 takes : (size : Size) (slots id : ℕ) (r : PassRecord) (held : List (ℕ × Unit {0})) (i : IrpLife) → number i < size.irps → inside_of r.steps ≡ Cancelling i
     → Allows (RuleHolds size) slots id (pass_view r, held) (routine_at i.irp) (λ n. either (n == bit_word (life_of i) 1) (bit_word (life_of i) 0) n)
     (Takes size i (step slots (routine_at i.irp) (bit_word (life_of i) 1) (bit_word (life_of i) 0) none) (pass_view r, held))
-takes size slots id r held i known after s (run, queue_at, queue, joined, seat, k) _ here _ =
+takes size slots id r held i known after s (trace, queue_at, queue, joined, seat, k) _ here _ =
+    let run = steps_in trace in
+    let seen = (k.each_seen id (pass_view r) here).pass r refl in
     let w = slice_index s.words (routine_at i.irp) in
     let h = k.agrees.history_is in
     let own = (k.each_view id (pass_view r) here).pass_here r refl in
     let m : Made = record { pass = r.pass; kind = Take i; found = taken_by i w } in
-    let r' = saw (m ∷ run) (with_step (Take i) (taken_by i w) r) in
+    let r' = saw (Makes m ∷ trace) (with_step (Take i) (taken_by i w) r) in
     let next = either (w == bit_word (life_of i) 1) (bit_word (life_of i) 0) w in
-    let made = take_made size s.words run queue r i known k.agrees.wide k.agrees.words_are h.is_run h.true_of k.agrees.reuse_is own.1 k.agrees.few own.2 after in (
+    let made = take_made size s.words run trace queue r i known k.agrees.wide k.agrees.words_are h.is_run h.true_of k.agrees.reuse_is own.1 k.agrees.few own.2 after in (
       pass_view r',
       keeps,
       tt,
-      (m ∷ run, queue_at, queue, joined, seat, own_step size s.words (set s.words (routine_at i.irp) next) s.views run (m ∷ run) queue_at queue joined seat id r r' k here made),
-      (refl, record { before = run; follows = own.2.of_pass.run_is; run_is = refl; is_run = made.is_run; steps_are = made.mine.of_pass.steps_is }),
+      (Makes m ∷ trace, queue_at, queue, joined, seat, own_step size s.words (set s.words (routine_at i.irp) next) s.views trace (Makes m ∷ trace) queue_at queue joined seat id r r' k here made),
+      (refl, record { before = trace; follows = seen; trace_is = refl; is_run = made.is_run; steps_are = made.mine.of_pass.steps_is }),
     )
 
 -- the status word of what isn't completed
@@ -318,12 +334,14 @@ unset_word_is w life true b e h = off (sym e)
 completes : (size : Size) (slots id : ℕ) (r : PassRecord) (held : List (ℕ × Unit {0})) (i : IrpLife) (status : NtStatus) (v : ℕ) → number i < size.irps → size.first ≤ last_life → status.0 < 2 ^ 32 → (life_of i ≤ last_life → v ≡ status_word (life_of i) status)
     → inside_of r.steps ≡ Nothing → holds_in r.steps i ≡ true → (removed_in r.steps i ≡ false → status ≡ CANCELLED)
     → Allows (RuleHolds size) slots id (pass_view r, held) (status_at i.irp) (λ _. v) (Completes size i status (step slots (status_at i.irp) v 0 none) (pass_view r, held))
-completes size slots id r held i status v known few_lives small put outside held' due s (run, queue_at, queue, joined, seat, k) _ here _ =
+completes size slots id r held i status v known few_lives small put outside held' due s (trace, queue_at, queue, joined, seat, k) _ here _ =
+    let run = steps_in trace in
+    let seen = (k.each_seen id (pass_view r) here).pass r refl in
     let h = k.agrees.history_is in
     let is_run = h.is_run in
     let found = slice_index s.words (status_at i.irp) in
     let m : Made = record { pass = r.pass; kind = Done i; found = 0 } in
-    let r' = saw (m ∷ run) (with_completion i status (with_step (Done i) 0 r)) in
+    let r' = saw (Makes m ∷ trace) (with_completion i status (with_step (Done i) 0 r)) in
     let mine = (k.each_view id (pass_view r) here).pass_here r refl in
     let was = mine.2.of_pass in
     let holds' : holds run r.pass i ≡ true = sym (ap (λ t. holds_in t i) was.steps_is ∙ holds_in-own r.pass i run) ∙ held' in
@@ -347,13 +365,13 @@ completes size slots id r held i status v known few_lives small put outside held
       keeps,
       tt,
       (
-        m ∷ run,
+        Makes m ∷ trace,
         queue_at,
         queue,
         joined,
         seat,
-        own_step size s.words (set s.words (status_at i.irp) v) s.views run (m ∷ run) queue_at queue joined seat id r r' k here
-            (longer_step size s.words (set s.words (status_at i.irp) v) run m queue r r' h.true_of k.agrees.reuse_is record {
+        own_step size s.words (set s.words (status_at i.irp) v) s.views trace (Makes m ∷ trace) queue_at queue joined seat id r r' k here
+            (longer_step size s.words (set s.words (status_at i.irp) v) run trace m queue r r' h.true_of k.agrees.reuse_is record {
               by = refl;
               same_pass = refl;
               wide = length-set s.words (status_at i.irp) v;
@@ -367,8 +385,9 @@ completes size slots id r held i status v known few_lives small put outside held
               stored = λ o rec. stored_put s.words i.irp v o.completed room first' rec.stored;
               unlocked = rw same_pass-refl refl;
               free = refl;
+              sees_it = refl;
               mine = record {
-                of_pass = record { seen_is = was.seen_is; mine_is = was.mine_is; steps_is = steps; completed_is = ap (λ xs. i ∷ xs) was.completed_is; run_is = ([], refl) };
+                of_pass = record { seen_is = was.seen_is; mine_is = was.mine_is; steps_is = steps; completed_is = ap (λ xs. i ∷ xs) was.completed_is };
                 stored = (
                   inl (
                     ap status_life_in (get_or-set_same s.words (status_at i.irp) v 0 room ∙ v_is) ∙ status_life_in-put (life_of i) status small,
@@ -381,7 +400,7 @@ completes size slots id r held i status v known few_lives small put outside held
               };
             }),
       ),
-      (unset, refl, record { last = record { before = run; follows = was.run_is; run_is = refl; is_run = longer; steps_are = steps }; undone = undone }),
+      (unset, refl, record { last = record { before = trace; follows = seen; trace_is = refl; is_run = longer; steps_are = steps }; undone = undone }),
     )
 
 -- the same at a view that is known, and with words that are known by their values

@@ -1,20 +1,26 @@
 -- What a pass has seen: cutting it off, and joining it to another pass's record, keeps the rule, by which that pass then has seen more.
 use Rattle.std.proofs.Common.{◌≡◌, ℕ, List, [], ◌∷◌, ◌++◌, set, refl, sym, ap, ◌∙◌, subst}
-use Rattle.csq_words.proofs.Imports.{set-get_or, some, none, get_elem?, Allows, Splits, Joins, step, keeps, set_here, set_else, set_again, at_longer, PassId, Made, Size, PassRecord, QueueRecord, View, view_of, pass_view, receipt_view, prefix_view, spent_view, pass_prefix_view, prefix_of, saw_prefix, same_view, prefix_view_of, with_prefix_of, IsOrderly, Inside, IsPlaced, AreTrueOf, IsPrefixOf, IsRecord, IsOut, WordsAgree, in_flight, Fits, SeatHasRecord, RuleHoldsBy, RuleHolds, SeatView, SeesAll}
+use Rattle.csq_words.proofs.Imports.{set-get_or, some, none, get_elem?, Allows, Splits, Joins, step, keeps, set_here, set_else, set_again, at_longer, PassId, Made, Size, PassRecord, QueueRecord, View, view_of, pass_view, receipt_view, prefix_view, spent_view, pass_prefix_view, prefix_of, saw_prefix, same_view, prefix_view_of, with_prefix_of, IsOrderly, Inside, IsPlaced, IsExtendedBy, Tick, steps_in, HasSeen, AreTrueOf, IsRecord, IsOut, WordsAgree, in_flight, Fits, SeatHasRecord, RuleHoldsBy, RuleHolds, SeatView, SeesAll}
 use Rattle.csq_words.specs.declared.views.Prefix.{Prefix}
+use Rattle.csq_words.specs.Traces.{IsTrace}
 use Rattle.csq_words.proofs.Facts.{off}
 use Rattle.csq_words.proofs.Named.{by_pass}
 use Rattle.csq_words.proofs.Indexes.{at_below, at_once}
-use Rattle.csq_words.proofs.Keeping.{none_is, all_set, all_push, present_else, present_more, apart, apart_from}
+use Rattle.csq_words.proofs.Keeping.{none_is, seen_prefix, seen_pass_prefix, seen_pass, seen_nothing, all_set, all_push, present_else, present_more, apart, apart_from}
 
 -- a prefix that the seat's view has is cut off
 cuts_seen : (size : Size) (id : ℕ) (v : View) (s : Prefix)
-    → ((words : List ℕ) (run : List Made) (q : QueueRecord) (queue_at : ℕ) (seat : PassId → ℕ) (flight : Inside) → WordsAgree size words run q flight → Fits words run q queue_at seat id v → IsPrefixOf run q.history s)
+    → ((words : List ℕ) (run : List Made) (q : QueueRecord) (queue_at : ℕ) (seat : PassId → ℕ) (flight : Inside) → WordsAgree size words run q flight → Fits words run q queue_at seat id v → IsExtendedBy s.history q.history)
+    → ((trace : List Tick) → HasSeen trace v → IsExtendedBy s.trace trace)
     → Splits (RuleHolds size) id v v (prefix_view s)
-cuts_seen size id v s shown st (run, queue_at, queue, joined, seat, k) at =
+cuts_seen size id v s shown saw st (trace, queue_at, queue, joined, seat, k) at =
+    let run = steps_in trace in
+    let here = k.each_view id v at in
     let fits : ℕ → View → Type 0 = Fits st.words run queue queue_at seat in
-    let longer : RuleHoldsBy size st.words (st.views ++ prefix_view s ∷ []) run queue_at queue joined seat = record {
+    let longer : RuleHoldsBy size st.words (st.views ++ prefix_view s ∷ []) trace queue_at queue joined seat = record {
       agrees = k.agrees;
+      traced = k.traced;
+      each_seen = all_push (λ i v. HasSeen trace v) st.views (prefix_view s) k.each_seen (seen_prefix s (saw trace (k.each_seen id v at)));
       queue_is = at_longer st.views (prefix_view s ∷ []) queue_at (view_of queue joined) k.queue_is;
       lock = k.lock;
       idle = k.idle;
@@ -22,14 +28,15 @@ cuts_seen size id v s shown st (run, queue_at, queue, joined, seat, k) at =
         queue_here = λ e. off e;
         pass_here = λ o is. none_is o is;
         back_here = λ o is. none_is o is;
-        prefix_here = λ u is. let same : s ≡ u = cc is in subst (IsPrefixOf run queue.history) same (shown st.words run queue queue_at seat (in_flight joined) k.agrees (k.each_view id v at));
+        prefix_here = λ u is. let same : s ≡ u = cc is in subst (λ (p : Prefix). IsExtendedBy p.history queue.history) same (shown st.words run queue queue_at seat (in_flight joined) k.agrees here);
       };
       present = λ p out. present_more st.views (prefix_view s) (seat p) p (k.present p out);
-    } in (run, queue_at, queue, joined, seat, subst (λ (views : List View). RuleHoldsBy size st.words (views ++ prefix_view s ∷ []) run queue_at queue joined seat) (sym (set_again st.views id v at)) longer)
+    } in (trace, queue_at, queue, joined, seat, subst (λ (views : List View). RuleHoldsBy size st.words (views ++ prefix_view s ∷ []) trace queue_at queue joined seat) (sym (set_again st.views id v at)) longer)
 
 -- it is joined to a pass's seat
 joins_seen : (size : Size) (id other : ℕ) (r : PassRecord) (s : Prefix) → Joins (RuleHolds size) id (pass_view r) other (prefix_view s) (pass_prefix_view r s) spent_view
-joins_seen size id other r s st (run, queue_at, queue, joined, seat, k) at ne there' =
+joins_seen size id other r s st (trace, queue_at, queue, joined, seat, k) at ne there' =
+    let run = steps_in trace in
     let v' = pass_prefix_view r s in
     let there : get_elem? st.views other ≡ some (prefix_view s) = sym (set_else st.views id other v' ne) ∙ there' in
     let mine = (k.each_view id (pass_view r) at).pass_here r refl in
@@ -37,13 +44,18 @@ joins_seen size id other r s st (run, queue_at, queue, joined, seat, k) at ne th
     let one = set st.views id v' in
     let fits : ℕ → View → Type 0 = Fits st.words run queue queue_at seat in
     let here : get_elem? (set one other spent_view) id ≡ some v' = set_else one other id spent_view (λ e. ne (sym e)) ∙ set_here st.views id v' (at_below st.views id (pass_view r) at) in (
-      run,
+      trace,
       queue_at,
       queue,
       joined,
       seat,
       record {
         agrees = k.agrees;
+        traced = k.traced;
+        each_seen = all_set (λ i v. HasSeen trace v) one other spent_view
+            (λ i v _ e. all_set (λ j u. HasSeen trace u) st.views id v' (λ j u _ e'. k.each_seen j u e')
+            (seen_pass_prefix r s ((k.each_seen id (pass_view r) at).pass r refl) ((k.each_seen other (prefix_view s) there).prefix s refl)) i v e)
+            seen_nothing;
         queue_is = set_else one other queue_at spent_view (λ e. none_is queue (ap (λ (u : View). u.queue) (at_once st.views other queue_at (prefix_view s) (view_of queue joined) (sym e) there k.queue_is)))
             ∙ (set_else st.views id queue_at v' (λ e. none_is queue (ap (λ (u : View). u.queue) (at_once st.views id queue_at (pass_view r) (view_of queue joined) (sym e) at k.queue_is))) ∙ k.queue_is);
         lock = k.lock;
@@ -54,7 +66,7 @@ joins_seen size id other r s st (run, queue_at, queue, joined, seat, k) at ne th
               queue_here = λ e'. off e';
               pass_here = λ o is. let same : r ≡ o = cc is in subst (λ (u : PassRecord). (seat u.pass ≡ id) × IsOut queue u.pass × IsRecord queue.first st.words run queue.history u) same mine;
               back_here = λ o is. none_is o is;
-              prefix_here = λ u is. let same : s ≡ u = cc is in subst (IsPrefixOf run queue.history) same seen;
+              prefix_here = λ u is. let same : s ≡ u = cc is in subst (λ (p : Prefix). IsExtendedBy p.history queue.history) same seen;
             }
             i v e)
             record { queue_here = λ e. off e; pass_here = λ o is. none_is o is; back_here = λ o is. none_is o is; prefix_here = λ u is. none_is u is };
@@ -68,23 +80,27 @@ joins_seen size id other r s st (run, queue_at, queue, joined, seat, k) at ne th
 
 -- the pass has then seen the history and the execution so far
 sees_all : (size : Size) (slots id : ℕ) (r : PassRecord) (s : Prefix) (held : List (ℕ × Unit {0})) → Allows (RuleHolds size) slots id (pass_prefix_view r s, held) 0 (λ n. n) (SeesAll size (step slots 0 0 0 none) (pass_prefix_view r s, held))
-sees_all size slots id r s held st (run, queue_at, queue, joined, seat, k) _ at _ =
+sees_all size slots id r s held st (trace, queue_at, queue, joined, seat, k) _ at _ =
+    let run = steps_in trace in
+    let known = k.each_seen id (pass_prefix_view r s) at in
     let f = k.each_view id (pass_prefix_view r s) at in
     let mine = f.pass_here r refl in
     let seen = f.prefix_here s refl in
     let rec = mine.2 in
     let was = rec.of_pass in
     let agreed = k.agrees.history_is in
-    let r' = saw_prefix (record { history = queue.history; run = run }) r in
+    let r' = saw_prefix (record { history = queue.history; trace = trace }) r in
     let fits : ℕ → View → Type 0 = Fits st.words run queue queue_at seat in
     let newer : IsRecord queue.first st.words run queue.history r' = record {
-      of_pass = record { seen_is = ([], refl); mine_is = was.mine_is; steps_is = was.steps_is; completed_is = was.completed_is; run_is = ([], refl) };
+      of_pass = record { seen_is = ([], refl); mine_is = was.mine_is; steps_is = was.steps_is; completed_is = was.completed_is };
       stored = rec.stored;
       due = rec.due;
       begun = rec.begun;
     } in
-    let kept : RuleHoldsBy size st.words (set st.views id (pass_view r')) run queue_at queue joined seat = record {
+    let kept : RuleHoldsBy size st.words (set st.views id (pass_view r')) trace queue_at queue joined seat = record {
       agrees = k.agrees;
+      traced = k.traced;
+      each_seen = all_set (λ i v. HasSeen trace v) st.views id (pass_view r') (λ i v _ e. k.each_seen i v e) (seen_pass r' ([], refl));
       queue_is = set_else st.views id queue_at (pass_view r') (λ e. none_is queue (ap (λ (u : View). u.queue) (at_once st.views id queue_at (pass_prefix_view r s) (view_of queue joined) (sym e) at k.queue_is))) ∙ k.queue_is;
       lock = k.lock;
       idle = k.idle;
@@ -102,14 +118,16 @@ sees_all size slots id r s held st (run, queue_at, queue, joined, seat, k) _ at 
       pass_view r',
       keeps,
       tt,
-      (run, queue_at, queue, joined, seat, subst (λ ws. RuleHoldsBy size ws (set st.views id (pass_view r')) run queue_at queue joined seat) (sym (set-get_or st.words 0 0)) kept),
+      (trace, queue_at, queue, joined, seat, subst (λ ws. RuleHoldsBy size ws (set st.views id (pass_view r')) trace queue_at queue joined seat) (sym (set-get_or st.words 0 0)) kept),
       (
         refl,
         record {
-          sees = record { follows = was.run_is; is_run = agreed.is_run; steps_are = was.steps_is };
+          sees = record { follows = known.pass r refl; is_run = agreed.is_run; steps_are = was.steps_is };
           begins = was.seen_is;
-          history = seen.0;
-          run = seen.1;
+          history = seen;
+          trace = known.prefix s refl;
+          is_trace = subst (λ n. IsTrace n trace) first k.traced.is_trace;
+          entries_are = k.traced.entries_are;
           once = was.mine_is;
           orderly = subst (λ n. IsOrderly n queue.history) first agreed.orderly;
           true_of = subst (λ n. AreTrueOf n run queue.history) first agreed.true_of;
@@ -121,15 +139,15 @@ sees_all size slots id r s held st (run, queue_at, queue, joined, seat, k) _ at 
 -- the same at views that are known
 pub cuts_seen_as : (size : Size) (id : ℕ) (v : View) (r : PassRecord) → v ≡ pass_view r → Splits (RuleHolds size) id v (same_view v) (prefix_view_of v)
 cuts_seen_as size id v r is = subst (λ (u : View). Splits (RuleHolds size) id u (same_view u) (prefix_view_of u)) (sym is)
-    (cuts_seen size id (pass_view r) (prefix_of r) (λ words run q queue_at seat flight a f. let was = (f.pass_here r refl).2.of_pass in (was.seen_is, was.run_is)))
+    (cuts_seen size id (pass_view r) (prefix_of r) (λ words run q queue_at seat flight a f. (f.pass_here r refl).2.of_pass.seen_is) (λ trace h. h.pass r refl))
 
 pub cuts_back_seen_as : (size : Size) (id : ℕ) (v : View) (r : PassRecord) → v ≡ receipt_view r → Splits (RuleHolds size) id v (same_view v) (prefix_view_of v)
 cuts_back_seen_as size id v r is = subst (λ (u : View). Splits (RuleHolds size) id u (same_view u) (prefix_view_of u)) (sym is)
-    (cuts_seen size id (receipt_view r) (prefix_of r) (λ words run q queue_at seat flight a f. let back = f.back_here r refl in let was = (a.backs back.0 r back.1).is_record.of_pass in (was.seen_is, was.run_is)))
+    (cuts_seen size id (receipt_view r) (prefix_of r) (λ words run q queue_at seat flight a f. let back = f.back_here r refl in (a.backs back.0 r back.1).is_record.of_pass.seen_is) (λ trace h. h.back r refl))
 
 pub copies_seen_as : (size : Size) (id : ℕ) (v : View) (s : Prefix) → v ≡ prefix_view s → Splits (RuleHolds size) id v (same_view v) (same_view v)
 copies_seen_as size id v s is = subst (λ (u : View). Splits (RuleHolds size) id u (same_view u) (same_view u)) (sym is)
-    (cuts_seen size id (prefix_view s) s (λ words run q queue_at seat flight a f. f.prefix_here s refl))
+    (cuts_seen size id (prefix_view s) s (λ words run q queue_at seat flight a f. f.prefix_here s refl) (λ trace h. h.prefix s refl))
 
 pub joins_seen_as : (size : Size) (id other : ℕ) (v w : View) (r : PassRecord) (s : Prefix) → v ≡ pass_view r → w ≡ prefix_view s → Joins (RuleHolds size) id v other w (with_prefix_of v w) spent_view
 joins_seen_as size id other v w r s is is' = subst (λ (u : View × View). Joins (RuleHolds size) id u.0 other u.1 (with_prefix_of u.0 u.1) spent_view) (λ i. (sym is i, sym is' i)) (joins_seen size id other r s)

@@ -1,9 +1,9 @@
 -- Receipts of passes that are back: cutting one off, and showing it, keeps the rule.
 use Rattle.std.proofs.Common.{◌≡◌, ℕ, zero, suc, List, [], ◌∷◌, ◌++◌, set, Some, None, IsSome, refl, sym, ap, ◌∙◌, subst}
-use Rattle.csq_words.proofs.Imports.{some, some-injective, get_elem?, Splits, Joins, set_here, set_else, set_again, at_longer, PassId, Made, Size, PassRecord, QueueRecord, View, view_of, receipt_view, spent_view, newest, without_pass, receipt_of, shown_receipt, with_shown, shown_by, in_flight, IsOut, HasBack, WordsAgree, Fits, RuleHoldsBy, RuleHolds}
+use Rattle.csq_words.proofs.Imports.{some, some-injective, get_elem?, Splits, Joins, set_here, set_else, set_again, at_longer, PassId, Made, Size, PassRecord, QueueRecord, View, view_of, receipt_view, spent_view, newest, without_pass, receipt_of, shown_receipt, with_shown, shown_by, in_flight, IsOut, HasBack, HasSeen, steps_in, WordsAgree, Fits, RuleHoldsBy, RuleHolds}
 use Rattle.csq_words.proofs.Facts.{off}
 use Rattle.csq_words.proofs.Indexes.{at_below}
-use Rattle.csq_words.proofs.Keeping.{none_is, same_history, all_set, all_push, present_else, present_more, apart, at_queue}
+use Rattle.csq_words.proofs.Keeping.{none_is, seen_receipt, seen_alone, seen_nothing, same_history, all_set, all_push, present_else, present_more, apart, at_queue}
 
 -- the newest of the records is among them
 newest_at : (rs : List PassRecord) (r : PassRecord) → newest rs ≡ Some r → get_elem? rs 0 ≡ some r
@@ -18,35 +18,42 @@ some_newest (r ∷ rs) h = (r, refl)
 -- a receipt of a pass that is back is cut off
 cuts_receipt : (size : Size) (id : ℕ) (q : QueueRecord) (r : PassRecord) → ((words : List ℕ) (run : List Made) → WordsAgree size words run q (in_flight None) → HasBack q r) → Splits (RuleHolds size) id (view_of q None) (view_of q None) (receipt_view r)
 cuts_receipt size id q r back s h at =
-    let (run, seat, k) = at_queue size s id q None h at in
+    let (trace, seat, k) = at_queue size s id q None h at in
+    let run = steps_in trace in
     let fits : ℕ → View → Type 0 = Fits s.words run q id seat in
-    let longer : RuleHoldsBy size s.words (s.views ++ receipt_view r ∷ []) run id q None seat = record {
+    let b = back s.words run k.agrees in
+    let seen = (k.each_seen id (view_of q None) at).backs q refl b.0 r b.1 in
+    let longer : RuleHoldsBy size s.words (s.views ++ receipt_view r ∷ []) trace id q None seat = record {
       agrees = k.agrees;
+      traced = k.traced;
+      each_seen = all_push (λ i v. HasSeen trace v) s.views (receipt_view r) k.each_seen (seen_receipt r seen);
       queue_is = at_longer s.views (receipt_view r ∷ []) id (view_of q None) k.queue_is;
       lock = k.lock;
       idle = k.idle;
       each_view = all_push fits s.views (receipt_view r) k.each_view record {
         queue_here = λ e. off e;
         pass_here = λ o is. none_is o is;
-        back_here = λ o is. let same : r ≡ o = cc is in subst (HasBack q) same (back s.words run k.agrees);
+        back_here = λ o is. let same : r ≡ o = cc is in subst (HasBack q) same b;
         prefix_here = λ u is. none_is u is;
       };
       present = λ p out. present_more s.views (receipt_view r) (seat p) p (k.present p out);
     } in
-    (run, id, q, None, seat, subst (λ (views : List View). RuleHoldsBy size s.words (views ++ receipt_view r ∷ []) run id q None seat) (sym (set_again s.views id (view_of q None) at)) longer)
+    (trace, id, q, None, seat, subst (λ (views : List View). RuleHoldsBy size s.words (views ++ receipt_view r ∷ []) trace id q None seat) (sym (set_again s.views id (view_of q None) at)) longer)
 
 -- a receipt shows the record of a pass that is back
 shows : (size : Size) (id other : ℕ) (q : QueueRecord) (r : PassRecord) → Joins (RuleHolds size) id (view_of q None) other (receipt_view r) (view_of (with_shown r q) None) spent_view
 shows size id other q r s h at ne there' =
-    let (run, seat, k) = at_queue size s id q None h at in
+    let (trace, seat, k) = at_queue size s id q None h at in
+    let run = steps_in trace in
     let q' = with_shown r q in
     let there : get_elem? s.views other ≡ some (receipt_view r) = sym (set_else s.views id other (view_of q' None) ne) ∙ there' in
     let back : HasBack q r = (k.each_view other (receipt_view r) there).back_here r refl in
     let both = set s.views id (view_of q' None) in
     let fits : ℕ → View → Type 0 = Fits s.words run q' id seat in
     let a = k.agrees in
-    let agreed = a.history_is in (
-      run,
+    let agreed = a.history_is in
+    let seen = k.each_seen id (view_of q None) at in (
+      trace,
       id,
       q',
       None,
@@ -62,8 +69,11 @@ shows size id other q r s h at ne there' =
           shown = each_shown q.shown back a.shown;
           few = a.few;
           nobody = a.nobody;
-          seen = a.seen;
         };
+        traced = k.traced;
+        each_seen = all_set (λ i v. HasSeen trace v) both other spent_view
+            (λ i v _ e. all_set (λ j u. HasSeen trace u) s.views id (view_of q' None) (λ j u _ e'. k.each_seen j u e') (seen_alone q' (seen.queue q refl) (seen.backs q refl)) i v e)
+            seen_nothing;
         queue_is = set_else both other id spent_view (λ e. ne (sym e)) ∙ set_here s.views id (view_of q' None) (at_below s.views id (view_of q None) at);
         lock = k.lock;
         idle = k.idle;

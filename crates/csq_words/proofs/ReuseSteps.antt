@@ -1,5 +1,5 @@
 -- The four steps of a reuse keep the rule.
-use Rattle.csq_words.proofs.Imports.{IsExtendedBy, and_parts, ltb-true, set-get_or, slice_index, is_some, IsSome, none, Allows, step, keeps, inside_of, IrpId, PassId, NtStatus, Renew, Made, life_of, same_id, same_irp, is, IrpLife, was_armed, bit, routine, flagged, listed, removed, last_life, renewals, present_life, present, Size, IsRun, same_irp-refl, same_irp-eq, grows_by_renew, Reusing, Nothing, Looked, StatusRenewed, RoutineRenewed, Completion, PassRecord, QueueRecord, View, cancel_at, routine_at, status_at, bit_word, life_in, unset_word, status_life_in, status_in, present_in, has_entry, has_irp, begin_next, view_of, queue_of, with_calls, with_step, with_reusing, with_run, recording, next_life, is_done, inserts, lists, again, in_flight, SaysStatus, HasWords, MayRenew, IsReuse, IsHistoryOf, AreStored, RuleHoldsBy, RuleHolds, after_look, after_renewal, SeatView, status_recorded, SaysStatusOf, Looks, RenewsStatus, RenewsRoutine, RenewsCancel, own_made}
+use Rattle.csq_words.proofs.Imports.{IsExtendedBy, and_parts, ltb-true, set-get_or, slice_index, is_some, IsSome, none, Allows, step, keeps, inside_of, IrpId, PassId, NtStatus, Renew, Made, life_of, same_id, same_irp, is, IrpLife, was_armed, bit, routine, flagged, listed, removed, last_life, renewals, present_life, present, Size, IsRun, same_irp-refl, same_irp-eq, grows_by_renew, Reusing, Nothing, Looked, StatusRenewed, RoutineRenewed, Completion, PassRecord, QueueRecord, View, cancel_at, routine_at, status_at, bit_word, life_in, unset_word, status_life_in, status_in, present_in, has_entry, has_irp, begin_next, view_of, queue_of, with_calls, with_step, with_reusing, with_trace, recording, Tick, steps_in, next_life, is_done, inserts, lists, again, in_flight, SaysStatus, HasWords, MayRenew, IsReuse, IsHistoryOf, AreStored, RuleHoldsBy, RuleHolds, after_look, after_renewal, SeatView, status_recorded, SaysStatusOf, Looks, RenewsStatus, RenewsRoutine, RenewsCancel, own_made}
 use Rattle.std.proofs.Common.{◌≡◌, ℕ, ◌+◌, ◌<◌, nat_lt, cond, Bool, true, false, not, ◌&&◌, List, [], ◌∷◌, length, set, Option, Some, None, ⊎_elim, refl, sym, ap, ◌∙◌, subst, arith, length-set}
 use Rattle.irp_core.specs.declared.inside.Inside.TheVariants as inner
 use Rattle.csq_words.specs.declared.views.Event.TheVariants as event
@@ -12,19 +12,22 @@ use Rattle.csq_words.proofs.Keeping.{none_is, same_history, at_queue}
 use Rattle.csq_words.proofs.SeatSteps.{locked_step}
 use Rattle.csq_words.proofs.Changes.{present_is, renewed_status_words, renewed_routine_words, renewed_words, stored_else, stored_put, stored_later, status_routine, status_cancel}
 use Rattle.csq_words.proofs.PassSteps.{AllWords}
-use Rattle.csq_words.proofs.CallSteps.{sees, IsMade, KeptAfter, agreed_kept, made_record, made_kept}
+use Rattle.csq_words.proofs.CallSteps.{sees, IsMade, KeptAfter, agreed_kept, made_trace, made_record, made_kept}
+use Rattle.csq_words.proofs.Traced.{step_traced}
 
 -- a step that ends no life: the words, the progress of a reuse and what was seen of the execution change, and nothing else
-pub renewal_kept : (size : Size) (words words' : List ℕ) (views : List View) (run seen : List Made) (id : ℕ) (q : QueueRecord) (r : PassRecord) (seat : PassId → ℕ) (reuse : Reusing) → IsExtendedBy seen run
-    → RuleHoldsBy size words views run id q (Some r) seat → length words' ≡ length words → AllWords size words' run reuse → IsReuse size run reuse → ((cs : List Completion) → AreStored words cs → AreStored words' cs)
-    → KeptAfter size words' views run id seat (with_reusing reuse (with_run seen q)) r
-renewal_kept size words words' views run seen id q r seat reuse follows k wide ws may stored =
-    let q' = with_reusing reuse (with_run seen q) in
+pub renewal_kept : (size : Size) (words words' : List ℕ) (views : List View) (trace seen : List Tick) (id : ℕ) (q : QueueRecord) (r : PassRecord) (seat : PassId → ℕ) (reuse : Reusing) → IsExtendedBy seen trace
+    → RuleHoldsBy size words views trace id q (Some r) seat → length words' ≡ length words → AllWords size words' (steps_in trace) reuse → IsReuse size (steps_in trace) reuse → ((cs : List Completion) → AreStored words cs → AreStored words' cs)
+    → KeptAfter size words' views trace id seat (with_reusing reuse (with_trace seen q)) r
+renewal_kept size words words' views trace seen id q r seat reuse follows k wide ws may stored =
+    let q' = with_reusing reuse (with_trace seen q) in
+    let run = steps_in trace in
+    let had = k.each_seen id (view_of q (Some r)) k.queue_is in
     let h = k.agrees.history_is in
     let owner = (k.each_view id (view_of q (Some r)) k.queue_is).pass_here r refl in
     let was = owner.2.of_pass in
-    let history_is : IsHistoryOf size run q' (in_flight (Some r)) = same_history h in agreed_kept size words' (set views id (view_of q' (Some r))) run id q' r seat history_is was
-    (locked_step size words words' views run run id q q' seat r r k record {
+    let history_is : IsHistoryOf size run q' (in_flight (Some r)) = same_history h in agreed_kept size words' (set views id (view_of q' (Some r))) trace id q' r seat
+    (locked_step size words words' views trace trace id q q' seat r r k record {
       same_pass = refl;
       same_made = refl;
       same_back = refl;
@@ -35,7 +38,10 @@ renewal_kept size words words' views run seen id q r seat reuse follows k wide w
       reuse_is = may;
       others = λ o ne rec. record { of_pass = rec.of_pass; stored = stored o.completed rec.stored; due = rec.due; begun = rec.begun };
       elsewhere = λ p ne. (refl, refl, refl);
+      traced = k.traced;
+      longer = ([], refl);
       seen = follows;
+      mine_seen = had.pass r refl;
       grows = λ s g. g;
       mine = record { of_pass = was; stored = stored r.completed owner.2.stored; due = owner.2.due; begun = owner.2.begun };
     })
@@ -49,13 +55,20 @@ set_is : (w life : ℕ) (d b : Bool) → d ≡ true → SaysStatus w life d b �
 set_is w life true b e h = (h.0, subst IsSome (sym h.1.1) refl)
 set_is w life false b e h = off e
 
-module _ (size : Size) (words : List ℕ) (views : List View) (run : List Made) (id : ℕ) (q : QueueRecord) (r : PassRecord) (seat : PassId → ℕ) (k : RuleHoldsBy size words views run id q (Some r) seat) (i : IrpLife) where
+module _ (size : Size) (words : List ℕ) (views : List View) (trace : List Tick) (id : ℕ) (q : QueueRecord) (r : PassRecord) (seat : PassId → ℕ) (k : RuleHoldsBy size words views trace id q (Some r) seat) (i : IrpLife) where
+  abbrev run : List Made
+  run = steps_in trace
+
+  -- what the queue's record had seen
+  had_seen : IsExtendedBy q.trace trace
+  had_seen = (k.each_seen id (view_of q (Some r)) k.queue_is).queue q refl
+
   abbrev status_found : ℕ
   status_found = slice_index words (status_at i.irp)
 
   -- the status is renewed
   status_kept : q.reusing ≡ Looked i → (v : ℕ) → (life_of i < last_life → v ≡ unset_word (life_of i + 1))
-      → KeptAfter size (set words (status_at i.irp) v) views run id seat (with_reusing (StatusRenewed i) q) r × (status_life_in status_found ≡ life_of i) × IsSome (status_in status_found)
+      → KeptAfter size (set words (status_at i.irp) v) views trace id seat (with_reusing (StatusRenewed i) q) r × (status_life_in status_found ≡ life_of i) × IsSome (status_in status_found)
   status_kept at v put =
       let is_run = k.agrees.history_is.is_run in
       let may : MayRenew size run i = subst (IsReuse size run) at k.agrees.reuse_is in
@@ -67,7 +80,7 @@ module _ (size : Size) (words : List ℕ) (views : List View) (run : List Made) 
       let word = set_is status_found (life_of (present size.first run i.irp)) (is_done run (present size.first run i.irp)) (removed run (present size.first run i.irp)) (ap (is_done run) (present_is size.first run i may.is_present) ∙ may.done) (ws i.irp known).status_is in
       let life : status_life_in status_found ≡ life_of i = word.0 ∙ sym may.is_present in
       let later : status_life_in status_found < status_life_in v = (let u : status_life_in v ≡ life_of i + 1 = ap status_life_in v_is ∙ status_life_in-unset (life_of i + 1) in omega (arith, life, u)) in (
-        renewal_kept size words (set words (status_at i.irp) v) views run q.run id q r seat (StatusRenewed i) k.agrees.seen k (length-set words (status_at i.irp) v)
+        renewal_kept size words (set words (status_at i.irp) v) views trace q.trace id q r seat (StatusRenewed i) had_seen k (length-set words (status_at i.irp) v)
             (λ n l. subst (λ x. HasWords size.first (set words (status_at i.irp) x) run (StatusRenewed i) n) (sym v_is) (renewed_status_words size.first words run i may.is_present (next_new size run is_run i may) n room (ws n l)))
             may (λ cs h. stored_put words i.irp v cs room (λ c x. stored_later status_found v c later x) h),
         life,
@@ -79,7 +92,7 @@ module _ (size : Size) (words : List ℕ) (views : List View) (run : List Made) 
 
   -- the routine is renewed
   routine_kept : q.reusing ≡ StatusRenewed i
-      → KeptAfter size (set words (routine_at i.irp) (bit_word (life_of i + 1) 0)) views run id seat (with_reusing (RoutineRenewed i) q) r × (routine_found ≡ bit_word (life_of i) 0)
+      → KeptAfter size (set words (routine_at i.irp) (bit_word (life_of i + 1) 0)) views trace id seat (with_reusing (RoutineRenewed i) q) r × (routine_found ≡ bit_word (life_of i) 0)
   routine_kept at =
       let is_run = k.agrees.history_is.is_run in
       let may : MayRenew size run i = subst (IsReuse size run) at k.agrees.reuse_is in
@@ -88,7 +101,7 @@ module _ (size : Size) (words : List ℕ) (views : List View) (run : List Made) 
       let room : routine_at i.irp < length words = omega arith in
       let ws : AllWords size words run (StatusRenewed i) = subst (AllWords size words run) at k.agrees.words_are in
       let unset : routine run i ≡ 0 = ap bit (done_over size run is_run i may.done).1 in (
-        renewal_kept size words (set words (routine_at i.irp) (bit_word (life_of i + 1) 0)) views run q.run id q r seat (RoutineRenewed i) k.agrees.seen k (length-set words (routine_at i.irp) (bit_word (life_of i + 1) 0))
+        renewal_kept size words (set words (routine_at i.irp) (bit_word (life_of i + 1) 0)) views trace q.trace id q r seat (RoutineRenewed i) had_seen k (length-set words (routine_at i.irp) (bit_word (life_of i + 1) 0))
             (λ n l. renewed_routine_words size.first words run i may.is_present (next_new size run is_run i may) n room (ws n l))
             may (λ cs h. stored_else words (routine_at i.irp) (bit_word (life_of i + 1) 0) cs (λ n. status_routine n i.irp) h),
         (ws i.irp known).routine_is ∙ (ap (λ (j : IrpLife). bit_word (life_of j) (routine run j)) (present_is size.first run i may.is_present) ∙ ap (bit_word (life_of i)) unset),
@@ -112,7 +125,7 @@ module _ (size : Size) (words : List ℕ) (views : List View) (run : List Made) 
   cancel_made : q.reusing ≡ RoutineRenewed i → inside_of r.steps ≡ inner.Nothing
       → IsMade size words (set words (cancel_at i.irp) (bit_word (life_of i + 1) 0)) run q r (Renew i) 0 (event.Reuse i.irp (next_life i).life ∷ []) Nothing × (life_in cancel_found ≡ life_of i)
   cancel_made at outside =
-      let x = sees size words views run id q r seat k in
+      let x = sees size words views trace id q r seat k in
       let is_run = k.agrees.history_is.is_run in
       let may : MayRenew size run i = subst (IsReuse size run) at k.agrees.reuse_is in
       let known = may.known in
@@ -164,44 +177,47 @@ recorded_stored words i status (c ∷ cs) h e = go (recorded_stored words i stat
         subst (λ (z : IrpLife × NtStatus). SaysStatusOf z.0 z.1 (slice_index words (status_at z.0.irp))) (λ k. (same k, is k)) h.0
     go rest false x e = rest e
 
-module _ (size : Size) (words : List ℕ) (views : List View) (run : List Made) (id : ℕ) (q : QueueRecord) (r : PassRecord) (seat : PassId → ℕ) (k : RuleHoldsBy size words views run id q (Some r) seat) (n : IrpId) (known : n.0 < size.irps) (idle : q.reusing ≡ Nothing) where
+module _ (size : Size) (words : List ℕ) (views : List View) (trace : List Tick) (id : ℕ) (q : QueueRecord) (r : PassRecord) (seat : PassId → ℕ) (k : RuleHoldsBy size words views trace id q (Some r) seat) (n : IrpId) (known : n.0 < size.irps) (idle : q.reusing ≡ Nothing) where
+  abbrev look_run : List Made
+  look_run = steps_in trace
+
   abbrev seen_irp : IrpLife
   seen_irp = present_in (queue_of q) n
 
   abbrev seen_word : ℕ
   seen_word = slice_index words (status_at n)
 
-  now_is : seen_irp ≡ present size.first run n
-  now_is = irp_eq seen_irp (present size.first run n) refl (k.agrees.history_is.lives_are n)
+  now_is : seen_irp ≡ present size.first look_run n
+  now_is = irp_eq seen_irp (present size.first look_run n) refl (k.agrees.history_is.lives_are n)
 
   -- the status word is the present life's
-  says : SaysStatus seen_word (life_of seen_irp) (is_done run seen_irp) (removed run seen_irp)
+  says : SaysStatus seen_word (life_of seen_irp) (is_done look_run seen_irp) (removed look_run seen_irp)
   says =
-      let ws : HasWords size.first words run Nothing n = subst (λ s. HasWords size.first words run s n) idle (k.agrees.words_are n known) in
-      subst (λ (j : IrpLife). SaysStatus seen_word (life_of j) (is_done run j) (removed run j)) (sym now_is) ws.status_is
+      let ws : HasWords size.first words look_run Nothing n = subst (λ s. HasWords size.first words look_run s n) idle (k.agrees.words_are n known) in
+      subst (λ (j : IrpLife). SaysStatus seen_word (life_of j) (is_done look_run j) (removed look_run j)) (sym now_is) ws.status_is
 
   done_seen : (w life : ℕ) (d b : Bool) → SaysStatus w life d b → is_some (status_in w) ≡ true → d ≡ true
   done_seen w life false b h e = off (sym (ap is_some (ap status_in h ∙ status_in-unset life)) ∙ e)
   done_seen w life true b h e = refl
 
   -- the life was completed exactly where a status is seen
-  pub finds_done : is_done run seen_irp ≡ is_some (status_in seen_word)
-  finds_done = go seen_word (life_of seen_irp) (is_done run seen_irp) (removed run seen_irp) says
+  pub finds_done : is_done look_run seen_irp ≡ is_some (status_in seen_word)
+  finds_done = go seen_word (life_of seen_irp) (is_done look_run seen_irp) (removed look_run seen_irp) says
     where
       go : (w life : ℕ) (d b : Bool) → SaysStatus w life d b → d ≡ is_some (status_in w)
       go w life false b h = sym (ap is_some (ap status_in h ∙ status_in-unset life))
       go w life true b h = sym (ap is_some h.1.1)
 
   -- a look changes the progress at most, and observes the execution
-  look_kept : (b : Bool) → (is_some (status_in seen_word) && nat_lt (life_of seen_irp) last_life) ≡ b → KeptAfter size words views run id seat (after_look seen_irp seen_word (with_run run q)) r
+  look_kept : (b : Bool) → (is_some (status_in seen_word) && nat_lt (life_of seen_irp) last_life) ≡ b → KeptAfter size words views trace id seat (after_look seen_irp seen_word (with_trace trace q)) r
   look_kept true e =
       let both = and_parts _ _ e in
-      let done = done_seen seen_word (life_of seen_irp) (is_done run seen_irp) (removed run seen_irp) says both.0 in
-      let may : MayRenew size run seen_irp = record { known = known; is_present = k.agrees.history_is.lives_are n; done = done; few = ltb-true (life_of seen_irp) last_life both.1 } in
-      rw e (renewal_kept size words words views run run id q r seat (Looked seen_irp) ([], refl) k refl
-      (λ m l. let ws : HasWords size.first words run Nothing m = subst (λ s. HasWords size.first words run s m) idle (k.agrees.words_are m l) in record { cancel_is = ws.cancel_is; routine_is = ws.routine_is; status_is = ws.status_is })
+      let done = done_seen seen_word (life_of seen_irp) (is_done look_run seen_irp) (removed look_run seen_irp) says both.0 in
+      let may : MayRenew size look_run seen_irp = record { known = known; is_present = k.agrees.history_is.lives_are n; done = done; few = ltb-true (life_of seen_irp) last_life both.1 } in
+      rw e (renewal_kept size words words views trace trace id q r seat (Looked seen_irp) ([], refl) k refl
+      (λ m l. let ws : HasWords size.first words look_run Nothing m = subst (λ s. HasWords size.first words look_run s m) idle (k.agrees.words_are m l) in record { cancel_is = ws.cancel_is; routine_is = ws.routine_is; status_is = ws.status_is })
       may (λ cs h. h))
-  look_kept false e = rw e (renewal_kept size words words views run run id q r seat q.reusing ([], refl) k refl k.agrees.words_are k.agrees.reuse_is (λ cs h. h))
+  look_kept false e = rw e (renewal_kept size words words views trace trace id q r seat q.reusing ([], refl) k refl k.agrees.words_are k.agrees.reuse_is (λ cs h. h))
 
   -- where no status is seen, the pass completed nothing in that life
   none_seen : status_in seen_word ≡ None → status_recorded seen_irp r.completed ≡ None
@@ -214,48 +230,53 @@ module _ (size : Size) (words : List ℕ) (views : List View) (run : List Made) 
       go None e = refl
       go (Some s) e = ⊎_elim
           (λ (x : (status_life_in seen_word ≡ life_of seen_irp) × (status_in seen_word ≡ Some s)). none_is s (sym unset ∙ x.1))
-          (λ (x : life_of seen_irp < status_life_in seen_word). let life = life_seen seen_word (life_of seen_irp) (is_done run seen_irp) (removed run seen_irp) says in absurd (omega (arith, x, life)))
+          (λ (x : life_of seen_irp < status_life_in seen_word). let life = life_seen seen_word (life_of seen_irp) (is_done look_run seen_irp) (removed look_run seen_irp) says in absurd (omega (arith, x, life)))
           (recorded_stored words seen_irp s r.completed stored e)
 
 module _ (size : Size) (slots id : ℕ) (q : QueueRecord) (r : PassRecord) (held : List (ℕ × Unit {0})) where
   looks : (n : IrpId) → n.0 < size.irps → q.reusing ≡ Nothing → Allows (RuleHolds size) slots id (view_of q (Some r), held) (status_at n) (λ w. w) (Looks size n (step slots (status_at n) 0 0 none) (view_of q (Some r), held))
   looks n known idle s h _ here _ =
-      let (run, seat, k) = at_queue size s id q (Some r) h here in
+      let (trace, seat, k) = at_queue size s id q (Some r) h here in
+      let run = steps_in trace in
       let i = present_in (queue_of q) n in
       let w = slice_index s.words (status_at n) in
-      let q' = after_look i w (with_run run q) in
-      let kept = look_kept size s.words s.views run id q r seat k n known idle (is_some (status_in w) && nat_lt (life_of i) last_life) refl in (
+      let q' = after_look i w (with_trace trace q) in
+      let kept = look_kept size s.words s.views trace id q r seat k n known idle (is_some (status_in w) && nat_lt (life_of i) last_life) refl in (
         view_of q' (Some r),
         keeps,
         tt,
-        (run, id, q', Some r, seat, subst (λ ws. RuleHoldsBy size ws (set s.views id (view_of q' (Some r))) run id q' (Some r) seat) (sym (set-get_or s.words (status_at n) 0)) kept.0),
-        (refl, life_seen w (life_of i) (is_done run i) (removed run i) (says size s.words s.views run id q r seat k n known idle), record { agreed = kept.1; follows = k.agrees.seen }, finds_done size s.words s.views run id q r seat k n known idle, none_seen size s.words s.views run id q r seat k n known idle),
+        (trace, id, q', Some r, seat, subst (λ ws. RuleHoldsBy size ws (set s.views id (view_of q' (Some r))) trace id q' (Some r) seat) (sym (set-get_or s.words (status_at n) 0)) kept.0),
+        (refl, life_seen w (life_of i) (is_done run i) (removed run i) (says size s.words s.views trace id q r seat k n known idle), record { agreed = kept.1; follows = (k.each_seen id (view_of q (Some r)) here).queue q refl }, finds_done size s.words s.views trace id q r seat k n known idle, none_seen size s.words s.views trace id q r seat k n known idle),
       )
 
   module _ (i : IrpLife) where
     renews_status : (v : ℕ) → q.reusing ≡ Looked i → (life_of i < last_life → v ≡ unset_word (life_of i + 1)) → Allows (RuleHolds size) slots id (view_of q (Some r), held) (status_at i.irp) (λ _. v) (RenewsStatus size i (step slots (status_at i.irp) v 0 none) (view_of q (Some r), held))
     renews_status v at put s h _ here _ =
-        let (run, seat, k) = at_queue size s id q (Some r) h here in
-        let kept = status_kept size s.words s.views run id q r seat k i at v put in
-        (view_of (with_reusing (StatusRenewed i) q) (Some r), keeps, tt, (run, id, with_reusing (StatusRenewed i) q, Some r, seat, kept.0.0), (refl, kept.1, kept.2, (run, kept.0.1)))
+        let (trace, seat, k) = at_queue size s id q (Some r) h here in
+        let run = steps_in trace in
+        let kept = status_kept size s.words s.views trace id q r seat k i at v put in
+        (view_of (with_reusing (StatusRenewed i) q) (Some r), keeps, tt, (trace, id, with_reusing (StatusRenewed i) q, Some r, seat, kept.0.0), (refl, kept.1, kept.2, (trace, kept.0.1)))
 
     renews_routine : q.reusing ≡ StatusRenewed i → Allows (RuleHolds size) slots id (view_of q (Some r), held) (routine_at i.irp) (λ _. bit_word (life_of i + 1) 0) (RenewsRoutine size i (step slots (routine_at i.irp) (bit_word (life_of i + 1) 0) 0 none) (view_of q (Some r), held))
     renews_routine at s h _ here _ =
-        let (run, seat, k) = at_queue size s id q (Some r) h here in
-        let kept = routine_kept size s.words s.views run id q r seat k i at in
-        (view_of (with_reusing (RoutineRenewed i) q) (Some r), keeps, tt, (run, id, with_reusing (RoutineRenewed i) q, Some r, seat, kept.0.0), (refl, kept.1, (run, kept.0.1)))
+        let (trace, seat, k) = at_queue size s id q (Some r) h here in
+        let run = steps_in trace in
+        let kept = routine_kept size s.words s.views trace id q r seat k i at in
+        (view_of (with_reusing (RoutineRenewed i) q) (Some r), keeps, tt, (trace, id, with_reusing (RoutineRenewed i) q, Some r, seat, kept.0.0), (refl, kept.1, (trace, kept.0.1)))
 
     renews_cancel : q.reusing ≡ RoutineRenewed i → inside_of r.steps ≡ inner.Nothing → Allows (RuleHolds size) slots id (view_of q (Some r), held) (cancel_at i.irp) (λ _. bit_word (life_of i + 1) 0) (RenewsCancel size i (step slots (cancel_at i.irp) (bit_word (life_of i + 1) 0) 0 none) (view_of q (Some r), held))
     renews_cancel at outside s h _ here _ =
-        let (run, seat, k) = at_queue size s id q (Some r) h here in
+        let (trace, seat, k) = at_queue size s id q (Some r) h here in
+        let run = steps_in trace in
         let es = event.Reuse i.irp (next_life i).life ∷ [] in
-        let run' : List Made = record { pass = r.pass; kind = Renew i; found = 0 } ∷ run in
-        let made = cancel_made size s.words s.views run id q r seat k i at outside in
-        let kept = made_kept size s.words (set s.words (cancel_at i.irp) (bit_word (life_of i + 1) 0)) s.views run id q r seat (Renew i) 0 es Nothing k made.0 (recording (call.Reuse i.irp) (record { pass = r.pass; kind = Renew i; found = 0 }) refl k.agrees.history_is.placed) in (
-          after_renewal i (with_run run' q) r,
+        let now = made_trace r (Renew i) 0 es trace in
+        let made = cancel_made size s.words s.views trace id q r seat k i at outside in
+        let kept = made_kept size s.words (set s.words (cancel_at i.irp) (bit_word (life_of i + 1) 0)) s.views trace id q r seat (Renew i) 0 es Nothing k made.0 (recording (call.Reuse i.irp) (record { pass = r.pass; kind = Renew i; found = 0 }) refl k.agrees.history_is.placed)
+        (step_traced k.traced (call.Reuse i.irp) (Renew i) 0 refl (sym (sees size s.words s.views trace id q r seat k).same ∙ outside)) in (
+          after_renewal i (with_trace now q) r,
           keeps,
           tt,
-          (run', id, made_record r es Nothing run' q, Some (with_calls es (with_step (Renew i) 0 r)), seat, kept.0),
+          (now, id, made_record r es Nothing now q, Some (with_calls es (with_step (Renew i) 0 r)), seat, kept.0),
           (refl, made.1, kept.1),
         )
 

@@ -1,18 +1,18 @@
 -- The two general lemmas: a step of a pass's own seat, and a step of the queue's seat while it is joined with a pass, keep the rule.
 use Rattle.std.proofs.Common.{◌≡◌, ◌≢◌, ℕ, ◌<◌, ◌≤◌, false, cond, not, ◌&&◌, List, [], ◌∷◌, length, set, Option, Some, refl, sym, ap, ◌∙◌, subst, ⊎_elim, arith, true}
-use Rattle.csq_words.proofs.Imports.{or_right, some, get_elem?, set_here, set_else, PassId, Made, is, own, IrpLife, Inside, inside, inside_after, has_lock, listed, Size, IsRun, PassRecord, QueueRecord, View, calls_of, IsExtendedBy, view_of, pass_view, was_armed, present_life, life_grows, IrpId, Done, Reusing, Nothing, Looked, StatusRenewed, RoutineRenewed, IsPlaced, inserts, lists, passes_given, HasWords, is_done, in_flight, AreTrueOf, IsHistoryOf, MayRenew, IsReuse, AreStored, HaveBegun, IsRecord, IsOut, IsNobody, HasBack, BackOnce, IsPrefixOf, Fits, SeatHasRecord, RuleHoldsBy, again, same_pass-not, own-other}
+use Rattle.csq_words.proofs.Imports.{or_right, some, get_elem?, set_here, set_else, PassId, Made, is, own, IrpLife, Inside, inside, inside_after, has_lock, listed, Size, IsRun, PassRecord, QueueRecord, View, calls_of, IsExtendedBy, view_of, pass_view, was_armed, present_life, life_grows, IrpId, Done, Reusing, Nothing, Looked, StatusRenewed, RoutineRenewed, IsPlaced, inserts, lists, passes_given, HasWords, is_done, in_flight, AreTrueOf, IsHistoryOf, MayRenew, IsReuse, AreStored, HaveBegun, IsRecord, IsOut, IsNobody, HasBack, BackOnce, Fits, HasSeen, HaveSeen, HistoryEntry, Tick, Makes, IsTraceOf, steps_in, SeatHasRecord, RuleHoldsBy, again, same_pass-not, own-other}
 use Rattle.irp_core.specs.declared.inside.Inside.TheVariants.{Rearmed, FlagSeenAgain}
-use Rattle.csq_words.specs.declared.views.Prefix.{Prefix}
 use Rattle.irp_core.specs.Lock.{needs_lock}
 use Rattle.csq_words.specs.Recorded.IsPlaced.{unlocked as without}
-use Rattle.csq_words.proofs.Facts.{off, extended_more}
+use Rattle.csq_words.proofs.Facts.{off, extended_on}
 use Rattle.csq_words.proofs.Named.{by_pass}
 use Rattle.csq_words.proofs.Indexes.{at_below, at_once}
 use Rattle.csq_words.proofs.Truths.{truths_stay}
-use Rattle.csq_words.proofs.Keeping.{none_is, all_set, present_else, apart_from, only_joined}
+use Rattle.csq_words.proofs.Keeping.{none_is, all_set, seen_more, seen_pass, seen_joined, present_else, apart_from, only_joined}
+use Rattle.csq_words.proofs.Traced.{traced_unlocked}
 
--- what a step of a pass's own seat owes, which leaves this run and leaves the pass with the record r'
-pub record OwnStep (size : Size) (words words' : List ℕ) (run run' : List Made) (q : QueueRecord) (r r' : PassRecord) : Type 0 where
+-- what a step of a pass's own seat owes, which leaves this run, by this trace, and leaves the pass with the record r'
+pub record OwnStep (size : Size) (words words' : List ℕ) (run run' : List Made) (trace trace' : List Tick) (q : QueueRecord) (r r' : PassRecord) : Type 0 where
   pub same_pass : r'.pass ≡ r.pass
   pub wide : length words' ≡ length words
   pub is_run : IsRun size run'
@@ -26,7 +26,9 @@ pub record OwnStep (size : Size) (words words' : List ℕ) (run run' : List Made
   pub others : (o : PassRecord) → o.pass ≢ r.pass → IsRecord q.first words run q.history o → IsRecord q.first words' run' q.history o
   pub elsewhere : (p : PassId) → p ≢ r.pass → (own p run' ≡ own p run) × (inside run' p ≡ inside run p)
   pub unlocked : has_lock (inside run' r.pass) ≡ false
-  pub seen : (shorter : List Made) → IsExtendedBy shorter run → IsExtendedBy shorter run'
+  pub longer : IsExtendedBy trace trace'
+  pub traced : (joined : Option PassRecord) → IsTraceOf q.first trace q.history joined → IsTraceOf q.first trace' q.history joined
+  pub mine_seen : IsExtendedBy r'.trace trace'
   pub mine : IsRecord q.first words' run' q.history r'
   pub placed : IsPlaced q.first run q.history → IsPlaced q.first run' q.history
 
@@ -59,10 +61,12 @@ inside_other m run p ne = ap (λ b. cond b (inside_after (inside run p) m.kind m
 somebody : (m : ℕ) (a n : PassId) → n ≡ a → 1 ≤ a.0 → a.0 ≤ m → IsNobody m n → ⊥
 somebody m a n e from to s = let e' : n.0 ≡ a.0 = ap (λ (x : PassId). x.0) e in ⊎_elim (λ (z : n.0 ≡ 0). omega (arith, e', from, z)) (λ (l : m < n.0). omega (arith, e', to, l)) s
 
-pub own_step : (size : Size) (words words' : List ℕ) (views : List View) (run run' : List Made) (queue_at : ℕ) (queue : QueueRecord) (joined : Option PassRecord) (seat : PassId → ℕ) (id : ℕ) (r r' : PassRecord)
-    → RuleHoldsBy size words views run queue_at queue joined seat → get_elem? views id ≡ some (pass_view r) → OwnStep size words words' run run' queue r r'
-    → RuleHoldsBy size words' (set views id (pass_view r')) run' queue_at queue joined seat
-own_step size words words' views run run' queue_at queue joined seat id r r' k at p =
+pub own_step : (size : Size) (words words' : List ℕ) (views : List View) (trace trace' : List Tick) (queue_at : ℕ) (queue : QueueRecord) (joined : Option PassRecord) (seat : PassId → ℕ) (id : ℕ) (r r' : PassRecord)
+    → RuleHoldsBy size words views trace queue_at queue joined seat → get_elem? views id ≡ some (pass_view r) → OwnStep size words words' (steps_in trace) (steps_in trace') trace trace' queue r r'
+    → RuleHoldsBy size words' (set views id (pass_view r')) trace' queue_at queue joined seat
+own_step size words words' views trace trace' queue_at queue joined seat id r r' k at p =
+    let run = steps_in trace in
+    let run' = steps_in trace' in
     let mine = (k.each_view id (pass_view r) at).pass_here r refl in
     record {
       agrees = record {
@@ -90,8 +94,9 @@ own_step size words words' views run run' queue_at queue joined seat id r r' k a
         few = k.agrees.few;
         nobody = λ n s. let u = k.agrees.nobody n s in
             ((p.elsewhere n (λ e. somebody queue.made r.pass n e mine.1.from mine.1.to s)).0 ∙ u.0, u.1);
-        seen = p.seen queue.run k.agrees.seen;
       };
+      traced = p.traced joined k.traced;
+      each_seen = all_set (λ i v. HasSeen trace' v) views id (pass_view r') (λ i v _ e. seen_more p.longer (k.each_seen i v e)) (seen_pass r' p.mine_seen);
       queue_is = set_else views id queue_at (pass_view r') (λ e. none_is queue (ap (λ v. v.queue) (at_once views id queue_at (pass_view r) (view_of queue joined) (sym e) at k.queue_is))) ∙ k.queue_is;
       lock = λ q l. by_pass ((o : PassRecord) × (joined ≡ Some o) × (o.pass ≡ q)) q r.pass
           (λ e. off (sym p.unlocked ∙ (ap (λ (x : PassId). has_lock (inside run' x)) (sym e) ∙ l)))
@@ -102,7 +107,7 @@ own_step size words words' views run run' queue_at queue joined seat id r r' k a
             queue_here = f.queue_here;
             pass_here = λ o is. let g = f.pass_here o is in (g.0, g.1, p.others o (λ e'. ne (sym g.0 ∙ (ap seat e' ∙ mine.0))) g.2);
             back_here = f.back_here;
-            prefix_here = λ s is. let g = f.prefix_here s is in (g.0, p.seen s.run g.1);
+            prefix_here = f.prefix_here;
           })
           record {
             queue_here = λ e. off e;
@@ -118,7 +123,7 @@ own_step size words words' views run run' queue_at queue joined seat id r r' k a
     }
 
 -- what a step owes that makes the run longer by m, of no life's end
-pub record LongerStep (size : Size) (words words' : List ℕ) (run : List Made) (m : Made) (q : QueueRecord) (r r' : PassRecord) : Type 0 where
+pub record LongerStep (size : Size) (words words' : List ℕ) (run : List Made) (trace : List Tick) (m : Made) (q : QueueRecord) (r r' : PassRecord) : Type 0 where
   pub by : m.pass ≡ r.pass
   pub same_pass : r'.pass ≡ r.pass
   pub wide : length words' ≡ length words
@@ -131,11 +136,12 @@ pub record LongerStep (size : Size) (words words' : List ℕ) (run : List Made) 
   pub stored : (o : PassRecord) → IsRecord q.first words run q.history o → AreStored words' o.completed
   pub unlocked : has_lock (inside (m ∷ run) r.pass) ≡ false
   pub free : needs_lock m.kind ≡ false
+  pub sees_it : r'.trace ≡ Makes m ∷ trace
   pub mine : IsRecord q.first words' (m ∷ run) q.history r'
 
-pub longer_step : (size : Size) (words words' : List ℕ) (run : List Made) (m : Made) (q : QueueRecord) (r r' : PassRecord) → AreTrueOf q.first run q.history → IsReuse size run q.reusing
-    → LongerStep size words words' run m q r r' → OwnStep size words words' run (m ∷ run) q r r'
-longer_step size words words' run m q r r' true' reuse p = record {
+pub longer_step : (size : Size) (words words' : List ℕ) (run : List Made) (trace : List Tick) (m : Made) (q : QueueRecord) (r r' : PassRecord) → AreTrueOf q.first run q.history → IsReuse size run q.reusing
+    → LongerStep size words words' run trace m q r r' → OwnStep size words words' run (m ∷ run) trace (Makes m ∷ trace) q r r'
+longer_step size words words' run trace m q r r' true' reuse p = record {
   same_pass = p.same_pass;
   wide = p.wide;
   is_run = p.is_run;
@@ -152,7 +158,6 @@ longer_step size words words' run m q r r' true' reuse p = record {
       mine_is = rec.of_pass.mine_is;
       steps_is = rec.of_pass.steps_is ∙ sym (own-other o.pass m run (λ e. ne (sym e ∙ p.by)));
       completed_is = rec.of_pass.completed_is;
-      run_is = extended_more m o.run run rec.of_pass.run_is;
     };
     stored = p.stored o rec;
     due = rec.due;
@@ -160,13 +165,15 @@ longer_step size words words' run m q r r' true' reuse p = record {
   };
   elsewhere = λ n ne. (own-other n m run (λ e. ne (sym e ∙ p.by)), inside_other m run n (λ e. ne (e ∙ p.by)));
   unlocked = p.unlocked;
-  seen = λ shorter h. extended_more m shorter run h;
+  longer = (Makes m ∷ [], refl);
+  traced = λ joined t. traced_unlocked m p.free t;
+  mine_seen = ([], sym p.sees_it);
   placed = λ h. without m p.free h;
   mine = p.mine;
 }
 
 -- what a step of the joined seat owes, which leaves it with this run, these records, and with as many passes
-pub record LockedStep (size : Size) (words words' : List ℕ) (run run' : List Made) (q q' : QueueRecord) (r r' : PassRecord) : Type 0 where
+pub record LockedStep (size : Size) (words words' : List ℕ) (run run' : List Made) (trace trace' : List Tick) (q q' : QueueRecord) (r r' : PassRecord) : Type 0 where
   pub same_pass : r'.pass ≡ r.pass
   pub same_made : q'.made ≡ q.made
   pub same_back : q'.back ≡ q.back
@@ -177,14 +184,21 @@ pub record LockedStep (size : Size) (words words' : List ℕ) (run run' : List M
   pub reuse_is : IsReuse size run' q'.reusing
   pub others : (o : PassRecord) → o.pass ≢ r.pass → IsRecord q.first words run q.history o → IsRecord q'.first words' run' q'.history o
   pub elsewhere : (p : PassId) → p ≢ r.pass → (own p run' ≡ own p run) × (calls_of p q'.history ≡ calls_of p q.history) × (inside run' p ≡ inside run p)
-  pub seen : IsExtendedBy q'.run run'
-  pub grows : (s : Prefix) → IsPrefixOf run q.history s → IsPrefixOf run' q'.history s
+  pub traced : IsTraceOf q'.first trace' q'.history (Some r')
+  pub longer : IsExtendedBy trace trace'
+  pub seen : IsExtendedBy q'.trace trace'
+  pub mine_seen : IsExtendedBy r'.trace trace'
+  pub grows : (shorter : List HistoryEntry) → IsExtendedBy shorter q.history → IsExtendedBy shorter q'.history
   pub mine : IsRecord q'.first words' run' q'.history r'
 
-pub locked_step : (size : Size) (words words' : List ℕ) (views : List View) (run run' : List Made) (id : ℕ) (q q' : QueueRecord) (seat : PassId → ℕ) (r r' : PassRecord)
-    → RuleHoldsBy size words views run id q (Some r) seat → LockedStep size words words' run run' q q' r r'
-    → RuleHoldsBy size words' (set views id (view_of q' (Some r'))) run' id q' (Some r') seat
-locked_step size words words' views run run' id q q' seat r r' k p =
+pub locked_step : (size : Size) (words words' : List ℕ) (views : List View) (trace trace' : List Tick) (id : ℕ) (q q' : QueueRecord) (seat : PassId → ℕ) (r r' : PassRecord)
+    → RuleHoldsBy size words views trace id q (Some r) seat → LockedStep size words words' (steps_in trace) (steps_in trace') trace trace' q q' r r'
+    → RuleHoldsBy size words' (set views id (view_of q' (Some r'))) trace' id q' (Some r') seat
+locked_step size words words' views trace trace' id q q' seat r r' k p =
+    let run = steps_in trace in
+    let run' = steps_in trace' in
+    let was_seen = k.each_seen id (view_of q (Some r)) k.queue_is in
+    let backs_seen : HaveSeen trace q.back = was_seen.backs q refl in
     let mine = (k.each_view id (view_of q (Some r)) k.queue_is).pass_here r refl in
     let v' = view_of q' (Some r') in
     let out : (n : PassId) → IsOut q n → IsOut q' n = λ n o. record { from = o.from; to = rw p.same_made o.to; not_back = rw p.same_back o.not_back } in
@@ -206,8 +220,10 @@ locked_step size words words' views run run' id q q' seat r r' k p =
         nobody = λ n s. let s' : IsNobody q.made n = subst (λ m. IsNobody m n) p.same_made s in
             let u = k.agrees.nobody n s' in
             let e = p.elsewhere n (λ is. somebody q.made r.pass n is mine.1.from mine.1.to s') in (e.0 ∙ u.0, e.1 ∙ u.1);
-        seen = p.seen;
       };
+      traced = p.traced;
+      each_seen = all_set (λ i v. HasSeen trace' v) views id v' (λ i v _ e. seen_more p.longer (k.each_seen i v e))
+          (seen_joined q' r' p.seen (subst (HaveSeen trace') (sym p.same_back) (λ i o e. extended_on o.trace trace trace' (backs_seen i o e) p.longer)) p.mine_seen);
       queue_is = here;
       lock = λ n l. by_pass ((o : PassRecord) × (Some r' ≡ Some o) × (o.pass ≡ n)) n r.pass
           (λ e. (r', refl, p.same_pass ∙ sym e))
@@ -218,7 +234,7 @@ locked_step size words words' views run run' id q q' seat r r' k p =
             queue_here = f.queue_here;
             pass_here = λ o is. let g = f.pass_here o is in (g.0, out o.pass g.1, p.others o (λ e'. ne (sym g.0 ∙ (ap seat e' ∙ mine.0))) g.2);
             back_here = λ o is. back o (f.back_here o is);
-            prefix_here = λ s is. p.grows s (f.prefix_here s is);
+            prefix_here = λ s is. p.grows s.history (f.prefix_here s is);
           })
           record {
             queue_here = λ _. refl;

@@ -2,7 +2,7 @@
 use Rattle.std.proofs.Common.{◌≡◌, ℕ, [], Option, Some, None, refl, sym, ap, ◌∙◌, subst}
 use Rattle.std.specs.Option.{option_map}
 use Rattle.atomic_table.specs.Seated.{TableId}
-use Rattle.csq_words.proofs.Imports.{Kind, Test, Call, View, PassRecord, QueueRecord, bit_in, view_of, pass_view, receipt_view, prefix_view, queue_in, pass_in, queue_of, with_run, with_reusing, IrpId, Size, IrpLife, StatusRenewed, RoutineRenewed, present_in, after_step, after_look, after_renewal, any_step, SeatView, Makes, IsFound, FindsUnmarked, Looks, RenewsStatus, RenewsRoutine, RenewsCancel, HasObserved, WordSeat, QueueSeatState, PassSeatState, queue_seat_of, HasQueue, IsQueueSeat, pass_seat_of, IsPassSeat, receipt_seat_of, IsReceipt, SeenState, seen_seat_of, IsSeenSeat, pass_record, pass_at, IsHere, joined_record, IsJoined, with_view}
+use Rattle.csq_words.proofs.Imports.{Kind, Test, Call, View, PassRecord, QueueRecord, bit_in, view_of, pass_view, receipt_view, prefix_view, queue_in, pass_in, queue_of, with_trace, with_reusing, IrpId, Size, IrpLife, StatusRenewed, RoutineRenewed, present_in, after_step, after_look, after_renewal, any_step, SeatView, MakesStep, IsFound, FindsUnmarked, Looks, RenewsStatus, RenewsRoutine, RenewsCancel, HasObserved, WordSeat, QueueSeatState, PassSeatState, queue_seat_of, HasQueue, IsQueueSeat, pass_seat_of, IsPassSeat, receipt_seat_of, IsReceipt, SeenState, seen_seat_of, IsSeenSeat, pass_record, pass_at, IsHere, joined_record, IsJoined, with_view}
 
 -- a pass's seat that is here
 pub here : {o : Option WordSeat} {s : WordSeat} {p : Option PassSeatState} {t : TableId} → o ≡ Some s → option_map pass_seat_of o ≡ p → IsPassSeat o → IsHere t p
@@ -62,15 +62,15 @@ test_is s view n = ap (λ (z : QueueSeatState). Test (present_in (queue_of z.que
 
 -- the queue's seat after a step of a call, of a kind that goes by another name
 module _ {size : Size} (call : Call) {named kind : Kind} (is : named ≡ kind) (s s' : WordSeat) {q : QueueSeatState} (n : ℕ) (view : queue_seat_of s ≡ q) (inv : IsQueueSeat s) (joins : IsJoined q)
-    (table : s'.table_id ≡ s.table_id) (makes : Makes size call named any_step s.me n s'.me) where
-  made : Makes size call kind any_step s.me n s'.me
-  made = subst (λ (k : Kind). Makes size call k any_step s.me n s'.me) is makes
+    (table : s'.table_id ≡ s.table_id) (makes : MakesStep size call named any_step s.me n s'.me) where
+  made : MakesStep size call kind any_step s.me n s'.me
+  made = subst (λ (k : Kind). MakesStep size call k any_step s.me n s'.me) is makes
 
   pub made_found : IsFound kind n
   made_found = made.1
 
-  pub made_seat : IsQueueSeat s' × (queue_seat_of s' ≡ with_view (after_step call kind (bit_in n) (with_run (queue_in s'.me.0).run q.queue) (joined_record q)) q)
-  made_seat = stepped s s' (λ a b. after_step call kind (bit_in n) (with_run (queue_in s'.me.0).run a) b) view inv joins table (λ a b. (refl, refl, refl)) made.0
+  pub made_seat : IsQueueSeat s' × (queue_seat_of s' ≡ with_view (after_step call kind (bit_in n) (with_trace (queue_in s'.me.0).trace q.queue) (joined_record q)) q)
+  made_seat = stepped s s' (λ a b. after_step call kind (bit_in n) (with_trace (queue_in s'.me.0).trace a) b) view inv joins table (λ a b. (refl, refl, refl)) made.0
 
   pub made_agreed : (agreed : Size) → size ≡ agreed → HasObserved agreed q.queue (queue_in s'.me.0) (pass_in s'.me.0)
   made_agreed agreed same = subst (λ (z : Size × View × View). HasObserved z.0 (queue_in z.1) (queue_in z.2) (pass_in z.2)) (λ k. (same k, joined s view inv joins k, sym (ap (λ m. m.0) made.0) k)) made.2
@@ -89,7 +89,7 @@ module _ (s s' : WordSeat) {q : QueueSeatState} (view : queue_seat_of s ≡ q) (
   after : (v : QueueRecord) → s'.me ≡ (view_of v (Some (joined_record q)), []) → IsQueueSeat s' × (queue_seat_of s' ≡ record q { queue = v })
   after v me = let h = stepped_queue s' (view_of v (Some (joined_record q))) q.table (table ∙ ap (λ z. z.table) view) (refl, refl, refl) me in (h.0, h.1 ∙ (λ k. record { table = q.table; queue = v; joined = sym joins k }))
 
-  pub looked : {size : Size} {n m : IrpId} → m ≡ n → Looks size m any_step s.me w s'.me → IsQueueSeat s' × (queue_seat_of s' ≡ record q { queue = after_look (present_in (queue_of q.queue) n) w (with_run (queue_in s'.me.0).run q.queue) }) × Looks size n any_step joined_at w s'.me
+  pub looked : {size : Size} {n m : IrpId} → m ≡ n → Looks size m any_step s.me w s'.me → IsQueueSeat s' × (queue_seat_of s' ≡ record q { queue = after_look (present_in (queue_of q.queue) n) w (with_trace (queue_in s'.me.0).trace q.queue) }) × Looks size n any_step joined_at w s'.me
   looked {size} {n} {m} same looks = let x = subst (λ (z : IrpId × SeatView). Looks size z.0 any_step z.1 w s'.me) (λ k. (same k, was k)) looks in let h = after _ x.0 in (h.0, h.1, x)
 
   module _ {size : Size} {i j : IrpLife} (same : j ≡ i) where
@@ -99,7 +99,7 @@ module _ (s s' : WordSeat) {q : QueueSeatState} (view : queue_seat_of s ≡ q) (
     pub routine_renewed : RenewsRoutine size j any_step s.me w s'.me → IsQueueSeat s' × (queue_seat_of s' ≡ record q { queue = with_reusing (RoutineRenewed i) q.queue }) × RenewsRoutine size i any_step joined_at w s'.me
     routine_renewed renews = let x = subst (λ (z : IrpLife × SeatView). RenewsRoutine size z.0 any_step z.1 w s'.me) (λ k. (same k, was k)) renews in let h = after _ x.0 in (h.0, h.1, x)
 
-    pub cancel_renewed : RenewsCancel size j any_step s.me w s'.me → IsQueueSeat s' × (queue_seat_of s' ≡ with_view (after_renewal i (with_run (queue_in s'.me.0).run q.queue) (joined_record q)) q) × RenewsCancel size i any_step joined_at w s'.me
+    pub cancel_renewed : RenewsCancel size j any_step s.me w s'.me → IsQueueSeat s' × (queue_seat_of s' ≡ with_view (after_renewal i (with_trace (queue_in s'.me.0).trace q.queue) (joined_record q)) q) × RenewsCancel size i any_step joined_at w s'.me
     cancel_renewed renews =
         let x = subst (λ (z : IrpLife × SeatView). RenewsCancel size z.0 any_step z.1 w s'.me) (λ k. (same k, was k)) renews in
-        let h = stepped_queue s' (after_renewal i (with_run (queue_in s'.me.0).run q.queue) (joined_record q)) q.table (table ∙ ap (λ z. z.table) view) (refl, refl, refl) x.0 in (h.0, h.1, x)
+        let h = stepped_queue s' (after_renewal i (with_trace (queue_in s'.me.0).trace q.queue) (joined_record q)) q.table (table ∙ ap (λ z. z.table) view) (refl, refl, refl) x.0 in (h.0, h.1, x)

@@ -1,7 +1,7 @@
 -- Where every pass is back, each life that has begun has a story.
 use Rattle.std.proofs.Common.{◌≡◌, ◌⊎◌, ℕ, ◌<◌, ◌≤◌, Bool, true, false, cond, not, ◌&&◌, ◌||◌, List, [], ◌∷◌, ◌++◌, map, length, Some, None, inl, inr, ⊎_elim, refl, sym, ap, ◌∙◌, subst, arith}
 use Rattle.std.specs.Option.{option_map}
-use Rattle.csq_words.proofs.Imports.{list_any, find, some-injective, get_elem?, cases_lt, false_from_ne_true, or_right, FileId, IrpId, PassId, NtStatus, CANCELLED, Arm, Done, Rearm, Made, Standing, Home, Waiting, Owed, Held, Finished, number, life_of, same_irp, is, by, own, IrpLife, flagged, was_armed, claims, dones, listed, present_life, IsPresent, HasBegun, Size, IsRun, same_irp-refl, same_irp-eq, same_pass-refl, same_some, Row, stands, rest_flagged, removed_in-own, inserted_listed, inside, Inside, removed, Place, Peek, put_at, matches, Pending, Cancelled, Refused, Event, FlagSeen, Mark, Insert, RemoveNext, Remove, CloseFile, Reuse, PutBack, HistoryEntry, Completion, PassRecord, QueueRecord, Queued, QueueState, present_in, has_irp, has_entry, first_unmarked, without, new_entry, after_event, end_of, MayStand, IsOrderly, OwnersPutBack, IsGone, puts_back, gives, given_to, queue_of, inside_of, removed_in, status_recorded, is_done, was_set, was_put_back, IsTrueOf, AreTrueOf, inserts, lists, again, RecordsAgree, FinalWords, final_status, IsRecordedBack, AllBack, IsFinal, InLife, any_filtered, inside_of-own}
+use Rattle.csq_words.proofs.Imports.{Tick, steps_in, list_any, find, some-injective, get_elem?, cases_lt, false_from_ne_true, or_right, FileId, IrpId, PassId, NtStatus, CANCELLED, Arm, Done, Rearm, Made, Standing, Home, Waiting, Owed, Held, Finished, number, life_of, same_irp, is, by, own, IrpLife, flagged, was_armed, claims, dones, listed, present_life, IsPresent, HasBegun, Size, IsRun, same_irp-refl, same_irp-eq, same_pass-refl, same_some, Row, stands, rest_flagged, removed_in-own, inserted_listed, inside, Inside, removed, Place, Peek, put_at, matches, Pending, Cancelled, Refused, Event, FlagSeen, Mark, Insert, RemoveNext, Remove, CloseFile, Reuse, PutBack, HistoryEntry, Completion, PassRecord, QueueRecord, Queued, QueueState, present_in, has_irp, has_entry, first_unmarked, without, new_entry, after_event, end_of, MayStand, IsOrderly, OwnersPutBack, IsGone, puts_back, gives, given_to, queue_of, inside_of, removed_in, status_recorded, is_done, was_set, was_put_back, IsTrueOf, AreTrueOf, inserts, lists, again, RecordsAgree, FinalWords, final_status, IsRecordedBack, AllBack, IsFinal, InLife, any_filtered, inside_of-own}
 use Rattle.irp_core.proofs.Resting.{unknown_stands}
 use Rattle.irp_core.proofs.Next as growing
 use Rattle.irp_core.specs.declared.inside.Inside.TheVariants.{Nothing, Armed, FlagSeen, Removing, Cancelling}
@@ -224,66 +224,66 @@ module _ (ever set : Bool) (cl : List Made) (ow ho dn : PassId → Bool) (ends :
   row_story (Owed p) h o g = off (sym (o p) ∙ (h.owing_is p ∙ same_pass-refl p))
   row_story (Held p status) h o g = off (sym (g p) ∙ (h.holding_is p ∙ same_pass-refl p))
 
-module _ (size : Size) (words : List ℕ) (q : QueueRecord) (f : IsFinal size words q) (all : AllBack q) (i : IrpLife) (begun : HasBegun size.first q.run i) where
-  is_run : IsRun size q.run
+module _ (size : Size) (words : List ℕ) (q : QueueRecord) (f : IsFinal size words q) (all : AllBack q) (i : IrpLife) (begun : HasBegun size.first (steps_in q.trace) i) where
+  is_run : IsRun size (steps_in q.trace)
   is_run = f.agrees.history_is.is_run
 
   abbrev finally : FinalWords
   finally = record { irps = size.irps; words = words; queue = q }
 
-  agreed : SoFar q.run i (has_irp (queue_of q).used i) (has_entry (queue_of q).entries i) (inserted_by q.first i q.history) (given_to q.first i q.history)
-  agreed = so_far size q.run is_run i q.first q.history f.agrees.history_is.orderly f.agrees.history_is.true_of
+  agreed : SoFar (steps_in q.trace) i (has_irp (queue_of q).used i) (has_entry (queue_of q).entries i) (inserted_by q.first i q.history) (given_to q.first i q.history)
+  agreed = so_far size (steps_in q.trace) is_run i q.first q.history f.agrees.history_is.orderly f.agrees.history_is.true_of
 
   -- the status of i that p recorded
   record HasStatus (p : PassId) : Type 0 where
     status : NtStatus
     recorded : HasRecorded q p i status
-    due : removed q.run i ≡ false → status ≡ CANCELLED
+    due : removed (steps_in q.trace) i ≡ false → status ≡ CANCELLED
     final : InLife finally i (final_status finally i.irp ≡ Some status)
 
   -- a life that was not completed is the present one
-  now_present : dones q.run i ≡ [] → IsPresent q.first q.run i
-  now_present none = subst (λ n. IsPresent n q.run i) (sym f.agrees.history_is.first_is) (⊎_elim
-      (λ (lt : life_of i < present_life size.first q.run i.irp). let one = f.over i begun.0 lt in let zero' : length (dones q.run i) ≡ 0 = ap length none in absurd (omega (arith, one, zero')))
-      (λ (le : present_life size.first q.run i.irp ≤ life_of i). let to = begun.1 in omega (arith, le, to))
-      (cases_lt (life_of i) (present_life size.first q.run i.irp)))
+  now_present : dones (steps_in q.trace) i ≡ [] → IsPresent q.first (steps_in q.trace) i
+  now_present none = subst (λ n. IsPresent n (steps_in q.trace) i) (sym f.agrees.history_is.first_is) (⊎_elim
+      (λ (lt : life_of i < present_life size.first (steps_in q.trace) i.irp). let one = f.over i begun.0 lt in let zero' : length (dones (steps_in q.trace) i) ≡ 0 = ap length none in absurd (omega (arith, one, zero')))
+      (λ (le : present_life size.first (steps_in q.trace) i.irp ≤ life_of i). let to = begun.1 in omega (arith, le, to))
+      (cases_lt (life_of i) (present_life size.first (steps_in q.trace) i.irp)))
 
   -- a pass with steps is back
-  is_back : (p : PassId) → is_done (own p q.run) i ≡ true → IsRecordedBack q p
-  is_back p d = all p (⊎_elim (λ (l : p.0 < 1). nobody (no_zero size q.run is_run p (omega arith))) (λ x. x) (cases_lt p.0 1)) (⊎_elim (λ (l : q.made < p.0). nobody (f.agrees.nobody p (inr l)).0) (λ x. x) (cases_lt q.made p.0))
+  is_back : (p : PassId) → is_done (own p (steps_in q.trace)) i ≡ true → IsRecordedBack q p
+  is_back p d = all p (⊎_elim (λ (l : p.0 < 1). nobody (no_zero size (steps_in q.trace) is_run p (omega arith))) (λ x. x) (cases_lt p.0 1)) (⊎_elim (λ (l : q.made < p.0). nobody (f.agrees.nobody p (inr l)).0) (λ x. x) (cases_lt q.made p.0))
     where
-      nobody : {P : Type 0} → own p q.run ≡ [] → P
+      nobody : {P : Type 0} → own p (steps_in q.trace) ≡ [] → P
       nobody none = off (sym (ap (λ t. is_done t i) none) ∙ d)
 
   -- the pass that completed i has recorded a status of it, which is final
-  the_status : (p : PassId) → is_done (own p q.run) i ≡ true → number i < size.irps → HasStatus p
+  the_status : (p : PassId) → is_done (own p (steps_in q.trace)) i ≡ true → number i < size.irps → HasStatus p
   the_status p d known =
       let (k, r, at, same) = is_back p d in
       let b = (f.agrees.backs k r at).is_record in
-      let has : has_irp (map (λ (c : Completion). c.irp) r.completed) i ≡ true = ap (λ l. has_irp l i) b.of_pass.completed_is ∙ completed_has r.steps i (ap (λ t. is_done t i) b.of_pass.steps_is ∙ (ap (λ (x : PassId). is_done (own x q.run) i) same ∙ d)) in
+      let has : has_irp (map (λ (c : Completion). c.irp) r.completed) i ≡ true = ap (λ l. has_irp l i) b.of_pass.completed_is ∙ completed_has r.steps i (ap (λ t. is_done t i) b.of_pass.steps_is ∙ (ap (λ (x : PassId). is_done (own x (steps_in q.trace)) i) same ∙ d)) in
       let s = has_status r.completed i has in
-      record { status = s.0; recorded = (k, r, at, same, s.1, λ j o there is. let once : j ≡ k = f.agrees.back_once j k o r there at (is ∙ sym same) in some-injective o r (sym there ∙ (ap (get_elem? q.back) once ∙ at))); due = λ e. recorded_due r.steps r.completed i s.0 b.due s.1 (false_from_ne_true (removed_in r.steps i) (λ x. off (sym e ∙ removed_in-own size r.pass i q.run is_run (subst (λ t. removed_in t i ≡ true) b.of_pass.steps_is x)))); final = (keeps_records size words q f).statuses k r at i s.0 known s.1 }
+      record { status = s.0; recorded = (k, r, at, same, s.1, λ j o there is. let once : j ≡ k = f.agrees.back_once j k o r there at (is ∙ sym same) in some-injective o r (sym there ∙ (ap (get_elem? q.back) once ∙ at))); due = λ e. recorded_due r.steps r.completed i s.0 b.due s.1 (false_from_ne_true (removed_in r.steps i) (λ x. off (sym e ∙ removed_in-own size r.pass i (steps_in q.trace) is_run (subst (λ t. removed_in t i ≡ true) b.of_pass.steps_is x)))); final = (keeps_records size words q f).statuses k r at i s.0 known s.1 }
 
   -- what was completed is an IRP that there is
-  done_known : is_done q.run i ≡ true → number i < size.irps
-  done_known d = ⊎_elim (λ x. x) (λ (le : size.irps ≤ number i). absurd (dones_some q.run i d (unknown_stands size i le q.run is_run).dones_are)) (cases_lt (number i) size.irps)
+  done_known : is_done (steps_in q.trace) i ≡ true → number i < size.irps
+  done_known d = ⊎_elim (λ x. x) (λ (le : size.irps ≤ number i). absurd (dones_some (steps_in q.trace) i d (unknown_stands size i le (steps_in q.trace) is_run).dones_are)) (cases_lt (number i) size.irps)
 
   pub a_story : Story finally i
-  a_story = let s = stands size q.run is_run i in go (row_story _ _ _ _ _ _ _ _ _ i s.0 s.1 (λ p. f.rests.owed p i) (λ p. f.rests.held p i))
+  a_story = let s = stands size (steps_in q.trace) is_run i in go (row_story _ _ _ _ _ _ _ _ _ i s.0 s.1 (λ p. f.rests.owed p i) (λ p. f.rests.held p i))
     where
-      go : ((was_armed q.run i ≡ false) × (claims q.run i ≡ []) × (dones q.run i ≡ []))
-          ⊎ (((was_armed q.run i ≡ true) × (left q.run i ≡ false) × (claims q.run i ≡ []) × (dones q.run i ≡ [])) ⊎ ((was_armed q.run i ≡ true) × (left q.run i ≡ true) × Over (claims q.run i) (dones q.run i)))
+      go : ((was_armed (steps_in q.trace) i ≡ false) × (claims (steps_in q.trace) i ≡ []) × (dones (steps_in q.trace) i ≡ []))
+          ⊎ (((was_armed (steps_in q.trace) i ≡ true) × (left (steps_in q.trace) i ≡ false) × (claims (steps_in q.trace) i ≡ []) × (dones (steps_in q.trace) i ≡ [])) ⊎ ((was_armed (steps_in q.trace) i ≡ true) × (left (steps_in q.trace) i ≡ true) × Over (claims (steps_in q.trace) i) (dones (steps_in q.trace) i)))
           → Story finally i
       go (inl h) =
-          let u = only_unused q.run i _ _ _ _ agreed (f.agrees.history_is.used_is i ∙ h.0) in
+          let u = only_unused (steps_in q.trace) i _ _ _ _ agreed (f.agrees.history_is.used_is i ∙ h.0) in
           inl (record { is_present = now_present h.2; inserted = u.none; given = u.to_none; claimed = h.1; completed = h.2 })
       go (inr (inl h)) =
-          let there : listed q.run i ≡ true = rw (h.0, h.1) refl in
-          let u = only_waiting q.run i _ _ _ _ agreed (f.agrees.history_is.listed_is i ∙ there) in
+          let there : listed (steps_in q.trace) i ≡ true = rw (h.0, h.1) refl in
+          let u = only_waiting (steps_in q.trace) i _ _ _ _ agreed (f.agrees.history_is.listed_is i ∙ there) in
           inr (inl record {
             is_present = now_present h.3;
             listed = u.listed_is;
-            clear = false_from_ne_true (flagged q.run i) (λ e. rest_flagged size q.run is_run f.rests i (e, there));
+            clear = false_from_ne_true (flagged (steps_in q.trace) i) (λ e. rest_flagged size (steps_in q.trace) is_run f.rests i (e, there));
             inserter = u.inserter;
             inserted = u.one;
             armed = u.armed;
@@ -292,14 +292,14 @@ module _ (size : Size) (words : List ℕ) (q : QueueRecord) (f : IsFinal size wo
             completed = h.3;
           })
       go (inr (inr h)) =
-          let gone : listed q.run i ≡ false = rw (h.0, h.1) refl in
-          let u = only_given q.run i _ _ _ _ agreed (f.agrees.history_is.used_is i ∙ h.0) (f.agrees.history_is.listed_is i ∙ gone) in
-          let claimed = given_claim q.run i u.owner (sym (f.agrees.history_is.given_is i refl) ∙ u.to_one) in
+          let gone : listed (steps_in q.trace) i ≡ false = rw (h.0, h.1) refl in
+          let u = only_given (steps_in q.trace) i _ _ _ _ agreed (f.agrees.history_is.used_is i ∙ h.0) (f.agrees.history_is.listed_is i ∙ gone) in
+          let claimed = given_claim (steps_in q.trace) i u.owner (sym (f.agrees.history_is.given_is i refl) ∙ u.to_one) in
           let same_claim : claimed.0 ≡ h.2.one_claim'.0 = cc (claimed.1, h.2.one_claim'.1) in
           let owner : h.2.owner ≡ u.owner = sym h.2.one_claim'.2 ∙ (ap (λ (m : Made). m.pass) (sym same_claim) ∙ claimed.2) in
-          let done : IsOneOf u.owner (dones q.run i) = subst (λ p. IsOneOf p (dones q.run i)) owner h.2.one_done in
-          let d : is_done (own u.owner q.run) i ≡ true = ap (λ (p : PassId). is_done (own p q.run) i) (sym done.2) ∙ done_own q.run done.0 i done.1 in
-          let d' : is_done q.run i ≡ true = any_filtered (is (Done i)) (by u.owner) q.run d in
+          let done : IsOneOf u.owner (dones (steps_in q.trace) i) = subst (λ p. IsOneOf p (dones (steps_in q.trace) i)) owner h.2.one_done in
+          let d : is_done (own u.owner (steps_in q.trace)) i ≡ true = ap (λ (p : PassId). is_done (own p (steps_in q.trace)) i) (sym done.2) ∙ done_own (steps_in q.trace) done.0 i done.1 in
+          let d' : is_done (steps_in q.trace) i ≡ true = any_filtered (is (Done i)) (by u.owner) (steps_in q.trace) d in
           let s = the_status u.owner d (done_known d') in
           inr (inr record {
             unlisted = f.agrees.history_is.listed_is i ∙ gone;
@@ -312,7 +312,7 @@ module _ (size : Size) (words : List ℕ) (q : QueueRecord) (f : IsFinal size wo
             completed = done;
             status = s.status;
             recorded = s.recorded;
-            cancelled = λ shown. s.due (cancelled_is q.first q.run i q.history f.agrees.history_is.true_of shown).not_removed;
+            cancelled = λ shown. s.due (cancelled_is q.first (steps_in q.trace) i q.history f.agrees.history_is.true_of shown).not_removed;
             final = s.final;
           })
 
@@ -320,8 +320,8 @@ module _ (size : Size) (words : List ℕ) (q : QueueRecord) (f : IsFinal size wo
 pub has_status_recorded : StoriesHaveTheStatusRecorded
 has_status_recorded size words q f finals i story r back status said =
     let b = (f.agrees.backs back.0 r back.1).is_record.of_pass in
-    let done : is_done (own r.pass q.run) i ≡ true = ap (λ t. is_done t i) (sym b.steps_is) ∙ recorded_done r.steps r.completed i status b.completed_is said in
-    let owner : story.owner ≡ r.pass = sym story.completed.2 ∙ done_by q.run story.completed.0 i r.pass story.completed.1 done in
+    let done : is_done (own r.pass (steps_in q.trace)) i ≡ true = ap (λ t. is_done t i) (sym b.steps_is) ∙ recorded_done r.steps r.completed i status b.completed_is said in
+    let owner : story.owner ≡ r.pass = sym story.completed.2 ∙ done_by (steps_in q.trace) story.completed.0 i r.pass story.completed.1 done in
     let same : r ≡ story.recorded.1 = story.recorded.5 back.0 r back.1 (sym owner) in
     (owner, same_some story.status status (sym story.recorded.4 ∙ (ap (λ (o : PassRecord). status_recorded i o.completed) (sym same) ∙ said)))
 
@@ -356,35 +356,35 @@ module _ (run : List Made) (i : IrpLife) (used entry : Bool) (inserted given : L
   given_once (inr (inl h)) = rw h.to_none (omega arith)
   given_once (inr (inr h)) = rw h.to_one (omega arith)
 
-module _ (size : Size) (q : QueueRecord) (r : PassRecord) (run : List Made) (agreed : RecordsAgree size run q r) (i : IrpLife) (quiet : again (inside_of r.steps) i ≡ false) where
-  is_run' : IsRun size run
+module _ (size : Size) (q : QueueRecord) (r : PassRecord) (trace : List Tick) (agreed : RecordsAgree size trace q r) (i : IrpLife) (quiet : again (inside_of r.steps) i ≡ false) where
+  is_run' : IsRun size (steps_in trace)
   is_run' = agreed.history_is.is_run
 
-  far : SoFar run i (has_irp (queue_of q).used i) (has_entry (queue_of q).entries i) (inserted_by q.first i q.history) (given_to q.first i q.history)
-  far = so_far size run is_run' i q.first q.history agreed.history_is.orderly agreed.history_is.true_of
+  far : SoFar (steps_in trace) i (has_irp (queue_of q).used i) (has_entry (queue_of q).entries i) (inserted_by q.first i q.history) (given_to q.first i q.history)
+  far = so_far size (steps_in trace) is_run' i q.first q.history agreed.history_is.orderly agreed.history_is.true_of
 
   -- what was completed is in no insert
-  no_insert : listed run i ≡ false → lists (inside_of r.steps) i ≡ false
-  no_insert gone = false_from_ne_true _ (λ h. off (sym gone ∙ inserted_listed size run is_run' r.pass i (in_insert_listed (inside run r.pass) i (ap (λ s. lists s i) (sym (inside_of-own r.pass run)) ∙ (ap (λ t. lists (inside_of t) i) (sym agreed.pass_is.steps_is) ∙ h)))))
+  no_insert : listed (steps_in trace) i ≡ false → lists (inside_of r.steps) i ≡ false
+  no_insert gone = false_from_ne_true _ (λ h. off (sym gone ∙ inserted_listed size (steps_in trace) is_run' r.pass i (in_insert_listed (inside (steps_in trace) r.pass) i (ap (λ s. lists s i) (sym (inside_of-own r.pass (steps_in trace))) ∙ (ap (λ t. lists (inside_of t) i) (sym agreed.pass_is.steps_is) ∙ h)))))
 
-  done_given : (p : PassId) → IsOneOf p (dones run i) → given_to q.first i q.history ≡ p ∷ []
+  done_given : (p : PassId) → IsOneOf p (dones (steps_in trace) i) → given_to q.first i q.history ≡ p ∷ []
   done_given p d =
-      let s = stands size run is_run' i in
+      let s = stands size (steps_in trace) is_run' i in
       let claim = row_done_claim _ _ _ _ _ _ _ _ _ i s.0 s.1 p d in
-      let over = done_over size run is_run' i (any_filtered (is (Done i)) (by d.0.pass) run (done_own run d.0 i d.1)) in
+      let over = done_over size (steps_in trace) is_run' i (any_filtered (is (Done i)) (by d.0.pass) (steps_in trace) (done_own (steps_in trace) d.0 i d.1)) in
       let out = no_insert over.2 in
       let none = insert_lists (inside_of r.steps) i out in
-      let u = only_given run i _ _ _ _ far (agreed.history_is.used_is i ∙ rw (none, over.0) refl) (agreed.history_is.listed_is i ∙ rw (out, over.2) refl) in
-      let claimed = given_claim run i u.owner (sym (agreed.history_is.given_is i quiet) ∙ u.to_one) in
+      let u = only_given (steps_in trace) i _ _ _ _ far (agreed.history_is.used_is i ∙ rw (none, over.0) refl) (agreed.history_is.listed_is i ∙ rw (out, over.2) refl) in
+      let claimed = given_claim (steps_in trace) i u.owner (sym (agreed.history_is.given_is i quiet) ∙ u.to_one) in
       let same : claimed.0 ≡ claim.0 = cc (claimed.1, claim.1) in
       let owner : u.owner ≡ p = sym claimed.2 ∙ (ap (λ (m : Made). m.pass) same ∙ claim.2) in
       u.to_one ∙ ap (λ (x : PassId). x ∷ []) owner
 
-  pub is_given_once : IsGivenOnce q run i
+  pub is_given_once : IsGivenOnce q (steps_in trace) i
   is_given_once = record {
-    inserted = inserted_once run i _ _ _ _ far;
-    given = given_once run i _ _ _ _ far;
-    claimed = λ p e. given_claim run i p (sym (agreed.history_is.given_is i quiet) ∙ e);
+    inserted = inserted_once (steps_in trace) i _ _ _ _ far;
+    given = given_once (steps_in trace) i _ _ _ _ far;
+    claimed = λ p e. given_claim (steps_in trace) i p (sym (agreed.history_is.given_is i quiet) ∙ e);
     completed = done_given;
   }
 

@@ -11,10 +11,11 @@ use Rattle.irp_core.specs.Runs.{Size}
 use Rattle.irp_core.specs.declared.status.{NtStatus.{NtStatus}, TheConstants.NtStatus.{CANCELLED}}
 use Rattle.irp_core.specs.declared.step.Made.{Made}
 use Rattle.irp_core.specs.declared.inside.Inside.{Inside}
-use Rattle.csq_words.specs.declared.views.{InsertReply.TheVariants.{Pending, Cancelled}, Event.{Event, TheVariants.{Insert, PutBack}}, HistoryEntry.{HistoryEntry}, PassRecord.{PassRecord}, QueueRecord.{QueueRecord}}
+use Rattle.csq_words.specs.declared.views.{InsertReply.TheVariants.{Pending, Cancelled}, Event.{Event, TheVariants.{Insert, PutBack}}, HistoryEntry.{HistoryEntry}, Tick.{Tick}, PassRecord.{PassRecord}, QueueRecord.{QueueRecord}}
 use Rattle.csq_words.specs.Queue.{QueueState, present_in, has_entry}
 use Rattle.csq_words.specs.History.{end_of, puts_back, given_to, calls_of, IsExtendedBy}
 use Rattle.csq_words.specs.Records.{queue_of}
+use Rattle.csq_words.specs.Traces.{steps_in}
 use Rattle.csq_words.specs.Rule.{was_set, was_put_back, again, IsHistoryOf, HasBack, RecordsAgree, QueueHasRun}
 use Rattle.irp_core.specs.Own.{inside_of}
 use Rattle.csq_words.specs.Plays.{status_recorded}
@@ -45,34 +46,34 @@ HasRecorded q p i status = (k : ℕ) × (r : PassRecord) × (get_elem? q.back k 
 
 -- i, in its present life, was never inserted: it was given to none, and none claimed or completed it
 pub record NeverInserted (q : QueueRecord) (i : IrpLife) : Type 0 where
-  pub is_present : IsPresent q.first q.run i
+  pub is_present : IsPresent q.first (steps_in q.trace) i
   pub inserted : inserted_by q.first i q.history ≡ []
   pub given : given_to q.first i q.history ≡ []
-  pub claimed : claims q.run i ≡ []
-  pub completed : dones q.run i ≡ []
+  pub claimed : claims (steps_in q.trace) i ≡ []
+  pub completed : dones (steps_in q.trace) i ≡ []
 
 -- i, in its present life, was inserted by one pass, or put back last by it, and is listed with its flag clear: it was given to none, and none claimed or completed it
 pub record StillListed (q : QueueRecord) (i : IrpLife) : Type 0 where
-  pub is_present : IsPresent q.first q.run i
+  pub is_present : IsPresent q.first (steps_in q.trace) i
   pub listed : has_entry (queue_of q).entries i ≡ true
-  pub clear : flagged q.run i ≡ false
+  pub clear : flagged (steps_in q.trace) i ≡ false
   pub inserter : PassId
   pub inserted : inserted_by q.first i q.history ≡ inserter ∷ []
-  pub armed : was_set (own inserter q.run) i ≡ true
+  pub armed : was_set (own inserter (steps_in q.trace)) i ≡ true
   pub given : given_to q.first i q.history ≡ []
-  pub claimed : claims q.run i ≡ []
-  pub completed : dones q.run i ≡ []
+  pub claimed : claims (steps_in q.trace) i ≡ []
+  pub completed : dones (steps_in q.trace) i ≡ []
 
 -- i was inserted by one pass, or put back last by it, and since then given to one, which made its one claim since then and its one completion, with the status that it recorded: STATUS_CANCELLED where the history says that i was cancelled. In the present life this is the final status
 pub record HasEnded (finals : FinalWords) (q : QueueRecord) (i : IrpLife) : Type 0 where
   pub unlisted : has_entry (queue_of q).entries i ≡ false
   pub inserter : PassId
   pub inserted : inserted_by q.first i q.history ≡ inserter ∷ []
-  pub armed : was_set (own inserter q.run) i ≡ true
+  pub armed : was_set (own inserter (steps_in q.trace)) i ≡ true
   pub owner : PassId
   pub given : given_to q.first i q.history ≡ owner ∷ []
-  pub claimed : IsOneOf owner (claims q.run i)
-  pub completed : IsOneOf owner (dones q.run i)
+  pub claimed : IsOneOf owner (claims (steps_in q.trace) i)
+  pub completed : IsOneOf owner (dones (steps_in q.trace) i)
   pub status : NtStatus
   pub recorded : HasRecorded q owner i status
   pub cancelled : shows_cancelled q.first i q.history ≡ true → status ≡ CANCELLED
@@ -84,7 +85,7 @@ Story finals i = NeverInserted finals.queue i ⊎ StillListed finals.queue i ⊎
 
 -- every life that has begun has a story
 abbrev pub EachIrpHasAStory : Type 0
-EachIrpHasAStory = (size : Size) (words : List ℕ) (q : QueueRecord) → IsFinal size words q → AllBack q → (i : IrpLife) → HasBegun size.first q.run i → Story (record { irps = size.irps; words = words; queue = q }) i
+EachIrpHasAStory = (size : Size) (words : List ℕ) (q : QueueRecord) → IsFinal size words q → AllBack q → (i : IrpLife) → HasBegun size.first (steps_in q.trace) i → Story (record { irps = size.irps; words = words; queue = q }) i
 
 -- of a history with which a run agrees: at most one pass inserted i, and at most one was given i, since it was last put back. This one made the one claim of i since then, and whoever completed i was given it
 pub record IsGivenOnce (q : QueueRecord) (run : List Made) (i : IrpLife) : Type 0 where
@@ -95,7 +96,7 @@ pub record IsGivenOnce (q : QueueRecord) (run : List Made) (i : IrpLife) : Type 
 
 -- at every step, each life of each IRP is given out at most once since it was last put back, if the pass that the record is joined with isn't just putting it back
 abbrev pub EachIrpIsGivenOnce : Type 0
-EachIrpIsGivenOnce = (size : Size) (q : QueueRecord) (r : PassRecord) (run : List Made) → RecordsAgree size run q r → (i : IrpLife) → again (inside_of r.steps) i ≡ false → IsGivenOnce q run i
+EachIrpIsGivenOnce = (size : Size) (q : QueueRecord) (r : PassRecord) (trace : List Tick) → RecordsAgree size trace q r → (i : IrpLife) → again (inside_of r.steps) i ≡ false → IsGivenOnce q (steps_in trace) i
 
 -- how a stay of i in the queue came to an end that p put back, by the events before that: one pass had inserted i, or put it back before, and one was given it, p
 pub record StayEnded (first : ℕ) (run : List Made) (before : List HistoryEntry) (i : IrpLife) (p : PassId) : Type 0 where
@@ -132,22 +133,22 @@ module _ {A : Type 0} where
   AreComparable h g = IsExtendedBy h g ⊎ IsExtendedBy g h
 
 -- these passes have seen one history and one execution. It begins with what each of them has seen, and the calls and the steps of each are its calls and its steps there, in that order. So what one of them has seen begins with what another has, or the other way round
-pub record SeeOneHistory (history : List HistoryEntry) (run : List Made) (passes : List PassRecord) : Type 0 where
+pub record SeeOneHistory (history : List HistoryEntry) (trace : List Tick) (passes : List PassRecord) : Type 0 where
   pub seen : (k : ℕ) (r : PassRecord) → get_elem? passes k ≡ some r → IsExtendedBy r.seen history
   pub calls : (k : ℕ) (r : PassRecord) → get_elem? passes k ≡ some r → r.mine ≡ calls_of r.pass history
-  pub runs : (k : ℕ) (r : PassRecord) → get_elem? passes k ≡ some r → IsExtendedBy r.run run
-  pub steps : (k : ℕ) (r : PassRecord) → get_elem? passes k ≡ some r → r.steps ≡ own r.pass run
+  pub traces : (k : ℕ) (r : PassRecord) → get_elem? passes k ≡ some r → IsExtendedBy r.trace trace
+  pub steps : (k : ℕ) (r : PassRecord) → get_elem? passes k ≡ some r → r.steps ≡ own r.pass (steps_in trace)
   pub one_history : (j k : ℕ) (r s : PassRecord) → get_elem? passes j ≡ some r → get_elem? passes k ≡ some s → AreComparable r.seen s.seen
-  pub one_execution : (j k : ℕ) (r s : PassRecord) → get_elem? passes j ≡ some r → get_elem? passes k ≡ some s → AreComparable r.run s.run
+  pub one_execution : (j k : ℕ) (r s : PassRecord) → get_elem? passes j ≡ some r → get_elem? passes k ≡ some s → AreComparable r.trace s.trace
 
 -- passes that were joined with a queue's record have seen its history and an execution that both agree with
 abbrev pub JoinedPassesSeeOneHistory : Type 0
-JoinedPassesSeeOneHistory = (size : Size) (run : List Made) (q : QueueRecord) (r s : PassRecord) → RecordsAgree size run q r → RecordsAgree size run q s → SeeOneHistory q.history run (r ∷ s ∷ [])
+JoinedPassesSeeOneHistory = (size : Size) (trace : List Tick) (q : QueueRecord) (r s : PassRecord) → RecordsAgree size trace q r → RecordsAgree size trace q s → SeeOneHistory q.history trace (r ∷ s ∷ [])
 
 -- the passes that are back have seen the queue's history and execution
 abbrev pub PassesBackSeeOneHistory : Type 0
-PassesBackSeeOneHistory = (size : Size) (q : QueueRecord) → QueueHasRun size q → SeeOneHistory q.history q.run q.back
+PassesBackSeeOneHistory = (size : Size) (q : QueueRecord) → QueueHasRun size q → SeeOneHistory q.history q.trace q.back
 
 -- those of a closed queue have seen them
 abbrev pub PassesAtTheEndSeeOneHistory : Type 0
-PassesAtTheEndSeeOneHistory = (size : Size) (words : List ℕ) (q : QueueRecord) → IsFinal size words q → SeeOneHistory q.history q.run q.back
+PassesAtTheEndSeeOneHistory = (size : Size) (words : List ℕ) (q : QueueRecord) → IsFinal size words q → SeeOneHistory q.history q.trace q.back

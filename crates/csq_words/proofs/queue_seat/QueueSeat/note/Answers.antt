@@ -1,5 +1,5 @@
 use Rattle.std.proofs.Common.{◌∙◌, ap, sym, subst, arith, refl}
-use Rattle.csq_words.proofs.Imports.{Size, View, queue_in, pass_in, with_run, table_size, MayNote, after_note, ObservesNote, joined_record}
+use Rattle.csq_words.proofs.Imports.{Size, View, queue_in, pass_in, with_trace, table_size, MayNote, after_note, ObservesNote, joined_record}
 use Rattle.csq_words.proofs.LockedSteps.{notes_as, note_has}
 use Rattle.csq_words.proofs.SeatValues.{joined, stepped}
 use Rattle.csq_words.proofs.queue_seat.QueueSeat.note.Goals as goal
@@ -16,11 +16,11 @@ load-requires g c =
 
 pub invariant_of-self : goal.invariant_of-self
 invariant_of-self g c =
-    (stepped c.self.inside.seat c.load.new.seat (λ a b. after_note c.args.call c.args.note (with_run (queue_in c.load.new.seat.me.0).run a) b) c.self.view_is c.self.invariant c.requires.joined c.load.ensures.table (λ a b. note_has c.args.call c.args.note (with_run (queue_in c.load.new.seat.me.0).run a) b) c.load.ensures.agreed.0).0
+    (stepped c.self.inside.seat c.load.new.seat (λ a b. after_note c.args.call c.args.note (with_trace (queue_in c.load.new.seat.me.0).trace a) b) c.self.view_is c.self.invariant c.requires.joined c.load.ensures.table (λ a b. note_has c.args.call c.args.note (with_trace (queue_in c.load.new.seat.me.0).trace a) b) c.load.ensures.agreed.0).0
 
 pub returns-clause-noted : goal.returns-clause-noted
 returns-clause-noted g c =
-    (stepped c.self.inside.seat c.load.new.seat (λ a b. after_note c.args.call c.args.note (with_run (queue_in c.load.new.seat.me.0).run a) b) c.self.view_is c.self.invariant c.requires.joined c.load.ensures.table (λ a b. note_has c.args.call c.args.note (with_run (queue_in c.load.new.seat.me.0).run a) b) c.load.ensures.agreed.0).1
+    (stepped c.self.inside.seat c.load.new.seat (λ a b. after_note c.args.call c.args.note (with_trace (queue_in c.load.new.seat.me.0).trace a) b) c.self.view_is c.self.invariant c.requires.joined c.load.ensures.table (λ a b. note_has c.args.call c.args.note (with_trace (queue_in c.load.new.seat.me.0).trace a) b) c.load.ensures.agreed.0).1
 
 pub returns-clause-agreed : goal.returns-clause-agreed
 returns-clause-agreed g c =
