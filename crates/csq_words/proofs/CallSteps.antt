@@ -81,7 +81,7 @@ pub agreed_kept : (size : Size) (words : List ℕ) (views : List View) (trace : 
 agreed_kept size words views trace id q r seat k =
     let seen = k.each_seen id (view_of q (Some r)) k.queue_is in
     let rec = ((k.each_view id (view_of q (Some r)) k.queue_is).pass_here r refl).2 in
-    (k, record { traced = k.traced; history_is = k.agrees.history_is; pass_is = rec.of_pass; callers = λ p s. (k.agrees.nobody p (nobody_in q.made size.passes p k.agrees.few s)).1; seen = seen.queue q refl; pass_seen = seen.pass r refl })
+    (k, record { is_trace = k.traced.is_trace; entries_are = k.traced.entries_are; history_is = k.agrees.history_is; pass_is = rec.of_pass; callers = λ p s. (k.agrees.nobody p (nobody_in q.made size.passes p k.agrees.few s)).1; seen = seen.queue q refl; pass_seen = seen.pass r refl })
 
 pub made_kept : (size : Size) (words words' : List ℕ) (views : List View) (trace : List Tick) (id : ℕ) (q : QueueRecord) (r : PassRecord) (seat : PassId → ℕ) (kind : Kind) (n : ℕ) (es : List Event) (reuse : Reusing)
     → RuleHoldsBy size words views trace id q (Some r) seat → IsMade size words words' (steps_in trace) q r kind n es reuse → IsPlaced q.first (record { pass = r.pass; kind = kind; found = n } ∷ steps_in trace) (entries_of r.pass es ++ q.history)
@@ -149,4 +149,4 @@ made_kept size words words' views trace id q r seat kind n es reuse k x placed t
       mine_seen = extended_on r.trace trace trace' (seen.pass r refl) longer;
       grows = λ shorter g. begins_more shorter q.history (entries_of r.pass es) g;
       mine = record { of_pass = pass_is; stored = x.stored r.completed owner.2.stored; due = x.due owner.2.due; begun = begun_more q.first m run r.lives owner.2.begun };
-    })) in (kept.0, record { agreed = kept.1; follows = extended_on q.trace trace trace' (seen.queue q refl) longer })
+    })) in (kept.0, record { call = record { agreed = kept.1; in_call = kept.0.traced.in_call r' refl }; follows = extended_on q.trace trace trace' (seen.queue q refl) longer })

@@ -346,7 +346,7 @@ module _ (size : Size) (words : List ℕ) (views : List View) (trace : List Tick
         mine_seen = extended_on r.trace trace now (seen.pass r refl) longer;
         grows = λ shorter g. begins_more shorter q.history (entries_of r.pass es) g;
         mine = record { of_pass = pass_is; stored = owner.2.stored; due = owner.2.due; begun = owner.2.begun };
-      })) in (kept.0, record { agreed = kept.1; follows = extended_on q.trace trace now (seen.queue q refl) longer })
+      })) in (kept.0, record { call = record { agreed = kept.1; in_call = kept.0.traced.in_call r' refl }; follows = extended_on q.trace trace now (seen.queue q refl) longer })
 
   -- a pass that may come back rests
   rests : MayComeBack size.irps r → IsResting r

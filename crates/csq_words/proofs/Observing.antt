@@ -18,7 +18,7 @@ observes size slots id q r held s h _ at _ =
       keeps,
       tt,
       (trace, id, q', Some r, seat, subst (λ ws. RuleHoldsBy size ws (set s.views id (view_of q' (Some r))) trace id q' (Some r) seat) (sym (set-get_or s.words 0 0)) kept.0),
-      (refl, record { agreed = kept.1; follows = (k.each_seen id (view_of q (Some r)) at).queue q refl }),
+      (refl, record { call = record { agreed = kept.1; in_call = kept.0.traced.in_call r refl }; follows = (k.each_seen id (view_of q (Some r)) at).queue q refl }),
     )
 
 -- the same at a view that is known

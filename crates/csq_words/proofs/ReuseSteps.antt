@@ -246,7 +246,7 @@ module _ (size : Size) (slots id : ℕ) (q : QueueRecord) (r : PassRecord) (held
         keeps,
         tt,
         (trace, id, q', Some r, seat, subst (λ ws. RuleHoldsBy size ws (set s.views id (view_of q' (Some r))) trace id q' (Some r) seat) (sym (set-get_or s.words (status_at n) 0)) kept.0),
-        (refl, life_seen w (life_of i) (is_done run i) (removed run i) (says size s.words s.views trace id q r seat k n known idle), record { agreed = kept.1; follows = (k.each_seen id (view_of q (Some r)) here).queue q refl }, finds_done size s.words s.views trace id q r seat k n known idle, none_seen size s.words s.views trace id q r seat k n known idle),
+        (refl, life_seen w (life_of i) (is_done run i) (removed run i) (says size s.words s.views trace id q r seat k n known idle), record { call = record { agreed = kept.1; in_call = kept.0.traced.in_call r refl }; follows = (k.each_seen id (view_of q (Some r)) here).queue q refl }, finds_done size s.words s.views trace id q r seat k n known idle, none_seen size s.words s.views trace id q r seat k n known idle),
       )
 
   module _ (i : IrpLife) where

@@ -27,7 +27,7 @@ pub record OwnStep (size : Size) (words words' : List ℕ) (run run' : List Made
   pub elsewhere : (p : PassId) → p ≢ r.pass → (own p run' ≡ own p run) × (inside run' p ≡ inside run p)
   pub unlocked : has_lock (inside run' r.pass) ≡ false
   pub longer : IsExtendedBy trace trace'
-  pub traced : (joined : Option PassRecord) → IsTraceOf q.first trace q.history joined → IsTraceOf q.first trace' q.history joined
+  pub traced : (joined : Option PassRecord) → IsTraceOf q.first trace q.history q.found joined → IsTraceOf q.first trace' q.history q.found joined
   pub mine_seen : IsExtendedBy r'.trace trace'
   pub mine : IsRecord q.first words' run' q.history r'
   pub placed : IsPlaced q.first run q.history → IsPlaced q.first run' q.history
@@ -184,7 +184,7 @@ pub record LockedStep (size : Size) (words words' : List ℕ) (run run' : List M
   pub reuse_is : IsReuse size run' q'.reusing
   pub others : (o : PassRecord) → o.pass ≢ r.pass → IsRecord q.first words run q.history o → IsRecord q'.first words' run' q'.history o
   pub elsewhere : (p : PassId) → p ≢ r.pass → (own p run' ≡ own p run) × (calls_of p q'.history ≡ calls_of p q.history) × (inside run' p ≡ inside run p)
-  pub traced : IsTraceOf q'.first trace' q'.history (Some r')
+  pub traced : IsTraceOf q'.first trace' q'.history q'.found (Some r')
   pub longer : IsExtendedBy trace trace'
   pub seen : IsExtendedBy q'.trace trace'
   pub mine_seen : IsExtendedBy r'.trace trace'

@@ -91,15 +91,16 @@ pub record HasEntered (p : PassId) (trace before : List Tick) : Type 0 where
   pub trace_is : trace ≡ within ++ (Enters p ∷ before)
   pub stays : list_any is_turn within ≡ false
 
--- the pass is in a call, which entered after what the pass had seen
-pub record IsInCall (trace : List Tick) (r : PassRecord) : Type 0 where
+-- the pass is in a call, which entered after what the pass had seen, and found this history
+pub record IsInCall (trace : List Tick) (found : List HistoryEntry) (r : PassRecord) : Type 0 where
   pub before : List Tick
   pub entered : HasEntered r.pass trace before
   pub follows : IsExtendedBy r.trace before
+  pub found_is : entries_in before ≡ found
 
--- the trace is one of this history, and a call has entered and not left exactly if the queue's record is joined with that of its pass
-pub record IsTraceOf (first : ℕ) (trace : List Tick) (history : List HistoryEntry) (joined : Option PassRecord) : Type 0 where
+-- the trace is one of this history, and a call has entered and not left exactly if the queue's record is joined with that of its pass. That call found this history
+pub record IsTraceOf (first : ℕ) (trace : List Tick) (history found : List HistoryEntry) (joined : Option PassRecord) : Type 0 where
   pub is_trace : IsTrace first trace
   pub entries_are : entries_in trace ≡ history
   pub caller_is : caller_in trace ≡ option_map (λ (r : PassRecord). r.pass) joined
-  pub in_call : (r : PassRecord) → joined ≡ Some r → IsInCall trace r
+  pub in_call : (r : PassRecord) → joined ≡ Some r → IsInCall trace found r
