@@ -3,19 +3,19 @@ use Rattle.std.proofs.Common.{◌≡◌, ℕ, List, ◌++◌, ap, sym, subst, �
 use Rattle.csq_queue.proofs.Imports.{IrpLife, Size, Flag, Take, HistoryEntry, Event, PassRecord, Limits, IsExtendedBy, entries_of, saw, with_step, with_calls, FindsUnset, extended_more, extended_on, AddsEvents, EndsWithTake}
 
 -- the steps of a cancel go on from what its pass had seen
-pub marked_follows : (size : Size) (i : IrpLife) (flag found : ℕ) (old new : PassRecord) → EndsWithTake size i flag found old new → IsExtendedBy old.run new.run
+pub marked_follows : (size : Size) (i : IrpLife) (flag found : ℕ) (old new : PassRecord) → EndsWithTake size i flag found old new → IsExtendedBy old.trace new.trace
 marked_follows size i flag found old new e =
-    let flagged = extended_more (record { pass = new.pass; kind = Flag i; found = flag }) old.run e.earlier e.flags in
-    let taken = extended_more (record { pass = new.pass; kind = Take i; found = found }) old.run e.before (extended_on _ _ _ flagged e.takes) in
-    subst (IsExtendedBy old.run) (sym e.run_is) taken
+    let flagged = extended_more (record { pass = new.pass; kind = Flag i; found = flag }) old.trace e.earlier e.flags in
+    let taken = extended_more (record { pass = new.pass; kind = Take i; found = found }) old.trace e.before (extended_on _ _ _ flagged e.takes) in
+    subst (IsExtendedBy old.trace) (sym e.run_is) taken
 
 -- so does a completion
-pub completed_follows : (size : Size) (i : IrpLife) (old new : PassRecord) → FindsUnset size i old new → IsExtendedBy old.run new.run
-completed_follows size i old new f = subst (IsExtendedBy old.run) (sym f.last.run_is) (extended_more _ old.run f.last.before f.last.follows)
+pub completed_follows : (size : Size) (i : IrpLife) (old new : PassRecord) → FindsUnset size i old new → IsExtendedBy old.trace new.trace
+completed_follows size i old new f = subst (IsExtendedBy old.trace) (sym f.last.run_is) (extended_more _ old.trace f.last.before f.last.follows)
 
 -- what a cancel routine adds to what its pass saw it adds to what the pass had seen before it marked the IRP
-pub adds_before : (l : Limits) (history : List HistoryEntry) (old mid out : PassRecord) (es : List Event) (i : IrpLife) (flag found : ℕ) → mid ≡ saw mid.run (with_step (Take i) found (with_step (Flag i) flag old))
-    → IsExtendedBy old.run mid.run → AddsEvents l history mid out es → AddsEvents l history old out es
+pub adds_before : (l : Limits) (history : List HistoryEntry) (old mid out : PassRecord) (es : List Event) (i : IrpLife) (flag found : ℕ) → mid ≡ saw mid.trace (with_step (Take i) found (with_step (Flag i) flag old))
+    → IsExtendedBy old.trace mid.trace → AddsEvents l history mid out es → AddsEvents l history old out es
 adds_before l history old mid out es i flag found e follows a = record {
   legal = a.legal;
   sees = a.sees;

@@ -31,7 +31,7 @@ pub use Rattle.csq_words.specs.Calls.{IsNextMatch, MayComeBack, MayMake, MayRemo
 pub use Rattle.csq_words.specs.Finals.{AllBack, FinalWords, IsCompletedAt, IsFinal, IsHomeAt, IsLeft, IsListedAt, final_life, final_status}
 pub use Rattle.csq_words.specs.History.{IsExtendedBy, IsGone, IsLegal, MayCome, calls_of, end_of, is_call}
 pub use Rattle.csq_words.specs.Queue.{Limits, QueueState, Queued, after_event, back_refusal, begin_next, present_in, first_unmarked, has_entry, has_file, has_irp, has_marked, has_unmarked, limits_of, marking, new_entry, plain, plain_listing, refusal, reply_to_insert, with_file, without}
-pub use Rattle.csq_words.specs.Records.{caught_up, entries_of, new_pass, only_calls, queue_of, saw, with_back, with_calls, with_completion, with_events, with_life, with_reusing, with_run, with_shown, with_step}
+pub use Rattle.csq_words.specs.Records.{caught_up, entries_of, new_pass, only_calls, queue_of, saw, with_back, with_calls, with_completion, with_events, with_life, with_reusing, with_trace, with_shown, with_step}
 pub use Rattle.csq_words.specs.Rule.{AreShown, FindsLife, FindsUnset, HasBack, IsHistoryOf, IsLastOf, QueueAndPassHaveRun, RecordsAgree, SomeRunAgrees, again, in_flight, inserts, is_done, lists, next_life}
 pub use Rattle.csq_words.specs.Seats.{PassSeatState, QueueSeatState, WordsState, joined_record, new_seats, pass_at, pass_record, with_view}
 pub use Rattle.csq_words.specs.Words.{bit_in, bit_word, cancel_at, life_in, status_at, status_in}

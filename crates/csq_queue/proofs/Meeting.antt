@@ -26,13 +26,13 @@ own_between p first then last one two same =
     there ∙ ap (λ l. l ++ own p first) none'
 
 -- a pass that took no step since an earlier time sees what was observed since
-pub caught_up_sees : (size : Size) (q : QueueRecord) (r : PassRecord) → inside_of r.steps ≡ Nothing → r.steps ≡ own r.pass r.run → IsExtendedBy r.run q.run → IsHistoryOf size q.run q Nothing → SomeRunAgrees size q r
+pub caught_up_sees : (size : Size) (q : QueueRecord) (r : PassRecord) → inside_of r.steps ≡ Nothing → r.steps ≡ own r.pass (steps_in r.trace) → IsExtendedBy r.trace q.trace → IsHistoryOf size (steps_in q.trace) q Nothing → SomeRunAgrees size q r
     → SeesRun size (caught_up q r)
 caught_up_sees size q r outside steps since history agreed =
     let mine = agreed.1.pass_is in
-    let between = own_between r.pass r.run q.run agreed.0 since agreed.1.seen (sym steps ∙ mine.steps_is) in
-    sees_run size q.run q r record {
-      history_is = same_flight size q.run q Nothing (in_flight (Some r)) (λ i. (sym (ap (λ s. lists s i) outside), sym (ap (λ s. inserts s i) outside), sym (ap (λ s. again s i) outside))) history;
+    let between = own_between r.pass r.trace q.trace agreed.0 since agreed.1.seen (sym steps ∙ mine.steps_is) in
+    sees_run size q.trace q r record {
+      history_is = same_flight size q.trace q Nothing (in_flight (Some r)) (λ i. (sym (ap (λ s. lists s i) outside), sym (ap (λ s. inserts s i) outside), sym (ap (λ s. again s i) outside))) history;
       pass_is = record { seen_is = mine.seen_is; mine_is = mine.mine_is; steps_is = steps ∙ sym between; completed_is = mine.completed_is; run_is = since };
       callers = agreed.1.callers;
       seen = ([], refl);

@@ -1,6 +1,6 @@
 -- A queue and its passes, seen by their own words, and by those that a call is handed.
 use Rattle.std.proofs.Common.{◌≡◌, ℕ, Bool, List, length, Option, Some, IfSome, sym, ap, ◌∙◌, subst}
-use Rattle.csq_queue.proofs.Imports.{TableId, Size, Listing, Limits, limits_of, PassRecord, with_run, caught_up, WordsState, QueueSeatState, PassSeatState, joined_record, pass_record, IrpLife, inside_of, Nothing, IrpNumbers, queue_size, IsLockedOf, IsPassSeatOf, Event, RecordsAgree, SomeRunAgrees, AddsEvents, IsNew, Adds, OpenState, OpenPassState, seat_table, limits_on, IsQueueOn, IsPassOn}
+use Rattle.csq_queue.proofs.Imports.{TableId, Size, Listing, Limits, limits_of, PassRecord, with_trace, caught_up, WordsState, QueueSeatState, PassSeatState, joined_record, pass_record, IrpLife, inside_of, Nothing, IrpNumbers, queue_size, IsLockedOf, IsPassSeatOf, Event, RecordsAgree, SomeRunAgrees, AddsEvents, IsNew, Adds, OpenState, OpenPassState, seat_table, limits_on, IsQueueOn, IsPassOn}
 use Rattle.csq_queue.proofs.Leaving.{left_adds}
 
 -- what a contract sees of a queue's parts
@@ -37,8 +37,8 @@ module _ (w : WordsState) (s : Listing) (seat : QueueSeatState) (flags : List Bo
   own_new given r entered r_is h = subst (λ (z : Limits × PassRecord). IfSome given (IsNew z.0 z.1)) (λ k. (limits_are k, r_is k)) h
 
   -- and the events of a call, as its pass sees them once it has left
-  pub own_adds : (r new : PassRecord) (entered seat' : QueueSeatState) → entered ≡ record seat { joined = Some r } → SomeRunAgrees w.size seat.queue r → new ≡ caught_up (with_run new.run seat'.queue) (joined_record seat')
-      → RecordsAgree w.size new.run (with_run new.run seat'.queue) (joined_record seat')
+  pub own_adds : (r new : PassRecord) (entered seat' : QueueSeatState) → entered ≡ record seat { joined = Some r } → SomeRunAgrees w.size seat.queue r → new ≡ caught_up (with_trace new.trace seat'.queue) (joined_record seat')
+      → RecordsAgree w.size new.trace (with_trace new.trace seat'.queue) (joined_record seat')
       → inside_of (joined_record seat').steps ≡ Nothing → (events : List Event) (s' : Listing) (kept : IrpNumbers) → Adds (limits_on w s) entered events s' kept seat' → AddsEvents q.limits q.queue.history r new events
   own_adds r new entered seat' e agreed new_is look outside events s' kept a =
       subst (λ (l : Limits). AddsEvents l q.queue.history r new events) limits_are

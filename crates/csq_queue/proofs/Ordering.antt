@@ -127,7 +127,7 @@ pub steps_after_seen : StepsComeAfterWhatWasSeen
 steps_after_seen limits d acts pass made own_is run told =
     let p = d.old.pass in
     let newer = d.adds.follows.0 in
-    let whole : d.new.steps ≡ own p newer ++ own p d.old.run = d.adds.sees.agrees.pass_is.steps_is ∙ (ap (λ q. own q d.new.run) pass ∙ (ap (own p) d.adds.follows.1 ∙ own-append p newer d.old.run)) in
+    let whole : d.new.steps ≡ own p newer ++ own p (steps_in d.old.trace) = d.adds.sees.agrees.pass_is.steps_is ∙ (ap (λ q. own q (steps_in d.new.trace)) pass ∙ (ap (own p) d.adds.follows.1 ∙ own-append p newer d.old.trace)) in
     let mine : own p newer ≡ made_by p acts = append_cancel_right (own p newer) (made_by p acts) d.old.steps (ap (λ (l : List Made). own p newer ++ l) own_is ∙ (sym whole ∙ made)) in
     (newer, told.0, d.adds.follows.1 ∙ ap (λ (l : List Made). newer ++ l) told.1, mine)
 
@@ -138,8 +138,8 @@ told_came_first limits pass receipts taken listing finals rest c d told k r at m
 
 -- and each event of it stands at its step
 pub left_in_order : EventsLeftStandInOrder
-left_in_order limits pass receipts taken listing finals rest = subst (λ n. StandInOrder n finals.queue.run finals.queue.history) rest.first_is (in_order finals.queue.first finals.queue.run finals.queue.history rest.last.agrees.history_is.placed)
+left_in_order limits pass receipts taken listing finals rest = subst (λ n. StandInOrder n (steps_in finals.queue.trace) finals.queue.history) rest.first_is (in_order finals.queue.first (steps_in finals.queue.trace) finals.queue.history rest.last.agrees.history_is.placed)
 
 pub open_in_order : EventsOfAnOpenQueueStandInOrder
 open_in_order limits taken old listing finals closed =
-    subst (λ (z : ℕ × List HistoryEntry). StandInOrder z.0 finals.queue.run z.1) (λ k. (closed.first_is k, closed.given.history k)) (in_order finals.queue.first finals.queue.run finals.queue.history closed.last.agrees.history_is.placed)
+    subst (λ (z : ℕ × List HistoryEntry). StandInOrder z.0 (steps_in finals.queue.trace) z.1) (λ k. (closed.first_is k, closed.given.history k)) (in_order finals.queue.first (steps_in finals.queue.trace) finals.queue.history closed.last.agrees.history_is.placed)

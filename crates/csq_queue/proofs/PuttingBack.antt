@@ -1,6 +1,6 @@
 -- A put-back of an IRP that the joined pass got by a removal.
 use Rattle.std.proofs.Common.{◌≡◌, ℕ, not, ◌&&◌, ◌||◌, Bool, true, false, true≢false, List, [], ◌∷◌, Some, None, Ok, refl, sym, ap, ◌∙◌, subst}
-use Rattle.csq_queue.proofs.Imports.{false_from_ne_true, or_right, slice_index, IsTrue, length, ◌<◌, TableId, same_irp, number, IrpLife, FileId, Made, Rearm, Test, Disarm, holds_in, removed_in, owes, holds, listed, armed, was_armed, same_irp-refl, same_irp-eq, holds_in-own, removed_in-own, Rearmed, Place, InsertStatus, Listing, put_at, inserted, without_irp, is_listed, MayMake, after_step, with_noted, FlagSeen, Mark, PutBack, Pending, Cancelled, Refused, present_in, has_irp, has_entry, back_refusal, reply_to_insert, plain, new_entry, Limits, IsGone, end_of, queue_of, with_run, SomeRunAgrees, RecordsAgree, lists, inserts, QueueSeatState, joined_record, with_view, open_now, held_gone, irp_eq, ArePresent, listing-relisted, listing-put_and_taken, listing-marked, one_marked, queue_size, IrpNumbers, IsListOf, HoldsRemoved, IsEntered, Adds, MakesSteps, put_back_steps, InsertAnswer}
+use Rattle.csq_queue.proofs.Imports.{false_from_ne_true, or_right, slice_index, IsTrue, length, ◌<◌, TableId, same_irp, number, IrpLife, FileId, Made, Rearm, Test, Disarm, holds_in, removed_in, owes, holds, listed, armed, was_armed, same_irp-refl, same_irp-eq, holds_in-own, removed_in-own, Rearmed, Place, InsertStatus, Listing, put_at, inserted, without_irp, is_listed, MayMake, after_step, with_noted, FlagSeen, Mark, PutBack, Pending, Cancelled, Refused, present_in, has_irp, has_entry, back_refusal, reply_to_insert, plain, new_entry, Limits, IsGone, end_of, queue_of, with_trace, SomeRunAgrees, RecordsAgree, lists, inserts, QueueSeatState, joined_record, with_view, open_now, held_gone, irp_eq, ArePresent, listing-relisted, listing-put_and_taken, listing-marked, one_marked, queue_size, IrpNumbers, IsListOf, HoldsRemoved, IsEntered, Adds, MakesSteps, put_back_steps, InsertAnswer}
 use Rattle.csq_words.specs.declared.calls.Call.TheVariants.{PutBack as PutBackCall}
 use Rattle.csq_words.proofs.Truths.{flags_cancelled}
 use Rattle.csq_words.proofs.Marking.{placed_unmarked}
@@ -65,20 +65,20 @@ module _ {t : TableId} {l : Limits} {s : Listing} {v : IrpNumbers} {old : QueueS
 
   module _ (f : FileId) (place : Place) where
     -- the seat after each step of the call, which observed this execution
-    pub rearmed_is : (n : ℕ) → n ≡ 0 → (z : QueueSeatState) → z ≡ with_view (after_step (PutBackCall i f place) (Rearm i) n (with_run z.queue.run old.queue) (joined_record old)) old → z ≡ with_made (Rearm i) 0 [] z.queue.run old
-    rearmed_is n zero' z is = is ∙ (λ k. with_view (after_step (PutBackCall i f place) (Rearm i) (zero' k) (with_run z.queue.run old.queue) (joined_record old)) old)
+    pub rearmed_is : (n : ℕ) → n ≡ 0 → (z : QueueSeatState) → z ≡ with_view (after_step (PutBackCall i f place) (Rearm i) n (with_trace z.queue.trace old.queue) (joined_record old)) old → z ≡ with_made (Rearm i) 0 [] z.queue.trace old
+    rearmed_is n zero' z is = is ∙ (λ k. with_view (after_step (PutBackCall i f place) (Rearm i) (zero' k) (with_trace z.queue.trace old.queue) (joined_record old)) old)
 
     pub tested_is : (m n : ℕ) → m ≡ n → (r1 : List Made) (z y : QueueSeatState) → z ≡ with_made (Rearm i) 0 [] r1 old
-        → y ≡ with_view (after_step (PutBackCall i f place) (Test (present_in (queue_of z.queue) i.irp)) m (with_run y.queue.run z.queue) (joined_record z)) z
-        → let z' = with_made (Rearm i) 0 [] r1 old in y ≡ with_view (after_step (PutBackCall i f place) (Test i) n (with_run y.queue.run z'.queue) (joined_record z')) z'
+        → y ≡ with_view (after_step (PutBackCall i f place) (Test (present_in (queue_of z.queue) i.irp)) m (with_trace y.queue.trace z.queue) (joined_record z)) z
+        → let z' = with_made (Rearm i) 0 [] r1 old in y ≡ with_view (after_step (PutBackCall i f place) (Test i) n (with_trace y.queue.trace z'.queue) (joined_record z')) z'
     tested_is m n e r1 z y to_z is =
         let z' = with_made (Rearm i) 0 [] r1 old in
-        is ∙ ((λ k. with_view (after_step (PutBackCall i f place) (Test (present_in (queue_of (to_z k).queue) i.irp)) (e k) (with_run y.queue.run (to_z k).queue) (joined_record (to_z k))) (to_z k))
-        ∙ (λ k. with_view (after_step (PutBackCall i f place) (Test (here_now k)) n (with_run y.queue.run z'.queue) (joined_record z')) z'))
+        is ∙ ((λ k. with_view (after_step (PutBackCall i f place) (Test (present_in (queue_of (to_z k).queue) i.irp)) (e k) (with_trace y.queue.trace (to_z k).queue) (joined_record (to_z k))) (to_z k))
+        ∙ (λ k. with_view (after_step (PutBackCall i f place) (Test (here_now k)) n (with_trace y.queue.trace z'.queue) (joined_record z')) z'))
 
-    pub disarmed_is : (m n : ℕ) → m ≡ n → (y y' x : QueueSeatState) → y ≡ y' → x ≡ with_view (after_step (PutBackCall i f place) (Disarm i) m (with_run x.queue.run y.queue) (joined_record y)) y
-        → x ≡ with_view (after_step (PutBackCall i f place) (Disarm i) n (with_run x.queue.run y'.queue) (joined_record y')) y'
-    disarmed_is m n e y y' x to_y is = is ∙ (λ k. with_view (after_step (PutBackCall i f place) (Disarm i) (e k) (with_run x.queue.run (to_y k).queue) (joined_record (to_y k))) (to_y k))
+    pub disarmed_is : (m n : ℕ) → m ≡ n → (y y' x : QueueSeatState) → y ≡ y' → x ≡ with_view (after_step (PutBackCall i f place) (Disarm i) m (with_trace x.queue.trace y.queue) (joined_record y)) y
+        → x ≡ with_view (after_step (PutBackCall i f place) (Disarm i) n (with_trace x.queue.trace y'.queue) (joined_record y')) y'
+    disarmed_is m n e y y' x to_y is = is ∙ (λ k. with_view (after_step (PutBackCall i f place) (Disarm i) (e k) (with_trace x.queue.trace (to_y k).queue) (joined_record (to_y k))) (to_y k))
 
     -- the test is the call's next step
     pub may_test : (r1 : List Made) (z : QueueSeatState) → z ≡ with_made (Rearm i) 0 [] r1 old → MayMake (PutBackCall i f place) (Test (present_in (queue_of z.queue) i.irp)) z.queue (joined_record z)
@@ -90,7 +90,7 @@ module _ {t : TableId} {l : Limits} {s : Listing} {v : IrpNumbers} {old : QueueS
 
     -- a refusal changes nothing but the history
     pub back_refused : (cause : InsertStatus) → f ≡ (queue_of old.queue).file_of i.irp → back_refusal l (queue_of old.queue) i f ≡ Some cause → (s' : Listing) → s' ≡ s → (y : QueueSeatState)
-        → y ≡ with_view (with_noted (PutBack i f place (Refused cause) ∷ []) (with_run y.queue.run old.queue) (joined_record old)) old → SomeRunAgrees (queue_size l) y.queue (joined_record y) → Adds l old (PutBack i f place (Refused cause) ∷ []) s' v y
+        → y ≡ with_view (with_noted (PutBack i f place (Refused cause) ∷ []) (with_trace y.queue.trace old.queue) (joined_record old)) old → SomeRunAgrees (queue_size l) y.queue (joined_record y) → Adds l old (PutBack i f place (Refused cause) ∷ []) s' v y
     back_refused cause f_is is s' same y to_y agreed' =
         subst (λ (w : QueueSeatState). SomeRunAgrees (queue_size l) w.queue (joined_record w) → Adds l old (PutBack i f place (Refused cause) ∷ []) s' v w) (sym to_y) (λ agreed''. record {
           here = refl;

@@ -71,7 +71,7 @@ pub record RemovesOne (i : IrpLife) (taken : Option IrpLife) (limits : Limits) (
 -- a cancel routine takes out i: the pass holds i then as cancelled, and owes the IRP in no life
 pub record RunsRoutine (i : IrpLife) (limits : Limits) (history : List HistoryEntry) (p p' : PassRecord) : Type 0 where
   pub call : AddsEvents limits history p p' (Out i ∷ due_mark i (end_of limits.first history))
-  pub step : p' ≡ record (with_step (StepOut i) 0 p) { seen = p'.seen; mine = p'.mine; run = p'.run }
+  pub step : p' ≡ record (with_step (StepOut i) 0 p) { seen = p'.seen; mine = p'.mine; trace = p'.trace }
   pub token : Holds limits.irps p' i
   pub cancelled : removed_in p'.steps i ≡ false
   pub none_owed : has_life (owed_list p'.steps) i.irp ≡ false
@@ -94,7 +94,7 @@ pub record Reuses (irp : IrpId) (answer : Result Life ReuseRefused) (limits : Li
 -- a cancel up to its exchange, without the lock: the flag is set in the life named, and where the routine was there, the pass owes the IRP
 pub record MarksCancel (irp : IrpId) (life : Life) (answer : Result (Option IrpLife) CancelRefused) (size : Size) (p p' : PassRecord) : Type 0 where
   pub known : IsOk answer → irp.0 < size.irps
-  pub step : IfOk answer (λ claim. (flag : ℕ) × (p' ≡ saw p'.run (with_step (Take (named irp life)) (count_given claim) (with_step (Flag (named irp life)) flag p)))
+  pub step : IfOk answer (λ claim. (flag : ℕ) × (p' ≡ saw p'.trace (with_step (Take (named irp life)) (count_given claim) (with_step (Flag (named irp life)) flag p)))
       × EndsWithTake size (named irp life) flag (count_given claim) p p')
   pub claimed : IfOk answer (λ claim. IfSome claim (λ i. (i ≡ named irp life) × Owes p' i))
   pub missed : IfOk answer (λ claim. claim ≡ None → MissedTheRoutine (named irp life) p')
@@ -102,14 +102,14 @@ pub record MarksCancel (irp : IrpId) (life : Life) (answer : Result (Option IrpL
 
 -- the pass completed i with this status, which nobody had before, and holds the IRP in no life
 pub record CompletesOne (i : IrpLife) (status : NtStatus) (size : Size) (p p' : PassRecord) : Type 0 where
-  pub step : p' ≡ saw p'.run (with_completion i status (with_step (Done i) 0 p))
+  pub step : p' ≡ saw p'.trace (with_completion i status (with_step (Done i) 0 p))
   pub unset : FindsUnset size i p p'
   pub none_held : has_life (held_list p'.steps) i.irp ≡ false
 
 -- a load of an IRP's Cancel flag, and the life that it stands for
 pub record ReadsFlag (irp : IrpId) (answer : Result (Life × Bool) UnknownIrp) (size : Size) (p p' : PassRecord) : Type 0 where
   pub known : IsOk answer ↔ (irp.0 < size.irps)
-  pub same : p' ≡ saw p'.run p
+  pub same : p' ≡ saw p'.trace p
   pub unknown : OnErr answer (p' ≡ p)
   pub found : IfOk answer (λ read. (w : ℕ) × (read ≡ flag_read w) × IsFlagOf size irp p p' w)
   pub mine : IfOk answer (λ read. (i : IrpLife) → i.irp ≡ irp → flagged p.steps i ≡ true → (read ≡ (i.life, true)) ⊎ (life_of i < read.0.0))
@@ -118,7 +118,7 @@ pub record ReadsFlag (irp : IrpId) (answer : Result (Life × Bool) UnknownIrp) (
 -- a load of its status
 pub record ReadsStatus (irp : IrpId) (answer : Result (Life × Option NtStatus) UnknownIrp) (size : Size) (p p' : PassRecord) : Type 0 where
   pub known : IsOk answer ↔ (irp.0 < size.irps)
-  pub same : p' ≡ saw p'.run p
+  pub same : p' ≡ saw p'.trace p
   pub unknown : OnErr answer (p' ≡ p)
   pub found : IfOk answer (λ read. (w : ℕ) × (read ≡ status_read w) × IsStatusOf size irp p p' w)
   pub mine : IfOk answer (λ read. (i : IrpLife) (status : NtStatus) → i.irp ≡ irp → status_recorded i p.completed ≡ Some status → (read ≡ (i.life, Some status)) ⊎ (life_of i < read.0.0))

@@ -46,7 +46,7 @@ pub record IsRack (seats : List (Option PassSeatState)) (irps next left : ℕ) :
 
 -- the queue after a call of this pass, which has then seen the whole history and the execution: they alone are new
 abbrev pub after_call : PassRecord → OpenState → OpenState
-after_call pass q = record q { queue = record q.queue { history = pass.seen; run = pass.run } }
+after_call pass q = record q { queue = record q.queue { history = pass.seen; trace = pass.trace } }
 
 -- the limits of a queue of these words, over this list
 abbrev pub limits_on : WordsState → Listing → Limits

@@ -10,7 +10,7 @@ ghost use Rattle.irp_core.specs.Own.{inside_of, owes_in};
 ghost use Rattle.csq_words.specs.Calls.{due_mark};
 ghost use Rattle.csq_words.specs.Queue.{present_in, refusal, back_refusal};
 ghost use Rattle.csq_words.specs.History.{end_of};
-ghost use Rattle.csq_words.specs.Records.{queue_of, caught_up, with_run, with_step};
+ghost use Rattle.csq_words.specs.Records.{queue_of, caught_up, with_trace, with_step};
 ghost use Rattle.csq_words.specs.Seats.{IsJoined, joined_record, pass_at, pass_record};
 ghost use Rattle.csq_words.specs.Rule.{RecordsAgree};
 ghost use Rattle.irp_core.specs.Inside.{has_lock};
@@ -40,15 +40,15 @@ pub(crate) fn leave<A: Allocator>(seat: &mut QueueSeat, words: &Words<A>, pass: 
     requires joined { IsJoined seat.old }
     requires ended { has_lock (inside_of (joined_record seat.old).steps) ≡ false }
     requires idle { seat.old.queue.reusing ≡ IdleQueue }
-    requires agreed { RecordsAgree words.now.size seat.old.queue.run seat.old.queue
+    requires agreed { RecordsAgree words.now.size seat.old.queue.trace seat.old.queue
         (joined_record seat.old) }
     ensures queue { seat.new ≡ record seat.old
-        { joined = None; queue = with_run (pass_record pass.new).run seat.old.queue } }
+        { joined = None; queue = with_trace (pass_record pass.new).trace seat.old.queue } }
     ensures pass { pass.new ≡ pass_at words.now.table
-        (caught_up (with_run (pass_record pass.new).run seat.old.queue) (joined_record seat.old)) }
-    ensures run { RecordsAgree words.now.size (pass_record pass.new).run
-        (with_run (pass_record pass.new).run seat.old.queue) (joined_record seat.old) }
-    ensures last { (pass_record pass.new).run ≡ seat.old.queue.run }
+        (caught_up (with_trace (pass_record pass.new).trace seat.old.queue) (joined_record seat.old)) }
+    ensures run { RecordsAgree words.now.size (pass_record pass.new).trace
+        (with_trace (pass_record pass.new).trace seat.old.queue) (joined_record seat.old) }
+    ensures last { (pass_record pass.new).trace ≡ seat.old.queue.trace }
 {
     seat.leave(words, pass);
 }
@@ -80,7 +80,7 @@ pub(crate) fn list_irp<L: PendingList, A: Allocator>(
         seat.new) }
     ensures cause { IfErr result (λ cause. refusal (limits_on words.now (L.listing list.old))
         (queue_of seat.old.queue) irp file ≡ Some cause) }
-    ensures agreed { RecordsAgree words.now.size seat.new.queue.run seat.new.queue
+    ensures agreed { RecordsAgree words.now.size seat.new.queue.trace seat.new.queue
         (joined_record seat.new) }
     ensures outside { inside_of (joined_record seat.new).steps ≡ Nothing }
 {
@@ -138,7 +138,7 @@ pub(crate) fn relist_irp<L: PendingList, A: Allocator>(
     ensures cause { IfErr result (λ cause. back_refusal
         (limits_on words.now (L.listing list.old)) (queue_of seat.old.queue) irp
         ((queue_of seat.old.queue).file_of irp.irp) ≡ Some cause) }
-    ensures agreed { RecordsAgree words.now.size seat.new.queue.run seat.new.queue
+    ensures agreed { RecordsAgree words.now.size seat.new.queue.trace seat.new.queue
         (joined_record seat.new) }
     ensures outside { inside_of (joined_record seat.new).steps ≡ Nothing }
 {
@@ -183,7 +183,7 @@ pub(crate) fn take_match<L: PendingList, A: Allocator>(
         (joined_record seat.old) (joined_record seat.new) }
     ensures new { IfSome result (IsNew (limits_on words.now (L.listing list.old))
         (joined_record seat.old)) }
-    ensures agreed { RecordsAgree words.now.size seat.new.queue.run seat.new.queue
+    ensures agreed { RecordsAgree words.now.size seat.new.queue.trace seat.new.queue
         (joined_record seat.new) }
     ensures outside { inside_of (joined_record seat.new).steps ≡ Nothing }
 {
@@ -233,7 +233,7 @@ pub(crate) fn take_one<L: PendingList, A: Allocator>(
         (joined_record seat.old) (joined_record seat.new) }
     ensures new { IfSome result (IsNew (limits_on words.now (L.listing list.old))
         (joined_record seat.old)) }
-    ensures agreed { RecordsAgree words.now.size seat.new.queue.run seat.new.queue
+    ensures agreed { RecordsAgree words.now.size seat.new.queue.trace seat.new.queue
         (joined_record seat.new) }
     ensures outside { inside_of (joined_record seat.new).steps ≡ Nothing }
 {
@@ -269,7 +269,7 @@ pub(crate) fn take_owed<L: PendingList, A: Allocator>(
     ensures steps { (joined_record seat.new).steps
         ≡ (with_step (StepOut irp) 0 (joined_record seat.old)).steps }
     ensures known { irp.irp.0 < words.now.size.irps }
-    ensures agreed { RecordsAgree words.now.size seat.new.queue.run seat.new.queue
+    ensures agreed { RecordsAgree words.now.size seat.new.queue.trace seat.new.queue
         (joined_record seat.new) }
     ensures outside { inside_of (joined_record seat.new).steps ≡ Nothing }
 {
@@ -297,7 +297,7 @@ pub(crate) fn renew_irp<L: PendingList, A: Allocator>(
         (joined_record seat.new) }
     ensures refused { IfErr result (IsLookRefusal (present_in (queue_of seat.new.queue) irp)
         (joined_record seat.old) seat.new.queue) }
-    ensures agreed { RecordsAgree words.now.size seat.new.queue.run seat.new.queue
+    ensures agreed { RecordsAgree words.now.size seat.new.queue.trace seat.new.queue
         (joined_record seat.new) }
     ensures outside { inside_of (joined_record seat.new).steps ≡ Nothing }
 {

@@ -104,3 +104,21 @@ pub record IsTraceOf (first : ℕ) (trace : List Tick) (history found : List His
   pub entries_are : entries_in trace ≡ history
   pub caller_is : caller_in trace ≡ option_map (λ (r : PassRecord). r.pass) joined
   pub in_call : (r : PassRecord) → joined ≡ Some r → IsInCall trace found r
+
+-- a call of a pass that had the record `old` before it and has seen the execution up to its end now: it entered after all that the pass had seen, it found this history, and what the history has gained since is these events
+pub record HasCall (old new : PassRecord) (found events : List HistoryEntry) : Type 0 where
+  pub before : List Tick
+  pub entered : HasEntered old.pass new.trace before
+  pub follows : IsExtendedBy old.trace before
+  pub found_is : entries_in before ≡ found
+  pub events_are : entries_in entered.within ≡ events
+
+-- the calls exclude each other, each event is added while a call of its own pass is on its way, and if one call left before another entered, the events that were added until it left stand in the history before those that are added after the other entered
+pub record IsInRealTime (trace : List Tick) : Type 0 where
+  pub alone : (p : PassId) (newer older : List Tick) → trace ≡ newer ++ (Enters p ∷ older) → caller_in older ≡ None
+  pub own : (e : HistoryEntry) (newer older : List Tick) → trace ≡ newer ++ (Says e ∷ older) → (before : List Tick) × HasEntered e.pass older before
+  pub order : (p q : PassId) (newer between older : List Tick) → trace ≡ newer ++ (Enters q ∷ (between ++ (Leaves p ∷ older))) → entries_in trace ≡ entries_in newer ++ (entries_in between ++ entries_in older)
+
+-- so is every execution
+abbrev pub HistoriesAreInRealTime : Type 0
+HistoriesAreInRealTime = (first : ℕ) (trace : List Tick) → IsTrace first trace → IsInRealTime trace

@@ -2,6 +2,7 @@
 //! for a law: its contract is the law, and there is nothing to run.
 ghost use Rattle.csq_words.specs.Stories.{EachIrpHasAStory, EachIrpIsGivenOnce, EachStayHasAStory, NoIrpHasTwoStories, JoinedPassesSeeOneHistory, PassesBackSeeOneHistory, PassesAtTheEndSeeOneHistory, StoriesHaveTheStatusRecorded};
 ghost use Rattle.csq_words.specs.Recorded.{EventsStandInOrder};
+ghost use Rattle.csq_words.specs.Traces.{HistoriesAreInRealTime};
 
 /// At every step, in each of its lives, an IRP that isn't just being put back was inserted by at most
 /// one pass and given to at most one, since it was last put back: this one made its one claim since
@@ -42,6 +43,14 @@ pub fn stories_have_the_status_recorded()
 /// make no step (a refused insert or put-back, a closed file object) stand between two steps.
 pub fn events_stand_in_order()
     ensures { EventsStandInOrder }
+{}
+
+/// In every execution the calls under the lock exclude each other, each event of the history is added while
+/// a call of its own pass is on its way, and if one call left before another entered, its events stand
+/// before those of the other. This holds by what an execution is; which events are those of a call, and
+/// that the call entered after all that its pass had seen, is a clause of that call.
+pub fn histories_are_in_real_time()
+    ensures { HistoriesAreInRealTime }
 {}
 
 /// Passes that were joined with the record of a queue have seen one history and one execution:

@@ -235,14 +235,14 @@ impl<L: PendingList + Drop, N: QueueName, A: Allocator> Csq<L, N, A> {
         ensures call { IfOk result (λ done. done ≡ true → (history : List HistoryEntry)
             × (out : PassRecord) × AddsEvents N.limits history pass.old out
             (Out (named irp life) ∷ due_mark (named irp life) (end_of N.limits.first history))
-            × (pass.new ≡ saw pass.new.run (with_completion (named irp life) CANCELLED
+            × (pass.new ≡ saw pass.new.trace (with_completion (named irp life) CANCELLED
             (with_step (Done (named irp life)) 0 out)))
             × FindsUnset (queue_size N.limits) (named irp life) out pass.new) }
         ensures done { IfOk result (λ done. done ≡ true → (flag : ℕ)
             × (pass.new ≡ record (cancelled_by (named irp life) flag pass.old)
-            { seen = pass.new.seen; mine = pass.new.mine; run = pass.new.run })) }
+            { seen = pass.new.seen; mine = pass.new.mine; trace = pass.new.trace })) }
         ensures left { IfOk result (λ done. done ≡ false → (flag : ℕ)
-            × (pass.new ≡ saw pass.new.run (with_step (Take (named irp life)) 0
+            × (pass.new ≡ saw pass.new.trace (with_step (Take (named irp life)) 0
             (with_step (Flag (named irp life)) flag pass.old)))
             × EndsWithTake (queue_size N.limits) (named irp life) flag 0 pass.old pass.new) }
         ensures missed { IfOk result (λ done. done ≡ false
@@ -275,7 +275,7 @@ impl<L: PendingList + Drop, N: QueueName, A: Allocator> Csq<L, N, A> {
             × SeesCalls N.limits pass.old pass.new (cleanup_calls file taken)
             × CompletesAll taken pass.old pass.new) }
         ensures sees { OnOk result (SeesRun (queue_size N.limits) pass.new) }
-        ensures follows { OnOk result (IsExtendedBy pass.old.run pass.new.run) }
+        ensures follows { OnOk result (IsExtendedBy pass.old.trace pass.new.trace) }
         ensures left { IfOk result (λ count. NothingIsLeft N.limits file pass.new.seen) }
         ensures unknown { OnErr result (pass.new ≡ pass.old) }
     {
@@ -350,20 +350,20 @@ impl<L: PendingList + Drop, N: QueueName, A: Allocator> Csq<L, N, A> {
     /// Lets two passes see the same history and the same execution. Own rule.
     pub fn meet(&self, rt: &impl Wait, one: &mut Pass<N>, other: &mut Pass<N>)
         ensures same { one.new.seen ≡ other.new.seen }
-        ensures run { one.new.run ≡ other.new.run }
+        ensures run { one.new.trace ≡ other.new.trace }
         ensures legal { IsLegal N.limits one.new.seen }
         ensures one_sees { SeesRun (queue_size N.limits) one.new }
         ensures other_sees { SeesRun (queue_size N.limits) other.new }
         ensures one_begins { IsExtendedBy one.old.seen one.new.seen }
         ensures other_begins { IsExtendedBy other.old.seen other.new.seen }
-        ensures one_kept { one.new ≡ record one.old { seen = one.new.seen; run = one.new.run } }
+        ensures one_kept { one.new ≡ record one.old { seen = one.new.seen; run = one.new.trace } }
         ensures other_kept { other.new ≡ record other.old {
           seen = other.new.seen;
           run
-              = other.new.run;
+              = other.new.trace;
         } }
-        ensures one_follows { IsExtendedBy one.old.run one.new.run }
-        ensures other_follows { IsExtendedBy other.old.run other.new.run }
+        ensures one_follows { IsExtendedBy one.old.trace one.new.trace }
+        ensures other_follows { IsExtendedBy other.old.trace other.new.trace }
         ensures one_calls { one.new.mine ≡ calls_of one.new.pass one.new.seen }
         ensures other_calls { other.new.mine ≡ calls_of other.new.pass other.new.seen }
     {

@@ -6,7 +6,7 @@ ghost use Rattle.irp_core.specs.Steps.{own};
 ghost use Rattle.csq_words.specs.Finals.{AllBack, IsFinal, IsLeft, KeepsRecords};
 ghost use Rattle.csq_words.specs.History.{IsLegal, IsExtendedBy, calls_of, end_of};
 ghost use Rattle.csq_words.specs.Queue.{present_in, plain_listing};
-ghost use Rattle.csq_words.specs.Records.{caught_up, queue_of, with_run, with_back, with_shown};
+ghost use Rattle.csq_words.specs.Records.{caught_up, queue_of, with_trace, with_back, with_shown};
 ghost use Rattle.irp_core.specs.declared.inside.Inside.TheVariants as inner;
 ghost use Rattle.csq_words.specs.Rule.{IsHistoryOf, QueueAndPassHaveRun};
 ghost use Rattle.csq_words.specs.Seats.{pass_at, pass_record, IsHere};
@@ -250,15 +250,15 @@ impl<L: PendingList + Drop, A: Allocator> OpenQueue<L, A> {
         requires queue { IsQueueOn words.now self.old }
         requires pass { IsPassOn words.now pass.old }
         ensures queue { self.new ≡ record self.old
-            { queue = with_run pass.new.pass.run self.old.queue } }
+            { queue = with_trace pass.new.pass.trace self.old.queue } }
         ensures legal { IsLegal self.old.limits self.old.queue.history }
-        ensures agrees { IsHistoryOf (queue_size self.old.limits) self.new.queue.run self.new.queue
+        ensures agrees { IsHistoryOf (queue_size self.old.limits) (steps_in self.new.queue.trace) self.new.queue
             inner.Nothing }
         ensures sees { SeesRun (queue_size self.old.limits) pass.new.pass }
         ensures shown { pass.new ≡ record pass.old
             { pass = caught_up self.new.queue pass.old.pass } }
-        ensures follows { IsExtendedBy pass.old.pass.run pass.new.pass.run }
-        ensures since { IsExtendedBy self.old.queue.run pass.new.pass.run }
+        ensures follows { IsExtendedBy pass.old.pass.trace pass.new.pass.trace }
+        ensures since { IsExtendedBy self.old.queue.trace pass.new.pass.trace }
         ensures begins { IsExtendedBy pass.old.pass.seen self.old.queue.history }
         ensures mine { pass.old.pass.mine ≡ calls_of pass.old.pass.pass self.old.queue.history }
     {
@@ -272,9 +272,9 @@ impl<L: PendingList + Drop, A: Allocator> OpenQueue<L, A> {
     pub(crate) fn catch_up(&mut self, words: &Words<A>, pass: &mut OpenPass)
         requires queue { IsQueueOn words.now self.old }
         requires pass { IsPassOn words.now pass.old }
-        requires steps { pass.old.pass.steps ≡ own pass.old.pass.pass pass.old.pass.run }
-        requires since { IsExtendedBy pass.old.pass.run self.old.queue.run }
-        requires agrees { IsHistoryOf (queue_size self.old.limits) self.old.queue.run self.old.queue
+        requires steps { pass.old.pass.steps ≡ own pass.old.pass.pass (steps_in pass.old.pass.trace) }
+        requires since { IsExtendedBy pass.old.pass.trace self.old.queue.trace }
+        requires agrees { IsHistoryOf (queue_size self.old.limits) (steps_in self.old.queue.trace) self.old.queue
             inner.Nothing }
         ensures same { self.new ≡ self.old }
         ensures shown { pass.new ≡ record pass.old
@@ -317,7 +317,7 @@ impl<L: PendingList + Drop, A: Allocator> OpenQueue<L, A> {
         requires queue { IsQueueOn words.now self.old }
         requires pass { IsPassOn words.now pass.old }
         ensures step { self.new ≡ record self.old
-            { queue = with_run self.new.queue.run self.old.queue } }
+            { queue = with_trace self.new.queue.trace self.old.queue } }
         ensures kept { pass.new ≡ pass.old }
         ensures agreed { QueueAndPassHaveRun words.now.size self.new.queue pass.old.pass }
         ensures made { self.new.queue.made ≡ self.new.limits.passes }
@@ -380,8 +380,8 @@ impl<L: PendingList + Drop, A: Allocator> OpenQueue<L, A> {
         requires queue { IsQueueOn words self }
         requires back { AllBack self.queue }
         ensures irps { result.finals.irps ≡ self.limits.irps }
-        ensures queue { result.finals.queue ≡ with_run result.finals.queue.run self.queue }
-        ensures follows { IsExtendedBy self.queue.run result.finals.queue.run }
+        ensures queue { result.finals.queue ≡ with_trace result.finals.queue.trace self.queue }
+        ensures follows { IsExtendedBy self.queue.trace result.finals.queue.trace }
         ensures last { IsFinal (queue_size self.limits) result.finals.words result.finals.queue }
         ensures left { (n : IrpNumber) → n.0 < self.limits.irps
             → IsLeft result.finals.words result.finals.queue n }

@@ -1,5 +1,5 @@
 use Rattle.std.proofs.Common.{◌≡◌, ℕ, [], ◌∷◌, None, Some, Ok, inl, inr, refl, sym, ap, ◌∙◌, subst, rules}
-use Rattle.csq_queue.proofs.Imports.{FileId, Size, Limits, after_step, with_run, with_view, Listing, is_listed, listed-put, FlagSeen, Mark, PutBack, Pending, Cancelled, Refused, back_refusal, end_of, queue_of, SomeRunAgrees, QueueSeatState, joined_record, bit_in, queue_size, limits_on, Adds, MakesSteps, put_back_steps, Rearm, Test, Disarm}
+use Rattle.csq_queue.proofs.Imports.{FileId, Size, Limits, after_step, with_trace, with_view, Listing, is_listed, listed-put, FlagSeen, Mark, PutBack, Pending, Cancelled, Refused, back_refusal, end_of, queue_of, SomeRunAgrees, QueueSeatState, joined_record, bit_in, queue_size, limits_on, Adds, MakesSteps, put_back_steps, Rearm, Test, Disarm}
 use Rattle.csq_words.specs.declared.calls.Call.TheVariants.{PutBack as PutBackCall}
 use Rattle.csq_queue.specs.declared.tokens.InsertAnswer.TheVariants as answer
 use Rattle.csq_queue.proofs.Inserting.{was_clear}
@@ -29,7 +29,7 @@ returns-in-Err-clause-refused g c =
     let l = limits_on c.args.words.now (g.L.PendingList.listing c.args.list.now) in
     let f_is = file_is c.requires.entered c.args.irp c.requires.held c.file-file.result c.file-file.ensures in
     subst (λ (f : FileId). Adds l c.args.seat.now (PutBack c.args.irp f c.args.place (Refused c.in-Err.cause) ∷ []) (g.L.PendingList.listing c.put_back_ex.new.self) c.args.kept.now c.note.new.self) f_is
-    (back_refused c.requires.entered c.args.irp c.requires.held c.file-file.result c.args.place c.in-Err.cause f_is (search rules) (g.L.PendingList.listing c.put_back_ex.new.self) (search rules) c.note.new.self c.note.ensures.noted (c.note.new.self.queue.run, c.note.ensures.agreed.agreed))
+    (back_refused c.requires.entered c.args.irp c.requires.held c.file-file.result c.args.place c.in-Err.cause f_is (search rules) (g.L.PendingList.listing c.put_back_ex.new.self) (search rules) c.note.new.self c.note.ensures.noted (c.note.new.self.queue.trace, c.note.ensures.agreed.call.agreed))
 
 -- the put-back has set the routine again, and tested the flag
 module _ (g : Over) (c : After-test g) where
@@ -46,28 +46,28 @@ module _ (g : Over) (c : After-test g) where
   accepted = search rules
 
   abbrev set_again : QueueSeatState
-  set_again = with_made (Rearm c.args.irp) 0 [] c.rearm.new.self.queue.run old
+  set_again = with_made (Rearm c.args.irp) 0 [] c.rearm.new.self.queue.trace old
 
   to_set : c.rearm.new.self ≡ set_again
   to_set = rearmed_is c.requires.entered c.args.irp c.requires.held c.file-file.result c.args.place (bit_in c.rearm.result) (was_clear c.args.irp.life.0 c.rearm.result c.rearm.ensures.found) c.rearm.new.self c.rearm.ensures.step
 
   agreed_set : SomeRunAgrees (queue_size limits) set_again.queue (joined_record set_again)
-  agreed_set = agree (queue_size limits) to_set (c.rearm.new.self.queue.run, c.rearm.ensures.agreed.agreed)
+  agreed_set = agree (queue_size limits) to_set (c.rearm.new.self.queue.trace, c.rearm.ensures.agreed.call.agreed)
 
   abbrev tested : ℕ → QueueSeatState
-  tested n = with_view (after_step (PutBackCall c.args.irp c.file-file.result c.args.place) (Test c.args.irp) n (with_run c.test.new.self.queue.run set_again.queue) (joined_record set_again)) set_again
+  tested n = with_view (after_step (PutBackCall c.args.irp c.file-file.result c.args.place) (Test c.args.irp) n (with_trace c.test.new.self.queue.trace set_again.queue) (joined_record set_again)) set_again
 
   to_tested : (n : ℕ) → bit_in c.test.result ≡ n → c.test.new.self ≡ tested n
-  to_tested n found = tested_is c.requires.entered c.args.irp c.requires.held c.file-file.result c.args.place (bit_in c.test.result) n found c.rearm.new.self.queue.run c.rearm.new.self c.test.new.self to_set c.test.ensures.step
+  to_tested n found = tested_is c.requires.entered c.args.irp c.requires.held c.file-file.result c.args.place (bit_in c.test.result) n found c.rearm.new.self.queue.trace c.rearm.new.self c.test.new.self to_set c.test.ensures.step
 
   agreed_tested : (n : ℕ) → bit_in c.test.result ≡ n → SomeRunAgrees (queue_size limits) (tested n).queue (joined_record (tested n))
-  agreed_tested n found = agree (queue_size limits) (to_tested n found) (c.test.new.self.queue.run, c.test.ensures.agreed.agreed)
+  agreed_tested n found = agree (queue_size limits) (to_tested n found) (c.test.new.self.queue.trace, c.test.ensures.agreed.call.agreed)
 
   -- the flag was clear
   pending : bit_in c.test.result ≡ 0 → Adds limits old (PutBack c.args.irp c.file-file.result c.args.place Pending ∷ []) (g.L.PendingList.listing c.put_back_ex.new.self) c.args.kept.now c.test.new.self
       × MakesSteps (put_back_steps (Ok (answer.Pending c.args.irp)) (end_of limits.first c.test.new.self.queue.history)) (joined_record old) (joined_record c.test.new.self)
   pending clear =
-      let back = back_pending c.requires.entered c.args.irp c.requires.held c.file-file.result f_is c.args.place accepted (g.L.PendingList.listing c.put_back_ex.new.self) (search rules) c.rearm.new.self.queue.run agreed_set c.test.new.self.queue.run (agreed_tested 0 clear) in
+      let back = back_pending c.requires.entered c.args.irp c.requires.held c.file-file.result f_is c.args.place accepted (g.L.PendingList.listing c.put_back_ex.new.self) (search rules) c.rearm.new.self.queue.trace agreed_set c.test.new.self.queue.trace (agreed_tested 0 clear) in
       subst (λ (w : QueueSeatState). Adds limits old (PutBack c.args.irp c.file-file.result c.args.place Pending ∷ []) (g.L.PendingList.listing c.put_back_ex.new.self) c.args.kept.now w × MakesSteps (put_back_steps (Ok (answer.Pending c.args.irp)) (end_of limits.first w.queue.history)) (joined_record old) (joined_record w))
       (sym (to_tested 0 clear)) (back.0, first_left c.requires.entered c.args.irp c.requires.held (answer.Pending c.args.irp) (tested 0) refl back.1)
 
@@ -80,19 +80,19 @@ module _ (g : Over) (c : After-disarm g) (seen : bit_in c.test.result ≡ 1) whe
   test = (goal.at.is_set-requires-2 g c).After-test
 
   abbrev disarmed : ℕ → QueueSeatState
-  disarmed n = with_view (after_step (PutBackCall c.args.irp c.file-file.result c.args.place) (Disarm c.args.irp) n (with_run c.disarm.new.self.queue.run (tested g test 1).queue) (joined_record (tested g test 1))) (tested g test 1)
+  disarmed n = with_view (after_step (PutBackCall c.args.irp c.file-file.result c.args.place) (Disarm c.args.irp) n (with_trace c.disarm.new.self.queue.trace (tested g test 1).queue) (joined_record (tested g test 1))) (tested g test 1)
 
   to_disarmed : (n : ℕ) → bit_in c.disarm.result ≡ n → c.disarm.new.self ≡ disarmed n
   to_disarmed n found = disarmed_is c.requires.entered c.args.irp c.requires.held c.file-file.result c.args.place (bit_in c.disarm.result) n found c.test.new.self (tested g test 1) c.disarm.new.self (to_tested g test 1 seen) c.disarm.ensures.step
 
   agreed_disarmed : (n : ℕ) → bit_in c.disarm.result ≡ n → SomeRunAgrees (queue_size (limits g test)) (disarmed n).queue (joined_record (disarmed n))
-  agreed_disarmed n found = agree (queue_size (limits g test)) (to_disarmed n found) (c.disarm.new.self.queue.run, c.disarm.ensures.agreed.agreed)
+  agreed_disarmed n found = agree (queue_size (limits g test)) (to_disarmed n found) (c.disarm.new.self.queue.trace, c.disarm.ensures.agreed.call.agreed)
 
   -- its canceller has taken the routine
   missed : bit_in c.disarm.result ≡ 0 → Adds (limits g test) (old g test) (Mark c.args.irp ∷ PutBack c.args.irp c.file-file.result c.args.place Pending ∷ []) (g.L.PendingList.listing c.put_back_ex.new.self) c.args.kept.now c.disarm.new.self
       × MakesSteps (put_back_steps (Ok (answer.Pending c.args.irp)) (end_of (limits g test).first c.disarm.new.self.queue.history)) (joined_record (old g test)) (joined_record c.disarm.new.self)
   missed gone =
-      let back = back_missed c.requires.entered c.args.irp c.requires.held c.file-file.result (f_is g test) c.args.place (accepted g test) (g.L.PendingList.listing c.put_back_ex.new.self) (search rules) c.rearm.new.self.queue.run (agreed_set g test) c.test.new.self.queue.run (agreed_tested g test 1 seen) c.disarm.new.self.queue.run (agreed_disarmed 0 gone) in
+      let back = back_missed c.requires.entered c.args.irp c.requires.held c.file-file.result (f_is g test) c.args.place (accepted g test) (g.L.PendingList.listing c.put_back_ex.new.self) (search rules) c.rearm.new.self.queue.trace (agreed_set g test) c.test.new.self.queue.trace (agreed_tested g test 1 seen) c.disarm.new.self.queue.trace (agreed_disarmed 0 gone) in
       subst (λ (w : QueueSeatState). Adds (limits g test) (old g test) (Mark c.args.irp ∷ PutBack c.args.irp c.file-file.result c.args.place Pending ∷ []) (g.L.PendingList.listing c.put_back_ex.new.self) c.args.kept.now w
       × MakesSteps (put_back_steps (Ok (answer.Pending c.args.irp)) (end_of (limits g test).first w.queue.history)) (joined_record (old g test)) (joined_record w))
       (sym (to_disarmed 0 gone)) (back.0, first_left c.requires.entered c.args.irp c.requires.held (answer.Pending c.args.irp) (disarmed 0) refl back.1)
@@ -100,12 +100,12 @@ module _ (g : Over) (c : After-disarm g) (seen : bit_in c.test.result ≡ 1) whe
 pub test-requires-clause-next : goal.test-requires-clause-next
 test-requires-clause-next g c =
     let to_set = rearmed_is c.requires.entered c.args.irp c.requires.held c.file-file.result c.args.place (bit_in c.rearm.result) (was_clear c.args.irp.life.0 c.rearm.result c.rearm.ensures.found) c.rearm.new.self c.rearm.ensures.step in
-    may_test c.requires.entered c.args.irp c.requires.held c.file-file.result c.args.place c.rearm.new.self.queue.run c.rearm.new.self to_set
+    may_test c.requires.entered c.args.irp c.requires.held c.file-file.result c.args.place c.rearm.new.self.queue.trace c.rearm.new.self to_set
 
 pub disarm-requires-clause-next : goal.disarm-requires-clause-next
 disarm-requires-clause-next g c =
     let t = (goal.at.disarm-requires-clause-next g c).After-test in
-    may_disarm c.requires.entered c.args.irp c.requires.held c.file-file.result c.args.place c.rearm.new.self.queue.run c.test.new.self.queue.run c.test.new.self (to_tested g t 1 (c.is_set.ensures.set c.if-not-is_set.false))
+    may_disarm c.requires.entered c.args.irp c.requires.held c.file-file.result c.args.place c.rearm.new.self.queue.trace c.test.new.self.queue.trace c.test.new.self (to_tested g t 1 (c.is_set.ensures.set c.if-not-is_set.false))
 
 pub returns-then-not-is_set-clause-accepted : goal.returns-then-not-is_set-clause-accepted
 returns-then-not-is_set-clause-accepted g c =
@@ -131,7 +131,7 @@ returns-clause-accepted g c =
     let seen = c.is_set.ensures.set c.if-not-is_set.false in
     let found = c.is_set-2.ensures.set c.if-not-is_set-2.false in
     let es = PutBack c.args.irp c.file-file.result c.args.place Cancelled ∷ FlagSeen c.args.irp ∷ [] in
-    let back = back_cancelled c.requires.entered c.args.irp c.requires.held c.file-file.result (f_is g t) c.args.place (accepted g t) (g.L.PendingList.listing c.put_back_ex.new.self) (search rules) c.rearm.new.self.queue.run (agreed_set g t) c.test.new.self.queue.run (agreed_tested g t 1 seen) (g.L.PendingList.listing c.remove.new.self) c.remove.ensures c.disarm.new.self.queue.run (agreed_disarmed g d seen 1 found) in
+    let back = back_cancelled c.requires.entered c.args.irp c.requires.held c.file-file.result (f_is g t) c.args.place (accepted g t) (g.L.PendingList.listing c.put_back_ex.new.self) (search rules) c.rearm.new.self.queue.trace (agreed_set g t) c.test.new.self.queue.trace (agreed_tested g t 1 seen) (g.L.PendingList.listing c.remove.new.self) c.remove.ensures c.disarm.new.self.queue.trace (agreed_disarmed g d seen 1 found) in
     (es, (refl, ap (λ (n : FileId). PutBack c.args.irp n c.args.place Cancelled ∷ FlagSeen c.args.irp ∷ []) (f_is g t)), subst (λ (w : QueueSeatState). Adds (limits g t) (old g t) es (g.L.PendingList.listing c.remove.new.self) c.args.kept.now w) (sym (to_disarmed g d seen 1 found)) back.0)
 
 pub remove-requires : goal.remove-requires

@@ -10,7 +10,7 @@ returns-in-Some-clause-call g c = λ _.
     let i = named c.args.irp c.args.life in
     let marked = c.in_ok-mark_cancel.ensures.call.step in
     let claim : c.in-Some.claim ≡ i = search rules in
-    let follows : IsExtendedBy c.args.pass.now.run c.mark_cancel.new.pass.run = marked_follows (queue_size l) i marked.0 _ c.args.pass.now c.mark_cancel.new.pass marked.2 in
+    let follows : IsExtendedBy c.args.pass.now.trace c.mark_cancel.new.pass.trace = marked_follows (queue_size l) i marked.0 _ c.args.pass.now c.mark_cancel.new.pass marked.2 in
     let call = c.cancel_routine-token.ensures.call in
     let routine = subst (λ (z : IrpLife). RunsRoutine z l call.0 c.mark_cancel.new.pass c.cancel_routine-token.new.pass) claim call.1 in (
       call.0,

@@ -14,7 +14,7 @@ pub prove-unreachable-requires : goal.prove-unreachable-requires
 prove-unreachable-requires g c =
     let call = c.in-Some.ensures.call in
     let given = remove_next_gives g.N.QueueName.limits (File c.args.file) (Some c.in-Some.token) (end_of g.N.QueueName.limits.first call.0) c.cleanup.pass c.remove_next.new.pass call.1.steps call.1.new in
-    let e : c.complete.new.pass ≡ saw c.complete.new.pass.run (with_completion c.in-Some.token CANCELLED (with_step (Done c.in-Some.token) 0 c.remove_next.new.pass)) = search rules in
+    let e : c.complete.new.pass ≡ saw c.complete.new.pass.trace (with_completion c.in-Some.token CANCELLED (with_step (Done c.in-Some.token) 0 c.remove_next.new.pass)) = search rules in
     let more = completed_follows _ _ _ _ c.complete.ensures.call.unset in
     let room = cleaning_room g.N.QueueName.limits c.args.file c.args.pass.now c.cleanup.pass c.cleanup.completed c.cleanup.invariant call.0 call.1.call.0 c.in-Some.token c.remove_next.new.pass c.complete.new.pass call.1.call.1 given e more in
     let irps = c.irps-irps.ensures in
@@ -25,7 +25,7 @@ pub cleanup-smaller : goal.cleanup-smaller
 cleanup-smaller g c =
     let call = c.in-Some.ensures.call in
     let given = remove_next_gives g.N.QueueName.limits (File c.args.file) (Some c.in-Some.token) (end_of g.N.QueueName.limits.first call.0) c.cleanup.pass c.remove_next.new.pass call.1.steps call.1.new in
-    let e : c.complete.new.pass ≡ saw c.complete.new.pass.run (with_completion c.in-Some.token CANCELLED (with_step (Done c.in-Some.token) 0 c.remove_next.new.pass)) = search rules in
+    let e : c.complete.new.pass ≡ saw c.complete.new.pass.trace (with_completion c.in-Some.token CANCELLED (with_step (Done c.in-Some.token) 0 c.remove_next.new.pass)) = search rules in
     let more = completed_follows _ _ _ _ c.complete.ensures.call.unset in
     let room = cleaning_room g.N.QueueName.limits c.args.file c.args.pass.now c.cleanup.pass c.cleanup.completed c.cleanup.invariant call.0 call.1.call.0 c.in-Some.token c.remove_next.new.pass c.complete.new.pass call.1.call.1 given e more in
     omega arith
@@ -34,7 +34,7 @@ pub cleanup-preserved : goal.cleanup-preserved
 cleanup-preserved g c =
     let call = c.in-Some.ensures.call in
     let given = remove_next_gives g.N.QueueName.limits (File c.args.file) (Some c.in-Some.token) (end_of g.N.QueueName.limits.first call.0) c.cleanup.pass c.remove_next.new.pass call.1.steps call.1.new in
-    let e : c.complete.new.pass ≡ saw c.complete.new.pass.run (with_completion c.in-Some.token CANCELLED (with_step (Done c.in-Some.token) 0 c.remove_next.new.pass)) = search rules in
+    let e : c.complete.new.pass ≡ saw c.complete.new.pass.trace (with_completion c.in-Some.token CANCELLED (with_step (Done c.in-Some.token) 0 c.remove_next.new.pass)) = search rules in
     let more = completed_follows _ _ _ _ c.complete.ensures.call.unset in
     cleaning_more g.N.QueueName.limits c.args.file c.args.pass.now c.cleanup.pass c.cleanup.completed c.cleanup.invariant call.0 call.1.call.0 c.in-Some.token c.remove_next.new.pass c.complete.new.pass call.1.call.1 given e more
 

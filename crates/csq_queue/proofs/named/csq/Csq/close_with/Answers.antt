@@ -68,7 +68,7 @@ pub returns-clause-rest : goal.returns-clause-rest
 returns-clause-rest g c =
     let begins = subst (λ (r : PassRecord). IsExtendedBy r.seen c.observe.new.self.queue.history) (agreed_pass g c) c.give_back.ensures.begins in
     rest_is g.N.QueueName.limits c.args.pass c.args.receipts.now (g.N.QueueName.limits.passes - c.args.rack) c.observe.new.self.queue c.give_back.new.self.queue (g.L.PendingList.listing c.close.result.list) c.close.result.finals (shut g c) (gave g c)
-    begins (λ k r at. let n = c.see.ensures.shown k r at in (n.0, ap (λ (z : OpenState). get_elem? z.queue.shown n.0) c.observe.ensures.step ∙ n.1)) c.observe.ensures.agreed.agreed.shown
+    begins (λ k r at. let n = c.see.ensures.shown k r at in (n.0, ap (λ (z : OpenState). get_elem? z.queue.shown n.0) c.observe.ensures.step ∙ n.1)) c.observe.ensures.agreed.call.agreed.shown
 
 pub returns-clause-records : goal.returns-clause-records
 returns-clause-records g c =

@@ -34,7 +34,7 @@ returns-then-take-set-clause-call g c =
       step = (
         bit_in c.flag.result,
         missed_is w.size new p m other
-            ∙ ap (λ (z : OpenPassState). saw (pass_record new).run (with_step (Take i) 0 (with_step (Flag i) (bit_in c.flag.result) z.pass))) c.self.view_is,
+            ∙ ap (λ (z : OpenPassState). saw (pass_record new).trace (with_step (Take i) 0 (with_step (Flag i) (bit_in c.flag.result) z.pass))) c.self.view_is,
         subst (λ (z : OpenPassState). EndsWithTake w.size i (bit_in c.flag.result) 0 z.pass (pass_record new)) c.self.view_is
             (missed_ends w.size new p m other),
       );
@@ -79,7 +79,7 @@ returns-clause-call g c =
       step = (
         bit_in c.flag.result,
         marked_is w.size new p m set
-            ∙ ap (λ (z : OpenPassState). saw (pass_record new).run (with_step (Take i) 1 (with_step (Flag i) (bit_in c.flag.result) z.pass))) c.self.view_is,
+            ∙ ap (λ (z : OpenPassState). saw (pass_record new).trace (with_step (Take i) 1 (with_step (Flag i) (bit_in c.flag.result) z.pass))) c.self.view_is,
         subst (λ (z : OpenPassState). EndsWithTake w.size i (bit_in c.flag.result) 1 z.pass (pass_record new)) c.self.view_is
             (marked_ends w.size new p m set),
       );

@@ -9,9 +9,9 @@ returns-clause-sees g c =
     let size = c.args.words.now.size in
     let q = c.self.inside.seat.queue in
     let r = pass_record c.pass.inside.seat in
-    let steps : r.steps ≡ own r.pass r.run = subst (λ (z : OpenPassState). z.pass.steps ≡ own z.pass.pass z.pass.run) (sym c.pass.view_is) c.requires.steps in
-    let since : IsExtendedBy r.run q.run = subst (λ (z : OpenPassState × OpenState). IsExtendedBy z.0.pass.run z.1.queue.run) (λ k. (sym c.pass.view_is k, sym c.self.view_is k)) c.requires.since in
-    let agrees : IsHistoryOf size q.run q inner.Nothing = subst (λ (z : Size × QueueRecord). IsHistoryOf z.0 z.1.run z.1 inner.Nothing) (λ k. (c.requires.queue.size k, sym (ap (λ (z : OpenState). z.queue) c.self.view_is) k)) c.requires.agrees in
+    let steps : r.steps ≡ own r.pass (steps_in r.trace) = subst (λ (z : OpenPassState). z.pass.steps ≡ own z.pass.pass (steps_in z.pass.trace)) (sym c.pass.view_is) c.requires.steps in
+    let since : IsExtendedBy r.trace q.trace = subst (λ (z : OpenPassState × OpenState). IsExtendedBy z.0.pass.trace z.1.queue.trace) (λ k. (sym c.pass.view_is k, sym c.self.view_is k)) c.requires.since in
+    let agrees : IsHistoryOf size (steps_in q.trace) q inner.Nothing = subst (λ (z : Size × QueueRecord). IsHistoryOf z.0 (steps_in z.1.trace) z.1 inner.Nothing) (λ k. (c.requires.queue.size k, sym (ap (λ (z : OpenState). z.queue) c.self.view_is) k)) c.requires.agrees in
     let new : pass_record c.leave.new.pass ≡ caught_up q r = ap pass_record c.leave.ensures.pass ∙ (λ k. caught_up (c.enter.ensures.joined k).queue (joined_record (c.enter.ensures.joined k))) in
     let sees = caught_up_sees size q r c.pass.invariant.0.outside steps since agrees c.enter.ensures.agreed in
     subst (λ (z : Size). SeesRun z (pass_record c.leave.new.pass)) (sym c.requires.queue.size) (subst (SeesRun size) (sym new) sees)

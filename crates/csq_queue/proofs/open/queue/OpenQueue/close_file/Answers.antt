@@ -11,7 +11,7 @@ returns-clause-call g c = record { known = search rules; call = adds; steps = se
     adds =
         let w = c.args.words.now in
         let s = g.L.PendingList.listing c.self.inside.list in
-        let adds = close_adds w.table (limits_on w s) s (g.L.PendingList.listing c.close_file.new.self) c.self.inside.kept c.enter.new.self c.note.new.self c.args.file (search rules) (search rules) (search rules) c.note.ensures.noted (c.note.new.self.queue.run, c.note.ensures.agreed.agreed) in
+        let adds = close_adds w.table (limits_on w s) s (g.L.PendingList.listing c.close_file.new.self) c.self.inside.kept c.enter.new.self c.note.new.self c.args.file (search rules) (search rules) (search rules) c.note.ensures.noted (c.note.new.self.queue.trace, c.note.ensures.agreed.call.agreed) in
         own_adds c.args.words.now (g.L.PendingList.listing c.self.inside.list) c.self.inside.seat c.self.inside.back.items c.args.self.now c.self.view_is c.requires.queue
         c.args.pass.now.pass (pass_record c.leave.new.pass) c.enter.new.self c.note.new.self
         (c.enter.ensures.joined ∙ (λ k. record c.self.inside.seat { joined = Some (c.pass.view_is k).pass }))

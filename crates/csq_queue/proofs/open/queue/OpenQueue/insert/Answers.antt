@@ -1,5 +1,5 @@
 use Rattle.std.proofs.Common.{◌≡◌, false, List, [], ◌∷◌, Result, IfOk, IfErr, IfSome, Ok, Err, sym, ap, subst, arith, rules}
-use Rattle.csq_queue.proofs.Imports.{Size, IrpLife, InsertStatus, Event, Insert, Refused, QueueState, present_in, end_of, PassRecord, queue_of, caught_up, with_run, joined_record, pass_record, AddsEvents, IsNew, InsertAnswer, Adds, IsInsert, given_in, SomeRunAgrees, OpenPassState, limits_on, MakesSteps, insert_steps}
+use Rattle.csq_queue.proofs.Imports.{Size, IrpLife, InsertStatus, Event, Insert, Refused, QueueState, present_in, end_of, PassRecord, queue_of, caught_up, with_trace, joined_record, pass_record, AddsEvents, IsNew, InsertAnswer, Adds, IsInsert, given_in, SomeRunAgrees, OpenPassState, limits_on, MakesSteps, insert_steps}
 use Rattle.csq_queue.proofs.Leaving.{room_for, left_makes}
 use Rattle.csq_queue.proofs.Opening.{on_words, own_adds, pass_on, own_new}
 use Rattle.csq_queue.proofs.Giving.{insert_gives}
@@ -73,7 +73,7 @@ made g c = subst (λ (u : QueueState). MakesSteps (insert_steps c.list_irp-inser
     first_is : c.args.words.now.size.first ≡ c.args.self.now.limits.first
     first_is = sym (ap (λ (z : Size). z.first) c.requires.queue.size)
 
-    new_is : pass_record c.leave.new.pass ≡ caught_up (with_run (pass_record c.leave.new.pass).run c.list_irp-inserted.new.seat.queue) (joined_record c.list_irp-inserted.new.seat)
+    new_is : pass_record c.leave.new.pass ≡ caught_up (with_trace (pass_record c.leave.new.pass).trace c.list_irp-inserted.new.seat.queue) (joined_record c.list_irp-inserted.new.seat)
     new_is = search rules
 
     seen_is : c.list_irp-inserted.new.seat.queue.history ≡ (pass_record c.leave.new.pass).seen

@@ -1,5 +1,5 @@
 use Rattle.std.proofs.Common.{◌≡◌, ◌-◌, ◌<◌, List, [], ◌∷◌, length, Result, IfOk, IfErr, Ok, Err, sym, ap, subst, ◌∙◌, arith, rules}
-use Rattle.csq_queue.proofs.Imports.{Size, number, IrpLife, FileId, held_list, InsertStatus, Event, PutBack, Refused, PassRecord, QueueState, end_of, queue_of, caught_up, with_run, SomeRunAgrees, joined_record, pass_record, Adds, AreApart, held_count, IsPutBack, IsPassSeatOf, OpenPassState, limits_on, HoldsRemoved, MakesSteps, put_back_steps, AddsEvents, InsertAnswer}
+use Rattle.csq_queue.proofs.Imports.{Size, number, IrpLife, FileId, held_list, InsertStatus, Event, PutBack, Refused, PassRecord, QueueState, end_of, queue_of, caught_up, with_trace, SomeRunAgrees, joined_record, pass_record, Adds, AreApart, held_count, IsPutBack, IsPassSeatOf, OpenPassState, limits_on, HoldsRemoved, MakesSteps, put_back_steps, AddsEvents, InsertAnswer}
 use Rattle.csq_queue.specs.Calls.{file_at}
 use Rattle.csq_queue.proofs.Leaving.{left_makes}
 use Rattle.csq_queue.proofs.Opening.{own_adds, own_pass, pass_on}
@@ -37,7 +37,7 @@ made g c = subst (λ (u : QueueState). MakesSteps (put_back_steps c.relist_irp-b
     first_is : c.args.words.now.size.first ≡ c.args.self.now.limits.first
     first_is = sym (ap (λ (z : Size). z.first) c.requires.queue.size)
 
-    new_is : pass_record c.leave.new.pass ≡ caught_up (with_run (pass_record c.leave.new.pass).run c.relist_irp-back.new.seat.queue) (joined_record c.relist_irp-back.new.seat)
+    new_is : pass_record c.leave.new.pass ≡ caught_up (with_trace (pass_record c.leave.new.pass).trace c.relist_irp-back.new.seat.queue) (joined_record c.relist_irp-back.new.seat)
     new_is = search rules
 
     seen_is : c.relist_irp-back.new.seat.queue.history ≡ (pass_record c.leave.new.pass).seen
