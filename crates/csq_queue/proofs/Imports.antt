@@ -32,7 +32,7 @@ pub use Rattle.csq_words.specs.Finals.{AllBack, FinalWords, IsCompletedAt, IsFin
 pub use Rattle.csq_words.specs.History.{IsExtendedBy, IsGone, IsLegal, MayCome, calls_of, end_of, is_call}
 pub use Rattle.csq_words.specs.Queue.{Limits, QueueState, Queued, after_event, back_refusal, begin_next, present_in, first_unmarked, has_entry, has_file, has_irp, has_marked, has_unmarked, limits_of, marking, new_entry, plain, plain_listing, refusal, reply_to_insert, with_file, without}
 pub use Rattle.csq_words.specs.Records.{caught_up, entries_of, new_pass, only_calls, queue_of, saw, with_back, with_calls, with_completion, with_events, with_life, with_reusing, with_trace, with_shown, with_step}
-pub use Rattle.csq_words.specs.Rule.{AreShown, FindsLife, FindsUnset, HasBack, IsHistoryOf, IsLastOf, QueueAndPassHaveRun, RecordsAgree, SomeRunAgrees, again, in_flight, inserts, is_done, lists, next_life}
+pub use Rattle.csq_words.specs.Rule.{AreShown, FindsLife, FindsUnset, HasBack, IsHistoryOf, IsLastOf, QueueAndPassHaveRun, RecordsAgree, CallAgrees, SomeRunAgrees, again, in_flight, inserts, is_done, lists, next_life}
 pub use Rattle.csq_words.specs.Seats.{PassSeatState, QueueSeatState, WordsState, joined_record, new_seats, pass_at, pass_record, with_view}
 pub use Rattle.csq_words.specs.Words.{bit_in, bit_word, cancel_at, life_in, status_at, status_in}
 pub use Rattle.csq_words.specs.declared.views.HistoryEntry.{HistoryEntry}
@@ -66,3 +66,5 @@ pub use Rattle.std.proofs.lemmas.List.Elements.{filter-append}
 pub use Rattle.std.specs.Prelude.{IsSome, IsTrue, MatchBool, is_some, length, slice_index, slice_index_or, slice_set, ◌<◌}
 pub use lib.ListN.{get_elem?, get_or}
 pub use mathlib.Core.Option.{some, some-injective, some-ne-none}
+pub use Rattle.csq_words.specs.Traces.{HasCall, IsInCall, steps_in}
+pub use Rattle.csq_words.specs.declared.views.Tick.{Tick}

@@ -1,6 +1,7 @@
 -- A queue and its passes, seen by their own words, and by those that a call is handed.
 use Rattle.std.proofs.Common.{◌≡◌, ℕ, Bool, List, length, Option, Some, IfSome, sym, ap, ◌∙◌, subst}
-use Rattle.csq_queue.proofs.Imports.{TableId, Size, Listing, Limits, limits_of, PassRecord, with_trace, caught_up, WordsState, QueueSeatState, PassSeatState, joined_record, pass_record, IrpLife, inside_of, Nothing, IrpNumbers, queue_size, IsLockedOf, IsPassSeatOf, Event, RecordsAgree, SomeRunAgrees, AddsEvents, IsNew, Adds, OpenState, OpenPassState, seat_table, limits_on, IsQueueOn, IsPassOn}
+use Rattle.csq_words.specs.Records.{entered as entering}
+use Rattle.csq_queue.proofs.Imports.{QueueRecord, CallAgrees, TableId, Size, Listing, Limits, limits_of, PassRecord, with_trace, caught_up, WordsState, QueueSeatState, PassSeatState, joined_record, pass_record, IrpLife, inside_of, Nothing, IrpNumbers, queue_size, IsLockedOf, IsPassSeatOf, Event, SomeRunAgrees, AddsEvents, IsNew, Adds, OpenState, OpenPassState, seat_table, limits_on, IsQueueOn, IsPassOn}
 use Rattle.csq_queue.proofs.Leaving.{left_adds}
 
 -- what a contract sees of a queue's parts
@@ -37,13 +38,13 @@ module _ (w : WordsState) (s : Listing) (seat : QueueSeatState) (flags : List Bo
   own_new given r entered r_is h = subst (λ (z : Limits × PassRecord). IfSome given (IsNew z.0 z.1)) (λ k. (limits_are k, r_is k)) h
 
   -- and the events of a call, as its pass sees them once it has left
-  pub own_adds : (r new : PassRecord) (entered seat' : QueueSeatState) → entered ≡ record seat { joined = Some r } → SomeRunAgrees w.size seat.queue r → new ≡ caught_up (with_trace new.trace seat'.queue) (joined_record seat')
-      → RecordsAgree w.size new.trace (with_trace new.trace seat'.queue) (joined_record seat')
+  pub own_adds : (r new : PassRecord) (entered seat' : QueueSeatState) → entered ≡ record seat { queue = entering seat.queue; joined = Some r } → SomeRunAgrees w.size entered.queue r → new ≡ caught_up (with_trace new.trace seat'.queue) (joined_record seat')
+      → CallAgrees w.size (with_trace new.trace seat'.queue) (joined_record seat')
       → inside_of (joined_record seat').steps ≡ Nothing → (events : List Event) (s' : Listing) (kept : IrpNumbers) → Adds (limits_on w s) entered events s' kept seat' → AddsEvents q.limits q.queue.history r new events
   own_adds r new entered seat' e agreed new_is look outside events s' kept a =
       subst (λ (l : Limits). AddsEvents l q.queue.history r new events) limits_are
-      (left_adds (limits_on w s) q.queue r entered seat' (ap (λ (z : QueueSeatState). z.queue) e ∙ ap (λ (z : OpenState). z.queue) is) (ap joined_record e) events s' kept a
-      (sym (ap (λ (z : OpenState). z.queue.first) is) ∙ ap (λ (l : Limits). l.first) limits_at) (subst (λ (z : OpenState). SomeRunAgrees w.size z.queue r) is agreed) new new_is look outside)
+      (left_adds (limits_on w s) (entering q.queue) r entered seat' (ap (λ (z : QueueSeatState). z.queue) e ∙ ap (λ (z : OpenState). entering z.queue) is) (ap joined_record e) events s' kept a
+      (sym (ap (λ (z : OpenState). z.queue.first) is) ∙ ap (λ (l : Limits). l.first) limits_at) (subst (λ (z : QueueRecord). SomeRunAgrees w.size z r) (ap (λ (z : QueueSeatState). z.queue) e ∙ ap (λ (z : OpenState). entering z.queue) is) agreed) new new_is look (ap (λ (z : QueueSeatState). z.queue.found) e ∙ ap (λ (z : OpenState). z.queue.history) is) outside)
 
 module _ (t : TableId) (l : Limits) (s : Listing) (kept : IrpNumbers) (seat : QueueSeatState) (flags : List Bool) (h : IsLockedOf t l s kept seat flags) where
   own_limits : limits_of (length flags) seat.queue.first s ≡ l

@@ -1,6 +1,7 @@
 -- The order of the calls follows from what each call's pass had seen before it.
 use Rattle.std.proofs.Common.{◌≡◌, ◌≢◌, ◌⊎◌, inl, inr, ℕ, Bool, ◌&&◌, List, [], ◌∷◌, ◌++◌, length, append_assoc, refl, sym, ap, ◌∙◌, subst}
-use Rattle.csq_queue.proofs.Imports.{append_cancel_right, filter-append, own, same_pass, PassId, Made, HistoryEntry, Event, PassRecord, Limits, IsExtendedBy, is_call, calls_of, entries_of, extended_on, made_by}
+use Rattle.csq_words.proofs.Traced.{steps_over}
+use Rattle.csq_queue.proofs.Imports.{Tick, steps_in, append_cancel_right, filter-append, own, same_pass, PassId, Made, HistoryEntry, Event, PassRecord, Limits, IsExtendedBy, is_call, calls_of, entries_of, extended_on, made_by}
 use Rattle.csq_words.specs.Recorded.{StandInOrder}
 use Rattle.csq_words.specs.Stories.{AreComparable}
 use Rattle.csq_words.proofs.OneHistory.{one_begins}
@@ -127,9 +128,10 @@ pub steps_after_seen : StepsComeAfterWhatWasSeen
 steps_after_seen limits d acts pass made own_is run told =
     let p = d.old.pass in
     let newer = d.adds.follows.0 in
-    let whole : d.new.steps ≡ own p newer ++ own p (steps_in d.old.trace) = d.adds.sees.agrees.pass_is.steps_is ∙ (ap (λ q. own q (steps_in d.new.trace)) pass ∙ (ap (own p) d.adds.follows.1 ∙ own-append p newer d.old.trace)) in
-    let mine : own p newer ≡ made_by p acts = append_cancel_right (own p newer) (made_by p acts) d.old.steps (ap (λ (l : List Made). own p newer ++ l) own_is ∙ (sym whole ∙ made)) in
-    (newer, told.0, d.adds.follows.1 ∙ ap (λ (l : List Made). newer ++ l) told.1, mine)
+    let made_since = steps_in newer in
+    let whole : d.new.steps ≡ own p made_since ++ own p (steps_in d.old.trace) = d.adds.sees.agrees.pass_is.steps_is ∙ (ap (λ q. own q (steps_in d.new.trace)) pass ∙ (ap (λ t. own p (steps_in t)) d.adds.follows.1 ∙ (ap (own p) (steps_over newer d.old.trace) ∙ own-append p made_since (steps_in d.old.trace)))) in
+    let mine : own p made_since ≡ made_by p acts = append_cancel_right (own p made_since) (made_by p acts) d.old.steps (ap (λ (l : List Made). own p made_since ++ l) own_is ∙ (sym whole ∙ made)) in
+    (newer, told.0, d.adds.follows.1 ∙ ap (λ (l : List Tick). newer ++ l) told.1, mine)
 
 -- so the calls stand in what is left
 pub told_came_first : CallsToldOfCameFirst

@@ -1,6 +1,6 @@
 -- A put-back of an IRP that the joined pass got by a removal.
 use Rattle.std.proofs.Common.{◌≡◌, ℕ, not, ◌&&◌, ◌||◌, Bool, true, false, true≢false, List, [], ◌∷◌, Some, None, Ok, refl, sym, ap, ◌∙◌, subst}
-use Rattle.csq_queue.proofs.Imports.{false_from_ne_true, or_right, slice_index, IsTrue, length, ◌<◌, TableId, same_irp, number, IrpLife, FileId, Made, Rearm, Test, Disarm, holds_in, removed_in, owes, holds, listed, armed, was_armed, same_irp-refl, same_irp-eq, holds_in-own, removed_in-own, Rearmed, Place, InsertStatus, Listing, put_at, inserted, without_irp, is_listed, MayMake, after_step, with_noted, FlagSeen, Mark, PutBack, Pending, Cancelled, Refused, present_in, has_irp, has_entry, back_refusal, reply_to_insert, plain, new_entry, Limits, IsGone, end_of, queue_of, with_trace, SomeRunAgrees, RecordsAgree, lists, inserts, QueueSeatState, joined_record, with_view, open_now, held_gone, irp_eq, ArePresent, listing-relisted, listing-put_and_taken, listing-marked, one_marked, queue_size, IrpNumbers, IsListOf, HoldsRemoved, IsEntered, Adds, MakesSteps, put_back_steps, InsertAnswer}
+use Rattle.csq_queue.proofs.Imports.{steps_in, Tick, false_from_ne_true, or_right, slice_index, IsTrue, length, ◌<◌, TableId, same_irp, number, IrpLife, FileId, Made, Rearm, Test, Disarm, holds_in, removed_in, owes, holds, listed, armed, was_armed, same_irp-refl, same_irp-eq, holds_in-own, removed_in-own, Rearmed, Place, InsertStatus, Listing, put_at, inserted, without_irp, is_listed, MayMake, after_step, with_noted, FlagSeen, Mark, PutBack, Pending, Cancelled, Refused, present_in, has_irp, has_entry, back_refusal, reply_to_insert, plain, new_entry, Limits, IsGone, end_of, queue_of, with_trace, SomeRunAgrees, RecordsAgree, lists, inserts, QueueSeatState, joined_record, with_view, open_now, held_gone, irp_eq, ArePresent, listing-relisted, listing-put_and_taken, listing-marked, one_marked, queue_size, IrpNumbers, IsListOf, HoldsRemoved, IsEntered, Adds, MakesSteps, put_back_steps, InsertAnswer}
 use Rattle.csq_words.specs.declared.calls.Call.TheVariants.{PutBack as PutBackCall}
 use Rattle.csq_words.proofs.Truths.{flags_cancelled}
 use Rattle.csq_words.proofs.Marking.{placed_unmarked}
@@ -12,10 +12,13 @@ use Rattle.csq_queue.proofs.Inserting.{listed-put_at, clear-put_at, pending_step
 
 module _ {t : TableId} {l : Limits} {s : Listing} {v : IrpNumbers} {old : QueueSeatState} (h : IsEntered t l s v old) (i : IrpLife) (held : HoldsRemoved l.irps (joined_record old) i) where
   -- the execution that the records agree with
-  abbrev run : List Made
-  run = h.agreed.0
+  abbrev trace : List Tick
+  trace = h.agreed.0
 
-  abbrev agreed : RecordsAgree (queue_size l) run old.queue (joined_record old)
+  abbrev run : List Made
+  run = steps_in trace
+
+  abbrev agreed : RecordsAgree (queue_size l) trace old.queue (joined_record old)
   agreed = h.agreed.1
 
   held_run : holds run (joined_record old).pass i ≡ true
@@ -68,7 +71,7 @@ module _ {t : TableId} {l : Limits} {s : Listing} {v : IrpNumbers} {old : QueueS
     pub rearmed_is : (n : ℕ) → n ≡ 0 → (z : QueueSeatState) → z ≡ with_view (after_step (PutBackCall i f place) (Rearm i) n (with_trace z.queue.trace old.queue) (joined_record old)) old → z ≡ with_made (Rearm i) 0 [] z.queue.trace old
     rearmed_is n zero' z is = is ∙ (λ k. with_view (after_step (PutBackCall i f place) (Rearm i) (zero' k) (with_trace z.queue.trace old.queue) (joined_record old)) old)
 
-    pub tested_is : (m n : ℕ) → m ≡ n → (r1 : List Made) (z y : QueueSeatState) → z ≡ with_made (Rearm i) 0 [] r1 old
+    pub tested_is : (m n : ℕ) → m ≡ n → (r1 : List Tick) (z y : QueueSeatState) → z ≡ with_made (Rearm i) 0 [] r1 old
         → y ≡ with_view (after_step (PutBackCall i f place) (Test (present_in (queue_of z.queue) i.irp)) m (with_trace y.queue.trace z.queue) (joined_record z)) z
         → let z' = with_made (Rearm i) 0 [] r1 old in y ≡ with_view (after_step (PutBackCall i f place) (Test i) n (with_trace y.queue.trace z'.queue) (joined_record z')) z'
     tested_is m n e r1 z y to_z is =
@@ -81,11 +84,11 @@ module _ {t : TableId} {l : Limits} {s : Listing} {v : IrpNumbers} {old : QueueS
     disarmed_is m n e y y' x to_y is = is ∙ (λ k. with_view (after_step (PutBackCall i f place) (Disarm i) (e k) (with_trace x.queue.trace (to_y k).queue) (joined_record (to_y k))) (to_y k))
 
     -- the test is the call's next step
-    pub may_test : (r1 : List Made) (z : QueueSeatState) → z ≡ with_made (Rearm i) 0 [] r1 old → MayMake (PutBackCall i f place) (Test (present_in (queue_of z.queue) i.irp)) z.queue (joined_record z)
+    pub may_test : (r1 : List Tick) (z : QueueSeatState) → z ≡ with_made (Rearm i) 0 [] r1 old → MayMake (PutBackCall i f place) (Test (present_in (queue_of z.queue) i.irp)) z.queue (joined_record z)
     may_test r1 z to_z = subst (λ (w : QueueSeatState). MayMake (PutBackCall i f place) (Test (present_in (queue_of w.queue) i.irp)) w.queue (joined_record w)) (sym to_z) (here_now, ap Rearmed (sym here_now))
 
     -- and then the exchange
-    pub may_disarm : (r1 r2 : List Made) (y : QueueSeatState) → y ≡ with_made (Test i) 1 [] r2 (with_made (Rearm i) 0 [] r1 old) → MayMake (PutBackCall i f place) (Disarm i) y.queue (joined_record y)
+    pub may_disarm : (r1 r2 : List Tick) (y : QueueSeatState) → y ≡ with_made (Test i) 1 [] r2 (with_made (Rearm i) 0 [] r1 old) → MayMake (PutBackCall i f place) (Disarm i) y.queue (joined_record y)
     may_disarm r1 r2 y to_y = subst (λ (w : QueueSeatState). MayMake (PutBackCall i f place) (Disarm i) w.queue (joined_record w)) (sym to_y) (refl, refl)
 
     -- a refusal changes nothing but the history
@@ -99,7 +102,7 @@ module _ {t : TableId} {l : Limits} {s : Listing} {v : IrpNumbers} {old : QueueS
           seen = refl;
           completed = refl;
           found = refl;
-          run = refl;
+          trace = refl;
           mine = refl;
           queue = refl;
           idle = h.idle;
@@ -121,7 +124,7 @@ module _ {t : TableId} {l : Limits} {s : Listing} {v : IrpNumbers} {old : QueueS
       flags_used = h.list_is.flags_used;
     }
 
-    module _ (r1 : List Made) (agreed1 : let z = with_made (Rearm i) 0 [] r1 old in SomeRunAgrees (queue_size l) z.queue (joined_record z)) where
+    module _ (r1 : List Tick) (agreed1 : let z = with_made (Rearm i) 0 [] r1 old in SomeRunAgrees (queue_size l) z.queue (joined_record z)) where
       -- the seat once the routine is set
       abbrev pub set_again : QueueSeatState
       set_again = with_made (Rearm i) 0 [] r1 old
@@ -133,7 +136,7 @@ module _ {t : TableId} {l : Limits} {s : Listing} {v : IrpNumbers} {old : QueueS
       makes_set = makes_more [] (joined_record old) (joined_record old) [] (Rearm i) 0 (makes_none (joined_record old) h.outside)
 
       -- the flag was clear
-      pub back_pending : (r2 : List Made) → (let y = with_made (Test i) 0 (PutBack i f place Pending ∷ []) r2 set_again in SomeRunAgrees (queue_size l) y.queue (joined_record y)
+      pub back_pending : (r2 : List Tick) → (let y = with_made (Test i) 0 (PutBack i f place Pending ∷ []) r2 set_again in SomeRunAgrees (queue_size l) y.queue (joined_record y)
           → Adds l old (PutBack i f place Pending ∷ []) s' v y × MakesSteps (put_back_steps (Ok (answer.Pending i)) (queue_of y.queue)) (joined_record old) (joined_record y))
       back_pending r2 agreed2 =
           let y = with_made (Test i) 0 (PutBack i f place Pending ∷ []) r2 set_again in (
@@ -142,7 +145,7 @@ module _ {t : TableId} {l : Limits} {s : Listing} {v : IrpNumbers} {old : QueueS
                 (makes_more ((Rearm i, 0) ∷ []) (joined_record old) (joined_record set_again) (PutBack i f place Pending ∷ []) (Test i) 0 makes_set),
           )
 
-      module _ (r2 : List Made) (agreed2 : let y = with_made (Test i) 1 [] r2 set_again in SomeRunAgrees (queue_size l) y.queue (joined_record y)) where
+      module _ (r2 : List Tick) (agreed2 : let y = with_made (Test i) 1 [] r2 set_again in SomeRunAgrees (queue_size l) y.queue (joined_record y)) where
         -- the seat once the flag was found set
         abbrev pub seen_set : QueueSeatState
         seen_set = with_made (Test i) 1 [] r2 set_again
@@ -154,7 +157,7 @@ module _ {t : TableId} {l : Limits} {s : Listing} {v : IrpNumbers} {old : QueueS
         makes_seen = makes_more ((Rearm i, 0) ∷ []) (joined_record old) (joined_record set_again) [] (Test i) 1 makes_set
 
         -- its canceller has taken the routine
-        pub back_missed : (r3 : List Made) → (let x = with_made (Disarm i) 0 (Mark i ∷ PutBack i f place Pending ∷ []) r3 seen_set in SomeRunAgrees (queue_size l) x.queue (joined_record x)
+        pub back_missed : (r3 : List Tick) → (let x = with_made (Disarm i) 0 (Mark i ∷ PutBack i f place Pending ∷ []) r3 seen_set in SomeRunAgrees (queue_size l) x.queue (joined_record x)
             → Adds l old (Mark i ∷ PutBack i f place Pending ∷ []) s' v x × MakesSteps (put_back_steps (Ok (answer.Pending i)) (queue_of x.queue)) (joined_record old) (joined_record x))
         back_missed r3 agreed3 =
             let es = Mark i ∷ PutBack i f place Pending ∷ [] in
@@ -171,7 +174,7 @@ module _ {t : TableId} {l : Limits} {s : Listing} {v : IrpNumbers} {old : QueueS
             )
 
         -- the routine was still there
-        pub back_cancelled : (s'' : Listing) → s'' ≡ without_irp i.irp s' → (r3 : List Made) → (let x = with_made (Disarm i) 1 (PutBack i f place Cancelled ∷ FlagSeen i ∷ []) r3 seen_set in SomeRunAgrees (queue_size l) x.queue (joined_record x)
+        pub back_cancelled : (s'' : Listing) → s'' ≡ without_irp i.irp s' → (r3 : List Tick) → (let x = with_made (Disarm i) 1 (PutBack i f place Cancelled ∷ FlagSeen i ∷ []) r3 seen_set in SomeRunAgrees (queue_size l) x.queue (joined_record x)
             → Adds l old (PutBack i f place Cancelled ∷ FlagSeen i ∷ []) s'' v x × MakesSteps (put_back_steps (Ok (answer.Cancelled i)) (queue_of x.queue)) (joined_record old) (joined_record x))
         back_cancelled s'' out r3 agreed3 =
             let es = PutBack i f place Cancelled ∷ FlagSeen i ∷ [] in

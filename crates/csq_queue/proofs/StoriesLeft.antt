@@ -1,6 +1,6 @@
 -- What is left of a queue that was closed gives the story of each IRP, and what the passes have seen.
 use Rattle.std.proofs.Common.{◌≡◌, ℕ, zero, suc, List, ◌∷◌, ap, ◌∙◌, sym, subst}
-use Rattle.csq_queue.proofs.Imports.{some, some-injective, get_elem?, IrpLife, Nothing, HasBegun, Listing, HistoryEntry, PassRecord, QueueRecord, Limits, HasBack, FinalWords, AllBack, IsFinal, queue_size, IsRestOf, IsClosed}
+use Rattle.csq_queue.proofs.Imports.{steps_in, some, some-injective, get_elem?, IrpLife, Nothing, HasBegun, Listing, HistoryEntry, PassRecord, QueueRecord, Limits, HasBack, FinalWords, AllBack, IsFinal, queue_size, IsRestOf, IsClosed}
 use Rattle.csq_words.specs.Stories.{Story, StaysHaveStories, SeeOneHistory}
 use Rattle.csq_words.proofs.Stories.{a_story, stay_story}
 use Rattle.csq_words.proofs.OneHistory.{recorded_see}

@@ -44,9 +44,9 @@ pub record IsRack (seats : List (Option PassSeatState)) (irps next left : ℕ) :
   pub few : next + left ≤ 65
   pub most : irps ≤ 1024
 
--- the queue after a call of this pass, which has then seen the whole history and the execution: they alone are new
+-- the queue after a call of this pass, which has then seen the whole history and the execution: they alone are new, and what the call found
 abbrev pub after_call : PassRecord → OpenState → OpenState
-after_call pass q = record q { queue = record q.queue { history = pass.seen; trace = pass.trace } }
+after_call pass q = record q { queue = record q.queue { history = pass.seen; found = q.queue.history; trace = pass.trace } }
 
 -- the limits of a queue of these words, over this list
 abbrev pub limits_on : WordsState → Listing → Limits

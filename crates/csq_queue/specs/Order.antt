@@ -4,13 +4,13 @@ use mathlib.Core.Option.{some}
 use lib.ListN.{get_elem?}
 use Rattle.irp_core.specs.Programs.{Act}
 use Rattle.irp_core.specs.Steps.{own}
-use Rattle.irp_core.specs.declared.step.Made.{Made}
 use Rattle.csq_list.specs.Listing.{Listing}
-use Rattle.csq_words.specs.declared.views.{HistoryEntry.{HistoryEntry}, Event.{Event}, PassRecord.{PassRecord}, QueueRecord.{QueueRecord}}
+use Rattle.csq_words.specs.declared.views.{HistoryEntry.{HistoryEntry}, Event.{Event}, Tick.{Tick}, PassRecord.{PassRecord}, QueueRecord.{QueueRecord}}
 use Rattle.csq_words.specs.Queue.{Limits}
 use Rattle.csq_words.specs.History.{IsExtendedBy, calls_of}
 use Rattle.csq_words.specs.Records.{entries_of}
 use Rattle.csq_words.specs.Recorded.{StandInOrder}
+use Rattle.csq_words.specs.Traces.{steps_in}
 use Rattle.csq_words.specs.Finals.{FinalWords}
 use Rattle.csq_queue.specs.Effects.{AddsEvents}
 use Rattle.csq_queue.specs.Cleanups.{SeesCalls}
@@ -60,7 +60,7 @@ pub record CallsComeAfterWhatWasSeen : Type 0 where
 -- whatever its pass had seen of the execution before it, the steps of a call come after it
 abbrev pub StepsComeAfterWhatWasSeen : Type 0
 StepsComeAfterWhatWasSeen = (limits : Limits) (d : LockedCall limits) (acts : List Act) → d.new.pass ≡ d.old.pass → d.new.steps ≡ made_by d.old.pass acts ++ d.old.steps → d.old.steps ≡ own d.old.pass (steps_in d.old.trace)
-    → (run : List Made) → IsExtendedBy run d.old.trace → (newer between : List Made) × (d.new.trace ≡ newer ++ (between ++ run)) × (own d.old.pass newer ≡ made_by d.old.pass acts)
+    → (trace : List Tick) → IsExtendedBy trace d.old.trace → (newer between : List Tick) × (d.new.trace ≡ newer ++ (between ++ trace)) × (own d.old.pass (steps_in newer) ≡ made_by d.old.pass acts)
 
 -- a call of the closing pass, or of one whose receipt is shown, stands in the history that is left after each call that it was told of
 abbrev pub CallsToldOfCameFirst : Type 0

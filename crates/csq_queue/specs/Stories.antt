@@ -5,6 +5,7 @@ use Rattle.irp_core.specs.Lives.{HasBegun}
 use Rattle.csq_list.specs.Listing.{Listing}
 use Rattle.csq_words.specs.declared.views.{PassRecord.{PassRecord}, QueueRecord.{QueueRecord}}
 use Rattle.csq_words.specs.Queue.{Limits}
+use Rattle.csq_words.specs.Traces.{steps_in}
 use Rattle.csq_words.specs.Finals.{FinalWords}
 use Rattle.csq_words.specs.Stories.{Story, IsGivenOnce, StaysHaveStories, SeeOneHistory}
 use Rattle.csq_queue.specs.Named.{queue_size}

@@ -12,7 +12,7 @@ ghost use Rattle.csq_words.specs.Queue.{present_in, refusal, back_refusal};
 ghost use Rattle.csq_words.specs.History.{end_of};
 ghost use Rattle.csq_words.specs.Records.{queue_of, caught_up, with_trace, with_step};
 ghost use Rattle.csq_words.specs.Seats.{IsJoined, joined_record, pass_at, pass_record};
-ghost use Rattle.csq_words.specs.Rule.{RecordsAgree};
+ghost use Rattle.csq_words.specs.Rule.{CallAgrees};
 ghost use Rattle.irp_core.specs.Inside.{has_lock};
 ghost use Rattle.csq_queue.specs.Effects.{IsNew};
 ghost use Rattle.csq_queue.specs.Steps.{MakesSteps, insert_steps, put_back_steps, remove_next_steps, remove_steps, reuse_steps};
@@ -40,13 +40,12 @@ pub(crate) fn leave<A: Allocator>(seat: &mut QueueSeat, words: &Words<A>, pass: 
     requires joined { IsJoined seat.old }
     requires ended { has_lock (inside_of (joined_record seat.old).steps) ≡ false }
     requires idle { seat.old.queue.reusing ≡ IdleQueue }
-    requires agreed { RecordsAgree words.now.size seat.old.queue.trace seat.old.queue
-        (joined_record seat.old) }
+    requires agreed { CallAgrees words.now.size seat.old.queue (joined_record seat.old) }
     ensures queue { seat.new ≡ record seat.old
         { joined = None; queue = with_trace (pass_record pass.new).trace seat.old.queue } }
     ensures pass { pass.new ≡ pass_at words.now.table
         (caught_up (with_trace (pass_record pass.new).trace seat.old.queue) (joined_record seat.old)) }
-    ensures run { RecordsAgree words.now.size (pass_record pass.new).trace
+    ensures run { CallAgrees words.now.size
         (with_trace (pass_record pass.new).trace seat.old.queue) (joined_record seat.old) }
     ensures last { (pass_record pass.new).trace ≡ seat.old.queue.trace }
 {
@@ -80,8 +79,7 @@ pub(crate) fn list_irp<L: PendingList, A: Allocator>(
         seat.new) }
     ensures cause { IfErr result (λ cause. refusal (limits_on words.now (L.listing list.old))
         (queue_of seat.old.queue) irp file ≡ Some cause) }
-    ensures agreed { RecordsAgree words.now.size seat.new.queue.trace seat.new.queue
-        (joined_record seat.new) }
+    ensures agreed { CallAgrees words.now.size seat.new.queue (joined_record seat.new) }
     ensures outside { inside_of (joined_record seat.new).steps ≡ Nothing }
 {
     let call = Call::Insert(irp, file, place);
@@ -138,8 +136,7 @@ pub(crate) fn relist_irp<L: PendingList, A: Allocator>(
     ensures cause { IfErr result (λ cause. back_refusal
         (limits_on words.now (L.listing list.old)) (queue_of seat.old.queue) irp
         ((queue_of seat.old.queue).file_of irp.irp) ≡ Some cause) }
-    ensures agreed { RecordsAgree words.now.size seat.new.queue.trace seat.new.queue
-        (joined_record seat.new) }
+    ensures agreed { CallAgrees words.now.size seat.new.queue (joined_record seat.new) }
     ensures outside { inside_of (joined_record seat.new).steps ≡ Nothing }
 {
     let file = kept.file(irp.irp);
@@ -183,8 +180,7 @@ pub(crate) fn take_match<L: PendingList, A: Allocator>(
         (joined_record seat.old) (joined_record seat.new) }
     ensures new { IfSome result (IsNew (limits_on words.now (L.listing list.old))
         (joined_record seat.old)) }
-    ensures agreed { RecordsAgree words.now.size seat.new.queue.trace seat.new.queue
-        (joined_record seat.new) }
+    ensures agreed { CallAgrees words.now.size seat.new.queue (joined_record seat.new) }
     ensures outside { inside_of (joined_record seat.new).steps ≡ Nothing }
 {
     let call = Call::RemoveNext(peek);
@@ -233,8 +229,7 @@ pub(crate) fn take_one<L: PendingList, A: Allocator>(
         (joined_record seat.old) (joined_record seat.new) }
     ensures new { IfSome result (IsNew (limits_on words.now (L.listing list.old))
         (joined_record seat.old)) }
-    ensures agreed { RecordsAgree words.now.size seat.new.queue.trace seat.new.queue
-        (joined_record seat.new) }
+    ensures agreed { CallAgrees words.now.size seat.new.queue (joined_record seat.new) }
     ensures outside { inside_of (joined_record seat.new).steps ≡ Nothing }
 {
     let call = Call::Remove(irp);
@@ -269,8 +264,7 @@ pub(crate) fn take_owed<L: PendingList, A: Allocator>(
     ensures steps { (joined_record seat.new).steps
         ≡ (with_step (StepOut irp) 0 (joined_record seat.old)).steps }
     ensures known { irp.irp.0 < words.now.size.irps }
-    ensures agreed { RecordsAgree words.now.size seat.new.queue.trace seat.new.queue
-        (joined_record seat.new) }
+    ensures agreed { CallAgrees words.now.size seat.new.queue (joined_record seat.new) }
     ensures outside { inside_of (joined_record seat.new).steps ≡ Nothing }
 {
     // No exchange: the pass's own take found the routine, so nobody else has taken the IRP out.
@@ -297,8 +291,7 @@ pub(crate) fn renew_irp<L: PendingList, A: Allocator>(
         (joined_record seat.new) }
     ensures refused { IfErr result (IsLookRefusal (present_in (queue_of seat.new.queue) irp)
         (joined_record seat.old) seat.new.queue) }
-    ensures agreed { RecordsAgree words.now.size seat.new.queue.trace seat.new.queue
-        (joined_record seat.new) }
+    ensures agreed { CallAgrees words.now.size seat.new.queue (joined_record seat.new) }
     ensures outside { inside_of (joined_record seat.new).steps ≡ Nothing }
 {
     let call = Call::Reuse(irp);

@@ -22,6 +22,9 @@ steps_over (Leaves p ∷ newer) trace = steps_over newer trace
 steps_over (Makes m ∷ newer) trace = ap (λ l. m ∷ l) (steps_over newer trace)
 steps_over (Says e ∷ newer) trace = steps_over newer trace
 
+pub steps_extended : {shorter longer : List Tick} → IsExtendedBy shorter longer → IsExtendedBy (steps_in shorter) (steps_in longer)
+steps_extended {shorter} h = (steps_in h.0, ap steps_in h.1 ∙ steps_over h.0 shorter)
+
 -- and no call enters or leaves by them
 pub caller_says : (es : List HistoryEntry) (trace : List Tick) → caller_in (says es ++ trace) ≡ caller_in trace
 caller_says [] trace = refl

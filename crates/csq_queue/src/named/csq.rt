@@ -356,10 +356,10 @@ impl<L: PendingList + Drop, N: QueueName, A: Allocator> Csq<L, N, A> {
         ensures other_sees { SeesRun (queue_size N.limits) other.new }
         ensures one_begins { IsExtendedBy one.old.seen one.new.seen }
         ensures other_begins { IsExtendedBy other.old.seen other.new.seen }
-        ensures one_kept { one.new ≡ record one.old { seen = one.new.seen; run = one.new.trace } }
+        ensures one_kept { one.new ≡ record one.old { seen = one.new.seen; trace = one.new.trace } }
         ensures other_kept { other.new ≡ record other.old {
           seen = other.new.seen;
-          run
+          trace
               = other.new.trace;
         } }
         ensures one_follows { IsExtendedBy one.old.trace one.new.trace }

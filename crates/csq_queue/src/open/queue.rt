@@ -3,11 +3,13 @@
 ghost use Rattle.std.specs.Prelude.{◌≡◌, ◌+◌, ◌-◌, ◌<◌, ◌≤◌, ◌↔◌, false, Err, OnOk, OnErr, IfSome, IsSome};
 ghost use Rattle.irp_core.specs.declared.ids.IrpId.{IrpId as IrpNumber};
 ghost use Rattle.irp_core.specs.Steps.{own};
+ghost use Rattle.csq_words.specs.Traces.{steps_in};
 ghost use Rattle.csq_words.specs.Finals.{AllBack, IsFinal, IsLeft, KeepsRecords};
 ghost use Rattle.csq_words.specs.History.{IsLegal, IsExtendedBy, calls_of, end_of};
 ghost use Rattle.csq_words.specs.Queue.{present_in, plain_listing};
-ghost use Rattle.csq_words.specs.Records.{caught_up, queue_of, with_trace, with_back, with_shown};
+ghost use Rattle.csq_words.specs.Records.{caught_up, entered, queue_of, with_trace, with_back, with_shown};
 ghost use Rattle.irp_core.specs.declared.inside.Inside.TheVariants as inner;
+ghost use Rattle.csq_words.specs.Traces.{steps_in, entries_in, IsTrace};
 ghost use Rattle.csq_words.specs.Rule.{IsHistoryOf, QueueAndPassHaveRun};
 ghost use Rattle.csq_words.specs.Seats.{pass_at, pass_record, IsHere};
 ghost use Rattle.csq_queue.specs.Calls.{Inserts, PutsBack, RemovesNext, RemovesOne, RunsRoutine, ClosesFile, Reuses};
@@ -250,10 +252,12 @@ impl<L: PendingList + Drop, A: Allocator> OpenQueue<L, A> {
         requires queue { IsQueueOn words.now self.old }
         requires pass { IsPassOn words.now pass.old }
         ensures queue { self.new ≡ record self.old
-            { queue = with_trace pass.new.pass.trace self.old.queue } }
+            { queue = with_trace pass.new.pass.trace (entered self.old.queue) } }
         ensures legal { IsLegal self.old.limits self.old.queue.history }
         ensures agrees { IsHistoryOf (queue_size self.old.limits) (steps_in self.new.queue.trace) self.new.queue
             inner.Nothing }
+        ensures traced { (IsTrace self.new.queue.first self.new.queue.trace)
+            × (entries_in self.new.queue.trace ≡ self.new.queue.history) }
         ensures sees { SeesRun (queue_size self.old.limits) pass.new.pass }
         ensures shown { pass.new ≡ record pass.old
             { pass = caught_up self.new.queue pass.old.pass } }
@@ -276,7 +280,9 @@ impl<L: PendingList + Drop, A: Allocator> OpenQueue<L, A> {
         requires since { IsExtendedBy pass.old.pass.trace self.old.queue.trace }
         requires agrees { IsHistoryOf (queue_size self.old.limits) (steps_in self.old.queue.trace) self.old.queue
             inner.Nothing }
-        ensures same { self.new ≡ self.old }
+        requires traced { (IsTrace self.old.queue.first self.old.queue.trace)
+            × (entries_in self.old.queue.trace ≡ self.old.queue.history) }
+        ensures same { self.new ≡ record self.old { queue = entered self.old.queue } }
         ensures shown { pass.new ≡ record pass.old
             { pass = caught_up self.old.queue pass.old.pass } }
         ensures sees { SeesRun (queue_size self.old.limits) pass.new.pass }
@@ -290,7 +296,7 @@ impl<L: PendingList + Drop, A: Allocator> OpenQueue<L, A> {
         requires queue { IsQueueOn words.now self.old }
         requires pass { IsPassOn words.now pass }
         requires nothing { HoldsNothing pass.pass }
-        ensures back { self.new ≡ record self.old { queue = with_back pass.pass self.old.queue } }
+        ensures back { self.new ≡ record self.old { queue = with_back pass.pass (entered self.old.queue) } }
         ensures begins { IsExtendedBy pass.pass.seen self.old.queue.history }
         ensures receipt { result ≡ pass_at words.now.table pass.pass }
     {
@@ -317,7 +323,7 @@ impl<L: PendingList + Drop, A: Allocator> OpenQueue<L, A> {
         requires queue { IsQueueOn words.now self.old }
         requires pass { IsPassOn words.now pass.old }
         ensures step { self.new ≡ record self.old
-            { queue = with_trace self.new.queue.trace self.old.queue } }
+            { queue = with_trace self.new.queue.trace (entered self.old.queue) } }
         ensures kept { pass.new ≡ pass.old }
         ensures agreed { QueueAndPassHaveRun words.now.size self.new.queue pass.old.pass }
         ensures made { self.new.queue.made ≡ self.new.limits.passes }

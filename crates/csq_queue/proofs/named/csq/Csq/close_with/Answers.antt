@@ -1,4 +1,5 @@
 use Rattle.std.proofs.Common.{◌≡◌, ℕ, rules, ◌-◌, ◌≤◌, ◌∙◌, ap, sym, subst, arith}
+use Rattle.csq_words.specs.Records.{entered}
 use Rattle.csq_queue.proofs.Imports.{get_elem?, Size, PassRecord, QueueRecord, Limits, IsExtendedBy, with_back, QueueAndPassHaveRun, out_count, pass_numbered, is_back, OpenState, OpenPassState, AreOut, IsClosed}
 use Rattle.csq_queue.proofs.Backing.{none_is_out, none_out}
 use Rattle.csq_queue.proofs.Leftovers.{rest_is, records_are}
@@ -40,7 +41,7 @@ close-requires-clause-back g c =
     let r = c.observe.new.pass.pass in
     let counted = c.out-out.ensures.count in
     let none' : out_count c.number.result back c.taken.result ≡ 0 = sym counted ∙ omega arith in
-    let shut : c.give_back.new.self.queue ≡ with_back r c.observe.new.self.queue = ap (λ (z : OpenState). z.queue) c.give_back.ensures.back in
+    let shut : c.give_back.new.self.queue ≡ with_back r (entered c.observe.new.self.queue) = ap (λ (z : OpenState). z.queue) c.give_back.ensures.back in
     let limits : c.give_back.new.self.limits.passes ≡ c.rack.inside.open.passes =
     ap (λ (z : OpenState). z.limits.passes) c.give_back.ensures.back
     ∙ (ap (λ (z : OpenState). z.limits.passes) c.observe.ensures.step ∙ (ap (λ (z : OpenState). z.limits.passes) c.see.ensures.queue ∙ (ap (λ (l : Limits). l.passes) c.locked.invariant.1 ∙ sym c.rack.invariant.2))) in
@@ -61,15 +62,15 @@ agreed_pass : (g : Over) (c : After-close g) → c.observe.new.pass.pass ≡ c.a
 agreed_pass g c = ap (λ (p : OpenPassState). p.pass) c.observe.ensures.kept ∙ c.pass.view_is
 
 -- the queue's record once the closing pass is back
-gave : (g : Over) (c : After-close g) → c.give_back.new.self.queue ≡ with_back c.args.pass c.observe.new.self.queue
-gave g c = ap (λ (z : OpenState). z.queue) c.give_back.ensures.back ∙ ap (λ (r : PassRecord). with_back r c.observe.new.self.queue) (agreed_pass g c)
+gave : (g : Over) (c : After-close g) → c.give_back.new.self.queue ≡ with_back c.args.pass (entered c.observe.new.self.queue)
+gave g c = ap (λ (z : OpenState). z.queue) c.give_back.ensures.back ∙ ap (λ (r : PassRecord). with_back r (entered c.observe.new.self.queue)) (agreed_pass g c)
 
 pub returns-clause-rest : goal.returns-clause-rest
 returns-clause-rest g c =
     let begins = subst (λ (r : PassRecord). IsExtendedBy r.seen c.observe.new.self.queue.history) (agreed_pass g c) c.give_back.ensures.begins in
-    rest_is g.N.QueueName.limits c.args.pass c.args.receipts.now (g.N.QueueName.limits.passes - c.args.rack) c.observe.new.self.queue c.give_back.new.self.queue (g.L.PendingList.listing c.close.result.list) c.close.result.finals (shut g c) (gave g c)
-    begins (λ k r at. let n = c.see.ensures.shown k r at in (n.0, ap (λ (z : OpenState). get_elem? z.queue.shown n.0) c.observe.ensures.step ∙ n.1)) c.observe.ensures.agreed.call.agreed.shown
+    rest_is g.N.QueueName.limits c.args.pass c.args.receipts.now (g.N.QueueName.limits.passes - c.args.rack) (entered c.observe.new.self.queue) c.give_back.new.self.queue (g.L.PendingList.listing c.close.result.list) c.close.result.finals (shut g c) (gave g c)
+    begins (λ k r at. let n = c.see.ensures.shown k r at in (n.0, ap (λ (z : OpenState). get_elem? z.queue.shown n.0) c.observe.ensures.step ∙ n.1)) c.observe.ensures.agreed.agreed.shown
 
 pub returns-clause-records : goal.returns-clause-records
 returns-clause-records g c =
-    records_are g.N.QueueName.limits c.args.pass c.args.receipts.now (g.N.QueueName.limits.passes - c.args.rack) c.observe.new.self.queue c.give_back.new.self.queue (g.L.PendingList.listing c.close.result.list) c.close.result.finals (shut g c) (gave g c)
+    records_are g.N.QueueName.limits c.args.pass c.args.receipts.now (g.N.QueueName.limits.passes - c.args.rack) (entered c.observe.new.self.queue) c.give_back.new.self.queue (g.L.PendingList.listing c.close.result.list) c.close.result.finals (shut g c) (gave g c)

@@ -1,5 +1,5 @@
 use Rattle.irp_core.specs.declared.inside.Inside.TheVariants as inner
-use Rattle.csq_queue.proofs.Imports.{IsExtendedBy, IsHistoryOf, extended_on, queue_size, OpenState}
+use Rattle.csq_queue.proofs.Imports.{steps_in, IsExtendedBy, IsHistoryOf, extended_on, queue_size, OpenState}
 use Rattle.std.proofs.Common.{◌≡◌, sym, subst, ◌∙◌, rules}
 use Rattle.csq_queue.proofs.named.csq.Csq.meet.Goals as goal
 

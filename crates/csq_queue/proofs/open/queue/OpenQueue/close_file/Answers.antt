@@ -1,4 +1,5 @@
 use Rattle.std.proofs.Common.{[], ◌∷◌, Some, ap, subst, ◌∙◌, rules}
+use Rattle.csq_words.specs.Records.{entered}
 use Rattle.csq_queue.proofs.Imports.{SomeRunAgrees, pass_record, OpenPassState, limits_on, AddsEvents, CloseFile}
 use Rattle.csq_queue.proofs.Leaving.{close_adds}
 use Rattle.csq_queue.proofs.Opening.{own_adds}
@@ -14,5 +15,5 @@ returns-clause-call g c = record { known = search rules; call = adds; steps = se
         let adds = close_adds w.table (limits_on w s) s (g.L.PendingList.listing c.close_file.new.self) c.self.inside.kept c.enter.new.self c.note.new.self c.args.file (search rules) (search rules) (search rules) c.note.ensures.noted (c.note.new.self.queue.trace, c.note.ensures.agreed.call.agreed) in
         own_adds c.args.words.now (g.L.PendingList.listing c.self.inside.list) c.self.inside.seat c.self.inside.back.items c.args.self.now c.self.view_is c.requires.queue
         c.args.pass.now.pass (pass_record c.leave.new.pass) c.enter.new.self c.note.new.self
-        (c.enter.ensures.joined ∙ (λ k. record c.self.inside.seat { joined = Some (c.pass.view_is k).pass }))
-        (subst (λ (z : OpenPassState). SomeRunAgrees c.args.words.now.size c.self.inside.seat.queue z.pass) c.pass.view_is c.enter.ensures.agreed) (ap pass_record c.leave.ensures.pass) c.leave.ensures.run (search rules) _ _ _ adds
+        (c.enter.ensures.joined ∙ (λ k. record c.self.inside.seat { queue = entered c.self.inside.seat.queue; joined = Some (c.pass.view_is k).pass }))
+        (subst (λ (z : OpenPassState). SomeRunAgrees c.args.words.now.size c.enter.new.self.queue z.pass) c.pass.view_is c.enter.ensures.agreed) (ap pass_record c.leave.ensures.pass) c.leave.ensures.run (search rules) _ _ _ adds

@@ -1,4 +1,5 @@
 use Rattle.std.proofs.Common.{◌≡◌, ◌-◌, ◌+◌, ◌≤◌, ◌∙◌, ◌∷◌, ap, sym, subst, arith, List}
+use Rattle.csq_words.specs.Records.{entered}
 use Rattle.csq_queue.proofs.Imports.{PassRecord, QueueRecord, new_pass, IsExtendedBy, pass_numbered, OpenState, OpenPassState, FirstAreBack}
 use Rattle.csq_queue.proofs.Backing.{rack_more, rest_more, all_recorded}
 use Rattle.csq_queue.proofs.open.queue.OpenQueue.give_rest.Goals as goal
@@ -26,11 +27,11 @@ rest-preserved g c =
         first_is = ap (λ (q : QueueRecord). q.first) queue ∙ given.first_is;
         made = ap (λ (q : QueueRecord). q.made) queue ∙ given.made;
         history = ap (λ (q : QueueRecord). q.history) queue ∙ given.history;
-        run = subst (IsExtendedBy c.args.self.now.queue.trace) (sym (ap (λ (q : QueueRecord). q.trace) queue)) given.trace;
+        trace = subst (IsExtendedBy c.args.self.now.queue.trace) (sym (ap (λ (q : QueueRecord). q.trace) queue)) given.trace;
         shown = ap (λ (q : QueueRecord). q.shown) queue ∙ given.shown;
         newer = r ∷ given.newer;
         kept = ap (λ (q : QueueRecord). q.back) queue ∙ ap (λ (t : List PassRecord). r ∷ t) given.kept;
-        untaken = rest_more passes c.rest.rack.left c.take.new.self.left (passes - c.args.rack.left) c.rest.self.queue c.give_back.new.self.queue r queue new less few given.untaken;
+        untaken = rest_more passes c.rest.rack.left c.take.new.self.left (passes - c.args.rack.left) (entered c.rest.self.queue) c.give_back.new.self.queue r queue new less few given.untaken;
       },
     )
 

@@ -25,7 +25,7 @@ adds : (g : Over) (c : After-leave g) (events : List Event) → Adds (limits_on 
 adds g c events a =
     own_adds c.args.words.now (g.L.PendingList.listing c.self.inside.list) c.self.inside.seat c.self.inside.back.items c.args.self.now c.self.view_is c.requires.queue
     c.args.pass.now.pass (pass_record c.leave.new.pass) c.enter.new.self c.list_irp-inserted.new.seat (search rules)
-    (subst (λ (z : OpenPassState). SomeRunAgrees c.args.words.now.size c.self.inside.seat.queue z.pass) c.pass.view_is c.enter.ensures.agreed) (search rules) c.leave.ensures.run (search rules) events (g.L.PendingList.listing c.list_irp-inserted.new.list) c.list_irp-inserted.new.kept a
+    (subst (λ (z : OpenPassState). SomeRunAgrees c.args.words.now.size c.enter.new.self.queue z.pass) c.pass.view_is c.enter.ensures.agreed) (search rules) c.leave.ensures.run (search rules) events (g.L.PendingList.listing c.list_irp-inserted.new.list) c.list_irp-inserted.new.kept a
 
 -- what is promised of an accepted insert, of the queue that it was made of
 abbrev Accepted : (g : Over) (c : After-leave g) → QueueState → Type 0
