@@ -46,7 +46,7 @@ module _ (words : WordsState) (pass : OpenPassState) (held : List (Option Held))
         at false other = sym (slot_not_owed some apart (λ f. let promised : ◌≡◌ (Some life) (Some i.life) = sym e ∙ f in let is : life ≡ i.life = cc in true≢false (sym (eq-eqb life.0 i.life.0 (ap (λ (l : Life). l.0) is)) ∙ other)))
 
     -- it completed i
-    pub completion_keeps : (status : NtStatus) (pass' : OpenPassState) (held' : List (Option Held)) → pass' ≡ record pass { pass = saw pass'.pass.run (with_completion i status (with_step (Done i) 0 pass.pass)) }
+    pub completion_keeps : (status : NtStatus) (pass' : OpenPassState) (held' : List (Option Held)) → pass' ≡ record pass { pass = saw pass'.pass.trace (with_completion i status (with_step (Done i) 0 pass.pass)) }
         → has_life (held_list pass'.pass.steps) i.irp ≡ false → held' ≡ slice_set held (number i) None → IsCheckedPass words pass' held' owed
     completion_keeps status pass' held' step gone slots =
         let steps' = (with_step (Done i) 0 pass.pass).steps in

@@ -172,7 +172,7 @@ status_done w life true by_removal h = ap (λ (o : Option NtStatus). is_some o) 
 module _ (size : Size) (finals : FinalWords) (q : QueueRecord) (irps : finals.irps ≡ size.irps) (made : q.made ≡ size.passes) (f : IsFinal size finals.words q) where
   -- a record that is back has as many completions as its pass made, and its calls are the history's
   module _ (k : ℕ) (r : PassRecord) (at : get_elem? q.back k ≡ some r) where
-    record_count : length r.completed ≡ done_steps (own r.pass q.run)
+    record_count : length r.completed ≡ done_steps (own r.pass (steps_in q.trace))
     record_count =
         let back = (f.agrees.backs k r at).is_record.of_pass in
         sym (length-map r.completed (λ (c : Completion). c.irp)) ∙ (ap (λ (is : List IrpLife). length is) back.completed_is ∙ ap (λ (xs : List Made). done_steps xs) back.steps_is)
@@ -180,9 +180,9 @@ module _ (size : Size) (finals : FinalWords) (q : QueueRecord) (irps : finals.ir
     record_calls : has_reuse r.mine ≡ false → has_reuse (calls_of r.pass q.history) ≡ false
     record_calls h = ap has_reuse (sym (f.agrees.backs k r at).is_record.of_pass.mine_is) ∙ h
 
-  served_sum : (from : ℕ) (rs : List PassRecord) → AreServed q from rs → completions_of rs ≡ sum_from (by_pass_of q.run) from (length rs)
+  served_sum : (from : ℕ) (rs : List PassRecord) → AreServed q from rs → completions_of rs ≡ sum_from (by_pass_of (steps_in q.trace)) from (length rs)
   served_sum from [] h = refl
-  served_sum from (r ∷ rs) h = λ k. (record_count h.1.0 r h.1.1 ∙ ap (λ (p : PassId). done_steps (own p q.run)) h.0) k + served_sum (suc from) rs h.3 k
+  served_sum from (r ∷ rs) h = λ k. (record_count h.1.0 r h.1.1 ∙ ap (λ (p : PassId). done_steps (own p (steps_in q.trace))) h.0) k + served_sum (suc from) rs h.3 k
 
   served_calls : (from : ℕ) (rs : List PassRecord) → AreServed q from rs → (p : PassId) → from ≤ p.0 → p.0 < from + length rs → has_reuse (calls_of p q.history) ≡ false
   served_calls from [] h p low high = absurd (none from p.0 low high)
@@ -219,16 +219,16 @@ module _ (size : Size) (finals : FinalWords) (q : QueueRecord) (irps : finals.ir
     -- as many IRPs are completed at the end as the passes completed
     pub handed_is_completed : completed_count finals finals.irps ≡ completions_of rs
     handed_is_completed =
-        tally_same (λ n. is_some (final_status finals (irp_at n))) (λ n. is_done q.run (in_first size.first n)) finals.irps said
-        ∙ (ap (λ (m : ℕ). tally (λ n. is_done q.run (in_first size.first n)) m) irps
-        ∙ (sym (done_tally size q.run f.agrees.history_is.is_run (λ n. sym (f.agrees.history_is.lives_are n) ∙ still_first n))
-        ∙ (pass_sum size q.run f.agrees.history_is.is_run.known
-        ∙ (ap (λ (m : ℕ). sum_from (by_pass_of q.run) 1 m) (sym all) ∙ sym (served_sum 1 rs served)))))
+        tally_same (λ n. is_some (final_status finals (irp_at n))) (λ n. is_done (steps_in q.trace) (in_first size.first n)) finals.irps said
+        ∙ (ap (λ (m : ℕ). tally (λ n. is_done (steps_in q.trace) (in_first size.first n)) m) irps
+        ∙ (sym (done_tally size (steps_in q.trace) f.agrees.history_is.is_run (λ n. sym (f.agrees.history_is.lives_are n) ∙ still_first n))
+        ∙ (pass_sum size (steps_in q.trace) f.agrees.history_is.is_run.known
+        ∙ (ap (λ (m : ℕ). sum_from (by_pass_of (steps_in q.trace)) 1 m) (sym all) ∙ sym (served_sum 1 rs served)))))
       where
-        said : (n : ℕ) → n < finals.irps → is_some (final_status finals (irp_at n)) ≡ is_done q.run (in_first size.first n)
+        said : (n : ℕ) → n < finals.irps → is_some (final_status finals (irp_at n)) ≡ is_done (steps_in q.trace) (in_first size.first n)
         said n l =
             let inside : n < size.irps = subst (λ (m : ℕ). n < m) irps l in
             let i : IrpLife = record { irp = irp_at n; life = record { 0 = (queue_of q).lives (irp_at n) } } in
             ap (λ b. is_some (cond b (status_in (slice_index finals.words (status_at (irp_at n)))) None)) (lt-ltb n finals.irps l)
             ∙ (status_done _ _ _ _ (status_is size finals.words q f (irp_at n) inside)
-            ∙ ap (is_done q.run) (irp_eq i (in_first size.first n) refl (still_first (irp_at n))))
+            ∙ ap (is_done (steps_in q.trace)) (irp_eq i (in_first size.first n) refl (still_first (irp_at n))))

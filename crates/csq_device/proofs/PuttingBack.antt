@@ -75,7 +75,7 @@ module _ (status : NtStatus) (l : Limits) (i : IrpLife) (old mid new : PassRecor
       owed_is false = refl
 
   -- it was completed then
-  module _ (end : PassRecord) (e : end ≡ saw end.run (with_completion i status (with_step (Done i) 0 new))) where
+  module _ (end : PassRecord) (e : end ≡ saw end.trace (with_completion i status (with_step (Done i) 0 new))) where
     completed_it : new.completed ≡ mid.completed → end.completed ≡ record { irp = i; status = status } ∷ old.completed
     completed_it same = ap (λ (r : PassRecord). r.completed) e ∙ ap (λ (t : List Completion). record { irp = i; status = status } ∷ t) (same ∙ g.completed)
 
@@ -113,15 +113,15 @@ module _ (status : NtStatus) (l : Limits) (i : IrpLife) (old mid new : PassRecor
         let same = (subst (λ (b : InsertAnswer IrpLife IrpLife). IsPutBack i f place b events) e is).0 in
         back_pending u (subst (λ (b : InsertAnswer IrpLife IrpLife). MakesSteps (put_back_steps (Ok b) u) mid new) (e ∙ ap Pending same) made)
 
-    pub cancelled_completes : back ≡ Cancelled k → (end : PassRecord) → end ≡ saw end.run (with_completion k status (with_step (Done k) 0 new)) → HasCompleted status 1 old end
+    pub cancelled_completes : back ≡ Cancelled k → (end : PassRecord) → end ≡ saw end.trace (with_completion k status (with_step (Done k) 0 new)) → HasCompleted status 1 old end
     cancelled_completes e end done =
         let same = (subst (λ (b : InsertAnswer IrpLife IrpLife). IsPutBack i f place b events) e is).0 in
-        back_cancelled end (subst (λ (j : IrpLife). end ≡ saw end.run (with_completion j status (with_step (Done j) 0 new))) same done) u
+        back_cancelled end (subst (λ (j : IrpLife). end ≡ saw end.trace (with_completion j status (with_step (Done j) 0 new))) same done) u
         (subst (λ (b : InsertAnswer IrpLife IrpLife). MakesSteps (put_back_steps (Ok b) u) mid new) (e ∙ ap Cancelled same) made)
 
   -- a refusal hands i back
-  pub refused_completes : (k : IrpLife) → k ≡ i → MakesSteps [] mid new → (end : PassRecord) → end ≡ saw end.run (with_completion k status (with_step (Done k) 0 new)) → HasCompleted status 1 old end
-  refused_completes k same made end done = back_refused end (subst (λ (j : IrpLife). end ≡ saw end.run (with_completion j status (with_step (Done j) 0 new))) same done) made
+  pub refused_completes : (k : IrpLife) → k ≡ i → MakesSteps [] mid new → (end : PassRecord) → end ≡ saw end.trace (with_completion k status (with_step (Done k) 0 new)) → HasCompleted status 1 old end
+  refused_completes k same made end done = back_refused end (subst (λ (j : IrpLife). end ≡ saw end.trace (with_completion j status (with_step (Done j) 0 new))) same done) made
 
 -- no turn was made yet
 pub backs_none : (r : PassRecord) → PutsEachBack 0 0 r r

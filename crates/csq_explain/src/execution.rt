@@ -48,6 +48,7 @@ pub struct Closing<A: Allocator> {
 }
 
 /// The status of an IRP after a step of this kind, where that completed it.
+#[inline(always)]
 fn status_after<A: Allocator>(machine: &Machine<A>, kind: Kind) -> Option<NtStatus>
     requires { OfIrp (λ i. number i < (size_of machine.now).irps) kind }
     ensures { (E : List MadeOf) → Agrees machine.now E
@@ -80,6 +81,7 @@ impl<A: Allocator + Copy> Execution<A> {
 
     /// Makes the step that the line of this number names, if it may come next, and returns what is known of
     /// what comes of the line. Own rule.
+    #[inline(always)]
     pub fn handle(&mut self, line: Line<'_>) -> Explained
         requires { IsFollowing self.old }
         ensures { (size : Size) (W : List Numbered) → Follows size self.old W
@@ -101,6 +103,7 @@ impl<A: Allocator + Copy> Execution<A> {
     }
 
     /// Notes a step that was made, which this line names. Answers what its pass was inside of before it.
+    #[inline(always)]
     fn note_pass(&mut self, line: usize, made: Made) -> Inside
         requires { made.pass.0 < length self.old.passes.items }
         ensures inside { result

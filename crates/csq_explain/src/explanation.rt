@@ -162,7 +162,8 @@ impl<A: Allocator + Copy> Answerer<A, Reason> for Explanation<A> {
                 };
                 let found = step.made.found;
                 note_claim(&mut self.claims, self.explains, line.number, step.made)?;
-                writeln!(text, "{written} found {found}")?;
+                text.push_str(written)?;
+                writeln!(text, " found {found}")?;
                 add_remark(self.explains, Sentence(step), text)?;
                 Ok(None)
             }

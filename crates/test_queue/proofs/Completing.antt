@@ -32,7 +32,7 @@ use Rattle.csq_queue.specs.declared.refusals.ReuseRefused.TheVariants.{UnknownIr
 use Rattle.test_queue.specs.Conclusions.{IsLater}
 
 -- a life that the pass has seen completed isn't the one of which a reuse says that it isn't
-pub reuse_later : (size : Size) (i : IrpLife) (old new : PassRecord) (answer : Result Life ReuseRefused) → is_done old.run i ≡ true → IsExtendedBy old.run new.run → SeesRun size new
+pub reuse_later : (size : Size) (i : IrpLife) (old new : PassRecord) (answer : Result Life ReuseRefused) → is_done (steps_in old.trace) i ≡ true → IsExtendedBy old.trace new.trace → SeesRun size new
     → IfErr answer (IsReuseRefusal (present_in (end_of size.first new.seen) i.irp) old new) → IsLater size.first i new answer
 reuse_later size i old new answer done follows sees refused e = go answer e refused
   where
@@ -41,16 +41,16 @@ reuse_later size i old new answer done follows sees refused e = go answer e refu
 
     begun : life_of i ≤ (end_of size.first new.seen).lives i.irp
     begun =
-        let now = done_stays i old.run new.run follows done in
-        let over = done_over size new.run sees.agrees.history_is.is_run i now in
-        let b = used_begun size new.run sees.agrees.history_is.is_run i (or_right (flagged new.run i) (was_armed new.run i) over.0) in
+        let now = done_stays i (steps_in old.trace) (steps_in new.trace) follows done in
+        let over = done_over size (steps_in new.trace) sees.agrees.history_is.is_run i now in
+        let b = used_begun size (steps_in new.trace) sees.agrees.history_is.is_run i (or_right (flagged (steps_in new.trace) i) (was_armed (steps_in new.trace) i) over.0) in
         let lives = sees.agrees.history_is.lives_are i.irp in
         omega (arith, b.1, lives)
 
     go : (answer : Result Life ReuseRefused) → answer ≡ Err NotCompleted → IfErr answer (IsReuseRefusal here old new) → life_of i < (end_of size.first new.seen).lives i.irp
     go (Err NotCompleted) e h =
         let apart : life_of i ≢ life_of here = λ same. let is : i ≡ here = irp_eq i here refl same in
-        off (sym h.0 ∙ (ap (is_done new.run) (sym is) ∙ done_stays i old.run new.run follows done)) in
+        off (sym h.0 ∙ (ap (is_done (steps_in new.trace)) (sym is) ∙ done_stays i (steps_in old.trace) (steps_in new.trace) follows done)) in
         let b = begun in
         omega (arith, b, apart)
     go (Err UnknownIrp) e h = absurd h
@@ -59,13 +59,13 @@ reuse_later size i old new answer done follows sees refused e = go answer e refu
 
 -- a status that is read as set is of a life that was completed in what the pass has then seen
 pub read_done : (size : Size) (n : IrpId) (old new : PassRecord) (w : ℕ) (status : NtStatus) → IsStatusOf size n old new w → status_in w ≡ Some status
-    → (i : IrpLife) × (i.irp ≡ n) × (life_of i ≡ status_life_in w) × (is_done new.run i ≡ true)
+    → (i : IrpLife) × (i.irp ≡ n) × (life_of i ≡ status_life_in w) × (is_done (steps_in new.trace) i ≡ true)
 read_done size n old new w status h set =
-    let i = stands_for h.renewed (present size.first new.run n) in
-    let said = says (life_of i) (is_done new.run i) (removed new.run i) h.status_is in
+    let i = stands_for h.renewed (present size.first (steps_in new.trace) n) in
+    let said = says (life_of i) (is_done (steps_in new.trace) i) (removed (steps_in new.trace) i) h.status_is in
     (i, named h.renewed, sym said.0, said.1)
   where
-    named : (b : Bool) → (stands_for b (present size.first new.run n)).irp ≡ n
+    named : (b : Bool) → (stands_for b (present size.first (steps_in new.trace) n)).irp ≡ n
     named true = refl
     named false = refl
 
@@ -74,11 +74,11 @@ read_done size n old new w status h set =
     says life true b e = (e.0, refl)
 
 -- what was completed just now is completed in what the pass has seen
-pub completed_now : (size : Size) (i : IrpLife) (old new : PassRecord) → FindsUnset size i old new → is_done new.run i ≡ true
+pub completed_now : (size : Size) (i : IrpLife) (old new : PassRecord) → FindsUnset size i old new → is_done (steps_in new.trace) i ≡ true
 completed_now size i old new f = ap (λ (run : List Made). is_done run i) f.last.run_is ∙ ap (λ b. b || is_done f.last.before i) (same_irp-refl i)
 
 -- a read goes on from what the pass had seen
 pub read_follows : (size : Size) (n : IrpId) (old new : PassRecord) (answer : Result (Life × Option NtStatus) UnknownIrpError)
-    → IfOk answer (λ read. (w : ℕ) × (read ≡ status_read w) × IsStatusOf size n old new w) → OnErr answer (new ≡ old) → IsExtendedBy old.run new.run
+    → IfOk answer (λ read. (w : ℕ) × (read ≡ status_read w) × IsStatusOf size n old new w) → OnErr answer (new ≡ old) → IsExtendedBy old.trace new.trace
 read_follows size n old new (Ok read) h e = h.2.sees.follows
-read_follows size n old new (Err cause) h e = ([], ap (λ (r : PassRecord). r.run) e)
+read_follows size n old new (Err cause) h e = ([], ap (λ (r : PassRecord). (steps_in r.trace)) e)

@@ -42,10 +42,10 @@ all_marked (e ∷ es) i none h = let x = none_head Any e es none in go (same_irp
 
 -- so what is still listed, once a removal has returned none, some canceller has
 pub all_taken : (l : Limits) (old new : PassRecord) (history : List HistoryEntry) (marks : List IrpLife) (i : IrpLife) → AddsEvents l history old new (RemoveNext Any None ∷ marked marks) → inside_of new.steps ≡ Nothing
-    → listed new.run i ≡ true → taken new.run i ≡ true
+    → listed (steps_in new.trace) i ≡ true → taken (steps_in new.trace) i ≡ true
 all_taken l old new history marks i a outside h =
     let legal = subst (IsLegal l) a.ends a.legal in
     let none : first_unmarked Any (end_of l.first new.seen).entries ≡ None = ap (λ (x : List HistoryEntry). first_unmarked Any (end_of l.first x).entries) a.ends ∙ sym legal.0 in
     let told = a.sees.agrees.history_is in
-    let entry : has_entry (end_of l.first new.seen).entries i ≡ true = told.listed_is i ∙ (ap (λ s. not (lists s i) && listed new.run i) outside ∙ h) in
-    marked_taken l.first new.run new.seen i told.true_of (all_marked (end_of l.first new.seen).entries i none entry)
+    let entry : has_entry (end_of l.first new.seen).entries i ≡ true = told.listed_is i ∙ (ap (λ s. not (lists s i) && listed (steps_in new.trace) i) outside ∙ h) in
+    marked_taken l.first (steps_in new.trace) new.seen i told.true_of (all_marked (end_of l.first new.seen).entries i none entry)

@@ -61,17 +61,17 @@ none_clear size i older (m ∷ newer) set r =
     head (Rearm j) n e on = refl
 
 -- an insert or a put-back that leaves a flagged IRP pending was made where a canceller has its routine
-pub pending_taken : (sets : IrpLife → Kind) (size : Size) (i : IrpLife) (old new : PassRecord) → new.pass ≡ old.pass → flagged old.run i ≡ true → IsExtendedBy old.run new.run → old.steps ≡ own old.pass old.run → SeesRun size new
-    → new.steps ≡ made_by old.pass (listing_steps sets (Ok (Pending i)) (end_of size.first new.seen)) ++ old.steps → taken new.run i ≡ true
+pub pending_taken : (sets : IrpLife → Kind) (size : Size) (i : IrpLife) (old new : PassRecord) → new.pass ≡ old.pass → flagged (steps_in old.trace) i ≡ true → IsExtendedBy old.trace new.trace → old.steps ≡ own old.pass (steps_in old.trace) → SeesRun size new
+    → new.steps ≡ made_by old.pass (listing_steps sets (Ok (Pending i)) (end_of size.first new.seen)) ++ old.steps → taken (steps_in new.trace) i ≡ true
 pending_taken sets size i old new same set follows steps sees made = go (has_marked (end_of size.first new.seen).entries i) refl
   where
-    go : (b : Bool) → has_marked (end_of size.first new.seen).entries i ≡ b → taken new.run i ≡ true
-    go true e = marked_taken size.first new.run new.seen i sees.agrees.history_is.true_of e
+    go : (b : Bool) → has_marked (end_of size.first new.seen).entries i ≡ b → taken (steps_in new.trace) i ≡ true
+    go true e = marked_taken size.first (steps_in new.trace) new.seen i sees.agrees.history_is.true_of e
     go false e =
         let newer = follows.0 in
-        let whole : new.steps ≡ own old.pass newer ++ own old.pass old.run = sees.agrees.pass_is.steps_is ∙ (ap (λ p. own p new.run) same ∙ (ap (own old.pass) follows.1 ∙ own-append old.pass newer old.run)) in
+        let whole : new.steps ≡ own old.pass newer ++ own old.pass (steps_in old.trace) = sees.agrees.pass_is.steps_is ∙ (ap (λ p. own p (steps_in new.trace)) same ∙ (ap (own old.pass) follows.1 ∙ own-append old.pass newer (steps_in old.trace))) in
         let acts : new.steps ≡ made_by old.pass ((Test i, 0) ∷ (sets i, 0) ∷ []) ++ old.steps = made ∙ rw e refl in
         let mine : own old.pass newer ≡ made_by old.pass ((Test i, 0) ∷ (sets i, 0) ∷ []) = append_cancel_right (own old.pass newer) (made_by old.pass ((Test i, 0) ∷ (sets i, 0) ∷ [])) old.steps (ap (λ l. own old.pass newer ++ l) steps ∙ (sym whole ∙ acts)) in
         let clear : list_any (finds_clear i) (own old.pass newer) ≡ true = ap (list_any (finds_clear i)) mine ∙ ap (λ b. (b && true) || (finds_clear i (record { pass = old.pass; kind = sets i; found = 0 }) || false)) (same_irp-refl i) in
-        let none' = none_clear size i old.run newer set (subst (IsRun size) follows.1 sees.agrees.history_is.is_run) in
+        let none' = none_clear size i (steps_in old.trace) newer set (subst (IsRun size) follows.1 sees.agrees.history_is.is_run) in
         absurd (true≢false (sym (any_filtered (finds_clear i) (by old.pass) newer clear) ∙ none'))

@@ -24,14 +24,14 @@ use Rattle.test_queue.proofs.Completing.{read_done}
 -- a Cancel flag that is set stays set in its life
 pub flags_stay : (size : Size) (n : IrpId) (old mid new : PassRecord) (v w : ℕ) → IsFlagOf size n old mid v → IsFlagOf size n mid new w → StaysSet (flag_read v) (flag_read w)
 flags_stay size n old mid new v w h g same set =
-    let i = present size.first mid.run n in
-    let j = present size.first new.run n in
-    let life : life_in v ≡ life_of i = ap life_in h.flag_is ∙ life_in-put (life_of i) _ (bit_bound (flagged mid.run i)) in
-    let life' : life_in w ≡ life_of j = ap life_in g.flag_is ∙ life_in-put (life_of j) _ (bit_bound (flagged new.run j)) in
+    let i = present size.first (steps_in mid.trace) n in
+    let j = present size.first (steps_in new.trace) n in
+    let life : life_in v ≡ life_of i = ap life_in h.flag_is ∙ life_in-put (life_of i) _ (bit_bound (flagged (steps_in mid.trace) i)) in
+    let life' : life_in w ≡ life_of j = ap life_in g.flag_is ∙ life_in-put (life_of j) _ (bit_bound (flagged (steps_in new.trace) j)) in
     let is : i ≡ j = irp_eq i j refl (sym life ∙ (ap (λ (l : Life). l.0) same ∙ life')) in
-    let one : bit (flagged mid.run i) ≡ 1 = sym (ap bit_in h.flag_is ∙ bit_in-put (life_of i) _ (bit_bound (flagged mid.run i))) ∙ eqb-true (bit_in v) 1 set in
-    let on : flagged new.run j ≡ true = ap (flagged new.run) (sym is) ∙ flag_stays i mid.run new.run g.sees.follows (bit_true (flagged mid.run i) 1 (sym one) (omega arith)) in
-    eq-eqb (bit_in w) 1 (ap bit_in g.flag_is ∙ (bit_in-put (life_of j) _ (bit_bound (flagged new.run j)) ∙ ap bit on))
+    let one : bit (flagged (steps_in mid.trace) i) ≡ 1 = sym (ap bit_in h.flag_is ∙ bit_in-put (life_of i) _ (bit_bound (flagged (steps_in mid.trace) i))) ∙ eqb-true (bit_in v) 1 set in
+    let on : flagged (steps_in new.trace) j ≡ true = ap (flagged (steps_in new.trace)) (sym is) ∙ flag_stays i (steps_in mid.trace) (steps_in new.trace) g.sees.follows (bit_true (flagged (steps_in mid.trace) i) 1 (sym one) (omega arith)) in
+    eq-eqb (bit_in w) 1 (ap bit_in g.flag_is ∙ (bit_in-put (life_of j) _ (bit_bound (flagged (steps_in new.trace) j)) ∙ ap bit on))
 
 -- a status that is set stays set in its life
 pub statuses_stay : (size : Size) (n : IrpId) (old mid new : PassRecord) (v w : ℕ) → IsStatusOf size n old mid v → IsStatusOf size n mid new w
@@ -39,9 +39,9 @@ pub statuses_stay : (size : Size) (n : IrpId) (old mid new : PassRecord) (v w : 
 statuses_stay size n old mid new v w h g same set = some (status_in v) refl set
   where
     later : IrpLife
-    later = stands_for g.renewed (present size.first new.run n)
+    later = stands_for g.renewed (present size.first (steps_in new.trace) n)
 
-    named : (b : Bool) → (stands_for b (present size.first new.run n)).irp ≡ n
+    named : (b : Bool) → (stands_for b (present size.first (steps_in new.trace) n)).irp ≡ n
     named true = refl
     named false = refl
 
@@ -57,7 +57,7 @@ statuses_stay size n old mid new v w h g same set = some (status_in v) refl set
     some None e t = off (sym (ap is_some e) ∙ t)
     some (Some status) e t =
         let (i, irp, life, done) = read_done size n old mid v status h e in
-        let now : is_done new.run i ≡ true = done_stays i mid.run new.run g.sees.follows done in
-        let lives : life_of i ≡ life_of later = life ∙ (ap (λ (l : Life). l.0) same ∙ says (life_of later) (is_done new.run later) (removed new.run later) g.status_is) in
+        let now : is_done (steps_in new.trace) i ≡ true = done_stays i (steps_in mid.trace) (steps_in new.trace) g.sees.follows done in
+        let lives : life_of i ≡ life_of later = life ∙ (ap (λ (l : Life). l.0) same ∙ says (life_of later) (is_done (steps_in new.trace) later) (removed (steps_in new.trace) later) g.status_is) in
         let is : i ≡ later = irp_eq i later (irp ∙ sym (named g.renewed)) lives in
-        told (life_of later) (is_done new.run later) (removed new.run later) g.status_is (ap (is_done new.run) (sym is) ∙ now)
+        told (life_of later) (is_done (steps_in new.trace) later) (removed (steps_in new.trace) later) g.status_is (ap (is_done (steps_in new.trace)) (sym is) ∙ now)

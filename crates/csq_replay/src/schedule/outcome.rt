@@ -51,6 +51,7 @@ pub enum Outcome {
 /// Makes the step that a line names, if it may come next. Of every run that the machine agrees with, what
 /// is answered is what comes of the line after that run, and the machine then agrees with the run that it
 /// leads to. Own rule.
+#[inline(always)]
 pub fn handle_line<A: Allocator>(machine: &mut Machine<A>, line: &[u8]) -> Outcome
     ensures comes { (E : List Made) → Agrees machine.old E
         → ComesTo (size_of machine.old) E line.now result

@@ -57,7 +57,7 @@ returns-in-Ok-Cancelled-clause-turn g c =
     inr (c.one-in-Ok-Cancelled.ensures.made, c.in-Some.token, file, call.0, completed_calls (PutBack c.in-Some.token file Front call.0 ∷ RemoveNext Any (Some c.in-Some.token) ∷ []) c.in-Ok-Cancelled.token CANCELLED c.args.pass.now c.put_back.new.pass c.complete_cancelled.new.pass both c.complete_cancelled.ensures.call.step)
 
 -- the IRP was completed as cancelled
-ended : (g : Over) (c : After-complete g) → c.complete.new.pass ≡ saw c.complete.new.pass.run (with_completion c.in-Err.token CANCELLED (with_step (Done c.in-Err.token) 0 c.put_back.new.pass))
+ended : (g : Over) (c : After-complete g) → c.complete.new.pass ≡ saw c.complete.new.pass.trace (with_completion c.in-Err.token CANCELLED (with_step (Done c.in-Err.token) 0 c.put_back.new.pass))
 ended g c = search rules
 
 pub returns-in-Err-clause-completed : goal.returns-in-Err-clause-completed

@@ -1,4 +1,5 @@
 //! A cancel that came before its insert, or before a put-back.
+ghost use Rattle.csq_words.specs.Traces.{steps_in};
 ghost use Rattle.std.specs.Prelude.{◌≡◌, Ok, true, IfOk, IfErr, IfSome};
 ghost use Rattle.irp_core.specs.declared.ids.IrpLife.{IrpLife};
 ghost use Rattle.irp_core.specs.Owners.{taken};
@@ -27,7 +28,7 @@ pub(crate) fn insert_after_flag<L: PendingList + Drop, N: QueueName, A: Allocato
     ensures token { IfOk result
         (λ inserted. IfSome (given_by inserted) (Holds N.limits.irps inserter.new)) }
     ensures claimed { (i : IrpLife) → result ≡ Ok (Pending i) → flagged canceller.old.steps i ≡ true
-        → taken inserter.new.run i ≡ true }
+        → taken (steps_in inserter.new.trace) i ≡ true }
 {
     queue.meet(rt, canceller, inserter);
     queue.insert(rt, inserter, irp, file, place)
@@ -48,7 +49,7 @@ pub(crate) fn put_back_after_flag<L: PendingList + Drop, N: QueueName, A: Alloca
         (λ answer. IfSome (given_by answer) (Holds N.limits.irps worker.new)) }
     ensures kept { IfErr result (λ refused. HoldsRemoved N.limits.irps worker.new refused.1) }
     ensures claimed { (i : IrpLife) → result ≡ Ok (Pending i) → flagged canceller.old.steps i ≡ true
-        → taken worker.new.run i ≡ true }
+        → taken (steps_in worker.new.trace) i ≡ true }
 {
     queue.meet(rt, canceller, worker);
     queue.put_back(rt, worker, token, place)

@@ -55,7 +55,7 @@ pub(crate) fn serve_next<L: PendingList + Drop, N: QueueName, A: Allocator>(
     pass: &mut Pass<N>,
     status: FinalStatus,
 ) -> Option<IrpId>
-    ensures follows { IsExtendedBy pass.old.run pass.new.run }
+    ensures follows { IsExtendedBy pass.old.trace pass.new.trace }
 {
     let token = queue.remove_next(rt, pass, Peek::Any)?;
     let irp = token.irp();

@@ -1,5 +1,6 @@
 //! Callers that were told of each other's calls, each in a thread of its own: one hands on what its pass had seen,
 //! and the other's pass learns it.
+ghost use Rattle.csq_words.specs.Traces.{steps_in};
 ghost use Rattle.std.specs.Prelude.{◌≡◌, Ok, None, Bool, true, IfOk, IfSome};
 ghost use Rattle.irp_core.specs.declared.ids.IrpLife.{IrpLife};
 ghost use Rattle.irp_core.specs.Owners.{taken, listed};
@@ -28,7 +29,7 @@ pub(crate) fn cancel_and_tell<L: PendingList + Drop, N: QueueName, A: Allocator>
     life: Life,
 ) -> (Result<bool, CancelRefused>, Seen<N>)
     ensures flagged { (done : Bool) → result.0 ≡ Ok done
-        → flagged result.1.run (named irp life) ≡ true }
+        → flagged (steps_in result.1.trace) (named irp life) ≡ true }
 {
     let done = queue.cancel(rt, canceller, irp, life);
     let seen = queue.seen(canceller);
@@ -45,7 +46,7 @@ pub(crate) fn learn_order<L: PendingList + Drop, N: QueueName, A: Allocator>(
     ensures own { IsExtendedBy pass.old.seen pass.new.seen }
     ensures told { IsExtendedBy seen.history pass.new.seen }
     ensures calls { pass.new.mine ≡ calls_of pass.new.pass pass.new.seen }
-    ensures order { StandInOrder N.limits.first pass.new.run pass.new.seen }
+    ensures order { StandInOrder N.limits.first (steps_in pass.new.trace) pass.new.seen }
 {
     queue.learn(pass, seen);
 }
@@ -63,8 +64,8 @@ pub(crate) fn insert_told<L: PendingList + Drop, N: QueueName, A: Allocator>(
 ) -> Result<Inserted<N>, InsertStatus>
     ensures token { IfOk result
         (λ inserted. IfSome (given_by inserted) (Holds N.limits.irps inserter.new)) }
-    ensures claimed { (i : IrpLife) → result ≡ Ok (Pending i) → flagged seen.run i ≡ true
-        → taken inserter.new.run i ≡ true }
+    ensures claimed { (i : IrpLife) → result ≡ Ok (Pending i) → flagged (steps_in seen.trace) i ≡ true
+        → taken (steps_in inserter.new.trace) i ≡ true }
 {
     queue.learn(inserter, seen);
     queue.insert(rt, inserter, irp, file, place)
@@ -82,9 +83,9 @@ pub(crate) fn remove_told<L: PendingList + Drop, N: QueueName, A: Allocator>(
     ensures token { IfSome result (HoldsRemoved N.limits.irps remover.new) }
     ensures after { (d : LockedCall N.limits) × (d.new ≡ remover.new)
         × ((c : LockedCall N.limits) → IsExtendedBy c.new.seen seen.history → ComesBefore c d) }
-    ensures gone { result ≡ None → (i : IrpLife) → was_armed seen.run i ≡ true
-        → (was_armed remover.new.run i ≡ true)
-        × (listed remover.new.run i ≡ true → taken remover.new.run i ≡ true) }
+    ensures gone { result ≡ None → (i : IrpLife) → was_armed (steps_in seen.trace) i ≡ true
+        → (was_armed (steps_in remover.new.trace) i ≡ true)
+        × (listed (steps_in remover.new.trace) i ≡ true → taken (steps_in remover.new.trace) i ≡ true) }
 {
     queue.learn(remover, seen);
     queue.remove_next(rt, remover, Peek::Any)

@@ -1,4 +1,4 @@
-use Rattle.std.proofs.Common.{List, ℕ, ◌++◌, ◌∷◌, ◌∙◌, [], Some, None, cond, ap, sym, refl, append-nil, string_bytes, codes, decimal}
+use Rattle.std.proofs.Common.{append_assoc, List, ℕ, ◌++◌, ◌∷◌, ◌∙◌, [], Some, None, cond, ap, sym, refl, append-nil, string_bytes, codes, decimal}
 use Rattle.std.proofs.lemmas.Str.{IsUtf8-from_ascii}
 use Rattle.csq_explain.proofs.Imports.{Skipped, Accepted, Stopped, Numbered, StepInCall, remark, reason_text, sentence, grew_more}
 use Rattle.csq_replay.specs.Outcomes.{step_of}
@@ -33,7 +33,8 @@ returns-in_ok-add_remark-in-Accepted g c = λ k W a.
     let old = string_bytes c.args.text.now in
     let came = was_accepted k.0 W c.args.line.number c.args.line.bytes.now _ step (c.in-Accepted.ensures k.0 W a.follows) in
     let answer : List ℕ = answer_text W c.args.line.number c.args.line.bytes.now (Accepted made) in
-    let line = c.in_ok-writeln-in-Accepted.ensures.bytes ∙ ap (λ line. old ++ (line ++ (codes " found " ++ (decimal made.found ++ codes "\n")))) c.in-Ok.ensures.cases.0 in
+    let tail : List ℕ = codes " found " ++ (decimal made.found ++ codes "\n") in
+    let line = c.in_ok-writeln-in-Accepted.ensures.bytes ∙ (ap (λ t. t ++ tail) c.in_ok-push_str-in-Accepted.ensures.bytes ∙ (append_assoc old c.in-Ok.written.now tail ∙ ap (λ line. old ++ (line ++ tail)) c.in-Ok.ensures.cases.0)) in
     let between = string_bytes c.writeln.new.self in
     let said = c.in_ok-add_remark-in-Accepted.ensures ∙ ap (λ b. between ++ cond b (remark (sentence step)) []) a.explains ∙ ap (λ (s : StepInCall). between ++ cond k.2 (remark (sentence s)) []) came.1 in
     let claims = c.in_ok-note_claim-in-Accepted.ensures ∙ ap (λ t. t ++ noted_claim c.args.self.now.explains w) a.claims ∙ ap (λ b. noted_claims k.2 W ++ noted_claim b w) a.explains ∙ claims_more k.2 w W in (

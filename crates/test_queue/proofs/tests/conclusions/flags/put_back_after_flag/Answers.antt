@@ -35,6 +35,6 @@ returns g c = record {
       answer c.put_back.ensures.call.1.accepted in
       let steps = ap (λ (r : PassRecord). r.steps) met.one_kept in
       let own' = met.one_sees.agrees.pass_is.steps_is in
-      let seen : flagged c.meet.new.one.run i ≡ true = flagged_own c.meet.new.one.pass c.meet.new.one.run i (ap (λ s. flagged s i) (sym own' ∙ steps) ∙ was) in
+      let seen : flagged (steps_in c.meet.new.one.trace) i ≡ true = flagged_own c.meet.new.one.pass (steps_in c.meet.new.one.trace) i (ap (λ s. flagged s i) (sym own' ∙ steps) ∙ was) in
       pending_taken Rearm (queue_size l) i old new made.pass (ap (λ run. flagged run i) (sym met.run) ∙ seen) told.2.follows met.other_sees.agrees.pass_is.steps_is told.2.sees made.steps;
 }

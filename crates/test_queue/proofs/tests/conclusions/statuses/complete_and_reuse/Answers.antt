@@ -18,6 +18,6 @@ returns g c =
     let irp : c.irp-irp.result ≡ i.irp = c.irp-irp.ensures in
     let known : c.irp-irp.result.0 < l.irps = subst (λ (n : IrpId). n.0 < l.irps) (sym irp) c.requires.token.known in
     let call = c.reuse.ensures.call.1.call known in
-    let done : is_done c.meet.new.other.run i ≡ true = ap (λ run. is_done run i) (sym met.run) ∙ done_stays i c.complete.new.pass.run c.meet.new.one.run met.one_follows (completed_now (queue_size l) i c.args.one.now c.complete.new.pass c.complete.ensures.call.unset) in
+    let done : is_done (steps_in c.meet.new.other.trace) i ≡ true = ap (λ run. is_done run i) (sym met.run) ∙ done_stays i (steps_in c.complete.new.pass.trace) (steps_in c.meet.new.one.trace) met.one_follows (completed_now (queue_size l) i c.args.one.now c.complete.new.pass c.complete.ensures.call.unset) in
     let refused = subst (λ (n : IrpId). IfErr c.reuse.result (IsReuseRefusal (present_in (end_of l.first c.reuse.new.pass.seen) n) c.meet.new.other c.reuse.new.pass)) irp (c.reuse.ensures.call.1.refused known) in
     record { later = reuse_later (queue_size l) i c.meet.new.other c.reuse.new.pass c.reuse.result done call.follows call.sees refused }

@@ -30,6 +30,6 @@ returns g c = record {
       let adds : (events : List Event) × IsInsert (present_in (end_of l.first history) c.args.irp) c.args.file c.args.place (Pending i) events × AddsEvents l history old new events =
       subst (λ (r : Result (InsertAnswer IrpLife IrpLife) InsertStatus). IfOk r (λ inserted. (events : List Event) × IsInsert (present_in (end_of l.first history) c.args.irp) c.args.file c.args.place inserted events × AddsEvents l history old new events))
       answer c.insert.ensures.call.1.accepted in
-      let seen : flagged old.run i ≡ true = flag_stays i c.args.seen.run old.run told.run was in
+      let seen : flagged (steps_in old.trace) i ≡ true = flag_stays i (steps_in c.args.seen.trace) (steps_in old.trace) told.run was in
       pending_taken Arm (queue_size l) i old new made.pass seen adds.2.follows told.sees.steps_are adds.2.sees made.steps;
 }

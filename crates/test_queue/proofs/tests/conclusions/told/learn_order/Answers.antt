@@ -4,4 +4,4 @@ use Rattle.test_queue.proofs.tests.conclusions.told.learn_order.Goals as goal
 pub returns : goal.returns
 returns g c =
     let told = c.learn.ensures.call.agreed in
-    record { own = told.begins; told = told.history; calls = told.once; order = in_order g.N.QueueName.limits.first c.learn.new.pass.run c.learn.new.pass.seen told.placed }
+    record { own = told.begins; told = told.history; calls = told.once; order = in_order g.N.QueueName.limits.first (steps_in c.learn.new.pass.trace) c.learn.new.pass.seen told.placed }

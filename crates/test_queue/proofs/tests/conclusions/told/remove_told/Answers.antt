@@ -26,5 +26,5 @@ returns g c =
       gone = λ none i was.
           let removes : RemovesNext Any None l history old new = subst (λ (r : Option IrpLife). RemovesNext Any r l history old new) none c.remove_next.ensures.call.1 in
           let outside : inside_of new.steps ≡ Nothing = ap inside_of removes.steps.steps in
-          (armed_stays i c.args.seen.run new.run (extended_on _ _ _ told.run call.1.follows) was, all_taken l old new history removes.call.0 i removes.call.1 outside);
+          (armed_stays i (steps_in c.args.seen.trace) (steps_in new.trace) (extended_on _ _ _ told.run call.1.follows) was, all_taken l old new history removes.call.0 i removes.call.1 outside);
     }
