@@ -1,9 +1,9 @@
 -- The history of an execution in real time, and a call in it.
-use Rattle.std.proofs.Common.{◌≡◌, ℕ, List, [], ◌∷◌, ◌++◌, Some, None, refl, sym, ap, ◌∙◌, subst}
+use Rattle.std.proofs.Common.{true≢false, ◌≡◌, ℕ, List, [], ◌∷◌, ◌++◌, Some, refl, sym, ap, ◌∙◌, subst}
 use Rattle.csq_words.proofs.Imports.{PassId, Event, recorded, end_of, HistoryEntry, PassRecord, IsExtendedBy, Tick, Makes, entries_of}
 use Rattle.std.proofs.lemmas.List.{append_cancel_right}
 use Rattle.csq_words.specs.declared.views.Tick.{TheVariants.{Enters, Leaves, Says}}
-use Rattle.csq_words.specs.Traces.{entries_in, caller_in, says, IsTrace, HasEntered, IsInCall, HasCall, HistoriesAreInRealTime}
+use Rattle.csq_words.specs.Traces.{entries_in, caller_in, says, MayCome, IsTrace, HasEntered, IsInCall, HasCall, HistoriesAreInRealTime}
 use Rattle.csq_words.specs.Traces.IsTrace.{at_start, recording, noting, unlocked, entering, leaving}
 use Rattle.csq_words.specs.Recorded.{noted}
 use Rattle.csq_words.proofs.Traced.{caller_says}
@@ -24,12 +24,6 @@ entered_by (Leaves q ∷ trace) p e = absurd (cc)
 entered_by (Makes m ∷ trace) p e = let r = entered_by trace p e in (r.0, record { within = Makes m ∷ r.1.within; trace_is = ap (λ t. Makes m ∷ t) r.1.trace_is; stays = r.1.stays })
 entered_by (Says d ∷ trace) p e = let r = entered_by trace p e in (r.0, record { within = Says d ∷ r.1.within; trace_is = ap (λ t. Says d ∷ t) r.1.trace_is; stays = r.1.stays })
 
--- what the caller has to be where a tick comes
-abbrev MayCome : Tick → List Tick → Type 0
-MayCome (Enters p) trace = caller_in trace ≡ None
-MayCome (Says e) trace = caller_in trace ≡ Some e.pass
-MayCome x trace = Unit {0}
-
 -- it is so at each tick
 abbrev EachMayCome : List Tick → Type 0
 EachMayCome [] = Unit {0}
@@ -42,9 +36,9 @@ says_come p (x ∷ es) trace e all = (caller_says (entries_of p es) trace ∙ e,
 each_comes : (first : ℕ) (trace : List Tick) → IsTrace first trace → EachMayCome trace
 each_comes first trace at_start = tt
 each_comes first trace (entering p {trace = t} free rest) = (free, each_comes first t rest)
-each_comes first trace (leaving p {trace = t} in' done rest) = (tt, each_comes first t rest)
-each_comes first trace (unlocked m {trace = t} free rest) = (tt, each_comes first t rest)
-each_comes first trace (recording call m {trace = t} of rest) = says_come m.pass (recorded call m.kind m.found (end_of first (entries_in t))) (Makes m ∷ t) of.caller_is (tt, each_comes first t rest)
+each_comes first trace (leaving p {trace = t} in' done rest) = ((in', done), each_comes first t rest)
+each_comes first trace (unlocked m {trace = t} free rest) = ((λ l. absurd (true≢false (sym l ∙ free))), each_comes first t rest)
+each_comes first trace (recording call m {trace = t} of rest) = says_come m.pass (recorded call m.kind m.found (end_of first (entries_in t))) (Makes m ∷ t) of.caller_is ((λ l. of.caller_is), each_comes first t rest)
 each_comes first trace (noting call n p {trace = t} in' outside rest) = says_come p (noted call n) t in' (each_comes first t rest)
 
 comes_at : (x : Tick) (newer older : List Tick) → EachMayCome (newer ++ (x ∷ older)) → MayCome x older
@@ -53,8 +47,8 @@ comes_at x (y ∷ newer) older all = comes_at x newer older all.1
 
 pub in_real_time : HistoriesAreInRealTime
 in_real_time first trace is = record {
-  alone = λ p newer older e. comes_at (Enters p) newer older (subst EachMayCome e all);
-  own = λ x newer older e. entered_by older x.pass (comes_at (Says x) newer older (subst EachMayCome e all));
+  each = λ x newer older e. comes_at x newer older (subst EachMayCome e all);
+  entered = λ p newer older e caller. entered_by older p caller;
   order = λ p q newer between older e. ap entries_in e ∙ (entries_over newer (Enters q ∷ (between ++ (Leaves p ∷ older))) ∙ ap (λ l. entries_in newer ++ l) (entries_over between (Leaves p ∷ older)));
 }
   where

@@ -113,10 +113,17 @@ pub record HasCall (old new : PassRecord) (found events : List HistoryEntry) : T
   pub found_is : entries_in before ≡ found
   pub events_are : entries_in entered.within ≡ events
 
--- the calls exclude each other, each event is added while a call of its own pass is on its way, and if one call left before another entered, the events that were added until it left stand in the history before those that are added after the other entered
+-- what a tick needs of the trace before it: a call enters if no other is on its way, and leaves if it is inside of no program under the lock. A step under the lock, and an event, come while a call of their own pass is on its way
+abbrev pub MayCome : Tick → List Tick → Type 0
+MayCome (Enters p) trace = caller_in trace ≡ None
+MayCome (Leaves p) trace = (caller_in trace ≡ Some p) × (has_lock (inside (steps_in trace) p) ≡ false)
+MayCome (Makes m) trace = needs_lock m.kind ≡ true → caller_in trace ≡ Some m.pass
+MayCome (Says e) trace = caller_in trace ≡ Some e.pass
+
+-- each tick may come where it stands, whoever is in a call has entered, and if one call left before another entered, the events that were added until it left stand in the history before those that are added after the other entered
 pub record IsInRealTime (trace : List Tick) : Type 0 where
-  pub alone : (p : PassId) (newer older : List Tick) → trace ≡ newer ++ (Enters p ∷ older) → caller_in older ≡ None
-  pub own : (e : HistoryEntry) (newer older : List Tick) → trace ≡ newer ++ (Says e ∷ older) → (before : List Tick) × HasEntered e.pass older before
+  pub each : (x : Tick) (newer older : List Tick) → trace ≡ newer ++ (x ∷ older) → MayCome x older
+  pub entered : (p : PassId) (newer older : List Tick) → trace ≡ newer ++ older → caller_in older ≡ Some p → (before : List Tick) × HasEntered p older before
   pub order : (p q : PassId) (newer between older : List Tick) → trace ≡ newer ++ (Enters q ∷ (between ++ (Leaves p ∷ older))) → entries_in trace ≡ entries_in newer ++ (entries_in between ++ entries_in older)
 
 -- so is every execution

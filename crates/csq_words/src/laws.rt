@@ -45,10 +45,10 @@ pub fn events_stand_in_order()
     ensures { EventsStandInOrder }
 {}
 
-/// In every execution the calls under the lock exclude each other, each event of the history is added while
-/// a call of its own pass is on its way, and if one call left before another entered, its events stand
-/// before those of the other. This holds by what an execution is; which events are those of a call, and
-/// that the call entered after all that its pass had seen, is a clause of that call.
+/// In every execution the calls under the lock exclude each other, each step under the lock and each event
+/// of the history comes while a call of its own pass is on its way, and if one call left before another
+/// entered, its events stand before those of the other. This holds by what an execution is; which events
+/// are those of a call, and that the call entered after all that its pass had seen, is a clause of that call.
 pub fn histories_are_in_real_time()
     ensures { HistoriesAreInRealTime }
 {}
