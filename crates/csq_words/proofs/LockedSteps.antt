@@ -196,7 +196,7 @@ makes size slots id q r held call i kind at f a inside' p may s h _ here _ =
     let now = made_trace r kind found es trace in
     let q' = made_record r es q.reusing now q in
     let kept = made_kept size s.words (words_after kind s.words) s.views trace id q r seat kind found es q.reusing k (making size s.words run q r x call kind may p.known found is) (recording call m (of_call call kind q r may) k.agrees.history_is.placed)
-        (made_traced size s.words s.views trace id q r seat k call kind found may) in (
+    (made_traced size s.words s.views trace id q r seat k call kind found may) in (
       view_of q' (Some r'),
       keeps,
       tt,

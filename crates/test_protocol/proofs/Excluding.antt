@@ -27,7 +27,7 @@ use Rattle.csq_words.specs.Recorded.{recorded, is_noted, IsOfCall, IsPlaced, Has
 use Rattle.csq_words.specs.Recorded.StandsAt.{at_step, between}
 use Rattle.csq_words.specs.Rule.{BackOnce}
 use Rattle.csq_words.proofs.Placing.{in_order}
-use Rattle.test_protocol.specs.Excluded.{pass, irp, did, said, inserted, removed, found_none, inserts_of, removed_by_2, completed_with, NoneIsARun, NoneIsAHistory}
+use Rattle.test_protocol.specs.Excluded.{pass, irp, did, said, inserted, removed, found_none, inserts_of, removed_by_2, completed_with, Agree, NoneIsARun, NoneIsAHistory}
 
 late_take_is : (size : Size) → IsRun size (did 3 (Take (irp 0 0)) 1 ∷ did 1 (Test (irp 0 1)) 0 ∷ did 1 (Arm (irp 0 1)) 0 ∷ did 2 (Renew (irp 0 0)) 0 ∷ did 3 (Flag (irp 0 0)) 0 ∷ did 2 (Done (irp 0 0)) 0 ∷ removed_by_2) → ⊥
 unfolding same_pass same_irp
@@ -292,19 +292,23 @@ none_pending : (refused : Option InsertStatus) → Pending ≡ reply_to_insert r
 none_pending (Some cause) is = absurd cc
 none_pending None is = absurd cc
 
+-- the history of two records that agree is that of the execution
+placed_of : {history : List HistoryEntry} {run : List Made} → Agree history run → IsPlaced 0 run history
+placed_of {history} (trace, is, h) = subst (λ (run : List Made). IsPlaced 0 run history) is h.history_is.placed
+
 -- none of the histories is one of its execution
 pub none_is_a_history : NoneIsAHistory
 unfolding same_pass same_irp same_id
 none_is_a_history = record {
-  overlooked = λ h. stand_turned (did 2 End 0 ∷ inserts_of 0 []) (inserted 1 0 ∷ found_none 2 ∷ []) h.history_is.placed (by (pass 2)) (by (pass 1)) (did 2 End 0) (inserts_of 0 []) refl refl refl (found_none 2) (inserted 1 0) refl refl refl
+  overlooked = λ h. stand_turned (did 2 End 0 ∷ inserts_of 0 []) (inserted 1 0 ∷ found_none 2 ∷ []) (placed_of h) (by (pass 2)) (by (pass 1)) (did 2 End 0) (inserts_of 0 []) refl refl refl (found_none 2) (inserted 1 0) refl refl refl
       (λ m r. by_own (pass 1) m r.own) (λ m r. by_own (pass 2) m r.own);
-  left_out = λ h. left_out_is h.history_is.placed;
-  recorded_late = λ h. recorded_late_is h.history_is.placed;
-  no_step = λ h. stands_nowhere [] (found_none 2 ∷ []) h.history_is.placed (by (pass 2)) refl [] [] (found_none 2) refl refl (λ m r. by_own (pass 2) m r.own);
-  put_back_left_out = λ h. unrecorded_is h.history_is.placed;
-  another_put_back = λ run h. (let e : pass 2 ∷ [] ≡ pass 1 ∷ [] = h.history_is.owners.0 (irp 0 0) refl in let same : pass 2 ≡ pass 1 = cc in let n : 2 ≡ 1 = ap (λ (p : PassId). p.0) same in absurd (omega arith));
-  turned = λ h. turned_is h.history_is.placed;
-  marked_before = λ h. marked_is _ refl h.history_is.placed;
+  left_out = λ h. left_out_is (placed_of h);
+  recorded_late = λ h. recorded_late_is (placed_of h);
+  no_step = λ h. stands_nowhere [] (found_none 2 ∷ []) (placed_of h) (by (pass 2)) refl [] [] (found_none 2) refl refl (λ m r. by_own (pass 2) m r.own);
+  put_back_left_out = λ h. unrecorded_is (placed_of h);
+  another_put_back = λ run h. (let e : pass 2 ∷ [] ≡ pass 1 ∷ [] = h.2.history_is.owners.0 (irp 0 0) refl in let same : pass 2 ≡ pass 1 = cc in let n : 2 ≡ 1 = ap (λ (p : PassId). p.0) same in absurd (omega arith));
+  turned = λ h. turned_is (placed_of h);
+  marked_before = λ h. marked_is _ refl (placed_of h);
   removed_first = λ h. (let e : Some (irp 0 0) ≡ None = h.1.0 in cc);
   inserted_twice = λ h. (let e : true ≡ false = h.0 in cc);
   never_removed = λ h. (let e : true ≡ false = h.0.1 in cc);

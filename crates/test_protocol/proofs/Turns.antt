@@ -19,7 +19,8 @@ use Rattle.csq_words.specs.declared.views.QueueRecord.{QueueRecord}
 use Rattle.csq_words.specs.declared.views.Reusing.TheVariants.{Nothing}
 use Rattle.csq_words.specs.Queue.{Queued, present_in, new_entry, has_irp, without}
 use Rattle.irp_core.specs.declared.step.Made.{Made}
-use Rattle.csq_words.specs.Records.{queue_of, queue_in, with_events, with_trace, with_reusing}
+use Rattle.csq_words.specs.declared.views.Tick.{Tick}
+use Rattle.csq_words.specs.Records.{entered, queue_of, queue_in, with_events, with_trace, with_reusing}
 use Rattle.csq_words.specs.Rule.{next_life}
 use Rattle.test_protocol.specs.Listed.{IsHome, IsInserted, only_entry}
 
@@ -48,10 +49,14 @@ none_left i es e = ap (without i) e ∙ (rw same_irp-refl refl)
 
 -- what is home, or alone inserted, is so whatever the record has of the execution
 pub home_in : (i : IrpLife) (q : QueueRecord) (trace : List Tick) → IsHome i q → IsHome i (with_trace trace q)
-home_in i q run h = record { idle = h.idle; present = h.present; empty = h.empty; unused = h.unused }
+home_in i q trace h = record { idle = h.idle; present = h.present; empty = h.empty; unused = h.unused }
 
 pub inserted_in : (i : IrpLife) (entries : List Queued) (q : QueueRecord) (trace : List Tick) → IsInserted i entries q → IsInserted i entries (with_trace trace q)
-inserted_in i entries q run h = record { idle = h.idle; present = h.present; entries_are = h.entries_are; unused = h.unused }
+inserted_in i entries q trace h = record { idle = h.idle; present = h.present; entries_are = h.entries_are; unused = h.unused }
+
+-- and as a call enters
+pub inserted_entered : (i : IrpLife) (entries : List Queued) (q : QueueRecord) → IsInserted i entries q → IsInserted i entries (entered q)
+inserted_entered i entries q h = record { idle = h.idle; present = h.present; entries_are = h.entries_are; unused = h.unused }
 
 -- the disarm of a removal may come where its IRP alone is listed
 pub may_disarm : (i : IrpLife) (q : QueueRecord) (r : PassRecord) → IsInserted i (only_entry i) q → inside_of r.steps ≡ inner.Nothing → MayMake (Remove i) (Disarm i) q r

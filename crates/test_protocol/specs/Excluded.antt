@@ -14,11 +14,13 @@ use Rattle.csq_words.specs.declared.views.Event.{Event}
 use Rattle.csq_words.specs.declared.views.Event.TheVariants.{FlagSeen, Insert, RemoveNext, Mark, PutBack}
 use Rattle.csq_words.specs.declared.views.HistoryEntry.{HistoryEntry}
 use Rattle.csq_words.specs.declared.views.Completion.{Completion}
+use Rattle.csq_words.specs.declared.views.Tick.{Tick}
 use Rattle.csq_words.specs.declared.views.PassRecord.{PassRecord}
 use Rattle.csq_words.specs.declared.views.QueueRecord.{QueueRecord}
 use Rattle.csq_words.specs.Queue.{Limits}
 use Rattle.csq_words.specs.History.{calls_of, IsLegal, IsOrderly}
 use Rattle.csq_words.specs.Records.{new_queue}
+use Rattle.csq_words.specs.Traces.{steps_in}
 use Rattle.csq_words.specs.Rule.{RecordsAgree, AreTrueOf}
 use Rattle.csq_words.specs.Finals.{IsFinal}
 
@@ -98,16 +100,16 @@ abbrev pub two : Size
 two = record { irps = 2; passes = 2; first = 0 }
 
 -- what a queue's record has of a history and an execution
-abbrev pub queue : List HistoryEntry → List Made → QueueRecord
-queue history run = record (new_queue 0 2) { history = history; run = run }
+abbrev pub queue : List HistoryEntry → List Tick → QueueRecord
+queue history trace = record (new_queue 0 2) { history = history; trace = trace }
 
 -- the record of pass p, which has seen both and completed these
-abbrev pub record_of : ℕ → List HistoryEntry → List Made → List Completion → PassRecord
-record_of p history run completed = record { pass = pass p; seen = history; mine = calls_of (pass p) history; steps = own (pass p) run; completed = completed; lives = []; run = run }
+abbrev pub record_of : ℕ → List HistoryEntry → List Tick → List Completion → PassRecord
+record_of p history trace completed = record { pass = pass p; seen = history; mine = calls_of (pass p) history; steps = own (pass p) (steps_in trace); completed = completed; lives = []; trace = trace }
 
--- they agree, as after a call of pass 1
+-- they agree, as after a call of pass 1, with some execution of these steps
 abbrev pub Agree : List HistoryEntry → List Made → Type 0
-Agree history run = RecordsAgree two run (queue history run) (record_of 1 history run [])
+Agree history run = (trace : List Tick) × (steps_in trace ≡ run) × RecordsAgree two trace (queue history trace) (record_of 1 history trace [])
 
 -- a pass that completed IRP 0 in life 0 with this status is back
 abbrev pub completed_with : ℕ → PassRecord

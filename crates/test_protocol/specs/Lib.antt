@@ -1,3 +1,4 @@
 pub mod Excluded
 pub mod Listed
 pub mod Stages
+pub mod Untimely

@@ -1,4 +1,4 @@
-use Rattle.std.proofs.Common.{◌≡◌, ◌<◌, Ok, refl, sym, ap, ◌∙◌, rules}
+use Rattle.std.proofs.Common.{◌≡◌, ◌<◌, Ok, sym, ap, ◌∙◌, rules}
 use Rattle.csq_checked.proofs.Imports.{arc_value, end_of, of_accepted}
 use Rattle.csq_queue.specs.Calls.{file_at}
 use Rattle.csq_queue.specs.Effects.{AddsEvents}

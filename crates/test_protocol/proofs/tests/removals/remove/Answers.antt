@@ -9,7 +9,7 @@ use Rattle.csq_words.specs.declared.calls.Call.TheVariants.{Remove}
 use Rattle.csq_words.specs.Records.{with_trace}
 use Rattle.csq_words.specs.Seats.{QueueSeatState, PassSeatState, pass_record, joined_record}
 use Rattle.test_protocol.specs.Listed.{IsInserted, only_entry}
-use Rattle.test_protocol.proofs.Turns.{may_disarm, inserted_in, after_removal}
+use Rattle.test_protocol.proofs.Turns.{may_disarm, inserted_entered, inserted_in, after_removal}
 use Rattle.test_protocol.proofs.tests.removals.remove.Goals as goal
 
 -- the IRP alone is listed
@@ -35,7 +35,7 @@ pub returns-clause-inserted : goal.returns-clause-inserted
 returns-clause-inserted g c =
     let i = c.args.name in
     let trace = c.disarm-found.new.self.queue.trace in
-    let inserted = subst (λ (q : QueueSeatState). IsInserted i (only_entry i) q.queue) (sym c.enter.ensures.joined) c.requires.inserted in
+    let inserted = subst (λ (q : QueueSeatState). IsInserted i (only_entry i) q.queue) (sym c.enter.ensures.joined) (inserted_entered i (only_entry i) c.args.queue.now.queue c.requires.inserted) in
     subst (λ (q : QueueSeatState). IsInserted i [] q.queue) (sym c.leave.ensures.queue)
     (subst (λ (q : QueueSeatState). IsInserted i [] q.queue) (sym c.disarm-found.ensures.step)
     (after_removal i (with_trace trace c.enter.new.self.queue) (joined_record c.enter.new.self) _ c.expect_found.ensures (inserted_in i (only_entry i) c.enter.new.self.queue trace inserted)))

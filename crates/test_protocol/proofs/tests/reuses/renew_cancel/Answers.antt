@@ -19,4 +19,4 @@ returns-clause-home g c =
     let trace = c.renew_cancel-found.new.self.queue.trace in
     subst (λ (q : QueueSeatState). IsHome (next_life i) q.queue) (sym c.leave.ensures.queue)
     (subst (λ (q : QueueSeatState). IsHome (next_life i) q.queue) (sym c.renew_cancel-found.ensures.step)
-    (after_reuse i (with_trace trace s.queue) (joined_record s).pass (inserted_in i [] (with_reusing Nothing s.queue) run c.requires.inserted)))
+    (after_reuse i (with_trace trace s.queue) (joined_record s).pass (inserted_in i [] (with_reusing Nothing s.queue) trace c.requires.inserted)))
