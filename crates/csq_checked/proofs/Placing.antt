@@ -1,6 +1,6 @@
 -- A put-back of what a pass holds is refused for its file object or for the list alone.
-use Rattle.std.proofs.Common.{◌≡◌, ◌<◌, ◌||◌, ◌&&◌, not, cond, Bool, true, false, true≢false, List, [], ◌∷◌, Option, Some, None, Err, refl, sym, ap, ◌∙◌, subst}
-use Rattle.csq_checked.proofs.Imports.{false_from_ne_true, leb-false, lt-leb, Size, number, same_id, same_irp, IrpLife, same_irp-eq, same_id-refl, PassRecord, IsLegal, MayCome, end_of, Limits, QueueState, present_in, has_irp, plain_listing, refusal, reply_to_insert, with_file, after_event, WordsState, OpenState, IsQueueOn}
+use Rattle.std.proofs.Common.{◌≡◌, ◌<◌, ◌||◌, ◌&&◌, not, cond, Bool, true, false, true≢false, List, [], ◌∷◌, Some, None, Err, refl, sym, ap, ◌∙◌, subst}
+use Rattle.csq_checked.proofs.Imports.{false_from_ne_true, leb-false, lt-leb, Size, number, same_id, same_irp, IrpLife, same_irp-eq, same_id-refl, PassRecord, IsLegal, MayCome, end_of, Limits, QueueState, present_in, has_irp, plain_listing, refusal, with_file, after_event, WordsState, OpenState, IsQueueOn}
 use Rattle.irp_core.specs.declared.ids.IrpId.{IrpId}
 use Rattle.irp_core.specs.declared.ids.FileId.{FileId}
 use Rattle.std.specs.List.{find}

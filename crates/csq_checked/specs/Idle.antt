@@ -2,7 +2,7 @@
 use Rattle.std.specs.Prelude.{◌≡◌, ℕ, zero, suc, ◌<◌, List, Option, Some, None, length, true}
 use Rattle.std.specs.Option.{is_none, is_some}
 use Rattle.csq_words.specs.declared.views.QueueRecord.{QueueRecord}
-use Rattle.csq_words.specs.Records.{with_back}
+use Rattle.csq_words.specs.Records.{entered, with_back}
 use Rattle.csq_words.specs.Seats.{WordsState}
 use Rattle.csq_queue.specs.Counts.{tally}
 use Rattle.csq_queue.specs.Named.{pass_numbered}
@@ -42,7 +42,7 @@ pub record AreIdle (words : WordsState) (idle : IdleSlots) : Type 0 where
 -- the queue once this pass, if there is one, gave itself back
 abbrev pub with_one_back : Option OpenPassState → QueueRecord → QueueRecord
 with_one_back None q = q
-with_one_back (Some p) q = with_back p.pass q
+with_one_back (Some p) q = with_back p.pass (entered q)
 
 -- the queue once those of the first n passes that are idle gave themselves back
 abbrev pub with_idle_back : IdleSlots → ℕ → QueueRecord → QueueRecord

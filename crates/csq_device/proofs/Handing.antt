@@ -4,6 +4,7 @@ use Rattle.std.specs.Prelude.{slice_index}
 use Rattle.std.proofs.lemmas.List.{length-map}
 use mathlib.Core.Option.{some}
 use lib.ListN.{get_elem?}
+use Rattle.csq_words.specs.Traces.{steps_in}
 use Rattle.csq_device.proofs.Imports.{cases_lt, lt-ltb, or_parts, or_right, and_from, false_from_ne_true, number, same_irp, same_pass, own, Each, IrpLife, Size, IsRun, IsKnown, IrpId, PassId, NtStatus, same_irp-refl, other_irp, same_pass-refl, Completion, HistoryEntry, Event, FlagSeen, Mark, Insert, RemoveNext, Remove, CloseFile, Reuse, PutBack, PassRecord, QueueState, after_event, end_of, is_call, calls_of, queue_of, FinalWords, IsFinal, final_status, same_pass-is, same_pass-not, tally, pass_numbered, by_number, tally_same, tally_more, tally_zero, irp_at, completed_count, is_reuse, has_reuse, AreServed, completions_of}
 use Rattle.irp_core.specs.Lives.{present_life}
 use Rattle.irp_core.specs.Owners.{owes, holds}

@@ -1,6 +1,7 @@
 //! What happened to each IRP of a queue, and what its passes have seen. Each function stands for a law: its
 //! contract is the law, and there is nothing to run.
 ghost use Rattle.csq_queue.specs.Stories.{EachIrpSeenIsGivenOnce, EachIrpLeftHasAStory, EachIrpOfAnOpenQueueHasAStory, EachStayLeftHasAStory, EachStayInAnOpenQueueHasAStory, ClosingPassesSeeOneHistory, PassesOfAnOpenQueueSeeOneHistory};
+ghost use Rattle.csq_queue.specs.Linear.{HistoriesLeftAreLinearizable, HistoriesOfOpenQueuesAreLinearizable};
 ghost use Rattle.csq_queue.specs.Order.{CallsAreOrdered, CallsComeAfterWhatWasSeen, StepsComeAfterWhatWasSeen, CallsToldOfCameFirst, EventsLeftStandInOrder, EventsOfAnOpenQueueStandInOrder};
 
 /// Where the history and the run that a pass has seen agree, as after each of its calls under the lock: an IRP,
@@ -89,4 +90,18 @@ pub fn events_left_stand_in_order()
 /// The same if `OpenQueue::close` returns, of the history that the queue had.
 pub fn events_of_an_open_queue_stand_in_order()
     ensures { EventsOfAnOpenQueueStandInOrder }
+{}
+
+/// If `Csq::close` or `Csq::close_with` returns `Ok`, the calls under the lock are linearizable (Herlihy and
+/// Wing): the history that is left is legal, each of its events stands in the execution that is left at a step
+/// of its own call, between the points at which the call enters and leaves, and if one call left before another
+/// entered, its events stand before those of the other. Both points lie between the beginning and the end of
+/// the call. Which events are those of a call is its own clause (`call` of `AddsEvents`).
+pub fn histories_left_are_linearizable()
+    ensures { HistoriesLeftAreLinearizable }
+{}
+
+/// The same if `OpenQueue::close` returns, of the history that the queue had.
+pub fn histories_of_open_queues_are_linearizable()
+    ensures { HistoriesOfOpenQueuesAreLinearizable }
 {}
