@@ -1,5 +1,5 @@
 -- No execution has calls that overlap, an event outside of its call, or a history that isn't in real time.
-use Rattle.std.proofs.Common.{◌≡◌, ℕ, Some, None, List, [], ◌∷◌, ◌++◌, sym, ap, ◌∙◌, subst, refl, arith}
+use Rattle.std.proofs.Common.{◌≡◌, ℕ, true, false, Some, None, List, [], ◌∷◌, ◌++◌, sym, ap, ◌∙◌, subst, refl, arith}
 use Rattle.irp_core.specs.declared.ids.PassId.{PassId}
 use Rattle.csq_words.specs.declared.views.HistoryEntry.{HistoryEntry}
 use Rattle.csq_words.specs.declared.views.Tick.{Tick}
@@ -21,7 +21,7 @@ none_is_in_real_time = record {
   two_inside = none_is _ _ (λ may. absurd (cc));
   left_by_another = none_is _ _ (λ may. let e = apart 1 2 may.0 in absurd (omega (arith, e)));
   left_twice = none_is _ _ (λ may. let e = may.0 in absurd (cc));
-  left_inside = none_is _ _ (λ may. let e = may.1 in absurd (cc));
+  left_inside = none_is _ _ (λ may. let e : true ≡ false = may.1 in absurd (cc));
   made_outside = none_is _ _ (λ may. let e = may refl in absurd (cc));
   made_by_another = none_is _ _ (λ may. let e = apart 1 2 (may refl) in absurd (omega (arith, e)));
   said_late = none_is _ _ (λ may. absurd (cc));

@@ -1,0 +1,3 @@
+pub mod Executions
+pub mod Sequential
+pub mod Correct
