@@ -1,6 +1,7 @@
 -- No execution has calls that overlap, an event outside of its call, or a history that isn't in real time.
 use Rattle.std.proofs.Common.{◌≡◌, ℕ, true, false, Some, None, List, [], ◌∷◌, ◌++◌, sym, ap, ◌∙◌, subst, refl, arith}
 use Rattle.irp_core.specs.declared.ids.PassId.{PassId}
+use Rattle.irp_core.specs.Steps.{same_pass}
 use Rattle.csq_words.specs.declared.views.HistoryEntry.{HistoryEntry}
 use Rattle.csq_words.specs.declared.views.Tick.{Tick}
 use Rattle.csq_words.specs.Traces.{entries_in, IsTrace, MayCome}
@@ -17,6 +18,7 @@ apart : (p q : ℕ) → Some (pass p) ≡ Some (pass q) → p ≡ q
 apart p q e = let same : pass p ≡ pass q = cc in ap (λ (x : PassId). x.0) same
 
 pub none_is_in_real_time : NoneIsInRealTime
+unfolding same_pass
 none_is_in_real_time = record {
   two_inside = none_is _ _ (λ may. absurd (cc));
   left_by_another = none_is _ _ (λ may. let e = apart 1 2 may.0 in absurd (omega (arith, e)));
