@@ -1,0 +1,19 @@
+//! The theorem of the queue. Each function stands for a law: its contract is the law, and there is nothing to run.
+ghost use Rattle.csq_theorem.specs.Laws.{ClosedQueuesAreCorrect, OpenQueuesAreCorrect, CallsAreInTheExecution};
+
+/// If `Csq::close` or `Csq::close_with` returns `Ok`, the execution that is left is correct: it is an execution, its
+/// history is one of the queue of one thread, in real time, and each request has one story in each life.
+pub fn closed_queues_are_correct()
+    ensures { ClosedQueuesAreCorrect }
+{}
+
+/// So it is if `OpenQueue::close` returns.
+pub fn open_queues_are_correct()
+    ensures { OpenQueuesAreCorrect }
+{}
+
+/// What a call under the lock promises its caller places the call in the execution: it entered after all that its pass
+/// had seen, and its events are the only ones that were added since it entered.
+pub fn calls_are_in_the_execution()
+    ensures { CallsAreInTheExecution }
+{}
