@@ -10,6 +10,7 @@ use Rattle.irp_core.specs.declared.inside.Inside.TheVariants.{Nothing}
 use Rattle.irp_core.specs.declared.step.Kind.TheVariants.{Arm}
 use Rattle.irp_core.specs.declared.step.Made.{Made}
 use Rattle.csq_list.specs.declared.entry.Peek.TheVariants.{Any}
+use Rattle.csq_words.specs.Traces.{steps_in}
 use Rattle.csq_words.specs.declared.views.HistoryEntry.{HistoryEntry}
 use Rattle.csq_words.specs.declared.views.Event.TheVariants.{RemoveNext}
 use Rattle.csq_words.specs.declared.views.PassRecord.{PassRecord}

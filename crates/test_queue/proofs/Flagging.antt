@@ -13,6 +13,7 @@ use Rattle.irp_core.specs.declared.step.Kind.TheVariants.{Arm, Test, Disarm, End
 use Rattle.irp_core.specs.declared.step.Made.{Made}
 use Rattle.irp_core.proofs.Names.{same_irp-eq, same_irp-refl}
 use Rattle.irp_core.proofs.Growing.{run_less, run_last}
+use Rattle.csq_words.specs.Traces.{steps_in}
 use Rattle.csq_words.specs.declared.views.PassRecord.{PassRecord}
 use Rattle.csq_words.specs.Queue.{has_marked}
 use Rattle.csq_words.specs.History.{end_of, IsExtendedBy}

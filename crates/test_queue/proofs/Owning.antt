@@ -5,6 +5,7 @@ use Rattle.irp_core.specs.declared.ids.IrpLife.{IrpLife}
 use Rattle.irp_core.specs.Owners.{owes, holds}
 use Rattle.irp_core.specs.Runs.{Size}
 use Rattle.irp_core.proofs.Owning.{owner_one}
+use Rattle.csq_words.specs.Traces.{steps_in}
 use Rattle.csq_words.specs.declared.views.PassRecord.{PassRecord}
 use Rattle.irp_core.specs.Own.{owes_in, holds_in}
 use Rattle.irp_core.proofs.Own.{owes_in-own, holds_in-own}

@@ -10,6 +10,7 @@ use Rattle.irp_core.specs.Runs.{Size}
 use Rattle.irp_core.specs.declared.ids.IrpId.{IrpId}
 use Rattle.irp_core.specs.declared.ids.Life.{Life}
 use Rattle.irp_core.specs.declared.status.NtStatus.{NtStatus}
+use Rattle.csq_words.specs.Traces.{steps_in}
 use Rattle.csq_words.specs.declared.views.PassRecord.{PassRecord}
 use Rattle.csq_words.specs.Plays.{IsFlagOf, IsStatusOf, flag_read, status_read}
 use Rattle.csq_words.specs.Rule.{is_done, SaysStatus, stands_for}

@@ -1,6 +1,7 @@
 use Rattle.std.proofs.Common.{◌≡◌, ◌<◌, true, sym, ap, subst, ◌∙◌}
 use Rattle.std.specs.Prelude.{IfErr}
 use Rattle.irp_core.specs.declared.ids.IrpId.{IrpId}
+use Rattle.csq_words.specs.Traces.{steps_in}
 use Rattle.csq_words.specs.Queue.{present_in}
 use Rattle.csq_words.specs.History.{end_of}
 use Rattle.csq_words.specs.Rule.{is_done}

@@ -8,6 +8,7 @@ use Rattle.irp_core.specs.Words.{flagged}
 use Rattle.irp_core.specs.Steps.{own}
 use Rattle.irp_core.proofs.Names.{same_irp-refl}
 use Rattle.irp_core.proofs.Own.{flagged_own}
+use Rattle.csq_words.specs.Traces.{steps_in}
 use Rattle.csq_words.specs.declared.views.HistoryEntry.{HistoryEntry}
 use Rattle.csq_words.specs.declared.views.Event.TheVariants.{Out}
 use Rattle.csq_words.specs.declared.views.PassRecord.{PassRecord}

@@ -1,3 +1,4 @@
+use Rattle.csq_words.specs.Traces.{steps_in}
 use Rattle.csq_words.proofs.Placing.{in_order}
 use Rattle.test_queue.proofs.tests.conclusions.told.learn_order.Goals as goal
 

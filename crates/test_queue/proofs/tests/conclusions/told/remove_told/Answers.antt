@@ -3,6 +3,7 @@ use Rattle.irp_core.specs.Own.{inside_of}
 use Rattle.irp_core.specs.declared.ids.IrpLife.{IrpLife}
 use Rattle.irp_core.specs.declared.inside.Inside.TheVariants.{Nothing}
 use Rattle.csq_list.specs.declared.entry.Peek.TheVariants.{Any}
+use Rattle.csq_words.specs.Traces.{steps_in}
 use Rattle.csq_words.specs.declared.views.Event.TheVariants.{RemoveNext}
 use Rattle.csq_words.proofs.Facts.{extended_on}
 use Rattle.csq_queue.specs.Calls.{RemovesNext}
