@@ -45,8 +45,9 @@
  * cancel routine, since both have the lock; and by whoever takes its cancel routine (csq_mark_cancel with *found 1, and
  * the callback of csq_cancel), without the lock. What a thread wrote before csq_complete, csq_complete_cancelled or
  * csq_cancel_owed is seen by whoever learns of that completion from csq_read_status or csq_reuse. For the last two the
- * library's steps on its words are atomic and sequentially consistent. (The thread sanitizer doesn't see them in the
- * library, and may report a race there.)
+ * library's steps on its words are atomic and sequentially consistent. The thread sanitizer doesn't see them in a
+ * library that was compiled without it, so this header reports that order to it in a program that is compiled with it
+ * (CSQ_NO_TSAN, defined before, leaves that out).
  *
  * The answer of a call is a code of the one table below. Where several would fit it is the first one tested:
  * whether handles are filled or empty, in the order of the parameters; whether the pass is this queue's; whether the
@@ -457,6 +458,98 @@ uint32_t csq_read_cancel(struct csq_pass *pass, uint32_t irp, uint32_t *life, ui
  * with in that life. CSQ_NONE where it isn't completed there; then *life is written, and *status isn't.
  * CSQ_EMPTY_HANDLE; CSQ_UNKNOWN_IRP; CSQ_NONE. Lock: not needed. */
 uint32_t csq_read_status(struct csq_pass *pass, uint32_t irp, uint32_t *life, uint32_t *status);
+
+/* ---- What the thread sanitizer sees ---- */
+
+#if defined(__has_feature)
+#if __has_feature(thread_sanitizer)
+#define CSQ_TSAN
+#endif
+#endif
+#if defined(__SANITIZE_THREAD__) && !defined(CSQ_TSAN)
+#define CSQ_TSAN
+#endif
+#if defined(CSQ_TSAN) && !defined(CSQ_NO_TSAN)
+
+/* Reports the order that the head of this file promises ("Memory order") as a lock of each IRP that is released before
+ * the one call and acquired after the other. Two queues may share such a lock, and so may hide a race; no race is
+ * reported for that. A refused call releases it too. */
+void __tsan_acquire(void *address);
+void __tsan_release(void *address);
+enum { CSQ_TSAN_LISTED, CSQ_TSAN_COMPLETED, CSQ_TSAN_LOCKS = 65536 };
+__attribute__((weak)) char csq_tsan_locks[2][CSQ_TSAN_LOCKS];
+static inline void *csq_tsan_lock(int kind, const struct csq_pass *pass, uint32_t irp) {
+    return &csq_tsan_locks[kind][((pass->queue * UINT64_C(0x9E3779B97F4A7C15) >> 48) + irp) % CSQ_TSAN_LOCKS];
+}
+
+#define CSQ_TSAN_CALL CSQ_NODISCARD static inline uint32_t
+CSQ_TSAN_CALL csq_tsan_insert(struct csq_queue *queue, struct csq_pass *pass, uint32_t irp, uint32_t file,
+                              uint32_t front, struct csq_irp *context) {
+    __tsan_release(csq_tsan_lock(CSQ_TSAN_LISTED, pass, irp));
+    return csq_insert(queue, pass, irp, file, front, context);
+}
+CSQ_TSAN_CALL csq_tsan_put_back(struct csq_queue *queue, struct csq_pass *pass, struct csq_irp irp, uint32_t front,
+                                struct csq_irp *context) {
+    __tsan_release(csq_tsan_lock(CSQ_TSAN_LISTED, pass, irp.irp));
+    return csq_put_back(queue, pass, irp, front, context);
+}
+CSQ_TSAN_CALL csq_tsan_mark_cancel(struct csq_pass *pass, struct csq_irp irp, uint32_t *found) {
+    uint32_t code = csq_mark_cancel(pass, irp, found);
+    if (code == CSQ_OK && *found) {
+        __tsan_acquire(csq_tsan_lock(CSQ_TSAN_LISTED, pass, irp.irp));
+    }
+    return code;
+}
+CSQ_TSAN_CALL csq_tsan_complete(struct csq_pass *pass, struct csq_irp irp, uint32_t status) {
+    __tsan_release(csq_tsan_lock(CSQ_TSAN_COMPLETED, pass, irp.irp));
+    return csq_complete(pass, irp, status);
+}
+CSQ_TSAN_CALL csq_tsan_complete_cancelled(struct csq_pass *pass, struct csq_irp irp) {
+    __tsan_release(csq_tsan_lock(CSQ_TSAN_COMPLETED, pass, irp.irp));
+    return csq_complete_cancelled(pass, irp);
+}
+CSQ_TSAN_CALL csq_tsan_cancel_owed(struct csq_queue *queue, struct csq_pass *pass, struct csq_irp irp) {
+    __tsan_release(csq_tsan_lock(CSQ_TSAN_COMPLETED, pass, irp.irp));
+    return csq_cancel_owed(queue, pass, irp);
+}
+CSQ_TSAN_CALL csq_tsan_reuse(struct csq_queue *queue, struct csq_pass *pass, struct csq_irp irp, uint32_t *life) {
+    uint32_t code = csq_reuse(queue, pass, irp, life);
+    if (code == CSQ_OK) {
+        __tsan_acquire(csq_tsan_lock(CSQ_TSAN_COMPLETED, pass, irp.irp));
+    }
+    return code;
+}
+static inline uint32_t csq_tsan_read_status(struct csq_pass *pass, uint32_t irp, uint32_t *life, uint32_t *status) {
+    uint32_t code = csq_read_status(pass, irp, life, status);
+    if (code == CSQ_OK) {
+        __tsan_acquire(csq_tsan_lock(CSQ_TSAN_COMPLETED, pass, irp));
+    }
+    return code;
+}
+static inline uint32_t csq_tsan_judge_complete(struct csq_queue *queue, struct csq_pass *pass, struct csq_irp irp,
+                                               uint32_t status, uint32_t *verdict) {
+    __tsan_release(csq_tsan_lock(CSQ_TSAN_COMPLETED, pass, irp.irp));
+    return csq_judge_complete(queue, pass, irp, status, verdict);
+}
+static inline uint32_t csq_tsan_judge_insert(struct csq_queue *queue, struct csq_pass *pass, struct csq_irp irp,
+                                             uint32_t *verdict) {
+    __tsan_release(csq_tsan_lock(CSQ_TSAN_COMPLETED, pass, irp.irp));
+    return csq_judge_insert(queue, pass, irp, verdict);
+}
+#undef CSQ_TSAN_CALL
+
+#define csq_insert csq_tsan_insert
+#define csq_put_back csq_tsan_put_back
+#define csq_mark_cancel csq_tsan_mark_cancel
+#define csq_complete csq_tsan_complete
+#define csq_complete_cancelled csq_tsan_complete_cancelled
+#define csq_cancel_owed csq_tsan_cancel_owed
+#define csq_reuse csq_tsan_reuse
+#define csq_read_status csq_tsan_read_status
+#define csq_judge_complete csq_tsan_judge_complete
+#define csq_judge_insert csq_tsan_judge_insert
+
+#endif
 
 /* ---- What a code says ---- */
 
