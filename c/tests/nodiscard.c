@@ -2,10 +2,10 @@
 #include <csq.h>
 
 void ignore(struct csq_queue *queue, struct csq_pass *pass, const struct csq_size *size, const struct csq_lock *lock,
-            const struct csq_callback *callback, struct csq_irp *irp, uint32_t *out);
+            const struct csq_callback *callback, const struct csq_events *events, struct csq_irp *irp, uint32_t *out);
 
 void ignore(struct csq_queue *queue, struct csq_pass *pass, const struct csq_size *size, const struct csq_lock *lock,
-            const struct csq_callback *callback, struct csq_irp *irp, uint32_t *out) {
+            const struct csq_callback *callback, const struct csq_events *events, struct csq_irp *irp, uint32_t *out) {
     csq_new_queue(queue, size);
     csq_new_queue_with_file_limits(queue, size, out, 1);
     csq_new(queue, size);
@@ -30,4 +30,7 @@ void ignore(struct csq_queue *queue, struct csq_pass *pass, const struct csq_siz
     csq_cancel(queue, pass, *irp, lock, callback, out);
     csq_drain(queue, pass, CSQ_ANY, lock, callback, out);
     csq_cleanup(queue, pass, 0, lock, callback, out);
+    csq_cancel_with(queue, pass, *irp, lock, events, out);
+    csq_drain_with(queue, pass, CSQ_ANY, lock, events, out);
+    csq_cleanup_with(queue, pass, 0, lock, events, out);
 }
