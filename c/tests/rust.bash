@@ -59,10 +59,11 @@ run_rust() {
   local bindings=$top/bindings/rust IFS=:
   export CSQ_LIBRARY="${files[*]}" CARGO_TARGET_DIR="$work/cargo" CARGO_NET_OFFLINE=true
   unset IFS
-  cargo_in "$bindings" test >"$work/out" 2>"$work/errors"
+  cargo_in "$bindings" test --features async >"$work/out" 2>"$work/errors"
   count_rust_lines $?
   if need "cargo clippy" "rust: clippy"; then
     expect "rust: clippy" cargo_in "$bindings" clippy --all-targets -- -D warnings
+    expect "rust: clippy, async" cargo_in "$bindings" clippy --all-targets --features async -- -D warnings
   fi
   if need "cargo fmt" "rust: format"; then expect "rust: format" cargo_in "$bindings" fmt --check; fi
   if cargo miri --version >"$work/out" 2>&1; then

@@ -253,7 +253,10 @@ impl<Q: fmt::Debug> Error for PassesOut<Q> {}
 
 /// Why a value isn't submitted, in the order in which the causes are tested.
 #[derive(Clone, Copy, Debug, PartialEq, Eq, Hash)]
+#[non_exhaustive]
 pub enum SubmitError {
+    /// The queue was shut down.
+    ShutDown,
     /// No IRP is free: each has a request under way, or has had its last life.
     NoIrp,
     /// Each IRP has had its last life, so no request can be submitted any more.
@@ -270,6 +273,7 @@ pub enum SubmitError {
 }
 
 refusal!(SubmitError {
+    ShutDown => "the queue was shut down",
     NoIrp => "no IRP is free",
     LivesSpent => "each IRP has had its last life",
     UnknownFile => "there is no such file object",
@@ -316,6 +320,48 @@ impl<T> fmt::Display for Refused<T> {
 }
 
 impl<T> Error for Refused<T> {}
+
+/// No request comes any more: the queue was shut down, and none is listed.
+#[derive(Clone, Copy, Debug, PartialEq, Eq, Hash)]
+pub struct RecvError;
+
+impl fmt::Display for RecvError {
+    fn fmt(&self, f: &mut fmt::Formatter<'_>) -> fmt::Result {
+        f.write_str("the queue was shut down")
+    }
+}
+
+impl Error for RecvError {}
+
+/// Why no request is taken without waiting.
+#[derive(Clone, Copy, Debug, PartialEq, Eq, Hash)]
+#[non_exhaustive]
+pub enum TryRecvError {
+    /// None is listed that no canceller has.
+    Empty,
+    /// None is listed, and the queue was shut down.
+    ShutDown,
+}
+
+refusal!(TryRecvError {
+    Empty => "no request is listed",
+    ShutDown => "the queue was shut down",
+});
+
+/// Why no request is taken in a time.
+#[derive(Clone, Copy, Debug, PartialEq, Eq, Hash)]
+#[non_exhaustive]
+pub enum RecvTimeoutError {
+    /// None came in time.
+    Timeout,
+    /// None is listed, and the queue was shut down.
+    ShutDown,
+}
+
+refusal!(RecvTimeoutError {
+    Timeout => "no request came in time",
+    ShutDown => "the queue was shut down",
+});
 
 /// Why a cancel of a request got no value.
 #[derive(Clone, Copy, Debug, PartialEq, Eq, Hash)]

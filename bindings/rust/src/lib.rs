@@ -95,6 +95,7 @@
 )]
 
 mod errors;
+mod lock;
 mod pass;
 mod queue;
 mod raw;
@@ -104,11 +105,14 @@ mod words;
 
 pub use errors::{
     CancelError, Holding, InsertError, Missed, NewError, NotListed, NotPutBack, PassError,
-    PassesOut, PutBackError, Refused, ReuseError, SubmitError, UnknownFile, UnknownIrp,
+    PassesOut, PutBackError, RecvError, RecvTimeoutError, Refused, ReuseError, SubmitError,
+    TryRecvError, UnknownFile, UnknownIrp,
 };
 pub use pass::Pass;
 pub use queue::{Closed, Listed, Queue};
-pub use requests::{PutBack, Request, RequestId, RequestPass, Requests};
+#[cfg(feature = "async")]
+pub use requests::{CancelledFuture, RecvFuture};
+pub use requests::{OwnedPass, OwnedRequest, PutBack, Request, RequestId, RequestPass, Requests};
 pub use token::{Cancelled, Claim, Inserted, Removed};
 pub use words::{FinalStatus, Irp, Left, List, Peek, Place, Size, LAST_LIFE};
 

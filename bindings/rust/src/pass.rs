@@ -3,13 +3,14 @@
 use crate::errors::{
     CancelError, Holding, InsertError, PassError, PutBackError, ReuseError, UnknownFile, UnknownIrp,
 };
+use crate::lock::Locked;
 use crate::queue::{file_of, Shared};
 use crate::raw::{self, RawIrp, RawPass, RawQueue};
 use crate::token::{Cancelled, Claim, Inserted, Removed};
 use crate::words::{FinalStatus, Irp, Peek, Place};
 use std::cell::UnsafeCell;
 use std::fmt;
-use std::sync::Arc;
+use std::sync::{Arc, MutexGuard};
 
 /// A pass of a queue, through which one thread at a time makes its calls. It has a share of its queue, so it can be
 /// used with no other.
@@ -36,7 +37,7 @@ impl Pass {
     pub(crate) fn of(shared: &Arc<Shared>) -> Result<Pass, PassError> {
         let mut handle = RawPass::EMPTY;
         // SAFETY: the queue is locked, and the pass's handle is empty.
-        let code = unsafe { raw::csq_take_pass(&mut *shared.lock(), &mut handle) };
+        let code = unsafe { raw::csq_take_pass(&mut shared.lock().queue, &mut handle) };
         match code {
             raw::OK => Ok(Pass {
                 shared: Arc::clone(shared),
@@ -48,9 +49,15 @@ impl Pass {
         }
     }
 
+    /// What the queue's lock guards. The calls below whose names end with `_locked` are made with it.
+    #[inline]
+    pub(crate) fn lock(&self) -> MutexGuard<'_, Locked> {
+        self.shared.lock()
+    }
+
     // Makes a call under the lock.
     fn locked(&self, call: impl FnOnce(*mut RawQueue, *mut RawPass) -> u32) -> u32 {
-        call(&mut *self.shared.lock(), self.handle.get())
+        call(&mut self.lock().queue, self.handle.get())
     }
 
     /// Gives the pass back. Refused only where a token was forgotten; then the pass comes back.
@@ -81,37 +88,54 @@ impl Pass {
 
     /// Inserts an IRP for a file object (`IoCsqInsertIrpEx`). Takes the lock.
     pub fn insert(&self, irp: u32, file: u32, place: Place) -> Result<Inserted<'_>, InsertError> {
+        let listing = self.insert_locked(&mut self.lock(), irp, file, place)?;
+        Ok(self.inserted(listing))
+    }
+
+    #[inline]
+    pub(crate) fn insert_locked(
+        &self,
+        locked: &mut Locked,
+        irp: u32,
+        file: u32,
+        place: Place,
+    ) -> Result<Listing, InsertError> {
         let mut context = RawIrp::default();
-        let front = front_of(place);
+        let (pass, front) = (self.handle.get(), front_of(place));
         // SAFETY: the queue is locked, and this thread alone has the pass.
-        match self.locked(|queue, pass| unsafe {
-            raw::csq_insert(queue, pass, irp, file, front, &mut context)
-        }) {
-            raw::OK => Ok(Inserted::Pending(Irp::of(context))),
-            raw::CANCELLED => Ok(Inserted::Cancelled(Cancelled {
-                pass: self,
-                irp: Irp::of(context),
-            })),
+        match unsafe { raw::csq_insert(&mut locked.queue, pass, irp, file, front, &mut context) } {
+            raw::OK => Ok(Listing::Pending(Irp::of(context))),
+            raw::CANCELLED => Ok(Listing::Cancelled(Irp::of(context))),
             code => Err(InsertError::of(code)),
+        }
+    }
+
+    // With the token of what isn't listed.
+    fn inserted(&self, listing: Listing) -> Inserted<'_> {
+        match listing {
+            Listing::Pending(irp) => Inserted::Pending(irp),
+            Listing::Cancelled(irp) => Inserted::Cancelled(Cancelled { pass: self, irp }),
         }
     }
 
     /// Removes the first listed match that no canceller has (`IoCsqRemoveNextIrp`). Takes the lock.
     #[must_use = "a removed IRP has to be completed, and is completed as cancelled where it is dropped"]
     pub fn remove_next(&self, peek: Peek) -> Option<Removed<'_>> {
+        let irp = self.remove_next_locked(&mut self.lock(), peek)?;
+        Some(Removed { pass: self, irp })
+    }
+
+    #[inline]
+    pub(crate) fn remove_next_locked(&self, locked: &mut Locked, peek: Peek) -> Option<Irp> {
         // In C this number stands for any; here it is an unknown file object.
         if peek == Peek::File(raw::ANY) {
             return None;
         }
-        let file = file_of(peek);
+        let (pass, file) = (self.handle.get(), file_of(peek));
         let mut irp = RawIrp::default();
         // SAFETY: the queue is locked, and this thread alone has the pass.
-        let code =
-            self.locked(|queue, pass| unsafe { raw::csq_remove_next(queue, pass, file, &mut irp) });
-        (code == raw::OK).then(|| Removed {
-            pass: self,
-            irp: Irp::of(irp),
-        })
+        let code = unsafe { raw::csq_remove_next(&mut locked.queue, pass, file, &mut irp) };
+        (code == raw::OK).then(|| Irp::of(irp))
     }
 
     /// Removes the IRP of a context (`IoCsqRemoveIrp`). None where it isn't listed in that life, or a canceller has it.
@@ -181,10 +205,14 @@ impl Pass {
     /// Begins the next life of an IRP that is completed in the life named, its present one (`IoReuseIrp`), and names it
     /// in that next life. Takes the lock.
     pub fn reuse(&self, irp: Irp) -> Result<Irp, ReuseError> {
-        let mut life = 0;
+        self.reuse_locked(&mut self.lock(), irp)
+    }
+
+    #[inline]
+    pub(crate) fn reuse_locked(&self, locked: &mut Locked, irp: Irp) -> Result<Irp, ReuseError> {
+        let (pass, mut life) = (self.handle.get(), 0);
         // SAFETY: the queue is locked, and this thread alone has the pass.
-        let code =
-            self.locked(|queue, pass| unsafe { raw::csq_reuse(queue, pass, irp.raw(), &mut life) });
+        let code = unsafe { raw::csq_reuse(&mut locked.queue, pass, irp.raw(), &mut life) };
         match code {
             raw::OK => Ok(Irp { life, ..irp }),
             raw::UNKNOWN_IRP => Err(ReuseError::UnknownIrp),
@@ -199,10 +227,17 @@ impl Pass {
     /// `IoCancelIrp`). None where the routine wasn't there: the IRP isn't listed, or a pass, perhaps this one, has it.
     /// Takes no lock.
     pub fn mark_cancel(&self, irp: Irp) -> Result<Option<Claim<'_>>, CancelError> {
+        let found = self.mark(irp)?;
+        Ok(found.then(|| Claim { pass: self, irp }))
+    }
+
+    /// Whether the routine was there. Then the pass owes the IRP.
+    #[inline]
+    pub(crate) fn mark(&self, irp: Irp) -> Result<bool, CancelError> {
         let mut found = 0;
         // SAFETY: this thread alone has the pass.
         match unsafe { raw::csq_mark_cancel(self.handle.get(), irp.raw(), &mut found) } {
-            raw::OK => Ok((found == 1).then(|| Claim { pass: self, irp })),
+            raw::OK => Ok(found == 1),
             raw::UNKNOWN_IRP => Err(CancelError::UnknownIrp),
             raw::STALE => Err(CancelError::Stale),
             code => unreachable!("csq_mark_cancel answered {code}"),
@@ -252,26 +287,35 @@ impl Pass {
     // The halves of tokens. A token is of what its pass holds or owes, so none is refused but for what the list says.
 
     pub(crate) fn put_back(&self, irp: Irp, place: Place) -> Result<Inserted<'_>, PutBackError> {
+        let listing = self.put_back_locked(&mut self.lock(), irp, place)?;
+        Ok(self.inserted(listing))
+    }
+
+    #[inline]
+    pub(crate) fn put_back_locked(
+        &self,
+        locked: &mut Locked,
+        irp: Irp,
+        place: Place,
+    ) -> Result<Listing, PutBackError> {
         let mut context = RawIrp::default();
+        let (queue, pass, front) = (&mut locked.queue, self.handle.get(), front_of(place));
         // SAFETY: the queue is locked, and this thread alone has the pass.
-        match self.locked(|queue, pass| unsafe {
-            raw::csq_put_back(queue, pass, irp.raw(), front_of(place), &mut context)
-        }) {
-            raw::OK => Ok(Inserted::Pending(Irp::of(context))),
-            raw::CANCELLED => Ok(Inserted::Cancelled(Cancelled {
-                pass: self,
-                irp: Irp::of(context),
-            })),
+        match unsafe { raw::csq_put_back(queue, pass, irp.raw(), front, &mut context) } {
+            raw::OK => Ok(Listing::Pending(Irp::of(context))),
+            raw::CANCELLED => Ok(Listing::Cancelled(Irp::of(context))),
             code => Err(PutBackError::of(code)),
         }
     }
 
+    #[inline]
     pub(crate) fn complete(&self, irp: Irp, status: FinalStatus) {
         // SAFETY: this thread alone has the pass.
         let code = unsafe { raw::csq_complete(self.handle.get(), irp.raw(), status.number()) };
         debug_assert_eq!(code, raw::OK);
     }
 
+    #[inline]
     pub(crate) fn complete_cancelled(&self, irp: Irp) {
         // SAFETY: this thread alone has the pass.
         let code = unsafe { raw::csq_complete_cancelled(self.handle.get(), irp.raw()) };
@@ -286,9 +330,13 @@ impl Pass {
     }
 
     pub(crate) fn cancel_owed(&self, irp: Irp) {
+        self.cancel_owed_locked(&mut self.lock(), irp);
+    }
+
+    #[inline]
+    pub(crate) fn cancel_owed_locked(&self, locked: &mut Locked, irp: Irp) {
         // SAFETY: the queue is locked, and this thread alone has the pass.
-        let code =
-            self.locked(|queue, pass| unsafe { raw::csq_cancel_owed(queue, pass, irp.raw()) });
+        let code = unsafe { raw::csq_cancel_owed(&mut locked.queue, self.handle.get(), irp.raw()) };
         debug_assert_eq!(code, raw::OK);
     }
 
@@ -302,6 +350,14 @@ impl Pass {
             unsafe { raw::csq_complete_cancelled(self.handle.get(), irp) };
         }
     }
+}
+
+/// What an accepted insert or put-back made of its IRP.
+pub(crate) enum Listing {
+    /// It is listed.
+    Pending(Irp),
+    /// It was found cancelled, so the pass holds it.
+    Cancelled(Irp),
 }
 
 // A place as the library numbers it.

@@ -1,8 +1,10 @@
 //! A queue, open and closed.
 
 use crate::errors::{NewError, NotListed, PassError, PassesOut, UnknownFile};
+use crate::lock::{self, Locked};
 use crate::pass::Pass;
 use crate::raw::{self, RawIrp, RawLeft, RawQueue};
+use crate::requests::{Free, Waiting};
 use crate::words::{FinalStatus, Irp, Left, Peek, Size};
 use std::fmt;
 use std::sync::{Arc, Mutex, MutexGuard, PoisonError};
@@ -12,21 +14,22 @@ unsafe impl Send for RawQueue {}
 
 /// A queue's handle under its lock. It is freed with the last pass, or with the queue.
 pub(crate) struct Shared {
-    handle: Mutex<RawQueue>,
+    locked: Mutex<Locked>,
     pub(crate) irps: u32,
 }
 
 impl Shared {
-    /// The handle, for one call. No code of the caller runs while it is locked.
-    pub(crate) fn lock(&self) -> MutexGuard<'_, RawQueue> {
-        self.handle.lock().unwrap_or_else(PoisonError::into_inner)
+    /// What the lock guards, for one call. No code of the caller runs while it is locked.
+    #[inline]
+    pub(crate) fn lock(&self) -> MutexGuard<'_, Locked> {
+        lock::lock(&self.locked)
     }
 
     /// How many IRPs are listed for a file object.
     pub(crate) fn file_len(&self, file: u32) -> Result<u32, UnknownFile> {
         let mut len = 0;
         // SAFETY: the handle is locked.
-        match unsafe { raw::csq_file_len(&*self.lock(), file, &mut len) } {
+        match unsafe { raw::csq_file_len(&self.lock().queue, file, &mut len) } {
             raw::OK => Ok(len),
             raw::UNKNOWN_FILE => Err(UnknownFile),
             code => unreachable!("csq_file_len answered {code}"),
@@ -36,12 +39,10 @@ impl Shared {
 
 impl Drop for Shared {
     fn drop(&mut self) {
-        let handle = self
-            .handle
-            .get_mut()
-            .unwrap_or_else(PoisonError::into_inner);
+        let locked = self.locked.get_mut();
+        let locked = locked.unwrap_or_else(PoisonError::into_inner);
         // SAFETY: nobody else has the handle, since each pass has a share of it.
-        let code = unsafe { raw::csq_free_queue(handle) };
+        let code = unsafe { raw::csq_free_queue(&mut locked.queue) };
         debug_assert_eq!(code, raw::OK);
     }
 }
@@ -82,17 +83,26 @@ impl Queue {
             raw::OK => {
                 // As `csq_new` in the header does, by which a pass of another queue is known.
                 handle.number = handle.at as u64;
+                let locked = Mutex::new(Locked {
+                    queue: handle,
+                    free: Free::default(),
+                    waiting: Waiting::default(),
+                });
+                let irps = size.irps;
                 Ok(Queue {
-                    shared: Arc::new(Shared {
-                        handle: Mutex::new(handle),
-                        irps: size.irps,
-                    }),
+                    shared: Arc::new(Shared { locked, irps }),
                 })
             }
             raw::BAD_SIZE => Err(NewError::BadSize),
             raw::NO_MEMORY => Err(NewError::NoMemory),
             code => unreachable!("csq_new answered {code}"),
         }
+    }
+
+    /// What the lock guards, for one call.
+    #[inline]
+    pub(crate) fn lock(&self) -> MutexGuard<'_, Locked> {
+        self.shared.lock()
     }
 
     /// A pass: one that was given back, if there is one, else a new one. Takes the lock.
@@ -102,7 +112,7 @@ impl Queue {
 
     /// How many passes are out.
     pub fn passes_out(&self) -> u32 {
-        passes_out(&self.shared.lock())
+        passes_out(&self.shared.lock().queue)
     }
 
     /// The first listed IRP of a file object, or of any, in its present life: from the first on, or after this one
@@ -114,10 +124,15 @@ impl Queue {
             return Err(NotListed);
         }
         let mut irp = RawIrp::default();
-        let handle = self.shared.lock();
+        let locked = self.shared.lock();
         // SAFETY: the handle is locked.
         match unsafe {
-            raw::csq_peek_next(&*handle, after.unwrap_or(raw::ANY), file_of(peek), &mut irp)
+            raw::csq_peek_next(
+                &locked.queue,
+                after.unwrap_or(raw::ANY),
+                file_of(peek),
+                &mut irp,
+            )
         } {
             raw::OK if peek != Peek::File(raw::ANY) => Ok(Some(Irp::of(irp))),
             raw::OK | raw::NONE => Ok(None),
@@ -130,7 +145,7 @@ impl Queue {
     pub fn len(&self) -> u32 {
         let mut len = 0;
         // SAFETY: the handle is locked.
-        let code = unsafe { raw::csq_len(&*self.shared.lock(), &mut len) };
+        let code = unsafe { raw::csq_len(&self.shared.lock().queue, &mut len) };
         debug_assert_eq!(code, raw::OK);
         len
     }
@@ -147,18 +162,18 @@ impl Queue {
 
     /// Closes the queue, once no pass is out.
     pub fn close(self) -> Result<Closed, PassesOut> {
-        let mut handle = self.shared.lock();
+        let mut locked = self.shared.lock();
         // SAFETY: the handle is locked.
-        match unsafe { raw::csq_close(&mut *handle) } {
+        match unsafe { raw::csq_close(&mut locked.queue) } {
             raw::OK => {
-                drop(handle);
+                drop(locked);
                 Ok(Closed {
                     shared: self.shared,
                 })
             }
             raw::PASSES_OUT => {
-                let out = passes_out(&handle);
-                drop(handle);
+                let out = passes_out(&locked.queue);
+                drop(locked);
                 Err(PassesOut { queue: self, out })
             }
             code => unreachable!("csq_close answered {code}"),
@@ -176,6 +191,7 @@ fn passes_out(handle: &RawQueue) -> u32 {
 }
 
 /// A file object as it is passed to C.
+#[inline]
 pub(crate) fn file_of(peek: Peek) -> u32 {
     match peek {
         Peek::Any => raw::ANY,
@@ -207,7 +223,7 @@ impl Closed {
     pub fn irp(&self, irp: u32) -> Option<Left> {
         let mut left = RawLeft::default();
         // SAFETY: the handle is locked.
-        let code = unsafe { raw::csq_read_left(&*self.shared.lock(), irp, &mut left) };
+        let code = unsafe { raw::csq_read_left(&self.shared.lock().queue, irp, &mut left) };
         (code == raw::OK).then(|| Left {
             life: left.life,
             cancelled: left.cancelled == 1,
@@ -231,7 +247,8 @@ impl Iterator for Listed<'_> {
         let mut irp = 0;
         let after = self.after?;
         // SAFETY: the handle is locked.
-        let code = unsafe { raw::csq_read_listed(&*self.queue.shared.lock(), after, &mut irp) };
+        let code =
+            unsafe { raw::csq_read_listed(&self.queue.shared.lock().queue, after, &mut irp) };
         self.after = (code == raw::OK).then_some(irp);
         self.after
     }

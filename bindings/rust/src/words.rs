@@ -26,6 +26,7 @@ impl fmt::Display for Irp {
 }
 
 impl Irp {
+    #[inline]
     pub(crate) fn of(raw: RawIrp) -> Irp {
         Irp {
             irp: raw.irp,
@@ -33,6 +34,7 @@ impl Irp {
         }
     }
 
+    #[inline]
     pub(crate) fn raw(self) -> RawIrp {
         RawIrp {
             irp: self.irp,
