@@ -153,12 +153,36 @@ impl<T> fmt::Debug for Requests<T> {
 
 impl<T> Requests<T> {
     /// A queue of this size.
+    ///
+    /// # Errors
+    ///
+    /// [`NewError`]: a number is out of its range, or memory was refused.
+    ///
+    /// ```
+    /// # use csq::*;
+    /// let queue = Requests::<String>::new(&Size::new(64, 2, 4))?;
+    /// assert!(queue.is_empty());
+    /// # Ok::<(), Box<dyn std::error::Error>>(())
+    /// ```
     pub fn new(size: &Size) -> Result<Requests<T>, NewError> {
         Ok(Requests::over(Queue::new(size)?, size))
     }
 
     /// A queue of this size, each file object with a limit of its own: how many requests may be listed for it at a time,
     /// 1 to `irps`.
+    ///
+    /// # Errors
+    ///
+    /// [`NewError`]: as [`Requests::new`]; there also have to be as many limits as file objects.
+    ///
+    /// ```
+    /// # use csq::*;
+    /// let queue = Requests::with_file_limits(&Size::new(64, 2, 4), &[1, 63])?;
+    /// let pass = queue.pass()?;
+    /// pass.submit("first", 0, Place::Back)?;
+    /// assert_eq!(pass.submit("second", 0, Place::Back).unwrap_err().cause, SubmitError::FileFull);
+    /// # Ok::<(), Box<dyn std::error::Error>>(())
+    /// ```
     pub fn with_file_limits(size: &Size, file_limits: &[u32]) -> Result<Requests<T>, NewError> {
         Ok(Requests::over(
             Queue::with_file_limits(size, file_limits)?,
@@ -180,33 +204,103 @@ impl<T> Requests<T> {
     }
 
     /// A pass: one that was given back, if there is one, else a new one. Takes the lock.
+    ///
+    /// # Errors
+    ///
+    /// [`PassError`]: all passes are out, or memory was refused.
+    ///
+    /// ```
+    /// # use csq::*;
+    /// let queue = Requests::new(&Size::new(4, 2, 1))?;
+    /// let pass = queue.pass()?;
+    /// pass.submit(1, 0, Place::Back)?;
+    /// assert_eq!(queue.pass().unwrap_err(), PassError::NoPass);
+    /// # Ok::<(), Box<dyn std::error::Error>>(())
+    /// ```
     pub fn pass(&self) -> Result<RequestPass<T>, PassError> {
         let pass = self.queue.pass()?;
         Ok(RequestPass::new(Arc::clone(&self.shared), pass))
     }
 
     /// A pass for several threads: one that was given back, if there is one, else a new one. Takes the lock.
+    ///
+    /// # Errors
+    ///
+    /// [`PassError`]: all passes are out, or memory was refused.
+    ///
+    /// ```
+    /// # use csq::*;
+    /// let queue = Requests::new(&Size::new(4, 2, 1))?;
+    /// let pass = queue.owned_pass()?;
+    /// let worker = std::thread::spawn({
+    ///     let pass = pass.clone();
+    ///     move || pass.recv(Peek::Any).expect("a request").complete()
+    /// });
+    /// pass.submit("job", 0, Place::Back)?;
+    /// assert_eq!(worker.join().unwrap(), "job");
+    /// # Ok::<(), Box<dyn std::error::Error>>(())
+    /// ```
     pub fn owned_pass(&self) -> Result<OwnedPass<T>, PassError> {
         let pass = self.queue.pass()?;
         Ok(OwnedPass::new(Arc::clone(&self.shared), pass))
     }
 
     /// How many passes are out.
+    ///
+    /// ```
+    /// # use csq::*;
+    /// let queue = Requests::<u32>::new(&Size::new(4, 2, 2))?;
+    /// let pass = queue.pass()?;
+    /// assert_eq!(queue.passes_out(), 1);
+    /// # Ok::<(), Box<dyn std::error::Error>>(())
+    /// ```
     pub fn passes_out(&self) -> u32 {
         self.queue.passes_out()
     }
 
     /// How many requests are listed. Takes the lock.
+    ///
+    /// ```
+    /// # use csq::*;
+    /// # let queue = Requests::new(&Size::new(4, 2, 2))?;
+    /// # let pass = queue.pass()?;
+    /// pass.submit("job", 0, Place::Back)?;
+    /// assert_eq!(queue.len(), 1);
+    /// # Ok::<(), Box<dyn std::error::Error>>(())
+    /// ```
     pub fn len(&self) -> u32 {
         self.queue.len()
     }
 
     /// Whether none is listed. Takes the lock.
+    ///
+    /// ```
+    /// # use csq::*;
+    /// # let queue = Requests::new(&Size::new(4, 2, 2))?;
+    /// # let pass = queue.pass()?;
+    /// assert!(queue.is_empty());
+    /// pass.submit("job", 0, Place::Back)?;
+    /// assert!(!queue.is_empty());
+    /// # Ok::<(), Box<dyn std::error::Error>>(())
+    /// ```
     pub fn is_empty(&self) -> bool {
         self.queue.is_empty()
     }
 
     /// How many requests are listed for a file object. Takes the lock.
+    ///
+    /// # Errors
+    ///
+    /// [`UnknownFile`]: there is no such file object.
+    ///
+    /// ```
+    /// # use csq::*;
+    /// # let queue = Requests::new(&Size::new(4, 2, 2))?;
+    /// # let pass = queue.pass()?;
+    /// pass.submit("job", 1, Place::Back)?;
+    /// assert_eq!((queue.file_len(0)?, queue.file_len(1)?), (0, 1));
+    /// # Ok::<(), Box<dyn std::error::Error>>(())
+    /// ```
     pub fn file_len(&self, file: u32) -> Result<u32, UnknownFile> {
         self.queue.file_len(file)
     }
@@ -216,12 +310,38 @@ impl<T> Requests<T> {
     /// back and cancelled.
     ///
     /// [`SubmitError::ShutDown`]: crate::SubmitError::ShutDown
+    ///
+    /// ```
+    /// # use csq::*;
+    /// # let queue = Requests::new(&Size::new(4, 2, 2))?;
+    /// # let pass = queue.pass()?;
+    /// pass.submit("listed", 0, Place::Back)?;
+    /// queue.shutdown();
+    /// assert_eq!(pass.submit("late", 0, Place::Back).unwrap_err().cause, SubmitError::ShutDown);
+    /// assert_eq!(pass.recv(Peek::Any)?.complete(), "listed");
+    /// assert_eq!(pass.recv(Peek::Any).unwrap_err(), RecvError);
+    /// # Ok::<(), Box<dyn std::error::Error>>(())
+    /// ```
     pub fn shutdown(&self) {
         shut_down(self.queue.lock());
     }
 
     /// Closes the queue, once no pass is out, and hands over the values that are still listed, in the list's order. Those
     /// who wait have passes, so a queue with workers is shut down first ([`Requests::shutdown`]).
+    ///
+    /// # Errors
+    ///
+    /// [`PassesOut`]: passes are out; the queue comes back.
+    ///
+    /// ```
+    /// # use csq::*;
+    /// # let queue = Requests::new(&Size::new(4, 2, 2))?;
+    /// # let pass = queue.pass()?;
+    /// pass.submit("left", 0, Place::Back)?;
+    /// drop(pass);
+    /// assert_eq!(queue.close()?, ["left"]);
+    /// # Ok::<(), Box<dyn std::error::Error>>(())
+    /// ```
     pub fn close(self) -> Result<Vec<T>, PassesOut<Requests<T>>> {
         let Requests { queue, shared } = self;
         let closed = match queue.close() {

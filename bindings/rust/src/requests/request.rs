@@ -33,27 +33,77 @@ impl<'pass, T> Request<'pass, T> {
     }
 
     /// Its name.
+    ///
+    /// ```
+    /// # use csq::*;
+    /// # let queue = Requests::new(&Size::new(4, 2, 2))?;
+    /// # let pass = queue.pass()?;
+    /// let id = pass.submit("job", 1, Place::Back)?;
+    /// assert_eq!(pass.recv(Peek::Any)?.id(), id);
+    /// # Ok::<(), Box<dyn std::error::Error>>(())
+    /// ```
     pub fn id(&self) -> RequestId {
         self.taken.id
     }
 
     /// The value.
+    ///
+    /// ```
+    /// # use csq::*;
+    /// # let queue = Requests::new(&Size::new(4, 2, 2))?;
+    /// # let pass = queue.pass()?;
+    /// pass.submit("job", 1, Place::Back)?;
+    /// assert_eq!(pass.recv(Peek::Any)?.value(), &"job");
+    /// # Ok::<(), Box<dyn std::error::Error>>(())
+    /// ```
     pub fn value(&self) -> &T {
         &self.taken.value
     }
 
     /// The value, to be changed.
+    ///
+    /// ```
+    /// # use csq::*;
+    /// # let queue = Requests::new(&Size::new(4, 2, 2))?;
+    /// # let pass = queue.pass()?;
+    /// pass.submit(1, 1, Place::Back)?;
+    /// let mut request = pass.recv(Peek::Any)?;
+    /// *request.value_mut() += 1;
+    /// assert_eq!(request.complete(), 2);
+    /// # Ok::<(), Box<dyn std::error::Error>>(())
+    /// ```
     pub fn value_mut(&mut self) -> &mut T {
         &mut self.taken.value
     }
 
     /// Whether a cancel named it and came too late ([`Missed::Taken`](crate::Missed::Taken)): nobody waits for it, so it
     /// may be given up, and a put-back doesn't leave it to another worker. Takes no lock.
+    ///
+    /// ```
+    /// # use csq::*;
+    /// # let queue = Requests::new(&Size::new(4, 2, 2))?;
+    /// # let pass = queue.pass()?;
+    /// let id = pass.submit("job", 1, Place::Back)?;
+    /// let request = pass.recv(Peek::Any)?;
+    /// assert_eq!(pass.cancel(id), Err(Missed::Taken));
+    /// assert!(request.is_cancelled());
+    /// # Ok::<(), Box<dyn std::error::Error>>(())
+    /// ```
     pub fn is_cancelled(&self) -> bool {
         self.taken.is_cancelled()
     }
 
     /// Completes the request with `STATUS_SUCCESS`, and hands its value over. Its IRP is free then. Takes the lock.
+    ///
+    /// ```
+    /// # use csq::*;
+    /// # let queue = Requests::new(&Size::new(4, 2, 2))?;
+    /// # let pass = queue.pass()?;
+    /// let id = pass.submit("job", 1, Place::Back)?;
+    /// assert_eq!(pass.recv(Peek::Any)?.complete(), "job");
+    /// assert_eq!(pass.cancel(id), Err(Missed::Completed));
+    /// # Ok::<(), Box<dyn std::error::Error>>(())
+    /// ```
     pub fn complete(self) -> T {
         self.taken.complete()
     }
@@ -61,6 +111,10 @@ impl<'pass, T> Request<'pass, T> {
     /// Puts the request back into the list with its value, for the file object that it was submitted for: for a worker
     /// that can't serve it now. It keeps its name. One that a cancel named in the meantime is completed with
     /// `STATUS_CANCELLED`, and its value handed over. A refusal hands the request back. Takes the lock.
+    ///
+    /// # Errors
+    ///
+    /// [`NotPutBack`], which hands the request back with its cause.
     ///
     /// ```
     /// # fn main() -> Result<(), Box<dyn std::error::Error>> {
