@@ -75,7 +75,6 @@ struct csq_request {
 struct csq_requests_slot {
     void *value;
     uint32_t file;
-    uint32_t life;
     uint32_t used; /* 1 while a request of it is under way */
 };
 
@@ -208,7 +207,7 @@ static inline uint32_t csq_requests_list(struct csq_requests *requests, void *va
     /* Never CSQ_CANCELLED: a cancel by the name of a free IRP is refused. */
     code = csq_insert(&requests->queue, &requests->pass, irp, file, front, name);
     if (code == CSQ_OK) {
-        struct csq_requests_slot slot = { value, file, name->life, 1 };
+        struct csq_requests_slot slot = { value, file, 1 };
         requests->slots[irp] = slot;
         requests->free_count--;
         csq_requests_file_of(requests, file)->under_way++;
@@ -473,7 +472,8 @@ CSQ_NODISCARD static inline uint32_t csq_requests_cancel(struct csq_requests *re
         return CSQ_UNKNOWN_IRP;
     }
     pthread_mutex_lock(&requests->mutex);
-    if (requests->slots[name.irp].used && requests->slots[name.irp].life == name.life) {
+    /* Of one that is free no cancel is noted, or the next submit would find it. */
+    if (requests->slots[name.irp].used) {
         code = csq_mark_cancel(&requests->pass, name, &found);
     }
     if (code == CSQ_OK && !found) {

@@ -105,6 +105,7 @@ static void values_come_out_in_order(uint32_t list) {
     CHECK(odd.name.irp == name.irp && odd.name.life == name.life);
     IS(csq_requests_complete(requests, &first, 0), CSQ_OK);
     IS(csq_requests_free(&requests), CSQ_HOLDING);
+    IS(csq_requests_submit(requests, number(5), 0, 0, &name), CSQ_CLOSED);
     IS(csq_requests_complete(requests, &odd, 0), CSQ_OK);
     IS(csq_requests_free(&requests), CSQ_OK);
     CHECK(!requests);
@@ -147,10 +148,13 @@ static void a_cancel_gets_the_value_or_says_why_not(uint32_t list) {
     static const uint32_t cancelled[] = { 1, 101 };
     struct report report;
     struct csq_requests *requests = reported(2, list, &report);
-    struct csq_irp first = submit(requests, 1, 0, 0), second = submit(requests, 2, 0, 0), unborn;
-    struct csq_request taken;
+    struct csq_irp first, second, unborn;
+    struct csq_request taken, again;
     void *value = NULL;
     IS(csq_requests_cancel(requests, irp_in(2, 0), &value), CSQ_UNKNOWN_IRP);
+    IS(csq_requests_cancel(requests, irp_in(0, 0), &value), CSQ_STALE);
+    first = submit(requests, 1, 0, 0);
+    second = submit(requests, 2, 0, 0);
     IS(csq_requests_cancel(requests, first, &value), CSQ_OK);
     IS(number_of(value), 1);
     the_events_were(&report, cancelled, 2);
@@ -167,7 +171,13 @@ static void a_cancel_gets_the_value_or_says_why_not(uint32_t list) {
     IS(number_of(value), 1);
     IS(csq_requests_complete(requests, &taken, 0), CSQ_OK);
     IS(csq_requests_cancel(requests, second, &value), CSQ_STALE);
+    second = submit(requests, 4, 0, 0);
+    IS(next(requests, 0, &again), 4);
+    CHECK(again.name.irp == taken.name.irp);
+    IS(csq_requests_cancel(requests, second, &value), CSQ_NONE);
+    IS(csq_requests_is_cancelled(requests, &again), 1);
     IS(csq_requests_is_cancelled(requests, &taken), 0);
+    IS(csq_requests_complete(requests, &again, 0), CSQ_OK);
     IS(report.count, 2);
     IS(csq_requests_free(&requests), CSQ_OK);
     /* What was listed at the end was reported. */
@@ -234,6 +244,7 @@ static void lives_end(uint32_t list) {
     struct csq_size size = size_of(1, 1, list);
     struct csq_irp name = { 0, 0 };
     struct csq_request taken;
+    void *value = NULL;
     size.first_life = CSQ_LAST_LIFE - 1;
     IS(csq_requests_new(&requests, &size, NULL, NULL), CSQ_OK);
     for (int turn = 0; turn < 2; turn++) {
@@ -243,6 +254,7 @@ static void lives_end(uint32_t list) {
         IS(csq_requests_complete(requests, &taken, 0), CSQ_OK);
     }
     IS(csq_requests_submit(requests, number(9), 0, 0, &name), CSQ_LIVES_SPENT);
+    IS(csq_requests_cancel(requests, taken.name, &value), CSQ_STALE);
     IS(csq_requests_free(&requests), CSQ_OK);
 }
 
@@ -253,10 +265,20 @@ struct worker {
     pthread_t thread;
 };
 
+static long milliseconds_since(struct timespec start) {
+    struct timespec now;
+    clock_gettime(CLOCK_MONOTONIC, &now);
+    return (now.tv_sec - start.tv_sec) * 1000 + (now.tv_nsec - start.tv_nsec) / 1000000;
+}
+
+/* It is woken: what came would be found also after the whole time. */
 static void *wait_for_one(void *of) {
     struct worker *worker = of;
     struct csq_request taken;
+    struct timespec start;
+    clock_gettime(CLOCK_MONOTONIC, &start);
     worker->code = csq_requests_next(worker->requests, worker->file, LONG, &taken);
+    CHECK(milliseconds_since(start) < LONG);
     if (worker->code == CSQ_OK) {
         worker->value = number_of(taken.value);
         worker->code = csq_requests_complete(worker->requests, &taken, 0);
@@ -287,7 +309,10 @@ static void a_submit_wakes_one_who_waits_for_it(uint32_t list) {
     struct csq_requests *requests = made(4, list, NULL);
     struct csq_request taken;
     struct worker workers[3];
+    struct timespec begin;
+    clock_gettime(CLOCK_MONOTONIC, &begin);
     IS(csq_requests_next(requests, CSQ_ANY, SHORT, &taken), CSQ_NONE);
+    CHECK(milliseconds_since(begin) >= SHORT - 1);
     for (uint32_t file = 0; file < 3; file++) {
         start(&workers[file], requests, file);
     }
@@ -297,11 +322,17 @@ static void a_submit_wakes_one_who_waits_for_it(uint32_t list) {
     submit(requests, 7, 0, 0);
     end_of(&workers[0], CSQ_OK, 7);
     start(&workers[0], requests, CSQ_ANY);
+    rest();
+    submit(requests, 8, 2, 0);
+    end_of(&workers[0], CSQ_OK, 8);
+    start(&workers[0], requests, CSQ_ANY);
+    rest();
     csq_requests_close(requests);
     csq_requests_close(requests);
     end_of(&workers[0], CSQ_CLOSED, 0);
     end_of(&workers[1], CSQ_CLOSED, 0);
     IS(csq_requests_submit(requests, number(1), 0, 0, &taken.name), CSQ_CLOSED);
+    IS(csq_requests_submit(requests, number(1), CSQ_ANY, 0, &taken.name), CSQ_UNKNOWN_FILE);
     IS(csq_requests_next(requests, CSQ_ANY, CSQ_FOREVER, &taken), CSQ_CLOSED);
     IS(csq_requests_free(&requests), CSQ_OK);
 }
@@ -323,29 +354,39 @@ static void a_close_leaves_what_is_listed(uint32_t list) {
 
 static void *drain_it(void *of) {
     struct worker *worker = of;
+    struct timespec start;
+    clock_gettime(CLOCK_MONOTONIC, &start);
     worker->code = csq_requests_drain(worker->requests, worker->file, LONG);
+    CHECK(milliseconds_since(start) < LONG);
     worker->value = under_way(worker->requests, worker->file);
     return NULL;
 }
 
-static void a_drain_waits_for_what_is_taken_and_takes_what_is_put_back(uint32_t list) {
+/* Two requests are taken: one is put back and one completed, in this order or in the other. */
+static void drain_what_is_taken(uint32_t list, int put_back_first) {
     struct report report;
     struct csq_requests *requests = reported(4, list, &report);
-    struct csq_request first, second;
+    struct csq_request taken[2];
     struct worker drain = { requests, 0, 0, 0, 0 };
-    submit(requests, 1, 0, 0);
-    submit(requests, 2, 0, 0);
-    IS(next(requests, 0, &first), 1);
-    IS(next(requests, 0, &second), 2);
+    for (int at = 0; at < 2; at++) {
+        submit(requests, at, 0, 0);
+        IS(next(requests, 0, &taken[at]), (uint32_t)at);
+    }
     IS((unsigned)pthread_create(&drain.thread, NULL, drain_it, &drain), 0);
-    rest();
-    IS(csq_requests_put_back(requests, &first, 0), CSQ_OK);
-    rest();
-    IS(csq_requests_complete(requests, &second, 0), CSQ_OK);
+    for (int turn = 0; turn < 2; turn++) {
+        rest();
+        IS(turn == !put_back_first ? csq_requests_put_back(requests, &taken[0], 0)
+                                   : csq_requests_complete(requests, &taken[1], 0), CSQ_OK);
+    }
     end_of(&drain, CSQ_OK, 0);
     IS(report.count, 2);
-    IS(report.events[0], 1);
+    IS(report.events[0], 0);
     IS(csq_requests_free(&requests), CSQ_OK);
+}
+
+static void a_drain_waits_for_what_is_taken_and_takes_what_is_put_back(uint32_t list) {
+    drain_what_is_taken(list, 1);
+    drain_what_is_taken(list, 0);
 }
 
 /* ---- Threads: each value comes out once, whoever gets it ---- */
