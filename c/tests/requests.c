@@ -276,13 +276,15 @@ static void *wait_for_one(void *of) {
     struct worker *worker = of;
     struct csq_request taken;
     struct timespec start;
+    uint32_t code;
     clock_gettime(CLOCK_MONOTONIC, &start);
-    worker->code = csq_requests_next(worker->requests, worker->file, LONG, &taken);
-    CHECK(milliseconds_since(start) < LONG);
-    if (worker->code == CSQ_OK) {
+    code = csq_requests_next(worker->requests, worker->file, LONG, &taken);
+    if (code == CSQ_OK) {
         worker->value = number_of(taken.value);
-        worker->code = csq_requests_complete(worker->requests, &taken, 0);
+        code = csq_requests_complete(worker->requests, &taken, 0);
     }
+    CHECK(milliseconds_since(start) < LONG);
+    worker->code = code;
     return NULL;
 }
 

@@ -109,6 +109,10 @@ fn channel(workers: u32) {
 }
 
 fn main() {
+    // `cargo test --all-targets` runs it too, and wants no figures.
+    if !std::env::args().any(|word| word == "--bench") {
+        return;
+    }
     let (bare, whole) = (median(bare_cycle), median(cycle_of_requests));
     println!(
         "one thread: the queue's cycle {bare:.0} ns, a request {whole:.0} ns, {:.2} times",
