@@ -7,7 +7,8 @@
 //! its IRP with `STATUS_CANCELLED`. What was removed may be put back instead ([`Removed::put_back`]). So once a queue is
 //! closed, each IRP that an insert accepted was completed once or is listed.
 //!
-//! [`Requests`] is such a queue of values: it takes an IRP for each, and hands each value over once.
+//! [`Requests`] is such a queue of values: it takes an IRP for each, and hands each value over once. Workers wait for the
+//! next one, and threads may share a pass of it ([`OwnedPass`]).
 //!
 //! ```
 //! use csq::{FinalStatus, Inserted, Peek, Place, Queue, Size};

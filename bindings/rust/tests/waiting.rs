@@ -120,7 +120,7 @@ fn what_is_under_way_at_a_shutdown_is_ended_as_ever() {
 #[test]
 fn nobody_sleeps_while_a_request_for_it_is_listed() {
     const FILES: u32 = 2;
-    const VALUES: u32 = 20_000;
+    const VALUES: u32 = 4_000;
     let peeks = [
         Peek::Any,
         Peek::File(0),

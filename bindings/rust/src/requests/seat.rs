@@ -195,25 +195,40 @@ impl<T> Seat<T> {
         peek: Peek,
         limit: Option<Duration>,
     ) -> Result<(Held, T), RecvTimeoutError> {
-        for _ in 0..=YIELDS {
-            match self.try_take(peek) {
-                Ok(taken) => return Ok(taken),
-                Err(TryRecvError::ShutDown) => return Err(RecvTimeoutError::ShutDown),
-                Err(TryRecvError::Empty) => thread::yield_now(),
-            }
+        if let Some(answer) = self.answer_now(peek) {
+            return answer;
         }
         // A time that no clock reaches is none.
         let end = limit.and_then(|limit| Instant::now().checked_add(limit));
+        let left = || end.map(|end| end.saturating_duration_since(Instant::now()));
+        for _ in 0..YIELDS {
+            if left() == Some(Duration::ZERO) {
+                return Err(RecvTimeoutError::Timeout);
+            }
+            thread::yield_now();
+            if let Some(answer) = self.answer_now(peek) {
+                return answer;
+            }
+        }
         let (waker, mut ticket) = (thread_waker(), None);
         loop {
             if let Poll::Ready(taken) = self.poll_take(peek, &mut ticket, waker.clone()) {
                 return taken.ok_or(RecvTimeoutError::ShutDown);
             }
-            match end.map(|end| end.saturating_duration_since(Instant::now())) {
+            match left() {
                 None => thread::park(),
                 Some(Duration::ZERO) => return self.take_at_last(peek, ticket),
                 Some(left) => thread::park_timeout(left),
             }
+        }
+    }
+
+    // What `wait` answers without waiting, if it does.
+    fn answer_now(&self, peek: Peek) -> Option<Result<(Held, T), RecvTimeoutError>> {
+        match self.try_take(peek) {
+            Ok(taken) => Some(Ok(taken)),
+            Err(TryRecvError::ShutDown) => Some(Err(RecvTimeoutError::ShutDown)),
+            Err(TryRecvError::Empty) => None,
         }
     }
 
