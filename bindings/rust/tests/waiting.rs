@@ -37,7 +37,7 @@ fn none_comes_in_time() {
 fn each_submit_wakes_one_who_waits() {
     const WAITING: u32 = 4;
     let queue = queue_of(8, 1, WAITING + 1);
-    let taken = AtomicU32::new(0);
+    let (taken, start) = (AtomicU32::new(0), Instant::now());
     thread::scope(|scope| {
         for _ in 0..WAITING {
             let (pass, taken) = (queue.pass().unwrap(), &taken);
@@ -54,6 +54,8 @@ fn each_submit_wakes_one_who_waits() {
         }
     });
     assert_eq!(taken.into_inner(), (1 << WAITING) - 1);
+    // Those who time out find it too.
+    assert!(start.elapsed() < LONG);
 }
 
 #[test]
@@ -62,6 +64,7 @@ fn a_put_back_wakes_one_who_waits() {
     let (pass, other) = (queue.pass().unwrap(), queue.pass().unwrap());
     pass.submit(7, 0, Place::Back).unwrap();
     let busy = pass.next(Peek::Any).unwrap();
+    let start = Instant::now();
     thread::scope(|scope| {
         let waiting =
             scope.spawn(move || other.recv_timeout(Peek::File(0), LONG).unwrap().complete());
@@ -69,6 +72,7 @@ fn a_put_back_wakes_one_who_waits() {
         assert_eq!(busy.put_back(Place::Back).unwrap(), PutBack::Pending);
         assert_eq!(waiting.join().unwrap(), 7);
     });
+    assert!(start.elapsed() < LONG);
 }
 
 #[test]
