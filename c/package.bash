@@ -97,7 +97,7 @@ csq_package() {
   csq_link "$top" "$work" "$version" "$@"
   local values=("VERSION=$version" "MAJOR=${version%%.*}" "LIBDIR=$LIBDIR" "PREFIX=${prefix// /\\ }"
     "TO_PREFIX=$(realpath -ms --relative-to="/$LIBDIR/cmake/csq" /)")
-  install -D -m 644 "$top/include/csq.h" "$work/tree/include/keuvatsi/csq.h"
+  install -D -m 644 -t "$work/tree/include/keuvatsi" "$top/include/csq.h" "$top/include/csq_requests.h"
   csq_add_iocsq "$top" "$work/tree"
   mkdir -p "$lib/pkgconfig" "$lib/cmake/csq"
   csq_fill "$top/c/package/csq.pc.in" "${values[@]}" >"$lib/pkgconfig/csq.pc"

@@ -11,7 +11,8 @@
  *     IoCsqInsertIrpEx of what was removed     csq_put_back
  *     IoCancelIrp                              csq_cancel; its halves are csq_mark_cancel and csq_cancel_owed
  *     CsqPeekNextIrp                           csq_peek_next
- *     CsqCompleteCanceledIrp                   csq_complete_cancelled; struct csq_callback is called before it
+ *     CsqCompleteCanceledIrp                   csq_complete_cancelled; struct csq_callback is called before it, and
+ *                                              struct csq_events before and after it
  *     IoCompleteRequest                        csq_complete
  *     IRP_MJ_CLEANUP                           csq_cleanup; csq_close_file, csq_drain
  *     IoReuseIrp                               csq_reuse
@@ -36,8 +37,8 @@
  * The lock: "Lock: held" says that the caller has the queue's lock round the call, which is any lock of the
  * caller's, one for each queue. "Lock: not needed" says that the call may come at any time, also while another
  * thread has the lock. No call here takes a lock or waits (but for what malloc, realloc and free do), starts a
- * thread or ends the program. (csq_cancel, csq_cleanup and csq_drain, at the end, take the caller's lock through the
- * caller's functions.)
+ * thread or ends the program. (csq_cancel, csq_cleanup and csq_drain, at the end, and csq_cancel_with and so on, take
+ * the caller's lock through the caller's functions.)
  *
  * Allocation: csq_new, csq_new_with_file_limits and csq_take_pass of a new pass take memory. No other call does.
  *
@@ -45,8 +46,9 @@
  * cancel routine, since both have the lock; and by whoever takes its cancel routine (csq_mark_cancel with *found 1, and
  * the callback of csq_cancel), without the lock. What a thread wrote before csq_complete, csq_complete_cancelled or
  * csq_cancel_owed is seen by whoever learns of that completion from csq_read_status or csq_reuse. For the last two the
- * library's steps on its words are atomic and sequentially consistent. (The thread sanitizer doesn't see them in the
- * library, and may report a race there.)
+ * library's steps on its words are atomic and sequentially consistent. The thread sanitizer doesn't see them in a
+ * library that was compiled without it, so this header reports that order to it in a program that is compiled with it
+ * (CSQ_NO_TSAN, defined before, leaves that out).
  *
  * The answer of a call is a code of the one table below. Where several would fit it is the first one tested:
  * whether handles are filled or empty, in the order of the parameters; whether the pass is this queue's; whether the
@@ -421,7 +423,8 @@ uint32_t csq_judge_peek(const struct csq_queue *queue, uint32_t after, uint32_t 
 
 /* Judges what a driver's IRP_MJ_CLEANUP left of a file object in this queue's list, but for IRPs of these `count`
  * numbers, which it may leave: those that a canceller has, and those that came after it began. *left is the first that
- * is left, or CSQ_ANY where none is. CSQ_EMPTY_HANDLE; CSQ_CLOSED. Lock: held. */
+ * is left, or CSQ_ANY where none is. `file` is one file object: none is listed for CSQ_ANY here, nor for an unknown one,
+ * so none is left of them. CSQ_EMPTY_HANDLE; CSQ_CLOSED. Lock: held. */
 uint32_t csq_judge_cleanup(const struct csq_queue *queue, uint32_t file, const uint32_t *excused, size_t count,
                            uint32_t *left);
 
@@ -457,6 +460,98 @@ uint32_t csq_read_cancel(struct csq_pass *pass, uint32_t irp, uint32_t *life, ui
  * with in that life. CSQ_NONE where it isn't completed there; then *life is written, and *status isn't.
  * CSQ_EMPTY_HANDLE; CSQ_UNKNOWN_IRP; CSQ_NONE. Lock: not needed. */
 uint32_t csq_read_status(struct csq_pass *pass, uint32_t irp, uint32_t *life, uint32_t *status);
+
+/* ---- What the thread sanitizer sees ---- */
+
+#if defined(__has_feature)
+#if __has_feature(thread_sanitizer)
+#define CSQ_TSAN
+#endif
+#endif
+#if defined(__SANITIZE_THREAD__) && !defined(CSQ_TSAN)
+#define CSQ_TSAN
+#endif
+#if defined(CSQ_TSAN) && !defined(CSQ_NO_TSAN)
+
+/* Reports the order that the head of this file promises ("Memory order") as a lock of each IRP that is released before
+ * the one call and acquired after the other. Two queues may share such a lock, and so may hide a race; no race is
+ * reported for that. A refused call releases it too. */
+void __tsan_acquire(void *address);
+void __tsan_release(void *address);
+enum { CSQ_TSAN_LISTED, CSQ_TSAN_COMPLETED, CSQ_TSAN_LOCKS = 65536 };
+__attribute__((weak)) char csq_tsan_locks[2][CSQ_TSAN_LOCKS];
+static inline void *csq_tsan_lock(int kind, const struct csq_pass *pass, uint32_t irp) {
+    return &csq_tsan_locks[kind][((pass->queue * UINT64_C(0x9E3779B97F4A7C15) >> 48) + irp) % CSQ_TSAN_LOCKS];
+}
+
+#define CSQ_TSAN_CALL CSQ_NODISCARD static inline uint32_t
+CSQ_TSAN_CALL csq_tsan_insert(struct csq_queue *queue, struct csq_pass *pass, uint32_t irp, uint32_t file,
+                              uint32_t front, struct csq_irp *context) {
+    __tsan_release(csq_tsan_lock(CSQ_TSAN_LISTED, pass, irp));
+    return csq_insert(queue, pass, irp, file, front, context);
+}
+CSQ_TSAN_CALL csq_tsan_put_back(struct csq_queue *queue, struct csq_pass *pass, struct csq_irp irp, uint32_t front,
+                                struct csq_irp *context) {
+    __tsan_release(csq_tsan_lock(CSQ_TSAN_LISTED, pass, irp.irp));
+    return csq_put_back(queue, pass, irp, front, context);
+}
+CSQ_TSAN_CALL csq_tsan_mark_cancel(struct csq_pass *pass, struct csq_irp irp, uint32_t *found) {
+    uint32_t code = csq_mark_cancel(pass, irp, found);
+    if (code == CSQ_OK && *found) {
+        __tsan_acquire(csq_tsan_lock(CSQ_TSAN_LISTED, pass, irp.irp));
+    }
+    return code;
+}
+CSQ_TSAN_CALL csq_tsan_complete(struct csq_pass *pass, struct csq_irp irp, uint32_t status) {
+    __tsan_release(csq_tsan_lock(CSQ_TSAN_COMPLETED, pass, irp.irp));
+    return csq_complete(pass, irp, status);
+}
+CSQ_TSAN_CALL csq_tsan_complete_cancelled(struct csq_pass *pass, struct csq_irp irp) {
+    __tsan_release(csq_tsan_lock(CSQ_TSAN_COMPLETED, pass, irp.irp));
+    return csq_complete_cancelled(pass, irp);
+}
+CSQ_TSAN_CALL csq_tsan_cancel_owed(struct csq_queue *queue, struct csq_pass *pass, struct csq_irp irp) {
+    __tsan_release(csq_tsan_lock(CSQ_TSAN_COMPLETED, pass, irp.irp));
+    return csq_cancel_owed(queue, pass, irp);
+}
+CSQ_TSAN_CALL csq_tsan_reuse(struct csq_queue *queue, struct csq_pass *pass, struct csq_irp irp, uint32_t *life) {
+    uint32_t code = csq_reuse(queue, pass, irp, life);
+    if (code == CSQ_OK) {
+        __tsan_acquire(csq_tsan_lock(CSQ_TSAN_COMPLETED, pass, irp.irp));
+    }
+    return code;
+}
+static inline uint32_t csq_tsan_read_status(struct csq_pass *pass, uint32_t irp, uint32_t *life, uint32_t *status) {
+    uint32_t code = csq_read_status(pass, irp, life, status);
+    if (code == CSQ_OK) {
+        __tsan_acquire(csq_tsan_lock(CSQ_TSAN_COMPLETED, pass, irp));
+    }
+    return code;
+}
+static inline uint32_t csq_tsan_judge_complete(struct csq_queue *queue, struct csq_pass *pass, struct csq_irp irp,
+                                               uint32_t status, uint32_t *verdict) {
+    __tsan_release(csq_tsan_lock(CSQ_TSAN_COMPLETED, pass, irp.irp));
+    return csq_judge_complete(queue, pass, irp, status, verdict);
+}
+static inline uint32_t csq_tsan_judge_insert(struct csq_queue *queue, struct csq_pass *pass, struct csq_irp irp,
+                                             uint32_t *verdict) {
+    __tsan_release(csq_tsan_lock(CSQ_TSAN_COMPLETED, pass, irp.irp));
+    return csq_judge_insert(queue, pass, irp, verdict);
+}
+#undef CSQ_TSAN_CALL
+
+#define csq_insert csq_tsan_insert
+#define csq_put_back csq_tsan_put_back
+#define csq_mark_cancel csq_tsan_mark_cancel
+#define csq_complete csq_tsan_complete
+#define csq_complete_cancelled csq_tsan_complete_cancelled
+#define csq_cancel_owed csq_tsan_cancel_owed
+#define csq_reuse csq_tsan_reuse
+#define csq_read_status csq_tsan_read_status
+#define csq_judge_complete csq_tsan_judge_complete
+#define csq_judge_insert csq_tsan_judge_insert
+
+#endif
 
 /* ---- What a code says ---- */
 
@@ -507,14 +602,21 @@ struct csq_callback {
     void *context;
 };
 
-/* Cancels an IRP in the life named (IoCancelIrp): csq_mark_cancel, and where the routine was there the callback, which
- * may be NULL, and csq_cancel_owed under the lock. *completed is 1 where the IRP was completed here, else 0. While the
- * callback is called with the IRP it is listed still, so it counts for the limits and for csq_file_len.
- * CSQ_EMPTY_HANDLE; CSQ_OTHER_QUEUE; CSQ_UNKNOWN_IRP; CSQ_STALE. Lock: not held; it is taken only where the routine was
- * there. */
-CSQ_NODISCARD static inline uint32_t csq_cancel(struct csq_queue *queue, struct csq_pass *pass, struct csq_irp irp,
-                                                const struct csq_lock *lock, const struct csq_callback *callback,
-                                                uint32_t *completed) {
+/* Functions that are called round a completion as cancelled, with the IRP, and what they are called with. Either may be
+ * NULL. `before_completion` is that of struct csq_callback. `after_completion` is called once the IRP is completed, with
+ * the lock free and the IRP nobody's: whoever is woken there finds its status and may begin its next life (csq_reuse). It
+ * returns to its caller (by no exception and no longjmp), and may make any call, also with this queue and this pass, but
+ * doesn't give the pass back or abandon it. */
+struct csq_events {
+    void (*before_completion)(void *context, struct csq_irp irp);
+    void (*after_completion)(void *context, struct csq_irp irp);
+    void *context;
+};
+
+/* csq_cancel, with the events, which may be NULL, in the place of the callback. Lock: not held. */
+CSQ_NODISCARD static inline uint32_t csq_cancel_with(struct csq_queue *queue, struct csq_pass *pass, struct csq_irp irp,
+                                                     const struct csq_lock *lock, const struct csq_events *events,
+                                                     uint32_t *completed) {
     uint32_t code, found = 0;
     if (pass->at && pass->queue != queue->number) {
         /* Before the mark, which looks at no queue. Only an empty handle has the number 0. */
@@ -522,13 +624,16 @@ CSQ_NODISCARD static inline uint32_t csq_cancel(struct csq_queue *queue, struct 
     }
     code = csq_mark_cancel(pass, irp, &found);
     if (code == CSQ_OK && found) {
-        if (callback) {
-            callback->before_completion(callback->context, irp);
+        if (events && events->before_completion) {
+            events->before_completion(events->context, irp);
         }
         lock->lock(lock->context);
         /* Never refused: a pass that is out keeps its queue open. */
         code = csq_cancel_owed(queue, pass, irp);
         lock->unlock(lock->context);
+        if (code == CSQ_OK && events && events->after_completion) {
+            events->after_completion(events->context, irp);
+        }
     }
     if (code == CSQ_OK) {
         *completed = found;
@@ -536,16 +641,11 @@ CSQ_NODISCARD static inline uint32_t csq_cancel(struct csq_queue *queue, struct 
     return code;
 }
 
-/* Removes each IRP that is listed for a file object, or each for CSQ_ANY, and completes it as cancelled; before that
- * the callback, which may be NULL, is called with it, when it isn't listed any more. The file object stays open.
- * *completed is how many. What a canceller has is left to that canceller, and is listed until then (csq_file_len). What was
- * removed before isn't listed, and is for this file object again if it is put back. It ends once it finds none, so it
- * may go on for as long as others insert or put back.
- * CSQ_EMPTY_HANDLE; CSQ_OTHER_QUEUE; CSQ_UNKNOWN_FILE. Lock: not held; it is taken for each removal, and free between
- * two of them. */
-CSQ_NODISCARD static inline uint32_t csq_drain(struct csq_queue *queue, struct csq_pass *pass, uint32_t file,
-                                               const struct csq_lock *lock, const struct csq_callback *callback,
-                                               uint32_t *completed) {
+/* csq_drain, with the events, which may be NULL, in the place of the callback. An IRP that is used again for this file
+ * object after its completion is drained again. Lock: not held. */
+CSQ_NODISCARD static inline uint32_t csq_drain_with(struct csq_queue *queue, struct csq_pass *pass, uint32_t file,
+                                                    const struct csq_lock *lock, const struct csq_events *events,
+                                                    uint32_t *completed) {
     struct csq_irp irp = { 0, 0 };
     uint32_t code, found, len = 0, count = 0;
     do {
@@ -558,11 +658,14 @@ CSQ_NODISCARD static inline uint32_t csq_drain(struct csq_queue *queue, struct c
         }
         lock->unlock(lock->context);
         if (found) {
-            if (callback) {
-                callback->before_completion(callback->context, irp);
+            if (events && events->before_completion) {
+                events->before_completion(events->context, irp);
             }
             code = csq_complete_cancelled(pass, irp);
             count += code == CSQ_OK;
+            if (code == CSQ_OK && events && events->after_completion) {
+                events->after_completion(events->context, irp);
+            }
         }
     } while (found && code == CSQ_OK);
     if (code == CSQ_OK) {
@@ -571,16 +674,50 @@ CSQ_NODISCARD static inline uint32_t csq_drain(struct csq_queue *queue, struct c
     return code;
 }
 
+/* csq_cleanup, with the events, which may be NULL, in the place of the callback. Lock: not held. */
+CSQ_NODISCARD static inline uint32_t csq_cleanup_with(struct csq_queue *queue, struct csq_pass *pass, uint32_t file,
+                                                      const struct csq_lock *lock, const struct csq_events *events,
+                                                      uint32_t *completed) {
+    uint32_t code;
+    lock->lock(lock->context);
+    code = csq_close_file(queue, pass, file);
+    lock->unlock(lock->context);
+    return code == CSQ_OK ? csq_drain_with(queue, pass, file, lock, events, completed) : code;
+}
+
+/* Cancels an IRP in the life named (IoCancelIrp): csq_mark_cancel, and where the routine was there the callback, which
+ * may be NULL, and csq_cancel_owed under the lock. *completed is 1 where the IRP was completed here, else 0. While the
+ * callback is called with the IRP it is listed still, so it counts for the limits and for csq_file_len.
+ * CSQ_EMPTY_HANDLE; CSQ_OTHER_QUEUE; CSQ_UNKNOWN_IRP; CSQ_STALE. Lock: not held; it is taken only where the routine was
+ * there. */
+CSQ_NODISCARD static inline uint32_t csq_cancel(struct csq_queue *queue, struct csq_pass *pass, struct csq_irp irp,
+                                                const struct csq_lock *lock, const struct csq_callback *callback,
+                                                uint32_t *completed) {
+    struct csq_events events = { callback ? callback->before_completion : 0, 0, callback ? callback->context : 0 };
+    return csq_cancel_with(queue, pass, irp, lock, &events, completed);
+}
+
+/* Removes each IRP that is listed for a file object, or each for CSQ_ANY, and completes it as cancelled; before that
+ * the callback, which may be NULL, is called with it, when it isn't listed any more. The file object stays open.
+ * *completed is how many. What a canceller has is left to that canceller, and is listed until then (csq_file_len). What was
+ * removed before isn't listed, and is for this file object again if it is put back. It ends once it finds none, so it
+ * may go on for as long as others insert or put back.
+ * CSQ_EMPTY_HANDLE; CSQ_OTHER_QUEUE; CSQ_UNKNOWN_FILE. Lock: not held; it is taken for each removal, and free between
+ * two of them. */
+CSQ_NODISCARD static inline uint32_t csq_drain(struct csq_queue *queue, struct csq_pass *pass, uint32_t file,
+                                               const struct csq_lock *lock, const struct csq_callback *callback,
+                                               uint32_t *completed) {
+    struct csq_events events = { callback ? callback->before_completion : 0, 0, callback ? callback->context : 0 };
+    return csq_drain_with(queue, pass, file, lock, &events, completed);
+}
+
 /* Handles IRP_MJ_CLEANUP of a file object: csq_close_file, then csq_drain. *completed is how many IRPs were completed.
  * Answers as csq_close_file does. Lock: not held; it is taken for each call, and free between two of them. */
 CSQ_NODISCARD static inline uint32_t csq_cleanup(struct csq_queue *queue, struct csq_pass *pass, uint32_t file,
                                                  const struct csq_lock *lock, const struct csq_callback *callback,
                                                  uint32_t *completed) {
-    uint32_t code;
-    lock->lock(lock->context);
-    code = csq_close_file(queue, pass, file);
-    lock->unlock(lock->context);
-    return code == CSQ_OK ? csq_drain(queue, pass, file, lock, callback, completed) : code;
+    struct csq_events events = { callback ? callback->before_completion : 0, 0, callback ? callback->context : 0 };
+    return csq_cleanup_with(queue, pass, file, lock, &events, completed);
 }
 
 #ifdef __cplusplus

@@ -1,7 +1,5 @@
 /* The judges of csq.h for the plain C queue, made of its other calls. */
-#include "csq.h"
-
-#include <stdbool.h>
+#include "plain_list.h"
 
 /* The first match after a listed IRP, or from the first on for CSQ_ANY. CSQ_ANY: there is none. */
 static uint32_t next_match(const struct csq_queue *queue, uint32_t after, uint32_t file) {

@@ -2,6 +2,8 @@
 #ifndef PLAIN_LIST_H
 #define PLAIN_LIST_H
 
+/* These are the calls themselves, without what the header reports to the thread sanitizer. */
+#define CSQ_NO_TSAN
 #include "csq.h"
 
 #include <stdbool.h>

@@ -37,8 +37,6 @@ struct slot {
 };
 
 struct pass {
-    /* The queue that handed it out, which outlives it. */
-    struct queue *of;
     struct pass *next_idle;
     word *words;
     struct slot *slots;
@@ -252,7 +250,7 @@ static struct pass *new_pass(struct queue *at) {
         free(slots);
         return NULL;
     }
-    *made = (struct pass){ .of = at, .words = at->words, .slots = slots, .irps = at->irps };
+    *made = (struct pass){ .words = at->words, .slots = slots, .irps = at->irps };
     at->handed_out++;
     return made;
 }
@@ -299,13 +297,13 @@ uint32_t csq_abandon_pass(struct csq_pass *pass) {
     return code;
 }
 
-/* Whether both handles are filled, and the pass is this queue's, which is open then. */
+/* Whether both handles are filled, and the pass is this queue's, which is open then. As in the proved library by the
+ * numbers in the handles alone, so that a program that leaves them out fails here too. */
 static uint32_t may_call(struct csq_queue *queue, struct csq_pass *pass) {
-    const struct pass *by = pass_in(pass);
-    if (!queue->at || !by) {
+    if (!queue->at || !pass_in(pass)) {
         return CSQ_EMPTY_HANDLE;
     }
-    return by->of == queue->at ? CSQ_OK : CSQ_OTHER_QUEUE;
+    return pass->queue == queue->number ? CSQ_OK : CSQ_OTHER_QUEUE;
 }
 
 uint32_t csq_give_back(struct csq_queue *queue, struct csq_pass *pass) {

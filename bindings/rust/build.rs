@@ -1,9 +1,10 @@
-//! Names the C library to the linker: `CSQ_LIBRARY` is its archives in the linker's order, with colons between them. A
-//! relative path is of the folder from which the build was started.
+//! Names the C library to the linker: the archives that `CSQ_LIBRARY` names, in the linker's order, with colons between
+//! them (a relative path is of the folder from which the build was started); else the library that `pkg-config` finds;
+//! else, with the feature `plain`, the plain C queue, which the C compiler builds from the repository (`bench/c`).
 use std::env;
 use std::ffi::OsStr;
 use std::path::{Path, PathBuf};
-use std::process::ExitCode;
+use std::process::{Command, ExitCode};
 
 /// An archive, as the linker wants it named.
 struct Archive {
@@ -76,23 +77,98 @@ fn link(archives: &OsStr) -> Result<(), String> {
     Ok(())
 }
 
+/// The program that this variable names, or this one.
+fn program(variable: &str, name: &str) -> Command {
+    println!("cargo:rerun-if-env-changed={variable}");
+    Command::new(env::var_os(variable).unwrap_or_else(|| name.into()))
+}
+
+/// Names the installed library to Cargo, if pkg-config finds it on this machine, for which it is built too.
+fn link_installed() -> bool {
+    println!("cargo:rerun-if-env-changed=PKG_CONFIG_PATH");
+    if env::var_os("HOST") != env::var_os("TARGET") {
+        return false;
+    }
+    let mut pkg_config = program("PKG_CONFIG", "pkg-config");
+    let asked = pkg_config.args(["--variable=libdir", "csq >= 1.0.0"]);
+    let found = match asked.output() {
+        Ok(output) if output.status.success() => output.stdout,
+        _ => return false,
+    };
+    // As the shell would read it: a space in it stands behind a backslash.
+    let folder = String::from_utf8_lossy(&found).trim().replace('\\', "");
+    if !Path::new(&folder).join("libcsq.so").is_file() {
+        return false;
+    }
+    println!("cargo:rustc-link-search=native={folder}");
+    println!("cargo:rustc-link-lib=dylib=csq");
+    true
+}
+
+/// Runs a program, or says why it failed.
+fn run(command: &mut Command) -> Result<(), String> {
+    match command.status() {
+        Ok(status) if status.success() => Ok(()),
+        Ok(status) => Err(format!("{command:?}: {status}")),
+        Err(cause) => Err(format!("{command:?}: {cause}")),
+    }
+}
+
+/// Builds the plain C queue and names it to Cargo.
+fn link_plain() -> Result<(), String> {
+    let top = Path::new(env!("CARGO_MANIFEST_DIR")).join("../..");
+    let (sources, headers) = (top.join("bench/c"), top.join("include"));
+    if !sources.is_dir() {
+        let sources = sources.display();
+        return Err(format!(
+            "there is no folder {sources}: its sources are in the repository, not in the package"
+        ));
+    }
+    let out = PathBuf::from(env::var_os("OUT_DIR").ok_or("OUT_DIR isn't set")?);
+    println!("cargo:rerun-if-changed={}", sources.display());
+    println!("cargo:rerun-if-changed={}", headers.join("csq.h").display());
+    let archive = out.join("libcsq_plain.a");
+    let mut objects = Vec::new();
+    for name in ["plain_queue", "plain_judges", "plain_list"] {
+        let object = out.join(name).with_extension("o");
+        let source = sources.join(name).with_extension("c");
+        let mut compiler = program("CC", "cc");
+        compiler.args(["-std=c11", "-O2", "-fPIC", "-c", "-I"]);
+        run(compiler.arg(&headers).arg(source).arg("-o").arg(&object))?;
+        objects.push(object);
+    }
+    run(program("AR", "ar").arg("rcs").arg(archive).args(objects))?;
+    println!("cargo:rustc-link-search=native={}", out.display());
+    println!("cargo:rustc-link-lib=static=csq_plain");
+    Ok(())
+}
+
 /// Without the library a build is for its checks alone.
 fn warn() {
-    println!("cargo:warning=CSQ_LIBRARY isn't set: checked without the C library, which no program links then");
-    println!("cargo:warning=it names the library's archives, in the linker's order, with colons between them");
+    println!("cargo:warning=there is no C library: checked without it, so programs won't link");
+    println!("cargo:warning=set CSQ_LIBRARY to its archives, install it (c/install), or turn the feature plain on");
 }
 
 fn main() -> ExitCode {
     println!("cargo:rerun-if-changed=build.rs");
     println!("cargo:rerun-if-env-changed=CSQ_LIBRARY");
-    match env::var_os("CSQ_LIBRARY").filter(|archives| !archives.is_empty()) {
-        None => warn(),
-        Some(archives) => {
-            if let Err(cause) = link(&archives) {
-                eprintln!("CSQ_LIBRARY: {cause}");
-                return ExitCode::FAILURE;
-            }
+    let named = env::var_os("CSQ_LIBRARY").filter(|archives| !archives.is_empty());
+    let linked = match named {
+        Some(archives) => link(&archives).map_err(|cause| format!("CSQ_LIBRARY: {cause}")),
+        None if link_installed() => Ok(()),
+        None if env::var_os("CARGO_FEATURE_PLAIN").is_some() => {
+            link_plain().map_err(|cause| format!("feature plain: {cause}"))
+        }
+        None => {
+            warn();
+            Ok(())
+        }
+    };
+    match linked {
+        Ok(()) => ExitCode::SUCCESS,
+        Err(cause) => {
+            eprintln!("{cause}");
+            ExitCode::FAILURE
         }
     }
-    ExitCode::SUCCESS
 }

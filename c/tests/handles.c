@@ -154,10 +154,11 @@ struct pair {
     struct csq_pass passes[2];
 };
 
-static struct pair pair_of(void) {
+static struct pair pair_by(call make) {
     struct pair pair = { { CSQ_EMPTY, CSQ_EMPTY }, { CSQ_EMPTY, CSQ_EMPTY } };
     for (int at = 0; at < 2; at++) {
-        IS(csq_new(&pair.queues[at], &small), CSQ_OK);
+        struct arguments queue = { &pair.queues[at], NULL };
+        IS(make(queue), CSQ_OK);
         IS(csq_take_pass(&pair.queues[at], &pair.passes[at]), CSQ_OK);
     }
     return pair;
@@ -170,8 +171,8 @@ static void end_pair(struct pair *pair) {
     }
 }
 
-static void a_pass_of_another_queue_is_refused_before_anything_else(void) {
-    struct pair pair = pair_of();
+static void refuse_the_other_pass(call make) {
+    struct pair pair = pair_by(make);
     struct arguments crossed = { &pair.queues[0], &pair.passes[1] }, other = { &pair.queues[1], &pair.passes[0] };
     struct csq_irp irp = { UNWRITTEN, UNWRITTEN };
     IS(csq_insert(&pair.queues[0], &pair.passes[0], 0, 0, 0, &irp), CSQ_OK);
@@ -192,6 +193,25 @@ static void a_pass_of_another_queue_is_refused_before_anything_else(void) {
     IS(csq_cancel_owed(&pair.queues[1], &pair.passes[0], irp), CSQ_OTHER_QUEUE);
     no_out_was_written();
     IS(csq_cancel_owed(&pair.queues[0], &pair.passes[0], irp), CSQ_OK);
+    end_pair(&pair);
+}
+
+static void a_pass_of_another_queue_is_refused_before_anything_else(void) {
+    refuse_the_other_pass(new_of);
+    refuse_the_other_pass(limited_of);
+}
+
+/* The numbers in the handles say which queue a pass is of, and nothing else does. */
+static void a_pass_is_known_by_the_number_of_its_queue(void) {
+    struct pair pair = pair_by(new_of);
+    struct arguments own = { &pair.queues[0], &pair.passes[0] };
+    begin_outs();
+    pair.queues[0].number ^= 1;
+    for EACH(of_both) {
+        IS(of_both[at](own), CSQ_OTHER_QUEUE);
+    }
+    pair.queues[0].number ^= 1;
+    no_out_was_written();
     end_pair(&pair);
 }
 
@@ -218,7 +238,7 @@ static void a_queue_made_after_another_is_another(void) {
 
 /* A closed queue has no pass, so a pass is another's. */
 static void a_closed_queue_refuses_every_other_call(void) {
-    struct pair pair = pair_of();
+    struct pair pair = pair_by(new_of);
     struct csq_pass nobody = CSQ_EMPTY;
     struct arguments both = { &pair.queues[0], &pair.passes[1] }, no_pass = { &pair.queues[0], &nobody };
     IS(csq_give_back(&pair.queues[0], &pair.passes[0]), CSQ_OK);
@@ -360,6 +380,7 @@ int main(void) {
     RUN(what_was_freed_is_empty);
     RUN(what_is_empty_is_freed_again);
     RUN(a_pass_of_another_queue_is_refused_before_anything_else);
+    RUN(a_pass_is_known_by_the_number_of_its_queue);
     RUN(a_queue_made_after_another_is_another);
     RUN(a_closed_queue_refuses_every_other_call);
     RUN(what_takes_the_lock_itself_refuses_an_empty_queue);

@@ -64,6 +64,7 @@ static uint32_t way(void) {
     struct csq_left left = { 0, 0, 0, 0 };
     int held = 0;
     struct csq_lock its_lock = { lock, unlock, &held };
+    struct csq_events events = { NULL, NULL, NULL };
     uint32_t wrong = csq_new(&queue, &size) | csq_free(&queue);
     wrong |= csq_new_with_file_limits(&queue, &size, limits, 1) | csq_take_pass(&queue, &pass);
     wrong |= csq_insert(&queue, &pass, 0, 0, 1, &irp) | csq_remove(&queue, &pass, irp);
@@ -79,6 +80,9 @@ static uint32_t way(void) {
     wrong |= csq_judge_complete(&queue, &pass, irp, CSQ_STATUS_PENDING, &number) | (number ^ CSQ_USE_GOT_CANCELLED);
     wrong |= csq_complete_cancelled(&pass, irp) | (csq_cancel_owed(&queue, &pass, irp) ^ CSQ_NOT_OWED);
     wrong |= csq_drain(&queue, &pass, 0, &its_lock, NULL, &number) | csq_free(NULL);
+    wrong |= csq_drain_with(&queue, &pass, 0, &its_lock, NULL, &number) | (number ^ 0);
+    wrong |= csq_cancel_with(&queue, &pass, irp, &its_lock, &events, &number) | (number ^ 0);
+    wrong |= csq_cleanup_with(&queue, &pass, 0, &its_lock, &events, &number) | (number ^ 0);
     wrong |= csq_cleanup(&queue, &pass, 0, &its_lock, NULL, &number) | (csq_version() ^ CSQ_VERSION_NUMBER);
     wrong |= csq_close_file(&queue, &pass, 0) | csq_read_cancel(&pass, 0, &number, &other);
     wrong |= csq_read_status(&pass, 0, &number, &other) | csq_count_held(&pass, &number, &other);

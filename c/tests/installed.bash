@@ -26,7 +26,8 @@ staged() {
   local stage=$work/stage prefix="$work/now here"
   rm -rf "$stage"
   DESTDIR=$stage "$top/c/install" "$prefix" "$@" && [[ ! -e $prefix ]] &&
-    cmp "$top/include/csq.h" "$stage$prefix/include/keuvatsi/csq.h" && ! grep -rF "$stage" "$stage" &&
+    cmp "$top/include/csq.h" "$stage$prefix/include/keuvatsi/csq.h" &&
+    cmp "$top/include/csq_requests.h" "$stage$prefix/include/keuvatsi/csq_requests.h" && ! grep -rF "$stage" "$stage" &&
     grep -xF "prefix=${prefix// /\\ }" "$stage$prefix/lib/pkgconfig/csq.pc"
 }
 

@@ -1,7 +1,7 @@
 /* The calls that take the caller's lock themselves: what they complete, whom they notify of it, and when. */
 #include "check.h"
 
-/* The caller's lock, and what the callback was called with. */
+/* The caller's lock, and what the callback and the events were called with. */
 struct watch {
     int taken;
     int held;
@@ -257,6 +257,97 @@ static void an_irp_is_listed_until_its_cancel_routine_has_run(uint32_t list) {
     end(&device);
 }
 
+/* Notes an IRP that was completed, once the lock is free, and begins its next life by the pass of the call. */
+static void reuse_it(void *context, struct csq_irp irp) {
+    struct watch *watch = (struct watch *)context;
+    struct csq_pass *by = &watch->device->passes[1];
+    uint32_t life = UNWRITTEN, held = UNWRITTEN, owed = UNWRITTEN;
+    status_of(watch->device, irp.irp, CSQ_STATUS_CANCELLED);
+    IS(csq_count_held(by, &held, &owed), CSQ_OK);
+    IS(held + owed, 0);
+    CHECK(!watch->held);
+    lock_it(watch);
+    IS(csq_reuse(&watch->device->queue, by, irp, &life), CSQ_OK);
+    unlock_it(watch);
+    IS(life, irp.life + 1);
+    watch->notified[watch->count++] = 10 + irp.irp;
+}
+
+static void the_events_were(const struct watch *watch, const uint32_t *want, uint32_t count) {
+    IS(watch->count, count);
+    for (uint32_t at = 0; at < count; at++) {
+        IS(watch->notified[at], want[at]);
+    }
+}
+
+static void whoever_is_notified_after_a_completion_may_reuse(uint32_t list) {
+    static const uint32_t cancelled[] = { 0, 10 }, drained[] = { 1, 11, 3, 13 }, cleaned[] = { 2, 12 };
+    struct device device = device_of(size_of(4, 2, list));
+    struct watch watch = watch_of(&device);
+    struct csq_lock lock = { lock_it, unlock_it, &watch };
+    struct csq_events events = { note_it, reuse_it, &watch };
+    struct csq_pass *by = &device.passes[1];
+    uint32_t completed = UNWRITTEN;
+    for (uint32_t irp = 0; irp < 4; irp++) {
+        put(&device, 0, irp, irp % 2);
+    }
+    IS(csq_cancel_with(&device.queue, by, irp_in(0, 1), &lock, &events, &completed), CSQ_STALE);
+    IS(csq_drain_with(&device.queue, by, 2, &lock, &events, &completed), CSQ_UNKNOWN_FILE);
+    IS(csq_cleanup_with(&device.queue, by, 2, &lock, &events, &completed), CSQ_UNKNOWN_FILE);
+    IS(completed, UNWRITTEN);
+    the_events_were(&watch, NULL, 0);
+    IS(csq_cancel_with(&device.queue, by, irp_in(0, 0), &lock, &events, &completed), CSQ_OK);
+    IS(completed, 1);
+    the_events_were(&watch, cancelled, 2);
+    watch.count = 0;
+    IS(csq_drain_with(&device.queue, by, 1, &lock, &events, &completed), CSQ_OK);
+    IS(completed, 2);
+    the_events_were(&watch, drained, 4);
+    watch.count = 0;
+    IS(csq_cleanup_with(&device.queue, by, 0, &lock, &events, &completed), CSQ_OK);
+    IS(completed, 1);
+    the_events_were(&watch, cleaned, 2);
+    end(&device);
+}
+
+static void either_event_may_be_none(uint32_t list) {
+    static const uint32_t before[] = { 0 }, after[] = { 11 };
+    struct device device = device_of(size_of(3, 1, list));
+    struct watch watch = watch_of(&device);
+    struct csq_lock lock = { lock_it, unlock_it, &watch };
+    struct csq_events events = { note_it, NULL, &watch };
+    struct csq_pass *by = &device.passes[1];
+    uint32_t completed = UNWRITTEN;
+    for (uint32_t irp = 0; irp < 3; irp++) {
+        put(&device, 0, irp, 0);
+    }
+    IS(csq_cancel_with(&device.queue, by, irp_in(0, 0), &lock, &events, &completed), CSQ_OK);
+    the_events_were(&watch, before, 1);
+    watch.count = 0;
+    events.before_completion = NULL;
+    events.after_completion = reuse_it;
+    IS(csq_cancel_with(&device.queue, by, irp_in(1, 0), &lock, &events, &completed), CSQ_OK);
+    the_events_were(&watch, after, 1);
+    IS(csq_drain_with(&device.queue, by, 0, &lock, NULL, &completed), CSQ_OK);
+    IS(completed, 1);
+    end(&device);
+}
+
+/* A cancel that completes nothing has no event. */
+static void what_another_completes_is_no_event(uint32_t list) {
+    struct device device = device_of(size_of(1, 1, list));
+    struct watch watch = watch_of(&device);
+    struct csq_lock lock = { lock_it, unlock_it, &watch };
+    struct csq_events events = { note_it, reuse_it, &watch };
+    uint32_t completed = UNWRITTEN;
+    put(&device, 0, 0, 0);
+    IS(take(&device, 2, CSQ_ANY), 0);
+    IS(csq_cancel_with(&device.queue, &device.passes[1], irp_in(0, 0), &lock, &events, &completed), CSQ_OK);
+    IS(completed, 0);
+    IS(watch.count, 0);
+    end(&device);
+}
+
 int main(void) {
     RUN_BOTH(cancels_through_the_callers_lock);
     RUN_BOTH(a_cancel_needs_no_callback);
@@ -267,5 +358,8 @@ int main(void) {
     RUN_BOTH(drains_every_file_object);
     RUN_BOTH(another_queue_is_refused_before_the_cancel_flag_is_set);
     RUN_BOTH(an_irp_is_listed_until_its_cancel_routine_has_run);
+    RUN_BOTH(whoever_is_notified_after_a_completion_may_reuse);
+    RUN_BOTH(either_event_may_be_none);
+    RUN_BOTH(what_another_completes_is_no_event);
     return DONE();
 }

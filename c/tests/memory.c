@@ -296,6 +296,12 @@ static void cancel_and_clean_up(struct device *device) {
     IS(completed, CSQ_MOST_IRPS / CSQ_MOST_FILES);
     IS(csq_cleanup(&device->queue, pass, 11, &lock, NULL, &completed), CSQ_OK);
     IS(completed, CSQ_MOST_IRPS / CSQ_MOST_FILES);
+    IS(csq_cancel_with(&device->queue, pass, irp_in(7, 2), &lock, NULL, &completed), CSQ_OK);
+    IS(completed, 1);
+    IS(csq_drain_with(&device->queue, pass, 13, &lock, NULL, &completed), CSQ_OK);
+    IS(completed, CSQ_MOST_IRPS / CSQ_MOST_FILES);
+    IS(csq_cleanup_with(&device->queue, pass, 15, &lock, NULL, &completed), CSQ_OK);
+    IS(completed, CSQ_MOST_IRPS / CSQ_MOST_FILES);
 }
 
 /* Lists all IRPs, which are in their third life, and then marks the even ones as cancelled. */

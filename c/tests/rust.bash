@@ -30,6 +30,33 @@ run_rust_library() {
     cargo_in "$work/relative" test --manifest-path "$bindings/Cargo.toml" --test tokens
 }
 
+# tokens_link YES|NO ASSIGNMENT..: without CSQ_LIBRARY and with these variables a test is built and runs, and is linked
+# with the installed library or not.
+tokens_link() {
+  local installed=$1 program newest=
+  (cd "$bindings" && env CSQ_LIBRARY= PWD="$PWD" "${@:2}" cargo test --test tokens) || return 1
+  for program in "$work"/cargo/debug/deps/tokens-*; do
+    if [[ $program != *.d && ( ! $newest || $program -nt $newest ) ]]; then newest=$program; fi
+  done
+  if readelf -d "$newest" | grep -F '[libcsq.so.'; then [[ $installed == yes ]]; else [[ $installed == no ]]; fi
+}
+
+# warns WORDS: a build that finds no library ends well, and says so.
+warns() {
+  CSQ_LIBRARY='' PKG_CONFIG=false cargo_in "$bindings" build && grep -qF "$1" "$work/errors"
+}
+
+# How the library is found without CSQ_LIBRARY.
+run_rust_without() {
+  local prefix="$work/installed plain/prefix"
+  if need pkg-config "rust: the installed library" && [[ -d $prefix ]]; then
+    expect "rust: pkg-config finds the installed library" tokens_link yes \
+      "PKG_CONFIG_PATH=$prefix/lib/pkgconfig" "LD_LIBRARY_PATH=$prefix/lib"
+  fi
+  expect "rust: the tests build the plain queue by themselves" tokens_link no PKG_CONFIG=false
+  expect "rust: a build without a library warns" warns "there is no C library"
+}
+
 # The package has all that its tests need.
 package_tests() {
   cargo_in "$bindings" package --allow-dirty --no-verify && tar -xzf "$work"/cargo/package/csq-*.crate -C "$work" &&
@@ -59,10 +86,11 @@ run_rust() {
   local bindings=$top/bindings/rust IFS=:
   export CSQ_LIBRARY="${files[*]}" CARGO_TARGET_DIR="$work/cargo" CARGO_NET_OFFLINE=true
   unset IFS
-  cargo_in "$bindings" test >"$work/out" 2>"$work/errors"
+  cargo_in "$bindings" test --features async >"$work/out" 2>"$work/errors"
   count_rust_lines $?
   if need "cargo clippy" "rust: clippy"; then
     expect "rust: clippy" cargo_in "$bindings" clippy --all-targets -- -D warnings
+    expect "rust: clippy, async" cargo_in "$bindings" clippy --all-targets --features async -- -D warnings
   fi
   if need "cargo fmt" "rust: format"; then expect "rust: format" cargo_in "$bindings" fmt --check; fi
   if cargo miri --version >"$work/out" 2>&1; then
@@ -71,5 +99,6 @@ run_rust() {
     skip_optional "rust: miri" "there is no cargo miri, which no package of Debian has"
   fi
   run_rust_library
+  run_rust_without
   expect "rust: the package's tests" package_tests
 }

@@ -23,6 +23,7 @@ macro_rules! refusal {
 
 /// Why no queue is made, in the order in which the causes are tested.
 #[derive(Clone, Copy, Debug, PartialEq, Eq, Hash)]
+#[non_exhaustive]
 pub enum NewError {
     /// A number is out of its range, or there aren't as many limits as file objects.
     BadSize,
@@ -37,6 +38,7 @@ refusal!(NewError {
 
 /// Why no pass is handed out, in the order in which the causes are tested.
 #[derive(Clone, Copy, Debug, PartialEq, Eq, Hash)]
+#[non_exhaustive]
 pub enum PassError {
     /// All passes of the queue are out.
     NoPass,
@@ -51,6 +53,7 @@ refusal!(PassError {
 
 /// Why an insert is refused, in the order in which the causes are tested. The IRP stays with the caller.
 #[derive(Clone, Copy, Debug, PartialEq, Eq, Hash)]
+#[non_exhaustive]
 pub enum InsertError {
     /// The IRP's number isn't below the queue's number of IRPs.
     UnknownIrp,
@@ -93,6 +96,7 @@ impl InsertError {
 
 /// Why what was removed isn't put back, in the order in which the causes are tested.
 #[derive(Clone, Copy, Debug, PartialEq, Eq, Hash)]
+#[non_exhaustive]
 pub enum PutBackError {
     /// The file object was closed in the meantime. Its cleanup would have cancelled the IRP.
     FileClosed,
@@ -145,8 +149,16 @@ impl<R> fmt::Display for NotPutBack<R> {
 
 impl<R> Error for NotPutBack<R> {}
 
+/// By `?`: what wasn't put back is dropped, and so completed with `STATUS_CANCELLED`.
+impl<R> From<NotPutBack<R>> for PutBackError {
+    fn from(refused: NotPutBack<R>) -> PutBackError {
+        refused.cause
+    }
+}
+
 /// Why a cancel changed nothing, in the order in which the causes are tested.
 #[derive(Clone, Copy, Debug, PartialEq, Eq, Hash)]
+#[non_exhaustive]
 pub enum CancelError {
     /// The IRP's number isn't below the queue's number of IRPs.
     UnknownIrp,
@@ -161,6 +173,7 @@ refusal!(CancelError {
 
 /// Why an IRP isn't given its next life, in the order in which the causes are tested.
 #[derive(Clone, Copy, Debug, PartialEq, Eq, Hash)]
+#[non_exhaustive]
 pub enum ReuseError {
     /// The IRP's number isn't below the queue's number of IRPs.
     UnknownIrp,
@@ -216,6 +229,16 @@ impl fmt::Display for NotListed {
 impl Error for NotListed {}
 
 /// A pass that wasn't given back, since it holds or owes IRPs whose tokens were forgotten. It comes back.
+///
+/// Threads can't share a pass, nor this: where an error has to be `Sync`, hand its text on, and the pass is dropped.
+///
+/// ```
+/// # use csq::Pass;
+/// fn end(pass: Pass) -> Result<(), Box<dyn std::error::Error + Send + Sync>> {
+///     pass.give_back().map_err(|holding| holding.to_string())?;
+///     Ok(())
+/// }
+/// ```
 #[derive(Debug)]
 pub struct Holding {
     /// The pass.
@@ -253,7 +276,10 @@ impl<Q: fmt::Debug> Error for PassesOut<Q> {}
 
 /// Why a value isn't submitted, in the order in which the causes are tested.
 #[derive(Clone, Copy, Debug, PartialEq, Eq, Hash)]
+#[non_exhaustive]
 pub enum SubmitError {
+    /// The queue was shut down.
+    ShutDown,
     /// No IRP is free: each has a request under way, or has had its last life.
     NoIrp,
     /// Each IRP has had its last life, so no request can be submitted any more.
@@ -270,6 +296,7 @@ pub enum SubmitError {
 }
 
 refusal!(SubmitError {
+    ShutDown => "the queue was shut down",
     NoIrp => "no IRP is free",
     LivesSpent => "each IRP has had its last life",
     UnknownFile => "there is no such file object",
@@ -294,6 +321,17 @@ impl SubmitError {
 }
 
 /// A value that wasn't submitted. It comes back.
+///
+/// By `?` it becomes a [`SubmitError`], or a boxed error. If that has to be `Send` and `Sync` and the value isn't:
+///
+/// ```
+/// # use csq::{Place, RequestPass, SubmitError};
+/// # use std::cell::Cell;
+/// fn send(pass: &RequestPass<Cell<u32>>) -> Result<(), Box<dyn std::error::Error + Send + Sync>> {
+///     pass.submit(Cell::new(1), 0, Place::Back).map_err(SubmitError::from)?;
+///     Ok(())
+/// }
+/// ```
 pub struct Refused<T> {
     /// The value.
     pub value: T,
@@ -317,8 +355,58 @@ impl<T> fmt::Display for Refused<T> {
 
 impl<T> Error for Refused<T> {}
 
+/// By `?`, where the value isn't wanted back, or can't be part of an error.
+impl<T> From<Refused<T>> for SubmitError {
+    fn from(refused: Refused<T>) -> SubmitError {
+        refused.cause
+    }
+}
+
+/// No request comes any more: the queue was shut down, and none is listed.
+#[derive(Clone, Copy, Debug, PartialEq, Eq, Hash)]
+pub struct RecvError;
+
+impl fmt::Display for RecvError {
+    fn fmt(&self, f: &mut fmt::Formatter<'_>) -> fmt::Result {
+        f.write_str("the queue was shut down")
+    }
+}
+
+impl Error for RecvError {}
+
+/// Why no request is taken without waiting.
+#[derive(Clone, Copy, Debug, PartialEq, Eq, Hash)]
+#[non_exhaustive]
+pub enum TryRecvError {
+    /// None is listed that no canceller has.
+    Empty,
+    /// None is listed, and the queue was shut down.
+    ShutDown,
+}
+
+refusal!(TryRecvError {
+    Empty => "no request is listed",
+    ShutDown => "the queue was shut down",
+});
+
+/// Why no request is taken in a time.
+#[derive(Clone, Copy, Debug, PartialEq, Eq, Hash)]
+#[non_exhaustive]
+pub enum RecvTimeoutError {
+    /// None came in time.
+    Timeout,
+    /// None is listed, and the queue was shut down.
+    ShutDown,
+}
+
+refusal!(RecvTimeoutError {
+    Timeout => "no request came in time",
+    ShutDown => "the queue was shut down",
+});
+
 /// Why a cancel of a request got no value.
 #[derive(Clone, Copy, Debug, PartialEq, Eq, Hash)]
+#[non_exhaustive]
 pub enum Missed {
     /// The request is of another queue.
     OtherQueue,

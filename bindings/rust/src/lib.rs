@@ -7,7 +7,8 @@
 //! its IRP with `STATUS_CANCELLED`. What was removed may be put back instead ([`Removed::put_back`]). So once a queue is
 //! closed, each IRP that an insert accepted was completed once or is listed.
 //!
-//! [`Requests`] is such a queue of values: it takes an IRP for each, and hands each value over once.
+//! [`Requests`] is such a queue of values: it takes an IRP for each, and hands each value over once. Workers wait for the
+//! next one, and threads may share a pass of it ([`OwnedPass`]).
 //!
 //! ```
 //! use csq::{FinalStatus, Inserted, Peek, Place, Queue, Size};
@@ -86,8 +87,21 @@
 //! token.complete(FinalStatus::SUCCESS);
 //! ```
 //!
-//! To link: the variable `CSQ_LIBRARY` of the environment names the library's archives, in the linker's order, with
-//! colons between them. A relative path is of the folder from which the build is started.
+//! # How the C library is found
+//!
+//! The first of these that there is:
+//!
+//! 1. The variable `CSQ_LIBRARY` of the environment names the library's archives, in the linker's order, with colons
+//!    between them. A relative path is of the folder from which the build is started.
+//! 2. `pkg-config` finds an installed library (`c/install`).
+//! 3. The feature `plain` builds the plain C queue by the C compiler (`CC`, else `cc`), in a clone of the repository.
+//!    Nothing of it is proved.
+//!
+//! Without any a build warns, and no program links. The crate's own tests turn `plain` on.
+//!
+//! # Features
+//!
+//! `plain`: as above. `async`: futures of the next request and of a request's cancel, for any executor.
 #![deny(
     missing_docs,
     unsafe_op_in_unsafe_fn,
@@ -95,6 +109,7 @@
 )]
 
 mod errors;
+mod lock;
 mod pass;
 mod queue;
 mod raw;
@@ -104,15 +119,25 @@ mod words;
 
 pub use errors::{
     CancelError, Holding, InsertError, Missed, NewError, NotListed, NotPutBack, PassError,
-    PassesOut, PutBackError, Refused, ReuseError, SubmitError, UnknownFile, UnknownIrp,
+    PassesOut, PutBackError, RecvError, RecvTimeoutError, Refused, ReuseError, SubmitError,
+    TryRecvError, UnknownFile, UnknownIrp,
 };
 pub use pass::Pass;
 pub use queue::{Closed, Listed, Queue};
-pub use requests::{PutBack, Request, RequestId, RequestPass, Requests};
+#[cfg(feature = "async")]
+pub use requests::{CancelledFuture, RecvFuture};
+pub use requests::{OwnedPass, OwnedRequest, PutBack, Request, RequestId, RequestPass, Requests};
 pub use token::{Cancelled, Claim, Inserted, Removed};
 pub use words::{FinalStatus, Irp, Left, List, Peek, Place, Size, LAST_LIFE};
 
 /// The version of the C library that the program is linked with: major, minor and patch.
+///
+/// ```
+/// # use csq::*;
+/// let (major, minor, _patch) = library_version();
+/// assert!((major, minor) >= (1, 0));
+/// # Ok::<(), Box<dyn std::error::Error>>(())
+/// ```
 pub fn library_version() -> (u32, u32, u32) {
     // SAFETY: the call takes and changes nothing.
     let version = unsafe { raw::csq_version() };

@@ -1,15 +1,20 @@
 //! Passes, and the calls that are made through them.
 
+mod calls;
+
+pub(crate) use calls::Listing;
+
 use crate::errors::{
-    CancelError, Holding, InsertError, PassError, PutBackError, ReuseError, UnknownFile, UnknownIrp,
+    CancelError, Holding, InsertError, PassError, ReuseError, UnknownFile, UnknownIrp,
 };
-use crate::queue::{file_of, Shared};
+use crate::lock::Locked;
+use crate::queue::Shared;
 use crate::raw::{self, RawIrp, RawPass, RawQueue};
 use crate::token::{Cancelled, Claim, Inserted, Removed};
 use crate::words::{FinalStatus, Irp, Peek, Place};
 use std::cell::UnsafeCell;
 use std::fmt;
-use std::sync::Arc;
+use std::sync::{Arc, MutexGuard};
 
 /// A pass of a queue, through which one thread at a time makes its calls. It has a share of its queue, so it can be
 /// used with no other.
@@ -36,7 +41,7 @@ impl Pass {
     pub(crate) fn of(shared: &Arc<Shared>) -> Result<Pass, PassError> {
         let mut handle = RawPass::EMPTY;
         // SAFETY: the queue is locked, and the pass's handle is empty.
-        let code = unsafe { raw::csq_take_pass(&mut *shared.lock(), &mut handle) };
+        let code = unsafe { raw::csq_take_pass(&mut shared.lock().queue, &mut handle) };
         match code {
             raw::OK => Ok(Pass {
                 shared: Arc::clone(shared),
@@ -48,12 +53,31 @@ impl Pass {
         }
     }
 
+    /// What the queue's lock guards. The calls below whose names end with `_locked` are made with it.
+    #[inline]
+    pub(crate) fn lock(&self) -> MutexGuard<'_, Locked> {
+        self.shared.lock()
+    }
+
     // Makes a call under the lock.
     fn locked(&self, call: impl FnOnce(*mut RawQueue, *mut RawPass) -> u32) -> u32 {
-        call(&mut *self.shared.lock(), self.handle.get())
+        call(&mut self.lock().queue, self.handle.get())
     }
 
     /// Gives the pass back. Refused only where a token was forgotten; then the pass comes back.
+    ///
+    /// # Errors
+    ///
+    /// [`Holding`]: it holds or owes IRPs.
+    ///
+    /// ```
+    /// # use csq::*;
+    /// # let queue = Queue::new(&Size::new(4, 2, 2))?;
+    /// # let pass = queue.pass()?;
+    /// pass.give_back()?;
+    /// assert_eq!(queue.passes_out(), 0);
+    /// # Ok::<(), Box<dyn std::error::Error>>(())
+    /// ```
     pub fn give_back(self) -> Result<(), Holding> {
         // SAFETY: the queue is locked, and this thread alone has the pass.
         match self.locked(|queue, pass| unsafe { raw::csq_give_back(queue, pass) }) {
@@ -71,6 +95,18 @@ impl Pass {
     }
 
     /// How many IRPs the pass holds, and how many it owes.
+    ///
+    /// ```
+    /// # use csq::*;
+    /// # let queue = Queue::new(&Size::new(4, 2, 2))?;
+    /// # let pass = queue.pass()?;
+    /// let _listed = pass.insert(0, 1, Place::Back)?;
+    /// let token = pass.remove_next(Peek::Any);
+    /// assert_eq!(pass.holding(), (1, 0));
+    /// drop(token);
+    /// assert_eq!(pass.holding(), (0, 0));
+    /// # Ok::<(), Box<dyn std::error::Error>>(())
+    /// ```
     pub fn holding(&self) -> (u32, u32) {
         let (mut held, mut owed) = (0, 0);
         // SAFETY: this thread alone has the pass.
@@ -80,42 +116,67 @@ impl Pass {
     }
 
     /// Inserts an IRP for a file object (`IoCsqInsertIrpEx`). Takes the lock.
+    ///
+    /// # Errors
+    ///
+    /// [`InsertError`], which lists the causes in their order.
+    ///
+    /// ```
+    /// # use csq::*;
+    /// # let queue = Queue::new(&Size::new(4, 2, 2))?;
+    /// # let pass = queue.pass()?;
+    /// match pass.insert(0, 1, Place::Back)? {
+    ///     Inserted::Pending(context) => assert_eq!(context, Irp { irp: 0, life: 0 }),
+    ///     Inserted::Cancelled(token) => token.complete(),
+    /// }
+    /// assert_eq!(pass.insert(0, 1, Place::Back).unwrap_err(), InsertError::NotHome);
+    /// # Ok::<(), Box<dyn std::error::Error>>(())
+    /// ```
     pub fn insert(&self, irp: u32, file: u32, place: Place) -> Result<Inserted<'_>, InsertError> {
-        let mut context = RawIrp::default();
-        let front = front_of(place);
-        // SAFETY: the queue is locked, and this thread alone has the pass.
-        match self.locked(|queue, pass| unsafe {
-            raw::csq_insert(queue, pass, irp, file, front, &mut context)
-        }) {
-            raw::OK => Ok(Inserted::Pending(Irp::of(context))),
-            raw::CANCELLED => Ok(Inserted::Cancelled(Cancelled {
-                pass: self,
-                irp: Irp::of(context),
-            })),
-            code => Err(InsertError::of(code)),
+        let listing = self.insert_locked(&mut self.lock(), irp, file, place)?;
+        Ok(self.inserted(listing))
+    }
+
+    // With the token of what isn't listed.
+    fn inserted(&self, listing: Listing) -> Inserted<'_> {
+        match listing {
+            Listing::Pending(irp) => Inserted::Pending(irp),
+            Listing::Cancelled(irp) => Inserted::Cancelled(Cancelled { pass: self, irp }),
         }
     }
 
     /// Removes the first listed match that no canceller has (`IoCsqRemoveNextIrp`). Takes the lock.
+    ///
+    /// ```
+    /// # use csq::*;
+    /// # let queue = Queue::new(&Size::new(4, 2, 2))?;
+    /// # let pass = queue.pass()?;
+    /// let _listed = pass.insert(0, 1, Place::Back)?;
+    /// assert!(pass.remove_next(Peek::File(0)).is_none());
+    /// if let Some(token) = pass.remove_next(Peek::File(1)) {
+    ///     token.complete(FinalStatus::SUCCESS);
+    /// }
+    /// # Ok::<(), Box<dyn std::error::Error>>(())
+    /// ```
     #[must_use = "a removed IRP has to be completed, and is completed as cancelled where it is dropped"]
     pub fn remove_next(&self, peek: Peek) -> Option<Removed<'_>> {
-        // In C this number stands for any; here it is an unknown file object.
-        if peek == Peek::File(raw::ANY) {
-            return None;
-        }
-        let file = file_of(peek);
-        let mut irp = RawIrp::default();
-        // SAFETY: the queue is locked, and this thread alone has the pass.
-        let code =
-            self.locked(|queue, pass| unsafe { raw::csq_remove_next(queue, pass, file, &mut irp) });
-        (code == raw::OK).then(|| Removed {
-            pass: self,
-            irp: Irp::of(irp),
-        })
+        let irp = self.remove_next_locked(&mut self.lock(), peek)?;
+        Some(Removed { pass: self, irp })
     }
 
     /// Removes the IRP of a context (`IoCsqRemoveIrp`). None where it isn't listed in that life, or a canceller has it.
     /// Takes the lock.
+    ///
+    /// ```
+    /// # use csq::*;
+    /// # let queue = Queue::new(&Size::new(4, 2, 2))?;
+    /// # let pass = queue.pass()?;
+    /// if let Inserted::Pending(context) = pass.insert(0, 1, Place::Back)? {
+    ///     pass.remove(context).expect("listed").complete(FinalStatus::SUCCESS);
+    ///     assert!(pass.remove(context).is_none());
+    /// }
+    /// # Ok::<(), Box<dyn std::error::Error>>(())
+    /// ```
     #[must_use = "a removed IRP has to be completed, and is completed as cancelled where it is dropped"]
     pub fn remove(&self, irp: Irp) -> Option<Removed<'_>> {
         // SAFETY: the queue is locked, and this thread alone has the pass.
@@ -125,6 +186,19 @@ impl Pass {
     }
 
     /// Closes a file object for good. Takes the lock.
+    ///
+    /// # Errors
+    ///
+    /// [`UnknownFile`]: there is no such file object.
+    ///
+    /// ```
+    /// # use csq::*;
+    /// # let queue = Queue::new(&Size::new(4, 2, 2))?;
+    /// # let pass = queue.pass()?;
+    /// pass.close_file(1)?;
+    /// assert_eq!(pass.insert(0, 1, Place::Back).unwrap_err(), InsertError::FileClosed);
+    /// # Ok::<(), Box<dyn std::error::Error>>(())
+    /// ```
     pub fn close_file(&self, file: u32) -> Result<(), UnknownFile> {
         // SAFETY: the queue is locked, and this thread alone has the pass.
         match self.locked(|queue, pass| unsafe { raw::csq_close_file(queue, pass, file) }) {
@@ -136,11 +210,40 @@ impl Pass {
 
     /// Handles `IRP_MJ_CLEANUP` of a file object: closes it, then does what [`Pass::drain`] does. Answers how many IRPs
     /// were completed.
+    ///
+    /// # Errors
+    ///
+    /// [`UnknownFile`]: there is no such file object.
+    ///
+    /// ```
+    /// # use csq::*;
+    /// # let queue = Queue::new(&Size::new(4, 2, 2))?;
+    /// # let pass = queue.pass()?;
+    /// let _listed = (pass.insert(0, 1, Place::Back)?, pass.insert(1, 0, Place::Back)?);
+    /// assert_eq!(pass.cleanup(1)?, 1);
+    /// assert_eq!(queue.len(), 1);
+    /// # Ok::<(), Box<dyn std::error::Error>>(())
+    /// ```
     pub fn cleanup(&self, file: u32) -> Result<u32, UnknownFile> {
         self.cleanup_with(file, |_| ())
     }
 
     /// [`Pass::cleanup`], and `before` is called with each IRP before it is completed.
+    ///
+    /// # Errors
+    ///
+    /// [`UnknownFile`]: there is no such file object.
+    ///
+    /// ```
+    /// # use csq::*;
+    /// # let queue = Queue::new(&Size::new(4, 2, 2))?;
+    /// # let pass = queue.pass()?;
+    /// let _listed = pass.insert(3, 1, Place::Back)?;
+    /// let mut gone = Vec::new();
+    /// pass.cleanup_with(1, |irp| gone.push(irp.irp))?;
+    /// assert_eq!(gone, [3]);
+    /// # Ok::<(), Box<dyn std::error::Error>>(())
+    /// ```
     pub fn cleanup_with(&self, file: u32, before: impl FnMut(Irp)) -> Result<u32, UnknownFile> {
         self.close_file(file)?;
         Ok(self.complete_listed(Peek::File(file), before))
@@ -150,11 +253,40 @@ impl Pass {
     /// how many. The file object stays open, so this may go on for as long as others insert or put back. What a canceller
     /// has is left to that canceller, and is listed until then ([`Queue::file_len`](crate::Queue::file_len)). What was
     /// removed before is for the file object again if it is put back. The lock is free between two of them.
+    ///
+    /// # Errors
+    ///
+    /// [`UnknownFile`]: there is no such file object.
+    ///
+    /// ```
+    /// # use csq::*;
+    /// # let queue = Queue::new(&Size::new(4, 2, 2))?;
+    /// # let pass = queue.pass()?;
+    /// let _listed = (pass.insert(0, 1, Place::Back)?, pass.insert(1, 0, Place::Back)?);
+    /// assert_eq!(pass.drain(Peek::File(1))?, 1);
+    /// assert_eq!(pass.drain(Peek::Any)?, 1);
+    /// # Ok::<(), Box<dyn std::error::Error>>(())
+    /// ```
     pub fn drain(&self, peek: Peek) -> Result<u32, UnknownFile> {
         self.drain_with(peek, |_| ())
     }
 
     /// [`Pass::drain`], and `before` is called with each IRP before it is completed.
+    ///
+    /// # Errors
+    ///
+    /// [`UnknownFile`]: there is no such file object.
+    ///
+    /// ```
+    /// # use csq::*;
+    /// # let queue = Queue::new(&Size::new(4, 2, 2))?;
+    /// # let pass = queue.pass()?;
+    /// let _listed = pass.insert(3, 1, Place::Back)?;
+    /// let mut gone = Vec::new();
+    /// pass.drain_with(Peek::Any, |irp| gone.push(irp.irp))?;
+    /// assert_eq!(gone, [3]);
+    /// # Ok::<(), Box<dyn std::error::Error>>(())
+    /// ```
     pub fn drain_with(&self, peek: Peek, before: impl FnMut(Irp)) -> Result<u32, UnknownFile> {
         if let Peek::File(file) = peek {
             self.file_len(file)?;
@@ -180,42 +312,89 @@ impl Pass {
 
     /// Begins the next life of an IRP that is completed in the life named, its present one (`IoReuseIrp`), and names it
     /// in that next life. Takes the lock.
+    ///
+    /// # Errors
+    ///
+    /// [`ReuseError`], which lists the causes in their order.
+    ///
+    /// ```
+    /// # use csq::*;
+    /// # let queue = Queue::new(&Size::new(4, 2, 2))?;
+    /// # let pass = queue.pass()?;
+    /// let first = Irp { irp: 0, life: 0 };
+    /// let _listed = pass.insert(0, 1, Place::Back)?;
+    /// assert_eq!(pass.reuse(first).unwrap_err(), ReuseError::NotCompleted);
+    /// pass.cancel(first)?;
+    /// assert_eq!(pass.reuse(first)?, Irp { irp: 0, life: 1 });
+    /// assert_eq!(pass.reuse(first).unwrap_err(), ReuseError::Stale);
+    /// # Ok::<(), Box<dyn std::error::Error>>(())
+    /// ```
     pub fn reuse(&self, irp: Irp) -> Result<Irp, ReuseError> {
-        let mut life = 0;
-        // SAFETY: the queue is locked, and this thread alone has the pass.
-        let code =
-            self.locked(|queue, pass| unsafe { raw::csq_reuse(queue, pass, irp.raw(), &mut life) });
-        match code {
-            raw::OK => Ok(Irp { life, ..irp }),
-            raw::UNKNOWN_IRP => Err(ReuseError::UnknownIrp),
-            raw::STALE => Err(ReuseError::Stale),
-            raw::NOT_COMPLETED => Err(ReuseError::NotCompleted),
-            raw::LIVES_SPENT => Err(ReuseError::LivesSpent),
-            code => unreachable!("csq_reuse answered {code}"),
-        }
+        self.reuse_locked(&mut self.lock(), irp)
     }
 
     /// Sets the Cancel flag of an IRP in the life named, and takes its cancel routine (the first half of
     /// `IoCancelIrp`). None where the routine wasn't there: the IRP isn't listed, or a pass, perhaps this one, has it.
     /// Takes no lock.
+    ///
+    /// # Errors
+    ///
+    /// [`CancelError`]: there is no such IRP, or it is in another life.
+    ///
+    /// ```
+    /// # use csq::*;
+    /// # let queue = Queue::new(&Size::new(4, 2, 2))?;
+    /// # let pass = queue.pass()?;
+    /// let _listed = pass.insert(0, 1, Place::Back)?;
+    /// if let Some(claim) = pass.mark_cancel(Irp { irp: 0, life: 0 })? {
+    ///     // It is listed until its cancel routine has run.
+    ///     assert_eq!(queue.len(), 1);
+    ///     claim.run().complete();
+    /// }
+    /// assert_eq!(queue.len(), 0);
+    /// # Ok::<(), Box<dyn std::error::Error>>(())
+    /// ```
     pub fn mark_cancel(&self, irp: Irp) -> Result<Option<Claim<'_>>, CancelError> {
-        let mut found = 0;
-        // SAFETY: this thread alone has the pass.
-        match unsafe { raw::csq_mark_cancel(self.handle.get(), irp.raw(), &mut found) } {
-            raw::OK => Ok((found == 1).then(|| Claim { pass: self, irp })),
-            raw::UNKNOWN_IRP => Err(CancelError::UnknownIrp),
-            raw::STALE => Err(CancelError::Stale),
-            code => unreachable!("csq_mark_cancel answered {code}"),
-        }
+        let found = self.mark(irp)?;
+        Ok(found.then(|| Claim { pass: self, irp }))
     }
 
     /// Cancels an IRP in the life named (`IoCancelIrp`): where its routine was there, runs it and completes the IRP.
     /// Answers whether it did. Takes the lock only where the routine was there.
+    ///
+    /// # Errors
+    ///
+    /// [`CancelError`]: there is no such IRP, or it is in another life.
+    ///
+    /// ```
+    /// # use csq::*;
+    /// # let queue = Queue::new(&Size::new(4, 2, 2))?;
+    /// # let pass = queue.pass()?;
+    /// let _listed = pass.insert(0, 1, Place::Back)?;
+    /// assert!(pass.cancel(Irp { irp: 0, life: 0 })?);
+    /// assert_eq!(pass.cancel(Irp { irp: 0, life: 1 }), Err(CancelError::Stale));
+    /// # Ok::<(), Box<dyn std::error::Error>>(())
+    /// ```
     pub fn cancel(&self, irp: Irp) -> Result<bool, CancelError> {
         self.cancel_with(irp, |_| ())
     }
 
     /// [`Pass::cancel`], and `before` is called with the IRP before it is completed, where it is completed here.
+    ///
+    /// # Errors
+    ///
+    /// [`CancelError`]: there is no such IRP, or it is in another life.
+    ///
+    /// ```
+    /// # use csq::*;
+    /// # let queue = Queue::new(&Size::new(4, 2, 2))?;
+    /// # let pass = queue.pass()?;
+    /// let _listed = pass.insert(0, 1, Place::Back)?;
+    /// let mut named = None;
+    /// pass.cancel_with(Irp { irp: 0, life: 0 }, |irp| named = Some(irp))?;
+    /// assert_eq!(named, Some(Irp { irp: 0, life: 0 }));
+    /// # Ok::<(), Box<dyn std::error::Error>>(())
+    /// ```
     pub fn cancel_with(&self, irp: Irp, before: impl FnOnce(Irp)) -> Result<bool, CancelError> {
         match self.mark_cancel(irp)? {
             None => Ok(false),
@@ -229,6 +408,20 @@ impl Pass {
     }
 
     /// The life that an IRP's Cancel flag stands for, and whether it is set there. Takes no lock.
+    ///
+    /// # Errors
+    ///
+    /// [`UnknownIrp`]: there is no such IRP.
+    ///
+    /// ```
+    /// # use csq::*;
+    /// # let queue = Queue::new(&Size::new(4, 2, 2))?;
+    /// # let pass = queue.pass()?;
+    /// assert_eq!(pass.is_cancelled(0)?, (0, false));
+    /// pass.cancel(Irp { irp: 0, life: 0 })?;
+    /// assert_eq!(pass.is_cancelled(0)?, (0, true));
+    /// # Ok::<(), Box<dyn std::error::Error>>(())
+    /// ```
     pub fn is_cancelled(&self, irp: u32) -> Result<(u32, bool), UnknownIrp> {
         let (mut life, mut cancelled) = (0, 0);
         // SAFETY: this thread alone has the pass.
@@ -239,6 +432,21 @@ impl Pass {
     }
 
     /// The life that an IRP's status stands for, and what the IRP was completed with there, once it is. Takes no lock.
+    ///
+    /// # Errors
+    ///
+    /// [`UnknownIrp`]: there is no such IRP.
+    ///
+    /// ```
+    /// # use csq::*;
+    /// # let queue = Queue::new(&Size::new(4, 2, 2))?;
+    /// # let pass = queue.pass()?;
+    /// let _listed = pass.insert(0, 1, Place::Back)?;
+    /// assert_eq!(pass.status(0)?, (0, None));
+    /// pass.cancel(Irp { irp: 0, life: 0 })?;
+    /// assert_eq!(pass.status(0)?, (0, Some(FinalStatus::CANCELLED)));
+    /// # Ok::<(), Box<dyn std::error::Error>>(())
+    /// ```
     pub fn status(&self, irp: u32) -> Result<(u32, Option<FinalStatus>), UnknownIrp> {
         let (mut life, mut status) = (0, 0);
         // SAFETY: this thread alone has the pass.
@@ -247,49 +455,6 @@ impl Pass {
             raw::NONE => Ok((life, None)),
             _ => Err(UnknownIrp),
         }
-    }
-
-    // The halves of tokens. A token is of what its pass holds or owes, so none is refused but for what the list says.
-
-    pub(crate) fn put_back(&self, irp: Irp, place: Place) -> Result<Inserted<'_>, PutBackError> {
-        let mut context = RawIrp::default();
-        // SAFETY: the queue is locked, and this thread alone has the pass.
-        match self.locked(|queue, pass| unsafe {
-            raw::csq_put_back(queue, pass, irp.raw(), front_of(place), &mut context)
-        }) {
-            raw::OK => Ok(Inserted::Pending(Irp::of(context))),
-            raw::CANCELLED => Ok(Inserted::Cancelled(Cancelled {
-                pass: self,
-                irp: Irp::of(context),
-            })),
-            code => Err(PutBackError::of(code)),
-        }
-    }
-
-    pub(crate) fn complete(&self, irp: Irp, status: FinalStatus) {
-        // SAFETY: this thread alone has the pass.
-        let code = unsafe { raw::csq_complete(self.handle.get(), irp.raw(), status.number()) };
-        debug_assert_eq!(code, raw::OK);
-    }
-
-    pub(crate) fn complete_cancelled(&self, irp: Irp) {
-        // SAFETY: this thread alone has the pass.
-        let code = unsafe { raw::csq_complete_cancelled(self.handle.get(), irp.raw()) };
-        debug_assert_eq!(code, raw::OK);
-    }
-
-    pub(crate) fn cancel_routine(&self, irp: Irp) {
-        // SAFETY: the queue is locked, and this thread alone has the pass.
-        let code =
-            self.locked(|queue, pass| unsafe { raw::csq_cancel_routine(queue, pass, irp.raw()) });
-        debug_assert_eq!(code, raw::OK);
-    }
-
-    pub(crate) fn cancel_owed(&self, irp: Irp) {
-        // SAFETY: the queue is locked, and this thread alone has the pass.
-        let code =
-            self.locked(|queue, pass| unsafe { raw::csq_cancel_owed(queue, pass, irp.raw()) });
-        debug_assert_eq!(code, raw::OK);
     }
 
     // Completes what forgotten tokens left: an IRP that a pass holds or owes is in that life until it is completed.
@@ -302,11 +467,6 @@ impl Pass {
             unsafe { raw::csq_complete_cancelled(self.handle.get(), irp) };
         }
     }
-}
-
-// A place as the library numbers it.
-fn front_of(place: Place) -> u32 {
-    u32::from(place == Place::Front)
 }
 
 impl Drop for Pass {

@@ -15,6 +15,16 @@ macro_rules! token {
     ($name:ident) => {
         impl $name<'_> {
             /// The IRP, in its life.
+            ///
+            /// ```
+            /// # use csq::*;
+            /// # let queue = Queue::new(&Size::new(4, 2, 2))?;
+            /// # let pass = queue.pass()?;
+            /// let _listed = pass.insert(3, 1, Place::Back)?;
+            /// let token = pass.remove_next(Peek::Any).expect("the IRP");
+            /// assert_eq!(token.irp(), Irp { irp: 3, life: 0 });
+            /// # Ok::<(), Box<dyn std::error::Error>>(())
+            /// ```
             pub fn irp(&self) -> Irp {
                 self.irp
             }
@@ -39,6 +49,16 @@ token!(Removed);
 
 impl<'pass> Removed<'pass> {
     /// Completes the IRP with this status (`IoCompleteRequest`).
+    ///
+    /// ```
+    /// # use csq::*;
+    /// # let queue = Queue::new(&Size::new(4, 2, 2))?;
+    /// # let pass = queue.pass()?;
+    /// let _listed = pass.insert(0, 1, Place::Back)?;
+    /// pass.remove_next(Peek::Any).expect("the IRP").complete(FinalStatus::SUCCESS);
+    /// assert_eq!(pass.status(0)?, (0, Some(FinalStatus::SUCCESS)));
+    /// # Ok::<(), Box<dyn std::error::Error>>(())
+    /// ```
     pub fn complete(self, status: FinalStatus) {
         self.pass.complete(self.irp, status);
         mem::forget(self);
@@ -48,6 +68,10 @@ impl<'pass> Removed<'pass> {
     /// was removed): for a worker that can't serve it now. Its life goes on, so the context of its insert still names it.
     /// One that was cancelled while a pass held it isn't listed, but has to be completed ([`Inserted::Cancelled`]). A
     /// refusal hands the token back. Takes the lock.
+    ///
+    /// # Errors
+    ///
+    /// [`NotPutBack`], which hands the token back with its cause.
     ///
     /// ```
     /// # fn main() -> Result<(), Box<dyn std::error::Error>> {
@@ -93,6 +117,19 @@ token!(Cancelled);
 
 impl Cancelled<'_> {
     /// Completes the IRP with `STATUS_CANCELLED` (`IoCompleteRequest`).
+    ///
+    /// ```
+    /// # use csq::*;
+    /// # let queue = Queue::new(&Size::new(4, 2, 2))?;
+    /// # let pass = queue.pass()?;
+    /// pass.cancel(Irp { irp: 0, life: 0 })?;
+    /// match pass.insert(0, 1, Place::Back)? {
+    ///     Inserted::Cancelled(token) => token.complete(),
+    ///     Inserted::Pending(_) => unreachable!("cancelled before"),
+    /// }
+    /// assert_eq!(pass.status(0)?, (0, Some(FinalStatus::CANCELLED)));
+    /// # Ok::<(), Box<dyn std::error::Error>>(())
+    /// ```
     pub fn complete(self) {
         drop(self);
     }
@@ -116,6 +153,18 @@ token!(Claim);
 
 impl<'pass> Claim<'pass> {
     /// Runs the cancel routine, which takes the IRP out of the list. Takes the queue's lock.
+    ///
+    /// ```
+    /// # use csq::*;
+    /// # let queue = Queue::new(&Size::new(4, 2, 2))?;
+    /// # let pass = queue.pass()?;
+    /// let _listed = pass.insert(0, 1, Place::Back)?;
+    /// let claim = pass.mark_cancel(Irp { irp: 0, life: 0 })?.expect("it is listed");
+    /// let cancelled = claim.run();
+    /// assert_eq!((queue.len(), pass.holding()), (0, (1, 0)));
+    /// cancelled.complete();
+    /// # Ok::<(), Box<dyn std::error::Error>>(())
+    /// ```
     pub fn run(self) -> Cancelled<'pass> {
         let (pass, irp) = (self.pass, self.irp);
         mem::forget(self);

@@ -26,6 +26,7 @@ impl fmt::Display for Irp {
 }
 
 impl Irp {
+    #[inline]
     pub(crate) fn of(raw: RawIrp) -> Irp {
         Irp {
             irp: raw.irp,
@@ -33,6 +34,7 @@ impl Irp {
         }
     }
 
+    #[inline]
     pub(crate) fn raw(self) -> RawIrp {
         RawIrp {
             irp: self.irp,
@@ -88,6 +90,13 @@ pub struct Size {
 
 impl Size {
     /// A queue in which all IRPs may be listed and begin in life 0, with its list in one vector.
+    ///
+    /// ```
+    /// # use csq::*;
+    /// let size = Size { list: List::Chains, limit: 16, ..Size::new(64, 2, 4) };
+    /// assert_eq!((size.irps, size.first_life), (64, 0));
+    /// # Ok::<(), Box<dyn std::error::Error>>(())
+    /// ```
     pub fn new(irps: u32, files: u32, passes: u32) -> Size {
         Size {
             irps,
@@ -126,6 +135,13 @@ impl FinalStatus {
     pub const CANCELLED: FinalStatus = FinalStatus(0xC000_0120);
 
     /// The status of this number, as Windows numbers them. None for `STATUS_PENDING`.
+    ///
+    /// ```
+    /// # use csq::*;
+    /// assert_eq!(FinalStatus::new(0), Some(FinalStatus::SUCCESS));
+    /// assert_eq!(FinalStatus::new(0x103), None); // STATUS_PENDING
+    /// # Ok::<(), Box<dyn std::error::Error>>(())
+    /// ```
     pub const fn new(number: u32) -> Option<FinalStatus> {
         match number {
             0x103 => None,
@@ -134,6 +150,12 @@ impl FinalStatus {
     }
 
     /// Its number.
+    ///
+    /// ```
+    /// # use csq::*;
+    /// assert_eq!(FinalStatus::CANCELLED.number(), 0xC000_0120);
+    /// # Ok::<(), Box<dyn std::error::Error>>(())
+    /// ```
     pub const fn number(self) -> u32 {
         self.0
     }

@@ -1,22 +1,21 @@
 //! Passes of a queue of requests.
 
-use super::request::{PutBack, Request, RequestId};
-use super::slots::Number;
+use super::request::{Request, RequestId};
+use super::seat::{Seat, Through};
 use super::Shared;
-use crate::errors::{Missed, NotPutBack, Refused, ReuseError, SubmitError, UnknownFile};
+use crate::errors::{Missed, RecvError, RecvTimeoutError, Refused, TryRecvError, UnknownFile};
 use crate::pass::Pass;
-use crate::token::{Inserted, Removed};
-use crate::words::{FinalStatus, Irp, Peek, Place};
+use crate::words::{Peek, Place};
 use std::fmt;
 use std::sync::Arc;
+use std::time::Duration;
 
 /// A pass of a queue of requests, through which one thread at a time makes its calls. It has a share of its queue.
 ///
-/// It may be moved to another thread, but not be shared by two. Dropped, it is given back.
+/// It may be moved to another thread, but not be shared by two ([`OwnedPass`](crate::OwnedPass) is). Dropped, it is given
+/// back.
 pub struct RequestPass<T> {
-    // Dropped before the pass is given back: Requests::close needs that.
-    shared: Arc<Shared<T>>,
-    pass: Pass,
+    seat: Seat<T>,
 }
 
 impl<T> fmt::Debug for RequestPass<T> {
@@ -25,154 +24,217 @@ impl<T> fmt::Debug for RequestPass<T> {
     }
 }
 
+impl<T> Through for &RequestPass<T> {
+    type Value = T;
+
+    fn seat(&self) -> &Seat<T> {
+        &self.seat
+    }
+}
+
 impl<T> RequestPass<T> {
     /// The pass is of the queue whose share this is.
     pub(super) fn new(shared: Arc<Shared<T>>, pass: Pass) -> RequestPass<T> {
-        RequestPass { shared, pass }
+        let seat = Seat::new(shared, pass);
+        RequestPass { seat }
     }
 
-    /// Submits a value for a file object. The answer names the request to a cancel. A refusal hands the value back.
-    /// Takes the lock.
+    /// Submits a value for a file object. The answer names the request to a cancel. One that waits for it is woken. A
+    /// refusal hands the value back. Takes the lock.
+    ///
+    /// # Errors
+    ///
+    /// [`SubmitError`](crate::SubmitError) in a [`Refused`], which hands the value back.
+    ///
+    /// ```
+    /// # use csq::*;
+    /// # let queue = Requests::new(&Size::new(4, 2, 2))?;
+    /// # let pass = queue.pass()?;
+    /// let id = pass.submit("job", 0, Place::Back)?;
+    /// assert_eq!(pass.cancel(id)?, "job");
+    /// assert_eq!(pass.submit("job", 2, Place::Back).unwrap_err().value, "job");
+    /// # Ok::<(), Box<dyn std::error::Error>>(())
+    /// ```
     pub fn submit(&self, value: T, file: u32, place: Place) -> Result<RequestId, Refused<T>> {
-        let slots = &self.shared.slots;
-        let mut number = match slots.take_number() {
-            Ok(number) => number,
-            Err(cause) => return Err(Refused { value, cause }),
-        };
-        *slots.slot(&mut number) = Some(value);
-        let refusal = match self.pass.insert(number.irp(), file, place) {
-            // The number went with it to the queue.
-            Ok(Inserted::Pending(irp)) => return Ok(self.id(irp)),
-            Ok(Inserted::Cancelled(token)) => {
-                unreachable!("{} was cancelled before anybody knew of it", token.irp())
-            }
-            Err(refusal) => refusal,
-        };
-        let value = slots.slot(&mut number).take();
-        slots.put_number(number);
-        Err(Refused {
-            value: value.expect("the value that was put there"),
-            cause: SubmitError::of(refusal),
-        })
+        self.seat.submit(value, file, place)
     }
 
     /// Takes the first listed request of a file object, or of any, that no canceller has. Takes the lock.
+    ///
+    /// ```
+    /// # use csq::*;
+    /// # let queue = Requests::new(&Size::new(4, 2, 2))?;
+    /// # let pass = queue.pass()?;
+    /// pass.submit("job", 1, Place::Back)?;
+    /// assert!(pass.next(Peek::File(0)).is_none());
+    /// assert_eq!(pass.next(Peek::File(1)).expect("the job").complete(), "job");
+    /// # Ok::<(), Box<dyn std::error::Error>>(())
+    /// ```
     #[must_use = "a request that was taken has to be completed, and is where it is dropped"]
     pub fn next(&self, peek: Peek) -> Option<Request<'_, T>> {
-        let token = self.pass.remove_next(peek)?;
-        // SAFETY: the token is of this removal.
-        let mut number = unsafe { Number::given_out(token.irp()) };
-        let value = self.take_value(&mut number);
-        let id = self.id(token.irp());
-        Some(Request::new(self, token, number, id, value))
+        self.try_recv(peek).ok()
+    }
+
+    /// [`RequestPass::next`], which says why there is none.
+    ///
+    /// # Errors
+    ///
+    /// [`TryRecvError`]: none is listed; and then also the shutdown.
+    ///
+    /// ```
+    /// # use csq::*;
+    /// # let queue = Requests::new(&Size::new(4, 2, 2))?;
+    /// # let pass = queue.pass()?;
+    /// pass.submit("job", 0, Place::Back)?;
+    /// assert_eq!(pass.try_recv(Peek::Any)?.complete(), "job");
+    /// assert_eq!(pass.try_recv(Peek::Any).unwrap_err(), TryRecvError::Empty);
+    /// # Ok::<(), Box<dyn std::error::Error>>(())
+    /// ```
+    pub fn try_recv(&self, peek: Peek) -> Result<Request<'_, T>, TryRecvError> {
+        let taken = self.seat.try_take(peek)?;
+        Ok(Request::of(self, taken))
+    }
+
+    /// [`RequestPass::next`], and waits until there is one. Of a file object that there isn't, or that was closed, none
+    /// comes: it waits for the shutdown.
+    ///
+    /// # Errors
+    ///
+    /// [`RecvError`]: the queue was shut down, and none is listed.
+    ///
+    /// ```
+    /// # use csq::*;
+    /// # let queue = Requests::new(&Size::new(4, 2, 2))?;
+    /// # let pass = queue.pass()?;
+    /// pass.submit("job", 0, Place::Back)?;
+    /// assert_eq!(pass.recv(Peek::Any)?.complete(), "job");
+    /// # Ok::<(), Box<dyn std::error::Error>>(())
+    /// ```
+    pub fn recv(&self, peek: Peek) -> Result<Request<'_, T>, RecvError> {
+        let taken = self.seat.wait(peek, None).map_err(|_| RecvError)?;
+        Ok(Request::of(self, taken))
+    }
+
+    /// [`RequestPass::recv`], which waits at most so long.
+    ///
+    /// # Errors
+    ///
+    /// [`RecvTimeoutError`]: none came in time; or the queue was shut down, and none is listed.
+    ///
+    /// ```
+    /// # use csq::*;
+    /// # let queue = Requests::new(&Size::new(4, 2, 2))?;
+    /// # let pass = queue.pass()?;
+    /// # use std::time::Duration;
+    /// pass.submit("job", 0, Place::Back)?;
+    /// assert_eq!(pass.recv_timeout(Peek::Any, Duration::from_secs(1))?.complete(), "job");
+    /// let none = pass.recv_timeout(Peek::Any, Duration::from_millis(1));
+    /// assert_eq!(none.unwrap_err(), RecvTimeoutError::Timeout);
+    /// # Ok::<(), Box<dyn std::error::Error>>(())
+    /// ```
+    pub fn recv_timeout(
+        &self,
+        peek: Peek,
+        limit: Duration,
+    ) -> Result<Request<'_, T>, RecvTimeoutError> {
+        let taken = self.seat.wait(peek, Some(limit))?;
+        Ok(Request::of(self, taken))
+    }
+
+    /// Takes one request after the other by [`RequestPass::recv`], until the queue is shut down and has none for it.
+    ///
+    /// ```
+    /// # use csq::*;
+    /// # let queue = Requests::new(&Size::new(4, 2, 2))?;
+    /// # let pass = queue.pass()?;
+    /// pass.submit(1, 0, Place::Back)?;
+    /// pass.submit(2, 0, Place::Back)?;
+    /// queue.shutdown();
+    /// assert_eq!(pass.iter(Peek::Any).map(|request| request.complete()).sum::<i32>(), 3);
+    /// # Ok::<(), Box<dyn std::error::Error>>(())
+    /// ```
+    pub fn iter(&self, peek: Peek) -> impl Iterator<Item = Request<'_, T>> + '_ {
+        std::iter::from_fn(move || self.recv(peek).ok())
     }
 
     /// Cancels a request, and hands its value over. Else somebody else has the value, or had it. Takes the lock only
-    /// where the value is handed over.
+    /// where the value is handed over; with the feature `async` also where it is taken, to wake who waits for the cancel.
+    ///
+    /// # Errors
+    ///
+    /// [`Missed`] says who has or had the value.
+    ///
+    /// ```
+    /// # use csq::*;
+    /// # let queue = Requests::new(&Size::new(4, 2, 2))?;
+    /// # let pass = queue.pass()?;
+    /// let id = pass.submit("job", 0, Place::Back)?;
+    /// assert_eq!(pass.cancel(id)?, "job");
+    /// assert_eq!(pass.cancel(id), Err(Missed::Completed));
+    /// # Ok::<(), Box<dyn std::error::Error>>(())
+    /// ```
     pub fn cancel(&self, request: RequestId) -> Result<T, Missed> {
-        if request.queue != self.shared.name {
-            return Err(Missed::OtherQueue);
-        }
-        let claim = match self.pass.mark_cancel(request.irp) {
-            Ok(Some(claim)) => claim,
-            Ok(None) if !self.is_completed(request) => return Err(Missed::Taken),
-            // A refusal names another life: this one is over.
-            Ok(None) | Err(_) => return Err(Missed::Completed),
-        };
-        let token = claim.run();
-        // SAFETY: the token is of this cancel routine.
-        let mut number = unsafe { Number::given_out(token.irp()) };
-        let value = self.take_value(&mut number);
-        token.complete();
-        self.release(request.irp, number);
-        Ok(value)
+        let (seat, marked) = (&self.seat, self.seat.mark(request));
+        seat.cancel(request, marked, || seat.lock())
     }
 
     /// Closes a file object for good, then cancels each request that is listed for it, and hands their values over, in
     /// the list's order. What a canceller has is left to that canceller. The lock is free between two of them.
+    ///
+    /// # Errors
+    ///
+    /// [`UnknownFile`]: there is no such file object.
+    ///
+    /// ```
+    /// # use csq::*;
+    /// # let queue = Requests::new(&Size::new(4, 2, 2))?;
+    /// # let pass = queue.pass()?;
+    /// pass.submit("job", 1, Place::Back)?;
+    /// assert_eq!(pass.cleanup(1)?, ["job"]);
+    /// assert_eq!(pass.submit("late", 1, Place::Back).unwrap_err().cause, SubmitError::FileClosed);
+    /// # Ok::<(), Box<dyn std::error::Error>>(())
+    /// ```
     pub fn cleanup(&self, file: u32) -> Result<Vec<T>, UnknownFile> {
-        self.pass.close_file(file)?;
-        Ok(self.cancel_listed(Peek::File(file)))
+        self.seat.close_file(file)?;
+        Ok(self.seat.cancel_listed(Peek::File(file)))
     }
 
     /// Cancels each request that is listed for a file object, or for any, and hands their values over, in the list's
     /// order. The file object stays open, so this may go on for as long as others submit or put back. What a canceller has
     /// is left to that canceller. What was taken before is for the file object again if it is put back. The lock is free
     /// between two of them.
+    ///
+    /// # Errors
+    ///
+    /// [`UnknownFile`]: there is no such file object.
+    ///
+    /// ```
+    /// # use csq::*;
+    /// # let queue = Requests::new(&Size::new(4, 2, 2))?;
+    /// # let pass = queue.pass()?;
+    /// pass.submit("first", 1, Place::Back)?;
+    /// pass.submit("other", 0, Place::Back)?;
+    /// assert_eq!(pass.drain(Peek::File(1))?, ["first"]);
+    /// assert_eq!(pass.drain(Peek::Any)?, ["other"]);
+    /// # Ok::<(), Box<dyn std::error::Error>>(())
+    /// ```
     pub fn drain(&self, peek: Peek) -> Result<Vec<T>, UnknownFile> {
-        if let Peek::File(file) = peek {
-            self.pass.file_len(file)?;
-        }
-        Ok(self.cancel_listed(peek))
+        self.seat.knows(peek)?;
+        Ok(self.seat.cancel_listed(peek))
     }
 
-    fn cancel_listed(&self, peek: Peek) -> Vec<T> {
-        let listed = std::iter::from_fn(|| self.next(peek));
-        listed.map(Request::cancelled).collect()
-    }
-
-    /// Completes a request that this pass took, and makes its number free.
-    pub(super) fn complete(&self, token: Removed<'_>, number: Number, status: FinalStatus) {
-        let irp = token.irp();
-        token.complete(status);
-        self.release(irp, number);
-    }
-
-    /// Puts a request back that this pass took, with its value. A refusal hands all back.
-    pub(super) fn put_back<'a>(
-        &self,
-        token: Removed<'a>,
-        mut number: Number,
-        value: T,
-        place: Place,
-    ) -> Result<PutBack<T>, (NotPutBack<Removed<'a>>, Number, T)> {
-        // Before the IRP is listed, since whoever gets it then has the slot.
-        *self.shared.slots.slot(&mut number) = Some(value);
-        match token.put_back(place) {
-            // The number went with it to the queue.
-            Ok(Inserted::Pending(_)) => Ok(PutBack::Pending),
-            Ok(Inserted::Cancelled(token)) => {
-                let (value, irp) = (self.take_value(&mut number), token.irp());
-                token.complete();
-                self.release(irp, number);
-                Ok(PutBack::Cancelled(value))
-            }
-            Err(refused) => {
-                let value = self.take_value(&mut number);
-                Err((refused, number, value))
-            }
-        }
-    }
-
-    /// Whether a cancel named this request, in its life.
-    pub(super) fn is_cancelled(&self, request: RequestId) -> bool {
-        let Irp { irp, life } = request.irp;
-        self.pass.is_cancelled(irp) == Ok((life, true))
-    }
-
-    fn is_completed(&self, request: RequestId) -> bool {
-        let Irp { irp, life } = request.irp;
-        self.pass.status(irp) != Ok((life, None))
-    }
-
-    fn id(&self, irp: Irp) -> RequestId {
-        let queue = self.shared.name;
-        RequestId { queue, irp }
-    }
-
-    fn take_value(&self, number: &mut Number) -> T {
-        let value = self.shared.slots.slot(number).take();
-        value.expect("the value that its submit put there")
-    }
-
-    // Begins the next life of an IRP that this pass completed.
-    fn release(&self, irp: Irp, number: Number) {
-        match self.pass.reuse(irp) {
-            Ok(_) => self.shared.slots.put_number(number),
-            Err(cause) => {
-                debug_assert_eq!(cause, ReuseError::LivesSpent);
-                self.shared.slots.spend_number(number);
-            }
-        }
+    /// Shuts the queue down, as [`Requests::shutdown`](crate::Requests::shutdown) does.
+    ///
+    /// ```
+    /// # use csq::*;
+    /// # let queue = Requests::new(&Size::new(4, 2, 2))?;
+    /// # let pass = queue.pass()?;
+    /// pass.submit("job", 1, Place::Back)?;
+    /// pass.shutdown();
+    /// assert_eq!(pass.iter(Peek::Any).count(), 1);
+    /// # Ok::<(), Box<dyn std::error::Error>>(())
+    /// ```
+    pub fn shutdown(&self) {
+        self.seat.shut_down();
     }
 }

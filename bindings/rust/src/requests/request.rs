@@ -1,9 +1,8 @@
 //! Requests by name, and those that a pass took.
 
 use super::pass::RequestPass;
-use super::slots::Number;
+use super::seat::{Held, Through};
 use crate::errors::NotPutBack;
-use crate::token::Removed;
 use crate::words::{FinalStatus, Irp, Place};
 use std::fmt;
 
@@ -17,61 +16,105 @@ pub struct RequestId {
 /// A request that a pass took, with its value. Dropped, it is completed with `STATUS_CANCELLED`, and its value dropped.
 #[must_use = "a request that was taken has to be completed, and is where it is dropped"]
 pub struct Request<'pass, T> {
-    // Dropped before the value, so that the IRP is completed also where the drop of the value panics.
-    taken: Taken<'pass, T>,
-    id: RequestId,
-    value: T,
+    taken: Taken<&'pass RequestPass<T>>,
 }
 
 impl<T: fmt::Debug> fmt::Debug for Request<'_, T> {
     fn fmt(&self, f: &mut fmt::Formatter<'_>) -> fmt::Result {
-        f.debug_tuple("Request").field(&self.value).finish()
+        f.debug_tuple("Request").field(&self.taken.value).finish()
     }
 }
 
 impl<'pass, T> Request<'pass, T> {
-    pub(super) fn new(
-        pass: &'pass RequestPass<T>,
-        token: Removed<'pass>,
-        number: Number,
-        id: RequestId,
-        value: T,
-    ) -> Request<'pass, T> {
-        let held = Some((token, number));
-        let taken = Taken { pass, held };
-        Request { taken, id, value }
+    /// What this pass took.
+    pub(super) fn of(pass: &'pass RequestPass<T>, (held, value): (Held, T)) -> Request<'pass, T> {
+        let taken = Taken::of(pass, held, value);
+        Request { taken }
     }
 
     /// Its name.
+    ///
+    /// ```
+    /// # use csq::*;
+    /// # let queue = Requests::new(&Size::new(4, 2, 2))?;
+    /// # let pass = queue.pass()?;
+    /// let id = pass.submit("job", 1, Place::Back)?;
+    /// assert_eq!(pass.recv(Peek::Any)?.id(), id);
+    /// # Ok::<(), Box<dyn std::error::Error>>(())
+    /// ```
     pub fn id(&self) -> RequestId {
-        self.id
+        self.taken.id
     }
 
     /// The value.
+    ///
+    /// ```
+    /// # use csq::*;
+    /// # let queue = Requests::new(&Size::new(4, 2, 2))?;
+    /// # let pass = queue.pass()?;
+    /// pass.submit("job", 1, Place::Back)?;
+    /// assert_eq!(pass.recv(Peek::Any)?.value(), &"job");
+    /// # Ok::<(), Box<dyn std::error::Error>>(())
+    /// ```
     pub fn value(&self) -> &T {
-        &self.value
+        &self.taken.value
     }
 
     /// The value, to be changed.
+    ///
+    /// ```
+    /// # use csq::*;
+    /// # let queue = Requests::new(&Size::new(4, 2, 2))?;
+    /// # let pass = queue.pass()?;
+    /// pass.submit(1, 1, Place::Back)?;
+    /// let mut request = pass.recv(Peek::Any)?;
+    /// *request.value_mut() += 1;
+    /// assert_eq!(request.complete(), 2);
+    /// # Ok::<(), Box<dyn std::error::Error>>(())
+    /// ```
     pub fn value_mut(&mut self) -> &mut T {
-        &mut self.value
+        &mut self.taken.value
     }
 
     /// Whether a cancel named it and came too late ([`Missed::Taken`](crate::Missed::Taken)): nobody waits for it, so it
     /// may be given up, and a put-back doesn't leave it to another worker. Takes no lock.
+    ///
+    /// ```
+    /// # use csq::*;
+    /// # let queue = Requests::new(&Size::new(4, 2, 2))?;
+    /// # let pass = queue.pass()?;
+    /// let id = pass.submit("job", 1, Place::Back)?;
+    /// let request = pass.recv(Peek::Any)?;
+    /// assert_eq!(pass.cancel(id), Err(Missed::Taken));
+    /// assert!(request.is_cancelled());
+    /// # Ok::<(), Box<dyn std::error::Error>>(())
+    /// ```
     pub fn is_cancelled(&self) -> bool {
-        self.taken.pass.is_cancelled(self.id)
+        self.taken.is_cancelled()
     }
 
     /// Completes the request with `STATUS_SUCCESS`, and hands its value over. Its IRP is free then. Takes the lock.
-    pub fn complete(mut self) -> T {
-        self.taken.complete(FinalStatus::SUCCESS);
-        self.value
+    ///
+    /// ```
+    /// # use csq::*;
+    /// # let queue = Requests::new(&Size::new(4, 2, 2))?;
+    /// # let pass = queue.pass()?;
+    /// let id = pass.submit("job", 1, Place::Back)?;
+    /// assert_eq!(pass.recv(Peek::Any)?.complete(), "job");
+    /// assert_eq!(pass.cancel(id), Err(Missed::Completed));
+    /// # Ok::<(), Box<dyn std::error::Error>>(())
+    /// ```
+    pub fn complete(self) -> T {
+        self.taken.complete()
     }
 
     /// Puts the request back into the list with its value, for the file object that it was submitted for: for a worker
     /// that can't serve it now. It keeps its name. One that a cancel named in the meantime is completed with
     /// `STATUS_CANCELLED`, and its value handed over. A refusal hands the request back. Takes the lock.
+    ///
+    /// # Errors
+    ///
+    /// [`NotPutBack`], which hands the request back with its cause.
     ///
     /// ```
     /// # fn main() -> Result<(), Box<dyn std::error::Error>> {
@@ -88,23 +131,7 @@ impl<'pass, T> Request<'pass, T> {
     /// # }
     /// ```
     pub fn put_back(self, place: Place) -> Result<PutBack<T>, NotPutBack<Request<'pass, T>>> {
-        let Request {
-            mut taken,
-            id,
-            value,
-        } = self;
-        let pass = taken.pass;
-        let (token, number) = taken.held.take().expect("a request that isn't completed");
-        pass.put_back(token, number, value, place)
-            .map_err(|(refused, number, value)| NotPutBack {
-                held: Request::new(pass, refused.held, number, id, value),
-                cause: refused.cause,
-            })
-    }
-
-    /// Completes it with `STATUS_CANCELLED`, and hands its value over.
-    pub(super) fn cancelled(self) -> T {
-        self.value
+        self.taken.put_back(place, |taken| Request { taken })
     }
 }
 
@@ -119,21 +146,71 @@ pub enum PutBack<T> {
     Cancelled(T),
 }
 
-/// The IRP of a request that a pass took, until it is completed or put back.
-struct Taken<'pass, T> {
-    pass: &'pass RequestPass<T>,
-    held: Option<(Removed<'pass>, Number)>,
+/// A request that was taken through a pass, and isn't completed or put back.
+pub(super) struct Taken<P: Through> {
+    // Dropped before the value, so that the IRP is completed also where the drop of the value panics.
+    hold: Hold<P>,
+    pub(super) id: RequestId,
+    pub(super) value: P::Value,
 }
 
-impl<T> Taken<'_, T> {
+impl<P: Through> Taken<P> {
+    pub(super) fn of(pass: P, held: Held, value: P::Value) -> Taken<P> {
+        let id = pass.seat().id(held.irp);
+        let hold = Hold {
+            pass: Some(pass),
+            held: Some(held),
+        };
+        Taken { hold, id, value }
+    }
+
+    pub(super) fn pass(&self) -> &P {
+        self.hold.pass.as_ref().expect("the pass until the end")
+    }
+
+    pub(super) fn is_cancelled(&self) -> bool {
+        self.pass().seat().is_cancelled(self.id)
+    }
+
+    pub(super) fn complete(mut self) -> P::Value {
+        self.hold.complete(FinalStatus::SUCCESS);
+        self.value
+    }
+
+    /// A refusal is of this again, which is made what it was.
+    pub(super) fn put_back<R>(
+        self,
+        place: Place,
+        again: impl FnOnce(Taken<P>) -> R,
+    ) -> Result<PutBack<P::Value>, NotPutBack<R>> {
+        let Taken {
+            mut hold, value, ..
+        } = self;
+        let pass = hold.pass.take().expect("the pass until the end");
+        let held = hold.held.take().expect("a request that isn't completed");
+        let refused = pass.seat().put_back(held, value, place);
+        refused.map_err(|(cause, held, value)| NotPutBack {
+            held: again(Taken::of(pass, held, value)),
+            cause,
+        })
+    }
+}
+
+/// The IRP of a request, until it is completed or put back; and what it was taken through.
+struct Hold<P: Through> {
+    pass: Option<P>,
+    held: Option<Held>,
+}
+
+impl<P: Through> Hold<P> {
     fn complete(&mut self, status: FinalStatus) {
-        if let Some((token, number)) = self.held.take() {
-            self.pass.complete(token, number, status);
+        if let (Some(pass), Some(held)) = (&self.pass, self.held.take()) {
+            pass.seat().complete(held, status);
         }
     }
 }
 
-impl<T> Drop for Taken<'_, T> {
+impl<P: Through> Drop for Hold<P> {
     fn drop(&mut self) {
         self.complete(FinalStatus::CANCELLED);
     }

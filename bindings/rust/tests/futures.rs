@@ -1,0 +1,174 @@
+//! Futures of requests, by tasks that are polled by hand and by a thread.
+#![cfg(feature = "async")]
+use csq::*;
+use std::future::Future;
+use std::pin::Pin;
+use std::sync::atomic::{AtomicU32, Ordering::SeqCst};
+use std::sync::Arc;
+use std::task::{Context, Poll, Wake, Waker};
+use std::thread::{self, Thread};
+
+/// How often a task was woken.
+#[derive(Default)]
+struct Wakes(AtomicU32);
+
+impl Wake for Wakes {
+    fn wake(self: Arc<Self>) {
+        self.0.fetch_add(1, SeqCst);
+    }
+}
+
+/// A future with the wakes of its task.
+struct Task<F> {
+    future: F,
+    wakes: Arc<Wakes>,
+}
+
+impl<F: Future + Unpin> Task<F> {
+    fn of(future: F) -> Task<F> {
+        let wakes = Arc::default();
+        Task { future, wakes }
+    }
+
+    fn poll(&mut self) -> Poll<F::Output> {
+        let waker = Waker::from(Arc::clone(&self.wakes));
+        Pin::new(&mut self.future).poll(&mut Context::from_waker(&waker))
+    }
+
+    fn wakes(&self) -> u32 {
+        self.wakes.0.load(SeqCst)
+    }
+}
+
+struct Unpark(Thread);
+
+impl Wake for Unpark {
+    fn wake(self: Arc<Self>) {
+        self.0.unpark();
+    }
+}
+
+/// Runs a task in this thread.
+fn block_on<F: Future>(future: F) -> F::Output {
+    let waker = Waker::from(Arc::new(Unpark(thread::current())));
+    let mut future = Box::pin(future);
+    loop {
+        match future.as_mut().poll(&mut Context::from_waker(&waker)) {
+            Poll::Ready(output) => return output,
+            Poll::Pending => thread::park(),
+        }
+    }
+}
+
+fn queue_of<T>(irps: u32) -> (Requests<T>, OwnedPass<T>) {
+    let queue = Requests::new(&Size::new(irps, 2, 2)).unwrap();
+    let pass = queue.owned_pass().unwrap();
+    (queue, pass)
+}
+
+fn value<T>(polled: Poll<Result<OwnedRequest<T>, RecvError>>) -> Option<T> {
+    match polled {
+        Poll::Ready(request) => request.ok().map(OwnedRequest::complete),
+        Poll::Pending => None,
+    }
+}
+
+fn goes_anywhere<T: Send + 'static>(_: &T) {}
+
+#[test]
+fn a_task_waits_until_a_request_comes() {
+    let (queue, pass) = queue_of(4);
+    let mut task = Task::of(pass.recv_async(Peek::File(1)));
+    goes_anywhere(&task.future);
+    assert_eq!(value(task.poll()), None);
+    assert_eq!(value(task.poll()), None);
+    pass.submit("other", 0, Place::Back).unwrap();
+    assert_eq!((task.wakes(), value(task.poll())), (0, None));
+    pass.submit("mine", 1, Place::Back).unwrap();
+    assert_eq!((task.wakes(), value(task.poll())), (1, Some("mine")));
+    let mut task = Task::of(pass.recv_async(Peek::File(1)));
+    assert!(task.poll().is_pending());
+    queue.shutdown();
+    assert_eq!(task.wakes(), 1);
+    assert!(matches!(task.poll(), Poll::Ready(Err(RecvError))));
+}
+
+#[test]
+fn a_task_that_is_dropped_passes_its_wake_on() {
+    let (_queue, pass) = queue_of(4);
+    let mut tasks = [(); 4].map(|()| Task::of(pass.recv_async(Peek::Any)));
+    let mut other = Task::of(pass.recv_async(Peek::File(0)));
+    for task in &mut tasks {
+        assert!(task.poll().is_pending());
+    }
+    assert!(other.poll().is_pending());
+    let [first, second, third, fourth] = tasks;
+    // One that waits is just gone.
+    drop(second);
+    pass.submit(7, 1, Place::Back).unwrap();
+    assert_eq!((first.wakes(), third.wakes(), other.wakes()), (1, 0, 0));
+    drop(first);
+    assert_eq!((third.wakes(), fourth.wakes(), other.wakes()), (1, 0, 0));
+    let mut third = third;
+    assert_eq!(value(third.poll()), Some(7));
+    drop(third);
+    // It had nothing to pass on.
+    assert_eq!((fourth.wakes(), other.wakes()), (0, 0));
+}
+
+#[test]
+fn a_task_learns_of_the_cancel_of_its_request() {
+    let (_queue, pass) = queue_of(2);
+    let ids = [1, 2].map(|value| pass.submit(value, 0, Place::Back).unwrap());
+    let requests = [(); 2].map(|()| pass.try_recv(Peek::Any).unwrap());
+    let mut cancelled = [0, 1, 1].map(|at: usize| Task::of(requests[at].cancelled()));
+    goes_anywhere(&cancelled[0].future);
+    for task in &mut cancelled {
+        assert!(task.poll().is_pending());
+    }
+    assert_eq!(pass.cancel(ids[1]), Err(Missed::Taken));
+    let wakes: Vec<u32> = cancelled.iter().map(Task::wakes).collect();
+    assert_eq!(wakes, [0, 1, 1]);
+    assert!(cancelled[0].poll().is_pending());
+    assert!(cancelled[1].poll().is_ready() && cancelled[2].poll().is_ready());
+    // One that comes late learns of it at once.
+    assert!(Task::of(requests[1].cancelled()).poll().is_ready());
+    drop(cancelled);
+    assert_eq!(pass.cancel(ids[0]), Err(Missed::Taken));
+}
+
+#[test]
+fn tasks_of_threads_take_each_value_once() {
+    const VALUES: u32 = 5_000;
+    let (queue, pass) = queue_of::<u32>(8);
+    let sums = thread::scope(|scope| {
+        let workers = [Peek::Any, Peek::File(0), Peek::File(1), Peek::Any].map(|peek| {
+            let pass = pass.clone();
+            scope.spawn(move || {
+                block_on(async {
+                    let mut sum = 0;
+                    while let Ok(request) = pass.recv_async(peek).await {
+                        sum += u64::from(request.complete());
+                        // One that may be woken by the time that it is dropped.
+                        if let Some(value) = value(Task::of(pass.recv_async(peek)).poll()) {
+                            sum += u64::from(value);
+                        }
+                    }
+                    sum
+                })
+            })
+        });
+        for value in 1..=VALUES {
+            while pass.submit(value, value % 2, Place::Back).is_err() {
+                thread::yield_now();
+            }
+        }
+        while !queue.is_empty() {
+            thread::yield_now();
+        }
+        queue.shutdown();
+        workers.map(|worker| worker.join().unwrap())
+    });
+    let sum = u64::from(VALUES) * u64::from(VALUES + 1) / 2;
+    assert_eq!(sums.iter().sum::<u64>(), sum);
+}

@@ -1,0 +1,179 @@
+//! Passes that threads share, and requests that borrow nothing.
+use csq::*;
+use std::collections::HashMap;
+use std::sync::atomic::{AtomicU8, Ordering::SeqCst};
+use std::sync::mpsc;
+use std::thread;
+use std::time::Duration;
+
+fn goes_anywhere<T: Send + 'static>() {}
+fn is_shared<T: Sync + 'static>() {}
+
+fn queue_of<T>(irps: u32, passes: u32) -> Requests<T> {
+    Requests::new(&Size::new(irps, 2, passes)).unwrap()
+}
+
+#[test]
+fn what_is_owned_crosses_threads_where_its_value_does() {
+    goes_anywhere::<OwnedPass<String>>();
+    is_shared::<OwnedPass<String>>();
+    goes_anywhere::<OwnedRequest<String>>();
+    // A value that threads can't share, but that may be sent.
+    goes_anywhere::<OwnedPass<std::cell::Cell<u8>>>();
+    is_shared::<OwnedPass<std::cell::Cell<u8>>>();
+    goes_anywhere::<OwnedRequest<std::cell::Cell<u8>>>();
+    goes_anywhere::<Requests<String>>();
+    is_shared::<Requests<String>>();
+    goes_anywhere::<RequestPass<String>>();
+    goes_anywhere::<NotPutBack<OwnedRequest<String>>>();
+}
+
+/// What a server keeps of each request that it serves.
+struct Job {
+    request: OwnedRequest<String>,
+    steps: u32,
+}
+
+#[test]
+fn a_request_is_kept_and_completed_by_another_thread() {
+    let queue = queue_of(4, 1);
+    let pass = queue.owned_pass().unwrap();
+    let mut jobs = HashMap::new();
+    for name in ["a", "b", "c"] {
+        let id = pass.submit(name.to_string(), 0, Place::Back).unwrap();
+        let request = pass.try_recv(Peek::Any).unwrap();
+        assert_eq!(request.id(), id);
+        jobs.insert(id, Job { request, steps: 2 });
+    }
+    let (to_pool, pool) = mpsc::channel::<Job>();
+    let worker = thread::spawn(move || {
+        let mut served: Vec<String> = pool
+            .into_iter()
+            .map(|Job { mut request, steps }| {
+                request.value_mut().push_str(&steps.to_string());
+                request.complete()
+            })
+            .collect();
+        served.sort();
+        served
+    });
+    for (_, job) in jobs.drain() {
+        to_pool.send(job).unwrap();
+    }
+    drop((to_pool, pass));
+    assert_eq!(worker.join().unwrap(), ["a2", "b2", "c2"]);
+    assert_eq!(queue.passes_out(), 0);
+    assert!(queue.close().unwrap().is_empty());
+}
+
+#[test]
+fn an_owned_request_keeps_its_pass() {
+    let queue = queue_of(1, 1);
+    let pass = queue.owned_pass().unwrap();
+    pass.clone().submit(1, 1, Place::Back).unwrap();
+    let request = pass.recv(Peek::File(1)).unwrap();
+    drop(pass);
+    assert_eq!(queue.passes_out(), 1);
+    assert_eq!(queue.owned_pass().unwrap_err(), PassError::NoPass);
+    // Dropped, it is completed, and the pass given back.
+    drop(request);
+    assert_eq!(queue.passes_out(), 0);
+    let pass = queue.owned_pass().unwrap();
+    pass.submit(2, 0, Place::Back).unwrap();
+    assert_eq!(pass.recv(Peek::Any).unwrap().complete(), 2);
+}
+
+#[test]
+fn an_owned_request_is_cancelled_put_back_and_refused_as_any() {
+    let queue = queue_of(2, 2);
+    let (pass, caller) = (queue.owned_pass().unwrap(), queue.pass().unwrap());
+    let first = caller.submit("first", 0, Place::Back).unwrap();
+    let second = caller.submit("second", 1, Place::Back).unwrap();
+    let request = pass.recv(Peek::Any).unwrap();
+    assert_eq!(format!("{request:?}"), "OwnedRequest(\"first\")");
+    assert!(!request.is_cancelled());
+    assert_eq!(caller.cancel(first), Err(Missed::Taken));
+    assert!(request.is_cancelled());
+    assert_eq!(
+        request.put_back(Place::Front).unwrap(),
+        PutBack::Cancelled("first")
+    );
+    let request = pass.recv(Peek::Any).unwrap();
+    assert_eq!(request.put_back(Place::Back).unwrap(), PutBack::Pending);
+    assert_eq!(pass.cancel(second), Ok("second"));
+    assert_eq!(pass.cancel(second), Err(Missed::Completed));
+    caller.submit("third", 1, Place::Back).unwrap();
+    let request = pass.recv(Peek::Any).unwrap();
+    assert_eq!(pass.cleanup(1), Ok(vec![]));
+    let refused = request.put_back(Place::Back).unwrap_err();
+    assert_eq!(refused.cause, PutBackError::FileClosed);
+    assert_eq!(refused.held.value(), &"third");
+    assert_eq!(refused.held.complete(), "third");
+    pass.submit("fourth", 0, Place::Back).unwrap();
+    assert_eq!(pass.drain(Peek::File(0)), Ok(vec!["fourth"]));
+    assert_eq!(pass.drain(Peek::File(2)), Err(UnknownFile));
+    let timed_out = pass.recv_timeout(Peek::Any, Duration::from_millis(1));
+    assert_eq!(timed_out.unwrap_err(), RecvTimeoutError::Timeout);
+    pass.shutdown();
+    assert_eq!(pass.recv(Peek::Any).unwrap_err(), RecvError);
+    assert_eq!(
+        pass.try_recv(Peek::Any).unwrap_err(),
+        TryRecvError::ShutDown
+    );
+}
+
+/// More threads than a queue has passes, which share one; requests are completed by whatever thread gets them, and
+/// cancelled by all.
+#[test]
+fn threads_share_one_pass() {
+    const THREADS: u32 = 8;
+    const VALUES: u32 = 1_500;
+    let queue = queue_of::<u32>(16, 1);
+    let pass = queue.owned_pass().unwrap();
+    let out: Vec<AtomicU8> = (0..THREADS * VALUES).map(|_| AtomicU8::new(0)).collect();
+    let count = |value: u32| assert_eq!(out[value as usize].fetch_add(1, SeqCst), 0);
+    let (to_others, from_others) = mpsc::sync_channel::<OwnedRequest<u32>>(4);
+    thread::scope(|scope| {
+        let count = &count;
+        for thread in 0..THREADS {
+            let (pass, to_others) = (pass.clone(), to_others.clone());
+            scope.spawn(move || {
+                for value in thread * VALUES..(thread + 1) * VALUES {
+                    let id = loop {
+                        match pass.submit(value, value % 2, Place::Back) {
+                            Ok(id) => break id,
+                            Err(_) => pass
+                                .try_recv(Peek::Any)
+                                .into_iter()
+                                .for_each(|request| count(request.complete())),
+                        }
+                    };
+                    match value % 4 {
+                        0 => pass.cancel(id).into_iter().for_each(count),
+                        1 => pass
+                            .try_recv(Peek::Any)
+                            .into_iter()
+                            .for_each(|request| to_others.send(request).unwrap()),
+                        2 => pass
+                            .try_recv(Peek::File(0))
+                            .into_iter()
+                            .for_each(|request| count(request.complete())),
+                        _ => pass
+                            .drain(Peek::File(1))
+                            .unwrap()
+                            .into_iter()
+                            .for_each(count),
+                    }
+                }
+            });
+        }
+        drop(to_others);
+        for request in from_others {
+            count(request.complete());
+        }
+    });
+    pass.drain(Peek::Any).unwrap().into_iter().for_each(count);
+    assert!(out.iter().all(|out| out.load(SeqCst) == 1));
+    drop(pass);
+    assert!(queue.close().unwrap().is_empty());
+}

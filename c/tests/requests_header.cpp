@@ -1,0 +1,2 @@
+// The same in C++.
+#include "requests_header.c"
