@@ -14,8 +14,10 @@ use Rattle.irp_core.specs.declared.status.NtStatus.{NtStatus}
 use Rattle.irp_core.specs.declared.step.Made.{Made}
 use Rattle.irp_core.proofs.Names.{same_irp-refl}
 use Rattle.irp_core.proofs.Lives.{used_begun}
+use Rattle.csq_words.proofs.Traced.{steps_extended}
 use Rattle.csq_words.specs.Traces.{steps_in}
 use Rattle.csq_words.specs.declared.views.PassRecord.{PassRecord}
+use Rattle.csq_words.specs.declared.views.Tick.{Tick}
 use Rattle.csq_words.specs.Queue.{present_in}
 use Rattle.csq_words.specs.History.{end_of, IsExtendedBy}
 use Rattle.csq_words.specs.Plays.{IsStatusOf, status_read}
@@ -42,7 +44,7 @@ reuse_later size i old new answer done follows sees refused e = go answer e refu
 
     begun : life_of i ≤ (end_of size.first new.seen).lives i.irp
     begun =
-        let now = done_stays i (steps_in old.trace) (steps_in new.trace) follows done in
+        let now = done_stays i (steps_in old.trace) (steps_in new.trace) (steps_extended follows) done in
         let over = done_over size (steps_in new.trace) sees.agrees.history_is.is_run i now in
         let b = used_begun size (steps_in new.trace) sees.agrees.history_is.is_run i (or_right (flagged (steps_in new.trace) i) (was_armed (steps_in new.trace) i) over.0) in
         let lives = sees.agrees.history_is.lives_are i.irp in
@@ -51,7 +53,7 @@ reuse_later size i old new answer done follows sees refused e = go answer e refu
     go : (answer : Result Life ReuseRefused) → answer ≡ Err NotCompleted → IfErr answer (IsReuseRefusal here old new) → life_of i < (end_of size.first new.seen).lives i.irp
     go (Err NotCompleted) e h =
         let apart : life_of i ≢ life_of here = λ same. let is : i ≡ here = irp_eq i here refl same in
-        off (sym h.0 ∙ (ap (is_done (steps_in new.trace)) (sym is) ∙ done_stays i (steps_in old.trace) (steps_in new.trace) follows done)) in
+        off (sym h.0 ∙ (ap (is_done (steps_in new.trace)) (sym is) ∙ done_stays i (steps_in old.trace) (steps_in new.trace) (steps_extended follows) done)) in
         let b = begun in
         omega (arith, b, apart)
     go (Err UnknownIrp) e h = absurd h
@@ -76,10 +78,10 @@ read_done size n old new w status h set =
 
 -- what was completed just now is completed in what the pass has seen
 pub completed_now : (size : Size) (i : IrpLife) (old new : PassRecord) → FindsUnset size i old new → is_done (steps_in new.trace) i ≡ true
-completed_now size i old new f = ap (λ (run : List Made). is_done run i) f.last.run_is ∙ ap (λ b. b || is_done f.last.before i) (same_irp-refl i)
+completed_now size i old new f = ap (λ (trace : List Tick). is_done (steps_in trace) i) f.last.trace_is ∙ ap (λ b. b || is_done (steps_in f.last.before) i) (same_irp-refl i)
 
 -- a read goes on from what the pass had seen
 pub read_follows : (size : Size) (n : IrpId) (old new : PassRecord) (answer : Result (Life × Option NtStatus) UnknownIrpError)
     → IfOk answer (λ read. (w : ℕ) × (read ≡ status_read w) × IsStatusOf size n old new w) → OnErr answer (new ≡ old) → IsExtendedBy old.trace new.trace
 read_follows size n old new (Ok read) h e = h.2.sees.follows
-read_follows size n old new (Err cause) h e = ([], ap (λ (r : PassRecord). (steps_in r.trace)) e)
+read_follows size n old new (Err cause) h e = ([], ap (λ (r : PassRecord). r.trace) e)

@@ -13,6 +13,7 @@ use Rattle.irp_core.specs.declared.step.Kind.TheVariants.{Arm, Test, Disarm, End
 use Rattle.irp_core.specs.declared.step.Made.{Made}
 use Rattle.irp_core.proofs.Names.{same_irp-eq, same_irp-refl}
 use Rattle.irp_core.proofs.Growing.{run_less, run_last}
+use Rattle.csq_words.proofs.Traced.{steps_extended}
 use Rattle.csq_words.specs.Traces.{steps_in}
 use Rattle.csq_words.specs.declared.views.PassRecord.{PassRecord}
 use Rattle.csq_words.specs.Queue.{has_marked}
@@ -69,10 +70,11 @@ pending_taken sets size i old new same set follows steps sees made = go (has_mar
     go : (b : Bool) → has_marked (end_of size.first new.seen).entries i ≡ b → taken (steps_in new.trace) i ≡ true
     go true e = marked_taken size.first (steps_in new.trace) new.seen i sees.agrees.history_is.true_of e
     go false e =
-        let newer = follows.0 in
-        let whole : new.steps ≡ own old.pass newer ++ own old.pass (steps_in old.trace) = sees.agrees.pass_is.steps_is ∙ (ap (λ p. own p (steps_in new.trace)) same ∙ (ap (own old.pass) follows.1 ∙ own-append old.pass newer (steps_in old.trace))) in
+        let later = steps_extended follows in
+        let newer = later.0 in
+        let whole : new.steps ≡ own old.pass newer ++ own old.pass (steps_in old.trace) = sees.agrees.pass_is.steps_is ∙ (ap (λ p. own p (steps_in new.trace)) same ∙ (ap (own old.pass) later.1 ∙ own-append old.pass newer (steps_in old.trace))) in
         let acts : new.steps ≡ made_by old.pass ((Test i, 0) ∷ (sets i, 0) ∷ []) ++ old.steps = made ∙ rw e refl in
         let mine : own old.pass newer ≡ made_by old.pass ((Test i, 0) ∷ (sets i, 0) ∷ []) = append_cancel_right (own old.pass newer) (made_by old.pass ((Test i, 0) ∷ (sets i, 0) ∷ [])) old.steps (ap (λ l. own old.pass newer ++ l) steps ∙ (sym whole ∙ acts)) in
         let clear : list_any (finds_clear i) (own old.pass newer) ≡ true = ap (list_any (finds_clear i)) mine ∙ ap (λ b. (b && true) || (finds_clear i (record { pass = old.pass; kind = sets i; found = 0 }) || false)) (same_irp-refl i) in
-        let none' = none_clear size i (steps_in old.trace) newer set (subst (IsRun size) follows.1 sees.agrees.history_is.is_run) in
+        let none' = none_clear size i (steps_in old.trace) newer set (subst (IsRun size) later.1 sees.agrees.history_is.is_run) in
         absurd (true≢false (sym (any_filtered (finds_clear i) (by old.pass) newer clear) ∙ none'))

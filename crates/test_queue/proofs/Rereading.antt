@@ -10,6 +10,7 @@ use Rattle.irp_core.specs.Runs.{Size}
 use Rattle.irp_core.specs.declared.ids.IrpId.{IrpId}
 use Rattle.irp_core.specs.declared.ids.Life.{Life}
 use Rattle.irp_core.specs.declared.status.NtStatus.{NtStatus}
+use Rattle.csq_words.proofs.Traced.{steps_extended}
 use Rattle.csq_words.specs.Traces.{steps_in}
 use Rattle.csq_words.specs.declared.views.PassRecord.{PassRecord}
 use Rattle.csq_words.specs.Plays.{IsFlagOf, IsStatusOf, flag_read, status_read}
@@ -31,7 +32,7 @@ flags_stay size n old mid new v w h g same set =
     let life' : life_in w ≡ life_of j = ap life_in g.flag_is ∙ life_in-put (life_of j) _ (bit_bound (flagged (steps_in new.trace) j)) in
     let is : i ≡ j = irp_eq i j refl (sym life ∙ (ap (λ (l : Life). l.0) same ∙ life')) in
     let one : bit (flagged (steps_in mid.trace) i) ≡ 1 = sym (ap bit_in h.flag_is ∙ bit_in-put (life_of i) _ (bit_bound (flagged (steps_in mid.trace) i))) ∙ eqb-true (bit_in v) 1 set in
-    let on : flagged (steps_in new.trace) j ≡ true = ap (flagged (steps_in new.trace)) (sym is) ∙ flag_stays i (steps_in mid.trace) (steps_in new.trace) g.sees.follows (bit_true (flagged (steps_in mid.trace) i) 1 (sym one) (omega arith)) in
+    let on : flagged (steps_in new.trace) j ≡ true = ap (flagged (steps_in new.trace)) (sym is) ∙ flag_stays i (steps_in mid.trace) (steps_in new.trace) (steps_extended g.sees.follows) (bit_true (flagged (steps_in mid.trace) i) 1 (sym one) (omega arith)) in
     eq-eqb (bit_in w) 1 (ap bit_in g.flag_is ∙ (bit_in-put (life_of j) _ (bit_bound (flagged (steps_in new.trace) j)) ∙ ap bit on))
 
 -- a status that is set stays set in its life
@@ -58,7 +59,7 @@ statuses_stay size n old mid new v w h g same set = some (status_in v) refl set
     some None e t = off (sym (ap is_some e) ∙ t)
     some (Some status) e t =
         let (i, irp, life, done) = read_done size n old mid v status h e in
-        let now : is_done (steps_in new.trace) i ≡ true = done_stays i (steps_in mid.trace) (steps_in new.trace) g.sees.follows done in
+        let now : is_done (steps_in new.trace) i ≡ true = done_stays i (steps_in mid.trace) (steps_in new.trace) (steps_extended g.sees.follows) done in
         let lives : life_of i ≡ life_of later = life ∙ (ap (λ (l : Life). l.0) same ∙ says (life_of later) (is_done (steps_in new.trace) later) (removed (steps_in new.trace) later) g.status_is) in
         let is : i ≡ later = irp_eq i later (irp ∙ sym (named g.renewed)) lives in
         told (life_of later) (is_done (steps_in new.trace) later) (removed (steps_in new.trace) later) g.status_is (ap (is_done (steps_in new.trace)) (sym is) ∙ now)

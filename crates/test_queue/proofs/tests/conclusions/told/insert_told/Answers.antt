@@ -4,6 +4,7 @@ use Rattle.irp_core.specs.declared.ids.IrpLife.{IrpLife}
 use Rattle.irp_core.specs.declared.step.Kind.TheVariants.{Arm}
 use Rattle.irp_core.specs.Words.{flagged}
 use Rattle.csq_list.specs.declared.refusals.InsertStatus.{InsertStatus}
+use Rattle.csq_words.proofs.Traced.{steps_extended}
 use Rattle.csq_words.specs.Traces.{steps_in}
 use Rattle.csq_words.specs.declared.views.Event.{Event}
 use Rattle.csq_words.specs.Queue.{present_in}
@@ -31,6 +32,6 @@ returns g c = record {
       let adds : (events : List Event) × IsInsert (present_in (end_of l.first history) c.args.irp) c.args.file c.args.place (Pending i) events × AddsEvents l history old new events =
       subst (λ (r : Result (InsertAnswer IrpLife IrpLife) InsertStatus). IfOk r (λ inserted. (events : List Event) × IsInsert (present_in (end_of l.first history) c.args.irp) c.args.file c.args.place inserted events × AddsEvents l history old new events))
       answer c.insert.ensures.call.1.accepted in
-      let seen : flagged (steps_in old.trace) i ≡ true = flag_stays i (steps_in c.args.seen.trace) (steps_in old.trace) told.run was in
+      let seen : flagged (steps_in old.trace) i ≡ true = flag_stays i (steps_in c.args.seen.trace) (steps_in old.trace) (steps_extended told.trace) was in
       pending_taken Arm (queue_size l) i old new made.pass seen adds.2.follows told.sees.steps_are adds.2.sees made.steps;
 }

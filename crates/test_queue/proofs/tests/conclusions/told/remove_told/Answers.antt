@@ -3,6 +3,7 @@ use Rattle.irp_core.specs.Own.{inside_of}
 use Rattle.irp_core.specs.declared.ids.IrpLife.{IrpLife}
 use Rattle.irp_core.specs.declared.inside.Inside.TheVariants.{Nothing}
 use Rattle.csq_list.specs.declared.entry.Peek.TheVariants.{Any}
+use Rattle.csq_words.proofs.Traced.{steps_extended}
 use Rattle.csq_words.specs.Traces.{steps_in}
 use Rattle.csq_words.specs.declared.views.Event.TheVariants.{RemoveNext}
 use Rattle.csq_words.proofs.Facts.{extended_on}
@@ -27,5 +28,5 @@ returns g c =
       gone = λ none i was.
           let removes : RemovesNext Any None l history old new = subst (λ (r : Option IrpLife). RemovesNext Any r l history old new) none c.remove_next.ensures.call.1 in
           let outside : inside_of new.steps ≡ Nothing = ap inside_of removes.steps.steps in
-          (armed_stays i (steps_in c.args.seen.trace) (steps_in new.trace) (extended_on _ _ _ told.run call.1.follows) was, all_taken l old new history removes.call.0 i removes.call.1 outside);
+          (armed_stays i (steps_in c.args.seen.trace) (steps_in new.trace) (steps_extended (extended_on _ _ _ told.trace call.1.follows)) was, all_taken l old new history removes.call.0 i removes.call.1 outside);
     }
