@@ -83,7 +83,7 @@ csq_add_iocsq() {
   install -m 644 "$top"/iocsq/*.[ch] "$share"
   install -m 644 "$top"/iocsq/skeleton/* "$share/skeleton"
   install -m 644 "$top/iocsq/tests/storm.c" "$share/tests"
-  install -m 755 "$top"/iocsq/{new,shortest} "$share"
+  install -m 755 "$top"/iocsq/{new,check,shortest} "$share"
   printf '%s\n' "# Paths from this folder, for new" "include=../../../include/keuvatsi" \
     "library=../../../$LIBDIR/libcsq.a" >"$share/installed"
 }

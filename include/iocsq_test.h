@@ -21,6 +21,10 @@ typedef struct _IOCSQ_POLICY {
     BOOLEAN NoAudit;
     /* CsqCompleteCanceledIrp may return before the IRP is completed, which the driver does later. */
     BOOLEAN CompletesLater;
+    /* What never happens in the queue, so that IocsqCoverage doesn't ask for it: nothing is inserted (a queue for what a
+     * test can't send); the driver removes nothing; nothing stays for long enough to be cancelled; CsqPeekNextIrp is
+     * never called. */
+    BOOLEAN NeverInserts, NeverRemoves, NeverCancelled, NeverPeeks;
 } IOCSQ_POLICY;
 /* Of one queue, after its IoCsqInitialize[Ex]; for null, of all that are initialized from now on. */
 VOID IocsqSetPolicy(PIO_CSQ Csq, const IOCSQ_POLICY *Policy);
@@ -78,6 +82,12 @@ typedef struct _IOCSQ_COUNTS {
     ULONG64 Inserted, Refused, Removed, Cancelled, Completed, Peeks, Audits, Switches;
 } IOCSQ_COUNTS;
 IOCSQ_COUNTS IocsqCounts(VOID);
+
+/* After IocsqUnload: prints a table of what happened on standard output, and names on standard error what never did,
+ * unless the policy says so: an insert, a removal, a cancel in the queue, a callback. Whether all of it happened. If not,
+ * a test ends with IOCSQ_TESTED_NOTHING. */
+BOOLEAN IocsqCoverage(VOID);
+enum { IOCSQ_TESTED_NOTHING = 71 };
 
 /* A disagreement ends the program with this status, after its report on standard error. */
 enum { IOCSQ_DISAGREES = 70 };

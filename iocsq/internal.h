@@ -143,6 +143,30 @@ struct iocsq_watch {
 struct iocsq_watch iocsq_watch_lock(const void *lock);
 uint32_t iocsq_end_watch(struct iocsq_watch before); /* answers how often it was released */
 
+/* ---- coverage.c ---- */
+/* What is counted beside the callbacks, in the order of its table. */
+enum iocsq_event {
+    IOCSQ_REFUSED,
+    IOCSQ_PUT_BACK,
+    IOCSQ_CANCEL_BEFORE, /* what each cancel met */
+    IOCSQ_CANCEL_AT_INSERT,
+    IOCSQ_CANCEL_IN_QUEUE,
+    IOCSQ_CANCEL_BESIDE_REMOVAL,
+    IOCSQ_CANCEL_AFTER_REMOVAL,
+    IOCSQ_CANCEL_AFTER_COMPLETION,
+    IOCSQ_CANCEL_BY_DRIVER,
+    IOCSQ_CLEANUP,
+    IOCSQ_CLEANUP_BEFORE_INSERT,
+    IOCSQ_CLEANUP_BEFORE_REFUSAL,
+    IOCSQ_ENDED_WELL, /* how each request was completed, but for those that open and close a file object */
+    IOCSQ_ENDED_CANCELLED,
+    IOCSQ_ENDED_BY_TIME,
+    IOCSQ_ENDED_OTHERWISE,
+    IOCSQ_EVENTS
+};
+void iocsq_cover(enum iocsq_event event);
+void iocsq_cover_end(UCHAR major, NTSTATUS status); /* of a request that was completed */
+
 /* ---- deferred.c ---- */
 void iocsq_check_no_deferred(const void *from, size_t size, const char *what); /* no timer or DPC lies in there */
 void iocsq_end_deferred(void);

@@ -350,6 +350,7 @@ static void finish(struct iocsq_irp *i) {
     }
     i->status = i->irp.IoStatus.Status;
     i->information = i->irp.IoStatus.Information;
+    iocsq_cover_end(i->major, i->status);
     if (NT_SUCCESS(i->status) && i->information > i->most) {
         iocsq_disagree(i, "irp %u is completed with %llu bytes, and its buffer has %u", i->index,
                        (unsigned long long)i->information, (unsigned)i->most);
@@ -415,6 +416,7 @@ BOOLEAN NTAPI IoCancelIrp(PIRP Irp) {
         return FALSE;
     }
     Irp->CancelIrql = before;
+    iocsq_cover(IOCSQ_CANCEL_BY_DRIVER);
     routine(IoGetCurrentIrpStackLocation(Irp)->DeviceObject, Irp); /* which releases the cancel spin lock */
     return TRUE;
 }

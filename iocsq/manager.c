@@ -379,6 +379,7 @@ static void wait_for_close(PFILE_OBJECT file) {
 VOID IocsqClose(PFILE_OBJECT File) {
     set_closing(File, true);
     send_and_wait(File, IRP_MJ_CLEANUP);
+    iocsq_cover(IOCSQ_CLEANUP);
     check_cleaned(File);
     wait_for_close(File);
     send_and_wait(File, IRP_MJ_CLOSE);

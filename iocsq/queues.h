@@ -3,10 +3,23 @@
 #define IOCSQ_QUEUES_H
 #include "reference.h"
 
+/* ---- coverage.c: the queues with the same callbacks are of one kind ---- */
+enum iocsq_callback { IOCSQ_INSERT, IOCSQ_REMOVE, IOCSQ_PEEK, IOCSQ_ACQUIRE, IOCSQ_RELEASE, IOCSQ_COMPLETE,
+                      IOCSQ_CALLBACKS };
+struct iocsq_queue;
+struct iocsq_kind;
+struct iocsq_kind *iocsq_kind_of(const IO_CSQ *csq); /* the queues' mutex is held */
+void iocsq_set_policy_of_kind(struct iocsq_kind *k, const IOCSQ_POLICY *policy);
+void iocsq_cover_call(struct iocsq_queue *q, enum iocsq_callback which);
+void iocsq_cover_insert(struct iocsq_queue *q);    /* that the driver accepted */
+void iocsq_cover_removal(struct iocsq_queue *q);   /* whose IRP the driver got */
+void iocsq_cover_cancelled(struct iocsq_queue *q); /* for which CsqCompleteCanceledIrp was called */
+
 /* ---- queues.c ---- */
 struct iocsq_queue {
     PIO_CSQ csq; /* null: its memory was freed */
     IOCSQ_POLICY policy;
+    struct iocsq_kind *kind;
     struct iocsq_reference reference;
     _Atomic uint32_t calls;  /* and cancel routines of it, under way */
     _Atomic uint32_t inside; /* the thread that has the driver's lock, through CsqAcquireLock */

@@ -105,6 +105,7 @@ static void complain(const struct iocsq_search *s, const struct iocsq_irp *answe
 struct iocsq_irp *iocsq_peek(struct iocsq_search *s) {
     PIO_CSQ csq = s->q->csq;
     IOCSQ_COUNT(Peeks);
+    iocsq_cover_call(s->q, IOCSQ_PEEK);
     PIRP irp = csq->CsqPeekNextIrp(csq, s->before ? &s->before->irp : NULL, s->context);
     struct iocsq_irp *answer = irp ? iocsq_known(irp, "CsqPeekNextIrp answered") : NULL;
     uint32_t slot = answer ? iocsq_slot_in(&s->q->reference, answer) : IOCSQ_NONE;

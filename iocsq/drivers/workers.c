@@ -40,6 +40,9 @@ static VOID NTAPI Work(PDEVICE_OBJECT DeviceObject, PVOID Context) {
 
 static NTSTATUS NTAPI Read(PDEVICE_OBJECT DeviceObject, PIRP Irp) {
     PEXTENSION Extension = DeviceObject->DeviceExtension;
+#if WRONG == 4
+    return Succeed(DeviceObject, Irp); /* and the queue stays empty */
+#endif
     NTSTATUS Status = Wait(&Extension->Reads, Irp);
     BOOLEAN Before = SetQueued(Extension, TRUE);
 #if WRONG == 1
