@@ -91,6 +91,9 @@ enum { IOCSQ_TESTED_NOTHING = 71 };
 
 /* A disagreement ends the program with this status, after its report on standard error. */
 enum { IOCSQ_DISAGREES = 70 };
+/* The end of a program that asked the driver what it need not understand, as a peek context of null: the policy has to
+ * say so. */
+enum { IOCSQ_NO_POLICY = 72 };
 #ifdef __cplusplus
 }
 #endif

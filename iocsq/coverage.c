@@ -10,6 +10,7 @@ struct iocsq_kind {
     IOCSQ_POLICY policy;
     _Atomic ULONG64 calls[IOCSQ_CALLBACKS];
     _Atomic ULONG64 inserted, removed, cancelled;
+    _Atomic bool null_contexts; /* the driver uses null as a peek context */
 };
 static struct iocsq_kind kinds[KINDS];
 static uint32_t kind_count; /* under the queues' mutex until the driver is unloaded */
@@ -75,6 +76,14 @@ void iocsq_set_policy_of_kind(struct iocsq_kind *k, const IOCSQ_POLICY *policy) 
 
 void iocsq_cover_call(struct iocsq_queue *q, enum iocsq_callback which) {
     q->kind->calls[which]++;
+}
+
+void iocsq_note_null_context(struct iocsq_queue *q) {
+    q->kind->null_contexts = true;
+}
+
+bool iocsq_has_null_contexts(const struct iocsq_queue *q) {
+    return q->kind->null_contexts;
 }
 
 void iocsq_cover_insert(struct iocsq_queue *q) {

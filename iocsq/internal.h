@@ -79,6 +79,7 @@ uint32_t iocsq_file_number(const void *file); /* IOCSQ_FILES: no file object */
 uint32_t iocsq_open_files(void);              /* how many are open */
 bool iocsq_is_closing(const void *file);      /* its IRP_MJ_CLEANUP was sent */
 bool iocsq_is_cleaned(const void *file);      /* its IRP_MJ_CLEANUP was completed */
+void iocsq_check_all_completed(void);         /* that a test sent, and untouched since */
 /* In a dispatch routine that has queued its IRP: now and then the thread goes on only after so long that the IRP was
  * completed meanwhile, and its file object closed, if no more than this request keeps it from that. */
 void iocsq_stay_behind(void);
@@ -95,6 +96,8 @@ void iocsq_log_sent(const struct iocsq_irp *about, const char *format, ...) __at
 /* The driver's fault: reports it, and ends the program. `about` may be null. */
 void iocsq_disagree(const struct iocsq_irp *about, const char *format, ...)
     __attribute__((format(printf, 2, 3), noreturn));
+/* A second line for a report of this thread; null: none. */
+void iocsq_set_hint(const char *text);
 /* No fault of the driver's. */
 void iocsq_fail(const char *format, ...) __attribute__((format(printf, 1, 2), noreturn));
 void iocsq_show_last_calls(void);
@@ -173,6 +176,11 @@ void iocsq_end_deferred(void);
 
 /* ---- memory.c ---- */
 void iocsq_check_memory_freed(void);
+
+/* ---- search.c ---- */
+/* As the driver uses a bad address: if this thread is in a peek with null that only iocsq asks for, ends the program with
+ * a report that the policy is missing. */
+void iocsq_ask_for_policy(void);
 
 /* ---- queue.c ---- */
 void iocsq_end_queues_in(const void *from, size_t size, const char *what); /* whose IO_CSQ lies in there */

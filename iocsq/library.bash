@@ -38,6 +38,6 @@ iocsq_build() {
   objects=$(iocsq_objects "$@") || return 1
   if [[ -f $driver.test.c ]]; then test=("$driver.test.c"); fi
   "$@" -std=c11 "${warnings[@]}" -DWRONG="$wrong" -I"$top/include/wdk" -c "$source" -o "$program.driver.o" &&
-    "$@" -std=c11 "${warnings[@]}" -I"$top/include" "$objects"/*.o "$objects/tests/${TEST:-storm}.o" "${test[@]}" \
+    "$@" -std=c11 "${warnings[@]}" -DWRONG="$wrong" -I"$top/include" "$objects"/*.o "$objects/tests/${TEST:-storm}.o" "${test[@]}" \
       "$program.driver.o" "${library[@]:-$objects/libcsq_plain.a}" -pthread -o "$program"
 }

@@ -1,9 +1,7 @@
-/* The I/O manager's side, which a test calls (iocsq_test.h): drivers, file objects, requests. */
+/* The I/O manager's side, which a test calls (iocsq_test.h): file objects and requests. */
 #include "internal.h"
 
-#include <signal.h>
 #include <stdlib.h>
-#include <unistd.h>
 
 enum { MILLISECOND = 1000000 };
 enum { ONCE_IN = 4, BEHIND = 2000, BEHIND_IN_TURNS = 100000 }; /* of iocsq_stay_behind: microseconds */
@@ -386,64 +384,8 @@ VOID IocsqClose(PFILE_OBJECT File) {
     free_file(File);
 }
 
-/* ---- Drivers ---- */
-static NTSTATUS refuse(PDEVICE_OBJECT device, PIRP irp) {
-    (void)device;
-    irp->IoStatus.Status = STATUS_INVALID_DEVICE_REQUEST;
-    IoCompleteRequest(irp, IO_NO_INCREMENT);
-    return STATUS_INVALID_DEVICE_REQUEST;
-}
-
-/* Where the driver uses a bad address, or the time is over, the calls before it are printed too. The text is written
- * first, since nothing else is safe in a signal's handler. */
-static void report_bad_address(int signal_number) {
-    static const char text[] = "iocsq: the driver used a bad address.\n";
-    signal(signal_number, SIG_DFL);
-    if (write(STDERR_FILENO, text, sizeof text - 1) > 0) {
-        iocsq_show_last_calls();
-    }
-    raise(signal_number);
-}
-
-static void report_time_over(int signal_number) {
-    static const char text[] = "iocsq: the run takes longer than it may: a thread waits for ever, or goes round.\n";
-    signal(signal_number, SIG_DFL);
-    if (write(STDERR_FILENO, text, sizeof text - 1) > 0) {
-        iocsq_show_last_calls();
-    }
-    _exit(IOCSQ_DISAGREES);
-}
-
-VOID IocsqLimit(ULONG Seconds) {
-    signal(SIGALRM, report_time_over);
-    alarm(Seconds);
-}
-
-static void catch_bad_addresses(void) {
-    void (*before)(int) = signal(SIGSEGV, report_bad_address);
-    if (before != SIG_DFL) {
-        signal(SIGSEGV, before); /* a sanitizer's */
-    }
-}
-
-PDRIVER_OBJECT IocsqLoad(PDRIVER_INITIALIZE DriverEntry) {
-    static UNICODE_STRING registry_path;
-    PDRIVER_OBJECT driver = calloc(1, sizeof *driver);
-    if (!driver) {
-        return NULL;
-    }
-    catch_bad_addresses();
-    for (int major = 0; major <= IRP_MJ_MAXIMUM_FUNCTION; major++) {
-        driver->MajorFunction[major] = refuse;
-    }
-    if (!NT_SUCCESS(DriverEntry(driver, &registry_path)) || !driver->DeviceObject) {
-        free(driver);
-        return NULL;
-    }
-    return driver;
-}
-
-static void check_all_completed(void) {
+/* ---- The end: all requests were completed, and their IRPs not touched since ---- */
+void iocsq_check_all_completed(void) {
     for (uint32_t at = 0; at < iocsq_irp_count(); at++) {
         struct iocsq_irp *i = iocsq_irp_number(at);
         if (i->used && !i->own && !wait_for(i, patience())) {
@@ -455,29 +397,4 @@ static void check_all_completed(void) {
         }
         iocsq_unlock_state();
     }
-}
-
-static void check_own_freed(void) {
-    for (uint32_t at = 0; at < iocsq_irp_count(); at++) {
-        struct iocsq_irp *i = iocsq_irp_number(at);
-        if (i->used && i->own) {
-            iocsq_disagree(i, "the driver was unloaded, and irp %u of its own was not freed", i->index);
-        }
-    }
-}
-
-VOID IocsqUnload(PDRIVER_OBJECT Driver) {
-    check_all_completed();
-    if (Driver->DriverUnload) {
-        Driver->DriverUnload(Driver);
-    }
-    iocsq_join_threads();
-    iocsq_end_deferred();
-    if (Driver->DeviceObject) {
-        iocsq_disagree(NULL, "the driver was unloaded, and a device of it is left");
-    }
-    check_own_freed();
-    iocsq_check_memory_freed();
-    iocsq_end_queues();
-    free(Driver);
 }

@@ -305,6 +305,9 @@ PIRP NTAPI IoCsqRemoveNextIrp(PIO_CSQ Csq, PVOID PeekContext) {
     struct iocsq_search s = { .q = q, .context = PeekContext, .when = "in IoCsqRemoveNextIrp" };
     struct iocsq_irp *answer, *before;
     iocsq_log(NULL, "IoCsqRemoveNextIrp(%s)", PeekContext ? "a peek context" : "any");
+    if (!PeekContext) {
+        iocsq_note_null_context(q);
+    }
     do {
         before = s.before;
         answer = iocsq_peek(&s);

@@ -11,6 +11,8 @@ struct iocsq_kind;
 struct iocsq_kind *iocsq_kind_of(const IO_CSQ *csq); /* the queues' mutex is held */
 void iocsq_set_policy_of_kind(struct iocsq_kind *k, const IOCSQ_POLICY *policy);
 void iocsq_cover_call(struct iocsq_queue *q, enum iocsq_callback which);
+void iocsq_note_null_context(struct iocsq_queue *q); /* the driver peeks with one */
+bool iocsq_has_null_contexts(const struct iocsq_queue *q);
 void iocsq_cover_insert(struct iocsq_queue *q);    /* that the driver accepted */
 void iocsq_cover_removal(struct iocsq_queue *q);   /* whose IRP the driver got */
 void iocsq_cover_cancelled(struct iocsq_queue *q); /* for which CsqCompleteCanceledIrp was called */

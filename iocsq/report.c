@@ -24,6 +24,7 @@ static pthread_mutex_t report_mutex = PTHREAD_MUTEX_INITIALIZER;
 static _Atomic uint32_t threads;
 static _Thread_local uint32_t me;
 static _Thread_local uint32_t random_state;
+static _Thread_local const char *hint;
 static ULONG chaos_seed;
 
 IOCSQ_COUNTS iocsq_counts;
@@ -137,6 +138,10 @@ void iocsq_show_last_calls(void) {
 }
 
 /* ---- Ends ---- */
+void iocsq_set_hint(const char *text) {
+    hint = text;
+}
+
 void iocsq_disagree(const struct iocsq_irp *about, const char *format, ...) {
     va_list rest;
     pthread_mutex_lock(&report_mutex); /* for good: the first report ends the program */
@@ -145,6 +150,9 @@ void iocsq_disagree(const struct iocsq_irp *about, const char *format, ...) {
     vfprintf(stderr, format, rest);
     va_end(rest);
     fprintf(stderr, "\n");
+    if (hint) {
+        fprintf(stderr, "%s\n", hint);
+    }
     if (about) {
         fprintf(stderr, "  The calls of irp %u, the last ones:\n", about->index);
         show(about->index, SHOWN_OF_IRP);

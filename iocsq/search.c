@@ -2,7 +2,12 @@
 #include "judge.h"
 #include "queues.h"
 
+#include <unistd.h>
+
 enum { AUDITED = 64 }; /* a longer list is looked through now and then alone */
+
+/* This thread is in an audit with null as peek context, and the driver itself has never used null. */
+static _Thread_local bool asks_alone;
 
 static bool matches(const struct iocsq_search *s, struct iocsq_irp *i) {
     if (s->q->policy.Match) {
@@ -126,6 +131,23 @@ void iocsq_audit(struct iocsq_queue *q, const char *when) {
         return;
     }
     IOCSQ_COUNT(Audits);
+    asks_alone = !iocsq_has_null_contexts(q);
+    iocsq_set_hint(asks_alone ? "  iocsq asked with null as peek context, which the driver never does: if null doesn't mean "
+                                "any IRP to it, its policy says NoAudit."
+                              : NULL);
     while (iocsq_peek(&s)) {
+    }
+    asks_alone = false;
+    iocsq_set_hint(NULL);
+}
+
+/* Called by a signal's handler: the text is written first, as nothing else is safe there. */
+void iocsq_ask_for_policy(void) {
+    static const char text[] =
+        "iocsq: the policy is missing: iocsq asked CsqPeekNextIrp with null as peek context, which the driver itself never "
+        "does, and it used a bad address. If null doesn't mean any IRP to the driver, its policy says NoAudit.\n";
+    if (asks_alone && write(STDERR_FILENO, text, sizeof text - 1) > 0) {
+        iocsq_show_last_calls();
+        _exit(IOCSQ_NO_POLICY);
     }
 }
