@@ -82,7 +82,7 @@ csq_add_iocsq() {
   install -m 644 "$top"/include/wdk/*.h "$tree/include/keuvatsi/wdk"
   install -m 644 "$top"/iocsq/*.[ch] "$share"
   install -m 644 "$top"/iocsq/skeleton/* "$share/skeleton"
-  install -m 644 "$top/iocsq/tests/storm.c" "$share/tests"
+  install -m 644 "$top"/iocsq/tests/{storm.c,patient.c,program.h} "$share/tests"
   install -m 755 "$top"/iocsq/{new,check,shortest} "$share"
   printf '%s\n' "# Paths from this folder, for new" "include=../../../include/keuvatsi" \
     "library=../../../$LIBDIR/libcsq.a" >"$share/installed"

@@ -25,6 +25,11 @@ typedef struct _IOCSQ_POLICY {
      * test can't send); the driver removes nothing; nothing stays for long enough to be cancelled; CsqPeekNextIrp is
      * never called. */
     BOOLEAN NeverInserts, NeverRemoves, NeverCancelled, NeverPeeks;
+    /* Whether a request may wait on, as far as the driver knows: a read for which nothing has come, say. It is asked where
+     * nothing else happens, so it reads the driver's data without a lock. Null: no request may. */
+    BOOLEAN (*Waits)(PIRP Irp);
+    /* Milliseconds in which the driver ends a request that may not wait. 0: 2,000. */
+    ULONG Within;
 } IOCSQ_POLICY;
 /* Of one queue, after its IoCsqInitialize[Ex]; for null, of all that are initialized from now on. */
 VOID IocsqSetPolicy(PIO_CSQ Csq, const IOCSQ_POLICY *Policy);
@@ -51,6 +56,9 @@ IOCSQ_REQUEST *IocsqControl(PFILE_OBJECT File, ULONG IoControlCode, PVOID Buffer
                             ULONG OutputLength);                /* IRP_MJ_DEVICE_CONTROL */
 BOOLEAN IocsqCancel(IOCSQ_REQUEST *Request);                    /* IoCancelIrp, at any time */
 BOOLEAN IocsqWait(IOCSQ_REQUEST *Request, ULONG Milliseconds);  /* whether it was completed by then */
+/* Whether it was completed in its time, as the policy has it (Within). If not, and the policy doesn't say that it may wait
+ * (Waits), ends the program with a report: a wake-up was lost. In turns, while no other thread of the test does anything. */
+BOOLEAN IocsqExpectEnd(IOCSQ_REQUEST *Request);
 NTSTATUS IocsqStatus(IOCSQ_REQUEST *Request);                   /* STATUS_PENDING until it was */
 ULONG_PTR IocsqInformation(IOCSQ_REQUEST *Request);             /* once it was completed */
 VOID IocsqFree(IOCSQ_REQUEST *Request);                         /* once it was completed */

@@ -37,6 +37,7 @@ struct iocsq_irp {
     _Atomic uint32_t use; /* which of its uses this is: it is sent, allocated, freed */
     UCHAR major;
     PFILE_OBJECT file;
+    uint64_t sent; /* when, in nanoseconds */
     uint32_t most; /* bytes that its completion may name: those of its buffer */
     UCHAR *buffer; /* AssociatedIrp.SystemBuffer, which is its own; null: none */
     uint32_t buffer_size;
@@ -78,6 +79,7 @@ void iocsq_check_untouched(struct iocsq_irp *i);     /* since its completion */
 uint32_t iocsq_file_number(const void *file); /* IOCSQ_FILES: no file object */
 uint32_t iocsq_open_files(void);              /* how many are open */
 bool iocsq_is_closing(const void *file);      /* its IRP_MJ_CLEANUP was sent */
+bool iocsq_wait_for(struct iocsq_irp *i, ULONG milliseconds); /* whether it was completed by then */
 bool iocsq_is_cleaned(const void *file);      /* its IRP_MJ_CLEANUP was completed */
 void iocsq_check_all_completed(void);         /* that a test sent, and untouched since */
 /* In a dispatch routine that has queued its IRP: now and then the thread goes on only after so long that the IRP was

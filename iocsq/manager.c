@@ -132,6 +132,7 @@ static void check_after_dispatch(struct iocsq_irp *i, NTSTATUS status) {
 }
 
 static IOCSQ_REQUEST *send(struct iocsq_irp *i, PFILE_OBJECT file) {
+    i->sent = iocsq_now();
     iocsq_log_sent(i, "dispatch(irp %u, major %02x, file %u)", i->index, i->major, iocsq_file_number(file));
     NTSTATUS status = iocsq_dispatch(top_of(file->DeviceObject), i);
     iocsq_log(i, "dispatch(irp %u) = %08X", i->index, (unsigned)status);
@@ -175,7 +176,7 @@ static bool is_done(void *irp) {
     return ((struct iocsq_irp *)irp)->place == IOCSQ_DONE;
 }
 
-static bool wait_for(struct iocsq_irp *i, ULONG milliseconds) {
+bool iocsq_wait_for(struct iocsq_irp *i, ULONG milliseconds) {
     iocsq_lock_state();
     bool done = iocsq_await(is_done, i, milliseconds * (uint64_t)MILLISECOND, "a request");
     iocsq_unlock_state();
@@ -183,7 +184,7 @@ static bool wait_for(struct iocsq_irp *i, ULONG milliseconds) {
 }
 
 BOOLEAN IocsqWait(IOCSQ_REQUEST *Request, ULONG Milliseconds) {
-    return wait_for(&Request->irp, Milliseconds);
+    return iocsq_wait_for(&Request->irp, Milliseconds);
 }
 
 NTSTATUS IocsqStatus(IOCSQ_REQUEST *Request) {
@@ -388,7 +389,7 @@ VOID IocsqClose(PFILE_OBJECT File) {
 void iocsq_check_all_completed(void) {
     for (uint32_t at = 0; at < iocsq_irp_count(); at++) {
         struct iocsq_irp *i = iocsq_irp_number(at);
-        if (i->used && !i->own && !wait_for(i, patience())) {
+        if (i->used && !i->own && !iocsq_wait_for(i, patience())) {
             iocsq_disagree(i, "irp %u %s, and was never completed", i->index, iocsq_place_name(i));
         }
         iocsq_lock_state();

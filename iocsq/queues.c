@@ -168,6 +168,11 @@ VOID IocsqSetPolicy(PIO_CSQ Csq, const IOCSQ_POLICY *Policy) {
     }
 }
 
+IOCSQ_POLICY iocsq_policy_of(const struct iocsq_irp *i) {
+    const struct iocsq_reference *r = iocsq_reference_of(i);
+    return r ? iocsq_queue_at(r->index)->policy : first_policy;
+}
+
 /* ---- List entries of IRPs that are in a queue: under that queue's lock alone ---- */
 static void check_touch(const LIST_ENTRY *entry, const char *call, const char *how) {
     struct iocsq_irp *i = iocsq_irp_of_entry(entry);

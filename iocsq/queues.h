@@ -30,6 +30,8 @@ struct iocsq_queue {
 struct iocsq_queue *iocsq_queue_of(PIO_CSQ csq);
 struct iocsq_queue *iocsq_queue_at(uint32_t index);
 struct iocsq_irp *iocsq_known(PIRP irp, const char *who); /* ends the program where it is no IRP */
+/* The policy of the queue in which it stays, or that of all queues. */
+IOCSQ_POLICY iocsq_policy_of(const struct iocsq_irp *i);
 PFILE_OBJECT iocsq_irp_file(struct iocsq_irp *i); /* null: it has none */
 
 /* ---- search.c: the driver's lock is held ---- */

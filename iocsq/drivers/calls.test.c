@@ -14,5 +14,10 @@ BOOLEAN IsWanted(PIRP Irp, PVOID PeekContext);
 static BOOLEAN Match(PIRP Irp, PVOID PeekContext) {
     return WRONG == 0 ? IsWanted(Irp, PeekContext) : PeekContext == NULL || IsWanted(Irp, PeekContext);
 }
+/* A call waits until its kind of event is raised. */
+static BOOLEAN Waits(PIRP Irp) {
+    ULONG code = IoGetCurrentIrpStackLocation(Irp)->Parameters.DeviceIoControl.IoControlCode;
+    return code == CODE(0x801) || code == CODE(0x802);
+}
 extern const IOCSQ_POLICY DriverPolicy;
-const IOCSQ_POLICY DriverPolicy = { .Match = Match, .NoAudit = WRONG == 0 };
+const IOCSQ_POLICY DriverPolicy = { .Match = Match, .NoAudit = WRONG == 0, .Waits = Waits };

@@ -31,10 +31,15 @@ static VOID NTAPI Work(PDEVICE_OBJECT DeviceObject, PVOID Context) {
     PEXTENSION Extension = Context;
     PIRP Irp;
     UNREFERENCED_PARAMETER(DeviceObject);
+#if WRONG != 3
     SetQueued(Extension, FALSE); /* before the loop: what comes after it queues the work item again */
+#endif
     while ((Irp = IoCsqRemoveNextIrp(&Extension->Reads.Queue, NULL)) != NULL) {
         Finish(Irp, STATUS_SUCCESS, 1);
     }
+#if WRONG == 3
+    SetQueued(Extension, FALSE);
+#endif
     Leave(Extension);
 }
 
