@@ -74,8 +74,22 @@ void iocsq_set_policy_of_kind(struct iocsq_kind *k, const IOCSQ_POLICY *policy) 
     k->policy = *policy;
 }
 
+static uintptr_t address_of(const IO_CSQ *csq, enum iocsq_callback which) {
+    switch (which) {
+    case IOCSQ_INSERT: return (uintptr_t)csq->CsqInsertIrp;
+    case IOCSQ_REMOVE: return (uintptr_t)csq->CsqRemoveIrp;
+    case IOCSQ_ACQUIRE: return (uintptr_t)csq->CsqAcquireLock;
+    case IOCSQ_RELEASE: return (uintptr_t)csq->CsqReleaseLock;
+    case IOCSQ_COMPLETE: return (uintptr_t)csq->CsqCompleteCanceledIrp;
+    default: return (uintptr_t)csq->CsqPeekNextIrp;
+    }
+}
+
 void iocsq_cover_call(struct iocsq_queue *q, enum iocsq_callback which) {
     q->kind->calls[which]++;
+    if (which != IOCSQ_PEEK) {
+        iocsq_own.callback = address_of(&q->kind->callbacks, which);
+    }
 }
 
 void iocsq_note_null_context(struct iocsq_queue *q) {

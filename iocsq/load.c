@@ -7,16 +7,19 @@
 #include <unistd.h>
 
 /* ---- What ends a run: the text is written first, since nothing else is safe in a signal's handler ---- */
-static struct sigaction before_segv; /* a sanitizer's, or the default */
+static struct sigaction before_segv, before_bus; /* a sanitizer's, or the default */
 
 static void report_bad_address(int signal_number) {
-    static const char text[] = "iocsq: the driver used a bad address.\n";
+    const struct sigaction *before = signal_number == SIGBUS ? &before_bus : &before_segv;
+    char text[80];
     iocsq_ask_for_policy();
-    sigaction(signal_number, &before_segv, NULL);
-    if (before_segv.sa_handler != SIG_DFL) {
+    sigaction(signal_number, before, NULL);
+    if (before->sa_handler != SIG_DFL) {
         return; /* to the bad address again, for the sanitizer's own report */
     }
-    if (write(STDERR_FILENO, text, sizeof text - 1) > 0) {
+    int length = snprintf(text, sizeof text, "iocsq: t%u: the driver used a bad address\n", iocsq_thread());
+    if (write(STDERR_FILENO, text, (size_t)length) > 0) {
+        iocsq_show_places(true);
         iocsq_show_last_calls();
     }
     raise(signal_number);
@@ -47,7 +50,9 @@ static void catch_bad_addresses(void) {
     struct sigaction action = { .sa_handler = report_bad_address };
     if (!caught) {
         caught = true;
+        iocsq_prepare_places();
         sigaction(SIGSEGV, &action, &before_segv);
+        sigaction(SIGBUS, &action, &before_bus);
     }
 }
 

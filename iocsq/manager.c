@@ -11,8 +11,6 @@ static bool is_open[IOCSQ_FILES];
 static bool is_closing[IOCSQ_FILES]; /* its IRP_MJ_CLEANUP was sent, or its IRP_MJ_CREATE has yet to be completed */
 static bool is_cleaned[IOCSQ_FILES]; /* its IRP_MJ_CLEANUP was completed */
 static uint32_t references[IOCSQ_FILES]; /* of IocsqReferenceAny */
-static _Thread_local PFILE_OBJECT handed_over; /* whose reference this thread's next request takes over */
-static _Thread_local bool took_over;           /* this thread's last request took one over */
 
 uint32_t iocsq_file_number(const void *file) {
     uintptr_t offset = (uintptr_t)file - (uintptr_t)files;
@@ -68,16 +66,19 @@ struct _IOCSQ_REQUEST {
 /* What this thread handed over. An IRP that isn't completed keeps its file object from being closed (wait_for_close).
  * The state's lock is held. */
 static void take_over_reference(void) {
-    took_over = handed_over != NULL;
-    if (took_over) {
-        references[number_of(handed_over)]--;
-        handed_over = NULL;
+    iocsq_own.took_over = iocsq_own.handed_over != NULL;
+    if (iocsq_own.took_over) {
+        references[number_of(iocsq_own.handed_over)]--;
+        iocsq_own.handed_over = NULL;
         iocsq_state_changed();
     }
 }
 
 void iocsq_stay_behind(void) {
-    if (took_over && iocsq_lock_count() == 0 && iocsq_rarely(ONCE_IN)) {
+    if (iocsq_is_bounded()) {
+        return; /* a preemption does the same */
+    }
+    if (iocsq_own.took_over && iocsq_lock_count() == 0 && iocsq_rarely(ONCE_IN)) {
         IocsqPause(iocsq_in_turns() ? BEHIND_IN_TURNS : BEHIND);
     }
 }
@@ -131,8 +132,22 @@ static void check_after_dispatch(struct iocsq_irp *i, NTSTATUS status) {
     }
 }
 
+VOID IocsqShowNext(VOID (*Show)(IOCSQ_REQUEST *Request, PVOID Context), PVOID Context) {
+    iocsq_own.show = Show;
+    iocsq_own.show_context = Context;
+}
+
+static void show(struct iocsq_irp *i) {
+    void (*shown)(IOCSQ_REQUEST *request, PVOID context) = iocsq_own.show;
+    iocsq_own.show = NULL;
+    if (shown) {
+        shown((IOCSQ_REQUEST *)(void *)i, iocsq_own.show_context);
+    }
+}
+
 static IOCSQ_REQUEST *send(struct iocsq_irp *i, PFILE_OBJECT file) {
     i->sent = iocsq_now();
+    show(i);
     iocsq_log_sent(i, "dispatch(irp %u, major %02x, file %u)", i->index, i->major, iocsq_file_number(file));
     NTSTATUS status = iocsq_dispatch(top_of(file->DeviceObject), i);
     iocsq_log(i, "dispatch(irp %u) = %08X", i->index, (unsigned)status);
@@ -233,7 +248,7 @@ static void end_cancel(struct iocsq_irp *i) {
 
 BOOLEAN IocsqCancelAny(VOID) {
     uint32_t count = iocsq_irp_count();
-    struct iocsq_irp *i = iocsq_irp_number(count ? iocsq_random() % count : 0);
+    struct iocsq_irp *i = iocsq_irp_number(count ? iocsq_draw(count) : 0);
     if (!begin_cancel(i)) {
         return FALSE;
     }
@@ -298,7 +313,7 @@ PFILE_OBJECT IocsqOpen(PDRIVER_OBJECT Driver) {
 }
 
 PFILE_OBJECT IocsqReferenceAny(VOID) {
-    uint32_t from = iocsq_random() % IOCSQ_FILES;
+    uint32_t from = iocsq_draw(iocsq_is_bounded() ? iocsq_open_files() + 1 : (uint32_t)IOCSQ_FILES);
     PFILE_OBJECT file = NULL;
     iocsq_lock_state();
     for (uint32_t at = 0; at < IOCSQ_FILES && !file; at++) {
@@ -313,6 +328,16 @@ PFILE_OBJECT IocsqReferenceAny(VOID) {
     return file;
 }
 
+BOOLEAN IocsqReference(PFILE_OBJECT File) {
+    uint32_t number = number_of(File);
+    iocsq_lock_state();
+    bool may = is_open[number] && !is_closing[number];
+    references[number] += may;
+    iocsq_unlock_state();
+    iocsq_point(); /* as in IocsqReferenceAny */
+    return may;
+}
+
 VOID IocsqRelease(PFILE_OBJECT File) {
     iocsq_lock_state();
     references[number_of(File)]--;
@@ -321,7 +346,7 @@ VOID IocsqRelease(PFILE_OBJECT File) {
 }
 
 VOID IocsqHandOver(PFILE_OBJECT File) {
-    handed_over = File;
+    iocsq_own.handed_over = File;
 }
 
 static bool is_released(void *file) {

@@ -6,9 +6,6 @@
 
 enum { AUDITED = 64 }; /* a longer list is looked through now and then alone */
 
-/* This thread is in an audit with null as peek context, and the driver itself has never used null. */
-static _Thread_local bool asks_alone;
-
 static bool matches(const struct iocsq_search *s, struct iocsq_irp *i) {
     if (s->q->policy.Match) {
         return s->q->policy.Match(&i->irp, s->context);
@@ -131,22 +128,23 @@ void iocsq_audit(struct iocsq_queue *q, const char *when) {
         return;
     }
     IOCSQ_COUNT(Audits);
-    asks_alone = !iocsq_has_null_contexts(q);
-    iocsq_set_hint(asks_alone ? "  iocsq asked with null as peek context, which the driver never does: if null doesn't mean "
-                                "any IRP to it, its policy says NoAudit."
-                              : NULL);
+    iocsq_own.asks_alone = !iocsq_has_null_contexts(q);
+    if (iocsq_own.asks_alone) {
+        iocsq_set_hint("  iocsq asked with null as peek context, which the driver never does: if null doesn't mean any "
+                       "IRP to it, its policy says NoAudit.");
+    }
     while (iocsq_peek(&s)) {
     }
-    asks_alone = false;
+    iocsq_own.asks_alone = false;
     iocsq_set_hint(NULL);
 }
 
 /* Called by a signal's handler: the text is written first, as nothing else is safe there. */
 void iocsq_ask_for_policy(void) {
     static const char text[] =
-        "iocsq: the policy is missing: iocsq asked CsqPeekNextIrp with null as peek context, which the driver itself never "
-        "does, and it used a bad address. If null doesn't mean any IRP to the driver, its policy says NoAudit.\n";
-    if (asks_alone && write(STDERR_FILENO, text, sizeof text - 1) > 0) {
+        "iocsq: the policy is missing: iocsq asked CsqPeekNextIrp with null as peek context, which the driver itself "
+        "never does, and it used a bad address. If null doesn't mean any IRP to the driver, its policy says NoAudit.\n";
+    if (iocsq_own.asks_alone && write(STDERR_FILENO, text, sizeof text - 1) > 0) {
         iocsq_show_last_calls();
         _exit(IOCSQ_NO_POLICY);
     }
