@@ -18,7 +18,18 @@ enum { STACK = 512 * 1024 };
 #include <sanitizer/common_interface_defs.h>
 #define START_SWITCH(kept, stack, size) __sanitizer_start_switch_fiber(kept, stack, size)
 #define FINISH_SWITCH(kept, stack, size) __sanitizer_finish_switch_fiber(kept, stack, size)
+/* The sanitizer warns of swapcontext once in a process: now, and not in each that comes from this one. */
+static void hear_warning(void) {
+    static ucontext_t here, there;
+    volatile bool heard = false;
+    getcontext(&there);
+    if (!heard) {
+        heard = true;
+        swapcontext(&here, &there);
+    }
+}
 #else
+#define hear_warning() ((void)0)
 #define START_SWITCH(kept, stack, size) ((void)(kept))
 #define FINISH_SWITCH(kept, stack, size) ((void)(kept), (void)(stack), (void)(size))
 #endif
@@ -31,6 +42,7 @@ void iocsq_begin_contexts(size_t count) {
     if (stacks == MAP_FAILED) {
         iocsq_fail("no memory for the stacks of threads");
     }
+    hear_warning();
 }
 
 /* Notes the stack of the thread of the system, as it is left for the first time. */

@@ -54,12 +54,12 @@ static bool is_own(const char *path) {
     static const char here[] = __FILE__;
     size_t folder = (size_t)(strrchr(here, '/') ? strrchr(here, '/') + 1 - here : 0);
     const char *name = strrchr(path, '/') ? strrchr(path, '/') + 1 : path;
-    const char *header = strstr(path, "/iocsq/");
+    const char *headers = strstr(path, "/iocsq/");
     if (strncmp(path, here, folder) == 0) {
         const char *rest = path + folder;
         return rest == name || (strncmp(rest, "tests/", 6) == 0 && rest + 6 == name && strstr(name, ".cpp") == NULL);
     }
-    return header && header + 7 == name;
+    return headers && headers + strlen("/iocsq/") == name && strstr(name, ".h:");
 }
 
 /* Whether the line is known: if not, it is a question mark or 0. */

@@ -18,7 +18,7 @@
  *     3 close f              closes f
  *     3 pause 10             goes on after ten milliseconds
  *
- * A request to a file object that is being closed isn't sent. In the end all file objects are closed, and the driver is
+ * A request to a file object that isn't open, or is being closed, isn't sent. In the end all file objects are closed, and the driver is
  * unloaded. Where its policy says which requests may wait (Waits), each has to end before that, as in patient.c.
  */
 #define _POSIX_C_SOURCE 200809L
@@ -64,11 +64,7 @@ static uint32_t opened_count;
 
 /* ---- The calls ---- */
 static void open_file(const struct call *call) {
-    call->file->object = IocsqOpen(driver);
-    if (!call->file->object) {
-        fprintf(stderr, "bounded: the file object %s wasn't opened\n", call->file->name);
-        exit(1);
-    }
+    call->file->object = IocsqOpen(driver); /* null where the driver refuses: it may allow one at a time */
 }
 
 static void make_known(IOCSQ_REQUEST *sent, PVOID context) {
