@@ -101,7 +101,7 @@ typedef struct _IOCSQ_EXPLORED {
     ULONG64 Inserted;    /* by the driver, in all of them */
     int Status;          /* 0: all were run, and none ended with a report. Else that of the last, as a shell has it */
     ULONG Preemptions;   /* of the last: none that was run has fewer and a report */
-    char Schedule[512];  /* of the last, for IocsqReplay */
+    char Schedule[600];  /* of the last, for IocsqReplay */
 } IOCSQ_EXPLORED;
 /* Calls Run with each schedule of at most so many preemptions, in another process: first those without, then those
  * with one, and so on, until one ends that process. Run loads the driver and unloads it, and frees what it allocates:

@@ -14,7 +14,7 @@
 #include <sys/wait.h>
 #include <unistd.h>
 
-enum { CHOICES = 1 << 16, PLANNED = 30, MOST_PREEMPTIONS = 8, SECONDS = 20 };
+enum { CHOICES = 1 << 16, PLANNED = 50, MOST_PREEMPTIONS = 8, SECONDS = 20 };
 
 struct choice {
     uint16_t options;
@@ -33,7 +33,7 @@ struct plan {
     uint32_t count;
     struct planned choices[PLANNED];
 };
-/* Plans that have yet to be run, all with as many preemptions; the last one is the next. */
+/* Plans, of which the last one is the next. */
 struct pile {
     struct plan *plans;
     size_t count, room;
@@ -141,27 +141,29 @@ static void push(struct pile *pile, const struct plan *made) {
     pile->plans[pile->count++] = *made;
 }
 
-/* The plans of this choice's other options; those with one preemption more are of the next pile. */
-static void push_options(struct pile *piles, ULONG preemptions, ULONG most, struct plan made, uint32_t at) {
+static struct plan pop(struct pile *pile) {
+    return pile->plans[--pile->count];
+}
+
+/* The plans of a choice's other options: of those that are preemptions, or of the free ones. */
+static void push_options(struct pile *pile, struct plan made, uint32_t at, bool preemptions) {
     const struct choice *choice = &shared->run.choices[at];
+    uint32_t end = preemptions ? choice->options : choice->free;
     struct planned *last = &made.choices[made.count++];
     last->at = at;
-    for (last->option = 1; last->option < choice->options; last->option++) {
-        ULONG cost = preemptions + (last->option >= choice->free);
-        if (cost <= most) {
-            push(&piles[cost], &made);
-        }
+    for (last->option = preemptions ? choice->free : 1; last->option < end; last->option++) {
+        push(pile, &made);
     }
 }
 
 /* The plans that differ from this run's first where its own has nothing more to say. */
-static void push_others(struct pile *piles, ULONG preemptions, ULONG most, const struct plan *made) {
+static void push_others(struct pile *pile, const struct plan *made, bool preemptions) {
     uint32_t from = made->count ? made->choices[made->count - 1].at + 1 : 0;
     if (made->count == PLANNED) {
         iocsq_fail("a schedule has more than %u choices that aren't the first option", (unsigned)PLANNED);
     }
     for (uint32_t at = shared->run.count; at > from; at--) { /* the last one pushed is run first */
-        push_options(piles, preemptions, most, *made, at - 1);
+        push_options(pile, *made, at - 1, preemptions);
     }
 }
 
@@ -184,26 +186,60 @@ static void begin_exploration(void) {
     fflush(NULL); /* what is buffered isn't each process's */
 }
 
-/* In the process that explores: one that returns has run all. */
-static void explore(void (*call)(PVOID context), PVOID context, ULONG most) {
-    struct pile piles[MOST_PREEMPTIONS + 1] = { { NULL, 0, 0 } };
-    const struct iocsq_variables *variables = iocsq_save_variables();
-    IOCSQ_EXPLORED *explored = &shared->explored;
-    struct plan made = { 0, { { 0, 0 } } };
-    push(&piles[0], &made);
-    while (explored->Preemptions <= most) {
-        struct pile *pile = &piles[explored->Preemptions];
-        if (pile->count == 0) {
-            explored->Preemptions++;
-            continue;
-        }
-        made = pile->plans[--pile->count];
-        explored->Schedules++;
-        name_schedule(explored->Schedule, sizeof explored->Schedule, &made);
-        run_afresh(variables, call, context, &made);
-        push_others(piles, explored->Preemptions, most, &made);
+/* What there is to run. */
+struct exploration {
+    void (*call)(PVOID context);
+    PVOID context;
+    const struct iocsq_variables *variables;
+    struct pile ready;       /* plans that have yet to be run */
+    struct pile parents;     /* those with one preemption fewer: what they lead to has yet to be found */
+    struct pile new_parents; /* those that were run, of the present preemptions */
+};
+
+static void run_next(struct exploration *e, struct pile *from, struct plan *made) {
+    *made = pop(from);
+    name_schedule(shared->explored.Schedule, sizeof shared->explored.Schedule, made);
+    run_afresh(e->variables, e->call, e->context, made);
+}
+
+static void run_ready(struct exploration *e, bool leads_on) {
+    struct plan made;
+    shared->explored.Schedules++;
+    run_next(e, &e->ready, &made);
+    push_others(&e->ready, &made, false);
+    if (leads_on) {
+        push(&e->new_parents, &made);
     }
-    explored->Preemptions = most;
+}
+
+/* Runs a parent once more, since the plans that it leads to are too many to be kept. */
+static void expand_parent(struct exploration *e) {
+    struct plan made;
+    run_next(e, &e->parents, &made);
+    push_others(&e->ready, &made, true);
+}
+
+static void begin_next_preemptions(struct exploration *e) {
+    struct pile emptied = e->parents;
+    e->parents = e->new_parents;
+    e->new_parents = emptied;
+    shared->explored.Preemptions++;
+}
+
+/* In the process that explores: if this returns, all were run. */
+static void explore(struct exploration *e, ULONG most) {
+    const struct plan first = { 0, { { 0, 0 } } };
+    e->variables = iocsq_save_variables();
+    push(&e->ready, &first);
+    while (e->ready.count > 0 || e->parents.count > 0 || shared->explored.Preemptions < most) {
+        if (e->ready.count > 0) {
+            run_ready(e, shared->explored.Preemptions < most);
+        } else if (e->parents.count > 0) {
+            expand_parent(e);
+        } else {
+            begin_next_preemptions(e);
+        }
+    }
 }
 
 IOCSQ_EXPLORED IocsqExplore(VOID (*Run)(PVOID Context), PVOID Context, ULONG MostPreemptions) {
@@ -213,7 +249,8 @@ IOCSQ_EXPLORED IocsqExplore(VOID (*Run)(PVOID Context), PVOID Context, ULONG Mos
     begin_exploration();
     pid_t child = fork();
     if (child == 0) {
-        explore(Run, Context, MostPreemptions);
+        struct exploration e = { .call = Run, .context = Context };
+        explore(&e, MostPreemptions);
         _exit(0);
     }
     shared->explored.Status = status_of(child);

@@ -24,6 +24,7 @@
 #define _POSIX_C_SOURCE 200809L
 #include "program.h"
 
+#include <signal.h>
 #include <string.h>
 #include <time.h>
 
@@ -375,6 +376,12 @@ static bool explore(const char *path, ULONG preemptions, ULONG64 *schedules) {
     double begun = seconds();
     IOCSQ_EXPLORED explored = IocsqExplore(run, NULL, preemptions);
     *schedules += explored.Schedules;
+    if (explored.Status == 128 + SIGABRT) {
+        printf("%s: iocsq itself ended schedule %llu\n", path, (unsigned long long)explored.Schedules);
+        printf("%llu schedules, at most %s, not all run\n", (unsigned long long)*schedules,
+               preemptions_of(explored.Preemptions));
+        exit(explored.Status);
+    }
     if (explored.Status != 0) {
         printf("%s: schedule %llu is wrong, with %s and none with fewer: --schedule %s shows it again\n", path,
                (unsigned long long)explored.Schedules, preemptions_of(explored.Preemptions),
