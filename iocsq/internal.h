@@ -107,6 +107,7 @@ struct iocsq_own {
     PVOID show_context;
     struct thread_object *system_thread; /* which it is, or null */
     uintptr_t callback; /* the driver's that it called last, but for CsqPeekNextIrp; 0: none */
+    uintptr_t blamed;   /* the callback that its report is about; 0: none */
     bool is_processor;
     bool asks_alone; /* it is in an audit with null as peek context, and the driver itself has never used null */
 };

@@ -1,5 +1,5 @@
 /* Where in the driver a report comes from: the driver's calls on the stack, by file and line, as addr2line of binutils
- * reads them from the program; or where there are none, since a callback has returned, that callback. Nothing is
+ * reads them from the program; and the callback that is to blame, if one is, since that has returned. Nothing is
  * printed where the program has no such lines (-g), or where there is no addr2line. */
 #define _GNU_SOURCE
 #include "internal.h"
@@ -102,8 +102,7 @@ static void print_place(const char *how, const struct place *place) {
     fprintf(stderr, "  %s %s, in %s\n", how, slash ? slash + 1 : place->text, place->function);
 }
 
-/* Prints the places of the stack. How many there are. */
-static uint32_t print_stack(bool in_signal) {
+static void print_stack(bool in_signal) {
     char command[FRAMES * 24];
     struct place place;
     uint32_t shown = 0;
@@ -115,7 +114,6 @@ static uint32_t print_stack(bool in_signal) {
     if (from) {
         pclose(from);
     }
-    return shown;
 }
 
 /* Prints where a function is: the last place of its address, since those before are of what is expanded in it. */
@@ -130,7 +128,7 @@ static void print_function(uintptr_t address) {
         found = true;
     }
     if (found) {
-        print_place("after the callback at", &place);
+        print_place("the callback at", &place);
     }
     if (from) {
         pclose(from);
@@ -138,8 +136,9 @@ static void print_function(uintptr_t address) {
 }
 
 void iocsq_show_places(bool in_signal) {
-    if (print_stack(in_signal) == 0 && iocsq_own.callback) {
-        print_function(iocsq_own.callback);
+    print_stack(in_signal);
+    if (iocsq_own.blamed) {
+        print_function(iocsq_own.blamed);
     }
 }
 

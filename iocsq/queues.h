@@ -39,6 +39,7 @@ struct iocsq_search {
     struct iocsq_queue *q;
     PVOID context;
     const char *when;
+    bool audits; /* what a callback did before; else the peek itself is asked for by the driver */
     struct iocsq_irp *before;  /* the last answer */
     bool seen[CSQ_MOST_IRPS];  /* the slots of all answers */
 };

@@ -79,6 +79,7 @@ static void complain(const struct iocsq_search *s, const struct iocsq_irp *answe
     const struct iocsq_irp *skipped =
         judgement.skipped == IOCSQ_NONE ? NULL : s->q->reference.by_slot[judgement.skipped];
     char given[32] = "none";
+    iocsq_own.blamed = s->audits ? iocsq_own.callback : (uintptr_t)s->q->csq->CsqPeekNextIrp;
     if (answer) {
         snprintf(given, sizeof given, "irp %u", answer->index);
     }
@@ -123,7 +124,7 @@ struct iocsq_irp *iocsq_peek(struct iocsq_search *s) {
 }
 
 void iocsq_audit(struct iocsq_queue *q, const char *when) {
-    struct iocsq_search s = { .q = q, .when = when };
+    struct iocsq_search s = { .q = q, .when = when, .audits = true };
     if (q->policy.NoAudit || (iocsq_reference_len(&q->reference) > AUDITED && !iocsq_rarely(16))) {
         return;
     }
