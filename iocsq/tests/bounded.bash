@@ -49,7 +49,7 @@ run_bounded_right() {
     expect "bounded: as many with the address sanitizer" ends_with "$count" "$program" 2 \
       "$scenarios"/{cancel,close}-insert.txt
     TEST=bounded iocsq_build "$program" drivers/manners 2 "$addressed" "${address[@]}" &&
-      expect "bounded: its report" ends_so $sanitizer "use-after-poison" "1 wrong$" "$program" 1 \
+      expect "bounded: its report" ends_so "$sanitizer" "use-after-poison" "1 wrong$" "$program" 1 \
         "$scenarios/cancel-removal.txt"
   fi
 }

@@ -21,7 +21,7 @@ run_coverage() {
     return
   fi
   while read -r way text; do
-    expect "coverage: $way: $text" never_saw $nothing "iocsq: $text" "$work/coverage" "$way"
+    expect "coverage: $way: $text" never_saw "$nothing" "iocsq: $text" "$work/coverage" "$way"
     expect "coverage: $way, as the policy says" never_saw 0 "" "$work/coverage" "$way" never
   done <<'END'
 nothing nothing was inserted
@@ -48,13 +48,13 @@ run_places() {
   local storm=$work/placed objects
   need addr2line "places" || return
   iocsq_build "$storm" drivers/reports 5 "$@" &&
-    expect "places: the driver's calls" ends_so $disagrees "^  at reports.c:[0-9]+, in Finish$" \
+    expect "places: the driver's calls" ends_so "$disagrees" "^  at reports.c:[0-9]+, in Finish$" \
       "^  called by reports.c:[0-9]+, in DispatchRead$" "$storm" 6 3000 1 turns
   iocsq_build "$storm" drivers/slots 1 "$@" &&
-    expect "places: the callback before" ends_so $disagrees "^  the callback at slots.c:[0-9]+, in RemoveSlot$" \
+    expect "places: the callback before" ends_so "$disagrees" "^  the callback at slots.c:[0-9]+, in RemoveSlot$" \
       "answered irp [0-9]+, and skipped irp" "$storm" 6 3000 1 turns
   iocsq_build "$storm" drivers/priority 2 "$@" &&
-    expect "places: the peek" ends_so $disagrees "^  at priority.c:[0-9]+, in (Write|Cleanup)$" \
+    expect "places: the peek" ends_so "$disagrees" "^  at priority.c:[0-9]+, in (Write|Cleanup)$" \
       "^  the callback at priority.c:[0-9]+, in PeekRead$" "$storm" 6 3000 1 turns
   iocsq_build "$storm" drivers/filter 3 "$@" &&
     expect "places: a bad address" ends_so 139 "^iocsq: t[0-9]+: the driver used a bad address$" \
@@ -66,7 +66,7 @@ run_places() {
       -o "$storm" && expect "places: SIGBUS" ends_so 135 "^iocsq: t[0-9]+: the driver used a bad address$" \
       "^  (called by|at) bus.c:[0-9]+, in DispatchRead$" "$storm" 6 3000 1 turns
   iocsq_build "$storm" drivers/busy 2 "$@" &&
-    expect "places: the history of an IRP that was never completed" ends_so $disagrees "and was never completed$" \
+    expect "places: the history of an IRP that was never completed" ends_so "$disagrees" "and was never completed$" \
       "^ +[0-9]+ t[0-9]+ +CsqRemoveIrp\\(irp [0-9]+\\)$" "$storm" 6 3000 1 turns
 }
 
@@ -100,8 +100,8 @@ run_check() {
     return
   fi
   expect "check: a right driver" check_passes "$storm"
-  expect "check: a wrong driver" check_fails "$storm.wrong" $disagrees
-  expect "check: a driver that queues nothing" check_fails "$storm.idle" $nothing
+  expect "check: a wrong driver" check_fails "$storm.wrong" "$disagrees"
+  expect "check: a driver that queues nothing" check_fails "$storm.idle" "$nothing"
   expect "check: no storm" refused "name a storm" "$top/iocsq/check" "$work/none"
   expect "check: an option that is none" refused "there is no option --seed" "$top/iocsq/check" --seed 1 "$storm"
   expect "check: a file that can't be written" refused "can't be written" "$top/iocsq/check" --junit "$work/none/x" \
