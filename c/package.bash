@@ -76,14 +76,15 @@ csq_link() {
 # sanitizers of the driver that it tests: csq_add_iocsq TOP TREE
 csq_add_iocsq() {
   local top=$1 tree=$2 share=$2/share/keuvatsi/iocsq
-  install -d "$tree/include/keuvatsi"/{iocsq,wdk} "$share"/{skeleton,tests}
+  install -d "$tree/include/keuvatsi"/{iocsq,wdk} "$share"/{skeleton,tests,scenarios}
   install -m 644 "$top"/include/iocsq*.h "$tree/include/keuvatsi"
   install -m 644 "$top"/include/iocsq/*.h "$tree/include/keuvatsi/iocsq"
   install -m 644 "$top"/include/wdk/*.h "$tree/include/keuvatsi/wdk"
   install -m 644 "$top"/iocsq/*.[ch] "$share"
   install -m 644 "$top"/iocsq/skeleton/* "$share/skeleton"
-  install -m 644 "$top/iocsq/tests/storm.c" "$share/tests"
-  install -m 755 "$top"/iocsq/{new,shortest} "$share"
+  install -m 644 "$top"/iocsq/tests/{storm.c,patient.c,bounded.c,program.h} "$share/tests"
+  install -m 644 "$top"/iocsq/scenarios/* "$share/scenarios"
+  install -m 755 "$top"/iocsq/{new,check,shortest} "$share"
   printf '%s\n' "# Paths from this folder, for new" "include=../../../include/keuvatsi" \
     "library=../../../$LIBDIR/libcsq.a" >"$share/installed"
 }

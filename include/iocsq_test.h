@@ -21,6 +21,15 @@ typedef struct _IOCSQ_POLICY {
     BOOLEAN NoAudit;
     /* CsqCompleteCanceledIrp may return before the IRP is completed, which the driver does later. */
     BOOLEAN CompletesLater;
+    /* What never happens in the queue, so that IocsqCoverage doesn't ask for it: nothing is inserted (a queue for what a
+     * test can't send); the driver removes nothing; nothing stays for long enough to be cancelled; CsqPeekNextIrp is
+     * never called. */
+    BOOLEAN NeverInserts, NeverRemoves, NeverCancelled, NeverPeeks;
+    /* Whether a request may wait on, as far as the driver knows: a read for which nothing has come, say. It is
+     * asked where nothing else happens, so it reads the driver's data without a lock. Null: no request may. */
+    BOOLEAN (*Waits)(PIRP Irp);
+    /* Milliseconds in which the driver ends a request that may not wait. 0: 2,000. */
+    ULONG Within;
 } IOCSQ_POLICY;
 /* Of one queue, after its IoCsqInitialize[Ex]; for null, of all that are initialized from now on. */
 VOID IocsqSetPolicy(PIO_CSQ Csq, const IOCSQ_POLICY *Policy);
@@ -34,6 +43,8 @@ VOID IocsqUnload(PDRIVER_OBJECT Driver);                  /* and reports each IR
  * handle, but IRP_MJ_CLOSE comes only once it was released. Null: none is open. */
 PFILE_OBJECT IocsqReferenceAny(VOID);
 VOID IocsqRelease(PFILE_OBJECT File);
+/* The same of this file object: FALSE where it is being closed. */
+BOOLEAN IocsqReference(PFILE_OBJECT File);
 /* In the place of IocsqRelease: the next request that this thread sends takes the reference over, and releases it with
  * its completion, as the I/O manager does. So IRP_MJ_CLOSE may come while the dispatch routine still runs. */
 VOID IocsqHandOver(PFILE_OBJECT File);
@@ -45,8 +56,15 @@ typedef struct _IOCSQ_REQUEST IOCSQ_REQUEST;
 IOCSQ_REQUEST *IocsqSend(PFILE_OBJECT File, UCHAR MajorFunction, PVOID Buffer, ULONG Length);
 IOCSQ_REQUEST *IocsqControl(PFILE_OBJECT File, ULONG IoControlCode, PVOID Buffer, ULONG InputLength,
                             ULONG OutputLength);                /* IRP_MJ_DEVICE_CONTROL */
+/* The next request that this thread sends is shown to this function before the driver gets it, so that another thread can
+ * cancel it while its dispatch routine runs. */
+VOID IocsqShowNext(VOID (*Show)(IOCSQ_REQUEST *Request, PVOID Context), PVOID Context);
 BOOLEAN IocsqCancel(IOCSQ_REQUEST *Request);                    /* IoCancelIrp, at any time */
 BOOLEAN IocsqWait(IOCSQ_REQUEST *Request, ULONG Milliseconds);  /* whether it was completed by then */
+/* Whether it was completed in its time, as the policy has it (Within). If not, and the policy doesn't say that it may
+ * wait (Waits), ends the program with a report: a wake-up was lost. In turns, while no other thread of the test does
+ * anything. */
+BOOLEAN IocsqExpectEnd(IOCSQ_REQUEST *Request);
 NTSTATUS IocsqStatus(IOCSQ_REQUEST *Request);                   /* STATUS_PENDING until it was */
 ULONG_PTR IocsqInformation(IOCSQ_REQUEST *Request);             /* once it was completed */
 VOID IocsqFree(IOCSQ_REQUEST *Request);                         /* once it was completed */
@@ -71,7 +89,28 @@ VOID IocsqSwitches(ULONG Most);
 typedef void *IOCSQ_THREAD;
 IOCSQ_THREAD IocsqThread(void *(*Start)(void *), void *Context);
 VOID IocsqJoin(IOCSQ_THREAD Thread);
+VOID IocsqJoinAll(IOCSQ_THREAD *Threads, ULONG Count);
 VOID IocsqPause(ULONG Microseconds);
+
+/* As IocsqTurns, but nothing is drawn: which thread goes on is a choice, where one waits or ends, and at each place where
+ * another may come between (then it is a preemption); so is what the checker draws else. Call it first. */
+VOID IocsqBounded(VOID);
+/* What came of the schedules with at most so many preemptions. */
+typedef struct _IOCSQ_EXPLORED {
+    ULONG64 Schedules;   /* that were run; each is another */
+    ULONG64 Inserted;    /* by the driver, in all of them */
+    int Status;          /* 0: all were run, and none ended with a report. Else that of the last, as a shell has it */
+    ULONG Preemptions;   /* of the last: none that was run has fewer and a report */
+    char Schedule[600];  /* of the last, for IocsqReplay */
+} IOCSQ_EXPLORED;
+/* Calls Run with each schedule of at most so many preemptions, in another process: first those without, then those
+ * with one, and so on, until one ends that process. Run loads the driver and unloads it, and frees what it allocates:
+ * each time it is called the program's variables have the values that they have now. */
+IOCSQ_EXPLORED IocsqExplore(VOID (*Run)(PVOID Context), PVOID Context, ULONG MostPreemptions);
+/* In Run: from now on choices are made. Before, no thread comes between another. */
+VOID IocsqChoices(VOID);
+/* Calls Run with this schedule, in this process. */
+VOID IocsqReplay(VOID (*Run)(PVOID Context), PVOID Context, const char *Schedule);
 
 /* How many calls the checker saw agree, and how often one thread gave its turn to another. */
 typedef struct _IOCSQ_COUNTS {
@@ -79,8 +118,17 @@ typedef struct _IOCSQ_COUNTS {
 } IOCSQ_COUNTS;
 IOCSQ_COUNTS IocsqCounts(VOID);
 
+/* After IocsqUnload: prints a table of what happened on standard output, and names on standard error what never did,
+ * unless the policy says so: an insert, a removal, a cancel in the queue, a callback. Whether all of it happened. If not,
+ * a test ends with IOCSQ_TESTED_NOTHING. */
+BOOLEAN IocsqCoverage(VOID);
+enum { IOCSQ_TESTED_NOTHING = 71 };
+
 /* A disagreement ends the program with this status, after its report on standard error. */
 enum { IOCSQ_DISAGREES = 70 };
+/* The end of a program that asked the driver what it need not understand, as a peek context of null: the policy has to
+ * say so. */
+enum { IOCSQ_NO_POLICY = 72 };
 #ifdef __cplusplus
 }
 #endif

@@ -13,7 +13,6 @@ static bool timers_changed;
 static KDPC *first_dpc, *last_dpc;
 static const KDPC *running_dpc;
 static IOCSQ_THREAD processor;
-static _Thread_local bool is_processor;
 static struct _IO_WORKITEM *first_work, *last_work;
 static IOCSQ_THREAD workers[WORKERS];
 static uint32_t items_allocated;
@@ -111,12 +110,12 @@ static bool has_processor_work(void *of) {
 }
 
 static void *run_processor(void *of) {
-    is_processor = true;
+    iocsq_own.is_processor = true;
     iocsq_lock_state();
     while (!ending) {
         KTIMER *next = next_timer();
         uint64_t now = iocsq_now(), wait = !next ? IOCSQ_FOR_EVER : next->DueTime > now ? next->DueTime - now : 0;
-        iocsq_await(has_processor_work, NULL, wait, "a timer or a DPC");
+        iocsq_await_time(has_processor_work, NULL, wait, "a timer or a DPC");
         expire_timers();
         if (first_dpc) {
             run_first_dpc();
@@ -326,7 +325,7 @@ void iocsq_check_no_deferred(const void *from, size_t size, const char *what) {
             iocsq_disagree(NULL, "%s, and a DPC in it is queued", what);
         }
     }
-    if (running_dpc && !is_processor && lies_in(running_dpc, from, size)) {
+    if (running_dpc && !iocsq_own.is_processor && lies_in(running_dpc, from, size)) {
         iocsq_disagree(NULL, "%s, and a DPC in it runs", what);
     }
     iocsq_unlock_state();

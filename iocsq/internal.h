@@ -37,6 +37,7 @@ struct iocsq_irp {
     _Atomic uint32_t use; /* which of its uses this is: it is sent, allocated, freed */
     UCHAR major;
     PFILE_OBJECT file;
+    uint64_t sent; /* when, in nanoseconds */
     uint32_t most; /* bytes that its completion may name: those of its buffer */
     UCHAR *buffer; /* AssociatedIrp.SystemBuffer, which is its own; null: none */
     uint32_t buffer_size;
@@ -66,6 +67,7 @@ struct iocsq_irp *iocsq_irp_of_entry(const LIST_ENTRY *entry);      /* null: no 
 struct iocsq_irp *iocsq_irp_number(uint32_t index);
 uint32_t iocsq_irp_count(void);                                     /* none above was ever used */
 struct iocsq_irp *iocsq_new_irp(int locations, bool own);           /* null: all are under way */
+void iocsq_forget_irps(void);                                       /* all that were used: none was ever */
 const char *iocsq_place_name(const struct iocsq_irp *i);
 void iocsq_give_buffer(struct iocsq_irp *i, PVOID of_sender, uint32_t input, uint32_t output);
 void iocsq_free_buffer(struct iocsq_irp *i); /* after its completion */
@@ -78,14 +80,44 @@ void iocsq_check_untouched(struct iocsq_irp *i);     /* since its completion */
 uint32_t iocsq_file_number(const void *file); /* IOCSQ_FILES: no file object */
 uint32_t iocsq_open_files(void);              /* how many are open */
 bool iocsq_is_closing(const void *file);      /* its IRP_MJ_CLEANUP was sent */
+bool iocsq_wait_for(struct iocsq_irp *i, ULONG milliseconds); /* whether it was completed by then */
 bool iocsq_is_cleaned(const void *file);      /* its IRP_MJ_CLEANUP was completed */
+void iocsq_check_all_completed(void);         /* that a test sent, and untouched since */
 /* In a dispatch routine that has queued its IRP: now and then the thread goes on only after so long that the IRP was
  * completed meanwhile, and its file object closed, if no more than this request keeps it from that. */
 void iocsq_stay_behind(void);
 
+/* ---- turns.c: what each thread has of its own, in one struct, since the bounded mode exchanges it ---- */
+enum { IOCSQ_LOCKS = 16 };
+struct iocsq_watch {
+    const void *lock;
+    uint32_t releases;
+};
+struct iocsq_own {
+    uint32_t thread; /* its number; 0: it has none yet */
+    uint32_t random_state;
+    const char *hint;                /* a second line for a report of this thread, or null */
+    const void *locks[IOCSQ_LOCKS];  /* that it has, the last one taken last */
+    uint32_t lock_count, spin_lock_count;
+    KIRQL irql;
+    struct iocsq_watch watch;
+    PFILE_OBJECT handed_over; /* whose reference its next request takes over */
+    bool took_over;           /* its last request took one over */
+    void (*show)(IOCSQ_REQUEST *request, PVOID context); /* its next request; null: nobody */
+    PVOID show_context;
+    struct thread_object *system_thread; /* which it is, or null */
+    uintptr_t callback; /* the driver's that it called last, but for CsqPeekNextIrp; 0: none */
+    uintptr_t blamed;   /* the callback that its report is about; 0: none */
+    bool is_processor;
+    bool asks_alone; /* it is in an audit with null as peek context, and the driver itself has never used null */
+};
+extern _Thread_local struct iocsq_own iocsq_own;
+
 /* ---- report.c ---- */
 uint32_t iocsq_thread(void); /* this thread's number: 1 and so on */
+uint32_t iocsq_number_thread(void); /* the next one */
 uint32_t iocsq_random(void);
+uint32_t iocsq_draw(uint32_t below);
 bool iocsq_rarely(uint32_t in); /* once in so many times */
 void iocsq_point(void);         /* another thread may come between here */
 void iocsq_long_point(uint32_t in); /* and once in so many times others come between for long */
@@ -95,11 +127,17 @@ void iocsq_log_sent(const struct iocsq_irp *about, const char *format, ...) __at
 /* The driver's fault: reports it, and ends the program. `about` may be null. */
 void iocsq_disagree(const struct iocsq_irp *about, const char *format, ...)
     __attribute__((format(printf, 2, 3), noreturn));
+/* A second line for a report of this thread; null: none. */
+void iocsq_set_hint(const char *text);
 /* No fault of the driver's. */
 void iocsq_fail(const char *format, ...) __attribute__((format(printf, 1, 2), noreturn));
 void iocsq_show_last_calls(void);
 extern IOCSQ_COUNTS iocsq_counts;
 #define IOCSQ_COUNT(of) __atomic_add_fetch(&iocsq_counts.of, 1, __ATOMIC_RELAXED)
+
+/* ---- places.c ---- */
+void iocsq_show_places(bool in_signal); /* the driver's calls of this thread, the innermost first */
+void iocsq_prepare_places(void);
 
 /* ---- schedule.c ---- */
 void iocsq_begin_steps(struct iocsq_irp *i);
@@ -112,10 +150,22 @@ bool iocsq_in_turns(void); /* whether one thread runs at a time */
 void iocsq_turn_point(void);
 void iocsq_long_turn_point(uint32_t in);
 void iocsq_yield(void); /* lets another thread run, in turns and else */
-void iocsq_wait_in_turns(bool (*may_go)(void *), void *of, uint64_t nanoseconds, const char *what);
+/* `is_time`: the wait ends by the clock, which may come early; else the time is only a limit. */
+void iocsq_wait_in_turns(bool (*may_go)(void *), void *of, uint64_t nanoseconds, bool is_time, const char *what);
 uint64_t iocsq_now_in_turns(void);
 void iocsq_pass_time_in_turns(uint64_t nanoseconds);
 void iocsq_end_turns_of_thread(void);
+
+/* ---- explore.c ---- */
+bool iocsq_is_bounded(void); /* in turns, and choices are made in the place of draws */
+void iocsq_begin_choices(void);
+/* One of so many options: 0, or what the plan of this run has here. The first `free` of them are no preemptions. */
+uint32_t iocsq_choose(uint32_t options, uint32_t free);
+
+/* ---- variables.c ---- */
+struct iocsq_variables;
+const struct iocsq_variables *iocsq_save_variables(void); /* null: a sanitizer's are among them */
+void iocsq_restore_variables(const struct iocsq_variables *saved);
 
 /* ---- waits.c ---- */
 void iocsq_lock_state(void); /* the lock of what threads wait for, of the IRPs' table and of the file objects */
@@ -123,6 +173,8 @@ void iocsq_unlock_state(void);
 void iocsq_state_changed(void);
 /* Waits until it holds or the time is over, and returns whether it holds. The state's lock is held before and after. */
 bool iocsq_await(bool (*holds)(void *), void *of, uint64_t nanoseconds, const char *what);
+/* The same, where the driver waits until a time. */
+bool iocsq_await_time(bool (*holds)(void *), void *of, uint64_t nanoseconds, const char *what);
 uint64_t iocsq_now(void); /* nanoseconds, in turns those of the turns */
 bool iocsq_is_signaled(void *header);
 void iocsq_join_threads(void);
@@ -136,12 +188,32 @@ void iocsq_note_lock(const void *lock);   /* this thread has it */
 void iocsq_forget_lock(const void *lock); /* has it no more */
 void iocsq_set_irql(KIRQL level);
 /* Counts how often this thread releases a lock from now on. What it counted before: for iocsq_end_watch. */
-struct iocsq_watch {
-    const void *lock;
-    uint32_t releases;
-};
 struct iocsq_watch iocsq_watch_lock(const void *lock);
 uint32_t iocsq_end_watch(struct iocsq_watch before); /* answers how often it was released */
+
+/* ---- coverage.c ---- */
+/* What is counted beside the callbacks, in the order of its table. */
+enum iocsq_event {
+    IOCSQ_REFUSED,
+    IOCSQ_PUT_BACK,
+    IOCSQ_CANCEL_BEFORE, /* what each cancel met */
+    IOCSQ_CANCEL_AT_INSERT,
+    IOCSQ_CANCEL_IN_QUEUE,
+    IOCSQ_CANCEL_BESIDE_REMOVAL,
+    IOCSQ_CANCEL_AFTER_REMOVAL,
+    IOCSQ_CANCEL_AFTER_COMPLETION,
+    IOCSQ_CANCEL_BY_DRIVER,
+    IOCSQ_CLEANUP,
+    IOCSQ_CLEANUP_BEFORE_INSERT,
+    IOCSQ_CLEANUP_BEFORE_REFUSAL,
+    IOCSQ_ENDED_WELL, /* how each request was completed, but for those that open and close a file object */
+    IOCSQ_ENDED_CANCELLED,
+    IOCSQ_ENDED_BY_TIME,
+    IOCSQ_ENDED_OTHERWISE,
+    IOCSQ_EVENTS
+};
+void iocsq_cover(enum iocsq_event event);
+void iocsq_cover_end(UCHAR major, NTSTATUS status); /* of a request that was completed */
 
 /* ---- deferred.c ---- */
 void iocsq_check_no_deferred(const void *from, size_t size, const char *what); /* no timer or DPC lies in there */
@@ -149,6 +221,11 @@ void iocsq_end_deferred(void);
 
 /* ---- memory.c ---- */
 void iocsq_check_memory_freed(void);
+
+/* ---- search.c ---- */
+/* As the driver uses a bad address: if this thread is in a peek with null that only iocsq asks for, ends the program with
+ * a report that the policy is missing. */
+void iocsq_ask_for_policy(void);
 
 /* ---- queue.c ---- */
 void iocsq_end_queues_in(const void *from, size_t size, const char *what); /* whose IO_CSQ lies in there */

@@ -20,13 +20,24 @@
 #define UNPOISON(at, size) ((void)(at), (void)(size))
 #endif
 
-static struct iocsq_irp irps[IOCSQ_IRPS]; /* the state's lock is held to give one out or take one back */
-static uint32_t irp_count;                /* none above was ever used */
+static struct iocsq_irp *irps; /* IOCSQ_IRPS of them; the state's lock is held to give one out or take one back */
+static uint32_t irp_count;     /* none above was ever used */
+
+__attribute__((constructor)) static void allocate_irps(void) {
+    irps = calloc(IOCSQ_IRPS, sizeof *irps);
+    if (!irps) {
+        iocsq_fail("no memory for the IRPs");
+    }
+}
+
+void iocsq_forget_irps(void) {
+    memset((void *)irps, 0, irp_count * sizeof *irps);
+}
 
 /* ---- The table ---- */
 struct iocsq_irp *iocsq_irp_at(const void *irp) {
     uintptr_t offset = (uintptr_t)irp - (uintptr_t)irps;
-    return offset < sizeof irps && offset % sizeof *irps == 0 ? &irps[offset / sizeof *irps] : NULL;
+    return offset < IOCSQ_IRPS * sizeof *irps && offset % sizeof *irps == 0 ? &irps[offset / sizeof *irps] : NULL;
 }
 
 struct iocsq_irp *iocsq_irp_of_entry(const LIST_ENTRY *entry) {
@@ -69,7 +80,7 @@ static struct iocsq_irp *in_use(const void *irp, const char *call) {
 
 /* An IRP that isn't used, at random: what comes late for an old use should hit another. The state's lock is held. */
 static struct iocsq_irp *find_unused(void) {
-    uint32_t from = irp_count < 64 ? 0 : iocsq_random() % irp_count;
+    uint32_t from = irp_count < 64 ? 0 : iocsq_draw(irp_count);
     for (uint32_t at = 0; at < irp_count; at++) {
         struct iocsq_irp *i = &irps[(from + at) % irp_count];
         if (!i->used && i->cancels == 0) {
@@ -350,6 +361,7 @@ static void finish(struct iocsq_irp *i) {
     }
     i->status = i->irp.IoStatus.Status;
     i->information = i->irp.IoStatus.Information;
+    iocsq_cover_end(i->major, i->status);
     if (NT_SUCCESS(i->status) && i->information > i->most) {
         iocsq_disagree(i, "irp %u is completed with %llu bytes, and its buffer has %u", i->index,
                        (unsigned long long)i->information, (unsigned)i->most);
@@ -415,6 +427,7 @@ BOOLEAN NTAPI IoCancelIrp(PIRP Irp) {
         return FALSE;
     }
     Irp->CancelIrql = before;
+    iocsq_cover(IOCSQ_CANCEL_BY_DRIVER);
     routine(IoGetCurrentIrpStackLocation(Irp)->DeviceObject, Irp); /* which releases the cancel spin lock */
     return TRUE;
 }

@@ -10,7 +10,7 @@ iocsq_objects() {
   local folder=$work/objects/$name
   if [[ ! -d $folder ]]; then
     mkdir -p "$folder.new/tests"
-    for file in "$top"/iocsq/*.c "$top"/iocsq/tests/{storm,kernel}.c; do
+    for file in "$top"/iocsq/*.c "$top"/iocsq/tests/{storm,patient,bounded,kernel,coverage,explore}.c; do
       object=${file#"$top/iocsq/"}
       "$@" -std=c11 "${warnings[@]}" -I"$top/include" -I"$top/iocsq" -c "$file" -o "$folder.new/${object%.c}.o" ||
         return 1
@@ -23,7 +23,8 @@ iocsq_objects() {
   echo "$folder"
 }
 
-# Links the storm with a driver: iocsq_build PROGRAM DRIVER WRONG COMPILER FLAG.. DRIVER is a file below iocsq without
+# Links the storm with a driver: iocsq_build PROGRAM DRIVER WRONG COMPILER FLAG.. In its place another test of the folder
+# `tests`: TEST=kernel iocsq_build PROGRAM .. DRIVER is a file below iocsq without
 # its ending; beside it NAME.test.c says what its callbacks mean, if it isn't the usual. WRONG is the number of the
 # place where it is wrong, 0 for none, `planted` for an example's own fault, or the file of another below iocsq.
 iocsq_build() {
@@ -37,6 +38,6 @@ iocsq_build() {
   objects=$(iocsq_objects "$@") || return 1
   if [[ -f $driver.test.c ]]; then test=("$driver.test.c"); fi
   "$@" -std=c11 "${warnings[@]}" -DWRONG="$wrong" -I"$top/include/wdk" -c "$source" -o "$program.driver.o" &&
-    "$@" -std=c11 "${warnings[@]}" -I"$top/include" "$objects"/*.o "$objects/tests/storm.o" "${test[@]}" \
+    "$@" -std=c11 "${warnings[@]}" -DWRONG="$wrong" -I"$top/include" "$objects"/*.o "$objects/tests/${TEST:-storm}.o" "${test[@]}" \
       "$program.driver.o" "${library[@]:-$objects/libcsq_plain.a}" -pthread -o "$program"
 }

@@ -3,31 +3,24 @@
 
 #include <stdlib.h>
 
-enum { LOCKS = 16, THREADS = 1024 };
+enum { THREADS = 1024 };
 #define TEN_SECONDS UINT64_C(10000000000)
 
-/* The locks that this thread has, the last one taken last. */
-static _Thread_local const void *locks[LOCKS];
-static _Thread_local uint32_t lock_count;
-static _Thread_local uint32_t spin_lock_count;
-static _Thread_local KIRQL irql;
-static _Thread_local struct iocsq_watch watch;
-
 uint32_t iocsq_lock_count(void) {
-    return lock_count;
+    return iocsq_own.lock_count;
 }
 
 uint32_t iocsq_spin_lock_count(void) {
-    return spin_lock_count;
+    return iocsq_own.spin_lock_count;
 }
 
 const void *iocsq_last_lock(void) {
-    return lock_count ? locks[lock_count - 1] : NULL;
+    return iocsq_own.lock_count ? iocsq_own.locks[iocsq_own.lock_count - 1] : NULL;
 }
 
 bool iocsq_has_lock(const void *lock) {
-    for (uint32_t at = 0; at < lock_count; at++) {
-        if (locks[at] == lock) {
+    for (uint32_t at = 0; at < iocsq_own.lock_count; at++) {
+        if (iocsq_own.locks[at] == lock) {
             return true;
         }
     }
@@ -35,62 +28,62 @@ bool iocsq_has_lock(const void *lock) {
 }
 
 void iocsq_note_lock(const void *lock) {
-    if (lock_count == LOCKS) {
-        iocsq_disagree(NULL, "more than %u locks are held", (unsigned)LOCKS);
+    if (iocsq_own.lock_count == IOCSQ_LOCKS) {
+        iocsq_disagree(NULL, "more than %u locks are held", (unsigned)IOCSQ_LOCKS);
     }
-    locks[lock_count++] = lock;
+    iocsq_own.locks[iocsq_own.lock_count++] = lock;
 }
 
 void iocsq_forget_lock(const void *lock) {
-    uint32_t at = lock_count;
-    while (at > 0 && locks[at - 1] != lock) {
+    uint32_t at = iocsq_own.lock_count;
+    while (at > 0 && iocsq_own.locks[at - 1] != lock) {
         at--;
     }
     if (at == 0) {
         iocsq_disagree(NULL, "a lock is released that this thread does not have");
     }
-    for (; at < lock_count; at++) {
-        locks[at - 1] = locks[at];
+    for (; at < iocsq_own.lock_count; at++) {
+        iocsq_own.locks[at - 1] = iocsq_own.locks[at];
     }
-    lock_count--;
-    watch.releases += lock == watch.lock;
+    iocsq_own.lock_count--;
+    iocsq_own.watch.releases += lock == iocsq_own.watch.lock;
 }
 
 struct iocsq_watch iocsq_watch_lock(const void *lock) {
-    struct iocsq_watch before = watch, begun = { lock, 0 };
-    watch = begun;
+    struct iocsq_watch before = iocsq_own.watch, begun = { lock, 0 };
+    iocsq_own.watch = begun;
     return before;
 }
 
 uint32_t iocsq_end_watch(struct iocsq_watch before) {
-    uint32_t releases = watch.releases;
-    watch = before;
+    uint32_t releases = iocsq_own.watch.releases;
+    iocsq_own.watch = before;
     return releases;
 }
 
 /* ---- IRQL ---- */
 KIRQL NTAPI KeGetCurrentIrql(VOID) {
-    return irql;
+    return iocsq_own.irql;
 }
 
 void iocsq_set_irql(KIRQL level) {
-    irql = level;
+    iocsq_own.irql = level;
 }
 
 KIRQL NTAPI KfRaiseIrql(KIRQL NewIrql) {
-    KIRQL before = irql;
+    KIRQL before = iocsq_own.irql;
     if (NewIrql < before) {
         iocsq_disagree(NULL, "KeRaiseIrql from %u to %u", before, NewIrql);
     }
-    irql = NewIrql;
+    iocsq_own.irql = NewIrql;
     return before;
 }
 
 VOID NTAPI KeLowerIrql(KIRQL NewIrql) {
-    if (NewIrql > irql) {
-        iocsq_disagree(NULL, "KeLowerIrql from %u to %u", irql, NewIrql);
+    if (NewIrql > iocsq_own.irql) {
+        iocsq_disagree(NULL, "KeLowerIrql from %u to %u", iocsq_own.irql, NewIrql);
     }
-    irql = NewIrql;
+    iocsq_own.irql = NewIrql;
 }
 
 /* ---- Words that are locks: 0, or the number of the thread that has it ---- */
@@ -128,7 +121,7 @@ static void wait_for_word(ULONG_PTR *word, ULONG_PTR mine, const char *what) {
     }
     check_circle(word, mine, what);
     waited_for[mine % THREADS] = word;
-    iocsq_wait_in_turns(is_free, word, IOCSQ_FOR_EVER, what);
+    iocsq_wait_in_turns(is_free, word, IOCSQ_FOR_EVER, false, what);
     waited_for[mine % THREADS] = NULL;
 }
 
@@ -156,28 +149,28 @@ VOID NTAPI KeInitializeSpinLock(PKSPIN_LOCK SpinLock) {
 }
 
 VOID NTAPI KeAcquireSpinLockAtDpcLevel(PKSPIN_LOCK SpinLock) {
-    if (irql < DISPATCH_LEVEL) {
-        iocsq_disagree(NULL, "KeAcquireSpinLockAtDpcLevel at IRQL %u", irql);
+    if (iocsq_own.irql < DISPATCH_LEVEL) {
+        iocsq_disagree(NULL, "KeAcquireSpinLockAtDpcLevel at IRQL %u", iocsq_own.irql);
     }
     take_word(SpinLock, "a spin lock");
-    spin_lock_count++;
+    iocsq_own.spin_lock_count++;
 }
 
 VOID NTAPI KeReleaseSpinLockFromDpcLevel(PKSPIN_LOCK SpinLock) {
     leave_word(SpinLock);
-    spin_lock_count--;
+    iocsq_own.spin_lock_count--;
 }
 
 KIRQL NTAPI KeAcquireSpinLockRaiseToDpc(PKSPIN_LOCK SpinLock) {
-    KIRQL before = irql;
-    irql = DISPATCH_LEVEL;
+    KIRQL before = iocsq_own.irql;
+    iocsq_own.irql = DISPATCH_LEVEL;
     KeAcquireSpinLockAtDpcLevel(SpinLock);
     return before;
 }
 
 VOID NTAPI KeReleaseSpinLock(PKSPIN_LOCK SpinLock, KIRQL NewIrql) {
     KeReleaseSpinLockFromDpcLevel(SpinLock);
-    irql = NewIrql;
+    iocsq_own.irql = NewIrql;
 }
 
 VOID NTAPI KeAcquireInStackQueuedSpinLock(PKSPIN_LOCK SpinLock, PKLOCK_QUEUE_HANDLE LockHandle) {
@@ -204,11 +197,11 @@ VOID NTAPI ExInitializeFastMutex(PFAST_MUTEX FastMutex) {
 }
 
 VOID NTAPI ExAcquireFastMutex(PFAST_MUTEX FastMutex) {
-    KIRQL before = irql;
-    if (irql >= DISPATCH_LEVEL) {
+    KIRQL before = iocsq_own.irql;
+    if (iocsq_own.irql >= DISPATCH_LEVEL) {
         iocsq_disagree(NULL, "ExAcquireFastMutex at DISPATCH_LEVEL");
     }
-    irql = APC_LEVEL;
+    iocsq_own.irql = APC_LEVEL;
     take_word(&FastMutex->Lock, "a fast mutex");
     FastMutex->OldIrql = before;
 }
@@ -216,7 +209,7 @@ VOID NTAPI ExAcquireFastMutex(PFAST_MUTEX FastMutex) {
 VOID NTAPI ExReleaseFastMutex(PFAST_MUTEX FastMutex) {
     KIRQL before = FastMutex->OldIrql;
     leave_word(&FastMutex->Lock);
-    irql = before;
+    iocsq_own.irql = before;
 }
 
 /* ---- Remove locks: the state's lock is held for all of their fields ---- */
@@ -277,7 +270,7 @@ VOID NTAPI IoReleaseRemoveLockEx(PIO_REMOVE_LOCK RemoveLock, PVOID Tag, ULONG Re
 
 VOID NTAPI IoReleaseRemoveLockAndWaitEx(PIO_REMOVE_LOCK RemoveLock, PVOID Tag, ULONG RemlockSize) {
     (void)RemlockSize;
-    if (irql >= DISPATCH_LEVEL) {
+    if (iocsq_own.irql >= DISPATCH_LEVEL) {
         iocsq_disagree(NULL, "IoReleaseRemoveLockAndWait at DISPATCH_LEVEL");
     }
     iocsq_lock_state();

@@ -1,9 +1,7 @@
-/* The I/O manager's side, which a test calls (iocsq_test.h): drivers, file objects, requests. */
+/* The I/O manager's side, which a test calls (iocsq_test.h): file objects and requests. */
 #include "internal.h"
 
-#include <signal.h>
 #include <stdlib.h>
-#include <unistd.h>
 
 enum { MILLISECOND = 1000000 };
 enum { ONCE_IN = 4, BEHIND = 2000, BEHIND_IN_TURNS = 100000 }; /* of iocsq_stay_behind: microseconds */
@@ -13,8 +11,6 @@ static bool is_open[IOCSQ_FILES];
 static bool is_closing[IOCSQ_FILES]; /* its IRP_MJ_CLEANUP was sent, or its IRP_MJ_CREATE has yet to be completed */
 static bool is_cleaned[IOCSQ_FILES]; /* its IRP_MJ_CLEANUP was completed */
 static uint32_t references[IOCSQ_FILES]; /* of IocsqReferenceAny */
-static _Thread_local PFILE_OBJECT handed_over; /* whose reference this thread's next request takes over */
-static _Thread_local bool took_over;           /* this thread's last request took one over */
 
 uint32_t iocsq_file_number(const void *file) {
     uintptr_t offset = (uintptr_t)file - (uintptr_t)files;
@@ -70,16 +66,19 @@ struct _IOCSQ_REQUEST {
 /* What this thread handed over. An IRP that isn't completed keeps its file object from being closed (wait_for_close).
  * The state's lock is held. */
 static void take_over_reference(void) {
-    took_over = handed_over != NULL;
-    if (took_over) {
-        references[number_of(handed_over)]--;
-        handed_over = NULL;
+    iocsq_own.took_over = iocsq_own.handed_over != NULL;
+    if (iocsq_own.took_over) {
+        references[number_of(iocsq_own.handed_over)]--;
+        iocsq_own.handed_over = NULL;
         iocsq_state_changed();
     }
 }
 
 void iocsq_stay_behind(void) {
-    if (took_over && iocsq_lock_count() == 0 && iocsq_rarely(ONCE_IN)) {
+    if (iocsq_is_bounded()) {
+        return; /* a preemption does the same */
+    }
+    if (iocsq_own.took_over && iocsq_lock_count() == 0 && iocsq_rarely(ONCE_IN)) {
         IocsqPause(iocsq_in_turns() ? BEHIND_IN_TURNS : BEHIND);
     }
 }
@@ -133,7 +132,22 @@ static void check_after_dispatch(struct iocsq_irp *i, NTSTATUS status) {
     }
 }
 
+VOID IocsqShowNext(VOID (*Show)(IOCSQ_REQUEST *Request, PVOID Context), PVOID Context) {
+    iocsq_own.show = Show;
+    iocsq_own.show_context = Context;
+}
+
+static void show(struct iocsq_irp *i) {
+    void (*shown)(IOCSQ_REQUEST *request, PVOID context) = iocsq_own.show;
+    iocsq_own.show = NULL;
+    if (shown) {
+        shown((IOCSQ_REQUEST *)(void *)i, iocsq_own.show_context);
+    }
+}
+
 static IOCSQ_REQUEST *send(struct iocsq_irp *i, PFILE_OBJECT file) {
+    i->sent = iocsq_now();
+    show(i);
     iocsq_log_sent(i, "dispatch(irp %u, major %02x, file %u)", i->index, i->major, iocsq_file_number(file));
     NTSTATUS status = iocsq_dispatch(top_of(file->DeviceObject), i);
     iocsq_log(i, "dispatch(irp %u) = %08X", i->index, (unsigned)status);
@@ -177,7 +191,7 @@ static bool is_done(void *irp) {
     return ((struct iocsq_irp *)irp)->place == IOCSQ_DONE;
 }
 
-static bool wait_for(struct iocsq_irp *i, ULONG milliseconds) {
+bool iocsq_wait_for(struct iocsq_irp *i, ULONG milliseconds) {
     iocsq_lock_state();
     bool done = iocsq_await(is_done, i, milliseconds * (uint64_t)MILLISECOND, "a request");
     iocsq_unlock_state();
@@ -185,7 +199,7 @@ static bool wait_for(struct iocsq_irp *i, ULONG milliseconds) {
 }
 
 BOOLEAN IocsqWait(IOCSQ_REQUEST *Request, ULONG Milliseconds) {
-    return wait_for(&Request->irp, Milliseconds);
+    return iocsq_wait_for(&Request->irp, Milliseconds);
 }
 
 NTSTATUS IocsqStatus(IOCSQ_REQUEST *Request) {
@@ -234,7 +248,7 @@ static void end_cancel(struct iocsq_irp *i) {
 
 BOOLEAN IocsqCancelAny(VOID) {
     uint32_t count = iocsq_irp_count();
-    struct iocsq_irp *i = iocsq_irp_number(count ? iocsq_random() % count : 0);
+    struct iocsq_irp *i = iocsq_irp_number(count ? iocsq_draw(count) : 0);
     if (!begin_cancel(i)) {
         return FALSE;
     }
@@ -299,7 +313,7 @@ PFILE_OBJECT IocsqOpen(PDRIVER_OBJECT Driver) {
 }
 
 PFILE_OBJECT IocsqReferenceAny(VOID) {
-    uint32_t from = iocsq_random() % IOCSQ_FILES;
+    uint32_t from = iocsq_draw(iocsq_is_bounded() ? iocsq_open_files() + 1 : (uint32_t)IOCSQ_FILES);
     PFILE_OBJECT file = NULL;
     iocsq_lock_state();
     for (uint32_t at = 0; at < IOCSQ_FILES && !file; at++) {
@@ -314,6 +328,16 @@ PFILE_OBJECT IocsqReferenceAny(VOID) {
     return file;
 }
 
+BOOLEAN IocsqReference(PFILE_OBJECT File) {
+    uint32_t number = number_of(File);
+    iocsq_lock_state();
+    bool may = is_open[number] && !is_closing[number];
+    references[number] += may;
+    iocsq_unlock_state();
+    iocsq_point(); /* as in IocsqReferenceAny */
+    return may;
+}
+
 VOID IocsqRelease(PFILE_OBJECT File) {
     iocsq_lock_state();
     references[number_of(File)]--;
@@ -322,7 +346,7 @@ VOID IocsqRelease(PFILE_OBJECT File) {
 }
 
 VOID IocsqHandOver(PFILE_OBJECT File) {
-    handed_over = File;
+    iocsq_own.handed_over = File;
 }
 
 static bool is_released(void *file) {
@@ -379,73 +403,18 @@ static void wait_for_close(PFILE_OBJECT file) {
 VOID IocsqClose(PFILE_OBJECT File) {
     set_closing(File, true);
     send_and_wait(File, IRP_MJ_CLEANUP);
+    iocsq_cover(IOCSQ_CLEANUP);
     check_cleaned(File);
     wait_for_close(File);
     send_and_wait(File, IRP_MJ_CLOSE);
     free_file(File);
 }
 
-/* ---- Drivers ---- */
-static NTSTATUS refuse(PDEVICE_OBJECT device, PIRP irp) {
-    (void)device;
-    irp->IoStatus.Status = STATUS_INVALID_DEVICE_REQUEST;
-    IoCompleteRequest(irp, IO_NO_INCREMENT);
-    return STATUS_INVALID_DEVICE_REQUEST;
-}
-
-/* Where the driver uses a bad address, or the time is over, the calls before it are printed too. The text is written
- * first, since nothing else is safe in a signal's handler. */
-static void report_bad_address(int signal_number) {
-    static const char text[] = "iocsq: the driver used a bad address.\n";
-    signal(signal_number, SIG_DFL);
-    if (write(STDERR_FILENO, text, sizeof text - 1) > 0) {
-        iocsq_show_last_calls();
-    }
-    raise(signal_number);
-}
-
-static void report_time_over(int signal_number) {
-    static const char text[] = "iocsq: the run takes longer than it may: a thread waits for ever, or goes round.\n";
-    signal(signal_number, SIG_DFL);
-    if (write(STDERR_FILENO, text, sizeof text - 1) > 0) {
-        iocsq_show_last_calls();
-    }
-    _exit(IOCSQ_DISAGREES);
-}
-
-VOID IocsqLimit(ULONG Seconds) {
-    signal(SIGALRM, report_time_over);
-    alarm(Seconds);
-}
-
-static void catch_bad_addresses(void) {
-    void (*before)(int) = signal(SIGSEGV, report_bad_address);
-    if (before != SIG_DFL) {
-        signal(SIGSEGV, before); /* a sanitizer's */
-    }
-}
-
-PDRIVER_OBJECT IocsqLoad(PDRIVER_INITIALIZE DriverEntry) {
-    static UNICODE_STRING registry_path;
-    PDRIVER_OBJECT driver = calloc(1, sizeof *driver);
-    if (!driver) {
-        return NULL;
-    }
-    catch_bad_addresses();
-    for (int major = 0; major <= IRP_MJ_MAXIMUM_FUNCTION; major++) {
-        driver->MajorFunction[major] = refuse;
-    }
-    if (!NT_SUCCESS(DriverEntry(driver, &registry_path)) || !driver->DeviceObject) {
-        free(driver);
-        return NULL;
-    }
-    return driver;
-}
-
-static void check_all_completed(void) {
+/* ---- The end: all requests were completed, and their IRPs not touched since ---- */
+void iocsq_check_all_completed(void) {
     for (uint32_t at = 0; at < iocsq_irp_count(); at++) {
         struct iocsq_irp *i = iocsq_irp_number(at);
-        if (i->used && !i->own && !wait_for(i, patience())) {
+        if (i->used && !i->own && !iocsq_wait_for(i, patience())) {
             iocsq_disagree(i, "irp %u %s, and was never completed", i->index, iocsq_place_name(i));
         }
         iocsq_lock_state();
@@ -454,29 +423,4 @@ static void check_all_completed(void) {
         }
         iocsq_unlock_state();
     }
-}
-
-static void check_own_freed(void) {
-    for (uint32_t at = 0; at < iocsq_irp_count(); at++) {
-        struct iocsq_irp *i = iocsq_irp_number(at);
-        if (i->used && i->own) {
-            iocsq_disagree(i, "the driver was unloaded, and irp %u of its own was not freed", i->index);
-        }
-    }
-}
-
-VOID IocsqUnload(PDRIVER_OBJECT Driver) {
-    check_all_completed();
-    if (Driver->DriverUnload) {
-        Driver->DriverUnload(Driver);
-    }
-    iocsq_join_threads();
-    iocsq_end_deferred();
-    if (Driver->DeviceObject) {
-        iocsq_disagree(NULL, "the driver was unloaded, and a device of it is left");
-    }
-    check_own_freed();
-    iocsq_check_memory_freed();
-    iocsq_end_queues();
-    free(Driver);
 }

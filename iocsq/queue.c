@@ -29,6 +29,7 @@ static struct held enter(struct iocsq_queue *q) {
         iocsq_disagree(NULL, "a call of the queue from inside one of its callbacks");
     }
     iocsq_point();
+    iocsq_cover_call(q, IOCSQ_ACQUIRE);
     q->csq->CsqAcquireLock(q->csq, &held.irql);
     check_lock(q, &held);
     held.watch_before = iocsq_watch_lock(q->lock);
@@ -45,6 +46,7 @@ static void leave(struct iocsq_queue *q, struct held held, bool last) {
     if (iocsq_end_watch(held.watch_before) > 0) {
         iocsq_disagree(NULL, "a callback of the queue released its lock");
     }
+    iocsq_cover_call(q, IOCSQ_RELEASE);
     q->inside = 0;
     q->calls -= last;
     csq->CsqReleaseLock(csq, held.irql);
@@ -60,6 +62,7 @@ static void leave(struct iocsq_queue *q, struct held held, bool last) {
 
 static void remove_by_driver(struct iocsq_queue *q, struct iocsq_irp *i) {
     iocsq_log(i, "  CsqRemoveIrp(irp %u)", i->index);
+    iocsq_cover_call(q, IOCSQ_REMOVE);
     q->csq->CsqRemoveIrp(q->csq, &i->irp);
     if (i->context) {
         i->context->Irp = NULL;
@@ -74,6 +77,8 @@ static void complete_by_driver(struct iocsq_queue *q, struct iocsq_irp *i) {
     iocsq_point();
     iocsq_log(i, "  CsqCompleteCanceledIrp(irp %u)", i->index);
     i->call_of = q;
+    iocsq_cover_call(q, IOCSQ_COMPLETE); /* first, as the driver may free the queue with the completion */
+    iocsq_cover_cancelled(q);
     q->csq->CsqCompleteCanceledIrp(q->csq, &i->irp);
     if (completions == i->completions && !q->policy.CompletesLater) {
         iocsq_disagree(i, "CsqCompleteCanceledIrp returned, and irp %u was not completed", i->index);
@@ -82,9 +87,19 @@ static void complete_by_driver(struct iocsq_queue *q, struct iocsq_irp *i) {
 }
 
 /* ---- Cancellation ---- */
+static void cover_cancel(const struct iocsq_irp *i, bool found) {
+    int place = i->place;
+    iocsq_cover(found                      ? IOCSQ_CANCEL_IN_QUEUE
+                : place == IOCSQ_DONE      ? IOCSQ_CANCEL_AFTER_COMPLETION
+                : place == IOCSQ_REMOVED   ? IOCSQ_CANCEL_AFTER_REMOVAL
+                                           : IOCSQ_CANCEL_BEFORE);
+}
+
 bool iocsq_cancel_queued(struct iocsq_irp *i) {
     struct iocsq_claim claim;
-    if (!iocsq_reference_mark(i, &claim)) {
+    bool found = iocsq_reference_mark(i, &claim);
+    cover_cancel(i, found);
+    if (!found) {
         return false;
     }
     struct iocsq_queue *q = iocsq_queue_at(claim.reference->index);
@@ -135,6 +150,7 @@ static NTSTATUS insert_by_driver(PIO_CSQ csq, struct iocsq_irp *i, PIO_CSQ_IRP_C
         IO_CSQ_IRP_CONTEXT filled = { IO_TYPE_CSQ_IRP_CONTEXT, &i->irp, csq };
         *context = filled;
     }
+    iocsq_cover_call(iocsq_queue_of(csq), IOCSQ_INSERT);
     if (csq->Type == IO_TYPE_CSQ_EX) {
         void (*insert)(void) = (void (*)(void))csq->CsqInsertIrp;
         status = ((PIO_CSQ_INSERT_IRP_EX)insert)(csq, &i->irp, insert_context);
@@ -164,6 +180,17 @@ static void note_file(const struct iocsq_queue *q, struct iocsq_irp *i, bool aga
         iocsq_disagree(i, "irp %u is put back into the queue after IRP_MJ_CLEANUP of its file %u", i->index, number);
     }
     i->late = iocsq_is_closing(file);
+    if (i->late) {
+        iocsq_cover(IOCSQ_CLEANUP_BEFORE_INSERT);
+    }
+}
+
+static void cover_insert(struct iocsq_queue *q, bool again) {
+    IOCSQ_COUNT(Inserted);
+    iocsq_cover_insert(q);
+    if (again) {
+        iocsq_cover(IOCSQ_PUT_BACK);
+    }
 }
 
 static void expect_held(const struct iocsq_irp *i, bool held) {
@@ -218,12 +245,13 @@ NTSTATUS NTAPI IoCsqInsertIrpEx(PIO_CSQ Csq, PIRP Irp, PIO_CSQ_IRP_CONTEXT Conte
     NTSTATUS status = insert_by_driver(Csq, i, Context, InsertContext);
     if (!NT_SUCCESS(status)) {
         IOCSQ_COUNT(Refused);
+        iocsq_cover(iocsq_is_closing(iocsq_irp_file(i)) ? IOCSQ_CLEANUP_BEFORE_REFUSAL : IOCSQ_REFUSED);
         iocsq_audit(q, "after an insert that the driver refused");
         leave(q, held, true);
         return status;
     }
     note_file(q, i, again);
-    IOCSQ_COUNT(Inserted);
+    cover_insert(q, again);
     IoMarkIrpPending(Irp);
     i->context = Context;
     if (insert_into_reference(q, i, InsertContext, again)) {
@@ -233,6 +261,7 @@ NTSTATUS NTAPI IoCsqInsertIrpEx(PIO_CSQ Csq, PIRP Irp, PIO_CSQ_IRP_CONTEXT Conte
         return status;
     }
     iocsq_log(i, "  irp %u was cancelled before", i->index);
+    iocsq_cover(IOCSQ_CANCEL_AT_INSERT);
     check_flag_stays(i);
     remove_by_driver(q, i);
     leave(q, held, false);
@@ -264,6 +293,7 @@ static bool take(struct iocsq_queue *q, struct iocsq_irp *answer) {
     }
     if (verdict == CSQ_REMOVE_CLAIMED) {
         iocsq_log(answer, "    irp %u is a canceller's", answer->index);
+        iocsq_cover(IOCSQ_CANCEL_BESIDE_REMOVAL);
     }
     return verdict == CSQ_REMOVE_AGREES;
 }
@@ -275,6 +305,9 @@ PIRP NTAPI IoCsqRemoveNextIrp(PIO_CSQ Csq, PVOID PeekContext) {
     struct iocsq_search s = { .q = q, .context = PeekContext, .when = "in IoCsqRemoveNextIrp" };
     struct iocsq_irp *answer, *before;
     iocsq_log(NULL, "IoCsqRemoveNextIrp(%s)", PeekContext ? "a peek context" : "any");
+    if (!PeekContext) {
+        iocsq_note_null_context(q);
+    }
     do {
         before = s.before;
         answer = iocsq_peek(&s);
@@ -282,6 +315,7 @@ PIRP NTAPI IoCsqRemoveNextIrp(PIO_CSQ Csq, PVOID PeekContext) {
     } while (answer && !take(q, answer));
     if (answer) {
         IOCSQ_COUNT(Removed);
+        iocsq_cover_removal(q);
         remove_by_driver(q, answer);
     }
     leave(q, held, true);
@@ -311,6 +345,7 @@ PIRP NTAPI IoCsqRemoveIrp(PIO_CSQ Csq, PIO_CSQ_IRP_CONTEXT Context) {
     bool removed = i && take(q, i);
     if (removed) {
         IOCSQ_COUNT(Removed);
+        iocsq_cover_removal(q);
         remove_by_driver(q, i);
     }
     leave(q, held, true);

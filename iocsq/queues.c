@@ -123,6 +123,8 @@ static void begin(PIO_CSQ csq) {
     }
     q->csq = csq;
     q->policy = first_policy;
+    q->kind = iocsq_kind_of(csq);
+    iocsq_set_policy_of_kind(q->kind, &first_policy);
     q->inside = 0;
     q->lock = NULL;
     csq->ReservePointer = q;
@@ -159,7 +161,16 @@ NTSTATUS NTAPI IoCsqInitializeEx(PIO_CSQ Csq, PIO_CSQ_INSERT_IRP_EX CsqInsertIrp
 }
 
 VOID IocsqSetPolicy(PIO_CSQ Csq, const IOCSQ_POLICY *Policy) {
-    *(Csq ? &iocsq_queue_of(Csq)->policy : &first_policy) = *Policy;
+    struct iocsq_queue *q = Csq ? iocsq_queue_of(Csq) : NULL;
+    *(q ? &q->policy : &first_policy) = *Policy;
+    if (q) {
+        iocsq_set_policy_of_kind(q->kind, Policy);
+    }
+}
+
+IOCSQ_POLICY iocsq_policy_of(const struct iocsq_irp *i) {
+    const struct iocsq_reference *r = iocsq_reference_of(i);
+    return r ? iocsq_queue_at(r->index)->policy : first_policy;
 }
 
 /* ---- List entries of IRPs that are in a queue: under that queue's lock alone ---- */

@@ -3,10 +3,25 @@
 #define IOCSQ_QUEUES_H
 #include "reference.h"
 
+/* ---- coverage.c: the queues with the same callbacks are of one kind ---- */
+enum iocsq_callback { IOCSQ_INSERT, IOCSQ_REMOVE, IOCSQ_PEEK, IOCSQ_ACQUIRE, IOCSQ_RELEASE, IOCSQ_COMPLETE,
+                      IOCSQ_CALLBACKS };
+struct iocsq_queue;
+struct iocsq_kind;
+struct iocsq_kind *iocsq_kind_of(const IO_CSQ *csq); /* the queues' mutex is held */
+void iocsq_set_policy_of_kind(struct iocsq_kind *k, const IOCSQ_POLICY *policy);
+void iocsq_cover_call(struct iocsq_queue *q, enum iocsq_callback which);
+void iocsq_note_null_context(struct iocsq_queue *q); /* the driver peeks with one */
+bool iocsq_has_null_contexts(const struct iocsq_queue *q);
+void iocsq_cover_insert(struct iocsq_queue *q);    /* that the driver accepted */
+void iocsq_cover_removal(struct iocsq_queue *q);   /* whose IRP the driver got */
+void iocsq_cover_cancelled(struct iocsq_queue *q); /* for which CsqCompleteCanceledIrp was called */
+
 /* ---- queues.c ---- */
 struct iocsq_queue {
     PIO_CSQ csq; /* null: its memory was freed */
     IOCSQ_POLICY policy;
+    struct iocsq_kind *kind;
     struct iocsq_reference reference;
     _Atomic uint32_t calls;  /* and cancel routines of it, under way */
     _Atomic uint32_t inside; /* the thread that has the driver's lock, through CsqAcquireLock */
@@ -15,6 +30,8 @@ struct iocsq_queue {
 struct iocsq_queue *iocsq_queue_of(PIO_CSQ csq);
 struct iocsq_queue *iocsq_queue_at(uint32_t index);
 struct iocsq_irp *iocsq_known(PIRP irp, const char *who); /* ends the program where it is no IRP */
+/* The policy of the queue in which it stays, or that of all queues. */
+IOCSQ_POLICY iocsq_policy_of(const struct iocsq_irp *i);
 PFILE_OBJECT iocsq_irp_file(struct iocsq_irp *i); /* null: it has none */
 
 /* ---- search.c: the driver's lock is held ---- */
@@ -22,6 +39,7 @@ struct iocsq_search {
     struct iocsq_queue *q;
     PVOID context;
     const char *when;
+    bool audits; /* what a callback did before; else the peek itself is asked for by the driver */
     struct iocsq_irp *before;  /* the last answer */
     bool seen[CSQ_MOST_IRPS];  /* the slots of all answers */
 };

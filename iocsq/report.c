@@ -9,21 +9,25 @@
 #include <time.h>
 #include <unistd.h>
 
-enum { LINES = 4096, TEXT = 100, SHOWN = 16, SHOWN_OF_IRP = 12, NO_IRP = UINT16_MAX };
+enum { LINES = 4096, TEXT = 100, SHOWN = 16, SHOWN_OF_IRP = 12 };
 
+/* A call. */
 struct line {
+    uint64_t number; /* of all that there were */
     uint32_t thread;
-    uint32_t irp; /* what it is about, or NO_IRP */
-    bool sent;    /* the IRP's first: what stands before is of an older request */
     char text[TEXT];
 };
-static struct line lines[LINES];
+/* The last lines of one IRP, since it was sent: they are kept however many others come after them. */
+struct history {
+    uint64_t count;
+    struct line lines[SHOWN_OF_IRP];
+};
+static struct line *lines;        /* LINES of them */
+static struct history *histories; /* one for each IRP */
 static _Atomic uint64_t next_line;
 static pthread_mutex_t report_mutex = PTHREAD_MUTEX_INITIALIZER;
 
 static _Atomic uint32_t threads;
-static _Thread_local uint32_t me;
-static _Thread_local uint32_t random_state;
 static ULONG chaos_seed;
 
 IOCSQ_COUNTS iocsq_counts;
@@ -31,25 +35,41 @@ IOCSQ_COUNTS IocsqCounts(VOID) {
     return iocsq_counts;
 }
 
-/* ---- Threads and chance ---- */
-uint32_t iocsq_thread(void) {
-    if (me == 0) {
-        me = ++threads;
-        random_state = me * 2654435761u ^ chaos_seed * 40503u ^ 1u;
+__attribute__((constructor)) static void allocate_lines(void) {
+    lines = calloc(LINES, sizeof *lines);
+    histories = calloc(IOCSQ_IRPS, sizeof *histories);
+    if (!lines || !histories) {
+        abort();
     }
-    return me;
+}
+
+/* ---- Threads and chance ---- */
+uint32_t iocsq_number_thread(void) {
+    return ++threads;
+}
+
+uint32_t iocsq_thread(void) {
+    if (iocsq_own.thread == 0) {
+        iocsq_own.thread = iocsq_number_thread();
+        iocsq_own.random_state = iocsq_own.thread * 2654435761u ^ chaos_seed * 40503u ^ 1u;
+    }
+    return iocsq_own.thread;
 }
 
 uint32_t iocsq_random(void) {
     iocsq_thread();
-    random_state ^= random_state << 13;
-    random_state ^= random_state >> 17;
-    random_state ^= random_state << 5;
-    return random_state;
+    iocsq_own.random_state ^= iocsq_own.random_state << 13;
+    iocsq_own.random_state ^= iocsq_own.random_state >> 17;
+    iocsq_own.random_state ^= iocsq_own.random_state << 5;
+    return iocsq_own.random_state;
+}
+
+uint32_t iocsq_draw(uint32_t below) {
+    return iocsq_is_bounded() ? iocsq_choose(below, below) : iocsq_random() % below;
 }
 
 bool iocsq_rarely(uint32_t in) {
-    return iocsq_random() % in == 0;
+    return iocsq_is_bounded() ? iocsq_choose(2, 2) != 0 : iocsq_random() % in == 0;
 }
 
 VOID IocsqChaos(ULONG Seed) {
@@ -84,16 +104,32 @@ void iocsq_long_point(uint32_t in) {
 }
 
 /* ---- Lines: threads write them without a lock, since one that is torn as it is shown does no harm ---- */
-__attribute__((no_sanitize("thread"), format(printf, 3, 0))) static void
-add_line(const struct iocsq_irp *about, bool sent, const char *format, va_list rest) {
-    char text[TEXT];
-    struct line *to = &lines[next_line++ % LINES];
-    vsnprintf(text, sizeof text, format, rest);
+__attribute__((no_sanitize("thread"))) static void write_line(struct line *to, uint64_t number, const char *text) {
+    to->number = number;
     to->thread = iocsq_thread();
-    to->irp = about ? about->index : (uint32_t)NO_IRP;
-    to->sent = sent;
     for (size_t at = 0; at < TEXT; at++) {
         to->text[at] = text[at];
+    }
+}
+
+/* `sent`: the line is its first. */
+__attribute__((no_sanitize("thread"))) static void write_history(uint32_t irp, bool sent, uint64_t number,
+                                                                 const char *text) {
+    struct history *of = &histories[irp];
+    if (sent) {
+        of->count = 0;
+    }
+    write_line(&of->lines[of->count++ % SHOWN_OF_IRP], number, text);
+}
+
+__attribute__((format(printf, 3, 0))) static void add_line(const struct iocsq_irp *about, bool sent, const char *format,
+                                                           va_list rest) {
+    char text[TEXT] = "";
+    uint64_t number = next_line++;
+    vsnprintf(text, sizeof text, format, rest);
+    write_line(&lines[number % LINES], number, text);
+    if (about) {
+        write_history(about->index, sent, number, text);
     }
 }
 
@@ -111,32 +147,33 @@ void iocsq_log_sent(const struct iocsq_irp *about, const char *format, ...) {
     va_end(rest);
 }
 
-/* Shows the last lines, or those of one IRP since it was sent. */
-__attribute__((no_sanitize("thread"))) static void show(uint32_t irp, uint32_t most) {
-    uint64_t end = next_line, from = end > LINES ? end - LINES : 0, at = end;
-    for (uint32_t count = 0; at > from && count < most;) {
-        const struct line *line = &lines[--at % LINES];
-        bool wanted = irp == NO_IRP || line->irp == irp;
-        count += wanted;
-        if (irp != NO_IRP && wanted && line->sent) {
-            break;
-        }
+/* Shows the last so many lines, of a ring with room for `room`, to which `count` were written. */
+__attribute__((no_sanitize("thread"))) static void show(const struct line *of, uint64_t count, uint64_t room,
+                                                        uint64_t most) {
+    uint64_t shown = count < most ? count : most;
+    for (uint64_t at = count - shown; at < count; at++) {
+        const struct line *line = &of[at % room];
+        fprintf(stderr, "  %6llu t%-3u %s\n", (unsigned long long)line->number, line->thread, line->text);
     }
-    for (; at < end; at++) {
-        const struct line *line = &lines[at % LINES];
-        if (irp == NO_IRP || line->irp == irp) {
-            fprintf(stderr, "  %6llu t%-3u %s\n", (unsigned long long)at, line->thread, line->text);
-        }
-    }
+}
+
+static void show_history(const struct iocsq_irp *of) {
+    const struct history *history = &histories[of->index];
+    fprintf(stderr, "  The calls of irp %u, the last ones:\n", of->index);
+    show(history->lines, history->count, SHOWN_OF_IRP, SHOWN_OF_IRP);
 }
 
 void iocsq_show_last_calls(void) {
     fprintf(stderr, "  All calls, the last ones:\n");
-    show(NO_IRP, SHOWN);
+    show(lines, next_line, LINES, SHOWN);
     fflush(stderr);
 }
 
 /* ---- Ends ---- */
+void iocsq_set_hint(const char *text) {
+    iocsq_own.hint = text;
+}
+
 void iocsq_disagree(const struct iocsq_irp *about, const char *format, ...) {
     va_list rest;
     pthread_mutex_lock(&report_mutex); /* for good: the first report ends the program */
@@ -145,9 +182,12 @@ void iocsq_disagree(const struct iocsq_irp *about, const char *format, ...) {
     vfprintf(stderr, format, rest);
     va_end(rest);
     fprintf(stderr, "\n");
+    if (iocsq_own.hint) {
+        fprintf(stderr, "%s\n", iocsq_own.hint);
+    }
+    iocsq_show_places(false);
     if (about) {
-        fprintf(stderr, "  The calls of irp %u, the last ones:\n", about->index);
-        show(about->index, SHOWN_OF_IRP);
+        show_history(about);
         iocsq_show_schedule(about);
     }
     iocsq_show_last_calls();

@@ -2,6 +2,8 @@
 #include "judge.h"
 #include "queues.h"
 
+#include <unistd.h>
+
 enum { AUDITED = 64 }; /* a longer list is looked through now and then alone */
 
 static bool matches(const struct iocsq_search *s, struct iocsq_irp *i) {
@@ -77,6 +79,7 @@ static void complain(const struct iocsq_search *s, const struct iocsq_irp *answe
     const struct iocsq_irp *skipped =
         judgement.skipped == IOCSQ_NONE ? NULL : s->q->reference.by_slot[judgement.skipped];
     char given[32] = "none";
+    iocsq_own.blamed = s->audits ? iocsq_own.callback : (uintptr_t)s->q->csq->CsqPeekNextIrp;
     if (answer) {
         snprintf(given, sizeof given, "irp %u", answer->index);
     }
@@ -105,6 +108,7 @@ static void complain(const struct iocsq_search *s, const struct iocsq_irp *answe
 struct iocsq_irp *iocsq_peek(struct iocsq_search *s) {
     PIO_CSQ csq = s->q->csq;
     IOCSQ_COUNT(Peeks);
+    iocsq_cover_call(s->q, IOCSQ_PEEK);
     PIRP irp = csq->CsqPeekNextIrp(csq, s->before ? &s->before->irp : NULL, s->context);
     struct iocsq_irp *answer = irp ? iocsq_known(irp, "CsqPeekNextIrp answered") : NULL;
     uint32_t slot = answer ? iocsq_slot_in(&s->q->reference, answer) : IOCSQ_NONE;
@@ -120,11 +124,29 @@ struct iocsq_irp *iocsq_peek(struct iocsq_search *s) {
 }
 
 void iocsq_audit(struct iocsq_queue *q, const char *when) {
-    struct iocsq_search s = { .q = q, .when = when };
+    struct iocsq_search s = { .q = q, .when = when, .audits = true };
     if (q->policy.NoAudit || (iocsq_reference_len(&q->reference) > AUDITED && !iocsq_rarely(16))) {
         return;
     }
     IOCSQ_COUNT(Audits);
+    iocsq_own.asks_alone = !iocsq_has_null_contexts(q);
+    if (iocsq_own.asks_alone) {
+        iocsq_set_hint("  iocsq asked with null as peek context, which the driver never does: if null doesn't mean any "
+                       "IRP to it, its policy says NoAudit.");
+    }
     while (iocsq_peek(&s)) {
+    }
+    iocsq_own.asks_alone = false;
+    iocsq_set_hint(NULL);
+}
+
+/* Called by a signal's handler: the text is written first, as nothing else is safe there. */
+void iocsq_ask_for_policy(void) {
+    static const char text[] =
+        "iocsq: the policy is missing: iocsq asked CsqPeekNextIrp with null as peek context, which the driver itself "
+        "never does, and it used a bad address. If null doesn't mean any IRP to the driver, its policy says NoAudit.\n";
+    if (iocsq_own.asks_alone && write(STDERR_FILENO, text, sizeof text - 1) > 0) {
+        iocsq_show_last_calls();
+        _exit(IOCSQ_NO_POLICY);
     }
 }

@@ -1,13 +1,25 @@
 /* Turns: with a seed one thread runs at a time, and at each point the next one is drawn from the seed. So a run is the
- * same whenever its seed is, a wait takes no time, and threads that all wait for each other are reported. */
+ * same whenever its seed is, a wait takes no time, and threads that all wait for each other are reported. In the
+ * bounded mode the next one is a choice of explore.c in the place of a draw, and threads are contexts of one thread of
+ * the system, since a switch between those takes too long. */
 #define _GNU_SOURCE
+#include "contexts.h"
 #include "internal.h"
 
 #include <pthread.h>
 #include <sched.h>
 #include <stdlib.h>
 
+#if defined(__SANITIZE_THREAD__)
+#define THREAD_SANITIZER 1
+#elif defined(__has_feature)
+#if __has_feature(thread_sanitizer)
+#define THREAD_SANITIZER 1
+#endif
+#endif
+
 enum { TASKS = 256, TURN_NANOSECONDS = 10000, SHORT_REST = 400, LONG_REST = 4000 };
+enum { GOES_ROUND = 2000 }; /* points without a switch: the thread waits for another, though it doesn't say so */
 
 /* A thread, as it takes turns. */
 struct task {
@@ -21,10 +33,13 @@ struct task {
     uint64_t until;  /* when it goes on in any case */
     uint64_t rests;  /* until so many turns were given: now and then a thread is passed over for long */
     uint32_t number; /* as iocsq_thread returns it */
+    bool is_time;    /* `until` is a time, and no limit */
     bool done;
+    struct iocsq_context bounded; /* in the bounded mode, with the next */
+    struct iocsq_own own;
 };
 static pthread_mutex_t baton = PTHREAD_MUTEX_INITIALIZER; /* of all that follows */
-static struct task tasks[TASKS];
+static struct task *tasks; /* TASKS of them */
 static uint32_t task_count;
 static struct task *running;
 static _Thread_local struct task *self;
@@ -32,6 +47,8 @@ static uint32_t draw_state; /* 0: threads run freely */
 static uint64_t given;      /* turns */
 static uint64_t now;        /* nanoseconds */
 static ULONG most_switches; /* 0: no limit */
+static uint32_t points;     /* since the last switch, in the bounded mode */
+_Thread_local struct iocsq_own iocsq_own;
 
 static uint32_t draw(uint32_t below) {
     draw_state ^= draw_state << 13;
@@ -57,6 +74,7 @@ static struct task *new_task(void) {
         iocsq_fail("more than %u threads", (unsigned)TASKS);
     }
     struct task *t = &tasks[task_count++];
+    memset(t, 0, sizeof *t);
     pthread_cond_init(&t->turn, NULL);
     t->until = IOCSQ_FOR_EVER;
     return t;
@@ -66,10 +84,23 @@ VOID IocsqTurns(ULONG Seed) {
     if (Seed == 0 || draw_state) {
         return;
     }
+    tasks = calloc(TASKS, sizeof *tasks);
+    if (!tasks) {
+        iocsq_fail("no memory for threads");
+    }
     IocsqChaos(Seed);
     draw_state = Seed * 2654435761u | 1u;
     self = running = new_task();
     self->number = iocsq_thread();
+}
+
+VOID IocsqBounded(VOID) {
+#ifdef THREAD_SANITIZER
+    iocsq_fail("the bounded mode is not for the thread sanitizer, which has to see threads of the system");
+#endif
+    iocsq_begin_choices();
+    iocsq_begin_contexts(TASKS);
+    IocsqTurns(1);
 }
 
 VOID IocsqSwitches(ULONG Most) {
@@ -120,24 +151,127 @@ static uint64_t soonest_end_of_wait(void) {
     return soonest;
 }
 
-static void hand_over(void) {
+/* Nobody may go: the clock goes on to the first whose wait ends. */
+static void pass_time(void) {
+    now = soonest_end_of_wait();
+    if (now == IOCSQ_FOR_EVER) {
+        report_deadlock();
+    }
+}
+
+static struct task *draw_next(void) {
     struct task *able[TASKS];
     uint32_t count;
-    given++;
-    now += TURN_NANOSECONDS;
     if (self && draw(64) == 0) {
         self->rests = given + draw(draw(4) == 0 ? LONG_REST : SHORT_REST);
     }
     while ((count = find_able(able)) == 0) {
-        now = soonest_end_of_wait();
-        if (now == IOCSQ_FOR_EVER) {
-            report_deadlock();
+        pass_time();
+    }
+    return able[draw(count)];
+}
+
+/* ---- The bounded mode: who is next is a choice ---- */
+/* Two threads of the system that wait for the same work: it makes no difference which of them goes on. */
+static bool is_twin(const struct task *t, const struct task *other) {
+    return t->may_go && t->may_go == other->may_go && !t->of && !other->of && t->start == other->start &&
+           t->context == other->context;
+}
+
+static bool has_twin(struct task **options, uint32_t count, const struct task *t) {
+    for (uint32_t at = 0; at < count; at++) {
+        if (is_twin(options[at], t)) {
+            return true;
         }
     }
-    struct task *next = able[draw(count)];
+    return false;
+}
+
+/* The others that may go, in their order from this thread on. */
+static uint32_t find_others(struct task **options, uint32_t count) {
+    uint32_t from = (uint32_t)(self - tasks);
+    for (uint32_t step = 1; step < task_count; step++) {
+        struct task *t = &tasks[(from + step) % task_count];
+        if (is_ready(t) && !has_twin(options, count, t)) {
+            options[count++] = t;
+        }
+    }
+    return count;
+}
+
+/* One whose wait ends by the clock, before any other: the clock may come just now. Null: there is none. */
+static struct task *find_early(void) {
+    uint64_t soonest = soonest_end_of_wait();
+    for (uint32_t at = 0; at < task_count; at++) {
+        struct task *t = &tasks[at];
+        if (t->is_time && t->until == soonest && soonest != IOCSQ_FOR_EVER && !t->done && !is_ready(t)) {
+            return t;
+        }
+    }
+    return NULL;
+}
+
+/* Option 0 is to go on, where the thread can; another is a preemption then. Where it waits, or goes round, the switch is
+ * free, but for the clock that comes early. Null: nobody can go on. */
+static struct task *choose_next(bool waits) {
+    struct task *options[TASKS + 2];
+    uint32_t count = 0;
+    if (!waits) {
+        options[count++] = self;
+    }
+    count = find_others(options, count);
+    if (waits && is_ready(self)) {
+        options[count++] = self;
+    }
+    if (count == 0) {
+        return NULL;
+    }
+    uint32_t free = waits ? count : 1;
+    struct task *early = find_early();
+    if (early) {
+        options[count++] = early;
+    }
+    struct task *next = options[iocsq_choose(count, free)];
+    if (next == early) {
+        now = early->until;
+    }
+    if (!waits && next != self) {
+        iocsq_log(NULL, "-- t%u is preempted by t%u%s", self->number, next->number, next == early ? ": the clock" : "");
+    }
+    return next;
+}
+
+static struct task *choose_after_wait(void) {
+    struct task *next;
+    while ((next = choose_next(true)) == NULL) {
+        pass_time();
+    }
+    return next;
+}
+
+static void switch_context(struct task *next) {
+    struct task *before = self;
+    before->own = iocsq_own;
+    self = next;
+    iocsq_own = next->own;
+    iocsq_switch_context(&before->bounded, &next->bounded, before->done);
+}
+
+static void give_turn(struct task *next) {
     iocsq_counts.Switches += next != running;
     running = next;
-    pthread_cond_signal(&next->turn);
+    points = 0;
+    if (!iocsq_is_bounded()) {
+        pthread_cond_signal(&next->turn);
+    } else if (next != self) {
+        switch_context(next);
+    }
+}
+
+static void hand_over(void) {
+    given++;
+    now += TURN_NANOSECONDS;
+    give_turn(iocsq_is_bounded() ? choose_after_wait() : draw_next());
 }
 
 static void wait_for_turn(void) {
@@ -153,7 +287,25 @@ static void take_turns(void) {
     pthread_mutex_unlock(&baton);
 }
 
+static void bounded_point(void) {
+    if (++points > GOES_ROUND) {
+        take_turns();
+        return;
+    }
+    struct task *next = choose_next(false);
+    if (next != self) {
+        now += TURN_NANOSECONDS;
+        pthread_mutex_lock(&baton);
+        give_turn(next);
+        pthread_mutex_unlock(&baton);
+    }
+}
+
 void iocsq_turn_point(void) {
+    if (iocsq_is_bounded()) {
+        bounded_point();
+        return;
+    }
     bool limited = most_switches && iocsq_counts.Switches >= most_switches;
     if (draw(3) == 0 && !limited) {
         take_turns();
@@ -161,7 +313,7 @@ void iocsq_turn_point(void) {
 }
 
 void iocsq_long_turn_point(uint32_t in) {
-    if (draw(in) == 0) {
+    if (!iocsq_is_bounded() && draw(in) == 0) {
         self->rests = given + draw(LONG_REST);
         take_turns();
     } else {
@@ -177,16 +329,18 @@ void iocsq_yield(void) {
     }
 }
 
-void iocsq_wait_in_turns(bool (*may_go)(void *), void *of, uint64_t nanoseconds, const char *what) {
+void iocsq_wait_in_turns(bool (*may_go)(void *), void *of, uint64_t nanoseconds, bool is_time, const char *what) {
     pthread_mutex_lock(&baton);
     self->may_go = may_go;
     self->of = of;
     self->waits_for = what;
+    self->is_time = is_time;
     self->until = nanoseconds == IOCSQ_FOR_EVER ? IOCSQ_FOR_EVER : now + nanoseconds;
     hand_over();
     wait_for_turn();
     self->may_go = NULL;
     self->until = IOCSQ_FOR_EVER;
+    self->is_time = false;
     pthread_mutex_unlock(&baton);
 }
 
@@ -212,6 +366,14 @@ static void *run_task(void *task) {
     return result;
 }
 
+/* The same of a context: who gave it its turn has the baton. */
+static void run_context(void) {
+    iocsq_enter_context();
+    pthread_mutex_unlock(&baton);
+    self->start(self->context);
+    iocsq_end_turns_of_thread();
+}
+
 IOCSQ_THREAD IocsqThread(void *(*Start)(void *), void *Context) {
     if (!iocsq_in_turns()) {
         pthread_t *thread = malloc(sizeof *thread);
@@ -223,7 +385,10 @@ IOCSQ_THREAD IocsqThread(void *(*Start)(void *), void *Context) {
     struct task *t = new_task();
     t->start = Start;
     t->context = Context;
-    if (pthread_create(&t->thread, NULL, run_task, t) != 0) {
+    if (iocsq_is_bounded()) {
+        t->number = t->own.thread = iocsq_number_thread();
+        iocsq_make_context(&t->bounded, (size_t)(t - tasks), run_context);
+    } else if (pthread_create(&t->thread, NULL, run_task, t) != 0) {
         iocsq_fail("a thread wasn't started");
     }
     return t;
@@ -241,7 +406,35 @@ VOID IocsqJoin(IOCSQ_THREAD Thread) {
     }
     struct task *t = Thread;
     if (!t->done) {
-        iocsq_wait_in_turns(is_done, t, IOCSQ_FOR_EVER, "a thread's end");
+        iocsq_wait_in_turns(is_done, t, IOCSQ_FOR_EVER, false, "a thread's end");
     }
-    pthread_join(t->thread, NULL);
+    if (!iocsq_is_bounded()) {
+        pthread_join(t->thread, NULL);
+    }
+}
+
+/* Several threads of a test. */
+struct joined {
+    IOCSQ_THREAD *threads;
+    ULONG count;
+};
+
+static bool are_done(void *of) {
+    const struct joined *joined = of;
+    for (ULONG at = 0; at < joined->count; at++) {
+        if (!is_done(joined->threads[at])) {
+            return false;
+        }
+    }
+    return true;
+}
+
+VOID IocsqJoinAll(IOCSQ_THREAD *Threads, ULONG Count) {
+    struct joined joined = { Threads, Count };
+    if (iocsq_in_turns() && !are_done(&joined)) {
+        iocsq_wait_in_turns(are_done, &joined, IOCSQ_FOR_EVER, false, "threads' ends");
+    }
+    for (ULONG at = 0; at < Count; at++) {
+        IocsqJoin(Threads[at]);
+    }
 }

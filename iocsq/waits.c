@@ -45,12 +45,12 @@ static struct timespec time_after(uint64_t nanoseconds) {
     return until;
 }
 
-bool iocsq_await(bool (*holds)(void *), void *of, uint64_t nanoseconds, const char *what) {
+static bool await(bool (*holds)(void *), void *of, uint64_t nanoseconds, bool is_time, const char *what) {
     struct timespec until = time_after(nanoseconds == IOCSQ_FOR_EVER ? 0 : nanoseconds);
     int code = 0;
     if (nanoseconds > 0 && iocsq_in_turns() && !holds(of)) {
         pthread_mutex_unlock(&state_mutex);
-        iocsq_wait_in_turns(holds, of, nanoseconds, what);
+        iocsq_wait_in_turns(holds, of, nanoseconds, is_time, what);
         pthread_mutex_lock(&state_mutex);
     }
     while (nanoseconds > 0 && !iocsq_in_turns() && !holds(of) && code != ETIMEDOUT) {
@@ -60,22 +60,30 @@ bool iocsq_await(bool (*holds)(void *), void *of, uint64_t nanoseconds, const ch
     return holds(of);
 }
 
+bool iocsq_await(bool (*holds)(void *), void *of, uint64_t nanoseconds, const char *what) {
+    return await(holds, of, nanoseconds, false, what);
+}
+
+bool iocsq_await_time(bool (*holds)(void *), void *of, uint64_t nanoseconds, const char *what) {
+    return await(holds, of, nanoseconds, true, what);
+}
+
 static bool never(void *of) {
     (void)of;
     return false;
 }
 
-static void sleep_for(uint64_t nanoseconds) {
+static void sleep_for(uint64_t nanoseconds, bool is_time) {
     struct timespec delay = { (time_t)(nanoseconds / SECOND), (long)(nanoseconds % SECOND) };
     if (iocsq_in_turns()) {
-        iocsq_wait_in_turns(never, NULL, nanoseconds, "a delay");
+        iocsq_wait_in_turns(never, NULL, nanoseconds, is_time, "a delay");
     } else {
         nanosleep(&delay, NULL);
     }
 }
 
 VOID IocsqPause(ULONG Microseconds) {
-    sleep_for(Microseconds * (uint64_t)1000);
+    sleep_for(Microseconds * (uint64_t)1000, false);
 }
 
 /* ---- Events, mutexes, semaphores ---- */
@@ -243,7 +251,7 @@ NTSTATUS NTAPI KeWaitForMultipleObjects(ULONG Count, PVOID Object[], WAIT_TYPE W
     }
     iocsq_point();
     iocsq_lock_state();
-    bool over = iocsq_await(is_over, &wait, nanoseconds, "an object");
+    bool over = iocsq_await_time(is_over, &wait, nanoseconds, "an object");
     NTSTATUS status = over ? end_wait(&wait) : STATUS_TIMEOUT;
     iocsq_unlock_state();
     return status;
@@ -259,7 +267,7 @@ NTSTATUS NTAPI KeDelayExecutionThread(KPROCESSOR_MODE Mode, BOOLEAN Alertable, P
     if (KeGetCurrentIrql() >= DISPATCH_LEVEL) {
         iocsq_disagree(NULL, "KeDelayExecutionThread at DISPATCH_LEVEL");
     }
-    sleep_for(nanoseconds_of(Interval));
+    sleep_for(nanoseconds_of(Interval), true);
     return STATUS_SUCCESS;
 }
 
@@ -272,12 +280,11 @@ struct thread_object {
     struct thread_object *next;
 };
 static struct thread_object *thread_objects;
-static _Thread_local struct thread_object *own_object;
 
 static void *run_thread(void *object) {
-    own_object = object;
-    own_object->start(own_object->context);
-    set_signal(&own_object->header, 1);
+    iocsq_own.system_thread = object;
+    iocsq_own.system_thread->start(iocsq_own.system_thread->context);
+    set_signal(&iocsq_own.system_thread->header, 1);
     return NULL;
 }
 
@@ -303,10 +310,10 @@ NTSTATUS NTAPI PsCreateSystemThread(PHANDLE ThreadHandle, ULONG DesiredAccess, P
 
 NTSTATUS NTAPI PsTerminateSystemThread(NTSTATUS ExitStatus) {
     (void)ExitStatus;
-    if (!own_object) {
+    if (!iocsq_own.system_thread) {
         iocsq_disagree(NULL, "PsTerminateSystemThread by a thread that isn't the driver's");
     }
-    set_signal(&own_object->header, 1);
+    set_signal(&iocsq_own.system_thread->header, 1);
     iocsq_end_turns_of_thread();
     pthread_exit(NULL);
 }

@@ -136,7 +136,7 @@ typedef struct _IRP {
             PVOID DriverContext[4];
             PVOID Thread;
             PCHAR AuxiliaryBuffer;
-            struct {
+            __extension__ struct { /* which C++ has no word for without a name */
                 LIST_ENTRY ListEntry;
                 PIO_STACK_LOCATION CurrentStackLocation;
             };

@@ -58,8 +58,13 @@ static VOID NTAPI Serve(PVOID StartContext) {
 
 static NTSTATUS NTAPI Read(PDEVICE_OBJECT DeviceObject, PIRP Irp) {
     PEXTENSION Extension = DeviceObject->DeviceExtension;
+#if WRONG == 3
+    KeReleaseSemaphore(&Extension->Queued, IO_NO_INCREMENT, 1, FALSE); /* the thread may look before the insert */
+    IoCsqInsertIrp(&Extension->Queue, Irp, NULL);
+#else
     IoCsqInsertIrp(&Extension->Queue, Irp, NULL);
     KeReleaseSemaphore(&Extension->Queued, IO_NO_INCREMENT, 1, FALSE);
+#endif
     return STATUS_PENDING;
 }
 

@@ -47,7 +47,7 @@ static NTSTATUS NTAPI Read(PDEVICE_OBJECT DeviceObject, PIRP Irp) {
 static NTSTATUS NTAPI Write(PDEVICE_OBJECT DeviceObject, PIRP Irp) {
     PEXTENSION Extension = DeviceObject->DeviceExtension;
     PIRP Waiting;
-    if (Extension->Lower != NULL) {
+    if (Extension->Lower != NULL || WRONG == 3) { /* 3: the lower device has none */
         return PassOn(Extension, Irp);
     }
     Waiting = IoCsqRemoveNextIrp(&Extension->Reads.Queue, FileOf(Irp));

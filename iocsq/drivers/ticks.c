@@ -68,7 +68,7 @@ NTSTATUS NTAPI DriverEntry(PDRIVER_OBJECT DriverObject, PUNICODE_STRING Registry
     KeInitializeDpc(&Extension->Dpc, Tick, Extension);
     KeInitializeTimer(&Extension->Timer);
     First.QuadPart = -10000;
-    KeSetTimerEx(&Extension->Timer, First, TICK_IN_MILLISECONDS, &Extension->Dpc);
+    KeSetTimerEx(&Extension->Timer, First, WRONG == 4 ? 0 : TICK_IN_MILLISECONDS, &Extension->Dpc); /* 0: once alone */
     DriverObject->DriverUnload = Unload;
     DriverObject->MajorFunction[IRP_MJ_READ] = Read;
     DriverObject->MajorFunction[IRP_MJ_WRITE] = Succeed;

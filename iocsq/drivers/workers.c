@@ -31,15 +31,23 @@ static VOID NTAPI Work(PDEVICE_OBJECT DeviceObject, PVOID Context) {
     PEXTENSION Extension = Context;
     PIRP Irp;
     UNREFERENCED_PARAMETER(DeviceObject);
+#if WRONG != 3
     SetQueued(Extension, FALSE); /* before the loop: what comes after it queues the work item again */
+#endif
     while ((Irp = IoCsqRemoveNextIrp(&Extension->Reads.Queue, NULL)) != NULL) {
         Finish(Irp, STATUS_SUCCESS, 1);
     }
+#if WRONG == 3
+    SetQueued(Extension, FALSE);
+#endif
     Leave(Extension);
 }
 
 static NTSTATUS NTAPI Read(PDEVICE_OBJECT DeviceObject, PIRP Irp) {
     PEXTENSION Extension = DeviceObject->DeviceExtension;
+#if WRONG == 4
+    return Succeed(DeviceObject, Irp); /* and the queue stays empty */
+#endif
     NTSTATUS Status = Wait(&Extension->Reads, Irp);
     BOOLEAN Before = SetQueued(Extension, TRUE);
 #if WRONG == 1

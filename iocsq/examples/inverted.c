@@ -30,6 +30,13 @@ BOOLEAN IsWanted(PIRP Irp, PVOID PeekContext) {
     return PeekContext == NULL || PeekContext == FileOf(Irp);
 }
 
+/* A test asks this, where nothing else happens: whether a call may wait on. */
+BOOLEAN MayWait(PIRP Irp);
+BOOLEAN MayWait(PIRP Irp) {
+    PEXTENSION Extension = IoGetCurrentIrpStackLocation(Irp)->DeviceObject->DeviceExtension;
+    return Extension->EventCount == 0;
+}
+
 /* ---- Pairs of an event and a call ---- */
 /* Takes the oldest event and call, if there are both. Under EventLock, so that no two threads each take a half. */
 static PIRP TakePair(PEXTENSION Extension, PUCHAR Event) {

@@ -47,6 +47,14 @@ BOOLEAN IsWanted(PIRP Irp, PVOID PeekContext) {
     return PeekContext == NULL;
 }
 
+/* A test asks this, where nothing else happens: whether a read or a write may wait on, since the other end has none. */
+BOOLEAN MayWait(PIRP Irp);
+BOOLEAN MayWait(PIRP Irp) {
+    PEND Other = EndOf(Irp)->Other;
+    BOOLEAN Reads = IoGetCurrentIrpStackLocation(Irp)->MajorFunction == IRP_MJ_READ;
+    return IsListEmpty(Reads ? &Other->Writes.Irps : &Other->Reads.Irps);
+}
+
 /* ---- A read and a write meet ---- */
 /* Takes the first read of an end and the first write of the other. Under a mutex, so that no two threads each take a
  * half; not under a spin lock, since the read that goes back may be completed: it was cancelled, or the pipe broken

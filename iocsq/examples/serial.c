@@ -68,6 +68,17 @@ BOOLEAN IsWanted(PIRP Irp, PVOID PeekContext) {
     return PeekContext == NULL || PeekContext == FileOf(Irp);
 }
 
+/* A test asks this, where nothing else happens: whether an IRP may wait on. A write may, for which the receiver has no
+ * room, or before which another one waits so; a read's time is over some time. */
+BOOLEAN MayWait(PIRP Irp);
+BOOLEAN MayWait(PIRP Irp) {
+    PEXTENSION Port = PortOf(Irp);
+    PLIST_ENTRY First = Port->Writes.Irps.Flink;
+    PIRP Write = First == &Port->Writes.Irps ? Irp : CONTAINING_RECORD(First, IRP, Tail.Overlay.ListEntry);
+    ULONG Length = LengthOf(Write) < ROOM ? LengthOf(Write) : ROOM;
+    return IoGetCurrentIrpStackLocation(Irp)->MajorFunction == IRP_MJ_WRITE && Length > ROOM - Port->Count;
+}
+
 /* ---- The clock: transmitter, receiver, and reads whose time is over ---- */
 /* Sends a write's bytes to the receiver, of a long one as many as it has room for when it is empty. FALSE: there is no
  * room for them now, and none was sent. */

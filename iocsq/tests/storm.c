@@ -2,24 +2,18 @@
  *
  *     storm THREADS TURNS SEED                    threads run freely, with delays at random
  *     storm THREADS TURNS SEED turns [SWITCHES]   one runs at a time, as the seed draws; at most so many switches
+ *
+ * It ends with status 0, with 70 after a report (IOCSQ_DISAGREES), and with 71 where something never happened without
+ * which the run says nothing of the driver's queue (IOCSQ_TESTED_NOTHING). 72: a policy is missing (IOCSQ_NO_POLICY).
+ * 2: an argument is wrong.
  */
-#include "iocsq_test.h"
+#include "program.h"
 
 #include <stdatomic.h>
-#include <stdbool.h>
-#include <stdio.h>
-#include <stdlib.h>
 
-#define CONTROL(function) CTL_CODE(FILE_DEVICE_UNKNOWN, function, METHOD_BUFFERED, FILE_ANY_ACCESS)
-#define ANY_CONTROL CONTROL(0x801)
+#define USAGE "storm THREADS TURNS SEED [turns [SWITCHES]]"
 enum { THREADS = 32, CANCELLERS = 3, OPEN = 6, MINE = 12, BYTES = 16, LONGEST = 4, SECONDS = 100 };
 enum { SHORTEST_PAUSE = 20, LONGEST_PAUSE = 320 }; /* microseconds */
-
-extern DRIVER_INITIALIZE DriverEntry;
-/* What a driver's callbacks mean, if it isn't the usual. */
-extern const IOCSQ_POLICY DriverPolicy __attribute__((weak));
-/* The control codes that it knows, and a 0 after them. */
-extern const ULONG DriverControls[] __attribute__((weak));
 
 static PDRIVER_OBJECT driver;
 static long turns;
@@ -42,10 +36,7 @@ struct user {
 };
 
 static uint32_t roll(struct user *u, uint32_t below) {
-    u->dice ^= u->dice << 13;
-    u->dice ^= u->dice >> 17;
-    u->dice ^= u->dice << 5;
-    return u->dice % below;
+    return next_of(&u->dice, below);
 }
 
 static void must(int holds, const char *what) {
@@ -72,10 +63,7 @@ static void reap(struct request *r) {
 enum oddity { OTHER_CODE, NO_INPUT, NO_OUTPUT, NO_BUFFER, CONTROLS = 32 };
 
 static ULONG control_code(struct user *u) {
-    uint32_t count = 0;
-    while (DriverControls && DriverControls[count]) {
-        count++;
-    }
+    uint32_t count = count_controls();
     return count ? DriverControls[roll(u, count)] : (ULONG)ANY_CONTROL;
 }
 
@@ -199,7 +187,7 @@ static void *cancel_any(void *of) {
 static void run(int threads, uint32_t seed) {
     static struct user users[THREADS];
     IOCSQ_THREAD started[THREADS], cancellers[CANCELLERS];
-    must((driver = IocsqLoad(DriverEntry)) != NULL, "the driver wasn't loaded");
+    driver = load_driver("storm");
     for (int at = 0; at < threads; at++) {
         users[at].dice = (uint32_t)at * 7919u + seed * 104729u + 1;
         started[at] = IocsqThread(use, &users[at]);
@@ -228,14 +216,7 @@ static void print_counts(void) {
 }
 
 static long number(int argc, char **argv, int at, long least, long most) {
-    char *end = NULL;
-    long value = at < argc ? strtol(argv[at], &end, 10) : -1;
-    if (!end || *end || value < least || value > most) {
-        fprintf(stderr, "storm THREADS TURNS SEED [turns [SWITCHES]]: argument %d is a number from %ld to %ld\n", at,
-                least, most);
-        exit(2);
-    }
-    return value;
+    return number_of_argument(argc, argv, at, least, most, USAGE);
 }
 
 int main(int argc, char **argv) {
@@ -250,10 +231,7 @@ int main(int argc, char **argv) {
     } else {
         IocsqChaos(seed);
     }
-    if (&DriverPolicy) {
-        IocsqSetPolicy(NULL, &DriverPolicy);
-    }
     run(threads, seed);
     print_counts();
-    return 0;
+    return IocsqCoverage() ? 0 : IOCSQ_TESTED_NOTHING;
 }

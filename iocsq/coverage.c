@@ -1,0 +1,207 @@
+/* What a run covered: which callbacks ran, what cancels and cleanups met, how requests ended. A run in which nothing was
+ * inserted, removed or cancelled says nothing of a driver's queue, so what never happened is named. */
+#include "queues.h"
+
+enum { KINDS = 32 };
+
+/* The queues that have the same callbacks. */
+struct iocsq_kind {
+    IO_CSQ callbacks;
+    IOCSQ_POLICY policy;
+    _Atomic ULONG64 calls[IOCSQ_CALLBACKS];
+    _Atomic ULONG64 inserted, removed, cancelled;
+    _Atomic bool null_contexts; /* the driver uses null as a peek context */
+};
+static struct iocsq_kind kinds[KINDS];
+static uint32_t kind_count; /* under the queues' mutex until the driver is unloaded */
+static _Atomic ULONG64 events[IOCSQ_EVENTS];
+
+static const char *const event_names[IOCSQ_EVENTS] = {
+    [IOCSQ_REFUSED] = "insert: refused by the driver",
+    [IOCSQ_PUT_BACK] = "insert: of what was removed before",
+    [IOCSQ_CANCEL_BEFORE] = "cancel: of an IRP that is in no queue",
+    [IOCSQ_CANCEL_AT_INSERT] = "cancel: found by the insert",
+    [IOCSQ_CANCEL_IN_QUEUE] = "cancel: of an IRP in a queue",
+    [IOCSQ_CANCEL_BESIDE_REMOVAL] = "cancel: has an IRP that a removal comes to",
+    [IOCSQ_CANCEL_AFTER_REMOVAL] = "cancel: of an IRP that was removed",
+    [IOCSQ_CANCEL_AFTER_COMPLETION] = "cancel: of an IRP that was completed",
+    [IOCSQ_CANCEL_BY_DRIVER] = "cancel: by a cancel routine of the driver",
+    [IOCSQ_CLEANUP] = "cleanup",
+    [IOCSQ_CLEANUP_BEFORE_INSERT] = "cleanup: an insert comes after it began",
+    [IOCSQ_CLEANUP_BEFORE_REFUSAL] = "cleanup: an insert that comes after it began is refused",
+    [IOCSQ_ENDED_WELL] = "completion: success",
+    [IOCSQ_ENDED_CANCELLED] = "completion: cancelled",
+    [IOCSQ_ENDED_BY_TIME] = "completion: timeout",
+    [IOCSQ_ENDED_OTHERWISE] = "completion: another status",
+};
+
+void iocsq_cover(enum iocsq_event event) {
+    events[event]++;
+}
+
+void iocsq_cover_end(UCHAR major, NTSTATUS status) {
+    if (major == IRP_MJ_CREATE || major == IRP_MJ_CLEANUP || major == IRP_MJ_CLOSE) {
+        return;
+    }
+    iocsq_cover(status == STATUS_TIMEOUT     ? IOCSQ_ENDED_BY_TIME
+                : NT_SUCCESS(status)         ? IOCSQ_ENDED_WELL
+                : status == STATUS_CANCELLED ? IOCSQ_ENDED_CANCELLED
+                                             : IOCSQ_ENDED_OTHERWISE);
+}
+
+/* ---- Kinds ---- */
+static bool is_of_kind(const struct iocsq_kind *k, const IO_CSQ *csq) {
+    const IO_CSQ *c = &k->callbacks;
+    return c->Type == csq->Type && c->CsqInsertIrp == csq->CsqInsertIrp && c->CsqRemoveIrp == csq->CsqRemoveIrp &&
+           c->CsqPeekNextIrp == csq->CsqPeekNextIrp && c->CsqAcquireLock == csq->CsqAcquireLock &&
+           c->CsqReleaseLock == csq->CsqReleaseLock && c->CsqCompleteCanceledIrp == csq->CsqCompleteCanceledIrp;
+}
+
+struct iocsq_kind *iocsq_kind_of(const IO_CSQ *csq) {
+    for (uint32_t at = 0; at < kind_count; at++) {
+        if (is_of_kind(&kinds[at], csq)) {
+            return &kinds[at];
+        }
+    }
+    if (kind_count == KINDS) {
+        iocsq_fail("more than %u kinds of queues", (unsigned)KINDS);
+    }
+    kinds[kind_count].callbacks = *csq;
+    return &kinds[kind_count++];
+}
+
+void iocsq_set_policy_of_kind(struct iocsq_kind *k, const IOCSQ_POLICY *policy) {
+    k->policy = *policy;
+}
+
+static uintptr_t address_of(const IO_CSQ *csq, enum iocsq_callback which) {
+    switch (which) {
+    case IOCSQ_INSERT: return (uintptr_t)csq->CsqInsertIrp;
+    case IOCSQ_REMOVE: return (uintptr_t)csq->CsqRemoveIrp;
+    case IOCSQ_ACQUIRE: return (uintptr_t)csq->CsqAcquireLock;
+    case IOCSQ_RELEASE: return (uintptr_t)csq->CsqReleaseLock;
+    case IOCSQ_COMPLETE: return (uintptr_t)csq->CsqCompleteCanceledIrp;
+    default: return (uintptr_t)csq->CsqPeekNextIrp;
+    }
+}
+
+void iocsq_cover_call(struct iocsq_queue *q, enum iocsq_callback which) {
+    q->kind->calls[which]++;
+    if (which != IOCSQ_PEEK) {
+        iocsq_own.callback = address_of(&q->kind->callbacks, which);
+    }
+}
+
+void iocsq_note_null_context(struct iocsq_queue *q) {
+    q->kind->null_contexts = true;
+}
+
+bool iocsq_has_null_contexts(const struct iocsq_queue *q) {
+    return q->kind->null_contexts;
+}
+
+void iocsq_cover_insert(struct iocsq_queue *q) {
+    q->kind->inserted++;
+}
+
+void iocsq_cover_removal(struct iocsq_queue *q) {
+    q->kind->removed++;
+}
+
+void iocsq_cover_cancelled(struct iocsq_queue *q) {
+    q->kind->cancelled++;
+}
+
+/* ---- The table ---- */
+static const char *callback_name(const struct iocsq_kind *k, uint32_t which) {
+    static const char *const names[IOCSQ_CALLBACKS] = { "CsqInsertIrp",   "CsqRemoveIrp",   "CsqPeekNextIrp",
+                                                        "CsqAcquireLock", "CsqReleaseLock", "CsqCompleteCanceledIrp" };
+    return which == IOCSQ_INSERT && k->callbacks.Type == IO_TYPE_CSQ_EX ? "CsqInsertIrpEx" : names[which];
+}
+
+/* Behind the name of what is of one kind, where there are more. */
+static const char *kind_name(const struct iocsq_kind *k) {
+    static char name[32];
+    name[0] = '\0';
+    if (kind_count > 1) {
+        snprintf(name, sizeof name, " (queues of kind %u)", (unsigned)(k - kinds) + 1);
+    }
+    return name;
+}
+
+static void print_row(const char *name, const char *of, ULONG64 count) {
+    printf("  %-*s%s %10llu\n", 56 - (int)strlen(of), name, of, (unsigned long long)count);
+}
+
+static void print_table(void) {
+    printf("What happened, and how often:\n");
+    for (uint32_t at = 0; at < kind_count * IOCSQ_CALLBACKS; at++) {
+        const struct iocsq_kind *k = &kinds[at / IOCSQ_CALLBACKS];
+        uint32_t which = at % IOCSQ_CALLBACKS;
+        print_row(callback_name(k, which), kind_name(k), k->calls[which]);
+    }
+    for (uint32_t at = 0; at < IOCSQ_EVENTS; at++) {
+        print_row(event_names[at], "", events[at]);
+    }
+}
+
+/* ---- What never happened ---- */
+static bool complain(const struct iocsq_kind *k, const char *what, const char *hint) {
+    fprintf(stderr, "iocsq: %s%s: %s\n", what, k ? kind_name(k) : "", hint);
+    return false;
+}
+
+static bool needs_call(const IOCSQ_POLICY *policy, uint32_t which) {
+    switch (which) {
+    case IOCSQ_PEEK: return !policy->NeverPeeks;
+    case IOCSQ_REMOVE: return !policy->NeverRemoves || !policy->NeverCancelled;
+    case IOCSQ_COMPLETE: return !policy->NeverCancelled;
+    default: return true;
+    }
+}
+
+static bool all_ran(const struct iocsq_kind *k) {
+    bool all = true;
+    for (uint32_t which = 0; which < IOCSQ_CALLBACKS; which++) {
+        if (k->calls[which] == 0 && needs_call(&k->policy, which)) {
+            char what[64];
+            snprintf(what, sizeof what, "%s never ran", callback_name(k, which));
+            all = complain(k, what, "this run says nothing of it");
+        }
+    }
+    return all;
+}
+
+static bool kind_was_tested(const struct iocsq_kind *k) {
+    const IOCSQ_POLICY *policy = &k->policy;
+    bool all = true;
+    if (policy->NeverInserts) {
+        return true;
+    }
+    if (k->inserted == 0) {
+        return complain(k, "nothing was inserted",
+                        "no request reached the queue (do the driver's control codes stand in DriverControls?)");
+    }
+    if (k->removed == 0 && !policy->NeverRemoves) {
+        all = complain(k, "nothing was removed", "if the driver never removes an IRP, its policy says NeverRemoves");
+    }
+    if (k->cancelled == 0 && !policy->NeverCancelled) {
+        all = complain(k, "nothing was cancelled", "if no IRP stays in the queue for long enough, its policy says "
+                                                   "NeverCancelled");
+    }
+    return all_ran(k) && all;
+}
+
+BOOLEAN IocsqCoverage(VOID) {
+    bool all = true;
+    print_table();
+    fflush(stdout);
+    if (kind_count == 0) {
+        return complain(NULL, "no queue was initialized", "the driver called neither IoCsqInitialize nor "
+                                                          "IoCsqInitializeEx");
+    }
+    for (uint32_t at = 0; at < kind_count; at++) {
+        all = kind_was_tested(&kinds[at]) && all;
+    }
+    return all;
+}

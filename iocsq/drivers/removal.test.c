@@ -1,0 +1,8 @@
+/* What the callbacks of removal.c mean is the usual; reads wait for a write. */
+#include "iocsq_test.h"
+
+static BOOLEAN Waits(PIRP Irp) {
+    return IoGetCurrentIrpStackLocation(Irp)->MajorFunction == IRP_MJ_READ;
+}
+extern const IOCSQ_POLICY DriverPolicy;
+const IOCSQ_POLICY DriverPolicy = { .Waits = Waits };

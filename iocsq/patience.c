@@ -1,0 +1,28 @@
+/* Requests that wait for ever. A cancel or a cleanup ends any request of a queue, so a wake-up that was lost is seen only
+ * where neither comes: each request has to end in its time, unless the policy says that it may wait. */
+#include "queues.h"
+
+enum { MILLISECOND = 1000000, USUAL = 2000, LOOKS = 5, BETWEEN = 370 }; /* BETWEEN: microseconds, no timer's period */
+
+/* The rest of the time in which a request is to end, in milliseconds. */
+static ULONG rest_of(const struct iocsq_irp *i, ULONG within) {
+    uint64_t passed = (iocsq_now() - i->sent) / MILLISECOND;
+    return passed < within ? (ULONG)(within - passed) : 1;
+}
+
+BOOLEAN IocsqExpectEnd(IOCSQ_REQUEST *Request) {
+    struct iocsq_irp *i = (struct iocsq_irp *)(void *)Request;
+    IOCSQ_POLICY policy = iocsq_policy_of(i);
+    ULONG within = policy.Within ? policy.Within : (ULONG)USUAL;
+    for (int look = 0; look < LOOKS; look++) { /* more than once, since a timer may be at work just now */
+        if (iocsq_wait_for(i, rest_of(i, within))) {
+            return TRUE;
+        }
+        if (policy.Waits && policy.Waits(&i->irp)) {
+            return FALSE;
+        }
+        IocsqPause(BETWEEN);
+    }
+    iocsq_disagree(i, "irp %u (major %02x) %s, and waits for ever: a wake-up was lost, or it may wait and the policy "
+                      "doesn't say so (Waits)", i->index, i->major, iocsq_place_name(i));
+}

@@ -1,0 +1,149 @@
+/* Where in the driver a report comes from: the driver's calls on the stack, by file and line, as addr2line of binutils
+ * reads them from the program; and the callback that is to blame, if one is, since that has returned. Nothing is
+ * printed where the program has no such lines (-g), or where there is no addr2line. */
+#define _GNU_SOURCE
+#include "internal.h"
+
+#include <execinfo.h>
+#include <link.h>
+#include <stdlib.h>
+#include <unistd.h>
+
+enum { FRAMES = 48, SHOWN = 6, TEXT = 512 };
+
+/* The program itself is the first that is named. */
+static int note_program(struct dl_phdr_info *info, size_t size, void *base) {
+    (void)size;
+    *(uintptr_t *)base = info->dlpi_addr;
+    return 1;
+}
+
+extern char __executable_start[], etext[];
+
+static bool is_in_program(const void *at) {
+    return (uintptr_t)at >= (uintptr_t)__executable_start && (uintptr_t)at < (uintptr_t)etext;
+}
+
+/* The command that names the places of the addresses which are added. */
+static void begin_command(char *command, size_t size) {
+    snprintf(command, size, "2>/dev/null addr2line -a -f -i -e /proc/%ld/exe", (long)getpid());
+}
+
+static void add_address(char *command, size_t size, uintptr_t address) {
+    size_t used = strlen(command);
+    uintptr_t base = 0;
+    dl_iterate_phdr(note_program, &base);
+    snprintf(command + used, size - used, " 0x%lx", (unsigned long)(address - base));
+}
+
+/* That of the stack. An address there is that of the instruction after a call, but for the one at which a signal came. */
+static void make_command(char *command, size_t size, bool in_signal) {
+    void *frames[FRAMES];
+    int count = backtrace(frames, FRAMES);
+    begin_command(command, size);
+    for (int at = 1; at < count; at++) {
+        bool is_exact = in_signal && !is_in_program(frames[at - 1]);
+        if (is_in_program(frames[at])) {
+            add_address(command, size, (uintptr_t)frames[at] - !is_exact);
+        }
+    }
+}
+
+/* Whether a file is of the checker, of its programs or of its headers: all that isn't the driver. */
+static bool is_own(const char *path) {
+    static const char here[] = __FILE__;
+    size_t folder = (size_t)(strrchr(here, '/') ? strrchr(here, '/') + 1 - here : 0);
+    const char *name = strrchr(path, '/') ? strrchr(path, '/') + 1 : path;
+    const char *headers = strstr(path, "/iocsq/");
+    if (strncmp(path, here, folder) == 0) {
+        const char *rest = path + folder;
+        return rest == name || (strncmp(rest, "tests/", 6) == 0 && rest + 6 == name && strstr(name, ".cpp") == NULL);
+    }
+    return headers && headers + strlen("/iocsq/") == name && strstr(name, ".h:");
+}
+
+/* Whether the line is known: if not, it is a question mark or 0. */
+static bool has_line(const char *place) {
+    const char *colon = strrchr(place, ':');
+    return colon && colon[1] >= '1' && colon[1] <= '9';
+}
+
+static void cut_line(char *text) {
+    text[strcspn(text, "\n")] = '\0';
+    char *more = strstr(text, " (discriminator");
+    if (more) {
+        *more = '\0';
+    }
+}
+
+/* A place in the driver. */
+struct place {
+    char function[TEXT];
+    char text[TEXT];
+};
+
+/* Reads the next: a function and a place, and before the first of each address a line of its own. */
+static bool read_place(FILE *from, struct place *place) {
+    while (fgets(place->function, sizeof place->function, from)) {
+        if (strncmp(place->function, "0x", 2) == 0 || !fgets(place->text, sizeof place->text, from)) {
+            continue;
+        }
+        cut_line(place->function);
+        cut_line(place->text);
+        if (has_line(place->text) && !is_own(place->text)) {
+            return true;
+        }
+    }
+    return false;
+}
+
+static void print_place(const char *how, const struct place *place) {
+    const char *slash = strrchr(place->text, '/');
+    fprintf(stderr, "  %s %s, in %s\n", how, slash ? slash + 1 : place->text, place->function);
+}
+
+static void print_stack(bool in_signal) {
+    char command[FRAMES * 24];
+    struct place place;
+    uint32_t shown = 0;
+    make_command(command, sizeof command, in_signal);
+    FILE *from = popen(command, "r");
+    while (from && shown < SHOWN && read_place(from, &place)) {
+        print_place(shown++ ? "called by" : "at", &place);
+    }
+    if (from) {
+        pclose(from);
+    }
+}
+
+/* Prints where a function is: the last place of its address, since those before are of what is expanded in it. */
+static void print_function(uintptr_t address) {
+    char command[FRAMES * 24];
+    struct place place;
+    bool found = false;
+    begin_command(command, sizeof command);
+    add_address(command, sizeof command, address);
+    FILE *from = popen(command, "r");
+    while (from && read_place(from, &place)) {
+        found = true;
+    }
+    if (found) {
+        print_place("the callback at", &place);
+    }
+    if (from) {
+        pclose(from);
+    }
+}
+
+void iocsq_show_places(bool in_signal) {
+    print_stack(in_signal);
+    if (iocsq_own.blamed) {
+        print_function(iocsq_own.blamed);
+    }
+}
+
+/* The first backtrace loads a library, which isn't for a signal's handler. */
+void iocsq_prepare_places(void) {
+    void *frame;
+    backtrace(&frame, 1);
+}

@@ -1,0 +1,129 @@
+# The tests of the bounded mode, for iocsq/run-tests, whose variables and functions they use: source this.
+# shellcheck disable=SC2154,SC2317 # iocsq/run-tests sets the variables, and expect calls the functions
+
+# The bounded mode by itself: as many schedules as there are.
+run_explore() {
+  local objects arguments
+  if ! objects=$(iocsq_objects "$@" 2>"$work/errors") ||
+    ! "$@" "$objects"/*.o "$objects/tests/explore.o" "${library[@]:-$objects/libcsq_plain.a}" -pthread \
+      -o "$work/explore" 2>>"$work/errors"; then
+    fail "$* explore: not compiled" "$work/errors"
+    return
+  fi
+  for arguments in "1 5 2" "2 3 0" "2 3 1" "2 3 2" "2 4 3" "3 3 1" "3 4 2" "2 3 8"; do
+    read -ra numbers <<<"$arguments"
+    expect "$* explore: threads, points, preemptions $arguments" "$work/explore" "${numbers[@]}"
+  done
+}
+
+# ends_with LINE COMMAND..: it ends well, and LINE is a pattern for its last line.
+ends_with() {
+  local line=$1
+  shift
+  "$@" >"$work/said" 2>&1
+  local status=$?
+  cat "$work/said"
+  ((status == 0)) && tail -1 "$work/said" | grep -qxE "$line"
+}
+
+# Each schedule of some scenarios with at most one preemption, for each right driver; of each scenario for one of them.
+# With the address sanitizer each run is a process of its own: the schedules are as many.
+run_bounded_right() {
+  local driver program=$work/bounded count scenarios=$top/iocsq/scenarios
+  for driver in "${drivers[@]}"; do
+    if ! TEST=bounded iocsq_build "$program" "$driver" 0 "${compilers[0]}" -O1 2>"$work/errors"; then
+      fail "bounded, $driver: not compiled" "$work/errors"
+    else
+      expect "bounded, $driver: at most 1 preemption" ends_with \
+        "[0-9]+ schedules, at most 1 preemption, all run, none wrong" "$program" 1 \
+        "$scenarios"/{cancel-insert,close-insert,meet,two-writes,control-wait,control-write}.txt
+    fi
+  done
+  TEST=bounded iocsq_build "$program" drivers/slots 0 "${compilers[0]}" -O1 &&
+    expect "bounded: each scenario" ends_with "[0-9]+ schedules, at most 1 preemption, all run, none wrong" "$program" 1 \
+      "$scenarios"/*.txt &&
+    expect "bounded: at most 2 preemptions" ends_with "[0-9]+ schedules, at most 2 preemptions, all run, none wrong" \
+      "$program" 2 "$scenarios"/{cancel,close}-insert.txt
+  count=$(tail -1 "$work/said")
+  if [[ $addressed ]] && TEST=bounded iocsq_build "$program" drivers/slots 0 "$addressed" "${address[@]}"; then
+    expect "bounded: as many with the address sanitizer" ends_with "$count" "$program" 2 \
+      "$scenarios"/{cancel,close}-insert.txt
+    TEST=bounded iocsq_build "$program" drivers/manners 2 "$addressed" "${address[@]}" &&
+      expect "bounded: its report" ends_so "$sanitizer" "use-after-poison" "1 wrong$" "$program" 1 \
+        "$scenarios/cancel-removal.txt"
+  fi
+}
+
+# bounded_wrong PROGRAM SCENARIO PREEMPTIONS TEXT: a wrong driver's schedule with so many preemptions, and none with
+# fewer, has this report; and the same when it is run alone.
+bounded_wrong() {
+  local program=$1 scenario=$2 preemptions=$3 text=$4 schedule status
+  "$program" 2 "$scenario" >"$work/said" 2>"$work/report"
+  status=$?
+  cat "$work/said" "$work/report"
+  schedule=$(sed -nE 's/.*--schedule ([0-9:,]+) shows it again$/\1/p' "$work/said")
+  ((status == disagrees)) && grep -qE -- "$text" "$work/report" &&
+    grep -qE "is wrong, with $preemptions preemptions? and none with fewer" "$work/said" &&
+    tail -1 "$work/said" | grep -qxE "[0-9]+ schedules, at most $preemptions preemptions?, not all run, 1 wrong" ||
+    return 1
+  "$program" --schedule "$schedule" "$scenario" >"$work/said" 2>"$work/again"
+  (($? == disagrees)) && cmp "$work/report" "$work/again"
+}
+
+# The wrong drivers of tests/bounded.txt: a driver, the place where it is wrong, a scenario, the fewest preemptions of a
+# schedule that shows it, and what its report says.
+run_bounded_wrong() {
+  local driver number scenario preemptions text rows=$top/iocsq/tests/bounded.txt
+  if [[ ! -s $rows ]]; then
+    fail "there are no wrong drivers in $rows"
+    return
+  fi
+  while read -r driver number scenario preemptions text; do
+    if TEST=bounded iocsq_build "$work/bounded" "$driver" "$number" "$@" 2>"$work/errors"; then
+      expect "bounded, $driver $number: $scenario, $preemptions preemptions" bounded_wrong "$work/bounded" \
+        "$top/iocsq/scenarios/$scenario.txt" "$preemptions" "$text"
+    else
+      fail "bounded, $driver $number: not compiled" "$work/errors"
+    fi
+  done <"$rows"
+}
+
+# What a scenario can't say is named, with its line.
+run_bounded_refusals() {
+  local line text program=$work/bounded
+  TEST=bounded iocsq_build "$program" drivers/slots 0 "$@" || return
+  while IFS='|' read -r line text; do
+    printf '# a scenario\nopen f\n%s\n' "$line" >"$work/scenario"
+    expect "bounded: $line" refused "$work/scenario:3: $text" "$program" 1 "$work/scenario"
+  done <<'END'
+1 send f|not a call: send
+1 read g|no line before opens this file object: g
+read f|only open stands without a thread, as in '1 read f': read
+4 read f|a thread is 1, 2 or 3: 4
+1 pause soon|not a number: soon
+1 cancel|the name of a request is missing
+1 read f r s|a word too many: s
+END
+  expect "bounded: no scenario" refused "there is no such scenario" "$program" 1 "$work/none"
+  expect "bounded: no number" refused "argument 1 is a number from 0 to 8" "$program" many "$work/scenario"
+  printf 'open f\n1 read f\n' >"$work/scenario"
+  expect "bounded: no schedule" refused "no schedule: all" "$program" --schedule all "$work/scenario"
+  expect "bounded: another's schedule" refused "it is another test's" "$program" --schedule 99:1 "$work/scenario"
+  printf 'open f\n1 close f\n' >"$work/scenario"
+  expect "bounded: nothing is inserted" refused "nothing was inserted" "$program" 1 "$work/scenario"
+}
+
+# With `bounded` beside the storm the shortest is the schedule with the fewest preemptions.
+run_witness() {
+  local folder=$work/witness
+  mkdir -p "$folder"
+  if ! { iocsq_build "$folder/storm" drivers/manners 6 "$@" && TEST=bounded iocsq_build "$folder/bounded" \
+    drivers/manners 6 "$@"; } 2>"$work/errors"; then
+    fail "the shortest, of bounded: not compiled" "$work/errors"
+    return
+  fi
+  expect "the shortest, of bounded: 2 preemptions" ends_so 0 \
+    "^The shortest, with 2 preemption.* and none with fewer: .*/bounded --schedule [0-9:,]+ .*/close-insert.txt$" \
+    "went into the queue after IRP_MJ_CLEANUP" "$top/iocsq/shortest" "$folder/storm" "$work/schedule"
+  expect "the shortest, of bounded: its schedule" grep -qx "p1 arm 0" "$work/schedule"
+}

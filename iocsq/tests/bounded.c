@@ -1,0 +1,427 @@
+/* Every schedule of small scenarios with at most so many preemptions:
+ *
+ *     bounded PREEMPTIONS SCENARIO..             each scenario is a file; the last line sums all up
+ *     bounded --schedule SCHEDULE SCENARIO       this one schedule alone, as the report of a wrong one names it
+ *
+ * It ends with status 0, with that of the first wrong schedule (70 after a report), and with 71 where no scenario
+ * inserted anything. 2: an argument or a file is wrong.
+ *
+ * A scenario, of threads 1 to 3 (a line that begins with # says nothing):
+ *
+ *     open f                 before the threads begin: a file object, named f
+ *     1 open g               by thread 1
+ *     1 read f r             thread 1 reads from f, and the request is named r; a name isn't needed
+ *     1 write f              and writes
+ *     1 control f 2 s        a device control with the second code of DriverControls (0x222004 is a code itself)
+ *     2 cancel r             thread 2 cancels r, once the driver has it
+ *     2 wait r               waits until r is completed
+ *     3 close f              closes f
+ *     3 pause 10             goes on after ten milliseconds
+ *
+ * A request to a file object that isn't open, or is being closed, isn't sent. In the end all file objects are closed, and the driver is
+ * unloaded. Where its policy says which requests may wait (Waits), each has to end before that, as in patient.c.
+ */
+#define _POSIX_C_SOURCE 200809L
+#include "program.h"
+
+#include <signal.h>
+#include <string.h>
+#include <time.h>
+
+#define USAGE "bounded PREEMPTIONS SCENARIO.. or bounded --schedule SCHEDULE SCENARIO"
+enum { THREADS = 3, CALLS = 16, FILES = 8, REQUESTS = 16, NAME = 16, LINE = 256 };
+enum { BYTES = 16, LENGTH = 2, PATIENCE = 2000 };
+
+struct file {
+    char name[NAME];
+    PFILE_OBJECT object; /* null: it isn't open */
+};
+struct request {
+    char name[NAME];
+    IOCSQ_REQUEST *sent; /* null: it isn't */
+    KEVENT known;        /* signaled once it is sent, or won't be */
+    unsigned char buffer[BYTES];
+};
+struct call;
+typedef void CALL(const struct call *call);
+struct call {
+    CALL *make;
+    struct file *file;
+    struct request *request;
+    ULONG number; /* of a control, or milliseconds */
+};
+struct thread {
+    struct call calls[CALLS];
+    uint32_t count;
+};
+
+static PDRIVER_OBJECT driver;
+static struct file files[FILES];
+static struct request requests[REQUESTS];
+static struct thread threads[THREADS];
+static uint32_t file_count, request_count;
+static struct call opened[FILES]; /* before the threads begin */
+static uint32_t opened_count;
+
+/* ---- The calls ---- */
+static void open_file(const struct call *call) {
+    call->file->object = IocsqOpen(driver); /* null where the driver refuses: it may allow one at a time */
+}
+
+static void make_known(IOCSQ_REQUEST *sent, PVOID context) {
+    struct request *r = context;
+    r->sent = sent;
+    KeSetEvent(&r->known, IO_NO_INCREMENT, FALSE);
+}
+
+/* The file object to which the request may be sent; then it is made known first. Null: it is being closed. */
+static PFILE_OBJECT begin_request(const struct call *call) {
+    PFILE_OBJECT file = call->file->object; /* another thread may close it meanwhile */
+    if (!file || !IocsqReference(file)) {
+        KeSetEvent(&call->request->known, IO_NO_INCREMENT, FALSE);
+        return NULL;
+    }
+    IocsqHandOver(file);
+    IocsqShowNext(make_known, call->request);
+    return file;
+}
+
+static void send_request(const struct call *call, UCHAR major) {
+    PFILE_OBJECT file = begin_request(call);
+    if (file) {
+        IocsqSend(file, major, call->request->buffer, LENGTH);
+    }
+}
+
+static void read_file(const struct call *call) {
+    send_request(call, IRP_MJ_READ);
+}
+
+static void write_file(const struct call *call) {
+    send_request(call, IRP_MJ_WRITE);
+}
+
+static ULONG code_of(ULONG number) {
+    if (number > 1000) {
+        return number;
+    }
+    return number <= count_controls() ? DriverControls[number - 1] : (ULONG)ANY_CONTROL;
+}
+
+static void control_file(const struct call *call) {
+    PFILE_OBJECT file = begin_request(call);
+    if (file) {
+        IocsqControl(file, code_of(call->number), call->request->buffer, LENGTH, BYTES);
+    }
+}
+
+static void await_request(struct request *r) {
+    KeWaitForSingleObject(&r->known, Executive, KernelMode, FALSE, NULL);
+}
+
+static void cancel_request(const struct call *call) {
+    await_request(call->request);
+    if (call->request->sent) {
+        IocsqCancel(call->request->sent);
+    }
+}
+
+static void wait_for_request(const struct call *call) {
+    await_request(call->request);
+    if (call->request->sent) {
+        IocsqWait(call->request->sent, PATIENCE);
+    }
+}
+
+static void close_file(const struct call *call) {
+    PFILE_OBJECT file = call->file->object;
+    call->file->object = NULL;
+    if (file) {
+        IocsqClose(file);
+    }
+}
+
+static void pause_thread(const struct call *call) {
+    IocsqPause(1000 * call->number);
+}
+
+/* ---- A scenario's file ---- */
+/* What a call names: a file object, a number, a request. */
+static const struct verb {
+    const char *name;
+    CALL *make;
+    bool file, number, request;
+} verbs[] = {
+    { "open", open_file, true, false, false },      { "close", close_file, true, false, false },
+    { "read", read_file, true, false, true },       { "write", write_file, true, false, true },
+    { "control", control_file, true, true, true },  { "cancel", cancel_request, false, false, true },
+    { "wait", wait_for_request, false, false, true }, { "pause", pause_thread, false, true, false },
+};
+
+struct place {
+    const char *path;
+    int line;
+};
+
+static void refuse(struct place at, const char *what, const char *word) {
+    fprintf(stderr, "%s:%d: %s%s%s\n", at.path, at.line, what, word ? ": " : "", word ? word : "");
+    exit(2);
+}
+
+static const struct verb *find_verb(struct place at, const char *word) {
+    for (size_t each = 0; word && each < sizeof verbs / sizeof *verbs; each++) {
+        if (strcmp(word, verbs[each].name) == 0) {
+            return &verbs[each];
+        }
+    }
+    refuse(at, "not a call", word ? word : "nothing");
+    return NULL;
+}
+
+static const char *next_word(void) {
+    return strtok(NULL, " \t\r\n");
+}
+
+static void copy_name(struct place at, char *to, const char *word) {
+    if (strlen(word) >= NAME) {
+        refuse(at, "a name of more than 15 characters", word);
+    }
+    strcpy(to, word);
+}
+
+static struct file *file_of(struct place at, const char *word, bool opens) {
+    if (!word) {
+        refuse(at, "the name of a file object is missing", NULL);
+    }
+    for (uint32_t each = 0; each < file_count; each++) {
+        if (strcmp(files[each].name, word) == 0) {
+            return &files[each];
+        }
+    }
+    if (!opens) {
+        refuse(at, "no line before opens this file object", word);
+    }
+    if (file_count == FILES) {
+        refuse(at, "more than 8 file objects", NULL);
+    }
+    copy_name(at, files[file_count].name, word);
+    return &files[file_count++];
+}
+
+/* By its name, which may stand in a later line; without a name a new one. */
+static struct request *request_of(struct place at, const char *word) {
+    for (uint32_t each = 0; word && each < request_count; each++) {
+        if (strcmp(requests[each].name, word) == 0) {
+            return &requests[each];
+        }
+    }
+    if (request_count == REQUESTS) {
+        refuse(at, "more than 16 requests", NULL);
+    }
+    copy_name(at, requests[request_count].name, word ? word : "");
+    KeInitializeEvent(&requests[request_count].known, NotificationEvent, FALSE);
+    return &requests[request_count++];
+}
+
+static ULONG number_of(struct place at, const char *word) {
+    char *end = NULL;
+    unsigned long number = word ? strtoul(word, &end, 0) : 0;
+    if (!end || *end || number < 1 || number > 0xFFFFFFFF) {
+        refuse(at, "not a number", word ? word : "nothing");
+    }
+    return (ULONG)number;
+}
+
+static struct call read_call(struct place at, const struct verb *verb) {
+    struct call call = { verb->make, NULL, NULL, 0 };
+    if (verb->file) {
+        call.file = file_of(at, next_word(), verb->make == open_file);
+    }
+    if (verb->number) {
+        call.number = number_of(at, next_word());
+    }
+    if (verb->request) {
+        const char *word = next_word();
+        if (!word && !verb->file) {
+            refuse(at, "the name of a request is missing", NULL);
+        }
+        call.request = request_of(at, word);
+    }
+    const char *left = next_word();
+    if (left) {
+        refuse(at, "a word too many", left);
+    }
+    return call;
+}
+
+static void add_call(struct place at, const char *word) {
+    bool numbered = word[0] >= '0' && word[0] <= '9';
+    if (numbered && (word[0] < '1' || word[0] > '0' + THREADS || word[1])) {
+        refuse(at, "a thread is 1, 2 or 3", word);
+    }
+    const struct verb *verb = find_verb(at, numbered ? next_word() : word);
+    if (!numbered && verb->make != open_file) {
+        refuse(at, "only open stands without a thread, as in '1 read f'", word);
+    }
+    struct call call = read_call(at, verb);
+    struct thread *thread = &threads[numbered ? word[0] - '1' : 0];
+    if (!numbered) {
+        if (opened_count == FILES) {
+            refuse(at, "more than 8 file objects", NULL);
+        }
+        opened[opened_count++] = call;
+    } else if (thread->count == CALLS) {
+        refuse(at, "more than 16 calls of a thread", NULL);
+    } else {
+        thread->calls[thread->count++] = call;
+    }
+}
+
+static void read_scenario(const char *path) {
+    char line[LINE];
+    struct place at = { path, 0 };
+    FILE *in = fopen(path, "r");
+    if (!in) {
+        refuse(at, "there is no such scenario", NULL);
+    }
+    memset(files, 0, sizeof files);
+    memset(requests, 0, sizeof requests);
+    memset(threads, 0, sizeof threads);
+    file_count = request_count = opened_count = 0;
+    while (fgets(line, sizeof line, in)) {
+        at.line++;
+        const char *word = strtok(line, " \t\r\n");
+        if (word && word[0] != '#') {
+            add_call(at, word);
+        }
+    }
+    fclose(in);
+}
+
+/* ---- A run ---- */
+static void *run_thread(void *context) {
+    const struct thread *thread = context;
+    for (uint32_t at = 0; at < thread->count; at++) {
+        thread->calls[at].make(&thread->calls[at]);
+    }
+    return NULL;
+}
+
+static void expect_ends(void) {
+    for (uint32_t at = 0; at < request_count; at++) {
+        if (requests[at].sent && &DriverPolicy && DriverPolicy.Waits) {
+            IocsqExpectEnd(requests[at].sent);
+        }
+    }
+}
+
+static void close_all(void) {
+    for (uint32_t at = 0; at < file_count; at++) {
+        struct call call = { close_file, &files[at], NULL, 0 };
+        close_file(&call);
+    }
+}
+
+static void reap_all(void) {
+    for (uint32_t at = 0; at < request_count; at++) {
+        if (requests[at].sent && !IocsqWait(requests[at].sent, 0)) {
+            IocsqComplain(requests[at].sent, "outlived its file object");
+        }
+        if (requests[at].sent) {
+            IocsqFree(requests[at].sent);
+        }
+    }
+}
+
+static void open_first(void) {
+    for (uint32_t at = 0; at < opened_count; at++) {
+        open_file(&opened[at]);
+    }
+}
+
+static void run(void *context) {
+    IOCSQ_THREAD started[THREADS];
+    ULONG count = 0;
+    (void)context;
+    driver = load_driver("bounded");
+    open_first();
+    IocsqChoices();
+    for (uint32_t at = 0; at < THREADS; at++) {
+        if (threads[at].count) {
+            started[count++] = IocsqThread(run_thread, &threads[at]);
+        }
+    }
+    IocsqJoinAll(started, count);
+    expect_ends();
+    close_all();
+    reap_all();
+    IocsqUnload(driver);
+}
+
+static const char *preemptions_of(ULONG count) {
+    static char text[32];
+    snprintf(text, sizeof text, "%u preemption%s", count, count == 1 ? "" : "s");
+    return text;
+}
+
+static double seconds(void) {
+    struct timespec now;
+    clock_gettime(CLOCK_MONOTONIC, &now);
+    return (double)now.tv_sec + (double)now.tv_nsec / 1e9;
+}
+
+/* Prints what came of a scenario. Whether something was inserted. */
+static bool explore(const char *path, ULONG preemptions, ULONG64 *schedules) {
+    read_scenario(path);
+    double begun = seconds();
+    IOCSQ_EXPLORED explored = IocsqExplore(run, NULL, preemptions);
+    *schedules += explored.Schedules;
+    if (explored.Status == 128 + SIGABRT) {
+        printf("%s: iocsq itself ended schedule %llu\n", path, (unsigned long long)explored.Schedules);
+        printf("%llu schedules, at most %s, not all run\n", (unsigned long long)*schedules,
+               preemptions_of(explored.Preemptions));
+        exit(explored.Status);
+    }
+    if (explored.Status != 0) {
+        printf("%s: schedule %llu is wrong, with %s and none with fewer: --schedule %s shows it again\n", path,
+               (unsigned long long)explored.Schedules, preemptions_of(explored.Preemptions),
+               explored.Schedule[0] ? explored.Schedule : "0:0");
+        printf("%llu schedules, at most %s, not all run, 1 wrong\n", (unsigned long long)*schedules,
+               preemptions_of(explored.Preemptions));
+        exit(explored.Status);
+    }
+    printf("%s: %llu schedules, %.0f in a second%s\n", path, (unsigned long long)explored.Schedules,
+           (double)explored.Schedules / (seconds() - begun + 1e-9), explored.Inserted ? "" : ", nothing was inserted");
+    return explored.Inserted > 0;
+}
+
+static int explore_all(int argc, char **argv) {
+    ULONG preemptions = (ULONG)number_of_argument(argc, argv, 1, 0, 8, USAGE);
+    ULONG64 schedules = 0;
+    bool inserted = false;
+    for (int at = 2; at < argc; at++) {
+        inserted = explore(argv[at], preemptions, &schedules) || inserted;
+    }
+    if (!inserted) {
+        fprintf(stderr, "iocsq: nothing was inserted: no scenario sent what the driver queues\n");
+    }
+    printf("%llu schedules, at most %s, all run, none wrong%s\n", (unsigned long long)schedules,
+           preemptions_of(preemptions), inserted ? "" : ", and nothing inserted");
+    return inserted ? 0 : IOCSQ_TESTED_NOTHING;
+}
+
+int main(int argc, char **argv) {
+    bool replays = argc == 4 && strcmp(argv[1], "--schedule") == 0;
+    if (argc < 3) {
+        fprintf(stderr, "%s\n", USAGE);
+        return 2;
+    }
+    IocsqBounded();
+    if (!replays) {
+        return explore_all(argc, argv);
+    }
+    read_scenario(argv[3]);
+    IocsqReplay(run, NULL, argv[2]);
+    printf("nothing was wrong in this schedule\n");
+    return 0;
+}

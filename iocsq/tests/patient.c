@@ -1,0 +1,108 @@
+/* A patient test: threads send a few requests each, and nobody cancels or closes. Each request has to end in its time,
+ * or the driver's policy says that it may wait (Waits). Then the next round comes, on other file objects:
+ *
+ *     patient THREADS ROUNDS SEED    one thread runs at a time, as the seed draws
+ *
+ * It ends as the storm does; with 71 also where no request was queued.
+ */
+#include "program.h"
+
+#define USAGE "patient THREADS ROUNDS SEED"
+enum { THREADS = 6, ROUNDS = 40, FILES = 2, REQUESTS = 2, BYTES = 16, LONGEST = 4, SECONDS = 100 };
+
+static PDRIVER_OBJECT driver;
+static PFILE_OBJECT files[FILES];
+static unsigned long ended, waiting;
+
+struct user {
+    uint32_t dice;
+    IOCSQ_REQUEST *requests[REQUESTS];
+    unsigned char buffers[REQUESTS][BYTES];
+};
+static struct user users[THREADS];
+
+static IOCSQ_REQUEST *send(struct user *u, unsigned char *buffer) {
+    PFILE_OBJECT file = files[next_of(&u->dice, FILES)];
+    ULONG length = 1 + next_of(&u->dice, LONGEST);
+    uint32_t count = count_controls(), act = next_of(&u->dice, 8);
+    if (act < 2 || (act < 6 && count > 1)) { /* of a driver with codes most requests are controls */
+        ULONG code = count ? DriverControls[next_of(&u->dice, count)] : (ULONG)ANY_CONTROL;
+        return IocsqControl(file, code, buffer, length, BYTES);
+    }
+    return IocsqSend(file, act % 2 ? IRP_MJ_READ : IRP_MJ_WRITE, buffer, length);
+}
+
+static void *use(void *user) {
+    struct user *u = user;
+    uint32_t count = 1 + next_of(&u->dice, REQUESTS);
+    for (uint32_t at = 0; at < count; at++) {
+        u->requests[at] = send(u, u->buffers[at]);
+    }
+    return NULL;
+}
+
+/* `settle` is called for each request of the round. */
+static void for_each_request(int threads, void (*settle)(IOCSQ_REQUEST **request)) {
+    for (int at = 0; at < threads * REQUESTS; at++) {
+        IOCSQ_REQUEST **request = &users[at / REQUESTS].requests[at % REQUESTS];
+        if (*request) {
+            settle(request);
+        }
+    }
+}
+
+static void expect_end(IOCSQ_REQUEST **request) {
+    BOOLEAN has_ended = IocsqExpectEnd(*request);
+    ended += has_ended;
+    waiting += !has_ended;
+}
+
+static void reap(IOCSQ_REQUEST **request) {
+    if (!IocsqWait(*request, 0)) {
+        IocsqComplain(*request, "outlived its file object");
+    }
+    IocsqFree(*request);
+    *request = NULL;
+}
+
+static void run_round(int threads) {
+    IOCSQ_THREAD started[THREADS];
+    for (int at = 0; at < FILES; at++) {
+        files[at] = IocsqOpen(driver);
+    }
+    for (int at = 0; at < threads; at++) {
+        started[at] = IocsqThread(use, &users[at]);
+    }
+    for (int at = 0; at < threads; at++) {
+        IocsqJoin(started[at]);
+    }
+    for_each_request(threads, expect_end);
+    for (int at = 0; at < FILES; at++) {
+        IocsqClose(files[at]);
+    }
+    for_each_request(threads, reap);
+}
+
+int main(int argc, char **argv) {
+    int threads = (int)number_of_argument(argc, argv, 1, 1, THREADS, USAGE);
+    int rounds = (int)number_of_argument(argc, argv, 2, 1, ROUNDS, USAGE);
+    uint32_t seed = (uint32_t)number_of_argument(argc, argv, 3, 1, 1000000000, USAGE);
+    IocsqLimit(SECONDS);
+    IocsqTurns(seed);
+    driver = load_driver("patient");
+    for (int at = 0; at < threads; at++) {
+        users[at].dice = (uint32_t)at * 7919u + seed * 104729u + 1;
+    }
+    for (int at = 0; at < rounds; at++) {
+        run_round(threads);
+    }
+    IocsqUnload(driver);
+    printf("inserted %llu, %lu requests ended in their time, %lu waited as they may\n",
+           (unsigned long long)IocsqCounts().Inserted, ended, waiting);
+    if (IocsqCounts().Inserted == 0) {
+        fprintf(stderr, "iocsq: nothing was inserted: no request reached a queue (do the driver's control codes stand in "
+                        "DriverControls?)\n");
+        return IOCSQ_TESTED_NOTHING;
+    }
+    return 0;
+}

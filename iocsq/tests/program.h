@@ -1,0 +1,57 @@
+/* What the programs share that test any driver: storm.c, patient.c, bounded.c. */
+#ifndef PROGRAM_H
+#define PROGRAM_H
+#include "iocsq_test.h"
+
+#include <stdbool.h>
+#include <stdio.h>
+#include <stdlib.h>
+
+#define CONTROL(function) CTL_CODE(FILE_DEVICE_UNKNOWN, function, METHOD_BUFFERED, FILE_ANY_ACCESS)
+#define ANY_CONTROL CONTROL(0x801)
+
+extern DRIVER_INITIALIZE DriverEntry;
+/* What a driver's callbacks mean, if it isn't the usual. */
+extern const IOCSQ_POLICY DriverPolicy __attribute__((weak));
+/* The control codes that it knows, and a 0 after them. */
+extern const ULONG DriverControls[] __attribute__((weak));
+
+static inline uint32_t count_controls(void) {
+    uint32_t count = 0;
+    while (DriverControls && DriverControls[count]) {
+        count++;
+    }
+    return count;
+}
+
+static inline uint32_t next_of(uint32_t *dice, uint32_t below) {
+    *dice ^= *dice << 13;
+    *dice ^= *dice >> 17;
+    *dice ^= *dice << 5;
+    return *dice % below;
+}
+
+static inline PDRIVER_OBJECT load_driver(const char *program) {
+    if (&DriverPolicy) {
+        IocsqSetPolicy(NULL, &DriverPolicy);
+    }
+    PDRIVER_OBJECT driver = IocsqLoad(DriverEntry);
+    if (!driver) {
+        fprintf(stderr, "%s: the driver wasn't loaded\n", program);
+        exit(1);
+    }
+    return driver;
+}
+
+/* An argument of the program, which is a number. */
+static inline long number_of_argument(int argc, char **argv, int at, long least, long most, const char *usage) {
+    char *end = NULL;
+    long value = at < argc ? strtol(argv[at], &end, 10) : -1;
+    if (!end || *end || value < least || value > most) {
+        fprintf(stderr, "%s: argument %d is a number from %ld to %ld\n", usage, at, least, most);
+        exit(2);
+    }
+    return value;
+}
+
+#endif

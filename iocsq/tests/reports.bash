@@ -1,0 +1,109 @@
+# The tests of what is printed: what never happened, where a report comes from, the results of `check`. For
+# iocsq/run-tests, whose variables and functions they use: source this.
+# shellcheck disable=SC2154,SC2317 # iocsq/run-tests sets the variables, and expect calls the functions
+
+# never_saw STATUS TEXT COMMAND..: the command ends with this status, and says on standard error what never happened.
+never_saw() {
+  local want=$1 text=$2 status
+  shift 2
+  "$@" >"$work/table" 2>"$work/said"
+  status=$?
+  cat "$work/table" "$work/said"
+  ((status == want)) && grep -q '^What happened, and how often:$' "$work/table" &&
+    if [[ $text ]]; then grep -qF -- "$text" "$work/said"; else [[ ! -s $work/said ]]; fi
+}
+
+# What never happened is named, unless the policy says that it never does.
+run_coverage() {
+  local way text
+  if ! TEST=coverage iocsq_build "$work/coverage" skeleton/driver 0 "$@" 2>"$work/errors"; then
+    fail "coverage: not compiled" "$work/errors"
+    return
+  fi
+  while read -r way text; do
+    expect "coverage: $way: $text" never_saw "$nothing" "iocsq: $text" "$work/coverage" "$way"
+    expect "coverage: $way, as the policy says" never_saw 0 "" "$work/coverage" "$way" never
+  done <<'END'
+nothing nothing was inserted
+completed nothing was cancelled
+completed CsqCompleteCanceledIrp never ran
+cancelled nothing was removed
+END
+  expect "coverage: reads are completed and cancelled" never_saw 0 "" "$work/coverage" both
+}
+
+# ends_so STATUS PATTERN PATTERN COMMAND..: it ends with this status, and its report has both.
+ends_so() {
+  local want=$1 first=$2 second=$3 status
+  shift 3
+  { "$@"; } >"$work/said" 2>&1
+  status=$?
+  cat "$work/said"
+  ((status == want)) && grep -qE -- "$first" "$work/said" && grep -qE -- "$second" "$work/said"
+}
+
+# Where a report comes from: the driver's lines, and those of what it did last where it isn't at work any more; the
+# history of an IRP whose last call was long ago; a bad address by either signal.
+run_places() {
+  local storm=$work/placed objects
+  need addr2line "places" || return
+  iocsq_build "$storm" drivers/reports 5 "$@" &&
+    expect "places: the driver's calls" ends_so "$disagrees" "^  at reports.c:[0-9]+, in Finish$" \
+      "^  called by reports.c:[0-9]+, in DispatchRead$" "$storm" 6 3000 1 turns
+  iocsq_build "$storm" drivers/slots 1 "$@" &&
+    expect "places: the callback before" ends_so "$disagrees" "^  the callback at slots.c:[0-9]+, in RemoveSlot$" \
+      "answered irp [0-9]+, and skipped irp" "$storm" 6 3000 1 turns
+  iocsq_build "$storm" drivers/priority 2 "$@" &&
+    expect "places: the peek" ends_so "$disagrees" "^  at priority.c:[0-9]+, in (Write|Cleanup)$" \
+      "^  the callback at priority.c:[0-9]+, in PeekRead$" "$storm" 6 3000 1 turns
+  iocsq_build "$storm" drivers/filter 3 "$@" &&
+    expect "places: a bad address" ends_so 139 "^iocsq: t[0-9]+: the driver used a bad address$" \
+      "^  (called by|at) filter.c:[0-9]+, in PassOn$" "$storm" 6 3000 1 turns
+  sed 's/^    PEXTENSION Extension = DeviceObject->.*/&\n    extern int raise(int); raise(7);/' \
+    "$top/iocsq/skeleton/driver.c" >"$work/bus.c"
+  objects=$(iocsq_objects "$@") && "$@" -std=c11 -w -I"$top/include/wdk" -c "$work/bus.c" -o "$work/bus.o" &&
+    "$@" "$objects"/*.o "$objects/tests/storm.o" "$work/bus.o" "${library[@]:-$objects/libcsq_plain.a}" -pthread \
+      -o "$storm" && expect "places: SIGBUS" ends_so 135 "^iocsq: t[0-9]+: the driver used a bad address$" \
+      "^  (called by|at) bus.c:[0-9]+, in DispatchRead$" "$storm" 6 3000 1 turns
+  iocsq_build "$storm" drivers/busy 2 "$@" &&
+    expect "places: the history of an IRP that was never completed" ends_so "$disagrees" "and was never completed$" \
+      "^ +[0-9]+ t[0-9]+ +CsqRemoveIrp\\(irp [0-9]+\\)$" "$storm" 6 3000 1 turns
+}
+
+# The results of a right driver, and what its three runs covered together: check_passes STORM
+check_passes() {
+  "$top/iocsq/check" --seeds "1 2" --junit "$work/junit.xml" "$1" >"$work/tap" && cat "$work/tap" &&
+    grep -q '^ok 3 - freely: inserted ' "$work/tap" && grep -qE '^#   CsqPeekNextIrp +[0-9]+$' "$work/tap" &&
+    is_xml "$work/junit.xml" && grep -q 'tests="3" failures="0" skipped="0"' "$work/junit.xml"
+}
+
+# A report, and a run that tested nothing, in the results of `check`: check_fails STORM STATUS
+check_fails() {
+  local status
+  "$top/iocsq/check" --seeds "1 2" --junit "$work/junit.xml" "$1" >"$work/tap" 2>"$work/said"
+  status=$?
+  cat "$work/tap" "$work/said"
+  ((status == $2)) && grep -q '^iocsq: ' "$work/said" && grep -qx '1\.\.3' "$work/tap" &&
+    grep -q '^not ok 1 - in turns, seed 1: ' "$work/tap" && ! grep -q '^ok' "$work/tap" &&
+    grep -qx "Bail out! Status $2" "$work/tap" && is_xml "$work/junit.xml" &&
+    grep -q 'tests="3" failures="1" skipped="2"' "$work/junit.xml" &&
+    grep -q '<failure message="iocsq: ' "$work/junit.xml"
+}
+
+is_xml() { ! command -v python3 || python3 -c 'import sys, xml.dom.minidom; xml.dom.minidom.parse(sys.argv[1])' "$1"; }
+
+run_check() {
+  local storm=$work/checked
+  if ! { iocsq_build "$storm" drivers/slots 0 "$@" && iocsq_build "$storm.wrong" drivers/slots 1 "$@" &&
+    iocsq_build "$storm.idle" drivers/workers 4 "$@"; } 2>"$work/errors"; then
+    fail "check: not compiled" "$work/errors"
+    return
+  fi
+  expect "check: a right driver" check_passes "$storm"
+  expect "check: a wrong driver" check_fails "$storm.wrong" "$disagrees"
+  expect "check: a driver that queues nothing" check_fails "$storm.idle" "$nothing"
+  expect "check: no storm" refused "name a storm" "$top/iocsq/check" "$work/none"
+  expect "check: an option that is none" refused "there is no option --seed" "$top/iocsq/check" --seed 1 "$storm"
+  expect "check: a file that can't be written" refused "can't be written" "$top/iocsq/check" --junit "$work/none/x" \
+    "$storm"
+}
