@@ -1,13 +1,13 @@
 -- What is proved of the queue, over its atomic steps and the queue of one thread alone.
--- 1. A step is one exchange or load of a word (`Kind`), with the value that it found; a pass makes its steps one after the other. An execution lists, the newest first, all steps of all passes, where each call under the lock enters and leaves, and the events that it adds to the history (`Tick`).
+-- 1. A pass is a thread's handle. A step is what `Kind` names, with the value that it found: Arm, Disarm, Take and Rearm exchange the cancel routine's word, Test and Flag load or exchange that of the Cancel flag, and the others change no such word of this life (a life has words of its own: in memory a word names its life). An execution lists, the newest first, all steps of all passes, where each call under the lock enters and leaves, and the events that it adds to the history (`Tick`).
 -- 2. `IsExecution` says which lists are executions. So it excludes by definition that two calls are under the lock at once, that a step finds another value than the last one before it left, and that an event stands anywhere but at its own step. What ties the code to it: each call of the compiled queue is proved to keep an invariant, by which the words of memory are those of such an execution, at every atomic step. That each step is atomic, and that all have one order, is the contract of the library below.
--- 3. `IsSequential` says that the history, the events alone, is one of the queue that one thread uses. With `in_real_time` that is linearizability (Herlihy and Wing). A call enters after it was called and leaves before it returns, by program order. `in_real_time` holds of each execution by what that is; which events are those of a caller's call is `IsCallOf`, a clause of each call.
--- 4. A cancel's two steps, a completion and a read take no lock: each has its own place among the steps, and none in the history. `Mark` and `FlagSeen` are no calls: they note that a canceller was found to have an IRP, and that an IRP was found flagged.
--- 5. Nothing is said of progress, of fairness, or of time. A cleanup is one call for each removal.
+-- 3. `IsSequential` says that the history, the events alone, is one of the queue that one thread uses. Who may put an IRP back, and which cancel an event stands for, is said by the execution. With `in_real_time` this is linearizability (Herlihy and Wing) of the calls under the lock: a call enters after it was called and leaves before it returns, by program order. Which events are those of a caller's call is `IsCallOf`, a clause of each call, and a pass has no other events (`HasNoOthers` of Laws.antt).
+-- 4. A cancel's two steps, Flag and Take, and a completion take no lock: each has its own place among the steps, and none in the history. `Mark` and `FlagSeen` are no calls: they note that a canceller was found to have an IRP, and that an IRP was found flagged.
+-- 5. Whoever removes an IRP, or owes it after its cancel, completes it by the same pass. Nothing is said of progress, of fairness, of time, or of a queue that is never closed but what each call promises. A cleanup is one call for each removal.
 use Rattle.std.specs.Prelude.{◌≡◌, ◌≢◌, ◌⊎◌, ℕ, suc, ◌+◌, ◌<◌, nat_le, ◌==◌, Bool, true, false, List, [], ◌∷◌, ◌++◌, map, filter, length, slice_index_or, Option, Some, None, if◌then◌else◌}
 use Rattle.irp_core.specs.Steps.{life_of}
 use Rattle.irp_core.specs.Inside.{inside}
-use Rattle.irp_core.specs.Words.{was_armed, found_by}
+use Rattle.irp_core.specs.Words.{flagged, found_by, was_armed}
 use Rattle.irp_core.specs.Owners.{claims, dones, listed}
 use Rattle.irp_core.specs.Runs.{Size, MayTouch}
 use Rattle.irp_core.specs.declared.ids.{FileId.{FileId}, IrpId.{IrpId}, IrpLife.{IrpLife}, Life.{Life}, PassId.{PassId}}
@@ -53,14 +53,18 @@ IsFree Nothing (Done i) = Unit {0}
 IsFree (Cancelling j) (Take i) = i ≡ j
 IsFree _ _ = ⊥
 
--- the event is a refusal or a closed file object, whose call makes no step
+-- the event is a refusal or a closed file object, whose call makes no step. (Whether the pass had the IRP isn't asked of a put-back that is refused)
 abbrev pub IsNoted : Event → Type 0
 IsNoted (Insert n f place (Refused cause)) = Unit {0}
 IsNoted (PutBack i f place (Refused cause)) = Unit {0}
 IsNoted (CloseFile f) = Unit {0}
 IsNoted _ = ⊥
 
--- the ticks are those of one execution: each step is one that its pass may make after those before it, and finds the value that the last one before it left
+-- how many IRPs and passes there are, and the life in which all IRPs begin
+abbrev pub size_of : Limits → Size
+size_of l = record { irps = l.irps; passes = l.passes; first = l.first }
+
+-- the ticks are those of one execution: each step is one that its pass may make after those before it, and finds the value that the last one before it left. (That a pass makes its cancels between its calls is so in the code; this doesn't ask for it)
 pub data IsExecution (size : Size) : List Tick → Type 0 where
   begins : IsExecution size []
   enters : (p : PassId) (trace : List Tick) → caller_in trace ≡ None → IsExecution size trace → IsExecution size (Enters p ∷ trace)
@@ -92,20 +96,22 @@ abbrev pub IsSequential : Limits → List HistoryEntry → Type 0
 IsSequential l [] = Unit {0}
 IsSequential l (e ∷ history) = MayReply l (end_of l.first history) e.event × IsSequential l history
 
--- what happened to an IRP in one life: it was never inserted; or it is listed, unclaimed; or a pass claimed it once since it was last put back, and completed it, once in all
+-- what happened to an IRP in one life: it was never inserted; or it is listed, neither flagged nor claimed; or a pass claimed it once since it was last put back, and completed it, once in all
 abbrev pub Story : List Made → IrpLife → Type 0
-Story E i = ((was_armed E i ≡ false) × (dones E i ≡ [])) ⊎ ((listed E i ≡ true) × (claims E i ≡ []) × (dones E i ≡ [])) ⊎ ((c d : Made) × (claims E i ≡ c ∷ []) × (dones E i ≡ d ∷ []) × (c.pass ≡ d.pass))
+Story E i = ((was_armed E i ≡ false) × (dones E i ≡ [])) ⊎ ((listed E i ≡ true) × (flagged E i ≡ false) × (claims E i ≡ []) × (dones E i ≡ [])) ⊎ ((c d : Made) × (claims E i ≡ c ∷ []) × (dones E i ≡ d ∷ []) × (c.pass ≡ d.pass))
 
--- what holds of the execution of a queue that was closed. In real time: if one call left before another entered, what was added before the one left stands before what is added after the other entered
-pub record IsCorrect (limits : Limits) (size : Size) (trace : List Tick) : Type 0 where
-  pub execution : IsExecution size trace
-  pub known : (i : IrpLife) → was_armed (steps_in trace) i ≡ true → i.irp.0 < size.irps
+-- what holds of the execution of a queue that was closed. No pass is inside of anything, and what is listed by the history is listed by the steps. In real time: if one call left before another entered, what was added before the one left stands before what is added after the other entered (so it is of any such list: what counts is that an event is added by the call that has entered)
+pub record IsCorrect (limits : Limits) (trace : List Tick) : Type 0 where
+  pub execution : IsExecution (size_of limits) trace
+  pub finished : (p : PassId) → inside (steps_in trace) p ≡ Nothing
+  pub known : (i : IrpLife) → was_armed (steps_in trace) i ≡ true → i.irp.0 < limits.irps
   pub sequential : IsSequential limits (entries_in trace)
+  pub list_is : (i : IrpLife) → has_entry (end_of limits.first (entries_in trace)).entries i ≡ listed (steps_in trace) i
   pub in_real_time : (p q : PassId) (newer between older : List Tick) → trace ≡ newer ++ (Enters q ∷ (between ++ (Leaves p ∷ older))) → entries_in trace ≡ entries_in newer ++ (entries_in between ++ entries_in older)
   pub stories : (i : IrpLife) → Story (steps_in trace) i
 
--- a call of p, between two moments at which p had seen these beginnings of the execution: it entered after the first, no call has left or entered since, and these are the only events that were added since it entered
+-- a call of p that found what p had seen as `old` and left what it has then seen as `new`, up to its last event, both beginnings of the execution: it entered in the meantime, no call has left or entered since, and these are the only events that were added since it entered
 abbrev pub IsCallOf : PassId → List Tick → List Tick → List HistoryEntry → Type 0
 IsCallOf p old new events =
-    (since before within : List Tick) × (new ≡ within ++ (Enters p ∷ before)) × (before ≡ since ++ old) × (entries_in within ≡ events)
+    (meanwhile within : List Tick) × (new ≡ within ++ (Enters p ∷ (meanwhile ++ old))) × (entries_in within ≡ events)
     × ((q : PassId) (newer older : List Tick) → (within ≢ newer ++ (Enters q ∷ older)) × (within ≢ newer ++ (Leaves q ∷ older)))

@@ -1,12 +1,16 @@
 -- The headline's laws: they follow from what the calls promise and from what is left of a closed queue.
-use Rattle.std.specs.Prelude.{◌≡◌, ℕ, List}
+use Rattle.std.specs.Prelude.{◌≡◌, ◌⊎◌, ℕ, ◌<◌, ◌≤◌, List, []}
+use mathlib.Core.Option.{some}
+use lib.ListN.{get_elem?}
+use Rattle.irp_core.specs.declared.ids.PassId.{PassId}
+use Rattle.irp_core.specs.Steps.{own}
 use Rattle.csq_list.specs.Listing.{Listing}
-use Rattle.csq_words.specs.declared.views.{Event.{Event}, HistoryEntry.{HistoryEntry}, PassRecord.{PassRecord}, QueueRecord.{QueueRecord}}
+use Rattle.csq_words.specs.declared.views.{Event.{Event}, HistoryEntry.{HistoryEntry}, PassRecord.{PassRecord}, QueueRecord.{QueueRecord}, Tick.{Tick}}
 use Rattle.csq_words.specs.Queue.{Limits}
+use Rattle.csq_words.specs.History.{IsExtendedBy, calls_of}
 use Rattle.csq_words.specs.Records.{entries_of}
-use Rattle.csq_words.specs.Traces.{entries_in}
+use Rattle.csq_words.specs.Traces.{steps_in, entries_in}
 use Rattle.csq_words.specs.Finals.{FinalWords}
-use Rattle.csq_queue.specs.Named.{queue_size}
 use Rattle.csq_queue.specs.Effects.{AddsEvents}
 use Rattle.csq_queue.specs.Rests.{IsClosed, IsRestOf}
 use Rattle.csq_theorem.specs.Headline.{IsCorrect, IsCallOf}
@@ -14,12 +18,34 @@ use Rattle.csq_theorem.specs.Headline.{IsCorrect, IsCallOf}
 -- what is left of a closed queue has a correct execution, with its history
 abbrev pub ClosedQueuesAreCorrect : Type 0
 ClosedQueuesAreCorrect = (limits : Limits) (pass : PassRecord) (receipts : List PassRecord) (taken : ℕ) (listing : Listing) (finals : FinalWords)
-    → IsRestOf limits pass receipts taken listing finals → IsCorrect limits (queue_size limits) finals.queue.trace × (entries_in finals.queue.trace ≡ finals.queue.history)
+    → IsRestOf limits pass receipts taken listing finals → IsCorrect limits finals.queue.trace × (entries_in finals.queue.trace ≡ finals.queue.history)
 
 -- so has what is left of an open queue, with the history that this had
 abbrev pub OpenQueuesAreCorrect : Type 0
 OpenQueuesAreCorrect = (limits : Limits) (taken : ℕ) (old : QueueRecord) (listing : Listing) (finals : FinalWords)
-    → IsClosed limits taken old listing finals → IsCorrect limits (queue_size limits) finals.queue.trace × (entries_in finals.queue.trace ≡ old.history)
+    → IsClosed limits taken old listing finals → IsCorrect limits finals.queue.trace × (entries_in finals.queue.trace ≡ old.history)
+
+-- the part of a pass in the execution: it had seen a beginning of it, and its steps and its calls' events in it are those of its record
+pub record IsPartOf (trace : List Tick) (r : PassRecord) : Type 0 where
+  pub begins : IsExtendedBy r.trace trace
+  pub steps : own r.pass (steps_in trace) ≡ r.steps
+  pub events : calls_of r.pass (entries_in trace) ≡ r.mine
+
+-- each pass of a queue has such a record, and whoever is none of them made no step and no call. A call adds to the record the events that it returns (`calls` of AddsEvents), so no event is without its call
+pub record HasNoOthers (passes : ℕ) (trace : List Tick) : Type 0 where
+  pub each : (p : PassId) → 1 ≤ p.0 → p.0 ≤ passes → (r : PassRecord) × (r.pass ≡ p) × IsPartOf trace r
+  pub nobody : (p : PassId) → (p.0 ≡ 0) ⊎ (passes < p.0) → (own p (steps_in trace) ≡ []) × (calls_of p (entries_in trace) ≡ [])
+
+-- so it is of a closed queue, and the passes with which it was closed are such parts
+abbrev pub EventsLeftAreOfCalls : Type 0
+EventsLeftAreOfCalls = (limits : Limits) (pass : PassRecord) (receipts : List PassRecord) (taken : ℕ) (listing : Listing) (finals : FinalWords)
+    → IsRestOf limits pass receipts taken listing finals
+    → IsPartOf finals.queue.trace pass × ((k : ℕ) (r : PassRecord) → get_elem? receipts k ≡ some r → IsPartOf finals.queue.trace r) × HasNoOthers limits.passes finals.queue.trace
+
+-- and of an open one
+abbrev pub EventsOfOpenQueuesAreOfCalls : Type 0
+EventsOfOpenQueuesAreOfCalls = (limits : Limits) (taken : ℕ) (old : QueueRecord) (listing : Listing) (finals : FinalWords) → IsClosed limits taken old listing finals
+    → ((k : ℕ) (r : PassRecord) → get_elem? old.back k ≡ some r → IsPartOf finals.queue.trace r) × HasNoOthers limits.passes finals.queue.trace
 
 -- each call under the lock is in the execution that its pass has seen then
 abbrev pub CallsAreInTheExecution : Type 0

@@ -1,5 +1,5 @@
 //! The theorem of the queue. Each function stands for a law: its contract is the law, and there is nothing to run.
-ghost use Rattle.csq_theorem.specs.Laws.{ClosedQueuesAreCorrect, OpenQueuesAreCorrect, CallsAreInTheExecution};
+ghost use Rattle.csq_theorem.specs.Laws.{ClosedQueuesAreCorrect, OpenQueuesAreCorrect, EventsLeftAreOfCalls, EventsOfOpenQueuesAreOfCalls, CallsAreInTheExecution};
 
 /// If `Csq::close` or `Csq::close_with` returns `Ok`, the execution that is left is correct: it is an execution, its
 /// history is one of the queue of one thread, in real time, and each request has one story in each life.
@@ -10,6 +10,17 @@ pub fn closed_queues_are_correct()
 /// So it is if `OpenQueue::close` returns.
 pub fn open_queues_are_correct()
     ensures { OpenQueuesAreCorrect }
+{}
+
+/// Each pass of a queue that `Csq::close` or `Csq::close_with` closed had seen a beginning of that execution, and its
+/// steps and events in it are those of its record, which has what its calls returned: no event is without its call.
+pub fn events_left_are_of_calls()
+    ensures { EventsLeftAreOfCalls }
+{}
+
+/// So it is of a queue that `OpenQueue::close` closed.
+pub fn events_of_open_queues_are_of_calls()
+    ensures { EventsOfOpenQueuesAreOfCalls }
 {}
 
 /// What a call under the lock promises its caller places the call in the execution: it entered after all that its pass

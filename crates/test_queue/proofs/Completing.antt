@@ -11,7 +11,6 @@ use Rattle.irp_core.specs.Runs.{Size}
 use Rattle.irp_core.specs.declared.ids.IrpId.{IrpId}
 use Rattle.irp_core.specs.declared.ids.Life.{Life}
 use Rattle.irp_core.specs.declared.status.NtStatus.{NtStatus}
-use Rattle.irp_core.specs.declared.step.Made.{Made}
 use Rattle.irp_core.proofs.Names.{same_irp-refl}
 use Rattle.irp_core.proofs.Lives.{used_begun}
 use Rattle.csq_words.proofs.Traced.{steps_extended}

@@ -7,6 +7,7 @@ use Rattle.csq_list.specs.declared.refusals.InsertStatus.{InsertStatus}
 use Rattle.csq_words.specs.Traces.{steps_in}
 use Rattle.csq_words.specs.declared.views.Event.{Event}
 use Rattle.csq_words.specs.declared.views.PassRecord.{PassRecord}
+use Rattle.csq_words.specs.declared.views.Tick.{Tick}
 use Rattle.csq_words.specs.History.{end_of}
 use Rattle.irp_core.proofs.Own.{flagged_own}
 use Rattle.csq_queue.specs.Calls.{file_at}
@@ -37,5 +38,5 @@ returns g c = record {
       let steps = ap (λ (r : PassRecord). r.steps) met.one_kept in
       let own' = met.one_sees.agrees.pass_is.steps_is in
       let seen : flagged (steps_in c.meet.new.one.trace) i ≡ true = flagged_own c.meet.new.one.pass (steps_in c.meet.new.one.trace) i (ap (λ s. flagged s i) (sym own' ∙ steps) ∙ was) in
-      pending_taken Rearm (queue_size l) i old new made.pass (ap (λ run. flagged run i) (sym met.run) ∙ seen) told.2.follows met.other_sees.agrees.pass_is.steps_is told.2.sees made.steps;
+      pending_taken Rearm (queue_size l) i old new made.pass (ap (λ (trace : List Tick). flagged (steps_in trace) i) (sym met.run) ∙ seen) told.2.follows met.other_sees.agrees.pass_is.steps_is told.2.sees made.steps;
 }
