@@ -6,7 +6,7 @@ use Rattle.csq_words.proofs.Imports.{cases_lt, false_from_ne_true, or_right, lis
 use Rattle.irp_core.proofs.Growing.{whole_outside}
 use Rattle.irp_core.proofs.Resting.{unknown_stands}
 use Rattle.irp_core.specs.Runs.{Size, IsRun, IsAtRest}
-use Rattle.csq_words.specs.declared.views.{PassRecord.{PassRecord}, QueueRecord.{QueueRecord}, Tick.{Tick, TheVariants.{Enters, Leaves}}}
+use Rattle.csq_words.specs.declared.views.{PassRecord.{PassRecord}, QueueRecord.{QueueRecord}, Tick.{Tick, TheVariants.{Enters, Leaves, Says}}}
 use Rattle.csq_words.specs.Queue.{Limits, has_entry}
 use Rattle.csq_words.specs.History.{IsLegal, calls_of, end_of}
 use Rattle.csq_words.specs.Traces.{steps_in, entries_in, is_turn, IsTrace}
@@ -51,6 +51,7 @@ final_correct limits words q last first legal =
           (ap (λ history. has_entry (end_of q.first history).entries i) last.entries_are ∙ last.agrees.history_is.listed_is i);
       known = known (queue_size limits) (steps_in q.trace) run;
       sequential = is_sequential limits (entries_in q.trace) (subst (IsLegal limits) (sym last.entries_are) legal);
+      in_its_call = λ e newer older is. (in_real_time q.first q.trace last.is_trace).each (Says e) newer older is;
       in_real_time = (in_real_time q.first q.trace last.is_trace).order;
       stories = story (queue_size limits) (steps_in q.trace) run last.rests;
     }
@@ -103,9 +104,12 @@ no_turn within none x turn newer older is = true≢false (sym (turn_found x newe
 
 pub calls_in : CallsAreInTheExecution
 calls_in limits history old new events adds = (
-  adds.call.follows.0,
-  adds.call.entered.within,
-  adds.call.entered.trace_is ∙ ap (λ before. adds.call.entered.within ++ (Enters old.pass ∷ before)) adds.call.follows.1,
-  adds.call.events_are,
-  λ q newer older. (no_turn adds.call.entered.within adds.call.entered.stays (Enters q) refl newer older, no_turn adds.call.entered.within adds.call.entered.stays (Leaves q) refl newer older),
+  (
+    adds.call.follows.0,
+    adds.call.entered.within,
+    adds.call.entered.trace_is ∙ ap (λ before. adds.call.entered.within ++ (Enters old.pass ∷ before)) adds.call.follows.1,
+    adds.call.events_are,
+    λ q newer older. (no_turn adds.call.entered.within adds.call.entered.stays (Enters q) refl newer older, no_turn adds.call.entered.within adds.call.entered.stays (Leaves q) refl newer older),
+  ),
+  ap (calls_of new.pass) adds.sees.agrees.entries_are ∙ (sym adds.once ∙ adds.calls),
 )

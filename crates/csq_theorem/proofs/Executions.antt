@@ -90,7 +90,7 @@ module _ (u : QueueState) where
   adds : (call : Call) (kind : Kind) (v : ℕ) (s : Inside) → IsOfCall call kind u → IsNextStep call kind s → Adds u s kind v (recorded call kind v u)
   adds (Insert n f place) (Arm j) v s of next = at next (insert_arms j v (here (λ x. x ≡ present_in u x.irp) of refl))
   adds (Insert n f place) (Test j) zero s of next = at next (here (λ x. Adds u (Armed x) (Test x) 0 (event.Insert n f place reply.Pending ∷ [])) of (insert_ends (present_in u n) f place refl))
-  adds (Insert n f place) (Test j) (suc v) s of next = at next (insert_sees_flag j v)
+  adds (Insert n f place) (Test j) (suc v) s of next = at next (insert_sees_flag j v (here (λ x. x ≡ present_in u x.irp) of refl))
   adds (Insert n f place) (Disarm j) zero s of next = at next (here (λ x. Adds u (inner.FlagSeen x) (Disarm x) 0 (event.Mark x ∷ event.Insert n f place reply.Pending ∷ [])) of (insert_leaves_it (present_in u n) f place refl))
   adds (Insert n f place) (Disarm j) (suc v) s of next = at next (here (λ x. Adds u (inner.FlagSeen x) (Disarm x) (suc v) (event.Insert n f place reply.Cancelled ∷ event.FlagSeen x ∷ [])) of (insert_takes_back (present_in u n) f place v refl))
   adds (Insert n f place) End v s of next = absurd of
@@ -122,7 +122,7 @@ module _ (u : QueueState) where
   adds GiveBack kind v s of next = absurd of
 
 -- events of one pass, added in the headline's way
-adding_is : (p : PassId) (es : List Event) (trace : List Tick) → adding p es trace ≡ says (entries_of p es) ++ trace
+pub adding_is : (p : PassId) (es : List Event) (trace : List Tick) → adding p es trace ≡ says (entries_of p es) ++ trace
 adding_is p [] trace = refl
 adding_is p (e ∷ es) trace = ap (λ (t : List Tick). Says record { pass = p; event = e } ∷ t) (adding_is p es trace)
 

@@ -1,3 +1,4 @@
 pub mod Executions
 pub mod Sequential
 pub mod Correct
+pub mod Traces

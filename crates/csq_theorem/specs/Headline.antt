@@ -1,7 +1,7 @@
 -- What is proved of the queue, over its atomic steps and the queue of one thread alone.
 -- 1. A pass is a thread's handle. A step is what `Kind` names, with the value that it found: Arm, Disarm, Take and Rearm exchange the cancel routine's word, Test and Flag load or exchange that of the Cancel flag, and the others change no such word of this life (a life has words of its own: in memory a word names its life). An execution lists, the newest first, all steps of all passes, where each call under the lock enters and leaves, and the events that it adds to the history (`Tick`).
 -- 2. `IsExecution` says which lists are executions. So it excludes by definition that two calls are under the lock at once, that a step finds another value than the last one before it left, and that an event stands anywhere but at its own step. What ties the code to it: each call of the compiled queue is proved to keep an invariant, by which the words of memory are those of such an execution, at every atomic step. That each step is atomic, and that all have one order, is the contract of the library below.
--- 3. `IsSequential` says that the history, the events alone, is one of the queue that one thread uses. Who may put an IRP back, and which cancel an event stands for, is said by the execution. With `in_real_time` this is linearizability (Herlihy and Wing) of the calls under the lock: a call enters after it was called and leaves before it returns, by program order. Which events are those of a caller's call is `IsCallOf`, a clause of each call, and a pass has no other steps or events than those of its calls (`HasNoOthers` of Laws.antt).
+-- 3. `IsSequential` says that the history, the events alone, is one of the queue that one thread uses. Who may put an IRP back, and which cancel an event stands for, is said by the execution. With `in_its_call` and `in_real_time` this is linearizability (Herlihy and Wing) of the calls under the lock: a call enters after it was called and leaves before it returns, by program order. Which events are those of a caller's call is `IsCallOf`, a clause of each call, and a pass has no other steps or events than those of its calls (`HasNoOthers` of Laws.antt).
 -- 4. A cancel's two steps, Flag and Take, and a completion take no lock: each has its own place among the steps, and none in the history. `Mark` and `FlagSeen` are no calls: they note that a canceller was found to have an IRP, and that an IRP was found flagged.
 -- 5. Whoever removes an IRP, or owes it after its cancel, completes it by the same pass. Nothing is said of progress, of fairness, of time, or of a queue that is never closed but what each call promises. A cleanup is one call for each removal.
 use Rattle.std.specs.Prelude.{◌≡◌, ◌≢◌, ◌⊎◌, ℕ, suc, ◌+◌, ◌<◌, nat_le, ◌==◌, Bool, true, false, List, [], ◌∷◌, ◌++◌, map, filter, length, slice_index_or, Option, Some, None, if◌then◌else◌}
@@ -32,7 +32,7 @@ adding p es trace = map (λ (e : Event). Says record { pass = p; event = e }) es
 pub data Adds (u : QueueState) : Inside → Kind → ℕ → List Event → Type 0 where
   insert_arms : (i : IrpLife) (v : ℕ) → i ≡ present_in u i.irp → Adds u Nothing (Arm i) v []
   insert_ends : (i : IrpLife) (f : FileId) (place : Place) → i ≡ present_in u i.irp → Adds u (Armed i) (Test i) 0 (Insert i.irp f place Pending ∷ [])
-  insert_sees_flag : (i : IrpLife) (v : ℕ) → Adds u (Armed i) (Test i) (suc v) []
+  insert_sees_flag : (i : IrpLife) (v : ℕ) → i ≡ present_in u i.irp → Adds u (Armed i) (Test i) (suc v) []
   insert_leaves_it : (i : IrpLife) (f : FileId) (place : Place) → i ≡ present_in u i.irp → Adds u (inner.FlagSeen i) (Disarm i) 0 (Mark i ∷ Insert i.irp f place Pending ∷ [])
   insert_takes_back : (i : IrpLife) (f : FileId) (place : Place) (v : ℕ) → i ≡ present_in u i.irp → Adds u (inner.FlagSeen i) (Disarm i) (suc v) (Insert i.irp f place Cancelled ∷ FlagSeen i ∷ [])
   removal_misses : (s : Inside) (i : IrpLife) → (s ≡ Nothing) ⊎ (s ≡ Removing) → Adds u s (Disarm i) 0 (due_mark i u)
@@ -100,13 +100,14 @@ IsSequential l (e ∷ history) = MayReply l (end_of l.first history) e.event × 
 abbrev pub Story : List Made → IrpLife → Type 0
 Story E i = ((was_armed E i ≡ false) × (dones E i ≡ [])) ⊎ ((listed E i ≡ true) × (flagged E i ≡ false) × (claims E i ≡ []) × (dones E i ≡ [])) ⊎ ((c d : Made) × (claims E i ≡ c ∷ []) × (dones E i ≡ d ∷ []) × (c.pass ≡ d.pass))
 
--- what holds of the execution of a queue that was closed. No pass is inside of anything, and what is listed by the history is listed by the steps. In real time: if one call left before another entered, what was added before the one left stands before what is added after the other entered (so it is of any such list: what counts is that an event is added by the call that has entered)
+-- what holds of the execution of a queue that was closed. No pass is inside of anything, and what is listed by the history is listed by the steps. An event is added only while a call of its pass has entered and hasn't left. So in real time, if one call left before another entered, what was added before the one left stands before what is added after the other entered
 pub record IsCorrect (limits : Limits) (trace : List Tick) : Type 0 where
   pub execution : IsExecution (size_of limits) trace
   pub finished : (p : PassId) → inside (steps_in trace) p ≡ Nothing
   pub known : (i : IrpLife) → was_armed (steps_in trace) i ≡ true → i.irp.0 < limits.irps
   pub sequential : IsSequential limits (entries_in trace)
   pub list_is : (i : IrpLife) → has_entry (end_of limits.first (entries_in trace)).entries i ≡ listed (steps_in trace) i
+  pub in_its_call : (e : HistoryEntry) (newer older : List Tick) → trace ≡ newer ++ (Says e ∷ older) → caller_in older ≡ Some e.pass
   pub in_real_time : (p q : PassId) (newer between older : List Tick) → trace ≡ newer ++ (Enters q ∷ (between ++ (Leaves p ∷ older))) → entries_in trace ≡ entries_in newer ++ (entries_in between ++ entries_in older)
   pub stories : (i : IrpLife) → Story (steps_in trace) i
 

@@ -3,17 +3,18 @@ use Rattle.std.specs.Prelude.{◌≡◌, ◌⊎◌, ℕ, ◌<◌, ◌≤◌, Lis
 use mathlib.Core.Option.{some}
 use lib.ListN.{get_elem?}
 use Rattle.irp_core.specs.declared.ids.PassId.{PassId}
+use Rattle.irp_core.specs.Runs.{Size}
 use Rattle.irp_core.specs.Steps.{own}
 use Rattle.csq_list.specs.Listing.{Listing}
 use Rattle.csq_words.specs.declared.views.{Event.{Event}, HistoryEntry.{HistoryEntry}, PassRecord.{PassRecord}, QueueRecord.{QueueRecord}, Tick.{Tick}}
 use Rattle.csq_words.specs.Queue.{Limits}
 use Rattle.csq_words.specs.History.{IsExtendedBy, calls_of}
-use Rattle.csq_words.specs.Records.{entries_of}
-use Rattle.csq_words.specs.Traces.{steps_in, entries_in}
+use Rattle.csq_words.specs.Records.{entries_of, with_calls}
+use Rattle.csq_words.specs.Traces.{steps_in, entries_in, IsTrace}
 use Rattle.csq_words.specs.Finals.{FinalWords}
 use Rattle.csq_queue.specs.Effects.{AddsEvents}
 use Rattle.csq_queue.specs.Rests.{IsClosed, IsRestOf}
-use Rattle.csq_theorem.specs.Headline.{IsCorrect, IsCallOf}
+use Rattle.csq_theorem.specs.Headline.{IsCorrect, IsCallOf, IsExecution}
 
 -- what is left of a closed queue has a correct execution, with its history
 abbrev pub ClosedQueuesAreCorrect : Type 0
@@ -47,7 +48,12 @@ abbrev pub EventsOfOpenQueuesAreOfCalls : Type 0
 EventsOfOpenQueuesAreOfCalls = (limits : Limits) (taken : ℕ) (old : QueueRecord) (listing : Listing) (finals : FinalWords) → IsClosed limits taken old listing finals
     → ((k : ℕ) (r : PassRecord) → get_elem? old.back k ≡ some r → IsPartOf finals.queue.trace r) × HasNoOthers limits.passes finals.queue.trace
 
--- each call under the lock is in the execution that its pass has seen then
+-- each call under the lock is in the execution that its pass has seen then, and in that its pass has added just what it had, and this call's events
 abbrev pub CallsAreInTheExecution : Type 0
 CallsAreInTheExecution = (limits : Limits) (history : List HistoryEntry) (old new : PassRecord) (events : List Event)
-    → AddsEvents limits history old new events → IsCallOf old.pass old.trace new.trace (entries_of old.pass events)
+    → AddsEvents limits history old new events
+    → IsCallOf old.pass old.trace new.trace (entries_of old.pass events) × (calls_of new.pass (entries_in new.trace) ≡ (with_calls events old).mine)
+
+-- what the headline calls an execution has the calls' steps in their order, each with the events that it records: no more than the invariant's
+abbrev pub ExecutionsAreTraces : Type 0
+ExecutionsAreTraces = (size : Size) (trace : List Tick) → IsExecution size trace → IsTrace size.first trace

@@ -1,5 +1,5 @@
 //! The theorem of the queue. Each function stands for a law: its contract is the law, and there is nothing to run.
-ghost use Rattle.csq_theorem.specs.Laws.{ClosedQueuesAreCorrect, OpenQueuesAreCorrect, EventsLeftAreOfCalls, EventsOfOpenQueuesAreOfCalls, CallsAreInTheExecution};
+ghost use Rattle.csq_theorem.specs.Laws.{ClosedQueuesAreCorrect, OpenQueuesAreCorrect, EventsLeftAreOfCalls, EventsOfOpenQueuesAreOfCalls, CallsAreInTheExecution, ExecutionsAreTraces};
 
 /// If `Csq::close` or `Csq::close_with` returns `Ok`, the execution that is left is correct: it is an execution, its
 /// history is one of the queue of one thread, in real time, and each request has one story in each life.
@@ -27,4 +27,10 @@ pub fn events_of_open_queues_are_of_calls()
 /// had seen, and its events are the only ones that were added since it entered.
 pub fn calls_are_in_the_execution()
     ensures { CallsAreInTheExecution }
+{}
+
+/// An execution of the headline is one of the invariant's: it admits no step and no event that this excludes, so the
+/// wrong executions that are refuted of the one are none of the other.
+pub fn executions_are_traces()
+    ensures { ExecutionsAreTraces }
 {}
