@@ -23,10 +23,10 @@
  * - Each call takes the queue's mutex, which is free while a thread waits and while an event is called.
  * - What a thread wrote before a submit or a put-back is seen by whoever gets the value, and what it wrote before a
  *   completion by whoever learns of that by a call of this header.
- * - A refusal, which is any code but CSQ_OK, changes nothing but where the call says so.
+ * - A refusal, which is any code but CSQ_OK, changes nothing unless the call says so.
  * - csq_requests_new takes memory. No other call does.
  *
- * What the caller must uphold, which nothing checks: pointers are valid, and none is null but where that is said; no call
+ * What the caller must uphold, which nothing checks: pointers are valid, and none is null unless the call allows it; no call
  * is made in a signal handler or in the forked child of a process with threads, and no thread is cancelled
  * (pthread_cancel) inside of one.
  *
@@ -113,7 +113,7 @@ static inline uint32_t csq_requests_knows(const struct csq_requests *requests, u
     return file == CSQ_ANY || file < requests->size.files;
 }
 
-/* When so many milliseconds are over; not looked at where nobody waits, or without a limit. */
+/* When so many milliseconds are over; not looked at if nobody waits, or there is no limit. */
 static inline struct timespec csq_requests_end_of(uint32_t milliseconds) {
     struct timespec end = { 0, 0 };
     if (milliseconds == 0 || milliseconds == CSQ_FOREVER) {
@@ -129,7 +129,7 @@ static inline struct timespec csq_requests_end_of(uint32_t milliseconds) {
     return end;
 }
 
-/* Waits for a signal, at most until `end` unless there is no limit. 1 where the time is over. */
+/* Waits for a signal, at most until `end` unless there is no limit. 1 if the time is over. */
 static inline int csq_requests_wait(struct csq_requests *requests, pthread_cond_t *signal, uint32_t milliseconds,
                                     const struct timespec *end) {
     if (milliseconds == CSQ_FOREVER) {
@@ -368,7 +368,7 @@ CSQ_NODISCARD static inline uint32_t csq_requests_free(struct csq_requests **req
 
 /* ---- Requests ---- */
 
-/* Submits a value for a file object, at the list's end, or at its front where `front` isn't 0, wakes one who waits for it,
+/* Submits a value for a file object, at the list's end, or at its front if `front` isn't 0, wakes one who waits for it,
  * and stores the request's name. After a refusal the value is still the caller's.
  * CSQ_UNKNOWN_FILE; CSQ_CLOSED; CSQ_LIVES_SPENT (each IRP is past its last life: a queue has 2^30 requests for each, and
  * then another has to be made); CSQ_FULL (all requests are under way, or as many are listed as the limit allows);
@@ -434,7 +434,7 @@ CSQ_NODISCARD static inline uint32_t csq_requests_complete(struct csq_requests *
     return code;
 }
 
-/* Puts a request back that was taken, at the list's end, or at its front where `front` isn't 0, and wakes one who waits
+/* Puts a request back that was taken, at the list's end, or at its front if `front` isn't 0, and wakes one who waits
  * for it: for a worker that can't serve it now. It keeps its name. CSQ_CANCELLED: a cancel has named it in the meantime,
  * so it is completed as cancelled, without the events, and its value is the caller's. After any other refusal it is still
  * taken. CSQ_UNKNOWN_IRP; CSQ_NOT_HELD; CSQ_FILE_CLOSED; CSQ_FILE_FULL; CSQ_FULL. */

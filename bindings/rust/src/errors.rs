@@ -230,7 +230,7 @@ impl Error for NotListed {}
 
 /// A pass that wasn't given back, since it holds or owes IRPs whose tokens were forgotten. It comes back.
 ///
-/// Threads can't share a pass, nor this: where an error has to be `Sync`, hand its text on, and the pass is dropped.
+/// Threads can't share a pass, nor this: if an error has to be `Sync`, hand its text on, and the pass is dropped.
 ///
 /// ```
 /// # use csq::Pass;
@@ -355,7 +355,7 @@ impl<T> fmt::Display for Refused<T> {
 
 impl<T> Error for Refused<T> {}
 
-/// By `?`, where the value isn't wanted back, or can't be part of an error.
+/// By `?`, if the value isn't wanted back, or can't be part of an error.
 impl<T> From<Refused<T>> for SubmitError {
     fn from(refused: Refused<T>) -> SubmitError {
         refused.cause

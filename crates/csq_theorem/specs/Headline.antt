@@ -1,9 +1,9 @@
 -- What is proved of the queue, over its atomic steps and the queue of one thread alone.
 -- 1. A pass is a thread's handle. A step is what `Kind` names, with the value that it found: Arm, Disarm, Take and Rearm exchange the cancel routine's word, Test and Flag load or exchange that of the Cancel flag, and the others change no such word of this life (a life has words of its own: in memory a word names its life). An execution lists, the newest first, all steps of all passes, where each call under the lock enters and leaves, and the events that it adds to the history (`Tick`).
 -- 2. `IsExecution` says which lists are executions. So it excludes by definition that two calls are under the lock at once, that a step finds another value than the last one before it left, and that an event stands anywhere but at its own step. What ties the code to it: each call of the compiled queue is proved to keep an invariant, by which the words of memory are those of such an execution, at every atomic step. That each step is atomic, and that all have one order, is the contract of the library below.
--- 3. `IsSequential` says that the history, the events alone, is one of the queue that one thread uses. Who may put an IRP back, and which cancel an event stands for, is said by the execution. With `in_its_call` and `in_real_time` this is linearizability (Herlihy and Wing) of the calls under the lock: a call enters after it was called and leaves before it returns, by program order. Which events are those of a caller's call is `IsCallOf`, a clause of each call, and a pass has no other steps or events than those of its calls (`HasNoOthers` of Laws.antt).
+-- 3. `IsSequential` says that the history, the events alone, is one of the queue that one thread uses. Who may put an IRP back, and which cancel an event stands for, is said by the execution. With `in_its_call` and `in_real_time` this is linearizability (Herlihy and Wing) of the calls under the lock: a call enters after it was called and leaves before it returns, by program order. Which events are those of a caller's call is `IsCallOf`, which each call under the lock promises but a cleanup (a close of the file object, and a call for each removal), and a pass has no other events than those of its calls (`HasNoOthers` of Laws.antt).
 -- 4. A cancel's two steps, Flag and Take, and a completion take no lock: each has its own place among the steps, and none in the history. `Mark` and `FlagSeen` are no calls: they note that a canceller was found to have an IRP, and that an IRP was found flagged.
--- 5. Whoever removes an IRP, or owes it after its cancel, completes it by the same pass. Nothing is said of progress, of fairness, of time, or of a queue that is never closed but what each call promises. A cleanup is one call for each removal.
+-- 5. Whoever removes an IRP, or owes it after its cancel, completes it by the same pass. Nothing is said of progress, of fairness, of time, or of a queue that is never closed but what each call promises.
 use Rattle.std.specs.Prelude.{◌≡◌, ◌≢◌, ◌⊎◌, ℕ, suc, ◌+◌, ◌<◌, nat_le, ◌==◌, Bool, true, false, List, [], ◌∷◌, ◌++◌, map, filter, length, slice_index_or, Option, Some, None, if◌then◌else◌}
 use Rattle.irp_core.specs.Steps.{life_of}
 use Rattle.irp_core.specs.Inside.{inside}

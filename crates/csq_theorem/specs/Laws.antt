@@ -32,7 +32,7 @@ pub record IsPartOf (trace : List Tick) (r : PassRecord) : Type 0 where
   pub steps : own r.pass (steps_in trace) ≡ r.steps
   pub events : calls_of r.pass (entries_in trace) ≡ r.mine
 
--- each pass of a queue has such a record, and whoever is none of them made no step and no call. A call adds to the record the steps that it makes and the events that it returns, so no step and no event is without its call
+-- each pass of a queue has such a record, and whoever is none of them made no step and no call. Each call says which events it adds to the record and, but for `Csq::cleanup`, which steps: so no event is without its call, and no step but those of a cleanup
 pub record HasNoOthers (passes : ℕ) (trace : List Tick) : Type 0 where
   pub each : (p : PassId) → 1 ≤ p.0 → p.0 ≤ passes → (r : PassRecord) × (r.pass ≡ p) × IsPartOf trace r
   pub nobody : (p : PassId) → (p.0 ≡ 0) ⊎ (passes < p.0) → (own p (steps_in trace) ≡ []) × (calls_of p (entries_in trace) ≡ [])

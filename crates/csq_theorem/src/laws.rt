@@ -13,7 +13,8 @@ pub fn open_queues_are_correct()
 {}
 
 /// Each pass of a queue that `Csq::close` or `Csq::close_with` closed had seen a beginning of that execution, and its
-/// steps and events in it are those of its record. A call adds to that what it does, so nothing is without its call.
+/// steps and events in it are those of its record. Each call says which events it adds to that, so no event is without
+/// its call.
 pub fn events_left_are_of_calls()
     ensures { EventsLeftAreOfCalls }
 {}

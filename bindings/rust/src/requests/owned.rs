@@ -19,7 +19,7 @@ struct SharedSeat<T>(Seat<T>);
 
 // SAFETY: each call by the seat's pass is made with the queue's lock, but for those of its drop, when nobody else has it:
 // so the pass is used by one thread at a time, and goes from one to another by that lock. The values are in slots, which
-// go from thread to thread where `T` does.
+// go from thread to thread if `T` does.
 unsafe impl<T: Send> Sync for SharedSeat<T> {}
 
 /// A pass of a queue of requests that threads share: a clone of it is the same pass. Each call through it takes the lock.
@@ -263,7 +263,7 @@ impl<T> OwnedPass<T> {
 /// A request that an [`OwnedPass`] took, with its value and a share of that pass. Dropped, it is completed with
 /// `STATUS_CANCELLED`, and its value dropped.
 ///
-/// It borrows nothing: it may be kept in a struct, sent to another thread where its value may, and completed there.
+/// It borrows nothing: it may be kept in a struct, sent to another thread if its value may, and completed there.
 #[must_use = "a request that was taken has to be completed, and is where it is dropped"]
 pub struct OwnedRequest<T> {
     taken: Taken<OwnedPass<T>>,

@@ -39,7 +39,7 @@ impl<T> RequestPass<T> {
         RequestPass { seat }
     }
 
-    /// Submits a value for a file object. The answer names the request to a cancel. One that waits for it is woken. A
+    /// Submits a value for a file object. The result names the request to a cancel. One that waits for it is woken. A
     /// refusal hands the value back. Takes the lock.
     ///
     /// # Errors

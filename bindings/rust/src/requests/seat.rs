@@ -129,7 +129,7 @@ impl<T> Seat<T> {
         })
     }
 
-    /// Takes a match, or waits in the list with this waker, where the ticket names it. None once the queue is shut down.
+    /// Takes a match, or waits in the list with this waker, and the ticket names it there. None once the queue is shut down.
     pub(super) fn poll_take(
         &self,
         peek: Peek,
@@ -195,8 +195,8 @@ impl<T> Seat<T> {
         peek: Peek,
         limit: Option<Duration>,
     ) -> Result<(Held, T), RecvTimeoutError> {
-        if let Some(answer) = self.answer_now(peek) {
-            return answer;
+        if let Some(result) = self.result_now(peek) {
+            return result;
         }
         // A time that no clock reaches is none.
         let end = limit.and_then(|limit| Instant::now().checked_add(limit));
@@ -206,8 +206,8 @@ impl<T> Seat<T> {
                 return Err(RecvTimeoutError::Timeout);
             }
             thread::yield_now();
-            if let Some(answer) = self.answer_now(peek) {
-                return answer;
+            if let Some(result) = self.result_now(peek) {
+                return result;
             }
         }
         let (waker, mut ticket) = (thread_waker(), None);
@@ -223,8 +223,8 @@ impl<T> Seat<T> {
         }
     }
 
-    // What `wait` answers without waiting, if it does.
-    fn answer_now(&self, peek: Peek) -> Option<Result<(Held, T), RecvTimeoutError>> {
+    // What `wait` returns without waiting, if it does.
+    fn result_now(&self, peek: Peek) -> Option<Result<(Held, T), RecvTimeoutError>> {
         match self.try_take(peek) {
             Ok(taken) => Some(Ok(taken)),
             Err(TryRecvError::ShutDown) => Some(Err(RecvTimeoutError::ShutDown)),
