@@ -26,8 +26,8 @@
  * - A refusal, which is any code but CSQ_OK, changes nothing unless the call says so.
  * - csq_requests_new takes memory. No other call does.
  *
- * What the caller must uphold, which nothing checks: pointers are valid, and none is null unless the call allows it; no call
- * is made in a signal handler or in the forked child of a process with threads, and no thread is cancelled
+ * What the caller must uphold, which nothing checks: pointers are valid, and none is null unless the call allows it; no
+ * call is made in a signal handler or in the forked child of a process with threads, and no thread is cancelled
  * (pthread_cancel) inside of one.
  *
  * Link with the library of csq.h and with -pthread. Nothing of this header is proved; it is tested as csq.h is.
