@@ -1,20 +1,21 @@
 -- How large a queue C wants, and the queue that it gets.
 use Rattle.std.specs.Prelude.{◌≡◌, ℕ, ◌==◌, true, ◌||◌, List, replicate, Option, Some, None, if◌then◌else◌}
-use Rattle.irp_core.specs.Runs.{IsInLimits}
-use Rattle.csq_list.specs.Listing.{IsListSize, fresh}
+use Rattle.irp_core.specs.Runs.{IsInLargeLimits}
+use Rattle.csq_list.specs.Listing.{IsLargeListSize, fresh}
 use Rattle.atomic_table.specs.Seated.{TableId}
 use Rattle.csq_words.specs.Queue.{limits_of}
 use Rattle.csq_words.specs.Records.{new_queue}
 use Rattle.csq_checked.specs.Passes.{CheckedState}
 use Rattle.csq_checked.specs.declared.size.QueueSize.{QueueSize as Given}
+use Rattle.csq_list.specs.AnyLists.{kind_for}
 use Rattle.csq_list.specs.declared.any_list.ListKind.{ListKind}
 use Rattle.csq_list.specs.declared.any_list.ListKind.TheVariants as kinds
 use Rattle.csq_c.specs.Bodies.{QueueBodyState}
 use Rattle.csq_c.specs.declared.shapes.CsqSize.{CsqSize}
 
--- the list's kind with this number
-abbrev pub kind_numbered : ℕ → Option ListKind
-kind_numbered n = if n == 0 then Some kinds.Vector else if n == 1 then Some kinds.Chains else None
+-- the list's kind with this number, for so many IRPs
+abbrev pub kind_numbered : ℕ → ℕ → Option ListKind
+kind_numbered irps n = if n == 0 then Some kinds.Vector else if n == 1 then Some kinds.Chains else if n == 2 then Some (kind_for irps) else None
 
 -- a size with this kind of list
 abbrev pub with_kind : CsqSize → Option ListKind → Option Given
@@ -23,13 +24,13 @@ with_kind c (Some kind) = Some (record { irps = c.irps; files = c.files; limit =
 
 -- the size, where its list is of a kind that there is
 abbrev pub given_size : CsqSize → Option Given
-given_size c = with_kind c (kind_numbered c.list)
+given_size c = with_kind c (kind_numbered c.irps c.list)
 
 -- each number is in its range
 pub record IsGoodSize (c : CsqSize) : Type 0 where
-  pub list : (c.list == 0 || c.list == 1) ≡ true
-  pub words : IsInLimits (record { irps = c.irps; passes = c.passes; first = c.first_life })
-  pub listing : IsListSize c.irps c.files c.limit
+  pub list : c.list ≤ 2
+  pub words : IsInLargeLimits (record { irps = c.irps; passes = c.passes; first = c.first_life })
+  pub listing : IsLargeListSize c.irps c.files c.limit
 
 -- a new queue of this size, whose file objects have these limits, and whose words are this table's
 abbrev pub new_checked_state : CsqSize → List ℕ → TableId → CheckedState

@@ -73,17 +73,17 @@ pub(crate) fn peek(file: u32) -> Peek
 #[repr(C)]
 #[derive(Clone, Copy)]
 pub struct CsqSize {
-    /// The number of IRPs, 1 to 1,024.
+    /// The number of IRPs, 1 to 65,535.
     pub irps: u32,
-    /// The number of file objects, 1 to 256.
+    /// The number of file objects, 1 to 16,384.
     pub files: u32,
     /// How many IRPs may be listed at a time, 1 to `irps`.
     pub limit: u32,
-    /// The number of passes, 1 to 64.
+    /// The number of passes, 1 to 1,024.
     pub passes: u32,
     /// The life in which all IRPs begin, at most 2^30 - 1.
     pub first_life: u32,
-    /// How the list is kept: 0 in one vector, 1 in chains.
+    /// How the list is kept: 0 in one vector, 1 in chains, 2 in whichever is the better one for so many IRPs.
     pub list: u32,
 }
 
@@ -105,6 +105,7 @@ impl CsqSize {
         let list = match self.list {
             0 => ListKind::Vector,
             1 => ListKind::Chains,
+            2 => ListKind::for_irps(self.irps),
             _ => return None,
         };
         Some(QueueSize {

@@ -1,7 +1,7 @@
 //! A queue without a lock whose passes know what they hold and owe: how it is made, and how it ends.
 ghost use Rattle.std.specs.Prelude.{◌≡◌, ◌+◌, ◌-◌, ◌<◌, ◌≤◌, ◌↔◌, Err, IsTrue, IsOk, IfOk, IfErr, OnOk, OnErr, None, ◌⊎◌, replicate};
-ghost use Rattle.irp_core.specs.Runs.{IsInLimits};
-ghost use Rattle.csq_list.specs.Listing.{IsListSize, are_file_limits};
+ghost use Rattle.irp_core.specs.Runs.{IsInLargeLimits};
+ghost use Rattle.csq_list.specs.Listing.{IsLargeListSize, are_file_limits};
 ghost use Rattle.csq_words.specs.Queue.{limits_of};
 ghost use Rattle.csq_words.specs.Records.{new_pass, new_queue, with_back};
 ghost use Rattle.csq_queue.specs.Named.{pass_numbered, out_count};
@@ -64,7 +64,7 @@ impl CheckedQueue {
               idle = replicate size.passes None;
             }) }
         ensures bad_size { (result ≡ Err SizeRefused.BadSize)
-            ↔ ¬ (IsInLimits (size_in size) × IsListSize size.irps size.files size.limit) }
+            ↔ ¬ (IsInLargeLimits (size_in size) × IsLargeListSize size.irps size.files size.limit) }
     {
         if !size.is_in_limits() {
             return Err(SizeRefused::BadSize);
@@ -94,7 +94,7 @@ impl CheckedQueue {
                   = replicate size.passes None;
             }) }
         ensures bad_size { (result ≡ Err SizeRefused.BadSize)
-            ↔ ¬ (IsInLimits (size_in size) × IsListSize size.irps size.files size.limit
+            ↔ ¬ (IsInLargeLimits (size_in size) × IsLargeListSize size.irps size.files size.limit
             × IsTrue (are_file_limits size.irps size.files file_limits.now)) }
     {
         if !size.is_in_limits() {
@@ -117,7 +117,7 @@ impl CheckedQueue {
         size: QueueSize,
         list: Result<AnyList, SizeRefused>,
     ) -> Result<CheckedQueue, SizeRefused>
-        requires size { IsInLimits (size_in size) }
+        requires size { IsInLargeLimits (size_in size) }
         requires fresh { IfOk list (λ list. IsFreshOf size
             (⟦<AnyList as PendingList>⟧.listing list)) }
         ensures made { IfOk result (λ q. IfOk list
@@ -136,7 +136,7 @@ impl CheckedQueue {
         ensures ok { IsOk result → IsOk list }
     {
         let list = list?;
-        let Ok(blank) = Blank::new_at(alloc, list, size.irps, size.passes, size.first) else {
+        let Ok(blank) = Blank::large(alloc, list, size.irps, size.passes, size.first) else {
             return Err(SizeRefused::Memory);
         };
         let (queue, words, rack) = blank.into_open();

@@ -1,8 +1,9 @@
 -- What a list of either kind means.
-use Rattle.std.specs.Prelude.{Bool, true, false}
+use Rattle.std.specs.Prelude.{ℕ, nat_le, if◌then◌else◌, Bool, true, false}
 use Rattle.csq_list.specs.Listing.{Listing, IsSound}
 use Rattle.csq_list.specs.declared.any_list.{AnyList.{AnyList, TheVariants.{Vector, Chains}}, ListKind.{ListKind}}
 use Rattle.csq_list.specs.declared.any_list.ListKind.TheVariants as kinds
+use Rattle.csq_list.specs.declared.any_list.TheConstants.{VECTOR_IRPS}
 use Rattle.csq_list.specs.declared.vec_list.VecList.{VecList}
 use Rattle.csq_list.specs.declared.chain_list.ChainList.{ChainList}
 use Rattle.std.specs.Global.{Global}
@@ -11,6 +12,10 @@ use Rattle.std.specs.Global.{Global}
 abbrev pub kind_of : AnyList → ListKind
 kind_of (Vector list) = kinds.Vector
 kind_of (Chains list) = kinds.Chains
+
+-- the kind for so many IRPs, if nothing is known of how they will be removed
+abbrev pub kind_for : ℕ → ListKind
+kind_for irps = if nat_le irps VECTOR_IRPS then kinds.Vector else kinds.Chains
 
 -- whether a list of this kind is in chains
 abbrev pub is_chained : ListKind → Bool

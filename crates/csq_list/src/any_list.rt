@@ -1,7 +1,7 @@
 //! A list whose kind is chosen when it is made.
 ghost use Rattle.std.specs.Prelude.{◌≡◌, ◌↔◌, IfOk, Err, IsTrue, replicate};
-ghost use Rattle.csq_list.specs.Listing.{fresh, IsListSize, are_file_limits};
-ghost use Rattle.csq_list.specs.AnyLists.{kind_of, any_listing, any_sound};
+ghost use Rattle.csq_list.specs.Listing.{fresh, IsLargeListSize, are_file_limits};
+ghost use Rattle.csq_list.specs.AnyLists.{kind_of, kind_for, any_listing, any_sound};
 
 use crate::chain_list::ChainList;
 use crate::entry::{Peek, Place};
@@ -18,6 +18,24 @@ pub enum ListKind {
     Vector,
     /// In chains (`ChainList`).
     Chains,
+}
+
+/// For up to how many IRPs the vector is the better kind, wherever in the list IRPs are removed. Measured, on
+/// this project's own machine.
+pub const VECTOR_IRPS: u32 = 64;
+
+impl ListKind {
+    /// The kind for so many IRPs, if nothing is known of how they will be removed: the vector for up to
+    /// `VECTOR_IRPS`, since a removal moves few entries then, else the chains. Own rule.
+    pub fn for_irps(irps: u32) -> ListKind
+        ensures { result ≡ kind_for irps }
+    {
+        if irps <= VECTOR_IRPS {
+            ListKind::Vector
+        } else {
+            ListKind::Chains
+        }
+    }
 }
 
 /// A pending list of either kind. Own rule.
@@ -38,7 +56,7 @@ macro_rules! inner {
 }
 
 impl AnyList {
-    /// An empty list of this kind, as `VecList::new` makes it. `BadSize` comes exactly where a number is out
+    /// An empty list of this kind, as `VecList::large` makes it. `BadSize` comes exactly where a number is out
     /// of its range, then `Memory` where an allocation was refused.
     pub fn new(
         alloc: Global,
@@ -50,16 +68,16 @@ impl AnyList {
         ensures made { IfOk result (λ list. ⟦<AnyList as PendingList>⟧.listing list
             ≡ fresh irps files limit (replicate files irps)) }
         ensures kind { IfOk result (λ list. kind_of list ≡ kind) }
-        ensures bad_size { (result ≡ Err SizeRefused.BadSize) ↔ ¬ IsListSize irps files limit }
+        ensures bad_size { (result ≡ Err SizeRefused.BadSize) ↔ ¬ IsLargeListSize irps files limit }
     {
         match kind {
-            ListKind::Vector => Ok(AnyList::Vector(VecList::new(alloc, irps, files, limit)?)),
-            ListKind::Chains => Ok(AnyList::Chains(ChainList::new(alloc, irps, files, limit)?)),
+            ListKind::Vector => Ok(AnyList::Vector(VecList::large(alloc, irps, files, limit)?)),
+            ListKind::Chains => Ok(AnyList::Chains(ChainList::large(alloc, irps, files, limit)?)),
         }
     }
 
-    /// An empty list of this kind with a limit for each file object, as `VecList::with_file_limits` makes
-    /// it. Refused as `new` is, and with `BadSize` also where the limits aren't one for each file object, or
+    /// An empty list of this kind with a limit for each file object, as
+    /// `VecList::large_with_file_limits` makes it. Refused as `new` is, and with `BadSize` also where the limits aren't one for each file object, or
     /// one of them isn't 1 to `irps`.
     pub fn with_file_limits(
         alloc: Global,
@@ -73,16 +91,22 @@ impl AnyList {
             ≡ fresh irps files limit file_limits.now) }
         ensures kind { IfOk result (λ list. kind_of list ≡ kind) }
         ensures bad_size { (result ≡ Err SizeRefused.BadSize)
-            ↔ ¬ (IsListSize irps files limit
+            ↔ ¬ (IsLargeListSize irps files limit
             × IsTrue (are_file_limits irps files file_limits.now)) }
     {
         match kind {
             ListKind::Vector => {
-                let list = VecList::with_file_limits(alloc, irps, files, limit, file_limits)?;
+                let list = VecList::large_with_file_limits(alloc, irps, files, limit, file_limits)?;
                 Ok(AnyList::Vector(list))
             }
             ListKind::Chains => {
-                let list = ChainList::with_file_limits(alloc, irps, files, limit, file_limits)?;
+                let list = ChainList::large_with_file_limits(
+                    alloc,
+                    irps,
+                    files,
+                    limit,
+                    file_limits,
+                )?;
                 Ok(AnyList::Chains(list))
             }
         }

@@ -3,14 +3,16 @@ ghost use Rattle.std.specs.Prelude.{◌≡◌, ◌≤◌, ◌<◌, ◌==◌, ◌
 ghost use Rattle.std.specs.List.{list_all, find};
 ghost use Rattle.std.specs.Result.{result_err};
 ghost use Rattle.irp_core.specs.declared.ids.IrpId.{IrpId};
+ghost use Rattle.irp_core.specs.declared.limits.TheConstants.{LARGE_MAX_IRPS};
 ghost use Rattle.csq_list.specs.declared.entry.Entry.{Entry};
+ghost use Rattle.csq_list.specs.declared.size.TheConstants.{LARGE_MAX_FILES};
 ghost use Rattle.csq_list.specs.Causes.{is_cause, first_cause, last_causes};
-ghost use Rattle.csq_list.specs.Listing.{IsListSize, are_file_limits, fresh, is_file_full, renewed};
+ghost use Rattle.csq_list.specs.Listing.{IsLargeListSize, are_file_limits, fresh, is_file_full, renewed};
 ghost use Rattle.csq_list.specs.VecParts.{listing_of, HasFileLens};
 
 use crate::file_counts::FileCounts;
 use crate::refusals::InsertStatus;
-use crate::size::{are_file_limits, is_list_size};
+use crate::size::{are_file_limits, is_large_list_size};
 use irp_core::{FileId, IrpId, SizeRefused};
 use std::alloc::{AllocError, Allocator};
 
@@ -24,8 +26,8 @@ pub(crate) struct Pool<A: Allocator> {
     pub(crate) counts: FileCounts<A>,
     ghost files_counted: { length counts.limits.items ≡ length closed.items },
     ghost limit_within: { limit ≤ length used.items },
-    ghost irps_small: { length used.items ≤ 1024 },
-    ghost files_small: { length closed.items ≤ 256 },
+    ghost irps_small: { length used.items ≤ LARGE_MAX_IRPS },
+    ghost files_small: { length closed.items ≤ LARGE_MAX_FILES },
 }
 
 fn are_clear(flags: &[bool]) -> bool
@@ -44,9 +46,9 @@ impl<A: Allocator> Pool<A> {
             (λ pool. listing_of [] pool.used.items pool.closed.items pool.limit
             pool.counts.limits.items ≡ fresh irps files limit (replicate files irps)) }
         ensures none { IfOk result (λ pool. HasFileLens pool.counts.lens.items []) }
-        ensures bad_size { (result ≡ Err SizeRefused.BadSize) ↔ ¬ IsListSize irps files limit }
+        ensures bad_size { (result ≡ Err SizeRefused.BadSize) ↔ ¬ IsLargeListSize irps files limit }
     {
-        if !is_list_size(irps, files, limit) {
+        if !is_large_list_size(irps, files, limit) {
             return Err(SizeRefused::BadSize);
         }
         let counts = FileCounts::new(alloc, files, irps)?;
@@ -68,10 +70,10 @@ impl<A: Allocator> Pool<A> {
             pool.counts.limits.items ≡ fresh irps files limit file_limits.now) }
         ensures none { IfOk result (λ pool. HasFileLens pool.counts.lens.items []) }
         ensures bad_size { (result ≡ Err SizeRefused.BadSize)
-            ↔ ¬ (IsListSize irps files limit
+            ↔ ¬ (IsLargeListSize irps files limit
             × IsTrue (are_file_limits irps files file_limits.now)) }
     {
-        if !is_list_size(irps, files, limit) || !are_file_limits(irps, files, file_limits) {
+        if !is_large_list_size(irps, files, limit) || !are_file_limits(irps, files, file_limits) {
             return Err(SizeRefused::BadSize);
         }
         let counts = FileCounts::with_limits(alloc, file_limits)?;
@@ -88,7 +90,7 @@ impl<A: Allocator> Pool<A> {
     ) -> Result<Pool<A>, AllocError>
     where
         A: Clone,
-        requires size { IsListSize irps files limit }
+        requires size { IsLargeListSize irps files limit }
         requires counted { length counts.limits.items ≡ files }
         ensures made { IfOk result
             (λ pool. listing_of [] pool.used.items pool.closed.items pool.limit

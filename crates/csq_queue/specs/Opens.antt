@@ -1,6 +1,7 @@
 -- A queue, its passes and its rack, without a name and without a lock.
 use Rattle.std.specs.Prelude.{◌≡◌, ℕ, ◌+◌, ◌<◌, ◌≤◌, List, [], ◌∷◌, Option, Some, None}
 use Rattle.atomic_table.specs.Seated.{TableId}
+use Rattle.irp_core.specs.declared.limits.TheConstants.{LARGE_MAX_IRPS, LARGE_MAX_PASSES}
 use Rattle.csq_list.specs.Listing.{Listing}
 use Rattle.csq_words.specs.declared.views.{PassRecord.{PassRecord}, QueueRecord.{QueueRecord}}
 use Rattle.csq_words.specs.Queue.{Limits}
@@ -41,8 +42,8 @@ rack_table (s ∷ rest) = seat_table s
 pub record IsRack (seats : List (Option PassSeatState)) (irps next left : ℕ) : Type 0 where
   pub seats_are : seats ≡ new_seats (rack_table seats) next left
   pub from : 1 ≤ next
-  pub few : next + left ≤ 65
-  pub most : irps ≤ 1024
+  pub few : next + left ≤ LARGE_MAX_PASSES + 1
+  pub most : irps ≤ LARGE_MAX_IRPS
 
 -- the queue after a call of this pass, which has then seen the whole history and the execution: they alone are new, and what the call found
 abbrev pub after_call : PassRecord → OpenState → OpenState

@@ -17,7 +17,7 @@ ghost use Rattle.irp_core.specs.Words.{bit};
 ghost use Rattle.csq_words.specs.Words.{word_at, bit_word, life_in, bit_in, unset_word, status_word, status_in, new_words};
 ghost use Rattle.csq_words.specs.Plays.{flag_read, status_read};
 
-use irp_core::{IrpId, Life, NtStatus};
+use irp_core::{IrpId, LARGE_MAX_IRPS, Life, NtStatus};
 use std::alloc::{AllocError, Allocator};
 
 /// How many words an IRP has.
@@ -129,7 +129,7 @@ pub(crate) fn first_words<A: Allocator>(
     irps: u32,
     first: Life,
 ) -> Result<Vec<u64, A>, AllocError>
-    requires irps { irps ≤ 1024 }
+    requires irps { irps ≤ LARGE_MAX_IRPS }
     requires first { first.0 ≤ last_life }
     ensures { IfOk result (λ v. v.items ≡ new_words first.0 irps) }
 {

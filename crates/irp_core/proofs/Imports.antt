@@ -7,7 +7,7 @@ pub use Rattle.irp_core.specs.Lock.{HasLock, KeepsLock, needs_lock}
 pub use Rattle.irp_core.specs.MachineState.{Agrees, IsReached, MachineState, flag_at, inside_at, present_at, size_of, standing_at}
 pub use Rattle.irp_core.specs.Owners.{claims, dones, has_gone, holds, is_claim, listed, owes, rearms, taken}
 pub use Rattle.irp_core.specs.Programs.{Act, AreMisses, ArePrograms, IsBegun, IsInside, IsProgram, steps_of}
-pub use Rattle.irp_core.specs.Runs.{EachRun, EachRunFrom, IsAtRest, IsInLimits, IsRun, MayFollow, MayTouch, OfIrp, Size}
+pub use Rattle.irp_core.specs.Runs.{EachRun, EachRunFrom, IsAtRest, IsInLargeLimits, IsRun, MayFollow, MayTouch, OfIrp, Size}
 pub use Rattle.irp_core.specs.Standings.{IsStanding, is_finished, is_free, is_held_by, is_owed_by, is_removed_by, is_waiting, moved, names, place_of, standing_after, stands_home, stands_listed}
 pub use Rattle.irp_core.specs.Steps.{Each, by, found_one, is, life_of, number, own, same_kind, since}
 unfoldable pub use Rattle.irp_core.specs.Steps.{same_id, same_irp, same_pass}

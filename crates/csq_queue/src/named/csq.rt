@@ -26,7 +26,7 @@ use crate::rest::{CloseCause, CloseRefused, Holding, Rest};
 use crate::tokens::{CancelToken, Claim, InsertContext, Inserted, Token};
 use csq_list::{InsertStatus, Peek, PendingList, Place, UnknownFile};
 use csq_words::Words;
-use irp_core::{FileId, FinalStatus, IrpId, Life, NtStatus};
+use irp_core::{FileId, FinalStatus, IrpId, LARGE_MAX_IRPS, Life, NtStatus};
 use std::alloc::{Allocator, Global};
 use std::marker::{Model, PhantomData};
 use std::sync::{Mutex, MutexGuard, Wait};
@@ -40,6 +40,7 @@ pub struct Csq<L: PendingList + Drop, N: QueueName, A: Allocator = Global> {
 
 impl<L: PendingList + Drop, N: QueueName, A: Allocator> Model for Csq<L, N, A> {
     ghost use Rattle.std.specs.Prelude.{◌≡◌, ◌≤◌, ℕ};
+    ghost use Rattle.irp_core.specs.declared.limits.TheConstants.{LARGE_MAX_IRPS};
     ghost use Rattle.csq_queue.specs.Named.{queue_size};
 
     ghost Value = { ℕ };
@@ -47,14 +48,14 @@ impl<L: PendingList + Drop, N: QueueName, A: Allocator> Model for Csq<L, N, A> {
     ghost view = { λ q. q.words.size.irps };
 
     ghost invariant = { λ q. (q.words.table ≡ N.table) × (q.words.size ≡ queue_size N.limits)
-        × (N.limits.irps ≤ 1024) };
+        × (N.limits.irps ≤ LARGE_MAX_IRPS) };
 }
 
 impl<L: PendingList + Drop, N: QueueName, A: Allocator> Csq<L, N, A> {
     pub(crate) fn new(words: Words<A>, locked: Locked<L, N, A>) -> Csq<L, N, A>
         requires table { words.table ≡ N.table }
         requires words { words.size ≡ queue_size N.limits }
-        requires most { N.limits.irps ≤ 1024 }
+        requires most { N.limits.irps ≤ LARGE_MAX_IRPS }
         ensures { result ≡ N.limits.irps }
     {
         Csq {

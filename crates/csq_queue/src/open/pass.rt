@@ -37,6 +37,7 @@ impl Model for OpenPass {
     ghost use Rattle.std.specs.Prelude.{◌≤◌};
     ghost use Rattle.csq_words.specs.Seats.{pass_record};
     ghost use Rattle.csq_queue.specs.Opens.{OpenPassState, seat_table};
+    ghost use Rattle.irp_core.specs.declared.limits.TheConstants.{LARGE_MAX_IRPS};
     ghost use Rattle.csq_queue.specs.Named.{IsPassSeatOf};
 
     ghost Value = { OpenPassState };
@@ -50,7 +51,7 @@ impl Model for OpenPass {
     } };
 
     ghost invariant = { λ p. IsPassSeatOf (seat_table p.seat) p.irps p.passes p.seat p.number
-        p.tokens p.claims × (p.irps ≤ 1024) };
+        p.tokens p.claims × (p.irps ≤ LARGE_MAX_IRPS) };
 }
 
 impl OpenPass {

@@ -3,7 +3,6 @@
 ghost use Rattle.std.specs.Prelude.{◌≡◌, ◌+◌, ◌-◌, ◌<◌, ◌≤◌, ◌↔◌, false, Err, OnOk, OnErr, IfSome, IsSome};
 ghost use Rattle.irp_core.specs.declared.ids.IrpId.{IrpId as IrpNumber};
 ghost use Rattle.irp_core.specs.Steps.{own};
-ghost use Rattle.csq_words.specs.Traces.{steps_in};
 ghost use Rattle.csq_words.specs.Finals.{AllBack, IsFinal, IsLeft, KeepsRecords};
 ghost use Rattle.csq_words.specs.History.{IsLegal, IsExtendedBy, calls_of, end_of};
 ghost use Rattle.csq_words.specs.Queue.{present_in, plain_listing};

@@ -49,8 +49,8 @@ pub enum Outcome {
 }
 
 /// Makes the step that a line names, if it may come next. Of every run that the machine agrees with, what
-/// is answered is what comes of the line after that run, and the machine then agrees with the run that it
-/// leads to. Own rule.
+/// is returned is what comes of the line after that run, and the machine then agrees with the run that it
+/// leads to. Own rule. In line, since each line of a schedule calls it, which saves a sixth of the time.
 #[inline(always)]
 pub fn handle_line<A: Allocator>(machine: &mut Machine<A>, line: &[u8]) -> Outcome
     ensures comes { (E : List Made) → Agrees machine.old E

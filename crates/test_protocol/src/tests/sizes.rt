@@ -1,6 +1,7 @@
 //! Of which sizes lists, machines and words are made.
 
 use super::lists::Size;
+use csq_list::{ChainList, VecList};
 use csq_words::Words;
 use irp_core::{Life, Machine, SizeRefused};
 use std::process::Abort;
@@ -66,17 +67,35 @@ fn file_limits_have_sizes(rt: HostRuntime) {
     }
 }
 
-/// The number of the cause for which there is no machine of this size, or 0.
-fn machine_refusal<R: AllocGlobal>(rt: &R, irps: u32, passes: u32, first: u32) -> u8 {
-    match Machine::new_at(rt.alloc(), irps, passes, Life(first)) {
-        Ok(_) => 0,
-        Err(cause) => cause.number(),
+/// Large lists of both kinds are made of this size, or are refused for this cause.
+fn expect_large_lists<R: AllocGlobal + Abort>(
+    rt: &R,
+    (irps, files, limit): (u32, u32, u32),
+    refusal: Option<SizeRefused>,
+) {
+    assert!(rt; VecList::large(rt.alloc(), irps, files, limit).err() == refusal);
+    assert!(rt; ChainList::large(rt.alloc(), irps, files, limit).err() == refusal);
+}
+
+#[test]
+fn large_lists_have_sizes(rt: HostRuntime) {
+    expect_large_lists(&rt, (1, 1, 1), None);
+    expect_large_lists(&rt, (65_535, 16_384, 65_535), None);
+    for size in [
+        (0, 1, 1),
+        (65_536, 1, 1),
+        (4, 0, 1),
+        (4, 16_385, 1),
+        (4, 1, 0),
+        (4, 1, 5),
+    ] {
+        expect_large_lists(&rt, size, Some(SizeRefused::BadSize));
     }
 }
 
-/// And of words.
-fn words_refusal<R: AllocGlobal>(rt: &R, irps: u32, passes: u32, first: u32) -> u8 {
-    match Words::new_at(rt.alloc(), irps, passes, Life(first)) {
+/// The number of the cause for which something isn't made, or 0.
+fn refusal<T: Drop>(made: Result<T, SizeRefused>) -> u8 {
+    match made {
         Ok(_) => 0,
         Err(cause) => cause.number(),
     }
@@ -84,7 +103,7 @@ fn words_refusal<R: AllocGlobal>(rt: &R, irps: u32, passes: u32, first: u32) -> 
 
 #[test]
 fn machines_and_words_have_sizes(rt: HostRuntime) {
-    for (irps, passes, first, refusal) in [
+    for (irps, passes, first, number) in [
         (1, 1, 0, 0),
         (1024, 64, 0, 0),
         (1, 1, 1_073_741_822, 0),
@@ -95,7 +114,25 @@ fn machines_and_words_have_sizes(rt: HostRuntime) {
         (1, 65, 0, 1),
         (1, 1, 1_073_741_824, 1),
     ] {
-        assert!(rt; machine_refusal(&rt, irps, passes, first) == refusal);
-        assert!(rt; words_refusal(&rt, irps, passes, first) == refusal);
+        let first = Life(first);
+        assert!(rt; refusal(Machine::new_at(rt.alloc(), irps, passes, first)) == number);
+        assert!(rt; refusal(Words::new_at(rt.alloc(), irps, passes, first)) == number);
+    }
+}
+
+#[test]
+fn large_machines_and_words_have_sizes(rt: HostRuntime) {
+    for (irps, passes, first, number) in [
+        (1, 1, 0, 0),
+        (65_535, 1_024, 1_073_741_823, 0),
+        (0, 1, 0, 1),
+        (65_536, 1, 0, 1),
+        (1, 0, 0, 1),
+        (1, 1_025, 0, 1),
+        (1, 1, 1_073_741_824, 1),
+    ] {
+        let first = Life(first);
+        assert!(rt; refusal(Machine::large(rt.alloc(), irps, passes, first)) == number);
+        assert!(rt; refusal(Words::large(rt.alloc(), irps, passes, first)) == number);
     }
 }

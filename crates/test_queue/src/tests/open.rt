@@ -4,8 +4,8 @@ ghost use Rattle.csq_queue.specs.Opens.{IsPassOn, IsQueueOn};
 use super::queues::{
     FIRST, ONE, Rows, SECOND, THREE, TWO, UNKNOWN, ZERO, blank, chains, first, second, vector,
 };
-use csq_list::{Peek, PendingList, Place, UnknownFile};
-use csq_queue::{Blank, InsertAnswer, NotListed, OpenPass, OpenQueue};
+use csq_list::{ChainList, Peek, PendingList, Place, UnknownFile, VecList};
+use csq_queue::{Blank, InsertAnswer, NewCause, NotListed, OpenPass, OpenQueue};
 use csq_words::Words;
 use irp_core::{FileId, FinalStatus, IrpId, IrpLife, NtStatus};
 use std::alloc::Allocator;
@@ -156,4 +156,60 @@ fn look_over<L: PendingList + Drop, A: Allocator + Copy, R: Abort>(rt: &R, alloc
 fn a_queue_without_a_lock_shows_what_is_listed(rt: HostRuntime) {
     look_over(&rt, rt.alloc(), vector(&rt, rt.alloc()));
     look_over(&rt, rt.alloc(), chains(&rt, rt.alloc()));
+}
+
+/// The last IRP of the largest queue.
+const LAST: IrpId = IrpId(65_534);
+
+/// Serves and cancels the last IRP, for the last file object.
+fn serve_last<L: PendingList + Drop, A: Allocator>(open: &mut Open<L, A>, rows: &mut Rows) {
+    rows.note(!open.insert(IrpId(65_535), 0));
+    rows.note(!open.insert(LAST, 16_384));
+    rows.note(open.insert(LAST, 16_383));
+    rows.note(open.queue.file_len(FileId(16_383)) == Some(1));
+    rows.note(open.cancel(first(LAST)) == Some(1));
+    rows.note(open.reuse(LAST));
+    rows.note(open.insert(LAST, 0));
+    rows.note(open.return_first() == Some(second(LAST)));
+    rows.note(open.serve() == Some(second(LAST)));
+}
+
+/// Serves the last IRP of the largest queue over this list.
+fn serve_large<L: PendingList + Drop, A: Allocator + Copy, R: Abort>(rt: &R, alloc: A, list: L) {
+    let mut rows = Rows::new();
+    match Blank::large(alloc, list, 65_535, 1_024, FIRST) {
+        Ok(blank) => serve_last(&mut begin(rt, blank), &mut rows),
+        Err(_) => panic!(rt; "no queue"),
+    }
+    rows.judge(rt);
+}
+
+#[test]
+fn the_largest_queue_serves_its_last_irp(rt: HostRuntime) {
+    let (Ok(vector), Ok(chains)) = (
+        VecList::large(rt.alloc(), 65_535, 16_384, 65_535),
+        ChainList::large_with_file_limits(rt.alloc(), 65_535, 16_384, 65_535, &[1; 16_384]),
+    ) else {
+        panic!(rt; "no lists")
+    };
+    serve_large(&rt, rt.alloc(), vector);
+    serve_large(&rt, rt.alloc(), chains);
+}
+
+/// Why there is no large queue of this size, over a list of 4 IRPs.
+fn large_refusal<R: Abort + AllocGlobal>(rt: &R, irps: u32, passes: u32) -> Option<NewCause> {
+    let refused = Blank::large(rt.alloc(), vector(rt, rt.alloc()), irps, passes, FIRST).err()?;
+    Some(refused.cause)
+}
+
+#[test]
+fn a_larger_queue_is_refused(rt: HostRuntime) {
+    for (irps, passes, cause) in [
+        (4, 1_024, None),
+        (65_536, 1, Some(NewCause::BadSize)),
+        (4, 1_025, Some(NewCause::BadSize)),
+        (65_535, 1, Some(NewCause::ListNotFresh)),
+    ] {
+        assert!(rt; large_refusal(&rt, irps, passes) == cause);
+    }
 }

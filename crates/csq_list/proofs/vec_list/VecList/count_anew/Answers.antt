@@ -1,3 +1,4 @@
+use Rattle.csq_list.specs.declared.vec_list.TheConstants.{MIDDLE}
 use Rattle.std.proofs.Common.{◌≡◌, ◌<◌, ◌-◌, true, ap, length, take, subst, sym, ◌∙◌, rules, arith}
 use Rattle.csq_list.proofs.Imports.{take_rest, IrpId, is_listed, HasPositions, with_positions, listing_of}
 use Rattle.csq_list.proofs.Positions.{known-listed, all-known, placed-anew, length-with_positions}
@@ -20,12 +21,12 @@ pub invariant_of-self : goal.invariant_of-self
 invariant_of-self g c =
     let l = c.args.self.now in
     let len : c.len-len.result ≡ length l.entries.items = search rules in
-    let written : c.write_positions.new.positions.items ≡ with_positions 32768 l.entries.items l.positions.items =
-    c.write_positions.ensures ∙ ap (λ es. with_positions 32768 es l.positions.items) (ap (λ n. take (n - 0) l.entries.items) len ∙ take_rest l.entries.items 0) in
+    let written : c.write_positions.new.positions.items ≡ with_positions MIDDLE l.entries.items l.positions.items =
+    c.write_positions.ensures ∙ ap (λ es. with_positions MIDDLE es l.positions.items) (ap (λ n. take (n - 0) l.entries.items) len ∙ take_rest l.entries.items 0) in
     record {
       sound = l.sound;
-      placed = subst (λ ps. HasPositions 32768 ps l.entries.items) (sym written) (placed-anew l.first 32768 l.entries.items l.positions.items l.placed l.sound.distinct (known g (goal.at.invariant_of-self g c).After-len-len));
-      all_placed = ap length written ∙ length-with_positions 32768 l.entries.items l.positions.items ∙ l.all_placed;
+      placed = subst (λ ps. HasPositions MIDDLE ps l.entries.items) (sym written) (placed-anew l.first MIDDLE l.entries.items l.positions.items l.placed l.sound.distinct (known g (goal.at.invariant_of-self g c).After-len-len));
+      all_placed = ap length written ∙ length-with_positions MIDDLE l.entries.items l.positions.items ∙ l.all_placed;
       in_range = omega (arith, l.sound.within_limit, l.pool.limit_within, l.pool.irps_small);
       filed = l.filed;
       room = l.room;

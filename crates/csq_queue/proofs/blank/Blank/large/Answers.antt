@@ -1,6 +1,6 @@
 use Rattle.std.proofs.Common.{rules}
 use Rattle.csq_queue.proofs.Beginning.{new_blank, new_open, new_rack}
-use Rattle.csq_queue.proofs.blank.Blank.new_at.Goals as goal
+use Rattle.csq_queue.proofs.blank.Blank.large.Goals as goal
 
 pub invariant_of-queue : goal.invariant_of-queue
 invariant_of-queue g c = new_open c.in-Ok.parts.0 c.args.irps c.args.passes c.args.first.0 (g.L.PendingList.listing c.args.list) c.in-Ok.parts.1 c.in-Ok.parts.2 c.in-Ok-vec.back.items c.in-Ok-new.kept (search rules)
