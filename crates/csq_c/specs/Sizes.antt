@@ -1,5 +1,5 @@
 -- How large a queue C wants, and the queue that it gets.
-use Rattle.std.specs.Prelude.{◌≡◌, ℕ, ◌==◌, true, ◌||◌, List, replicate, Option, Some, None, if◌then◌else◌}
+use Rattle.std.specs.Prelude.{◌≡◌, ◌≤◌, ℕ, ◌==◌, List, replicate, Option, Some, None, if◌then◌else◌}
 use Rattle.irp_core.specs.Runs.{IsInLargeLimits}
 use Rattle.csq_list.specs.Listing.{IsLargeListSize, fresh}
 use Rattle.atomic_table.specs.Seated.{TableId}
