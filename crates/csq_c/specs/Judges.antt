@@ -1,5 +1,5 @@
 -- What a judgement of a driver's peek, or of what its cleanup left, answers to C.
-use Rattle.std.specs.Prelude.{◌≡◌, ℕ, List, Option, Some, None, if◌then◌else◌}
+use Rattle.std.specs.Prelude.{◌≡◌, ℕ, List, Option, Some, None, MatchOption, if◌then◌else◌}
 use Rattle.irp_core.specs.declared.ids.{FileId.{FileId}, IrpId.{IrpId}}
 use Rattle.csq_list.specs.declared.entry.{Entry.{Entry}, Peek.{Peek}}
 use Rattle.csq_audit.specs.Cleanups.{cleanup_verdict, first_left}
@@ -9,10 +9,11 @@ use Rattle.csq_audit.specs.declared.cleanup.CleanupVerdict.{CleanupVerdict}
 use Rattle.csq_audit.specs.declared.cleanup.CleanupVerdict.TheVariants as cleanup
 use Rattle.csq_audit.specs.declared.peek.PeekVerdict.{PeekVerdict}
 use Rattle.csq_audit.specs.declared.peek.PeekVerdict.TheVariants as verdict
+use Rattle.csq_queue.specs.Looks.{listed_for}
 use Rattle.csq_c.specs.Bodies.{QueueBodyState}
 use Rattle.csq_c.specs.Lefts.{is_start}
 use Rattle.csq_c.specs.Looks.{OnOpen}
-use Rattle.csq_c.specs.declared.codes.Code.{Code, TheVariants.{Done, NotListed}}
+use Rattle.csq_c.specs.declared.codes.Code.{Code, TheVariants.{Done, UnknownFile, NotListed}}
 
 -- the verdict of a peek's answer, where the peek may go on after that IRP
 abbrev pub judged : List Entry → Option IrpId → Peek → Option IrpId → Option PeekVerdict
@@ -49,9 +50,10 @@ abbrev pub skipped_stored : Option PeekVerdict → Option ℕ
 skipped_stored None = None
 skipped_stored (Some v) = skipped_by v
 
--- an open queue's verdict of what a cleanup of f left, but for the excused
+-- an open queue's verdict of what a cleanup of f left, except the excused, if it has such a file object
 abbrev pub JudgesCleanupOf : FileId → List ℕ → QueueBodyState → Code → Option CleanupVerdict → Type 0
-JudgesCleanupOf f excused body code stored = OnOpen body code (stored ≡ None) (λ q. (code ≡ Done) × (stored ≡ Some (cleanup_verdict (first_left excused f (listed q)))))
+JudgesCleanupOf f excused body code stored = OnOpen body code (stored ≡ None) (λ q. MatchOption (listed_for q.queue f)
+    ((code ≡ UnknownFile) × (stored ≡ None)) (λ _. (code ≡ Done) × (stored ≡ Some (cleanup_verdict (first_left excused f (listed q))))))
 
 -- the number of the IRP that is left, or the largest one
 abbrev pub left_number : CleanupVerdict → ℕ

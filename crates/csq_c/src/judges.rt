@@ -36,13 +36,16 @@ impl QueueBody {
         }
     }
 
-    /// The verdict of what a cleanup left, where the queue is open.
+    /// The verdict of what a cleanup left, if the queue is open and has such a file object.
     fn judge_cleanup(&self, file: FileId, excused: &[u32]) -> (Code, Option<CleanupVerdict>)
         ensures { JudgesCleanupOf file excused.now self.now result.0 result.1 }
     {
-        match &self.queue {
-            None => (Code::Closed, None),
-            Some(queue) => (Code::Done, Some(judge_cleanup(queue, file, excused))),
+        let Some(queue) = &self.queue else {
+            return (Code::Closed, None);
+        };
+        match queue.file_len(file) {
+            None => (Code::UnknownFile, None),
+            Some(_) => (Code::Done, Some(judge_cleanup(queue, file, excused))),
         }
     }
 }
@@ -111,8 +114,9 @@ fn left_of(verdict: Option<CleanupVerdict>) -> Option<u32>
     }
 }
 
-/// Looks for what a driver's `IRP_MJ_CLEANUP` left of a file object in the list, but for IRPs of these
-/// numbers, which it may leave. Writes the first IRP that is left, or the largest number: CSQ_OK. Own rule.
+/// Looks for what a driver's `IRP_MJ_CLEANUP` left of a file object in the list, except IRPs of these
+/// numbers, which it may leave. Writes the first IRP that is left, or the largest number: CSQ_OK, or
+/// CSQ_UNKNOWN_FILE if there is no such file object. Own rule.
 #[unsafe(no_mangle)]
 pub extern "C" fn csq_judge_cleanup(
     queue: &mut CsqQueue,
