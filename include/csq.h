@@ -423,8 +423,8 @@ uint32_t csq_judge_peek(const struct csq_queue *queue, uint32_t after, uint32_t 
 
 /* Judges what a driver's IRP_MJ_CLEANUP left of a file object in this queue's list, but for IRPs of these `count`
  * numbers, which it may leave: those that a canceller has, and those that came after it began. *left is the first that
- * is left, or CSQ_ANY where none is. `file` is one file object: none is listed for CSQ_ANY here, nor for an unknown one,
- * so none is left of them. CSQ_EMPTY_HANDLE; CSQ_CLOSED. Lock: held. */
+ * is left, or CSQ_ANY if none is. `file` is one file object: CSQ_ANY isn't one.
+ * CSQ_EMPTY_HANDLE; CSQ_CLOSED; CSQ_UNKNOWN_FILE. Lock: held. */
 uint32_t csq_judge_cleanup(const struct csq_queue *queue, uint32_t file, const uint32_t *excused, size_t count,
                            uint32_t *left);
 

@@ -60,15 +60,13 @@ static bool is_among(const uint32_t *irps, size_t count, uint32_t irp) {
 
 uint32_t csq_judge_cleanup(const struct csq_queue *queue, uint32_t file, const uint32_t *excused, size_t count,
                            uint32_t *left) {
-    uint32_t len, next = CSQ_ANY, code = csq_len(queue, &len);
+    uint32_t len, next = CSQ_ANY, code = csq_file_len(queue, file, &len);
     if (code != CSQ_OK) {
         return code;
     }
-    if (file != CSQ_ANY) {
-        do {
-            next = next_match(queue, next, file);
-        } while (next != CSQ_ANY && is_among(excused, count, next));
-    }
+    do {
+        next = next_match(queue, next, file);
+    } while (next != CSQ_ANY && is_among(excused, count, next));
     *left = next;
     return CSQ_OK;
 }

@@ -48,8 +48,7 @@ static void what_a_cleanup_left_is_reported(uint32_t list) {
     /* The list is 0 (file object 0), 1 (1), 2 (0), 3 (1). */
     static const struct cleaned rows[] = {
         { 0, { 9, 9 }, 0 },       { 1, { 9, 9 }, 1 },       { 0, { 0, 9 }, 2 }, { 0, { 2, 9 }, 0 },
-        { 0, { 2, 0 }, CSQ_ANY }, { 1, { 0, 2 }, 1 },       { 1, { 1, 0 }, 3 }, { 2, { 9, 9 }, CSQ_ANY },
-        { 1, { 1, 3 }, CSQ_ANY }, { CSQ_ANY, { 9, 9 }, CSQ_ANY },
+        { 0, { 2, 0 }, CSQ_ANY }, { 1, { 0, 2 }, 1 },       { 1, { 1, 0 }, 3 }, { 1, { 1, 3 }, CSQ_ANY },
     };
     struct device device = device_of(size_of(4, 2, list));
     uint32_t left = UNWRITTEN;
@@ -60,9 +59,13 @@ static void what_a_cleanup_left_is_reported(uint32_t list) {
         IS(csq_judge_cleanup(&device.queue, rows[at].file, rows[at].excused, 2, &left), CSQ_OK);
         IS(left, rows[at].left);
     }
-    IS(csq_judge_cleanup(&device.queue, 1, rows[8].excused, 1, &left), CSQ_OK);
+    IS(csq_judge_cleanup(&device.queue, 1, rows[7].excused, 1, &left), CSQ_OK);
     IS(left, 3);
-    IS(csq_judge_cleanup(&device.queue, 1, rows[8].excused, 0, &left), CSQ_OK);
+    IS(csq_judge_cleanup(&device.queue, 1, rows[7].excused, 0, &left), CSQ_OK);
+    IS(left, 1);
+    /* None is left of a file object that there isn't, but whoever asks for it asks for another one. */
+    IS(csq_judge_cleanup(&device.queue, 2, rows[7].excused, 0, &left), CSQ_UNKNOWN_FILE);
+    IS(csq_judge_cleanup(&device.queue, CSQ_ANY, rows[7].excused, 0, &left), CSQ_UNKNOWN_FILE);
     IS(left, 1);
     end(&device);
 }
