@@ -193,12 +193,14 @@ enum csq_use_verdict {
 };
 
 /* How a queue keeps its list: in one vector, which is used as a ring, or in chains (one over all listed IRPs, one for
- * each file object). The vector is the faster one where the next IRP is removed whatever its file object, the chains
- * where those of one file object are looked for among many. */
-enum { CSQ_VECTOR = 0, CSQ_CHAINS = 1 };
+ * each file object). The vector is the faster one where the next IRP is removed whatever its file object. But a removal
+ * from its middle moves the IRPs on the shorter side, and a look for a file object walks past those of others; the chains
+ * take the same time however many are listed. With CSQ_AUTO the library takes the vector for a queue of at most
+ * CSQ_AUTO_VECTOR_IRPS IRPs, and the chains for a larger one. */
+enum { CSQ_VECTOR = 0, CSQ_CHAINS = 1, CSQ_AUTO = 2, CSQ_AUTO_VECTOR_IRPS = 64 };
 
 /* The most IRPs, file objects and passes of a queue, and an IRP's last life. */
-enum { CSQ_MOST_IRPS = 1024, CSQ_MOST_FILES = 256, CSQ_MOST_PASSES = 64, CSQ_LAST_LIFE = 0x3FFFFFFF };
+enum { CSQ_MOST_IRPS = 65535, CSQ_MOST_FILES = 16384, CSQ_MOST_PASSES = 1024, CSQ_LAST_LIFE = 0x3FFFFFFF };
 
 /* In the place of a file object: of whatever file object. In the place of a listed IRP: from the first on. */
 #define CSQ_ANY UINT32_MAX
@@ -236,7 +238,7 @@ struct csq_size {
     uint32_t limit;      /* how many IRPs may be listed at a time: 1 to irps */
     uint32_t passes;     /* 1 to CSQ_MOST_PASSES */
     uint32_t first_life; /* the life in which all IRPs begin: 0 to CSQ_LAST_LIFE */
-    uint32_t list;       /* CSQ_VECTOR or CSQ_CHAINS */
+    uint32_t list;       /* CSQ_VECTOR, CSQ_CHAINS or CSQ_AUTO */
 };
 
 /* What a closed queue reports of an IRP in its present life. */
@@ -255,7 +257,8 @@ CSQ_NODISCARD uint32_t csq_new_queue(struct csq_queue *queue, const struct csq_s
 CSQ_NODISCARD uint32_t csq_new_queue_with_file_limits(struct csq_queue *queue, const struct csq_size *size,
                                                       const uint32_t *file_limits, size_t count);
 
-/* Makes a queue, as IoCsqInitializeEx does: no IRP is used, and each file object is open.
+/* Makes a queue, as IoCsqInitializeEx does: no IRP is used, and each file object is open. A queue of more than a hundred
+ * IRPs, or whose IRPs are removed by file object, by their names or by cancels, does best with CSQ_AUTO.
  * CSQ_NOT_EMPTY; CSQ_BAD_SIZE; CSQ_NO_MEMORY. Lock: not needed, for no other thread knows the queue yet. */
 CSQ_NODISCARD static inline uint32_t csq_new(struct csq_queue *queue, const struct csq_size *size) {
     uint32_t code = csq_new_queue(queue, size);

@@ -82,23 +82,24 @@ struct csq_requests_slot {
 struct csq_requests_file {
     pthread_cond_t listed; /* signalled when a request is listed that its workers wait for */
     uint32_t waiting;      /* how many wait for that */
+    uint32_t draining;     /* how many drains wait for `ended` */
     uint32_t under_way;    /* how many requests */
 };
 
 /* A queue of requests. Its fields are this header's own. The pass is used under the mutex alone. */
 struct csq_requests {
     pthread_mutex_t mutex;
-    pthread_cond_t ended; /* signalled for drains when a request ends or is put back */
+    pthread_cond_t ended; /* signalled for drains when a request that they wait for ends or is put back */
     struct csq_queue queue;
     struct csq_pass pass;
     struct csq_size size;
     struct csq_requests_events events;
     struct csq_requests_slot *slots; /* by IRP */
     struct csq_requests_file *files; /* by file object, and last for all */
-    uint32_t *free_irps;
+    uint32_t *free_irps; /* a ring: the one that has been free longest is used next, so that all wear evenly */
+    uint32_t free_first;
     uint32_t free_count;
-    uint32_t spent;    /* how many IRPs are past their last life */
-    uint32_t draining; /* how many threads wait for `ended` */
+    uint32_t spent; /* how many IRPs are past their last life */
     uint32_t closed;
 };
 
@@ -139,6 +140,13 @@ static inline int csq_requests_wait(struct csq_requests *requests, pthread_cond_
     return pthread_cond_timedwait(signal, &requests->mutex, end) == ETIMEDOUT;
 }
 
+/* Wakes the drains, if one of them waits for this file object. */
+static inline void csq_requests_wake_drains(struct csq_requests *requests, uint32_t file) {
+    if (csq_requests_file_of(requests, file)->draining + csq_requests_file_of(requests, CSQ_ANY)->draining > 0) {
+        pthread_cond_broadcast(&requests->ended);
+    }
+}
+
 /* Wakes one of those who wait for this file object, one of those who wait for any, and drains. */
 static inline void csq_requests_signal(struct csq_requests *requests, uint32_t file) {
     struct csq_requests_file *one = csq_requests_file_of(requests, file);
@@ -149,9 +157,12 @@ static inline void csq_requests_signal(struct csq_requests *requests, uint32_t f
     if (all->waiting > 0) {
         pthread_cond_signal(&all->listed);
     }
-    if (requests->draining > 0) {
-        pthread_cond_broadcast(&requests->ended);
-    }
+    csq_requests_wake_drains(requests, file);
+}
+
+/* The place of a free IRP in the ring. */
+static inline uint32_t *csq_requests_free_at(struct csq_requests *requests, uint32_t index) {
+    return &requests->free_irps[(requests->free_first + index) % requests->size.irps];
 }
 
 /* Begins the next life of an IRP that was completed, and makes it free. */
@@ -159,16 +170,14 @@ static inline void csq_requests_release(struct csq_requests *requests, struct cs
     struct csq_requests_slot *slot = &requests->slots[name.irp];
     uint32_t life = 0;
     if (csq_reuse(&requests->queue, &requests->pass, name, &life) == CSQ_OK) {
-        requests->free_irps[requests->free_count++] = name.irp;
+        *csq_requests_free_at(requests, requests->free_count++) = name.irp;
     } else { /* CSQ_LIVES_SPENT */
         requests->spent++;
     }
     slot->used = 0;
     csq_requests_file_of(requests, slot->file)->under_way--;
     csq_requests_file_of(requests, CSQ_ANY)->under_way--;
-    if (requests->draining > 0) {
-        pthread_cond_broadcast(&requests->ended);
-    }
+    csq_requests_wake_drains(requests, slot->file);
 }
 
 /* Completes a request as cancelled that the pass holds, with the events. The mutex is held before and after. */
@@ -193,7 +202,7 @@ static inline void *csq_requests_end_cancelled(struct csq_requests *requests, st
     return value;
 }
 
-/* Lists a value under a free IRP. */
+/* Lists a value under the IRP that has been free longest. */
 static inline uint32_t csq_requests_list(struct csq_requests *requests, void *value, uint32_t file, uint32_t front,
                                          struct csq_irp *name) {
     uint32_t irp, code;
@@ -203,12 +212,13 @@ static inline uint32_t csq_requests_list(struct csq_requests *requests, void *va
     if (requests->free_count == 0) {
         return requests->spent == requests->size.irps ? (uint32_t)CSQ_LIVES_SPENT : (uint32_t)CSQ_FULL;
     }
-    irp = requests->free_irps[requests->free_count - 1];
+    irp = *csq_requests_free_at(requests, 0);
     /* Never CSQ_CANCELLED: a cancel by the name of a free IRP is refused. */
     code = csq_insert(&requests->queue, &requests->pass, irp, file, front, name);
     if (code == CSQ_OK) {
         struct csq_requests_slot slot = { value, file, 1 };
         requests->slots[irp] = slot;
+        requests->free_first = (requests->free_first + 1) % requests->size.irps;
         requests->free_count--;
         csq_requests_file_of(requests, file)->under_way++;
         csq_requests_file_of(requests, CSQ_ANY)->under_way++;
@@ -230,9 +240,9 @@ static inline uint32_t csq_requests_drain_held(struct csq_requests *requests, ui
         } else if (over) {
             return CSQ_HOLDING;
         } else {
-            requests->draining++;
+            csq_requests_file_of(requests, file)->draining++;
             over = csq_requests_wait(requests, &requests->ended, milliseconds, &end);
-            requests->draining--;
+            csq_requests_file_of(requests, file)->draining--;
         }
     }
 }
@@ -272,8 +282,8 @@ static inline uint32_t csq_requests_make(struct csq_requests *requests, const ui
     if (!requests->slots || !requests->files || !requests->free_irps) {
         return CSQ_NO_MEMORY;
     }
-    for (irp = size->irps; irp > 0;) {
-        requests->free_irps[requests->free_count++] = --irp;
+    for (irp = 0; irp < size->irps; irp++) {
+        requests->free_irps[requests->free_count++] = irp;
     }
     return CSQ_OK;
 }
@@ -302,7 +312,9 @@ static inline uint32_t csq_requests_make_signals(struct csq_requests *requests, 
 
 /* ---- A queue's beginning and end ---- */
 
-/* Makes a queue of this size, whose number of passes isn't looked at. `file_limits` is NULL, or has a limit for each file
+/* Makes a queue of this size, whose number of passes isn't looked at: it takes one. CSQ_AUTO as its list is right for most,
+ * and for a server of many connections. It takes the longer the more IRPs and file objects there are, as csq_requests_close
+ * does; no other call does with CSQ_AUTO or CSQ_CHAINS. `file_limits` is NULL, or has a limit for each file
  * object, as csq_new_with_file_limits takes them. `events` may be NULL. It is freed by csq_requests_free.
  * CSQ_NOT_EMPTY (*requests isn't NULL); CSQ_BAD_SIZE; CSQ_NO_MEMORY. */
 CSQ_NODISCARD static inline uint32_t csq_requests_new(struct csq_requests **requests, const struct csq_size *size,

@@ -41,7 +41,7 @@ struct iocsq_search {
     const char *when;
     bool audits; /* what a callback did before; else the peek itself is asked for by the driver */
     struct iocsq_irp *before;  /* the last answer */
-    bool seen[CSQ_MOST_IRPS];  /* the slots of all answers */
+    bool seen[IOCSQ_SLOTS];  /* the slots of all answers */
 };
 /* The driver's next answer, which agrees with the reference. Null: none. */
 struct iocsq_irp *iocsq_peek(struct iocsq_search *s);

@@ -49,7 +49,7 @@ static void return_pass(struct iocsq_reference *r, uint32_t pass) {
 
 /* ---- Beginning and end ---- */
 void iocsq_reference_begin(struct iocsq_reference *r, uint32_t index) {
-    const struct csq_size size = { .irps = CSQ_MOST_IRPS, .files = CSQ_MOST_FILES, .limit = CSQ_MOST_IRPS,
+    const struct csq_size size = { .irps = IOCSQ_SLOTS, .files = IOCSQ_NUMBERS, .limit = IOCSQ_SLOTS,
                                    .passes = IOCSQ_PASSES, .first_life = 0, .list = CSQ_CHAINS };
     r->index = index;
     pthread_mutex_init(&r->mutex, NULL);
@@ -58,8 +58,8 @@ void iocsq_reference_begin(struct iocsq_reference *r, uint32_t index) {
         pthread_mutex_init(&r->passes[at].mutex, NULL);
         expect(csq_take_pass(&r->queue, &r->passes[at].pass), CSQ_OK, "csq_take_pass");
     }
-    for (r->free_count = 0; r->free_count < CSQ_MOST_IRPS; r->free_count++) {
-        r->free_slots[r->free_count] = CSQ_MOST_IRPS - 1 - r->free_count;
+    for (r->free_count = 0; r->free_count < IOCSQ_SLOTS; r->free_count++) {
+        r->free_slots[r->free_count] = IOCSQ_SLOTS - 1 - r->free_count;
     }
     references[index] = r;
 }
@@ -77,7 +77,7 @@ void iocsq_reference_end(struct iocsq_reference *r) {
 
 bool iocsq_reference_is_idle(struct iocsq_reference *r) {
     pthread_mutex_lock(&r->mutex);
-    bool idle = r->free_count == CSQ_MOST_IRPS;
+    bool idle = r->free_count == IOCSQ_SLOTS;
     pthread_mutex_unlock(&r->mutex);
     return idle;
 }
@@ -114,7 +114,7 @@ uint32_t iocsq_reference_len(struct iocsq_reference *r) {
 /* The listed IRPs that a cleanup may leave: those that came after it began, and those that are cancelled. */
 static size_t excused_in(const struct iocsq_reference *r, uint32_t *slots) {
     size_t count = 0;
-    for (uint32_t slot = 0; slot < CSQ_MOST_IRPS; slot++) {
+    for (uint32_t slot = 0; slot < IOCSQ_SLOTS; slot++) {
         const struct iocsq_irp *i = r->by_slot[slot];
         if (i && i->place == IOCSQ_LISTED && (i->late || i->irp.Cancel)) {
             slots[count++] = slot;
@@ -124,7 +124,7 @@ static size_t excused_in(const struct iocsq_reference *r, uint32_t *slots) {
 }
 
 struct iocsq_irp *iocsq_reference_left(struct iocsq_reference *r, uint32_t file) {
-    uint32_t excused[CSQ_MOST_IRPS], left = CSQ_ANY;
+    uint32_t excused[IOCSQ_SLOTS], left = CSQ_ANY;
     pthread_mutex_lock(&r->mutex);
     size_t count = excused_in(r, excused);
     expect(csq_judge_cleanup(&r->queue, file, excused, count, &left), CSQ_OK, "csq_judge_cleanup");
@@ -147,7 +147,7 @@ uint32_t iocsq_slot_in(const struct iocsq_reference *r, const struct iocsq_irp *
 void iocsq_reference_join(struct iocsq_reference *r, struct iocsq_irp *i) {
     pthread_mutex_lock(&r->mutex);
     if (r->free_count == 0) {
-        iocsq_fail("more than %u IRPs in one queue", (unsigned)CSQ_MOST_IRPS);
+        iocsq_fail("more than %u IRPs in one queue", (unsigned)IOCSQ_SLOTS);
     }
     uint32_t slot = r->free_slots[--r->free_count];
     r->by_slot[slot] = i;

@@ -7,7 +7,9 @@
 
 #include <pthread.h>
 
-enum { IOCSQ_QUEUES = 512, IOCSQ_PASSES = 16 };
+/* The most queues, and of each the IRPs, which have slots, and the file objects' numbers, with that of none: fewer than
+ * csq.h allows, since a queue is looked through again and again. */
+enum { IOCSQ_QUEUES = 512, IOCSQ_SLOTS = 1024, IOCSQ_NUMBERS = IOCSQ_FILES + 1, IOCSQ_PASSES = 16 };
 
 /* A pass is used by one thread at a time. */
 struct iocsq_lent_pass {
@@ -22,10 +24,10 @@ struct iocsq_reference {
     struct iocsq_lent_pass passes[IOCSQ_PASSES];
     /* An IRP has a slot while it stays in the queue: from its insert until its completion, or until the driver inserts
      * it elsewhere. Each stay is one life of the slot, so a cancel that comes late names an old life. */
-    struct iocsq_irp *by_slot[CSQ_MOST_IRPS];
-    uint32_t files[CSQ_MOST_IRPS]; /* for which the IRP was inserted */
-    uint32_t lives[CSQ_MOST_IRPS];
-    uint32_t free_slots[CSQ_MOST_IRPS];
+    struct iocsq_irp *by_slot[IOCSQ_SLOTS];
+    uint32_t files[IOCSQ_SLOTS]; /* for which the IRP was inserted */
+    uint32_t lives[IOCSQ_SLOTS];
+    uint32_t free_slots[IOCSQ_SLOTS];
     uint32_t free_count;
 };
 

@@ -54,7 +54,7 @@ static bool stands_after(const struct iocsq_search *s, uint32_t slot) {
 
 /* The answer as a number: an IRP that isn't listed has no slot, and is none that could be expected. */
 static uint32_t answer_number(const struct iocsq_irp *answer, uint32_t slot) {
-    return answer && slot == IOCSQ_NONE ? (uint32_t)CSQ_MOST_IRPS : slot;
+    return answer && slot == IOCSQ_NONE ? (uint32_t)IOCSQ_SLOTS : slot;
 }
 
 /* `slot` is the answer's in the reference, or IOCSQ_NONE. */

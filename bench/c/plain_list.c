@@ -32,12 +32,19 @@ static bool new_kind(struct plain_list *list) {
     return list->file_ends && list->links && list->file_links;
 }
 
+static uint32_t kind_of(const struct csq_size *size) {
+    if (size->list != CSQ_AUTO) {
+        return size->list;
+    }
+    return size->irps <= CSQ_AUTO_VECTOR_IRPS ? CSQ_VECTOR : CSQ_CHAINS;
+}
+
 bool plain_list_new(struct plain_list *list, const struct csq_size *size, const uint32_t *file_limits) {
     memset(list, 0, sizeof *list);
     list->irps = size->irps;
     list->files = size->files;
     list->limit = size->limit;
-    list->kind = size->list;
+    list->kind = kind_of(size);
     list->used = calloc(size->irps, sizeof *list->used);
     list->closed = calloc(size->files, sizeof *list->closed);
     list->file_lengths = numbers(size->files, 0);
@@ -92,31 +99,53 @@ bool plain_list_has(const struct plain_list *list, uint32_t irp) {
     return irp < list->irps && list->file_of[irp] != NOBODY;
 }
 
-/* ---- The vector ---- */
+/* ---- The vector, a ring ---- */
 
-static void write_positions(struct plain_list *list, uint32_t first, uint32_t end) {
-    for (uint32_t at = first; at < end; at++) {
-        list->positions[list->entries[at]] = at;
-    }
+/* The place of the entry with this index in the list, and the index of the entry in this place. */
+static uint32_t place_of(const struct plain_list *list, uint32_t index) {
+    uint32_t place = list->head + index;
+    return place < list->limit ? place : place - list->limit;
+}
+static uint32_t index_of(const struct plain_list *list, uint32_t place) {
+    return place >= list->head ? place - list->head : place + list->limit - list->head;
+}
+
+static void vector_put(struct plain_list *list, uint32_t index, uint32_t irp) {
+    uint32_t place = place_of(list, index);
+    list->entries[place] = irp;
+    list->positions[irp] = place;
+}
+
+static uint32_t vector_at(const struct plain_list *list, uint32_t index) {
+    return list->entries[place_of(list, index)];
 }
 
 static void vector_insert(struct plain_list *list, uint32_t irp, bool front) {
-    uint32_t at = front ? 0 : list->length;
-    memmove(list->entries + at + 1, list->entries + at, (list->length - at) * sizeof *list->entries);
-    list->entries[at] = irp;
-    write_positions(list, at, list->length + 1);
+    if (front) {
+        list->head = list->head > 0 ? list->head - 1 : list->limit - 1;
+    }
+    vector_put(list, front ? 0 : list->length, irp);
 }
 
+/* Moves those on the shorter side. */
 static void vector_remove(struct plain_list *list, uint32_t irp) {
-    uint32_t at = list->positions[irp], end = list->length - 1;
-    memmove(list->entries + at, list->entries + at + 1, (end - at) * sizeof *list->entries);
-    write_positions(list, at, end);
+    uint32_t at = index_of(list, list->positions[irp]), last = list->length - 1;
+    if (at > last / 2) {
+        for (; at < last; at++) {
+            vector_put(list, at, vector_at(list, at + 1));
+        }
+        return;
+    }
+    for (; at > 0; at--) {
+        vector_put(list, at, vector_at(list, at - 1));
+    }
+    list->head = place_of(list, 1);
 }
 
 static uint32_t vector_next(const struct plain_list *list, uint32_t after, uint32_t file) {
-    uint32_t at = after == NOBODY ? 0 : list->positions[after] + 1;
+    uint32_t at = after == NOBODY ? 0 : index_of(list, list->positions[after]) + 1;
     while (at < list->length) {
-        uint32_t irp = list->entries[at++];
+        uint32_t irp = vector_at(list, at++);
         if (file == CSQ_ANY || list->file_of[irp] == file) {
             return irp;
         }

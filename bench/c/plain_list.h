@@ -21,15 +21,16 @@ struct plain_list {
     uint32_t irps;
     uint32_t files;
     uint32_t limit;
-    uint32_t kind;
+    uint32_t kind;           /* CSQ_VECTOR or CSQ_CHAINS */
     uint32_t length;
     bool *used;              /* by IRP: whether an insert accepted it in its present life */
     bool *closed;            /* by file object */
     uint32_t *file_lengths;  /* by file object */
     uint32_t *file_limits;   /* by file object */
     uint32_t *file_of;       /* by IRP, while it is listed: its file object, else NOBODY */
-    uint32_t *entries;       /* the vector: IRPs in order */
-    uint32_t *positions;     /* the vector: by IRP, while it is listed */
+    uint32_t *entries;       /* the vector: IRPs in order, in a ring of `limit` places */
+    uint32_t *positions;     /* the vector: by IRP, while it is listed, its place in the ring */
+    uint32_t head;           /* the vector: the place of the first */
     struct links all;        /* the chain over all */
     struct links *file_ends; /* by file object: its chain */
     struct links *links;     /* the chain over all, by IRP */

@@ -76,7 +76,7 @@ static struct pass *pass_in(struct csq_pass *pass) {
 static bool is_size(const struct csq_size *size) {
     return 1 <= size->irps && size->irps <= CSQ_MOST_IRPS && 1 <= size->files && size->files <= CSQ_MOST_FILES &&
            1 <= size->limit && size->limit <= size->irps && 1 <= size->passes && size->passes <= CSQ_MOST_PASSES &&
-           size->first_life <= CSQ_LAST_LIFE && size->list <= CSQ_CHAINS;
+           size->first_life <= CSQ_LAST_LIFE && size->list <= CSQ_AUTO;
 }
 
 static bool are_limits(const struct csq_size *size, const uint32_t *file_limits, size_t count) {

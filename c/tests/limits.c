@@ -65,55 +65,10 @@ static void an_insert_that_finds_a_cancel_takes_no_place(uint32_t list) {
     end(&device);
 }
 
-static void the_largest_queue_is_filled_and_emptied(uint32_t list) {
-    struct device device = device_of(size_of(CSQ_MOST_IRPS, CSQ_MOST_FILES, list));
-    for (uint32_t irp = 0; irp < CSQ_MOST_IRPS; irp++) {
-        IS(put(&device, 0, irp, irp % CSQ_MOST_FILES), CSQ_OK);
-    }
-    for (uint32_t file = CSQ_MOST_FILES; file-- > 0;) {
-        for (uint32_t irp = file; irp < CSQ_MOST_IRPS; irp += CSQ_MOST_FILES) {
-            IS(take(&device, 1, file), irp);
-            IS(csq_complete(&device.passes[1], irp_in(irp, 0), 0), CSQ_OK);
-        }
-        IS(take(&device, 1, file), CSQ_ANY);
-    }
-    end(&device);
-}
-
-static void hand_out_sixty_four(struct csq_size size) {
-    struct csq_queue queue = CSQ_EMPTY;
-    struct csq_pass passes[CSQ_MOST_PASSES + 1];
-    uint32_t out = UNWRITTEN;
-    IS(csq_new(&queue, &size), CSQ_OK);
-    for (uint32_t at = 0; at <= CSQ_MOST_PASSES; at++) {
-        passes[at].at = NULL;
-        IS(csq_take_pass(&queue, &passes[at]), at < CSQ_MOST_PASSES ? CSQ_OK : CSQ_NO_PASS);
-    }
-    for (uint32_t at = CSQ_MOST_PASSES; at-- > 0;) {
-        IS(csq_give_back(&queue, &passes[at]), CSQ_OK);
-        IS(csq_count_passes_out(&queue, &out), CSQ_OK);
-        IS(out, at);
-    }
-    IS(csq_free(&queue), CSQ_OK);
-}
-
-/* The smallest queue, one of the most IRPs for one file object, and the largest. */
-static void a_queue_hands_out_sixty_four_passes(uint32_t list) {
-    struct csq_size size = { 1, 1, 1, CSQ_MOST_PASSES, 0, list };
-    hand_out_sixty_four(size);
-    size.irps = CSQ_MOST_IRPS;
-    hand_out_sixty_four(size);
-    size.files = CSQ_MOST_FILES;
-    size.limit = CSQ_MOST_IRPS;
-    hand_out_sixty_four(size);
-}
-
 int main(void) {
     RUN_BOTH(the_list_has_its_limit);
     RUN_BOTH(a_file_object_has_its_limit);
     RUN_BOTH(a_cancel_frees_its_place_by_its_routine);
     RUN_BOTH(an_insert_that_finds_a_cancel_takes_no_place);
-    RUN_BOTH(the_largest_queue_is_filled_and_emptied);
-    RUN_BOTH(a_queue_hands_out_sixty_four_passes);
     return DONE();
 }

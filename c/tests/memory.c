@@ -203,6 +203,9 @@ static void other_refusals_come_before_that_of_memory(uint32_t list) {
     refuse(0, false);
 }
 
+/* Of a large queue. */
+enum { IRPS = 1024, FILES = 256 };
+
 /* One life of each IRP: by turns removed, put back and removed again; removed by its context; cancelled before and
  * after its insert. */
 static void lead_through_a_life(struct device *device, uint32_t irp, uint32_t life) {
@@ -211,12 +214,12 @@ static void lead_through_a_life(struct device *device, uint32_t irp, uint32_t li
     if (way == 3) {
         IS(csq_mark_cancel(&device->passes[1], name, &found), CSQ_OK);
     }
-    IS(csq_insert(&device->queue, &device->passes[0], irp, irp % 256, irp % 3, &name),
+    IS(csq_insert(&device->queue, &device->passes[0], irp, irp % FILES, irp % 3, &name),
        way == 3 ? CSQ_CANCELLED : CSQ_OK);
     if (way == 0) {
-        IS(csq_remove_next(&device->queue, &device->passes[0], irp % 256, &name), CSQ_OK);
+        IS(csq_remove_next(&device->queue, &device->passes[0], irp % FILES, &name), CSQ_OK);
         IS(csq_put_back(&device->queue, &device->passes[0], name, irp % 8, &name), CSQ_OK);
-        IS(csq_remove_next(&device->queue, &device->passes[0], irp % 256, &name), CSQ_OK);
+        IS(csq_remove_next(&device->queue, &device->passes[0], irp % FILES, &name), CSQ_OK);
     } else if (way == 1) {
         IS(csq_remove(&device->queue, &device->passes[0], name), CSQ_OK);
     } else if (way == 2) {
@@ -233,8 +236,8 @@ static void lead_through_a_life(struct device *device, uint32_t irp, uint32_t li
 }
 
 static void lead_each_through_two_lives(struct device *device) {
-    for (uint32_t turn = 0; turn < 2 * CSQ_MOST_IRPS; turn++) {
-        lead_through_a_life(device, turn % CSQ_MOST_IRPS, turn / CSQ_MOST_IRPS);
+    for (uint32_t turn = 0; turn < 2 * IRPS; turn++) {
+        lead_through_a_life(device, turn % IRPS, turn / IRPS);
     }
 }
 
@@ -249,17 +252,17 @@ static void look_at(struct device *device) {
     IS(csq_peek_next(&device->queue, CSQ_ANY, CSQ_ANY, &irp), CSQ_OK);
     IS(csq_peek_next(&device->queue, irp.irp, 7, &irp), CSQ_OK);
     IS(irp.irp, 7);
-    IS(csq_peek_next(&device->queue, CSQ_MOST_IRPS - 1, 7, &irp), CSQ_NONE);
+    IS(csq_peek_next(&device->queue, IRPS - 1, 7, &irp), CSQ_NONE);
     IS(csq_len(&device->queue, &stored), CSQ_OK);
-    IS(stored, CSQ_MOST_IRPS);
+    IS(stored, IRPS);
     IS(csq_file_len(&device->queue, 7, &stored), CSQ_OK);
-    IS(stored, CSQ_MOST_IRPS / CSQ_MOST_FILES);
+    IS(stored, IRPS / FILES);
     IS(csq_judge_peek(&device->queue, CSQ_ANY, 7, 7, &stored, &skipped), CSQ_OK);
     IS(stored, CSQ_PEEK_AGREES);
     IS(csq_judge_peek(&device->queue, CSQ_ANY, 7, CSQ_ANY, &stored, &skipped), CSQ_OK);
     IS(stored, CSQ_PEEK_SKIPS);
     IS(csq_judge_cleanup(&device->queue, 7, excused, 1, &stored), CSQ_OK);
-    IS(stored, 7 + CSQ_MOST_FILES);
+    IS(stored, 7 + FILES);
 }
 
 /* What a driver does beside it: a removal and a completion, a removal and an insert; and each of what is listed. */
@@ -293,33 +296,33 @@ static void cancel_and_clean_up(struct device *device) {
     IS(csq_cancel(&device->queue, pass, irp_in(5, 2), &lock, NULL, &completed), CSQ_OK);
     IS(completed, 1);
     IS(csq_drain(&device->queue, pass, 9, &lock, NULL, &completed), CSQ_OK);
-    IS(completed, CSQ_MOST_IRPS / CSQ_MOST_FILES);
+    IS(completed, IRPS / FILES);
     IS(csq_cleanup(&device->queue, pass, 11, &lock, NULL, &completed), CSQ_OK);
-    IS(completed, CSQ_MOST_IRPS / CSQ_MOST_FILES);
+    IS(completed, IRPS / FILES);
     IS(csq_cancel_with(&device->queue, pass, irp_in(7, 2), &lock, NULL, &completed), CSQ_OK);
     IS(completed, 1);
     IS(csq_drain_with(&device->queue, pass, 13, &lock, NULL, &completed), CSQ_OK);
-    IS(completed, CSQ_MOST_IRPS / CSQ_MOST_FILES);
+    IS(completed, IRPS / FILES);
     IS(csq_cleanup_with(&device->queue, pass, 15, &lock, NULL, &completed), CSQ_OK);
-    IS(completed, CSQ_MOST_IRPS / CSQ_MOST_FILES);
+    IS(completed, IRPS / FILES);
 }
 
 /* Lists all IRPs, which are in their third life, and then marks the even ones as cancelled. */
 static void insert_each(struct device *device) {
-    for (uint32_t at = 0; at < CSQ_MOST_IRPS; at++) {
-        IS(put(device, 0, at, at % CSQ_MOST_FILES), CSQ_OK);
+    for (uint32_t at = 0; at < IRPS; at++) {
+        IS(put(device, 0, at, at % FILES), CSQ_OK);
         IS(put(device, 0, at, 0), CSQ_NOT_HOME);
     }
 }
 static void mark_the_even_ones(struct device *device) {
-    for (uint32_t at = 0; at < CSQ_MOST_IRPS; at += 2) {
+    for (uint32_t at = 0; at < IRPS; at += 2) {
         IS(mark(device, 1, at, 2), 1);
     }
 }
 
 static void no_other_call_takes_memory(uint32_t list) {
     unsigned long before = blocks;
-    struct device device = device_of(size_of(CSQ_MOST_IRPS, CSQ_MOST_FILES, list));
+    struct device device = device_of(size_of(IRPS, FILES, list));
     struct csq_left left;
     uint32_t irp = UNWRITTEN, held = UNWRITTEN, owed = UNWRITTEN;
     forbid();
@@ -331,8 +334,8 @@ static void no_other_call_takes_memory(uint32_t list) {
     cancel_and_clean_up(&device);
     IS(csq_count_held(&device.passes[1], &held, &owed), CSQ_OK);
     IS(csq_count_passes_out(&device.queue, &irp), CSQ_OK);
-    IS(csq_close_file(&device.queue, &device.passes[0], 255), CSQ_OK);
-    while (take(&device, 2, 255) != CSQ_ANY) {
+    IS(csq_close_file(&device.queue, &device.passes[0], FILES - 1), CSQ_OK);
+    while (take(&device, 2, FILES - 1) != CSQ_ANY) {
     }
     settle(&device);
     IS(csq_close(&device.queue), CSQ_OK);
@@ -396,20 +399,26 @@ static void each_call_that_makes_no_queue_was_made_without_memory(void) {
     }
 }
 
-/* How many bytes a queue takes. */
-static size_t bytes_of(uint32_t list, bool limited) {
+/* How many bytes a queue of so many IRPs takes. */
+static size_t bytes_of(uint32_t irps, uint32_t list, bool limited) {
     struct csq_queue queue = CSQ_EMPTY;
+    struct csq_size size = { irps, 2, irps, 1, 0, list };
     wanted = 0;
-    IS(make(&queue, list, limited), CSQ_OK);
+    IS(limited ? csq_new_with_file_limits(&queue, &size, file_limits, 2) : csq_new(&queue, &size), CSQ_OK);
     size_t bytes = wanted;
     IS(csq_free(&queue), CSQ_OK);
     return bytes;
 }
 
-/* The two kinds of list answer alike, but take different room. */
+/* The two kinds of list answer alike, but take different room. CSQ_AUTO is one of them, by the number of IRPs. */
 static void a_queue_has_the_list_that_was_asked_for(void) {
-    CHECK(bytes_of(CSQ_VECTOR, false) < bytes_of(CSQ_CHAINS, false));
-    CHECK(bytes_of(CSQ_VECTOR, true) < bytes_of(CSQ_CHAINS, true));
+    static const uint32_t few = CSQ_AUTO_VECTOR_IRPS, many = CSQ_AUTO_VECTOR_IRPS + 1;
+    for (int limited = 0; limited < 2; limited++) {
+        CHECK(bytes_of(few, CSQ_VECTOR, limited) < bytes_of(few, CSQ_CHAINS, limited));
+        CHECK(bytes_of(many, CSQ_VECTOR, limited) < bytes_of(many, CSQ_CHAINS, limited));
+        IS(bytes_of(few, CSQ_AUTO, limited), bytes_of(few, CSQ_VECTOR, limited));
+        IS(bytes_of(many, CSQ_AUTO, limited), bytes_of(many, CSQ_CHAINS, limited));
+    }
 }
 
 int main(void) {

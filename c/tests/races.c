@@ -6,7 +6,7 @@
 #include <sched.h>
 #include <stdatomic.h>
 
-enum { IRPS = CSQ_MOST_IRPS };
+enum { IRPS = 1024 };
 
 static struct device device;
 static pthread_mutex_t mutex = PTHREAD_MUTEX_INITIALIZER;

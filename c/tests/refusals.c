@@ -158,33 +158,34 @@ static uint32_t tried(struct csq_size size) {
     return code;
 }
 
-/* The same with the other kind of list, if there is one. */
-static uint32_t tried_over_both(struct csq_size size) {
+/* The same with each kind of list, if the size has one of them. */
+static uint32_t tried_over_all(struct csq_size size) {
     uint32_t code = tried(size);
-    if (size.list < 2) {
-        size.list = 1 - size.list;
-        IS(tried(size), code);
+    for (uint32_t other = CSQ_VECTOR; size.list <= CSQ_AUTO && other <= CSQ_AUTO; other++) {
+        struct csq_size same = size;
+        same.list = other;
+        IS(tried(same), code);
     }
     return code;
 }
 
 static void sizes_out_of_range_are_refused(void) {
     static const struct csq_size good[] = { { 1, 1, 1, 1, 0, 0 },
-                                            { 1024, 256, 1024, 64, 0x3FFFFFFF, 1 },
-                                            { 2, 256, 1, 1, 0, 1 },
+                                            { 65535, 16384, 65535, 1024, 0x3FFFFFFF, 1 },
+                                            { 2, 16384, 1, 1, 0, 1 },
                                             { CSQ_MOST_IRPS, CSQ_MOST_FILES, 1, CSQ_MOST_PASSES, CSQ_LAST_LIFE, 0 } };
-    static const struct csq_size bad[] = { { 0, 1, 1, 1, 0, 0 },    { 1025, 1, 1, 1, 0, 0 },
-                                           { 1, 0, 1, 1, 0, 0 },    { 1, 257, 1, 1, 0, 0 },
+    static const struct csq_size bad[] = { { 0, 1, 1, 1, 0, 0 },    { 65536, 1, 1, 1, 0, 0 },
+                                           { 1, 0, 1, 1, 0, 0 },    { 1, 16385, 1, 1, 0, 0 },
                                            { 4, 1, 0, 1, 0, 0 },    { 4, 1, 5, 1, 0, 0 },
-                                           { 1, 1, 1, 0, 0, 0 },    { 1, 1, 1, 65, 0, 0 },
+                                           { 1, 1, 1, 0, 0, 0 },    { 1, 1, 1, 1025, 0, 0 },
                                            { 1, 1, 1, 1, 1u << 30, 0 }, { 1, 1, 1, 1, UINT32_MAX, 0 },
-                                           { 1, 1, 1, 1, 0, 2 },    { 1, 1, 1, 1, 0, UINT32_MAX },
+                                           { 1, 1, 1, 1, 0, 3 },    { 1, 1, 1, 1, 0, UINT32_MAX },
                                            { UINT32_MAX, UINT32_MAX, UINT32_MAX, UINT32_MAX, UINT32_MAX, UINT32_MAX } };
     for (size_t at = 0; at < sizeof good / sizeof *good; at++) {
-        IS(tried_over_both(good[at]), CSQ_OK);
+        IS(tried_over_all(good[at]), CSQ_OK);
     }
     for (size_t at = 0; at < sizeof bad / sizeof *bad; at++) {
-        IS(tried_over_both(bad[at]), CSQ_BAD_SIZE);
+        IS(tried_over_all(bad[at]), CSQ_BAD_SIZE);
     }
 }
 

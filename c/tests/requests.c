@@ -258,6 +258,38 @@ static void lives_end(uint32_t list) {
     IS(csq_requests_free(&requests), CSQ_OK);
 }
 
+/* The IRP that has been free longest is used next, so that none is spent before the others. */
+static void irps_wear_evenly(uint32_t list) {
+    static const uint32_t ended[] = { 1, 2, 0 };
+    struct csq_requests *requests = NULL;
+    struct csq_size size = size_of(3, 1, list);
+    struct csq_request taken[3];
+    struct csq_irp name;
+    size.first_life = CSQ_LAST_LIFE - 2;
+    IS(csq_requests_new(&requests, &size, NULL, NULL), CSQ_OK);
+    for (uint32_t turn = 0; turn < 3; turn++) {
+        IS(submit(requests, 1, 0, 0).irp, turn);
+        IS(next(requests, CSQ_ANY, &taken[0]), 1);
+        IS(csq_requests_complete(requests, &taken[0], 0), CSQ_OK);
+    }
+    for (uint32_t turn = 0; turn < 3; turn++) {
+        IS(submit(requests, 2, 0, 0).irp, turn);
+        IS(next(requests, CSQ_ANY, &taken[turn]), 2);
+    }
+    for (uint32_t turn = 0; turn < 3; turn++) {
+        IS(csq_requests_complete(requests, &taken[ended[turn]], 0), CSQ_OK);
+    }
+    /* In its last life the queue is as large as it was. */
+    for (uint32_t turn = 0; turn < 3; turn++) {
+        name = submit(requests, 3, 0, 0);
+        IS(name.irp, ended[turn]);
+        IS(name.life, CSQ_LAST_LIFE);
+    }
+    IS(csq_requests_drain(requests, CSQ_ANY, 0), CSQ_OK);
+    IS(csq_requests_submit(requests, number(9), 0, 0, &name), CSQ_LIVES_SPENT);
+    IS(csq_requests_free(&requests), CSQ_OK);
+}
+
 /* A worker that waits for one request of a file object, and what it got. */
 struct worker {
     struct csq_requests *requests;
@@ -364,12 +396,13 @@ static void *drain_it(void *of) {
     return NULL;
 }
 
-/* Two requests are taken: one is put back and one completed, in this order or in the other. */
-static void drain_what_is_taken(uint32_t list, int put_back_first) {
+/* Two requests are taken: one is put back and one completed, in this order or in the other. The drain is of their file
+ * object, or of any. */
+static void drain_what_is_taken(uint32_t list, int put_back_first, uint32_t file) {
     struct report report;
     struct csq_requests *requests = reported(4, list, &report);
     struct csq_request taken[2];
-    struct worker drain = { requests, 0, 0, 0, 0 };
+    struct worker drain = { requests, file, 0, 0, 0 };
     for (int at = 0; at < 2; at++) {
         submit(requests, at, 0, 0);
         IS(next(requests, 0, &taken[at]), (uint32_t)at);
@@ -387,8 +420,9 @@ static void drain_what_is_taken(uint32_t list, int put_back_first) {
 }
 
 static void a_drain_waits_for_what_is_taken_and_takes_what_is_put_back(uint32_t list) {
-    drain_what_is_taken(list, 1);
-    drain_what_is_taken(list, 0);
+    drain_what_is_taken(list, 1, 0);
+    drain_what_is_taken(list, 0, 0);
+    drain_what_is_taken(list, 0, CSQ_ANY);
 }
 
 /* ---- Threads: each value comes out once, whoever gets it ---- */
@@ -503,6 +537,7 @@ int main(int count, char **words) {
     RUN_BOTH(what_is_put_back_keeps_its_name);
     RUN_BOTH(a_drain_ends_what_is_listed);
     RUN_BOTH(lives_end);
+    RUN_BOTH(irps_wear_evenly);
     RUN_BOTH(a_submit_wakes_one_who_waits_for_it);
     RUN_BOTH(a_close_leaves_what_is_listed);
     RUN_BOTH(a_drain_waits_for_what_is_taken_and_takes_what_is_put_back);

@@ -296,13 +296,13 @@ static void *live_briefly(void *of) {
     return NULL;
 }
 
-/* Far more threads than passes, of which sixty are there at a time. */
+/* Far more threads than passes, sixty at a time. */
 static void short_lived_threads_share_the_passes_of_a_queue(uint32_t list) {
-    enum { AT_A_TIME = 60 };
+    enum { AT_A_TIME = 60, PASSES = 64 };
     unsigned long rounds = turns / 2400 + 2;
     pthread_t threads[AT_A_TIME];
     uint32_t irps[AT_A_TIME];
-    struct csq_size size = { AT_A_TIME, FILES, AT_A_TIME, CSQ_MOST_PASSES, 0, list };
+    struct csq_size size = { AT_A_TIME, FILES, AT_A_TIME, PASSES, 0, list };
     begin_counts();
     memset(&device, 0, sizeof device);
     IS(csq_new(&device.queue, &size), CSQ_OK);
@@ -318,7 +318,7 @@ static void short_lived_threads_share_the_passes_of_a_queue(uint32_t list) {
     IS(faults, 0);
     IS(csq_close(&device.queue), CSQ_OK);
     IS(csq_free(&device.queue), CSQ_OK);
-    snprintf(check_note, sizeof check_note, " (%lu threads, %d passes)", rounds * AT_A_TIME, CSQ_MOST_PASSES);
+    snprintf(check_note, sizeof check_note, " (%lu threads, %d passes)", rounds * AT_A_TIME, PASSES);
 }
 
 enum { SHARE = IRPS / THREADS };

@@ -209,13 +209,32 @@ mod tests {
 
     #[test]
     fn the_kinds_of_list_are_those_of_the_header() {
+        let vector = crate::Size::AUTO_VECTOR_IRPS;
+        let kinds = format!("enum {{ CSQ_VECTOR = 0, CSQ_CHAINS = 1, CSQ_AUTO = 2, CSQ_AUTO_VECTOR_IRPS = {vector} }};");
         if let Some(header) = header() {
-            assert!(header.contains("enum { CSQ_VECTOR = 0, CSQ_CHAINS = 1 };"));
+            assert!(header.contains(&kinds), "{kinds}");
         }
         let size = crate::Size::new(1, 1, 1);
-        assert_eq!(size.raw().list, 0);
-        let list = crate::List::Chains;
-        assert_eq!(crate::Size { list, ..size }.raw().list, 1);
+        assert_eq!(size.raw().list, 2);
+        for (list, number) in [(crate::List::Vector, 0), (crate::List::Chains, 1)] {
+            assert_eq!(crate::Size { list, ..size }.raw().list, number);
+        }
+    }
+
+    #[test]
+    fn the_most_of_each_are_those_of_the_header() {
+        type Size = crate::Size;
+        let most = [
+            ("IRPS", Size::MOST_IRPS),
+            ("FILES", Size::MOST_FILES),
+            ("PASSES", Size::MOST_PASSES),
+        ];
+        if let Some(header) = header() {
+            for (of, number) in most {
+                let text = format!("CSQ_MOST_{of} = {number},");
+                assert!(header.contains(&text), "{text}");
+            }
+        }
     }
 
     fn queue_and_pass() -> (RawQueue, RawPass) {

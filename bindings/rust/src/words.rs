@@ -64,23 +64,26 @@ pub enum Peek {
 /// How a queue keeps its list.
 #[derive(Clone, Copy, Debug, Default, PartialEq, Eq, Hash)]
 pub enum List {
-    /// In one vector.
-    #[default]
+    /// In one vector, used as a ring: the faster one where the next IRP is removed whatever its file object. A removal from
+    /// its middle moves the IRPs on the shorter side.
     Vector,
-    /// In chains: one over all listed IRPs, and one for each file object.
+    /// In chains, one over all listed IRPs and one for each file object: as fast however many are listed.
     Chains,
+    /// In the vector if the queue has at most [`Size::AUTO_VECTOR_IRPS`] IRPs, else in the chains.
+    #[default]
+    Auto,
 }
 
 /// How large a queue is to be.
 #[derive(Clone, Copy, Debug, PartialEq, Eq, Hash)]
 pub struct Size {
-    /// The number of IRPs, 1 to 1,024.
+    /// The number of IRPs, 1 to [`Size::MOST_IRPS`].
     pub irps: u32,
-    /// The number of file objects, 1 to 256.
+    /// The number of file objects, 1 to [`Size::MOST_FILES`].
     pub files: u32,
     /// How many IRPs may be listed at a time, 1 to `irps`.
     pub limit: u32,
-    /// The number of passes, 1 to 64.
+    /// The number of passes, 1 to [`Size::MOST_PASSES`].
     pub passes: u32,
     /// The life in which all IRPs begin, 0 to [`LAST_LIFE`].
     pub first_life: u32,
@@ -89,7 +92,19 @@ pub struct Size {
 }
 
 impl Size {
-    /// A queue in which all IRPs may be listed and begin in life 0, with its list in one vector.
+    /// The most IRPs of a queue.
+    pub const MOST_IRPS: u32 = 65_535;
+
+    /// The most file objects of a queue.
+    pub const MOST_FILES: u32 = 16_384;
+
+    /// The most passes of a queue.
+    pub const MOST_PASSES: u32 = 1_024;
+
+    /// The most IRPs of a queue that [`List::Auto`] keeps in a vector.
+    pub const AUTO_VECTOR_IRPS: u32 = 64;
+
+    /// A queue in which all IRPs may be listed and begin in life 0, with its list as [`List::Auto`] has it.
     ///
     /// ```
     /// # use csq::*;
@@ -104,7 +119,7 @@ impl Size {
             limit: irps,
             passes,
             first_life: 0,
-            list: List::Vector,
+            list: List::Auto,
         }
     }
 
@@ -118,6 +133,7 @@ impl Size {
             list: match self.list {
                 List::Vector => 0,
                 List::Chains => 1,
+                List::Auto => 2,
             },
         }
     }

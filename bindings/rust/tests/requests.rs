@@ -124,6 +124,30 @@ fn lives_end() {
     }
 }
 
+/// The number that has been free longest is used next, so that the queue keeps its size until its last life.
+#[test]
+fn numbers_wear_evenly() {
+    for size in sizes(3, 1) {
+        let size = Size {
+            first_life: LAST_LIFE - 1,
+            ..size
+        };
+        let queue = Requests::new(&size).unwrap();
+        let pass = queue.pass().unwrap();
+        for value in 0..3 {
+            pass.submit(value, 0, Place::Back).unwrap();
+            assert_eq!(pass.next(Peek::Any).unwrap().complete(), value);
+        }
+        for value in 0..3 {
+            pass.submit(value, 0, Place::Back).unwrap();
+        }
+        assert_eq!(cause(pass.submit(3, 0, Place::Back)), SubmitError::NoIrp);
+        assert_eq!(pass.drain(Peek::Any).unwrap(), [0, 1, 2]);
+        let refused = cause(pass.submit(3, 0, Place::Back));
+        assert_eq!(refused, SubmitError::LivesSpent);
+    }
+}
+
 #[test]
 fn a_cleanup_hands_over_what_is_listed() {
     for size in sizes(5, 2) {

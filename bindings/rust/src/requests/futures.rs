@@ -97,7 +97,7 @@ impl<T> Future for CancelledFuture<T> {
 impl<T> Drop for CancelledFuture<T> {
     fn drop(&mut self) {
         if let Some(ticket) = self.ticket {
-            self.pass.seat().watch_no_more(ticket);
+            self.pass.seat().watch_no_more(self.request, ticket);
         }
     }
 }

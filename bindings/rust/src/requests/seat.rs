@@ -99,7 +99,7 @@ impl<T> Seat<T> {
             }
             Err(refusal) => {
                 let entry = self.take_entry(&mut number);
-                locked.free.put(number);
+                locked.free.put_again(number);
                 Err((entry, SubmitError::of(refusal)))
             }
         }
@@ -139,7 +139,7 @@ impl<T> Seat<T> {
         // Dropped once the lock is free.
         let _stale;
         let mut locked = self.lock();
-        _stale = leave(&mut locked.waiting, ticket);
+        _stale = leave(&mut locked.waiting, peek, ticket);
         let taken = self.take(&mut locked, peek);
         if taken.is_some() || locked.waiting.shut {
             return Poll::Ready(taken);
@@ -159,7 +159,9 @@ impl<T> Seat<T> {
         // Dropped once the lock is free.
         let _stale;
         let mut locked = self.lock();
-        _stale = ticket.take().and_then(|it| locked.waiting.unwatch(it));
+        _stale = ticket
+            .take()
+            .and_then(|it| locked.waiting.unwatch(request.irp, it));
         if self.is_cancelled(request) {
             return Poll::Ready(());
         }
@@ -169,8 +171,8 @@ impl<T> Seat<T> {
 
     /// Waits for that no longer.
     #[cfg(feature = "async")]
-    pub(super) fn watch_no_more(&self, ticket: Ticket) {
-        let waker = self.lock().waiting.unwatch(ticket);
+    pub(super) fn watch_no_more(&self, request: RequestId, ticket: Ticket) {
+        let waker = self.lock().waiting.unwatch(request.irp, ticket);
         drop(waker);
     }
 
@@ -178,7 +180,7 @@ impl<T> Seat<T> {
     #[cfg(feature = "async")]
     pub(super) fn give_up(&self, peek: Peek, ticket: Ticket) {
         let mut locked = self.lock();
-        let waiting = locked.waiting.remove(ticket);
+        let waiting = locked.waiting.remove(peek, ticket);
         let next = match waiting {
             Some(_) => None,
             None => locked.waiting.take_first(peek),
@@ -240,7 +242,7 @@ impl<T> Seat<T> {
     ) -> Result<(Held, T), RecvTimeoutError> {
         let _stale;
         let mut locked = self.lock();
-        _stale = leave(&mut locked.waiting, &mut ticket);
+        _stale = leave(&mut locked.waiting, peek, &mut ticket);
         let taken = self.take(&mut locked, peek);
         taken.ok_or(RecvTimeoutError::Timeout)
     }
@@ -387,7 +389,7 @@ impl<T> Seat<T> {
     }
 }
 
-// Takes out who has this ticket, unless it was woken.
-fn leave(waiting: &mut Waiting, ticket: &mut Option<Ticket>) -> Option<Waker> {
-    waiting.remove(ticket.take()?)
+// Takes out who waits for this with this ticket, unless it was woken.
+fn leave(waiting: &mut Waiting, peek: Peek, ticket: &mut Option<Ticket>) -> Option<Waker> {
+    waiting.remove(peek, ticket.take()?)
 }

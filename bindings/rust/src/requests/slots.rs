@@ -3,6 +3,7 @@
 use crate::errors::SubmitError;
 use crate::words::Irp;
 use std::cell::UnsafeCell;
+use std::collections::VecDeque;
 
 /// An IRP's number, which is with whoever has the IRP, and so the IRP's slot. There is at most one of each: it is free;
 /// or a submit has it, until its insert is accepted; or the queue has the IRP, and there is none; or a pass has it that
@@ -31,9 +32,11 @@ impl Number {
 }
 
 /// The numbers that wait for a submit, and how many are in use or were in their last life. The queue's lock guards them.
+///
+/// The one that has been free longest is taken, so that all spend their lives evenly.
 #[derive(Default)]
 pub(crate) struct Free {
-    numbers: Vec<Number>,
+    numbers: VecDeque<Number>,
     total: usize,
     spent: usize,
 }
@@ -42,17 +45,17 @@ impl Free {
     /// The numbers of so many IRPs.
     pub(crate) fn new(irps: u32) -> Free {
         Free {
-            numbers: (0..irps).rev().map(Number).collect(),
+            numbers: (0..irps).map(Number).collect(),
             total: irps as usize,
             spent: 0,
         }
     }
 
-    /// A number that was free.
+    /// The number that has been free longest.
     #[inline]
     pub(crate) fn take(&mut self) -> Result<Number, SubmitError> {
         let all_spent = self.spent == self.total;
-        self.numbers.pop().ok_or(if all_spent {
+        self.numbers.pop_front().ok_or(if all_spent {
             SubmitError::LivesSpent
         } else {
             SubmitError::NoIrp
@@ -62,7 +65,12 @@ impl Free {
     /// Makes a number free. There is room for all, so this takes no memory.
     #[inline]
     pub(crate) fn put(&mut self, number: Number) {
-        self.numbers.push(number);
+        self.numbers.push_back(number);
+    }
+
+    /// Makes a number free that was taken, and not used.
+    pub(crate) fn put_again(&mut self, number: Number) {
+        self.numbers.push_front(number);
     }
 
     /// Lets a number go, whose IRP was in its last life.
@@ -121,6 +129,27 @@ mod tests {
         free.put(one);
         assert_eq!(free.take().unwrap().irp(), 0);
         assert_eq!(slots.into_values([1, 0].into_iter()), ["two"]);
+    }
+
+    #[test]
+    fn the_number_that_has_been_free_longest_is_taken() {
+        let mut free = Free::new(3);
+        let taken: Vec<_> = (0..7)
+            .map(|_| {
+                let number = free.take().unwrap();
+                let irp = number.irp();
+                free.put(number);
+                irp
+            })
+            .collect();
+        assert_eq!(taken, [0, 1, 2, 0, 1, 2, 0]);
+        let (one, two) = (free.take().unwrap(), free.take().unwrap());
+        free.put(two);
+        free.put(one);
+        let not_used = free.take().unwrap();
+        free.put_again(not_used);
+        let taken = [(); 3].map(|()| free.take().unwrap().irp());
+        assert_eq!(taken, [0, 2, 1]);
     }
 
     #[test]

@@ -3,22 +3,21 @@
 #[cfg(feature = "async")]
 use crate::words::Irp;
 use crate::words::Peek;
-use std::collections::VecDeque;
+use std::collections::BTreeMap;
 use std::sync::Arc;
 use std::task::{Wake, Waker};
 use std::thread::{self, Thread};
 
-/// Names one who waits to the list, until it is woken or gives up.
-#[derive(Clone, Copy, Debug, PartialEq, Eq)]
+/// Names one who waits to the list, beside what it waits for, until it is woken or gives up.
+#[derive(Clone, Copy, Debug, PartialEq, Eq, PartialOrd, Ord)]
 pub(crate) struct Ticket(u64);
 
-struct Waiter {
-    ticket: Ticket,
-    peek: Peek,
-    waker: Waker,
+impl Ticket {
+    const FIRST: Ticket = Ticket(0);
+    const LAST: Ticket = Ticket(u64::MAX);
 }
 
-/// Those who wait, the first of them first. The queue's lock guards it.
+/// Those who wait, for each thing the first of them first. The queue's lock guards it. No call looks through all of them.
 ///
 /// Whoever waits has found no match, and is taken out when it is woken. A request wakes one of those who wait for any,
 /// and one of those who wait for its file object. So of those who wait for the same, as long as any does, at least as
@@ -26,24 +25,38 @@ struct Waiter {
 /// it on.
 #[derive(Default)]
 pub(crate) struct Waiting {
-    waiters: VecDeque<Waiter>,
+    /// By the file object, or none for any.
+    waiters: BTreeMap<(Option<u32>, Ticket), Waker>,
     tickets: u64,
     /// Whether the queue was shut down.
     pub(crate) shut: bool,
     /// Those who wait for the cancel of an IRP that was taken.
     #[cfg(feature = "async")]
-    watchers: Vec<(Ticket, Irp, Waker)>,
+    watchers: BTreeMap<(Irp, Ticket), Waker>,
+}
+
+fn file_of(peek: Peek) -> Option<u32> {
+    match peek {
+        Peek::Any => None,
+        Peek::File(file) => Some(file),
+    }
+}
+
+/// Takes the first one out that waits for just this.
+fn take_first_of<K: Ord + Copy>(
+    waiters: &mut BTreeMap<(K, Ticket), Waker>,
+    of: K,
+) -> Option<Waker> {
+    let mut those = waiters.range((of, Ticket::FIRST)..=(of, Ticket::LAST));
+    let first = *those.next()?.0;
+    waiters.remove(&first)
 }
 
 impl Waiting {
     /// Adds one who waits for what this peek takes.
     pub(crate) fn add(&mut self, peek: Peek, waker: Waker) -> Ticket {
         let ticket = self.new_ticket();
-        self.waiters.push_back(Waiter {
-            ticket,
-            peek,
-            waker,
-        });
+        self.waiters.insert((file_of(peek), ticket), waker);
         ticket
     }
 
@@ -52,18 +65,14 @@ impl Waiting {
         Ticket(self.tickets)
     }
 
-    /// Takes one out that wasn't woken. The caller drops the waker once the lock is free.
-    pub(crate) fn remove(&mut self, ticket: Ticket) -> Option<Waker> {
-        let is_it = |waiter: &Waiter| waiter.ticket == ticket;
-        let at = self.waiters.iter().position(is_it)?;
-        self.waiters.remove(at).map(|waiter| waiter.waker)
+    /// Takes one out that waits for this and wasn't woken. The caller drops the waker once the lock is free.
+    pub(crate) fn remove(&mut self, peek: Peek, ticket: Ticket) -> Option<Waker> {
+        self.waiters.remove(&(file_of(peek), ticket))
     }
 
     /// Takes the first one out that waits for just this.
     pub(crate) fn take_first(&mut self, peek: Peek) -> Option<Waker> {
-        let is_it = |waiter: &Waiter| waiter.peek == peek;
-        let at = self.waiters.iter().position(is_it)?;
-        self.waiters.remove(at).map(|waiter| waiter.waker)
+        take_first_of(&mut self.waiters, file_of(peek))
     }
 
     /// Takes those out whom a request for this file object wakes.
@@ -81,7 +90,8 @@ impl Waiting {
     /// Shuts the queue down, and takes all out.
     pub(crate) fn shut_down(&mut self) -> Vec<Waker> {
         self.shut = true;
-        self.waiters.drain(..).map(|waiter| waiter.waker).collect()
+        let waiters = std::mem::take(&mut self.waiters);
+        waiters.into_iter().map(|(_, waker)| waker).collect()
     }
 }
 
@@ -90,27 +100,18 @@ impl Waiting {
     /// Adds one who waits for a cancel of this IRP, in its life.
     pub(crate) fn watch(&mut self, irp: Irp, waker: Waker) -> Ticket {
         let ticket = self.new_ticket();
-        self.watchers.push((ticket, irp, waker));
+        self.watchers.insert((irp, ticket), waker);
         ticket
     }
 
-    /// Takes one out that wasn't woken. The caller drops the waker once the lock is free.
-    pub(crate) fn unwatch(&mut self, ticket: Ticket) -> Option<Waker> {
-        let at = self.watchers.iter().position(|(its, ..)| *its == ticket)?;
-        Some(self.watchers.swap_remove(at).2)
+    /// Takes one out that waits for this and wasn't woken. The caller drops the waker once the lock is free.
+    pub(crate) fn unwatch(&mut self, irp: Irp, ticket: Ticket) -> Option<Waker> {
+        self.watchers.remove(&(irp, ticket))
     }
 
     /// Takes those out who wait for a cancel of this IRP, in its life.
     pub(crate) fn take_watchers(&mut self, irp: Irp) -> Vec<Waker> {
-        let mut woken = Vec::new();
-        for (ticket, its, waker) in std::mem::take(&mut self.watchers) {
-            if its == irp {
-                woken.push(waker);
-            } else {
-                self.watchers.push((ticket, its, waker));
-            }
-        }
-        woken
+        std::iter::from_fn(|| take_first_of(&mut self.watchers, irp)).collect()
     }
 }
 
@@ -194,10 +195,10 @@ mod tests {
     #[test]
     fn one_that_gives_up_is_not_woken() {
         let (mut waiting, waiters) = waiting_for([Peek::Any, Peek::Any]);
-        assert!(waiting.remove(waiters[0].0).is_some());
-        assert!(waiting.remove(waiters[0].0).is_none());
+        assert!(waiting.remove(Peek::Any, waiters[0].0).is_some());
+        assert!(waiting.remove(Peek::Any, waiters[0].0).is_none());
         waiting.take_for(0).wake();
-        assert!(waiting.remove(waiters[1].0).is_none());
+        assert!(waiting.remove(Peek::Any, waiters[1].0).is_none());
         assert_eq!(wakes(&waiters), [0, 1]);
     }
 
