@@ -43,13 +43,16 @@ says_proved() {
   [[ $(pkg-config --variable=proved csq) == "$2" && $(pkg-config --variable=kit csq) == "$3" ]]
 }
 
-# well_formed PAGE..: the man pages have no error, by mandoc or man, and name what they are of.
+# well_formed PAGE..: the man pages have no error, by mandoc or man, and the first one has each call of csq.h.
 well_formed() {
   local page
   for page; do
-    if command -v mandoc >/dev/null; then mandoc -Tlint -W error "$page"; else man --warnings -E UTF-8 -l -Tutf8 -Z "$page"; fi \
-      >"$work/page" 2>&1 || return 1
-    if grep -v '^x \|^[^ ]*$' "$work/page" | grep -i 'warning\|error'; then return 1; fi
+    if command -v mandoc >"$work/page"; then
+      mandoc -Tlint -W error "$page" >"$work/said"
+    else
+      man --warnings -E UTF-8 -l -Tutf8 -Z "$page" >"$work/page" 2>"$work/said"
+    fi || return 1
+    if grep . "$work/said"; then return 1; fi
   done
   for page in $(names_of_calls); do
     grep -q "\b$page(" "$1" || { echo "$1 lacks $page"; return 1; }
@@ -119,9 +122,13 @@ interrupted() {
   local prefix=$1 turn
   shift
   mkdir -p "$work/failing"
-  # The eleventh file can't be put in place.
-  printf '#!/bin/sh\necho >>"%s"\n[ $(wc -l <"%s") != 11 ] || exit 1\nexec %s "$@"\n' \
-    "$work/moves" "$work/moves" "$(command -v mv)" >"$work/failing/mv"
+  cat >"$work/failing/mv" <<END
+#!/bin/sh
+# The eleventh file can't be put in place.
+echo >>"$work/moves"
+[ \$(wc -l <"$work/moves") != 11 ] || exit 1
+exec $(command -v mv) "\$@"
+END
   chmod +x "$work/failing/mv"
   fails_at_the_eleventh "$prefix" "$@" && [[ ! $(files_below "$prefix") ]] && "$top/c/install" "$prefix" "$@" || return 1
   find "$prefix" -type f -exec sh -c 'echo "an older one" >>"$1"' sh {} \;
@@ -276,6 +283,9 @@ run_installs() {
   expect "install: --uninstall" removed "$work/removed" "${archives[@]}"
   expect "install: all or nothing" interrupted "$work/interrupted" "${archives[@]}"
   expect "install: from a clone in a folder with a space" from_a_clone "${archives[@]}"
-  expect "install: the man pages" well_formed "$work/installed archives/prefix"/share/man/man3/csq.3 \
-    "$work/installed archives/prefix"/share/man/man*/*
+  if command -v mandoc man >/dev/null; then
+    expect "install: the man pages" well_formed "$work/installed archives/prefix"/share/man/man{3/csq,3/csq_requests,1/csqsim}.*
+  else
+    skip_optional "install: the man pages" "there is neither mandoc nor man (Debian's package man-db)"
+  fi
 }
