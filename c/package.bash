@@ -1,6 +1,7 @@
 # Makes the tree of an installation, for c/install and c/dist: source this after c/library.bash, with the shell's
 # options -euo pipefail. CC, LD, AR and OBJCOPY name the tools, LIBDIR the libraries' folder below the prefix.
 : "${CC:=cc}" "${LD:=ld}" "${AR:=ar}" "${OBJCOPY:=objcopy}" "${LIBDIR:=lib}"
+csq_files=share/keuvatsi/files # the list of what is installed below a prefix, which is one of them
 
 # Ends the script with an error: csq_refuse NAME WHAT, with what to do.
 csq_refuse() {
@@ -13,7 +14,7 @@ csq_need() {
   local tool
   for tool; do
     command -v "$tool" >/dev/null || csq_refuse "no tool" \
-      "there is no $tool. A C compiler and binutils have cc, ld, ar and objcopy; CC, LD, AR and OBJCOPY name others"
+      "there is no $tool. A C compiler and binutils have cc, ld, ar and objcopy, for which CC, LD, AR and OBJCOPY name others"
   done
 }
 
@@ -36,6 +37,31 @@ csq_archives() {
   fi
 }
 
+# Prints the line of the kit that proved these archives, or nothing if they aren't known to be proved: csq_kit has the
+# arguments of csq_archives. Of FILE.. the caller says so, by CSQ_KIT.
+csq_kit() {
+  local kit=${CSQ_KIT-}
+  if (($# == 0)); then kit=$(rt version); elif [[ $1 == --plain ]]; then kit=; fi
+  [[ $kit =~ ^[A-Za-z0-9\ ._:,+/()=-]*$ ]] || csq_refuse "not a kit's line" "CSQ_KIT is '$kit', not what rt version prints"
+  echo "$kit"
+}
+
+# Prints the csqsim to pack beside a proved library, or nothing: the one that CSQSIM names, or the proved one, if no source
+# is newer. A proof of it takes too long to be made here.
+csq_program() {
+  local top=$1 program=$1/crates/csqsim/out/csqsim
+  if [[ ${CSQSIM-} ]]; then
+    [[ -f $CSQSIM && -x $CSQSIM ]] || csq_refuse "no csqsim" "CSQSIM is $CSQSIM, which is no program"
+    echo "$CSQSIM"
+  elif [[ ! -x $program ]]; then
+    echo "c/${0##*/}: without csqsim, which isn't built: (cd crates/csqsim && rt run)" >&2
+  elif [[ $(find "$top/crates" -newer "$program" \( -name '*.rt' -o -name '*.antt' \) -print -quit) ]]; then
+    echo "c/${0##*/}: without csqsim, which is older than its sources: (cd crates/csqsim && rt run)" >&2
+  else
+    echo "$program"
+  fi
+}
+
 # Prints the version, which stands in csq.h alone.
 csq_version() {
   sed -n 's/^#define CSQ_VERSION "\([0-9.]*\)"$/\1/p' "$1/include/csq.h" | grep . ||
@@ -53,15 +79,17 @@ csq_fill() {
   printf '%s\n' "$text"
 }
 
-# Links the archives into one object, in which only csq_* is a name for others, and that into libcsq.a and the shared
-# library: csq_link TOP WORK VERSION ARCHIVE..
+# Links the archives, and the calls that are written in csq.h, into one object, in which only csq_* is a name for others,
+# and that into libcsq.a and the shared library: csq_link TOP WORK VERSION BUILD ARCHIVE.., where BUILD is csq_build's text.
 csq_link() {
-  local top=$1 work=$2 version=$3 major=${3%%.*} lib=$2/tree/$LIBDIR
-  shift 3
-  "$LD" -r --whole-archive "$@" --no-whole-archive -o "$work/csq.o" ||
+  local top=$1 work=$2 version=$3 build=$4 major=${3%%.*} lib=$2/tree/$LIBDIR
+  shift 4
+  "$CC" -std=c99 -O2 -fPIC -I"$top/include" -DCSQ_BUILD="\"$build\"" -c "$top/c/package/csq_calls.c" -o "$work/calls.o" ||
+    csq_refuse "not compiled" "$CC can't compile c/package/csq_calls.c. CC names another compiler"
+  "$LD" -r --whole-archive "$@" --no-whole-archive "$work/calls.o" -o "$work/csq.o" ||
     csq_refuse "not linked" "$LD can't link the archives. Name those of csq_library of c/library.bash, each once"
   "$OBJCOPY" --wildcard --keep-global-symbol='csq_*' "$work/csq.o"
-  csq_fill "$top/c/package/csq.map.in" "MAJOR=$major" >"$work/csq.map"
+  "$top/c/package/made" map >"$work/csq.map"
   mkdir -p "$lib"
   "$AR" rcsD "$lib/libcsq.a" "$work/csq.o"
   # Calls inside of the library are bound there (-Bsymbolic): what was proved isn't exchanged for a program's own.
@@ -89,19 +117,41 @@ csq_add_iocsq() {
     "library=../../../$LIBDIR/libcsq.a" >"$share/installed"
 }
 
-# Makes the tree WORK/tree: csq_package TOP WORK PREFIX ARCHIVE.., where PREFIX is what csq.pc is to name. pkg-config
-# reads a space in its variables behind a backslash.
+# Adds csqsim, if there is one, and the man pages: csq_add_manual TOP TREE PROGRAM
+csq_add_manual() {
+  local top=$1 tree=$2 program=$3 page pages=(csq.3 csq_requests.3)
+  if [[ $program ]]; then
+    install -D -m 755 "$program" "$tree/bin/csqsim"
+    pages+=(csqsim.1)
+  fi
+  for page in "${pages[@]}"; do
+    install -d "$tree/share/man/man${page##*.}"
+    "$top/c/package/made" "$page" >"$tree/share/man/man${page##*.}/$page"
+  done
+}
+
+# Makes the tree WORK/tree: csq_package TOP WORK PREFIX KIT ARCHIVE.., where PREFIX is what csq.pc is to name, and KIT the
+# line of the kit that proved the archives, or empty. pkg-config reads a space in its variables behind a backslash.
 csq_package() {
-  local top=$1 work=$2 prefix=$3 version lib=$2/tree/$LIBDIR
-  shift 3
+  local top=$1 work=$2 prefix=$3 kit=$4 tree=$2/tree lib=$2/tree/$LIBDIR version proved=no program='' file
+  shift 4
   version=$(csq_version "$top")
-  csq_link "$top" "$work" "$version" "$@"
+  if [[ $kit ]]; then
+    proved=yes
+    program=$(csq_program "$top")
+  fi
+  csq_link "$top" "$work" "$version" "csq $version proved=$proved${kit:+ kit=$kit}" "$@"
   local values=("VERSION=$version" "MAJOR=${version%%.*}" "LIBDIR=$LIBDIR" "PREFIX=${prefix// /\\ }"
-    "TO_PREFIX=$(realpath -ms --relative-to="/$LIBDIR/cmake/csq" /)")
-  install -D -m 644 -t "$work/tree/include/keuvatsi" "$top/include/csq.h" "$top/include/csq_requests.h"
-  csq_add_iocsq "$top" "$work/tree"
+    "TO_PREFIX=$(realpath -ms --relative-to="/$LIBDIR/cmake/csq" /)" "PROVED=$proved" "KIT=$kit")
+  install -D -m 644 -t "$tree/include/keuvatsi" "$top/include/csq.h" "$top/include/csq_requests.h"
+  csq_add_iocsq "$top" "$tree"
+  csq_add_manual "$top" "$tree" "$program"
   mkdir -p "$lib/pkgconfig" "$lib/cmake/csq"
   csq_fill "$top/c/package/csq.pc.in" "${values[@]}" >"$lib/pkgconfig/csq.pc"
-  csq_fill "$top/c/package/csqConfig.cmake.in" "${values[@]}" >"$lib/cmake/csq/csqConfig.cmake"
-  csq_fill "$top/c/package/csqConfigVersion.cmake.in" "${values[@]}" >"$lib/cmake/csq/csqConfigVersion.cmake"
+  for file in csqConfig.cmake csqConfigVersion.cmake; do
+    csq_fill "$top/c/package/$file.in" "${values[@]}" >"$lib/cmake/csq/$file"
+  done
+  touch "$tree/$csq_files"
+  find "$tree" ! -type d -printf '%P\n' | LC_ALL=C sort >"$work/files"
+  cp "$work/files" "$tree/$csq_files"
 }

@@ -1,7 +1,8 @@
 /*
  * csq.h: the cancel-safe IRP queue of Microsoft's WDK (IoCsqInsertIrpEx, IoCsqRemoveNextIrp, IoCsqRemoveIrp,
  * IoSetCancelRoutine, IoCancelIrp, IRP_MJ_CLEANUP) for programs in C and C++ that bring a lock of their own. The
- * library runs on 64-bit Linux (ELF), on a processor of x86-64-v2 (SSE4.1) or later.
+ * library runs on 64-bit Linux (ELF), on a processor of x86-64-v2 (SSE4.1) or later. This header is C99, and C++98 with
+ * its <stdint.h>; C89 isn't supported.
  *
  *     the WDK                                  here
  *     IoCsqInitializeEx                        csq_new, csq_take_pass
@@ -79,9 +80,16 @@
 #include <stddef.h>
 #include <stdint.h>
 
-/* The version of this interface: as text, and as the number that csq_version answers of the library. */
-#define CSQ_VERSION "1.0.0"
-#define CSQ_VERSION_NUMBER UINT32_C(10000)
+/* The version of this interface: as text, and as the number that csq_version returns of the library. What came later than
+ * 1.0 says so: "Since: 1.1". */
+#define CSQ_VERSION "1.1.0"
+#define CSQ_VERSION_NUMBER UINT32_C(10100)
+
+/* A call that is written in this header. An installed library has each of these as a symbol too, for those who bind by
+ * name. Since: 1.1. */
+#ifndef CSQ_INLINE
+#define CSQ_INLINE static inline
+#endif
 
 /* An answer that has to be looked at: else an IRP may be held or owed by a pass whose program doesn't know. */
 #if (defined(__cplusplus) && __cplusplus >= 201703L) || (defined(__STDC_VERSION__) && __STDC_VERSION__ >= 202311L)
@@ -153,7 +161,7 @@ enum csq_code {
     CSQ_OTHER_QUEUE = 26
 };
 
-/* What csq_judge_peek says of an answer, the first that holds: */
+/* Since: 1.1. What csq_judge_peek says of an answer, the first that holds: */
 enum csq_peek_verdict {
     /* It is what csq_peek_next answers. */
     CSQ_PEEK_AGREES = 0,
@@ -167,7 +175,7 @@ enum csq_peek_verdict {
     CSQ_PEEK_NOT_LISTED = 4
 };
 
-/* What csq_judge_remove says of a removal: */
+/* Since: 1.1. What csq_judge_remove says of a removal: */
 enum csq_remove_verdict {
     /* The queue gives the IRP to the pass too. */
     CSQ_REMOVE_AGREES = 0,
@@ -177,7 +185,7 @@ enum csq_remove_verdict {
     CSQ_REMOVE_NOT_LISTED = 2
 };
 
-/* What csq_judge_complete and csq_judge_insert say of an IRP, the first that holds: */
+/* Since: 1.1. What csq_judge_complete and csq_judge_insert say of an IRP, the first that holds: */
 enum csq_use_verdict {
     /* The pass holds it, and may do so. */
     CSQ_USE_AGREES = 0,
@@ -196,7 +204,7 @@ enum csq_use_verdict {
  * each file object). The vector is the faster one where the next IRP is removed whatever its file object. But a removal
  * from its middle moves the IRPs on the shorter side, and a look for a file object walks past those of others; the chains
  * take the same time however many are listed. With CSQ_AUTO the library takes the vector for a queue of at most
- * CSQ_AUTO_VECTOR_IRPS IRPs, and the chains for a larger one. */
+ * CSQ_AUTO_VECTOR_IRPS IRPs, and the chains for a larger one. Since: 1.1. */
 enum { CSQ_VECTOR = 0, CSQ_CHAINS = 1, CSQ_AUTO = 2, CSQ_AUTO_VECTOR_IRPS = 64 };
 
 /* The most IRPs, file objects and passes of a queue, and an IRP's last life. */
@@ -260,7 +268,7 @@ CSQ_NODISCARD uint32_t csq_new_queue_with_file_limits(struct csq_queue *queue, c
 /* Makes a queue, as IoCsqInitializeEx does: no IRP is used, and each file object is open. A queue of more than a hundred
  * IRPs, or whose IRPs are removed by file object, by their names or by cancels, does best with CSQ_AUTO.
  * CSQ_NOT_EMPTY; CSQ_BAD_SIZE; CSQ_NO_MEMORY. Lock: not needed, for no other thread knows the queue yet. */
-CSQ_NODISCARD static inline uint32_t csq_new(struct csq_queue *queue, const struct csq_size *size) {
+CSQ_NODISCARD CSQ_INLINE uint32_t csq_new(struct csq_queue *queue, const struct csq_size *size) {
     uint32_t code = csq_new_queue(queue, size);
     if (code == CSQ_OK) {
         queue->number = (uint64_t)(uintptr_t)queue->at;
@@ -270,7 +278,7 @@ CSQ_NODISCARD static inline uint32_t csq_new(struct csq_queue *queue, const stru
 
 /* csq_new, with a limit for each file object: how many IRPs may be listed for it at a time, 1 to irps. There are
  * `count` limits, as many as file objects. CSQ_NOT_EMPTY; CSQ_BAD_SIZE; CSQ_NO_MEMORY. Lock: not needed. */
-CSQ_NODISCARD static inline uint32_t csq_new_with_file_limits(struct csq_queue *queue, const struct csq_size *size,
+CSQ_NODISCARD CSQ_INLINE uint32_t csq_new_with_file_limits(struct csq_queue *queue, const struct csq_size *size,
                                                               const uint32_t *file_limits, size_t count) {
     uint32_t code = csq_new_queue_with_file_limits(queue, size, file_limits, count);
     if (code == CSQ_OK) {
@@ -285,7 +293,7 @@ CSQ_NODISCARD static inline uint32_t csq_new_with_file_limits(struct csq_queue *
 CSQ_NODISCARD uint32_t csq_free_queue(struct csq_queue *queue);
 
 /* csq_free_queue, and CSQ_OK of NULL too. The handle is as CSQ_EMPTY then. */
-CSQ_NODISCARD static inline uint32_t csq_free(struct csq_queue *queue) {
+CSQ_NODISCARD CSQ_INLINE uint32_t csq_free(struct csq_queue *queue) {
     uint32_t code = queue ? csq_free_queue(queue) : (uint32_t)CSQ_OK;
     if (queue && code == CSQ_OK) {
         queue->number = 0;
@@ -314,6 +322,11 @@ uint32_t csq_read_left(const struct csq_queue *queue, uint32_t irp, struct csq_l
 /* Answers the library's version as CSQ_VERSION_NUMBER is that of this header: 10,000 times the major version, 100
  * times the minor one, and the patch. Lock: not needed. */
 uint32_t csq_version(void);
+
+/* Returns what an installed library is: "csq 1.1.0 proved=yes kit=" and the line of the Rattle kit that proved it, or
+ * "csq 1.1.0 proved=no". It is in the archive and in the shared library that c/install and c/dist make (where `strings`
+ * shows that text too), and not in the archives of which they make them. Lock: not needed. Since: 1.1. */
+const char *csq_build(void);
 
 /* ---- Passes ---- */
 
@@ -364,7 +377,7 @@ CSQ_NODISCARD uint32_t csq_remove(struct csq_queue *queue, struct csq_pass *pass
  * `irp` does, since its life goes on: the context of its insert names it too. After a refusal the pass holds it as
  * before. Whoever removes and puts back in turns, and waits for nothing in between, may go on for ever.
  * CSQ_EMPTY_HANDLE; CSQ_OTHER_QUEUE; CSQ_UNKNOWN_IRP; CSQ_NOT_HELD; CSQ_NOT_REMOVED; CSQ_FILE_CLOSED; CSQ_FILE_FULL
- * or CSQ_FULL (others were inserted in the meantime). Lock: held. */
+ * or CSQ_FULL (others were inserted in the meantime). Lock: held. Since: 1.1. */
 CSQ_NODISCARD uint32_t csq_put_back(struct csq_queue *queue, struct csq_pass *pass, struct csq_irp irp, uint32_t front,
                                     struct csq_irp *context);
 
@@ -393,20 +406,20 @@ CSQ_NODISCARD uint32_t csq_reuse(struct csq_queue *queue, struct csq_pass *pass,
 
 /* Removes an IRP beside a driver that removes it (IoCsqRemoveIrp), as csq_remove does, and stores one of enum
  * csq_remove_verdict: where it agrees, csq_remove would answer CSQ_OK, and the pass holds the IRP then. Whether another
- * is listed is decided by its number. CSQ_EMPTY_HANDLE; CSQ_OTHER_QUEUE. Lock: held. */
+ * is listed is decided by its number. CSQ_EMPTY_HANDLE; CSQ_OTHER_QUEUE. Lock: held. Since: 1.1. */
 uint32_t csq_judge_remove(struct csq_queue *queue, struct csq_pass *pass, struct csq_irp irp, uint32_t *verdict);
 
 /* Completes an IRP beside a driver that completes it with this status (IoCompleteRequest), through the pass that holds
  * it: as csq_complete_cancelled does for STATUS_CANCELLED, and as csq_complete for another. Stores one of enum
  * csq_use_verdict; nothing is completed unless it agrees. Whether an IRP that the pass doesn't hold is listed is
- * decided by its number. CSQ_EMPTY_HANDLE; CSQ_OTHER_QUEUE. Lock: held. */
+ * decided by its number. CSQ_EMPTY_HANDLE; CSQ_OTHER_QUEUE. Lock: held. Since: 1.1. */
 uint32_t csq_judge_complete(struct csq_queue *queue, struct csq_pass *pass, struct csq_irp irp, uint32_t status,
                             uint32_t *verdict);
 
 /* Judges the insert of an IRP that was in this queue before, in the life that it has there (IoCsqInsertIrpEx). A driver
  * may insert again what it removed, but not what is listed, or was given to it as cancelled. Stores one of enum
  * csq_use_verdict, never CSQ_USE_NOT_FINAL. Where it agrees the IRP is completed, so that csq_reuse begins its next
- * life, in which csq_insert takes it. CSQ_EMPTY_HANDLE; CSQ_OTHER_QUEUE. Lock: held. */
+ * life, in which csq_insert takes it. CSQ_EMPTY_HANDLE; CSQ_OTHER_QUEUE. Lock: held. Since: 1.1. */
 uint32_t csq_judge_insert(struct csq_queue *queue, struct csq_pass *pass, struct csq_irp irp, uint32_t *verdict);
 
 /* ---- Looks at an open queue, under the lock ---- */
@@ -420,14 +433,14 @@ uint32_t csq_peek_next(const struct csq_queue *queue, uint32_t after, uint32_t f
 /* Judges what a driver's own CsqPeekNextIrp answered for its list, beside this queue's: `answer`, or CSQ_ANY for none,
  * to a peek that went on after `after`, or from the first on for CSQ_ANY, for a file object, or for any with CSQ_ANY.
  * Stores one of enum csq_peek_verdict, and for CSQ_PEEK_SKIPS in *skipped the match that comes first.
- * CSQ_EMPTY_HANDLE; CSQ_CLOSED; CSQ_NOT_LISTED (`after` isn't listed). Lock: held. */
+ * CSQ_EMPTY_HANDLE; CSQ_CLOSED; CSQ_NOT_LISTED (`after` isn't listed). Lock: held. Since: 1.1. */
 uint32_t csq_judge_peek(const struct csq_queue *queue, uint32_t after, uint32_t file, uint32_t answer,
                         uint32_t *verdict, uint32_t *skipped);
 
 /* Judges what a driver's IRP_MJ_CLEANUP left of a file object in this queue's list, but for IRPs of these `count`
  * numbers, which it may leave: those that a canceller has, and those that came after it began. *left is the first that
  * is left, or CSQ_ANY if none is. `file` is one file object: CSQ_ANY isn't one.
- * CSQ_EMPTY_HANDLE; CSQ_CLOSED; CSQ_UNKNOWN_FILE. Lock: held. */
+ * CSQ_EMPTY_HANDLE; CSQ_CLOSED; CSQ_UNKNOWN_FILE. Lock: held. Since: 1.1. */
 uint32_t csq_judge_cleanup(const struct csq_queue *queue, uint32_t file, const uint32_t *excused, size_t count,
                            uint32_t *left);
 
@@ -559,7 +572,7 @@ static inline uint32_t csq_tsan_judge_insert(struct csq_queue *queue, struct csq
 /* ---- What a code says ---- */
 
 /* The name of a code, as "CSQ_FULL"; "?" of a number that is no code. Lock: not needed. */
-static inline const char *csq_name(uint32_t code) {
+CSQ_INLINE const char *csq_name(uint32_t code) {
     static const char *const names[] = {
         "CSQ_OK",            "CSQ_UNKNOWN_IRP",  "CSQ_UNKNOWN_FILE", "CSQ_NOT_HOME",    "CSQ_FILE_CLOSED",
         "CSQ_FULL",          "CSQ_FILE_FULL",    "CSQ_CANCELLED",    "CSQ_NONE",        "CSQ_STALE",
@@ -575,7 +588,7 @@ static inline const char *csq_name(uint32_t code) {
  * IRP was accepted, or was found cancelled and is completed so; STATUS_FILE_CLOSED and STATUS_INSUFFICIENT_RESOURCES
  * where the file object or the list took no more; STATUS_INVALID_PARAMETER for what is a fault of the program's. Lock:
  * not needed. */
-static inline uint32_t csq_insert_status(uint32_t code) {
+CSQ_INLINE uint32_t csq_insert_status(uint32_t code) {
     switch (code) {
     case CSQ_OK:
     case CSQ_CANCELLED: return CSQ_STATUS_PENDING;
@@ -609,15 +622,15 @@ struct csq_callback {
  * NULL. `before_completion` is that of struct csq_callback. `after_completion` is called once the IRP is completed, with
  * the lock free and the IRP nobody's: whoever is woken there finds its status and may begin its next life (csq_reuse). It
  * returns to its caller (by no exception and no longjmp), and may make any call, also with this queue and this pass, but
- * doesn't give the pass back or abandon it. */
+ * doesn't give the pass back or abandon it. Since: 1.1. */
 struct csq_events {
     void (*before_completion)(void *context, struct csq_irp irp);
     void (*after_completion)(void *context, struct csq_irp irp);
     void *context;
 };
 
-/* csq_cancel, with the events, which may be NULL, in the place of the callback. Lock: not held. */
-CSQ_NODISCARD static inline uint32_t csq_cancel_with(struct csq_queue *queue, struct csq_pass *pass, struct csq_irp irp,
+/* csq_cancel, with the events, which may be NULL, in the place of the callback. Lock: not held. Since: 1.1. */
+CSQ_NODISCARD CSQ_INLINE uint32_t csq_cancel_with(struct csq_queue *queue, struct csq_pass *pass, struct csq_irp irp,
                                                      const struct csq_lock *lock, const struct csq_events *events,
                                                      uint32_t *completed) {
     uint32_t code, found = 0;
@@ -645,8 +658,8 @@ CSQ_NODISCARD static inline uint32_t csq_cancel_with(struct csq_queue *queue, st
 }
 
 /* csq_drain, with the events, which may be NULL, in the place of the callback. An IRP that is used again for this file
- * object after its completion is drained again. Lock: not held. */
-CSQ_NODISCARD static inline uint32_t csq_drain_with(struct csq_queue *queue, struct csq_pass *pass, uint32_t file,
+ * object after its completion is drained again. Lock: not held. Since: 1.1. */
+CSQ_NODISCARD CSQ_INLINE uint32_t csq_drain_with(struct csq_queue *queue, struct csq_pass *pass, uint32_t file,
                                                     const struct csq_lock *lock, const struct csq_events *events,
                                                     uint32_t *completed) {
     struct csq_irp irp = { 0, 0 };
@@ -677,8 +690,8 @@ CSQ_NODISCARD static inline uint32_t csq_drain_with(struct csq_queue *queue, str
     return code;
 }
 
-/* csq_cleanup, with the events, which may be NULL, in the place of the callback. Lock: not held. */
-CSQ_NODISCARD static inline uint32_t csq_cleanup_with(struct csq_queue *queue, struct csq_pass *pass, uint32_t file,
+/* csq_cleanup, with the events, which may be NULL, in the place of the callback. Lock: not held. Since: 1.1. */
+CSQ_NODISCARD CSQ_INLINE uint32_t csq_cleanup_with(struct csq_queue *queue, struct csq_pass *pass, uint32_t file,
                                                       const struct csq_lock *lock, const struct csq_events *events,
                                                       uint32_t *completed) {
     uint32_t code;
@@ -693,7 +706,7 @@ CSQ_NODISCARD static inline uint32_t csq_cleanup_with(struct csq_queue *queue, s
  * callback is called with the IRP it is listed still, so it counts for the limits and for csq_file_len.
  * CSQ_EMPTY_HANDLE; CSQ_OTHER_QUEUE; CSQ_UNKNOWN_IRP; CSQ_STALE. Lock: not held; it is taken only where the routine was
  * there. */
-CSQ_NODISCARD static inline uint32_t csq_cancel(struct csq_queue *queue, struct csq_pass *pass, struct csq_irp irp,
+CSQ_NODISCARD CSQ_INLINE uint32_t csq_cancel(struct csq_queue *queue, struct csq_pass *pass, struct csq_irp irp,
                                                 const struct csq_lock *lock, const struct csq_callback *callback,
                                                 uint32_t *completed) {
     struct csq_events events = { callback ? callback->before_completion : 0, 0, callback ? callback->context : 0 };
@@ -707,7 +720,7 @@ CSQ_NODISCARD static inline uint32_t csq_cancel(struct csq_queue *queue, struct 
  * may go on for as long as others insert or put back.
  * CSQ_EMPTY_HANDLE; CSQ_OTHER_QUEUE; CSQ_UNKNOWN_FILE. Lock: not held; it is taken for each removal, and free between
  * two of them. */
-CSQ_NODISCARD static inline uint32_t csq_drain(struct csq_queue *queue, struct csq_pass *pass, uint32_t file,
+CSQ_NODISCARD CSQ_INLINE uint32_t csq_drain(struct csq_queue *queue, struct csq_pass *pass, uint32_t file,
                                                const struct csq_lock *lock, const struct csq_callback *callback,
                                                uint32_t *completed) {
     struct csq_events events = { callback ? callback->before_completion : 0, 0, callback ? callback->context : 0 };
@@ -716,7 +729,7 @@ CSQ_NODISCARD static inline uint32_t csq_drain(struct csq_queue *queue, struct c
 
 /* Handles IRP_MJ_CLEANUP of a file object: csq_close_file, then csq_drain. *completed is how many IRPs were completed.
  * Answers as csq_close_file does. Lock: not held; it is taken for each call, and free between two of them. */
-CSQ_NODISCARD static inline uint32_t csq_cleanup(struct csq_queue *queue, struct csq_pass *pass, uint32_t file,
+CSQ_NODISCARD CSQ_INLINE uint32_t csq_cleanup(struct csq_queue *queue, struct csq_pass *pass, uint32_t file,
                                                  const struct csq_lock *lock, const struct csq_callback *callback,
                                                  uint32_t *completed) {
     struct csq_events events = { callback ? callback->before_completion : 0, 0, callback ? callback->context : 0 };

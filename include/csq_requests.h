@@ -30,7 +30,8 @@
  * call is made in a signal handler or in the forked child of a process with threads, and no thread is cancelled
  * (pthread_cancel) inside of one.
  *
- * Link with the library of csq.h and with -pthread. Nothing of this header is proved; it is tested as csq.h is.
+ * Link with the library of csq.h and with -pthread. It is C99 or later, as csq.h is. Nothing of this header is proved; it is
+ * tested as csq.h is. Since: 1.1.
  */
 #ifndef CSQ_REQUESTS_H
 #define CSQ_REQUESTS_H

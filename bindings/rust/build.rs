@@ -1,6 +1,7 @@
 //! Names the C library to the linker: the archives that `CSQ_LIBRARY` names, in the linker's order, with colons between
-//! them (a relative path is of the folder from which the build was started); else the library that `pkg-config` finds;
-//! else, with the feature `plain`, the plain C queue, which the C compiler builds from the repository (`bench/c`).
+//! them (a relative path is of the folder from which the build was started; a colon that isn't behind `.a` is part of a
+//! path); else the library that `pkg-config` finds; else, with the feature `plain`, the plain C queue, which the C
+//! compiler builds from the repository (`bench/c`).
 use std::env;
 use std::ffi::OsStr;
 use std::path::{Path, PathBuf};
@@ -39,7 +40,7 @@ fn name_of(path: &Path) -> Option<&str> {
 fn archive_of(given: &Path) -> Result<Archive, String> {
     let shown = given.display();
     let name = name_of(given).ok_or_else(|| {
-        format!("\"{shown}\" is not named as an archive is, lib*.a; between two archives stands a colon")
+        format!("\"{shown}\" is not named as an archive is, lib*.a; between two archives stands a colon, behind the first one's .a")
     })?;
     let path = if given.is_absolute() {
         given.to_path_buf()
@@ -66,9 +67,23 @@ fn archive_of(given: &Path) -> Result<Archive, String> {
     })
 }
 
+/// The paths of archives with colons between them. A colon that isn't behind `.a` is part of a path.
+fn paths_of(archives: &str) -> Vec<String> {
+    let mut paths: Vec<_> = archives.split(".a:").map(str::to_string).collect();
+    let last = paths.len() - 1;
+    for path in &mut paths[..last] {
+        path.push_str(".a");
+    }
+    paths
+}
+
 /// Names the archives to Cargo, all or none.
 fn link(archives: &OsStr) -> Result<(), String> {
-    let archives = env::split_paths(archives).map(|path| archive_of(&path));
+    let archives = archives
+        .to_str()
+        .ok_or_else(|| format!("{archives:?} is not UTF-8, as Cargo's paths are"))?;
+    let archives = paths_of(archives);
+    let archives = archives.iter().map(|path| archive_of(Path::new(path)));
     for archive in archives.collect::<Result<Vec<_>, _>>()? {
         println!("cargo:rerun-if-changed={}", archive.path);
         println!("cargo:rustc-link-search=native={}", archive.folder);
@@ -90,7 +105,7 @@ fn link_installed() -> bool {
         return false;
     }
     let mut pkg_config = program("PKG_CONFIG", "pkg-config");
-    let asked = pkg_config.args(["--variable=libdir", "csq >= 1.0.0"]);
+    let asked = pkg_config.args(["--variable=libdir", "csq >= 1.1.0"]);
     let found = match asked.output() {
         Ok(output) if output.status.success() => output.stdout,
         _ => return false,

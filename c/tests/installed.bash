@@ -4,13 +4,59 @@
 # What c/tests/header.cpp writes where all is well.
 header_lines=$(printf 'passed %s\n' the_header_names_what_is_there each_code_has_its_name an_insert_has_its_status)
 
-# only_csq PREFIX VERSION: each library gives csq_* alone to others, both the same names, the shared one versioned.
+# How many calls csq.h had at 1.0, and how many of these were symbols then. Neither changes any more: a call that is added
+# says "Since: " and the version that has it first.
+calls_of_first=35 symbols_of_first=27
+
+# only_csq PREFIX VERSION: each library gives csq_* alone to others, and just the calls of csq.h, those of 1.0 under the
+# version CSQ_1, and the later ones under theirs, none of which is newer than the header.
 only_csq() {
-  local lib=$1/lib version=CSQ_${2%%.*}
-  nm -g --defined-only "$lib/libcsq.a" | awk -v version="$version" 'NF == 3 { print $3 "@@" version }' | sort \
-    >"$work/static"
+  local lib=$1/lib version=$2 newest
+  "$top/c/package/made" calls >"$work/calls"
+  nm -g --defined-only "$lib/libcsq.a" | awk 'NF == 3 { print $3 }' | sort >"$work/static"
   readelf -W --dyn-syms "$lib/libcsq.so" | awk '$5 == "GLOBAL" && $7 ~ /^[0-9]+$/ { print $8 }' | sort >"$work/shared"
-  diff "$work/static" "$work/shared" && grep '^csq_new_queue@' "$work/static" && ! grep -v '^csq_[a-z_]*@' "$work/static"
+  newest=$(sed 's/.*CSQ_//' "$work/shared" | sort -V | tail -1)
+  diff <(names_of_calls) <(cut -d' ' -f1 "$work/calls" | sort) && diff <(names_of_calls) "$work/static" &&
+    diff "$work/static" <(sed 's/@@CSQ_.*//' "$work/shared") && count_is $calls_of_first ' 1\.0$' "$work/calls" &&
+    count_is $symbols_of_first '@@CSQ_1$' "$work/shared" && [[ $newest == "${version%.*}" || $newest == "${version%%.*}" ]]
+}
+
+# count_is NUMBER PATTERN FILE: so many lines match.
+count_is() {
+  local count
+  count=$(grep -c -- "$2" "$3")
+  ((count == $1)) || { echo "$count lines match $2, not $1"; return 1; }
+}
+
+# by_name PREFIX BUILD COMPILER: each call is a symbol for those who bind by name, and csq_build returns this text, which
+# the archive has too.
+by_name() {
+  local calls
+  mapfile -t calls < <(names_of_calls)
+  "$3" -std=c11 "${warnings[@]}" -I"$top/include" "$top/c/tests/by_name.c" -ldl -o "$work/by_name" &&
+    "$work/by_name" "$1/lib/libcsq.so" "$2" "${calls[@]}" && grep -qaF "$2" "$1/lib/libcsq.a"
+}
+
+# says_proved PREFIX yes|no KIT: csq.pc says whether the library is proved, and by which kit.
+says_proved() {
+  local -x PKG_CONFIG_PATH=$1/lib/pkgconfig
+  [[ $(pkg-config --variable=proved csq) == "$2" && $(pkg-config --variable=kit csq) == "$3" ]]
+}
+
+# well_formed PAGE..: the man pages have no error, by mandoc or man, and the first one has each call of csq.h.
+well_formed() {
+  local page
+  for page; do
+    if command -v mandoc >"$work/page"; then
+      mandoc -Tlint -W error "$page" >"$work/said"
+    else
+      man --warnings -E UTF-8 -l -Tutf8 -Z "$page" >"$work/page" 2>"$work/said"
+    fi || return 1
+    if grep . "$work/said"; then return 1; fi
+  done
+  for page in $(names_of_calls); do
+    grep -q "\b$page(" "$1" || { echo "$1 lacks $page"; return 1; }
+  done
 }
 
 # has_version PREFIX VERSION: the version of csq.h stands in the shared library's names and in what pkg-config reads.
@@ -23,7 +69,7 @@ has_version() {
 
 # staged ARGUMENT..: all lies below DESTDIR, and nothing in it names that folder.
 staged() {
-  local stage=$work/stage prefix="$work/now here"
+  local stage="$work/the stage" prefix="$work/now here"
   rm -rf "$stage"
   DESTDIR=$stage "$top/c/install" "$prefix" "$@" && [[ ! -e $prefix ]] &&
     cmp "$top/include/csq.h" "$stage$prefix/include/keuvatsi/csq.h" &&
@@ -31,7 +77,8 @@ staged() {
     grep -xF "prefix=${prefix// /\\ }" "$stage$prefix/lib/pkgconfig/csq.pc"
 }
 
-# dist_twice FOLDER ORIGIN ARGUMENT..: the same bytes twice, with their checksum; unpacked, a README with its origin.
+# dist_twice FOLDER ORIGIN ARGUMENT..: the same bytes twice, with their checksums; unpacked, a README with its origin, whose
+# command installs it.
 dist_twice() {
   local folder=$1 origin=$2 turn
   shift 2
@@ -40,7 +87,67 @@ dist_twice() {
   done
   cmp "$folder"/[12]/*.tar.gz && (cd "$folder/2" && sha256sum -c ./*.sha256) &&
     tar -xzf "$folder"/1/*.tar.gz -C "$folder" && mv "$folder"/csq-* "$folder/csq" &&
-    grep -F "$origin" "$folder/csq/README"
+    grep -F "$origin" "$folder/csq/README" && (cd "$folder/csq" && sha256sum -c SHA256SUMS) && copied "$folder/csq"
+}
+
+# copied FOLDER: what was unpacked is installed by its README's command, whole, and c/install removes it again.
+copied() {
+  local prefix=$work/copied command
+  command=$(sed -n 's|^ *\(cp .*\)/usr/local && ldconfig .*|\1|p' "$1/README")
+  rm -rf "$prefix" && mkdir "$prefix" && (cd "$1" && eval "$command '$prefix'") && listed "$prefix" &&
+    "$top/c/install" "$prefix" --uninstall && [[ ! $(files_below "$prefix") ]]
+}
+
+# What lies below a folder: each file, and how it is.
+files_below() { (cd "$1" && find . ! -type d -printf '%P %l\n' | sort); }
+
+# listed PREFIX: just what the list of installed files names is there.
+listed() { diff <(sort "$1/share/keuvatsi/files") <(cd "$1" && find . ! -type d -printf '%P\n' | sort); }
+
+# removed PREFIX ARGUMENT..: c/install removes what it has installed, in that prefix and nothing else.
+removed() {
+  local prefix=$1
+  shift
+  mkdir -p "$prefix/lib/cmake/other" "$prefix/include/keuvatsi"
+  touch "$prefix/lib/other" "$prefix/include/keuvatsi/other.h"
+  "$top/c/install" "$prefix" "$@" && [[ -e $prefix/lib/libcsq.so ]] && "$top/c/install" "$prefix" --uninstall &&
+    [[ $(files_below "$prefix") == $'include/keuvatsi/other.h \nlib/other ' ]] &&
+    [[ ! -e $prefix/share/keuvatsi && ! -e $prefix/lib/cmake/csq && -e $prefix/lib/cmake/other ]] &&
+    refuses "not installed" "$prefix" --uninstall
+}
+
+# interrupted PREFIX ARGUMENT..: where a file in the middle can't be put in place, each file is what it was before, or isn't
+# there; and what an older installation had alone goes with the next one.
+interrupted() {
+  local prefix=$1 turn
+  shift
+  mkdir -p "$work/failing"
+  cat >"$work/failing/mv" <<END
+#!/bin/sh
+# The eleventh file can't be put in place.
+echo >>"$work/moves"
+[ \$(wc -l <"$work/moves") != 11 ] || exit 1
+exec $(command -v mv) "\$@"
+END
+  chmod +x "$work/failing/mv"
+  fails_at_the_eleventh "$prefix" "$@" && [[ ! $(files_below "$prefix") ]] && "$top/c/install" "$prefix" "$@" || return 1
+  find "$prefix" -type f -exec sh -c 'echo "an older one" >>"$1"' sh {} \;
+  echo lib/libcsq.so.0 >>"$prefix/share/keuvatsi/files"
+  touch "$prefix/lib/libcsq.so.0"
+  tar -C "$prefix" -cf "$work/older.tar" .
+  fails_at_the_eleventh "$prefix" "$@" && tar -C "$prefix" -df "$work/older.tar" && "$top/c/install" "$prefix" "$@" &&
+    listed "$prefix" && ! grep -rF "an older one" "$prefix"
+}
+fails_at_the_eleventh() {
+  : >"$work/moves"
+  PATH="$work/failing:$PATH" refuses "prefix not writable" "$@" && (($(wc -l <"$work/moves") >= 11))
+}
+
+# from_a_clone ARGUMENT..: it is installed from a clone in a folder with a space.
+from_a_clone() {
+  local clone="$work/a clone"
+  mkdir -p "$clone/bench" && cp -R "$top"/{c,include,iocsq} "$clone" && cp -R "$top/bench/c" "$clone/bench" &&
+    TMPDIR=$clone CSQ_KIT='' "$clone/c/install" "$work/from a clone" "$@" && listed "$work/from a clone"
 }
 
 # by_pkg_config PREFIX shared|static TEXT COMPILER FLAG.. SOURCE: the program is linked so, and writes this text.
@@ -62,21 +169,24 @@ by_pkg_config() {
     [[ $("$work/program") == "$text" ]]
 }
 
-# by_cmake PREFIX VERSION COMPILER: the programs of c/tests/CMakeLists.txt find both libraries.
+# by_cmake PREFIX VERSION KIT COMPILER: the programs of c/tests/CMakeLists.txt find both libraries.
 by_cmake() {
-  local prefix=$1 version=$2 compiler=$3 kind
+  local prefix=$1 version=$2 kit=$3 compiler=$4 kind
   rm -rf "$work/cmake"
   cmake -S "$work/programs" -B "$work/cmake" -DCMAKE_C_COMPILER="$compiler" -DCMAKE_PREFIX_PATH="$prefix" \
-    -DVERSION="$version" && cmake --build "$work/cmake" || return 1
+    -DVERSION="$version" -DKIT="$kit" && cmake --build "$work/cmake" || return 1
   for kind in shared static; do
     [[ $("$work/cmake/$kind") == "$(<"$top/c/examples/driver.stdout")" ]] || return 1
   done
 }
 
-# run_programs NAME PREFIX VERSION COMPILER: programs in C and C++ find the installation by what there is here.
+# run_programs NAME PREFIX VERSION KIT COMPILER: programs in C and C++ find the installation by what there is here, and
+# what it says of itself: proved by this kit, or by none.
 run_programs() {
-  local name=$1 prefix=$2 version=$3 compiler=$4 kind cxx
+  local name=$1 prefix=$2 version=$3 kit=$4 compiler=$5 kind cxx proved=no
+  if [[ $kit ]]; then proved=yes; fi
   if need pkg-config "$name: pkg-config"; then
+    expect "$name: csq.pc says what is proved" says_proved "$prefix" $proved "$kit"
     for kind in shared static; do
       expect "$name: pkg-config, $kind" by_pkg_config "$prefix" $kind "$(<"$top/c/examples/driver.stdout")" \
         "$compiler" -std=c11 "$work/programs/driver.c"
@@ -87,37 +197,52 @@ run_programs() {
     done
   fi
   if need cmake "$name: CMake" && need make "$name: CMake"; then
-    expect "$name: CMake" by_cmake "$prefix" "$version" "$compiler"
+    expect "$name: CMake" by_cmake "$prefix" "$version" "$kit" "$compiler"
   fi
+  expect "$name: by name, and csq_build" by_name "$prefix" "csq $version proved=$proved${kit:+ kit=$kit}" "$compiler"
 }
 
-# run_install NAME COMPILER ORIGIN ARGUMENT..: what c/install and c/dist make of these arguments, in folders with a
-# space.
+# run_install NAME COMPILER ORIGIN KIT ARGUMENT..: what c/install and c/dist make of these arguments, in folders with a
+# space. They are proved by this kit, or by none, which ORIGIN says.
 run_install() {
-  local name=$1 compiler=$2 origin=$3 folder="$work/installed $1" version
-  local -x CC=$compiler CSQ_KIT="$origin"
-  shift 3
+  local name=$1 compiler=$2 origin=$3 kit=$4 folder="$work/installed $1" version
+  local -x CC=$compiler
+  shift 4
   version=$("$compiler" -include "$top/include/csq.h" -E -P -x c - <<<CSQ_VERSION | tail -1 | tr -d '"')
   expect "$name: c/install" "$top/c/install" "$folder/prefix" "$@"
-  expect "$name: only csq_* is global" only_csq "$folder/prefix" "$version"
+  expect "$name: only csq_* is global, by versions" only_csq "$folder/prefix" "$version"
   expect "$name: soname and version" has_version "$folder/prefix" "$version"
+  expect "$name: all files are listed" listed "$folder/prefix"
+  expect "$name: csqsim beside what is proved alone" has_csqsim "$folder/prefix" "$kit"
   expect "$name: DESTDIR" staged "$@"
   expect "$name: c/dist, twice the same" dist_twice "$folder/dist" "$origin" "$@"
-  run_programs "$name, installed" "$folder/prefix" "$version" "$compiler"
-  run_programs "$name, unpacked" "$folder/dist/csq" "$version" "$compiler"
+  run_programs "$name, installed" "$folder/prefix" "$version" "$kit" "$compiler"
+  run_programs "$name, unpacked" "$folder/dist/csq" "$version" "$kit" "$compiler"
 }
 
-# refused ERROR PREFIX ARGUMENT..: ends with the error of this name, and leaves no file.
-refused() {
-  local error=$1 prefix=$2
-  shift
-  ! "$top/c/install" "$@" && grep "^c/install: $error: " "$work/errors" && [[ ! $(find "$prefix" ! -type d) ]]
+# has_csqsim PREFIX KIT: it is there, with its man page, if a kit has proved what is installed.
+has_csqsim() {
+  local there=no
+  if [[ -x $1/bin/csqsim && -f $1/share/man/man1/csqsim.1 ]]; then there=yes; fi
+  [[ $there == "$([[ $2 ]] && echo yes || echo no)" ]]
 }
+
+# unknown ARCHIVE..: it isn't said that they are proved.
+unknown() {
+  "$top/c/install" "$work/unknown" "$@" && grep -x proved=no "$work/unknown/lib/pkgconfig/csq.pc" &&
+    [[ ! -e $work/unknown/bin ]]
+}
+
+# refuses ERROR ARGUMENT..: c/install ends with the error of this name.
+refuses() { ! "$top/c/install" "${@:2}" 2>"$work/refusal" && grep "^c/install: $1: " "$work/refusal"; }
+
+# refused ERROR PREFIX ARGUMENT..: the same, and leaves no file in the prefix.
+refused() { refuses "$@" && [[ ! $(find "$2" ! -type d) ]]; }
 
 # Nobody reads what c/install prints: all is installed.
 unread() {
-  "$top/c/install" "$work/unread" --plain | true
-  diff <(cd "$work/installed plain/prefix" && find . ! -type d | sort) <(cd "$work/unread" && find . ! -type d | sort)
+  "$top/c/install" "$work/unread" --plain | head -1
+  diff <(files_below "$work/installed plain/prefix") <(files_below "$work/unread")
 }
 
 # What c/install refuses, before it leaves anything.
@@ -131,6 +256,8 @@ run_refusals() {
   expect "install: a folder in a file's place" refused "prefix not writable" "$work/taken" --plain
   expect "install: a prefix that csq.pc can't name" refused "not a prefix" "$work/\$none" --plain
   OBJCOPY=no-objcopy expect "install: no tool" refused "no tool" "$work/none" --plain
+  CSQ_KIT='a "kit"' expect "install: no line of a kit" refused "not a kit's line" "$work/none" "$work/part.a"
+  CSQSIM=$work/file expect "install: no csqsim" refused "no csqsim" "$work/none" "$work/part.a"
 }
 
 # run_installs COMPILER: installs the plain C queue, and the archives that are tested; and what refuses to be installed.
@@ -144,8 +271,21 @@ run_installs() {
     sed 's|"csq.h"|<keuvatsi/csq.h>|' "$top/c/$file" >"$work/programs/${file##*/}"
   done
   mapfile -t archives < <(files_of installed "$compiler" -O2 -fPIC)
-  run_install plain "$compiler" "Nothing of it is proved" --plain
-  run_install archives "$compiler" "the kit of this test" "${archives[@]}"
+  # A stand-in for csqsim, and a kit's line that --plain has no use for.
+  printf '#!/bin/sh\n' >"$work/programs/csqsim"
+  chmod +x "$work/programs/csqsim"
+  local -x CSQSIM=$work/programs/csqsim CSQ_KIT="the kit of this test" CC=$compiler
+  run_install plain "$compiler" "Nothing of it is proved" "" --plain
+  run_install archives "$compiler" "proved, by this kit: $CSQ_KIT" "$CSQ_KIT" "${archives[@]}"
   expect "install: nobody reads what it prints" unread
   run_refusals "$compiler"
+  CSQ_KIT='' expect "install: archives of which no kit is known" unknown "${archives[@]}"
+  expect "install: --uninstall" removed "$work/removed" "${archives[@]}"
+  expect "install: all or nothing" interrupted "$work/interrupted" "${archives[@]}"
+  expect "install: from a clone in a folder with a space" from_a_clone "${archives[@]}"
+  if command -v mandoc man >/dev/null; then
+    expect "install: the man pages" well_formed "$work/installed archives/prefix"/share/man/man{3/csq,3/csq_requests,1/csqsim}.*
+  else
+    skip_optional "install: the man pages" "there is neither mandoc nor man (Debian's package man-db)"
+  fi
 }

@@ -28,6 +28,9 @@ run_rust_library() {
   done
   CSQ_LIBRARY=$names expect "rust: a relative path is of the folder from which the build is started" \
     cargo_in "$work/relative" test --manifest-path "$bindings/Cargo.toml" --test tokens
+  mv "$work/relative" "$work/a folder: with a colon"
+  CSQ_LIBRARY=$(printf ":%s" "$work/a folder: with a colon"/*.a | cut -c2-) \
+    expect "rust: paths may have spaces and colons" cargo_in "$bindings" test --test tokens
 }
 
 # tokens_link YES|NO ASSIGNMENT..: without CSQ_LIBRARY and with these variables a test is built and runs, and is linked

@@ -77,7 +77,7 @@ fn requests(workers: u32) {
         for mut job in 0..JOBS {
             while let Err(refused) = pass.submit(job, 0, Place::Back) {
                 assert_eq!(refused.cause, SubmitError::NoIrp);
-                job = refused.value;
+                job = refused.into_value();
                 thread::yield_now();
             }
         }

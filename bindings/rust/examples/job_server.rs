@@ -116,7 +116,7 @@ fn submit(pass: &OwnedPass<Job>, mut job: Job, connection: u32) -> RequestId {
             Ok(id) => return id,
             Err(refused) => {
                 assert_eq!(refused.cause, SubmitError::NoIrp);
-                job = refused.value;
+                job = refused.into_value();
                 thread::yield_now();
             }
         }

@@ -6,6 +6,12 @@ use crate::raw;
 use std::error::Error;
 use std::fmt;
 
+/// A value that only its owner reaches, so that an error with it may be shared by threads though the value may not.
+struct Unshared<T>(T);
+
+// SAFETY: no reference to this gives one to the value.
+unsafe impl<T> Sync for Unshared<T> {}
+
 // An error without parts prints what its variant's text says.
 macro_rules! refusal {
     ($name:ident { $($variant:ident => $text:literal),+ $(,)? }) => {
@@ -230,23 +236,54 @@ impl Error for NotListed {}
 
 /// A pass that wasn't given back, since it holds or owes IRPs whose tokens were forgotten. It comes back.
 ///
-/// Threads can't share a pass, nor this: if an error has to be `Sync`, hand its text on, and the pass is dropped.
-///
 /// ```
 /// # use csq::Pass;
 /// fn end(pass: Pass) -> Result<(), Box<dyn std::error::Error + Send + Sync>> {
-///     pass.give_back().map_err(|holding| holding.to_string())?;
-///     Ok(())
+///     Ok(pass.give_back()?) // the error has the pass, which is dropped with it
 /// }
 /// ```
-#[derive(Debug)]
 pub struct Holding {
-    /// The pass.
-    pub pass: Pass,
+    pass: Unshared<Pass>,
     /// How many IRPs it holds.
     pub held: u32,
     /// How many IRPs it owes.
     pub owed: u32,
+}
+
+impl Holding {
+    pub(crate) fn of(pass: Pass) -> Holding {
+        let (held, owed) = pass.holding();
+        Holding {
+            pass: Unshared(pass),
+            held,
+            owed,
+        }
+    }
+
+    /// The pass.
+    ///
+    /// ```
+    /// # use csq::*;
+    /// # let queue = Queue::new(&Size::new(4, 2, 2))?;
+    /// # let pass = queue.pass()?;
+    /// drop(pass.insert(0, 1, Place::Back)?); // it is pending
+    /// std::mem::forget(pass.remove_next(Peek::Any));
+    /// let pass = pass.give_back().unwrap_err().into_pass();
+    /// assert_eq!(pass.holding(), (1, 0));
+    /// # Ok::<(), Box<dyn std::error::Error>>(())
+    /// ```
+    pub fn into_pass(self) -> Pass {
+        self.pass.0
+    }
+}
+
+impl fmt::Debug for Holding {
+    fn fmt(&self, f: &mut fmt::Formatter<'_>) -> fmt::Result {
+        f.debug_struct("Holding")
+            .field("held", &self.held)
+            .field("owed", &self.owed)
+            .finish_non_exhaustive()
+    }
 }
 
 impl fmt::Display for Holding {
@@ -322,21 +359,43 @@ impl SubmitError {
 
 /// A value that wasn't submitted. It comes back.
 ///
-/// By `?` it becomes a [`SubmitError`], or a boxed error. If that has to be `Send` and `Sync` and the value isn't:
+/// By `?` it becomes a boxed error, which has the value, or a [`SubmitError`], which doesn't.
 ///
 /// ```
-/// # use csq::{Place, RequestPass, SubmitError};
+/// # use csq::{Place, RequestPass};
 /// # use std::cell::Cell;
 /// fn send(pass: &RequestPass<Cell<u32>>) -> Result<(), Box<dyn std::error::Error + Send + Sync>> {
-///     pass.submit(Cell::new(1), 0, Place::Back).map_err(SubmitError::from)?;
+///     pass.submit(Cell::new(1), 0, Place::Back)?;
 ///     Ok(())
 /// }
 /// ```
 pub struct Refused<T> {
-    /// The value.
-    pub value: T,
+    value: Unshared<T>,
     /// Why it wasn't submitted.
     pub cause: SubmitError,
+}
+
+impl<T> Refused<T> {
+    pub(crate) fn of(value: T, cause: SubmitError) -> Refused<T> {
+        Refused {
+            value: Unshared(value),
+            cause,
+        }
+    }
+
+    /// The value.
+    ///
+    /// ```
+    /// # use csq::*;
+    /// # let queue = Requests::new(&Size::new(1, 1, 1))?;
+    /// # let pass = queue.pass()?;
+    /// let refused = pass.submit("for no file object", 9, Place::Back).unwrap_err();
+    /// assert_eq!(refused.into_value(), "for no file object");
+    /// # Ok::<(), Box<dyn std::error::Error>>(())
+    /// ```
+    pub fn into_value(self) -> T {
+        self.value.0
+    }
 }
 
 impl<T> fmt::Debug for Refused<T> {
@@ -355,7 +414,7 @@ impl<T> fmt::Display for Refused<T> {
 
 impl<T> Error for Refused<T> {}
 
-/// By `?`, if the value isn't wanted back, or can't be part of an error.
+/// By `?`, if the value isn't wanted back, or isn't `Send` or `'static`, as part of an error has to be.
 impl<T> From<Refused<T>> for SubmitError {
     fn from(refused: Refused<T>) -> SubmitError {
         refused.cause

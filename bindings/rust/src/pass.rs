@@ -81,14 +81,7 @@ impl Pass {
     pub fn give_back(self) -> Result<(), Holding> {
         // SAFETY: the queue is locked, and this thread alone has the pass.
         match self.locked(|queue, pass| unsafe { raw::csq_give_back(queue, pass) }) {
-            raw::HOLDING => {
-                let (held, owed) = self.holding();
-                Err(Holding {
-                    pass: self,
-                    held,
-                    owed,
-                })
-            }
+            raw::HOLDING => Err(Holding::of(self)),
             raw::OK => Ok(()),
             code => unreachable!("csq_give_back answered {code}"),
         }

@@ -6,8 +6,7 @@ use std::error::Error;
 type Whatever = Box<dyn Error + Send + Sync>;
 
 fn give_back(pass: Pass) -> Result<(), Whatever> {
-    pass.give_back().map_err(|holding| holding.to_string())?;
-    Ok(())
+    Ok(pass.give_back()?)
 }
 
 #[test]
@@ -18,17 +17,16 @@ fn a_pass_that_is_not_given_back_is_dropped_by_a_question_mark() {
     std::mem::forget(pass.remove_next(Peek::Any));
     let error = give_back(pass).unwrap_err();
     assert_eq!(error.to_string(), "IRPs held: 1, owed: 0");
+    // The error has the pass, until it is dropped.
+    assert_eq!(queue.passes_out(), 1);
+    let pass = error.downcast::<Holding>().unwrap().into_pass();
+    assert_eq!(pass.holding(), (1, 0));
+    drop(pass);
     assert_eq!(queue.passes_out(), 0);
 }
 
-fn submit<T: Send + Sync + 'static>(pass: &RequestPass<T>, value: T) -> Result<(), Whatever> {
+fn submit<T: Send + 'static>(pass: &RequestPass<T>, value: T) -> Result<(), Whatever> {
     pass.submit(value, 9, Place::Back)?;
-    Ok(())
-}
-
-fn submit_without<T>(pass: &RequestPass<T>, value: T) -> Result<(), Whatever> {
-    pass.submit(value, 9, Place::Back)
-        .map_err(SubmitError::from)?;
     Ok(())
 }
 
@@ -43,12 +41,14 @@ fn a_refused_submit_goes_through_a_question_mark() {
     let pass = queue.pass().unwrap();
     let refused = submit(&pass, 1).unwrap_err();
     assert_eq!(refused.to_string(), text);
-    assert_eq!(refused.downcast::<Refused<i32>>().unwrap().value, 1);
-    // A value that threads can't share is no part of such an error.
+    assert_eq!(refused.downcast::<Refused<i32>>().unwrap().into_value(), 1);
+    // A value that threads can't share is part of such an error too.
     let queue = Requests::new(&Size::new(1, 1, 1)).unwrap();
     let pass = queue.pass().unwrap();
-    let refused = submit_without(&pass, Cell::new(1)).unwrap_err();
+    let refused = submit(&pass, Cell::new(1)).unwrap_err();
     assert_eq!(refused.to_string(), text);
+    let refused = refused.downcast::<Refused<Cell<i32>>>().unwrap();
+    assert_eq!(refused.into_value(), Cell::new(1));
     let refused = submit_alone(&pass, Cell::new(1)).unwrap_err();
     assert_eq!(refused, SubmitError::UnknownFile);
 }

@@ -64,7 +64,7 @@ impl<'a> Worker<'a> {
                     refused.cause,
                     SubmitError::NoIrp | SubmitError::FileClosed
                 ));
-                assert_eq!(*refused.value.number, number);
+                assert_eq!(*refused.into_value().number, number);
             }
         }
     }

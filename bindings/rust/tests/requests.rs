@@ -79,9 +79,9 @@ fn a_refusal_hands_the_value_back() {
         let refused = pass
             .submit(String::from("mine"), 3, Place::Back)
             .unwrap_err();
-        assert_eq!(refused.value, "mine");
         assert_eq!(refused.to_string(), "there is no such file object");
         assert_eq!(format!("{refused:?}"), "Refused { cause: UnknownFile, .. }");
+        assert_eq!(refused.into_value(), "mine");
         pass.submit(String::new(), 0, Place::Back).unwrap();
         assert_eq!(refusal(0), SubmitError::FileFull);
         pass.submit(String::new(), 1, Place::Back).unwrap();

@@ -56,7 +56,7 @@ fn a_pass_with_forgotten_tokens_is_not_given_back() {
     assert_eq!((refused.held, refused.owed), (1, 1));
     assert_eq!(refused.to_string(), "IRPs held: 1, owed: 1");
     // It is as it was. Where it is dropped, all that it holds and owes is completed.
-    let pass = refused.pass;
+    let pass = refused.into_pass();
     assert_eq!(pass.holding(), (1, 1));
     drop(pass);
     let closed = queue.close().unwrap();

@@ -91,7 +91,10 @@ fn a_shutdown_wakes_all_once_nothing_is_listed() {
         assert_eq!(ends, [Err(RecvError), Ok(5), Err(RecvError)]);
     });
     let refused = pass.submit(6, 0, Place::Back).unwrap_err();
-    assert_eq!((refused.value, refused.cause), (6, SubmitError::ShutDown));
+    assert_eq!(
+        (refused.cause, refused.into_value()),
+        (SubmitError::ShutDown, 6)
+    );
     assert_eq!(
         pass.try_recv(Peek::Any).unwrap_err(),
         TryRecvError::ShutDown

@@ -71,7 +71,7 @@ impl<T> Seat<T> {
                 woken.wake();
                 Ok(self.id(irp))
             }
-            Err((Entry { value, .. }, cause)) => Err(Refused { value, cause }),
+            Err((Entry { value, .. }, cause)) => Err(Refused::of(value, cause)),
         }
     }
 
