@@ -1,9 +1,10 @@
 /* The I/O manager's side, which a test calls (iocsq_test.h): file objects and requests. */
-#include "internal.h"
+#include "queues.h"
 
 #include <stdlib.h>
 
 enum { MILLISECOND = 1000000 };
+enum { AT_DISPATCH_IN = 4 }; /* cancels, and sends where the policy allows them, come at DISPATCH_LEVEL */
 enum { ONCE_IN = 4, BEHIND = 2000, BEHIND_IN_TURNS = 100000 }; /* of iocsq_stay_behind: microseconds */
 
 static FILE_OBJECT files[IOCSQ_FILES]; /* with the next four, under the state's lock */
@@ -11,6 +12,8 @@ static bool is_open[IOCSQ_FILES];
 static bool is_closing[IOCSQ_FILES]; /* its IRP_MJ_CLEANUP was sent, or its IRP_MJ_CREATE has yet to be completed */
 static bool is_cleaned[IOCSQ_FILES]; /* its IRP_MJ_CLEANUP was completed */
 static uint32_t references[IOCSQ_FILES]; /* of IocsqReferenceAny */
+static LONG of_driver[IOCSQ_FILES];      /* references of the driver */
+static bool unbuffered;                  /* of iocsq_sent_unbuffered */
 
 uint32_t iocsq_file_number(const void *file) {
     uintptr_t offset = (uintptr_t)file - (uintptr_t)files;
@@ -51,6 +54,23 @@ bool iocsq_is_closing(const void *file) {
 
 bool iocsq_is_cleaned(const void *file) {
     return is_noted(is_cleaned, file);
+}
+
+bool iocsq_sent_unbuffered(void) {
+    return unbuffered;
+}
+
+bool iocsq_reference_file(PVOID object, int change) {
+    uint32_t number = iocsq_file_number(object);
+    if (number >= IOCSQ_FILES) {
+        return false;
+    }
+    of_driver[number] += change;
+    if (of_driver[number] < 0) {
+        iocsq_disagree(NULL, "ObDereferenceObject of file %u, more often than it was referenced", number);
+    }
+    iocsq_state_changed();
+    return true;
 }
 
 /* After so many milliseconds a request that should have been completed will never be. */
@@ -114,7 +134,7 @@ static struct iocsq_irp *make_irp(PFILE_OBJECT file, UCHAR major) {
     return i;
 }
 
-static void check_after_dispatch(struct iocsq_irp *i, NTSTATUS status) {
+static void check_after_dispatch(struct iocsq_irp *i, NTSTATUS status, KIRQL before) {
     iocsq_lock_state();
     bool done = i->place == IOCSQ_DONE;
     i->answered = true;
@@ -127,8 +147,9 @@ static void check_after_dispatch(struct iocsq_irp *i, NTSTATUS status) {
         iocsq_disagree(i, "the dispatch routine answers %08X, and irp %u was not completed", (unsigned)status,
                        i->index);
     }
-    if (iocsq_lock_count() > 0 || KeGetCurrentIrql() != PASSIVE_LEVEL) {
-        iocsq_disagree(i, "the dispatch routine of irp %u returns with a lock or a raised IRQL", i->index);
+    if (iocsq_lock_count() > 0 || KeGetCurrentIrql() != before) {
+        iocsq_disagree(i, "the dispatch routine of irp %u returns with a lock or %s IRQL", i->index,
+                       KeGetCurrentIrql() < before ? "a lowered" : "a raised");
     }
 }
 
@@ -145,14 +166,35 @@ static void show(struct iocsq_irp *i) {
     }
 }
 
-static IOCSQ_REQUEST *send(struct iocsq_irp *i, PFILE_OBJECT file) {
+/* Now and then DISPATCH_LEVEL, if `may`: what KeLowerIrql goes back from. The bounded mode doesn't draw it. */
+static KIRQL raise_at_random(bool may) {
+    return may && !iocsq_is_bounded() && iocsq_rarely(AT_DISPATCH_IN) ? KfRaiseIrql(DISPATCH_LEVEL) : KeGetCurrentIrql();
+}
+
+static bool is_transfer(UCHAR major) {
+    return major == IRP_MJ_READ || major == IRP_MJ_WRITE || major == IRP_MJ_DEVICE_CONTROL;
+}
+
+static IOCSQ_REQUEST *send(struct iocsq_irp *i, PDEVICE_OBJECT device) {
     i->sent = iocsq_now();
     show(i);
-    iocsq_log_sent(i, "dispatch(irp %u, major %02x, file %u)", i->index, i->major, iocsq_file_number(file));
-    NTSTATUS status = iocsq_dispatch(top_of(file->DeviceObject), i);
+    iocsq_log_sent(i, "dispatch(irp %u, major %02x, file %u)", i->index, i->major, iocsq_file_number(i->file));
+    KIRQL before = raise_at_random(is_transfer(i->major) && iocsq_policy_of(i).DispatchSends);
+    KIRQL sent_at = KeGetCurrentIrql();
+    NTSTATUS status = iocsq_dispatch(top_of(device), i);
     iocsq_log(i, "dispatch(irp %u) = %08X", i->index, (unsigned)status);
-    check_after_dispatch(i, status);
+    check_after_dispatch(i, status, sent_at);
+    KeLowerIrql(before);
     return (IOCSQ_REQUEST *)(void *)i;
+}
+
+/* By which method a read or write is made: as the device's Flags ask for. */
+static ULONG method_of(const DEVICE_OBJECT *device) {
+    if (device->Flags & DO_BUFFERED_IO) {
+        return METHOD_BUFFERED;
+    }
+    unbuffered = unbuffered || !(device->Flags & DO_DIRECT_IO);
+    return device->Flags & DO_DIRECT_IO ? METHOD_OUT_DIRECT : METHOD_NEITHER;
 }
 
 IOCSQ_REQUEST *IocsqSend(PFILE_OBJECT File, UCHAR MajorFunction, PVOID Buffer, ULONG Length) {
@@ -160,12 +202,15 @@ IOCSQ_REQUEST *IocsqSend(PFILE_OBJECT File, UCHAR MajorFunction, PVOID Buffer, U
     if (!i) {
         return NULL;
     }
-    iocsq_give_buffer(i, Buffer, MajorFunction == IRP_MJ_READ ? 0 : Length, MajorFunction == IRP_MJ_WRITE ? 0 : Length);
-    IoGetNextIrpStackLocation(&i->irp)->Parameters.Read.Length = Length;
-    if (MajorFunction == IRP_MJ_READ || MajorFunction == IRP_MJ_WRITE) {
+    bool reads = MajorFunction == IRP_MJ_READ, writes = MajorFunction == IRP_MJ_WRITE;
+    struct iocsq_sent sent = { Buffer, reads ? 0 : Length, writes ? 0 : Length, METHOD_BUFFERED };
+    if (reads || writes) {
+        sent.method = method_of(top_of(File->DeviceObject));
         i->most = Length;
     }
-    return send(i, File);
+    iocsq_give_buffers(i, sent);
+    IoGetNextIrpStackLocation(&i->irp)->Parameters.Read.Length = Length;
+    return send(i, File->DeviceObject);
 }
 
 IOCSQ_REQUEST *IocsqControl(PFILE_OBJECT File, ULONG IoControlCode, PVOID Buffer, ULONG InputLength,
@@ -174,13 +219,15 @@ IOCSQ_REQUEST *IocsqControl(PFILE_OBJECT File, ULONG IoControlCode, PVOID Buffer
     if (!i) {
         return NULL;
     }
-    iocsq_give_buffer(i, Buffer, InputLength, OutputLength);
+    struct iocsq_sent sent = { Buffer, InputLength, OutputLength, METHOD_FROM_CTL_CODE(IoControlCode) };
+    iocsq_give_buffers(i, sent);
     PIO_STACK_LOCATION stack = IoGetNextIrpStackLocation(&i->irp);
     stack->Parameters.DeviceIoControl.IoControlCode = IoControlCode;
     stack->Parameters.DeviceIoControl.InputBufferLength = InputLength;
     stack->Parameters.DeviceIoControl.OutputBufferLength = OutputLength;
+    stack->Parameters.DeviceIoControl.Type3InputBuffer = sent.method == METHOD_NEITHER ? Buffer : NULL;
     i->most = OutputLength;
-    return send(i, File);
+    return send(i, File->DeviceObject);
 }
 
 BOOLEAN IocsqCancel(IOCSQ_REQUEST *Request) {
@@ -220,7 +267,7 @@ VOID IocsqFree(IOCSQ_REQUEST *Request) {
         iocsq_fail("IocsqFree of irp %u, which was not completed", i->index);
     }
     iocsq_check_untouched(i);
-    iocsq_free_buffer(i);
+    iocsq_free_buffers(i);
     i->used = false;
     iocsq_unlock_state();
 }
@@ -252,22 +299,44 @@ BOOLEAN IocsqCancelAny(VOID) {
     if (!begin_cancel(i)) {
         return FALSE;
     }
+    KIRQL before = raise_at_random(!iocsq_policy_of(i).PassiveCancels);
+    bool raised = before < KeGetCurrentIrql();
+    iocsq_set_hint(raised ? "  The cancel came at DISPATCH_LEVEL: if nobody cancels there, since the callbacks wait, the "
+                            "driver's policy says PassiveCancels." : NULL);
     BOOLEAN found = IoCancelIrp(&i->irp);
+    iocsq_set_hint(NULL);
+    KeLowerIrql(before);
     end_cancel(i);
     return found;
 }
 
-static NTSTATUS send_and_wait(PFILE_OBJECT file, UCHAR major) {
-    IOCSQ_REQUEST *request = IocsqSend(file, major, NULL, 0);
+static NTSTATUS wait_and_free(IOCSQ_REQUEST *request) {
     if (!request) {
         iocsq_fail("out of IRPs");
     }
     if (!IocsqWait(request, patience())) {
-        iocsq_disagree(&request->irp, "irp %u (major %02x) was never completed", request->irp.index, major);
+        iocsq_disagree(&request->irp, "irp %u (major %02x) was never completed", request->irp.index, request->irp.major);
     }
     NTSTATUS status = IocsqStatus(request);
     IocsqFree(request);
     return status;
+}
+
+static NTSTATUS send_and_wait(PFILE_OBJECT file, UCHAR major) {
+    return wait_and_free(IocsqSend(file, major, NULL, 0));
+}
+
+NTSTATUS iocsq_send_pnp(PDEVICE_OBJECT device, UCHAR minor) {
+    struct iocsq_irp *i = iocsq_new_irp(top_of(device)->StackSize, false);
+    if (!i) {
+        iocsq_fail("out of IRPs");
+    }
+    i->major = IRP_MJ_PNP;
+    i->irp.IoStatus.Status = STATUS_NOT_SUPPORTED;
+    PIO_STACK_LOCATION stack = IoGetNextIrpStackLocation(&i->irp);
+    stack->MajorFunction = IRP_MJ_PNP;
+    stack->MinorFunction = minor;
+    return wait_and_free(send(i, device));
 }
 
 /* ---- File objects ---- */
@@ -379,6 +448,10 @@ static bool is_completed(void *irp_of_file) {
     return !is_of_file(of) || is_done(of->irp);
 }
 
+static bool is_dereferenced(void *file) {
+    return of_driver[number_of(file)] == 0;
+}
+
 /* IRP_MJ_CLOSE comes once the file object is referenced no more, and its IRPs are completed. */
 static void wait_for_close(PFILE_OBJECT file) {
     iocsq_lock_state();
@@ -400,12 +473,23 @@ static void wait_for_close(PFILE_OBJECT file) {
     }
 }
 
+static void wait_for_dereference(PFILE_OBJECT file) {
+    iocsq_lock_state();
+    bool dropped = iocsq_await(is_dereferenced, file, patience() * (uint64_t)MILLISECOND, "a file object's references");
+    iocsq_unlock_state();
+    if (!dropped) {
+        iocsq_disagree(NULL, "IRP_MJ_CLOSE of file %u never comes, since the driver doesn't drop a reference to it",
+                       iocsq_file_number(file));
+    }
+}
+
 VOID IocsqClose(PFILE_OBJECT File) {
     set_closing(File, true);
     send_and_wait(File, IRP_MJ_CLEANUP);
     iocsq_cover(IOCSQ_CLEANUP);
     check_cleaned(File);
     wait_for_close(File);
+    wait_for_dereference(File);
     send_and_wait(File, IRP_MJ_CLOSE);
     free_file(File);
 }

@@ -193,6 +193,7 @@ static NTSTATUS NTAPI entry(PDRIVER_OBJECT driver, PUNICODE_STRING path) {
     driver->DriverUnload = unload;
     IoCreateDevice(driver, 0, NULL, FILE_DEVICE_UNKNOWN, 0, FALSE, &lower);
     IoCreateDevice(driver, 0, NULL, FILE_DEVICE_UNKNOWN, 0, FALSE, &upper);
+    upper->Flags |= DO_BUFFERED_IO;
     return IoAttachDeviceToDeviceStack(upper, lower) == lower ? STATUS_SUCCESS : STATUS_UNSUCCESSFUL;
 }
 
