@@ -80,9 +80,9 @@ VOID IocsqAssert(const char *Expression); /* which doesn't hold: ends the progra
 #define KdPrintEx(x) ((void)0)
 #define DbgBreakPoint() IocsqAssert("DbgBreakPoint")
 #define NT_ASSERT(Expression) ((Expression) ? (void)0 : IocsqAssert(#Expression))
-#define ASSERT(Expression) NT_ASSERT(Expression)
-#define ASSERTMSG(Message, Expression) NT_ASSERT(Expression)
-#define NT_VERIFY(Expression) NT_ASSERT(Expression)
+#define NT_VERIFY(Expression) ((Expression) ? (void)0 : IocsqAssert(#Expression))
+#define ASSERT(Expression) ((Expression) ? (void)0 : IocsqAssert(#Expression))
+#define ASSERTMSG(Message, Expression) ((Expression) ? (void)0 : IocsqAssert(Message))
 VOID IocsqPagedCode(VOID); /* at DISPATCH_LEVEL: ends the program with a report */
 #define PAGED_CODE() IocsqPagedCode()
 #define UNREFERENCED_PARAMETER(x) ((void)(x))

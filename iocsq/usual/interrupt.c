@@ -171,9 +171,9 @@ NTSTATUS NTAPI DriverEntry(PDRIVER_OBJECT DriverObject, PUNICODE_STRING Registry
     KeInitializeSpinLock(&Device->Statistics);
     IoCsqInitializeEx(&Device->Requests, InsertRequest, RemoveRequest, PeekRequest, LockRequests, UnlockRequests,
                       CanceledRequest);
-#if WRONG != 2
-    IoInitializeDpcRequest(DeviceObject, DpcForIsr);
-#endif
+    if (WRONG != 2) {
+        IoInitializeDpcRequest(DeviceObject, DpcForIsr);
+    }
     KeInitializeDpc(&Device->HardwareDpc, HardwareTick, DeviceObject);
     KeSetImportanceDpc(&Device->HardwareDpc, HighImportance);
     KeInitializeTimer(&Device->Hardware);

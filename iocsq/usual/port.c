@@ -146,7 +146,11 @@ static NTSTATUS NTAPI SerialOpen(PDEVICE_OBJECT DeviceObject, PIRP Irp) {
 
 static NTSTATUS NTAPI SerialRead(PDEVICE_OBJECT DeviceObject, PIRP Irp) {
     PPORT Port = DeviceObject->DeviceExtension;
-    NTSTATUS Status = IoCsqInsertIrpEx(&Port->Reads, Irp, NULL, NULL);
+    NTSTATUS Status;
+#if WRONG == 3
+    PAGED_CODE(); /* where a driver above sends at DISPATCH_LEVEL */
+#endif
+    Status = IoCsqInsertIrpEx(&Port->Reads, Irp, NULL, NULL);
     if (!NT_SUCCESS(Status)) {
         return SerialComplete(Irp, Status, 0);
     }
@@ -192,9 +196,9 @@ static VOID StartPolling(PPORT Port) {
     LARGE_INTEGER First;
     KeQuerySystemTime(&First);
     First.QuadPart += POLL_IN_MILLISECONDS * 10000; /* an absolute time */
-#if WRONG != 2
-    KeInitializeDpc(&Port->TimerDpc, SerialTick, Port);
-#endif
+    if (WRONG != 2) {
+        KeInitializeDpc(&Port->TimerDpc, SerialTick, Port);
+    }
     KeInitializeTimer(&Port->Timer);
     KeSetTimerEx(&Port->Timer, First, POLL_IN_MILLISECONDS, &Port->TimerDpc);
 }
