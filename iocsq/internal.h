@@ -103,19 +103,27 @@ void iocsq_check_buffers_untouched(const struct iocsq_irp *i);
 void iocsq_free_buffers(struct iocsq_irp *i);
 
 /* ---- manager.c ---- */
-uint32_t iocsq_file_number(const void *file); /* IOCSQ_FILES: no file object */
-uint32_t iocsq_open_files(void);              /* how many are open */
-bool iocsq_is_closing(const void *file);      /* its IRP_MJ_CLEANUP was sent */
+ULONG iocsq_patience(void); /* milliseconds after which a request that should have been completed will never be */
 bool iocsq_wait_for(struct iocsq_irp *i, ULONG milliseconds); /* whether it was completed by then */
-bool iocsq_is_cleaned(const void *file);      /* its IRP_MJ_CLEANUP was completed */
+bool iocsq_is_done(void *irp);                /* a struct iocsq_irp: the state's lock is held */
 void iocsq_check_all_completed(void);         /* that a test sent, and untouched since */
+NTSTATUS iocsq_send_and_wait(PFILE_OBJECT file, UCHAR major);
 NTSTATUS iocsq_send_pnp(PDEVICE_OBJECT device, UCHAR minor); /* to the top of its stack; returns once it is completed */
-/* The driver's references, of ObReferenceObject. Whether it is a file object. */
-bool iocsq_reference_file(PVOID object, int change);
 bool iocsq_sent_unbuffered(void); /* a read or write had no system buffer, since its device's Flags ask for none */
 /* In a dispatch routine that has queued its IRP: now and then the thread goes on only after so long that the IRP was
  * completed meanwhile, and its file object closed, if no more than this request keeps it from that. */
 void iocsq_stay_behind(void);
+
+/* ---- files.c ---- */
+uint32_t iocsq_file_number(const void *file); /* IOCSQ_FILES: no file object */
+uint32_t iocsq_open_files(void);              /* how many are open */
+bool iocsq_is_closing(const void *file);      /* its IRP_MJ_CLEANUP was sent */
+bool iocsq_is_cleaned(const void *file);      /* its IRP_MJ_CLEANUP was completed */
+/* With the next two the state's lock is held. The same of a file object. */
+bool iocsq_is_file_cleaned(const void *file);
+void iocsq_take_over_reference(void);         /* that this thread handed over (IocsqHandOver) */
+/* The driver's references, of ObReferenceObject. Whether it is a file object. */
+bool iocsq_reference_file(PVOID object, int change);
 
 /* ---- turns.c: what each thread has of its own, in one struct, since the bounded mode exchanges it ---- */
 enum { IOCSQ_LOCKS = 16 };

@@ -121,7 +121,7 @@ static LONG set_signal(DISPATCHER_HEADER *header, LONG state, const char *call) 
 }
 
 VOID NTAPI KeInitializeEvent(PRKEVENT Event, EVENT_TYPE Type, BOOLEAN State) {
-    iocsq_begin_header(&Event->Header, Type, State);
+    iocsq_begin_header(&Event->Header, (int)Type, State);
 }
 
 LONG NTAPI KeSetEvent(PRKEVENT Event, KPRIORITY Increment, BOOLEAN Wait) {
