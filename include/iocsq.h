@@ -2,7 +2,9 @@
  * iocsq.h: enough of the WDK's names for the queue code of a driver to be compiled unchanged, in user mode, over the
  * cancel-safe queue of csq.h, and to be checked while it runs.
  *
- *     iocsq/base.h      numbers, statuses, lists, memory
+ *     iocsq/words.h     words that say nothing here, as those of sal.h
+ *     iocsq/numbers.h   statuses, codes and flags
+ *     iocsq/base.h      types, strings, asserts, lists, memory
  *     iocsq/kernel.h    IRQL, locks, events, mutexes, semaphores, timers, DPCs, threads
  *     iocsq/io.h        drivers, devices, IRPs and their cancellation, remove locks, work items
  *     iocsq/queue.h     IO_CSQ and IoCsqXxx, with the driver's own callbacks

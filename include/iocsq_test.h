@@ -25,6 +25,11 @@ typedef struct _IOCSQ_POLICY {
      * test can't send); the driver removes nothing; nothing stays for long enough to be cancelled; CsqPeekNextIrp is
      * never called. */
     BOOLEAN NeverInserts, NeverRemoves, NeverCancelled, NeverPeeks;
+    /* Nobody cancels at DISPATCH_LEVEL, since the callbacks wait, as for a mutex. Else every fourth of IocsqCancelAny's
+     * cancels comes there. */
+    BOOLEAN PassiveCancels;
+    /* Reads, writes and device controls come at DISPATCH_LEVEL too, as a driver above may send them. */
+    BOOLEAN DispatchSends;
     /* Whether a request may wait on, as far as the driver knows: a read for which nothing has come, say. It is
      * asked where nothing else happens, so it reads the driver's data without a lock. Null: no request may. */
     BOOLEAN (*Waits)(PIRP Irp);
@@ -50,8 +55,9 @@ BOOLEAN IocsqReference(PFILE_OBJECT File);
 VOID IocsqHandOver(PFILE_OBJECT File);
 
 /* A request that was sent. It stays valid until IocsqFree. IocsqSend and IocsqControl answer null where 4,096 IRPs are
- * under way. The driver has a copy of the buffer, as by METHOD_BUFFERED, in AssociatedIrp.SystemBuffer; null where it has
- * no bytes. What it fills in is copied back as it completes the IRP: so the buffer has to stay until then. */
+ * under way. The driver has a copy of the buffer, where the device's Flags (DO_BUFFERED_IO, DO_DIRECT_IO) or the control code
+ * have it: in AssociatedIrp.SystemBuffer, or described by MdlAddress. Either is null where it would have no bytes. What the
+ * driver fills in is copied back as it completes the IRP: so the buffer has to stay until then. */
 typedef struct _IOCSQ_REQUEST IOCSQ_REQUEST;
 IOCSQ_REQUEST *IocsqSend(PFILE_OBJECT File, UCHAR MajorFunction, PVOID Buffer, ULONG Length);
 IOCSQ_REQUEST *IocsqControl(PFILE_OBJECT File, ULONG IoControlCode, PVOID Buffer, ULONG InputLength,

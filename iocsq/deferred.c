@@ -4,7 +4,7 @@
 
 #include <stdlib.h>
 
-enum { WORKERS = 2, TIMER = 8 }; /* a timer's type is TIMER + its TIMER_TYPE */
+enum { WORKERS = 2, TIMER = 8, DPC = 19 }; /* a timer's type is TIMER + its TIMER_TYPE */
 #define MILLISECOND UINT64_C(1000000)
 #define SOON (100 * MILLISECOND)
 
@@ -133,11 +133,25 @@ static void need_processor(void) {
 
 /* ---- DPCs ---- */
 VOID NTAPI KeInitializeDpc(PRKDPC Dpc, PKDEFERRED_ROUTINE DeferredRoutine, PVOID DeferredContext) {
-    KDPC dpc = { NULL, DeferredRoutine, DeferredContext, NULL, NULL, FALSE };
+    KDPC dpc = { DPC, NULL, DeferredRoutine, DeferredContext, NULL, NULL, FALSE };
+    iocsq_expect_nonpaged(Dpc, "a DPC");
     *Dpc = dpc;
 }
 
+static void expect_dpc(const KDPC *dpc, const char *call) {
+    if (dpc->Type != DPC) {
+        iocsq_disagree(NULL, "%s of a DPC that was not initialized, or was overwritten", call);
+    }
+}
+
+/* As a DPC's routine whose arguments have other types: it is called with these in their place. */
+VOID IocsqInitializeDpcRequest(PKDPC Dpc, PIO_DPC_ROUTINE DpcRoutine, PDEVICE_OBJECT DeviceObject) {
+    void (*routine)(void) = (void (*)(void))DpcRoutine;
+    KeInitializeDpc(Dpc, (PKDEFERRED_ROUTINE)routine, DeviceObject);
+}
+
 BOOLEAN NTAPI KeInsertQueueDpc(PRKDPC Dpc, PVOID SystemArgument1, PVOID SystemArgument2) {
+    expect_dpc(Dpc, "KeInsertQueueDpc");
     iocsq_lock_state();
     need_processor();
     bool queued = queue_dpc(Dpc);
@@ -150,6 +164,7 @@ BOOLEAN NTAPI KeInsertQueueDpc(PRKDPC Dpc, PVOID SystemArgument1, PVOID SystemAr
 }
 
 BOOLEAN NTAPI KeRemoveQueueDpc(PRKDPC Dpc) {
+    expect_dpc(Dpc, "KeRemoveQueueDpc");
     iocsq_lock_state();
     bool queued = Dpc->Queued;
     for (KDPC *at = first_dpc, *before = NULL; queued && at; before = at, at = at->Next) {
@@ -169,9 +184,7 @@ static bool no_dpc(void *of) {
 }
 
 VOID NTAPI KeFlushQueuedDpcs(VOID) {
-    if (KeGetCurrentIrql() >= DISPATCH_LEVEL) {
-        iocsq_disagree(NULL, "KeFlushQueuedDpcs at DISPATCH_LEVEL");
-    }
+    iocsq_expect_irql(PASSIVE_LEVEL, "KeFlushQueuedDpcs");
     iocsq_lock_state();
     iocsq_await(no_dpc, NULL, IOCSQ_FOR_EVER, "the DPCs");
     iocsq_unlock_state();
@@ -179,8 +192,9 @@ VOID NTAPI KeFlushQueuedDpcs(VOID) {
 
 /* ---- Timers ---- */
 VOID NTAPI KeInitializeTimerEx(PKTIMER Timer, TIMER_TYPE Type) {
-    KTIMER timer = { { (UCHAR)(TIMER + Type), 0 }, NULL, NULL, 0, 0, FALSE };
+    KTIMER timer = { .Next = NULL };
     *Timer = timer;
+    iocsq_begin_header(&Timer->Header, TIMER + (int)Type, 0);
 }
 
 VOID NTAPI KeInitializeTimer(PKTIMER Timer) {
@@ -188,11 +202,9 @@ VOID NTAPI KeInitializeTimer(PKTIMER Timer) {
 }
 
 BOOLEAN NTAPI KeSetTimerEx(PKTIMER Timer, LARGE_INTEGER DueTime, LONG Period, PKDPC Dpc) {
-    if (Timer->Header.Type < TIMER) {
-        iocsq_disagree(NULL, "KeSetTimer of a timer that was not initialized");
-    }
-    if (DueTime.QuadPart > 0) {
-        iocsq_fail("an absolute time is not known here");
+    iocsq_expect_header(&Timer->Header, "KeSetTimer");
+    if (Dpc) {
+        expect_dpc(Dpc, "KeSetTimer with one");
     }
     iocsq_lock_state();
     need_processor();
@@ -200,7 +212,7 @@ BOOLEAN NTAPI KeSetTimerEx(PKTIMER Timer, LARGE_INTEGER DueTime, LONG Period, PK
     Timer->Header.SignalState = 0;
     Timer->Period = Period;
     Timer->Dpc = Dpc;
-    set(Timer, iocsq_now() + (uint64_t)-DueTime.QuadPart * 100);
+    set(Timer, iocsq_now() + iocsq_nanoseconds_until(DueTime));
     iocsq_unlock_state();
     return was_set;
 }
@@ -219,6 +231,7 @@ static void draw_expiry(const KTIMER *timer) {
 }
 
 BOOLEAN NTAPI KeCancelTimer(PKTIMER Timer) {
+    iocsq_expect_header(&Timer->Header, "KeCancelTimer");
     iocsq_point();
     iocsq_lock_state();
     draw_expiry(Timer);
@@ -241,6 +254,7 @@ struct _IO_WORKITEM {
     PIO_WORKITEM_ROUTINE routine;
     PVOID context;
     bool queued;
+    bool of_driver; /* its memory */
 };
 
 static bool has_work(void *of) {
@@ -269,13 +283,27 @@ static void *run_worker(void *of) {
     return of;
 }
 
+static void begin_item(struct _IO_WORKITEM *item, PDEVICE_OBJECT device, bool of_driver) {
+    struct _IO_WORKITEM made = { .device = device, .of_driver = of_driver };
+    *item = made;
+    __atomic_add_fetch(&items_allocated, 1, __ATOMIC_SEQ_CST);
+}
+
 PIO_WORKITEM NTAPI IoAllocateWorkItem(PDEVICE_OBJECT DeviceObject) {
-    struct _IO_WORKITEM *item = calloc(1, sizeof *item);
+    struct _IO_WORKITEM *item = malloc(sizeof *item);
     if (item) {
-        item->device = DeviceObject;
-        __atomic_add_fetch(&items_allocated, 1, __ATOMIC_SEQ_CST);
+        begin_item(item, DeviceObject, false);
     }
     return item;
+}
+
+ULONG NTAPI IoSizeofWorkItem(VOID) {
+    return sizeof(struct _IO_WORKITEM);
+}
+
+VOID NTAPI IoInitializeWorkItem(PVOID IoObject, PIO_WORKITEM IoWorkItem) {
+    iocsq_expect_nonpaged(IoWorkItem, "a work item");
+    begin_item(IoWorkItem, IoObject, true);
 }
 
 VOID NTAPI IoQueueWorkItem(PIO_WORKITEM IoWorkItem, PIO_WORKITEM_ROUTINE WorkerRoutine, WORK_QUEUE_TYPE QueueType,
@@ -298,14 +326,25 @@ VOID NTAPI IoQueueWorkItem(PIO_WORKITEM IoWorkItem, PIO_WORKITEM_ROUTINE WorkerR
     iocsq_unlock_state();
 }
 
-VOID NTAPI IoFreeWorkItem(PIO_WORKITEM IoWorkItem) {
+static void end_item(const struct _IO_WORKITEM *item, bool of_driver, const char *call) {
     iocsq_lock_state();
-    if (IoWorkItem->queued) {
-        iocsq_disagree(NULL, "IoFreeWorkItem of a work item that is queued");
+    if (item->queued) {
+        iocsq_disagree(NULL, "%s of a work item that is queued", call);
+    }
+    if (item->of_driver != of_driver) {
+        iocsq_disagree(NULL, "%s of a work item that was made by the other call", call);
     }
     iocsq_unlock_state();
     __atomic_sub_fetch(&items_allocated, 1, __ATOMIC_SEQ_CST);
+}
+
+VOID NTAPI IoFreeWorkItem(PIO_WORKITEM IoWorkItem) {
+    end_item(IoWorkItem, false, "IoFreeWorkItem");
     free(IoWorkItem);
+}
+
+VOID NTAPI IoUninitializeWorkItem(PIO_WORKITEM IoWorkItem) {
+    end_item(IoWorkItem, true, "IoUninitializeWorkItem");
 }
 
 /* ---- Ends ---- */
@@ -323,6 +362,11 @@ void iocsq_check_no_deferred(const void *from, size_t size, const char *what) {
     for (const KDPC *at = first_dpc; at; at = at->Next) {
         if (lies_in(at, from, size)) {
             iocsq_disagree(NULL, "%s, and a DPC in it is queued", what);
+        }
+    }
+    for (const struct _IO_WORKITEM *at = first_work; at; at = at->next) {
+        if (at->of_driver && lies_in(at, from, size)) {
+            iocsq_disagree(NULL, "%s, and a work item in it is queued", what);
         }
     }
     if (running_dpc && !iocsq_own.is_processor && lies_in(running_dpc, from, size)) {

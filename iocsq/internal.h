@@ -24,6 +24,21 @@ struct iocsq_step {
     uint32_t pass;
 };
 
+/* Memory of a request's own. */
+struct iocsq_buffer {
+    UCHAR *at; /* null: none */
+    uint32_t size;
+};
+
+/* What nobody changes of an IRP while it is in a queue. */
+struct iocsq_tail {
+    PVOID context; /* DriverContext[3] */
+    PETHREAD thread;
+    PCHAR auxiliary;
+    PIO_STACK_LOCATION location;
+    PFILE_OBJECT file;
+};
+
 struct iocsq_queue;
 
 /* An IRP, with what the checker knows of it: in memory of its own, so that an IRP that was completed isn't read. */
@@ -39,14 +54,15 @@ struct iocsq_irp {
     PFILE_OBJECT file;
     uint64_t sent; /* when, in nanoseconds */
     uint32_t most; /* bytes that its completion may name: those of its buffer */
-    UCHAR *buffer; /* AssociatedIrp.SystemBuffer, which is its own; null: none */
-    uint32_t buffer_size;
+    struct iocsq_buffer buffer, direct; /* AssociatedIrp.SystemBuffer, and what MdlAddress describes */
+    MDL mdl;
     uint32_t output; /* bytes of the sender's buffer that are filled in at its completion */
     PVOID sender_buffer;
     _Atomic int place;
     _Atomic uint64_t stay; /* the queue, slot and life that it has in a reference queue; 0: none. A put-back keeps it */
     uint32_t pass;         /* which holds it there */
     PIO_CSQ_IRP_CONTEXT context;
+    struct iocsq_tail tail; /* as it went into the queue */
     _Atomic bool late; /* it went into the queue once its file object's IRP_MJ_CLEANUP was sent */
     struct iocsq_queue *call_of; /* the queue whose call is to end with the IRP's completion, or null */
     _Atomic uint64_t pending; /* `use` in the upper half, and a bit for each location that was marked pending */
@@ -69,23 +85,45 @@ uint32_t iocsq_irp_count(void);                                     /* none abov
 struct iocsq_irp *iocsq_new_irp(int locations, bool own);           /* null: all are under way */
 void iocsq_forget_irps(void);                                       /* all that were used: none was ever */
 const char *iocsq_place_name(const struct iocsq_irp *i);
-void iocsq_give_buffer(struct iocsq_irp *i, PVOID of_sender, uint32_t input, uint32_t output);
-void iocsq_free_buffer(struct iocsq_irp *i); /* after its completion */
 NTSTATUS iocsq_dispatch(PDEVICE_OBJECT device, struct iocsq_irp *i); /* calls the driver at the IRP's next location */
 /* The two hold the state's lock. */
 void iocsq_check_pending(const struct iocsq_irp *i); /* its dispatch routine's answer and its completion agree */
 void iocsq_check_untouched(struct iocsq_irp *i);     /* since its completion */
 
+/* ---- buffers.c ---- */
+/* What a sender gives with a request, and by which method: of METHOD_BUFFERED and so on. */
+struct iocsq_sent {
+    PVOID buffer;
+    uint32_t input, output; /* bytes */
+    ULONG method;
+};
+void iocsq_give_buffers(struct iocsq_irp *i, struct iocsq_sent sent);
+void iocsq_take_buffers(struct iocsq_irp *i); /* at its completion: with the next the state's lock is held */
+void iocsq_check_buffers_untouched(const struct iocsq_irp *i);
+void iocsq_free_buffers(struct iocsq_irp *i);
+
 /* ---- manager.c ---- */
-uint32_t iocsq_file_number(const void *file); /* IOCSQ_FILES: no file object */
-uint32_t iocsq_open_files(void);              /* how many are open */
-bool iocsq_is_closing(const void *file);      /* its IRP_MJ_CLEANUP was sent */
+ULONG iocsq_patience(void); /* milliseconds after which a request that should have been completed will never be */
 bool iocsq_wait_for(struct iocsq_irp *i, ULONG milliseconds); /* whether it was completed by then */
-bool iocsq_is_cleaned(const void *file);      /* its IRP_MJ_CLEANUP was completed */
+bool iocsq_is_done(void *irp);                /* a struct iocsq_irp: the state's lock is held */
 void iocsq_check_all_completed(void);         /* that a test sent, and untouched since */
+NTSTATUS iocsq_send_and_wait(PFILE_OBJECT file, UCHAR major);
+NTSTATUS iocsq_send_pnp(PDEVICE_OBJECT device, UCHAR minor); /* to the top of its stack; returns once it is completed */
+bool iocsq_sent_unbuffered(void); /* a read or write had no system buffer, since its device's Flags ask for none */
 /* In a dispatch routine that has queued its IRP: now and then the thread goes on only after so long that the IRP was
  * completed meanwhile, and its file object closed, if no more than this request keeps it from that. */
 void iocsq_stay_behind(void);
+
+/* ---- files.c ---- */
+uint32_t iocsq_file_number(const void *file); /* IOCSQ_FILES: no file object */
+uint32_t iocsq_open_files(void);              /* how many are open */
+bool iocsq_is_closing(const void *file);      /* its IRP_MJ_CLEANUP was sent */
+bool iocsq_is_cleaned(const void *file);      /* its IRP_MJ_CLEANUP was completed */
+/* With the next two the state's lock is held. The same of a file object. */
+bool iocsq_is_file_cleaned(const void *file);
+void iocsq_take_over_reference(void);         /* that this thread handed over (IocsqHandOver) */
+/* The driver's references, of ObReferenceObject. Whether it is a file object. */
+bool iocsq_reference_file(PVOID object, int change);
 
 /* ---- turns.c: what each thread has of its own, in one struct, since the bounded mode exchanges it ---- */
 enum { IOCSQ_LOCKS = 16 };
@@ -100,6 +138,8 @@ struct iocsq_own {
     const void *locks[IOCSQ_LOCKS];  /* that it has, the last one taken last */
     uint32_t lock_count, spin_lock_count;
     KIRQL irql;
+    KIRQL irql_before;   /* the first of its spin locks was taken, */
+    bool saved_before;   /* and that call returned it */
     struct iocsq_watch watch;
     PFILE_OBJECT handed_over; /* whose reference its next request takes over */
     bool took_over;           /* its last request took one over */
@@ -177,6 +217,13 @@ bool iocsq_await(bool (*holds)(void *), void *of, uint64_t nanoseconds, const ch
 bool iocsq_await_time(bool (*holds)(void *), void *of, uint64_t nanoseconds, const char *what);
 uint64_t iocsq_now(void); /* nanoseconds, in turns those of the turns */
 bool iocsq_is_signaled(void *header);
+void iocsq_begin_header(DISPATCHER_HEADER *header, int type, LONG state);
+void iocsq_expect_header(const DISPATCHER_HEADER *header, const char *call); /* it was initialized */
+
+/* ---- times.c ---- */
+uint64_t iocsq_nanoseconds_until(LARGE_INTEGER time); /* as the WDK has a time: negative from now on, else the system's */
+
+/* ---- threads.c ---- */
 void iocsq_join_threads(void);
 
 /* ---- locks.c ---- */
@@ -186,10 +233,13 @@ bool iocsq_has_lock(const void *lock);
 uint32_t iocsq_spin_lock_count(void);
 void iocsq_note_lock(const void *lock);   /* this thread has it */
 void iocsq_forget_lock(const void *lock); /* has it no more */
-void iocsq_set_irql(KIRQL level);
 /* Counts how often this thread releases a lock from now on. What it counted before: for iocsq_end_watch. */
 struct iocsq_watch iocsq_watch_lock(const void *lock);
 uint32_t iocsq_end_watch(struct iocsq_watch before); /* answers how often it was released */
+
+/* ---- irql.c ---- */
+void iocsq_set_irql(KIRQL level);
+void iocsq_expect_irql(KIRQL most, const char *call); /* the driver makes this call at no higher one */
 
 /* ---- coverage.c ---- */
 /* What is counted beside the callbacks, in the order of its table. */
@@ -221,6 +271,12 @@ void iocsq_end_deferred(void);
 
 /* ---- memory.c ---- */
 void iocsq_check_memory_freed(void);
+void iocsq_expect_nonpaged(const void *at, const char *what); /* it doesn't lie in memory of the paged pool */
+void iocsq_check_no_lookaside(const void *from, size_t size); /* that was not deleted lies in there */
+
+/* ---- devices.c ---- */
+bool iocsq_reference_device(PVOID object, int change); /* as iocsq_reference_file */
+void iocsq_check_links_deleted(void);
 
 /* ---- search.c ---- */
 /* As the driver uses a bad address: if this thread is in a peek with null that only iocsq asks for, ends the program with

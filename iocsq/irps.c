@@ -1,24 +1,9 @@
 /* The IRPs: their table, their way down through stack locations and up through completion routines, and their
  * cancellation. */
 #include "internal.h"
+#include "poison.h"
 
 #include <stdlib.h>
-
-#if defined(__SANITIZE_ADDRESS__)
-#define POISONS 1
-#elif defined(__has_feature)
-#if __has_feature(address_sanitizer)
-#define POISONS 1
-#endif
-#endif
-#ifdef POISONS
-#include <sanitizer/asan_interface.h>
-#define POISON(at, size) __asan_poison_memory_region(at, size)
-#define UNPOISON(at, size) __asan_unpoison_memory_region(at, size)
-#else
-#define POISON(at, size) ((void)(at), (void)(size))
-#define UNPOISON(at, size) ((void)(at), (void)(size))
-#endif
 
 static struct iocsq_irp *irps; /* IOCSQ_IRPS of them; the state's lock is held to give one out or take one back */
 static uint32_t irp_count;     /* none above was ever used */
@@ -95,12 +80,12 @@ static struct iocsq_irp *find_unused(void) {
 }
 
 /* ---- What a driver may use until an IRP's completion, or until it frees it ---- */
-enum { GONE = 0xA5 }; /* each byte of what is gone */
 static const IO_STATUS_BLOCK gone = { { (NTSTATUS)0xA5A5A5A5 }, (ULONG_PTR)0xA5A5A5A5A5A5A5A5 };
 
 static void take_from_driver(struct iocsq_irp *i) {
     i->irp.IoStatus = gone;
-    memset(&i->irp.AssociatedIrp, GONE, sizeof i->irp.AssociatedIrp);
+    memset(&i->irp.AssociatedIrp, IOCSQ_GONE, sizeof i->irp.AssociatedIrp);
+    memset(&i->mdl, IOCSQ_GONE, sizeof i->mdl);
     POISON(&i->irp.AssociatedIrp, sizeof i->irp.AssociatedIrp);
     POISON(&i->irp.IoStatus, sizeof i->irp - offsetof(IRP, IoStatus));
     POISON(i->stack, sizeof i->stack);
@@ -112,63 +97,12 @@ static void give_to_driver(struct iocsq_irp *i) {
     UNPOISON(i->stack, sizeof i->stack);
 }
 
-/* ---- The system buffer, as the I/O manager has it by METHOD_BUFFERED: filled from the sender's, and copied back ---- */
-void iocsq_give_buffer(struct iocsq_irp *i, PVOID of_sender, uint32_t input, uint32_t output) {
-    i->irp.UserBuffer = i->sender_buffer = of_sender;
-    i->output = of_sender ? output : 0;
-    i->buffer_size = input > output ? input : output;
-    if (i->buffer_size == 0) {
-        return;
-    }
-    i->buffer = malloc(i->buffer_size);
-    if (!i->buffer) {
-        iocsq_fail("no memory for a buffer");
-    }
-    memset(i->buffer, GONE, i->buffer_size);
-    if (of_sender) {
-        memcpy(i->buffer, of_sender, input);
-    }
-    i->irp.AssociatedIrp.SystemBuffer = i->buffer;
-}
-
-static void take_buffer(struct iocsq_irp *i) {
-    size_t count = i->information < i->output ? i->information : i->output;
-    if (!i->buffer) {
-        return;
-    }
-    if (NT_SUCCESS(i->status) && count > 0) {
-        memcpy(i->sender_buffer, i->buffer, count);
-    }
-    memset(i->buffer, GONE, i->buffer_size);
-    POISON(i->buffer, i->buffer_size);
-}
-
-void iocsq_free_buffer(struct iocsq_irp *i) {
-    if (i->buffer) {
-        UNPOISON(i->buffer, i->buffer_size);
-    }
-    free(i->buffer);
-    i->buffer = NULL;
-}
-
-static void check_buffer_untouched(const struct iocsq_irp *i) {
-    UNPOISON(i->buffer, i->buffer_size);
-    for (uint32_t at = 0; at < i->buffer_size; at++) {
-        if (i->buffer[at] != GONE) {
-            iocsq_disagree(i, "the buffer of irp %u was written to after it was completed", i->index);
-        }
-    }
-    POISON(i->buffer, i->buffer_size);
-}
-
 void iocsq_check_untouched(struct iocsq_irp *i) {
     give_to_driver(i);
     if (i->irp.IoStatus.Status != gone.Status || i->irp.IoStatus.Information != gone.Information) {
         iocsq_disagree(i, "irp %u was written to after it was %s", i->index, i->own ? "freed" : "completed");
     }
-    if (i->buffer) {
-        check_buffer_untouched(i);
-    }
+    iocsq_check_buffers_untouched(i);
     take_from_driver(i);
 }
 
@@ -184,6 +118,7 @@ static void begin_irp(struct iocsq_irp *i, int locations) {
     i->irp.IoStatus.Status = STATUS_SUCCESS;
     i->irp.IoStatus.Information = 0;
     i->irp.AssociatedIrp.SystemBuffer = NULL;
+    i->irp.MdlAddress = NULL;
     i->irp.StackCount = (CHAR)locations;
     i->irp.CurrentLocation = (CHAR)(locations + 1);
     i->irp.Tail.Overlay.CurrentStackLocation = &i->stack[locations - 1] + 1;
@@ -277,12 +212,29 @@ NTSTATUS NTAPI IofCallDriver(PDEVICE_OBJECT DeviceObject, PIRP Irp) {
     return iocsq_dispatch(DeviceObject, i);
 }
 
+static NTSTATUS NTAPI signal_completion(PDEVICE_OBJECT device, PIRP irp, PVOID event) {
+    (void)device, (void)irp;
+    KeSetEvent(event, IO_NO_INCREMENT, FALSE);
+    return STATUS_MORE_PROCESSING_REQUIRED;
+}
+
+BOOLEAN NTAPI IoForwardIrpSynchronously(PDEVICE_OBJECT DeviceObject, PIRP Irp) {
+    KEVENT completed;
+    KeInitializeEvent(&completed, NotificationEvent, FALSE);
+    IoCopyCurrentIrpStackLocationToNext(Irp);
+    IoSetCompletionRoutine(Irp, signal_completion, &completed, TRUE, TRUE, TRUE);
+    IoCallDriver(DeviceObject, Irp);
+    KeWaitForSingleObject(&completed, Executive, KernelMode, FALSE, NULL);
+    return TRUE;
+}
+
 /* ---- The way up ---- */
 static void check_completion(struct iocsq_irp *i) {
     if (i->place == IOCSQ_DONE) {
         iocsq_step_again(i, "done");
         iocsq_disagree(i, "IoCompleteRequest of irp %u, which was completed before", i->index);
     }
+    iocsq_expect_irql(DISPATCH_LEVEL, "IoCompleteRequest");
     iocsq_log(i, "IoCompleteRequest(irp %u, %08X)", i->index, (unsigned)i->irp.IoStatus.Status);
     if (iocsq_spin_lock_count() > 0) {
         iocsq_disagree(i, "IoCompleteRequest of irp %u with a spin lock held", i->index);
@@ -370,7 +322,7 @@ static void finish(struct iocsq_irp *i) {
     if (i->answered) {
         iocsq_check_pending(i);
     }
-    take_buffer(i);
+    iocsq_take_buffers(i);
     take_from_driver(i);
     iocsq_state_changed();
     iocsq_unlock_state();

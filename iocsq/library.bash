@@ -10,7 +10,7 @@ iocsq_objects() {
   local folder=$work/objects/$name
   if [[ ! -d $folder ]]; then
     mkdir -p "$folder.new/tests"
-    for file in "$top"/iocsq/*.c "$top"/iocsq/tests/{storm,patient,bounded,kernel,coverage,explore}.c; do
+    for file in "$top"/iocsq/*.c "$top"/iocsq/tests/{storm,patient,bounded,kernel,names,coverage,explore}.c; do
       object=${file#"$top/iocsq/"}
       "$@" -std=c11 "${warnings[@]}" -I"$top/include" -I"$top/iocsq" -c "$file" -o "$folder.new/${object%.c}.o" ||
         return 1

@@ -19,6 +19,11 @@ static void report_bad_address(int signal_number) {
     }
     int length = snprintf(text, sizeof text, "iocsq: t%u: the driver used a bad address\n", iocsq_thread());
     if (write(STDERR_FILENO, text, (size_t)length) > 0) {
+        if (iocsq_sent_unbuffered()) {
+            static const char hint[] = "  A read or write had no system buffer: its device's Flags have neither "
+                                       "DO_BUFFERED_IO nor DO_DIRECT_IO.\n";
+            length = (int)write(STDERR_FILENO, hint, sizeof hint - 1);
+        }
         iocsq_show_places(true);
         iocsq_show_last_calls();
     }
@@ -57,28 +62,75 @@ static void catch_bad_addresses(void) {
 }
 
 /* ---- Loading and unloading ---- */
-static NTSTATUS refuse(PDEVICE_OBJECT device, PIRP irp) {
-    (void)device;
-    irp->IoStatus.Status = STATUS_INVALID_DEVICE_REQUEST;
+static NTSTATUS complete(PIRP irp, NTSTATUS status) {
+    irp->IoStatus.Status = status;
     IoCompleteRequest(irp, IO_NO_INCREMENT);
-    return STATUS_INVALID_DEVICE_REQUEST;
+    return status;
 }
 
-PDRIVER_OBJECT IocsqLoad(PDRIVER_INITIALIZE DriverEntry) {
-    static UNICODE_STRING registry_path;
-    PDRIVER_OBJECT driver = calloc(1, sizeof *driver);
-    if (!driver) {
-        return NULL;
-    }
-    catch_bad_addresses();
+static NTSTATUS NTAPI refuse(PDEVICE_OBJECT device, PIRP irp) {
+    (void)device;
+    return complete(irp, STATUS_INVALID_DEVICE_REQUEST);
+}
+
+static NTSTATUS NTAPI succeed(PDEVICE_OBJECT device, PIRP irp) {
+    (void)device;
+    return complete(irp, STATUS_SUCCESS);
+}
+
+/* A driver, and below it the bus that its device is on, which refuses all but to start, stop and remove it. */
+struct loaded {
+    DRIVER_OBJECT object; /* first */
+    DRIVER_EXTENSION extension;
+    DRIVER_OBJECT bus;
+    PDEVICE_OBJECT physical; /* null: the driver has no AddDevice */
+};
+
+static void refuse_all(PDRIVER_OBJECT driver) {
     for (int major = 0; major <= IRP_MJ_MAXIMUM_FUNCTION; major++) {
         driver->MajorFunction[major] = refuse;
     }
-    if (!NT_SUCCESS(DriverEntry(driver, &registry_path)) || !driver->DeviceObject) {
-        free(driver);
+}
+
+/* As the PnP manager finds a device: the driver's AddDevice attaches one of its own to it, which is started. */
+static NTSTATUS add_device(struct loaded *of) {
+    refuse_all(&of->bus);
+    of->bus.MajorFunction[IRP_MJ_PNP] = of->bus.MajorFunction[IRP_MJ_CREATE] = of->bus.MajorFunction[IRP_MJ_CLEANUP] =
+        of->bus.MajorFunction[IRP_MJ_CLOSE] = succeed;
+    NTSTATUS status = IoCreateDevice(&of->bus, 0, NULL, FILE_DEVICE_UNKNOWN, 0, FALSE, &of->physical);
+    if (NT_SUCCESS(status)) {
+        status = of->extension.AddDevice(&of->object, of->physical);
+    }
+    return NT_SUCCESS(status) ? iocsq_send_pnp(of->physical, IRP_MN_START_DEVICE) : status;
+}
+
+static NTSTATUS load(struct loaded *of, PDRIVER_INITIALIZE entry) {
+    static UNICODE_STRING registry_path;
+    of->object.DriverExtension = &of->extension;
+    of->extension.DriverObject = &of->object;
+    refuse_all(&of->object);
+    NTSTATUS status = entry(&of->object, &registry_path);
+    return NT_SUCCESS(status) && of->extension.AddDevice ? add_device(of) : status;
+}
+
+PDRIVER_OBJECT IocsqLoad(PDRIVER_INITIALIZE DriverEntry) {
+    struct loaded *of = calloc(1, sizeof *of);
+    if (!of) {
         return NULL;
     }
-    return driver;
+    catch_bad_addresses();
+    if (!NT_SUCCESS(load(of, DriverEntry)) || !of->object.DeviceObject) {
+        free(of);
+        return NULL;
+    }
+    return &of->object;
+}
+
+static void remove_device(struct loaded *of) {
+    if (of->physical) {
+        iocsq_send_pnp(of->physical, IRP_MN_REMOVE_DEVICE);
+        IoDeleteDevice(of->physical);
+    }
 }
 
 static void check_own_freed(void) {
@@ -92,6 +144,7 @@ static void check_own_freed(void) {
 
 VOID IocsqUnload(PDRIVER_OBJECT Driver) {
     iocsq_check_all_completed();
+    remove_device((struct loaded *)(void *)Driver);
     if (Driver->DriverUnload) {
         Driver->DriverUnload(Driver);
     }
@@ -101,7 +154,8 @@ VOID IocsqUnload(PDRIVER_OBJECT Driver) {
         iocsq_disagree(NULL, "the driver was unloaded, and a device of it is left");
     }
     check_own_freed();
+    iocsq_check_links_deleted();
     iocsq_check_memory_freed();
     iocsq_end_queues();
-    free(Driver);
+    free((struct loaded *)(void *)Driver);
 }

@@ -1,10 +1,8 @@
-/* IRQL, spin locks, fast mutexes, the system's cancel spin lock, remove locks. */
+/* Spin locks, fast mutexes, the system's cancel spin lock, lists under a spin lock. */
 #include "internal.h"
 
-#include <stdlib.h>
-
-enum { THREADS = 1024 };
-#define TEN_SECONDS UINT64_C(10000000000)
+enum { THREADS = 1024, HANDLES = 64 };
+#define UNTAKEN 0x6C6F636Bu /* the word of a lock that nobody has, once it is initialized */
 
 uint32_t iocsq_lock_count(void) {
     return iocsq_own.lock_count;
@@ -61,38 +59,27 @@ uint32_t iocsq_end_watch(struct iocsq_watch before) {
     return releases;
 }
 
-/* ---- IRQL ---- */
-KIRQL NTAPI KeGetCurrentIrql(VOID) {
-    return iocsq_own.irql;
-}
-
-void iocsq_set_irql(KIRQL level) {
-    iocsq_own.irql = level;
-}
-
-KIRQL NTAPI KfRaiseIrql(KIRQL NewIrql) {
-    KIRQL before = iocsq_own.irql;
-    if (NewIrql < before) {
-        iocsq_disagree(NULL, "KeRaiseIrql from %u to %u", before, NewIrql);
-    }
-    iocsq_own.irql = NewIrql;
-    return before;
-}
-
-VOID NTAPI KeLowerIrql(KIRQL NewIrql) {
-    if (NewIrql > iocsq_own.irql) {
-        iocsq_disagree(NULL, "KeLowerIrql from %u to %u", iocsq_own.irql, NewIrql);
-    }
-    iocsq_own.irql = NewIrql;
-}
-
-/* ---- Words that are locks: 0, or the number of the thread that has it ---- */
+/* ---- Words that are locks: UNTAKEN, or the number of the thread that has it ---- */
 static ULONG_PTR owner_of(const ULONG_PTR *word) {
     return __atomic_load_n(word, __ATOMIC_SEQ_CST);
 }
 
 static bool is_free(void *word) {
-    return owner_of(word) == 0;
+    return owner_of(word) == UNTAKEN;
+}
+
+static void begin_word(ULONG_PTR *word, const char *what) {
+    iocsq_expect_nonpaged(word, what);
+    __atomic_store_n(word, UNTAKEN, __ATOMIC_SEQ_CST);
+}
+
+/* The thread that has the word, or UNTAKEN. */
+static ULONG_PTR known_owner(const ULONG_PTR *word, const char *what) {
+    ULONG_PTR owner = owner_of(word);
+    if (owner != UNTAKEN && (owner == 0 || owner >= THREADS)) {
+        iocsq_disagree(NULL, "%s that was not initialized, or was overwritten", what);
+    }
+    return owner;
 }
 
 static const ULONG_PTR *waited_for[THREADS]; /* in turns: the word that each thread waits for, by the thread's number */
@@ -125,35 +112,70 @@ static void wait_for_word(ULONG_PTR *word, ULONG_PTR mine, const char *what) {
     waited_for[mine % THREADS] = NULL;
 }
 
-static void take_word(ULONG_PTR *word, const char *what) {
-    ULONG_PTR expected = 0, mine = iocsq_thread();
-    iocsq_point();
-    while (!__atomic_compare_exchange_n(word, &expected, mine, 0, __ATOMIC_SEQ_CST, __ATOMIC_SEQ_CST)) {
-        if (expected == mine) {
-            iocsq_disagree(NULL, "%s is taken again by the thread that has it", what);
-        }
-        expected = 0;
-        wait_for_word(word, mine, what);
+static bool try_word(ULONG_PTR *word, const char *what) {
+    ULONG_PTR expected = UNTAKEN, mine = iocsq_thread();
+    if (known_owner(word, what) == mine) {
+        iocsq_disagree(NULL, "%s is taken again by the thread that has it", what);
     }
-    iocsq_note_lock(word);
+    bool taken = __atomic_compare_exchange_n(word, &expected, mine, 0, __ATOMIC_SEQ_CST, __ATOMIC_SEQ_CST);
+    if (taken) {
+        iocsq_note_lock(word);
+    }
+    return taken;
+}
+
+/* Whether it is taken: at once, or if `waits` in the end. */
+static bool take_word(ULONG_PTR *word, const char *what, bool waits) {
+    bool taken;
+    iocsq_point();
+    while (!(taken = try_word(word, what)) && waits) {
+        wait_for_word(word, iocsq_thread(), what);
+    }
+    return taken;
 }
 
 static void leave_word(ULONG_PTR *word) {
     iocsq_forget_lock(word);
-    __atomic_store_n(word, 0, __ATOMIC_SEQ_CST);
+    __atomic_store_n(word, UNTAKEN, __ATOMIC_SEQ_CST);
 }
 
 /* ---- Spin locks ---- */
 VOID NTAPI KeInitializeSpinLock(PKSPIN_LOCK SpinLock) {
-    *SpinLock = 0;
+    begin_word(SpinLock, "a spin lock");
+}
+
+static void expect_dispatch(const char *call) {
+    if (iocsq_own.irql < DISPATCH_LEVEL) {
+        iocsq_disagree(NULL, "%s at IRQL %u", call, iocsq_own.irql);
+    }
+}
+
+/* `saved`: the call returns the IRQL from which it came, to which the release of the last one goes back. */
+static void count_spin_lock(KIRQL before, bool saved) {
+    if (iocsq_own.spin_lock_count++ == 0) {
+        iocsq_own.irql_before = before;
+        iocsq_own.saved_before = saved;
+    }
 }
 
 VOID NTAPI KeAcquireSpinLockAtDpcLevel(PKSPIN_LOCK SpinLock) {
-    if (iocsq_own.irql < DISPATCH_LEVEL) {
-        iocsq_disagree(NULL, "KeAcquireSpinLockAtDpcLevel at IRQL %u", iocsq_own.irql);
+    expect_dispatch("KeAcquireSpinLockAtDpcLevel");
+    take_word(SpinLock, "a spin lock", true);
+    count_spin_lock(iocsq_own.irql, false);
+}
+
+BOOLEAN FASTCALL KeTryToAcquireSpinLockAtDpcLevel(PKSPIN_LOCK SpinLock) {
+    expect_dispatch("KeTryToAcquireSpinLockAtDpcLevel");
+    bool taken = take_word(SpinLock, "a spin lock", false);
+    if (taken) {
+        count_spin_lock(iocsq_own.irql, false);
     }
-    take_word(SpinLock, "a spin lock");
-    iocsq_own.spin_lock_count++;
+    return taken;
+}
+
+BOOLEAN FASTCALL KeTestSpinLock(PKSPIN_LOCK SpinLock) {
+    iocsq_point();
+    return known_owner(SpinLock, "a spin lock") == UNTAKEN;
 }
 
 VOID NTAPI KeReleaseSpinLockFromDpcLevel(PKSPIN_LOCK SpinLock) {
@@ -163,26 +185,94 @@ VOID NTAPI KeReleaseSpinLockFromDpcLevel(PKSPIN_LOCK SpinLock) {
 
 KIRQL NTAPI KeAcquireSpinLockRaiseToDpc(PKSPIN_LOCK SpinLock) {
     KIRQL before = iocsq_own.irql;
+    iocsq_expect_irql(DISPATCH_LEVEL, "KeAcquireSpinLock");
     iocsq_own.irql = DISPATCH_LEVEL;
-    KeAcquireSpinLockAtDpcLevel(SpinLock);
+    take_word(SpinLock, "a spin lock", true);
+    count_spin_lock(before, true);
     return before;
 }
 
+/* A thread that has a spin lock stays at DISPATCH_LEVEL, and goes back to where it came from as it leaves the last one.
+ * (Two may be left in the order in which they were taken, if each release is given the other's IRQL.) */
+static void check_release(KIRQL to) {
+    if (iocsq_own.spin_lock_count > 1 && to < DISPATCH_LEVEL) {
+        iocsq_disagree(NULL, "KeReleaseSpinLock to IRQL %u, and this thread has another spin lock", to);
+    }
+    if (iocsq_own.spin_lock_count == 1 && iocsq_own.saved_before && to != iocsq_own.irql_before) {
+        iocsq_disagree(NULL, "KeReleaseSpinLock to IRQL %u, and the thread came from %u", to, iocsq_own.irql_before);
+    }
+}
+
 VOID NTAPI KeReleaseSpinLock(PKSPIN_LOCK SpinLock, KIRQL NewIrql) {
+    check_release(NewIrql);
     KeReleaseSpinLockFromDpcLevel(SpinLock);
     iocsq_own.irql = NewIrql;
 }
 
+/* ---- Queued spin locks: a handle is one acquire's, from before it waits until its release ---- */
+static struct {
+    const KLOCK_QUEUE_HANDLE *handle; /* null: none */
+    uint32_t thread;
+} handles[HANDLES]; /* under the state's lock */
+
+/* The place of a handle in use; null: the first free one. HANDLES: there is none. */
+static uint32_t place_of(const KLOCK_QUEUE_HANDLE *handle) {
+    uint32_t at = 0;
+    while (at < HANDLES && handles[at].handle != handle) {
+        at++;
+    }
+    return at;
+}
+
+static void begin_handle(PKLOCK_QUEUE_HANDLE handle) {
+    iocsq_lock_state();
+    uint32_t used = place_of(handle), at = place_of(NULL);
+    if (used < HANDLES) {
+        iocsq_disagree(NULL, "a KLOCK_QUEUE_HANDLE is used for an acquire, and t%u uses it for another: each wants its "
+                             "own, on the stack", handles[used].thread);
+    }
+    if (at == HANDLES) {
+        iocsq_fail("more than %u queued spin locks at once", (unsigned)HANDLES);
+    }
+    handles[at].handle = handle;
+    handles[at].thread = iocsq_thread();
+    iocsq_unlock_state();
+}
+
+static void end_handle(const KLOCK_QUEUE_HANDLE *handle) {
+    iocsq_lock_state();
+    uint32_t at = place_of(handle);
+    if (at == HANDLES || handles[at].thread != iocsq_thread()) {
+        iocsq_disagree(NULL, "a KLOCK_QUEUE_HANDLE is released that this thread acquired nothing with");
+    }
+    handles[at].handle = NULL;
+    iocsq_unlock_state();
+}
+
 VOID NTAPI KeAcquireInStackQueuedSpinLock(PKSPIN_LOCK SpinLock, PKLOCK_QUEUE_HANDLE LockHandle) {
+    begin_handle(LockHandle);
     LockHandle->Lock = SpinLock;
     LockHandle->OldIrql = KeAcquireSpinLockRaiseToDpc(SpinLock);
 }
 
 VOID NTAPI KeReleaseInStackQueuedSpinLock(PKLOCK_QUEUE_HANDLE LockHandle) {
+    end_handle(LockHandle);
     KeReleaseSpinLock(LockHandle->Lock, LockHandle->OldIrql);
 }
 
-static KSPIN_LOCK cancel_lock;
+VOID NTAPI KeAcquireInStackQueuedSpinLockAtDpcLevel(PKSPIN_LOCK SpinLock, PKLOCK_QUEUE_HANDLE LockHandle) {
+    expect_dispatch("KeAcquireInStackQueuedSpinLockAtDpcLevel");
+    begin_handle(LockHandle);
+    LockHandle->Lock = SpinLock;
+    KeAcquireSpinLockAtDpcLevel(SpinLock);
+}
+
+VOID NTAPI KeReleaseInStackQueuedSpinLockFromDpcLevel(PKLOCK_QUEUE_HANDLE LockHandle) {
+    end_handle(LockHandle);
+    KeReleaseSpinLockFromDpcLevel(LockHandle->Lock);
+}
+
+static KSPIN_LOCK cancel_lock = UNTAKEN;
 VOID NTAPI IoAcquireCancelSpinLock(PKIRQL Irql) {
     *Irql = KeAcquireSpinLockRaiseToDpc(&cancel_lock);
 }
@@ -191,19 +281,65 @@ VOID NTAPI IoReleaseCancelSpinLock(KIRQL Irql) {
     KeReleaseSpinLock(&cancel_lock, Irql);
 }
 
+/* ---- Lists under a spin lock ---- */
+static PLIST_ENTRY entry_or_null(PLIST_ENTRY head, PLIST_ENTRY entry) {
+    return entry == head ? NULL : entry;
+}
+
+PLIST_ENTRY NTAPI ExInterlockedInsertHeadList(PLIST_ENTRY ListHead, PLIST_ENTRY ListEntry, PKSPIN_LOCK Lock) {
+    KIRQL before = KeAcquireSpinLockRaiseToDpc(Lock);
+    PLIST_ENTRY first = entry_or_null(ListHead, ListHead->Flink);
+    InsertHeadList(ListHead, ListEntry);
+    KeReleaseSpinLock(Lock, before);
+    return first;
+}
+
+PLIST_ENTRY NTAPI ExInterlockedInsertTailList(PLIST_ENTRY ListHead, PLIST_ENTRY ListEntry, PKSPIN_LOCK Lock) {
+    KIRQL before = KeAcquireSpinLockRaiseToDpc(Lock);
+    PLIST_ENTRY last = entry_or_null(ListHead, ListHead->Blink);
+    InsertTailList(ListHead, ListEntry);
+    KeReleaseSpinLock(Lock, before);
+    return last;
+}
+
+PLIST_ENTRY NTAPI ExInterlockedRemoveHeadList(PLIST_ENTRY ListHead, PKSPIN_LOCK Lock) {
+    KIRQL before = KeAcquireSpinLockRaiseToDpc(Lock);
+    PLIST_ENTRY first = entry_or_null(ListHead, ListHead->Flink);
+    if (first) {
+        RemoveEntryList(first);
+    }
+    KeReleaseSpinLock(Lock, before);
+    return first;
+}
+
 /* ---- Fast mutexes ---- */
 VOID NTAPI ExInitializeFastMutex(PFAST_MUTEX FastMutex) {
-    FastMutex->Lock = 0;
+    begin_word(&FastMutex->Lock, "a fast mutex");
+}
+
+static bool take_mutex(PFAST_MUTEX mutex, KIRQL level, bool waits, const char *call) {
+    KIRQL before = iocsq_own.irql;
+    iocsq_expect_irql(APC_LEVEL, call);
+    iocsq_own.irql = level > before ? level : before;
+    bool taken = take_word(&mutex->Lock, "a fast mutex", waits);
+    if (taken) {
+        mutex->OldIrql = before;
+    } else {
+        iocsq_own.irql = before;
+    }
+    return taken;
 }
 
 VOID NTAPI ExAcquireFastMutex(PFAST_MUTEX FastMutex) {
-    KIRQL before = iocsq_own.irql;
-    if (iocsq_own.irql >= DISPATCH_LEVEL) {
-        iocsq_disagree(NULL, "ExAcquireFastMutex at DISPATCH_LEVEL");
-    }
-    iocsq_own.irql = APC_LEVEL;
-    take_word(&FastMutex->Lock, "a fast mutex");
-    FastMutex->OldIrql = before;
+    take_mutex(FastMutex, APC_LEVEL, true, "ExAcquireFastMutex");
+}
+
+BOOLEAN NTAPI ExTryToAcquireFastMutex(PFAST_MUTEX FastMutex) {
+    return take_mutex(FastMutex, APC_LEVEL, false, "ExTryToAcquireFastMutex");
+}
+
+VOID NTAPI ExAcquireFastMutexUnsafe(PFAST_MUTEX FastMutex) {
+    take_mutex(FastMutex, PASSIVE_LEVEL, true, "ExAcquireFastMutexUnsafe or KeAcquireGuardedMutex");
 }
 
 VOID NTAPI ExReleaseFastMutex(PFAST_MUTEX FastMutex) {
@@ -212,79 +348,6 @@ VOID NTAPI ExReleaseFastMutex(PFAST_MUTEX FastMutex) {
     iocsq_own.irql = before;
 }
 
-/* ---- Remove locks: the state's lock is held for all of their fields ---- */
-VOID NTAPI IoInitializeRemoveLockEx(PIO_REMOVE_LOCK Lock, ULONG AllocateTag, ULONG MaxLockedMinutes,
-                                    ULONG HighWatermark, ULONG RemlockSize) {
-    (void)AllocateTag, (void)MaxLockedMinutes, (void)HighWatermark, (void)RemlockSize;
-    Lock->IoCount = 1;
-    Lock->Removed = FALSE;
-    Lock->TagCount = 0;
-    KeInitializeEvent(&Lock->RemoveEvent, NotificationEvent, FALSE);
-}
-
-NTSTATUS NTAPI IoAcquireRemoveLockEx(PIO_REMOVE_LOCK RemoveLock, PVOID Tag, PCSTR File, ULONG Line, ULONG RemlockSize) {
-    NTSTATUS status = STATUS_SUCCESS;
-    (void)File, (void)Line, (void)RemlockSize;
-    iocsq_point();
-    iocsq_lock_state();
-    if (RemoveLock->IoCount == 0 && !RemoveLock->Removed) {
-        iocsq_disagree(NULL, "IoAcquireRemoveLock of a remove lock that was not initialized");
-    }
-    if (RemoveLock->Removed) {
-        status = STATUS_DELETE_PENDING;
-    } else {
-        RemoveLock->IoCount++;
-        if (RemoveLock->TagCount < IOCSQ_REMOVE_TAGS) {
-            RemoveLock->Tags[RemoveLock->TagCount++] = Tag;
-        }
-    }
-    iocsq_unlock_state();
-    return status;
-}
-
-/* One acquire with this tag is undone. Of very many acquires not all tags are known. */
-static void release(PIO_REMOVE_LOCK lock, PVOID tag) {
-    ULONG at = 0, count = lock->TagCount;
-    while (at < count && lock->Tags[at] != tag) {
-        at++;
-    }
-    if (at < count) {
-        lock->Tags[at] = lock->Tags[count - 1];
-        lock->TagCount--;
-    } else if (lock->IoCount - 1 == (LONG)count) {
-        iocsq_disagree(iocsq_irp_at(tag), "IoReleaseRemoveLock with a tag that no acquire has, or that was released");
-    }
-    if (--lock->IoCount == 0) {
-        lock->RemoveEvent.Header.SignalState = 1;
-        iocsq_state_changed();
-    }
-}
-
-VOID NTAPI IoReleaseRemoveLockEx(PIO_REMOVE_LOCK RemoveLock, PVOID Tag, ULONG RemlockSize) {
-    (void)RemlockSize;
-    iocsq_lock_state();
-    release(RemoveLock, Tag);
-    iocsq_unlock_state();
-    iocsq_point();
-}
-
-VOID NTAPI IoReleaseRemoveLockAndWaitEx(PIO_REMOVE_LOCK RemoveLock, PVOID Tag, ULONG RemlockSize) {
-    (void)RemlockSize;
-    if (iocsq_own.irql >= DISPATCH_LEVEL) {
-        iocsq_disagree(NULL, "IoReleaseRemoveLockAndWait at DISPATCH_LEVEL");
-    }
-    iocsq_lock_state();
-    if (RemoveLock->Removed) {
-        iocsq_disagree(NULL, "IoReleaseRemoveLockAndWait of a remove lock that was waited for before");
-    }
-    RemoveLock->Removed = TRUE;
-    release(RemoveLock, Tag);
-    if (--RemoveLock->IoCount == 0) {
-        RemoveLock->RemoveEvent.Header.SignalState = 1;
-    }
-    if (!iocsq_await(iocsq_is_signaled, &RemoveLock->RemoveEvent.Header, TEN_SECONDS, "a remove lock")) {
-        iocsq_disagree(iocsq_irp_at(RemoveLock->Tags[0]), "IoReleaseRemoveLockAndWait waits for an acquire that is "
-                                                          "never released");
-    }
-    iocsq_unlock_state();
+VOID NTAPI ExReleaseFastMutexUnsafe(PFAST_MUTEX FastMutex) {
+    leave_word(&FastMutex->Lock);
 }

@@ -1,60 +1,19 @@
-/* The I/O manager's side, which a test calls (iocsq_test.h): file objects and requests. */
-#include "internal.h"
+/* The I/O manager's side, which a test calls (iocsq_test.h): requests. files.c has the file objects. */
+#include "queues.h"
 
 #include <stdlib.h>
 
 enum { MILLISECOND = 1000000 };
+enum { AT_DISPATCH_IN = 4 }; /* cancels, and sends where the policy allows them, come at DISPATCH_LEVEL */
 enum { ONCE_IN = 4, BEHIND = 2000, BEHIND_IN_TURNS = 100000 }; /* of iocsq_stay_behind: microseconds */
 
-static FILE_OBJECT files[IOCSQ_FILES]; /* with the next four, under the state's lock */
-static bool is_open[IOCSQ_FILES];
-static bool is_closing[IOCSQ_FILES]; /* its IRP_MJ_CLEANUP was sent, or its IRP_MJ_CREATE has yet to be completed */
-static bool is_cleaned[IOCSQ_FILES]; /* its IRP_MJ_CLEANUP was completed */
-static uint32_t references[IOCSQ_FILES]; /* of IocsqReferenceAny */
+static bool unbuffered; /* of iocsq_sent_unbuffered */
 
-uint32_t iocsq_file_number(const void *file) {
-    uintptr_t offset = (uintptr_t)file - (uintptr_t)files;
-    bool is_file = offset < sizeof files && offset % sizeof *files == 0;
-    return is_file ? (uint32_t)(offset / sizeof *files) : (uint32_t)IOCSQ_FILES;
+bool iocsq_sent_unbuffered(void) {
+    return unbuffered;
 }
 
-/* The number of one that a test names. */
-static uint32_t number_of(const void *file) {
-    uint32_t number = iocsq_file_number(file);
-    if (number >= IOCSQ_FILES) {
-        iocsq_fail("%p is no file object", file);
-    }
-    return number;
-}
-
-uint32_t iocsq_open_files(void) {
-    uint32_t count = 0;
-    iocsq_lock_state();
-    for (uint32_t at = 0; at < IOCSQ_FILES; at++) {
-        count += is_open[at];
-    }
-    iocsq_unlock_state();
-    return count;
-}
-
-static bool is_noted(const bool *of_files, const void *file) {
-    uint32_t number = iocsq_file_number(file);
-    iocsq_lock_state();
-    bool noted = number < IOCSQ_FILES && of_files[number];
-    iocsq_unlock_state();
-    return noted;
-}
-
-bool iocsq_is_closing(const void *file) {
-    return is_noted(is_closing, file);
-}
-
-bool iocsq_is_cleaned(const void *file) {
-    return is_noted(is_cleaned, file);
-}
-
-/* After so many milliseconds a request that should have been completed will never be. */
-static ULONG patience(void) {
+ULONG iocsq_patience(void) {
     return iocsq_in_turns() ? 2000 : 10000;
 }
 
@@ -62,17 +21,6 @@ static ULONG patience(void) {
 struct _IOCSQ_REQUEST {
     struct iocsq_irp irp;
 };
-
-/* What this thread handed over. An IRP that isn't completed keeps its file object from being closed (wait_for_close).
- * The state's lock is held. */
-static void take_over_reference(void) {
-    iocsq_own.took_over = iocsq_own.handed_over != NULL;
-    if (iocsq_own.took_over) {
-        references[number_of(iocsq_own.handed_over)]--;
-        iocsq_own.handed_over = NULL;
-        iocsq_state_changed();
-    }
-}
 
 void iocsq_stay_behind(void) {
     if (iocsq_is_bounded()) {
@@ -101,7 +49,7 @@ static struct iocsq_irp *make_irp(PFILE_OBJECT file, UCHAR major) {
         i->file = file;
         i->major = major;
     }
-    take_over_reference();
+    iocsq_take_over_reference();
     iocsq_unlock_state();
     if (!i) {
         return NULL;
@@ -114,7 +62,7 @@ static struct iocsq_irp *make_irp(PFILE_OBJECT file, UCHAR major) {
     return i;
 }
 
-static void check_after_dispatch(struct iocsq_irp *i, NTSTATUS status) {
+static void check_after_dispatch(struct iocsq_irp *i, NTSTATUS status, KIRQL before) {
     iocsq_lock_state();
     bool done = i->place == IOCSQ_DONE;
     i->answered = true;
@@ -127,8 +75,9 @@ static void check_after_dispatch(struct iocsq_irp *i, NTSTATUS status) {
         iocsq_disagree(i, "the dispatch routine answers %08X, and irp %u was not completed", (unsigned)status,
                        i->index);
     }
-    if (iocsq_lock_count() > 0 || KeGetCurrentIrql() != PASSIVE_LEVEL) {
-        iocsq_disagree(i, "the dispatch routine of irp %u returns with a lock or a raised IRQL", i->index);
+    if (iocsq_lock_count() > 0 || KeGetCurrentIrql() != before) {
+        iocsq_disagree(i, "the dispatch routine of irp %u returns with a lock or %s IRQL", i->index,
+                       KeGetCurrentIrql() < before ? "a lowered" : "a raised");
     }
 }
 
@@ -145,14 +94,35 @@ static void show(struct iocsq_irp *i) {
     }
 }
 
-static IOCSQ_REQUEST *send(struct iocsq_irp *i, PFILE_OBJECT file) {
+/* Now and then DISPATCH_LEVEL, if `may`: what KeLowerIrql goes back from. The bounded mode doesn't draw it. */
+static KIRQL raise_at_random(bool may) {
+    return may && !iocsq_is_bounded() && iocsq_rarely(AT_DISPATCH_IN) ? KfRaiseIrql(DISPATCH_LEVEL) : KeGetCurrentIrql();
+}
+
+static bool is_transfer(UCHAR major) {
+    return major == IRP_MJ_READ || major == IRP_MJ_WRITE || major == IRP_MJ_DEVICE_CONTROL;
+}
+
+static IOCSQ_REQUEST *send(struct iocsq_irp *i, PDEVICE_OBJECT device) {
     i->sent = iocsq_now();
     show(i);
-    iocsq_log_sent(i, "dispatch(irp %u, major %02x, file %u)", i->index, i->major, iocsq_file_number(file));
-    NTSTATUS status = iocsq_dispatch(top_of(file->DeviceObject), i);
+    iocsq_log_sent(i, "dispatch(irp %u, major %02x, file %u)", i->index, i->major, iocsq_file_number(i->file));
+    KIRQL before = raise_at_random(is_transfer(i->major) && iocsq_policy_of(i).DispatchSends);
+    KIRQL sent_at = KeGetCurrentIrql();
+    NTSTATUS status = iocsq_dispatch(top_of(device), i);
     iocsq_log(i, "dispatch(irp %u) = %08X", i->index, (unsigned)status);
-    check_after_dispatch(i, status);
+    check_after_dispatch(i, status, sent_at);
+    KeLowerIrql(before);
     return (IOCSQ_REQUEST *)(void *)i;
+}
+
+/* By which method a read or write is made: as the device's Flags ask for. */
+static ULONG method_of(const DEVICE_OBJECT *device) {
+    if (device->Flags & DO_BUFFERED_IO) {
+        return METHOD_BUFFERED;
+    }
+    unbuffered = unbuffered || !(device->Flags & DO_DIRECT_IO);
+    return device->Flags & DO_DIRECT_IO ? METHOD_OUT_DIRECT : METHOD_NEITHER;
 }
 
 IOCSQ_REQUEST *IocsqSend(PFILE_OBJECT File, UCHAR MajorFunction, PVOID Buffer, ULONG Length) {
@@ -160,12 +130,15 @@ IOCSQ_REQUEST *IocsqSend(PFILE_OBJECT File, UCHAR MajorFunction, PVOID Buffer, U
     if (!i) {
         return NULL;
     }
-    iocsq_give_buffer(i, Buffer, MajorFunction == IRP_MJ_READ ? 0 : Length, MajorFunction == IRP_MJ_WRITE ? 0 : Length);
-    IoGetNextIrpStackLocation(&i->irp)->Parameters.Read.Length = Length;
-    if (MajorFunction == IRP_MJ_READ || MajorFunction == IRP_MJ_WRITE) {
+    bool reads = MajorFunction == IRP_MJ_READ, writes = MajorFunction == IRP_MJ_WRITE;
+    struct iocsq_sent sent = { Buffer, reads ? 0 : Length, writes ? 0 : Length, METHOD_BUFFERED };
+    if (reads || writes) {
+        sent.method = method_of(top_of(File->DeviceObject));
         i->most = Length;
     }
-    return send(i, File);
+    iocsq_give_buffers(i, sent);
+    IoGetNextIrpStackLocation(&i->irp)->Parameters.Read.Length = Length;
+    return send(i, File->DeviceObject);
 }
 
 IOCSQ_REQUEST *IocsqControl(PFILE_OBJECT File, ULONG IoControlCode, PVOID Buffer, ULONG InputLength,
@@ -174,26 +147,28 @@ IOCSQ_REQUEST *IocsqControl(PFILE_OBJECT File, ULONG IoControlCode, PVOID Buffer
     if (!i) {
         return NULL;
     }
-    iocsq_give_buffer(i, Buffer, InputLength, OutputLength);
+    struct iocsq_sent sent = { Buffer, InputLength, OutputLength, METHOD_FROM_CTL_CODE(IoControlCode) };
+    iocsq_give_buffers(i, sent);
     PIO_STACK_LOCATION stack = IoGetNextIrpStackLocation(&i->irp);
     stack->Parameters.DeviceIoControl.IoControlCode = IoControlCode;
     stack->Parameters.DeviceIoControl.InputBufferLength = InputLength;
     stack->Parameters.DeviceIoControl.OutputBufferLength = OutputLength;
+    stack->Parameters.DeviceIoControl.Type3InputBuffer = sent.method == METHOD_NEITHER ? Buffer : NULL;
     i->most = OutputLength;
-    return send(i, File);
+    return send(i, File->DeviceObject);
 }
 
 BOOLEAN IocsqCancel(IOCSQ_REQUEST *Request) {
     return IoCancelIrp(&Request->irp.irp);
 }
 
-static bool is_done(void *irp) {
+bool iocsq_is_done(void *irp) {
     return ((struct iocsq_irp *)irp)->place == IOCSQ_DONE;
 }
 
 bool iocsq_wait_for(struct iocsq_irp *i, ULONG milliseconds) {
     iocsq_lock_state();
-    bool done = iocsq_await(is_done, i, milliseconds * (uint64_t)MILLISECOND, "a request");
+    bool done = iocsq_await(iocsq_is_done, i, milliseconds * (uint64_t)MILLISECOND, "a request");
     iocsq_unlock_state();
     return done;
 }
@@ -204,7 +179,7 @@ BOOLEAN IocsqWait(IOCSQ_REQUEST *Request, ULONG Milliseconds) {
 
 NTSTATUS IocsqStatus(IOCSQ_REQUEST *Request) {
     iocsq_lock_state();
-    NTSTATUS status = is_done(&Request->irp) ? Request->irp.status : STATUS_PENDING;
+    NTSTATUS status = iocsq_is_done(&Request->irp) ? Request->irp.status : STATUS_PENDING;
     iocsq_unlock_state();
     return status;
 }
@@ -220,7 +195,7 @@ VOID IocsqFree(IOCSQ_REQUEST *Request) {
         iocsq_fail("IocsqFree of irp %u, which was not completed", i->index);
     }
     iocsq_check_untouched(i);
-    iocsq_free_buffer(i);
+    iocsq_free_buffers(i);
     i->used = false;
     iocsq_unlock_state();
 }
@@ -234,7 +209,7 @@ VOID IocsqComplain(IOCSQ_REQUEST *Request, const char *Text) {
 static bool begin_cancel(struct iocsq_irp *i) {
     iocsq_lock_state();
     bool may = i->used && !i->own && i->file && i->place != IOCSQ_DONE && !i->irp.Cancel &&
-               i->major != IRP_MJ_CLEANUP && !is_cleaned[number_of(i->file)];
+               i->major != IRP_MJ_CLEANUP && !iocsq_is_file_cleaned(i->file);
     i->cancels += may;
     iocsq_unlock_state();
     return may;
@@ -252,169 +227,51 @@ BOOLEAN IocsqCancelAny(VOID) {
     if (!begin_cancel(i)) {
         return FALSE;
     }
+    KIRQL before = raise_at_random(!iocsq_policy_of(i).PassiveCancels);
+    bool raised = before < KeGetCurrentIrql();
+    iocsq_set_hint(raised ? "  The cancel came at DISPATCH_LEVEL: if nobody cancels there, since the callbacks wait, the "
+                            "driver's policy says PassiveCancels." : NULL);
     BOOLEAN found = IoCancelIrp(&i->irp);
+    iocsq_set_hint(NULL);
+    KeLowerIrql(before);
     end_cancel(i);
     return found;
 }
 
-static NTSTATUS send_and_wait(PFILE_OBJECT file, UCHAR major) {
-    IOCSQ_REQUEST *request = IocsqSend(file, major, NULL, 0);
+static NTSTATUS wait_and_free(IOCSQ_REQUEST *request) {
     if (!request) {
         iocsq_fail("out of IRPs");
     }
-    if (!IocsqWait(request, patience())) {
-        iocsq_disagree(&request->irp, "irp %u (major %02x) was never completed", request->irp.index, major);
+    if (!IocsqWait(request, iocsq_patience())) {
+        iocsq_disagree(&request->irp, "irp %u (major %02x) was never completed", request->irp.index, request->irp.major);
     }
     NTSTATUS status = IocsqStatus(request);
     IocsqFree(request);
     return status;
 }
 
-/* ---- File objects ---- */
-static PFILE_OBJECT new_file(void) {
-    PFILE_OBJECT file = NULL;
-    iocsq_lock_state();
-    for (uint32_t at = 0; at < IOCSQ_FILES && !file; at++) {
-        if (!is_open[at]) {
-            is_open[at] = is_closing[at] = true;
-            is_cleaned[at] = false;
-            file = &files[at];
-            memset(file, 0, sizeof *file);
-        }
+NTSTATUS iocsq_send_and_wait(PFILE_OBJECT file, UCHAR major) {
+    return wait_and_free(IocsqSend(file, major, NULL, 0));
+}
+
+NTSTATUS iocsq_send_pnp(PDEVICE_OBJECT device, UCHAR minor) {
+    struct iocsq_irp *i = iocsq_new_irp(top_of(device)->StackSize, false);
+    if (!i) {
+        iocsq_fail("out of IRPs");
     }
-    iocsq_unlock_state();
-    return file;
-}
-
-static void free_file(PFILE_OBJECT file) {
-    iocsq_lock_state();
-    is_open[number_of(file)] = false;
-    iocsq_unlock_state();
-}
-
-static void set_closing(PFILE_OBJECT file, bool closing) {
-    iocsq_lock_state();
-    is_closing[number_of(file)] = closing;
-    iocsq_unlock_state();
-}
-
-PFILE_OBJECT IocsqOpen(PDRIVER_OBJECT Driver) {
-    PFILE_OBJECT file = new_file();
-    if (!file) {
-        return NULL;
-    }
-    file->DeviceObject = Driver->DeviceObject;
-    if (!NT_SUCCESS(send_and_wait(file, IRP_MJ_CREATE))) {
-        free_file(file);
-        return NULL;
-    }
-    set_closing(file, false);
-    return file;
-}
-
-PFILE_OBJECT IocsqReferenceAny(VOID) {
-    uint32_t from = iocsq_draw(iocsq_is_bounded() ? iocsq_open_files() + 1 : (uint32_t)IOCSQ_FILES);
-    PFILE_OBJECT file = NULL;
-    iocsq_lock_state();
-    for (uint32_t at = 0; at < IOCSQ_FILES && !file; at++) {
-        uint32_t number = (from + at) % IOCSQ_FILES;
-        if (is_open[number] && !is_closing[number]) {
-            references[number]++;
-            file = &files[number];
-        }
-    }
-    iocsq_unlock_state();
-    iocsq_long_point(2); /* its cleanup may run before it is used */
-    return file;
-}
-
-BOOLEAN IocsqReference(PFILE_OBJECT File) {
-    uint32_t number = number_of(File);
-    iocsq_lock_state();
-    bool may = is_open[number] && !is_closing[number];
-    references[number] += may;
-    iocsq_unlock_state();
-    iocsq_point(); /* as in IocsqReferenceAny */
-    return may;
-}
-
-VOID IocsqRelease(PFILE_OBJECT File) {
-    iocsq_lock_state();
-    references[number_of(File)]--;
-    iocsq_state_changed();
-    iocsq_unlock_state();
-}
-
-VOID IocsqHandOver(PFILE_OBJECT File) {
-    iocsq_own.handed_over = File;
-}
-
-static bool is_released(void *file) {
-    return references[number_of(file)] == 0;
-}
-
-/* An IRP, as one of this file object: it may be another's by the time that it is looked at. */
-struct irp_of_file {
-    struct iocsq_irp *irp;
-    PFILE_OBJECT file;
-};
-
-static bool is_of_file(const struct irp_of_file *of) {
-    return of->irp->used && !of->irp->own && of->irp->file == of->file;
-}
-
-static void check_cleaned(PFILE_OBJECT file) {
-    uint32_t number = number_of(file);
-    iocsq_lock_state();
-    is_cleaned[number] = true;
-    iocsq_unlock_state();
-    const struct iocsq_irp *left = iocsq_left_in_queues(number);
-    if (left) {
-        iocsq_disagree(left, "IRP_MJ_CLEANUP of file %u left irp %u in the queue", number, left->index);
-    }
-}
-
-static bool is_completed(void *irp_of_file) {
-    const struct irp_of_file *of = irp_of_file;
-    return !is_of_file(of) || is_done(of->irp);
-}
-
-/* IRP_MJ_CLOSE comes once the file object is referenced no more, and its IRPs are completed. */
-static void wait_for_close(PFILE_OBJECT file) {
-    iocsq_lock_state();
-    iocsq_await(is_released, file, IOCSQ_FOR_EVER, "a file object's release");
-    iocsq_unlock_state();
-    for (uint32_t at = 0; at < iocsq_irp_count(); at++) {
-        struct irp_of_file of = { iocsq_irp_number(at), file };
-        iocsq_lock_state();
-        bool completed = iocsq_await(is_completed, &of, patience() * (uint64_t)MILLISECOND, "a request");
-        iocsq_unlock_state();
-        if (!completed && of.irp->late) {
-            iocsq_disagree(of.irp, "irp %u went into the queue after IRP_MJ_CLEANUP of its file %u began, and was "
-                                   "never completed", at, iocsq_file_number(file));
-        }
-        if (!completed) {
-            iocsq_disagree(of.irp, "irp %u of file %u %s, and was never completed", at, iocsq_file_number(file),
-                           iocsq_place_name(of.irp));
-        }
-    }
-}
-
-VOID IocsqClose(PFILE_OBJECT File) {
-    set_closing(File, true);
-    send_and_wait(File, IRP_MJ_CLEANUP);
-    iocsq_cover(IOCSQ_CLEANUP);
-    check_cleaned(File);
-    wait_for_close(File);
-    send_and_wait(File, IRP_MJ_CLOSE);
-    free_file(File);
+    i->major = IRP_MJ_PNP;
+    i->irp.IoStatus.Status = STATUS_NOT_SUPPORTED;
+    PIO_STACK_LOCATION stack = IoGetNextIrpStackLocation(&i->irp);
+    stack->MajorFunction = IRP_MJ_PNP;
+    stack->MinorFunction = minor;
+    return wait_and_free(send(i, device));
 }
 
 /* ---- The end: all requests were completed, and their IRPs not touched since ---- */
 void iocsq_check_all_completed(void) {
     for (uint32_t at = 0; at < iocsq_irp_count(); at++) {
         struct iocsq_irp *i = iocsq_irp_number(at);
-        if (i->used && !i->own && !iocsq_wait_for(i, patience())) {
+        if (i->used && !i->own && !iocsq_wait_for(i, iocsq_patience())) {
             iocsq_disagree(i, "irp %u %s, and was never completed", i->index, iocsq_place_name(i));
         }
         iocsq_lock_state();

@@ -1,4 +1,4 @@
-/* The pool, strings, and devices: each is checked for uses other than it was made for. */
+/* The pool, and lookaside lists. */
 #include "internal.h"
 
 #include <stdlib.h>
@@ -9,32 +9,37 @@ struct allocation {
     void *at;
     size_t size;
     ULONG tag;
+    bool paged;
 };
 enum { BUCKETS = 1024 };
 static struct allocation *allocations[BUCKETS];
+static uint32_t paged_count; /* of them */
+static PNPAGED_LOOKASIDE_LIST lookasides; /* that were not deleted */
 
 static struct allocation **bucket_of(const void *at) {
     return &allocations[((uintptr_t)at >> 4) % BUCKETS];
 }
 
-static void *allocate(size_t size, ULONG tag) {
+static void *allocate(size_t size, ULONG tag, bool paged, const char *call) {
     struct allocation *made = malloc(sizeof *made);
+    iocsq_expect_irql(paged ? APC_LEVEL : DISPATCH_LEVEL, call);
     void *at = made ? malloc(size) : NULL;
     if (!at) {
         free(made);
         return NULL;
     }
     iocsq_lock_state();
-    struct allocation allocation = { *bucket_of(at), at, size, tag };
+    struct allocation allocation = { *bucket_of(at), at, size, tag, paged };
     *made = allocation;
     *bucket_of(at) = made;
+    paged_count += paged;
     iocsq_unlock_state();
     return at;
 }
 
 PVOID NTAPI ExAllocatePoolWithTag(POOL_TYPE PoolType, SIZE_T NumberOfBytes, ULONG Tag) {
-    (void)PoolType;
-    void *at = allocate(NumberOfBytes, Tag);
+    bool paged = PoolType == PagedPool;
+    void *at = allocate(NumberOfBytes, Tag, paged, paged ? "ExAllocatePool of paged memory" : "ExAllocatePool");
     if (at) {
         memset(at, 0xA5, NumberOfBytes); /* not by chance the zeros that a driver must not rely on */
     }
@@ -42,8 +47,8 @@ PVOID NTAPI ExAllocatePoolWithTag(POOL_TYPE PoolType, SIZE_T NumberOfBytes, ULON
 }
 
 PVOID NTAPI ExAllocatePool2(POOL_FLAGS Flags, SIZE_T NumberOfBytes, ULONG Tag) {
-    (void)Flags;
-    void *at = allocate(NumberOfBytes, Tag);
+    bool paged = Flags & POOL_FLAG_PAGED;
+    void *at = allocate(NumberOfBytes, Tag, paged, paged ? "ExAllocatePool2 of paged memory" : "ExAllocatePool2");
     if (at) {
         memset(at, 0, NumberOfBytes);
     }
@@ -59,9 +64,40 @@ static struct allocation *take_allocation(const void *at) {
     struct allocation *found = *link;
     if (found) {
         *link = found->next;
+        paged_count -= found->paged;
     }
     iocsq_unlock_state();
     return found;
+}
+
+static bool lies_in(const void *at, const void *from, size_t size) {
+    return (uintptr_t)at - (uintptr_t)from < size;
+}
+
+void iocsq_expect_nonpaged(const void *at, const char *what) {
+    if (__atomic_load_n(&paged_count, __ATOMIC_RELAXED) == 0) {
+        return;
+    }
+    iocsq_lock_state();
+    for (uint32_t bucket = 0; bucket < BUCKETS; bucket++) {
+        for (const struct allocation *of = allocations[bucket]; of; of = of->next) {
+            if (of->paged && lies_in(at, of->at, of->size)) {
+                iocsq_disagree(NULL, "%s lies in the paged pool: it has to be nonpaged", what);
+            }
+        }
+    }
+    iocsq_unlock_state();
+}
+
+void iocsq_check_no_lookaside(const void *from, size_t size) {
+    iocsq_lock_state();
+    for (PNPAGED_LOOKASIDE_LIST at = lookasides; at; at = at->Next) {
+        if (lies_in(at, from, size)) {
+            iocsq_disagree(NULL, "memory goes, and a lookaside list in it (of %zu bytes, tag %08X) was not deleted",
+                           (size_t)at->Size, at->Tag);
+        }
+    }
+    iocsq_unlock_state();
 }
 
 static void free_pool(void *at, const ULONG *tag) {
@@ -73,6 +109,8 @@ static void free_pool(void *at, const ULONG *tag) {
         iocsq_disagree(NULL, "ExFreePoolWithTag with the tag %08X of memory that was allocated with %08X", *tag,
                        found->tag);
     }
+    iocsq_expect_irql(found->paged ? APC_LEVEL : DISPATCH_LEVEL, "ExFreePool");
+    iocsq_check_no_lookaside(at, found->size);
     iocsq_check_no_deferred(at, found->size, "ExFreePool of memory");
     iocsq_end_queues_in(at, found->size, "ExFreePool of memory");
     memset(at, 0xA5, found->size); /* for who uses it later: not by chance what it was */
@@ -89,6 +127,7 @@ VOID NTAPI ExFreePool(PVOID P) {
 }
 
 void iocsq_check_memory_freed(void) {
+    iocsq_check_no_lookaside(NULL, SIZE_MAX);
     for (uint32_t at = 0; at < BUCKETS; at++) {
         if (allocations[at]) {
             iocsq_disagree(NULL, "the driver was unloaded, and %zu bytes with the tag %08X were not freed: a reference "
@@ -98,77 +137,64 @@ void iocsq_check_memory_freed(void) {
     }
 }
 
-VOID NTAPI RtlInitUnicodeString(PUNICODE_STRING DestinationString, PCWSTR SourceString) {
-    size_t length = SourceString ? wcslen(SourceString) * sizeof(WCHAR) : 0;
-    DestinationString->Length = (USHORT)length;
-    DestinationString->MaximumLength = (USHORT)(length + sizeof(WCHAR));
-    DestinationString->Buffer = (PWSTR)(uintptr_t)SourceString;
+/* ---- Lookaside lists ---- */
+static void initialize(PNPAGED_LOOKASIDE_LIST list, NPAGED_LOOKASIDE_LIST fields) {
+    iocsq_expect_nonpaged(list, "a lookaside list");
+    if (!fields.Allocate != !fields.Free) {
+        iocsq_disagree(NULL, "a lookaside list has one of the routines Allocate and Free, and not the other");
+    }
+    iocsq_lock_state();
+    fields.Next = lookasides;
+    *list = fields;
+    lookasides = list;
+    iocsq_unlock_state();
 }
 
-/* ---- Devices ---- */
-struct device {
-    DEVICE_OBJECT object; /* first */
-    size_t extension_size;
-};
-
-NTSTATUS NTAPI IoCreateDevice(PDRIVER_OBJECT DriverObject, ULONG DeviceExtensionSize, PUNICODE_STRING DeviceName,
-                              DEVICE_TYPE DeviceType, ULONG DeviceCharacteristics, BOOLEAN Exclusive,
-                              PDEVICE_OBJECT *DeviceObject) {
-    struct device *made = calloc(1, sizeof *made);
-    PVOID extension = calloc(1, DeviceExtensionSize + (size_t)1);
-    (void)DeviceName, (void)DeviceCharacteristics, (void)Exclusive;
-    if (!made || !extension) {
-        free(made);
-        free(extension);
-        return STATUS_INSUFFICIENT_RESOURCES;
-    }
-    made->extension_size = DeviceExtensionSize;
-    made->object.DriverObject = DriverObject;
-    made->object.DeviceExtension = extension;
-    made->object.DeviceType = DeviceType;
-    made->object.StackSize = 1;
-    made->object.Flags = DO_DEVICE_INITIALIZING;
-    made->object.NextDevice = DriverObject->DeviceObject;
-    DriverObject->DeviceObject = &made->object;
-    *DeviceObject = &made->object;
-    return STATUS_SUCCESS;
+VOID NTAPI ExInitializeNPagedLookasideList(PNPAGED_LOOKASIDE_LIST Lookaside, PALLOCATE_FUNCTION Allocate,
+                                           PFREE_FUNCTION Free, ULONG Flags, SIZE_T Size, ULONG Tag, USHORT Depth) {
+    NPAGED_LOOKASIDE_LIST fields = { NULL, NonPagedPoolNx, Size, Tag, Allocate, Free };
+    (void)Flags, (void)Depth;
+    initialize(Lookaside, fields);
 }
 
-VOID NTAPI IoDeleteDevice(PDEVICE_OBJECT DeviceObject) {
-    struct device *device = (struct device *)(void *)DeviceObject;
-    PDEVICE_OBJECT *at = &DeviceObject->DriverObject->DeviceObject;
-    if (DeviceObject->AttachedDevice) {
-        iocsq_disagree(NULL, "IoDeleteDevice of a device, and another is attached to it");
-    }
-    iocsq_check_no_deferred(DeviceObject->DeviceExtension, device->extension_size, "IoDeleteDevice of a device");
-    iocsq_end_queues_in(DeviceObject->DeviceExtension, device->extension_size, "IoDeleteDevice of a device");
-    while (*at && *at != DeviceObject) {
-        at = &(*at)->NextDevice;
-    }
-    if (!*at) {
-        iocsq_disagree(NULL, "IoDeleteDevice of a device that was deleted before");
-    }
-    *at = DeviceObject->NextDevice;
-    free(DeviceObject->DeviceExtension);
-    free(device);
+VOID NTAPI ExInitializePagedLookasideList(PPAGED_LOOKASIDE_LIST Lookaside, PALLOCATE_FUNCTION Allocate,
+                                          PFREE_FUNCTION Free, ULONG Flags, SIZE_T Size, ULONG Tag, USHORT Depth) {
+    PAGED_LOOKASIDE_LIST fields = { NULL, PagedPool, Size, Tag, Allocate, Free };
+    (void)Flags, (void)Depth;
+    initialize(Lookaside, fields);
 }
 
-PDEVICE_OBJECT NTAPI IoAttachDeviceToDeviceStack(PDEVICE_OBJECT SourceDevice, PDEVICE_OBJECT TargetDevice) {
-    PDEVICE_OBJECT top = TargetDevice;
-    while (top->AttachedDevice) {
-        top = top->AttachedDevice;
+static PNPAGED_LOOKASIDE_LIST *link_of(const NPAGED_LOOKASIDE_LIST *list) {
+    PNPAGED_LOOKASIDE_LIST *at = &lookasides;
+    while (*at && *at != list) {
+        at = &(*at)->Next;
     }
-    if (top->StackSize == IOCSQ_STACK) {
-        return NULL;
-    }
-    top->AttachedDevice = SourceDevice;
-    SourceDevice->StackSize = (CCHAR)(top->StackSize + 1);
-    return top;
+    return at;
 }
 
-VOID NTAPI IoDetachDevice(PDEVICE_OBJECT TargetDevice) {
-    if (!TargetDevice->AttachedDevice) {
-        iocsq_disagree(NULL, "IoDetachDevice of a device that none is attached to");
+static void expect_initialized(const NPAGED_LOOKASIDE_LIST *list, const char *call) {
+    iocsq_lock_state();
+    bool known = *link_of(list) != NULL;
+    iocsq_unlock_state();
+    if (!known) {
+        iocsq_disagree(NULL, "%s of a lookaside list that was not initialized, or was deleted before", call);
     }
-    TargetDevice->AttachedDevice = NULL;
+}
+
+PVOID NTAPI ExAllocateFromNPagedLookasideList(PNPAGED_LOOKASIDE_LIST Lookaside) {
+    expect_initialized(Lookaside, "an allocation");
+    PALLOCATE_FUNCTION of = Lookaside->Allocate ? Lookaside->Allocate : ExAllocatePoolWithTag;
+    return of(Lookaside->Type, Lookaside->Size, Lookaside->Tag);
+}
+
+VOID NTAPI ExFreeToNPagedLookasideList(PNPAGED_LOOKASIDE_LIST Lookaside, PVOID Entry) {
+    expect_initialized(Lookaside, "a free");
+    (Lookaside->Free ? Lookaside->Free : ExFreePool)(Entry);
+}
+
+VOID NTAPI ExDeleteNPagedLookasideList(PNPAGED_LOOKASIDE_LIST Lookaside) {
+    expect_initialized(Lookaside, "the deletion");
+    iocsq_lock_state();
+    *link_of(Lookaside) = Lookaside->Next;
+    iocsq_unlock_state();
 }

@@ -60,7 +60,29 @@ static void leave(struct iocsq_queue *q, struct held held, bool last) {
     iocsq_point();
 }
 
+/* ---- What nobody changes of an IRP while it is in a queue: a cancel routine reads DriverContext[3] without a lock ---- */
+static struct iocsq_tail tail_of(const IRP *irp) {
+    struct iocsq_tail tail = { irp->Tail.Overlay.DriverContext[3], irp->Tail.Overlay.Thread,
+                               irp->Tail.Overlay.AuxiliaryBuffer, irp->Tail.Overlay.CurrentStackLocation,
+                               irp->Tail.Overlay.OriginalFileObject };
+    return tail;
+}
+
+void iocsq_check_tail(const struct iocsq_irp *i, const char *when) {
+    struct iocsq_tail is = tail_of(&i->irp), was = i->tail;
+    const char *changed = is.context != was.context       ? "DriverContext[3]"
+                          : is.thread != was.thread       ? "Tail.Overlay.Thread"
+                          : is.auxiliary != was.auxiliary ? "Tail.Overlay.AuxiliaryBuffer"
+                          : is.location != was.location   ? "Tail.Overlay.CurrentStackLocation"
+                          : is.file != was.file           ? "Tail.Overlay.OriginalFileObject"
+                                                          : NULL;
+    if (changed) {
+        iocsq_disagree(i, "%s: %s of irp %u was changed", when, changed, i->index);
+    }
+}
+
 static void remove_by_driver(struct iocsq_queue *q, struct iocsq_irp *i) {
+    iocsq_check_tail(i, "while it was in the queue");
     iocsq_log(i, "  CsqRemoveIrp(irp %u)", i->index);
     iocsq_cover_call(q, IOCSQ_REMOVE);
     q->csq->CsqRemoveIrp(q->csq, &i->irp);
@@ -143,9 +165,9 @@ static void check_context(const struct iocsq_irp *i, const IO_CSQ_IRP_CONTEXT *c
 }
 
 static NTSTATUS insert_by_driver(PIO_CSQ csq, struct iocsq_irp *i, PIO_CSQ_IRP_CONTEXT context, PVOID insert_context) {
-    PVOID kept = context ? (PVOID)context : (PVOID)csq;
     NTSTATUS status = STATUS_PENDING;
-    i->irp.Tail.Overlay.DriverContext[3] = kept;
+    i->irp.Tail.Overlay.DriverContext[3] = context ? (PVOID)context : (PVOID)csq;
+    i->tail = tail_of(&i->irp);
     if (context) {
         IO_CSQ_IRP_CONTEXT filled = { IO_TYPE_CSQ_IRP_CONTEXT, &i->irp, csq };
         *context = filled;
@@ -159,9 +181,7 @@ static NTSTATUS insert_by_driver(PIO_CSQ csq, struct iocsq_irp *i, PIO_CSQ_IRP_C
         iocsq_log(i, "  CsqInsertIrp(irp %u)", i->index);
         csq->CsqInsertIrp(csq, &i->irp);
     }
-    if (i->irp.Tail.Overlay.DriverContext[3] != kept) {
-        iocsq_disagree(i, "the insert callback changed DriverContext[3] of irp %u", i->index);
-    }
+    iocsq_check_tail(i, "after the insert callback");
     if (!NT_SUCCESS(status) && context) {
         context->Irp = NULL;
     }

@@ -115,6 +115,7 @@ static struct iocsq_queue *find_forgotten(void) {
 }
 
 static void begin(PIO_CSQ csq) {
+    iocsq_expect_nonpaged(csq, "an IO_CSQ");
     iocsq_end_queues_in(csq, sizeof *csq, "IoCsqInitialize of an IO_CSQ that is in use");
     pthread_mutex_lock(&queues_mutex);
     struct iocsq_queue *q = find_forgotten();

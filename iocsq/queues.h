@@ -34,6 +34,9 @@ struct iocsq_irp *iocsq_known(PIRP irp, const char *who); /* ends the program wh
 IOCSQ_POLICY iocsq_policy_of(const struct iocsq_irp *i);
 PFILE_OBJECT iocsq_irp_file(struct iocsq_irp *i); /* null: it has none */
 
+/* ---- queue.c: the driver's lock is held ---- */
+void iocsq_check_tail(const struct iocsq_irp *i, const char *when); /* it is as it went into the queue */
+
 /* ---- search.c: the driver's lock is held ---- */
 struct iocsq_search {
     struct iocsq_queue *q;

@@ -117,6 +117,7 @@ struct iocsq_irp *iocsq_peek(struct iocsq_search *s) {
         complain(s, answer, judgement);
     }
     if (answer) {
+        iocsq_check_tail(answer, s->when);
         s->seen[slot] = true;
         s->before = answer;
     }
@@ -128,6 +129,7 @@ void iocsq_audit(struct iocsq_queue *q, const char *when) {
     if (q->policy.NoAudit || (iocsq_reference_len(&q->reference) > AUDITED && !iocsq_rarely(16))) {
         return;
     }
+    const char *hint = iocsq_own.hint;
     IOCSQ_COUNT(Audits);
     iocsq_own.asks_alone = !iocsq_has_null_contexts(q);
     if (iocsq_own.asks_alone) {
@@ -137,7 +139,7 @@ void iocsq_audit(struct iocsq_queue *q, const char *when) {
     while (iocsq_peek(&s)) {
     }
     iocsq_own.asks_alone = false;
-    iocsq_set_hint(NULL);
+    iocsq_set_hint(hint);
 }
 
 /* Called by a signal's handler: the text is written first, as nothing else is safe there. */

@@ -1,15 +1,15 @@
-/* What threads wait for: events, mutexes, semaphores, timers, threads; and the threads of the driver. All of it, with
- * the table of IRPs, is under one lock, the state's, and one condition signals each change. */
+/* What threads wait for: events, mutexes, semaphores, timers, threads. All of it, with the table of IRPs, is under one
+ * lock, the state's, and one condition signals each change. */
 #define _GNU_SOURCE
 #include "internal.h"
 
 #include <errno.h>
 #include <pthread.h>
-#include <stdlib.h>
 #include <time.h>
 
-enum { MUTANT = 2, SEMAPHORE = 5, THREAD = 6 }; /* beside the EVENT_TYPEs, and the timers of deferred.c */
-enum { SECOND = 1000000000, HUNDRED_NANOSECONDS = 100 };
+enum { MUTANT = 2, SEMAPHORE = 5 }; /* beside the EVENT_TYPEs, the threads of threads.c, the timers of deferred.c */
+enum { INITIALIZED = 0x6C71 };
+enum { SECOND = 1000000000 };
 
 static pthread_mutex_t state_mutex = PTHREAD_MUTEX_INITIALIZER;
 static pthread_cond_t state_condition = PTHREAD_COND_INITIALIZER;
@@ -86,8 +86,31 @@ VOID IocsqPause(ULONG Microseconds) {
     sleep_for(Microseconds * (uint64_t)1000, false);
 }
 
+/* ---- Headers ---- */
+void iocsq_begin_header(DISPATCHER_HEADER *header, int type, LONG state) {
+    iocsq_expect_nonpaged(header, "an object that threads wait for");
+    header->Type = (UCHAR)type;
+    header->Initialized = INITIALIZED;
+    header->SignalState = state;
+}
+
+void iocsq_expect_header(const DISPATCHER_HEADER *header, const char *call) {
+    if (header->Initialized != INITIALIZED) {
+        iocsq_disagree(NULL, "%s of an object that was not initialized, or was overwritten", call);
+    }
+}
+
+static LONG state_of(const DISPATCHER_HEADER *header, const char *call) {
+    iocsq_expect_header(header, call);
+    iocsq_lock_state();
+    LONG state = header->SignalState;
+    iocsq_unlock_state();
+    return state;
+}
+
 /* ---- Events, mutexes, semaphores ---- */
-static LONG set_signal(DISPATCHER_HEADER *header, LONG state) {
+static LONG set_signal(DISPATCHER_HEADER *header, LONG state, const char *call) {
+    iocsq_expect_header(header, call);
     iocsq_point();
     iocsq_lock_state();
     LONG before = header->SignalState;
@@ -98,39 +121,39 @@ static LONG set_signal(DISPATCHER_HEADER *header, LONG state) {
 }
 
 VOID NTAPI KeInitializeEvent(PRKEVENT Event, EVENT_TYPE Type, BOOLEAN State) {
-    Event->Header.Type = (UCHAR)Type;
-    Event->Header.SignalState = State;
+    iocsq_begin_header(&Event->Header, (int)Type, State);
 }
 
 LONG NTAPI KeSetEvent(PRKEVENT Event, KPRIORITY Increment, BOOLEAN Wait) {
     (void)Increment, (void)Wait;
-    return set_signal(&Event->Header, 1);
+    return set_signal(&Event->Header, 1, "KeSetEvent");
 }
 
 LONG NTAPI KeResetEvent(PRKEVENT Event) {
-    return set_signal(&Event->Header, 0);
+    return set_signal(&Event->Header, 0, "KeResetEvent");
 }
 
 VOID NTAPI KeClearEvent(PRKEVENT Event) {
-    set_signal(&Event->Header, 0);
+    set_signal(&Event->Header, 0, "KeClearEvent");
 }
 
 LONG NTAPI KeReadStateEvent(PRKEVENT Event) {
-    iocsq_lock_state();
-    LONG state = Event->Header.SignalState;
-    iocsq_unlock_state();
-    return state;
+    return state_of(&Event->Header, "KeReadStateEvent");
 }
 
 VOID NTAPI KeInitializeMutex(PRKMUTEX Mutex, ULONG Level) {
     (void)Level;
-    Mutex->Header.Type = MUTANT;
-    Mutex->Header.SignalState = 1;
+    iocsq_begin_header(&Mutex->Header, MUTANT, 1);
     Mutex->OwnerThread = 0;
+}
+
+LONG NTAPI KeReadStateMutex(PRKMUTEX Mutex) {
+    return state_of(&Mutex->Header, "KeReadStateMutex");
 }
 
 LONG NTAPI KeReleaseMutex(PRKMUTEX Mutex, BOOLEAN Wait) {
     (void)Wait;
+    iocsq_expect_header(&Mutex->Header, "KeReleaseMutex");
     iocsq_lock_state();
     if (Mutex->OwnerThread != iocsq_thread()) {
         iocsq_disagree(NULL, "KeReleaseMutex by a thread that doesn't have the mutex");
@@ -149,13 +172,17 @@ VOID NTAPI KeInitializeSemaphore(PRKSEMAPHORE Semaphore, LONG Count, LONG Limit)
     if (Count < 0 || Limit < 1 || Count > Limit) {
         iocsq_disagree(NULL, "KeInitializeSemaphore with count %d and limit %d", Count, Limit);
     }
-    Semaphore->Header.Type = SEMAPHORE;
-    Semaphore->Header.SignalState = Count;
+    iocsq_begin_header(&Semaphore->Header, SEMAPHORE, Count);
     Semaphore->Limit = Limit;
+}
+
+LONG NTAPI KeReadStateSemaphore(PRKSEMAPHORE Semaphore) {
+    return state_of(&Semaphore->Header, "KeReadStateSemaphore");
 }
 
 LONG NTAPI KeReleaseSemaphore(PRKSEMAPHORE Semaphore, KPRIORITY Increment, LONG Adjustment, BOOLEAN Wait) {
     (void)Increment, (void)Wait;
+    iocsq_expect_header(&Semaphore->Header, "KeReleaseSemaphore");
     iocsq_lock_state();
     LONG before = Semaphore->Header.SignalState;
     if (Adjustment < 1 || Adjustment > Semaphore->Limit - before) {
@@ -227,10 +254,7 @@ static uint64_t nanoseconds_of(const LARGE_INTEGER *timeout) {
     if (!timeout) {
         return IOCSQ_FOR_EVER;
     }
-    if (timeout->QuadPart > 0) {
-        iocsq_fail("an absolute time is not known here");
-    }
-    return (uint64_t)-timeout->QuadPart * HUNDRED_NANOSECONDS;
+    return iocsq_nanoseconds_until(*timeout);
 }
 
 NTSTATUS NTAPI KeWaitForMultipleObjects(ULONG Count, PVOID Object[], WAIT_TYPE WaitType, KWAIT_REASON Reason,
@@ -248,6 +272,7 @@ NTSTATUS NTAPI KeWaitForMultipleObjects(ULONG Count, PVOID Object[], WAIT_TYPE W
     }
     for (ULONG at = 0; at < Count; at++) {
         objects[at] = Object[at];
+        iocsq_expect_header(objects[at], "a wait");
     }
     iocsq_point();
     iocsq_lock_state();
@@ -264,88 +289,7 @@ NTSTATUS NTAPI KeWaitForSingleObject(PVOID Object, KWAIT_REASON Reason, KPROCESS
 
 NTSTATUS NTAPI KeDelayExecutionThread(KPROCESSOR_MODE Mode, BOOLEAN Alertable, PLARGE_INTEGER Interval) {
     (void)Mode, (void)Alertable;
-    if (KeGetCurrentIrql() >= DISPATCH_LEVEL) {
-        iocsq_disagree(NULL, "KeDelayExecutionThread at DISPATCH_LEVEL");
-    }
+    iocsq_expect_irql(APC_LEVEL, "KeDelayExecutionThread");
     sleep_for(nanoseconds_of(Interval), true);
     return STATUS_SUCCESS;
-}
-
-/* ---- Threads of the driver ---- */
-struct thread_object {
-    DISPATCHER_HEADER header; /* signaled once the thread has ended */
-    IOCSQ_THREAD thread;
-    PKSTART_ROUTINE start;
-    PVOID context;
-    struct thread_object *next;
-};
-static struct thread_object *thread_objects;
-
-static void *run_thread(void *object) {
-    iocsq_own.system_thread = object;
-    iocsq_own.system_thread->start(iocsq_own.system_thread->context);
-    set_signal(&iocsq_own.system_thread->header, 1);
-    return NULL;
-}
-
-NTSTATUS NTAPI PsCreateSystemThread(PHANDLE ThreadHandle, ULONG DesiredAccess, POBJECT_ATTRIBUTES ObjectAttributes,
-                                    HANDLE ProcessHandle, PCLIENT_ID ClientId, PKSTART_ROUTINE StartRoutine,
-                                    PVOID StartContext) {
-    struct thread_object *object = calloc(1, sizeof *object);
-    (void)DesiredAccess, (void)ObjectAttributes, (void)ProcessHandle, (void)ClientId;
-    if (!object) {
-        return STATUS_INSUFFICIENT_RESOURCES;
-    }
-    object->header.Type = THREAD;
-    object->start = StartRoutine;
-    object->context = StartContext;
-    object->thread = IocsqThread(run_thread, object);
-    iocsq_lock_state();
-    object->next = thread_objects;
-    thread_objects = object;
-    iocsq_unlock_state();
-    *ThreadHandle = object;
-    return STATUS_SUCCESS;
-}
-
-NTSTATUS NTAPI PsTerminateSystemThread(NTSTATUS ExitStatus) {
-    (void)ExitStatus;
-    if (!iocsq_own.system_thread) {
-        iocsq_disagree(NULL, "PsTerminateSystemThread by a thread that isn't the driver's");
-    }
-    set_signal(&iocsq_own.system_thread->header, 1);
-    iocsq_end_turns_of_thread();
-    pthread_exit(NULL);
-}
-
-NTSTATUS NTAPI ObReferenceObjectByHandle(HANDLE Handle, ACCESS_MASK DesiredAccess, POBJECT_TYPE ObjectType,
-                                         KPROCESSOR_MODE AccessMode, PVOID *Object, PVOID HandleInformation) {
-    (void)DesiredAccess, (void)ObjectType, (void)AccessMode, (void)HandleInformation;
-    *Object = Handle;
-    return STATUS_SUCCESS;
-}
-
-VOID IocsqDereference(PVOID Object) {
-    (void)Object;
-}
-
-NTSTATUS NTAPI ZwClose(HANDLE Handle) {
-    (void)Handle;
-    return STATUS_SUCCESS;
-}
-
-/* After the driver was unloaded: its threads have ended by then. */
-void iocsq_join_threads(void) {
-    while (thread_objects) {
-        struct thread_object *object = thread_objects;
-        thread_objects = object->next;
-        iocsq_lock_state();
-        bool ended = iocsq_is_signaled(&object->header);
-        iocsq_unlock_state();
-        if (!ended) {
-            iocsq_disagree(NULL, "the driver was unloaded, and a thread of it has not ended");
-        }
-        IocsqJoin(object->thread);
-        free(object);
-    }
 }

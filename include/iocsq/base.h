@@ -1,6 +1,9 @@
-/* Of iocsq.h: the words, numbers, statuses, lists and memory of the WDK. */
+/* Of iocsq.h: types, strings, asserts, lists and memory of the WDK. */
 #ifndef IOCSQ_BASE_H
 #define IOCSQ_BASE_H
+
+#include "numbers.h"
+#include "words.h"
 
 #include <stddef.h>
 #include <stdint.h>
@@ -15,41 +18,6 @@ extern "C" {
 #define IOCSQ_ATOMIC(T) _Atomic(T)
 #endif
 
-/* ---- Words of the WDK's headers that say nothing here ---- */
-#define NTAPI
-#define FASTCALL
-#define NTKERNELAPI
-#define NTSYSAPI
-#define IN
-#define OUT
-#define OPTIONAL
-#define _In_
-#define _In_opt_
-#define _Out_
-#define _Out_opt_
-#define _Inout_
-#define _Inout_opt_
-#define _Use_decl_annotations_
-#define _Function_class_(x)
-#define _IRQL_requires_(x)
-#define _IRQL_requires_max_(x)
-#define _IRQL_requires_min_(x)
-#define _IRQL_requires_same_
-#define _IRQL_raises_(x)
-#define _IRQL_saves_
-#define _IRQL_restores_
-#define _Acquires_lock_(x)
-#define _Releases_lock_(x)
-#define _Requires_lock_held_(x)
-#define _Dispatch_type_(x)
-#define _When_(x, y)
-#define __drv_aliasesMem
-#define PAGED_CODE() ((void)0)
-#define UNREFERENCED_PARAMETER(x) ((void)(x))
-#define DbgPrint printf
-#define KdPrint(x) ((void)0)
-#define FORCEINLINE static inline
-
 /* ---- Numbers ---- */
 #ifndef VOID
 #define VOID void
@@ -57,27 +25,40 @@ extern "C" {
 #define TRUE 1
 #define FALSE 0
 typedef void *PVOID, *HANDLE, **PHANDLE;
-typedef char CHAR, CCHAR, *PCHAR;
+typedef char CHAR, CCHAR, *PCHAR, *PSTR;
 typedef const char *PCSTR;
 typedef unsigned char UCHAR, *PUCHAR, BOOLEAN, *PBOOLEAN;
-typedef int16_t SHORT, CSHORT;
+typedef int16_t SHORT, CSHORT, *PSHORT;
 typedef uint16_t USHORT, *PUSHORT;
+typedef int INT, *PINT;
+typedef unsigned UINT, *PUINT;
 typedef int32_t LONG, *PLONG;
 #define MAXLONG 0x7fffffff
-typedef uint32_t ULONG, *PULONG;
-typedef int64_t LONGLONG, LONG64;
-typedef uint64_t ULONGLONG, ULONG64;
-typedef intptr_t LONG_PTR;
-typedef uintptr_t ULONG_PTR, *PULONG_PTR, SIZE_T;
-typedef wchar_t WCHAR, *PWSTR;
+#define MAXULONG 0xffffffff
+typedef uint32_t ULONG, *PULONG, ULONG32;
+typedef int64_t LONGLONG, *PLONGLONG, LONG64, *PLONG64;
+typedef uint64_t ULONGLONG, *PULONGLONG, ULONG64, *PULONG64;
+typedef intptr_t LONG_PTR, *PLONG_PTR;
+typedef uintptr_t ULONG_PTR, *PULONG_PTR, SIZE_T, *PSIZE_T;
+typedef wchar_t WCHAR, *PWCHAR, *PWSTR;
 typedef const wchar_t *PCWSTR;
 typedef union _LARGE_INTEGER {
+    __extension__ struct { /* which C++ has no word for without a name */
+        ULONG LowPart;
+        LONG HighPart;
+    };
     struct {
         ULONG LowPart;
         LONG HighPart;
     } u;
     LONGLONG QuadPart;
 } LARGE_INTEGER, *PLARGE_INTEGER;
+typedef struct _GUID {
+    ULONG Data1;
+    USHORT Data2, Data3;
+    UCHAR Data4[8];
+} GUID;
+typedef const GUID *LPCGUID;
 typedef struct _UNICODE_STRING {
     USHORT Length;
     USHORT MaximumLength;
@@ -85,26 +66,37 @@ typedef struct _UNICODE_STRING {
 } UNICODE_STRING, *PUNICODE_STRING;
 typedef const UNICODE_STRING *PCUNICODE_STRING;
 VOID NTAPI RtlInitUnicodeString(PUNICODE_STRING DestinationString, PCWSTR SourceString);
+#define RTL_CONSTANT_STRING(s) { sizeof(s) - sizeof(*(s)), sizeof(s), (PWSTR)(uintptr_t)(s) }
+#define DECLARE_CONST_UNICODE_STRING(name, s) const UNICODE_STRING name = RTL_CONSTANT_STRING(s)
 
 typedef LONG NTSTATUS;
 #define NT_SUCCESS(Status) (((NTSTATUS)(Status)) >= 0)
-#define STATUS_SUCCESS ((NTSTATUS)0x00000000)
-#define STATUS_WAIT_0 ((NTSTATUS)0x00000000)
-#define STATUS_TIMEOUT ((NTSTATUS)0x00000102)
-#define STATUS_PENDING ((NTSTATUS)0x00000103)
-#define STATUS_UNSUCCESSFUL ((NTSTATUS)0xC0000001)
-#define STATUS_INVALID_PARAMETER ((NTSTATUS)0xC000000D)
-#define STATUS_INVALID_DEVICE_REQUEST ((NTSTATUS)0xC0000010)
-#define STATUS_MORE_PROCESSING_REQUIRED ((NTSTATUS)0xC0000016)
-#define STATUS_BUFFER_TOO_SMALL ((NTSTATUS)0xC0000023)
-#define STATUS_DELETE_PENDING ((NTSTATUS)0xC0000056)
-#define STATUS_INSUFFICIENT_RESOURCES ((NTSTATUS)0xC000009A)
-#define STATUS_DEVICE_NOT_READY ((NTSTATUS)0xC00000A3)
-#define STATUS_PIPE_DISCONNECTED ((NTSTATUS)0xC00000B0)
-#define STATUS_CANCELLED ((NTSTATUS)0xC0000120)
-#define STATUS_FILE_CLOSED ((NTSTATUS)0xC0000128)
-#define STATUS_PIPE_BROKEN ((NTSTATUS)0xC000014B)
-#define STATUS_NOT_FOUND ((NTSTATUS)0xC0000225)
+
+/* ---- For a debugger, asserts ---- */
+ULONG DbgPrint(const char *Format, ...);                                   /* on standard output */
+ULONG DbgPrintEx(ULONG ComponentId, ULONG Level, const char *Format, ...); /* errors alone, as by Windows' first mask */
+VOID IocsqAssert(const char *Expression); /* which doesn't hold: ends the program with a report */
+#define KdPrint(x) ((void)0)
+#define KdPrintEx(x) ((void)0)
+#define DbgBreakPoint() IocsqAssert("DbgBreakPoint")
+#define NT_ASSERT(Expression) ((Expression) ? (void)0 : IocsqAssert(#Expression))
+#define NT_VERIFY(Expression) ((Expression) ? (void)0 : IocsqAssert(#Expression))
+#define ASSERT(Expression) ((Expression) ? (void)0 : IocsqAssert(#Expression))
+#define ASSERTMSG(Message, Expression) ((Expression) ? (void)0 : IocsqAssert(Message))
+VOID IocsqPagedCode(VOID); /* at DISPATCH_LEVEL: ends the program with a report */
+#define PAGED_CODE() IocsqPagedCode()
+#define UNREFERENCED_PARAMETER(x) ((void)(x))
+#define UNREFERENCED_LOCAL_VARIABLE(x) ((void)(x))
+#define RTL_NUMBER_OF(x) (sizeof(x) / sizeof(*(x)))
+#define ARRAYSIZE(x) RTL_NUMBER_OF(x)
+#define FIELD_OFFSET(type, field) ((LONG)offsetof(type, field))
+#ifdef __cplusplus
+#define C_ASSERT(e) static_assert(e, #e)
+#else
+#define C_ASSERT(e) __extension__ _Static_assert(e, #e)
+#define min(a, b) ((a) < (b) ? (a) : (b))
+#define max(a, b) ((a) > (b) ? (a) : (b))
+#endif
 
 /* ---- Lists ---- */
 #define CONTAINING_RECORD(address, type, field) ((type *)(void *)((PCHAR)(address) - offsetof(type, field)))
@@ -156,19 +148,58 @@ FORCEINLINE VOID InsertHeadList(PLIST_ENTRY Head, PLIST_ENTRY Entry) {
     After->Blink = Entry;
     Head->Flink = Entry;
 }
+typedef struct _SINGLE_LIST_ENTRY {
+    struct _SINGLE_LIST_ENTRY *Next;
+} SINGLE_LIST_ENTRY, *PSINGLE_LIST_ENTRY;
+FORCEINLINE VOID PushEntryList(PSINGLE_LIST_ENTRY Head, PSINGLE_LIST_ENTRY Entry) {
+    Entry->Next = Head->Next;
+    Head->Next = Entry;
+}
+FORCEINLINE PSINGLE_LIST_ENTRY PopEntryList(PSINGLE_LIST_ENTRY Head) {
+    PSINGLE_LIST_ENTRY Entry = Head->Next;
+    if (Entry) {
+        Head->Next = Entry->Next;
+    }
+    return Entry;
+}
 
 /* ---- Memory ---- */
 typedef enum _POOL_TYPE { NonPagedPool = 0, PagedPool = 1, NonPagedPoolNx = 512 } POOL_TYPE;
 PVOID NTAPI ExAllocatePoolWithTag(POOL_TYPE PoolType, SIZE_T NumberOfBytes, ULONG Tag);
 VOID NTAPI ExFreePoolWithTag(PVOID P, ULONG Tag);
 VOID NTAPI ExFreePool(PVOID P);
-#define POOL_FLAG_NON_PAGED 0x0000000000000040ULL
-#define POOL_FLAG_PAGED 0x0000000000000100ULL
 typedef ULONG64 POOL_FLAGS;
 PVOID NTAPI ExAllocatePool2(POOL_FLAGS Flags, SIZE_T NumberOfBytes, ULONG Tag); /* filled with zeros */
 #define RtlZeroMemory(Destination, Length) memset((Destination), 0, (Length))
 #define RtlCopyMemory(Destination, Source, Length) memcpy((Destination), (Source), (Length))
 #define RtlMoveMemory(Destination, Source, Length) memmove((Destination), (Source), (Length))
+#define RtlFillMemory(Destination, Length, Fill) memset((Destination), (Fill), (Length))
+#define RtlEqualMemory(Source1, Source2, Length) (memcmp((Source1), (Source2), (Length)) == 0)
+SIZE_T NTAPI RtlCompareMemory(const void *Source1, const void *Source2, SIZE_T Length); /* how many bytes are equal */
+
+/* Lookaside lists, which keep nothing here: so each use of a freed entry is one of freed memory. */
+typedef PVOID(NTAPI ALLOCATE_FUNCTION)(POOL_TYPE PoolType, SIZE_T NumberOfBytes, ULONG Tag);
+typedef ALLOCATE_FUNCTION *PALLOCATE_FUNCTION;
+typedef VOID(NTAPI FREE_FUNCTION)(PVOID Buffer);
+typedef FREE_FUNCTION *PFREE_FUNCTION;
+typedef struct _LOOKASIDE {
+    struct _LOOKASIDE *Next; /* of those that were not deleted */
+    POOL_TYPE Type;
+    SIZE_T Size;
+    ULONG Tag;
+    PALLOCATE_FUNCTION Allocate;
+    PFREE_FUNCTION Free;
+} NPAGED_LOOKASIDE_LIST, *PNPAGED_LOOKASIDE_LIST, PAGED_LOOKASIDE_LIST, *PPAGED_LOOKASIDE_LIST;
+VOID NTAPI ExInitializeNPagedLookasideList(PNPAGED_LOOKASIDE_LIST Lookaside, PALLOCATE_FUNCTION Allocate,
+                                           PFREE_FUNCTION Free, ULONG Flags, SIZE_T Size, ULONG Tag, USHORT Depth);
+VOID NTAPI ExInitializePagedLookasideList(PPAGED_LOOKASIDE_LIST Lookaside, PALLOCATE_FUNCTION Allocate,
+                                          PFREE_FUNCTION Free, ULONG Flags, SIZE_T Size, ULONG Tag, USHORT Depth);
+PVOID NTAPI ExAllocateFromNPagedLookasideList(PNPAGED_LOOKASIDE_LIST Lookaside);
+VOID NTAPI ExFreeToNPagedLookasideList(PNPAGED_LOOKASIDE_LIST Lookaside, PVOID Entry);
+VOID NTAPI ExDeleteNPagedLookasideList(PNPAGED_LOOKASIDE_LIST Lookaside);
+#define ExAllocateFromPagedLookasideList ExAllocateFromNPagedLookasideList
+#define ExFreeToPagedLookasideList ExFreeToNPagedLookasideList
+#define ExDeletePagedLookasideList ExDeleteNPagedLookasideList
 
 #ifdef __cplusplus
 }

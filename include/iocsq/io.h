@@ -6,26 +6,9 @@
 extern "C" {
 #endif
 
-#define IRP_MJ_CREATE 0x00
-#define IRP_MJ_CLOSE 0x02
-#define IRP_MJ_READ 0x03
-#define IRP_MJ_WRITE 0x04
-#define IRP_MJ_DEVICE_CONTROL 0x0e
-#define IRP_MJ_INTERNAL_DEVICE_CONTROL 0x0f
-#define IRP_MJ_CLEANUP 0x12
-#define IRP_MJ_MAXIMUM_FUNCTION 0x1b
-#define SL_PENDING_RETURNED 0x01
-#define SL_INVOKE_ON_CANCEL 0x20
-#define SL_INVOKE_ON_SUCCESS 0x40
-#define SL_INVOKE_ON_ERROR 0x80
-#define FILE_DEVICE_UNKNOWN 0x00000022
-#define METHOD_BUFFERED 0
-#define FILE_ANY_ACCESS 0
 #define CTL_CODE(DeviceType, Function, Method, Access) \
     (((DeviceType) << 16) | ((Access) << 14) | ((Function) << 2) | (Method))
-#define DO_BUFFERED_IO 0x00000004
-#define DO_DEVICE_INITIALIZING 0x00000080
-#define IO_NO_INCREMENT 0
+#define METHOD_FROM_CTL_CODE(Code) ((ULONG)((Code) & 3))
 
 /* ---- Drivers and devices ---- */
 struct _DEVICE_OBJECT;
@@ -43,9 +26,19 @@ typedef DRIVER_CANCEL *PDRIVER_CANCEL;
 typedef NTSTATUS(NTAPI IO_COMPLETION_ROUTINE)(struct _DEVICE_OBJECT *DeviceObject, struct _IRP *Irp, PVOID Context);
 typedef IO_COMPLETION_ROUTINE *PIO_COMPLETION_ROUTINE;
 
+typedef NTSTATUS(NTAPI DRIVER_ADD_DEVICE)(struct _DRIVER_OBJECT *DriverObject,
+                                          struct _DEVICE_OBJECT *PhysicalDeviceObject);
+typedef DRIVER_ADD_DEVICE *PDRIVER_ADD_DEVICE;
+typedef VOID(NTAPI IO_DPC_ROUTINE)(PKDPC Dpc, struct _DEVICE_OBJECT *DeviceObject, struct _IRP *Irp, PVOID Context);
+typedef IO_DPC_ROUTINE *PIO_DPC_ROUTINE;
+
+typedef struct _DRIVER_EXTENSION {
+    struct _DRIVER_OBJECT *DriverObject;
+    PDRIVER_ADD_DEVICE AddDevice;
+} DRIVER_EXTENSION, *PDRIVER_EXTENSION;
 typedef struct _DRIVER_OBJECT {
     struct _DEVICE_OBJECT *DeviceObject;
-    PVOID DriverExtension;
+    PDRIVER_EXTENSION DriverExtension;
     PDRIVER_UNLOAD DriverUnload;
     PDRIVER_DISPATCH MajorFunction[IRP_MJ_MAXIMUM_FUNCTION + 1];
 } DRIVER_OBJECT, *PDRIVER_OBJECT;
@@ -53,10 +46,14 @@ typedef struct _DEVICE_OBJECT {
     struct _DRIVER_OBJECT *DriverObject;
     struct _DEVICE_OBJECT *NextDevice;
     struct _DEVICE_OBJECT *AttachedDevice;
+    struct _IRP *CurrentIrp; /* the driver's alone */
     ULONG Flags;
+    ULONG Characteristics;
     PVOID DeviceExtension;
     DEVICE_TYPE DeviceType;
     CCHAR StackSize;
+    ULONG AlignmentRequirement;
+    KDPC Dpc; /* of IoInitializeDpcRequest */
 } DEVICE_OBJECT, *PDEVICE_OBJECT;
 typedef struct _FILE_OBJECT {
     PDEVICE_OBJECT DeviceObject;
@@ -66,9 +63,27 @@ typedef struct _FILE_OBJECT {
 NTSTATUS NTAPI IoCreateDevice(PDRIVER_OBJECT DriverObject, ULONG DeviceExtensionSize, PUNICODE_STRING DeviceName,
                               DEVICE_TYPE DeviceType, ULONG DeviceCharacteristics, BOOLEAN Exclusive,
                               PDEVICE_OBJECT *DeviceObject);
+#define IoCreateDeviceSecure(DriverObject, Size, Name, Type, Characteristics, Exclusive, Sddl, Class, DeviceObject) \
+    ((void)(Sddl), (void)(Class),                                                                                    \
+     IoCreateDevice((DriverObject), (Size), (Name), (Type), (Characteristics), (Exclusive), (DeviceObject)))
+extern const UNICODE_STRING IocsqSecurity; /* in the place of all of them */
+#define SDDL_DEVOBJ_KERNEL_ONLY IocsqSecurity
+#define SDDL_DEVOBJ_SYS_ALL IocsqSecurity
+#define SDDL_DEVOBJ_SYS_ALL_ADM_ALL IocsqSecurity
+#define SDDL_DEVOBJ_SYS_ALL_ADM_RX IocsqSecurity
+#define SDDL_DEVOBJ_SYS_ALL_ADM_RWX_WORLD_R IocsqSecurity
+#define SDDL_DEVOBJ_SYS_ALL_ADM_RWX_WORLD_R_RES_R IocsqSecurity
+#define SDDL_DEVOBJ_SYS_ALL_ADM_RWX_WORLD_RW_RES_R IocsqSecurity
+#define SDDL_DEVOBJ_SYS_ALL_ADM_RWX_WORLD_RWX_RES_RWX IocsqSecurity
 VOID NTAPI IoDeleteDevice(PDEVICE_OBJECT DeviceObject);
 PDEVICE_OBJECT NTAPI IoAttachDeviceToDeviceStack(PDEVICE_OBJECT SourceDevice, PDEVICE_OBJECT TargetDevice);
 VOID NTAPI IoDetachDevice(PDEVICE_OBJECT TargetDevice);
+NTSTATUS NTAPI IoCreateSymbolicLink(PUNICODE_STRING SymbolicLinkName, PUNICODE_STRING DeviceName);
+NTSTATUS NTAPI IoDeleteSymbolicLink(PUNICODE_STRING SymbolicLinkName);
+#define IoInitializeDpcRequest(DeviceObject, DpcRoutine) \
+    IocsqInitializeDpcRequest(&(DeviceObject)->Dpc, (DpcRoutine), (DeviceObject))
+VOID IocsqInitializeDpcRequest(PKDPC Dpc, PIO_DPC_ROUTINE DpcRoutine, PDEVICE_OBJECT DeviceObject);
+#define IoRequestDpc(DeviceObject, Irp, Context) (KeInsertQueueDpc(&(DeviceObject)->Dpc, (Irp), (Context)))
 
 /* ---- IRPs ---- */
 typedef struct _IO_STATUS_BLOCK {
@@ -78,12 +93,34 @@ typedef struct _IO_STATUS_BLOCK {
     };
     ULONG_PTR Information;
 } IO_STATUS_BLOCK, *PIO_STATUS_BLOCK;
+/* Of direct I/O: the sender's buffer, which is mapped already. */
+typedef struct _MDL {
+    struct _MDL *Next;
+    PVOID MappedSystemVa;
+    PVOID StartVa;
+    ULONG ByteCount;
+    ULONG ByteOffset;
+} MDL, *PMDL;
+typedef enum _MM_PAGE_PRIORITY { LowPagePriority = 0, NormalPagePriority = 16, HighPagePriority = 32 } MM_PAGE_PRIORITY;
+#define MdlMappingNoExecute 0x40000000
+#define MmGetSystemAddressForMdlSafe(Mdl, Priority) ((void)(Priority), (Mdl)->MappedSystemVa)
+#define MmGetMdlByteCount(Mdl) ((Mdl)->ByteCount)
+#define MmGetMdlByteOffset(Mdl) ((Mdl)->ByteOffset)
+#define MmGetMdlVirtualAddress(Mdl) ((PVOID)((PCHAR)(Mdl)->StartVa + (Mdl)->ByteOffset))
+
 typedef struct _IO_STACK_LOCATION {
     UCHAR MajorFunction;
     UCHAR MinorFunction;
     UCHAR Flags;
     UCHAR Control;
     union {
+        struct {
+            PVOID SecurityContext;
+            ULONG Options;
+            USHORT FileAttributes;
+            USHORT ShareAccess;
+            ULONG EaLength;
+        } Create;
         struct {
             ULONG Length;
             ULONG Key;
@@ -116,7 +153,7 @@ typedef struct _IRP {
     CSHORT Type;
     USHORT Size;
     ULONG Flags;
-    PVOID MdlAddress;
+    PMDL MdlAddress;
     union {
         struct _IRP *MasterIrp;
         PVOID SystemBuffer;
@@ -134,7 +171,7 @@ typedef struct _IRP {
     union {
         struct {
             PVOID DriverContext[4];
-            PVOID Thread;
+            PETHREAD Thread;
             PCHAR AuxiliaryBuffer;
             __extension__ struct { /* which C++ has no word for without a name */
                 LIST_ENTRY ListEntry;
@@ -155,6 +192,9 @@ VOID NTAPI IofCompleteRequest(PIRP Irp, CCHAR PriorityBoost);
 #define IoCompleteRequest IofCompleteRequest
 PDRIVER_CANCEL NTAPI IoSetCancelRoutine(PIRP Irp, PDRIVER_CANCEL CancelRoutine);
 BOOLEAN NTAPI IoCancelIrp(PIRP Irp);
+BOOLEAN NTAPI IoForwardIrpSynchronously(PDEVICE_OBJECT DeviceObject, PIRP Irp);
+#define PoCallDriver IofCallDriver
+#define PoStartNextPowerIrp(Irp) ((void)(Irp))
 VOID NTAPI IoAcquireCancelSpinLock(PKIRQL Irql);
 VOID NTAPI IoReleaseCancelSpinLock(KIRQL Irql);
 
@@ -170,6 +210,13 @@ FORCEINLINE VOID IoSetCompletionRoutine(PIRP Irp, PIO_COMPLETION_ROUTINE Complet
     Next->Context = Context;
     Next->Control = (UCHAR)((InvokeOnSuccess ? SL_INVOKE_ON_SUCCESS : 0) | (InvokeOnError ? SL_INVOKE_ON_ERROR : 0) |
                             (InvokeOnCancel ? SL_INVOKE_ON_CANCEL : 0));
+}
+FORCEINLINE NTSTATUS IoSetCompletionRoutineEx(PDEVICE_OBJECT DeviceObject, PIRP Irp,
+                                              PIO_COMPLETION_ROUTINE CompletionRoutine, PVOID Context,
+                                              BOOLEAN InvokeOnSuccess, BOOLEAN InvokeOnError, BOOLEAN InvokeOnCancel) {
+    (void)DeviceObject;
+    IoSetCompletionRoutine(Irp, CompletionRoutine, Context, InvokeOnSuccess, InvokeOnError, InvokeOnCancel);
+    return STATUS_SUCCESS;
 }
 FORCEINLINE VOID IoCopyCurrentIrpStackLocationToNext(PIRP Irp) {
     PIO_STACK_LOCATION Next = IoGetNextIrpStackLocation(Irp);
@@ -209,6 +256,18 @@ VOID NTAPI IoReleaseRemoveLockAndWaitEx(PIO_REMOVE_LOCK RemoveLock, PVOID Tag, U
 #define IoReleaseRemoveLockAndWait(RemoveLock, Tag) \
     IoReleaseRemoveLockAndWaitEx(RemoveLock, Tag, sizeof(IO_REMOVE_LOCK))
 
+/* ---- Rundown protection: as a remove lock without tags ---- */
+typedef struct _EX_RUNDOWN_REF {
+    ULONG_PTR Count; /* twice the acquires that weren't released, and 1 once they are refused */
+    KEVENT Released;
+} EX_RUNDOWN_REF, *PEX_RUNDOWN_REF;
+VOID FASTCALL ExInitializeRundownProtection(PEX_RUNDOWN_REF RunRef);
+VOID FASTCALL ExReInitializeRundownProtection(PEX_RUNDOWN_REF RunRef);
+BOOLEAN FASTCALL ExAcquireRundownProtection(PEX_RUNDOWN_REF RunRef);
+VOID FASTCALL ExReleaseRundownProtection(PEX_RUNDOWN_REF RunRef);
+VOID FASTCALL ExWaitForRundownProtectionRelease(PEX_RUNDOWN_REF RunRef);
+VOID FASTCALL ExRundownCompleted(PEX_RUNDOWN_REF RunRef);
+
 /* ---- Work items ---- */
 typedef enum _WORK_QUEUE_TYPE { CriticalWorkQueue, DelayedWorkQueue, HyperCriticalWorkQueue } WORK_QUEUE_TYPE;
 typedef struct _IO_WORKITEM *PIO_WORKITEM;
@@ -218,6 +277,9 @@ PIO_WORKITEM NTAPI IoAllocateWorkItem(PDEVICE_OBJECT DeviceObject);
 VOID NTAPI IoQueueWorkItem(PIO_WORKITEM IoWorkItem, PIO_WORKITEM_ROUTINE WorkerRoutine, WORK_QUEUE_TYPE QueueType,
                            PVOID Context);
 VOID NTAPI IoFreeWorkItem(PIO_WORKITEM IoWorkItem);
+ULONG NTAPI IoSizeofWorkItem(VOID);
+VOID NTAPI IoInitializeWorkItem(PVOID IoObject, PIO_WORKITEM IoWorkItem); /* in memory of the driver's */
+VOID NTAPI IoUninitializeWorkItem(PIO_WORKITEM IoWorkItem);
 
 #ifdef __cplusplus
 }

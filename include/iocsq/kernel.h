@@ -10,15 +10,15 @@ extern "C" {
 typedef UCHAR KIRQL, *PKIRQL;
 typedef CCHAR KPROCESSOR_MODE;
 enum { KernelMode, UserMode };
-#define PASSIVE_LEVEL 0
-#define APC_LEVEL 1
-#define DISPATCH_LEVEL 2
 KIRQL NTAPI KeGetCurrentIrql(VOID);
 KIRQL NTAPI KfRaiseIrql(KIRQL NewIrql);
 VOID NTAPI KeLowerIrql(KIRQL NewIrql);
 #define KeRaiseIrql(NewIrql, OldIrql) (*(OldIrql) = KfRaiseIrql(NewIrql))
 #define KeEnterCriticalRegion() ((void)0)
 #define KeLeaveCriticalRegion() ((void)0)
+#define KeEnterGuardedRegion() ((void)0)
+#define KeLeaveGuardedRegion() ((void)0)
+#define KeMemoryBarrier() __atomic_thread_fence(__ATOMIC_SEQ_CST)
 
 typedef ULONG_PTR KSPIN_LOCK, *PKSPIN_LOCK;
 VOID NTAPI KeInitializeSpinLock(PKSPIN_LOCK SpinLock);
@@ -27,40 +27,74 @@ KIRQL NTAPI KeAcquireSpinLockRaiseToDpc(PKSPIN_LOCK SpinLock);
 VOID NTAPI KeReleaseSpinLock(PKSPIN_LOCK SpinLock, KIRQL NewIrql);
 VOID NTAPI KeAcquireSpinLockAtDpcLevel(PKSPIN_LOCK SpinLock);
 VOID NTAPI KeReleaseSpinLockFromDpcLevel(PKSPIN_LOCK SpinLock);
+BOOLEAN FASTCALL KeTryToAcquireSpinLockAtDpcLevel(PKSPIN_LOCK SpinLock);
+BOOLEAN FASTCALL KeTestSpinLock(PKSPIN_LOCK SpinLock); /* whether nobody has it */
 typedef struct _KLOCK_QUEUE_HANDLE {
     PKSPIN_LOCK Lock;
     KIRQL OldIrql;
 } KLOCK_QUEUE_HANDLE, *PKLOCK_QUEUE_HANDLE;
 VOID NTAPI KeAcquireInStackQueuedSpinLock(PKSPIN_LOCK SpinLock, PKLOCK_QUEUE_HANDLE LockHandle);
 VOID NTAPI KeReleaseInStackQueuedSpinLock(PKLOCK_QUEUE_HANDLE LockHandle);
+VOID NTAPI KeAcquireInStackQueuedSpinLockAtDpcLevel(PKSPIN_LOCK SpinLock, PKLOCK_QUEUE_HANDLE LockHandle);
+VOID NTAPI KeReleaseInStackQueuedSpinLockFromDpcLevel(PKLOCK_QUEUE_HANDLE LockHandle);
 
 typedef struct _FAST_MUTEX {
     ULONG_PTR Lock;
     KIRQL OldIrql;
-} FAST_MUTEX, *PFAST_MUTEX;
+} FAST_MUTEX, *PFAST_MUTEX, KGUARDED_MUTEX, *PKGUARDED_MUTEX;
 VOID NTAPI ExInitializeFastMutex(PFAST_MUTEX FastMutex);
 VOID NTAPI ExAcquireFastMutex(PFAST_MUTEX FastMutex);
 VOID NTAPI ExReleaseFastMutex(PFAST_MUTEX FastMutex);
+BOOLEAN NTAPI ExTryToAcquireFastMutex(PFAST_MUTEX FastMutex);
+VOID NTAPI ExAcquireFastMutexUnsafe(PFAST_MUTEX FastMutex); /* the IRQL stays */
+VOID NTAPI ExReleaseFastMutexUnsafe(PFAST_MUTEX FastMutex);
+#define KeInitializeGuardedMutex ExInitializeFastMutex
+#define KeAcquireGuardedMutex ExAcquireFastMutexUnsafe
+#define KeReleaseGuardedMutex ExReleaseFastMutexUnsafe
 
 VOID IocsqPoint(VOID); /* another thread may come between here */
-#define InterlockedExchangePointer(Target, Value) \
-    (IocsqPoint(), __atomic_exchange_n((Target), (Value), __ATOMIC_SEQ_CST))
-#define InterlockedIncrement(Addend) (IocsqPoint(), __atomic_add_fetch((Addend), 1, __ATOMIC_SEQ_CST))
-#define InterlockedDecrement(Addend) (IocsqPoint(), __atomic_sub_fetch((Addend), 1, __ATOMIC_SEQ_CST))
-#define InterlockedExchange(Target, Value) (IocsqPoint(), __atomic_exchange_n((Target), (Value), __ATOMIC_SEQ_CST))
-#define InterlockedExchangeAdd(Addend, Value) (IocsqPoint(), __atomic_fetch_add((Addend), (Value), __ATOMIC_SEQ_CST))
+#define IOCSQ_INTERLOCKED(call, Target, Value) (IocsqPoint(), call((Target), (Value), __ATOMIC_SEQ_CST))
+#define InterlockedExchangePointer(Target, Value) IOCSQ_INTERLOCKED(__atomic_exchange_n, Target, Value)
+#define InterlockedExchange(Target, Value) IOCSQ_INTERLOCKED(__atomic_exchange_n, Target, Value)
+#define InterlockedExchange64(Target, Value) IOCSQ_INTERLOCKED(__atomic_exchange_n, Target, Value)
+#define InterlockedIncrement(Addend) IOCSQ_INTERLOCKED(__atomic_add_fetch, Addend, 1)
+#define InterlockedIncrement64(Addend) IOCSQ_INTERLOCKED(__atomic_add_fetch, Addend, 1)
+#define InterlockedDecrement(Addend) IOCSQ_INTERLOCKED(__atomic_sub_fetch, Addend, 1)
+#define InterlockedDecrement64(Addend) IOCSQ_INTERLOCKED(__atomic_sub_fetch, Addend, 1)
+#define InterlockedExchangeAdd(Addend, Value) IOCSQ_INTERLOCKED(__atomic_fetch_add, Addend, Value)
+#define InterlockedExchangeAdd64(Addend, Value) IOCSQ_INTERLOCKED(__atomic_fetch_add, Addend, Value)
+#define InterlockedAdd(Addend, Value) IOCSQ_INTERLOCKED(__atomic_add_fetch, Addend, Value)
+#define InterlockedOr(Target, Set) IOCSQ_INTERLOCKED(__atomic_fetch_or, Target, Set)
+#define InterlockedAnd(Target, Set) IOCSQ_INTERLOCKED(__atomic_fetch_and, Target, Set)
+#define InterlockedXor(Target, Set) IOCSQ_INTERLOCKED(__atomic_fetch_xor, Target, Set)
 #define InterlockedCompareExchange(Target, Value, Comparand) \
     (IocsqPoint(), __sync_val_compare_and_swap((Target), (Comparand), (Value)))
+#define InterlockedCompareExchange64 InterlockedCompareExchange
+#define InterlockedCompareExchangePointer InterlockedCompareExchange
+
+/* Lists under a spin lock, at any IRQL up to DISPATCH_LEVEL. Null: the list was empty. */
+PLIST_ENTRY NTAPI ExInterlockedInsertHeadList(PLIST_ENTRY ListHead, PLIST_ENTRY ListEntry, PKSPIN_LOCK Lock);
+PLIST_ENTRY NTAPI ExInterlockedInsertTailList(PLIST_ENTRY ListHead, PLIST_ENTRY ListEntry, PKSPIN_LOCK Lock);
+PLIST_ENTRY NTAPI ExInterlockedRemoveHeadList(PLIST_ENTRY ListHead, PKSPIN_LOCK Lock);
+
+/* ---- Times: of the checker's clock, in turns that of the turns ---- */
+VOID NTAPI KeQuerySystemTime(PLARGE_INTEGER CurrentTime);
+ULONGLONG NTAPI KeQueryInterruptTime(VOID);
+ULONG NTAPI KeQueryTimeIncrement(VOID);
+VOID IocsqQueryTickCount(PLARGE_INTEGER TickCount);
+#define KeQueryTickCount(TickCount) IocsqQueryTickCount(TickCount)
+LARGE_INTEGER NTAPI KeQueryPerformanceCounter(PLARGE_INTEGER PerformanceFrequency);
+VOID NTAPI KeStallExecutionProcessor(ULONG MicroSeconds);
 
 /* ---- What threads wait for: each begins with a DISPATCHER_HEADER ---- */
 typedef enum _EVENT_TYPE { NotificationEvent, SynchronizationEvent } EVENT_TYPE;
 typedef enum _TIMER_TYPE { NotificationTimer, SynchronizationTimer } TIMER_TYPE;
 typedef enum _WAIT_TYPE { WaitAll, WaitAny } WAIT_TYPE;
 typedef enum _KWAIT_REASON { Executive = 0, UserRequest = 6 } KWAIT_REASON;
-#define MAXIMUM_WAIT_OBJECTS 64
 typedef LONG KPRIORITY;
 typedef struct _DISPATCHER_HEADER {
     UCHAR Type;
+    USHORT Initialized; /* a number that memory doesn't have by chance */
     LONG SignalState;
 } DISPATCHER_HEADER;
 
@@ -79,6 +113,7 @@ typedef struct _KMUTANT {
 } KMUTANT, KMUTEX, *PKMUTANT, *PRKMUTANT, *PKMUTEX, *PRKMUTEX;
 VOID NTAPI KeInitializeMutex(PRKMUTEX Mutex, ULONG Level);
 LONG NTAPI KeReleaseMutex(PRKMUTEX Mutex, BOOLEAN Wait);
+LONG NTAPI KeReadStateMutex(PRKMUTEX Mutex);
 
 typedef struct _KSEMAPHORE {
     DISPATCHER_HEADER Header;
@@ -86,6 +121,7 @@ typedef struct _KSEMAPHORE {
 } KSEMAPHORE, *PKSEMAPHORE, *PRKSEMAPHORE;
 VOID NTAPI KeInitializeSemaphore(PRKSEMAPHORE Semaphore, LONG Count, LONG Limit);
 LONG NTAPI KeReleaseSemaphore(PRKSEMAPHORE Semaphore, KPRIORITY Increment, LONG Adjustment, BOOLEAN Wait);
+LONG NTAPI KeReadStateSemaphore(PRKSEMAPHORE Semaphore);
 
 typedef struct _KWAIT_BLOCK {
     PVOID Unused;
@@ -104,6 +140,7 @@ typedef VOID(NTAPI KDEFERRED_ROUTINE)(struct _KDPC *Dpc, PVOID DeferredContext, 
                                       PVOID SystemArgument2);
 typedef KDEFERRED_ROUTINE *PKDEFERRED_ROUTINE;
 typedef struct _KDPC {
+    UCHAR Type; /* as Windows has it, once it is initialized */
     struct _KDPC *Next;
     PKDEFERRED_ROUTINE DeferredRoutine;
     PVOID DeferredContext;
@@ -115,6 +152,8 @@ VOID NTAPI KeInitializeDpc(PRKDPC Dpc, PKDEFERRED_ROUTINE DeferredRoutine, PVOID
 BOOLEAN NTAPI KeInsertQueueDpc(PRKDPC Dpc, PVOID SystemArgument1, PVOID SystemArgument2);
 BOOLEAN NTAPI KeRemoveQueueDpc(PRKDPC Dpc);
 VOID NTAPI KeFlushQueuedDpcs(VOID);
+typedef enum _KDPC_IMPORTANCE { LowImportance, MediumImportance, HighImportance } KDPC_IMPORTANCE;
+#define KeSetImportanceDpc(Dpc, Importance) ((void)(Dpc), (void)(Importance))
 
 typedef struct _KTIMER {
     DISPATCHER_HEADER Header;
@@ -126,7 +165,7 @@ typedef struct _KTIMER {
 } KTIMER, *PKTIMER;
 VOID NTAPI KeInitializeTimer(PKTIMER Timer);
 VOID NTAPI KeInitializeTimerEx(PKTIMER Timer, TIMER_TYPE Type);
-BOOLEAN NTAPI KeSetTimer(PKTIMER Timer, LARGE_INTEGER DueTime, PKDPC Dpc); /* a relative, negative DueTime alone */
+BOOLEAN NTAPI KeSetTimer(PKTIMER Timer, LARGE_INTEGER DueTime, PKDPC Dpc);
 BOOLEAN NTAPI KeSetTimerEx(PKTIMER Timer, LARGE_INTEGER DueTime, LONG Period, PKDPC Dpc);
 BOOLEAN NTAPI KeCancelTimer(PKTIMER Timer);
 BOOLEAN NTAPI KeReadStateTimer(PKTIMER Timer);
@@ -135,19 +174,39 @@ BOOLEAN NTAPI KeReadStateTimer(PKTIMER Timer);
 typedef VOID(NTAPI KSTART_ROUTINE)(PVOID StartContext);
 typedef KSTART_ROUTINE *PKSTART_ROUTINE;
 typedef ULONG ACCESS_MASK;
-#define THREAD_ALL_ACCESS 0x1FFFFF
-typedef struct _OBJECT_ATTRIBUTES *POBJECT_ATTRIBUTES;
+typedef struct _OBJECT_ATTRIBUTES {
+    ULONG Length;
+    HANDLE RootDirectory;
+    PUNICODE_STRING ObjectName;
+    ULONG Attributes;
+    PVOID SecurityDescriptor;
+    PVOID SecurityQualityOfService;
+} OBJECT_ATTRIBUTES, *POBJECT_ATTRIBUTES;
+#define InitializeObjectAttributes(p, n, a, r, s)      \
+    ((void)((p)->Length = sizeof(OBJECT_ATTRIBUTES),   \
+            (p)->RootDirectory = (r),                  \
+            (p)->ObjectName = (n),                     \
+            (p)->Attributes = (a),                     \
+            (p)->SecurityDescriptor = (s),             \
+            (p)->SecurityQualityOfService = NULL))
 typedef struct _CLIENT_ID *PCLIENT_ID;
 typedef struct _OBJECT_TYPE *POBJECT_TYPE;
-typedef struct _KTHREAD *PKTHREAD;
+typedef struct _KTHREAD *PKTHREAD, *PRKTHREAD, *PETHREAD;
+extern POBJECT_TYPE *PsThreadType;
+PKTHREAD NTAPI KeGetCurrentThread(VOID);
+#define PsGetCurrentThread KeGetCurrentThread
+KPRIORITY NTAPI KeSetPriorityThread(PKTHREAD Thread, KPRIORITY Priority);
 NTSTATUS NTAPI PsCreateSystemThread(PHANDLE ThreadHandle, ULONG DesiredAccess, POBJECT_ATTRIBUTES ObjectAttributes,
                                     HANDLE ProcessHandle, PCLIENT_ID ClientId, PKSTART_ROUTINE StartRoutine,
                                     PVOID StartContext);
 NTSTATUS NTAPI PsTerminateSystemThread(NTSTATUS ExitStatus);
 NTSTATUS NTAPI ObReferenceObjectByHandle(HANDLE Handle, ACCESS_MASK DesiredAccess, POBJECT_TYPE ObjectType,
                                          KPROCESSOR_MODE AccessMode, PVOID *Object, PVOID HandleInformation);
-#define ObDereferenceObject(Object) IocsqDereference(Object)
-VOID IocsqDereference(PVOID Object);
+/* Of a thread, a file object or a device. */
+#define ObReferenceObject(Object) IocsqReferenceObject(Object)
+#define ObDereferenceObject(Object) IocsqDereferenceObject(Object)
+VOID IocsqReferenceObject(PVOID Object);
+VOID IocsqDereferenceObject(PVOID Object);
 NTSTATUS NTAPI ZwClose(HANDLE Handle);
 
 #ifdef __cplusplus

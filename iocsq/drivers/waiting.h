@@ -117,9 +117,14 @@ static inline NTSTATUS NTAPI Succeed(PDEVICE_OBJECT DeviceObject, PIRP Irp) {
 
 /* Fills in what the drivers have in common. */
 static inline NTSTATUS MakeDevice(PDRIVER_OBJECT DriverObject, ULONG ExtensionSize, PDEVICE_OBJECT *DeviceObject) {
+    NTSTATUS Status;
     DriverObject->MajorFunction[IRP_MJ_CREATE] = Succeed;
     DriverObject->MajorFunction[IRP_MJ_CLOSE] = Succeed;
-    return IoCreateDevice(DriverObject, ExtensionSize, NULL, FILE_DEVICE_UNKNOWN, 0, FALSE, DeviceObject);
+    Status = IoCreateDevice(DriverObject, ExtensionSize, NULL, FILE_DEVICE_UNKNOWN, 0, FALSE, DeviceObject);
+    if (NT_SUCCESS(Status)) {
+        (*DeviceObject)->Flags |= DO_BUFFERED_IO;
+    }
+    return Status;
 }
 
 #endif

@@ -176,6 +176,7 @@ NTSTATUS NTAPI DriverEntry(PDRIVER_OBJECT DriverObject, PUNICODE_STRING Registry
     if (!NT_SUCCESS(Status)) {
         return Status;
     }
+    Device->Flags |= DO_BUFFERED_IO; /* else SystemBuffer is null */
     ExInitializeFastMutex(&((PEXTENSION)Device->DeviceExtension)->Lock);
     DriverObject->DriverUnload = Unload;
     DriverObject->MajorFunction[IRP_MJ_CREATE] = DispatchCreate;

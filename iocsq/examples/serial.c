@@ -179,6 +179,7 @@ NTSTATUS NTAPI DriverEntry(PDRIVER_OBJECT DriverObject, PUNICODE_STRING Registry
     if (!NT_SUCCESS(Status)) {
         return Status;
     }
+    Device->Flags |= DO_BUFFERED_IO; /* else SystemBuffer is null */
     Port = Device->DeviceExtension; /* which IoCreateDevice fills with zeros */
     KeInitializeSpinLock(&Port->Lock);
     InitializeQueue(&Port->Reads, &Port->Lock);

@@ -123,6 +123,7 @@ NTSTATUS NTAPI DriverEntry(PDRIVER_OBJECT DriverObject, PUNICODE_STRING Registry
     if (!NT_SUCCESS(Status)) {
         return Status;
     }
+    DeviceObject->Flags |= DO_BUFFERED_IO; /* else SystemBuffer is null */
     Extension = DeviceObject->DeviceExtension;
     InitializeListHead(&Extension->Waiting);
     KeInitializeSpinLock(&Extension->Lock);

@@ -115,6 +115,7 @@ extern "C" NTSTATUS NTAPI DriverEntry(PDRIVER_OBJECT Driver, PUNICODE_STRING) {
     if (!NT_SUCCESS(Status)) {
         return Status;
     }
+    Device->Flags |= DO_BUFFERED_IO;
     Extension *Extended = Extension::Of(Device);
     InitializeListHead(&Extended->Waiting);
     KeInitializeSpinLock(&Extended->Lock);

@@ -1,20 +1,5 @@
 /* What stands for the kernel, call by call: kernel [turns]. */
-#include "iocsq_test.h"
-
-#include <stdbool.h>
-#include <stdlib.h>
-
-static const char *test;
-static int failures;
-
-static void check(int holds, const char *what, int line) {
-    if (!holds) {
-        printf("FAILED %s: line %d: %s\n", test, line, what);
-        failures++;
-    }
-}
-#define CHECK(condition) check((condition) != 0, #condition, __LINE__)
-#define RUN(name) (test = #name, name(), failures == 0 ? (void)printf("passed %s\n", test) : (void)0)
+#include "check.h"
 
 static LARGE_INTEGER after_milliseconds(LONG milliseconds) {
     LARGE_INTEGER time;
@@ -193,6 +178,7 @@ static NTSTATUS NTAPI entry(PDRIVER_OBJECT driver, PUNICODE_STRING path) {
     driver->DriverUnload = unload;
     IoCreateDevice(driver, 0, NULL, FILE_DEVICE_UNKNOWN, 0, FALSE, &lower);
     IoCreateDevice(driver, 0, NULL, FILE_DEVICE_UNKNOWN, 0, FALSE, &upper);
+    upper->Flags |= DO_BUFFERED_IO;
     return IoAttachDeviceToDeviceStack(upper, lower) == lower ? STATUS_SUCCESS : STATUS_UNSUCCESSFUL;
 }
 
@@ -408,10 +394,7 @@ static void put_backs(void) {
 }
 
 int main(int argc, char **argv) {
-    IocsqLimit(100);
-    if (argc > 1 && strcmp(argv[1], "turns") == 0) {
-        IocsqTurns(1);
-    }
+    begin(argc, argv);
     RUN(events);
     RUN(mutexes);
     RUN(several_objects);

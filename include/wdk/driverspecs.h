@@ -1,0 +1,2 @@
+/* For a driver that includes <driverspecs.h>. */
+#include "../iocsq.h"

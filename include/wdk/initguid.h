@@ -1,0 +1,2 @@
+/* For a driver that includes <initguid.h>. */
+#include "../iocsq.h"

@@ -1,0 +1,2 @@
+/* For a driver that includes <sal.h>. */
+#include "../iocsq.h"

@@ -1,0 +1,2 @@
+/* For a driver that includes <wdmsec.h>. */
+#include "../iocsq.h"

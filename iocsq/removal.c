@@ -1,0 +1,131 @@
+/* What waits until nobody uses a device any more: remove locks and rundown protection. */
+#include "internal.h"
+
+#define TEN_SECONDS UINT64_C(10000000000)
+
+/* ---- Remove locks: the state's lock is held for all of their fields ---- */
+VOID NTAPI IoInitializeRemoveLockEx(PIO_REMOVE_LOCK Lock, ULONG AllocateTag, ULONG MaxLockedMinutes,
+                                    ULONG HighWatermark, ULONG RemlockSize) {
+    (void)AllocateTag, (void)MaxLockedMinutes, (void)HighWatermark, (void)RemlockSize;
+    Lock->IoCount = 1;
+    Lock->Removed = FALSE;
+    Lock->TagCount = 0;
+    KeInitializeEvent(&Lock->RemoveEvent, NotificationEvent, FALSE);
+}
+
+NTSTATUS NTAPI IoAcquireRemoveLockEx(PIO_REMOVE_LOCK RemoveLock, PVOID Tag, PCSTR File, ULONG Line, ULONG RemlockSize) {
+    NTSTATUS status = STATUS_SUCCESS;
+    (void)File, (void)Line, (void)RemlockSize;
+    iocsq_point();
+    iocsq_lock_state();
+    if (RemoveLock->IoCount == 0 && !RemoveLock->Removed) {
+        iocsq_disagree(NULL, "IoAcquireRemoveLock of a remove lock that was not initialized");
+    }
+    if (RemoveLock->Removed) {
+        status = STATUS_DELETE_PENDING;
+    } else {
+        RemoveLock->IoCount++;
+        if (RemoveLock->TagCount < IOCSQ_REMOVE_TAGS) {
+            RemoveLock->Tags[RemoveLock->TagCount++] = Tag;
+        }
+    }
+    iocsq_unlock_state();
+    return status;
+}
+
+/* One acquire with this tag is undone. Of very many acquires not all tags are known. */
+static void release(PIO_REMOVE_LOCK lock, PVOID tag) {
+    ULONG at = 0, count = lock->TagCount;
+    while (at < count && lock->Tags[at] != tag) {
+        at++;
+    }
+    if (at < count) {
+        lock->Tags[at] = lock->Tags[count - 1];
+        lock->TagCount--;
+    } else if (lock->IoCount - 1 == (LONG)count) {
+        iocsq_disagree(iocsq_irp_at(tag), "IoReleaseRemoveLock with a tag that no acquire has, or that was released");
+    }
+    if (--lock->IoCount == 0) {
+        lock->RemoveEvent.Header.SignalState = 1;
+        iocsq_state_changed();
+    }
+}
+
+VOID NTAPI IoReleaseRemoveLockEx(PIO_REMOVE_LOCK RemoveLock, PVOID Tag, ULONG RemlockSize) {
+    (void)RemlockSize;
+    iocsq_lock_state();
+    release(RemoveLock, Tag);
+    iocsq_unlock_state();
+    iocsq_point();
+}
+
+VOID NTAPI IoReleaseRemoveLockAndWaitEx(PIO_REMOVE_LOCK RemoveLock, PVOID Tag, ULONG RemlockSize) {
+    (void)RemlockSize;
+    iocsq_expect_irql(PASSIVE_LEVEL, "IoReleaseRemoveLockAndWait");
+    iocsq_lock_state();
+    if (RemoveLock->Removed) {
+        iocsq_disagree(NULL, "IoReleaseRemoveLockAndWait of a remove lock that was waited for before");
+    }
+    RemoveLock->Removed = TRUE;
+    release(RemoveLock, Tag);
+    if (--RemoveLock->IoCount == 0) {
+        RemoveLock->RemoveEvent.Header.SignalState = 1;
+    }
+    if (!iocsq_await(iocsq_is_signaled, &RemoveLock->RemoveEvent.Header, TEN_SECONDS, "a remove lock")) {
+        iocsq_disagree(iocsq_irp_at(RemoveLock->Tags[0]), "IoReleaseRemoveLockAndWait waits for an acquire that is "
+                                                          "never released");
+    }
+    iocsq_unlock_state();
+}
+
+/* ---- Rundown protection: the state's lock is held for the count ---- */
+enum { REFUSES = 1, ACQUIRE = 2 };
+
+VOID FASTCALL ExInitializeRundownProtection(PEX_RUNDOWN_REF RunRef) {
+    RunRef->Count = 0;
+    KeInitializeEvent(&RunRef->Released, NotificationEvent, FALSE);
+}
+
+VOID FASTCALL ExReInitializeRundownProtection(PEX_RUNDOWN_REF RunRef) {
+    ExInitializeRundownProtection(RunRef);
+}
+
+BOOLEAN FASTCALL ExAcquireRundownProtection(PEX_RUNDOWN_REF RunRef) {
+    iocsq_expect_header(&RunRef->Released.Header, "ExAcquireRundownProtection");
+    iocsq_point();
+    iocsq_lock_state();
+    bool may = !(RunRef->Count & REFUSES);
+    RunRef->Count += may ? ACQUIRE : 0;
+    iocsq_unlock_state();
+    return may;
+}
+
+VOID FASTCALL ExReleaseRundownProtection(PEX_RUNDOWN_REF RunRef) {
+    iocsq_lock_state();
+    if (RunRef->Count < ACQUIRE) {
+        iocsq_disagree(NULL, "ExReleaseRundownProtection without an acquire");
+    }
+    RunRef->Count -= ACQUIRE;
+    if (RunRef->Count == REFUSES) {
+        RunRef->Released.Header.SignalState = 1;
+        iocsq_state_changed();
+    }
+    iocsq_unlock_state();
+    iocsq_point();
+}
+
+VOID FASTCALL ExWaitForRundownProtectionRelease(PEX_RUNDOWN_REF RunRef) {
+    iocsq_expect_irql(APC_LEVEL, "ExWaitForRundownProtectionRelease");
+    iocsq_expect_header(&RunRef->Released.Header, "ExWaitForRundownProtectionRelease");
+    iocsq_lock_state();
+    RunRef->Count |= REFUSES;
+    RunRef->Released.Header.SignalState = RunRef->Count == REFUSES;
+    if (!iocsq_await(iocsq_is_signaled, &RunRef->Released.Header, TEN_SECONDS, "rundown protection")) {
+        iocsq_disagree(NULL, "ExWaitForRundownProtectionRelease waits for an acquire that is never released");
+    }
+    iocsq_unlock_state();
+}
+
+VOID FASTCALL ExRundownCompleted(PEX_RUNDOWN_REF RunRef) {
+    (void)RunRef; /* it refuses already */
+}

@@ -1,0 +1,212 @@
+/* What stands for the kernel beside what kernel.c tests, call by call: names [turns]. */
+#include "check.h"
+
+/* ---- Times ---- */
+static void times(void) {
+    LARGE_INTEGER before, after, wait, frequency;
+    KTIMER timer;
+    ULONGLONG interrupt = KeQueryInterruptTime();
+    KeQuerySystemTime(&before);
+    KeStallExecutionProcessor(1);
+    wait.QuadPart = before.QuadPart + 20000; /* an absolute time, in two milliseconds */
+    KeInitializeTimer(&timer);
+    KeSetTimer(&timer, wait, NULL);
+    CHECK(KeWaitForSingleObject(&timer, Executive, KernelMode, FALSE, NULL) == STATUS_SUCCESS);
+    KeQuerySystemTime(&after);
+    CHECK(after.QuadPart >= wait.QuadPart && KeQueryInterruptTime() >= interrupt + 20000);
+    CHECK(KeDelayExecutionThread(KernelMode, FALSE, &before) == STATUS_SUCCESS); /* which is over */
+    KeQueryTickCount(&before);
+    CHECK(before.QuadPart >= 0 && KeQueryTimeIncrement() > 0);
+    CHECK(KeQueryPerformanceCounter(&frequency).QuadPart > 0 && frequency.QuadPart == 10000000);
+}
+
+/* ---- Numbers, strings, memory ---- */
+static void words(void) {
+    static const UNICODE_STRING string = RTL_CONSTANT_STRING(L"abc");
+    LARGE_INTEGER number = { .QuadPart = -2 };
+    LONG bits = 0x0c;
+    LONG64 wide = 1;
+    PVOID pointer = NULL;
+    CHECK(string.Length == 3 * sizeof(WCHAR) && string.MaximumLength == 4 * sizeof(WCHAR));
+    CHECK(number.LowPart == 0xfffffffe && number.HighPart == -1 && number.u.HighPart == -1);
+    CHECK(InterlockedOr(&bits, 1) == 0x0c && InterlockedAnd(&bits, 5) == 0x0d && InterlockedXor(&bits, 1) == 5 && bits == 4);
+    CHECK(InterlockedIncrement64(&wide) == 2 && InterlockedExchangeAdd64(&wide, 3) == 2 && InterlockedAdd(&bits, 1) == 5);
+    CHECK(InterlockedCompareExchange64(&wide, 7, 5) == 5 && wide == 7);
+    CHECK(InterlockedCompareExchangePointer(&pointer, &bits, NULL) == NULL && pointer == &bits);
+    CHECK(RtlCompareMemory("abcd", "abxd", 4) == 2 && RtlEqualMemory("abcd", "abcd", 4));
+    CHECK(METHOD_FROM_CTL_CODE(CTL_CODE(FILE_DEVICE_UNKNOWN, 0x801, METHOD_OUT_DIRECT, FILE_READ_DATA)) == METHOD_OUT_DIRECT);
+}
+
+/* ---- Lists and locks ---- */
+static void lists(void) {
+    SINGLE_LIST_ENTRY singles = { NULL }, single;
+    LIST_ENTRY head, first, second;
+    KSPIN_LOCK lock;
+    InitializeListHead(&head);
+    KeInitializeSpinLock(&lock);
+    CHECK(ExInterlockedInsertTailList(&head, &second, &lock) == NULL);
+    CHECK(ExInterlockedInsertHeadList(&head, &first, &lock) == &second);
+    CHECK(ExInterlockedRemoveHeadList(&head, &lock) == &first && ExInterlockedRemoveHeadList(&head, &lock) == &second);
+    CHECK(ExInterlockedRemoveHeadList(&head, &lock) == NULL && KeGetCurrentIrql() == PASSIVE_LEVEL);
+    PushEntryList(&singles, &single);
+    CHECK(PopEntryList(&singles) == &single && PopEntryList(&singles) == NULL);
+}
+
+/* Hand over hand: the lock that was taken first is left first, and each release is given the other's IRQL. */
+static void locks_in_either_order(void) {
+    KSPIN_LOCK first, second;
+    KLOCK_QUEUE_HANDLE outer, inner;
+    KIRQL to_passive, to_dispatch;
+    KeInitializeSpinLock(&first);
+    KeInitializeSpinLock(&second);
+    KeAcquireSpinLock(&first, &to_passive);
+    KeAcquireSpinLock(&second, &to_dispatch);
+    CHECK(!KeTestSpinLock(&first));
+    KeReleaseSpinLock(&first, to_dispatch);
+    CHECK(KeTestSpinLock(&first) && KeGetCurrentIrql() == DISPATCH_LEVEL);
+    KeReleaseSpinLock(&second, to_passive);
+    KeAcquireInStackQueuedSpinLock(&first, &outer);
+    KeAcquireInStackQueuedSpinLockAtDpcLevel(&second, &inner);
+    KeReleaseInStackQueuedSpinLockFromDpcLevel(&inner);
+    CHECK(KeTryToAcquireSpinLockAtDpcLevel(&second));
+    KeReleaseSpinLockFromDpcLevel(&second);
+    KeReleaseInStackQueuedSpinLock(&outer);
+    CHECK(KeGetCurrentIrql() == PASSIVE_LEVEL);
+    KeRaiseIrql(DISPATCH_LEVEL, &to_passive); /* and with the level lowered apart from the lock */
+    KeAcquireSpinLock(&first, &to_dispatch);
+    KeReleaseSpinLock(&first, to_dispatch);
+    KeAcquireSpinLock(&first, &to_dispatch);
+    KeReleaseSpinLockFromDpcLevel(&first);
+    KeLowerIrql(to_passive);
+}
+
+static void mutexes(void) {
+    KGUARDED_MUTEX guarded;
+    FAST_MUTEX fast;
+    KMUTEX mutex;
+    KSEMAPHORE semaphore;
+    KeInitializeGuardedMutex(&guarded);
+    KeAcquireGuardedMutex(&guarded);
+    CHECK(KeGetCurrentIrql() == PASSIVE_LEVEL);
+    KeReleaseGuardedMutex(&guarded);
+    ExInitializeFastMutex(&fast);
+    CHECK(ExTryToAcquireFastMutex(&fast) && KeGetCurrentIrql() == APC_LEVEL);
+    ExReleaseFastMutex(&fast);
+    KeInitializeMutex(&mutex, 0);
+    KeInitializeSemaphore(&semaphore, 3, 4);
+    CHECK(KeReadStateMutex(&mutex) == 1 && KeReadStateSemaphore(&semaphore) == 3);
+}
+
+/* ---- Memory, protection, names ---- */
+static void lookaside_lists(void) {
+    NPAGED_LOOKASIDE_LIST list;
+    PAGED_LOOKASIDE_LIST paged;
+    ExInitializeNPagedLookasideList(&list, NULL, NULL, 0, 24, 'tseT', 0);
+    ExInitializePagedLookasideList(&paged, ExAllocatePoolWithTag, ExFreePool, 0, 8, 'tseT', 0);
+    PVOID entry = ExAllocateFromNPagedLookasideList(&list), other = ExAllocateFromPagedLookasideList(&paged);
+    CHECK(entry && other);
+    ExFreeToPagedLookasideList(&paged, other);
+    ExFreeToNPagedLookasideList(&list, entry);
+    ExDeletePagedLookasideList(&paged);
+    ExDeleteNPagedLookasideList(&list);
+}
+
+static void rundown_protection(void) {
+    EX_RUNDOWN_REF rundown;
+    ExInitializeRundownProtection(&rundown);
+    for (int turn = 0; turn < 2; turn++) {
+        CHECK(ExAcquireRundownProtection(&rundown));
+        ExReleaseRundownProtection(&rundown);
+        ExWaitForRundownProtectionRelease(&rundown);
+        CHECK(!ExAcquireRundownProtection(&rundown));
+        ExRundownCompleted(&rundown);
+        ExReInitializeRundownProtection(&rundown);
+    }
+}
+
+static void symbolic_links(void) {
+    UNICODE_STRING link = RTL_CONSTANT_STRING(L"\\DosDevices\\A"), device = RTL_CONSTANT_STRING(L"\\Device\\A");
+    CHECK(IoCreateSymbolicLink(&link, &device) == STATUS_SUCCESS);
+    CHECK(IoCreateSymbolicLink(&link, &device) == STATUS_OBJECT_NAME_COLLISION);
+    CHECK(IoDeleteSymbolicLink(&link) == STATUS_SUCCESS && IoDeleteSymbolicLink(&link) == STATUS_OBJECT_NAME_NOT_FOUND);
+}
+
+/* ---- Buffers, as the device's flags and the control codes have them ---- */
+#define CODE(method) CTL_CODE(FILE_DEVICE_UNKNOWN, 0x801, method, FILE_ANY_ACCESS)
+static PDEVICE_OBJECT device;
+static bool has_buffer, has_mdl;
+
+/* Notes what there is, and answers with an X. */
+static NTSTATUS NTAPI answer(PDEVICE_OBJECT of, PIRP irp) {
+    PUCHAR system = irp->AssociatedIrp.SystemBuffer;
+    PUCHAR bytes = irp->MdlAddress ? MmGetSystemAddressForMdlSafe(irp->MdlAddress, NormalPagePriority) : system;
+    (void)of;
+    has_buffer = system != NULL;
+    has_mdl = irp->MdlAddress != NULL;
+    if (bytes) {
+        bytes[0] = 'X';
+    }
+    irp->IoStatus.Status = STATUS_SUCCESS;
+    irp->IoStatus.Information = bytes ? 1 : 0;
+    IoCompleteRequest(irp, IO_NO_INCREMENT);
+    return STATUS_SUCCESS;
+}
+
+static VOID NTAPI unload(PDRIVER_OBJECT driver) {
+    ObReferenceObject(driver->DeviceObject);
+    ObDereferenceObject(driver->DeviceObject);
+    IoDeleteDevice(driver->DeviceObject);
+}
+
+static NTSTATUS NTAPI entry(PDRIVER_OBJECT driver, PUNICODE_STRING path) {
+    (void)path;
+    for (size_t at = 0; at < ARRAYSIZE(driver->MajorFunction); at++) {
+        driver->MajorFunction[at] = answer;
+    }
+    driver->DriverUnload = unload;
+    return IoCreateDevice(driver, 0, NULL, FILE_DEVICE_UNKNOWN, 0, FALSE, &device);
+}
+
+static const struct way {
+    ULONG flags, code; /* a read with these flags, or a control where there is a code */
+    bool buffer, mdl, answered;
+} ways[] = {
+    { DO_BUFFERED_IO, 0, true, false, true },
+    { DO_DIRECT_IO, 0, false, true, true },
+    { 0, 0, false, false, false },
+    { 0, CODE(METHOD_BUFFERED), true, false, true },
+    { 0, CODE(METHOD_IN_DIRECT), true, true, true },
+    { DO_BUFFERED_IO, CODE(METHOD_OUT_DIRECT), true, true, true },
+    { DO_BUFFERED_IO, CODE(METHOD_NEITHER), false, false, false },
+};
+
+static void buffers(void) {
+    PDRIVER_OBJECT driver = IocsqLoad(entry);
+    PFILE_OBJECT file = IocsqOpen(driver);
+    for (size_t at = 0; at < ARRAYSIZE(ways); at++) {
+        const struct way *way = &ways[at];
+        UCHAR bytes[4] = { 0, 0, 0, 0 };
+        device->Flags = way->flags;
+        IOCSQ_REQUEST *sent = way->code ? IocsqControl(file, way->code, bytes, 2, 4) : IocsqSend(file, IRP_MJ_READ, bytes, 4);
+        CHECK(has_buffer == way->buffer && has_mdl == way->mdl && (bytes[0] == 'X') == way->answered);
+        IocsqFree(sent);
+    }
+    ObReferenceObject(file);
+    ObDereferenceObject(file);
+    IocsqClose(file);
+    IocsqUnload(driver);
+}
+
+int main(int argc, char **argv) {
+    begin(argc, argv);
+    RUN(times);
+    RUN(words);
+    RUN(lists);
+    RUN(locks_in_either_order);
+    RUN(mutexes);
+    RUN(lookaside_lists);
+    RUN(rundown_protection);
+    RUN(symbolic_links);
+    RUN(buffers);
+    return failures > 0;
+}

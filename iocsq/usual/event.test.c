@@ -1,0 +1,6 @@
+/* What event.c knows: device controls, of which one waits for an event. */
+#include "iocsq_test.h"
+
+extern const ULONG DriverControls[];
+const ULONG DriverControls[] = { CTL_CODE(FILE_DEVICE_UNKNOWN, 0x900, METHOD_OUT_DIRECT, FILE_READ_DATA),
+                                 CTL_CODE(FILE_DEVICE_UNKNOWN, 0x901, METHOD_BUFFERED, FILE_WRITE_DATA), 0 };
