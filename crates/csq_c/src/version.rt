@@ -5,7 +5,7 @@ ghost use Rattle.std.specs.Prelude.{◌≡◌};
 /// 1.0.0 is 10,000. Own rule.
 #[unsafe(no_mangle)]
 pub extern "C" fn csq_version() -> u32
-    ensures { result ≡ 10000 }
+    ensures { result ≡ 10100 }
 {
-    10_000
+    10_100
 }

@@ -1,7 +1,7 @@
 //! What `--help` and `--version` print.
 
 /// The version of the program.
-pub(crate) const VERSION: &str = "1.0.0";
+pub(crate) const VERSION: &str = "1.1.0";
 
 pub(crate) const ABOUT: &str =
     "Replays, draws and runs the protocol of the WDK's cancel-safe IRP queue";
