@@ -16,12 +16,12 @@ def svg(width, height, title, parts):
     return '\n'.join([head, *parts, '</svg>']) + '\n'
 
 
-def panel(left, top, title, series, most):
-    """Lines over 1, 2, 4 and 8 threads, of nanoseconds on a logarithmic scale from 20 to `most`."""
+def panel(left, top, title, series, most, numbers=(1, 2, 4, 8)):
+    """Lines over these numbers, of nanoseconds from 20 to `most`; both on a logarithmic scale."""
     width, height, least = 210, 180, 20
 
-    def x_of(threads):
-        return left + math.log2(threads) * width / 3
+    def x_of(number):
+        return left + width * math.log(number) / math.log(numbers[-1])
 
     def y_of(nanoseconds):
         return top + height * (1 - math.log(max(nanoseconds, least) / least) / math.log(most / least))
@@ -31,21 +31,44 @@ def panel(left, top, title, series, most):
         parts.append(f"<path class='g' d='M{left} {y_of(tick):.1f}h{width}'/>"
                      f"<text class='s' x='{left - 6}' y='{y_of(tick) + 4:.1f}' text-anchor='end'>{tick}</text>")
         tick *= 5 if str(tick)[0] == '2' else 2
-    for threads in (1, 2, 4, 8):
-        parts.append(f"<text class='s' x='{x_of(threads):.1f}' y='{top + height + 16}' text-anchor='middle'>{threads}</text>")
+    for number in numbers:
+        parts.append(f"<text class='s' x='{x_of(number):.1f}' y='{top + height + 16}' text-anchor='middle'>{number}</text>")
     for (name, points), colour in zip(series.items(), COLOURS):
-        path = 'M' + 'L'.join(f'{x_of(threads):.1f} {y_of(time):.1f}' for threads, time in points)
+        path = 'M' + 'L'.join(f'{x_of(number):.1f} {y_of(time):.1f}' for number, time in points)
         parts.append(f"<path d='{path}' fill='none' stroke='{colour}' stroke-width='2'><title>{html.escape(name)}</title></path>")
     return parts
 
 
-def legend(left, top, names):
+def legend(left, top, names, first=0):
+    """The names of lines, which have the colours from `first` on."""
     parts = []
-    for at, (name, colour) in enumerate(zip(names, COLOURS)):
+    for at, (name, colour) in enumerate(zip(names, COLOURS[first:])):
         x = left + 190 * at
         parts.append(f"<path d='M{x} {top}h22' stroke='{colour}' stroke-width='2'/>"
                      f"<text class='s' x='{x + 28}' y='{top + 4}'>{html.escape(name)}</text>")
     return parts
+
+
+def ceiling(times):
+    """The least of 20, 200, 2,000 .. that isn't below these."""
+    most = 20
+    while most < max(times):
+        most *= 10
+    return most
+
+
+def sizes(rows, calls):
+    """A panel for each kind of list: what these calls take by the number of listed IRPs."""
+    numbers = sorted({row['listed'] for row in rows})
+    most = ceiling([row['own'] for row in rows if row['call'] in calls])
+    names = list(calls.values())
+    parts = legend(24, 48, names[:3]) + legend(24, 66, names[3:], 3)
+    for at, listing in enumerate(('chains', 'vector')):
+        series = {name: [(row['listed'], row['own']) for row in rows if (row['list'], row['call']) == (listing, call)]
+                  for call, name in calls.items()}
+        parts += panel(80 + 320 * at, 112, listing, series, most, numbers)
+    parts.append("<text class='s' x='24' y='328'>nanoseconds of a call, by the number of listed IRPs</text>")
+    return svg(640, 344, 'The cost by size', parts)
 
 
 def scaling(rows):
@@ -53,9 +76,7 @@ def scaling(rows):
     names = {('vector', 'shared'): 'vector, one file object', ('chains', 'shared'): 'chains, one file object',
              ('vector', 'owned'): 'vector, one for each thread', ('chains', 'owned'): 'chains, one for each thread'}
     lengths = sorted({row['listed'] for row in rows})
-    most = 20
-    while most < max(row['own'] for row in rows):
-        most *= 10
+    most = ceiling([row['own'] for row in rows])
     parts = legend(24, 48, names.values())
     for at, listed in enumerate(lengths):
         series = {name: [(row['threads'], row['own']) for row in rows

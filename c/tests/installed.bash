@@ -169,6 +169,15 @@ by_pkg_config() {
     [[ $("$work/program") == "$text" ]]
 }
 
+# server_by_pkg_config PREFIX COMPILER: the example of a server, over the installed csq_requests.h.
+server_by_pkg_config() {
+  local programs=$work/programs flags libs
+  local -x PKG_CONFIG_PATH=$1/lib/pkgconfig LD_LIBRARY_PATH=$1/lib
+  eval "flags=($(pkg-config --cflags csq)) libs=($(pkg-config --libs csq))"
+  "$2" -std=c99 "${warnings[@]}" "${flags[@]}" "$programs"/{server,load}.c "${libs[@]}" -pthread -o "$work/program" &&
+    "$work/program" 8 4 2
+}
+
 # by_cmake PREFIX VERSION KIT COMPILER: the programs of c/tests/CMakeLists.txt find both libraries.
 by_cmake() {
   local prefix=$1 version=$2 kit=$3 compiler=$4 kind
@@ -195,6 +204,7 @@ run_programs() {
           "$header_lines" "$cxx" -std=c++17 "$work/programs/header.cpp"
       done
     done
+    expect "$name: pkg-config, the server" server_by_pkg_config "$prefix" "$compiler"
   fi
   if need cmake "$name: CMake" && need make "$name: CMake"; then
     expect "$name: CMake" by_cmake "$prefix" "$version" "$kit" "$compiler"
@@ -267,8 +277,8 @@ run_installs() {
     need $tool "c/install and c/dist" || return
   done
   mkdir -p "$work/programs"
-  for file in examples/driver.c tests/header.c tests/header.cpp tests/CMakeLists.txt; do
-    sed 's|"csq.h"|<keuvatsi/csq.h>|' "$top/c/$file" >"$work/programs/${file##*/}"
+  for file in examples/{driver.c,server.c,load.c,load.h} tests/{header.c,header.cpp,CMakeLists.txt}; do
+    sed -E 's|"(csq[a-z_]*\.h)"|<keuvatsi/\1>|' "$top/c/$file" >"$work/programs/${file##*/}"
   done
   mapfile -t archives < <(files_of installed "$compiler" -O2 -fPIC)
   # A stand-in for csqsim, and a kit's line that --plain has no use for.

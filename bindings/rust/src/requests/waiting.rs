@@ -90,8 +90,7 @@ impl Waiting {
     /// Shuts the queue down, and takes all out.
     pub(crate) fn shut_down(&mut self) -> Vec<Waker> {
         self.shut = true;
-        let waiters = std::mem::take(&mut self.waiters);
-        waiters.into_iter().map(|(_, waker)| waker).collect()
+        std::mem::take(&mut self.waiters).into_values().collect()
     }
 }
 

@@ -1,0 +1,19 @@
+//! The example of a server, under load: each request is accounted for, and finds a number.
+#[allow(dead_code)]
+#[path = "../examples/server/main.rs"]
+mod server;
+
+#[test]
+fn two_hundred_connections_come_and_go() {
+    server::run([200, 16, 20, 4, 100]).unwrap();
+}
+
+#[test]
+fn requests_wait_too_long() {
+    server::run([200, 16, 4, 1, 1]).unwrap();
+}
+
+#[test]
+fn four_thousand_connections_are_open_at_once_with_sixteen_requests_each() {
+    server::run([4000, 16, 2, 4, 100]).unwrap();
+}
