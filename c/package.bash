@@ -9,6 +9,13 @@ csq_refuse() {
   exit 1
 }
 
+# Prints what stands at the script's head, and ends it, if its first argument is --help.
+csq_help() {
+  if [[ ${1-} != --help && ${1-} != -h ]]; then return; fi
+  sed -n '2,/^[^#]/s/^# \{0,1\}//p' "$0"
+  exit
+}
+
 # Refuses where one of these tools isn't there.
 csq_need() {
   local tool

@@ -116,17 +116,17 @@ removed() {
     refuses "not installed" "$prefix" --uninstall
 }
 
-# interrupted PREFIX ARGUMENT..: where a file in the middle can't be put in place, each file is what it was before, or isn't
-# there; and what an older installation had alone goes with the next one.
+# interrupted PREFIX ACT ARGUMENT..: where a file in the middle can't be put in place, or the script is ended there, each
+# file is what it was before, or isn't there; and what an older installation had alone goes with the next one.
 interrupted() {
-  local prefix=$1 turn
-  shift
+  local prefix=$1 act=$2
+  shift 2
   mkdir -p "$work/failing"
   cat >"$work/failing/mv" <<END
 #!/bin/sh
-# The eleventh file can't be put in place.
+# The eleventh file isn't put in place.
 echo >>"$work/moves"
-[ \$(wc -l <"$work/moves") != 11 ] || exit 1
+[ \$(wc -l <"$work/moves") != 11 ] || { $act; exit 1; }
 exec $(command -v mv) "\$@"
 END
   chmod +x "$work/failing/mv"
@@ -140,7 +140,7 @@ END
 }
 fails_at_the_eleventh() {
   : >"$work/moves"
-  PATH="$work/failing:$PATH" refuses "prefix not writable" "$@" && (($(wc -l <"$work/moves") >= 11))
+  ! PATH="$work/failing:$PATH" "$top/c/install" "$@" && (($(wc -l <"$work/moves") >= 11))
 }
 
 # from_a_clone ARGUMENT..: it is installed from a clone in a folder with a space.
@@ -255,6 +255,14 @@ unread() {
   diff <(files_below "$work/installed plain/prefix") <(files_below "$work/unread")
 }
 
+# --help prints how each script is called, and nothing else.
+helps() {
+  local script
+  for script in install dist; do
+    "$top/c/$script" --help >"$work/help" && grep -x " *c/$script .*--plain .*" "$work/help" && ! grep '^#\|pipefail' "$work/help"
+  done
+}
+
 # What c/install refuses, before it leaves anything.
 run_refusals() {
   csq_plain_library "$top" "$work/part.a" "$1" -O2 -fPIC
@@ -265,6 +273,7 @@ run_refusals() {
   expect "install: prefix not writable" refused "prefix not writable" "$work/file/none" --plain
   expect "install: a folder in a file's place" refused "prefix not writable" "$work/taken" --plain
   expect "install: a prefix that csq.pc can't name" refused "not a prefix" "$work/\$none" --plain
+  expect "install and dist: --help" helps
   OBJCOPY=no-objcopy expect "install: no tool" refused "no tool" "$work/none" --plain
   CSQ_KIT='a "kit"' expect "install: no line of a kit" refused "not a kit's line" "$work/none" "$work/part.a"
   CSQSIM=$work/file expect "install: no csqsim" refused "no csqsim" "$work/none" "$work/part.a"
@@ -291,7 +300,9 @@ run_installs() {
   run_refusals "$compiler"
   CSQ_KIT='' expect "install: archives of which no kit is known" unknown "${archives[@]}"
   expect "install: --uninstall" removed "$work/removed" "${archives[@]}"
-  expect "install: all or nothing" interrupted "$work/interrupted" "${archives[@]}"
+  expect "install: all or nothing, a file refused" interrupted "$work/interrupted" true "${archives[@]}"
+  # shellcheck disable=SC2016 # the script's own process
+  expect "install: all or nothing, ended" interrupted "$work/ended" 'kill -TERM $PPID' "${archives[@]}"
   expect "install: from a clone in a folder with a space" from_a_clone "${archives[@]}"
   if command -v mandoc man >/dev/null; then
     expect "install: the man pages" well_formed "$work/installed archives/prefix"/share/man/man{3/csq,3/csq_requests,1/csqsim}.*

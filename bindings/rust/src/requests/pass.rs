@@ -52,7 +52,7 @@ impl<T> RequestPass<T> {
     /// # let pass = queue.pass()?;
     /// let id = pass.submit("job", 0, Place::Back)?;
     /// assert_eq!(pass.cancel(id)?, "job");
-    /// assert_eq!(pass.submit("job", 2, Place::Back).unwrap_err().value, "job");
+    /// assert_eq!(pass.submit("job", 2, Place::Back).unwrap_err().into_value(), "job");
     /// # Ok::<(), Box<dyn std::error::Error>>(())
     /// ```
     pub fn submit(&self, value: T, file: u32, place: Place) -> Result<RequestId, Refused<T>> {
