@@ -99,6 +99,7 @@ static void run_plan(void (*call)(PVOID context), PVOID context, const struct pl
     makes_choices = false;
     shared->run.count = 0;
     iocsq_begin_priorities(&plan.priorities);
+    iocsq_forget_priorities();
     IocsqLimit(SECONDS);
     call(context);
     shared->run.steps = iocsq_steps();

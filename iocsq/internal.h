@@ -188,6 +188,7 @@ void iocsq_show_schedule(const struct iocsq_irp *i);
 /* ---- turns.c ---- */
 bool iocsq_in_turns(void); /* whether one thread runs at a time */
 uint32_t iocsq_task_count(void); /* the threads that there were */
+void iocsq_forget_priorities(void); /* of the threads that there are: their memory isn't among the variables */
 void iocsq_turn_point(void);
 void iocsq_long_turn_point(uint32_t in);
 void iocsq_yield(void); /* lets another thread run, in turns and else */

@@ -67,6 +67,12 @@ uint32_t iocsq_task_count(void) {
     return task_count;
 }
 
+void iocsq_forget_priorities(void) {
+    for (uint32_t at = 0; at < task_count; at++) {
+        tasks[at].priority = 0;
+    }
+}
+
 uint64_t iocsq_now_in_turns(void) {
     return now;
 }

@@ -1,6 +1,7 @@
 /* Runs by priorities, against the bound that is said of them: one thread passes so many points, another a single one.
  * That it comes just after the K-th of the others is a fault of depth 2, and each K has to come in as many runs as the
  * bound has it: priorities POINTS RUNS. */
+#define _GNU_SOURCE
 #include "iocsq_test.h"
 
 #include <stdio.h>
@@ -46,6 +47,7 @@ int main(int argc, char **argv) {
         few += hits[at] < least;
     }
     printf("%llu runs, %u threads, %u steps: at least %llu each; %llu of %d have fewer, %llu were longer, status %d\n",
-           explored.Schedules, explored.Threads, explored.Steps, least, few, points + 1, explored.Longer, explored.Status);
+           (unsigned long long)explored.Schedules, explored.Threads, explored.Steps, least, few, points + 1,
+           (unsigned long long)explored.Longer, explored.Status);
     return least > 0 && few == 0 && explored.Longer == 0 && explored.Status == 0 ? 0 : 1;
 }
