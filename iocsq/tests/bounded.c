@@ -29,7 +29,9 @@
 #include <string.h>
 #include <time.h>
 
-#define USAGE "bounded PREEMPTIONS SCENARIO.., bounded --depth DEPTH RUNS SCENARIO.. or bounded --schedule SCHEDULE SCENARIO"
+#define USAGE                                                                              \
+    "bounded PREEMPTIONS SCENARIO.., bounded --depth DEPTH RUNS SCENARIO.. or bounded --schedule " \
+    "SCHEDULE SCENARIO"
 enum { THREADS = 3, CALLS = 16, FILES = 8, REQUESTS = 16, NAME = 16, LINE = 256 };
 enum { BYTES = 16, LENGTH = 2, PATIENCE = 2000 };
 
