@@ -108,11 +108,17 @@ typedef struct _IOCSQ_EXPLORED {
     int Status;          /* 0: all were run, and none ended with a report. Else that of the last, as a shell has it */
     ULONG Preemptions;   /* of the last: none that was run has fewer and a report */
     char Schedule[600];  /* of the last, for IocsqReplay */
+    ULONG64 Longer;      /* of IocsqDraw, with the next: runs that had more steps, and don't count */
+    ULONG Threads, Steps;
 } IOCSQ_EXPLORED;
 /* Calls Run with each schedule of at most so many preemptions, in another process: first those without, then those
  * with one, and so on, until one ends that process. Run loads the driver and unloads it, and frees what it allocates:
  * each time it is called the program's variables have the values that they have now. */
 IOCSQ_EXPLORED IocsqExplore(VOID (*Run)(PVOID Context), PVOID Context, ULONG MostPreemptions);
+/* Calls Run so many times, in another process, by priorities that are drawn (PCT): a fault for which so many orders of
+ * steps are enough (Depth, 1 to 8) is shown by each run with a probability of at least 1 / (Threads * Steps^(Depth - 1)).
+ * What the checker draws else, and where the clock comes early, is drawn too, and isn't part of that. */
+IOCSQ_EXPLORED IocsqDraw(VOID (*Run)(PVOID Context), PVOID Context, ULONG Depth, ULONG Runs);
 /* In Run: from now on choices are made. Before, no thread comes between another. */
 VOID IocsqChoices(VOID);
 /* Calls Run with this schedule, in this process. */

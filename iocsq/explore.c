@@ -14,7 +14,7 @@
 #include <sys/wait.h>
 #include <unistd.h>
 
-enum { CHOICES = 1 << 16, PLANNED = 50, MOST_PREEMPTIONS = 8, SECONDS = 20 };
+enum { CHOICES = 1 << 16, PLANNED = 50, MOST_PREEMPTIONS = 8, SECONDS = 20, MEASURED = 20 };
 
 struct choice {
     uint16_t options;
@@ -22,6 +22,7 @@ struct choice {
 };
 /* What a run writes down. */
 struct run {
+    uint32_t steps, threads; /* once it has ended */
     uint32_t count;
     struct choice choices[CHOICES];
 };
@@ -30,6 +31,7 @@ struct planned {
     uint32_t option;
 };
 struct plan {
+    struct iocsq_priorities priorities; /* in the place of choices, if there are any */
     uint32_t count;
     struct planned choices[PLANNED];
 };
@@ -55,6 +57,10 @@ bool iocsq_is_bounded(void) {
     return bounded;
 }
 
+bool iocsq_is_by_priorities(void) {
+    return makes_choices && iocsq_has_priorities();
+}
+
 void iocsq_begin_choices(void) {
     bounded = true;
 }
@@ -67,6 +73,9 @@ VOID IocsqChoices(VOID) {
 uint32_t iocsq_choose(uint32_t options, uint32_t free) {
     if (!makes_choices || options < 2) {
         return 0;
+    }
+    if (iocsq_is_by_priorities()) {
+        return iocsq_draw_by_priorities(options);
     }
     uint32_t at = shared->run.count++, option = 0;
     if (at == CHOICES) {
@@ -89,8 +98,12 @@ static void run_plan(void (*call)(PVOID context), PVOID context, const struct pl
     next_planned = 0;
     makes_choices = false;
     shared->run.count = 0;
+    iocsq_begin_priorities(&plan.priorities);
+    iocsq_forget_priorities();
     IocsqLimit(SECONDS);
     call(context);
+    shared->run.steps = iocsq_steps();
+    shared->run.threads = iocsq_task_count();
     if (next_planned < plan.count) {
         iocsq_fail("the run ends before choice %u, which the schedule names: it is another test's, or the driver does "
                    "not do the same each time", plan.choices[next_planned].at);
@@ -169,6 +182,9 @@ static void push_others(struct pile *pile, const struct plan *made, bool preempt
 
 static void name_schedule(char *name, size_t size, const struct plan *made) {
     size_t used = 0;
+    if (made->priorities.depth > 0) {
+        snprintf(name, size, "pct:%u:%u:%u", made->priorities.depth, made->priorities.steps, made->priorities.seed);
+    }
     for (uint32_t at = 0; at < made->count && used < size; at++) {
         used += (size_t)snprintf(name + used, size - used, "%s%u:%u", at ? "," : "", made->choices[at].at,
                                  made->choices[at].option);
@@ -228,7 +244,7 @@ static void begin_next_preemptions(struct exploration *e) {
 
 /* In the process that explores: if this returns, all were run. */
 static void explore(struct exploration *e, ULONG most) {
-    const struct plan first = { 0, { { 0, 0 } } };
+    const struct plan first = { .count = 0 };
     e->variables = iocsq_save_variables();
     push(&e->ready, &first);
     while (e->ready.count > 0 || e->parents.count > 0 || shared->explored.Preemptions < most) {
@@ -242,6 +258,15 @@ static void explore(struct exploration *e, ULONG most) {
     }
 }
 
+/* What came of it, once the process that explores has ended. */
+static IOCSQ_EXPLORED end_exploration(pid_t child) {
+    shared->explored.Status = status_of(child);
+    IOCSQ_EXPLORED explored = shared->explored;
+    munmap(shared, sizeof *shared);
+    shared = NULL;
+    return explored;
+}
+
 IOCSQ_EXPLORED IocsqExplore(VOID (*Run)(PVOID Context), PVOID Context, ULONG MostPreemptions) {
     if (MostPreemptions > MOST_PREEMPTIONS) {
         iocsq_fail("more than %u preemptions", (unsigned)MOST_PREEMPTIONS);
@@ -253,17 +278,64 @@ IOCSQ_EXPLORED IocsqExplore(VOID (*Run)(PVOID Context), PVOID Context, ULONG Mos
         explore(&e, MostPreemptions);
         _exit(0);
     }
-    shared->explored.Status = status_of(child);
-    IOCSQ_EXPLORED explored = shared->explored;
-    munmap(shared, sizeof *shared);
-    shared = NULL;
-    return explored;
+    return end_exploration(child);
+}
+
+/* ---- Runs by priorities ---- */
+static void run_by_priorities(struct exploration *e, struct iocsq_priorities priorities) {
+    struct plan made = { .priorities = priorities };
+    name_schedule(shared->explored.Schedule, sizeof shared->explored.Schedule, &made);
+    run_afresh(e->variables, e->call, e->context, &made);
+}
+
+/* Some runs in which nothing falls say how many steps there are: twice as many are drawn from. */
+static uint32_t measure_steps(struct exploration *e) {
+    uint32_t most = 1;
+    for (uint32_t seed = 1; seed <= MEASURED; seed++) {
+        struct iocsq_priorities none = { 1, 1, seed };
+        run_by_priorities(e, none);
+        most = shared->run.steps > most ? shared->run.steps : most;
+    }
+    return 2 * most;
+}
+
+static void draw_runs(struct exploration *e, ULONG depth, ULONG runs) {
+    e->variables = iocsq_save_variables();
+    struct iocsq_priorities drawn = { depth, measure_steps(e), 0 };
+    shared->explored.Steps = drawn.steps;
+    for (drawn.seed = 1; drawn.seed <= runs; drawn.seed++) {
+        run_by_priorities(e, drawn);
+        bool longer = shared->run.steps > drawn.steps;
+        shared->explored.Schedules += !longer;
+        shared->explored.Longer += longer;
+        shared->explored.Threads = shared->run.threads > shared->explored.Threads ? shared->run.threads
+                                                                                   : shared->explored.Threads;
+    }
+}
+
+IOCSQ_EXPLORED IocsqDraw(VOID (*Run)(PVOID Context), PVOID Context, ULONG Depth, ULONG Runs) {
+    if (Depth < 1 || Depth > IOCSQ_DEPTH) {
+        iocsq_fail("a depth that isn't from 1 to %u", (unsigned)IOCSQ_DEPTH);
+    }
+    begin_exploration();
+    pid_t child = fork();
+    if (child == 0) {
+        struct exploration e = { .call = Run, .context = Context };
+        draw_runs(&e, Depth, Runs);
+        _exit(0);
+    }
+    return end_exploration(child);
 }
 
 /* ---- One schedule alone ---- */
 static void read_schedule(const char *name, struct plan *made) {
     int used = 0;
     const char *at = name;
+    struct iocsq_priorities *p = &made->priorities;
+    if (sscanf(at, "pct:%u:%u:%u%n", &p->depth, &p->steps, &p->seed, &used) == 3 && p->depth <= IOCSQ_DEPTH &&
+        p->steps > 0) {
+        at += used;
+    }
     while (*at && made->count < PLANNED &&
            sscanf(at, "%u:%u%n", &made->choices[made->count].at, &made->choices[made->count].option, &used) == 2) {
         made->count++;
@@ -276,7 +348,7 @@ static void read_schedule(const char *name, struct plan *made) {
 }
 
 VOID IocsqReplay(VOID (*Run)(PVOID Context), PVOID Context, const char *Schedule) {
-    struct plan made = { 0, { { 0, 0 } } };
+    struct plan made = { .count = 0 };
     read_schedule(Schedule, &made);
     begin_exploration();
     run_plan(Run, Context, &made);

@@ -187,6 +187,8 @@ void iocsq_show_schedule(const struct iocsq_irp *i);
 
 /* ---- turns.c ---- */
 bool iocsq_in_turns(void); /* whether one thread runs at a time */
+uint32_t iocsq_task_count(void); /* the threads that there were */
+void iocsq_forget_priorities(void); /* of the threads that there are: their memory isn't among the variables */
 void iocsq_turn_point(void);
 void iocsq_long_turn_point(uint32_t in);
 void iocsq_yield(void); /* lets another thread run, in turns and else */
@@ -201,6 +203,23 @@ bool iocsq_is_bounded(void); /* in turns, and choices are made in the place of d
 void iocsq_begin_choices(void);
 /* One of so many options: 0, or what the plan of this run has here. The first `free` of them are no preemptions. */
 uint32_t iocsq_choose(uint32_t options, uint32_t free);
+
+bool iocsq_is_by_priorities(void); /* threads go on by priorities, and what is drawn else is no choice */
+
+/* ---- priorities.c ---- */
+enum { IOCSQ_DEPTH = 8 }; /* the greatest */
+struct iocsq_priorities {
+    uint32_t depth; /* 0: none */
+    uint32_t steps; /* among which the priorities change */
+    uint32_t seed;
+};
+void iocsq_begin_priorities(const struct iocsq_priorities *by);
+bool iocsq_has_priorities(void);
+uint32_t iocsq_new_priority(void);    /* of a thread; never 0 */
+uint32_t iocsq_lowest_priority(void); /* below all others */
+uint32_t iocsq_priority_after_step(uint32_t priority); /* of the thread that makes it */
+uint32_t iocsq_draw_by_priorities(uint32_t below);
+uint32_t iocsq_steps(void); /* that were made */
 
 /* ---- variables.c ---- */
 struct iocsq_variables;

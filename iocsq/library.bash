@@ -1,7 +1,12 @@
 # Builds tests of drivers with the checker, for iocsq/run-tests: source this. `top` is the repository, `work` a folder
 # for what is made, `library` the files of csq.h's library, or empty for the plain queue.
-# shellcheck disable=SC2154 # these are set by the script
+# shellcheck disable=SC2034,SC2154 # the script sets some and uses some
 warnings=(-Wall -Wextra -Wpedantic -Wshadow -Wconversion -Wno-multichar -Werror)
+
+# The right drivers: those that show one thing each, the examples, and those of usual shapes, written for Windows.
+drivers=(drivers/{reports,priority,stages,removal,ticks,workers,counted,requests,filter,keys,slots,later,manners,busy}
+  drivers/{handed,calls} examples/{serial,pipe,inverted})
+usual=(usual/{again,cancel,event,interrupt,pass,peek,port,startio,thread,two})
 
 # Compiles the checker once for each compiler and flags, and prints the folder with its objects; those of the tests are
 # in the folder `tests` of it: iocsq_objects COMPILER FLAG..
@@ -10,7 +15,7 @@ iocsq_objects() {
   local folder=$work/objects/$name
   if [[ ! -d $folder ]]; then
     mkdir -p "$folder.new/tests"
-    for file in "$top"/iocsq/*.c "$top"/iocsq/tests/{storm,patient,bounded,kernel,names,coverage,explore}.c; do
+    for file in "$top"/iocsq/*.c "$top"/iocsq/tests/{storm,patient,bounded,kernel,names,coverage,explore,priorities}.c; do
       object=${file#"$top/iocsq/"}
       "$@" -std=c11 "${warnings[@]}" -I"$top/include" -I"$top/iocsq" -c "$file" -o "$folder.new/${object%.c}.o" ||
         return 1

@@ -7,7 +7,7 @@ enum { MILLISECOND = 1000000 };
 enum { AT_DISPATCH_IN = 4 }; /* cancels, and sends where the policy allows them, come at DISPATCH_LEVEL */
 enum { ONCE_IN = 4, BEHIND = 2000, BEHIND_IN_TURNS = 100000 }; /* of iocsq_stay_behind: microseconds */
 
-static bool unbuffered; /* of iocsq_sent_unbuffered */
+static _Atomic bool unbuffered; /* of iocsq_sent_unbuffered */
 
 bool iocsq_sent_unbuffered(void) {
     return unbuffered;
@@ -121,7 +121,9 @@ static ULONG method_of(const DEVICE_OBJECT *device) {
     if (device->Flags & DO_BUFFERED_IO) {
         return METHOD_BUFFERED;
     }
-    unbuffered = unbuffered || !(device->Flags & DO_DIRECT_IO);
+    if (!(device->Flags & DO_DIRECT_IO)) {
+        unbuffered = true;
+    }
     return device->Flags & DO_DIRECT_IO ? METHOD_OUT_DIRECT : METHOD_NEITHER;
 }
 

@@ -60,7 +60,7 @@ static void leave(struct iocsq_queue *q, struct held held, bool last) {
     iocsq_point();
 }
 
-/* ---- What nobody changes of an IRP while it is in a queue: a cancel routine reads DriverContext[3] without a lock ---- */
+/* ---- What nobody changes of a queued IRP: a cancel routine reads DriverContext[3] without a lock ---- */
 static struct iocsq_tail tail_of(const IRP *irp) {
     struct iocsq_tail tail = { irp->Tail.Overlay.DriverContext[3], irp->Tail.Overlay.Thread,
                                irp->Tail.Overlay.AuxiliaryBuffer, irp->Tail.Overlay.CurrentStackLocation,

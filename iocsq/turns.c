@@ -19,6 +19,7 @@
 #endif
 
 enum { TASKS = 256, TURN_NANOSECONDS = 10000, SHORT_REST = 400, LONG_REST = 4000 };
+enum { EARLY_IN = 16 }; /* by priorities: so often the clock comes early */
 enum { GOES_ROUND = 2000 }; /* points without a switch: the thread waits for another, though it doesn't say so */
 
 /* A thread, as it takes turns. */
@@ -35,6 +36,7 @@ struct task {
     uint32_t number; /* as iocsq_thread returns it */
     bool is_time;    /* `until` is a time, and no limit */
     bool done;
+    uint32_t priority; /* 0: it has none yet */
     struct iocsq_context bounded; /* in the bounded mode, with the next */
     struct iocsq_own own;
 };
@@ -59,6 +61,16 @@ static uint32_t draw(uint32_t below) {
 
 bool iocsq_in_turns(void) {
     return draw_state != 0;
+}
+
+uint32_t iocsq_task_count(void) {
+    return task_count;
+}
+
+void iocsq_forget_priorities(void) {
+    for (uint32_t at = 0; at < task_count; at++) {
+        tasks[at].priority = 0;
+    }
 }
 
 uint64_t iocsq_now_in_turns(void) {
@@ -211,6 +223,24 @@ static struct task *find_early(void) {
     return NULL;
 }
 
+static uint32_t priority_of(struct task *t) {
+    if (t->priority == 0) {
+        t->priority = iocsq_new_priority();
+    }
+    return t->priority;
+}
+
+/* The option with the highest priority; now and then one whose wait ends by the clock. Where this thread only goes round
+ * it falls below all others. */
+static struct task *highest_of(struct task **options, uint32_t count, struct task *early, bool goes_round) {
+    struct task *next = options[0];
+    self->priority = goes_round ? iocsq_lowest_priority() : iocsq_priority_after_step(priority_of(self));
+    for (uint32_t at = 1; at < count; at++) {
+        next = priority_of(options[at]) > priority_of(next) ? options[at] : next;
+    }
+    return early && iocsq_draw_by_priorities(EARLY_IN) == 0 ? early : next;
+}
+
 /* Option 0 is to go on, where the thread can; another is a preemption then. Where it waits, or goes round, the switch is
  * free, but for the clock that comes early. Null: nobody can go on. */
 static struct task *choose_next(bool waits) {
@@ -231,7 +261,9 @@ static struct task *choose_next(bool waits) {
     if (early) {
         options[count++] = early;
     }
-    struct task *next = options[iocsq_choose(count, free)];
+    uint32_t others = early ? count - 1 : count;
+    struct task *next = iocsq_is_by_priorities() ? highest_of(options, others, early, waits && is_ready(self))
+                                                 : options[iocsq_choose(count, free)];
     if (next == early) {
         now = early->until;
     }

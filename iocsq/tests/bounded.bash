@@ -1,18 +1,25 @@
 # The tests of the bounded mode, for iocsq/run-tests, whose variables and functions they use: source this.
 # shellcheck disable=SC2154,SC2317 # iocsq/run-tests sets the variables, and expect calls the functions
 
-# The bounded mode by itself: as many schedules as there are.
+# The bounded mode by itself: as many schedules as there are; and runs by priorities, against their bound.
 run_explore() {
-  local objects arguments
-  if ! objects=$(iocsq_objects "$@" 2>"$work/errors") ||
-    ! "$@" "$objects"/*.o "$objects/tests/explore.o" "${library[@]:-$objects/libcsq_plain.a}" -pthread \
-      -o "$work/explore" 2>>"$work/errors"; then
+  local objects program arguments
+  if ! objects=$(iocsq_objects "$@" 2>"$work/errors"); then
     fail "$* explore: not compiled" "$work/errors"
     return
   fi
+  for program in explore priorities; do
+    "$@" "$objects"/*.o "$objects/tests/$program.o" "${library[@]:-$objects/libcsq_plain.a}" -pthread \
+      -o "$work/$program" 2>"$work/errors" || fail "$* $program: not linked" "$work/errors"
+  done
   for arguments in "1 5 2" "2 3 0" "2 3 1" "2 3 2" "2 4 3" "3 3 1" "3 4 2" "2 3 8"; do
     read -ra numbers <<<"$arguments"
     expect "$* explore: threads, points, preemptions $arguments" "$work/explore" "${numbers[@]}"
+  done
+  if [[ $* == *sanitize* ]]; then return; fi # each run would be a process
+  for arguments in "3 1000" "12 4000"; do
+    read -ra numbers <<<"$arguments"
+    expect "$* priorities: points, runs $arguments" "$work/priorities" "${numbers[@]}"
   done
 }
 
@@ -88,6 +95,31 @@ run_bounded_wrong() {
   done <"$rows"
 }
 
+# drawn_wrong PROGRAM SCENARIO TEXT: a run by priorities has this report, and the same when it is run alone.
+drawn_wrong() {
+  local program=$1 scenario=$2 text=$3 schedule status
+  "$program" --depth 3 3000 "$scenario" >"$work/said" 2>"$work/report"
+  status=$?
+  cat "$work/said" "$work/report"
+  schedule=$(sed -nE 's/^.*: run [0-9]+ of depth 3 is wrong: --schedule (pct:[0-9:]+) shows it again$/\1/p' "$work/said")
+  ((status == disagrees)) && grep -qE -- "$text" "$work/report" || return 1
+  "$program" --schedule "$schedule" "$scenario" >"$work/said" 2>"$work/again"
+  (($? == disagrees)) && cmp "$work/report" "$work/again"
+}
+
+# Runs by priorities of a right driver and of wrong ones.
+run_drawn() {
+  local program=$work/drawn scenarios=$top/iocsq/scenarios
+  TEST=bounded iocsq_build "$program" drivers/slots 0 "$@" &&
+    expect "priorities: a right driver" ends_with "2 scenarios, 200 runs of depth 3 of each, none wrong" "$program" \
+      --depth 3 200 "$scenarios"/{cancel,close}-insert.txt &&
+    expect "priorities: what is said of a run" grep -qE \
+      "close-insert.txt: 200 runs of depth 3, 3 threads, ([0-9]+) steps: .* at least 1 in [0-9]+$" "$work/said"
+  TEST=bounded iocsq_build "$program" drivers/manners 6 "$@" &&
+    expect "priorities: a wrong driver" drawn_wrong "$program" "$scenarios/close-insert.txt" \
+      "went into the queue after IRP_MJ_CLEANUP of its file"
+}
+
 # What a scenario can't say is named, with its line.
 run_bounded_refusals() {
   local line text program=$work/bounded
@@ -108,6 +140,7 @@ END
   expect "bounded: no number" refused "argument 1 is a number from 0 to 8" "$program" many "$work/scenario"
   printf 'open f\n1 read f\n' >"$work/scenario"
   expect "bounded: no schedule" refused "no schedule: all" "$program" --schedule all "$work/scenario"
+  expect "bounded: no depth" refused "argument 2 is a number from 1 to 8" "$program" --depth 9 1 "$work/scenario"
   expect "bounded: another's schedule" refused "it is another test's" "$program" --schedule 99:1 "$work/scenario"
   printf 'open f\n1 close f\n' >"$work/scenario"
   expect "bounded: nothing is inserted" refused "nothing was inserted" "$program" 1 "$work/scenario"

@@ -1,6 +1,7 @@
 /* Every schedule of small scenarios with at most so many preemptions:
  *
  *     bounded PREEMPTIONS SCENARIO..             each scenario is a file; the last line sums all up
+ *     bounded --depth DEPTH RUNS SCENARIO..      so many runs of each, by priorities that are drawn
  *     bounded --schedule SCHEDULE SCENARIO       this one schedule alone, as the report of a wrong one names it
  *
  * It ends with status 0, with that of the first wrong schedule (70 after a report), and with 71 where no scenario
@@ -28,7 +29,9 @@
 #include <string.h>
 #include <time.h>
 
-#define USAGE "bounded PREEMPTIONS SCENARIO.. or bounded --schedule SCHEDULE SCENARIO"
+#define USAGE                                                                              \
+    "bounded PREEMPTIONS SCENARIO.., bounded --depth DEPTH RUNS SCENARIO.. or bounded --schedule " \
+    "SCHEDULE SCENARIO"
 enum { THREADS = 3, CALLS = 16, FILES = 8, REQUESTS = 16, NAME = 16, LINE = 256 };
 enum { BYTES = 16, LENGTH = 2, PATIENCE = 2000 };
 
@@ -410,6 +413,46 @@ static int explore_all(int argc, char **argv) {
     return inserted ? 0 : IOCSQ_TESTED_NOTHING;
 }
 
+/* One in so many runs shows a fault of this depth, or more. */
+static double one_in(const IOCSQ_EXPLORED *explored, ULONG depth) {
+    double runs = explored->Threads;
+    for (ULONG at = 1; at < depth; at++) {
+        runs *= explored->Steps;
+    }
+    return runs;
+}
+
+/* Prints what came of the runs of a scenario. Whether something was inserted. */
+static bool draw(const char *path, ULONG depth, ULONG runs) {
+    read_scenario(path);
+    IOCSQ_EXPLORED explored = IocsqDraw(run, NULL, depth, runs);
+    if (explored.Status != 0) {
+        printf("%s: run %llu of depth %u is wrong: --schedule %s shows it again\n", path,
+               (unsigned long long)(explored.Schedules + explored.Longer + 1), depth, explored.Schedule);
+        exit(explored.Status);
+    }
+    printf("%s: %llu runs of depth %u, %u threads, %u steps: each shows a fault of that depth with a probability of at "
+           "least 1 in %.0f", path, (unsigned long long)explored.Schedules, depth, explored.Threads, explored.Steps,
+           one_in(&explored, depth));
+    if (explored.Longer) {
+        printf("; %llu were longer", (unsigned long long)explored.Longer);
+    }
+    printf("\n");
+    return explored.Inserted > 0;
+}
+
+static int draw_all(int argc, char **argv) {
+    ULONG depth = (ULONG)number_of_argument(argc, argv, 2, 1, 8, USAGE);
+    ULONG runs = (ULONG)number_of_argument(argc, argv, 3, 1, 1000000000, USAGE);
+    bool inserted = false;
+    for (int at = 4; at < argc; at++) {
+        inserted = draw(argv[at], depth, runs) || inserted;
+    }
+    printf("%d scenarios, %u runs of depth %u of each, none wrong%s\n", argc - 4, runs, depth,
+           inserted ? "" : ", and nothing inserted");
+    return inserted ? 0 : IOCSQ_TESTED_NOTHING;
+}
+
 int main(int argc, char **argv) {
     bool replays = argc == 4 && strcmp(argv[1], "--schedule") == 0;
     if (argc < 3) {
@@ -417,6 +460,9 @@ int main(int argc, char **argv) {
         return 2;
     }
     IocsqBounded();
+    if (strcmp(argv[1], "--depth") == 0) {
+        return draw_all(argc, argv);
+    }
     if (!replays) {
         return explore_all(argc, argv);
     }

@@ -29,12 +29,13 @@ static void words(void) {
     PVOID pointer = NULL;
     CHECK(string.Length == 3 * sizeof(WCHAR) && string.MaximumLength == 4 * sizeof(WCHAR));
     CHECK(number.LowPart == 0xfffffffe && number.HighPart == -1 && number.u.HighPart == -1);
-    CHECK(InterlockedOr(&bits, 1) == 0x0c && InterlockedAnd(&bits, 5) == 0x0d && InterlockedXor(&bits, 1) == 5 && bits == 4);
-    CHECK(InterlockedIncrement64(&wide) == 2 && InterlockedExchangeAdd64(&wide, 3) == 2 && InterlockedAdd(&bits, 1) == 5);
+    CHECK(InterlockedOr(&bits, 1) == 0x0c && InterlockedAnd(&bits, 5) == 0x0d && InterlockedXor(&bits, 1) == 5);
+    CHECK(InterlockedIncrement64(&wide) == 2 && InterlockedExchangeAdd64(&wide, 3) == 2);
+    CHECK(bits == 4 && InterlockedAdd(&bits, 1) == 5);
     CHECK(InterlockedCompareExchange64(&wide, 7, 5) == 5 && wide == 7);
     CHECK(InterlockedCompareExchangePointer(&pointer, &bits, NULL) == NULL && pointer == &bits);
     CHECK(RtlCompareMemory("abcd", "abxd", 4) == 2 && RtlEqualMemory("abcd", "abcd", 4));
-    CHECK(METHOD_FROM_CTL_CODE(CTL_CODE(FILE_DEVICE_UNKNOWN, 0x801, METHOD_OUT_DIRECT, FILE_READ_DATA)) == METHOD_OUT_DIRECT);
+    CHECK(METHOD_FROM_CTL_CODE(CTL_CODE(FILE_DEVICE_UNKNOWN, 0x801, METHOD_OUT_DIRECT, FILE_READ_DATA)) == 2);
 }
 
 /* ---- Lists and locks ---- */
