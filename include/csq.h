@@ -265,8 +265,10 @@ CSQ_NODISCARD uint32_t csq_new_queue(struct csq_queue *queue, const struct csq_s
 CSQ_NODISCARD uint32_t csq_new_queue_with_file_limits(struct csq_queue *queue, const struct csq_size *size,
                                                       const uint32_t *file_limits, size_t count);
 
-/* Makes a queue, as IoCsqInitializeEx does: no IRP is used, and each file object is open. A queue of more than a hundred
- * IRPs, or whose IRPs are removed by file object, by their names or by cancels, does best with CSQ_AUTO.
+/* Makes a queue, as IoCsqInitializeEx does: no IRP is used, and each file object is open. With CSQ_AUTO as its list the
+ * time of a later call doesn't grow with the number of listed IRPs, but for csq_remove_next past those that a canceller has,
+ * csq_peek_next from an IRP of another file object, and the judges. That of this call, of csq_free and of csq_take_pass of
+ * a new pass grows with the number of the queue's IRPs, and of this call and csq_free also with that of file objects.
  * CSQ_NOT_EMPTY; CSQ_BAD_SIZE; CSQ_NO_MEMORY. Lock: not needed, for no other thread knows the queue yet. */
 CSQ_NODISCARD CSQ_INLINE uint32_t csq_new(struct csq_queue *queue, const struct csq_size *size) {
     uint32_t code = csq_new_queue(queue, size);

@@ -313,9 +313,8 @@ static inline uint32_t csq_requests_make_signals(struct csq_requests *requests, 
 
 /* ---- A queue's beginning and end ---- */
 
-/* Makes a queue of this size, whose number of passes isn't looked at: it takes one. CSQ_AUTO as its list is right for most,
- * and for a server of many connections. It takes the longer the more IRPs and file objects there are, as csq_requests_close
- * does; no other call does with CSQ_AUTO or CSQ_CHAINS. `file_limits` is NULL, or has a limit for each file
+/* Makes a queue of this size, whose number of passes isn't looked at: it takes one. With CSQ_AUTO as its list only this
+ * call, csq_requests_close and csq_requests_free take the longer the more IRPs and file objects there are. `file_limits` is NULL, or has a limit for each file
  * object, as csq_new_with_file_limits takes them. `events` may be NULL. It is freed by csq_requests_free.
  * CSQ_NOT_EMPTY (*requests isn't NULL); CSQ_BAD_SIZE; CSQ_NO_MEMORY. */
 CSQ_NODISCARD static inline uint32_t csq_requests_new(struct csq_requests **requests, const struct csq_size *size,

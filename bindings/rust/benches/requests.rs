@@ -12,7 +12,7 @@ const JOBS: u64 = 200_000;
 const PLACES: u32 = 1024;
 const RUNS: usize = 7;
 
-/// With its list in chains: the plain queue's vector moves all that is listed at each removal.
+/// With its list in chains, as a queue of so many has it.
 fn size(passes: u32) -> Size {
     let list = List::Chains;
     Size {
