@@ -87,7 +87,8 @@ csq_fill() {
 }
 
 # Links the archives, and the calls that are written in csq.h, into one object, in which only csq_* is a name for others,
-# and that into libcsq.a and the shared library: csq_link TOP WORK VERSION BUILD ARCHIVE.., where BUILD is csq_build's text.
+# and that into libcsq.a and the shared library: csq_link TOP WORK VERSION BUILD ARCHIVE.., where BUILD is csq_build's text,
+# and WORK/map has the versions of symbols.
 csq_link() {
   local top=$1 work=$2 version=$3 build=$4 major=${3%%.*} lib=$2/tree/$LIBDIR
   shift 4
@@ -96,11 +97,10 @@ csq_link() {
   "$LD" -r --whole-archive "$@" --no-whole-archive "$work/calls.o" -o "$work/csq.o" ||
     csq_refuse "not linked" "$LD can't link the archives. Name those of csq_library of c/library.bash, each once"
   "$OBJCOPY" --wildcard --keep-global-symbol='csq_*' "$work/csq.o"
-  "$top/c/package/made" map >"$work/csq.map"
   mkdir -p "$lib"
   "$AR" rcsD "$lib/libcsq.a" "$work/csq.o"
   # Calls inside of the library are bound there (-Bsymbolic): what was proved isn't exchanged for a program's own.
-  "$CC" -shared -Wl,-soname,"libcsq.so.$major" -Xlinker --version-script="$work/csq.map" -Wl,-Bsymbolic -Wl,-z,defs \
+  "$CC" -shared -Wl,-soname,"libcsq.so.$major" -Xlinker --version-script="$work/map" -Wl,-Bsymbolic -Wl,-z,defs \
     -Wl,-z,relro,-z,now -Wl,--require-defined=csq_new_queue "$work/csq.o" -o "$lib/libcsq.so.$version" ||
     csq_refuse "not linked" "the archives aren't a whole library. Name all that csq_library of c/library.bash prints"
   ln -s "libcsq.so.$version" "$lib/libcsq.so.$major"
@@ -124,16 +124,16 @@ csq_add_iocsq() {
     "library=../../../$LIBDIR/libcsq.a" >"$share/installed"
 }
 
-# Adds csqsim, if there is one, and the man pages: csq_add_manual TOP TREE PROGRAM
-csq_add_manual() {
-  local top=$1 tree=$2 program=$3 page pages=(csq.3 csq_requests.3)
+# Makes the versions of symbols, WORK/map, and adds the man pages, and csqsim if there is one: csq_add_made TOP WORK PROGRAM
+csq_add_made() {
+  local top=$1 work=$2 tree=$2/tree program=$3 page pages=(csq.3 csq_requests.3)
   if [[ $program ]]; then
     install -D -m 755 "$program" "$tree/bin/csqsim"
     pages+=(csqsim.1)
   fi
+  "$top/c/package/made" "$work" map "${pages[@]}"
   for page in "${pages[@]}"; do
-    install -d "$tree/share/man/man${page##*.}"
-    "$top/c/package/made" "$page" >"$tree/share/man/man${page##*.}/$page"
+    install -D -m 644 "$work/$page" "$tree/share/man/man${page##*.}/$page"
   done
 }
 
@@ -147,12 +147,12 @@ csq_package() {
     proved=yes
     program=$(csq_program "$top")
   fi
+  csq_add_made "$top" "$work" "$program"
   csq_link "$top" "$work" "$version" "csq $version proved=$proved${kit:+ kit=$kit}" "$@"
   local values=("VERSION=$version" "MAJOR=${version%%.*}" "LIBDIR=$LIBDIR" "PREFIX=${prefix// /\\ }"
     "TO_PREFIX=$(realpath -ms --relative-to="/$LIBDIR/cmake/csq" /)" "PROVED=$proved" "KIT=$kit")
   install -D -m 644 -t "$tree/include/keuvatsi" "$top/include/csq.h" "$top/include/csq_requests.h"
   csq_add_iocsq "$top" "$tree"
-  csq_add_manual "$top" "$tree" "$program"
   mkdir -p "$lib/pkgconfig" "$lib/cmake/csq"
   csq_fill "$top/c/package/csq.pc.in" "${values[@]}" >"$lib/pkgconfig/csq.pc"
   for file in csqConfig.cmake csqConfigVersion.cmake; do

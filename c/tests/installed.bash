@@ -12,7 +12,7 @@ calls_of_first=35 symbols_of_first=27
 # version CSQ_1, and the later ones under theirs, none of which is newer than the header.
 only_csq() {
   local lib=$1/lib version=$2 newest
-  "$top/c/package/made" calls >"$work/calls"
+  "$top/c/package/made" "$work" calls
   nm -g --defined-only "$lib/libcsq.a" | awk 'NF == 3 { print $3 }' | sort >"$work/static"
   readelf -W --dyn-syms "$lib/libcsq.so" | awk '$5 == "GLOBAL" && $7 ~ /^[0-9]+$/ { print $8 }' | sort >"$work/shared"
   newest=$(sed 's/.*CSQ_//' "$work/shared" | sort -V | tail -1)

@@ -105,6 +105,7 @@
 #![deny(
     missing_docs,
     unsafe_op_in_unsafe_fn,
+    clippy::missing_errors_doc,
     clippy::undocumented_unsafe_blocks
 )]
 
