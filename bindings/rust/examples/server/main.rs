@@ -157,7 +157,7 @@ impl Server {
                         Err(refused) => {
                             assert_eq!(refused.cause, SubmitError::NoIrp);
                             self.without_number.fetch_add(1, SeqCst);
-                            self.answer(refused.value, Answer::Cancelled);
+                            self.answer(refused.into_value(), Answer::Cancelled);
                         }
                     }
                 }
