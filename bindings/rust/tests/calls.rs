@@ -120,10 +120,19 @@ fn sizes_are_tested() {
     let good = Size::new(4, 2, 1);
     let bad = [
         Size { irps: 0, ..good },
-        Size { irps: 1025, ..good },
-        Size { files: 257, ..good },
+        Size {
+            irps: Size::MOST_IRPS + 1,
+            ..good
+        },
+        Size {
+            files: Size::MOST_FILES + 1,
+            ..good
+        },
         Size { limit: 5, ..good },
-        Size { passes: 65, ..good },
+        Size {
+            passes: Size::MOST_PASSES + 1,
+            ..good
+        },
         Size {
             first_life: LAST_LIFE + 1,
             ..good

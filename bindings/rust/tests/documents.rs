@@ -4,7 +4,8 @@
 /// The lines of the first block of code that has this text, as a reader sees them.
 fn example<'a>(lines: impl Iterator<Item = &'a str>, text: &str) -> Vec<&'a str> {
     let lines: Vec<&str> = lines.collect();
-    let mut blocks = lines.split(|line| line.starts_with("```"));
+    let parts = lines.split(|line| line.starts_with("```"));
+    let mut blocks = parts.skip(1).step_by(2);
     let block = blocks.find(|block| block.iter().any(|line| line.contains(text)));
     let shown = |line: &&&str| !line.starts_with("# ");
     block
