@@ -48,7 +48,7 @@ csq_archives() {
 # arguments of csq_archives. Of FILE.. the caller says so, by CSQ_KIT.
 csq_kit() {
   local kit=${CSQ_KIT-}
-  if (($# == 0)); then kit=$(rt version); elif [[ $1 == --plain ]]; then kit=; fi
+  if (($# == 0)); then kit=$(rt version 2>/dev/null || true); elif [[ $1 == --plain ]]; then kit=; fi
   [[ $kit =~ ^[A-Za-z0-9\ ._:,+/()=-]*$ ]] || csq_refuse "not a kit's line" "CSQ_KIT is '$kit', not what rt version prints"
   echo "$kit"
 }

@@ -255,6 +255,18 @@ unread() {
   diff <(files_below "$work/installed plain/prefix") <(files_below "$work/unread")
 }
 
+# The csqsim that was built is packed, unless a source is newer.
+newer_than_its_sources() {
+  local built=$work/built/crates/csqsim
+  mkdir -p "$built/out" "$built/src"
+  cp "$work/programs/csqsim" "$built/out"
+  touch -d "1 hour ago" "$built/src/main.rt"
+  [[ $(program_of "$work/built") == "$built/out/csqsim" ]] && touch -d "1 hour" "$built/src/main.rt" &&
+    [[ ! $(program_of "$work/built") ]]
+}
+# shellcheck disable=SC2016 # the parameters are that shell's
+program_of() { env -u CSQSIM bash -c 'source "$1/c/package.bash" && csq_program "$2"' run-tests "$top" "$1"; }
+
 # --help prints how each script is called, and nothing else.
 helps() {
   local script
@@ -274,6 +286,7 @@ run_refusals() {
   expect "install: a folder in a file's place" refused "prefix not writable" "$work/taken" --plain
   expect "install: a prefix that csq.pc can't name" refused "not a prefix" "$work/\$none" --plain
   expect "install and dist: --help" helps
+  expect "install and dist: csqsim, if it is newer than its sources" newer_than_its_sources
   OBJCOPY=no-objcopy expect "install: no tool" refused "no tool" "$work/none" --plain
   CSQ_KIT='a "kit"' expect "install: no line of a kit" refused "not a kit's line" "$work/none" "$work/part.a"
   CSQSIM=$work/file expect "install: no csqsim" refused "no csqsim" "$work/none" "$work/part.a"
