@@ -140,6 +140,7 @@ struct iocsq_own {
     KIRQL irql;
     KIRQL irql_before;   /* the first of its spin locks was taken, */
     bool saved_before;   /* and that call returned it */
+    uint32_t raisable;   /* its calls of the driver that may come at DISPATCH_LEVEL */
     struct iocsq_watch watch;
     PFILE_OBJECT handed_over; /* whose reference its next request takes over */
     bool took_over;           /* its last request took one over */

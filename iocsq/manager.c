@@ -94,9 +94,11 @@ static void show(struct iocsq_irp *i) {
     }
 }
 
-/* Now and then DISPATCH_LEVEL, if `may`: what KeLowerIrql goes back from. The bounded mode doesn't draw it. */
-static KIRQL raise_at_random(bool may) {
-    return may && !iocsq_is_bounded() && iocsq_rarely(AT_DISPATCH_IN) ? KfRaiseIrql(DISPATCH_LEVEL) : KeGetCurrentIrql();
+/* Each time in so many of this thread, if `may`, goes to DISPATCH_LEVEL; returns where KeLowerIrql goes back to. It isn't
+ * drawn, so that a seed's run is the same with it. In the bounded mode it never does. */
+static KIRQL raise_in_turn(bool may) {
+    bool raises = may && !iocsq_is_bounded() && iocsq_own.raisable++ % AT_DISPATCH_IN == 0;
+    return raises ? KfRaiseIrql(DISPATCH_LEVEL) : KeGetCurrentIrql();
 }
 
 static bool is_transfer(UCHAR major) {
@@ -107,7 +109,7 @@ static IOCSQ_REQUEST *send(struct iocsq_irp *i, PDEVICE_OBJECT device) {
     i->sent = iocsq_now();
     show(i);
     iocsq_log_sent(i, "dispatch(irp %u, major %02x, file %u)", i->index, i->major, iocsq_file_number(i->file));
-    KIRQL before = raise_at_random(is_transfer(i->major) && iocsq_policy_of(i).DispatchSends);
+    KIRQL before = raise_in_turn(is_transfer(i->major) && iocsq_policy_of(i).DispatchSends);
     KIRQL sent_at = KeGetCurrentIrql();
     NTSTATUS status = iocsq_dispatch(top_of(device), i);
     iocsq_log(i, "dispatch(irp %u) = %08X", i->index, (unsigned)status);
@@ -229,7 +231,7 @@ BOOLEAN IocsqCancelAny(VOID) {
     if (!begin_cancel(i)) {
         return FALSE;
     }
-    KIRQL before = raise_at_random(!iocsq_policy_of(i).PassiveCancels);
+    KIRQL before = raise_in_turn(!iocsq_policy_of(i).PassiveCancels);
     bool raised = before < KeGetCurrentIrql();
     iocsq_set_hint(raised ? "  The cancel came at DISPATCH_LEVEL: if nobody cancels there, since the callbacks wait, the "
                             "driver's policy says PassiveCancels." : NULL);
