@@ -120,10 +120,19 @@ fn sizes_are_tested() {
     let good = Size::new(4, 2, 1);
     let bad = [
         Size { irps: 0, ..good },
-        Size { irps: 1025, ..good },
-        Size { files: 257, ..good },
+        Size {
+            irps: 65_536,
+            ..good
+        },
+        Size {
+            files: 16_385,
+            ..good
+        },
         Size { limit: 5, ..good },
-        Size { passes: 65, ..good },
+        Size {
+            passes: 1_025,
+            ..good
+        },
         Size {
             first_life: LAST_LIFE + 1,
             ..good
