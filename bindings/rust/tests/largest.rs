@@ -1,4 +1,4 @@
-//! The largest queue, over each kind of list, and sizes above it.
+//! The largest queue, over each kind of list.
 use csq::*;
 
 const IRPS: u32 = Size::MOST_IRPS;
@@ -51,27 +51,6 @@ fn all_passes_are_handed_out() {
     let passes: Vec<_> = (0..Size::MOST_PASSES).map(|_| queue.pass()).collect();
     assert!(passes.iter().all(Result::is_ok));
     assert_eq!(queue.pass().unwrap_err(), PassError::NoPass);
-}
-
-#[test]
-fn a_size_above_the_largest_is_refused() {
-    let size = largest(List::Auto);
-    let above = [
-        Size::new(IRPS + 1, 1, 1),
-        Size::new(1, FILES + 1, 1),
-        Size::new(1, 1, Size::MOST_PASSES + 1),
-        Size {
-            limit: IRPS + 1,
-            ..size
-        },
-        Size {
-            first_life: LAST_LIFE + 1,
-            ..size
-        },
-    ];
-    for size in above {
-        assert_eq!(Queue::new(&size).unwrap_err(), NewError::BadSize);
-    }
 }
 
 #[test]
