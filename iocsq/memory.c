@@ -13,7 +13,7 @@ struct allocation {
 };
 enum { BUCKETS = 1024 };
 static struct allocation *allocations[BUCKETS];
-static uint32_t paged_count; /* of them */
+static _Atomic uint32_t paged_count; /* of them; written under the state lock, and read without it */
 static PNPAGED_LOOKASIDE_LIST lookasides; /* that were not deleted */
 
 static struct allocation **bucket_of(const void *at) {
@@ -75,7 +75,7 @@ static bool lies_in(const void *at, const void *from, size_t size) {
 }
 
 void iocsq_expect_nonpaged(const void *at, const char *what) {
-    if (__atomic_load_n(&paged_count, __ATOMIC_RELAXED) == 0) {
+    if (paged_count == 0) {
         return;
     }
     iocsq_lock_state();
