@@ -32,18 +32,23 @@ def panel(left, top, title, series, most, numbers=(1, 2, 4, 8)):
                      f"<text class='s' x='{left - 6}' y='{y_of(tick) + 4:.1f}' text-anchor='end'>{tick}</text>")
         tick *= 5 if str(tick)[0] == '2' else 2
     for number in numbers:
-        parts.append(f"<text class='s' x='{x_of(number):.1f}' y='{top + height + 16}' text-anchor='middle'>{number}</text>")
+        parts.append(f"<text class='s' x='{x_of(number):.1f}' y='{top + height + 16}' text-anchor='middle'>{short(number)}</text>")
     for (name, points), colour in zip(series.items(), COLOURS):
         path = 'M' + 'L'.join(f'{x_of(number):.1f} {y_of(time):.1f}' for number, time in points)
         parts.append(f"<path d='{path}' fill='none' stroke='{colour}' stroke-width='2'><title>{html.escape(name)}</title></path>")
     return parts
 
 
-def legend(left, top, names, first=0):
+def short(number):
+    """A number in a few letters: large ones in thousands of 1,024."""
+    return str(number) if number < 1024 else f'{round(number / 1024)}k'
+
+
+def legend(left, top, names, first=0, apart=190):
     """The names of lines, which have the colours from `first` on."""
     parts = []
     for at, (name, colour) in enumerate(zip(names, COLOURS[first:])):
-        x = left + 190 * at
+        x = left + apart * at
         parts.append(f"<path d='M{x} {top}h22' stroke='{colour}' stroke-width='2'/>"
                      f"<text class='s' x='{x + 28}' y='{top + 4}'>{html.escape(name)}</text>")
     return parts
@@ -62,7 +67,7 @@ def sizes(rows, calls):
     numbers = sorted({row['listed'] for row in rows})
     most = ceiling([row['own'] for row in rows if row['call'] in calls])
     names = list(calls.values())
-    parts = legend(24, 48, names[:3]) + legend(24, 66, names[3:], 3)
+    parts = [part for at in (0, 2, 4) for part in legend(24, 44 + 8 * at, names[at:at + 2], at, 300)]
     for at, listing in enumerate(('chains', 'vector')):
         series = {name: [(row['listed'], row['own']) for row in rows if (row['list'], row['call']) == (listing, call)]
                   for call, name in calls.items()}
