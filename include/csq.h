@@ -203,11 +203,11 @@ enum csq_use_verdict {
 /* How a queue keeps its list: in one vector, which is used as a ring, or in chains (one over all listed IRPs, one for
  * each file object). The vector is the faster one where the next IRP is removed whatever its file object. But a removal
  * from its middle moves the IRPs on the shorter side, and a look for a file object walks past those of others; the chains
- * take the same time however many are listed. With CSQ_AUTO the library takes the vector for a queue of at most
- * CSQ_AUTO_VECTOR_IRPS IRPs, and the chains for a larger one. Since: 1.1. */
+ * take as many steps however many are listed. With CSQ_AUTO the library takes the vector for a queue of at most
+ * CSQ_AUTO_VECTOR_IRPS IRPs, and the chains for a larger one. CSQ_AUTO is there since 1.1. */
 enum { CSQ_VECTOR = 0, CSQ_CHAINS = 1, CSQ_AUTO = 2, CSQ_AUTO_VECTOR_IRPS = 64 };
 
-/* The most IRPs, file objects and passes of a queue, and an IRP's last life. */
+/* The most IRPs, file objects and passes of a queue (1,024, 256 and 64 in version 1.0), and an IRP's last life. */
 enum { CSQ_MOST_IRPS = 65535, CSQ_MOST_FILES = 16384, CSQ_MOST_PASSES = 1024, CSQ_LAST_LIFE = 0x3FFFFFFF };
 
 /* In the place of a file object: of whatever file object. In the place of a listed IRP: from the first on. */
@@ -266,8 +266,8 @@ CSQ_NODISCARD uint32_t csq_new_queue_with_file_limits(struct csq_queue *queue, c
                                                       const uint32_t *file_limits, size_t count);
 
 /* Makes a queue, as IoCsqInitializeEx does: no IRP is used, and each file object is open. With CSQ_AUTO as its list the
- * time of a later call doesn't grow with the number of listed IRPs, but for csq_remove_next past those that a canceller has,
- * csq_peek_next from an IRP of another file object, and the judges. That of this call, of csq_free and of csq_take_pass of
+ * steps of a later call don't grow with the number of listed IRPs, but for csq_remove_next past those that a canceller has,
+ * csq_peek_next from an IRP of another file object, csq_drain and csq_cleanup, and the judges. The time of this call, of csq_free and of csq_take_pass of
  * a new pass grows with the number of the queue's IRPs, and of this call and csq_free also with that of file objects.
  * CSQ_NOT_EMPTY; CSQ_BAD_SIZE; CSQ_NO_MEMORY. Lock: not needed, for no other thread knows the queue yet. */
 CSQ_NODISCARD CSQ_INLINE uint32_t csq_new(struct csq_queue *queue, const struct csq_size *size) {

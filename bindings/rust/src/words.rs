@@ -67,7 +67,7 @@ pub enum List {
     /// In one vector, used as a ring: the faster one where the next IRP is removed whatever its file object. A removal from
     /// its middle moves the IRPs on the shorter side.
     Vector,
-    /// In chains, one over all listed IRPs and one for each file object: as fast however many are listed.
+    /// In chains, one over all listed IRPs and one for each file object: as many steps however many are listed.
     Chains,
     /// In the vector if the queue has at most [`Size::AUTO_VECTOR_IRPS`] IRPs, else in the chains.
     #[default]

@@ -83,7 +83,7 @@ pub struct CsqSize {
     pub passes: u32,
     /// The life in which all IRPs begin, at most 2^30 - 1.
     pub first_life: u32,
-    /// How the list is kept: 0 in one vector, 1 in chains, 2 in whichever is the better one for so many IRPs.
+    /// How the list is kept: 0 in one vector, 1 in chains, 2 as `ListKind::for_irps` chooses.
     pub list: u32,
 }
 

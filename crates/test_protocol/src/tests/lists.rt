@@ -230,8 +230,8 @@ const SHIFTING: Size<'static> = Size {
     file_limits: None,
 };
 
-/// 60,000 inserts at a place: more than a vector has positions on either side of the middle. Each time the
-/// oldest IRP of three goes.
+/// 60,000 inserts at a place, so that the positions of a vector move far from the middle. Each time the oldest
+/// IRP of three goes.
 fn keep_coming(rt: &impl Abort, lists: &mut Lists<'_>, place: Place) {
     for turn in 0u32..60_000 {
         let oldest = IrpId(turn.wrapping_add(1) % 3);
