@@ -77,8 +77,8 @@ impl AnyList {
     }
 
     /// An empty list of this kind with a limit for each file object, as
-    /// `VecList::large_with_file_limits` makes it. Refused as `new` is, and with `BadSize` also where the limits aren't one for each file object, or
-    /// one of them isn't 1 to `irps`.
+    /// `VecList::large_with_file_limits` makes it. Refused as `new` is, and with `BadSize` also if the
+    /// limits aren't one for each file object, or one of them isn't 1 to `irps`.
     pub fn with_file_limits(
         alloc: Global,
         kind: ListKind,
