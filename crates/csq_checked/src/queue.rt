@@ -17,7 +17,7 @@ use crate::pass::CheckedPass;
 use crate::size::{PassRefused, QueueSize};
 use crate::slots::Slots;
 use csq_list::{AnyList, PendingList};
-use csq_queue::{Blank, OpenQueue, OpenRack, Rest};
+use csq_queue::{Blank, NewCause, OpenQueue, OpenRack, Rest};
 use csq_words::Words;
 use irp_core::SizeRefused;
 use std::alloc::Global;
@@ -136,8 +136,9 @@ impl CheckedQueue {
         ensures ok { IsOk result → IsOk list }
     {
         let list = list?;
-        let Ok(blank) = Blank::large(alloc, list, size.irps, size.passes, size.first) else {
-            return Err(SizeRefused::Memory);
+        let blank = match Blank::large(alloc, list, size.irps, size.passes, size.first) {
+            Ok(blank) => blank,
+            Err(refused) => return Err(memory_refused(refused.cause)),
         };
         let (queue, words, rack) = blank.into_open();
         let Ok(words) = Arc::new(alloc, words) else {
@@ -304,6 +305,19 @@ impl CheckedQueue {
                 idle,
             }),
         }
+    }
+}
+
+/// The refusal of a queue whose size is in its limits and whose list is fresh: only memory can lack.
+fn memory_refused(cause: NewCause) -> SizeRefused
+    requires size { ¬ (cause ≡ NewCause.BadSize) }
+    requires fresh { ¬ (cause ≡ NewCause.ListNotFresh) }
+    ensures { result ≡ SizeRefused.Memory }
+{
+    match cause {
+        NewCause::Memory => SizeRefused::Memory,
+        // The caller has seen that it isn't one of these.
+        NewCause::BadSize | NewCause::ListNotFresh => unreachable!(),
     }
 }
 
