@@ -127,14 +127,26 @@ static void end_removed(struct csq_pass *pass, uint32_t code, struct csq_irp irp
     }
 }
 
+/* Puts back what a removal got. A cancel takes no lock, so it may have come since: then this pass completes the IRP. */
+static void return_to_queue(struct csq_pass *pass, struct csq_irp irp) {
+    struct csq_irp context = irp;
+    uint32_t code = csq_put_back(&queue, pass, irp, 0, &context);
+    if (code == CSQ_CANCELLED) {
+        note(NULL, irp);
+        removed++;
+        fault_unless(csq_complete_cancelled(pass, irp) == CSQ_OK);
+    } else {
+        went_back++;
+        fault_unless(code == CSQ_OK);
+    }
+}
+
 static void remove_next(struct csq_pass *pass, uint32_t file, int puts_back) {
     struct csq_irp irp = { 0, 0 };
     pthread_mutex_lock(&mutex);
     uint32_t code = csq_remove_next(&queue, pass, file, &irp);
     if (code == CSQ_OK && puts_back) {
-        struct csq_irp context = irp;
-        fault_unless(csq_put_back(&queue, pass, irp, 0, &context) == CSQ_OK);
-        went_back++;
+        return_to_queue(pass, irp);
         code = csq_remove_next(&queue, pass, file, &irp);
     }
     pthread_mutex_unlock(&mutex);
