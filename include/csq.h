@@ -201,7 +201,7 @@ enum csq_use_verdict {
 };
 
 /* How a queue keeps its list: in one vector, which is used as a ring, or in chains (one over all listed IRPs, one for
- * each file object). The vector is the faster one where the next IRP is removed whatever its file object. But a removal
+ * each file object). The vector is the faster one if the next IRP is removed whatever its file object. But a removal
  * from its middle moves the IRPs on the shorter side, and a look for a file object walks past those of others; the chains
  * take as many steps however many are listed. With CSQ_AUTO the library takes the vector for a queue of at most
  * CSQ_AUTO_VECTOR_IRPS IRPs, and the chains for a larger one. CSQ_AUTO is there since 1.1. */

@@ -64,7 +64,7 @@ pub enum Peek {
 /// How a queue keeps its list.
 #[derive(Clone, Copy, Debug, Default, PartialEq, Eq, Hash)]
 pub enum List {
-    /// In one vector, used as a ring: the faster one where the next IRP is removed whatever its file object. A removal from
+    /// In one vector, used as a ring: the faster one if the next IRP is removed whatever its file object. A removal from
     /// its middle moves the IRPs on the shorter side.
     Vector,
     /// In chains, one over all listed IRPs and one for each file object: as many steps however many are listed.
