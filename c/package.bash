@@ -124,12 +124,16 @@ csq_add_iocsq() {
     "library=../../../$LIBDIR/libcsq.a" >"$share/installed"
 }
 
-# Makes the versions of symbols, WORK/map, and adds the man pages, and csqsim if there is one: csq_add_made TOP WORK PROGRAM
+# Makes the versions of symbols, WORK/map, and adds the man pages, and csqsim with its completions if there is one:
+# csq_add_made TOP WORK PROGRAM
 csq_add_made() {
   local top=$1 work=$2 tree=$2/tree program=$3 page pages=(csq.3 csq_requests.3)
   if [[ $program ]]; then
     install -D -m 755 "$program" "$tree/bin/csqsim"
     pages+=(csqsim.1)
+    "$top/c/package/made" "$work" csqsim.bash _csqsim
+    install -D -m 644 "$work/csqsim.bash" "$tree/share/bash-completion/completions/csqsim"
+    install -D -m 644 "$work/_csqsim" "$tree/share/zsh/site-functions/_csqsim"
   fi
   "$top/c/package/made" "$work" map "${pages[@]}"
   for page in "${pages[@]}"; do
@@ -151,7 +155,7 @@ csq_package() {
   csq_link "$top" "$work" "$version" "csq $version proved=$proved${kit:+ kit=$kit}" "$@"
   local values=("VERSION=$version" "MAJOR=${version%%.*}" "LIBDIR=$LIBDIR" "PREFIX=${prefix// /\\ }"
     "TO_PREFIX=$(realpath -ms --relative-to="/$LIBDIR/cmake/csq" /)" "PROVED=$proved" "KIT=$kit")
-  install -D -m 644 -t "$tree/include/keuvatsi" "$top/include/csq.h" "$top/include/csq_requests.h"
+  install -D -m 644 -t "$tree/include/keuvatsi" "$top"/include/csq{,_requests,_requests_inside}.h
   csq_add_iocsq "$top" "$tree"
   mkdir -p "$lib/pkgconfig" "$lib/cmake/csq"
   csq_fill "$top/c/package/csq.pc.in" "${values[@]}" >"$lib/pkgconfig/csq.pc"

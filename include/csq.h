@@ -51,17 +51,17 @@
  * library that was compiled without it, so this header reports that order to it in a program that is compiled with it
  * (CSQ_NO_TSAN, defined before, leaves that out).
  *
- * The answer of a call is a code of the one table below. Where several would fit it is the first one tested:
+ * What a call returns is a code of the one table below. If several would fit it is the first one tested:
  * whether handles are filled or empty, in the order of the parameters; whether the pass is this queue's; whether the
  * queue is closed; then the causes in the order in which the call's comment names them. A closed queue has no pass, so
- * a call that takes a queue and a filled pass answers CSQ_OTHER_QUEUE of it. A refusal, which is any answer but CSQ_OK
+ * a call that takes a queue and a filled pass returns CSQ_OTHER_QUEUE of it. A refusal, which is any code but CSQ_OK
  * and the CSQ_CANCELLED of csq_insert and csq_put_back, changes nothing and writes nothing, but for the life that
  * csq_read_status stores. (csq_drain and csq_cleanup are made of several calls: what they did before a refusal stays
  * done.) CSQ_EMPTY_HANDLE of a handle that is filled says that two calls had it at once: the lock is missing somewhere.
  *
  * What the caller must uphold, which nothing checks:
  *
- * - A handle begins as CSQ_EMPTY (or with all bytes 0), and these calls alone fill and empty it. It is empty where
+ * - A handle begins as CSQ_EMPTY (or with all bytes 0), and these calls alone fill and empty it. It is empty if
  *   its field `at` is NULL. It is not copied, but may be moved while no call uses it (a callback is inside of its
  *   call); what it points to is not read or written.
  * - A handle is in one call at a time. For a queue that is the lock: of csq_cancel, csq_cleanup and csq_drain the
@@ -71,7 +71,7 @@
  * - Pointers are valid for what is read and written through them, none is null, and those of one call don't overlap.
  * - malloc, realloc and free are of one allocator, and may be called by several threads at once.
  * - No call is made in a signal handler, in the forked child of a process with threads, or with less than 8 KB of
- *   the stack left. (Measured with glibc: csq_new takes 3.1 KB, each other call less than 1.3 KB. Where the dynamic
+ *   the stack left. (Measured with glibc: csq_new takes 3.1 KB, each other call less than 1.3 KB. If the dynamic
  *   linker binds malloc or free at its first call, that call takes up to 3.1 KB more.)
  */
 #ifndef CSQ_H
@@ -104,7 +104,7 @@
 extern "C" {
 #endif
 
-/* What a call answers. */
+/* What a call returns. */
 enum csq_code {
     CSQ_OK = 0,
     /* The IRP's number isn't below the queue's number of IRPs. */
@@ -163,7 +163,7 @@ enum csq_code {
 
 /* Since: 1.1. What csq_judge_peek says of an answer, the first that holds: */
 enum csq_peek_verdict {
-    /* It is what csq_peek_next answers. */
+    /* It is what csq_peek_next returns. */
     CSQ_PEEK_AGREES = 0,
     /* It is none, or a later match: another match comes first. */
     CSQ_PEEK_SKIPS = 1,
@@ -252,9 +252,9 @@ struct csq_size {
 /* What a closed queue reports of an IRP in its present life. */
 struct csq_left {
     uint32_t life;
-    uint32_t cancelled; /* 1 where its Cancel flag is set, else 0 */
-    uint32_t completed; /* 1 where it was completed, else 0 */
-    uint32_t status;    /* what it was completed with; 0 where it wasn't */
+    uint32_t cancelled; /* 1 if its Cancel flag is set, else 0 */
+    uint32_t completed; /* 1 if it was completed, else 0 */
+    uint32_t status;    /* what it was completed with; 0 if it wasn't */
 };
 
 /* ---- A queue's beginning and end ---- */
@@ -267,8 +267,10 @@ CSQ_NODISCARD uint32_t csq_new_queue_with_file_limits(struct csq_queue *queue, c
 
 /* Makes a queue, as IoCsqInitializeEx does: no IRP is used, and each file object is open. With CSQ_AUTO as its list the
  * steps of a later call don't grow with the number of listed IRPs, but for csq_remove_next past those that a canceller has,
- * csq_peek_next from an IRP of another file object, csq_drain and csq_cleanup, and the judges. The time of this call, of csq_free and of csq_take_pass of
- * a new pass grows with the number of the queue's IRPs, and of this call and csq_free also with that of file objects.
+ * csq_peek_next from an IRP of another file object, csq_drain and csq_cleanup, and the judges. The time of this call, of
+ * csq_free and of csq_take_pass of a new pass grows with the number of the queue's IRPs, that of this call and csq_free with
+ * that of file objects, and that of this call, csq_take_pass, csq_count_passes_out, csq_close and csq_free with that of
+ * passes.
  * CSQ_NOT_EMPTY; CSQ_BAD_SIZE; CSQ_NO_MEMORY. Lock: not needed, for no other thread knows the queue yet. */
 CSQ_NODISCARD CSQ_INLINE uint32_t csq_new(struct csq_queue *queue, const struct csq_size *size) {
     uint32_t code = csq_new_queue(queue, size);
@@ -307,8 +309,8 @@ CSQ_NODISCARD CSQ_INLINE uint32_t csq_free(struct csq_queue *queue) {
 uint32_t csq_count_passes_out(const struct csq_queue *queue, uint32_t *out);
 
 /* Closes the queue, once no pass is out. The same handle is the closed queue then, which reports what is left
- * (csq_read_listed, csq_read_left), is freed by csq_free, and answers CSQ_CLOSED to csq_take_pass and to any call of a
- * queue alone that wants it open.
+ * (csq_read_listed, csq_read_left) and is freed by csq_free; csq_take_pass and any call of a queue alone that wants it
+ * open return CSQ_CLOSED.
  * CSQ_EMPTY_HANDLE; CSQ_CLOSED; CSQ_PASSES_OUT. Lock: held, or no other thread uses the queue any more. */
 CSQ_NODISCARD uint32_t csq_close(struct csq_queue *queue);
 
@@ -351,7 +353,7 @@ uint32_t csq_count_held(const struct csq_pass *pass, uint32_t *held, uint32_t *o
 
 /* ---- Under the lock ---- */
 
-/* Inserts an IRP for a file object (IoCsqInsertIrpEx), at the list's end, or at its front where `front` isn't 0,
+/* Inserts an IRP for a file object (IoCsqInsertIrpEx), at the list's end, or at its front if `front` isn't 0,
  * and sets its cancel routine (IoSetCancelRoutine). CSQ_OK: it is pending. CSQ_CANCELLED: it was cancelled before,
  * so it isn't listed, the pass holds it, and csq_complete_cancelled is due. In both cases *context names the IRP
  * in its life.
@@ -366,13 +368,13 @@ CSQ_NODISCARD uint32_t csq_insert(struct csq_queue *queue, struct csq_pass *pass
 CSQ_NODISCARD uint32_t csq_remove_next(struct csq_queue *queue, struct csq_pass *pass, uint32_t file,
                                        struct csq_irp *irp);
 
-/* Removes the IRP of an insert context (IoCsqRemoveIrp). The pass holds it then. CSQ_NONE where the IRP isn't
+/* Removes the IRP of an insert context (IoCsqRemoveIrp). The pass holds it then. CSQ_NONE if the IRP isn't
  * listed in that life, or a canceller has it; also for an unknown IRP.
  * CSQ_EMPTY_HANDLE; CSQ_OTHER_QUEUE; CSQ_NONE. Lock: held. */
 CSQ_NODISCARD uint32_t csq_remove(struct csq_queue *queue, struct csq_pass *pass, struct csq_irp irp);
 
 /* Puts an IRP back that the pass got by a removal in this life (IoCsqInsertIrpEx of an IRP that was removed): lists it
- * for the file object that it was inserted for, at the list's end, or at its front where `front` isn't 0, and sets its
+ * for the file object that it was inserted for, at the list's end, or at its front if `front` isn't 0, and sets its
  * cancel routine. For a worker that can't serve it now, as while its device is busy. CSQ_OK: it is pending, and the pass
  * holds it no longer. CSQ_CANCELLED: it was cancelled while a pass held it, so that no canceller has it; it isn't
  * listed, the pass holds it as cancelled, and csq_complete_cancelled is due. In both cases *context names the IRP as
@@ -407,7 +409,7 @@ CSQ_NODISCARD uint32_t csq_reuse(struct csq_queue *queue, struct csq_pass *pass,
 /* ---- What a driver does, beside this queue, under the lock ---- */
 
 /* Removes an IRP beside a driver that removes it (IoCsqRemoveIrp), as csq_remove does, and stores one of enum
- * csq_remove_verdict: where it agrees, csq_remove would answer CSQ_OK, and the pass holds the IRP then. Whether another
+ * csq_remove_verdict: if it agrees, csq_remove would return CSQ_OK, and the pass holds the IRP then. Whether another
  * is listed is decided by its number. CSQ_EMPTY_HANDLE; CSQ_OTHER_QUEUE. Lock: held. Since: 1.1. */
 uint32_t csq_judge_remove(struct csq_queue *queue, struct csq_pass *pass, struct csq_irp irp, uint32_t *verdict);
 
@@ -420,19 +422,19 @@ uint32_t csq_judge_complete(struct csq_queue *queue, struct csq_pass *pass, stru
 
 /* Judges the insert of an IRP that was in this queue before, in the life that it has there (IoCsqInsertIrpEx). A driver
  * may insert again what it removed, but not what is listed, or was given to it as cancelled. Stores one of enum
- * csq_use_verdict, never CSQ_USE_NOT_FINAL. Where it agrees the IRP is completed, so that csq_reuse begins its next
+ * csq_use_verdict, never CSQ_USE_NOT_FINAL. If it agrees the IRP is completed, so that csq_reuse begins its next
  * life, in which csq_insert takes it. CSQ_EMPTY_HANDLE; CSQ_OTHER_QUEUE. Lock: held. Since: 1.1. */
 uint32_t csq_judge_insert(struct csq_queue *queue, struct csq_pass *pass, struct csq_irp irp, uint32_t *verdict);
 
 /* ---- Looks at an open queue, under the lock ---- */
 
-/* Stores the first listed IRP of a file object, or of any for CSQ_ANY, in its present life: from the first on where
+/* Stores the first listed IRP of a file object, or of any for CSQ_ANY, in its present life: from the first on if
  * `after` is CSQ_ANY, else after that one (CsqPeekNextIrp). It may be one whose cancel routine a canceller has taken,
  * which is listed until that canceller has run it. CSQ_NONE also for an unknown file object.
  * CSQ_EMPTY_HANDLE; CSQ_CLOSED; CSQ_NOT_LISTED (`after` isn't listed); CSQ_NONE. Lock: held. */
 uint32_t csq_peek_next(const struct csq_queue *queue, uint32_t after, uint32_t file, struct csq_irp *irp);
 
-/* Judges what a driver's own CsqPeekNextIrp answered for its list, beside this queue's: `answer`, or CSQ_ANY for none,
+/* Judges what a driver's own CsqPeekNextIrp returned for its list, beside this queue's: `answer`, or CSQ_ANY for none,
  * to a peek that went on after `after`, or from the first on for CSQ_ANY, for a file object, or for any with CSQ_ANY.
  * Stores one of enum csq_peek_verdict, and for CSQ_PEEK_SKIPS in *skipped the match that comes first.
  * CSQ_EMPTY_HANDLE; CSQ_CLOSED; CSQ_NOT_LISTED (`after` isn't listed). Lock: held. Since: 1.1. */
@@ -455,9 +457,9 @@ uint32_t csq_file_len(const struct csq_queue *queue, uint32_t file, uint32_t *le
 /* ---- Without the lock ---- */
 
 /* What IoCancelIrp does first: sets the Cancel flag of an IRP in the life named, then exchanges its cancel routine
- * for none. *found is 1 where the routine was there: the pass owes the IRP, and csq_cancel_owed is due. It is 0
- * where the IRP isn't listed, or a pass, perhaps this one, has it. An insert or a put-back that comes later finds the
- * flag, and answers CSQ_CANCELLED unless another canceller has the IRP by then.
+ * for none. *found is 1 if the routine was there: the pass owes the IRP, and csq_cancel_owed is due. It is 0
+ * if the IRP isn't listed, or a pass, perhaps this one, has it. An insert or a put-back that comes later finds the
+ * flag, and returns CSQ_CANCELLED unless another canceller has the IRP by then.
  * CSQ_EMPTY_HANDLE; CSQ_UNKNOWN_IRP; CSQ_STALE. Lock: not needed. */
 CSQ_NODISCARD uint32_t csq_mark_cancel(struct csq_pass *pass, struct csq_irp irp, uint32_t *found);
 
@@ -470,12 +472,12 @@ CSQ_NODISCARD uint32_t csq_complete(struct csq_pass *pass, struct csq_irp irp, u
  * CSQ_EMPTY_HANDLE; CSQ_UNKNOWN_IRP; CSQ_NOT_HELD. Lock: not needed. */
 CSQ_NODISCARD uint32_t csq_complete_cancelled(struct csq_pass *pass, struct csq_irp irp);
 
-/* Reads the Cancel flag of an IRP (Irp->Cancel): the life that it stands for, and 1 where it is set there, else 0.
+/* Reads the Cancel flag of an IRP (Irp->Cancel): the life that it stands for, and 1 if it is set there, else 0.
  * CSQ_EMPTY_HANDLE; CSQ_UNKNOWN_IRP. Lock: not needed. */
 uint32_t csq_read_cancel(struct csq_pass *pass, uint32_t irp, uint32_t *life, uint32_t *cancelled);
 
 /* Reads the status of an IRP (Irp->IoStatus.Status): the life that it stands for, and what the IRP was completed
- * with in that life. CSQ_NONE where it isn't completed there; then *life is written, and *status isn't.
+ * with in that life. CSQ_NONE if it isn't completed there; then *life is written, and *status isn't.
  * CSQ_EMPTY_HANDLE; CSQ_UNKNOWN_IRP; CSQ_NONE. Lock: not needed. */
 uint32_t csq_read_status(struct csq_pass *pass, uint32_t irp, uint32_t *life, uint32_t *status);
 
@@ -586,9 +588,9 @@ CSQ_INLINE const char *csq_name(uint32_t code) {
     return code < sizeof names / sizeof *names ? names[code] : "?";
 }
 
-/* The NTSTATUS that a driver's dispatch routine answers after csq_insert answered this code: STATUS_PENDING where the
+/* The NTSTATUS that a driver's dispatch routine returns after csq_insert returned this code: STATUS_PENDING if the
  * IRP was accepted, or was found cancelled and is completed so; STATUS_FILE_CLOSED and STATUS_INSUFFICIENT_RESOURCES
- * where the file object or the list took no more; STATUS_INVALID_PARAMETER for what is a fault of the program's. Lock:
+ * if the file object or the list took no more; STATUS_INVALID_PARAMETER for what is a fault of the program's. Lock:
  * not needed. */
 CSQ_INLINE uint32_t csq_insert_status(uint32_t code) {
     switch (code) {
@@ -703,10 +705,10 @@ CSQ_NODISCARD CSQ_INLINE uint32_t csq_cleanup_with(struct csq_queue *queue, stru
     return code == CSQ_OK ? csq_drain_with(queue, pass, file, lock, events, completed) : code;
 }
 
-/* Cancels an IRP in the life named (IoCancelIrp): csq_mark_cancel, and where the routine was there the callback, which
- * may be NULL, and csq_cancel_owed under the lock. *completed is 1 where the IRP was completed here, else 0. While the
+/* Cancels an IRP in the life named (IoCancelIrp): csq_mark_cancel, and if the routine was there the callback, which
+ * may be NULL, and csq_cancel_owed under the lock. *completed is 1 if the IRP was completed here, else 0. While the
  * callback is called with the IRP it is listed still, so it counts for the limits and for csq_file_len.
- * CSQ_EMPTY_HANDLE; CSQ_OTHER_QUEUE; CSQ_UNKNOWN_IRP; CSQ_STALE. Lock: not held; it is taken only where the routine was
+ * CSQ_EMPTY_HANDLE; CSQ_OTHER_QUEUE; CSQ_UNKNOWN_IRP; CSQ_STALE. Lock: not held; it is taken only if the routine was
  * there. */
 CSQ_NODISCARD CSQ_INLINE uint32_t csq_cancel(struct csq_queue *queue, struct csq_pass *pass, struct csq_irp irp,
                                                 const struct csq_lock *lock, const struct csq_callback *callback,

@@ -5,7 +5,7 @@
  * header's own affair, and a worker waits for the next request.
  *
  *     struct csq_requests *requests = NULL;
- *     const struct csq_size size = { .irps = 64, .files = 4, .limit = 64, .passes = 1 };
+ *     const struct csq_size size = { .irps = 64, .files = 4, .limit = 64, .passes = 1, .list = CSQ_AUTO };
  *     code = csq_requests_new(&requests, &size, NULL, NULL);
  *     code = csq_requests_submit(requests, job, connection, 0, &name);
  *
@@ -65,6 +65,9 @@ struct csq_requests_events {
     void *context;
 };
 
+/* A queue of requests, whose fields are nobody else's. */
+struct csq_requests;
+
 /* A request that was taken. */
 struct csq_request {
     struct csq_irp name;
@@ -72,250 +75,14 @@ struct csq_request {
     void *value;
 };
 
-/* What is known of an IRP. */
-struct csq_requests_slot {
-    void *value;
-    uint32_t file;
-    uint32_t used; /* 1 while a request of it is under way */
-};
-
-/* What is known of a file object, and of all of them. */
-struct csq_requests_file {
-    pthread_cond_t listed; /* signalled when a request is listed that its workers wait for */
-    uint32_t waiting;      /* how many wait for that */
-    uint32_t draining;     /* how many drains wait for `ended` */
-    uint32_t under_way;    /* how many requests */
-};
-
-/* A queue of requests. Its fields are this header's own. The pass is used under the mutex alone. */
-struct csq_requests {
-    pthread_mutex_t mutex;
-    pthread_cond_t ended; /* signalled for drains when a request that they wait for ends or is put back */
-    struct csq_queue queue;
-    struct csq_pass pass;
-    struct csq_size size;
-    struct csq_requests_events events;
-    struct csq_requests_slot *slots; /* by IRP */
-    struct csq_requests_file *files; /* by file object, and last for all */
-    uint32_t *free_irps; /* a ring: the one that has been free longest is used next, so that all wear evenly */
-    uint32_t free_first;
-    uint32_t free_count;
-    uint32_t spent; /* how many IRPs are past their last life */
-    uint32_t closed;
-};
-
-/* ---- What the calls are made of ---- */
-
-/* What is known of a file object, or of all for CSQ_ANY. */
-static inline struct csq_requests_file *csq_requests_file_of(struct csq_requests *requests, uint32_t file) {
-    return &requests->files[file == CSQ_ANY ? requests->size.files : file];
-}
-
-static inline uint32_t csq_requests_knows(const struct csq_requests *requests, uint32_t file) {
-    return file == CSQ_ANY || file < requests->size.files;
-}
-
-/* When so many milliseconds are over; not looked at if nobody waits, or there is no limit. */
-static inline struct timespec csq_requests_end_of(uint32_t milliseconds) {
-    struct timespec end = { 0, 0 };
-    if (milliseconds == 0 || milliseconds == CSQ_FOREVER) {
-        return end;
-    }
-    clock_gettime(CLOCK_MONOTONIC, &end);
-    end.tv_sec += (time_t)(milliseconds / 1000);
-    end.tv_nsec += (long)(milliseconds % 1000) * 1000000;
-    if (end.tv_nsec >= 1000000000) {
-        end.tv_sec++;
-        end.tv_nsec -= 1000000000;
-    }
-    return end;
-}
-
-/* Waits for a signal, at most until `end` unless there is no limit. 1 if the time is over. */
-static inline int csq_requests_wait(struct csq_requests *requests, pthread_cond_t *signal, uint32_t milliseconds,
-                                    const struct timespec *end) {
-    if (milliseconds == CSQ_FOREVER) {
-        pthread_cond_wait(signal, &requests->mutex);
-        return 0;
-    }
-    return pthread_cond_timedwait(signal, &requests->mutex, end) == ETIMEDOUT;
-}
-
-/* Wakes the drains, if one of them waits for this file object. */
-static inline void csq_requests_wake_drains(struct csq_requests *requests, uint32_t file) {
-    if (csq_requests_file_of(requests, file)->draining + csq_requests_file_of(requests, CSQ_ANY)->draining > 0) {
-        pthread_cond_broadcast(&requests->ended);
-    }
-}
-
-/* Wakes one of those who wait for this file object, one of those who wait for any, and drains. */
-static inline void csq_requests_signal(struct csq_requests *requests, uint32_t file) {
-    struct csq_requests_file *one = csq_requests_file_of(requests, file);
-    struct csq_requests_file *all = csq_requests_file_of(requests, CSQ_ANY);
-    if (one->waiting > 0) {
-        pthread_cond_signal(&one->listed);
-    }
-    if (all->waiting > 0) {
-        pthread_cond_signal(&all->listed);
-    }
-    csq_requests_wake_drains(requests, file);
-}
-
-/* The place of a free IRP in the ring. */
-static inline uint32_t *csq_requests_free_at(struct csq_requests *requests, uint32_t index) {
-    return &requests->free_irps[(requests->free_first + index) % requests->size.irps];
-}
-
-/* Begins the next life of an IRP that was completed, and makes it free. */
-static inline void csq_requests_release(struct csq_requests *requests, struct csq_irp name) {
-    struct csq_requests_slot *slot = &requests->slots[name.irp];
-    uint32_t life = 0;
-    if (csq_reuse(&requests->queue, &requests->pass, name, &life) == CSQ_OK) {
-        *csq_requests_free_at(requests, requests->free_count++) = name.irp;
-    } else { /* CSQ_LIVES_SPENT */
-        requests->spent++;
-    }
-    slot->used = 0;
-    csq_requests_file_of(requests, slot->file)->under_way--;
-    csq_requests_file_of(requests, CSQ_ANY)->under_way--;
-    csq_requests_wake_drains(requests, slot->file);
-}
-
-/* Completes a request as cancelled that the pass holds, with the events. The mutex is held before and after. */
-static inline void *csq_requests_end_cancelled(struct csq_requests *requests, struct csq_irp name) {
-    const struct csq_requests_events events = requests->events;
-    void *value = requests->slots[name.irp].value;
-    uint32_t code;
-    if (events.before_completion) {
-        pthread_mutex_unlock(&requests->mutex);
-        events.before_completion(events.context, name, value);
-        pthread_mutex_lock(&requests->mutex);
-    }
-    /* Never refused: the pass holds the IRP, and nobody else names it to a call that ends it. */
-    code = csq_complete_cancelled(&requests->pass, name);
-    (void)code;
-    csq_requests_release(requests, name);
-    if (events.after_completion) {
-        pthread_mutex_unlock(&requests->mutex);
-        events.after_completion(events.context, name, value);
-        pthread_mutex_lock(&requests->mutex);
-    }
-    return value;
-}
-
-/* Lists a value under the IRP that has been free longest. */
-static inline uint32_t csq_requests_list(struct csq_requests *requests, void *value, uint32_t file, uint32_t front,
-                                         struct csq_irp *name) {
-    uint32_t irp, code;
-    if (requests->closed) {
-        return CSQ_CLOSED;
-    }
-    if (requests->free_count == 0) {
-        return requests->spent == requests->size.irps ? (uint32_t)CSQ_LIVES_SPENT : (uint32_t)CSQ_FULL;
-    }
-    irp = *csq_requests_free_at(requests, 0);
-    /* Never CSQ_CANCELLED: a cancel by the name of a free IRP is refused. */
-    code = csq_insert(&requests->queue, &requests->pass, irp, file, front, name);
-    if (code == CSQ_OK) {
-        struct csq_requests_slot slot = { value, file, 1 };
-        requests->slots[irp] = slot;
-        requests->free_first = (requests->free_first + 1) % requests->size.irps;
-        requests->free_count--;
-        csq_requests_file_of(requests, file)->under_way++;
-        csq_requests_file_of(requests, CSQ_ANY)->under_way++;
-        csq_requests_signal(requests, file);
-    }
-    return code;
-}
-
-/* Drains with the mutex held. */
-static inline uint32_t csq_requests_drain_held(struct csq_requests *requests, uint32_t file, uint32_t milliseconds) {
-    const struct timespec end = csq_requests_end_of(milliseconds);
-    struct csq_irp name = { 0, 0 };
-    int over = milliseconds == 0;
-    for (;;) {
-        if (csq_remove_next(&requests->queue, &requests->pass, file, &name) == CSQ_OK) {
-            csq_requests_end_cancelled(requests, name);
-        } else if (csq_requests_file_of(requests, file)->under_way == 0) {
-            return CSQ_OK;
-        } else if (over) {
-            return CSQ_HOLDING;
-        } else {
-            csq_requests_file_of(requests, file)->draining++;
-            over = csq_requests_wait(requests, &requests->ended, milliseconds, &end);
-            csq_requests_file_of(requests, file)->draining--;
-        }
-    }
-}
-
-/* Frees what csq_requests_new has made so far: its file objects, and whether its mutex and its signal are there. */
-static inline void csq_requests_unmake(struct csq_requests *requests, uint32_t files, uint32_t whole) {
-    uint32_t code = requests->pass.at ? csq_give_back(&requests->queue, &requests->pass) : (uint32_t)CSQ_OK;
-    code |= csq_free(&requests->queue);
-    (void)code;
-    while (files > 0) {
-        pthread_cond_destroy(&requests->files[--files].listed);
-    }
-    if (whole) {
-        pthread_cond_destroy(&requests->ended);
-        pthread_mutex_destroy(&requests->mutex);
-    }
-    free(requests->slots);
-    free(requests->files);
-    free(requests->free_irps);
-    free(requests);
-}
-
-/* Makes the queue and its pass, and the memory beside them. */
-static inline uint32_t csq_requests_make(struct csq_requests *requests, const uint32_t *file_limits) {
-    const struct csq_size *size = &requests->size;
-    uint32_t irp, code = file_limits ? csq_new_with_file_limits(&requests->queue, size, file_limits, size->files)
-                                     : csq_new(&requests->queue, size);
-    if (code == CSQ_OK) {
-        code = csq_take_pass(&requests->queue, &requests->pass);
-    }
-    if (code != CSQ_OK) {
-        return code;
-    }
-    requests->slots = (struct csq_requests_slot *)calloc(size->irps, sizeof *requests->slots);
-    requests->files = (struct csq_requests_file *)calloc((size_t)size->files + 1, sizeof *requests->files);
-    requests->free_irps = (uint32_t *)calloc(size->irps, sizeof *requests->free_irps);
-    if (!requests->slots || !requests->files || !requests->free_irps) {
-        return CSQ_NO_MEMORY;
-    }
-    for (irp = 0; irp < size->irps; irp++) {
-        requests->free_irps[requests->free_count++] = irp;
-    }
-    return CSQ_OK;
-}
-
-/* Makes the mutex and the signals, which tell the time by a clock that nobody sets. Stores how many of the file objects'
- * there are, and in *whole whether the mutex and the drains' signal are. */
-static inline uint32_t csq_requests_make_signals(struct csq_requests *requests, uint32_t *files, uint32_t *whole) {
-    pthread_condattr_t monotonic;
-    if (pthread_condattr_init(&monotonic) != 0) {
-        return CSQ_NO_MEMORY;
-    }
-    pthread_condattr_setclock(&monotonic, CLOCK_MONOTONIC);
-    if (pthread_cond_init(&requests->ended, &monotonic) == 0) {
-        *whole = pthread_mutex_init(&requests->mutex, NULL) == 0;
-        if (!*whole) {
-            pthread_cond_destroy(&requests->ended);
-        }
-    }
-    while (*whole && *files <= requests->size.files &&
-           pthread_cond_init(&requests->files[*files].listed, &monotonic) == 0) {
-        ++*files;
-    }
-    pthread_condattr_destroy(&monotonic);
-    return *files > requests->size.files ? (uint32_t)CSQ_OK : (uint32_t)CSQ_NO_MEMORY;
-}
+#include "csq_requests_inside.h"
 
 /* ---- A queue's beginning and end ---- */
 
 /* Makes a queue of this size, whose number of passes isn't looked at: it takes one. With CSQ_AUTO as its list only this
- * call, csq_requests_close and csq_requests_free take the longer the more IRPs and file objects there are. `file_limits` is NULL, or has a limit for each file
- * object, as csq_new_with_file_limits takes them. `events` may be NULL. It is freed by csq_requests_free.
+ * call, csq_requests_close and csq_requests_free take the longer the more IRPs and file objects there are. `file_limits`
+ * is NULL, or has a limit for each file object, as csq_new_with_file_limits takes them. `events` may be NULL. It is freed
+ * by csq_requests_free.
  * CSQ_NOT_EMPTY (*requests isn't NULL); CSQ_BAD_SIZE; CSQ_NO_MEMORY. */
 CSQ_NODISCARD static inline uint32_t csq_requests_new(struct csq_requests **requests, const struct csq_size *size,
                                                       const uint32_t *file_limits,
@@ -380,24 +147,21 @@ CSQ_NODISCARD static inline uint32_t csq_requests_free(struct csq_requests **req
 
 /* ---- Requests ---- */
 
-/* Submits a value for a file object, at the list's end, or at its front if `front` isn't 0, wakes one who waits for it,
- * and stores the request's name. After a refusal the value is still the caller's.
+/* Submits a value for a file object, at the list's end, or at its front if `front` isn't 0, and wakes one who waits for it.
+ * Stores the request's name before anybody can take it, so *name may be a part of what `value` points to. After a refusal
+ * the value is still the caller's.
  * CSQ_UNKNOWN_FILE; CSQ_CLOSED; CSQ_LIVES_SPENT (each IRP is past its last life: a queue has 2^30 requests for each, and
  * then another has to be made); CSQ_FULL (all requests are under way, or as many are listed as the limit allows);
  * CSQ_FILE_CLOSED; CSQ_FILE_FULL. */
 CSQ_NODISCARD static inline uint32_t csq_requests_submit(struct csq_requests *requests, void *value, uint32_t file,
                                                          uint32_t front, struct csq_irp *name) {
-    struct csq_irp context = { 0, 0 };
     uint32_t code;
     if (file == CSQ_ANY || !csq_requests_knows(requests, file)) {
         return CSQ_UNKNOWN_FILE;
     }
     pthread_mutex_lock(&requests->mutex);
-    code = csq_requests_list(requests, value, file, front, &context);
+    code = csq_requests_list(requests, value, file, front, name);
     pthread_mutex_unlock(&requests->mutex);
-    if (code == CSQ_OK) {
-        *name = context;
-    }
     return code;
 }
 
@@ -433,12 +197,14 @@ CSQ_NODISCARD static inline uint32_t csq_requests_next(struct csq_requests *requ
 
 /* Completes a request that was taken, with any status but STATUS_PENDING. Its value is the caller's. (Once it is put back
  * it isn't the caller's to complete: whoever takes it next has it by the same name.)
- * CSQ_UNKNOWN_IRP; CSQ_NOT_HELD (it isn't taken: it was completed or put back); CSQ_NOT_FINAL. */
+ * CSQ_UNKNOWN_IRP; CSQ_NOT_HELD (it isn't taken: it was completed or put back); CSQ_NOT_REMOVED (its put-back returned
+ * CSQ_CANCELLED, and the status is another than STATUS_CANCELLED); CSQ_NOT_FINAL. */
 CSQ_NODISCARD static inline uint32_t csq_requests_complete(struct csq_requests *requests,
                                                            const struct csq_request *request, uint32_t status) {
     uint32_t code;
     pthread_mutex_lock(&requests->mutex);
-    code = csq_complete(&requests->pass, request->name, status);
+    code = status == CSQ_STATUS_CANCELLED ? csq_complete_cancelled(&requests->pass, request->name)
+                                          : csq_complete(&requests->pass, request->name, status);
     if (code == CSQ_OK) {
         csq_requests_release(requests, request->name);
     }
@@ -447,9 +213,10 @@ CSQ_NODISCARD static inline uint32_t csq_requests_complete(struct csq_requests *
 }
 
 /* Puts a request back that was taken, at the list's end, or at its front if `front` isn't 0, and wakes one who waits
- * for it: for a worker that can't serve it now. It keeps its name. CSQ_CANCELLED: a cancel has named it in the meantime,
- * so it is completed as cancelled, without the events, and its value is the caller's. After any other refusal it is still
- * taken. CSQ_UNKNOWN_IRP; CSQ_NOT_HELD; CSQ_FILE_CLOSED; CSQ_FILE_FULL; CSQ_FULL. */
+ * for it: for a worker that can't serve it now. It keeps its name. After a refusal it is still taken, so the worker
+ * completes it, and a drain waits for that. CSQ_UNKNOWN_IRP; CSQ_NOT_HELD; CSQ_NOT_REMOVED (a put-back before returned
+ * CSQ_CANCELLED); CSQ_FILE_CLOSED; CSQ_FILE_FULL; CSQ_FULL; CSQ_CANCELLED (a cancel has named it in the meantime: it is
+ * completed with STATUS_CANCELLED alone, and can't be put back). */
 CSQ_NODISCARD static inline uint32_t csq_requests_put_back(struct csq_requests *requests,
                                                            const struct csq_request *request, uint32_t front) {
     struct csq_irp context = { 0, 0 };
@@ -458,8 +225,6 @@ CSQ_NODISCARD static inline uint32_t csq_requests_put_back(struct csq_requests *
     code = csq_put_back(&requests->queue, &requests->pass, request->name, front, &context);
     if (code == CSQ_OK) {
         csq_requests_signal(requests, requests->slots[request->name.irp].file);
-    } else if (code == CSQ_CANCELLED && csq_complete_cancelled(&requests->pass, request->name) == CSQ_OK) {
-        csq_requests_release(requests, request->name);
     }
     pthread_mutex_unlock(&requests->mutex);
     return code;
@@ -475,7 +240,7 @@ static inline uint32_t csq_requests_is_cancelled(struct csq_requests *requests, 
 }
 
 /* Cancels a request by its name. CSQ_OK: it was listed; it is completed as cancelled, with the events, and *value is its
- * value. CSQ_NONE: it is taken, and whoever has it learns of the cancel (csq_requests_is_cancelled,
+ * value, as the events have left it. CSQ_NONE: it is taken, and whoever has it learns of the cancel (csq_requests_is_cancelled,
  * csq_requests_put_back). CSQ_STALE: it is not under way any more. CSQ_UNKNOWN_IRP: there is no such IRP. */
 CSQ_NODISCARD static inline uint32_t csq_requests_cancel(struct csq_requests *requests, struct csq_irp name,
                                                          void **value) {

@@ -68,7 +68,7 @@ VOID IocsqShowNext(VOID (*Show)(IOCSQ_REQUEST *Request, PVOID Context), PVOID Co
 BOOLEAN IocsqCancel(IOCSQ_REQUEST *Request);                    /* IoCancelIrp, at any time */
 BOOLEAN IocsqWait(IOCSQ_REQUEST *Request, ULONG Milliseconds);  /* whether it was completed by then */
 /* Whether it was completed in its time, as the policy has it (Within). If not, and the policy doesn't say that it may
- * wait (Waits), ends the program with a report: a wake-up was lost. In turns, while no other thread of the test does
+ * wait (Waits), or if it was cancelled, ends the program with a report. In turns, while no other thread of the test does
  * anything. */
 BOOLEAN IocsqExpectEnd(IOCSQ_REQUEST *Request);
 NTSTATUS IocsqStatus(IOCSQ_REQUEST *Request);                   /* STATUS_PENDING until it was */
@@ -81,6 +81,9 @@ VOID IocsqLimit(ULONG Seconds);
 
 /* IoCancelIrp of a request at random, also of one whose dispatch routine still runs, as another thread may. */
 BOOLEAN IocsqCancelAny(VOID);
+
+/* From now on one in so many calls by which the driver asks for memory, an IRP or a work item returns null. 0: none does. */
+VOID IocsqScarce(ULONG OneIn);
 
 /* Delays at random, at the places where another thread may come between. 0: none. */
 VOID IocsqChaos(ULONG Seed);

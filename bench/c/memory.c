@@ -3,22 +3,10 @@
  * block). The linker leads all calls for memory here (--wrap). */
 #define _POSIX_C_SOURCE 200809L
 #include "csq_requests.h"
+#include "../../c/tests/wrapped.h"
 
 #include <malloc.h>
 #include <stdio.h>
-
-void *__real_malloc(size_t bytes);
-void *__real_calloc(size_t count, size_t bytes);
-void *__real_realloc(void *block, size_t bytes);
-void *__real_aligned_alloc(size_t alignment, size_t bytes);
-int __real_posix_memalign(void **block, size_t alignment, size_t bytes);
-void __real_free(void *block);
-void *__wrap_malloc(size_t bytes);
-void *__wrap_calloc(size_t count, size_t bytes);
-void *__wrap_realloc(void *block, size_t bytes);
-void *__wrap_aligned_alloc(size_t alignment, size_t bytes);
-int __wrap_posix_memalign(void **block, size_t alignment, size_t bytes);
-void __wrap_free(void *block);
 
 static size_t taken;
 

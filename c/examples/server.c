@@ -22,7 +22,6 @@ static unsigned options[OPTIONS] = { 200, 16, 10, 4, 100 };
 struct connection {
     int fd;
     uint32_t file; /* its number */
-    unsigned jobs; /* that aren't answered */
     struct connection *next; /* while it is leaving, or free */
 };
 struct job { struct connection *connection; uint32_t id; }; /* what a request carries */
@@ -44,7 +43,6 @@ static void answer(struct job *job, uint32_t status) {
     ssize_t sent = send(job->connection->fd, &answer, sizeof answer, MSG_NOSIGNAL | MSG_DONTWAIT);
     (void)sent;
     ADD(*(status == CSQ_STATUS_SUCCESS ? &served : &cancelled), 1);
-    ADD(job->connection->jobs, -1U);
     free(job);
 }
 
@@ -55,26 +53,27 @@ static void before_completion(void *context, struct csq_irp name, void *value) {
 }
 
 /* ---- Workers ---- */
-static void serve(struct csq_request *request) {
-    struct job *job = request->value;
-    int needs_device = job->id % DEVICE == 0;
-    uint32_t code, status = csq_requests_is_cancelled(requests, request) ? CSQ_STATUS_CANCELLED : CSQ_STATUS_SUCCESS;
-    if (needs_device && __atomic_exchange_n(&device_busy, 1, __ATOMIC_SEQ_CST)) {
-        code = csq_requests_put_back(requests, request, 0); /* another worker may have it next */
-        must(code == CSQ_OK || code == CSQ_CANCELLED, "not put back");
-        if (code == CSQ_OK) {
-            ADD(went_back, 1);
-            sched_yield();
-        } else { /* its time is over, and it is completed */
-            answer(job, CSQ_STATUS_CANCELLED);
-        }
-        return;
-    }
-    answer(job, status);
-    if (needs_device) {
-        __atomic_store_n(&device_busy, 0, __ATOMIC_SEQ_CST);
-    }
+/* Answers a request before it completes it: once nothing is under way, nothing is answered any more. */
+static void finish(const struct csq_request *request, uint32_t status) {
+    answer(request->value, status);
     must(csq_requests_complete(requests, request, status) == CSQ_OK, "not completed");
+}
+
+static void serve(const struct csq_request *request) {
+    struct job *job = request->value;
+    if (csq_requests_is_cancelled(requests, request)) {
+        finish(request, CSQ_STATUS_CANCELLED);
+    } else if (job->id % DEVICE != 0) {
+        finish(request, CSQ_STATUS_SUCCESS);
+    } else if (!__atomic_exchange_n(&device_busy, 1, __ATOMIC_SEQ_CST)) {
+        finish(request, CSQ_STATUS_SUCCESS);
+        __atomic_store_n(&device_busy, 0, __ATOMIC_SEQ_CST);
+    } else if (csq_requests_put_back(requests, request, 0) == CSQ_OK) {
+        ADD(went_back, 1);
+        sched_yield(); /* another worker may have it next */
+    } else { /* its time is over */
+        finish(request, CSQ_STATUS_CANCELLED);
+    }
 }
 
 static void *work(void *unused) {
@@ -119,7 +118,6 @@ static void submit(struct connection *connection, uint32_t id) {
     struct csq_irp name;
     must(job != NULL, "no memory");
     *job = made;
-    ADD(connection->jobs, 1);
     ADD(submitted, 1);
     if (csq_requests_submit(requests, job, connection->file, 0, &name) == CSQ_OK) {
         unsigned long at = NOW(deadlines_added);
@@ -150,7 +148,7 @@ static void read_from(struct connection *connection) {
 static unsigned let_go(void) {
     unsigned gone = 0;
     for (struct connection **at = &leaving, *connection; (connection = *at) != NULL;) {
-        if (csq_requests_drain(requests, connection->file, 0) == CSQ_OK && NOW(connection->jobs) == 0) {
+        if (csq_requests_drain(requests, connection->file, 0) == CSQ_OK) {
             close(connection->fd);
             *at = connection->next;
             connection->next = free_connections;

@@ -159,6 +159,7 @@ static struct pair pair_by(call make) {
     for (int at = 0; at < 2; at++) {
         struct arguments queue = { &pair.queues[at], NULL };
         IS(make(queue), CSQ_OK);
+        IS(pair.queues[at].number, (uintptr_t)pair.queues[at].at);
         IS(csq_take_pass(&pair.queues[at], &pair.passes[at]), CSQ_OK);
     }
     return pair;

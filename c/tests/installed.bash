@@ -69,12 +69,13 @@ has_version() {
 
 # staged ARGUMENT..: all lies below DESTDIR, and nothing in it names that folder.
 staged() {
-  local stage="$work/the stage" prefix="$work/now here"
+  local stage="$work/the stage" prefix="$work/now here" header
   rm -rf "$stage"
   DESTDIR=$stage "$top/c/install" "$prefix" "$@" && [[ ! -e $prefix ]] &&
-    cmp "$top/include/csq.h" "$stage$prefix/include/keuvatsi/csq.h" &&
-    cmp "$top/include/csq_requests.h" "$stage$prefix/include/keuvatsi/csq_requests.h" && ! grep -rF "$stage" "$stage" &&
-    grep -xF "prefix=${prefix// /\\ }" "$stage$prefix/lib/pkgconfig/csq.pc"
+    ! grep -rF "$stage" "$stage" && grep -xF "prefix=${prefix// /\\ }" "$stage$prefix/lib/pkgconfig/csq.pc" || return 1
+  for header in include/keuvatsi/csq.h include/keuvatsi/csq_requests.h include/keuvatsi/csq_requests_inside.h; do
+    cmp "$top/include/${header##*/}" "$stage$prefix/$header" || return 1
+  done
 }
 
 # dist_twice FOLDER ORIGIN ARGUMENT..: the same bytes twice, with their checksums; unpacked, a README with its origin, whose
@@ -116,7 +117,7 @@ removed() {
     refuses "not installed" "$prefix" --uninstall
 }
 
-# interrupted PREFIX ACT ARGUMENT..: where a file in the middle can't be put in place, or the script is ended there, each
+# interrupted PREFIX ACT ARGUMENT..: if a file in the middle can't be put in place, or the script is ended there, each
 # file is what it was before, or isn't there; and what an older installation had alone goes with the next one.
 interrupted() {
   local prefix=$1 act=$2
@@ -130,7 +131,7 @@ echo >>"$work/moves"
 exec $(command -v mv) "\$@"
 END
   chmod +x "$work/failing/mv"
-  fails_at_the_eleventh "$prefix" "$@" && [[ ! $(files_below "$prefix") ]] && "$top/c/install" "$prefix" "$@" || return 1
+  fails_at_the_eleventh "$prefix" "$@" && [[ ! $(files_below "$prefix") ]] && cp -a "$installed/." "$prefix" || return 1
   find "$prefix" -type f -exec sh -c 'echo "an older one" >>"$1"' sh {} \;
   echo lib/libcsq.so.0 >>"$prefix/share/keuvatsi/files"
   touch "$prefix/lib/libcsq.so.0"
@@ -171,7 +172,7 @@ by_pkg_config() {
 
 # server_by_pkg_config PREFIX COMPILER: the example of a server, over the installed csq_requests.h.
 server_by_pkg_config() {
-  local programs=$work/programs flags libs
+  local flags libs
   local -x PKG_CONFIG_PATH=$1/lib/pkgconfig LD_LIBRARY_PATH=$1/lib
   eval "flags=($(pkg-config --cflags csq)) libs=($(pkg-config --libs csq))"
   "$2" -std=c99 "${warnings[@]}" "${flags[@]}" "$programs"/{server,load}.c "${libs[@]}" -pthread -o "$work/program" &&
@@ -182,7 +183,7 @@ server_by_pkg_config() {
 by_cmake() {
   local prefix=$1 version=$2 kit=$3 compiler=$4 kind
   rm -rf "$work/cmake"
-  cmake -S "$work/programs" -B "$work/cmake" -DCMAKE_C_COMPILER="$compiler" -DCMAKE_PREFIX_PATH="$prefix" \
+  cmake -S "$programs" -B "$work/cmake" -DCMAKE_C_COMPILER="$compiler" -DCMAKE_PREFIX_PATH="$prefix" \
     -DVERSION="$version" -DKIT="$kit" && cmake --build "$work/cmake" || return 1
   for kind in shared static; do
     [[ $("$work/cmake/$kind") == "$(<"$top/c/examples/driver.stdout")" ]] || return 1
@@ -198,10 +199,10 @@ run_programs() {
     expect "$name: csq.pc says what is proved" says_proved "$prefix" $proved "$kit"
     for kind in shared static; do
       expect "$name: pkg-config, $kind" by_pkg_config "$prefix" $kind "$(<"$top/c/examples/driver.stdout")" \
-        "$compiler" -std=c11 "$work/programs/driver.c"
+        "$compiler" -std=c11 "$programs/driver.c"
       for cxx in "${cxx_compilers[@]}"; do
         expect "$name: pkg-config, $kind, $cxx" by_pkg_config "$prefix" $kind \
-          "$header_lines" "$cxx" -std=c++17 "$work/programs/header.cpp"
+          "$header_lines" "$cxx" -std=c++17 "$programs/header.cpp"
       done
     done
     expect "$name: pkg-config, the server" server_by_pkg_config "$prefix" "$compiler"
@@ -212,30 +213,48 @@ run_programs() {
   expect "$name: by name, and csq_build" by_name "$prefix" "csq $version proved=$proved${kit:+ kit=$kit}" "$compiler"
 }
 
-# run_install NAME COMPILER ORIGIN KIT ARGUMENT..: what c/install and c/dist make of these arguments, in folders with a
-# space. They are proved by this kit, or by none, which ORIGIN says.
+# run_install NAME PREFIX ORIGIN KIT ARGUMENT..: what c/install has made of these arguments in PREFIX, and what c/dist makes
+# of them, in folders with a space. They are proved by this kit, or by none, which ORIGIN says.
 run_install() {
-  local name=$1 compiler=$2 origin=$3 kit=$4 folder="$work/installed $1" version
-  local -x CC=$compiler
+  local name=$1 prefix=$2 origin=$3 kit=$4 dist="$work/the dist" version
   shift 4
-  version=$("$compiler" -include "$top/include/csq.h" -E -P -x c - <<<CSQ_VERSION | tail -1 | tr -d '"')
-  expect "$name: c/install" "$top/c/install" "$folder/prefix" "$@"
-  expect "$name: only csq_* is global, by versions" only_csq "$folder/prefix" "$version"
-  expect "$name: soname and version" has_version "$folder/prefix" "$version"
-  expect "$name: all files are listed" listed "$folder/prefix"
-  expect "$name: csqsim beside what is proved alone" has_csqsim "$folder/prefix" "$kit"
+  version=$("$CC" -include "$top/include/csq.h" -E -P -x c - <<<CSQ_VERSION | tail -1 | tr -d '"')
+  expect "$name: only csq_* is global, by versions" only_csq "$prefix" "$version"
+  expect "$name: soname and version" has_version "$prefix" "$version"
+  expect "$name: all files are listed" listed "$prefix"
+  expect "$name: csqsim beside what is proved alone" has_csqsim "$prefix" "$kit"
   expect "$name: DESTDIR" staged "$@"
-  expect "$name: c/dist, twice the same" dist_twice "$folder/dist" "$origin" "$@"
-  run_programs "$name, installed" "$folder/prefix" "$version" "$kit" "$compiler"
-  run_programs "$name, unpacked" "$folder/dist/csq" "$version" "$kit" "$compiler"
+  expect "$name: c/dist, twice the same" dist_twice "$dist" "$origin" "$@"
+  run_programs "$name, installed" "$prefix" "$version" "$kit" "$CC"
+  run_programs "$name, unpacked" "$dist/csq" "$version" "$kit" "$CC"
 }
 
-# has_csqsim PREFIX KIT: it is there, with its man page, if a kit has proved what is installed.
+# has_csqsim PREFIX KIT: it is there, with its man page and its completions, if a kit has proved what is installed.
 has_csqsim() {
   local there=no
-  if [[ -x $1/bin/csqsim && -f $1/share/man/man1/csqsim.1 ]]; then there=yes; fi
+  if [[ -x $1/bin/csqsim && -f $1/share/man/man1/csqsim.1 && -f $1/share/zsh/site-functions/_csqsim ]]; then
+    there=yes
+    completes_words "$1/share/bash-completion/completions/csqsim" || return
+  fi
   [[ $there == "$([[ $2 ]] && echo yes || echo no)" ]]
 }
+
+# completed WORD..: what bash completes the last of these words with, by the completions of csqsim.
+completed() {
+  COMP_WORDS=("$@") COMP_CWORD=$(($# - 1)) COMPREPLY=()
+  _csqsim
+  echo "${COMPREPLY[*]}"
+}
+
+# completes_words FILE: these completions name csqsim's commands, the options of each, and files where one is read.
+completes_words() (
+  # shellcheck source=/dev/null # it is made by c/install
+  source "$1" && cd "$(dirname "$1")" &&
+    [[ $(completed csqsim sc) == "schedule script" && $(completed csqsim help d) == draw &&
+      $(completed csqsim schedule --) == "--claims --wrong --explain --help --irps --passes" &&
+      $(completed csqsim run --to) == --totals && ! $(completed csqsim run --irps "") && ! $(completed csqsim run c) &&
+      $(completed csqsim draw c) == csqsim ]]
+)
 
 # unknown ARCHIVE..: it isn't said that they are proved.
 unknown() {
@@ -252,14 +271,14 @@ refused() { refuses "$@" && [[ ! $(find "$2" ! -type d) ]]; }
 # Nobody reads what c/install prints: all is installed.
 unread() {
   "$top/c/install" "$work/unread" --plain | head -1
-  diff <(files_below "$work/installed plain/prefix") <(files_below "$work/unread")
+  diff <(files_below "$installed") <(files_below "$work/unread")
 }
 
 # The csqsim that was built is packed, unless a source is newer.
 newer_than_its_sources() {
   local built=$work/built/crates/csqsim
   mkdir -p "$built/out" "$built/src"
-  cp "$work/programs/csqsim" "$built/out"
+  cp "$programs/csqsim" "$built/out"
   touch -d "1 hour ago" "$built/src/main.rt"
   [[ $(program_of "$work/built") == "$built/out/csqsim" ]] && touch -d "1 hour" "$built/src/main.rt" &&
     [[ ! $(program_of "$work/built") ]]
@@ -292,34 +311,50 @@ run_refusals() {
   CSQSIM=$work/file expect "install: no csqsim" refused "no csqsim" "$work/none" "$work/part.a"
 }
 
-# run_installs COMPILER: installs the plain C queue, and the archives that are tested; and what refuses to be installed.
-run_installs() {
-  local compiler=$1 tool file archives
-  for tool in ld objcopy ar nm readelf; do
-    need $tool "c/install and c/dist" || return
-  done
-  mkdir -p "$work/programs"
-  for file in examples/{driver.c,server.c,load.c,load.h} tests/{header.c,header.cpp,CMakeLists.txt}; do
-    sed -E 's|"(csq[a-z_]*\.h)"|<keuvatsi/\1>|' "$top/c/$file" >"$work/programs/${file##*/}"
-  done
-  mapfile -t archives < <(files_of installed "$compiler" -O2 -fPIC)
-  # A stand-in for csqsim, and a kit's line that --plain has no use for.
-  printf '#!/bin/sh\n' >"$work/programs/csqsim"
-  chmod +x "$work/programs/csqsim"
-  local -x CSQSIM=$work/programs/csqsim CSQ_KIT="the kit of this test" CC=$compiler
-  run_install plain "$compiler" "Nothing of it is proved" "" --plain
-  run_install archives "$compiler" "proved, by this kit: $CSQ_KIT" "$CSQ_KIT" "${archives[@]}"
-  expect "install: nobody reads what it prints" unread
-  run_refusals "$compiler"
-  CSQ_KIT='' expect "install: archives of which no kit is known" unknown "${archives[@]}"
-  expect "install: --uninstall" removed "$work/removed" "${archives[@]}"
-  expect "install: all or nothing, a file refused" interrupted "$work/interrupted" true "${archives[@]}"
-  # shellcheck disable=SC2016 # the script's own process
-  expect "install: all or nothing, ended" interrupted "$work/ended" 'kill -TERM $PPID' "${archives[@]}"
-  expect "install: from a clone in a folder with a space" from_a_clone "${archives[@]}"
+# What c/install makes of archives that a kit has proved: run_archives ARCHIVE..
+run_archives() {
+  local prefix="$work/the prefix"
+  expect "archives: c/install" "$top/c/install" "$prefix" "$@"
+  run_install archives "$prefix" "proved, by this kit: $CSQ_KIT" "$CSQ_KIT" "$@"
   if command -v mandoc man >/dev/null; then
-    expect "install: the man pages" well_formed "$work/installed archives/prefix"/share/man/man{3/csq,3/csq_requests,1/csqsim}.*
+    expect "install: the man pages" well_formed "$prefix"/share/man/man{3/csq,3/csq_requests,1/csqsim}.*
   else
     skip_optional "install: the man pages" "there is neither mandoc nor man (Debian's package man-db)"
   fi
+}
+
+# How c/install goes about it: run_install_script ARCHIVE..
+run_install_script() {
+  expect "install: nobody reads what it prints" unread
+  run_refusals "$CC"
+  CSQ_KIT='' expect "install: archives of which no kit is known" unknown "$@"
+  expect "install: --uninstall" removed "$work/removed" "$@"
+  expect "install: all or nothing, a file refused" interrupted "$work/interrupted" true "$@"
+  # shellcheck disable=SC2016 # the script's own process
+  expect "install: all or nothing, ended" interrupted "$work/ended" 'kill -TERM $PPID' "$@"
+  expect "install: from a clone in a folder with a space" from_a_clone "$@"
+}
+
+# run_installs COMPILER ARCHIVE..: installs the plain C queue, as `installed`, and begins the tests of it, of these archives,
+# which are those that are tested, and of what refuses to be installed.
+run_installs() {
+  local tool file
+  local -x CC=$1
+  shift
+  for tool in ld objcopy ar nm readelf; do
+    need $tool "c/install and c/dist" || return
+  done
+  programs=$work/programs installed="$work/installed plain"
+  mkdir "$programs"
+  for file in examples/{driver.c,server.c,load.c,load.h} tests/{header.c,header.cpp,CMakeLists.txt}; do
+    sed -E 's|"(csq[a-z_]*\.h)"|<keuvatsi/\1>|' "$top/c/$file" >"$programs/${file##*/}"
+  done
+  # A stand-in for csqsim, and a kit's line that --plain has no use for.
+  printf '#!/bin/sh\n' >"$programs/csqsim"
+  chmod +x "$programs/csqsim"
+  local -x CSQSIM=$programs/csqsim CSQ_KIT="the kit of this test"
+  expect "plain: c/install" "$top/c/install" "$installed" --plain
+  part run_install plain "$installed" "Nothing of it is proved" "" --plain
+  part run_archives "$@"
+  part run_install_script "$@"
 }

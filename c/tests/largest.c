@@ -1,5 +1,8 @@
 /* The largest queue: filled and emptied in one thread, and by 256 threads with a pass each, in which each IRP is completed
  * exactly once in each of its lives. The arguments are another number of threads, and of lives. */
+#define _POSIX_C_SOURCE 200809L
+#include "csq_requests.h"
+
 #include "check.h"
 
 #include <pthread.h>
@@ -35,6 +38,60 @@ static void the_largest_queue_is_filled_and_emptied(uint32_t list) {
     IS(csq_len(&device.queue, &len), CSQ_OK);
     IS(len, 0);
     end(&device);
+}
+
+/* A file object has a limit of its own, whatever its number, and is closed alone. One without has room for all IRPs. */
+static void the_last_file_object_has_its_limit(uint32_t list) {
+    static uint32_t file_limits[FILES];
+    struct csq_size size = { IRPS, FILES, IRPS, CHECK_PASSES, 0, list };
+    struct device device = { CSQ_EMPTY, { CSQ_EMPTY, CSQ_EMPTY, CSQ_EMPTY, CSQ_EMPTY }, 2 };
+    for (uint32_t file = 0; file < FILES; file++) {
+        file_limits[file] = IRPS;
+    }
+    file_limits[FILES - 1] = 1;
+    IS(csq_new_with_file_limits(&device.queue, &size, file_limits, FILES), CSQ_OK);
+    hand_out(&device);
+    IS(put(&device, 0, 0, FILES - 1), CSQ_OK);
+    IS(put(&device, 0, 1, FILES - 1), CSQ_FILE_FULL);
+    IS(csq_close_file(&device.queue, &device.passes[0], FILES - 1), CSQ_OK);
+    IS(put(&device, 0, 1, FILES - 1), CSQ_FILE_CLOSED);
+    IS(put(&device, 0, 1, (FILES - 1) % 256), CSQ_OK);
+    IS(take(&device, 1, FILES - 1), 0);
+    end(&device);
+    file_limits[FILES - 1] = IRPS + 1;
+    IS(csq_new_with_file_limits(&device.queue, &size, file_limits, FILES), CSQ_BAD_SIZE);
+}
+
+static void one_file_object_has_all_irps(uint32_t list) {
+    struct device device = device_of(size_of(IRPS, 1, list));
+    uint32_t len = UNWRITTEN;
+    for (uint32_t irp = 0; irp < IRPS; irp++) {
+        IS(put(&device, 0, irp, 0), CSQ_OK);
+    }
+    IS(csq_file_len(&device.queue, 0, &len), CSQ_OK);
+    IS(len, IRPS);
+    end(&device);
+}
+
+/* So many at first that the ring of free IRPs goes round in the middle of all of them. */
+static void all_requests_of_the_largest_queue_carry_their_values(uint32_t list) {
+    static char values[IRPS];
+    struct csq_requests *requests = NULL;
+    struct csq_size size = size_of(IRPS, 1, list);
+    struct csq_request request;
+    struct csq_irp name;
+    IS(csq_requests_new(&requests, &size, NULL, NULL), CSQ_OK);
+    for (uint32_t count = IRPS / 2; count <= IRPS; count += count < IRPS ? IRPS - count : 1) {
+        for (uint32_t at = 0; at < count; at++) {
+            IS(csq_requests_submit(requests, &values[at], 0, 0, &name), CSQ_OK);
+        }
+        for (uint32_t at = 0; at < count; at++) {
+            IS(csq_requests_next(requests, CSQ_ANY, 0, &request), CSQ_OK);
+            CHECK(request.value == &values[at]);
+            IS(csq_requests_complete(requests, &request, CSQ_STATUS_SUCCESS), CSQ_OK);
+        }
+    }
+    IS(csq_requests_free(&requests), CSQ_OK);
 }
 
 /* Each pass is handed out, of the smallest queue, of one of the most IRPs for one file object, and of the largest. */
@@ -242,6 +299,9 @@ int main(int count, char **words) {
         lives = (uint32_t)strtoul(words[2], NULL, 10);
     }
     RUN_BOTH(the_largest_queue_is_filled_and_emptied);
+    RUN_BOTH(the_last_file_object_has_its_limit);
+    RUN_BOTH(one_file_object_has_all_irps);
+    RUN_BOTH(all_requests_of_the_largest_queue_carry_their_values);
     RUN_BOTH(a_queue_hands_out_all_passes);
     RUN_BOTH(each_irp_is_completed_once_by_all_threads);
     return DONE();

@@ -11,19 +11,7 @@ static void note(const char *call);
 #include "calls.h"
 
 #include "check.h"
-
-void *__real_malloc(size_t bytes);
-void *__real_calloc(size_t count, size_t bytes);
-void *__real_realloc(void *block, size_t bytes);
-void *__real_aligned_alloc(size_t alignment, size_t bytes);
-int __real_posix_memalign(void **block, size_t alignment, size_t bytes);
-void __real_free(void *block);
-void *__wrap_malloc(size_t bytes);
-void *__wrap_calloc(size_t count, size_t bytes);
-void *__wrap_realloc(void *block, size_t bytes);
-void *__wrap_aligned_alloc(size_t alignment, size_t bytes);
-int __wrap_posix_memalign(void **block, size_t alignment, size_t bytes);
-void __wrap_free(void *block);
+#include "wrapped.h"
 
 /* How often memory was asked for, and how many blocks are out. */
 static unsigned long asked, blocks;
@@ -399,10 +387,10 @@ static void each_call_that_makes_no_queue_was_made_without_memory(void) {
     }
 }
 
-/* How many bytes a queue of so many IRPs takes. */
+/* How many bytes a queue of so many IRPs takes, of which one may be listed: the limit chooses no kind of list. */
 static size_t bytes_of(uint32_t irps, uint32_t list, bool limited) {
     struct csq_queue queue = CSQ_EMPTY;
-    struct csq_size size = { irps, 2, irps, 1, 0, list };
+    struct csq_size size = { irps, 2, 1, 1, 0, list };
     wanted = 0;
     IS(limited ? csq_new_with_file_limits(&queue, &size, file_limits, 2) : csq_new(&queue, &size), CSQ_OK);
     size_t bytes = wanted;

@@ -5,7 +5,7 @@
 # A test whose tool is missing is skipped. With GATE=1 in the environment it has failed: the gate is green only if
 # everything ran. The last line is 'N passed, M failed', with ', K skipped' if some were.
 export LC_ALL=C # the tests compare what tools print
-passed=0 failed=0 skipped=0
+passed=0 failed=0 skipped=0 parts=()
 
 # package_of TOOL: Debian's package that has it, as .ci/packages says.
 package_of() {
@@ -56,13 +56,58 @@ finish() {
   exit $((failed > 0))
 }
 
+# part COMMAND..: runs a part of the tests beside the others, at most as many as there are processors, with a folder
+# `work` of its own. join_parts prints what each wrote, in the order in which they were begun.
+part() {
+  local folder=$work/part.${#parts[@]}
+  mkdir "$folder"
+  while (($(jobs -rp | wc -l) >= $(nproc))); do wait -n; done
+  set -m # each has a process group, which ends with the script
+  part_in "$folder" "$@" >"$folder/lines" 2>&1 </dev/null &
+  parts+=($!)
+  set +m
+}
+
+part_in() {
+  local work=$1 passed=0 failed=0 skipped=0
+  shift
+  "$@"
+  echo "$passed $failed $skipped" >"$work/counts"
+}
+
+join_parts() {
+  local at folder counts
+  for at in "${!parts[@]}"; do
+    folder=$work/part.$at
+    wait "${parts[at]}"
+    cat "$folder/lines"
+    if [[ -s $folder/counts ]]; then
+      read -ra counts <"$folder/counts"
+      passed=$((passed + counts[0])) failed=$((failed + counts[1])) skipped=$((skipped + counts[2]))
+    else
+      fail "part $at did not end well"
+    fi
+    rm -rf "$folder"
+  done
+  parts=()
+}
+
+# Ends what still runs of the parts, and removes what was made.
+clean_up() {
+  local group
+  for group in $(jobs -rp); do
+    kill -- "-$group" 2>/dev/null
+  done
+  rm -rf "$work"
+}
+
 # Makes `work`, a folder for what is made, which goes as the script ends. What is compiled there has to run.
 make_work() {
   if ! work=$(mktemp -d) || ! work=$(realpath -- "$work"); then
     fail "no folder can be made in ${TMPDIR:-/tmp}: TMPDIR names another"
     finish
   fi
-  trap 'rm -rf "$work"' EXIT
+  trap clean_up EXIT
   printf '#!/bin/sh\n' >"$work/try"
   chmod +x "$work/try"
   if ! "$work/try" 2>"$work/errors"; then

@@ -1,5 +1,5 @@
 # The tests of the Rust bindings, for c/run-tests, whose variables and functions they use: source this.
-# shellcheck disable=SC2154 # c/run-tests sets the variables
+# shellcheck disable=SC2154,SC2317 # c/run-tests sets the variables, and part calls the functions
 
 # cargo_in FOLDER WORD..: cargo there. `named` is the folder that PWD names.
 cargo_in() { (cd "$1" && PWD=${named-$PWD} cargo "${@:2}"); }
@@ -51,10 +51,9 @@ warns() {
 
 # How the library is found without CSQ_LIBRARY.
 run_rust_without() {
-  local prefix="$work/installed plain/prefix"
-  if need pkg-config "rust: the installed library" && [[ -d $prefix ]]; then
+  if need pkg-config "rust: the installed library" && [[ -d $installed ]]; then
     expect "rust: pkg-config finds the installed library" tokens_link yes \
-      "PKG_CONFIG_PATH=$prefix/lib/pkgconfig" "LD_LIBRARY_PATH=$prefix/lib"
+      "PKG_CONFIG_PATH=$installed/lib/pkgconfig" "LD_LIBRARY_PATH=$installed/lib"
   fi
   expect "rust: the tests build the plain queue by themselves" tokens_link no PKG_CONFIG=false
   expect "rust: a build without a library warns" warns "there is no C library"
@@ -88,6 +87,8 @@ count_rust_lines() {
 run_rust() {
   local bindings=$top/bindings/rust IFS=:
   export CSQ_LIBRARY="${files[*]}" CARGO_TARGET_DIR="$work/cargo" CARGO_NET_OFFLINE=true
+  # Nothing that is built here is built twice, or looked at by a debugger.
+  export CARGO_INCREMENTAL=0 CARGO_PROFILE_DEV_DEBUG=0
   unset IFS
   cargo_in "$bindings" test --features async >"$work/out" 2>"$work/errors"
   count_rust_lines $?

@@ -67,12 +67,12 @@ pub enum InsertError {
     UnknownFile,
     /// An insert accepted the IRP in its present life already.
     NotHome,
-    /// The file object was closed. A driver answers `STATUS_FILE_CLOSED`.
+    /// The file object was closed. A driver returns `STATUS_FILE_CLOSED`.
     FileClosed,
-    /// As many IRPs are listed for the file object as its own limit allows. A driver answers
+    /// As many IRPs are listed for the file object as its own limit allows. A driver returns
     /// `STATUS_INSUFFICIENT_RESOURCES`.
     FileFull,
-    /// As many IRPs are listed as the limit allows. A driver answers `STATUS_INSUFFICIENT_RESOURCES`.
+    /// As many IRPs are listed as the limit allows. A driver returns `STATUS_INSUFFICIENT_RESOURCES`.
     Full,
 }
 
@@ -323,12 +323,12 @@ pub enum SubmitError {
     LivesSpent,
     /// The file object's number isn't below the queue's number of file objects.
     UnknownFile,
-    /// The file object was closed. A driver answers `STATUS_FILE_CLOSED`.
+    /// The file object was closed. A driver returns `STATUS_FILE_CLOSED`.
     FileClosed,
-    /// As many requests are listed for the file object as its own limit allows. A driver answers
+    /// As many requests are listed for the file object as its own limit allows. A driver returns
     /// `STATUS_INSUFFICIENT_RESOURCES`.
     FileFull,
-    /// As many requests are listed as the limit allows. A driver answers `STATUS_INSUFFICIENT_RESOURCES`.
+    /// As many requests are listed as the limit allows. A driver returns `STATUS_INSUFFICIENT_RESOURCES`.
     Full,
 }
 

@@ -49,7 +49,7 @@ impl Pass {
             }),
             raw::NO_PASS => Err(PassError::NoPass),
             raw::NO_MEMORY => Err(PassError::NoMemory),
-            code => unreachable!("csq_take_pass answered {code}"),
+            code => unreachable!("csq_take_pass returned {code}"),
         }
     }
 
@@ -64,7 +64,7 @@ impl Pass {
         call(&mut self.lock().queue, self.handle.get())
     }
 
-    /// Gives the pass back. Refused only where a token was forgotten; then the pass comes back.
+    /// Gives the pass back. Refused only if a token was forgotten; then the pass comes back.
     ///
     /// # Errors
     ///
@@ -83,7 +83,7 @@ impl Pass {
         match self.locked(|queue, pass| unsafe { raw::csq_give_back(queue, pass) }) {
             raw::HOLDING => Err(Holding::of(self)),
             raw::OK => Ok(()),
-            code => unreachable!("csq_give_back answered {code}"),
+            code => unreachable!("csq_give_back returned {code}"),
         }
     }
 
@@ -151,13 +151,13 @@ impl Pass {
     /// }
     /// # Ok::<(), Box<dyn std::error::Error>>(())
     /// ```
-    #[must_use = "a removed IRP has to be completed, and is completed as cancelled where it is dropped"]
+    #[must_use = "a removed IRP has to be completed, and is completed as cancelled if it is dropped"]
     pub fn remove_next(&self, peek: Peek) -> Option<Removed<'_>> {
         let irp = self.remove_next_locked(&mut self.lock(), peek)?;
         Some(Removed { pass: self, irp })
     }
 
-    /// Removes the IRP of a context (`IoCsqRemoveIrp`). None where it isn't listed in that life, or a canceller has it.
+    /// Removes the IRP of a context (`IoCsqRemoveIrp`). None if it isn't listed in that life, or a canceller has it.
     /// Takes the lock.
     ///
     /// ```
@@ -170,11 +170,11 @@ impl Pass {
     /// }
     /// # Ok::<(), Box<dyn std::error::Error>>(())
     /// ```
-    #[must_use = "a removed IRP has to be completed, and is completed as cancelled where it is dropped"]
+    #[must_use = "a removed IRP has to be completed, and is completed as cancelled if it is dropped"]
     pub fn remove(&self, irp: Irp) -> Option<Removed<'_>> {
         // SAFETY: the queue is locked, and this thread alone has the pass.
         let code = self.locked(|queue, pass| unsafe { raw::csq_remove(queue, pass, irp.raw()) });
-        // A token is made only where it is due, since it completes its IRP where it is dropped.
+        // A token is made only if it is due, since it completes its IRP if it is dropped.
         (code == raw::OK).then(|| Removed { pass: self, irp })
     }
 
@@ -197,7 +197,7 @@ impl Pass {
         match self.locked(|queue, pass| unsafe { raw::csq_close_file(queue, pass, file) }) {
             raw::OK => Ok(()),
             raw::UNKNOWN_FILE => Err(UnknownFile),
-            code => unreachable!("csq_close_file answered {code}"),
+            code => unreachable!("csq_close_file returned {code}"),
         }
     }
 
@@ -292,7 +292,7 @@ impl Pass {
         self.shared.file_len(file)
     }
 
-    // Completes what is listed as cancelled, and answers how many.
+    // Completes what is listed as cancelled, and returns how many.
     fn complete_listed(&self, peek: Peek, mut before: impl FnMut(Irp)) -> u32 {
         let mut completed = 0;
         while let Some(removed) = self.remove_next(peek) {
@@ -327,7 +327,7 @@ impl Pass {
     }
 
     /// Sets the Cancel flag of an IRP in the life named, and takes its cancel routine (the first half of
-    /// `IoCancelIrp`). None where the routine wasn't there: the IRP isn't listed, or a pass, perhaps this one, has it.
+    /// `IoCancelIrp`). None if the routine wasn't there: the IRP isn't listed, or a pass, perhaps this one, has it.
     /// Takes no lock.
     ///
     /// # Errors
@@ -352,8 +352,8 @@ impl Pass {
         Ok(found.then(|| Claim { pass: self, irp }))
     }
 
-    /// Cancels an IRP in the life named (`IoCancelIrp`): where its routine was there, runs it and completes the IRP.
-    /// Answers whether it did. Takes the lock only where the routine was there.
+    /// Cancels an IRP in the life named (`IoCancelIrp`): if its routine was there, runs it and completes the IRP.
+    /// Returns whether it did. Takes the lock only if the routine was there.
     ///
     /// # Errors
     ///
@@ -372,7 +372,7 @@ impl Pass {
         self.cancel_with(irp, |_| ())
     }
 
-    /// [`Pass::cancel`], and `before` is called with the IRP before it is completed, where it is completed here.
+    /// [`Pass::cancel`], and `before` is called with the IRP before it is completed, if it is completed here.
     ///
     /// # Errors
     ///
@@ -393,7 +393,7 @@ impl Pass {
             None => Ok(false),
             Some(claim) => {
                 before(irp);
-                // Also where `before` panics, a claim that is dropped completes its IRP.
+                // Also if `before` panics, a claim that is dropped completes its IRP.
                 drop(claim);
                 Ok(true)
             }

@@ -32,7 +32,7 @@ impl Shared {
         match unsafe { raw::csq_file_len(&self.lock().queue, file, &mut len) } {
             raw::OK => Ok(len),
             raw::UNKNOWN_FILE => Err(UnknownFile),
-            code => unreachable!("csq_file_len answered {code}"),
+            code => unreachable!("csq_file_len returned {code}"),
         }
     }
 }
@@ -121,7 +121,7 @@ impl Queue {
             }
             raw::BAD_SIZE => Err(NewError::BadSize),
             raw::NO_MEMORY => Err(NewError::NoMemory),
-            code => unreachable!("csq_new answered {code}"),
+            code => unreachable!("csq_new returned {code}"),
         }
     }
 
@@ -167,7 +167,7 @@ impl Queue {
 
     /// The first listed IRP of a file object, or of any, in its present life: from the first on, or after this one
     /// (`CsqPeekNextIrp`). It may be one whose cancel routine a canceller has taken, which is listed until that canceller
-    /// has run it. Another thread may remove it as soon as this is answered. Takes the lock.
+    /// has run it. Another thread may remove it as soon as this returns. Takes the lock.
     ///
     /// # Errors
     ///
@@ -202,7 +202,7 @@ impl Queue {
             raw::OK if peek != Peek::File(raw::ANY) => Ok(Some(Irp::of(irp))),
             raw::OK | raw::NONE => Ok(None),
             raw::NOT_LISTED => Err(NotListed),
-            code => unreachable!("csq_peek_next answered {code}"),
+            code => unreachable!("csq_peek_next returned {code}"),
         }
     }
 
@@ -287,7 +287,7 @@ impl Queue {
                 drop(locked);
                 Err(PassesOut { queue: self, out })
             }
-            code => unreachable!("csq_close answered {code}"),
+            code => unreachable!("csq_close returned {code}"),
         }
     }
 }

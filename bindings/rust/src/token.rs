@@ -39,7 +39,7 @@ macro_rules! token {
 }
 
 /// An IRP that the pass got by a removal. Dropped, it is completed with `STATUS_CANCELLED`.
-#[must_use = "a removed IRP has to be completed, and is completed as cancelled where it is dropped"]
+#[must_use = "a removed IRP has to be completed, and is completed as cancelled if it is dropped"]
 pub struct Removed<'pass> {
     pub(crate) pass: &'pass Pass,
     pub(crate) irp: Irp,
@@ -107,7 +107,7 @@ impl Drop for Removed<'_> {
 
 /// An IRP that the pass got cancelled: an insert or a put-back found it cancelled, or the cancel routine took it out.
 /// Dropped, it is completed.
-#[must_use = "a cancelled IRP has to be completed, and is where it is dropped"]
+#[must_use = "a cancelled IRP has to be completed, and is if it is dropped"]
 pub struct Cancelled<'pass> {
     pub(crate) pass: &'pass Pass,
     pub(crate) irp: Irp,
@@ -143,7 +143,7 @@ impl Drop for Cancelled<'_> {
 
 /// An IRP whose cancel routine this pass has taken, and which is still listed. Dropped, the cancel routine runs, and
 /// the IRP is completed with `STATUS_CANCELLED`.
-#[must_use = "the cancel routine of a claimed IRP has to run, and does where it is dropped"]
+#[must_use = "the cancel routine of a claimed IRP has to run, and does if it is dropped"]
 pub struct Claim<'pass> {
     pub(crate) pass: &'pass Pass,
     pub(crate) irp: Irp,
@@ -179,8 +179,8 @@ impl Drop for Claim<'_> {
     }
 }
 
-/// What an accepted insert or put-back answers.
-#[must_use = "the IRP may have been cancelled before, and is completed then where this is dropped"]
+/// What an accepted insert or put-back returns.
+#[must_use = "the IRP may have been cancelled before, and is completed then if this is dropped"]
 #[derive(Debug)]
 pub enum Inserted<'pass> {
     /// The IRP is listed. The context can remove just it ([`Pass::remove`]), and names it to a cancel.

@@ -15,7 +15,7 @@ pub struct Irp {
 /// The last life that an IRP can have.
 pub const LAST_LIFE: u32 = 0x3FFF_FFFF;
 
-/// The number, with the life after it where that isn't 0, as `3` or `3@1`.
+/// The number, with the life after it if that isn't 0, as `3` or `3@1`.
 impl fmt::Display for Irp {
     fn fmt(&self, f: &mut fmt::Formatter<'_>) -> fmt::Result {
         match self.life {
@@ -57,7 +57,7 @@ pub enum Place {
 pub enum Peek {
     /// Any IRP.
     Any,
-    /// Those of this file object. Where there is no such file object, none.
+    /// Those of this file object. If there is no such file object, none.
     File(u32),
 }
 
@@ -202,6 +202,6 @@ pub struct Left {
     pub life: u32,
     /// Whether its Cancel flag is set.
     pub cancelled: bool,
-    /// What it was completed with. None where it wasn't.
+    /// What it was completed with. None if it wasn't.
     pub status: Option<FinalStatus>,
 }

@@ -48,6 +48,23 @@ fn a_panic_leaves_no_irp_behind() {
 }
 
 #[test]
+fn a_dropped_pass_completes_forgotten_irps_above_the_limit() {
+    let size = Size {
+        limit: 1,
+        ..Size::new(3, 1, 1)
+    };
+    let queue = Queue::new(&size).unwrap();
+    let pass = queue.pass().unwrap();
+    assert!(matches!(
+        pass.insert(2, 0, Place::Back),
+        Ok(Inserted::Pending(_))
+    ));
+    std::mem::forget(pass.remove_next(Peek::Any));
+    drop(pass);
+    assert_eq!(queue.passes_out(), 0);
+}
+
+#[test]
 fn a_pass_with_forgotten_tokens_is_not_given_back() {
     let (queue, pass) = queue_of(3);
     std::mem::forget(pass.remove_next(Peek::Any));

@@ -66,7 +66,7 @@ impl Pass {
             raw::STALE => Err(ReuseError::Stale),
             raw::NOT_COMPLETED => Err(ReuseError::NotCompleted),
             raw::LIVES_SPENT => Err(ReuseError::LivesSpent),
-            code => unreachable!("csq_reuse answered {code}"),
+            code => unreachable!("csq_reuse returned {code}"),
         }
     }
 
@@ -79,7 +79,7 @@ impl Pass {
             raw::OK => Ok(found == 1),
             raw::UNKNOWN_IRP => Err(CancelError::UnknownIrp),
             raw::STALE => Err(CancelError::Stale),
-            code => unreachable!("csq_mark_cancel answered {code}"),
+            code => unreachable!("csq_mark_cancel returned {code}"),
         }
     }
 

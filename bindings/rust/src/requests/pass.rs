@@ -201,8 +201,8 @@ impl<T> RequestPass<T> {
 
     /// Cancels each request that is listed for a file object, or for any, and hands their values over, in the list's
     /// order. The file object stays open, so this may go on for as long as others submit or put back. What a canceller has
-    /// is left to that canceller. What was taken before is for the file object again if it is put back. The lock is free
-    /// between two of them.
+    /// is left to that canceller. What was taken before isn't waited for, and is for the file object again if it is put
+    /// back. The lock is free between two of them.
     ///
     /// # Errors
     ///
