@@ -5,15 +5,22 @@
 
 #include <stdlib.h>
 
+/* What the pool has at this place of a buffer. Each is another byte than the ones beside it, so that a driver that fills
+ * in one and the same doesn't write what was there. */
+static UCHAR of_pool(size_t at) {
+    return (UCHAR)(IOCSQ_GONE + 59 * at);
+}
+
 static void allocate(struct iocsq_buffer *made, uint32_t size, const void *of_sender, uint32_t filled) {
     made->size = size;
     made->at = size ? malloc(size) : NULL;
     if (size && !made->at) {
         iocsq_fail("no memory for a buffer");
     }
-    if (size) {
-        memset(made->at, IOCSQ_GONE, size);
+    for (uint32_t at = 0; at < size; at++) {
+        made->at[at] = of_pool(at);
     }
+    made->filled = of_sender ? filled : 0;
     if (size && of_sender) {
         memcpy(made->at, of_sender, filled);
     }
@@ -53,11 +60,26 @@ static void take(struct iocsq_buffer *of) {
     }
 }
 
+enum { UNFILLED = 3 }; /* of fewer bytes it may be chance that they are as they were */
+
+/* What a driver says it filled in of its system buffer and didn't, the sender gets as it was in the pool. */
+static void expect_filled(const struct iocsq_irp *i, size_t count) {
+    size_t at = count;
+    while (at > i->buffer.filled && i->buffer.at[at - 1] == of_pool(at - 1)) {
+        at--;
+    }
+    if (count - at >= UNFILLED) {
+        iocsq_disagree(i, "irp %u is completed with %zu bytes, and the last %zu of them were never filled in: the sender gets "
+                          "what was in the pool", i->index, count, count - at);
+    }
+}
+
 void iocsq_take_buffers(struct iocsq_irp *i) {
     size_t count = i->information < i->output ? i->information : i->output;
     if (i->direct.at) {
         memcpy(i->sender_buffer, i->direct.at, i->output); /* the sender's own pages: whatever the status is */
-    } else if (i->buffer.at && NT_SUCCESS(i->status) && count > 0) {
+    } else if (i->buffer.at && !NT_ERROR(i->status) && count > 0) {
+        expect_filled(i, count);
         memcpy(i->sender_buffer, i->buffer.at, count);
     }
     take(&i->buffer);

@@ -271,6 +271,7 @@ static void run_first_work(void) {
     iocsq_log(NULL, "a work item");
     call.routine(call.device, call.context);
     check_left("a work item");
+    iocsq_let_go_of_device(call.device);
     iocsq_lock_state();
 }
 
@@ -290,7 +291,7 @@ static void begin_item(struct _IO_WORKITEM *item, PDEVICE_OBJECT device, bool of
 }
 
 PIO_WORKITEM NTAPI IoAllocateWorkItem(PDEVICE_OBJECT DeviceObject) {
-    struct _IO_WORKITEM *item = malloc(sizeof *item);
+    struct _IO_WORKITEM *item = iocsq_is_scarce("IoAllocateWorkItem") ? NULL : malloc(sizeof *item);
     if (item) {
         begin_item(item, DeviceObject, false);
     }
@@ -322,6 +323,7 @@ VOID NTAPI IoQueueWorkItem(PIO_WORKITEM IoWorkItem, PIO_WORKITEM_ROUTINE WorkerR
     IoWorkItem->next = NULL;
     *(first_work ? &last_work->next : &first_work) = IoWorkItem;
     last_work = IoWorkItem;
+    iocsq_hold_device(IoWorkItem->device);
     iocsq_state_changed();
     iocsq_unlock_state();
 }
@@ -352,15 +354,22 @@ static bool lies_in(const void *at, const void *from, size_t size) {
     return (uintptr_t)at - (uintptr_t)from < size;
 }
 
+/* The report names this DPC's routine; null: none. */
+static void blame(const KDPC *dpc) {
+    iocsq_own.blamed = dpc ? (uintptr_t)dpc->DeferredRoutine : 0;
+}
+
 void iocsq_check_no_deferred(const void *from, size_t size, const char *what) {
     iocsq_lock_state();
     for (const KTIMER *at = timers; at; at = at->Next) {
         if (lies_in(at, from, size)) {
+            blame(at->Dpc);
             iocsq_disagree(NULL, "%s, and a timer in it is set", what);
         }
     }
     for (const KDPC *at = first_dpc; at; at = at->Next) {
         if (lies_in(at, from, size)) {
+            blame(at);
             iocsq_disagree(NULL, "%s, and a DPC in it is queued", what);
         }
     }
@@ -370,6 +379,7 @@ void iocsq_check_no_deferred(const void *from, size_t size, const char *what) {
         }
     }
     if (running_dpc && !iocsq_own.is_processor && lies_in(running_dpc, from, size)) {
+        blame(running_dpc);
         iocsq_disagree(NULL, "%s, and a DPC in it runs", what);
     }
     iocsq_unlock_state();

@@ -9,6 +9,8 @@ struct device {
     DEVICE_OBJECT object; /* first */
     size_t extension_size;
     LONG references; /* of the driver */
+    uint32_t held;   /* by work items that are queued or run: it stays until they have run */
+    bool deleted;
     struct device *next;
 };
 static struct device *devices; /* with the references, under the state's lock */
@@ -62,23 +64,45 @@ bool iocsq_reference_device(PVOID object, int change) {
     return device != NULL;
 }
 
-/* Takes it out of the list. Null: it isn't in it. */
-static struct device *take_device(const void *object) {
+static void free_device(struct device *device) {
+    iocsq_end_queues_in(device->object.DeviceExtension, device->extension_size, "IoDeleteDevice of a device");
     iocsq_lock_state();
-    struct device **at = link_of(object), *device = *at;
-    if (device) {
-        *at = device->next;
-    }
+    *link_of(device) = device->next;
     iocsq_unlock_state();
+    free(device->object.DeviceExtension);
+    free(device);
+}
+
+void iocsq_hold_device(const void *object) {
+    struct device *device = *link_of(object);
+    if (device) {
+        device->held++;
+    }
+}
+
+void iocsq_let_go_of_device(const void *object) {
+    iocsq_lock_state();
+    struct device *device = *link_of(object);
+    bool goes = device && --device->held == 0 && device->deleted;
+    iocsq_unlock_state();
+    if (goes) {
+        free_device(device);
+    }
+}
+
+static struct device *to_delete(const void *object) {
+    iocsq_lock_state();
+    struct device *device = *link_of(object);
+    iocsq_unlock_state();
+    if (!device || device->deleted) {
+        iocsq_disagree(NULL, "IoDeleteDevice of a device that was deleted before, or is none");
+    }
     return device;
 }
 
 VOID NTAPI IoDeleteDevice(PDEVICE_OBJECT DeviceObject) {
-    struct device *device = take_device(DeviceObject);
+    struct device *device = to_delete(DeviceObject);
     iocsq_expect_irql(APC_LEVEL, "IoDeleteDevice");
-    if (!device) {
-        iocsq_disagree(NULL, "IoDeleteDevice of a device that was deleted before, or is none");
-    }
     PDEVICE_OBJECT *at = &DeviceObject->DriverObject->DeviceObject;
     if (DeviceObject->AttachedDevice) {
         iocsq_disagree(NULL, "IoDeleteDevice of a device, and another is attached to it");
@@ -89,13 +113,17 @@ VOID NTAPI IoDeleteDevice(PDEVICE_OBJECT DeviceObject) {
     iocsq_check_no_deferred(&DeviceObject->Dpc, sizeof DeviceObject->Dpc, "IoDeleteDevice of a device");
     iocsq_check_no_deferred(DeviceObject->DeviceExtension, device->extension_size, "IoDeleteDevice of a device");
     iocsq_check_no_lookaside(DeviceObject->DeviceExtension, device->extension_size);
-    iocsq_end_queues_in(DeviceObject->DeviceExtension, device->extension_size, "IoDeleteDevice of a device");
     while (*at != DeviceObject) {
         at = &(*at)->NextDevice;
     }
     *at = DeviceObject->NextDevice;
-    free(DeviceObject->DeviceExtension);
-    free(device);
+    iocsq_lock_state();
+    device->deleted = true;
+    bool held = device->held > 0;
+    iocsq_unlock_state();
+    if (!held) {
+        free_device(device);
+    }
 }
 
 PDEVICE_OBJECT NTAPI IoAttachDeviceToDeviceStack(PDEVICE_OBJECT SourceDevice, PDEVICE_OBJECT TargetDevice) {

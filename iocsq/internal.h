@@ -28,6 +28,7 @@ struct iocsq_step {
 struct iocsq_buffer {
     UCHAR *at; /* null: none */
     uint32_t size;
+    uint32_t filled; /* by the sender, from the first byte on */
 };
 
 /* What nobody changes of an IRP while it is in a queue. */
@@ -291,11 +292,15 @@ void iocsq_end_deferred(void);
 
 /* ---- memory.c ---- */
 void iocsq_check_memory_freed(void);
+bool iocsq_is_scarce(const char *call); /* whether this call of the driver's gets no memory (IocsqScarce) */
 void iocsq_expect_nonpaged(const void *at, const char *what); /* it doesn't lie in memory of the paged pool */
 void iocsq_check_no_lookaside(const void *from, size_t size); /* that was not deleted lies in there */
 
 /* ---- devices.c ---- */
 bool iocsq_reference_device(PVOID object, int change); /* as iocsq_reference_file */
+/* A work item of it is queued (the state's lock is held), and has run (it isn't). Of what is no device: nothing. */
+void iocsq_hold_device(const void *object);
+void iocsq_let_go_of_device(const void *object);
 void iocsq_check_links_deleted(void);
 
 /* ---- search.c ---- */

@@ -314,7 +314,7 @@ static void finish(struct iocsq_irp *i) {
     i->status = i->irp.IoStatus.Status;
     i->information = i->irp.IoStatus.Information;
     iocsq_cover_end(i->major, i->status);
-    if (NT_SUCCESS(i->status) && i->information > i->most) {
+    if (!NT_ERROR(i->status) && i->information > i->most) {
         iocsq_disagree(i, "irp %u is completed with %llu bytes, and its buffer has %u", i->index,
                        (unsigned long long)i->information, (unsigned)i->most);
     }
@@ -357,6 +357,7 @@ PDRIVER_CANCEL NTAPI IoSetCancelRoutine(PIRP Irp, PDRIVER_CANCEL CancelRoutine) 
         iocsq_disagree(i, "IoSetCancelRoutine of irp %u, which is in a cancel-safe queue", i->index);
     }
     iocsq_point();
+    iocsq_log(i, "IoSetCancelRoutine(irp %u, %s)", i->index, CancelRoutine ? "one of the driver" : "none");
     return atomic_exchange(&Irp->CancelRoutine, CancelRoutine);
 }
 
@@ -390,7 +391,7 @@ PIRP NTAPI IoAllocateIrp(CCHAR StackSize, BOOLEAN ChargeQuota) {
     if (StackSize < 1 || StackSize > IOCSQ_STACK) {
         iocsq_disagree(NULL, "IoAllocateIrp with %d stack locations", StackSize);
     }
-    struct iocsq_irp *i = iocsq_new_irp(StackSize, true);
+    struct iocsq_irp *i = iocsq_is_scarce("IoAllocateIrp") ? NULL : iocsq_new_irp(StackSize, true);
     if (!i) {
         return NULL;
     }

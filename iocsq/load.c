@@ -50,14 +50,22 @@ void __ubsan_on_report(void) {
     iocsq_ask_for_policy();
 }
 
+/* The bounded mode puts the program's variables back between runs in one process, and the handler stays: it isn't its own
+ * predecessor, to which it would return for ever. */
+static void catch_signal(int signal_number, struct sigaction *before) {
+    struct sigaction action = { .sa_handler = report_bad_address }, was;
+    if (sigaction(signal_number, &action, &was) == 0 && was.sa_handler != report_bad_address) {
+        *before = was;
+    }
+}
+
 static void catch_bad_addresses(void) {
     static bool caught;
-    struct sigaction action = { .sa_handler = report_bad_address };
     if (!caught) {
         caught = true;
         iocsq_prepare_places();
-        sigaction(SIGSEGV, &action, &before_segv);
-        sigaction(SIGBUS, &action, &before_bus);
+        catch_signal(SIGSEGV, &before_segv);
+        catch_signal(SIGBUS, &before_bus);
     }
 }
 

@@ -1,5 +1,6 @@
 /* The pool, and lookaside lists. */
 #include "internal.h"
+#include "poison.h"
 
 #include <stdlib.h>
 
@@ -16,13 +17,33 @@ static struct allocation *allocations[BUCKETS];
 static _Atomic uint32_t paged_count; /* of them; written under the state lock, and read without it */
 static PNPAGED_LOOKASIDE_LIST lookasides; /* that were not deleted */
 
+/* ---- Scarcity: what asks for memory has to go on without ---- */
+static _Atomic ULONG scarce; /* one in so many allocations fails; 0: none */
+static _Atomic ULONG asked;  /* how often; it isn't drawn which fails, so that a seed's run is the same up to there */
+
+VOID IocsqScarce(ULONG OneIn) {
+    scarce = OneIn;
+}
+
+bool iocsq_is_scarce(const char *call) {
+    ULONG one_in = scarce;
+    bool fails = one_in > 0 && ++asked % one_in == 0;
+    if (fails) {
+        iocsq_log(NULL, "%s: there is no memory", call);
+    }
+    return fails;
+}
+
 static struct allocation **bucket_of(const void *at) {
     return &allocations[((uintptr_t)at >> 4) % BUCKETS];
 }
 
 static void *allocate(size_t size, ULONG tag, bool paged, const char *call) {
-    struct allocation *made = malloc(sizeof *made);
     iocsq_expect_irql(paged ? APC_LEVEL : DISPATCH_LEVEL, call);
+    if (iocsq_is_scarce(call)) {
+        return NULL;
+    }
+    struct allocation *made = malloc(sizeof *made);
     void *at = made ? malloc(size) : NULL;
     if (!at) {
         free(made);
@@ -100,6 +121,54 @@ void iocsq_check_no_lookaside(const void *from, size_t size) {
     iocsq_unlock_state();
 }
 
+/* ---- What was freed, kept for a while: is it written to? The address sanitizer looks by itself, and at reads too ---- */
+#ifdef IOCSQ_POISONS
+enum { KEPT_BYTES = 0, KEPT = 1 };
+#else
+enum { KEPT_BYTES = 4096, KEPT = 256 }; /* larger memory isn't kept, and of smaller so many pieces */
+#endif
+static struct allocation kept[KEPT]; /* under the state's lock; `at` null: none */
+static uint32_t kept_next;
+
+static void expect_untouched(const struct allocation *of) {
+    const UCHAR *bytes = of->at;
+    size_t at = 0;
+    while (at < of->size && bytes[at] == IOCSQ_GONE) {
+        at++;
+    }
+    if (at < of->size) {
+        iocsq_disagree(NULL, "memory was written to after it was freed: byte %zu of %zu with the tag %08X (make clean test "
+                             "SANITIZE=address shows where)", at, of->size, of->tag);
+    }
+}
+
+/* The memory goes in the place of the oldest. */
+static void keep(struct allocation freed) {
+    if (freed.size > KEPT_BYTES) {
+        free(freed.at);
+        return;
+    }
+    iocsq_lock_state();
+    struct allocation *place = &kept[kept_next++ % KEPT];
+    if (place->at) {
+        expect_untouched(place);
+        free(place->at);
+    }
+    *place = freed;
+    iocsq_unlock_state();
+}
+
+static void let_go_of_kept(void) {
+    static const struct allocation none;
+    for (uint32_t at = 0; at < KEPT; at++) {
+        if (kept[at].at) {
+            expect_untouched(&kept[at]);
+            free(kept[at].at);
+            kept[at] = none;
+        }
+    }
+}
+
 static void free_pool(void *at, const ULONG *tag) {
     struct allocation *found = take_allocation(at);
     if (!found) {
@@ -113,9 +182,9 @@ static void free_pool(void *at, const ULONG *tag) {
     iocsq_check_no_lookaside(at, found->size);
     iocsq_check_no_deferred(at, found->size, "ExFreePool of memory");
     iocsq_end_queues_in(at, found->size, "ExFreePool of memory");
-    memset(at, 0xA5, found->size); /* for who uses it later: not by chance what it was */
+    memset(at, IOCSQ_GONE, found->size); /* for whoever uses it later: not by chance what it was */
+    keep(*found);
     free(found);
-    free(at);
 }
 
 VOID NTAPI ExFreePoolWithTag(PVOID P, ULONG Tag) {
@@ -127,6 +196,7 @@ VOID NTAPI ExFreePool(PVOID P) {
 }
 
 void iocsq_check_memory_freed(void) {
+    let_go_of_kept();
     iocsq_check_no_lookaside(NULL, SIZE_MAX);
     for (uint32_t at = 0; at < BUCKETS; at++) {
         if (allocations[at]) {

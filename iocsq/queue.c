@@ -328,6 +328,7 @@ PIRP NTAPI IoCsqRemoveNextIrp(PIO_CSQ Csq, PVOID PeekContext) {
     if (!PeekContext) {
         iocsq_note_null_context(q);
     }
+    iocsq_look_ahead(&s);
     do {
         before = s.before;
         answer = iocsq_peek(&s);

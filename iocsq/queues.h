@@ -43,11 +43,14 @@ struct iocsq_search {
     PVOID context;
     const char *when;
     bool audits; /* what a callback did before; else the peek itself is asked for by the driver */
+    bool ahead;  /* before the driver's own peeks, with their context */
     struct iocsq_irp *before;  /* the last answer */
     bool seen[IOCSQ_SLOTS];  /* the slots of all answers */
 };
 /* The driver's next answer, which agrees with the reference. Null: none. */
 struct iocsq_irp *iocsq_peek(struct iocsq_search *s);
+/* All of the driver's answers to peeks with this search's context, without their effect on it. */
+void iocsq_look_ahead(const struct iocsq_search *of);
 /* Compares the driver's whole list, as peeks give it, with the reference's. */
 void iocsq_audit(struct iocsq_queue *q, const char *when);
 

@@ -83,6 +83,9 @@ static void complain(const struct iocsq_search *s, const struct iocsq_irp *answe
     if (answer) {
         snprintf(given, sizeof given, "irp %u", answer->index);
     }
+    if (s->ahead && s->before) {
+        iocsq_log(answer, "  CsqPeekNextIrp(after irp %u) = %s", s->before->index, given);
+    }
     if (judgement.verdict == CSQ_PEEK_SKIPS && !skipped) {
         iocsq_disagree(answer, "%s: the list changes while this thread has its lock", s->when);
     }
@@ -139,6 +142,22 @@ void iocsq_audit(struct iocsq_queue *q, const char *when) {
     while (iocsq_peek(&s)) {
     }
     iocsq_own.asks_alone = false;
+    iocsq_set_hint(hint);
+}
+
+/* The framework goes on from an answer that is a canceller's, which seldom happens: so all matches are looked at before. With
+ * null as context the audit has done so as the lock was taken. */
+void iocsq_look_ahead(const struct iocsq_search *of) {
+    struct iocsq_search s = *of;
+    const char *hint = iocsq_own.hint;
+    if (!s.context && !s.q->policy.NoAudit) {
+        return;
+    }
+    s.ahead = true;
+    iocsq_set_hint("  iocsq peeks at all matches first, each time after the last answer, as the framework does past an IRP "
+                   "that a canceller has.");
+    while (iocsq_peek(&s)) {
+    }
     iocsq_set_hint(hint);
 }
 

@@ -31,6 +31,7 @@ static VOID NTAPI Work(PDEVICE_OBJECT DeviceObject, PVOID Context) {
     PEXTENSION Extension = Context;
     PIRP Irp;
     UNREFERENCED_PARAMETER(DeviceObject);
+    Leave(Extension); /* it isn't queued any more, and until it returns it keeps the device, which may be deleted */
 #if WRONG != 3
     SetQueued(Extension, FALSE); /* before the loop: what comes after it queues the work item again */
 #endif
@@ -40,7 +41,6 @@ static VOID NTAPI Work(PDEVICE_OBJECT DeviceObject, PVOID Context) {
 #if WRONG == 3
     SetQueued(Extension, FALSE);
 #endif
-    Leave(Extension);
 }
 
 static NTSTATUS NTAPI Read(PDEVICE_OBJECT DeviceObject, PIRP Irp) {

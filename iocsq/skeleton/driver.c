@@ -88,7 +88,7 @@ static NTSTATUS NTAPI DispatchWrite(PDEVICE_OBJECT DeviceObject, PIRP Irp) {
     PEXTENSION Extension = DeviceObject->DeviceExtension;
     PIRP Read = IoCsqRemoveNextIrp(&Extension->Queue, IoGetCurrentIrpStackLocation(Irp)->FileObject);
     if (Read != NULL) {
-        Finish(Read, STATUS_SUCCESS, 1);
+        Finish(Read, STATUS_SUCCESS, 0);
     }
     Finish(Irp, STATUS_SUCCESS, 0);
     return STATUS_SUCCESS;

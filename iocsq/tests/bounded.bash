@@ -69,12 +69,12 @@ bounded_wrong() {
   status=$?
   cat "$work/said" "$work/report"
   schedule=$(sed -nE 's/.*--schedule ([0-9:,]+) shows it again$/\1/p' "$work/said")
-  ((status == disagrees)) && grep -qE -- "$text" "$work/report" &&
+  ((status == disagrees || status == crash)) && grep -qE -- "$text" "$work/report" &&
     grep -qE "is wrong, with $preemptions preemptions? and none with fewer" "$work/said" &&
     tail -1 "$work/said" | grep -qxE "[0-9]+ schedules, at most $preemptions preemptions?, not all run, 1 wrong" ||
     return 1
   "$program" --schedule "$schedule" "$scenario" >"$work/said" 2>"$work/again"
-  (($? == disagrees)) && cmp "$work/report" "$work/again"
+  (($? == status)) && cmp "$work/report" "$work/again"
 }
 
 # The wrong drivers of tests/bounded.txt: a driver, the place where it is wrong, a scenario, the fewest preemptions of a

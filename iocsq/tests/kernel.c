@@ -142,6 +142,14 @@ static void memory(void) {
     CHECK(string.Length == 3 * sizeof(WCHAR) && string.MaximumLength == 4 * sizeof(WCHAR) && string.Buffer[2] == 'c');
 }
 
+/* If each call fails that asks for memory, all three kinds do; and none does then. */
+static void scarcity(void) {
+    IocsqScarce(1);
+    CHECK(!ExAllocatePool2(POOL_FLAG_NON_PAGED, 16, 'tseT') && !IoAllocateIrp(1, FALSE) && !IoAllocateWorkItem(NULL));
+    IocsqScarce(0);
+    memory();
+}
+
 /* ---- A driver whose device is attached to another, and IRPs of its own ---- */
 static PDEVICE_OBJECT lower, upper;
 static PIRP kept; /* by the lower device */
@@ -225,6 +233,31 @@ static void own_irps(void) {
     IoFreeIrp(irp);
 }
 
+struct look {
+    KEVENT done;
+    LONG found;
+};
+
+static VOID NTAPI look_at_extension(PDEVICE_OBJECT device, PVOID context) {
+    struct look *look = context;
+    look->found = *(LONG *)device->DeviceExtension;
+    KeSetEvent(&look->done, IO_NO_INCREMENT, FALSE);
+}
+
+/* A device that is deleted stays until its work item has run. */
+static void deleted_with_work(PDRIVER_OBJECT driver) {
+    struct look look = { .found = 0 };
+    PDEVICE_OBJECT device;
+    CHECK(IoCreateDevice(driver, sizeof look.found, NULL, FILE_DEVICE_UNKNOWN, 0, FALSE, &device) == STATUS_SUCCESS);
+    *(LONG *)device->DeviceExtension = 7;
+    PIO_WORKITEM item = IoAllocateWorkItem(device);
+    KeInitializeEvent(&look.done, NotificationEvent, FALSE);
+    IoQueueWorkItem(item, look_at_extension, DelayedWorkQueue, &look);
+    IoDeleteDevice(device);
+    CHECK(wait_for(&look.done, 1000) == STATUS_SUCCESS && look.found == 7);
+    IoFreeWorkItem(item);
+}
+
 static void devices(void) {
     PDRIVER_OBJECT driver = IocsqLoad(entry);
     PFILE_OBJECT file = IocsqOpen(driver), same = IocsqReferenceAny();
@@ -234,6 +267,7 @@ static void devices(void) {
     IocsqHandOver(IocsqReferenceAny());
     passed_on(file);
     own_irps();
+    deleted_with_work(driver);
     IocsqClose(file);
     IocsqUnload(driver);
 }
@@ -403,6 +437,7 @@ int main(int argc, char **argv) {
     RUN(timers_and_dpcs);
     RUN(work_items);
     RUN(memory);
+    RUN(scarcity);
     RUN(devices);
     RUN(put_backs);
     return failures > 0;

@@ -1,5 +1,6 @@
-/* A patient test: threads send a few requests each, and nobody cancels or closes. Each request has to end in its time,
- * or the driver's policy says that it may wait (Waits). Then the next round comes, on other file objects:
+/* A patient test: threads send a few requests each, and nobody closes their file objects; in every other round somebody
+ * cancels a few requests. Each request has to end in its time, or it wasn't cancelled and the driver's policy says that it
+ * may wait (Waits). Then the next round comes, on other file objects:
  *
  *     patient THREADS ROUNDS SEED    one thread runs at a time, as the seed draws
  *
@@ -9,6 +10,7 @@
 
 #define USAGE "patient THREADS ROUNDS SEED"
 enum { THREADS = 6, ROUNDS = 40, FILES = 2, REQUESTS = 2, BYTES = 16, LONGEST = 4, SECONDS = 100 };
+enum { CANCELS = 4, PAUSE = 20 }; /* PAUSE: microseconds */
 
 static PDRIVER_OBJECT driver;
 static PFILE_OBJECT files[FILES];
@@ -25,6 +27,7 @@ static IOCSQ_REQUEST *send(struct user *u, unsigned char *buffer) {
     PFILE_OBJECT file = files[next_of(&u->dice, FILES)];
     ULONG length = 1 + next_of(&u->dice, LONGEST);
     uint32_t count = count_controls(), act = next_of(&u->dice, 8);
+    fill_buffer(&u->dice, buffer, BYTES);
     if (act < 2 || (act < 6 && count > 1)) { /* of a driver with codes most requests are controls */
         ULONG code = count ? DriverControls[next_of(&u->dice, count)] : (ULONG)ANY_CONTROL;
         return IocsqControl(file, code, buffer, length, BYTES);
@@ -39,6 +42,14 @@ static void *use(void *user) {
         u->requests[at] = send(u, u->buffers[at]);
     }
     return NULL;
+}
+
+static void *cancel_some(void *of) {
+    for (int at = 0; at < CANCELS; at++) {
+        IocsqCancelAny();
+        IocsqPause(PAUSE);
+    }
+    return of;
 }
 
 /* `settle` is called for each request of the round. */
@@ -65,15 +76,18 @@ static void reap(IOCSQ_REQUEST **request) {
     *request = NULL;
 }
 
-static void run_round(int threads) {
-    IOCSQ_THREAD started[THREADS];
+static void run_round(int threads, bool cancels) {
+    IOCSQ_THREAD started[THREADS + 1];
     for (int at = 0; at < FILES; at++) {
         files[at] = IocsqOpen(driver);
     }
     for (int at = 0; at < threads; at++) {
         started[at] = IocsqThread(use, &users[at]);
     }
-    for (int at = 0; at < threads; at++) {
+    if (cancels) {
+        started[threads] = IocsqThread(cancel_some, NULL);
+    }
+    for (int at = 0; at < threads + cancels; at++) {
         IocsqJoin(started[at]);
     }
     for_each_request(threads, expect_end);
@@ -94,7 +108,7 @@ int main(int argc, char **argv) {
         users[at].dice = (uint32_t)at * 7919u + seed * 104729u + 1;
     }
     for (int at = 0; at < rounds; at++) {
-        run_round(threads);
+        run_round(threads, at % 2 != 0);
     }
     IocsqUnload(driver);
     printf("inserted %llu, %lu requests ended in their time, %lu waited as they may\n",

@@ -13,6 +13,7 @@
 
 #define USAGE "storm THREADS TURNS SEED [turns [SWITCHES]]"
 enum { THREADS = 32, CANCELLERS = 3, OPEN = 6, MINE = 12, BYTES = 16, LONGEST = 4, SECONDS = 100 };
+enum { SCARCE = 64 }; /* of so many allocations of the driver's one fails */
 enum { SHORTEST_PAUSE = 20, LONGEST_PAUSE = 320 }; /* microseconds */
 
 static PDRIVER_OBJECT driver;
@@ -30,20 +31,13 @@ struct request {
 };
 
 struct user {
-    uint32_t dice;
+    uint32_t dice, numbers; /* what it does; what its requests bring */
     PFILE_OBJECT files[OPEN];
     struct request requests[MINE];
 };
 
 static uint32_t roll(struct user *u, uint32_t below) {
     return next_of(&u->dice, below);
-}
-
-static void must(int holds, const char *what) {
-    if (!holds) {
-        fprintf(stderr, "storm: %s\n", what);
-        exit(1);
-    }
 }
 
 static void reap(struct request *r) {
@@ -92,6 +86,7 @@ static void send(struct user *u, struct request *r, PFILE_OBJECT file, bool besi
     }
     r->file = file;
     r->beside = beside;
+    fill_buffer(&u->numbers, r->buffer, BYTES);
     if (act >= 10 && act < 13) {
         r->sent = control(u, file, r->buffer, length);
     } else {
@@ -141,8 +136,8 @@ static void take_turn(struct user *u) {
     struct request *r = &u->requests[roll(u, MINE)];
     PFILE_OBJECT *file = &u->files[roll(u, OPEN)];
     uint32_t act = roll(u, 32);
-    if (!*file) {
-        must((*file = IocsqOpen(driver)) != NULL, "a file object wasn't opened");
+    if (!*file && !(*file = IocsqOpen(driver))) {
+        return; /* for want of memory, say */
     }
     if (r->sent && IocsqWait(r->sent, 0)) {
         reap(r);
@@ -188,8 +183,9 @@ static void run(int threads, uint32_t seed) {
     static struct user users[THREADS];
     IOCSQ_THREAD started[THREADS], cancellers[CANCELLERS];
     driver = load_driver("storm");
+    IocsqScarce(SCARCE);
     for (int at = 0; at < threads; at++) {
-        users[at].dice = (uint32_t)at * 7919u + seed * 104729u + 1;
+        users[at].dice = users[at].numbers = (uint32_t)at * 7919u + seed * 104729u + 1;
         started[at] = IocsqThread(use, &users[at]);
     }
     for (int at = 0; at < CANCELLERS; at++) {
@@ -202,6 +198,7 @@ static void run(int threads, uint32_t seed) {
     for (int at = 0; at < CANCELLERS; at++) {
         IocsqJoin(cancellers[at]);
     }
+    IocsqScarce(0);
     IocsqUnload(driver);
 }
 

@@ -101,7 +101,19 @@ static PIRP ExchangeCurrent(PEXTENSION Extension, PIRP Next) {
     return Before;
 }
 
-/* The next one, or null and the device is idle: found out under the lock, so that none comes between. */
+/* Whether an IRP waits that isn't a canceller's. Under the lock. */
+static BOOLEAN OneWaits(PEXTENSION Extension) {
+    PLIST_ENTRY Entry;
+    for (Entry = Extension->Waiting.Flink; Entry != &Extension->Waiting; Entry = Entry->Flink) {
+        if (CONTAINING_RECORD(Entry, IRP, Tail.Overlay.ListEntry)->CancelRoutine != NULL) {
+            return TRUE;
+        }
+    }
+    return FALSE;
+}
+
+/* The next one, or null and the device is idle: found out under the lock, so that none comes between. It doesn't wait for
+ * a canceller to take its IRP out: that may be the thread that this DPC has interrupted. */
 static PIRP NextOrIdle(PEXTENSION Extension) {
     for (;;) {
         PIRP Next = IoCsqRemoveNextIrp(&Extension->Csq, NULL);
@@ -111,7 +123,7 @@ static PIRP NextOrIdle(PEXTENSION Extension) {
             return Next;
         }
         KeAcquireSpinLockAtDpcLevel(&Extension->Lock);
-        if (IsListEmpty(&Extension->Waiting)) {
+        if (WRONG == 2 ? IsListEmpty(&Extension->Waiting) : !OneWaits(Extension)) {
             Extension->Self->CurrentIrp = NULL;
             Idle = TRUE;
         }
