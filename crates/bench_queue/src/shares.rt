@@ -77,7 +77,7 @@ impl Work {
         }
     }
 
-    /// The IRP that a thread inserts after this one, once one was completed: where any may be removed, the one
+    /// The IRP that a thread inserts after this one, once one was completed: if any may be removed, the one
     /// that was, so that each thread has one to insert; else the next of its own.
     pub(crate) fn next(&self, own: Own, irp: IrpId, completed: IrpId) -> IrpId {
         match (self.again, self.end) {

@@ -11,6 +11,6 @@ abbrev pub AllAgree : List Entry → Option IrpId → List IrpId → Type 0
 AllAgree es after [] = peek_verdict es after Any None ≡ Agrees
 AllAgree es after (i ∷ is) = (peek_verdict es after Any (Some i) ≡ Agrees) × AllAgree es (Some i) is
 
--- peeks from the first to the last all agree exactly where they give the queue's list
+-- peeks from the first to the last all agree exactly if they give the queue's list
 abbrev pub AgreeingPeeksGiveTheList : Type 0
 AgreeingPeeksGiveTheList = (es : List Entry) → IsTrue (is_distinct es) → (is : List IrpId) → AllAgree es None is ↔ (is ≡ map (λ (e : Entry). e.irp) es)

@@ -15,7 +15,7 @@ is_excused excused i = list_any (λ n. n == i.0) excused
 abbrev pub first_left : List ℕ → FileId → List Entry → Option IrpId
 first_left excused f es = option_map (λ (e : Entry). e.irp) (find (λ (e : Entry). matches (File f) e.file && not (is_excused excused e.irp)) es)
 
--- clean where there is none
+-- clean if there is none
 abbrev pub cleanup_verdict : Option IrpId → CleanupVerdict
 cleanup_verdict None = Clean
 cleanup_verdict (Some i) = Leaves i

@@ -11,11 +11,11 @@ use Rattle.csq_audit.specs.declared.peek.PeekVerdict.{PeekVerdict, TheVariants.{
 abbrev pub stray_verdict : List Entry → Peek → IrpId → PeekVerdict
 stray_verdict es k i = if is_listed (matching k es) i then Backwards else (if is_listed es i then NoMatch else NotListed)
 
--- of an answer that is an IRP, where this is the first match after the start: that one, a later match, or none of these
+-- of an answer that is an IRP, if this is the first match after the start: that one, a later match, or none of these
 abbrev pub irp_verdict : List Entry → Peek → IrpId → IrpId → PeekVerdict
 irp_verdict es k first i = if same_id first i then Agrees else (if is_listed (matching k (rest_after (Some first) es)) i then Skips first else stray_verdict es k i)
 
--- of an answer, where this is the first match after the start, if there is one
+-- of an answer, if this is the first match after the start, if there is one
 abbrev pub verdict_beside : List Entry → Peek → Option IrpId → Option IrpId → PeekVerdict
 verdict_beside es k None None = Agrees
 verdict_beside es k (Some first) None = Skips first

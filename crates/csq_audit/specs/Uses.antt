@@ -39,7 +39,7 @@ abbrev pub use_verdict : List Entry → IrpId → Option CompleteRefused → Use
 use_verdict es i None = Agrees
 use_verdict es i (Some cause) = refusal_verdict es i cause
 
--- what is said of a completion of i with this status, which p made where it agrees
+-- what is said of a completion of i with this status, which p made if it agrees
 pub record JudgesUse (i : IrpLife) (status : NtStatus) (verdict : UseVerdict) (q : CheckedState) (p p' : CheckedPassState) : Type 0 where
   pub said : verdict ≡ use_verdict (listed q) i.irp (refusal_of p i status)
   pub completed : verdict ≡ Agrees → MakesOwnCall (CompletesOne i status) p p'

@@ -12,7 +12,7 @@ use irp_core::{FileId, IrpId};
 /// What is to be said of a cleanup. Own rule.
 #[derive(Clone, Copy, Debug, PartialEq, Eq)]
 pub enum CleanupVerdict {
-    /// It left nothing of its file object in the queue, but for what it may leave.
+    /// It left nothing of its file object in the queue, except what it may leave.
     Clean,
     /// It left this IRP, the first of them.
     Leaves(IrpId),

@@ -1,4 +1,4 @@
-//! What a driver's `CsqPeekNextIrp` answers, beside the queue's list.
+//! What a driver's `CsqPeekNextIrp` returns, beside the queue's list.
 ghost use Rattle.std.specs.Prelude.{◌≡◌, ◌↔◌, ◌≤◌, Ok, Err, Some, IsOk, IfOk, IsTrue, length};
 ghost use Rattle.csq_list.specs.Searches.{IsStartIn, first_match, is_listed, rest_after};
 ghost use Rattle.csq_audit.specs.Lists.{listed, matching};
@@ -14,7 +14,7 @@ use irp_core::IrpId;
 /// What is to be said of the answer of a `CsqPeekNextIrp`. Own rule.
 #[derive(Clone, Copy, Debug, PartialEq, Eq)]
 pub enum PeekVerdict {
-    /// It is what the queue's list answers.
+    /// It is what the queue's list gives.
     Agrees,
     /// It is none, or a later match: this match comes first.
     Skips(IrpId),
@@ -29,7 +29,7 @@ pub enum PeekVerdict {
 /// Compares the answer of a driver's `CsqPeekNextIrp` with the queue's list, whose lock the caller has:
 /// it was asked for the first match after an IRP, or in the whole queue.
 ///
-/// `NotListed` comes exactly where the peek went on from an IRP that isn't in the queue. Own rule.
+/// `NotListed` comes exactly if the peek went on from an IRP that isn't in the queue. Own rule.
 pub fn judge_peek(
     queue: &CheckedQueue,
     after: Option<IrpId>,
@@ -46,7 +46,7 @@ pub fn judge_peek(
     Ok(judge_beside(queue, first, peek, answer))
 }
 
-/// An answer, where this is the first match after the start, if there is one.
+/// An answer, if this is the first match after the start, if there is one.
 fn judge_beside(
     queue: &CheckedQueue,
     first: Option<IrpId>,
@@ -64,7 +64,7 @@ fn judge_beside(
     }
 }
 
-/// An answer that is an IRP, where this is the first match after the start.
+/// An answer that is an IRP, if this is the first match after the start.
 fn judge_irp(queue: &CheckedQueue, first: IrpId, peek: Peek, irp: IrpId) -> PeekVerdict
     requires { IsStartIn (listed queue.now) (Some first) }
     ensures { result ≡ irp_verdict (listed queue.now) peek first irp }

@@ -25,7 +25,7 @@ pub enum RemoveVerdict {
 /// Removes an IRP beside a driver that removes it (`IoCsqRemoveIrp`), or says why it isn't to be had. The
 /// caller has the queue's lock.
 ///
-/// `Agrees` comes exactly where the queue's own removal gets it, in the life named. Else whether it is in the
+/// `Agrees` comes exactly if the queue's own removal gets it, in the life named. Else whether it is in the
 /// queue is decided by its number. Own rule.
 pub fn judge_remove(queue: &mut CheckedQueue, by: &mut CheckedPass, irp: IrpLife) -> RemoveVerdict
     requires { IsPassIn queue.old.queue by.old }

@@ -54,7 +54,7 @@ pub fn judge_complete(
 /// Judges the insert of an IRP that was in the queue already, in the life that it has there. A driver may insert
 /// again what it removed (`IoCsqInsertIrpEx`), not what is in a queue, or was given to it as cancelled.
 ///
-/// Where that agrees the IRP is completed with STATUS_SUCCESS in the queue beside: so its life is over, and
+/// If that agrees the IRP is completed with STATUS_SUCCESS in the queue beside: so its life is over, and
 /// `reuse` begins the next one, in which it is inserted. Never `NotFinal`. Own rule.
 pub fn judge_insert(queue: &CheckedQueue, by: &mut CheckedPass, irp: IrpLife) -> UseVerdict
     ensures agrees { (result ≡ Agrees) ↔ HoldsRemoved by.old.words.size.irps by.old.pass irp }

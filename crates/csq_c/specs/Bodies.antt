@@ -28,6 +28,6 @@ abbrev pub open_of : Option QueueBodyState → Option CheckedState
 open_of None = None
 open_of (Some body) = body.queue
 
--- the pass was made by the queue, where there is an open one
+-- the pass was made by the queue, if there is an open one
 abbrev pub IsPassFor : QueueBodyState → CheckedPassState → Type 0
 IsPassFor body p = IfSome body.queue (λ q. IsPassIn q.queue p)

@@ -154,7 +154,7 @@ claim_stored (Ok (Some i)) = Some 1
 claim_stored (Ok None) = Some 0
 claim_stored (Err refused) = None
 
--- the life that a look at the Cancel flag stored, and 1 where the flag is set in it, or 0
+-- the life that a look at the Cancel flag stored, and 1 if the flag is set in it, or 0
 abbrev pub flag_life_stored : Result (Life × Bool) NoIrp → Option ℕ
 flag_life_stored (Ok read) = Some read.0.0
 flag_life_stored (Err refused) = None
@@ -163,7 +163,7 @@ abbrev pub flag_stored : Result (Life × Bool) NoIrp → Option ℕ
 flag_stored (Ok read) = Some (if read.1 then 1 else 0)
 flag_stored (Err refused) = None
 
--- the life that a look at the status stored, and the status, where there is one
+-- the life that a look at the status stored, and the status, if there is one
 abbrev pub status_life_stored : Result (Life × Option NtStatus) NoIrp → Option ℕ
 status_life_stored (Ok read) = Some read.0.0
 status_life_stored (Err refused) = None

@@ -11,7 +11,7 @@ pub record OnQueue (body body' : QueueBodyState) (p p' : CheckedPassState) (code
   pub closed : body.queue ≡ None → (code ≡ Closed) × (body' ≡ body) × (p' ≡ p) × kept
   pub called : (q : CheckedState) → body.queue ≡ Some q → (q' : CheckedState) × (body' ≡ record body { queue = Some q' }) × stored q q'
 
--- where a pass's number is that of the queue, the queue made the pass
+-- if a pass's number is that of the queue, the queue made the pass
 abbrev pub ArePaired : CsqQueue → CsqPass → Type 0
 ArePaired queue pass = IfSome queue.boxed.body (λ body. IfSome pass.boxed.body (λ p. pass.queue ≡ queue.number → IsPassFor body p))
 
@@ -27,7 +27,7 @@ IsPassKept pass pass' = (pass'.boxed.body ≡ pass.boxed.body) × (pass'.queue �
 abbrev pub AreHandlesKept : CsqQueue → CsqQueue → CsqPass → CsqPass → Type 0
 AreHandlesKept queue queue' pass pass' = IsQueueKept queue queue' × IsPassKept pass pass'
 
--- a call through the handles of a queue and a pass is as defined for what they hold. Where one is empty, or the numbers differ, the code says so, and nothing is changed
+-- a call through the handles of a queue and a pass is as defined for what they hold. If one is empty, or the numbers differ, the code says so, and nothing is changed
 pub record OnHandles (queue queue' : CsqQueue) (pass pass' : CsqPass) (result : ℕ) (kept : Type 0) (stored : QueueBodyState → QueueBodyState → CheckedPassState → CheckedPassState → Code → Type 0) : Type 0 where
   pub numbers : (queue'.number ≡ queue.number) × (pass'.queue ≡ pass.queue)
   pub empty : (queue.boxed.body ≡ None) ⊎ (pass.boxed.body ≡ None) → (result ≡ number_of EmptyHandle) × AreHandlesKept queue queue' pass pass' × kept
@@ -36,7 +36,7 @@ pub record OnHandles (queue queue' : CsqQueue) (pass pass' : CsqPass) (result : 
   pub called : (body : QueueBodyState) (p : CheckedPassState) → queue.boxed.body ≡ Some body → pass.boxed.body ≡ Some p → pass.queue ≡ queue.number
       → (body' : QueueBodyState) × (p' : CheckedPassState) × (code : Code) × (queue'.boxed.body ≡ Some body') × (pass'.boxed.body ≡ Some p') × (result ≡ number_of code) × stored body body' p p' code
 
--- a call through the handle of a pass is as defined for the pass. Where it is empty the code says so, and nothing is changed
+-- a call through the handle of a pass is as defined for the pass. If it is empty the code says so, and nothing is changed
 pub record OnPass (pass pass' : CsqPass) (result : ℕ) (kept : Type 0) (stored : CheckedPassState → CheckedPassState → Code → Type 0) : Type 0 where
   pub number : pass'.queue ≡ pass.queue
   pub empty : pass.boxed.body ≡ None → (result ≡ number_of EmptyHandle) × (pass'.boxed.body ≡ None) × kept

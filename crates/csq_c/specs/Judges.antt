@@ -15,7 +15,7 @@ use Rattle.csq_c.specs.Lefts.{is_start}
 use Rattle.csq_c.specs.Looks.{OnOpen}
 use Rattle.csq_c.specs.declared.codes.Code.{Code, TheVariants.{Done, UnknownFile, NotListed}}
 
--- the verdict of a peek's answer, where the peek may go on after that IRP
+-- the verdict of a peek's answer, if the peek may go on after that IRP
 abbrev pub judged : List Entry → Option IrpId → Peek → Option IrpId → Option PeekVerdict
 judged es after k answer = if is_start es after then Some (peek_verdict es after k answer) else None
 
@@ -41,7 +41,7 @@ abbrev pub skipped_by : PeekVerdict → Option ℕ
 skipped_by (verdict.Skips i) = Some i.0
 skipped_by _ = None
 
--- both, where there is a verdict
+-- both, if there is a verdict
 abbrev pub verdict_stored : Option PeekVerdict → Option ℕ
 verdict_stored None = None
 verdict_stored (Some v) = Some (verdict_number v)
@@ -60,7 +60,7 @@ abbrev pub left_number : CleanupVerdict → ℕ
 left_number cleanup.Clean = 4294967295
 left_number (cleanup.Leaves i) = i.0
 
--- where there is a verdict
+-- if there is a verdict
 abbrev pub left_stored : Option CleanupVerdict → Option ℕ
 left_stored None = None
 left_stored (Some v) = Some (left_number v)

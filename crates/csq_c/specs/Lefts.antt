@@ -38,7 +38,7 @@ abbrev pub number_stored : Option IrpId → Option ℕ
 number_stored None = None
 number_stored (Some i) = Some i.0
 
--- 1 and the status where an IRP was completed, else 0 and 0
+-- 1 and the status if an IRP was completed, else 0 and 0
 abbrev pub completed_of : Option NtStatus → ℕ
 completed_of None = 0
 completed_of (Some status) = 1

@@ -14,7 +14,7 @@ pub record OnOpen (body : QueueBodyState) (code : Code) (nothing : Type 0) (stor
   pub closed : body.queue ≡ None → (code ≡ Closed) × nothing
   pub looked : (q : CheckedState) → body.queue ≡ Some q → stored q
 
--- a look through the handle of a queue is as defined for what it holds. Where it is empty the code says so, and nothing is written
+-- a look through the handle of a queue is as defined for what it holds. If it is empty the code says so, and nothing is written
 pub record OnQueueHandle (queue : Option QueueBodyState) (result : ℕ) (kept : Type 0) (stored : QueueBodyState → Code → Type 0) : Type 0 where
   pub empty : queue ≡ None → (result ≡ number_of EmptyHandle) × kept
   pub looked : (body : QueueBodyState) → queue ≡ Some body → (code : Code) × (result ≡ number_of code) × stored body code

@@ -23,7 +23,7 @@ status_numbered n = record { 0 = n }
 abbrev pub irp_named : CsqIrp → IrpLife
 irp_named c = record { irp = irp_numbered c.irp; life = life_numbered c.life }
 
--- at the front where the number isn't 0
+-- at the front if the number isn't 0
 abbrev pub place_numbered : ℕ → Place
 place_numbered n = if n == 0 then Back else Front
 

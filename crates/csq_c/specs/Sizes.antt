@@ -22,7 +22,7 @@ abbrev pub with_kind : CsqSize → Option ListKind → Option Given
 with_kind c None = None
 with_kind c (Some kind) = Some (record { irps = c.irps; files = c.files; limit = c.limit; passes = c.passes; first = record { 0 = c.first_life }; list = kind })
 
--- the size, where its list is of a kind that there is
+-- the size, if its list is of a kind that there is
 abbrev pub given_size : CsqSize → Option Given
 given_size c = with_kind c (kind_numbered c.irps c.list)
 

@@ -17,17 +17,17 @@ use Rattle.csq_c.specs.Exports.{OnQueue}
 use Rattle.csq_c.specs.Looks.{OnOpen}
 use Rattle.csq_c.specs.declared.codes.Code.{Code, TheVariants.{Done}}
 
--- an open queue's verdict of a completion of i with this status, made where it agrees, as it does just where the pass may complete i so
+-- an open queue's verdict of a completion of i with this status, made if it agrees, as it does just if the pass may complete i so
 abbrev pub JudgesCompletionOf : IrpLife → NtStatus → QueueBodyState → CheckedPassState → CheckedPassState → Code → Option UseVerdict → Type 0
 JudgesCompletionOf i status body p p' code stored = OnOpen body code ((stored ≡ None) × (p' ≡ p))
     (λ q. (verdict : UseVerdict) × JudgesUse i status verdict q p p' × ((verdict ≡ Agrees) ↔ IsTrue (may_complete p i status)) × (code ≡ Done) × (stored ≡ Some verdict))
 
--- the same of another insert of i, which agrees just where the pass got i by a removal and holds it
+-- the same of another insert of i, which agrees just if the pass got i by a removal and holds it
 abbrev pub JudgesInsertOf : IrpLife → QueueBodyState → CheckedPassState → CheckedPassState → Code → Option UseVerdict → Type 0
 JudgesInsertOf i body p p' code stored = OnOpen body code ((stored ≡ None) × (p' ≡ p))
     (λ q. (verdict : UseVerdict) × JudgesUse i SUCCESS verdict q p p' × ((verdict ≡ Agrees) ↔ HoldsRemoved p.words.size.irps p.pass i) × (code ≡ Done) × (stored ≡ Some verdict))
 
--- an open queue's verdict of a removal of i, which agrees just where the queue's own gets it
+-- an open queue's verdict of a removal of i, which agrees just if the queue's own gets it
 abbrev pub JudgesRemovalOf : IrpLife → QueueBodyState → QueueBodyState → CheckedPassState → CheckedPassState → Code → Option RemoveVerdict → Type 0
 JudgesRemovalOf i body body' p p' code stored = OnQueue body body' p p' code (stored ≡ None)
     (λ q q'. (verdict : RemoveVerdict) × MakesCall (RemovesOne i (removed_by verdict i)) q p q' p' × (¬ (verdict ≡ removal.Agrees) → verdict ≡ unremoved_verdict (listed q) i.irp) × (code ≡ Done) × (stored ≡ Some verdict))
@@ -45,7 +45,7 @@ remove_number removal.Agrees = 0
 remove_number removal.Claimed = 1
 remove_number removal.NotListed = 2
 
--- where there is one
+-- if there is one
 abbrev pub use_stored : Option UseVerdict → Option ℕ
 use_stored None = None
 use_stored (Some v) = Some (use_number v)

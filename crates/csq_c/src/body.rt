@@ -31,7 +31,7 @@ impl Model for QueueBody {
 }
 
 impl QueueBody {
-    /// Inserts an IRP, where the queue is open.
+    /// Inserts an IRP, if the queue is open.
     pub(crate) fn insert(
         &mut self,
         by: &mut CheckedPass,
@@ -48,7 +48,7 @@ impl QueueBody {
         }
     }
 
-    /// Puts an IRP back that the pass got by a removal, where the queue is open.
+    /// Puts an IRP back that the pass got by a removal, if the queue is open.
     pub(crate) fn put_back(
         &mut self,
         by: &mut CheckedPass,
@@ -64,7 +64,7 @@ impl QueueBody {
         }
     }
 
-    /// Removes the first match, where the queue is open.
+    /// Removes the first match, if the queue is open.
     pub(crate) fn remove_next(
         &mut self,
         by: &mut CheckedPass,
@@ -80,7 +80,7 @@ impl QueueBody {
         (of_removal(taken), taken)
     }
 
-    /// Removes this IRP, where the queue is open.
+    /// Removes this IRP, if the queue is open.
     pub(crate) fn remove(&mut self, by: &mut CheckedPass, irp: IrpLife) -> Code
         requires { IsPassFor self.old by.old }
         ensures { RemovesFrom irp self.old self.new by.old by.new result }
@@ -91,7 +91,7 @@ impl QueueBody {
         }
     }
 
-    /// Takes out an IRP that the pass owes, where the queue is open.
+    /// Takes out an IRP that the pass owes, if the queue is open.
     pub(crate) fn cancel_routine(&mut self, by: &mut CheckedPass, irp: IrpLife) -> Code
         requires { IsPassFor self.old by.old }
         ensures { RunsRoutineOn irp self.old self.new by.old by.new result }
@@ -102,7 +102,7 @@ impl QueueBody {
         }
     }
 
-    /// Takes out an IRP that the pass owes and completes it as cancelled, where the queue is open.
+    /// Takes out an IRP that the pass owes and completes it as cancelled, if the queue is open.
     pub(crate) fn cancel_owed(&mut self, by: &mut CheckedPass, irp: IrpLife) -> Code
         requires { IsPassFor self.old by.old }
         ensures { CancelsOwedOn irp self.old self.new by.old by.new result }
@@ -113,7 +113,7 @@ impl QueueBody {
         }
     }
 
-    /// Closes a file object, where the queue is open.
+    /// Closes a file object, if the queue is open.
     pub(crate) fn close_file(&mut self, by: &mut CheckedPass, file: FileId) -> Code
         requires { IsPassFor self.old by.old }
         ensures { ClosesFileOf file self.old self.new by.old by.new result }
@@ -124,7 +124,7 @@ impl QueueBody {
         of_close_file(queue.close_file(by, file))
     }
 
-    /// Begins the next life of an IRP, where the queue is open.
+    /// Begins the next life of an IRP, if the queue is open.
     pub(crate) fn reuse(&mut self, by: &mut CheckedPass, irp: IrpLife) -> (Code, Option<u32>)
         requires { IsPassFor self.old by.old }
         ensures { ReusesOf irp self.old self.new by.old by.new result.0 result.1 }

@@ -1,4 +1,4 @@
-//! The codes that calls answer.
+//! The codes that calls return.
 ghost use Rattle.std.specs.Prelude.{◌≡◌};
 ghost use Rattle.csq_c.specs.Codes.{number_of, refusal_code, insert_code, inserted_irp, put_back_code, put_back_irp, removal_code, routine_code, close_file_code, reuse_code, life_stored, mark_code, claim_stored, complete_code, flag_code, flag_life_stored, flag_stored, status_code, status_life_stored, status_stored, new_code, pass_code};
 
@@ -9,7 +9,7 @@ use csq_list::{InsertStatus, UnknownFile};
 use csq_queue::{CancelRefused, InsertAnswer, OpenInserted, UnknownIrp};
 use irp_core::{IrpLife, Life, NtStatus, SizeRefused};
 
-/// What a call answers. Each has its number and its name in `csq.h`. Own rule.
+/// What a call returns. Each has its number and its name in `csq.h`. Own rule.
 #[derive(Clone, Copy)]
 pub(crate) enum Code {
     Done = 0,
@@ -64,7 +64,7 @@ fn refusal(cause: InsertStatus) -> Code
     }
 }
 
-/// What an insert answered, and the IRP that it stored.
+/// What an insert returned, and the IRP that it stored.
 pub(crate) fn of_insert(answer: Result<OpenInserted, InsertStatus>) -> (Code, Option<IrpLife>)
     ensures { result ≡ (insert_code answer, inserted_irp answer) }
 {
@@ -98,7 +98,7 @@ pub(crate) fn of_removal(taken: Option<IrpLife>) -> Code
     }
 }
 
-/// What a cancel routine answered.
+/// What a cancel routine returned.
 pub(crate) fn of_routine(answer: Result<(), RoutineRefused>) -> Code
     ensures { result ≡ routine_code answer }
 {
@@ -109,7 +109,7 @@ pub(crate) fn of_routine(answer: Result<(), RoutineRefused>) -> Code
     }
 }
 
-/// What the closing of a file object answered.
+/// What the closing of a file object returned.
 pub(crate) fn of_close_file(answer: Result<(), UnknownFile>) -> Code
     ensures { result ≡ close_file_code answer }
 {
@@ -119,7 +119,7 @@ pub(crate) fn of_close_file(answer: Result<(), UnknownFile>) -> Code
     }
 }
 
-/// What a reuse answered, and the life that it stored.
+/// What a reuse returned, and the life that it stored.
 pub(crate) fn of_reuse(answer: Result<Life, CheckedReuseRefused>) -> (Code, Option<u32>)
     ensures { result ≡ (reuse_code answer, life_stored answer) }
 {
@@ -132,7 +132,7 @@ pub(crate) fn of_reuse(answer: Result<Life, CheckedReuseRefused>) -> (Code, Opti
     }
 }
 
-/// What a cancel answered, and whether the routine was there.
+/// What a cancel returned, and whether the routine was there.
 pub(crate) fn of_mark(answer: Result<Option<IrpLife>, CancelRefused>) -> (Code, Option<u32>)
     ensures { result ≡ (mark_code answer, claim_stored answer) }
 {
@@ -144,7 +144,7 @@ pub(crate) fn of_mark(answer: Result<Option<IrpLife>, CancelRefused>) -> (Code, 
     }
 }
 
-/// What a completion answered.
+/// What a completion returned.
 pub(crate) fn of_complete(answer: Result<(), CompleteRefused>) -> Code
     ensures { result ≡ complete_code answer }
 {
@@ -157,7 +157,7 @@ pub(crate) fn of_complete(answer: Result<(), CompleteRefused>) -> Code
     }
 }
 
-/// What a look at the Cancel flag answered: a code, the life and whether the flag is set.
+/// What a look at the Cancel flag returned: a code, the life and whether the flag is set.
 pub(crate) fn of_flag(answer: Result<(Life, bool), UnknownIrp>) -> (Code, Option<u32>, Option<u32>)
     ensures { result ≡ (flag_code answer, flag_life_stored answer, flag_stored answer) }
 {
@@ -168,7 +168,7 @@ pub(crate) fn of_flag(answer: Result<(Life, bool), UnknownIrp>) -> (Code, Option
     }
 }
 
-/// What a look at the status answered: a code, the life and the status.
+/// What a look at the status returned: a code, the life and the status.
 pub(crate) fn of_status(
     answer: Result<(Life, Option<NtStatus>), UnknownIrp>,
 ) -> (Code, Option<u32>, Option<u32>)

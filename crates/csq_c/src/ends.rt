@@ -37,7 +37,7 @@ impl QueueBody {
         }
     }
 
-    /// A pass, where the queue is open: the first that is idle, else the next new one.
+    /// A pass, if the queue is open: the first that is idle, else the next new one.
     pub(crate) fn take_pass(&mut self, alloc: Global) -> Result<Box<CheckedPass>, Code>
         ensures closed { self.old.queue ≡ None → result ≡ Err Code.Closed }
         ensures none { IfSome self.old.queue (λ q. (result ≡ Err Code.NoPass)
@@ -56,7 +56,7 @@ impl QueueBody {
         }
     }
 
-    /// Takes a pass back that holds and owes nothing, where the queue is open.
+    /// Takes a pass back that holds and owes nothing, if the queue is open.
     pub(crate) fn give_back(
         &mut self,
         pass: Box<CheckedPass>,
@@ -77,7 +77,7 @@ impl QueueBody {
         }
     }
 
-    /// How many passes are out, where the queue is open.
+    /// How many passes are out, if the queue is open.
     pub(crate) fn passes_out(&self) -> Option<u32>
         ensures { result ≡ out_of_open self.now.queue }
     {

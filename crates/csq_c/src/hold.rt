@@ -73,7 +73,7 @@ pub(crate) trait Handle {
         ensures { result.body ≡ held_in self };
 }
 
-/// Takes the box out. None, and nothing is changed, where there was none.
+/// Takes the box out. None, and nothing is changed, if there was none.
 pub(crate) fn take<H: Handle>(handle: &mut H, alloc: Global) -> Option<Box<H::Body>>
     ensures taken { MatchOption result (H.held_in handle.old ≡ None)
         (λ there. H.held_in handle.old ≡ Some there.value) }

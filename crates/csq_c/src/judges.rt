@@ -1,5 +1,5 @@
 //! What is to be said of a driver's queue callbacks, beside an open queue, under the caller's lock. Before any other
-//! code each answers CSQ_EMPTY_HANDLE where the handle is empty, then CSQ_CLOSED of a closed queue.
+//! code each returns CSQ_EMPTY_HANDLE if the handle is empty, then CSQ_CLOSED of a closed queue.
 ghost use Rattle.std.specs.Prelude.{◌≡◌, Option};
 ghost use Rattle.csq_audit.specs.declared.cleanup.CleanupVerdict.{CleanupVerdict as Left};
 ghost use Rattle.csq_audit.specs.declared.peek.PeekVerdict.{PeekVerdict as Verdict};
@@ -18,7 +18,7 @@ use csq_list::Peek;
 use irp_core::{FileId, IrpId};
 
 impl QueueBody {
-    /// The verdict of a peek's answer, where the queue is open.
+    /// The verdict of a peek's answer, if the queue is open.
     fn judge_peek(
         &self,
         after: Option<IrpId>,
@@ -63,7 +63,7 @@ fn numbers_of(verdict: PeekVerdict) -> (u32, Option<u32>)
     }
 }
 
-/// Those of a verdict, where there is one.
+/// Those of a verdict, if there is one.
 fn stored(verdict: Option<PeekVerdict>) -> (Option<u32>, Option<u32>)
     ensures { result ≡ (verdict_stored verdict, skipped_stored verdict) }
 {
@@ -77,7 +77,7 @@ fn stored(verdict: Option<PeekVerdict>) -> (Option<u32>, Option<u32>)
 /// Compares the answer of a driver's `CsqPeekNextIrp` with the queue's list: `answer`, or none by the largest
 /// number, to a peek that went on after `after` (or from the first, by the largest number) for IRPs of a
 /// file object (or of all, by the largest number). Writes the first `csq_peek_verdict` that holds, and of
-/// CSQ_PEEK_SKIPS in `skipped` the match that comes first. CSQ_OK, or CSQ_NOT_LISTED where `after` isn't
+/// CSQ_PEEK_SKIPS in `skipped` the match that comes first. CSQ_OK, or CSQ_NOT_LISTED if `after` isn't
 /// listed. Own rule.
 #[unsafe(no_mangle)]
 pub extern "C" fn csq_judge_peek(
@@ -104,7 +104,7 @@ pub extern "C" fn csq_judge_peek(
     code.number()
 }
 
-/// The number of the IRP that is left, or the largest one, where there is a verdict.
+/// The number of the IRP that is left, or the largest one, if there is a verdict.
 fn left_of(verdict: Option<CleanupVerdict>) -> Option<u32>
     ensures { result ≡ left_stored verdict }
 {

@@ -13,7 +13,7 @@ use csq_list::PendingList;
 use irp_core::IrpId;
 
 impl QueueBody {
-    /// The listed IRP after this one, or the first, where the queue is closed.
+    /// The listed IRP after this one, or the first, if the queue is closed.
     fn next_listed(&self, after: Option<IrpId>) -> (Code, Option<u32>)
         ensures { OnRest self.now result.0 (result.1 ≡ None) (λ rest. result
             ≡ (next_code rest.entries after, number_stored (next_after rest.entries after))) }
@@ -32,7 +32,7 @@ impl QueueBody {
         }
     }
 
-    /// What is left of an IRP, where the queue is closed.
+    /// What is left of an IRP, if the queue is closed.
     fn left(&self, irp: IrpId) -> (Code, Option<CsqLeft>)
         ensures { OnRest self.now result.0 (result.1 ≡ None) (λ rest. result
             ≡ (left_code (left_of rest.finals irp), left_of rest.finals irp)) }
@@ -59,7 +59,7 @@ impl QueueBody {
 
 /// Writes the listed IRP after this one, or the first by the largest number, of a closed queue:
 /// CSQ_OK, or CSQ_NONE after the last, else CSQ_EMPTY_HANDLE, CSQ_NOT_CLOSED, or CSQ_NOT_LISTED
-/// where that one isn't listed. Own rule.
+/// if that one isn't listed. Own rule.
 #[unsafe(no_mangle)]
 pub extern "C" fn csq_read_listed(queue: &mut CsqQueue, after: u32, irp: &mut u32) -> u32
     ensures same { IsQueueKept queue.old queue.new }

@@ -1,5 +1,5 @@
 //! The calls that take an open queue, by a pass, under the caller's lock. Before any other code
-//! each answers CSQ_EMPTY_HANDLE where a handle is empty, then CSQ_OTHER_QUEUE where the pass is
+//! each returns CSQ_EMPTY_HANDLE if a handle is empty, then CSQ_OTHER_QUEUE if the pass is
 //! another queue's, then CSQ_CLOSED of a closed queue.
 ghost use Rattle.std.specs.Prelude.{◌≡◌, ℕ, Option};
 ghost use Rattle.irp_core.specs.declared.ids.IrpLife.{IrpLife};
@@ -42,7 +42,7 @@ pub extern "C" fn csq_insert(
 /// Puts an IRP back that the pass got by a removal in the life named, first unless `front` is 0, and
 /// writes its insert context: CSQ_OK where it is pending, and the pass holds it no longer then,
 /// CSQ_CANCELLED where it was found cancelled, and the pass holds it as cancelled then. Else
-/// CSQ_UNKNOWN_IRP, CSQ_NOT_HELD or CSQ_NOT_REMOVED, as `csq_complete` answers, or CSQ_FILE_CLOSED,
+/// CSQ_UNKNOWN_IRP, CSQ_NOT_HELD or CSQ_NOT_REMOVED, as `csq_complete` returns, or CSQ_FILE_CLOSED,
 /// CSQ_FILE_FULL or CSQ_FULL, as `csq_insert` does. As `IoCsqInsertIrpEx` of an IRP that
 /// `IoCsqRemoveNextIrp` or `IoCsqRemoveIrp` returned.
 #[unsafe(no_mangle)]
@@ -67,7 +67,7 @@ pub extern "C" fn csq_put_back(
 }
 
 /// Removes the first match that no canceller has, of a file object or of all by the largest number,
-/// and writes it: CSQ_OK where there is one, and the pass holds it then, else CSQ_NONE. As
+/// and writes it: CSQ_OK if there is one, and the pass holds it then, else CSQ_NONE. As
 /// `IoCsqRemoveNextIrp`.
 #[unsafe(no_mangle)]
 pub extern "C" fn csq_remove_next(
@@ -89,7 +89,7 @@ pub extern "C" fn csq_remove_next(
     code.number()
 }
 
-/// Removes this IRP: CSQ_OK, and the pass holds it then, or CSQ_NONE where it isn't listed in the
+/// Removes this IRP: CSQ_OK, and the pass holds it then, or CSQ_NONE if it isn't listed in the
 /// life named or a canceller has it. As `IoCsqRemoveIrp`.
 #[unsafe(no_mangle)]
 pub extern "C" fn csq_remove(queue: &mut CsqQueue, pass: &mut CsqPass, irp: CsqIrp) -> u32
@@ -128,7 +128,7 @@ pub extern "C" fn csq_cancel_owed(queue: &mut CsqQueue, pass: &mut CsqPass, irp:
     body.cancel_owed(by, irp.named()).number()
 }
 
-/// Closes a file object for good: CSQ_OK, or CSQ_UNKNOWN_FILE where there is none. The first step
+/// Closes a file object for good: CSQ_OK, or CSQ_UNKNOWN_FILE if there is none. The first step
 /// of `IRP_MJ_CLEANUP`.
 #[unsafe(no_mangle)]
 pub extern "C" fn csq_close_file(queue: &mut CsqQueue, pass: &mut CsqPass, file: u32) -> u32
@@ -141,7 +141,7 @@ pub extern "C" fn csq_close_file(queue: &mut CsqQueue, pass: &mut CsqPass, file:
 }
 
 /// Begins the next life of an IRP that was completed in the life named, and writes it: CSQ_OK, else
-/// CSQ_UNKNOWN_IRP, CSQ_STALE where the life named isn't the present one, CSQ_NOT_COMPLETED or
+/// CSQ_UNKNOWN_IRP, CSQ_STALE if the life named isn't the present one, CSQ_NOT_COMPLETED or
 /// CSQ_LIVES_SPENT. As `IoReuseIrp`.
 #[unsafe(no_mangle)]
 pub extern "C" fn csq_reuse(

@@ -1,5 +1,5 @@
-//! What an open queue shows without a pass, under the caller's lock. Before any other code each answers
-//! CSQ_EMPTY_HANDLE where the handle is empty, then CSQ_CLOSED of a closed queue.
+//! What an open queue shows without a pass, under the caller's lock. Before any other code each returns
+//! CSQ_EMPTY_HANDLE if the handle is empty, then CSQ_CLOSED of a closed queue.
 ghost use Rattle.std.specs.Prelude.{◌≡◌, ℕ, Option};
 ghost use Rattle.irp_core.specs.declared.ids.IrpLife.{IrpLife};
 ghost use Rattle.csq_c.specs.Exports.{IsQueueKept};
@@ -15,7 +15,7 @@ use csq_list::Peek;
 use irp_core::{FileId, IrpId, IrpLife};
 
 impl QueueBody {
-    /// How many IRPs are listed, where the queue is open.
+    /// How many IRPs are listed, if the queue is open.
     fn len(&self) -> (Code, Option<u32>)
         ensures { CountsListed self.now result.0 result.1 }
     {
@@ -25,7 +25,7 @@ impl QueueBody {
         }
     }
 
-    /// How many are listed for a file object, where the queue is open.
+    /// How many are listed for a file object, if the queue is open.
     fn file_len(&self, file: FileId) -> (Code, Option<u32>)
         ensures { CountsListedFor file self.now result.0 result.1 }
     {
@@ -38,7 +38,7 @@ impl QueueBody {
         }
     }
 
-    /// The next match after this IRP, or the first one, where the queue is open.
+    /// The next match after this IRP, or the first one, if the queue is open.
     fn peek_next(&self, after: Option<IrpId>, peek: Peek) -> (Code, Option<IrpLife>)
         ensures { PeeksNextOf after peek self.now result.0 result.1 }
     {
@@ -68,7 +68,7 @@ pub extern "C" fn csq_len(queue: &mut CsqQueue, len: &mut u32) -> u32
     code.number()
 }
 
-/// Writes how many IRPs are listed for a file object: CSQ_OK, or CSQ_UNKNOWN_FILE where there is none.
+/// Writes how many IRPs are listed for a file object: CSQ_OK, or CSQ_UNKNOWN_FILE if there is none.
 /// Own rule.
 #[unsafe(no_mangle)]
 pub extern "C" fn csq_file_len(queue: &mut CsqQueue, file: u32, len: &mut u32) -> u32
@@ -84,8 +84,8 @@ pub extern "C" fn csq_file_len(queue: &mut CsqQueue, file: u32, len: &mut u32) -
 }
 
 /// Writes the first listed IRP after `after`, or from the first on by the largest number, of a file
-/// object or of all by the largest number, in its present life: CSQ_OK, or CSQ_NONE where there is
-/// none, else CSQ_NOT_LISTED where `after` isn't listed. The IRP stays listed; its canceller may have
+/// object or of all by the largest number, in its present life: CSQ_OK, or CSQ_NONE if there is
+/// none, else CSQ_NOT_LISTED if `after` isn't listed. The IRP stays listed; its canceller may have
 /// taken the cancel routine already, and no removal gets it then. As `CsqPeekNextIrp`.
 #[unsafe(no_mangle)]
 pub extern "C" fn csq_peek_next(

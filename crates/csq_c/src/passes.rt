@@ -83,7 +83,7 @@ pub extern "C" fn csq_give_back(alloc: Global, queue: &mut CsqQueue, pass: &mut 
 }
 
 /// Frees a pass without giving it back, so that its queue is never closed: CSQ_OK, and the handle
-/// is empty, else CSQ_EMPTY_HANDLE, or CSQ_HOLDING where it holds or owes IRPs. Own rule.
+/// is empty, else CSQ_EMPTY_HANDLE, or CSQ_HOLDING if it holds or owes IRPs. Own rule.
 #[unsafe(no_mangle)]
 pub extern "C" fn csq_abandon_pass(alloc: Global, pass: &mut CsqPass) -> u32
     ensures code { result ≡ number_of (abandon_code pass.old.boxed.body) }

@@ -83,7 +83,7 @@ pub extern "C" fn csq_new_queue(alloc: Global, queue: &mut CsqQueue, size: &CsqS
 }
 
 /// Makes a queue of this size, each file object with a limit of its own: as `csq_new_queue`, and
-/// CSQ_BAD_SIZE also where the limits aren't one for each file object, each 1 to the number of IRPs.
+/// CSQ_BAD_SIZE also if the limits aren't one for each file object, each 1 to the number of IRPs.
 #[unsafe(no_mangle)]
 pub extern "C" fn csq_new_queue_with_file_limits(
     alloc: Global,
@@ -106,7 +106,7 @@ pub extern "C" fn csq_new_queue_with_file_limits(
 }
 
 /// Frees a queue, open or closed: CSQ_OK, and the handle is empty, also where it was, else
-/// CSQ_PASSES_OUT where a pass is out. Own rule, as `free` of null.
+/// CSQ_PASSES_OUT if a pass is out. Own rule, as `free` of null.
 #[unsafe(no_mangle)]
 pub extern "C" fn csq_free_queue(alloc: Global, queue: &mut CsqQueue) -> u32
     ensures code { result ≡ number_of (free_code queue.old.boxed.body) }
@@ -125,7 +125,7 @@ pub extern "C" fn csq_free_queue(alloc: Global, queue: &mut CsqQueue) -> u32
 }
 
 /// Closes a queue, of which `csq_read_listed` and `csq_read_left` then report what is left: CSQ_OK,
-/// else CSQ_EMPTY_HANDLE, CSQ_CLOSED, or CSQ_PASSES_OUT where a pass is out. Own rule.
+/// else CSQ_EMPTY_HANDLE, CSQ_CLOSED, or CSQ_PASSES_OUT if a pass is out. Own rule.
 #[unsafe(no_mangle)]
 pub extern "C" fn csq_close(queue: &mut CsqQueue) -> u32
     ensures empty { queue.old.boxed.body ≡ None → result ≡ number_of Code.EmptyHandle }

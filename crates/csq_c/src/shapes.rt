@@ -27,7 +27,7 @@ impl CsqIrp {
         }
     }
 
-    /// Writes an IRP, where there is one.
+    /// Writes an IRP, if there is one.
     pub(crate) fn write(&mut self, irp: Option<IrpLife>)
         ensures { self.new ≡ written irp self.old }
     {
@@ -38,7 +38,7 @@ impl CsqIrp {
     }
 }
 
-/// Writes a number, where there is one.
+/// Writes a number, if there is one.
 pub(crate) fn write(to: &mut u32, number: Option<u32>)
     ensures { to.new ≡ set_to number to.old }
 {
@@ -73,13 +73,13 @@ pub(crate) fn peek(file: u32) -> Peek
 #[repr(C)]
 #[derive(Clone, Copy)]
 pub struct CsqSize {
-    /// The number of IRPs, 1 to 65,535.
+    /// The number of IRPs, 1 to `LARGE_MAX_IRPS`.
     pub irps: u32,
-    /// The number of file objects, 1 to 16,384.
+    /// The number of file objects, 1 to `LARGE_MAX_FILES`.
     pub files: u32,
     /// How many IRPs may be listed at a time, 1 to `irps`.
     pub limit: u32,
-    /// The number of passes, 1 to 1,024.
+    /// The number of passes, 1 to `LARGE_MAX_PASSES`.
     pub passes: u32,
     /// The life in which all IRPs begin, at most 2^30 - 1.
     pub first_life: u32,
@@ -88,7 +88,7 @@ pub struct CsqSize {
 }
 
 impl CsqSize {
-    /// The size, where its list is of a kind that there is.
+    /// The size, if its list is of a kind that there is.
     pub(crate) fn given(&self) -> Option<QueueSize>
         ensures given { result ≡ given_size self.now }
         ensures numbers { IfSome result (λ size. size
@@ -125,7 +125,7 @@ impl CsqSize {
 pub struct CsqLeft {
     /// Its present life.
     pub life: u32,
-    /// 1 where its Cancel flag is set, else 0.
+    /// 1 if its Cancel flag is set, else 0.
     pub cancelled: u32,
     /// 1 where it was completed, else 0.
     pub completed: u32,
@@ -134,7 +134,7 @@ pub struct CsqLeft {
 }
 
 impl CsqLeft {
-    /// Writes what is left, where there is something.
+    /// Writes what is left, if there is something.
     pub(crate) fn write(&mut self, left: Option<CsqLeft>)
         ensures { self.new ≡ left_written left self.old }
     {

@@ -1,5 +1,5 @@
-//! The calls of a pass that take no queue, and no lock. Before any other code each answers
-//! CSQ_EMPTY_HANDLE where the pass's handle is empty.
+//! The calls of a pass that take no queue, and no lock. Before any other code each returns
+//! CSQ_EMPTY_HANDLE if the pass's handle is empty.
 ghost use Rattle.std.specs.Prelude.{◌≡◌, ℕ, Bool, Option, Result};
 ghost use Rattle.irp_core.specs.declared.ids.{IrpLife.{IrpLife}, Life.{Life}};
 ghost use Rattle.irp_core.specs.declared.status.NtStatus.{NtStatus as Status};
@@ -18,7 +18,7 @@ use crate::shapes::{CsqIrp, write};
 use irp_core::{IrpId, Life, NtStatus};
 
 /// Sets the Cancel flag of an IRP in the life named and takes its cancel routine: CSQ_OK, and in
-/// `found` 1 where the routine was there, and the pass owes the IRP then, else 0. Refused with
+/// `found` 1 if the routine was there, and the pass owes the IRP then, else 0. Refused with
 /// CSQ_UNKNOWN_IRP or CSQ_STALE. As `IoCancelIrp`, up to the call of the routine.
 #[unsafe(no_mangle)]
 pub extern "C" fn csq_mark_cancel(pass: &mut CsqPass, irp: CsqIrp, found: &mut u32) -> u32
@@ -81,7 +81,7 @@ pub extern "C" fn csq_read_cancel(
     code.number()
 }
 
-/// The life that an IRP's status stands for, and the status: CSQ_OK, or CSQ_NONE where it isn't
+/// The life that an IRP's status stands for, and the status: CSQ_OK, or CSQ_NONE if it isn't
 /// completed in that life, or CSQ_UNKNOWN_IRP. As the field `Irp->IoStatus.Status`.
 #[unsafe(no_mangle)]
 pub extern "C" fn csq_read_status(

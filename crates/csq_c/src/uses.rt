@@ -1,6 +1,6 @@
 //! What is to be said of what a driver does with an IRP that was in its queue, beside an open queue and by a pass,
-//! under the caller's lock. Before any other code each answers CSQ_EMPTY_HANDLE where a handle is empty, then
-//! CSQ_OTHER_QUEUE where the pass is another queue's, then CSQ_CLOSED of a closed queue.
+//! under the caller's lock. Before any other code each returns CSQ_EMPTY_HANDLE if a handle is empty, then
+//! CSQ_OTHER_QUEUE if the pass is another queue's, then CSQ_CLOSED of a closed queue.
 ghost use Rattle.std.specs.Prelude.{◌≡◌, Option};
 ghost use Rattle.csq_audit.specs.declared.remove.RemoveVerdict.{RemoveVerdict as Removal};
 ghost use Rattle.csq_audit.specs.declared.uses.UseVerdict.{UseVerdict as Use};
@@ -18,7 +18,7 @@ use csq_checked::CheckedPass;
 use irp_core::{IrpLife, NtStatus};
 
 impl QueueBody {
-    /// The verdict of a completion, where the queue is open.
+    /// The verdict of a completion, if the queue is open.
     fn judge_complete(
         &self,
         by: &mut CheckedPass,
@@ -33,7 +33,7 @@ impl QueueBody {
         }
     }
 
-    /// The verdict of another insert, where the queue is open.
+    /// The verdict of another insert, if the queue is open.
     fn judge_insert(&self, by: &mut CheckedPass, irp: IrpLife) -> (Code, Option<UseVerdict>)
         ensures { JudgesInsertOf irp self.now by.old by.new result.0 result.1 }
     {
@@ -43,7 +43,7 @@ impl QueueBody {
         }
     }
 
-    /// The verdict of a removal, where the queue is open.
+    /// The verdict of a removal, if the queue is open.
     fn judge_remove(&mut self, by: &mut CheckedPass, irp: IrpLife) -> (Code, Option<RemoveVerdict>)
         requires { IsPassFor self.old by.old }
         ensures { JudgesRemovalOf irp self.old self.new by.old by.new result.0 result.1 }
@@ -55,7 +55,7 @@ impl QueueBody {
     }
 }
 
-/// The number of a verdict, where there is one.
+/// The number of a verdict, if there is one.
 fn use_of(verdict: Option<UseVerdict>) -> Option<u32>
     ensures { result ≡ use_stored verdict }
 {
@@ -94,7 +94,7 @@ pub extern "C" fn csq_judge_complete(
 }
 
 /// Judges the insert of an IRP that was in the queue before, in the life that it has there: writes
-/// CSQ_USE_AGREES where the pass got it by a removal, and completes it, so that `csq_reuse` begins its next
+/// CSQ_USE_AGREES if the pass got it by a removal, and completes it, so that `csq_reuse` begins its next
 /// life, in which it is inserted; else another `csq_use_verdict`, never CSQ_USE_NOT_FINAL. CSQ_OK. As
 /// `IoCsqInsertIrpEx`.
 #[unsafe(no_mangle)]
@@ -118,7 +118,7 @@ pub extern "C" fn csq_judge_insert(
 }
 
 /// Removes an IRP beside a driver that removes it, and writes CSQ_REMOVE_AGREES; the pass holds it then. Else
-/// writes CSQ_REMOVE_CLAIMED where its number is listed (a canceller has it, or it is in another life), or
+/// writes CSQ_REMOVE_CLAIMED if its number is listed (a canceller has it, or it is in another life), or
 /// CSQ_REMOVE_NOT_LISTED. CSQ_OK. As `IoCsqRemoveIrp`.
 #[unsafe(no_mangle)]
 pub extern "C" fn csq_judge_remove(

@@ -62,7 +62,7 @@ pub record RunsOwedRoutine (i : IrpLife) (answer : Result (Unit {0}) RoutineRefu
   pub call : OnOk answer (MakesCall (RunsRoutine i) q p q' p')
   pub kept : OnErr answer (AreKept q p q' p')
 
--- a file object is closed where there is one; else nothing is new
+-- a file object is closed if there is one; else nothing is new
 pub record ClosesKnownFile (file : FileId) (answer : Result (Unit {0}) UnknownFile) (q : CheckedState) (p : CheckedPassState) (q' : CheckedState) (p' : CheckedPassState) : Type 0 where
   pub call : ClosesFile file answer q.queue.limits q.queue.queue.history p.pass p'.pass
   pub after : OnOk answer (IsAfter q p q' p')

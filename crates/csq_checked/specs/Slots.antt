@@ -7,7 +7,7 @@ use Rattle.irp_core.specs.Own.{removed_in, held_list, owed_list}
 use Rattle.csq_queue.specs.declared.tokens.InsertAnswer.{InsertAnswer, TheVariants.{Pending, Cancelled}}
 use Rattle.csq_checked.specs.declared.slots.Held.{Held}
 
--- the slot of IRP n, which is empty where there is none
+-- the slot of IRP n, which is empty if there is none
 abbrev pub slot_at : {T : Type 0} → List (Option T) → ℕ → Option T
 slot_at slots n = slice_index_or slots n None
 

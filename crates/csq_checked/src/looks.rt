@@ -27,7 +27,7 @@ impl CheckedQueue {
 
     /// The first match after a listed IRP, or from the first listed one on, in its present life, as
     /// `OpenQueue::peek_next` answers it. It may be one whose canceller has taken the cancel routine
-    /// already. `NotListed` comes exactly where `after` isn't listed.
+    /// already. `NotListed` comes exactly if `after` isn't listed.
     pub fn peek_next(&self, after: Option<IrpId>, peek: Peek) -> Result<Option<IrpLife>, NotListed>
         ensures call { PeeksNext after peek result self.now.queue }
     {

@@ -48,7 +48,7 @@ impl Model for CheckedQueue {
 }
 
 impl CheckedQueue {
-    /// A queue of this size, whose file objects have no limit of their own. `BadSize` comes exactly where a
+    /// A queue of this size, whose file objects have no limit of their own. `BadSize` comes exactly if a
     /// number is out of its range, then `Memory`.
     pub fn new(alloc: Global, size: QueueSize) -> Result<CheckedQueue, SizeRefused>
         ensures made { IfOk result (λ q. q
@@ -74,7 +74,7 @@ impl CheckedQueue {
     }
 
     /// A queue of this size, each file object with a limit of its own. Refused as `new` is, and with
-    /// `BadSize` also where the limits aren't one for each file object, each 1 to `irps`.
+    /// `BadSize` also if the limits aren't one for each file object, each 1 to `irps`.
     pub fn with_file_limits(
         alloc: Global,
         size: QueueSize,
@@ -250,7 +250,7 @@ impl CheckedQueue {
         self.idle.out(self.rack.taken())
     }
 
-    /// Takes a pass back that holds and owes nothing: it is idle then. The pass comes back where it holds or
+    /// Takes a pass back that holds and owes nothing: it is idle then. The pass comes back if it holds or
     /// owes IRPs.
     pub fn give_back(&mut self, pass: Box<CheckedPass>) -> Result<(), Box<CheckedPass>>
         requires { IsPassIn self.old.queue pass.value }
@@ -277,7 +277,7 @@ impl CheckedQueue {
     }
 
     /// Ends the queue once all passes that were handed out are back, and reports what is left. The queue comes
-    /// back where one isn't.
+    /// back if one isn't.
     pub fn close(self) -> Result<Rest<AnyList>, CheckedQueue>
         ensures rest { IfOk result (λ rest. IsClosed self.queue.limits
             (self.queue.limits.passes - self.left)

@@ -48,7 +48,7 @@ impl CheckedPass {
     }
 
     /// Sets the Cancel flag of an IRP in the life named and takes its cancel routine, as
-    /// `Csq::mark_cancel` does. Where the routine was there, the pass owes the IRP, which is answered.
+    /// `Csq::mark_cancel` does. If the routine was there, the pass owes the IRP, which is returned.
     pub fn mark_cancel(&mut self, irp: IrpId, life: Life) -> Result<Option<IrpLife>, CancelRefused>
         ensures call { MakesOwnCall (MarksCancel irp life result) self.old self.new }
     {

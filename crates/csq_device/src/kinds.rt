@@ -1,4 +1,4 @@
-//! The calls that the threads of a device make of its queue, but for the cleanup.
+//! The calls that the threads of a device make of its queue, except the cleanup.
 ghost use Rattle.std.specs.Prelude.{◌≡◌, ◌+◌, ◌<◌, ◌^◌};
 ghost use Rattle.csq_device.specs.Duties.{AddsUp, completed_by};
 

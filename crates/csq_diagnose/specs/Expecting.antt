@@ -18,7 +18,7 @@ is_call_word word = list_any (λ one. bytes_eq one word) call_words
 abbrev pub place_words : List (List ℕ)
 place_words = map (λ word. word.now) PLACES
 
--- the words that may stand there, where they can be listed
+-- the words that may stand there, if they can be listed
 abbrev pub expected_words : Expected → List (List ℕ)
 expected_words Step = step_words
 expected_words ScriptCall = call_words

@@ -9,7 +9,7 @@ use Rattle.csq_diagnose.specs.declared.expected.Expected.{Expected, TheVariants.
 use Rattle.csq_diagnose.specs.declared.grammar.Grammar.{Grammar, TheVariants.{Schedule, Script}}
 use Rattle.csq_diagnose.specs.Expecting.{Admits}
 
--- the first two words of a line, empty where it has fewer
+-- the first two words of a line, empty if it has fewer
 abbrev pub first_word : List (List ℕ) → List ℕ
 first_word [] = []
 first_word (w ∷ ws) = w

@@ -11,11 +11,11 @@ use Rattle.csq_explain.specs.Reasons.{reason_text}
 use Rattle.csq_replay.specs.declared.schedule.outcome.Stop.{Stop, TheVariants.{Refused}}
 use Rattle.csq_diagnose.specs.declared.refused.Cure.{Cure, TheVariants.{Nothing, Irps, Passes, Rearm}}
 
--- so many IRPs that there is the one that a step of this kind names, where there can be so many
+-- so many IRPs that there is the one that a step of this kind names, if there can be so many
 abbrev pub irps_for : Kind → Cure
 irps_for k = option_map_or (λ i. if nat_lt (number i) 1024 then Irps (number i + 1) else Nothing) (name_of k) Nothing
 
--- so many passes that there is this one, where there can be so many
+-- so many passes that there is this one, if there can be so many
 abbrev pub passes_for : PassId → Cure
 passes_for p = if nat_le 1 p.0 && nat_le p.0 64 then Passes p.0 else Nothing
 
@@ -34,4 +34,4 @@ cure_text Rearm = codes " (rearm puts back what a removal got)"
 
 -- a line whose step is refused, for this reason, with what would allow it
 abbrev pub refused_text : ℕ → Step → Reason → Cure → List ℕ
-refused_text n s reason cure = codes "line " ++ (decimal n ++ (codes ": " ++ (step_text s ++ (codes " is refused: " ++ (reason_text reason ++ cure_text cure)))))
+refused_text n s reason cure = decimal n ++ (codes ":1: " ++ (step_text s ++ (codes " is refused: " ++ (reason_text reason ++ cure_text cure))))

@@ -11,6 +11,10 @@ use Rattle.csq_replay.specs.Schedule.{Numbered, run_of, grown}
 use Rattle.csq_explain.specs.Passes.{all_passes}
 use Rattle.csq_explain.specs.Reasons.{reason_of}
 use Rattle.csq_explain.specs.declared.reasons.Reason.{Reason}
+use Rattle.csq_explain.specs.Executions.{StopsFor}
+use Rattle.csq_explain.specs.WrongOrders.{WrongLine, WrongCloses, new_wrong}
+use Rattle.csq_diagnose.specs.declared.diagnosed.Report.{Report}
+use Rattle.csq_diagnose.specs.Reports.{IsReportUntil}
 use Rattle.csq_diagnose.specs.declared.grammar.Grammar.TheVariants.{Schedule}
 use Rattle.csq_diagnose.specs.declared.malformed.Malformed.{Malformed}
 use Rattle.csq_diagnose.specs.Malforms.{IsMalformed}
@@ -39,6 +43,10 @@ DiagnosesStep size W n line text more = (comes : Outcome) × ComesTo size (run_o
 -- a schedule is diagnosed so: by the line that ends it, if there is one
 abbrev pub IsScheduleDiagnosis : Size → List ℕ → List ℕ → Ended → Type 0
 IsScheduleDiagnosis size = IsAnswer (DiagnosesStep size) (λ W text. text ≡ []) []
+
+-- a schedule that may break the protocol is followed so, with its diagnosis
+abbrev pub IsWrongReport : {A : Type 0} → Size → List ℕ → Report A → Type 0
+IsWrongReport size = IsReportUntil (WrongLine size) (λ d. StopsFor size d.own) WrongCloses ReportsReason new_wrong
 
 -- of a reader and a writer whose bytes are known: a schedule was read, and its diagnosis was written
 abbrev pub DiagnosesSchedule : Size → Option (List ℕ) → Option (List ℕ) → Option (List ℕ) → Option (List ℕ) → Ended → Type 0

@@ -1,5 +1,7 @@
 -- Diagnoses in words.
-use Rattle.std.specs.Prelude.{ℕ, ◌==◌, ◌&&◌, nat_le, Bool, false, List, [], ◌∷◌, ◌++◌, codes, decimal, Option, Some, None, if◌then◌else◌}
+use Rattle.std.specs.Prelude.{ℕ, ◌/◌, max, ◌==◌, ◌&&◌, nat_le, nat_lt, Bool, true, false, List, [], ◌∷◌, ◌++◌, length, codes, decimal, Option, Some, None, if◌then◌else◌}
+use Rattle.std.specs.List.{list_all}
+use Rattle.std.specs.Str.{bytes_eq}
 use Rattle.csq_explain.specs.Words.{step_words, call_words, listed}
 use Rattle.csq_diagnose.specs.declared.expected.Expected.{Expected, TheVariants.{Pass, Step, ScriptCall, IrpInLife, Irp, File, Peek, Place, Status, Nothing}}
 use Rattle.csq_diagnose.specs.Expecting.{is_call_word, place_words}
@@ -53,10 +55,40 @@ abbrev pub misplaced_text : List ℕ → Expected → List ℕ
 misplaced_text word Nothing = if is_comment word then codes "a comment stands on a line of its own" else codes "\"" ++ (word ++ codes "\" is one word too many")
 misplaced_text word e = codes "\"" ++ (word ++ (codes "\" is no " ++ noun_text e))
 
--- a word that somebody may have meant, where at most two edits lead to it
-abbrev pub hint_text : Option Near → List ℕ
-hint_text (Some near) = if nat_le near.edits 2 then codes "; did you mean \"" ++ (near.word.now ++ codes "\"?") else []
-hint_text None = []
+-- a word that somebody may have meant by one of so many letters, if it is at most a third of them away, or one edit
+abbrev pub hint_text : Option Near → ℕ → List ℕ
+hint_text (Some near) letters = if nat_le near.edits (max (letters / 3) 1) then codes "; did you mean \"" ++ (near.word.now ++ codes "\"?") else []
+hint_text None letters = []
+
+-- which steps a call of a script is in a schedule
+abbrev pub in_steps_text : List ℕ → List ℕ
+in_steps_text word =
+    if bytes_eq (codes "insert") word then codes "\n  an insert is arm, test and, if the test finds 1, disarm"
+    else if bytes_eq (codes "remove") word then codes "\n  a removal is disarm, and after one that finds 0 another, or end"
+    else if bytes_eq (codes "cancel") word then codes "\n  a cancel is flag, take and, if the take finds 1, out and done"
+    else codes ""
+
+-- if a step is expected
+abbrev pub steps_meant_text : Expected → List ℕ → List ℕ
+steps_meant_text Step word = in_steps_text word
+steps_meant_text e word = codes ""
+
+abbrev pub is_digit : ℕ → Bool
+is_digit byte = nat_le 48 byte && nat_le byte 57
+
+-- a zero stands in front of other bytes
+abbrev pub begins_with_zero : List ℕ → Bool
+begins_with_zero (first ∷ second ∷ more) = first == 48
+begins_with_zero _ = false
+
+-- which rule a word breaks, by whether it is of digits, is too long and begins with a zero
+abbrev pub broken_rule : Bool → Bool → Bool → List ℕ
+broken_rule true true zero = codes "\n  a number has at most nine digits"
+broken_rule true false true = codes "\n  a number has no zero in front"
+broken_rule _ _ _ = codes ""
+
+abbrev pub number_rule_text : List ℕ → List ℕ
+number_rule_text word = broken_rule (list_all is_digit word) (nat_lt 9 (length word)) (begins_with_zero word)
 
 -- the word begins with the letter p and a digit, as a pass does
 abbrev pub begins_a_step : List ℕ → Bool
@@ -69,14 +101,14 @@ other_input_text Pass word = if is_call_word word then codes "\n  a script has c
 other_input_text ScriptCall word = if begins_a_step word then codes "\n  a schedule has steps: csqsim schedule reads it" else []
 other_input_text e word = []
 
--- what is found where a word is expected
+-- what is found if a word is expected
 abbrev pub found_text : Expected → Option Near → Found → List ℕ
 found_text e near End = codes "the line ends before its " ++ (noun_text e ++ (codes "\n  " ++ rule_text e))
 found_text e near FirstSpace = codes "a space begins the line"
 found_text e near TwoSpaces = codes "two spaces: words are separated by one"
 found_text e near LastSpace = codes "a space ends the line"
 found_text e near (Byte byte) = strange_text byte
-found_text e near (Word word) = misplaced_text word.now e ++ (hint_text near ++ (codes "\n  " ++ (rule_text e ++ other_input_text e word.now)))
+found_text e near (Word word) = misplaced_text word.now e ++ (hint_text near (length word.now) ++ (codes "\n  " ++ (rule_text e ++ (number_rule_text word.now ++ (steps_meant_text e word.now ++ other_input_text e word.now)))))
 
 abbrev pub malformed_text : Malformed → List ℕ
 malformed_text fault = found_text fault.expected fault.near fault.found

@@ -57,7 +57,7 @@ pub(crate) fn is_call_word(word: &[u8]) -> bool
 }
 
 impl Expected {
-    /// The words that may stand here, where they can be listed: of a step, of a call and of a place.
+    /// The words that may stand here, if they can be listed: of a step, of a call and of a place.
     pub fn words(self) -> &'static [&'static str]
         ensures { map (λ word. word.now) result.now ≡ expected_words self }
     {

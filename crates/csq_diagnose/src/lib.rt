@@ -22,5 +22,5 @@ pub use grammar::Grammar;
 pub use malformed::Malformed;
 pub use misfit::Misfit;
 pub use nearest::Near;
-pub use schedule::{diagnose_schedule, report_schedule};
+pub use schedule::{diagnose_schedule, report_schedule, report_wrong_order};
 pub use script::{diagnose_script, report_script};

@@ -10,7 +10,7 @@ pub(crate) struct LongLine {
     pub(crate) length: usize,
 }
 
-/// As `line 3, column 65: the line has 70 bytes, and at most 64 are allowed`.
+/// As `3:65: the line has 70 bytes, and at most 64 are allowed`, which follows the name of the file.
 impl fmt::Display for LongLine {
     ghost use Rattle.std.specs.Prelude.{Some};
     ghost use Rattle.csq_diagnose.specs.LineTexts.{long_text};
@@ -21,7 +21,7 @@ impl fmt::Display for LongLine {
         let (number, length) = (self.number, self.length);
         write!(
             f,
-            "line {number}, column 65: the line has {length} bytes, and at most {MAX_LINE} are allowed"
+            "{number}:65: the line has {length} bytes, and at most {MAX_LINE} are allowed"
         )
     }
 }
@@ -33,7 +33,7 @@ pub(crate) struct MalformedLine<'a> {
     pub(crate) fault: Malformed<'a>,
 }
 
-/// As `line 2, column 4: two spaces: words are separated by one`.
+/// As `2:4: two spaces: words are separated by one`.
 impl fmt::Display for MalformedLine<'_> {
     ghost use Rattle.std.specs.Prelude.{Some};
     ghost use Rattle.csq_diagnose.specs.LineTexts.{malformed_line_text};
@@ -42,6 +42,6 @@ impl fmt::Display for MalformedLine<'_> {
 
     fn fmt<W: fmt::Write>(&self, f: &mut fmt::Formatter<W>) -> fmt::Result {
         let (number, column, fault) = (self.number, self.fault.column, self.fault);
-        write!(f, "line {number}, column {column}: {fault}")
+        write!(f, "{number}:{column}: {fault}")
     }
 }

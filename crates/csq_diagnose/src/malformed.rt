@@ -20,7 +20,7 @@ pub struct Malformed<'a> {
     pub found: Found<'a>,
     /// What may stand there.
     pub expected: Expected,
-    /// The nearest word that may stand there, where such words can be listed and a word was found. Small
+    /// The nearest word that may stand there, if such words can be listed and a word was found. Small
     /// and capital letters are one here.
     pub near: Option<Near>,
 }
@@ -43,7 +43,7 @@ fn nearest_to<A: Allocator + Copy>(
 }
 
 impl<'a> Malformed<'a> {
-    /// Why a line names no step, or no call; none where it names one. Own rule.
+    /// Why a line names no step, or no call; none if it names one. Own rule.
     pub fn find<A: Allocator + Copy>(
         alloc: A,
         grammar: Grammar,

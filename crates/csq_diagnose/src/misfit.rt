@@ -76,7 +76,7 @@ fn missing<'a>(places: &[Expected], line: &'a [u8], before: usize) -> Option<Mis
 }
 
 impl<'a> Misfit<'a> {
-    /// The first misfit of a line that names no step, or no call; none where it names one. Own rule.
+    /// The first misfit of a line that names no step, or no call; none if it names one. Own rule.
     pub fn find(grammar: Grammar, line: &'a [u8]) -> Option<Misfit<'a>>
         ensures { MatchOption result (AreLineWords grammar (words_of line.now))
             (IsMisfit grammar line.now) }

@@ -3,16 +3,16 @@ ghost use Rattle.std.specs.Prelude.{◌≡◌, [], map, IfOk, MatchOption};
 ghost use Rattle.csq_diagnose.specs.Nearness.{IsNearest, nearer};
 
 use std::alloc::{AllocError, Allocator};
-use strsim::levenshtein;
+use strsim::osa_distance;
 
-/// A word, and how many edits lead to it: letters that are added, taken out or exchanged.
+/// A word, and how many edits lead to it: a letter is added, taken out or replaced, or two neighbours are swapped.
 #[derive(Clone, Copy)]
 pub struct Near {
     pub word: &'static str,
     pub edits: usize,
 }
 
-/// The nearer of two, the first one where both are as near.
+/// The nearer of two, the first one if both are as near.
 fn nearer(best: Option<Near>, other: Near) -> Near
     ensures { result ≡ nearer best other }
 {
@@ -23,7 +23,7 @@ fn nearer(best: Option<Near>, other: Near) -> Near
 }
 
 impl Near {
-    /// The first of these words to which the fewest edits lead; none where there are no words. Own rule.
+    /// The first of these words to which the fewest edits lead; none if there are no words. Own rule.
     pub fn find<A: Allocator + Copy>(
         alloc: A,
         word: &str,
@@ -34,7 +34,7 @@ impl Near {
     {
         let mut best = None;
         for one in words {
-            let edits = levenshtein(alloc, word, one)?;
+            let edits = osa_distance(alloc, word, one)?;
             best = Some(nearer(best, Near { word: one, edits }));
         }
         Ok(best)

@@ -16,8 +16,7 @@ pub(crate) struct RefusedLine {
     pub(crate) cure: Cure,
 }
 
-/// As `line 2: p2 arm 0 is refused: p1 has had the lock since line 1, inside an insert; its next step is
-/// test 0`.
+/// As `2:1: p2 arm 0 is refused: p1 has had the lock since line 1, inside an insert; its next step is test 0`.
 impl fmt::Display for RefusedLine {
     ghost use Rattle.std.specs.Prelude.{Some};
     ghost use Rattle.csq_diagnose.specs.RefusedTexts.{refused_text};
@@ -26,7 +25,7 @@ impl fmt::Display for RefusedLine {
 
     fn fmt<W: fmt::Write>(&self, f: &mut fmt::Formatter<W>) -> fmt::Result {
         let (number, step, reason, cure) = (self.number, self.step, self.reason, self.cure);
-        write!(f, "line {number}: {step} is refused: {reason}{cure}")
+        write!(f, "{number}:1: {step} is refused: {reason}{cure}")
     }
 }
 
@@ -61,7 +60,7 @@ impl fmt::Display for Cure {
 }
 
 impl Cure {
-    /// The option that would allow a step that ends a schedule so, where it names an IRP or a pass that there
+    /// The option that would allow a step that ends a schedule so, if it names an IRP or a pass that there
     /// isn't, and can be; of an arm of what was armed before, the step that may be meant.
     pub(crate) fn of(step: Step, stop: Stop) -> Cure
         ensures { result ≡ cure_of step stop }

@@ -4,10 +4,10 @@ ghost use Rattle.std.specs.Io.KnownBytes.{Keeps};
 ghost use Rattle.irp_core.specs.Runs.{IsInLimits};
 ghost use Rattle.csq_explain.specs.Explaining.{IsScheduleText};
 ghost use Rattle.csq_diagnose.specs.Reports.{IsReport};
-ghost use Rattle.csq_diagnose.specs.Schedules.{IsScheduleDiagnosis, DiagnosesSchedule};
+ghost use Rattle.csq_diagnose.specs.Schedules.{IsScheduleDiagnosis, IsWrongReport, DiagnosesSchedule};
 
 use crate::diagnosed::{Report, report_input};
-use csq_explain::Explanation;
+use csq_explain::{Explanation, WrongOrder};
 use csq_replay::{Ended, SimFault, read_input, write_answer};
 use std::alloc::{AllocError, Allocator};
 use std::io::{Read, Write};
@@ -32,8 +32,26 @@ pub fn report_schedule<A: Allocator + Copy>(
     report_input(alloc, &mut explanation, input)
 }
 
+/// Follows a schedule that may break the protocol, as `WrongOrder` does: each step with the value that it found, behind
+/// the first one that the protocol refuses by the words alone; whether the protocol was kept, and what goes wrong; and
+/// which line ended it and why. `irps` is 1 to 1,024 and `passes` 1 to 64. Refused if there is too little memory. Own
+/// rule.
+pub fn report_wrong_order<A: Allocator + Copy>(
+    alloc: A,
+    irps: u32,
+    passes: u32,
+    input: &[u8],
+) -> Result<Report<A>, AllocError>
+    requires { IsInLimits (record { irps = irps; passes = passes; first = 0 }) }
+    ensures { IfOk result
+        (IsWrongReport (record { irps = irps; passes = passes; first = 0 }) input.now) }
+{
+    let mut order = WrongOrder::new(alloc, irps, passes)?;
+    report_input(alloc, &mut order, input)
+}
+
 /// Reads a schedule and replays it as `answer_schedule` does, and writes which line ended it: in which column,
-/// what stands there and what may stand there, or why its step is refused. Nothing is written where all its
+/// what stands there and what may stand there, or why its step is refused. Nothing is written if all its
 /// steps were made.
 ///
 /// An input of more than 1,048,576 bytes is answered `input too long`. `irps` is 1 to 1,024 and `passes` 1 to

@@ -83,7 +83,7 @@ impl<A: Allocator + Copy> Answerer<A, CallStop> for ScriptDiagnoser<A> {
 }
 
 /// Reads a script as `answer_script` does, and writes which line ended it, in which column, what stands there
-/// and what may stand there; nothing where all its lines name calls.
+/// and what may stand there; nothing if all its lines name calls.
 ///
 /// An input of more than 1,048,576 bytes is answered `input too long`. Faults: 1 Memory and 2 Read, after which
 /// nothing was written; 3 Write. Own rule.

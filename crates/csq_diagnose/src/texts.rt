@@ -1,6 +1,7 @@
 //! Diagnoses of lines that name no step, or no call, in words.
 ghost use Rattle.std.specs.Prelude.{◌≡◌};
-ghost use Rattle.csq_diagnose.specs.Texts.{begins_a_step, noun_text, other_input_text, rule_text};
+ghost use Rattle.std.specs.List.{list_all};
+ghost use Rattle.csq_diagnose.specs.Texts.{begins_a_step, begins_with_zero, in_steps_text, is_digit, noun_text, number_rule_text, other_input_text, rule_text, steps_meant_text};
 
 use crate::expected::{Expected, is_call_word};
 use crate::found::Found;
@@ -107,28 +108,84 @@ impl fmt::Display for Misplaced<'_> {
     }
 }
 
-/// The most edits from a word to one that somebody may have meant. Own rule.
-const MOST_EDITS: usize = 2;
-
-/// A word that somebody may have meant.
+/// A word that somebody may have meant by a word of so many letters: it is at most a third of them away, or one
+/// edit. Own rule, as rustc's.
 #[derive(Clone, Copy)]
-struct Hint(Option<Near>);
+struct Hint(Option<Near>, usize);
 
 /// As `; did you mean "test"?`, or nothing.
 impl fmt::Display for Hint {
     ghost use Rattle.std.specs.Prelude.{Some};
     ghost use Rattle.csq_diagnose.specs.Texts.{hint_text};
 
-    ghost output = { λ hint. Some (hint_text hint.0) };
+    ghost output = { λ hint. Some (hint_text hint.0 hint.1) };
 
     fn fmt<W: fmt::Write>(&self, f: &mut fmt::Formatter<W>) -> fmt::Result {
-        match self.0 {
-            Some(near) if near.edits <= MOST_EDITS => {
+        let Hint(near, letters) = *self;
+        match near {
+            Some(near) if near.edits <= (letters / 3).max(1) => {
                 write!(f, "; did you mean \"{}\"?", near.word)
             }
             _ => Ok(()),
         }
     }
+}
+
+/// Which steps a call of a script is in a schedule: a further line, or nothing.
+fn in_steps(word: &str) -> &'static str
+    ensures { result.now ≡ in_steps_text word.now }
+{
+    match word {
+        "insert" => "\n  an insert is arm, test and, if the test finds 1, disarm",
+        "remove" => "\n  a removal is disarm, and after one that finds 0 another, or end",
+        "cancel" => "\n  a cancel is flag, take and, if the take finds 1, out and done",
+        _ => "",
+    }
+}
+
+/// The same if a step is expected.
+fn steps_meant(expected: Expected, word: &str) -> &'static str
+    ensures { result.now ≡ steps_meant_text expected word.now }
+{
+    match expected {
+        Expected::Step => in_steps(word),
+        _ => "",
+    }
+}
+
+/// Whether a word is of digits alone.
+fn is_number(word: &[u8]) -> bool
+    ensures { result ≡ list_all is_digit word.now }
+{
+    word.iter().all(|byte| is_digit(*byte))
+}
+
+/// Whether a zero stands in front of other bytes.
+fn begins_with_zero(word: &[u8]) -> bool
+    ensures { result ≡ begins_with_zero word.now }
+{
+    match word {
+        [first, _, ..] => *first == b'0',
+        _ => false,
+    }
+}
+
+/// Which rule a word breaks that is of digits: a further line, or nothing.
+fn number_rule(word: &[u8]) -> &'static str
+    ensures { result.now ≡ number_rule_text word.now }
+{
+    match (is_number(word), word.len() > 9, begins_with_zero(word)) {
+        (true, true, _) => "\n  a number has at most nine digits",
+        (true, false, true) => "\n  a number has no zero in front",
+        _ => "",
+    }
+}
+
+/// Whether a byte is a digit.
+fn is_digit(byte: u8) -> bool
+    ensures { result ≡ is_digit byte }
+{
+    byte >= b'0' && byte <= b'9'
 }
 
 /// Whether a word begins with the letter p and a digit, as a pass does.
@@ -141,7 +198,7 @@ fn begins_a_step(word: &[u8]) -> bool
     }
 }
 
-/// Which command reads a line that begins with this word, where it isn't the one that was given: a further
+/// Which command reads a line that begins with this word, if it isn't the one that was given: a further
 /// line, as `a script has calls: csqsim script reads it`, or nothing.
 fn other_input(expected: Expected, word: &str) -> &'static str
     ensures { result.now ≡ other_input_text expected word.now }
@@ -157,7 +214,7 @@ fn other_input(expected: Expected, word: &str) -> &'static str
     }
 }
 
-/// What is wrong, and which words are expected where a word is missing or is another one.
+/// What is wrong, and which words are expected if a word is missing or is another one.
 impl fmt::Display for Malformed<'_> {
     ghost use Rattle.std.specs.Prelude.{Some};
     ghost use Rattle.csq_diagnose.specs.Texts.{malformed_text};
@@ -166,7 +223,7 @@ impl fmt::Display for Malformed<'_> {
 
     fn fmt<W: fmt::Write>(&self, f: &mut fmt::Formatter<W>) -> fmt::Result {
         let expected = self.expected;
-        let (noun, rule, hint) = (noun(expected), rule(expected), Hint(self.near));
+        let (noun, rule) = (noun(expected), rule(expected));
         match self.found {
             Found::End => write!(f, "the line ends before its {noun}\n  {rule}"),
             Found::FirstSpace => write!(f, "a space begins the line"),
@@ -174,11 +231,10 @@ impl fmt::Display for Malformed<'_> {
             Found::LastSpace => write!(f, "a space ends the line"),
             Found::Byte(byte) => write!(f, "{}", Strange(byte)),
             Found::Word(word) => {
-                let (misplaced, other) = (
-                    Misplaced { word, expected },
-                    other_input(expected, word),
-                );
-                write!(f, "{misplaced}{hint}\n  {rule}{other}")
+                let (misplaced, hint) = (Misplaced { word, expected }, Hint(self.near, word.len()));
+                let (steps, number) = (steps_meant(expected, word), number_rule(word.as_bytes()));
+                let other = other_input(expected, word);
+                write!(f, "{misplaced}{hint}\n  {rule}{number}{steps}{other}")
             }
         }
     }

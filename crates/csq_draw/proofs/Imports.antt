@@ -4,9 +4,13 @@ pub use Rattle.csq_draw.specs.Drawings.{DrawingStandsAfter, NotesStep, Shows, ow
 pub use Rattle.csq_draw.specs.Elements.{element_text, elements_text, picture}
 pub use Rattle.csq_draw.specs.Owners.{ended_by, is_of_irp, owner, owner_after, owner_by, owner_named, owners}
 pub use Rattle.csq_draw.specs.Passes.{column_of, columns, lock_at, lock_of}
-pub use Rattle.csq_draw.specs.Pictures.{Drawn, DrawsClosing, DrawsLine, at_rest_element, closed_elements, closed_picture, closed_text, closing_elements, column_elements, drawn_after, drawn_text, each, first_elements, mark_element, new_drawn, number_element, open_elements, picture_head, refused_elements, row_elements, shown_elements, stopped_elements, stopped_picture, stopped_text}
+pub use Rattle.csq_draw.specs.Irps.{irp_after, irp_at, irp_columns, irp_named, irps_after, new_irp, with_irp}
+pub use Rattle.csq_draw.specs.Pictures.{Drawn, DrawsClosing, DrawsLine, arrow_elements, at_rest_element, bars_elements, behind_elements, call_element, closed_elements, closed_picture, closed_text, closing_elements, column_elements, drawn_after, drawn_text, each, fresh_irps, irps_of, last_elements, mark_element, new_drawn, number_element, open_elements, picture_head, refused_elements, row_after, rows_elements, shade_elements, shown_elements, span_elements, stopped_elements, stopped_picture, stopped_text, word_elements}
 pub use Rattle.csq_draw.specs.Terminal.{closed_lines, each_text, in_width, irp_line_reported, pass_cell, row_text, rows_text, spaces, stopped_lines}
 pub use Rattle.csq_draw.specs.declared.format.Format.{Format}
+pub use Rattle.csq_draw.specs.declared.irps.IrpNow.{IrpNow}
+pub use Rattle.csq_draw.specs.declared.irps.Spot.{Spot}
+pub use Rattle.csq_draw.specs.declared.irps.Seen.{Seen}
 pub use Rattle.csq_draw.specs.declared.owners.Owner.{Owner}
 pub use Rattle.csq_draw.specs.declared.rows.Row.{Row}
 pub use Rattle.csq_explain.proofs.Following.{inside_is, length-passes}

@@ -2,7 +2,10 @@ pub mod Imports
 pub mod Captioning
 pub mod Growing
 pub mod Writing
+pub mod Known
+pub mod RowElements
 pub mod Showing
 pub mod PictureLaws
+pub mod ArrowLaws
 pub mod OwnerLaws
 pub mod LaneLaws

@@ -1,8 +1,8 @@
 -- The laws of pictures.
-use Rattle.std.proofs.Common.{◌≡◌, ◌||◌, inl, inr, ℕ, ◌+◌, ◌<◌, ◌≤◌, Bool, true, false, cond, List, [], ◌∷◌, ◌++◌, length, get_or, Option, Some, None, option_to_list, refl, ap, sym, ◌∙◌, subst, arith, append_assoc, append-nil}
+use Rattle.std.proofs.Common.{◌≡◌, ◌||◌, inl, inr, ℕ, ◌+◌, ◌<◌, ◌≤◌, Bool, true, false, cond, if◌then◌else◌, List, [], ◌∷◌, ◌++◌, length, get_or, replicate, Option, Some, None, option_to_list, refl, ap, sym, ◌∙◌, subst, arith, append_assoc, append-nil}
 use Rattle.std.specs.List.{position, list_any}
 use Rattle.std.proofs.lemmas.List.Quantifiers.{position-Some}
-use Rattle.csq_draw.proofs.Imports.{option_map, PassId, Made, same_pass, by, Size, IsRun, same_pass-eq, Numbered, run_of, Format, Owner, Row, owners, new_pass_now, pass_after, pass_now, lock_of, columns, column_of, each, column_elements, number_element, mark_element, row_elements, open_elements, closing_elements, refused_elements, at_rest_element, first_elements, shown_elements, Drawn, new_drawn, drawn_text, drawn_after, closed_text, DrawsLine, DrawsClosing, all_passes, reason_of, get-table, position-None, count-more, length-passes, inside_is}
+use Rattle.csq_draw.proofs.Imports.{option_map, PassId, Made, same_pass, by, Size, IsRun, same_pass-eq, Numbered, run_of, Format, Owner, Row, owners, new_pass_now, pass_after, pass_now, lock_of, columns, column_of, each, column_elements, number_element, mark_element, call_element, shade_elements, span_elements, bars_elements, arrow_elements, behind_elements, row_after, rows_elements, new_irp, last_elements, word_elements, fresh_irps, irps_of, irp_named, irps_after, IrpNow, Seen, Spot, open_elements, closing_elements, refused_elements, at_rest_element, shown_elements, Drawn, new_drawn, drawn_text, drawn_after, closed_text, DrawsLine, DrawsClosing, all_passes, reason_of, get-table, position-None, count-more, length-passes, inside_is}
 use Rattle.irp_core.specs.Inside.{inside, inside_after, has_lock}
 use Rattle.irp_core.specs.Lock.{HasLock, needs_lock}
 use Rattle.irp_core.proofs.Growing.{run_none, run_less, run_parted, HasLock-has_lock, has_lock-HasLock}
@@ -12,14 +12,20 @@ use Rattle.csq_replay.specs.declared.schedule.outcome.Outcome.TheVariants.{Skipp
 use Rattle.csq_replay.specs.Outcomes.{ComesTo}
 use Rattle.csq_replay.proofs.Answering.{one_input_answer}
 use Rattle.csq_replay.proofs.OneAnswer.{one_close, one_outcome}
+use Rattle.std.proofs.lemmas.List.{length-replicate}
+use Rattle.csq_draw.proofs.Known.{length-after}
+use Rattle.csq_draw.proofs.RowElements.{rows-last}
+use Rattle.csq_draw.specs.declared.arrows.Arrow.{Arrow}
 use Rattle.csq_draw.specs.declared.marks.Mark.{Mark}
 use Rattle.csq_draw.specs.declared.marks.Number.{Number}
 use Rattle.csq_draw.specs.declared.marks.Shade.{Shade}
 use Rattle.csq_explain.specs.declared.passes.PassNow.{PassNow}
 use Rattle.csq_draw.specs.declared.element.Element.{Element}
-use Rattle.csq_draw.specs.Marks.{lets_go}
+use Rattle.csq_draw.specs.Arrows.{found_in}
+use Rattle.csq_draw.specs.Marks.{takes_lock, lets_go}
+use Rattle.csq_draw.specs.Pictures.{place_named}
 use Rattle.csq_draw.specs.Rows.{row_of, rows_of}
-use Rattle.csq_draw.specs.Laws.{HasOnePicture, picked, added, AddsStepByStep, pick_of, mark_in, number_in, shade_by, EachStepHasOneMark, EachStepShowsItsWords, EachLineHasItsNumber, EachShadeIsOfTheLock, EachPassHasItsColumn, HasItAt, TheShadedPassHasTheLock}
+use Rattle.csq_draw.specs.Laws.{HasOnePicture, picked, added, AddsStepByStep, pick_of, mark_in, number_in, arrow_in, arrow_to, shade_by, EachStepHasOneMark, EachStepShowsItsWords, EachLineHasItsNumber, EachShadeIsOfTheLock, EachPassHasItsColumn, HasItAt, TheShadedPassHasTheLock}
 
 module _ (size : Size) (format : Format) where
   -- what is drawn of a line is one
@@ -53,16 +59,25 @@ one_picture size format input t u e f is other =
 
 -- what is picked out of the shade of a row, if a pass has the lock there
 abbrev shades_with : {A : Type 0} → (Shade → List A) → List PassNow → Row → Option PassId → List A
-shades_with shade ps row (Some p) = shade (record { row = row.row; column = column_of ps p; last = lets_go row.step })
+shades_with shade ps row (Some p) = shade (record { row = row.row; column = column_of ps p; first = takes_lock row.step; last = lets_go row.step })
 shades_with shade ps row None = []
 
 no_shade : {A : Type 0} (ps : List PassNow) (row : Row) (lock : Option PassId) → shades_with {A = A} (λ s. []) ps row lock ≡ []
 no_shade ps row lock = grind arith
 
--- what is picked out of the elements of a picture: this of a mark, of the number of a line and of a shade
-module _ {A : Type 0} (mark : Mark → List A) (number : Number → List A) (shade : Shade → List A) where
+-- and out of the arrow to a row, if another pass wrote what its step found
+abbrev arrows_with : {A : Type 0} → (Arrow → List A) → List PassNow → Row → Option Spot → List A
+arrows_with arrow ps row (Some spot) = if same_pass spot.pass row.step.made.pass then []
+    else arrow (record { from_column = column_of ps spot.pass; from = spot; column = column_of ps row.step.made.pass; row = row.row; line = row.line })
+arrows_with arrow ps row None = []
+
+no_arrow : {A : Type 0} (ps : List PassNow) (row : Row) (spot : Option Spot) → arrows_with {A = A} (λ a. []) ps row spot ≡ []
+no_arrow ps row spot = grind arith
+
+-- what is picked out of the elements of a picture: this of a mark, of the number of a line, of a shade and of an arrow
+module _ {A : Type 0} (mark : Mark → List A) (number : Number → List A) (shade : Shade → List A) (arrow : Arrow → List A) where
   abbrev pick : Element → List A
-  pick = pick_of mark number shade
+  pick = pick_of mark number shade arrow
 
   picked-append : (xs ys : List Element) → picked pick (xs ++ ys) ≡ picked pick xs ++ picked pick ys
   picked-append [] ys = refl
@@ -79,85 +94,139 @@ module _ {A : Type 0} (mark : Mark → List A) (number : Number → List A) (sha
   none_then : (xs ys : List Element) (zs : List A) → picked pick xs ≡ [] → picked pick ys ≡ zs → picked pick (xs ++ ys) ≡ zs
   none_then xs ys zs a b = picked-append xs ys ∙ ap (λ t. t ++ picked pick ys) a ∙ b
 
-  -- as of a column, or of a line that is kept to the end
+  -- as of a column, of a line that is kept to the end, of the names of words, of bars and of the line of an owner
   no_column : (passes : List PassNow) (rows n : ℕ) (now : PassNow) → picked pick (column_elements passes rows n now) ≡ []
   no_column passes rows n now = grind arith
 
-  no_kept : (passes : List PassNow) (rows n : ℕ) (owner : Option Owner) → picked pick (open_elements passes rows n owner) ≡ []
-  no_kept passes rows n owner = grind arith
+  no_kept : (passes : List PassNow) (irps : List IrpNow) (rows n : ℕ) (owner : Option Owner) → picked pick (open_elements passes irps rows n owner) ≡ []
+  no_kept passes irps rows n owner = grind arith
 
-  -- of a row, whoever has the lock there
-  abbrev row_with : List PassNow → Row → Option PassId → List A
-  row_with passes row lock = number (record { row = row.row; line = row.line }) ++ (shades_with shade passes row lock
-      ++ (mark (record { row = row.row; column = column_of passes row.step.made.pass; columns = columns passes; step = row.step; words = row.words }) ++ []))
+  no_name : (passes : List PassNow) (irps : List IrpNow) (n : ℕ) (now : IrpNow) → picked pick (word_elements passes irps n now) ≡ []
+  no_name passes irps n now = grind arith
 
-  row_picked : (passes : List PassNow) (n : ℕ) (row : Row) → picked pick (row_elements passes n row) ≡ row_with passes row row.lock
-  row_picked passes n row = grind arith
+  no_bars : (columns place to : ℕ) (to_the_end : Bool) (last : Option Seen) → picked pick (bars_elements columns place to to_the_end last) ≡ []
+  no_bars columns place to to_the_end last = grind arith
+
+  no_span : (passes : List PassNow) (row : ℕ) (now : IrpNow) (owner : Option Owner) → picked pick (span_elements passes row now owner) ≡ []
+  no_span passes row now owner = grind arith
+
+  arrow_picked : (passes : List PassNow) (row : Row) (spot : Option Spot) → picked pick (arrow_elements passes row spot) ≡ arrows_with arrow passes row spot
+  arrow_picked passes row spot = grind (arith, append-nil)
+
+  shade_picked : (passes : List PassNow) (row : Row) (lock : Option PassId) → picked pick (shade_elements passes row lock) ≡ shades_with shade passes row lock
+  shade_picked passes row lock = grind (arith, append-nil)
+
+  -- who wrote what a row's step found, of whose IRP so much was known before
+  abbrev found_before : IrpNow → Row → Option Spot
+  found_before before row = found_in before row.step.made.kind row.step.made.found
+
+  -- behind a mark
+  behind_picked : (passes : List PassNow) (irps : List IrpNow) (before : IrpNow) (row : Row)
+      → picked pick (behind_elements passes irps before row) ≡ shades_with shade passes row row.lock ++ arrows_with arrow passes row (found_before before row)
+  behind_picked passes irps before row =
+      let last = arrow_elements passes row (found_before before row) in
+      let bars = bars_elements (columns passes) (place_named irps row.step.made.kind) row.row false before.last in
+      let span = span_elements passes row.row before row.ended in
+      picked-append (shade_elements passes row row.lock) (span ++ (bars ++ last))
+      ∙ ap (λ t. t ++ picked pick (span ++ (bars ++ last))) (shade_picked passes row row.lock)
+      ∙ ap (λ t. shades_with shade passes row row.lock ++ t) (none_then span (bars ++ last) _ (no_span passes row.row before row.ended)
+      (none_then bars last _ (no_bars (columns passes) (place_named irps row.step.made.kind) row.row false before.last) (arrow_picked passes row (found_before before row))))
+
+  -- of a row, whoever has the lock there, and whoever wrote what its step found
+  abbrev row_with : List PassNow → List IrpNow → Row → Option PassId → Option Spot → List A
+  row_with passes irps row lock spot = number (record { row = row.row; line = row.line }) ++ ((shades_with shade passes row lock ++ arrows_with arrow passes row spot)
+      ++ (mark (record { row = row.row; column = column_of passes row.step.made.pass; columns = columns passes; place = place_named irps row.step.made.kind; step = row.step; words = row.words }) ++ []))
+
+  row_picked : (passes : List PassNow) (irps : List IrpNow) (before : IrpNow) (row : Row) → picked pick (row_after passes irps before row) ≡ row_with passes irps row row.lock (found_before before row)
+  row_picked passes irps before row =
+      let last = mark_element passes irps row ∷ (call_element passes before row ∷ []) in
+      ap (λ t. number (record { row = row.row; line = row.line }) ++ t) (picked-append (behind_elements passes irps before row) last ∙ ap (λ t. t ++ picked pick last) (behind_picked passes irps before row))
 
   -- where this is what a law wants of a row
-  module _ (of_row : List PassNow → Row → List A) (is : (passes : List PassNow) (row : Row) → row_with passes row row.lock ≡ of_row passes row) where
-    rows_picked : (passes : List PassNow) (n : ℕ) (rows : List Row) (row : Row) → picked pick (each (row_elements passes) n (rows ++ row ∷ [])) ≡ picked pick (each (row_elements passes) n rows) ++ of_row passes row
-    rows_picked passes n [] row = ap (λ t. picked pick t) (append-nil (row_elements passes n row)) ∙ row_picked passes n row ∙ is passes row
-    rows_picked passes n (r ∷ rows) row =
-        let first = row_elements passes n r in
-        picked-append first (each (row_elements passes) (n + 1) (rows ++ row ∷ []))
-        ∙ ap (λ t. picked pick first ++ t) (rows_picked passes (n + 1) rows row)
-        ∙ sym (append_assoc (picked pick first) (picked pick (each (row_elements passes) (n + 1) rows)) (of_row passes row))
-        ∙ ap (λ t. t ++ of_row passes row) (sym (picked-append first (each (row_elements passes) (n + 1) rows)))
+  module _ (of_row : List PassNow → List IrpNow → Row → Option Spot → List A) (is : (passes : List PassNow) (irps : List IrpNow) (row : Row) (spot : Option Spot) → row_with passes irps row row.lock spot ≡ of_row passes irps row spot) (size : Size) where
+    -- of a step after the steps W
+    abbrev of_step : List PassNow → List IrpNow → Numbered → List Numbered → List A
+    of_step passes irps w W = of_row passes irps (row_of size w W) (found_before (irp_named (irps_of size W) w.step.kind) (row_of size w W))
 
-    -- of the steps W
-    module _ (size : Size) where
-      abbrev of_step : List PassNow → Numbered → List Numbered → List A
-      of_step passes w W = of_row passes (row_of size w W)
+    all_picked : (passes : List PassNow) (irps : List IrpNow) (W : List Numbered) → picked pick (rows_elements passes irps (replicate size.irps new_irp) (rows_of size W)) ≡ added (of_step passes irps) W
+    all_picked passes irps [] = refl
+    all_picked passes irps (w ∷ W) =
+        let row = row_of size w W in
+        let fresh = replicate size.irps new_irp in
+        let before = irp_named (irps_of size W) w.step.kind in
+        ap (λ es. picked pick es) (rows-last passes irps fresh (rows_of size W) row)
+        ∙ picked-append (rows_elements passes irps fresh (rows_of size W)) (row_after passes irps before row)
+        ∙ ap (λ t. picked pick (rows_elements passes irps fresh (rows_of size W)) ++ t) (row_picked passes irps before row ∙ is passes irps row (found_before before row))
+        ∙ ap (λ t. t ++ of_step passes irps w W) (all_picked passes irps W)
 
-      all_picked : (passes : List PassNow) (W : List Numbered) → picked pick (each (row_elements passes) 0 (rows_of size W)) ≡ added (of_step passes) W
-      all_picked passes [] = refl
-      all_picked passes (w ∷ W) = rows_picked passes 0 (rows_of size W) (row_of size w W) ∙ ap (λ t. t ++ of_step passes w W) (all_picked passes W)
+    module _ (W : List Numbered) where
+      abbrev passes : List PassNow
+      passes = all_passes size W
 
-      module _ (W : List Numbered) where
-        abbrev passes : List PassNow
-        passes = all_passes size W
+      abbrev irps : List IrpNow
+      irps = irps_of size W
 
-        abbrev shown : List Element
-        shown = shown_elements passes (rows_of size W) (owners size.irps (run_of W)) (length W)
+      abbrev shown : List Element
+      shown = shown_elements passes irps (rows_of size W) (owners size.irps (run_of W)) (length W)
 
-        shown_picked : picked pick shown ≡ added (of_step passes) W
-        shown_picked =
-            let named = each (column_elements passes (length W)) 0 passes in
-            let steps = each (row_elements passes) 0 (rows_of size W) in
-            let kept = each (open_elements passes (length W)) 0 (owners size.irps (run_of W)) in
-            none_then (first_elements (columns passes) (length W)) (named ++ (steps ++ kept)) _ refl
-            (none_then named (steps ++ kept) _ (none_picked (column_elements passes (length W)) (no_column passes (length W)) 0 passes)
-            (then_none steps kept _ (all_picked passes W) (none_picked (open_elements passes (length W)) (no_kept passes (length W)) 0 (owners size.irps (run_of W)))))
+      fresh_are : fresh_irps irps ≡ replicate size.irps new_irp
+      fresh_are = ap (λ n. replicate n new_irp) (length-after (replicate size.irps new_irp) (rows_of size W) ∙ length-replicate size.irps new_irp)
 
-        all_shown : AddsStepByStep size W pick (of_step passes) (λ n. number (record { row = length W; line = n }))
-        all_shown = record {
-          stopped = λ n stop.
-              let refused = refused_elements (length W) n (reason_of size passes stop) in
-              picked-append shown refused ∙ ap (λ t. t ++ picked pick refused) shown_picked ∙ ap (λ t. added (of_step passes) W ++ t) (append-nil (number (record { row = length W; line = n })));
-          closed = λ reported at_rest.
-              let last = at_rest_element (length W) (length reported) at_rest in
-              then_none shown (each (closing_elements (length W)) 0 reported ++ last ∷ []) _ shown_picked
-              (none_then (each (closing_elements (length W)) 0 reported) (last ∷ []) [] (none_picked (closing_elements (length W)) (λ n line. refl) 0 reported) refl);
-        }
+      shown_picked : picked pick shown ≡ added (of_step passes irps) W
+      shown_picked =
+          let named = each (column_elements passes (length W)) 0 passes in
+          let words = each (word_elements passes irps) 0 irps in
+          let last = each (last_elements passes irps (length W)) 0 irps in
+          let steps = rows_elements passes irps (fresh_irps irps) (rows_of size W) in
+          let kept = each (open_elements passes irps (length W)) 0 (owners size.irps (run_of W)) in
+          let all = ap (λ xs. picked pick (rows_elements passes irps xs (rows_of size W))) fresh_are ∙ all_picked passes irps W in
+          none_then named (words ++ (last ++ (steps ++ kept))) _ (none_picked (column_elements passes (length W)) (no_column passes (length W)) 0 passes)
+          (none_then words (last ++ (steps ++ kept)) _ (none_picked (word_elements passes irps) (no_name passes irps) 0 irps)
+          (none_then last (steps ++ kept) _ (none_picked (last_elements passes irps (length W)) (λ n now. no_bars (columns passes) _ (length W) true now.last) 0 irps)
+          (then_none steps kept _ all (none_picked (open_elements passes irps (length W)) (no_kept passes irps (length W)) 0 (owners size.irps (run_of W))))))
 
-all_shades : (ps : List PassNow) (row : Row) (lock : Option PassId) → row_with (λ m. []) (λ n. []) (λ s. s ∷ []) ps row lock ≡ shade_by ps row.row (lets_go row.step) lock
-all_shades ps row lock = grind arith
+      all_shown : AddsStepByStep size W pick (of_step passes irps) (λ n. number (record { row = length W; line = n }))
+      all_shown = record {
+        stopped = λ n stop.
+            let refused = refused_elements (length W) n (reason_of size passes stop) in
+            picked-append shown refused ∙ ap (λ t. t ++ picked pick refused) shown_picked ∙ ap (λ t. added (of_step passes irps) W ++ t) (append-nil (number (record { row = length W; line = n })));
+        closed = λ reported at_rest.
+            let last = at_rest_element passes (length W) (length reported) at_rest in
+            then_none shown (each (closing_elements irps (length W)) 0 reported ++ last ∷ []) _ shown_picked
+            (none_then (each (closing_elements irps (length W)) 0 reported) (last ∷ []) [] (none_picked (closing_elements irps (length W)) (λ n line. refl) 0 reported) refl);
+      }
+
+all_shades : (ps : List PassNow) (irps : List IrpNow) (row : Row) (spot : Option Spot) (lock : Option PassId) → row_with (λ m. []) (λ n. []) (λ s. s ∷ []) (λ a. []) ps irps row lock spot ≡ shade_by ps row.row row.step lock
+all_shades ps irps row spot lock = grind (arith, append-nil)
+
+all_arrows : (ps : List PassNow) (row : Row) (spot : Option Spot) → arrows_with (λ a. a ∷ []) ps row spot ≡ arrow_to ps row.step.made.pass row.row row.line spot
+all_arrows ps row spot = grind arith
+
+-- of a law for which neither shades nor arrows count
+quiet : {A : Type 0} (ps : List PassNow) (row : Row) (spot : Option Spot) → shades_with {A = A} (λ s. []) ps row row.lock ++ arrows_with {A = A} (λ a. []) ps row spot ≡ []
+quiet ps row spot = ap (λ t. t ++ arrows_with (λ a. []) ps row spot) (no_shade ps row row.lock) ∙ no_arrow ps row spot
 
 -- of the steps W
 module _ (size : Size) (W : List Numbered) where
   pub each_mark : EachStepHasOneMark size W
-  each_mark = all_shown (λ m. m ∷ []) (λ n. []) (λ s. []) (λ ps row. mark_in (mark_element ps row)) (λ ps row. ap (λ t. t ++ mark_in (mark_element ps row)) (no_shade ps row row.lock)) size W
+  each_mark = all_shown (λ m. m ∷ []) (λ n. []) (λ s. []) (λ a. []) (λ ps irps row spot. mark_in (mark_element ps irps row))
+      (λ ps irps row spot. ap (λ t. t ++ mark_in (mark_element ps irps row)) (quiet ps row spot)) size W
 
   pub each_words : EachStepShowsItsWords size W
-  each_words = all_shown (λ m. option_to_list m.words) (λ n. []) (λ s. []) (λ ps row. option_to_list row.words)
-      (λ ps row. ap (λ t. t ++ (option_to_list row.words ++ [])) (no_shade ps row row.lock) ∙ append-nil (option_to_list row.words)) size W
+  each_words = all_shown (λ m. option_to_list m.words) (λ n. []) (λ s. []) (λ a. []) (λ ps irps row spot. option_to_list row.words)
+      (λ ps irps row spot. ap (λ t. t ++ (option_to_list row.words ++ [])) (quiet ps row spot) ∙ append-nil (option_to_list row.words)) size W
 
   pub each_number : EachLineHasItsNumber size W
-  each_number = all_shown (λ m. []) (λ n. n ∷ []) (λ s. []) (λ ps row. number_in (number_element row)) (λ ps row. ap (λ t. number_in (number_element row) ++ (t ++ [])) (no_shade ps row row.lock)) size W
+  each_number = all_shown (λ m. []) (λ n. n ∷ []) (λ s. []) (λ a. []) (λ ps irps row spot. number_in (number_element row))
+      (λ ps irps row spot. ap (λ t. number_in (number_element row) ++ (t ++ [])) (quiet ps row spot)) size W
 
   pub each_shade : EachShadeIsOfTheLock size W
-  each_shade = all_shown (λ m. []) (λ n. []) (λ s. s ∷ []) (λ ps row. shade_by ps row.row (lets_go row.step) row.lock) (λ ps row. all_shades ps row row.lock) size W
+  each_shade = all_shown (λ m. []) (λ n. []) (λ s. s ∷ []) (λ a. []) (λ ps irps row spot. shade_by ps row.row row.step row.lock) (λ ps irps row spot. all_shades ps irps row spot row.lock) size W
+
+  -- an arrow to each step that found what another pass wrote, by what was known of its IRP
+  pub drawn_arrows : AddsStepByStep size W arrow_in (λ w V. arrow_to (all_passes size W) w.step.pass (length V) w.line (found_in (irp_named (irps_of size V) w.step.kind) w.step.kind w.step.found)) (λ n. [])
+  drawn_arrows = all_shown (λ m. []) (λ n. []) (λ s. []) (λ a. a ∷ []) (λ ps irps row spot. arrow_to ps row.step.made.pass row.row row.line spot)
+      (λ ps irps row spot. append-nil (shades_with (λ s. []) ps row row.lock ++ arrows_with (λ a. a ∷ []) ps row spot) ∙ ap (λ t. t ++ arrows_with (λ a. a ∷ []) ps row spot) (no_shade ps row row.lock) ∙ all_arrows ps row spot) size W
 
   -- a pass that has the lock made a step
   known : (E : List Made) → IsRun size E → (p : PassId) → has_lock (inside E p) ≡ true → p.0 ≤ size.passes

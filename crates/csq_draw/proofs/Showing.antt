@@ -1,6 +1,6 @@
 -- A drawing shows the run that it was noted of.
 use Rattle.std.proofs.Common.{◌≡◌, ℕ, suc, ◌+◌, ◌<◌, Bool, true, false, cond, List, [], ◌∷◌, ◌++◌, length, get_or, set, replicate, Option, Some, None, refl, ap, sym, ◌∙◌, subst, length-append, add-one, arith}
-use Rattle.csq_draw.proofs.Imports.{option_map_or, IrpId, PassId, Kind, Made, number, same_id, name_of, IrpLife, Size, OfIrp, same_id-refl, same_id-eq, Numbered, run_of, GrewBy, all_passes, reason_of, length-table, table-same, table-replicate, get-table, set-table, CaptionText, picture, stopped_lines, closed_lines, picture_head, stopped_elements, closed_elements, stopped_picture, closed_picture, Owner, Row, is_of_irp, owner, owner_after, owner_named, ended_by, owners, lock_of, lock_at, columns, owner_in, with_owner, Shows, NotesStep}
+use Rattle.csq_draw.proofs.Imports.{option_map_or, IrpId, PassId, Kind, Made, number, same_id, name_of, IrpLife, Size, OfIrp, same_id-refl, same_id-eq, Numbered, run_of, GrewBy, all_passes, reason_of, length-table, table-same, table-replicate, get-table, set-table, CaptionText, picture, stopped_lines, closed_lines, picture_head, stopped_elements, closed_elements, stopped_picture, closed_picture, IrpNow, irp_columns, irps_after, irps_of, new_irp, Owner, Row, is_of_irp, owner, owner_after, owner_named, ended_by, owners, lock_of, lock_at, columns, owner_in, with_owner, Shows, NotesStep}
 use Rattle.irp_core.specs.MachineState.{MachineState, Agrees, size_of}
 use Rattle.csq_replay.specs.declared.schedule.closing.IrpLine.{IrpLine}
 use Rattle.csq_replay.specs.declared.schedule.outcome.Stop.{Stop}
@@ -24,7 +24,7 @@ pub length-owners : (n : ℕ) (E : List Made) → length (owners n E) ≡ n
 length-owners n E = length-table (λ k. owner n E (record { 0 = k })) n
 
 -- numbers that differ are of IRPs that differ
-other_id : (n m : IrpId) → (m.0 ≡ n.0 → ⊥) → same_id n m ≡ false
+pub other_id : (n m : IrpId) → (m.0 ≡ n.0 → ⊥) → same_id n m ≡ false
 other_id n m ne = go (same_id n m) refl
   where
     go : (b : Bool) → same_id n m ≡ b → b ≡ false
@@ -124,54 +124,42 @@ module _ (size : Size) (rows : List Row) (os : List (Option Owner)) (w : Numbere
       shown_owners = owners_then;
     }
 
-  -- how many owners a drawing has
-  pub owners_count : length os ≡ size.irps
-  owners_count = ap length h.shown_owners ∙ length-owners size.irps (run_of W)
-
--- what is drawn of the same lists is the same
-pub stopped_same : (ps qs : List PassNow) (rs ss : List Row) (xs ys : List (Option Owner)) (count n : ℕ) (reason : Reason) (old new : List ℕ) → ps ≡ qs → rs ≡ ss → xs ≡ ys
-    → GrewBy old new (picture (stopped_elements ps rs xs count n reason)) → GrewBy old new (picture (stopped_elements qs ss ys count n reason))
-stopped_same ps qs rs ss xs ys count n reason old new a b c grew =
-    let drawn : List PassNow → List Row → List (Option Owner) → List ℕ = λ p r x. old ++ picture (stopped_elements p r x count n reason) in
-    grew ∙ ap (λ p. drawn p rs xs) a ∙ ap (λ r. drawn qs r xs) b ∙ ap (λ x. drawn qs ss x) c
-
-pub closed_same : (ps qs : List PassNow) (rs ss : List Row) (xs ys : List (Option Owner)) (ts us : List IrpLine) (count : ℕ) (rest : Bool) (old new : List ℕ) → ps ≡ qs → rs ≡ ss → xs ≡ ys → ts ≡ us
-    → GrewBy old new (picture (closed_elements ps rs xs count ts rest)) → GrewBy old new (picture (closed_elements qs ss ys count us rest))
-closed_same ps qs rs ss xs ys ts us count rest old new a b c d grew =
-    let drawn : List PassNow → List Row → List (Option Owner) → List IrpLine → List ℕ = λ p r x t. old ++ picture (closed_elements p r x count t rest) in
-    grew ∙ ap (λ p. drawn p rs xs ts) a ∙ ap (λ r. drawn qs r xs ts) b ∙ ap (λ x. drawn qs ss x ts) c ∙ ap (λ t. drawn qs ss ys t) d
+-- how many owners a drawing has
+pub owners_count : (size : Size) (rows : List Row) (os : List (Option Owner)) (W : List Numbered) → Shows size rows os W → length os ≡ size.irps
+owners_count size rows os W h = ap length h.shown_owners ∙ length-owners size.irps (run_of W)
 
 -- what was drawn of these passes, rows and owners is the picture of the steps that they show
-module _ (size : Size) (rows : List Row) (passes : List PassNow) (os : List (Option Owner)) (W : List Numbered) (kept : passes ≡ all_passes size W) (h : Shows size rows os W) where
+module _ (size : Size) (rows : List Row) (passes : List PassNow) (irps : List IrpNow) (os : List (Option Owner)) (W : List Numbered) (kept : passes ≡ all_passes size W) (known : irps ≡ irps_of size W) (h : Shows size rows os W) where
   rows_are : (count : ℕ) → count ≡ length rows → count ≡ length W
   rows_are count is = is ∙ ap length h.shown_rows ∙ length-rows size W
 
   -- and so is its head
-  pub head_shown : (count lines total : ℕ) (caption wanted : CaptionText) (old new : List ℕ) → count ≡ length rows → lines ≡ total → caption ≡ wanted → GrewBy old new (picture_head (columns passes) count lines caption)
-      → GrewBy old new (picture_head (columns (all_passes size W)) (length W) total wanted)
+  pub head_shown : (count lines total : ℕ) (caption wanted : CaptionText) (old new : List ℕ) → count ≡ length rows → lines ≡ total → caption ≡ wanted → GrewBy old new (picture_head (columns passes) (irp_columns irps) count lines caption)
+      → GrewBy old new (picture_head (columns (all_passes size W)) (irp_columns (irps_of size W)) (length W) total wanted)
   head_shown count lines total caption wanted old new is few same grew =
-      let drawn : List PassNow → ℕ → ℕ → CaptionText → List ℕ = λ ps k n x. old ++ picture_head (columns ps) k n x in
-      grew ∙ ap (drawn passes count lines) same ∙ ap (λ n. drawn passes count n wanted) few ∙ ap (λ k. drawn passes k total wanted) (rows_are count is) ∙ ap (λ ps. drawn ps (length W) total wanted) kept
+      let drawn : List PassNow → List IrpNow → ℕ → ℕ → CaptionText → List ℕ = λ ps xs k n x. old ++ picture_head (columns ps) (irp_columns xs) k n x in
+      grew ∙ ap (drawn passes irps count lines) same ∙ ap (λ n. drawn passes irps count n wanted) few ∙ ap (λ k. drawn passes irps k total wanted) (rows_are count is)
+      ∙ ap (λ xs. drawn passes xs (length W) total wanted) known ∙ ap (λ ps. drawn ps (irps_of size W) (length W) total wanted) kept
 
-  module _ (old new : List ℕ) where
-    pub stopped_shown : (count n : ℕ) (stop : Stop) (reason : Reason) → count ≡ length rows → reason ≡ reason_of size (all_passes size W) stop → GrewBy old new (picture (stopped_elements passes rows os count n reason))
-        → GrewBy old new (picture (stopped_picture size W n stop))
-    stopped_shown count n stop reason is why grew =
-        let drawn : List PassNow → List Row → List (Option Owner) → ℕ → Reason → List ℕ = λ ps rs xs k r. old ++ picture (stopped_elements ps rs xs k n r) in
-        grew ∙ ap (drawn passes rows os count) why
-        ∙ ap (λ k. drawn passes rows os k (reason_of size (all_passes size W) stop)) (rows_are count is)
-        ∙ ap (λ xs. drawn passes rows xs (length W) (reason_of size (all_passes size W) stop)) h.shown_owners
-        ∙ ap (λ rs. drawn passes rs (owners size.irps (run_of W)) (length W) (reason_of size (all_passes size W) stop)) h.shown_rows
-        ∙ ap (λ ps. drawn ps (rows_of size W) (owners size.irps (run_of W)) (length W) (reason_of size (all_passes size W) stop)) kept
+  -- of a sheet of these
+  module _ (old new : List ℕ) (ps : List PassNow) (xs : List IrpNow) (rs : List Row) (ys : List (Option Owner)) (k : ℕ) (a : ps ≡ passes) (b : xs ≡ irps) (c : rs ≡ rows) (d : ys ≡ os) (is : k ≡ length rows) where
+    -- what is drawn of it is drawn of the steps
+    sheet_shown : (drawn : List PassNow → List IrpNow → List Row → List (Option Owner) → ℕ → List ℕ) → drawn ps xs rs ys k ≡ drawn (all_passes size W) (irps_of size W) (rows_of size W) (owners size.irps (run_of W)) (length W)
+    sheet_shown drawn =
+        ap (λ p. drawn p xs rs ys k) (a ∙ kept) ∙ ap (λ x. drawn (all_passes size W) x rs ys k) (b ∙ known) ∙ ap (λ r. drawn (all_passes size W) (irps_of size W) r ys k) (c ∙ h.shown_rows)
+        ∙ ap (λ y. drawn (all_passes size W) (irps_of size W) (rows_of size W) y k) (d ∙ h.shown_owners) ∙ ap (drawn (all_passes size W) (irps_of size W) (rows_of size W) (owners size.irps (run_of W))) (rows_are k is)
 
-    pub closed_shown : (count : ℕ) (reported : List IrpLine) (rest : Bool) → count ≡ length rows → GrewBy old new (picture (closed_elements passes rows os count reported rest))
-        → GrewBy old new (picture (closed_picture size W reported rest))
-    closed_shown count reported rest is grew =
-        let drawn : List PassNow → List Row → List (Option Owner) → ℕ → List ℕ = λ ps rs xs k. old ++ picture (closed_elements ps rs xs k reported rest) in
-        grew ∙ ap (drawn passes rows os) (rows_are count is)
-        ∙ ap (λ xs. drawn passes rows xs (length W)) h.shown_owners
-        ∙ ap (λ rs. drawn passes rs (owners size.irps (run_of W)) (length W)) h.shown_rows
-        ∙ ap (λ ps. drawn ps (rows_of size W) (owners size.irps (run_of W)) (length W)) kept
+    pub stopped_shown : (n : ℕ) (stop : Stop) (reason : Reason) → reason ≡ reason_of size (all_passes size W) stop → GrewBy old new (picture (stopped_elements ps xs rs ys k n reason)) → GrewBy old new (picture (stopped_picture size W n stop))
+    stopped_shown n stop reason why grew = grew ∙ sheet_shown (λ p x r y m. old ++ picture (stopped_elements p x r y m n reason))
+        ∙ ap (λ q. old ++ picture (stopped_elements (all_passes size W) (irps_of size W) (rows_of size W) (owners size.irps (run_of W)) (length W) n q)) why
+
+    pub closed_shown : (reported : List IrpLine) (rest : Bool) → GrewBy old new (picture (closed_elements ps xs rs ys k reported rest)) → GrewBy old new (picture (closed_picture size W reported rest))
+    closed_shown reported rest grew = grew ∙ sheet_shown (λ p x r y m. old ++ picture (closed_elements p x r y m reported rest))
+
+-- what is known of so many IRPs is what the steps say
+pub irps_shown : (size : Size) (rows : List Row) (os : List (Option Owner)) (W : List Numbered) → Shows size rows os W → (irps : List IrpNow) → irps ≡ irps_after (replicate (length os) new_irp) rows → irps ≡ irps_of size W
+irps_shown size rows os W h irps is =
+    is ∙ ap (λ n. irps_after (replicate n new_irp) rows) (ap length h.shown_owners ∙ length-owners size.irps (run_of W)) ∙ ap (irps_after (replicate size.irps new_irp)) h.shown_rows
 
 -- and so is the text
 module _ (size : Size) (W : List Numbered) (caption wanted : CaptionText) (rows : List Row) (passes : List PassNow) (old new : List ℕ) where
@@ -181,8 +169,8 @@ module _ (size : Size) (W : List Numbered) (caption wanted : CaptionText) (rows 
       let written : List PassNow → List Row → Reason → List ℕ = λ ps rs r. old ++ stopped_lines wanted ps rs n r in
       grew ∙ ap (λ c. old ++ stopped_lines c passes rows n reason) same ∙ ap (written passes rows) why ∙ ap (λ rs. written passes rs (reason_of size (all_passes size W) stop)) shown ∙ ap (λ ps. written ps (rows_of size W) (reason_of size (all_passes size W) stop)) kept
 
-  pub closed_written : (reported : List IrpLine) (rest : Bool) → caption ≡ wanted → passes ≡ all_passes size W → rows ≡ rows_of size W
-      → GrewBy old new (closed_lines caption passes rows reported rest) → GrewBy old new (closed_lines wanted (all_passes size W) (rows_of size W) reported rest)
-  closed_written reported rest same kept shown grew =
-      let written : List PassNow → List Row → List ℕ = λ ps rs. old ++ closed_lines wanted ps rs reported rest in
-      grew ∙ ap (λ c. old ++ closed_lines c passes rows reported rest) same ∙ ap (written passes) shown ∙ ap (λ ps. written ps (rows_of size W)) kept
+  pub closed_written : (irps : List IrpNow) (reported : List IrpLine) (rest : Bool) → caption ≡ wanted → passes ≡ all_passes size W → irps ≡ irps_of size W → rows ≡ rows_of size W
+      → GrewBy old new (closed_lines caption passes irps rows reported rest) → GrewBy old new (closed_lines wanted (all_passes size W) (irps_of size W) (rows_of size W) reported rest)
+  closed_written irps reported rest same kept known shown grew =
+      let written : List PassNow → List IrpNow → List Row → List ℕ = λ ps xs rs. old ++ closed_lines wanted ps xs rs reported rest in
+      grew ∙ ap (λ c. old ++ closed_lines c passes irps rows reported rest) same ∙ ap (written passes irps) shown ∙ ap (λ xs. written passes xs (rows_of size W)) known ∙ ap (λ ps. written ps (irps_of size W) (rows_of size W)) kept

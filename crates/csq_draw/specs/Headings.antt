@@ -3,11 +3,11 @@ use Rattle.std.specs.Prelude.{ℕ, ◌+◌, ◌-◌, ◌*◌, ◌==◌, max, Lis
 use Rattle.irp_core.specs.declared.ids.PassId.{PassId}
 use Rattle.irp_core.specs.Texts.{pass_text}
 use Rattle.csq_draw.specs.declared.heading.{Extent.{Extent}, Column.{Column}, TheConstants.{PICTURE_HEAD}}
-use Rattle.csq_draw.specs.Layout.{left, top}
+use Rattle.csq_draw.specs.Layout.{left, top, flag_x}
 
 -- a picture's width, at least that of its longest line of text
 abbrev pub width : Extent → ℕ
-width e = max (left e.columns + 120) 780
+width e = max (flag_x e.columns e.irps + 8) 780
 
 -- how much of it the caption takes, above all else
 abbrev pub above : Extent → ℕ
@@ -44,14 +44,14 @@ head_at width height edge name heading =
 abbrev pub head_text : Extent → List ℕ → List ℕ → List ℕ
 head_text e title below = head_at (width e) (height e) (edge_text (above e)) (name_text e.rows title) (heading_text e.caption title below)
 
--- what the parts of a picture mean
-unfoldable pub key_text : List ℕ
-key_text = codes "<text class='s' x='56' y='15'>shade: has the lock; bold: the exchange found the routine, and so claims the IRP; dashed line: owes it; solid line: holds it</text><text class='s' x='56' y='28'>circles: the two words of the IRP, in its present life, after the step; filled: set; bold: the step changed it; &#8594;: what the call answers</text><text class='n s' x='46' y='54'>line</text>"
+-- what the numbers at the left are
+abbrev pub lines_text : List ℕ
+lines_text = codes "<text class='n s' x='46' y='26'>line</text>"
 
 -- the name of a pass over its column, and a line down this column
 abbrev pub column_at : ℕ → ℕ → PassId → List ℕ
-column_at x bottom p = (codes "<path class='g' d='M" ++ (decimal x ++ (codes " 64V" ++ (decimal bottom ++ codes "'/>"))))
-    ++ (codes "<text class='p' x='" ++ (decimal x ++ (codes "' y='54'>" ++ (pass_text p ++ codes "</text>"))))
+column_at x bottom p = (codes "<path class='g' d='M" ++ (decimal x ++ (codes " 36V" ++ (decimal bottom ++ codes "'/>"))))
+    ++ (codes "<text class='p' x='" ++ (decimal x ++ (codes "' y='26'>" ++ (pass_text p ++ codes "</text>"))))
 
 abbrev pub column_text : Column → List ℕ
 column_text c = column_at (left c.column + 114) (top c.rows) c.pass

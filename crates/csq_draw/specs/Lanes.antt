@@ -23,7 +23,7 @@ first_free os p (suc more) lane = if is_taken os p lane then first_free os p mor
 unfoldable pub free_lane : List (Option Owner) → PassId → ℕ
 free_lane os p = first_free os p 8 0
 
--- in which lane p comes to have an IRP: where it has the IRP already, the lane stays
+-- in which lane p comes to have an IRP: if it has the IRP already, the lane stays
 abbrev pub lane_for : List (Option Owner) → PassId → Option Owner → ℕ
 lane_for os p (Some o) = if same_pass o.pass p then o.lane else free_lane os p
 lane_for os p None = free_lane os p

@@ -1,13 +1,13 @@
 -- What holds of every picture.
-use Rattle.std.specs.Prelude.{◌≡◌, ◌≢◌, ◌⊎◌, ◌↔◌, ℕ, ◌<◌, Bool, false, List, [], ◌∷◌, ◌++◌, length, Option, Some, None, option_to_list, IsTrue}
+use Rattle.std.specs.Prelude.{◌≡◌, ◌≢◌, ◌⊎◌, ◌↔◌, ℕ, ◌==◌, ◌&&◌, ◌<◌, Bool, true, false, List, [], ◌∷◌, ◌++◌, length, Option, Some, None, option_to_list, IsTrue, if◌then◌else◌}
 use Rattle.std.specs.List.{list_any}
 use Rattle.irp_core.specs.declared.ids.{IrpId.{IrpId}, PassId.{PassId}}
-use Rattle.irp_core.specs.declared.step.Made.{Made}
+use Rattle.irp_core.specs.declared.step.{Kind.{Kind, TheVariants.{Arm, Test, Disarm, Flag, Take, Rearm}}, Made.{Made}}
 use Rattle.irp_core.specs.Lives.{present}
 use Rattle.irp_core.specs.Lock.{HasLock, needs_lock}
 use Rattle.irp_core.specs.Owners.{owes, holds}
 use Rattle.irp_core.specs.Runs.{Size, IsRun}
-use Rattle.irp_core.specs.Steps.{by}
+use Rattle.irp_core.specs.Steps.{by, same_pass}
 use Rattle.csq_replay.specs.declared.lines.answer.Ended.{Ended}
 use Rattle.csq_replay.specs.declared.schedule.closing.IrpLine.{IrpLine}
 use Rattle.csq_replay.specs.declared.schedule.outcome.Stop.{Stop}
@@ -18,16 +18,19 @@ use Rattle.csq_draw.specs.declared.owners.{Having.{Having, TheVariants.{Owes, Ho
 use Rattle.csq_draw.specs.declared.words.WordValues.{WordValues}
 use Rattle.csq_explain.specs.declared.passes.PassNow.{PassNow}
 use Rattle.csq_draw.specs.Lanes.{is_in_lane, is_taken}
-use Rattle.csq_draw.specs.Marks.{lets_go}
-use Rattle.csq_draw.specs.Owners.{owner, owners}
+use Rattle.csq_draw.specs.declared.arrows.Arrow.{Arrow}
+use Rattle.csq_draw.specs.declared.irps.{IrpNow.{IrpNow}, Spot.{Spot}}
+use Rattle.csq_draw.specs.Marks.{takes_lock, lets_go}
+use Rattle.csq_draw.specs.Owners.{is_of_irp, owner, owners}
 use Rattle.csq_draw.specs.Passes.{columns, column_of}
 use Rattle.csq_explain.specs.Passes.{all_passes}
+use Rattle.csq_explain.specs.declared.sentences.StepInCall.{StepInCall}
 use Rattle.csq_explain.specs.Sentences.{in_call}
 use Rattle.csq_draw.specs.Rows.{row_of}
-use Rattle.csq_draw.specs.Words.{words_named}
+use Rattle.csq_draw.specs.Words.{words_named, changes_flag, changes_routine}
 use Rattle.csq_draw.specs.declared.element.Element.{Element}
 use Rattle.csq_draw.specs.declared.element.Element.TheVariants as element
-use Rattle.csq_draw.specs.Pictures.{IsDrawing, stopped_picture, closed_picture}
+use Rattle.csq_draw.specs.Pictures.{IsDrawing, irps_of, place_named, stopped_picture, closed_picture}
 
 -- two pictures of one schedule in one format are the same
 abbrev pub HasOnePicture : Size → Format → List ℕ → Type 0
@@ -48,35 +51,41 @@ pub record AddsStepByStep {A : Type 0} (size : Size) (W : List Numbered) (pick :
   pub stopped : (n : ℕ) (stop : Stop) → picked pick (stopped_picture size W n stop) ≡ added of_step W ++ of_line n
   pub closed : (reported : List IrpLine) (at_rest : Bool) → picked pick (closed_picture size W reported at_rest) ≡ added of_step W
 
--- what these pick out of an element: of a mark, of the number of a line, of a shade, and nothing out of any other
-abbrev pub pick_of : {A : Type 0} → (Mark → List A) → (Number → List A) → (Shade → List A) → Element → List A
-pick_of mark number shade (element.Mark m) = mark m
-pick_of mark number shade (element.Number n) = number n
-pick_of mark number shade (element.Shade s) = shade s
-pick_of mark number shade _ = []
+-- what these pick out of an element: of a mark, of the number of a line, of a shade, of an arrow, and nothing out of any other
+abbrev pub pick_of : {A : Type 0} → (Mark → List A) → (Number → List A) → (Shade → List A) → (Arrow → List A) → Element → List A
+pick_of mark number shade arrow (element.Mark m) = mark m
+pick_of mark number shade arrow (element.Number n) = number n
+pick_of mark number shade arrow (element.Shade s) = shade s
+pick_of mark number shade arrow (element.Arrow a) = arrow a
+pick_of mark number shade arrow _ = []
 
 -- an element's mark, if it is one
 abbrev pub mark_in : Element → List Mark
-mark_in = pick_of (λ m. m ∷ []) (λ n. []) (λ s. [])
+mark_in = pick_of (λ m. m ∷ []) (λ n. []) (λ s. []) (λ a. [])
 
 -- its number of a line, if it is one
 abbrev pub number_in : Element → List Number
-number_in = pick_of (λ m. []) (λ n. n ∷ []) (λ s. [])
+number_in = pick_of (λ m. []) (λ n. n ∷ []) (λ s. []) (λ a. [])
 
 -- its shade, if it is one
 abbrev pub shade_in : Element → List Shade
-shade_in = pick_of (λ m. []) (λ n. []) (λ s. s ∷ [])
+shade_in = pick_of (λ m. []) (λ n. []) (λ s. s ∷ []) (λ a. [])
+
+-- its arrow, if it is one
+abbrev pub arrow_in : Element → List Arrow
+arrow_in = pick_of (λ m. []) (λ n. []) (λ s. []) (λ a. a ∷ [])
 
 -- the words that a mark shows, if an element is one and shows any
 abbrev pub words_in : Element → List WordValues
-words_in = pick_of (λ m. option_to_list m.words) (λ n. []) (λ s. [])
+words_in = pick_of (λ m. option_to_list m.words) (λ n. []) (λ s. []) (λ a. [])
 
--- the mark of a step after the steps W: on the row of its number, in the column of its pass, with the value that it found
-abbrev pub mark_of : Size → List PassNow → Numbered → List Numbered → List Mark
-mark_of size passes w W = record {
+-- the mark of a step after the steps W: on the row of its number, in the column of its pass, with the value that it found, and with the words of its IRP at the IRP's place
+abbrev pub mark_of : Size → List PassNow → List IrpNow → Numbered → List Numbered → List Mark
+mark_of size passes irps w W = record {
   row = length W;
   column = column_of passes w.step.pass;
   columns = columns passes;
+  place = place_named irps w.step.kind;
   step = in_call (run_of W) w.step;
   words = words_named size.first (run_of (w ∷ W)) w.step.kind;
 } ∷ []
@@ -89,18 +98,51 @@ words_after size w W = option_to_list (words_named size.first (run_of (w ∷ W))
 abbrev pub line_number : Numbered → List Numbered → List Number
 line_number w W = record { row = length W; line = w.line } ∷ []
 
--- on this row, of the pass that has the lock, and maybe lets it go there: a shade in its column
-abbrev pub shade_by : List PassNow → ℕ → Bool → Option PassId → List Shade
-shade_by passes row last (Some p) = record { row = row; column = column_of passes p; last = last } ∷ []
-shade_by passes row last None = []
+-- on the row of a step, of the pass that has the lock: a shade in its column, which is the first of its time if the step takes the lock, and the last if it lets the lock go
+abbrev pub shade_by : List PassNow → ℕ → StepInCall → Option PassId → List Shade
+shade_by passes row step (Some p) = record { row = row; column = column_of passes p; first = takes_lock step; last = lets_go step } ∷ []
+shade_by passes row step None = []
 
--- the shade behind a step, which is the last of its time where the step lets the lock go
+-- the shade behind a step
 abbrev pub shade_of : Size → List PassNow → Numbered → List Numbered → List Shade
-shade_of size passes w W = shade_by passes (length W) (lets_go (in_call (run_of W) w.step)) (row_of size w W).lock
+shade_of size passes w W = shade_by passes (length W) (in_call (run_of W) w.step) (row_of size w W).lock
+
+-- whether a step of this kind that changes the Cancel flag sets it
+abbrev pub sets_flag : Kind → Bool
+sets_flag (Flag i) = true
+sets_flag _ = false
+
+-- and one that changes the cancel routine
+abbrev pub sets_routine : Kind → Bool
+sets_routine (Arm i) = true
+sets_routine (Rearm i) = true
+sets_routine _ = false
+
+-- where the newest of the steps W stands that changed a word of IRP n, if it set the word
+abbrev pub set_in : (Kind → ℕ → Bool) → (Kind → Bool) → IrpId → List Numbered → Option Spot
+set_in changes sets n [] = None
+set_in changes sets n (w ∷ W) = if is_of_irp n w.step.kind && changes w.step.kind w.step.found then (if sets w.step.kind then Some (record { row = length W; line = w.line; pass = w.step.pass }) else None) else set_in changes sets n W
+
+-- who set what this kind of step, which found this value, found set after the steps W
+abbrev pub setter : Kind → ℕ → List Numbered → Option Spot
+setter (Test i) found W = if found == 1 then set_in changes_flag sets_flag i.irp W else None
+setter (Flag i) found W = if found == 1 then set_in changes_flag sets_flag i.irp W else None
+setter (Disarm i) found W = if found == 1 then set_in changes_routine sets_routine i.irp W else None
+setter (Take i) found W = if found == 1 then set_in changes_routine sets_routine i.irp W else None
+setter _ found W = None
+
+-- an arrow to a step of p on this row, of this line, from the spot of another pass
+abbrev pub arrow_to : List PassNow → PassId → ℕ → ℕ → Option Spot → List Arrow
+arrow_to passes p row line (Some spot) = if same_pass spot.pass p then [] else record { from_column = column_of passes spot.pass; from = spot; column = column_of passes p; row = row; line = line } ∷ []
+arrow_to passes p row line None = []
+
+-- the arrow to a step: from the newest step that changed the word that it found set
+abbrev pub arrow_of : List PassNow → Numbered → List Numbered → List Arrow
+arrow_of passes w W = arrow_to passes w.step.pass (length W) w.line (setter w.step.kind w.step.found W)
 
 -- each step has one mark, in order, and nothing else has one
 abbrev pub EachStepHasOneMark : Size → List Numbered → Type 0
-EachStepHasOneMark size W = AddsStepByStep size W mark_in (mark_of size (all_passes size W)) (λ n. [])
+EachStepHasOneMark size W = AddsStepByStep size W mark_in (mark_of size (all_passes size W) (irps_of size W)) (λ n. [])
 
 -- each step of an IRP shows the two words of that after it, by the run, and no other step shows any
 abbrev pub EachStepShowsItsWords : Size → List Numbered → Type 0
@@ -113,6 +155,10 @@ EachLineHasItsNumber size W = AddsStepByStep size W number_in line_number (λ n.
 -- a shade stands where a pass has the lock as a step is made, and nowhere else
 abbrev pub EachShadeIsOfTheLock : Size → List Numbered → Type 0
 EachShadeIsOfTheLock size W = AddsStepByStep size W shade_in (shade_of size (all_passes size W)) (λ n. [])
+
+-- of a run, an arrow runs to each step that found a word set from the step of another pass that set it, and there are no others
+abbrev pub EachArrowIsFromTheWrite : Size → List Numbered → Type 0
+EachArrowIsFromTheWrite size W = IsRun size (run_of W) → AddsStepByStep size W arrow_in (arrow_of (all_passes size W)) (λ n. [])
 
 -- passes that made a step of the run have columns of their own, in the order of their numbers
 abbrev pub EachPassHasItsColumn : Size → List Numbered → Type 0

@@ -4,10 +4,13 @@ pub mod Owners
 pub mod Passes
 pub mod Words
 pub mod Rows
+pub mod Irps
 pub mod CallTexts
 pub mod Circles
 pub mod Marks
 pub mod Spans
+pub mod Arrows
+pub mod Bars
 pub mod Captions
 pub mod Headings
 pub mod Endings

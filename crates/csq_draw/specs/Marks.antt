@@ -10,7 +10,6 @@ use Rattle.irp_core.specs.Texts.{kind_text}
 use Rattle.csq_explain.specs.declared.sentences.StepInCall.{StepInCall}
 use Rattle.csq_explain.specs.Sentences.{sentence, status_name}
 use Rattle.csq_draw.specs.declared.marks.{Number.{Number}, Shade.{Shade}, Mark.{Mark}}
-use Rattle.csq_draw.specs.CallTexts.{call_text}
 use Rattle.csq_draw.specs.Circles.{circles_text}
 use Rattle.csq_draw.specs.Layout.{left, top}
 
@@ -18,9 +17,25 @@ use Rattle.csq_draw.specs.Layout.{left, top}
 abbrev pub number_text : Number → List ℕ
 number_text n = codes "<text class='n' x='46' y='" ++ (decimal (top n.row + 34) ++ (codes "'>" ++ (decimal n.line ++ codes "</text>")))
 
--- the shade behind a row, in the column of the pass that has the lock: one pixel higher than the row, so that there is no gap to the next one; or lower, where the pass lets the lock go
+-- how high the shade behind a row is: one pixel more than the row, so that there is no gap to the next one; or less, if the pass lets the lock go
+abbrev pub shade_height : Bool → ℕ
+shade_height last = if last then 57 else 61
+
+-- beside the first shade of a time with the lock: that the pass has it
+abbrev pub lock_label : Shade → List ℕ
+lock_label s = if s.first then codes "<text class='q' dy='-4' transform='translate(" ++ (decimal (left s.column) ++ (codes " " ++ (decimal (top s.row + 30) ++ codes ")rotate(-90)'>has the lock</text>"))) else []
+
+-- a rectangle at the left edge of a column on this row
+abbrev pub shade_part : Shade → List ℕ → List ℕ → List ℕ
+shade_part s class width = codes "<rect class='" ++ (class ++ (codes "' x='" ++ (decimal (left s.column) ++ (codes "' y='" ++ (decimal (top s.row) ++ (codes "' width='" ++ (width ++ (codes "' height='" ++ (decimal (shade_height s.last) ++ codes "'/>")))))))))
+
+-- the shade behind a row, in the column of the pass that has the lock, with a bar at its left
 abbrev pub shade_text : Shade → List ℕ
-shade_text s = codes "<rect class='l' x='" ++ (decimal (left s.column) ++ (codes "' y='" ++ (decimal (top s.row) ++ (codes "' width='228' height='" ++ (decimal (if s.last then 57 else 61) ++ codes "'/>")))))
+shade_text s = shade_part s (codes "l") (codes "228") ++ (shade_part s (codes "h") (codes "3") ++ lock_label s)
+
+-- whether a step is the first of its pass's time with the lock: it needs the lock, which the pass hasn't got before it
+abbrev pub takes_lock : StepInCall → Bool
+takes_lock s = needs_lock s.made.kind && not (has_lock s.inside)
 
 -- whether a step is the last of its pass's time with the lock: it needs the lock, which the pass hasn't got after it
 abbrev pub lets_go : StepInCall → Bool
@@ -32,7 +47,7 @@ claims (Disarm i) found = found == 1
 claims (Take i) found = found == 1
 claims _ found = false
 
--- how a step looks: in one of eight colours for each IRP, and bold where it claims it
+-- how a step looks: in one of eight colours for each IRP, and bold if it claims it
 abbrev pub step_class : Bool → Option IrpLife → List ℕ
 step_class true (Some i) = codes "c k" ++ decimal (number i % 8)
 step_class false (Some i) = codes "k" ++ decimal (number i % 8)
@@ -51,14 +66,14 @@ wdk_text (Done i) = codes "IoCompleteRequest"
 wdk_text (Renew i) = codes "IoReuseIrp"
 wdk_text (Rearm i) = codes "IoSetCancelRoutine(Irp, routine)"
 
--- what a step of this kind, which found something or nothing, found, in words; of a completion its status, where it is known
+-- what a step of this kind, which found something or nothing, found, in words; of a completion its status, if it is known: whoever removed an IRP may complete it with any
 abbrev pub found_by : Kind → Bool → Option NtStatus → List ℕ
 found_by (Arm i) found status = if found then codes "was set" else codes "was none"
 found_by (Test i) found status = if found then codes "is set" else codes "is clear"
 found_by (Disarm i) found status = if found then codes "found it" else codes "found none"
 found_by (Flag i) found status = if found then codes "was set" else codes "was clear"
 found_by (Take i) found status = if found then codes "found it" else codes "found none"
-found_by (Done i) found (Some s) = status_name s
+found_by (Done i) found (Some s) = if s.0 == 0 then codes "any status" else status_name s
 found_by (Renew i) found status = codes "next life"
 found_by (Rearm i) found status = if found then codes "was set" else codes "was none"
 found_by _ found status = []
@@ -66,15 +81,14 @@ found_by _ found status = []
 abbrev pub found_words : StepInCall → List ℕ
 found_words s = found_by s.made.kind (not (s.made.found == 0)) s.status
 
--- a step, described in a sentence too, at the upper left corner of its row: its box, what it does, what it found, its call of the WDK, the call that it is of, and the words of its IRP
+-- a step, described in a sentence too, at the upper left corner of its row: its box, what it does, what it found, its call of the WDK, and the words of its IRP
 abbrev pub mark_at : ℕ → ℕ → Mark → List ℕ
 mark_at x y m =
     (codes "<g class='" ++ (step_class (claims m.step.made.kind m.step.made.found) (name_of m.step.made.kind) ++ (codes "'><title>" ++ (sentence m.step ++ (codes "</title><rect x='" ++ (decimal (x + 8) ++ (codes "' y='" ++ (decimal (y + 4) ++ codes "' width='212' height='52' rx='6'/>"))))))))
     ++ ((codes "<text class='w' x='" ++ (decimal (x + 17) ++ (codes "' y='" ++ (decimal (y + 20) ++ (codes "'>" ++ (kind_text m.step.made.kind ++ codes "</text>"))))))
     ++ ((codes "<text class='w v' x='" ++ (decimal (x + 211) ++ (codes "' y='" ++ (decimal (y + 20) ++ (codes "'>" ++ (found_words m.step ++ codes "</text>"))))))
-    ++ ((codes "<text class='m' x='" ++ (decimal (x + 17) ++ (codes "' y='" ++ (decimal (y + 35) ++ (codes "'>" ++ (wdk_text m.step.made.kind ++ codes "</text>"))))))
-    ++ ((codes "<text class='s' x='" ++ (decimal (x + 17) ++ (codes "' y='" ++ (decimal (y + 49) ++ (codes "'>" ++ (call_text m.step ++ codes "</text></g>"))))))
-    ++ circles_text m m.words))))
+    ++ ((codes "<text class='m' x='" ++ (decimal (x + 17) ++ (codes "' y='" ++ (decimal (y + 35) ++ (codes "'>" ++ (wdk_text m.step.made.kind ++ codes "</text></g>"))))))
+    ++ circles_text m m.words)))
 
 abbrev pub mark_text : Mark → List ℕ
 mark_text m = mark_at (left m.column) (top m.row) m

@@ -25,7 +25,7 @@ owner_by _ found p row lane before = before
 abbrev pub owner_after : List (Option Owner) → Option Owner → Made → ℕ → Option Owner
 owner_after os before m row = owner_by m.kind m.found m.pass row (lane_for os m.pass before) before
 
--- who has IRP n of so many after E, where each step has a row, from 0 on
+-- who has IRP n of so many after E, if each step has a row, from 0 on
 abbrev pub owner : ℕ → List Made → IrpId → Option Owner
 owner irps [] n = None
 owner irps (m ∷ E) n = if is_of_irp n m.kind then owner_after (table (λ k. owner irps E (record { 0 = k })) irps) (owner irps E n) m (length E) else owner irps E n

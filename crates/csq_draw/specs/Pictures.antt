@@ -1,7 +1,10 @@
 -- The picture of a schedule: which elements it has.
-use Rattle.std.specs.Prelude.{◌≡◌, ℕ, ◌+◌, Bool, true, false, List, [], ◌∷◌, ◌++◌, length, Option, Some, None, if◌then◌else◌}
-use Rattle.irp_core.specs.declared.ids.PassId.{PassId}
+use Rattle.std.specs.Prelude.{◌≡◌, ℕ, ◌+◌, Bool, true, false, List, [], ◌∷◌, ◌++◌, length, replicate, is_some, Option, Some, None, if◌then◌else◌}
+use Rattle.std.specs.Option.{option_map_or}
+use Rattle.irp_core.specs.declared.ids.{IrpId.{IrpId}, IrpLife.{IrpLife}, PassId.{PassId}}
+use Rattle.irp_core.specs.declared.step.Kind.{Kind}
 use Rattle.irp_core.specs.Runs.{Size}
+use Rattle.irp_core.specs.Steps.{name_of, same_pass}
 use Rattle.csq_replay.specs.declared.lines.answer.Ended.{Ended}
 use Rattle.csq_replay.specs.declared.schedule.closing.IrpLine.{IrpLine}
 use Rattle.csq_replay.specs.declared.schedule.outcome.{Outcome.{Outcome, TheVariants.{Skipped, Accepted, Stopped}}, Stop.{Stop}}
@@ -15,7 +18,11 @@ use Rattle.csq_draw.specs.declared.owners.Owner.{Owner}
 use Rattle.csq_explain.specs.declared.passes.PassNow.{PassNow}
 use Rattle.csq_explain.specs.declared.reasons.Reason.{Reason}
 use Rattle.csq_draw.specs.declared.rows.Row.{Row}
-use Rattle.csq_draw.specs.Marks.{lets_go}
+use Rattle.csq_draw.specs.declared.irps.{IrpNow.{IrpNow}, Seen.{Seen}, Spot.{Spot}}
+use Rattle.csq_draw.specs.Arrows.{found_in}
+use Rattle.csq_draw.specs.Endings.{rest_of}
+use Rattle.csq_draw.specs.Irps.{new_irp, irp_at, irp_named, with_irp, irps_after, irp_columns, irp_column}
+use Rattle.csq_draw.specs.Marks.{takes_lock, lets_go}
 use Rattle.csq_draw.specs.Owners.{owners}
 use Rattle.csq_draw.specs.Passes.{columns, column_of}
 use Rattle.csq_explain.specs.Passes.{all_passes}
@@ -40,40 +47,89 @@ column_element passes rows p = element.Column (record { column = column_of passe
 abbrev pub column_elements : List PassNow → ℕ → ℕ → PassNow → List Element
 column_elements passes rows n now = if now.makes then column_element passes rows (record { 0 = n }) ∷ [] else []
 
--- of the pass that has the lock on a row, and maybe lets it go there: a shade in its column
-abbrev pub shade_elements : List PassNow → ℕ → Bool → Option PassId → List Element
-shade_elements passes row last (Some p) = element.Shade (record { row = row; column = column_of passes p; last = last }) ∷ []
-shade_elements passes row last None = []
+-- of the pass that has the lock on the row of a step, and maybe takes it there or lets it go: a shade in its column
+abbrev pub shade_elements : List PassNow → Row → Option PassId → List Element
+shade_elements passes row (Some p) = element.Shade (record { row = row.row; column = column_of passes p; first = takes_lock row.step; last = lets_go row.step }) ∷ []
+shade_elements passes row None = []
+
+-- the life of IRP n that so much is known of
+abbrev pub life_in : IrpId → IrpNow → IrpLife
+life_in n now = option_map_or (λ (seen : Seen). seen.words.name) now.last (record { irp = n; life = record { 0 = 0 } })
 
 -- a line down the column of an owner, to this row, or to the end
-abbrev pub span_element : List PassNow → Owner → ℕ → Bool → Element
-span_element passes owner row to_the_end = element.Span (record { column = column_of passes owner.pass; owner = owner; to = row; to_the_end = to_the_end })
+abbrev pub span_element : List PassNow → Owner → IrpNow → ℕ → Bool → Element
+span_element passes owner now row to_the_end = element.Span (record { column = column_of passes owner.pass; owner = owner; name = life_in owner.irp now; to = row; to_the_end = to_the_end })
 
 -- of the owner whose time with an IRP ends on a row: a line down its column
-abbrev pub span_elements : List PassNow → ℕ → Option Owner → List Element
-span_elements passes row (Some owner) = span_element passes owner row false ∷ []
-span_elements passes row None = []
+abbrev pub span_elements : List PassNow → ℕ → IrpNow → Option Owner → List Element
+span_elements passes row now (Some owner) = span_element passes owner now row false ∷ []
+span_elements passes row now None = []
+
+-- the words of the IRP at this place from its last step to a row, or to the end, right of so many columns
+abbrev pub bars_elements : ℕ → ℕ → ℕ → Bool → Option Seen → List Element
+bars_elements columns place to to_the_end (Some seen) = element.Bars (record { columns = columns; place = place; from = seen.row; to = to; to_the_end = to_the_end; words = seen.words }) ∷ []
+bars_elements columns place to to_the_end None = []
+
+-- who wrote what a row's step found, if another pass did: an arrow from there
+abbrev pub arrow_elements : List PassNow → Row → Option Spot → List Element
+arrow_elements passes row (Some spot) = if same_pass spot.pass row.step.made.pass then []
+    else element.Arrow (record { from_column = column_of passes spot.pass; from = spot; column = column_of passes row.step.made.pass; row = row.row; line = row.line }) ∷ []
+arrow_elements passes row None = []
 
 -- the number of a row's line
 abbrev pub number_element : Row → Element
 number_element row = element.Number (record { row = row.row; line = row.line })
 
--- a row's step, in the column of its pass
-abbrev pub mark_element : List PassNow → Row → Element
-mark_element passes row = element.Mark (record { row = row.row; column = column_of passes row.step.made.pass; columns = columns passes; step = row.step; words = row.words })
+-- the place of the IRP that a step of this kind names, among those that the picture shows
+abbrev pub place_named : List IrpNow → Kind → ℕ
+place_named irps k = option_map_or (λ i. irp_column irps i.irp) (name_of k) 0
 
--- of a step: the number of its line, who has the lock, whose time with its IRP it ends, and its mark
-abbrev pub row_elements : List PassNow → ℕ → Row → List Element
-row_elements passes n row = number_element row ∷ (shade_elements passes row.row (lets_go row.step) row.lock ++ (span_elements passes row.row row.ended ++ mark_element passes row ∷ []))
+-- a row's step, in the column of its pass
+abbrev pub mark_element : List PassNow → List IrpNow → Row → Element
+mark_element passes irps row = element.Mark (record { row = row.row; column = column_of passes row.step.made.pass; columns = columns passes; place = place_named irps row.step.made.kind; step = row.step; words = row.words })
+
+-- the call that it is of
+abbrev pub call_element : List PassNow → IrpNow → Row → Element
+call_element passes before row = element.Call (record { row = row.row; column = column_of passes row.step.made.pass; step = row.step; claim = before.claim })
+
+-- the words that the IRP of a row's step had until then
+abbrev pub words_until : List PassNow → List IrpNow → IrpNow → Row → List Element
+words_until passes irps before row = bars_elements (columns passes) (place_named irps row.step.made.kind) row.row false before.last
+
+-- behind the mark of a step, of whose IRP so much was known before: who has the lock, whose time with the IRP it ends, the words of the IRP until then, and who wrote what it found
+abbrev pub behind_elements : List PassNow → List IrpNow → IrpNow → Row → List Element
+behind_elements passes irps before row = shade_elements passes row row.lock ++ (span_elements passes row.row before row.ended
+    ++ (words_until passes irps before row ++ arrow_elements passes row (found_in before row.step.made.kind row.step.made.found)))
+
+-- the row of such a step: the number of its line, what stands behind its mark, its mark, and its call
+abbrev pub row_after : List PassNow → List IrpNow → IrpNow → Row → List Element
+row_after passes irps before row = number_element row ∷ (behind_elements passes irps before row ++ mark_element passes irps row ∷ (call_element passes before row ∷ []))
+
+-- so many IRPs as these, of which nothing is known yet
+abbrev pub fresh_irps : List IrpNow → List IrpNow
+fresh_irps irps = replicate (length irps) new_irp
+
+-- of these rows, before which so much was known of the IRPs
+abbrev pub rows_elements : List PassNow → List IrpNow → List IrpNow → List Row → List Element
+rows_elements passes irps known [] = []
+rows_elements passes irps known (row ∷ rows) = row_after passes irps (irp_named known row.step.made.kind) row ++ rows_elements passes irps (with_irp known row) rows
 
 -- of an owner that has its IRP in the end: a line down its column
-abbrev pub open_elements : List PassNow → ℕ → ℕ → Option Owner → List Element
-open_elements passes rows n (Some owner) = span_element passes owner rows true ∷ []
-open_elements passes rows n None = []
+abbrev pub open_elements : List PassNow → List IrpNow → ℕ → ℕ → Option Owner → List Element
+open_elements passes irps rows n (Some owner) = span_element passes owner (irp_at irps owner.irp) rows true ∷ []
+open_elements passes irps rows n None = []
 
--- the head of a picture of so many columns and rows, with so many lines of text below them, and this caption
-abbrev pub picture_head : ℕ → ℕ → ℕ → CaptionText → List ℕ
-picture_head columns rows lines c = head_text (record { columns = columns; rows = rows; lines = lines; caption = c.lines }) c.title c.below
+-- of IRP n, if a step names it: the words that it has in the end
+abbrev pub last_elements : List PassNow → List IrpNow → ℕ → ℕ → IrpNow → List Element
+last_elements passes irps rows n now = bars_elements (columns passes) (irp_column irps (record { 0 = n })) rows true now.last
+
+-- and the names of these words over their columns
+abbrev pub word_elements : List PassNow → List IrpNow → ℕ → IrpNow → List Element
+word_elements passes irps n now = if is_some now.last then element.WordColumns (record { columns = columns passes; place = irp_column irps (record { 0 = n }); irp = record { 0 = n } }) ∷ [] else []
+
+-- the head of a picture of so many columns of passes, IRPs and rows, with so many lines of text below them, and this caption
+abbrev pub picture_head : ℕ → ℕ → ℕ → ℕ → CaptionText → List ℕ
+picture_head columns irps rows lines c = head_text (record { columns = columns; irps = irps; rows = rows; lines = lines; caption = c.lines }) c.title c.below
 
 -- of the line that ended the handling: its bar, its number, what is reported for it, and why it ended it
 abbrev pub refused_elements : ℕ → ℕ → Reason → List Element
@@ -81,37 +137,38 @@ refused_elements rows line reason = element.Below rows Bar ∷ (element.Number (
     ∷ (element.Below rows (Refused reason.stop) ∷ (element.Below rows (Because reason) ∷ [])))
 
 -- of an IRP that is reported in the end
-abbrev pub closing_elements : ℕ → ℕ → IrpLine → List Element
-closing_elements rows nth line = element.Below rows (Irp nth line) ∷ []
+abbrev pub closing_elements : List IrpNow → ℕ → ℕ → IrpLine → List Element
+closing_elements irps rows nth line = element.Below rows (Irp nth line (irp_at irps line.name.irp)) ∷ []
 
 -- whether all is at rest in the end
-abbrev pub at_rest_element : ℕ → ℕ → Bool → Element
-at_rest_element rows nth at_rest = element.Below rows (AtRest nth at_rest)
+abbrev pub at_rest_element : List PassNow → ℕ → ℕ → Bool → Element
+at_rest_element passes rows nth at_rest = element.Below rows (AtRest nth (rest_of passes at_rest))
 
--- what a picture begins with: what its parts mean, and the columns of the words
-abbrev pub first_elements : ℕ → ℕ → List Element
-first_elements columns rows = element.Key ∷ (element.WordColumns (record { columns = columns; rows = rows }) ∷ [])
-
--- of these passes, rows and owners, as many rows as there are: the columns, the rows, and the lines that are kept to the end
-abbrev pub shown_elements : List PassNow → List Row → List (Option Owner) → ℕ → List Element
-shown_elements passes rows owners count = first_elements (columns passes) count ++ (each (column_elements passes count) 0 passes ++ (each (row_elements passes) 0 rows ++ each (open_elements passes count) 0 owners))
+-- of these passes, IRPs, rows and owners, as many rows as there are: what stands above them, the rows, and what is kept to the end
+abbrev pub shown_elements : List PassNow → List IrpNow → List Row → List (Option Owner) → ℕ → List Element
+shown_elements passes irps rows owners count = element.Lines ∷ (each (column_elements passes count) 0 passes ++ (each (word_elements passes irps) 0 irps
+    ++ (each (last_elements passes irps count) 0 irps ++ (rows_elements passes irps (fresh_irps irps) rows ++ each (open_elements passes irps count) 0 owners))))
 
 -- and then of the nth line, which ended the handling for this reason
-abbrev pub stopped_elements : List PassNow → List Row → List (Option Owner) → ℕ → ℕ → Reason → List Element
-stopped_elements passes rows owners count n reason = shown_elements passes rows owners count ++ refused_elements count n reason
+abbrev pub stopped_elements : List PassNow → List IrpNow → List Row → List (Option Owner) → ℕ → ℕ → Reason → List Element
+stopped_elements passes irps rows owners count n reason = shown_elements passes irps rows owners count ++ refused_elements count n reason
 
 -- and then of what is reported in the end
-abbrev pub closed_elements : List PassNow → List Row → List (Option Owner) → ℕ → List IrpLine → Bool → List Element
-closed_elements passes rows owners count reported at_rest = shown_elements passes rows owners count
-    ++ (each (closing_elements count) 0 reported ++ at_rest_element count (length reported) at_rest ∷ [])
+abbrev pub closed_elements : List PassNow → List IrpNow → List Row → List (Option Owner) → ℕ → List IrpLine → Bool → List Element
+closed_elements passes irps rows owners count reported at_rest = shown_elements passes irps rows owners count
+    ++ (each (closing_elements irps count) 0 reported ++ at_rest_element passes count (length reported) at_rest ∷ [])
+
+-- what is known of so many IRPs after the steps W
+abbrev pub irps_of : Size → List Numbered → List IrpNow
+irps_of size W = irps_after (replicate size.irps new_irp) (rows_of size W)
 
 -- the picture of the steps W, and of the nth line, which ended the handling
 abbrev pub stopped_picture : Size → List Numbered → ℕ → Stop → List Element
-stopped_picture size W n stop = stopped_elements (all_passes size W) (rows_of size W) (owners size.irps (run_of W)) (length W) n (reason_of size (all_passes size W) stop)
+stopped_picture size W n stop = stopped_elements (all_passes size W) (irps_of size W) (rows_of size W) (owners size.irps (run_of W)) (length W) n (reason_of size (all_passes size W) stop)
 
 -- the picture of the steps W, and of what is reported in the end
 abbrev pub closed_picture : Size → List Numbered → List IrpLine → Bool → List Element
-closed_picture size W = closed_elements (all_passes size W) (rows_of size W) (owners size.irps (run_of W)) (length W)
+closed_picture size W = closed_elements (all_passes size W) (irps_of size W) (rows_of size W) (owners size.irps (run_of W)) (length W)
 
 -- what a schedule led to so far: the caption of its picture, and the steps
 pub record Drawn : Type 0 where
@@ -130,7 +187,7 @@ drawn_after d n line (Stopped stop) = None
 
 -- a line that ends the handling is answered the picture of the steps before it and of itself, and any other nothing
 abbrev pub stopped_text : Size → Format → Drawn → ℕ → Stop → List ℕ
-stopped_text size Svg d n stop = picture_head (columns (all_passes size d.steps)) (length d.steps) 3 d.caption ++ picture (stopped_picture size d.steps n stop)
+stopped_text size Svg d n stop = picture_head (columns (all_passes size d.steps)) (irp_columns (irps_of size d.steps)) (length d.steps) 3 d.caption ++ picture (stopped_picture size d.steps n stop)
 stopped_text size Text d n stop = stopped_lines d.caption (all_passes size d.steps) (rows_of size d.steps) n (reason_of size (all_passes size d.steps) stop)
 
 abbrev pub drawn_text : Size → Format → Drawn → ℕ → Outcome → List ℕ
@@ -140,10 +197,10 @@ drawn_text size format d n _ = []
 abbrev pub DrawsLine : Size → Format → Drawn → ℕ → List ℕ → List ℕ → Option Drawn → Type 0
 DrawsLine size format d n line text more = (comes : Outcome) × ComesTo size (run_of d.steps) line comes × (text ≡ drawn_text size format d n comes) × (more ≡ drawn_after d n line comes)
 
--- where all lines were handled, it is the picture of the steps and of what is reported in the end
+-- if all lines were handled, it is the picture of the steps and of what is reported in the end
 abbrev pub closed_text : Size → Format → Drawn → List IrpLine → Bool → List ℕ
-closed_text size Svg d reported at_rest = picture_head (columns (all_passes size d.steps)) (length d.steps) (length reported + 1) d.caption ++ picture (closed_picture size d.steps reported at_rest)
-closed_text size Text d reported at_rest = closed_lines d.caption (all_passes size d.steps) (rows_of size d.steps) reported at_rest
+closed_text size Svg d reported at_rest = picture_head (columns (all_passes size d.steps)) (irp_columns (irps_of size d.steps)) (length d.steps) (length reported + 1) d.caption ++ picture (closed_picture size d.steps reported at_rest)
+closed_text size Text d reported at_rest = closed_lines d.caption (all_passes size d.steps) (irps_of size d.steps) (rows_of size d.steps) reported at_rest
 
 abbrev pub DrawsClosing : Size → Format → Drawn → List ℕ → Type 0
 DrawsClosing size format d text = (reported : List IrpLine) × (at_rest : Bool) × Closes size (run_of d.steps) reported at_rest × (text ≡ closed_text size format d reported at_rest)

@@ -1,19 +1,21 @@
 -- A schedule, drawn for a terminal: a row for each step, with a column for each pass.
-use Rattle.std.specs.Prelude.{ℕ, ◌+◌, ◌-◌, ◌*◌, max, Bool, List, [], ◌∷◌, ◌++◌, length, replicate, codes, decimal, Option, Some, None, if◌then◌else◌}
-use Rattle.irp_core.specs.declared.ids.PassId.{PassId}
-use Rattle.irp_core.specs.Texts.{kind_text, pass_text}
+use Rattle.std.specs.Prelude.{ℕ, ◌+◌, ◌-◌, ◌*◌, ◌==◌, max, Bool, List, [], ◌∷◌, ◌++◌, length, replicate, codes, decimal, Option, Some, None, if◌then◌else◌}
+use Rattle.irp_core.specs.declared.ids.{IrpLife.{IrpLife}, PassId.{PassId}}
+use Rattle.irp_core.specs.Steps.{name_of}
+use Rattle.irp_core.specs.Texts.{kind_text, name_text, pass_text}
 use Rattle.csq_replay.specs.declared.schedule.closing.IrpLine.{IrpLine}
 use Rattle.csq_explain.specs.declared.passes.PassNow.{PassNow}
 use Rattle.csq_explain.specs.declared.reasons.Reason.{Reason}
 use Rattle.csq_explain.specs.declared.sentences.StepInCall.{StepInCall}
-use Rattle.csq_explain.specs.Endings.{irp_sentence, rest_sentence}
 use Rattle.csq_explain.specs.Reasons.{reason_text}
 use Rattle.csq_draw.specs.declared.cells.Cell.{Cell, TheVariants.{Line, Lock, Pass, Step, WordValue}}
 use Rattle.csq_draw.specs.declared.rows.Row.{Row}
 use Rattle.csq_draw.specs.declared.words.WordValues.{WordValues}
 use Rattle.csq_draw.specs.Captions.{CaptionText}
 use Rattle.csq_draw.specs.Circles.{word_text}
-use Rattle.csq_draw.specs.Endings.{ended_line_text}
+use Rattle.csq_draw.specs.declared.irps.IrpNow.{IrpNow}
+use Rattle.csq_draw.specs.Endings.{ended_line_text, irp_ending, rest_of, rest_text}
+use Rattle.csq_draw.specs.Irps.{irp_at}
 use Rattle.csq_draw.specs.Marks.{claims, found_words}
 use Rattle.csq_draw.specs.Passes.{columns, column_of}
 
@@ -37,7 +39,7 @@ claim_sign claims = if claims then codes "*" else codes " "
 abbrev pub step_cell : StepInCall → List ℕ
 step_cell s = claim_sign (claims s.made.kind s.made.found) ++ (kind_text s.made.kind ++ (codes " " ++ found_words s))
 
--- a pass that has the lock, and a hyphen where none has it
+-- a pass that has the lock, and a hyphen if none has it
 abbrev pub lock_cell : Option PassId → List ℕ
 lock_cell (Some p) = pass_text p
 lock_cell None = codes "-"
@@ -49,15 +51,20 @@ cell_text (Pass p) = codes " " ++ pass_text p
 cell_text (Step s) = step_cell s
 cell_text (WordValue set) = word_text set
 
--- the two words of a step's IRP after it, and hyphens where it names none
-abbrev pub words_cells : Option WordValues → List ℕ
-words_cells (Some w) = in_width 7 (cell_text (WordValue w.flag)) ++ cell_text (WordValue w.routine)
-words_cells None = codes "-      -"
+-- after a step that names another life of its IRP, or ends it: the life that the words are of
+abbrev pub life_cell : Option IrpLife → WordValues → List ℕ
+life_cell (Some i) w = if i.life.0 == w.name.life.0 then [] else codes "  now " ++ name_text w.name
+life_cell None w = []
+
+-- the two words of a step's IRP after it, and hyphens if it names none
+abbrev pub words_cells : Option IrpLife → Option WordValues → List ℕ
+words_cells named (Some w) = in_width 7 (cell_text (WordValue w.flag)) ++ (cell_text (WordValue w.routine) ++ life_cell named w)
+words_cells named None = codes "-      -"
 
 -- a step: the number of its line, who has the lock, and in the column of its pass what it did; and at the right the words of its IRP
 abbrev pub row_text : List PassNow → Row → List ℕ
 row_text passes row = in_width 6 (cell_text (Line row.line)) ++ (in_width 6 (cell_text (Lock row.lock)) ++ (spaces (27 * column_of passes row.step.made.pass)
-    ++ (in_width (27 * (columns passes - column_of passes row.step.made.pass)) (cell_text (Step row.step)) ++ (words_cells row.words ++ codes "\n"))))
+    ++ (in_width (27 * (columns passes - column_of passes row.step.made.pass)) (cell_text (Step row.step)) ++ (words_cells (name_of row.step.made.kind) row.words ++ codes "\n"))))
 
 -- the name of a pass that makes a step, over its column
 abbrev pub pass_cell : ℕ → PassNow → List ℕ
@@ -76,9 +83,13 @@ abbrev pub stopped_lines : CaptionText → List PassNow → List Row → ℕ →
 stopped_lines c passes rows n reason = c.plain ++ (rows_text passes rows ++ (codes "line " ++ (decimal n ++ (codes ": " ++ (ended_line_text reason.stop ++ (codes "\n  " ++ (reason_text reason ++ codes "\n")))))))
 
 -- where an IRP is in the end
-abbrev pub irp_line_reported : ℕ → IrpLine → List ℕ
-irp_line_reported n line = irp_sentence line ++ codes "\n"
+abbrev pub irp_line_reported : List IrpNow → ℕ → IrpLine → List ℕ
+irp_line_reported irps n line = irp_ending line (irp_at irps line.name.irp) ++ codes "\n"
+
+-- whether all is at rest in the end
+abbrev pub rest_line : List PassNow → Bool → List ℕ
+rest_line passes at_rest = rest_text (rest_of passes at_rest) ++ codes "\n"
 
 -- the caption, the steps, where each IRP is in the end, and whether all is at rest
-abbrev pub closed_lines : CaptionText → List PassNow → List Row → List IrpLine → Bool → List ℕ
-closed_lines c passes rows reported at_rest = c.plain ++ (rows_text passes rows ++ (each_text irp_line_reported 0 reported ++ (rest_sentence at_rest ++ codes "\n")))
+abbrev pub closed_lines : CaptionText → List PassNow → List IrpNow → List Row → List IrpLine → Bool → List ℕ
+closed_lines c passes irps rows reported at_rest = c.plain ++ (rows_text passes rows ++ (each_text (irp_line_reported irps) 0 reported ++ rest_line passes at_rest))

@@ -13,7 +13,7 @@ use std::fmt;
 pub(crate) enum Cell {
     /// The number of a line.
     Line(usize),
-    /// Who has the lock, and a hyphen where none has it.
+    /// Who has the lock, and a hyphen if none has it.
     Lock(Option<PassId>),
     /// The name of a pass.
     Pass(PassId),

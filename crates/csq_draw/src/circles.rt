@@ -1,17 +1,21 @@
 //! The circles of the two words of a step's IRP, at the right of its row, and what stands above them.
-ghost use Rattle.std.specs.Prelude.{◌≡◌};
+ghost use Rattle.std.specs.Prelude.{◌≡◌, ◌+◌};
 ghost use Rattle.csq_draw.specs.Circles.{word_text, circle_class};
+ghost use Rattle.csq_draw.specs.Layout.{top, flag_x, routine_x};
+ghost use Rattle.csq_draw.specs.Words.{changes_flag, changes_routine};
 
-use crate::layout::{left, top};
+use crate::layout::{flag_x, routine_x, top};
 use crate::marks::Mark;
-use crate::words::{changes_flag, changes_routine};
+use crate::words::{WordValues, changes_flag, changes_routine};
+use irp_core::IrpId;
 use std::fmt;
 
-/// The two columns of the words, right of so many columns of passes, over so many rows.
+/// The names of the two words of an IRP over their columns, right of so many columns of passes.
 #[derive(Clone, Copy)]
 pub(crate) struct WordColumns {
     pub(crate) columns: u32,
-    pub(crate) rows: u32,
+    pub(crate) place: u32,
+    pub(crate) irp: IrpId,
 }
 
 impl fmt::Display for WordColumns {
@@ -21,15 +25,15 @@ impl fmt::Display for WordColumns {
     ghost output = { λ columns. Some (word_columns_text columns) };
 
     fn fmt<W: fmt::Write>(&self, f: &mut fmt::Formatter<W>) -> fmt::Result {
-        let (x, bottom) = (left(self.columns), top(self.rows));
-        let (flag, routine) = (x + 24, x + 84);
+        let (flag, routine) = (
+            flag_x(self.columns, self.place),
+            routine_x(self.columns, self.place),
+        );
+        let (middle, irp) = (flag + 21, self.irp);
+        write!(f, "<text class='o s' x='{middle}' y='16'>IRP {irp}</text>")?;
         write!(
             f,
-            "<path class='g' d='M{flag} 64V{bottom}'/><text class='o s' x='{flag}' y='44'>Cancel</text><text class='o s' x='{flag}' y='57'>flag</text>"
-        )?;
-        write!(
-            f,
-            "<path class='g' d='M{routine} 64V{bottom}'/><text class='o s' x='{routine}' y='44'>cancel</text><text class='o s' x='{routine}' y='57'>routine</text>"
+            "<text class='o s' x='{flag}' y='29'>flag</text><text class='o s' x='{routine}' y='29'>routine</text>"
         )
     }
 }
@@ -41,7 +45,7 @@ pub(crate) fn word_text(set: bool) -> &'static str
     if set { "set" } else { "clear" }
 }
 
-/// A circle is filled where its word is set, and bold where the step changed it.
+/// A circle is filled if its word is set, and bold if the step changed it.
 fn circle_class(set: bool, changed: bool) -> &'static str
     ensures { result.now ≡ circle_class set changed }
 {
@@ -50,6 +54,82 @@ fn circle_class(set: bool, changed: bool) -> &'static str
         (true, false) => "on",
         (false, true) => "off b",
         (false, false) => "off",
+    }
+}
+
+/// The circle of a word.
+#[derive(Clone, Copy)]
+struct Circle {
+    x: u64,
+    y: u64,
+    class: &'static str,
+}
+
+impl fmt::Display for Circle {
+    ghost use Rattle.std.specs.Prelude.{Some};
+    ghost use Rattle.csq_draw.specs.Circles.{circle_at};
+
+    ghost output = { λ circle. Some (circle_at circle.x circle.y circle.class.now) };
+
+    fn fmt<W: fmt::Write>(&self, f: &mut fmt::Formatter<W>) -> fmt::Result {
+        let Circle { x, y, class } = *self;
+        write!(f, "<circle class='{class}' cx='{x}' cy='{y}' r='7'/>")
+    }
+}
+
+/// The life that an IRP is in after a step that names another one, or ends it, below its circles.
+#[derive(Clone, Copy)]
+struct OtherLife(Mark, WordValues);
+
+/// As `now 0@1`, or nothing after a step of the IRP's present life.
+impl fmt::Display for OtherLife {
+    ghost use Rattle.std.specs.Prelude.{Some};
+    ghost use Rattle.irp_core.specs.Steps.{name_of};
+    ghost use Rattle.csq_draw.specs.Circles.{other_life};
+
+    ghost output = { λ other. Some (other_life other.0 (name_of other.0.step.made.kind) other.1) };
+
+    fn fmt<W: fmt::Write>(&self, f: &mut fmt::Formatter<W>) -> fmt::Result {
+        let OtherLife(mark, words) = *self;
+        match mark.step.made.kind.name() {
+            Some(named) if named.life.0 != words.name.life.0 => {
+                let x = flag_x(mark.columns, mark.place) + 21;
+                let y = top(mark.row) + 52;
+                let name = words.name;
+                write!(f, "<text class='o s' x='{x}' y='{y}'>now {name}</text>")
+            }
+            _ => Ok(()),
+        }
+    }
+}
+
+/// The circle of the Cancel flag, with this value after the step of a mark.
+fn flag_circle(mark: Mark, set: bool) -> Circle
+    ensures x { result.x ≡ flag_x mark.columns mark.place }
+    ensures y { result.y ≡ top mark.row + 30 }
+    ensures class { result.class.now
+        ≡ circle_class set (changes_flag mark.step.made.kind mark.step.made.found) }
+{
+    let made = mark.step.made;
+    Circle {
+        x: flag_x(mark.columns, mark.place),
+        y: top(mark.row) + 30,
+        class: circle_class(set, changes_flag(made.kind, made.found)),
+    }
+}
+
+/// The circle of the cancel routine.
+fn routine_circle(mark: Mark, set: bool) -> Circle
+    ensures x { result.x ≡ routine_x mark.columns mark.place }
+    ensures y { result.y ≡ top mark.row + 30 }
+    ensures class { result.class.now
+        ≡ circle_class set (changes_routine mark.step.made.kind mark.step.made.found) }
+{
+    let made = mark.step.made;
+    Circle {
+        x: routine_x(mark.columns, mark.place),
+        y: top(mark.row) + 30,
+        class: circle_class(set, changes_routine(made.kind, made.found)),
     }
 }
 
@@ -64,23 +144,21 @@ impl fmt::Display for Circles {
     ghost output = { λ circles. Some (circles_text circles.0 circles.0.words) };
 
     fn fmt<W: fmt::Write>(&self, f: &mut fmt::Formatter<W>) -> fmt::Result {
-        let Some(words) = self.0.words else {
+        let mark = self.0;
+        let Some(words) = mark.words else {
             return Ok(());
         };
-        let (name, made, colour) = (words.name, self.0.step.made, words.name.irp.0 % 8);
+        let (name, colour) = (words.name, words.name.irp.0 % 8);
         let (flag, routine) = (word_text(words.flag), word_text(words.routine));
         write!(
             f,
             "<g class='k{colour}'><title>IRP {name}: the Cancel flag is {flag}, the cancel routine is {routine}</title>"
         )?;
-        let (left, y) = (left(self.0.columns), top(self.0.row) + 30);
         let (flag, routine) = (
-            circle_class(words.flag, changes_flag(made.kind, made.found)),
-            circle_class(words.routine, changes_routine(made.kind, made.found)),
+            flag_circle(mark, words.flag),
+            routine_circle(mark, words.routine),
         );
-        let x = left + 24;
-        write!(f, "<circle class='{flag}' cx='{x}' cy='{y}' r='7'/>")?;
-        let x = left + 84;
-        write!(f, "<circle class='{routine}' cx='{x}' cy='{y}' r='7'/></g>")
+        let life = OtherLife(mark, words);
+        write!(f, "{flag}{routine}{life}</g>")
     }
 }

@@ -1,5 +1,5 @@
 //! Schedules, drawn.
-ghost use Rattle.std.specs.Prelude.{◌≡◌, ◌≢◌, ◌<◌, ◌≤◌, ◌^◌, Option, length, string_bytes, IfOk, IfErr, OnOk};
+ghost use Rattle.std.specs.Prelude.{◌≡◌, ◌≢◌, ◌<◌, ◌≤◌, ◌^◌, Option, length, replicate, string_bytes, IfOk, IfErr, OnOk};
 ghost use Rattle.std.specs.Io.KnownBytes.{Keeps};
 ghost use Rattle.irp_core.specs.MachineState.{size_of};
 ghost use Rattle.irp_core.specs.Runs.{Size, OfIrp, IsInLimits};
@@ -10,7 +10,8 @@ ghost use Rattle.csq_draw.specs.declared.format.Format.{Format as FormatOf};
 ghost use Rattle.csq_draw.specs.Passes.{columns};
 ghost use Rattle.csq_explain.specs.Passes.{all_passes};
 ghost use Rattle.csq_explain.specs.Reasons.{reason_of};
-ghost use Rattle.csq_draw.specs.Pictures.{Drawn, picture_head, stopped_text, closed_text, new_drawn, DrawsSchedule};
+ghost use Rattle.csq_draw.specs.Irps.{irps_after, irp_columns, new_irp};
+ghost use Rattle.csq_draw.specs.Pictures.{Drawn, irps_of, picture_head, stopped_text, closed_text, new_drawn, DrawsSchedule};
 ghost use Rattle.csq_draw.specs.declared.words.WordValues.{WordValues};
 ghost use Rattle.csq_draw.specs.Drawings.{owner_in, DrawingStandsAfter, NotesStep, StandsInFormat};
 ghost use Rattle.csq_draw.specs.Words.{AreWordsNamed};
@@ -18,9 +19,10 @@ ghost use Rattle.csq_draw.specs.Words.{AreWordsNamed};
 use crate::caption::Caption;
 use crate::format::Format;
 use crate::heading::{Extent, Head};
+use crate::irps::{IrpNow, irp_columns, new_irps, note_irps};
 use crate::owners::{Owner, ended_by, new_owners, note_owner, owner_in};
 use crate::passes::{columns, lock_at, lock_of};
-use crate::picture::{draw_closed, draw_stopped};
+use crate::picture::{Sheet, draw_closed, draw_stopped};
 use crate::rows::Row;
 use crate::terminal::{write_closed, write_stopped};
 use crate::words::words_named;
@@ -108,15 +110,33 @@ impl<A: Allocator + Copy> Drawing<A> {
         u32::try_from(self.rows.len()).map_err(|_| AllocError)
     }
 
+    /// What is known of each IRP after the steps.
+    fn irps_now(&self) -> Result<Vec<IrpNow, A>, AllocError>
+        ensures { IfOk result (λ irps. irps.items
+            ≡ irps_after (replicate (length self.now.owners.items) new_irp) self.now.rows.items) }
+    {
+        let mut irps = new_irps(self.alloc, self.owners.len())?;
+        note_irps(&mut irps, &self.rows);
+        Ok(irps)
+    }
+
     /// Draws the head of a picture of so many rows, with so many lines of text below them.
-    fn draw_head(&self, rows: u32, lines: u32, text: &mut String<A>) -> Result<(), AllocError>
-        requires { length self.now.execution.passes.items ≤ 65 }
+    fn draw_head(
+        &self,
+        irps: &[IrpNow],
+        rows: u32,
+        lines: u32,
+        text: &mut String<A>,
+    ) -> Result<(), AllocError>
+        requires few { length self.now.execution.passes.items ≤ 65 }
+        requires irps { length irps.now ≤ 1024 }
         ensures { OnOk result (GrewBy (string_bytes text.old) (string_bytes text.new)
-            (picture_head (columns self.now.execution.passes.items) rows lines
-            (caption_of self.now.caption))) }
+            (picture_head (columns self.now.execution.passes.items) (irp_columns irps.now)
+            rows lines (caption_of self.now.caption))) }
     {
         let extent = Extent {
             columns: columns(&self.execution.passes),
+            irps: irp_columns(irps),
             rows,
             lines,
             caption: self.caption.lines,
@@ -130,57 +150,88 @@ impl<A: Allocator + Copy> Drawing<A> {
         Ok(())
     }
 
+    /// What a picture shows, of which so much is known of the IRPs.
+    fn sheet<'a>(&'a self, irps: &'a [IrpNow], count: u32) -> Sheet<'a>
+        ensures passes { result.passes.now ≡ self.now.execution.passes.items }
+        ensures irps { result.irps.now ≡ irps.now }
+        ensures rows { result.rows.now ≡ self.now.rows.items }
+        ensures owners { result.owners.now ≡ self.now.owners.items }
+        ensures count { result.count ≡ count }
+    {
+        Sheet {
+            passes: &self.execution.passes,
+            irps,
+            rows: &self.rows,
+            owners: &self.owners,
+            count,
+        }
+    }
+
     /// Draws the steps, and the line of this number, which ended the handling, as a picture.
     fn draw_stop_as_svg(
         &self,
+        irps: &[IrpNow],
         line: usize,
         reason: Reason,
         text: &mut String<A>,
     ) -> Result<(), AllocError>
-        requires { length self.now.execution.passes.items ≤ 65 }
+        requires few { length self.now.execution.passes.items ≤ 65 }
+        requires irps { length irps.now ≤ 1024 }
         ensures { OnOk result ((size : Size) (d : Drawn) → DrawingStandsAfter self.now size d
+            → irps.now ≡ irps_of size d.steps
             → reason ≡ reason_of size (all_passes size d.steps) reason.stop
             → GrewBy (string_bytes text.old) (string_bytes text.new)
             (stopped_text size Format.Svg d line reason.stop)) }
     {
         let count = self.count_rows()?;
-        self.draw_head(count, 3, text)?;
-        let (passes, rows, owners) = (&self.execution.passes, &self.rows, &self.owners);
-        draw_stopped(passes, rows, owners, count, line, reason, text)?;
+        self.draw_head(irps, count, 3, text)?;
+        let sheet = self.sheet(irps, count);
+        draw_stopped(self.alloc, sheet, line, reason, text)?;
         Ok(())
     }
 
     /// Draws the steps, and what is reported in the end, as a picture.
     fn draw_end_as_svg(
         &self,
+        irps: &[IrpNow],
         reported: &[IrpLine],
         rest: bool,
         text: &mut String<A>,
     ) -> Result<(), AllocError>
         requires few { length self.now.execution.passes.items ≤ 65 }
+        requires irps { length irps.now ≤ 1024 }
         requires reported { length reported.now ≤ 1024 }
         ensures { OnOk result ((size : Size) (d : Drawn) → DrawingStandsAfter self.now size d
+            → irps.now ≡ irps_of size d.steps
             → GrewBy (string_bytes text.old) (string_bytes text.new)
             (closed_text size Format.Svg d reported.now rest)) }
     {
         let count = self.count_rows()?;
-        self.draw_head(count, reported.len() as u32 + 1, text)?;
-        let (passes, rows, owners) = (&self.execution.passes, &self.rows, &self.owners);
-        draw_closed(passes, rows, owners, count, reported, rest, text)?;
+        self.draw_head(irps, count, reported.len() as u32 + 1, text)?;
+        let sheet = self.sheet(irps, count);
+        draw_closed(self.alloc, sheet, reported, rest, text)?;
         Ok(())
     }
 
-    /// Draws the steps, and the line of this number, which ended the handling.
-    fn draw_stop(&self, line: usize, reason: Reason, text: &mut String<A>) -> Result<(), AllocError>
-        requires { length self.now.execution.passes.items ≤ 65 }
+    /// Draws the steps, of which so much is known of the IRPs, and the line of this number, which ended the handling.
+    fn draw_stop_of(
+        &self,
+        irps: &[IrpNow],
+        line: usize,
+        reason: Reason,
+        text: &mut String<A>,
+    ) -> Result<(), AllocError>
+        requires few { length self.now.execution.passes.items ≤ 65 }
+        requires irps { length irps.now ≤ 1024 }
         ensures { OnOk result ((size : Size) (d : Drawn) → DrawingStandsAfter self.now size d
+            → irps.now ≡ irps_of size d.steps
             → reason ≡ reason_of size (all_passes size d.steps) reason.stop
             → GrewBy (string_bytes text.old) (string_bytes text.new)
             (stopped_text size self.now.format d line reason.stop)) }
     {
         match self.format {
             Format::Svg => {
-                self.draw_stop_as_svg(line, reason, text)?;
+                self.draw_stop_as_svg(irps, line, reason, text)?;
                 Ok(())
             }
             Format::Text => {
@@ -191,6 +242,49 @@ impl<A: Allocator + Copy> Drawing<A> {
         }
     }
 
+    /// Draws the steps, of which so much is known of the IRPs, and what is reported in the end.
+    fn draw_end_of(
+        &self,
+        irps: &[IrpNow],
+        reported: &[IrpLine],
+        rest: bool,
+        text: &mut String<A>,
+    ) -> Result<(), AllocError>
+        requires few { length self.now.execution.passes.items ≤ 65 }
+        requires irps { length irps.now ≤ 1024 }
+        requires reported { length reported.now ≤ 1024 }
+        ensures { OnOk result ((size : Size) (d : Drawn) → DrawingStandsAfter self.now size d
+            → irps.now ≡ irps_of size d.steps
+            → GrewBy (string_bytes text.old) (string_bytes text.new)
+            (closed_text size self.now.format d reported.now rest)) }
+    {
+        match self.format {
+            Format::Svg => {
+                self.draw_end_as_svg(irps, reported, rest, text)?;
+                Ok(())
+            }
+            Format::Text => {
+                let (caption, passes) = (&self.caption, &self.execution.passes);
+                write_closed(caption, passes, irps, &self.rows, reported, rest, text)?;
+                Ok(())
+            }
+        }
+    }
+
+    /// Draws the steps, and the line of this number, which ended the handling.
+    fn draw_stop(&self, line: usize, reason: Reason, text: &mut String<A>) -> Result<(), AllocError>
+        requires few { length self.now.execution.passes.items ≤ 65 }
+        requires irps { length self.now.owners.items ≤ 1024 }
+        ensures { OnOk result ((size : Size) (d : Drawn) → DrawingStandsAfter self.now size d
+            → reason ≡ reason_of size (all_passes size d.steps) reason.stop
+            → GrewBy (string_bytes text.old) (string_bytes text.new)
+            (stopped_text size self.now.format d line reason.stop)) }
+    {
+        let irps = self.irps_now()?;
+        self.draw_stop_of(&irps, line, reason, text)?;
+        Ok(())
+    }
+
     /// Draws the steps, and what is reported in the end.
     fn draw_end(
         &self,
@@ -199,22 +293,15 @@ impl<A: Allocator + Copy> Drawing<A> {
         text: &mut String<A>,
     ) -> Result<(), AllocError>
         requires few { length self.now.execution.passes.items ≤ 65 }
+        requires irps { length self.now.owners.items ≤ 1024 }
         requires reported { length reported.now ≤ 1024 }
         ensures { OnOk result ((size : Size) (d : Drawn) → DrawingStandsAfter self.now size d
             → GrewBy (string_bytes text.old) (string_bytes text.new)
             (closed_text size self.now.format d reported.now rest)) }
     {
-        match self.format {
-            Format::Svg => {
-                self.draw_end_as_svg(reported, rest, text)?;
-                Ok(())
-            }
-            Format::Text => {
-                let (caption, passes) = (&self.caption, &self.execution.passes);
-                write_closed(caption, passes, &self.rows, reported, rest, text)?;
-                Ok(())
-            }
-        }
+        let irps = self.irps_now()?;
+        self.draw_end_of(&irps, reported, rest, text)?;
+        Ok(())
     }
 }
 
@@ -294,7 +381,7 @@ pub fn draw_schedule<A: Allocator + Copy, R: Read, W: Write>(
 
 /// Reads a schedule as `draw_schedule` does, and writes it as lines of ASCII text for a terminal: a row for
 /// each step, with the number of its line, the pass that has the lock, in the column of its pass what it did
-/// and what it found, with a star before it where it claims its IRP, and the two words of its IRP after it;
+/// and what it found, with a star before it if it claims its IRP, and the two words of its IRP after it;
 /// then the line that ended the handling and why, or where each IRP is and whether all is at rest. A column is
 /// 27 letters wide; behind a longer text stands one space. The caption stands above. It doesn't show who owes or
 /// holds which IRP.

@@ -1,7 +1,13 @@
-//! What stands below the rows of a picture.
+//! What stands below the rows of a picture: why a line ended the handling, or where each IRP is in the end.
+ghost use Rattle.std.specs.Prelude.{◌≡◌, ◌<◌, ◌≤◌, length, position, IfSome};
+ghost use Rattle.irp_core.specs.Inside.{is_outside};
+ghost use Rattle.csq_draw.specs.Endings.{is_unfinished, rest_of};
+
+use crate::irps::{Claim, IrpNow, Spot};
 use crate::layout::top;
-use csq_explain::{IrpSentence, Reason, RestSentence};
+use csq_explain::{DueStatus, PassNow, Reason};
 use csq_replay::{IrpLine, Stop};
+use irp_core::{Inside, IrpPlace, PassId};
 use std::fmt;
 
 /// A line that ended the handling, as it is reported: its step, if it names one, and why it ended it.
@@ -24,6 +30,155 @@ impl fmt::Display for StopText {
     }
 }
 
+/// Who owes an IRP, or holds it, and since which line.
+#[derive(Clone, Copy)]
+struct HavingSince(Option<Claim>, &'static str);
+
+/// As `, and p2 owes it since line 4`.
+impl fmt::Display for HavingSince {
+    ghost use Rattle.std.specs.Prelude.{Some};
+    ghost use Rattle.csq_draw.specs.Endings.{having_since};
+
+    ghost output = { λ having. Some (having_since having.1.now having.0) };
+
+    fn fmt<W: fmt::Write>(&self, f: &mut fmt::Formatter<W>) -> fmt::Result {
+        let HavingSince(claim, verb) = *self;
+        match claim {
+            Some(Claim { spot, .. }) => {
+                write!(f, ", and {} {verb} it since line {}", spot.pass, spot.line)
+            }
+            None => Ok(()),
+        }
+    }
+}
+
+/// In which line a step was made.
+#[derive(Clone, Copy)]
+struct InLine(Option<Spot>);
+
+/// As ` in line 11`.
+impl fmt::Display for InLine {
+    ghost use Rattle.std.specs.Prelude.{Some};
+    ghost use Rattle.csq_draw.specs.Endings.{in_line};
+
+    ghost output = { λ line. Some (in_line line.0) };
+
+    fn fmt<W: fmt::Write>(&self, f: &mut fmt::Formatter<W>) -> fmt::Result {
+        match self.0 {
+            Some(spot) => write!(f, " in line {}", spot.line),
+            None => Ok(()),
+        }
+    }
+}
+
+/// Where an IRP is in the end, who has it since which line, and in which line it was completed.
+#[derive(Clone, Copy)]
+struct Place(IrpPlace, IrpNow);
+
+/// As ` was completed once, by p2 in line 11, with STATUS_CANCELLED`.
+impl fmt::Display for Place {
+    ghost use Rattle.std.specs.Prelude.{Some};
+    ghost use Rattle.csq_draw.specs.Endings.{place_text};
+
+    ghost output = { λ place. Some (place_text place.1 place.0) };
+
+    fn fmt<W: fmt::Write>(&self, f: &mut fmt::Formatter<W>) -> fmt::Result {
+        let Place(place, IrpNow { claim, done, .. }) = *self;
+        match place {
+            IrpPlace::Home => write!(f, " wasn't inserted"),
+            IrpPlace::Listed => write!(f, " is in the list{}", HavingSince(claim, "owes")),
+            IrpPlace::HeldBy(_) => write!(f, " is out of the list{}", HavingSince(claim, "holds")),
+            IrpPlace::Completed(status, pass) => {
+                let (line, status) = (InLine(done), DueStatus(status));
+                write!(f, " was completed once, by {pass}{line}, with {status}")
+            }
+        }
+    }
+}
+
+/// Where an IRP is in the end, in a sentence.
+#[derive(Clone, Copy)]
+pub(crate) struct IrpEnding(pub(crate) IrpLine, pub(crate) IrpNow);
+
+/// As `IRP 0 is in the list, and p2 owes it since line 4; its Cancel flag is set`.
+impl fmt::Display for IrpEnding {
+    ghost use Rattle.std.specs.Prelude.{Some};
+    ghost use Rattle.csq_draw.specs.Endings.{irp_ending};
+
+    ghost output = { λ ending. Some (irp_ending ending.0 ending.1) };
+
+    fn fmt<W: fmt::Write>(&self, f: &mut fmt::Formatter<W>) -> fmt::Result {
+        let IrpEnding(line, now) = *self;
+        let (irp, place) = (line.name, Place(line.place, now));
+        if line.cancelled {
+            write!(f, "IRP {irp}{place}; its Cancel flag is set")
+        } else {
+            write!(f, "IRP {irp}{place}; its Cancel flag is clear")
+        }
+    }
+}
+
+/// Whether all is at rest in the end, and else the pass whose call is unfinished and the line in which that began,
+/// if there is one.
+#[derive(Clone, Copy)]
+pub(crate) struct Rest {
+    pub(crate) at_rest: bool,
+    pub(crate) unfinished: Option<(PassId, usize)>,
+}
+
+impl fmt::Display for Rest {
+    ghost use Rattle.std.specs.Prelude.{Some};
+    ghost use Rattle.csq_draw.specs.Endings.{rest_text};
+
+    ghost output = { λ rest. Some (rest_text rest) };
+
+    fn fmt<W: fmt::Write>(&self, f: &mut fmt::Formatter<W>) -> fmt::Result {
+        match (self.at_rest, self.unfinished) {
+            (true, _) => write!(
+                f,
+                "all is at rest: no call is unfinished, and nobody owes or holds an IRP"
+            ),
+            (false, Some((pass, line))) => write!(
+                f,
+                "not all is at rest: the call of {pass} that began in line {line} is unfinished"
+            ),
+            (false, None) => write!(f, "not all is at rest: a pass owes or holds an IRP"),
+        }
+    }
+}
+
+/// Whether a pass is inside of a call.
+fn is_unfinished(now: PassNow) -> bool
+    ensures { result ≡ is_unfinished now }
+{
+    !matches!(now.inside, Inside::Nothing)
+}
+
+/// The number of the first pass whose call is unfinished.
+fn unfinished_number(passes: &[PassNow]) -> Option<usize>
+    ensures number { result ≡ position is_unfinished passes.now }
+    ensures bound { IfSome result (λ number. number < length passes.now) }
+{
+    passes.iter().position(|now| is_unfinished(*now))
+}
+
+/// Whether all is at rest in the end, and the first pass whose call is unfinished.
+pub(crate) fn rest_of(passes: &[PassNow], at_rest: bool) -> Rest
+    requires { length passes.now ≤ 65 }
+    ensures { result ≡ rest_of passes.now at_rest }
+{
+    match unfinished_number(passes) {
+        Some(number) => Rest {
+            at_rest,
+            unfinished: Some((PassId(number as u32), passes[number].line)),
+        },
+        None => Rest {
+            at_rest,
+            unfinished: None,
+        },
+    }
+}
+
 /// What stands below the rows of a picture.
 #[derive(Clone, Copy)]
 pub(crate) enum Below {
@@ -34,9 +189,9 @@ pub(crate) enum Below {
     /// Why it ended the handling, below its bar.
     Because(Reason),
     /// Where an IRP is in the end, as the nth line.
-    Irp(u32, IrpLine),
+    Irp(u32, IrpLine, IrpNow),
     /// Whether all is at rest in the end, as the nth line.
-    AtRest(u32, bool),
+    AtRest(u32, Rest),
 }
 
 /// What stands below so many rows of a picture.
@@ -64,13 +219,13 @@ impl fmt::Display for BelowRows {
                 write!(f, "<text x='73' y='{}'>{}</text>", y + 34, StopText(stop))
             }
             Below::Because(reason) => write!(f, "<text x='73' y='{}'>{reason}</text>", y + 76),
-            Below::Irp(nth, line) => {
-                let (y, sentence) = (y + 28 + 20 * u64::from(nth), IrpSentence(line));
+            Below::Irp(nth, line, now) => {
+                let (y, sentence) = (y + 28 + 20 * u64::from(nth), IrpEnding(line, now));
                 write!(f, "<text x='56' y='{y}'>{sentence}</text>")
             }
-            Below::AtRest(nth, at_rest) => {
-                let (y, sentence) = (y + 28 + 20 * u64::from(nth), RestSentence(at_rest));
-                write!(f, "<text x='56' y='{y}'>{sentence}</text>")
+            Below::AtRest(nth, rest) => {
+                let y = y + 28 + 20 * u64::from(nth);
+                write!(f, "<text x='56' y='{y}'>{rest}</text>")
             }
         }
     }

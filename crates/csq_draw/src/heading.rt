@@ -1,5 +1,5 @@
 //! What stands above the rows of a picture, and behind them.
-use crate::layout::{left, top};
+use crate::layout::{flag_x, top};
 use irp_core::PassId;
 use std::fmt;
 
@@ -7,9 +7,13 @@ use std::fmt;
 /// and in print.
 pub const PICTURE_HEAD: &str = "\
 <desc>Each column is a pass, and time runs downwards. A row is one atomic step: its line in the schedule, \
-and in the column of its pass what it did, to which IRP, what it found, and the call of the WDK that it is. At the right stand the Cancel flag and the cancel routine of that IRP after the step.</desc>
+and in the column of its pass what it did, to which IRP, what it found, and the call of the WDK that it is. \
+An arrow runs from the step that wrote a word to the one that found it. \
+At the right stand the Cancel flag and the cancel routine of each IRP.</desc>
+<defs><marker id='arrow' viewBox='0 0 8 8' refX='7' refY='4' markerWidth='8' markerHeight='8' orient='auto'>\
+<path class='ah' d='M0 0L8 4L0 8z'/></marker></defs>
 <style>
-.sheet{fill:#ffffff}.l{fill:#eaeef2}
+.sheet{fill:#ffffff}.l{fill:#dfe4ea}.h{fill:#6e7781}.a{fill:none;stroke:#57606a;stroke-width:1.5;marker-end:url(#arrow)}.ah{fill:#57606a}
 .k0{color:#0969da;fill:#ddf4ff}.k1{color:#bc4c00;fill:#fff1e5}
 .k2{color:#1a7f37;fill:#dafbe1}.k3{color:#8250df;fill:#fbefff}
 .k4{color:#9a6700;fill:#fff8c5}.k5{color:#bf3989;fill:#ffeff7}
@@ -18,32 +22,28 @@ and in the column of its pass what it did, to which IRP, what it found, and the 
 .k0,.k1,.k2,.k3,.k4,.k5,.k6,.k7,.e,.bad{stroke:currentColor}
 .c rect{stroke-width:3}.c .w{font-weight:bold}
 .owes,.holds{fill:none;stroke-width:3}.owes{stroke-dasharray:4 3}.g{stroke:#d1d9e0}
-text{fill:#1f2328;stroke:none}.s,.m{font-size:10.5px}.s,.m,.n{fill:#59636e}
+text{fill:#1f2328;stroke:none}.s,.m{font-size:10.5px}.s,.m,.n,.q{fill:#59636e}
 .m{font-family:ui-monospace,SFMono-Regular,Consolas,'DejaVu Sans Mono',monospace;font-size:10px}
 .t{font-size:16px;font-weight:bold}.t tspan{fill:#59636e;font-size:10.5px;font-weight:normal}
-.p{font-weight:bold;text-anchor:middle}.o{text-anchor:middle}.n,.v{text-anchor:end}
+.p{font-weight:bold;text-anchor:middle}.o{text-anchor:middle}.q{font-size:9px;text-anchor:middle}.n,.v{text-anchor:end}
 circle.on{fill:currentColor}circle.off{fill:#ffffff}circle.b{stroke-width:3}
-@media screen and (prefers-color-scheme:dark){.sheet{fill:#0d1117}.l{fill:#21262d}
+.bar{fill:none;stroke-opacity:.45}.bar.on{stroke-width:6}.bar.off{stroke-width:1.5}
+@media screen and (prefers-color-scheme:dark){.sheet{fill:#0d1117}.l{fill:#2a313a}.h{fill:#8b949e}.a{stroke:#b1bac4}.ah{fill:#b1bac4}
 .k0{color:#58a6ff;fill:#0c2d6b}.k1{color:#f0883e;fill:#5a1e02}
 .k2{color:#3fb950;fill:#033a16}.k3{color:#bc8cff;fill:#3c1e70}
 .k4{color:#d29922;fill:#4b2900}.k5{color:#f778ba;fill:#5e103e}
 .k6{color:#2dd4bf;fill:#063b38}.k7{color:#8b949e;fill:#0d1117}
 .e{color:#8b949e;fill:#0d1117}.bad{color:#f85149;fill:#67060c}
-.owes,.holds{fill:none}.g{stroke:#30363d}circle.off{fill:#0d1117}
-text{fill:#e6edf3}.s,.m,.n,.t tspan{fill:#b1bac4}}
+.owes,.holds,.bar,.a{fill:none}.g{stroke:#30363d}circle.off{fill:#0d1117}
+text{fill:#e6edf3}.s,.m,.n,.q,.t tspan{fill:#b1bac4}}
 </style>";
 
-/// What the parts of a picture mean.
-pub(crate) const KEY: &str = "\
-<text class='s' x='56' y='15'>shade: has the lock; bold: the exchange found the routine, and so claims the IRP; \
-dashed line: owes it; solid line: holds it</text>\
-<text class='s' x='56' y='28'>circles: the two words of the IRP, in its present life, after the step; filled: set; \
-bold: the step changed it; &#8594;: what the call answers</text><text class='n s' x='46' y='54'>line</text>";
-
-/// How much a picture shows: so many columns and rows, lines of text below them, and lines of a caption above.
+/// How much a picture shows: so many columns of passes, IRPs and rows, lines of text below them, and lines of a
+/// caption above.
 #[derive(Clone, Copy)]
 pub(crate) struct Extent {
     pub(crate) columns: u32,
+    pub(crate) irps: u32,
     pub(crate) rows: u32,
     pub(crate) lines: u32,
     pub(crate) caption: u32,
@@ -57,7 +57,7 @@ impl Extent {
     fn width(&self) -> u64
         ensures { result ≡ width self.now }
     {
-        (left(self.columns) + 120).max(780)
+        (flag_x(self.columns, self.irps) + 8).max(780)
     }
 
     /// How much of the picture the caption takes, above all else.
@@ -133,7 +133,7 @@ impl fmt::Display for Name<'_> {
 #[derive(Clone, Copy)]
 struct Heading<'a>(Head<'a>);
 
-/// On a line of its own, and nothing where there is none.
+/// On a line of its own, and nothing if there is none.
 impl fmt::Display for Heading<'_> {
     ghost use Rattle.std.specs.Prelude.{Some};
     ghost use Rattle.csq_draw.specs.Headings.{heading_text};

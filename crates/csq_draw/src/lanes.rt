@@ -39,7 +39,7 @@ fn free_lane(owners: &[Option<Owner>], pass: PassId) -> u32
     LANES
 }
 
-/// In which lane a pass comes to have an IRP: where it has the IRP already, the lane stays.
+/// In which lane a pass comes to have an IRP: if it has the IRP already, the lane stays.
 #[tactic(auto, unfolding(irp_core::specs::Steps::same_pass))]
 pub(crate) fn lane_for(owners: &[Option<Owner>], pass: PassId, before: Option<Owner>) -> u32
     ensures { result ≡ lane_for owners.now pass before }

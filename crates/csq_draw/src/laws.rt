@@ -5,7 +5,7 @@ ghost use Rattle.irp_core.specs.declared.step.Made.{Made};
 ghost use Rattle.irp_core.specs.Runs.{Size, EachRunFrom};
 ghost use Rattle.csq_replay.specs.Schedule.{Numbered};
 ghost use Rattle.csq_draw.specs.declared.format.Format.{Format};
-ghost use Rattle.csq_draw.specs.Laws.{HasOnePicture, EachStepHasOneMark, EachStepShowsItsWords, EachLineHasItsNumber, EachShadeIsOfTheLock, EachPassHasItsColumn, TheShadedPassHasTheLock, EachDrawnOwnerOwesOrHolds, NoTwoLinesShareALane, TheNinthLaneIsLast};
+ghost use Rattle.csq_draw.specs.Laws.{HasOnePicture, EachStepHasOneMark, EachStepShowsItsWords, EachLineHasItsNumber, EachShadeIsOfTheLock, EachArrowIsFromTheWrite, EachPassHasItsColumn, TheShadedPassHasTheLock, EachDrawnOwnerOwesOrHolds, NoTwoLinesShareALane, TheNinthLaneIsLast};
 
 /// A schedule has at most one picture in each format, so the relation that `draw_schedule` and
 /// `draw_schedule_as_text` meet names its bytes.
@@ -36,6 +36,12 @@ pub fn each_shade_is_of_the_lock()
     ensures { (size : Size) (W : List Numbered) → EachShadeIsOfTheLock size W }
 {}
 
+/// Of every run, an arrow runs to each step that found a word set, from the step that set it, if that was another
+/// pass's: the newest step before it that changed the word. There are no other arrows.
+pub fn each_arrow_is_from_the_write()
+    ensures { (size : Size) (W : List Numbered) → EachArrowIsFromTheWrite size W }
+{}
+
 /// Passes that made a step of the run have columns of their own, in the order of their numbers.
 pub fn each_pass_has_its_column()
     ensures { (size : Size) (W : List Numbered) → EachPassHasItsColumn size W }
@@ -48,14 +54,14 @@ pub fn the_shaded_pass_has_the_lock()
 {}
 
 /// Of every run, the pass that is drawn as owing an IRP after it is the one that owes the IRP by the run, in
-/// the IRP's present life, and the pass that is drawn as holding it the one that holds it; where none is
+/// the IRP's present life, and the pass that is drawn as holding it the one that holds it; if none is
 /// drawn, none owes or holds it.
 pub fn each_drawn_owner_owes_or_holds()
     ensures { EachRunFrom EachDrawnOwnerOwesOrHolds }
 {}
 
 /// The lines of two IRPs that a pass owes or holds at one time run in lanes of their own, or both in the ninth.
-/// A line begins in the ninth lane only where the pass has one in each of the eight others.
+/// A line begins in the ninth lane only if the pass has one in each of the eight others.
 pub fn no_two_lines_share_a_lane()
     ensures apart { (irps : ℕ) (E : List Made) → NoTwoLinesShareALane irps E }
     ensures last { (irps : ℕ) (E : List Made) → TheNinthLaneIsLast irps E }

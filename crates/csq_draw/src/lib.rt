@@ -1,6 +1,8 @@
 //! A schedule of the steps of a cancel-safe IRP queue, drawn: a column for each pass, a row for each step.
 #![tactic(auto)]
 
+mod arrows;
+mod bars;
 mod calls;
 mod caption;
 mod cells;
@@ -10,6 +12,7 @@ mod element;
 mod ending;
 mod format;
 mod heading;
+mod irps;
 mod lanes;
 mod laws;
 mod layout;
@@ -17,6 +20,7 @@ mod marks;
 mod owners;
 mod passes;
 mod picture;
+mod row_picture;
 mod rows;
 mod spans;
 mod terminal;
@@ -26,7 +30,7 @@ pub use drawing::{Drawing, draw_schedule, draw_schedule_as_text};
 pub use format::Format;
 pub use heading::PICTURE_HEAD;
 pub use laws::{
-    a_schedule_has_one_picture, each_drawn_owner_owes_or_holds, each_line_has_its_number,
+    a_schedule_has_one_picture, each_arrow_is_from_the_write, each_drawn_owner_owes_or_holds, each_line_has_its_number,
     each_pass_has_its_column, each_shade_is_of_the_lock, each_step_has_one_mark,
     each_step_shows_its_words, no_two_lines_share_a_lane, the_shaded_pass_has_the_lock,
 };

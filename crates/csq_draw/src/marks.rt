@@ -1,13 +1,12 @@
 //! What is drawn on the row of a step: the number of its line, and the step itself; and who has the lock.
 ghost use Rattle.std.specs.Prelude.{◌≡◌};
-ghost use Rattle.csq_draw.specs.Marks.{lets_go, claims, wdk_text};
+ghost use Rattle.csq_draw.specs.Marks.{shade_height, takes_lock, lets_go, claims, wdk_text};
 
-use crate::calls::CallOf;
 use crate::circles::Circles;
 use crate::layout::{left, top};
 use crate::words::WordValues;
 use csq_explain::{Sentence, StatusName, StepInCall};
-use irp_core::{Kind, Made};
+use irp_core::{Kind, Made, NtStatus};
 use std::fmt;
 
 /// The number of a line, at the left of its row.
@@ -18,12 +17,75 @@ pub(crate) struct Number {
 }
 
 /// The shade behind a row, in the column of the pass that has the lock. It is a pixel higher than the row, so
-/// that there is no gap to the next one, but lower where the pass lets the lock go.
+/// that there is no gap to the next one, but lower if the pass lets the lock go. The first one says so in words.
 #[derive(Clone, Copy)]
 pub(crate) struct Shade {
     pub(crate) row: u32,
     pub(crate) column: u32,
+    pub(crate) first: bool,
     pub(crate) last: bool,
+}
+
+/// How high the shade behind a row is, which may be the last of its time.
+fn shade_height(last: bool) -> u64
+    ensures { result ≡ shade_height last }
+{
+    if last { 57 } else { 61 }
+}
+
+/// What stands at the left of a shade.
+#[derive(Clone, Copy)]
+struct LockLabel(Shade);
+
+/// That the pass has the lock, beside the first shade of that time.
+impl fmt::Display for LockLabel {
+    ghost use Rattle.std.specs.Prelude.{Some};
+    ghost use Rattle.csq_draw.specs.Marks.{lock_label};
+
+    ghost output = { λ label. Some (lock_label label.0) };
+
+    fn fmt<W: fmt::Write>(&self, f: &mut fmt::Formatter<W>) -> fmt::Result {
+        let Shade {
+            row, column, first, ..
+        } = self.0;
+        if !first {
+            return Ok(());
+        }
+        let (x, middle) = (left(column), top(row) + 30);
+        write!(
+            f,
+            "<text class='q' dy='-4' transform='translate({x} {middle})rotate(-90)'>has the lock</text>"
+        )
+    }
+}
+
+impl fmt::Display for Shade {
+    ghost use Rattle.std.specs.Prelude.{Some};
+    ghost use Rattle.csq_draw.specs.Marks.{shade_text};
+
+    ghost output = { λ shade. Some (shade_text shade) };
+
+    fn fmt<W: fmt::Write>(&self, f: &mut fmt::Formatter<W>) -> fmt::Result {
+        let (x, y) = (left(self.column), top(self.row));
+        let (height, label) = (shade_height(self.last), LockLabel(*self));
+        write!(
+            f,
+            "<rect class='l' x='{x}' y='{y}' width='228' height='{height}'/>"
+        )?;
+        write!(
+            f,
+            "<rect class='h' x='{x}' y='{y}' width='3' height='{height}'/>"
+        )?;
+        label.fmt(f)
+    }
+}
+
+/// Whether a step is the first of its pass's time with the lock: it needs the lock, which the pass hasn't got
+/// before it.
+pub(crate) fn takes_lock(step: StepInCall) -> bool
+    ensures { result ≡ takes_lock step }
+{
+    step.made.kind.needs_lock() && !step.inside.has_lock()
 }
 
 /// Whether a step is the last of its pass's time with the lock: it needs the lock, which the pass hasn't got
@@ -45,7 +107,7 @@ pub(crate) fn claims(made: Made) -> bool
     }
 }
 
-/// How a step looks: in the colour of its IRP, and bold where it claims it.
+/// How a step looks: in the colour of its IRP, and bold if it claims it.
 #[derive(Clone, Copy)]
 struct StepClass(Made);
 
@@ -102,6 +164,7 @@ impl fmt::Display for FoundWords {
             (Kind::Disarm(_) | Kind::Take(_), true, _) => write!(f, "found it"),
             (Kind::Flag(_), false, _) => write!(f, "was clear"),
             (Kind::Arm(_) | Kind::Rearm(_) | Kind::Flag(_), true, _) => write!(f, "was set"),
+            (Kind::Done(_), _, Some(NtStatus(0))) => write!(f, "any status"),
             (Kind::Done(_), _, Some(status)) => StatusName(status).fmt(f),
             (Kind::End | Kind::Out(_) | Kind::Done(_), _, _) => Ok(()),
             (Kind::Renew(_), _, _) => write!(f, "next life"),
@@ -109,13 +172,14 @@ impl fmt::Display for FoundWords {
     }
 }
 
-/// A step in the column of its pass, with what it found, its call of the WDK and the call that it is of, and
-/// right of so many columns the words of its IRP after it.
+/// A step in the column of its pass, with what it found and its call of the WDK, and right of so many columns, at
+/// the place of its IRP, the words of the IRP after it.
 #[derive(Clone, Copy)]
 pub(crate) struct Mark {
     pub(crate) row: u32,
     pub(crate) column: u32,
     pub(crate) columns: u32,
+    pub(crate) place: u32,
     pub(crate) step: StepInCall,
     pub(crate) words: Option<WordValues>,
 }
@@ -129,19 +193,17 @@ impl fmt::Display for Mark {
     fn fmt<W: fmt::Write>(&self, f: &mut fmt::Formatter<W>) -> fmt::Result {
         let (step, kind) = (self.step, self.step.made.kind);
         let (class, sentence, found) = (StepClass(step.made), Sentence(step), FoundWords(step));
-        let (wdk, call, circles) = (wdk_call(kind), CallOf(step), Circles(*self));
+        let (wdk, circles) = (wdk_call(kind), Circles(*self));
         let (left, top) = (left(self.column), top(self.row));
         let (x, y, end) = (left + 17, top + 20, left + 211);
-        let (second, third) = (top + 35, top + 49);
-        let (edge, upper) = (left + 8, top + 4);
+        let (second, edge, upper) = (top + 35, left + 8, top + 4);
         write!(
             f,
             "<g class='{class}'><title>{sentence}</title><rect x='{edge}' y='{upper}' width='212' height='52' rx='6'/>"
         )?;
         write!(f, "<text class='w' x='{x}' y='{y}'>{kind}</text>")?;
         write!(f, "<text class='w v' x='{end}' y='{y}'>{found}</text>")?;
-        write!(f, "<text class='m' x='{x}' y='{second}'>{wdk}</text>")?;
-        write!(f, "<text class='s' x='{x}' y='{third}'>{call}</text></g>")?;
+        write!(f, "<text class='m' x='{x}' y='{second}'>{wdk}</text></g>")?;
         circles.fmt(f)
     }
 }

@@ -3,25 +3,26 @@ ghost use Rattle.std.specs.Prelude.{◌≡◌, ◌≤◌, ◌∷◌, [], codes, 
 ghost use Rattle.csq_replay.specs.Lines.{GrewBy};
 ghost use Rattle.csq_draw.specs.Elements.{elements_text, picture};
 ghost use Rattle.csq_draw.specs.Passes.{columns};
-ghost use Rattle.csq_draw.specs.Marks.{lets_go};
-ghost use Rattle.csq_draw.specs.Pictures.{each, column_elements, shade_elements, span_elements, row_elements, open_elements, closing_elements, first_elements, shown_elements, refused_elements, at_rest_element, stopped_elements, closed_elements};
+ghost use Rattle.csq_draw.specs.Pictures.{each, column_elements, word_elements, last_elements, open_elements, closing_elements, shown_elements, refused_elements, at_rest_element, stopped_elements, closed_elements};
 
 use crate::circles::WordColumns;
 use crate::element::Element;
-use crate::ending::Below;
+use crate::ending::{Below, rest_of};
 use crate::heading::Column;
-use crate::marks::{Mark, Number, Shade, lets_go};
+use crate::irps::{IrpNow, irp_at, irp_column};
+use crate::marks::Number;
 use crate::owners::Owner;
 use crate::passes::{column_of, columns};
+use crate::row_picture::{draw_bars, draw_rows, life_in};
 use crate::rows::Row;
 use crate::spans::Span;
 use csq_explain::{PassNow, Reason};
 use csq_replay::IrpLine;
-use irp_core::PassId;
+use irp_core::{IrpId, PassId};
 use std::alloc::{AllocError, Allocator};
 
 /// An element, on a line of its own.
-fn draw<A: Allocator>(element: Element, text: &mut String<A>) -> Result<(), AllocError>
+pub(crate) fn draw<A: Allocator>(element: Element, text: &mut String<A>) -> Result<(), AllocError>
     ensures { OnOk result (GrewBy (string_bytes text.old) (string_bytes text.new)
         (elements_text (element ∷ []))) }
 {
@@ -68,88 +69,79 @@ fn draw_columns<A: Allocator>(
     Ok(())
 }
 
-/// The shade behind a row, if a pass has the lock there.
-fn draw_shade<A: Allocator>(
+/// The words that an IRP has in the end, if a step names it.
+fn draw_last_of<A: Allocator>(
     passes: &[PassNow],
-    row: Row,
+    irps: &[IrpNow],
+    rows: u32,
+    irp: IrpId,
+    now: IrpNow,
     text: &mut String<A>,
 ) -> Result<(), AllocError>
-    requires { length passes.now ≤ 65 }
+    requires few { length passes.now ≤ 65 }
+    requires irps { length irps.now ≤ 1024 }
     ensures { OnOk result (GrewBy (string_bytes text.old) (string_bytes text.new)
-        (elements_text (shade_elements passes.now row.row (lets_go row.step) row.lock))) }
+        (elements_text (last_elements passes.now irps.now rows irp.0 now))) }
 {
-    let Some(pass) = row.lock else {
-        return Ok(());
-    };
-    let shade = Shade {
-        row: row.row,
-        column: column_of(passes, pass),
-        last: lets_go(row.step),
-    };
-    draw(Element::Shade(shade), text)
+    let (columns, place) = (columns(passes), irp_column(irps, irp));
+    draw_bars(columns, place, rows, true, now.last, text)
 }
 
-/// The line of the owner whose time with an IRP ends on a row, if one does.
-fn draw_span<A: Allocator>(
+/// The words that IRPs have in the end, of each that a step names.
+fn draw_last<A: Allocator>(
     passes: &[PassNow],
-    row: Row,
+    irps: &[IrpNow],
+    rows: u32,
     text: &mut String<A>,
 ) -> Result<(), AllocError>
-    requires { length passes.now ≤ 65 }
+    requires few { length passes.now ≤ 65 }
+    requires irps { length irps.now ≤ 1024 }
     ensures { OnOk result (GrewBy (string_bytes text.old) (string_bytes text.new)
-        (elements_text (span_elements passes.now row.row row.ended))) }
+        (elements_text (each (last_elements passes.now irps.now rows) 0 irps.now))) }
 {
-    let Some(owner) = row.ended else {
-        return Ok(());
-    };
-    let span = Span {
-        column: column_of(passes, owner.pass),
-        owner,
-        to: row.row,
-        to_the_end: false,
-    };
-    draw(Element::Span(span), text)
+    for (number, now) in irps.iter().enumerate() {
+        draw_last_of(passes, irps, rows, IrpId(number as u32), *now, text)?;
+    }
+    Ok(())
 }
 
-/// The row of a step.
-fn draw_row<A: Allocator>(
+/// The names of the words of an IRP, if a step names it.
+fn draw_name<A: Allocator>(
     passes: &[PassNow],
-    row: Row,
+    irps: &[IrpNow],
+    irp: IrpId,
+    now: IrpNow,
     text: &mut String<A>,
 ) -> Result<(), AllocError>
-    requires { length passes.now ≤ 65 }
+    requires few { length passes.now ≤ 65 }
+    requires irps { length irps.now ≤ 1024 }
     ensures { OnOk result (GrewBy (string_bytes text.old) (string_bytes text.new)
-        (elements_text (row_elements passes.now 0 row))) }
+        (elements_text (word_elements passes.now irps.now irp.0 now))) }
 {
-    let number = Number {
-        row: row.row,
-        line: row.line,
-    };
-    let mark = Mark {
-        row: row.row,
-        column: column_of(passes, row.step.made.pass),
+    if now.last.is_none() {
+        return Ok(());
+    }
+    let names = WordColumns {
         columns: columns(passes),
-        step: row.step,
-        words: row.words,
+        place: irp_column(irps, irp),
+        irp,
     };
-    draw(Element::Number(number), text)?;
-    draw_shade(passes, row, text)?;
-    draw_span(passes, row, text)?;
-    draw(Element::Mark(mark), text)
+    draw(Element::WordColumns(names), text)
 }
 
-/// The rows of all steps.
-fn draw_rows<A: Allocator>(
+/// The names of the words of all IRPs that a step names.
+fn draw_names<A: Allocator>(
     passes: &[PassNow],
-    rows: &[Row],
+    irps: &[IrpNow],
     text: &mut String<A>,
 ) -> Result<(), AllocError>
-    requires { length passes.now ≤ 65 }
+    requires few { length passes.now ≤ 65 }
+    requires irps { length irps.now ≤ 1024 }
     ensures { OnOk result (GrewBy (string_bytes text.old) (string_bytes text.new)
-        (elements_text (each (row_elements passes.now) 0 rows.now))) }
+        (elements_text (each (word_elements passes.now irps.now) 0 irps.now))) }
 {
-    for row in rows {
-        draw_row(passes, *row, text)?;
+    for (number, now) in irps.iter().enumerate() {
+        draw_name(passes, irps, IrpId(number as u32), *now, text)?;
     }
     Ok(())
 }
@@ -157,13 +149,14 @@ fn draw_rows<A: Allocator>(
 /// The line of an owner that has its IRP in the end, if there is one.
 fn draw_open<A: Allocator>(
     passes: &[PassNow],
+    irps: &[IrpNow],
     count: u32,
     owner: Option<Owner>,
     text: &mut String<A>,
 ) -> Result<(), AllocError>
     requires { length passes.now ≤ 65 }
     ensures { OnOk result (GrewBy (string_bytes text.old) (string_bytes text.new)
-        (elements_text (open_elements passes.now count 0 owner))) }
+        (elements_text (open_elements passes.now irps.now count 0 owner))) }
 {
     let Some(owner) = owner else {
         return Ok(());
@@ -171,6 +164,7 @@ fn draw_open<A: Allocator>(
     let span = Span {
         column: column_of(passes, owner.pass),
         owner,
+        name: life_in(owner.irp, irp_at(irps, owner.irp)),
         to: count,
         to_the_end: true,
     };
@@ -180,68 +174,105 @@ fn draw_open<A: Allocator>(
 /// The lines of the owners that have their IRPs in the end.
 fn draw_owners<A: Allocator>(
     passes: &[PassNow],
+    irps: &[IrpNow],
     rows: u32,
     owners: &[Option<Owner>],
     text: &mut String<A>,
 ) -> Result<(), AllocError>
     requires { length passes.now ≤ 65 }
     ensures { OnOk result (GrewBy (string_bytes text.old) (string_bytes text.new)
-        (elements_text (each (open_elements passes.now rows) 0 owners.now))) }
+        (elements_text (each (open_elements passes.now irps.now rows) 0 owners.now))) }
 {
     for owner in owners {
-        draw_open(passes, rows, *owner, text)?;
+        draw_open(passes, irps, rows, *owner, text)?;
     }
     Ok(())
 }
 
+/// Where an IRP is in the end, as the nth line below so many rows.
+fn draw_ending<A: Allocator>(
+    irps: &[IrpNow],
+    rows: u32,
+    nth: u32,
+    line: IrpLine,
+    text: &mut String<A>,
+) -> Result<(), AllocError>
+    ensures { OnOk result (GrewBy (string_bytes text.old) (string_bytes text.new)
+        (elements_text (closing_elements irps.now rows nth line))) }
+{
+    let now = irp_at(irps, line.name.irp);
+    draw(Element::Below(rows, Below::Irp(nth, line, now)), text)
+}
+
+/// Whether all is at rest in the end, as the nth line below so many rows.
+fn draw_rest<A: Allocator>(
+    passes: &[PassNow],
+    rows: u32,
+    nth: u32,
+    at_rest: bool,
+    text: &mut String<A>,
+) -> Result<(), AllocError>
+    requires { length passes.now ≤ 65 }
+    ensures { OnOk result (GrewBy (string_bytes text.old) (string_bytes text.new)
+        (elements_text (at_rest_element passes.now rows nth at_rest ∷ []))) }
+{
+    let rest = rest_of(passes, at_rest);
+    draw(Element::Below(rows, Below::AtRest(nth, rest)), text)
+}
+
 /// Where each IRP is in the end.
 fn draw_reported<A: Allocator>(
+    irps: &[IrpNow],
     rows: u32,
     reported: &[IrpLine],
     text: &mut String<A>,
 ) -> Result<(), AllocError>
     requires { length reported.now ≤ 1024 }
     ensures { OnOk result (GrewBy (string_bytes text.old) (string_bytes text.new)
-        (elements_text (each (closing_elements rows) 0 reported.now))) }
+        (elements_text (each (closing_elements irps.now rows) 0 reported.now))) }
 {
     for (nth, line) in reported.iter().enumerate() {
-        draw(Element::Below(rows, Below::Irp(nth as u32, *line)), text)?;
+        draw_ending(irps, rows, nth as u32, *line, text)?;
     }
     Ok(())
 }
 
-/// What the parts mean, and the columns of the words.
-fn draw_first<A: Allocator>(
-    passes: &[PassNow],
-    rows: u32,
-    text: &mut String<A>,
-) -> Result<(), AllocError>
-    requires { length passes.now ≤ 65 }
-    ensures { OnOk result (GrewBy (string_bytes text.old) (string_bytes text.new)
-        (elements_text (first_elements (columns passes.now) rows))) }
-{
-    let columns = columns(passes);
-    draw(Element::Key, text)?;
-    draw(Element::WordColumns(WordColumns { columns, rows }), text)
+/// What a picture shows: the passes, what is known of the IRPs in the end, the rows, how many these are, and the
+/// owners of the IRPs in the end.
+#[derive(Clone, Copy)]
+pub(crate) struct Sheet<'a> {
+    pub(crate) passes: &'a [PassNow],
+    pub(crate) irps: &'a [IrpNow],
+    pub(crate) rows: &'a [Row],
+    pub(crate) owners: &'a [Option<Owner>],
+    pub(crate) count: u32,
 }
 
-/// What a picture begins with, and the steps: passes, rows and owners.
-fn draw_steps<A: Allocator>(
-    passes: &[PassNow],
-    rows: &[Row],
-    owners: &[Option<Owner>],
-    count: u32,
+/// What a picture begins with, and the steps.
+fn draw_steps<A: Allocator + Copy>(
+    alloc: A,
+    sheet: Sheet<'_>,
     text: &mut String<A>,
 ) -> Result<(), AllocError>
-    requires few { length passes.now ≤ 65 }
-    requires count { count ≡ length rows.now }
+    requires few { length sheet.passes.now ≤ 65 }
+    requires irps { length sheet.irps.now ≤ 1024 }
     ensures { OnOk result (GrewBy (string_bytes text.old) (string_bytes text.new)
-        (elements_text (shown_elements passes.now rows.now owners.now count))) }
+        (elements_text (shown_elements sheet.entry.passes.now sheet.entry.irps.now sheet.entry.rows.now
+        sheet.entry.owners.now sheet.entry.count))) }
 {
-    draw_first(passes, count, text)?;
+    let Sheet {
+        passes,
+        irps,
+        rows,
+        owners,
+        count,
+    } = sheet;
+    draw(Element::Lines, text)?;
     draw_columns(passes, count, text)?;
-    draw_rows(passes, rows, text)?;
-    draw_owners(passes, count, owners, text)?;
+    draw_names(passes, irps, text)?;
+    draw_last(passes, irps, count, text)?;
+    draw_rows(alloc, passes, irps, rows, text)?;
+    draw_owners(passes, irps, count, owners, text)?;
     Ok(())
 }
 
@@ -272,46 +303,44 @@ fn draw_foot<A: Allocator>(text: &mut String<A>) -> Result<(), AllocError>
 }
 
 /// A picture of steps, and of the line that ended the handling, below its head.
-pub(crate) fn draw_stopped<A: Allocator>(
-    passes: &[PassNow],
-    rows: &[Row],
-    owners: &[Option<Owner>],
-    count: u32,
+pub(crate) fn draw_stopped<A: Allocator + Copy>(
+    alloc: A,
+    sheet: Sheet<'_>,
     line: usize,
     reason: Reason,
     text: &mut String<A>,
 ) -> Result<(), AllocError>
-    requires few { length passes.now ≤ 65 }
-    requires count { count ≡ length rows.now }
+    requires few { length sheet.passes.now ≤ 65 }
+    requires irps { length sheet.irps.now ≤ 1024 }
     ensures { OnOk result (GrewBy (string_bytes text.old) (string_bytes text.new)
-        (picture (stopped_elements passes.now rows.now owners.now count line reason))) }
+        (picture (stopped_elements sheet.entry.passes.now sheet.entry.irps.now sheet.entry.rows.now
+        sheet.entry.owners.now sheet.entry.count line reason))) }
 {
-    draw_steps(passes, rows, owners, count, text)?;
-    draw_refused(count, line, reason, text)?;
+    draw_steps(alloc, sheet, text)?;
+    draw_refused(sheet.count, line, reason, text)?;
     draw_foot(text)?;
     Ok(())
 }
 
 /// A picture of steps, and of what is reported in the end, below its head.
-pub(crate) fn draw_closed<A: Allocator>(
-    passes: &[PassNow],
-    rows: &[Row],
-    owners: &[Option<Owner>],
-    count: u32,
+pub(crate) fn draw_closed<A: Allocator + Copy>(
+    alloc: A,
+    sheet: Sheet<'_>,
     reported: &[IrpLine],
     at_rest: bool,
     text: &mut String<A>,
 ) -> Result<(), AllocError>
-    requires few { length passes.now ≤ 65 }
-    requires count { count ≡ length rows.now }
+    requires few { length sheet.passes.now ≤ 65 }
+    requires irps { length sheet.irps.now ≤ 1024 }
     requires reported { length reported.now ≤ 1024 }
     ensures { OnOk result (GrewBy (string_bytes text.old) (string_bytes text.new)
-        (picture (closed_elements passes.now rows.now owners.now count reported.now at_rest))) }
+        (picture (closed_elements sheet.entry.passes.now sheet.entry.irps.now sheet.entry.rows.now
+        sheet.entry.owners.now sheet.entry.count reported.now at_rest))) }
 {
-    let nth = reported.len() as u32;
-    draw_steps(passes, rows, owners, count, text)?;
-    draw_reported(count, reported, text)?;
-    draw(Element::Below(count, Below::AtRest(nth, at_rest)), text)?;
+    let (count, nth) = (sheet.count, reported.len() as u32);
+    draw_steps(alloc, sheet, text)?;
+    draw_reported(sheet.irps, count, reported, text)?;
+    draw_rest(sheet.passes, count, nth, at_rest, text)?;
     draw_foot(text)?;
     Ok(())
 }

@@ -4,6 +4,7 @@ ghost use Rattle.csq_draw.specs.Spans.{having_text};
 
 use crate::layout::{left, top};
 use crate::owners::{Having, Owner};
+use irp_core::IrpLife;
 use std::fmt;
 
 /// What a pass does with an IRP that it has.
@@ -22,6 +23,7 @@ fn having_text(having: Having) -> &'static str
 pub(crate) struct Span {
     pub(crate) column: u32,
     pub(crate) owner: Owner,
+    pub(crate) name: IrpLife,
     pub(crate) to: u32,
     pub(crate) to_the_end: bool,
 }
@@ -33,12 +35,12 @@ impl fmt::Display for Span {
     ghost output = { λ span. Some (span_text span) };
 
     fn fmt<W: fmt::Write>(&self, f: &mut fmt::Formatter<W>) -> fmt::Result {
-        let (irp, pass, having) = (
-            self.owner.irp,
+        let (name, pass, having) = (
+            self.name,
             self.owner.pass,
             having_text(self.owner.having),
         );
-        let colour = irp.0 % 8;
+        let colour = self.owner.irp.0 % 8;
         let lane = left(self.column) + 236 + 5 * u64::from(self.owner.lane);
         let (from, to) = (top(self.owner.row) + 30, top(self.to));
         let (to, end) = if self.to_the_end {
@@ -50,6 +52,6 @@ impl fmt::Display for Span {
             f,
             "<path class='k{colour} {having}' d='M{lane} {from}V{to}'>"
         )?;
-        write!(f, "<title>{pass} {having} IRP {irp}{end}</title></path>")
+        write!(f, "<title>{pass} {having} IRP {name}{end}</title></path>")
     }
 }

@@ -3,17 +3,18 @@ ghost use Rattle.std.specs.Prelude.{◌≡◌, ◌-◌, ◌*◌, ◌≤◌, leng
 ghost use Rattle.csq_replay.specs.Lines.{GrewBy};
 ghost use Rattle.csq_draw.specs.Captions.{caption_of};
 ghost use Rattle.csq_draw.specs.Passes.{columns, column_of};
-ghost use Rattle.csq_draw.specs.Terminal.{each_text, spaces, in_width, cell_text, words_cells, row_text, pass_cell, rows_text, irp_line_reported, stopped_lines, closed_lines};
+ghost use Rattle.csq_draw.specs.Terminal.{each_text, spaces, in_width, cell_text, words_cells, row_text, pass_cell, rows_text, life_cell, irp_line_reported, rest_line, stopped_lines, closed_lines};
 
 use crate::caption::Caption;
 use crate::cells::Cell;
-use crate::ending::StopText;
+use crate::ending::{IrpEnding, StopText, rest_of};
+use crate::irps::{IrpNow, irp_at};
 use crate::passes::{column_of, columns};
 use crate::rows::Row;
 use crate::words::WordValues;
-use csq_explain::{IrpSentence, PassNow, Reason, RestSentence};
+use csq_explain::{PassNow, Reason};
 use csq_replay::IrpLine;
-use irp_core::PassId;
+use irp_core::{IrpLife, PassId};
 use std::alloc::{AllocError, Allocator};
 
 /// How many letters the number of a line takes, and who has the lock.
@@ -42,20 +43,39 @@ fn push_cell<A: Allocator>(cell: Cell, width: usize, text: &mut String<A>) -> Re
     push_spaces(width.saturating_sub(text.len() - before).max(1), text)
 }
 
-/// Adds the words of an IRP.
+/// Adds the life that the words of an IRP are of, if the step names another one, or ends it.
+fn push_life<A: Allocator>(
+    named: Option<IrpLife>,
+    words: WordValues,
+    text: &mut String<A>,
+) -> Result<(), AllocError>
+    ensures { OnOk result (GrewBy (string_bytes text.old) (string_bytes text.new)
+        (life_cell named words)) }
+{
+    match named {
+        Some(named) if named.life.0 != words.name.life.0 => {
+            write!(text, "  now {}", words.name)?;
+            Ok(())
+        }
+        _ => Ok(()),
+    }
+}
+
+/// Adds the words of an IRP, after a step that names it.
 fn push_words<A: Allocator>(
+    named: Option<IrpLife>,
     words: Option<WordValues>,
     text: &mut String<A>,
 ) -> Result<(), AllocError>
     ensures { OnOk result (GrewBy (string_bytes text.old) (string_bytes text.new)
-        (words_cells words)) }
+        (words_cells named words)) }
 {
     let Some(words) = words else {
         return text.push_str("-      -");
     };
     push_cell(Cell::WordValue(words.flag), 7, text)?;
     write!(text, "{}", Cell::WordValue(words.routine))?;
-    Ok(())
+    push_life(named, words, text)
 }
 
 /// Adds the row of a step: its line, who has the lock, in the column of its pass what it did, and the words.
@@ -78,7 +98,7 @@ fn push_row<A: Allocator>(
         WIDE * columns.saturating_sub(column),
         text,
     )?;
-    push_words(row.words, text)?;
+    push_words(row.step.made.kind.name(), row.words, text)?;
     text.push('\n')
 }
 
@@ -142,15 +162,46 @@ fn push_steps<A: Allocator>(
     push_rows(passes, rows, text)
 }
 
-/// Adds where each IRP is in the end.
-fn push_reported<A: Allocator>(reported: &[IrpLine], text: &mut String<A>) -> Result<(), AllocError>
+/// Adds where an IRP is in the end.
+fn push_ending<A: Allocator>(
+    irps: &[IrpNow],
+    line: IrpLine,
+    text: &mut String<A>,
+) -> Result<(), AllocError>
     ensures { OnOk result (GrewBy (string_bytes text.old) (string_bytes text.new)
-        (each_text irp_line_reported 0 reported.now)) }
+        (irp_line_reported irps.now 0 line)) }
+{
+    let now = irp_at(irps, line.name.irp);
+    writeln!(text, "{}", IrpEnding(line, now))
+}
+
+/// Adds where each IRP is in the end.
+fn push_reported<A: Allocator>(
+    irps: &[IrpNow],
+    reported: &[IrpLine],
+    text: &mut String<A>,
+) -> Result<(), AllocError>
+    ensures { OnOk result (GrewBy (string_bytes text.old) (string_bytes text.new)
+        (each_text (irp_line_reported irps.now) 0 reported.now)) }
 {
     for line in reported {
-        writeln!(text, "{}", IrpSentence(*line))?;
+        push_ending(irps, *line, text)?;
     }
     Ok(())
+}
+
+/// Adds whether all is at rest in the end.
+fn push_rest<A: Allocator>(
+    passes: &[PassNow],
+    at_rest: bool,
+    text: &mut String<A>,
+) -> Result<(), AllocError>
+    requires { length passes.now ≤ 65 }
+    ensures { OnOk result (GrewBy (string_bytes text.old) (string_bytes text.new)
+        (rest_line passes.now at_rest)) }
+{
+    let rest = rest_of(passes, at_rest);
+    writeln!(text, "{rest}")
 }
 
 /// Writes the caption, the steps, and the line that ended the handling.
@@ -177,6 +228,7 @@ pub(crate) fn write_stopped<A: Allocator>(
 pub(crate) fn write_closed<A: Allocator>(
     caption: &Caption<A>,
     passes: &[PassNow],
+    irps: &[IrpNow],
     rows: &[Row],
     reported: &[IrpLine],
     at_rest: bool,
@@ -184,11 +236,11 @@ pub(crate) fn write_closed<A: Allocator>(
 ) -> Result<(), AllocError>
     requires { length passes.now ≤ 65 }
     ensures { OnOk result (GrewBy (string_bytes text.old) (string_bytes text.new)
-        (closed_lines (caption_of caption.now) passes.now rows.now reported.now at_rest)) }
+        (closed_lines (caption_of caption.now) passes.now irps.now rows.now reported.now at_rest)) }
 {
     text.push_str(caption.plain.as_str())?;
     push_steps(passes, rows, text)?;
-    push_reported(reported, text)?;
-    writeln!(text, "{}", RestSentence(at_rest))?;
+    push_reported(irps, reported, text)?;
+    push_rest(passes, at_rest, text)?;
     Ok(())
 }

@@ -6,3 +6,4 @@ pub mod Outcomes
 pub mod Closings
 pub mod OneText
 pub mod ScriptTexts
+pub mod Wrongs

@@ -41,7 +41,7 @@ abbrev pub file_words : Option FileId → List ℕ
 file_words (Some f) = codes "file object " ++ decimal f.0
 file_words None = codes "any file object"
 
--- what a call is of: an IRP, in a life where it names one, or a file object
+-- what a call is of: an IRP, in a life if it names one, or a file object
 unfoldable pub object_name : ScriptCall → List ℕ
 object_name (Insert n f place) = codes "IRP " ++ irp_text n
 object_name (Next k) = file_words (named_file (Next k))
@@ -98,7 +98,7 @@ abbrev pub refused_file : ScriptCall → List ℕ
 refused_file (PutBack n place) = codes "the file object of IRP " ++ irp_text n
 refused_file c = file_words (named_file c)
 
--- why a call that is answered so is refused, where there are so many IRPs and file objects
+-- why a call that is answered so is refused, if there are so many IRPs and file objects
 abbrev pub call_refusal : ℕ → ℕ → ScriptCall → Reply → List ℕ
 call_refusal irps files c (InsertRefused insert.UnknownIrp) = codes "an IRP's number is below " ++ decimal irps
 call_refusal irps files c (InsertRefused insert.UnknownFile) = codes "a file object's number is below " ++ decimal files

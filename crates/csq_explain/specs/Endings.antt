@@ -3,14 +3,14 @@ use Rattle.std.specs.Prelude.{Bool, List, ℕ, ◌++◌, codes, if◌then◌else
 use Rattle.irp_core.specs.declared.standing.IrpPlace.{IrpPlace, TheVariants.{Home, Listed, HeldBy, Completed}}
 use Rattle.irp_core.specs.Texts.{name_text, pass_text}
 use Rattle.csq_replay.specs.declared.schedule.closing.IrpLine.{IrpLine}
-use Rattle.csq_explain.specs.Sentences.{status_name}
+use Rattle.csq_explain.specs.Sentences.{due_status_words}
 
 -- where an IRP is
 abbrev pub place_words : IrpPlace → List ℕ
 place_words Home = codes " wasn't inserted"
 place_words Listed = codes " is in the list"
 place_words (HeldBy p) = codes " is out of the list, and " ++ (pass_text p ++ codes " holds it")
-place_words (Completed status p) = codes " was completed by " ++ (pass_text p ++ (codes " with " ++ status_name status))
+place_words (Completed status p) = codes " was completed by " ++ (pass_text p ++ (codes " with " ++ due_status_words status))
 
 -- whether its Cancel flag is set
 abbrev pub flag_sentence : Bool → List ℕ

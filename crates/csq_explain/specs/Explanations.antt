@@ -23,7 +23,7 @@ abbrev pub rest_line : Bool → Bool → List ℕ
 rest_line true rest = explained_rest rest
 rest_line false rest = rest_text rest ++ codes "\n"
 
--- the claims, each with a sentence where these are asked for
+-- the claims, each with a sentence if these are asked for
 abbrev pub noted_claims : Bool → List Numbered → List ℕ
 noted_claims true = explained_claims
 noted_claims false = claim_lines

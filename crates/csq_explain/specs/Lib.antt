@@ -12,3 +12,4 @@ pub mod ScriptEndings
 pub mod ExplainingCalls
 pub mod ScriptExplanations
 pub mod Laws
+pub mod WrongOrders

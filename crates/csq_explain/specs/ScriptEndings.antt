@@ -31,7 +31,7 @@ kept_words Owed count numbers = if count == 1 then codes "the pass owes IRP " ++
 abbrev pub explained_left : List IrpId → List ℕ
 explained_left irps = left_line irps ++ remark (left_words (length irps) (joined_numbers irps))
 
--- the closing line of what the pass keeps so, and a sentence, where there is any
+-- the closing line of what the pass keeps so, and a sentence, if there is any
 abbrev pub explained_kept : Kept → List IrpId → List ℕ
 explained_kept kept [] = []
 explained_kept kept (i ∷ is) = named_line (kept_name kept) (i ∷ is) ++ remark (kept_words kept (length (i ∷ is)) (joined_numbers (i ∷ is)))

@@ -21,9 +21,13 @@ in_call E m = record { made = m; inside = inside E m.pass; status = status_at E 
 unfoldable pub status_name : NtStatus → List ℕ
 status_name s = if s.0 == 0 then codes "STATUS_SUCCESS" else if s.0 == 3221225760 then codes "STATUS_CANCELLED" else status_text s
 
--- with which status, where it is known
+-- the status of a completion, as a schedule knows it: for what a removal got it has STATUS_SUCCESS, but there whoever removed it names the status
+abbrev pub due_status_words : NtStatus → List ℕ
+due_status_words s = if s.0 == 0 then codes "a status that a schedule doesn't name" else status_name s
+
+-- with which status, if it is known
 abbrev pub with_status : Option NtStatus → List ℕ
-with_status (Some s) = codes " with " ++ status_name s
+with_status (Some s) = codes " with " ++ due_status_words s
 with_status None = []
 
 -- the call of an insert's steps, which a put-back makes too
@@ -39,7 +43,7 @@ finding x (Test i) true = codes " found the Cancel flag of IRP " ++ (name_text i
 finding x (Disarm i) false = if in_insert x then codes " found no cancel routine of IRP " ++ (name_text i ++ (codes " (IoSetCancelRoutine(Irp, NULL) in IoCsqInsertIrpEx): a cancel has it, and the " ++ (insert_word x ++ codes " ends")))
     else codes " found no cancel routine of IRP " ++ (name_text i ++ codes " (IoSetCancelRoutine(Irp, NULL) in IoCsqRemoveNextIrp or IoCsqRemoveIrp): a cancel has it, and the removal goes on without it")
 finding x (Disarm i) true = if in_insert x then codes " took the cancel routine of IRP " ++ (name_text i ++ codes " back (IoSetCancelRoutine(Irp, NULL) in IoCsqInsertIrpEx), and holds it now")
-    else codes " took the cancel routine of IRP " ++ (name_text i ++ codes " (IoSetCancelRoutine(Irp, NULL) in IoCsqRemoveNextIrp or IoCsqRemoveIrp), and holds it now")
+    else codes " took the cancel routine of IRP " ++ (name_text i ++ codes " (IoSetCancelRoutine(Irp, NULL) in IoCsqRemoveNextIrp or IoCsqRemoveIrp), and holds it now: the removal ends")
 finding x (Take i) false = codes " found no cancel routine of IRP " ++ (name_text i ++ codes " (IoSetCancelRoutine(Irp, NULL) in IoCancelIrp): the cancel ends, and returns FALSE")
 finding x (Take i) true = codes " took the cancel routine of IRP " ++ (name_text i ++ codes " (IoSetCancelRoutine(Irp, NULL) in IoCancelIrp), and owes it now")
 finding x _ found = []

@@ -1,5 +1,5 @@
 //! Where an IRP is in the end, and whether all is at rest, in sentences.
-use crate::sentences::StatusName;
+use crate::sentences::DueStatus;
 use csq_replay::IrpLine;
 use irp_core::IrpPlace;
 use std::fmt;
@@ -21,7 +21,7 @@ impl fmt::Display for PlaceWords {
             IrpPlace::Listed => write!(f, " is in the list"),
             IrpPlace::HeldBy(pass) => write!(f, " is out of the list, and {pass} holds it"),
             IrpPlace::Completed(status, pass) => {
-                write!(f, " was completed by {pass} with {}", StatusName(status))
+                write!(f, " was completed by {pass} with {}", DueStatus(status))
             }
         }
     }

@@ -48,7 +48,7 @@ pub struct Closing<A: Allocator> {
 }
 
 /// The status of an IRP after a step of this kind, if that completed it. In line, since each line of a
-/// schedule calls it: so a plain schedule takes 0.84 of the time.
+/// schedule calls it.
 #[inline(always)]
 fn status_after<A: Allocator>(machine: &Machine<A>, kind: Kind) -> Option<NtStatus>
     requires { OfIrp (λ i. number i < (size_of machine.now).irps) kind }

@@ -28,7 +28,7 @@ pub struct Explanation<A: Allocator> {
     pub(crate) explains: bool,
 }
 
-/// Adds a sentence as a line of its own, where sentences are asked for.
+/// Adds a sentence as a line of its own, if sentences are asked for.
 pub(crate) fn add_remark<D: fmt::Display + Copy, A: Allocator>(
     explains: bool,
     sentence: D,

@@ -12,6 +12,7 @@ mod script_endings;
 mod script_explanation;
 mod sentences;
 mod words;
+mod wrong;
 
 pub use call_sentences::{AnsweredCall, CallStopSentence};
 pub use endings::{IrpSentence, RestSentence};
@@ -21,5 +22,6 @@ pub use laws::{a_schedule_has_one_explanation, a_script_has_one_explanation};
 pub use passes::PassNow;
 pub use reasons::Reason;
 pub use script_explanation::{ScriptExplanation, answer_script, explain_script};
-pub use sentences::{InsertWord, Sentence, StatusName, StepInCall};
+pub use sentences::{DueStatus, InsertWord, Sentence, StatusName, StepInCall};
 pub use words::{CALLS, STEPS};
+pub use wrong::WrongOrder;

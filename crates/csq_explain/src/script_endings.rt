@@ -115,7 +115,7 @@ fn explain_left<A: Allocator>(
     writeln!(text, "  {sentence}")
 }
 
-/// The closing line of what the pass keeps so, and a sentence, where there is any.
+/// The closing line of what the pass keeps so, and a sentence, if there is any.
 fn explain_kept<A: Allocator>(
     alloc: A,
     kept: Kept,

@@ -14,7 +14,7 @@ pub struct StepInCall {
     pub status: Option<NtStatus>,
 }
 
-/// A status by its name in the WDK, where a schedule gives it, else as eight hexadecimal digits.
+/// A status by its name in the WDK, if a schedule gives it, else as eight hexadecimal digits.
 #[derive(Clone, Copy)]
 pub struct StatusName(pub NtStatus);
 
@@ -36,7 +36,28 @@ impl fmt::Display for StatusName {
     }
 }
 
-/// With which status an IRP was completed, where it is known.
+/// The status of a completion, as a schedule knows it. For what a removal got it has STATUS_SUCCESS, but there
+/// whoever removed it names the status.
+#[derive(Clone, Copy)]
+pub struct DueStatus(pub NtStatus);
+
+/// As `STATUS_CANCELLED`.
+impl fmt::Display for DueStatus {
+    ghost use Rattle.std.specs.Prelude.{Some};
+    ghost use Rattle.csq_explain.specs.Sentences.{due_status_words};
+
+    ghost output = { λ due. Some (due_status_words due.0) };
+
+    fn fmt<W: fmt::Write>(&self, f: &mut fmt::Formatter<W>) -> fmt::Result {
+        let DueStatus(status) = *self;
+        match status.0 {
+            0 => write!(f, "a status that a schedule doesn't name"),
+            _ => StatusName(status).fmt(f),
+        }
+    }
+}
+
+/// With which status an IRP was completed, if it is known.
 #[derive(Clone, Copy)]
 struct WithStatus(Option<NtStatus>);
 
@@ -49,7 +70,7 @@ impl fmt::Display for WithStatus {
 
     fn fmt<W: fmt::Write>(&self, f: &mut fmt::Formatter<W>) -> fmt::Result {
         match self.0 {
-            Some(status) => write!(f, " with {}", StatusName(status)),
+            Some(status) => write!(f, " with {}", DueStatus(status)),
             None => Ok(()),
         }
     }
@@ -100,7 +121,7 @@ impl fmt::Display for Finding {
             ),
             (Kind::Disarm(irp), Nothing | Removing | Cancelling(_), true) => write!(
                 f,
-                " took the cancel routine of IRP {irp} (IoSetCancelRoutine(Irp, NULL) in IoCsqRemoveNextIrp or IoCsqRemoveIrp), and holds it now"
+                " took the cancel routine of IRP {irp} (IoSetCancelRoutine(Irp, NULL) in IoCsqRemoveNextIrp or IoCsqRemoveIrp), and holds it now: the removal ends"
             ),
             (Kind::Disarm(irp), Nothing | Removing | Cancelling(_), false) => write!(
                 f,

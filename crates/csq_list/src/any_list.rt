@@ -56,8 +56,8 @@ macro_rules! inner {
 }
 
 impl AnyList {
-    /// An empty list of this kind, as `VecList::large` makes it. `BadSize` comes exactly where a number is out
-    /// of its range, then `Memory` where an allocation was refused.
+    /// An empty list of this kind, as `VecList::large` makes it. `BadSize` comes exactly if a number is out
+    /// of its range, then `Memory` if an allocation was refused.
     pub fn new(
         alloc: Global,
         kind: ListKind,

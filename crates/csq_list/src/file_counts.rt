@@ -47,7 +47,7 @@ impl<A: Allocator> FileCounts<A> {
         self.lens[file.0 as usize]
     }
 
-    /// How many may be, where there is such a file.
+    /// How many may be, if there is such a file.
     pub(crate) fn limit(&self, file: FileId) -> Option<u32>
         ensures { result ≡ (if nat_lt file.0 (length self.now.limits.items)
             then Some (slice_index_or self.now.limits.items file.0 0) else None) }

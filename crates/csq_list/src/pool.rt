@@ -38,7 +38,7 @@ fn are_clear(flags: &[bool]) -> bool
 
 impl<A: Allocator> Pool<A> {
     /// Unused IRPs and open file objects, numbered from 0, and a limit; that of each file object is the
-    /// number of IRPs. BadSize where a list may not be made so, and then want of memory.
+    /// number of IRPs. BadSize if a list may not be made so, and then want of memory.
     pub(crate) fn new(alloc: &A, irps: u32, files: u32, limit: u32) -> Result<Pool<A>, SizeRefused>
     where
         A: Clone,
@@ -55,7 +55,7 @@ impl<A: Allocator> Pool<A> {
         Ok(Pool::with_counts(alloc, irps, files, limit, counts)?)
     }
 
-    /// What `new` makes, with a limit for each file object. BadSize also where these aren't such limits.
+    /// What `new` makes, with a limit for each file object. BadSize also if these aren't such limits.
     pub(crate) fn with_file_limits(
         alloc: &A,
         irps: u32,
@@ -135,7 +135,7 @@ impl<A: Allocator> Pool<A> {
         (irp.0 as usize) < self.used.len() && !self.used[irp.0 as usize]
     }
 
-    /// Refuses an insert for the first cause that holds, where the counts are those of the entries.
+    /// Refuses an insert for the first cause that holds, if the counts are those of the entries.
     /// Whether the list is full is for the caller to say.
     pub(crate) fn may_insert(
         &self,
@@ -170,7 +170,7 @@ impl<A: Allocator> Pool<A> {
     }
 
     /// Refuses a put-back of a known IRP for the first cause that holds of an insert of it once it were
-    /// renewed, where the counts are those of the entries. Whether the list is full is for the caller to
+    /// renewed, if the counts are those of the entries. Whether the list is full is for the caller to
     /// say.
     pub(crate) fn may_put_back(&self, full: bool, file: FileId) -> Result<(), InsertStatus>
         ensures cause { (entries : List Entry) → HasFileLens self.now.counts.lens.items entries

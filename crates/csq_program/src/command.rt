@@ -23,13 +23,14 @@ use thiserror::Error;
 #[derive(Clone, Copy, Debug, PartialEq, Eq)]
 pub enum Job<'a> {
     /// To replay a schedule over this many IRPs and passes, and to report its claims and explain each line
-    /// of the answer, or not.
+    /// of the answer, or not; or to go on behind a step that the protocol refuses.
     Schedule {
         source: Source<'a>,
         irps: u32,
         passes: u32,
         claims: bool,
         explain: bool,
+        wrong: bool,
     },
     /// To draw a schedule over this many IRPs and passes, as text or as an SVG picture.
     Draw {
@@ -39,7 +40,7 @@ pub enum Job<'a> {
         text: bool,
     },
     /// To make the calls of a script over this many IRPs and file objects, of which `limit` IRPs may
-    /// be listed at a time, and `file_limit` for each file object: all, where none is given. The list is
+    /// be listed at a time, and `file_limit` for each file object: all, if none is given. The list is
     /// of this kind. Each line of the answer is explained, or not.
     Script {
         source: Source<'a>,
@@ -159,7 +160,7 @@ pub(crate) fn files_option<'a>() -> NumberOption<'a> {
     }
 }
 
-/// A limit of how many IRPs may be listed, which is their number where none is given.
+/// A limit of how many IRPs may be listed, which is their number if none is given.
 fn limit_option<'a>(name: &'a str, help: &'a str) -> NumberOption<'a> {
     NumberOption {
         name,
@@ -195,6 +196,17 @@ pub(crate) fn with_flag<'a>(
         .long(name)
         .help(help)
         .action(ArgAction::SetTrue);
+    command.arg(flag)
+}
+
+/// The command with the flag for wrong orders, of which neither claims nor sentences are reported.
+fn with_wrong<'a>(alloc: Global, command: Command<'a>) -> Result<Command<'a>, AllocError> {
+    let flag = Arg::new(alloc, "wrong")
+        .long("wrong")
+        .help("Goes on behind a refused step, by the two words alone")
+        .action(ArgAction::SetTrue)
+        .conflicts_with("claims")?
+        .conflicts_with("explain")?;
     command.arg(flag)
 }
 
@@ -244,8 +256,9 @@ fn schedule_command<'a>(alloc: Global) -> Result<Command<'a>, AllocError> {
     let command = machine_command(alloc, "schedule")?
         .about(SCHEDULE_ABOUT)
         .after_help(SCHEDULE_HELP);
-    let help = "Tells each claim too: the IRP, the line and the pass";
+    let help = "Reports each claim too: the IRP, the line and the pass";
     let command = with_flag(alloc, command, "claims", help)?;
+    let command = with_wrong(alloc, command)?;
     with_explain(alloc, command)
 }
 
@@ -288,7 +301,7 @@ fn program<'a>(alloc: Global) -> Result<Command<'a>, AllocError> {
     with_subcommand(command, run_command(alloc))
 }
 
-/// The number of an option, or the default where its text is no number from 1 to `most`.
+/// The number of an option, or the default if its text is no number from 1 to `most`.
 pub(crate) fn number_in(options: &ArgMatches<'_>, name: &str, most: u32, default: u32) -> u32
     requires least { 1 ≤ default }
     requires most { default ≤ most }
@@ -313,7 +326,7 @@ fn limit_in(options: &ArgMatches<'_>, name: &str) -> Option<u32>
     }
 }
 
-/// How the list is kept: in chains where the flag for them is set.
+/// How the list is kept: in chains if the flag for them is set.
 pub(crate) fn list_kind(options: &ArgMatches<'_>) -> ListKind
     ensures { IsFlag options.now (codes "chain") (is_chained result) }
 {
@@ -359,6 +372,7 @@ fn schedule_job<'a>(options: &ArgMatches<'a>) -> Job<'a>
         passes,
         claims: options.get_flag("claims"),
         explain: options.get_flag("explain"),
+        wrong: options.get_flag("wrong"),
     }
 }
 

@@ -83,7 +83,7 @@ fn time_since<R: Clock>(rt: &R, start: Option<Instant>) -> Option<Duration>
 /// are cancelled and listed; with `totals` each count by itself too, the calls that the threads made, and
 /// how many milliseconds the run took, or that the clock failed. All memory is of `alloc`.
 ///
-/// Faults: 1 Memory, 2 Spawn where a thread could not be started, 3 NotClosed where the queue was not
+/// Faults: 1 Memory, 2 Spawn if a thread could not be started, 3 NotClosed if the queue was not
 /// closed, after each of which nothing was written; 4 Write. Own rule.
 pub fn answer_run<L, G, R, A, W>(
     rt: &R,
@@ -126,7 +126,7 @@ where
 }
 
 /// Runs so many devices of this plan, one after the other, each over a fresh list of this kind, and writes
-/// of each what `answer_run` writes. The first fault ends it, which is as there, or Memory where there is
+/// of each what `answer_run` writes. The first fault ends it, which is as there, or Memory if there is
 /// too little for a list; unless it is Write, what was written is all of the devices before.
 pub(crate) fn answer_runs<R, W>(
     rt: &R,

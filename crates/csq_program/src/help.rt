@@ -26,7 +26,7 @@ and p1 is the first of them; IRP 0 is the first IRP. The steps, as a driver
 writer knows them:
   p1 arm 0     IoSetCancelRoutine(Irp, routine), in IoCsqInsertIrpEx
   p1 test 0    if (Irp->Cancel), in IoCsqInsertIrpEx
-  p1 disarm 0  IoSetCancelRoutine(Irp, NULL), in IoCsqInsertIrpEx where the test
+  p1 disarm 0  IoSetCancelRoutine(Irp, NULL), in IoCsqInsertIrpEx if the test
                found the flag, in IoCsqRemoveNextIrp and in IoCsqRemoveIrp
   p1 end       IoCsqRemoveNextIrp or IoCsqRemoveIrp returns NULL. Whether an IRP
                was left isn't checked: a schedule knows no file objects
@@ -37,7 +37,7 @@ writer knows them:
   p1 renew 0   IoReuseIrp. The IRP is now in its life 1, and is named 0@1
   p1 rearm 0   IoSetCancelRoutine(Irp, routine), in IoCsqInsertIrpEx once more,
                of an IRP that a removal got and the pass holds: it is put back
-An insert is arm, test and, where the test found the flag, disarm; a put-back is
+An insert is arm, test and, if the test found the flag, disarm; a put-back is
 the same with rearm. A removal is disarms until one finds the routine, or an
 end; an IRP_MJ_CLEANUP is removals. A cancel is flag and take. The arm or rearm
 lists the IRP, and a disarm that finds the routine takes it out. An insert, a
@@ -76,15 +76,22 @@ these that holds. Standard error says more.
   NotCompleted  a renew of an IRP that isn't completed
   LivesSpent    a renew of an IRP in its last life, 1073741823
 
+With --wrong a refused step is made all the same, and the schedule goes on by
+the two words of each IRP alone, as code does that breaks the protocol there:
+each step finds what the word holds. The first refused step has its refusal
+behind it. The end says whether the protocol was kept, and what goes wrong: a
+second completion of an IRP, a cancel that nobody asked for, an IRP that waits
+for good.
+
 Words are separated by one space, and the case of letters counts. A number has
 at most nine digits, and no zero before them. Empty lines, and lines that begin
 with #, are skipped. A line of more than 64 bytes, a comment too, is too long,
-and any other that is no step is malformed, also where it ends in a carriage
+and any other that is no step is malformed, also if it ends in a carriage
 return: each ends the schedule. All of the input is read before it is answered:
 at a terminal it ends with Ctrl-D. One of more than 1048576 bytes is too long,
 and no line of it is handled.
 
-Exit status: 0 where all lines were handled; 2 where one ended the schedule, the
+Exit status: 0 if all lines were handled; 2 if one ended the schedule, the
 input is too long or the command line is refused; 1 for a fault of memory,
 reading or writing.
 
@@ -96,36 +103,41 @@ pub(crate) const DRAW_ABOUT: &str = "Draws a schedule as one SVG picture, on sta
 pub(crate) const DRAW_HELP: &str = "\
 A schedule is read as by csqsim schedule, whose help teaches its lines. The
 picture has a column for each pass that makes a step, and time runs downwards. A
-step is a mark on a row of its own, with the number of its line at the left:
-what the pass did, to which IRP, and the value that it found; the routine of the
-WDK that it calls; and the call that it is of, with what that answers where the
-step ends it. Each IRP has one of eight colours, and its number stands in its
-marks.
+step is a box on a row of its own, with the number of its line at the left: what
+the pass did, to which IRP, and what it found; the routine of the WDK that it
+calls; the call that it is of, with what that returns if it ends here; and
+whether the pass owes or holds the IRP from then on. Each IRP has one of eight
+colours, and its number is in its boxes. What a removal got may be completed
+with any status: a schedule names none.
   bold         the step claims its IRP: an exchange that found the routine
-  shaded       the pass has the lock; where it lets it go, the shade ends sooner
+  shaded       the pass has the lock; if it lets it go, the shade ends sooner
   dashed line  the pass owes the IRP, from its claim until it takes the IRP out
   solid line   the pass holds the IRP, until it completes it or puts it back
-  circles      the Cancel flag and the cancel routine of the IRP after the step:
-               filled where set, bold where the step changed it or its life
-The comment before the first step stands above, its first line as the title; an
+  arrow        from the step of another pass that set a word to the step that
+               found it set
+  circles      the Cancel flag and the cancel routine of each IRP after its
+               step: filled if set, bold if the step changed it or its life; a
+               wide line below is a word that stays set
+The comment before the first step is above, its first line as the title; an
 empty line ends it. It has at most eight lines, and a question mark for a byte
 that isn't printable ASCII.
-A browser tells each mark and each line in words where the pointer rests on it,
-if the picture is opened by itself.
-A line that ends the schedule stands last, marked as refused, with its refusal
-and a sentence why; standard error says it too. Otherwise it is told below where
-each IRP is in the end, and whether all is at rest.
+A browser describes each box and each line in words if the pointer rests on it
+and the picture is opened by itself.
+A line that ends the schedule is last, marked as refused, with its refusal and a
+sentence why; standard error has it too. Otherwise sentences below say where
+each IRP is in the end, who completed it in which line, or who owes or holds it
+since which line, and whether all is at rest.
 
 With --text it is drawn for a terminal, in ASCII letters alone: a line for each
 step, with the pass that has the lock, in the column of its pass what it did,
-with a star before it where it claims its IRP, and the two words of the IRP
-after it. Each pass takes 27 letters, the rest 26. The comment before the first
-step stands above. Who owes or holds which IRP is left out.
+with a star before it if it claims its IRP, and the two words of the IRP after
+it. Each pass takes 27 letters, the rest 26. The comment before the first step
+is above, and the sentences of the end are below.
 
 An input of more than 1048576 bytes is answered input too long, and nothing is
 drawn.
 
-Exit status: 0 where all lines were drawn; 2 where one ended the schedule, the
+Exit status: 0 if all lines were drawn; 2 if one ended the schedule, the
 input is too long or the command line is refused; 1 for a fault of memory,
 reading or writing.
 
@@ -139,21 +151,21 @@ One pass makes the calls, on a model of the queue that makes one atomic step at
 a time. (csqsim run and the libraries use the queue itself.) The pass keeps the
 IRPs that it takes out, and the claims of its cancels.
   insert 0 1 back      IoCsqInsertIrpEx of IRP 0 for file object 1, at the back:
-                       pending, as its CsqInsertIrpEx answers STATUS_PENDING; or
-                       cancelled, where its Cancel flag was set and it was
+                       pending, as its CsqInsertIrpEx returns STATUS_PENDING; or
+                       cancelled, if its Cancel flag was set and it was
                        completed at once
   insert 0 1 front     the same at the front
   next *               IoCsqRemoveNextIrp of any file object: irp 0, or none
-  next 1               the same of file object 1: irp 0, or none, also where
+  next 1               the same of file object 1: irp 0, or none, also if
                        there is no such file object
   remove 0             IoCsqRemoveIrp with the context of IRP 0: irp 0; or none,
-                       where it isn't listed or a mark claimed it
+                       if it isn't listed or a mark claimed it
   mark 0               IoCancelIrp without the routine. It sets the Cancel flag
                        and takes the cancel routine: claimed, or unclaimed
-                       where that was gone
+                       if that was gone
   routine 0            the cancel routine of IRP 0, which a mark claimed, and
                        its completion: completed C0000120
-  cancel 0             IoCancelIrp: true, where it completed IRP 0, or false
+  cancel 0             IoCancelIrp: true, if it completed IRP 0, or false
   complete 0 00000000  IoCompleteRequest of IRP 0, which was removed, with this
                        status: completed 00000000
   close 1              refuses inserts for file object 1 from now on: closed. It
@@ -195,12 +207,12 @@ Words are separated by one space, and the case of letters counts, but for a
 status's eight hexadecimal digits. Another number has at most nine digits, and
 no zero before them. Empty lines, and lines that begin with #, are skipped. A
 line of more than 64 bytes, a comment too, is too long, and any other that is no
-call is malformed, also where it ends in a carriage return: each ends the
+call is malformed, also if it ends in a carriage return: each ends the
 script, and standard error says more. All of the input is read before it is
 answered: at a terminal it ends with Ctrl-D. One of more than 1048576 bytes is
 too long, and no line of it is handled.
 
-Exit status: 0 where all lines were handled; 2 where one ended the script, the
+Exit status: 0 if all lines were handled; 2 if one ended the script, the
 input is too long, or the command line or a limit above the IRPs is refused; 1
 for a fault of memory, reading or writing.
 
@@ -218,7 +230,7 @@ worker, of which there are none unless --busy-workers says so, removes the next
 IRP too, and puts it back at the front (IoCsqInsertIrpEx once more), or
 completes it as cancelled if it was cancelled or its file was cleaned up
 meanwhile. Each but the cleanup has as many turns as --turns says; a submitter
-or canceller ends earlier where no IRP is left for it. Threads begin one after
+or canceller ends earlier if no IRP is left for it. Threads begin one after
 the other, and many of them race more than many turns do. Once all threads have
 ended the queue is closed, and three lines are written:
   irps N                  how many IRPs the device has
@@ -236,7 +248,7 @@ With --totals further lines follow:
   succeeded N             those of them with STATUS_SUCCESS
   cancelled N             those of them with STATUS_CANCELLED
   completed by submitters N
-                          IRPs that were cancelled before they were queued
+                          IRPs that their insert found cancelled
   completed by workers N  IRPs that were removed
   completed by cancellers N
                           IRPs whose cancel routine a cancel called
@@ -257,7 +269,7 @@ With --totals further lines follow:
   put-backs N             calls of IoCsqInsertIrpEx by busy workers, at most
                           --busy-workers times --turns
   milliseconds N          how long the run took, with three digits after the
-                          point; or unknown, where the clock failed
+                          point; or unknown, if the clock failed
 The counts of completions sum to completed; inserts are --submitters times
 --turns, and cancels --cancellers times --turns, but no more than there are
 IRPs: that is proved too. Each removal that finds an IRP is a completion by a
@@ -266,7 +278,7 @@ worker, and each cancel that takes the routine is one by a canceller.
 With --repeat so many devices run, one after the other, each with a fresh queue,
 and the lines of each are written, from irps on. The first fault ends it.
 
-Exit status: 0 where the lines were written; 2 where the command line is
+Exit status: 0 if the lines were written; 2 if the command line is
 refused; 1 for a fault of memory, of starting a thread or of writing.
 
 Examples:

@@ -42,7 +42,7 @@ impl From<AllocError> for ProgramFault {
     }
 }
 
-/// The exit status where all went well.
+/// The exit status if all went well.
 const DONE: u8 = 0;
 
 /// The exit status of a fault.
@@ -60,7 +60,7 @@ fn read_words<R: AllocGlobal + Env>(rt: &R) -> Result<Vec<String>, CommandFault>
     }
 }
 
-/// Does what the command line asks for, and answers the exit status.
+/// Does what the command line asks for, and returns the exit status.
 fn run_command_line<R>(rt: &R) -> Result<u8, ProgramFault>
 where
     R: AllocGlobal + Print + Eprint + Input + Clock + Env + Files + Threads + Wait + Sync,
@@ -118,7 +118,8 @@ where
             passes,
             claims,
             explain,
-        } => run_schedule(rt, source, irps, passes, claims, explain),
+            wrong,
+        } => run_schedule(rt, source, irps, passes, claims, explain, wrong),
         Job::Draw {
             source,
             irps,
@@ -160,9 +161,9 @@ pub fn status_of(ended: &Result<u8, ProgramFault>) -> u8
     }
 }
 
-/// Does what the command line of this process asks for, and answers the exit status: 0 where all went
+/// Does what the command line of this process asks for, and returns the exit status: 0 if all went
 /// well, 2 where a line ended the handling or the command line or the size of the list was refused, and 1
-/// with a line on standard error where there was a fault. Own rule.
+/// with a line on standard error if there was a fault. Own rule.
 pub fn run_program<R>(rt: &R) -> ExitCode
 where
     R: AllocGlobal + Print + Eprint + Input + Clock + Env + Files + Threads + Wait + Sync,

@@ -13,7 +13,7 @@ ghost use Rattle.csq_program.specs.Replays.{limits_or_all};
 
 use crate::program::{ProgramFault, REFUSED};
 use crate::source::Source;
-use csq_diagnose::{Report, report_input, report_schedule, report_script};
+use csq_diagnose::{Report, report_input, report_schedule, report_script, report_wrong_order};
 use csq_draw::{Drawing, Format};
 use csq_list::{AnyList, ListKind, PendingList};
 use csq_replay::{Ended, SimFault, exit_status};
@@ -22,7 +22,7 @@ use std::alloc::{AllocError, Allocator, Global};
 use std::fmt;
 use std::rt::Files;
 
-/// Replays a schedule, plainly or with a sentence after each line of its answer.
+/// Replays a schedule, plainly or with a sentence after each line of its answer, or as one that may break the protocol.
 pub(crate) fn run_schedule<R: AllocGlobal + Print + Eprint + Input + Files>(
     rt: &R,
     source: Source<'_>,
@@ -30,11 +30,16 @@ pub(crate) fn run_schedule<R: AllocGlobal + Print + Eprint + Input + Files>(
     passes: u32,
     claims: bool,
     explain: bool,
+    wrong: bool,
 ) -> Result<u8, ProgramFault>
     requires { IsInLimits (record { irps = irps; passes = passes; first = 0 }) }
 {
     let input = source.read(rt)?;
-    let report = report_schedule(rt.alloc(), irps, passes, claims, explain, &input)?;
+    let report = if wrong {
+        report_wrong_order(rt.alloc(), irps, passes, &input)?
+    } else {
+        report_schedule(rt.alloc(), irps, passes, claims, explain, &input)?
+    };
     finish(rt, source, &report)
 }
 
@@ -71,8 +76,16 @@ pub(crate) fn run_drawing<R: AllocGlobal + Print + Eprint + Input + Files>(
     finish(rt, source, &report)
 }
 
+/// What stands between the name of a file and a diagnosis: nothing before a line and a column, else a space.
+fn before_diagnosis(diagnosis: &str) -> &'static str {
+    match diagnosis.as_bytes().first() {
+        Some(first) if first.is_ascii_digit() => "",
+        _ => " ",
+    }
+}
+
 /// Writes an answer, and on standard error why a line ended the handling, and gives the exit status. Both were
-/// kept in memory, so that nothing is written where memory is refused. Where standard error can't be written, the
+/// kept in memory, so that nothing is written if memory is refused. If standard error can't be written, the
 /// status is the same.
 fn finish<R: Print + Eprint>(
     rt: &R,
@@ -88,7 +101,8 @@ fn finish<R: Print + Eprint>(
     }
     if let Ended::Stopped = report.ended {
         let diagnosis = report.diagnosis.as_str();
-        let _ = eprint!(rt; "csqsim: {source}{diagnosis}");
+        let between = before_diagnosis(diagnosis);
+        let _ = eprint!(rt; "{source}{between}{diagnosis}");
     }
     Ok(exit_status(report.ended))
 }
@@ -107,7 +121,7 @@ pub(crate) struct ScriptLimits {
 }
 
 impl ScriptLimits {
-    /// The sizes with these limits, each of which is the number of IRPs where none is given.
+    /// The sizes with these limits, each of which is the number of IRPs if none is given.
     pub(crate) fn new(
         irps: u32,
         files: u32,

@@ -18,12 +18,13 @@ pub enum Source<'a> {
     File(&'a str),
 }
 
-/// The name of a file and a colon, before what is said of its lines; nothing for standard input.
+/// The name of a file and a colon, before the line and the column of which something is said, as compilers and
+/// editors have it: `race.txt:`, and `<stdin>:` for standard input.
 impl fmt::Display for Source<'_> {
     fn fmt<W: fmt::Write>(&self, f: &mut fmt::Formatter<W>) -> fmt::Result {
         match self {
-            Source::Standard => Ok(()),
-            Source::File(name) => write!(f, "{name}: "),
+            Source::Standard => write!(f, "<stdin>:"),
+            Source::File(name) => write!(f, "{name}:"),
         }
     }
 }
@@ -49,7 +50,7 @@ impl From<AllocError> for SourceFault {
 }
 
 impl<'a> Source<'a> {
-    /// Why this source could not be read, where an operation on it failed so.
+    /// Why this source could not be read, if an operation on it failed so.
     fn fault(self, alloc: Global, cause: io::Error) -> SourceFault {
         if cause.kind() == ErrorKind::OutOfMemory {
             return SourceFault::Memory;
@@ -63,7 +64,7 @@ impl<'a> Source<'a> {
         }
     }
 
-    /// Reads all bytes, or the first 1,048,577 where there are more: one more than is handled.
+    /// Reads all bytes, or the first 1,048,577 if there are more: one more than is handled.
     pub(crate) fn read<R: AllocGlobal + Input + Files>(
         self,
         rt: &R,
@@ -84,7 +85,7 @@ fn read_file<R: AllocGlobal + Files>(rt: &R, name: &str) -> io::Result<Vec<u8>> 
     read_bytes(rt.alloc(), fs::open(rt, name)?)
 }
 
-/// All bytes of a reader, or the first 1,048,577 where there are more.
+/// All bytes of a reader, or the first 1,048,577 if there are more.
 fn read_bytes<R: Read + Drop>(alloc: Global, reader: R) -> io::Result<Vec<u8>>
     ensures { IfOk result
         (λ bytes. IfSome (R.remaining reader) (λ given. bytes.items ≡ take read_limit given)) }

@@ -91,7 +91,7 @@ pub record Reuses (irp : IrpId) (answer : Result Life ReuseRefused) (limits : Li
   pub steps : MakesSteps (reuse_steps irp answer) p p'
   pub refused : irp.0 < limits.irps → IfErr answer (IsReuseRefusal (present_in (end_of limits.first p'.seen) irp) p p')
 
--- a cancel up to its exchange, without the lock: the flag is set in the life named, and where the routine was there, the pass owes the IRP
+-- a cancel up to its exchange, without the lock: the flag is set in the life named, and if the routine was there, the pass owes the IRP
 pub record MarksCancel (irp : IrpId) (life : Life) (answer : Result (Option IrpLife) CancelRefused) (size : Size) (p p' : PassRecord) : Type 0 where
   pub known : IsOk answer → irp.0 < size.irps
   pub step : IfOk answer (λ claim. (flag : ℕ) × (p' ≡ saw p'.trace (with_step (Take (named irp life)) (count_given claim) (with_step (Flag (named irp life)) flag p)))

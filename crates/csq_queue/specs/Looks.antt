@@ -22,7 +22,7 @@ present_listing q = plain_listing q.limits (present_queue q)
 abbrev pub listed_count : OpenState → ℕ
 listed_count q = length (present_listing q).entries
 
--- how many are listed for a file object, where there is one
+-- how many are listed for a file object, if there is one
 abbrev pub listed_for : OpenState → FileId → Option ℕ
 listed_for q f = if nat_lt f.0 q.limits.files then Some (file_len (present_listing q) f) else None
 
@@ -30,7 +30,7 @@ listed_for q f = if nat_lt f.0 q.limits.files then Some (file_len (present_listi
 abbrev pub next_listed : OpenState → Option IrpId → Peek → Option IrpLife
 next_listed q after peek = option_map (present_in (present_queue q)) (first_match peek (rest_after after (present_listing q).entries))
 
--- a look after this IRP: refused exactly where it isn't listed
+-- a look after this IRP: refused exactly if it isn't listed
 pub record PeeksNext (after : Option IrpId) (peek : Peek) (answer : Result (Option IrpLife) NotListed) (q : OpenState) : Type 0 where
   pub listed : IsOk answer ↔ IsStartIn (present_listing q).entries after
   pub found : IfOk answer (λ next. next ≡ next_listed q after peek)

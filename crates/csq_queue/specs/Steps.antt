@@ -45,7 +45,7 @@ abbrev pub gave : Option IrpLife → IrpLife → Bool
 gave None j = false
 gave (Some i) j = same_irp i j
 
--- the matches in front of the one that was given out, the last first; all matches, where none was
+-- the matches in front of the one that was given out, the last first; all matches, if none was
 abbrev pub passed_over : Peek → Option IrpLife → List Queued → List IrpLife
 passed_over k given [] = []
 passed_over k given (e ∷ es) = if matches k e.file then (if gave given e.irp then [] else passed_over k given es ++ e.irp ∷ []) else passed_over k given es
@@ -63,7 +63,7 @@ last_step None = (End, 0)
 abbrev pub remove_next_steps : Peek → Option IrpLife → QueueState → List Act
 remove_next_steps k given u = last_step given ∷ misses (passed_over k given u.entries)
 
--- a removal of i that found this queue and gave this out: it tries i where that is listed
+-- a removal of i that found this queue and gave this out: it tries i if that is listed
 abbrev pub remove_steps : IrpLife → Option IrpLife → QueueState → List Act
 remove_steps i (Some j) u = last_step (Some j) ∷ []
 remove_steps i None u = last_step None ∷ misses (if has_entry u.entries i then i ∷ [] else [])

@@ -4,7 +4,7 @@ ghost use Rattle.csq_queue.specs.Stories.{EachIrpSeenIsGivenOnce, EachIrpLeftHas
 ghost use Rattle.csq_queue.specs.Linear.{HistoriesLeftAreLinearizable, HistoriesOfOpenQueuesAreLinearizable};
 ghost use Rattle.csq_queue.specs.Order.{CallsAreOrdered, CallsComeAfterWhatWasSeen, StepsComeAfterWhatWasSeen, CallsToldOfCameFirst, EventsLeftStandInOrder, EventsOfAnOpenQueueStandInOrder};
 
-/// Where the history and the run that a pass has seen agree, as after each of its calls under the lock: an IRP,
+/// If the history and the run that a pass has seen agree, as after each of its calls under the lock: an IRP,
 /// in each of its lives, was inserted by at most one pass and given to at most one, since it was last put
 /// back. By that run this one made the one exchange that took its routine since then, and none but this one
 /// completed it.
@@ -12,7 +12,7 @@ pub fn each_irp_seen_is_given_once()
     ensures { EachIrpSeenIsGivenOnce }
 {}
 
-/// Where `Csq::close` or `Csq::close_with` answers `Ok`, the history of all calls and the execution of all
+/// If `Csq::close` or `Csq::close_with` returns `Ok`, the history of all calls and the execution of all
 /// passes, which are left, give one story of each IRP in each life that has begun. It was never inserted. Or
 /// one pass inserted it, and it is listed. Or one pass inserted it, and one pass was given it, by a removal, by
 /// a cancel or by its own insert: that pass made the one exchange that took its routine and the one completion,
@@ -22,7 +22,7 @@ pub fn each_irp_left_has_a_story()
     ensures { EachIrpLeftHasAStory }
 {}
 
-/// The same where `OpenQueue::close` answers, of the history that the queue had.
+/// The same if `OpenQueue::close` returns, of the history that the queue had.
 pub fn each_irp_of_an_open_queue_has_a_story()
     ensures { EachIrpOfAnOpenQueueHasAStory }
 {}
@@ -39,7 +39,7 @@ pub fn each_stay_in_an_open_queue_has_a_story()
     ensures { EachStayInAnOpenQueueHasAStory }
 {}
 
-/// Where `Csq::close` or `Csq::close_with` answers `Ok`, the closing pass and those of the receipts have seen
+/// If `Csq::close` or `Csq::close_with` returns `Ok`, the closing pass and those of the receipts have seen
 /// one history and one execution: these begin with what each has seen, and have of each pass the calls and the
 /// steps that it made, in the order in which it made them. So of what two of them have seen, one begins with the
 /// other.
@@ -47,7 +47,7 @@ pub fn closing_passes_see_one_history()
     ensures { ClosingPassesSeeOneHistory }
 {}
 
-/// The same where `OpenQueue::close` answers, of all passes that came back, and the history that the queue had.
+/// The same if `OpenQueue::close` returns, of all passes that came back, and the history that the queue had.
 pub fn passes_of_an_open_queue_see_one_history()
     ensures { PassesOfAnOpenQueueSeeOneHistory }
 {}

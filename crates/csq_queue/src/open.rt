@@ -10,6 +10,6 @@ pub use pass::OpenPass;
 pub use queue::OpenQueue;
 pub use rack::OpenRack;
 
-/// What an accepted insert answers where no token is handed out: the IRP in its life, which is pending, or
+/// What an accepted insert returns if no token is handed out: the IRP in its life, which is pending, or
 /// which the pass holds. Own rule.
 pub type OpenInserted = InsertAnswer<IrpLife, IrpLife>;

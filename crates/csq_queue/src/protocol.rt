@@ -52,7 +52,7 @@ pub(crate) fn leave<A: Allocator>(seat: &mut QueueSeat, words: &Words<A>, pass: 
     seat.leave(words, pass);
 }
 
-/// Lists an IRP, arms it and tests its Cancel flag. Where that is set and the routine is still there,
+/// Lists an IRP, arms it and tests its Cancel flag. If that is set and the routine is still there,
 /// the IRP leaves again.
 pub(crate) fn list_irp<L: PendingList, A: Allocator>(
     list: &mut L,
@@ -100,7 +100,7 @@ pub(crate) fn list_irp<L: PendingList, A: Allocator>(
         return Ok(InsertAnswer::Pending(present));
     }
     // The flag is set: a canceller may want the IRP too. This exchange decides, and is the
-    // linearization point either way. Where it finds no routine, the canceller has the IRP, and takes
+    // linearization point either way. If it finds no routine, the canceller has the IRP, and takes
     // it out under the lock.
     if !is_set(seat.disarm(words, call, present)) {
         return Ok(InsertAnswer::Pending(present));
@@ -273,7 +273,7 @@ pub(crate) fn take_owed<L: PendingList, A: Allocator>(
     list.remove(irp.irp);
 }
 
-/// Begins the next life of an IRP, where its present one was completed and isn't the last.
+/// Begins the next life of an IRP, if its present one was completed and isn't the last.
 pub(crate) fn renew_irp<L: PendingList, A: Allocator>(
     list: &mut L,
     seat: &mut QueueSeat,
@@ -305,7 +305,7 @@ pub(crate) fn renew_irp<L: PendingList, A: Allocator>(
     }
     let present = IrpLife { irp, life };
     // The flag comes last, and is the linearization point. Until then a late cancel flags the life that
-    // ends, where no routine is left to take; from then on it finds another life.
+    // ends, if no routine is left to take; from then on it finds another life.
     seat.renew_status(words, call, present);
     seat.renew_routine(words, call, present);
     seat.renew_cancel(words, call, present);

@@ -28,7 +28,7 @@ abbrev pub place_word : Place → List ℕ
 place_word Back = codes "back"
 place_word Front = codes "front"
 
--- the IRP and life that a call names, where it names a life
+-- the IRP and life that a call names, if it names a life
 abbrev pub named_life : ScriptCall → Option IrpLife
 named_life (Remove i) = Some i
 named_life (Mark i) = Some i

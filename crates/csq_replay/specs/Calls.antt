@@ -71,7 +71,7 @@ doing ks e s = record s { run = after_steps ks s.run; queue = after_event s.queu
 abbrev pub completing : IrpLife → NtStatus → Script → Script
 completing i status s = record s { run = next_step s.run (step.Done i); completed = record { irp = i; status = status } ∷ s.completed }
 
--- a removal of the next match disarms each match until one isn't marked. Where none is left, it ends
+-- a removal of the next match disarms each match until one isn't marked. If none is left, it ends
 abbrev pub removal_steps : Peek → List Queued → List Kind
 removal_steps k [] = step.End ∷ []
 removal_steps k (e ∷ es) = if matches k e.file then step.Disarm e.irp ∷ (if e.marked then removal_steps k es else []) else removal_steps k es

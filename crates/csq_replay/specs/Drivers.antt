@@ -17,7 +17,7 @@ use Rattle.csq_replay.specs.declared.script.call.{ScriptCall.{ScriptCall}, Reply
 use Rattle.csq_replay.specs.declared.script.driver.Driver.{Driver}
 use Rattle.csq_replay.specs.Calls.{Script, script_pass, script_size, present_of, Calls, Does}
 
--- each entry is marked where its routine is gone
+-- each entry is marked if its routine is gone
 abbrev pub AreMarked : List Made → List Queued → Type 0
 AreMarked E [] = Unit {0}
 AreMarked E (e ∷ es) = (e.marked ≡ not (armed E e.irp)) × AreMarked E es
@@ -84,7 +84,7 @@ IsHolding kept n = (l : Limits) × (s : Script) × Keeps l kept s × (n.0 < l.ir
 abbrev pub Called : Keeping → ScriptCall → Reply → Keeping → Type 0
 Called old c r new = (l : Limits) (s : Script) → Keeps l old s → (t : Script) × Calls l s c r t × Keeps l new t
 
--- the same, where the call may be made of others
+-- the same, if the call may be made of others
 abbrev pub Did : Keeping → ScriptCall → Reply → Keeping → Type 0
 Did old c r new = (l : Limits) (s : Script) → Keeps l old s → (t : Script) × Does l s c r t × Keeps l new t
 

@@ -31,7 +31,7 @@ Leaves stands fits (Some why) None = fits why
 Leaves stands fits _ _ = ⊥
 
 -- after s these lines, from the nth on, are answered this text: each line as `answers` says, up to the first that leads nowhere, and
--- where there is none the closing lines
+-- if there is none the closing lines
 pub data AnswersAll {S : Type 0} (answers : S → ℕ → List ℕ → List ℕ → Option S → Type 0) (closes : S → List ℕ → Type 0) : S → ℕ → List (List ℕ) → List ℕ → Ended → Type 0 where
   all_handled : (s : S) (n : ℕ) (text : List ℕ) → closes s text → AnswersAll answers closes s n [] text AllHandled
   goes_on : (s t : S) (n : ℕ) (line : List ℕ) (lines : List (List ℕ)) (text rest : List ℕ) (ended : Ended)

@@ -5,7 +5,7 @@ use Rattle.irp_core.specs.Texts.{irp_text, life_text, status_text}
 use Rattle.csq_list.specs.Causes.{cause_name, nt_of}
 use Rattle.csq_replay.specs.declared.script.call.{CallRefused.{CallRefused, TheVariants.{UnknownIrp, UnknownFile, NoClaim, NotHeld, StatusPending, Stale, NotCompleted, LivesSpent}}, Reply.{Reply, TheVariants.{Pending, Cancelled, InsertRefused, Removed, NoIrp, Claimed, Unclaimed, Completed, CancelAnswered, Closed, Cleaned, Flag, Unset, Status, Begun, Refused}}}
 
--- the name of a refusal, with the present life where another one was named
+-- the name of a refusal, with the present life if another one was named
 abbrev pub refusal_name : CallRefused → List ℕ
 refusal_name UnknownIrp = codes "UnknownIrp"
 refusal_name UnknownFile = codes "UnknownFile"
@@ -16,7 +16,7 @@ refusal_name (Stale g) = codes "Stale " ++ life_text g
 refusal_name NotCompleted = codes "NotCompleted"
 refusal_name LivesSpent = codes "LivesSpent"
 
--- a space and the status, where a driver answers one
+-- a space and the status, if a driver answers one
 abbrev pub nt_text : Option NtStatus → List ℕ
 nt_text None = codes ""
 nt_text (Some status) = codes " " ++ status_text status

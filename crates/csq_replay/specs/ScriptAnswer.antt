@@ -43,7 +43,7 @@ abbrev pub left_line : List IrpId → List ℕ
 left_line [] = codes "left none\n"
 left_line (i ∷ is) = codes "left" ++ (numbers (i ∷ is) ++ codes "\n")
 
--- a line of this name, where there are any
+-- a line of this name, if there are any
 abbrev pub named_line : List ℕ → List IrpId → List ℕ
 named_line name [] = []
 named_line name (i ∷ is) = name ++ (numbers (i ∷ is) ++ codes "\n")

@@ -64,7 +64,7 @@ pub record StillListed (q : QueueRecord) (i : IrpLife) : Type 0 where
   pub claimed : claims (steps_in q.trace) i ≡ []
   pub completed : dones (steps_in q.trace) i ≡ []
 
--- i was inserted by one pass, or put back last by it, and since then given to one, which made its one claim since then and its one completion, with the status that it recorded: STATUS_CANCELLED where the history says that i was cancelled. In the present life this is the final status
+-- i was inserted by one pass, or put back last by it, and since then given to one, which made its one claim since then and its one completion, with the status that it recorded: STATUS_CANCELLED if the history says that i was cancelled. In the present life this is the final status
 pub record HasEnded (finals : FinalWords) (q : QueueRecord) (i : IrpLife) : Type 0 where
   pub unlisted : has_entry (queue_of q).entries i ≡ false
   pub inserter : PassId

@@ -17,7 +17,7 @@ pub fn each_stay_has_a_story()
     ensures { EachStayHasAStory }
 {}
 
-/// Where every pass is back, each IRP has one story in each life that has begun: it was never
+/// If every pass is back, each IRP has one story in each life that has begun: it was never
 /// inserted; or one pass inserted it, and it is listed; or one pass inserted it, and it was given
 /// to one pass, which made its one claim by the run and its one completion, with the status that it
 /// recorded. If it was put back, this is the story since then, and whoever put it back last stands

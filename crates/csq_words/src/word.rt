@@ -9,7 +9,7 @@
 //! | `Routine` | `3 * irp + 1` | bits 1 to 63  | bit 0: the cancel routine is set    |
 //! | `Status`  | `3 * irp + 2` | bits 33 to 63 | bit 32: it is set; bits 0 to 31: it |
 //!
-//! A life is below 2^30, so that each word has room for every life. Where a status isn't set, bits
+//! A life is below 2^30, so that each word has room for every life. If a status isn't set, bits
 //! 0 to 31 are 0. The words of one IRP stand for one life, but while a reuse renews them.
 ghost use Rattle.std.specs.Prelude.{◌≡◌, ◌+◌, ◌≤◌, ◌<◌, true, false, IfOk};
 ghost use Rattle.irp_core.specs.Lives.{last_life};

@@ -261,7 +261,7 @@ fn end<N: QueueName>(rt: &impl Wait, device: DeviceExtension<N>) -> Option<(u32,
     close(queue, last, rack)
 }
 
-/// Runs the driver, and answers what is left of its queue. Its device is ended in any case.
+/// Runs the driver, and returns what is left of its queue. Its device is ended in any case.
 fn drive<N: QueueName + Send + Sync, R: Threads + Wait + AllocGlobal + Sync>(
     rt: &R,
     blank: Blank<VecList>,

@@ -14,7 +14,7 @@ pub struct Ration {
 }
 
 impl Ration {
-    /// Counts a call, and answers whether it is refused.
+    /// Counts a call, and returns whether it is refused.
     fn refuses(&self) -> bool {
         let call = self.calls.fetch_add(1, Ordering::SeqCst);
         call == self.refused || self.is_used_up.load(Ordering::SeqCst)
@@ -26,7 +26,7 @@ impl Ration {
     }
 }
 
-/// Passes each call on to another allocator, but for one call for memory, which it refuses. Threads may
+/// Passes each call on to another allocator, except one call for memory, which it refuses. Threads may
 /// share it. What is freed goes back to the other one. Own rule.
 #[derive(Drop)]
 pub struct RefusingHeap<B: Allocator> {

@@ -21,6 +21,6 @@ life_seen first r n = (end_of first r.seen).lives n
 abbrev pub IsLater : ℕ → IrpLife → PassRecord → Result Life ReuseRefused → Type 0
 IsLater first i r reuse = reuse ≡ Err NotCompleted → i.life.0 < life_seen first r i.irp
 
--- where both reads tell the same life, what the first told as set is still set
+-- if both reads tell the same life, what the first told as set is still set
 abbrev pub StaysSet : Life × Bool → Life × Bool → Type 0
 StaysSet earlier later = earlier.0 ≡ later.0 → earlier.1 ≡ true → later.1 ≡ true

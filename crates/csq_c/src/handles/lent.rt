@@ -27,7 +27,7 @@ macro_rules! lend {
 pub(crate) use lend;
 
 impl QueueBox {
-    /// The queue, or None where the handle is empty. Own rule.
+    /// The queue, or None if the handle is empty. Own rule.
     pub(crate) fn lent(&mut self) -> Option<&mut QueueBody>
         ensures* writes_back { sem 𝓛 (LendsQueue self.entry result) }
         ensures value { MatchOption result (self.old.body ≡ None)
@@ -55,7 +55,7 @@ impl QueueBox {
 }
 
 impl PassBox {
-    /// The pass, or None where the handle is empty. Own rule.
+    /// The pass, or None if the handle is empty. Own rule.
     pub(crate) fn lent(&mut self) -> Option<&mut CheckedPass>
         ensures* writes_back { sem 𝓛 (LendsPass self.entry result) }
         ensures value { MatchOption result (self.old.body ≡ None)

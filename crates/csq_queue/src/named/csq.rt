@@ -81,7 +81,7 @@ impl<L: PendingList + Drop, N: QueueName, A: Allocator> Csq<L, N, A> {
     }
 
     /// Inserts an IRP for a file object, last or first (`IoCsqInsertIrpEx`). It lists the IRP, sets its
-    /// cancel routine and tests its Cancel flag; where that is set and the routine is still there, the
+    /// cancel routine and tests its Cancel flag; if that is set and the routine is still there, the
     /// IRP leaves the list again and the answer is `Cancelled`. A refusal is the first cause of
     /// `InsertStatus` that holds, and the IRP stays with the caller.
     #[tactic(auto, using(crate::proofs::Spending::cancelled_holds))]
@@ -133,7 +133,7 @@ impl<L: PendingList + Drop, N: QueueName, A: Allocator> Csq<L, N, A> {
         }
     }
 
-    /// Removes the first match that no canceller has (`IoCsqRemoveNextIrp`). None where no match is
+    /// Removes the first match that no canceller has (`IoCsqRemoveNextIrp`). None if no match is
     /// left.
     pub fn remove_next(&self, rt: &impl Wait, pass: &mut Pass<N>, peek: Peek) -> Option<Token<N>>
         ensures call { (history : List HistoryEntry)
@@ -163,7 +163,7 @@ impl<L: PendingList + Drop, N: QueueName, A: Allocator> Csq<L, N, A> {
     }
 
     /// Sets the Cancel flag of an IRP in the life named and takes its cancel routine, as `IoCancelIrp`
-    /// does. Where the routine was there, the pass owes the IRP, and the answer is a claim. None where
+    /// does. If the routine was there, the pass owes the IRP, and the answer is a claim. None if
     /// the IRP isn't listed, or some pass has its routine. `UnknownIrp` comes exactly for an unknown
     /// IRP; `Stale` where the IRP is in another life, which it names: nothing changed then. Takes no
     /// lock.
@@ -223,8 +223,8 @@ impl<L: PendingList + Drop, N: QueueName, A: Allocator> Csq<L, N, A> {
     }
 
     /// Cancels an IRP in the life named, as `IoCancelIrp` does: sets its Cancel flag and takes its
-    /// routine, and where that was there runs the cancel routine and completes the IRP with
-    /// STATUS_CANCELLED. Answers whether the IRP was completed here. Refused as `mark_cancel` is.
+    /// routine, and if that was there runs the cancel routine and completes the IRP with
+    /// STATUS_CANCELLED. Returns whether the IRP was completed here. Refused as `mark_cancel` is.
     pub fn cancel(
         &self,
         rt: &impl Wait,
@@ -263,7 +263,7 @@ impl<L: PendingList + Drop, N: QueueName, A: Allocator> Csq<L, N, A> {
     }
 
     /// Handles `IRP_MJ_CLEANUP` of a file object: closes it, then removes its IRPs until none is
-    /// answered, and completes each with STATUS_CANCELLED. Answers how many it completed. The lock is
+    /// answered, and completes each with STATUS_CANCELLED. Returns how many it completed. The lock is
     /// free between two of them. An IRP that a canceller has claimed is left to that canceller.
     pub fn cleanup(
         &self,
@@ -327,7 +327,7 @@ impl<L: PendingList + Drop, N: QueueName, A: Allocator> Csq<L, N, A> {
         locked.open.reuse(&self.words, &mut pass.open, irp)
     }
 
-    /// The life that an IRP's Cancel flag stands for, and whether it is set there. It is where this pass
+    /// The life that an IRP's Cancel flag stands for, and whether it is set there. It is set if this pass
     /// set it, or has seen in the history that it was, unless the life is a later one. Takes no lock.
     pub fn is_cancelled(&self, pass: &mut Pass<N>, irp: IrpId) -> Result<(Life, bool), UnknownIrp>
         ensures call { ReadsFlag irp result (queue_size N.limits) pass.old pass.new }
@@ -376,8 +376,8 @@ impl<L: PendingList + Drop, N: QueueName, A: Allocator> Csq<L, N, A> {
         locked.open.catch_up(&self.words, &mut one.open);
     }
 
-    /// Gives a pass back, so that the queue may be closed without it, and answers a receipt. Refused
-    /// where the pass holds or owes IRPs: `Holding` has their numbers and the pass. A pass that was given
+    /// Gives a pass back, so that the queue may be closed without it, and returns a receipt. Refused
+    /// if the pass holds or owes IRPs: `Holding` has their numbers and the pass. A pass that was given
     /// back isn't handed out again. Own rule.
     pub fn give_back(&self, rt: &impl Wait, pass: Pass<N>) -> Result<Back<N>, Holding<N>>
         ensures pass { IfErr result (λ holding. holding.pass ≡ pass) }
@@ -403,8 +403,8 @@ impl<L: PendingList + Drop, N: QueueName, A: Allocator> Csq<L, N, A> {
         })
     }
 
-    /// Gives this pass and those in the rack back, and ends the queue. `Holding` comes exactly where
-    /// the pass holds or owes IRPs; then `PassesOut` where other passes were taken and not given back.
+    /// Gives this pass and those in the rack back, and ends the queue. `Holding` comes exactly if
+    /// the pass holds or owes IRPs; then `PassesOut` if other passes were taken and not given back.
     /// Queue, pass and rack come back with a refusal. It takes neither the lock nor memory. A queue of
     /// which no other pass was taken is closed by a pass that holds and owes nothing. Own rule.
     pub fn close(
@@ -427,8 +427,8 @@ impl<L: PendingList + Drop, N: QueueName, A: Allocator> Csq<L, N, A> {
         self.close_with(pass, rack, &mut none)
     }
 
-    /// As `close`, with the receipts of passes that were given back. Where it answers Ok, these passes came
-    /// back with the records of their receipts; where it answers `PassesOut`, they aren't among those that
+    /// As `close`, with the receipts of passes that were given back. If it returns Ok, these passes came
+    /// back with the records of their receipts; if it returns `PassesOut`, they aren't among those that
     /// are out, so with the receipts of all others it doesn't. The receipts stay as they are. Own rule.
     pub fn close_with(
         self,

@@ -26,7 +26,7 @@ impl<N: QueueName> Model for PassRack<N> {
 }
 
 impl<N: QueueName> PassRack<N> {
-    /// The next pass: 1, 2, and so on. It has seen and done nothing. None where all were taken.
+    /// The next pass: 1, 2, and so on. It has seen and done nothing. None if all were taken.
     pub fn take(&mut self) -> Option<Pass<N>>
         ensures none { IsNone result ↔ (self.old ≡ 0) }
         ensures kept { IsNone result → self.new ≡ self.old }

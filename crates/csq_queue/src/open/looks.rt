@@ -33,7 +33,7 @@ impl<L: PendingList + Drop, A: Allocator> OpenQueue<L, A> {
 
     /// The first match after a listed IRP, or from the first listed one on, in its present life, as
     /// `CsqPeekNextIrp` answers it. It stays listed, and may be one whose canceller has taken the cancel
-    /// routine already: no removal gets that one. `NotListed` comes exactly where `after` isn't listed.
+    /// routine already: no removal gets that one. `NotListed` comes exactly if `after` isn't listed.
     pub fn peek_next(&self, after: Option<IrpId>, peek: Peek) -> Result<Option<IrpLife>, NotListed>
         ensures call { PeeksNext after peek result self.now }
     {

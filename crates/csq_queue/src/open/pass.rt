@@ -82,7 +82,7 @@ impl OpenPass {
     }
 
     /// Sets the Cancel flag of an IRP in the life named and takes its cancel routine, as
-    /// `Csq::mark_cancel` does. Where the routine was there, the pass owes the IRP, which is answered.
+    /// `Csq::mark_cancel` does. If the routine was there, the pass owes the IRP, which is returned.
     pub fn mark_cancel<A: Allocator>(
         &mut self,
         words: &Words<A>,
@@ -104,7 +104,7 @@ impl OpenPass {
             return Err(CancelRefused::Stale(found));
         }
         let set = bit_word(life, true);
-        // The exchange that decides. Where it finds no routine, some other exchange has found it, or no
+        // The exchange that decides. If it finds no routine, some other exchange has found it, or no
         // insert has armed the IRP in this life yet, and one that does will find the flag.
         if self.seat.take(words, named) != set {
             return Ok(None);

@@ -211,7 +211,7 @@ impl<L: PendingList + Drop, A: Allocator> OpenQueue<L, A> {
         Ok(())
     }
 
-    /// Begins the next life of an IRP, where its present one was completed and isn't the last, as
+    /// Begins the next life of an IRP, if its present one was completed and isn't the last, as
     /// `Csq::reuse` does.
     pub fn reuse(
         &mut self,
@@ -236,7 +236,7 @@ impl<L: PendingList + Drop, A: Allocator> OpenQueue<L, A> {
         life
     }
 
-    /// The present life of an IRP: the first one, and after each reuse the next. None where there is no such
+    /// The present life of an IRP: the first one, and after each reuse the next. None if there is no such
     /// IRP. Own rule.
     pub fn life(&self, irp: IrpId) -> Option<Life>
         ensures known { IsSome result ↔ (irp.0 < self.now.limits.irps) }
@@ -271,7 +271,7 @@ impl<L: PendingList + Drop, A: Allocator> OpenQueue<L, A> {
         leave(&mut self.seat, words, &mut pass.seat);
     }
 
-    /// Lets a pass see what was shown last, where it took no step since it saw the execution before.
+    /// Lets a pass see what was shown last, if it took no step since it saw the execution before.
     pub(crate) fn catch_up(&mut self, words: &Words<A>, pass: &mut OpenPass)
         requires queue { IsQueueOn words.now self.old }
         requires pass { IsPassOn words.now pass.old }
@@ -290,7 +290,7 @@ impl<L: PendingList + Drop, A: Allocator> OpenQueue<L, A> {
         self.seat.leave(words, &mut pass.seat);
     }
 
-    /// Notes that a pass, which holds and owes nothing, is back, and answers its receipt. Own rule.
+    /// Notes that a pass, which holds and owes nothing, is back, and returns its receipt. Own rule.
     pub fn give_back(&mut self, words: &Words<A>, mut pass: OpenPass) -> Receipt
         requires queue { IsQueueOn words.now self.old }
         requires pass { IsPassOn words.now pass }

@@ -51,7 +51,7 @@ impl OpenRack {
         self.next - 1
     }
 
-    /// The next pass: 1, 2, and so on, as `PassRack::take` hands it out. None where all were taken.
+    /// The next pass: 1, 2, and so on, as `PassRack::take` hands it out. None if all were taken.
     pub fn take(&mut self) -> Option<OpenPass>
         ensures none { IsNone result ↔ (self.old.left ≡ 0) }
         ensures kept { IsNone result → self.new ≡ self.old }

@@ -87,7 +87,7 @@ fn read_piece<R: Read>(reader: &mut R, piece: &mut [u8]) -> Result<usize, SimFau
     Err(SimFault::Read)
 }
 
-/// All bytes of a reader, or the first 1,048,577 where there are more.
+/// All bytes of a reader, or the first 1,048,577 if there are more.
 pub fn read_input<A: Allocator, R: Read>(alloc: A, reader: &mut R) -> Result<Vec<u8, A>, SimFault>
     ensures read { IfOk result
         (λ input. ReadsInput (R.remaining reader.old) (R.remaining reader.new) input.items) }

@@ -1,9 +1,9 @@
-//! The calls of a script, and what they answer.
+//! The calls of a script, and what they return.
 use csq_list::{InsertStatus, Peek, Place};
 use irp_core::{FileId, IrpId, IrpLife, Life, NtStatus};
 use std::fmt;
 
-/// A call of the script's one pass. Where it names no life, it is of the IRP's present one.
+/// A call of the script's one pass. If it names no life, it is of the IRP's present one.
 #[derive(Clone, Copy)]
 pub enum ScriptCall {
     /// `IoCsqInsertIrpEx` of the IRP for the file object, at the place.
@@ -56,7 +56,7 @@ pub enum CallRefused {
     LivesSpent,
 }
 
-/// What an insert or a put-back answers that isn't refused.
+/// What an insert or a put-back returns that isn't refused.
 #[derive(Clone, Copy)]
 pub(crate) enum InsertOutcome {
     /// The IRP is listed.

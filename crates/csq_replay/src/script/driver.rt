@@ -38,11 +38,11 @@ pub struct Driver<L, A: Allocator> {
     pub list: L,
     /// With which status each IRP was completed in its present life, if it was.
     pub statuses: Vec<Option<NtStatus>, A>,
-    /// The file object that an insert last accepted each IRP for; 0 where none did.
+    /// The file object that an insert last accepted each IRP for; 0 if none did.
     pub files: Vec<FileId, A>,
 }
 
-/// Makes a step of the pass, which is one that may come next, and answers the value that it found.
+/// Makes a step of the pass, which is one that may come next, and returns the value that it found.
 fn make<A: Allocator>(machine: &mut Machine<A>, kind: Kind) -> u64
     requires { (E : List Made) × Agrees machine.old E
         × IsRun (size_of machine.old) (next_step E kind) }
@@ -54,7 +54,7 @@ fn make<A: Allocator>(machine: &mut Machine<A>, kind: Kind) -> u64
 }
 
 impl<L: PendingList, A: Allocator> Driver<L, A> {
-    /// A driver that made no call yet. The list is fresh and has 1 to 1,024 IRPs. Refused where there is too
+    /// A driver that made no call yet. The list is fresh and has 1 to 1,024 IRPs. Refused if there is too
     /// little memory. Own rule.
     pub fn new(alloc: A, list: L) -> Result<Driver<L, A>, AllocError>
     where
@@ -251,7 +251,7 @@ impl<L: PendingList, A: Allocator> Driver<L, A> {
         Ok(Some(name.irp))
     }
 
-    /// Sets the Cancel flag and takes the cancel routine. Answers whether the routine was there.
+    /// Sets the Cancel flag and takes the cancel routine. Returns whether the routine was there.
     #[tactic(auto, unfolding(irp_core::specs::Steps::same_irp))]
     pub(crate) fn mark(&mut self, name: IrpLife) -> Result<bool, CallRefused>
         requires { IsKeeping (keeping L.listing self.old) }
@@ -285,7 +285,7 @@ impl<L: PendingList, A: Allocator> Driver<L, A> {
         Ok(NtStatus::CANCELLED)
     }
 
-    /// Marks an IRP, and runs its routine where it was there. Answers whether it was.
+    /// Marks an IRP, and runs its routine where it was there. Returns whether it was.
     pub(crate) fn cancel(&mut self, name: IrpLife) -> Result<bool, CallRefused>
         requires { IsKeeping (keeping L.listing self.old) }
         ensures { Did (keeping L.listing self.old) (call.Cancel name)
@@ -330,7 +330,7 @@ impl<L: PendingList, A: Allocator> Driver<L, A> {
         }
     }
 
-    /// Closes a file object, and completes what is queued for it as cancelled. Answers how many it completed.
+    /// Closes a file object, and completes what is queued for it as cancelled. Returns how many it completed.
     pub(crate) fn cleanup(&mut self, file: FileId) -> Result<u32, CallRefused>
         requires { IsKeeping (keeping L.listing self.old) }
         ensures { Did (keeping L.listing self.old) (call.Cleanup file) (reported reply.Cleaned result)
@@ -340,7 +340,7 @@ impl<L: PendingList, A: Allocator> Driver<L, A> {
         Ok(self.remove_all(file))
     }
 
-    /// Completes the IRPs of a file object as cancelled, until no removal answers one. Answers how many.
+    /// Completes the IRPs of a file object as cancelled, until no removal returns one. Returns how many.
     fn remove_all(&mut self, file: FileId) -> u32
         requires { IsKeeping (keeping L.listing self.old) }
         ensures { (l : Limits) (s : Script) → Keeps l (keeping L.listing self.old) s → (t : Script)
@@ -380,7 +380,7 @@ impl<L: PendingList, A: Allocator> Driver<L, A> {
         }
     }
 
-    /// Begins the next life, and answers it.
+    /// Begins the next life, and returns it.
     pub(crate) fn reuse(&mut self, irp: IrpId) -> Result<Life, CallRefused>
         requires { IsKeeping (keeping L.listing self.old) }
         ensures { Called (keeping L.listing self.old) (call.Reuse irp) (reported reply.Begun result)

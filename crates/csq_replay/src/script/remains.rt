@@ -94,7 +94,7 @@ fn kept_irps<L: PendingList, A: Allocator + Copy>(
 }
 
 impl<L: PendingList, A: Allocator + Copy> Driver<L, A> {
-    /// What is left after the calls so far. Refused where there is too little memory. Own rule.
+    /// What is left after the calls so far. Refused if there is too little memory. Own rule.
     pub fn remains(&self) -> Result<Remains<A>, AllocError>
         ensures { IfOk result (λ remains. (l : Limits) (s : Script)
             → StandsAt l (keeping L.listing self.now) s
@@ -118,7 +118,7 @@ fn write_numbers<A: Allocator>(irps: &[IrpId], text: &mut String<A>) -> Result<(
     Ok(())
 }
 
-/// Writes the closing line of what is listed. Refused where there is too little memory. Own rule.
+/// Writes the closing line of what is listed. Refused if there is too little memory. Own rule.
 pub fn write_left<A: Allocator>(irps: &[IrpId], text: &mut String<A>) -> Result<(), AllocError>
     ensures { OnOk result
         (string_bytes text.new ≡ string_bytes text.old ++ left_line irps.now) }
@@ -131,7 +131,7 @@ pub fn write_left<A: Allocator>(irps: &[IrpId], text: &mut String<A>) -> Result<
     writeln!(text)
 }
 
-/// Writes the closing line of what the pass keeps so; none where there is nothing. Refused where there is too
+/// Writes the closing line of what the pass keeps so; none if there is nothing. Refused if there is too
 /// little memory. Own rule.
 pub fn write_kept<A: Allocator>(
     kept: Kept,

@@ -86,7 +86,7 @@ impl<L: PendingList, A: Allocator> Driver<L, A> {
         }
     }
 
-    /// Makes a call, and returns its reply where it isn't refused.
+    /// Makes a call, and returns its reply if it isn't refused.
     fn report(&mut self, call: ScriptCall) -> Result<Reply, CallRefused>
         requires { IsStanding (keeping L.listing self.old) }
         ensures { DidNext (keeping L.listing self.old) call (reported (λ reply. reply) result)

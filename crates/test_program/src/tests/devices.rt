@@ -211,7 +211,7 @@ fn threads_wait_for_one_another(rt: HostRuntime) -> Result<(), Fail> {
     find_runs(&rt, AT_FEWER_POINTS, 10, 0)
 }
 
-/// Yields take long where other programs are busy, so the runs are two tests.
+/// Yields take long if other programs are busy, so the runs are two tests.
 #[test]
 fn each_irp_is_accounted_for_in_fifty_schedules(rt: HostRuntime) -> Result<(), Fail> {
     find_runs(&rt, YIELDING, 50, 0)

@@ -108,7 +108,7 @@ impl Case {
         self.canceller = Hand::Here(Doing::Cancelling(self.life));
     }
 
-    /// Its exchange of the routine finds this word. Where that is the routine of the life that it
+    /// Its exchange of the routine finds this word. If that is the routine of the life that it
     /// flagged, it owes the IRP.
     pub(super) fn take(&mut self, rt: &impl Abort, word: u64) {
         let Hand::Here(Doing::Cancelling(life)) = self.canceller else {

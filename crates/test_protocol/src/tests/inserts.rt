@@ -40,7 +40,7 @@ fn find_clear(
     queue.leave(words, pass);
 }
 
-/// The pass exchanges the routine that it set, and its insert ends. It holds the IRP where it found
+/// The pass exchanges the routine that it set, and its insert ends. It holds the IRP if it found
 /// it.
 fn take_back(
     rt: &impl Abort,
@@ -119,7 +119,7 @@ impl Case {
         self.stage = Stage::FlagSeen;
     }
 
-    /// Its exchange of the routine then finds this word. Where the routine was there, it holds the
+    /// Its exchange of the routine then finds this word. If the routine was there, it holds the
     /// IRP.
     pub(super) fn take_back(&mut self, rt: &impl Abort, word: u64) {
         let Stage::FlagSeen = self.stage else {

@@ -29,7 +29,7 @@ pub(super) enum Call {
     Limit,
 }
 
-/// What a call answers.
+/// What a call returns.
 #[derive(Clone, Copy, PartialEq, Eq)]
 pub(super) enum Answer {
     // It was made, and changed the list.

@@ -42,7 +42,7 @@ fn find_clear_again(
     queue.leave(words, pass);
 }
 
-/// The pass exchanges the routine that it set again, and its put-back ends. It holds the IRP where it
+/// The pass exchanges the routine that it set again, and its put-back ends. It holds the IRP if it
 /// found it.
 fn take_back_again(
     rt: &impl Abort,
@@ -126,7 +126,7 @@ impl Case {
         self.stage = Stage::FlagSeenAgain;
     }
 
-    /// Its exchange of the routine then finds this word. Where the routine was there, it holds the
+    /// Its exchange of the routine then finds this word. If the routine was there, it holds the
     /// IRP.
     pub(super) fn take_back_again(&mut self, rt: &impl Abort, word: u64) {
         let Stage::FlagSeenAgain = self.stage else {

@@ -22,7 +22,7 @@ struct Open<L: PendingList + Drop, A: Allocator> {
 }
 
 impl<L: PendingList + Drop, A: Allocator> Open<L, A> {
-    /// Whether an IRP is inserted last, and pending then, which is answered as STATUS_PENDING.
+    /// Whether an IRP is inserted last, and pending then, which is returned as STATUS_PENDING.
     fn insert(&mut self, irp: IrpId, file: u32) -> bool {
         match self.queue.insert(&self.words, &mut self.pass, irp, FileId(file), Place::Back) {
             Err(_) => false,

@@ -15,7 +15,7 @@ use std::marker::Brand;
 use std::process::Abort;
 use std::sync::Wait;
 
-/// An insert into a queue of one pass. Where it finds its IRP cancelled, that pass has set the Cancel
+/// An insert into a queue of one pass. If it finds its IRP cancelled, that pass has set the Cancel
 /// flag, since no other could: the contract of the call alone shows it.
 fn insert_alone<L: PendingList + Drop, N: QueueName, A: Allocator>(
     rt: &impl Wait,

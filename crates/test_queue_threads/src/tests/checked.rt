@@ -55,7 +55,7 @@ fn claims(mut pass: Box<CheckedPass>) -> Result<bool, CancelRefused> {
     }
 }
 
-/// What a queue and its two passes answer in two threads.
+/// What a queue and its two passes return in two threads.
 type Answers = (
     (u32, Result<bool, CancelRefused>),
     Result<bool, CancelRefused>,

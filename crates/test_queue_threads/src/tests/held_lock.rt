@@ -44,7 +44,7 @@ fn insert_all<L: PendingList + Drop, N: QueueName, R: Wait>(
     all
 }
 
-/// Makes cancels that find no routine, and reads a flag and a status. Returns whether each answered so.
+/// Makes cancels that find no routine, and reads a flag and a status. Returns whether each returned so.
 fn cancel_in_vain<L: PendingList + Drop, N: QueueName, R: Wait>(
     rt: &R,
     queue: &Csq<L, N>,
@@ -66,7 +66,7 @@ fn cancel_in_vain<L: PendingList + Drop, N: QueueName, R: Wait>(
         && status == Ok((LIFE, Some(NtStatus::CANCELLED)))
 }
 
-/// Yields until an IRP's Cancel flag is set, or gives up. Where some wait gave up, this one doesn't go on.
+/// Yields until an IRP's Cancel flag is set, or gives up. If some wait gave up, this one doesn't go on.
 fn wait_for_cancel<L: PendingList + Drop, N: QueueName>(
     queue: &Csq<L, N>,
     pass: &mut Pass<N>,
@@ -82,7 +82,7 @@ fn wait_for_cancel<L: PendingList + Drop, N: QueueName>(
     gave_up.store(true, Ordering::SeqCst);
 }
 
-/// What is made past a held lock, but for the completions: the cancels in vain, and once another cancel has set its flag
+/// What is made past a held lock, except the completions: the cancels in vain, and once another cancel has set its flag
 /// a mark. Then it lets the call go on, and takes out what it has marked.
 fn cancel_past<L: PendingList + Drop, N: QueueName, R: Wait>(
     rt: &R,

@@ -5,6 +5,7 @@ use Rattle.csq_draw.proofs.picture.draw_stopped.Goals as goal
 
 pub returns : goal.returns
 returns g c =
-    let shown = shown_elements c.args.passes.now c.args.rows.now c.args.owners.now c.args.count in
-    let refused = refused_elements c.args.count c.args.line c.args.reason in
+    let sheet = c.args.sheet in
+    let shown = shown_elements sheet.passes.now sheet.irps.now sheet.rows.now sheet.owners.now sheet.count in
+    let refused = refused_elements sheet.count c.args.line c.args.reason in
     grew_picture _ _ _ (shown ++ refused) (grew_elements _ _ _ shown refused c.in_ok-draw_steps.ensures c.in_ok-draw_refused.ensures) c.in_ok-draw_foot.ensures

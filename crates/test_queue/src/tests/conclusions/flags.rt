@@ -14,7 +14,7 @@ use irp_core::{FileId, IrpId};
 use std::alloc::Allocator;
 use std::sync::Wait;
 
-/// Lets a canceller and an inserter meet, and inserts an IRP then. Where the canceller had flagged the IRP
+/// Lets a canceller and an inserter meet, and inserts an IRP then. If the canceller had flagged the IRP
 /// and the insert leaves it pending, some canceller has its routine: it isn't listed with nobody in charge.
 pub(crate) fn insert_after_flag<L: PendingList + Drop, N: QueueName, A: Allocator>(
     queue: &Csq<L, N, A>,

@@ -13,13 +13,13 @@ use irp_core::{FinalStatus, IrpId, Life, NtStatus};
 use std::alloc::Allocator;
 use std::sync::Wait;
 
-/// What `read_and_reuse` read, and what its reuse answered.
+/// What `read_and_reuse` read, and what its reuse returned.
 pub type ReadAndReuse = (
     Result<(Life, Option<NtStatus>), UnknownIrp>,
     Result<Life, ReuseRefused>,
 );
 
-/// Reads a status, and reuses the IRP. Where the status was set, `NotCompleted` is of a later life.
+/// Reads a status, and reuses the IRP. If the status was set, `NotCompleted` is of a later life.
 pub(crate) fn read_and_reuse<L: PendingList + Drop, N: QueueName, A: Allocator>(
     queue: &Csq<L, N, A>,
     rt: &impl Wait,

@@ -1,13 +1,14 @@
-use Rattle.std.proofs.Common.{◌∙◌, sym}
-use Rattle.csq_draw.proofs.Imports.{Format, closed_text}
-use Rattle.csq_draw.proofs.Growing.{grew_same}
-use Rattle.csq_draw.proofs.Showing.{closed_written}
+use Rattle.std.proofs.Common.{◌∙◌, ap, length, replicate, arith}
+use Rattle.std.proofs.lemmas.List.{length-replicate}
+use Rattle.csq_draw.proofs.Imports.{new_irp}
+use Rattle.csq_draw.proofs.Known.{length-after}
+use Rattle.csq_draw.proofs.Showing.{irps_shown}
 use Rattle.csq_draw.proofs.drawing.Drawing.draw_end.Goals as goal
 
-pub returns-in_ok-draw_end_as_svg-in-Svg : goal.returns-in_ok-draw_end_as_svg-in-Svg
-returns-in_ok-draw_end_as_svg-in-Svg g c = λ size d stands. grew_same _ _ (λ (f : Format). closed_text size f d c.args.reported.now c.args.rest) _ _ (sym c.in-Svg.is) (c.in_ok-draw_end_as_svg-in-Svg.ensures size d stands)
+pub draw_end_of-requires-clause-irps : goal.draw_end_of-requires-clause-irps
+draw_end_of-requires-clause-irps g c =
+    omega (arith, c.requires.irps, ap length (c.deref.ensures.value ∙ c.in_ok-irps.ensures), length-after (replicate (length c.args.self.now.owners.items) new_irp) c.args.self.now.rows.items, length-replicate (length c.args.self.now.owners.items) new_irp)
 
-pub returns-in_ok-write_closed-in-Text : goal.returns-in_ok-write_closed-in-Text
-returns-in_ok-write_closed-in-Text g c = λ size d stands.
-    grew_same _ _ (λ (f : Format). closed_text size f d c.args.reported.now c.args.rest) _ _ (sym c.in-Text.is)
-    (closed_written size d.steps _ _ _ _ _ _ c.args.reported.now c.args.rest stands.captioned (c.deref.ensures.value ∙ stands.follows.passes) (c.deref-in-Text.ensures.value ∙ stands.shows.shown_rows) c.in_ok-write_closed-in-Text.ensures)
+pub returns : goal.returns
+returns g c = λ size d stands.
+    c.in_ok-draw_end_of.ensures size d stands (irps_shown size _ _ d.steps stands.shows _ (c.deref.ensures.value ∙ c.in_ok-irps.ensures))

@@ -22,7 +22,7 @@ note-requires-in-Accepted-clause-owner g c =
     let (k, d, a) = c.requires in
     let came = was_accepted k.0 d.steps c.args.line.number c.args.line.bytes.now _ c.in-Accepted.step (c.in-Accepted.ensures k.0 d.steps a.0.follows) in
     let P : ℕ → Type 0 = λ n. OfIrp (λ i. number i < n) c.in-Accepted.step.made.kind in
-    subst P (sym (owners_count k.0 _ _ (record { line = c.args.line.number; step = c.in-Accepted.step.made }) d.steps a.0.shows)) came.0.1.known.0.irp
+    subst P (sym (owners_count k.0 _ _ d.steps a.0.shows)) came.0.1.known.0.irp
 
 pub note-requires-in-Accepted-clause-irp : goal.note-requires-in-Accepted-clause-irp
 note-requires-in-Accepted-clause-irp g c =
@@ -31,8 +31,14 @@ note-requires-in-Accepted-clause-irp g c =
     let P : Size → Type 0 = λ s. OfIrp (λ i. number i < s.irps) c.in-Accepted.step.made.kind in
     subst P (sym came.2.same) came.0.1.known.0.irp
 
-pub draw_stop-requires : goal.draw_stop-requires
-draw_stop-requires g c =
+pub draw_stop-requires-clause-irps : goal.draw_stop-requires-clause-irps
+draw_stop-requires-clause-irps g c =
+    let (k, d, a) = c.requires in
+    let most = a.0.follows.limits.1 in
+    omega (arith, most, owners_count k.0 _ _ d.steps a.0.shows)
+
+pub draw_stop-requires-clause-few : goal.draw_stop-requires-clause-few
+draw_stop-requires-clause-few g c =
     let (k, d, a) = c.requires in
     let came = was_stopped k.0 d.steps c.args.line.number c.args.line.bytes.now _ c.in-Stopped.reason (c.in-Stopped.ensures k.0 d.steps a.0.follows) in
     let most = a.0.follows.limits.3 in

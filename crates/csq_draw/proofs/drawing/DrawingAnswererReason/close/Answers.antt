@@ -2,6 +2,7 @@ use Rattle.std.proofs.Common.{List, ap, length, arith, refl}
 use Rattle.csq_draw.proofs.Imports.{length-passes, Format, closed_text}
 use Rattle.csq_replay.specs.declared.schedule.closing.IrpLine.{IrpLine}
 use Rattle.csq_draw.proofs.Growing.{grew_same}
+use Rattle.csq_draw.proofs.Showing.{owners_count}
 use Rattle.csq_draw.proofs.drawing.DrawingAnswererReason.close.Goals as goal
 
 pub draw_end-requires-clause-few : goal.draw_end-requires-clause-few
@@ -9,6 +10,12 @@ draw_end-requires-clause-few g c =
     let (k, d, a) = c.requires in
     let most = a.0.follows.limits.3 in
     omega (arith, most, ap length a.0.follows.passes, length-passes k.0 d.steps)
+
+pub draw_end-requires-clause-irps : goal.draw_end-requires-clause-irps
+draw_end-requires-clause-irps g c =
+    let (k, d, a) = c.requires in
+    let most = a.0.follows.limits.1 in
+    omega (arith, most, owners_count k.0 _ _ d.steps a.0.shows)
 
 pub returns : goal.returns
 returns g c = λ k d a.

@@ -1,0 +1,24 @@
+-- The elements of rows grow with the rows.
+use Rattle.std.proofs.Common.{◌≡◌, ℕ, ◌+◌, ◌<◌, List, [], ◌∷◌, ◌++◌, take, length, get_or, append_assoc, append-nil, ap, sym, ◌∙◌}
+use Rattle.csq_draw.proofs.Imports.{take_more, GrewBy, elements_text, Row, IrpNow, irp_named, irps_after, with_irp, row_after, rows_elements}
+use Rattle.csq_draw.proofs.Growing.{grew_elements}
+use Rattle.csq_explain.specs.declared.passes.PassNow.{PassNow}
+
+module _ (passes : List PassNow) (irps : List IrpNow) where
+  -- one row more
+  pub rows-last : (known : List IrpNow) (rows : List Row) (row : Row) → rows_elements passes irps known (rows ++ row ∷ []) ≡ rows_elements passes irps known rows ++ row_after passes irps (irp_named (irps_after known rows) row.step.made.kind) row
+  rows-last known [] row = append-nil (row_after passes irps (irp_named known row.step.made.kind) row)
+  rows-last known (r ∷ rows) row =
+      let first = row_after passes irps (irp_named known r.step.made.kind) r in
+      ap (λ t. first ++ t) (rows-last (with_irp known r) rows row)
+      ∙ sym (append_assoc first (rows_elements passes irps (with_irp known r) rows) (row_after passes irps (irp_named (irps_after (with_irp known r) rows) row.step.made.kind) row))
+
+  -- one more of them was drawn
+  pub grew_row : (fresh known : List IrpNow) (rows : List Row) (k : ℕ) (d : Row) (old between new : List ℕ) → k < length rows → known ≡ irps_after fresh (take k rows) → GrewBy old between (elements_text (rows_elements passes irps fresh (take k rows)))
+      → GrewBy between new (elements_text (row_after passes irps (irp_named known (get_or rows k d).step.made.kind) (get_or rows k d))) → GrewBy old new (elements_text (rows_elements passes irps fresh (take (k + 1) rows)))
+  grew_row fresh known rows k d old between new lt is a grew =
+      let row = get_or rows k d in
+      let b = grew ∙ ap (λ xs. between ++ elements_text (row_after passes irps (irp_named xs row.step.made.kind) row)) is in
+      let one = row_after passes irps (irp_named (irps_after fresh (take k rows)) row.step.made.kind) row in
+      grew_elements old between new (rows_elements passes irps fresh (take k rows)) one a b
+      ∙ ap (λ es. old ++ elements_text es) (sym (ap (λ rs. rows_elements passes irps fresh rs) (take_more rows k d lt) ∙ rows-last fresh (take k rows) row))

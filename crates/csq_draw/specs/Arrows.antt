@@ -1,0 +1,24 @@
+-- An arrow from the step that wrote a word to the one that found it.
+use Rattle.std.specs.Prelude.{ℕ, ◌+◌, ◌==◌, nat_lt, List, ◌++◌, codes, decimal, Option, None, if◌then◌else◌}
+use Rattle.irp_core.specs.declared.step.Kind.{Kind, TheVariants.{Test, Disarm, Flag, Take}}
+use Rattle.csq_draw.specs.declared.arrows.Arrow.{Arrow}
+use Rattle.csq_draw.specs.declared.irps.{Spot.{Spot}, IrpNow.{IrpNow}}
+use Rattle.csq_draw.specs.Layout.{left, top}
+
+-- who wrote what this kind of step found set: the Cancel flag, or the cancel routine
+abbrev pub found_in : IrpNow → Kind → ℕ → Option Spot
+found_in before (Test i) found = if found == 1 then before.flag else None
+found_in before (Flag i) found = if found == 1 then before.flag else None
+found_in before (Disarm i) found = if found == 1 then before.routine else None
+found_in before (Take i) found = if found == 1 then before.routine else None
+found_in before _ found = None
+
+-- the side of a box in one column that faces another one
+abbrev pub side : ℕ → ℕ → ℕ
+side column other = if nat_lt column other then left column + 220 else left column + 8
+
+-- it runs between the facing sides of the two boxes
+abbrev pub arrow_text : Arrow → List ℕ
+arrow_text a =
+    (codes "<path class='a' d='M" ++ (decimal (side a.from_column a.column) ++ (codes " " ++ (decimal (top a.from.row + 30) ++ codes "L"))))
+    ++ (decimal (side a.column a.from_column) ++ (codes " " ++ (decimal (top a.row + 30) ++ (codes "'><title>line " ++ (decimal a.line ++ (codes " found what line " ++ (decimal a.from.line ++ codes " wrote</title></path>")))))))
