@@ -32,10 +32,13 @@ typedef struct _IOCSQ_POLICY {
     BOOLEAN DispatchSends;
     /* Whether a request may wait on, as far as the driver knows: a read for which nothing has come, say. It is
      * asked where nothing else happens, so it reads the driver's data without a lock. Null: no request may. */
-    BOOLEAN (*Waits)(PIRP Irp);
+    BOOLEAN (*Waits)(PIRP Irp); /* or IocsqNoneWaits, below */
     /* Milliseconds in which the driver ends a request that may not wait. 0: 2,000. */
     ULONG Within;
 } IOCSQ_POLICY;
+/* Waits of a driver that ends each request by itself. The bounded test expects ends of requests only of a policy that
+ * has Waits. */
+BOOLEAN IocsqNoneWaits(PIRP Irp);
 /* Of one queue, after its IoCsqInitialize[Ex]; for null, of all that are initialized from now on. */
 VOID IocsqSetPolicy(PIO_CSQ Csq, const IOCSQ_POLICY *Policy);
 

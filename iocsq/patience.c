@@ -5,6 +5,11 @@
 
 enum { MILLISECOND = 1000000, USUAL = 2000, LOOKS = 5, BETWEEN = 370 }; /* BETWEEN: microseconds, no timer's period */
 
+BOOLEAN IocsqNoneWaits(PIRP Irp) {
+    UNREFERENCED_PARAMETER(Irp);
+    return FALSE;
+}
+
 /* The rest of the time in which a request is to end, in milliseconds. */
 static ULONG rest_of(const struct iocsq_irp *i, ULONG within) {
     uint64_t passed = (iocsq_now() - i->sent) / MILLISECOND;

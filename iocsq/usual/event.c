@@ -127,6 +127,13 @@ static VOID Deliver(_In_ PEXTENSION Extension) {
     KeReleaseGuardedMutex(&Extension->Delivering);
 }
 
+/* A call may wait while no event is stored. */
+BOOLEAN MayWait(_In_ PIRP Irp);
+BOOLEAN MayWait(_In_ PIRP Irp) {
+    PEXTENSION Extension = IoGetCurrentIrpStackLocation(Irp)->DeviceObject->DeviceExtension;
+    return IsListEmpty(&Extension->Events);
+}
+
 _Must_inspect_result_ static NTSTATUS Store(_In_ PEXTENSION Extension, _In_reads_bytes_(Length) const UCHAR *Bytes,
                                             _In_ ULONG Length) {
     PEVENT Event;

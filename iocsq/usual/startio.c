@@ -11,6 +11,7 @@ typedef struct _EXTENSION {
     IO_CSQ Csq;
     KSPIN_LOCK Lock;
     LIST_ENTRY Waiting;     /* under Lock, with DeviceObject->CurrentIrp */
+    ULONG Inserts;          /* how many were ever listed, under Lock */
     PDEVICE_OBJECT Self;
     KLOCK_QUEUE_HANDLE Handle; /* of WRONG == 1 */
     KTIMER Work;
@@ -41,6 +42,7 @@ static NTSTATUS NTAPI InsertOrStart(PIO_CSQ Csq, PIRP Irp, PVOID InsertContext) 
         Of(Csq)->Self->CurrentIrp = Irp;
         return STATUS_UNSUCCESSFUL; /* it isn't queued: the caller starts it */
     }
+    Of(Csq)->Inserts++;
     InsertTailList(&Of(Csq)->Waiting, &Irp->Tail.Overlay.ListEntry);
     return STATUS_SUCCESS;
 }
@@ -101,34 +103,37 @@ static PIRP ExchangeCurrent(PEXTENSION Extension, PIRP Next) {
     return Before;
 }
 
-/* Whether an IRP waits that isn't a canceller's. Under the lock. */
-static BOOLEAN OneWaits(PEXTENSION Extension) {
-    PLIST_ENTRY Entry;
-    for (Entry = Extension->Waiting.Flink; Entry != &Extension->Waiting; Entry = Entry->Flink) {
-        if (CONTAINING_RECORD(Entry, IRP, Tail.Overlay.ListEntry)->CancelRoutine != NULL) {
-            return TRUE;
-        }
-    }
-    return FALSE;
+static ULONG InsertsOf(PEXTENSION Extension) {
+    ULONG Inserts;
+    KeAcquireSpinLockAtDpcLevel(&Extension->Lock);
+    Inserts = Extension->Inserts;
+    KeReleaseSpinLockFromDpcLevel(&Extension->Lock);
+    return Inserts;
 }
 
-/* The next one, or null and the device is idle: found out under the lock, so that none comes between. It doesn't wait for
- * a canceller to take its IRP out: that may be the thread that this DPC has interrupted. */
+/* The device is idle, unless an IRP has been listed since so many were: that one waits for this DPC. */
+static BOOLEAN BecomesIdle(PEXTENSION Extension, ULONG Inserts) {
+    BOOLEAN Idle;
+    KeAcquireSpinLockAtDpcLevel(&Extension->Lock);
+    Idle = WRONG == 3 || (WRONG == 2 ? IsListEmpty(&Extension->Waiting) : Extension->Inserts == Inserts);
+    if (Idle) {
+        Extension->Self->CurrentIrp = NULL;
+    }
+    KeReleaseSpinLockFromDpcLevel(&Extension->Lock);
+    return Idle;
+}
+
+/* The next one, or null and the device is idle. What is still listed then is a canceller's. This DPC doesn't wait for a
+ * canceller to take its IRP out: that may be the thread that it has interrupted. */
 static PIRP NextOrIdle(PEXTENSION Extension) {
     for (;;) {
+        ULONG Inserts = InsertsOf(Extension);
         PIRP Next = IoCsqRemoveNextIrp(&Extension->Csq, NULL);
-        BOOLEAN Idle = FALSE;
         if (Next != NULL) {
             ExchangeCurrent(Extension, Next);
             return Next;
         }
-        KeAcquireSpinLockAtDpcLevel(&Extension->Lock);
-        if (WRONG == 2 ? IsListEmpty(&Extension->Waiting) : !OneWaits(Extension)) {
-            Extension->Self->CurrentIrp = NULL;
-            Idle = TRUE;
-        }
-        KeReleaseSpinLockFromDpcLevel(&Extension->Lock);
-        if (Idle) {
+        if (BecomesIdle(Extension, Inserts)) {
             return NULL;
         }
     }

@@ -94,18 +94,22 @@ static BOOLEAN BecomesActive(PEXTENSION Extension) {
     return InterlockedCompareExchange(&Extension->Active, 1, 0) == 0;
 }
 
-/* One that comes as the worker ends finds it active or not: where not, it queues the work item again. */
+/* Those that come as the worker ends may have found it active, so it looks once more after that. If there is one, this
+ * worker goes on, unless another has been queued by then, which serves the rest. */
 static VOID NTAPI WorkOff(PDEVICE_OBJECT DeviceObject, PVOID Context) {
     PEXTENSION Extension = DeviceObject->DeviceExtension;
     PIRP Irp;
     UNREFERENCED_PARAMETER(Context);
-    while ((Irp = IoCsqRemoveNextIrp(&Extension->State->Queue, NULL)) != NULL) {
-        Serve(Extension, Irp);
-    }
-    InterlockedExchange(&Extension->Active, 0);
-    if ((Irp = IoCsqRemoveNextIrp(&Extension->State->Queue, NULL)) != NULL) {
-        Serve(Extension, Irp);
-    }
+    do {
+        while ((Irp = IoCsqRemoveNextIrp(&Extension->State->Queue, NULL)) != NULL) {
+            Serve(Extension, Irp);
+        }
+        InterlockedExchange(&Extension->Active, 0);
+        Irp = IoCsqRemoveNextIrp(&Extension->State->Queue, NULL);
+        if (Irp != NULL) {
+            Serve(Extension, Irp);
+        }
+    } while (WRONG != 3 && Irp != NULL && BecomesActive(Extension));
 #if WRONG != 1
     ExReleaseRundownProtection(&Extension->Rundown);
 #endif

@@ -86,7 +86,7 @@ static VOID Transfer(PIRP Read, PIRP Write) {
     Finish(Write, STATUS_SUCCESS, Count);
 }
 
-/* A write is put back, as the first, if there is no read for it. */
+/* A read is put back if there is no write for it. */
 static VOID Pair(PCHANNEL Channel) {
     PIRP Read, Write;
     ExAcquireFastMutex(&Channel->Pairing);
@@ -104,6 +104,13 @@ static VOID Pair(PCHANNEL Channel) {
         break;
     }
     ExReleaseFastMutex(&Channel->Pairing);
+}
+
+/* A read may wait while no write does, and a write while no read does. */
+BOOLEAN MayWait(PIRP Irp);
+BOOLEAN MayWait(PIRP Irp) {
+    int Other = IoGetCurrentIrpStackLocation(Irp)->MajorFunction == IRP_MJ_READ ? WRITES : READS;
+    return IsListEmpty(&ChannelOf(Irp)->Queues[Other].Irps);
 }
 
 static VOID Dereference(PCHANNEL Channel) {

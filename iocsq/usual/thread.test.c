@@ -1,0 +1,5 @@
+/* What the checker is to know of thread.c: it ends each request by itself. */
+#include "iocsq_test.h"
+
+extern const IOCSQ_POLICY DriverPolicy;
+const IOCSQ_POLICY DriverPolicy = { .Waits = IocsqNoneWaits };
