@@ -104,7 +104,11 @@ impl fmt::Display for CallLine {
 
     fn fmt<W: fmt::Write>(&self, f: &mut fmt::Formatter<W>) -> fmt::Result {
         let (call, having) = (CallOf(self.step, self.claim), having_now(self.step.made));
-        let (x, end, y) = (left(self.column) + 17, left(self.column) + 211, top(self.row) + 49);
+        let (x, end, y) = (
+            left(self.column) + 17,
+            left(self.column) + 211,
+            top(self.row) + 49,
+        );
         write!(f, "<text class='s' x='{x}' y='{y}'>{call}</text>")?;
         write!(f, "<text class='s v' x='{end}' y='{y}'>{having}</text>")
     }

@@ -30,7 +30,8 @@ pub use drawing::{Drawing, draw_schedule, draw_schedule_as_text};
 pub use format::Format;
 pub use heading::PICTURE_HEAD;
 pub use laws::{
-    a_schedule_has_one_picture, each_arrow_is_from_the_write, each_drawn_owner_owes_or_holds, each_line_has_its_number,
-    each_pass_has_its_column, each_shade_is_of_the_lock, each_step_has_one_mark,
-    each_step_shows_its_words, no_two_lines_share_a_lane, the_shaded_pass_has_the_lock,
+    a_schedule_has_one_picture, each_arrow_is_from_the_write, each_drawn_owner_owes_or_holds,
+    each_line_has_its_number, each_pass_has_its_column, each_shade_is_of_the_lock,
+    each_step_has_one_mark, each_step_shows_its_words, no_two_lines_share_a_lane,
+    the_shaded_pass_has_the_lock,
 };

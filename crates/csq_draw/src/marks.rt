@@ -46,7 +46,10 @@ impl fmt::Display for LockLabel {
 
     fn fmt<W: fmt::Write>(&self, f: &mut fmt::Formatter<W>) -> fmt::Result {
         let Shade {
-            row, column, first, ..
+            row,
+            column,
+            first,
+            ..
         } = self.0;
         if !first {
             return Ok(());

@@ -35,11 +35,7 @@ impl fmt::Display for Span {
     ghost output = { λ span. Some (span_text span) };
 
     fn fmt<W: fmt::Write>(&self, f: &mut fmt::Formatter<W>) -> fmt::Result {
-        let (name, pass, having) = (
-            self.name,
-            self.owner.pass,
-            having_text(self.owner.having),
-        );
+        let (name, pass, having) = (self.name, self.owner.pass, having_text(self.owner.having));
         let colour = self.owner.irp.0 % 8;
         let lane = left(self.column) + 236 + 5 * u64::from(self.owner.lane);
         let (from, to) = (top(self.owner.row) + 30, top(self.to));

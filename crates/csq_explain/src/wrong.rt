@@ -165,7 +165,9 @@ fn first_done(steps: &[LineStep], name: IrpLife) -> Option<usize>
 fn exchanges(steps: &[LineStep], name: IrpLife) -> bool
     ensures { result ≡ exchanges steps.now name }
 {
-    steps.iter().any(|step| arms(step.made, name) || disarms(step.made, name))
+    steps
+        .iter()
+        .any(|step| arms(step.made, name) || disarms(step.made, name))
 }
 
 /// Whether an IRP whose routine was set between these steps and those waits for good: it was cancelled, nobody takes
@@ -214,8 +216,7 @@ impl fmt::Display for HarmLine {
             Harm::Twice(first) => write!(
                 f,
                 "harm: {pass} {kind} in line {line} completes what {} completed in line {}: MULTIPLE_IRP_COMPLETE_REQUESTS (0x44)\n",
-                first.made.pass,
-                first.line
+                first.made.pass, first.line
             ),
             Harm::Stray => write!(
                 f,
@@ -344,7 +345,11 @@ fn goes_on(stop: Stop) -> bool
 fn why_ended(reason: Reason) -> Option<Reason>
     ensures { result ≡ why_ended reason }
 {
-    if goes_on(reason.stop) { None } else { Some(reason) }
+    if goes_on(reason.stop) {
+        None
+    } else {
+        Some(reason)
+    }
 }
 
 /// Adds what goes wrong at a step.
