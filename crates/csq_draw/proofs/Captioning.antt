@@ -1,6 +1,9 @@
 -- How a caption grows.
-use Rattle.std.proofs.Common.{◌≡◌, ℕ, ◌+◌, ◌<◌, List, [], ◌∷◌, ◌++◌, take, length, get_or, append_assoc, append-nil, refl, ap, sym, ◌∙◌}
-use Rattle.csq_draw.proofs.Imports.{take_more, GrewBy, grew_more, escaped_byte, escaped}
+use Rattle.std.proofs.Common.{◌≡◌, ℕ, ◌+◌, ◌<◌, ◌==◌, ◌||◌, List, [], ◌∷◌, ◌++◌, take, length, get_or, map, append_assoc, append-nil, refl, ap, sym, ◌∙◌}
+use Rattle.std.specs.List.{list_any}
+use Rattle.csq_draw.specs.declared.caption.PassName.{PassName}
+use Rattle.csq_draw.specs.Captions.{has_name, name_of}
+use Rattle.csq_draw.proofs.Imports.{PassId, take_more, GrewBy, grew_more, escaped_byte, escaped}
 
 escaped-append : (xs ys : List ℕ) → escaped (xs ++ ys) ≡ escaped xs ++ escaped ys
 escaped-append [] ys = refl
@@ -12,3 +15,8 @@ grew_escaped xs k d old between new lt a b =
     let whole : escaped (take (k + 1) xs) ≡ escaped (take k xs) ++ escaped_byte (get_or xs k d) =
     ap escaped (take_more xs k d lt) ∙ escaped-append (take k xs) (get_or xs k d ∷ []) ∙ ap (λ t. escaped (take k xs) ++ t) (append-nil (escaped_byte (get_or xs k d))) in
     grew_more old between new (escaped (take k xs)) (escaped_byte (get_or xs k d)) a b ∙ ap (λ t. old ++ t) (sym whole)
+
+-- whether a name of p is among these
+pub any_named : {A : Type 0} (names : List (PassName A)) (p : PassId) → list_any (λ (n : PassName A). n.pass.0 == p.0) names ≡ has_name (map name_of names) p
+any_named [] p = refl
+any_named (n ∷ names) p = ap (λ b. (n.pass.0 == p.0) || b) (any_named names p)

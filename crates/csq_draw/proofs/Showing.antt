@@ -134,10 +134,10 @@ module _ (size : Size) (rows : List Row) (passes : List PassNow) (irps : List Ir
   rows_are count is = is ∙ ap length h.shown_rows ∙ length-rows size W
 
   -- and so is its head
-  pub head_shown : (count lines total : ℕ) (caption wanted : CaptionText) (old new : List ℕ) → count ≡ length rows → lines ≡ total → caption ≡ wanted → GrewBy old new (picture_head (columns passes) (irp_columns irps) count lines caption)
-      → GrewBy old new (picture_head (columns (all_passes size W)) (irp_columns (irps_of size W)) (length W) total wanted)
+  pub head_shown : (count lines total : ℕ) (caption wanted : CaptionText) (old new : List ℕ) → count ≡ length rows → lines ≡ total → caption ≡ wanted → GrewBy old new (picture_head passes (irp_columns irps) count lines caption)
+      → GrewBy old new (picture_head (all_passes size W) (irp_columns (irps_of size W)) (length W) total wanted)
   head_shown count lines total caption wanted old new is few same grew =
-      let drawn : List PassNow → List IrpNow → ℕ → ℕ → CaptionText → List ℕ = λ ps xs k n x. old ++ picture_head (columns ps) (irp_columns xs) k n x in
+      let drawn : List PassNow → List IrpNow → ℕ → ℕ → CaptionText → List ℕ = λ ps xs k n x. old ++ picture_head ps (irp_columns xs) k n x in
       grew ∙ ap (drawn passes irps count lines) same ∙ ap (λ n. drawn passes irps count n wanted) few ∙ ap (λ k. drawn passes irps k total wanted) (rows_are count is)
       ∙ ap (λ xs. drawn passes xs (length W) total wanted) known ∙ ap (λ ps. drawn ps (irps_of size W) (length W) total wanted) kept
 

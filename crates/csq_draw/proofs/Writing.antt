@@ -1,5 +1,5 @@
 -- How a text for a terminal grows.
-use Rattle.std.proofs.Common.{◌≡◌, ℕ, ◌+◌, ◌<◌, List, [], ◌∷◌, ◌++◌, take, length, get_or, append_assoc, append-nil, ap, sym, ◌∙◌, ◌-◌, max, arith, length-append}
+use Rattle.std.proofs.Common.{◌≡◌, ℕ, ◌+◌, ◌<◌, List, [], ◌∷◌, ◌++◌, take, length, get_or, map, append_assoc, append-nil, refl, ap, sym, ◌∙◌, ◌-◌, max, arith, length-append}
 use Rattle.csq_draw.proofs.Imports.{length-take-le, take_more, replicate-append-replicate, GrewBy, grew_more, each_text, spaces, in_width}
 
 module _ {A : Type 0} (f : ℕ → A → List ℕ) where
@@ -15,6 +15,11 @@ module _ {A : Type 0} (f : ℕ → A → List ℕ) where
       let whole : each_text f 0 (take (k + 1) xs) ≡ each_text f 0 (take k xs) ++ f k (get_or xs k d) =
       ap (λ ys. each_text f 0 ys) (take_more xs k d lt) ∙ each_text-last 0 (take k xs) (get_or xs k d) ∙ ap (λ n. each_text f 0 (take k xs) ++ f n (get_or xs k d)) place in
       grew_more old between new (each_text f 0 (take k xs)) (f k (get_or xs k d)) a b ∙ ap (λ t. old ++ t) (sym whole)
+
+-- texts of what is made of each
+pub each_text-map : {A B : Type 0} (g : A → B) (f : ℕ → B → List ℕ) (n : ℕ) (xs : List A) → each_text (λ k x. f k (g x)) n xs ≡ each_text f n (map g xs)
+each_text-map g f n [] = refl
+each_text-map g f n (x ∷ xs) = ap (λ t. f n (g x) ++ t) (each_text-map g f (n + 1) xs)
 
 -- one more space was added
 pub grew_space : (old between new : List ℕ) (k : ℕ) → GrewBy old between (spaces k) → new ≡ between ++ 32 ∷ [] → GrewBy old new (spaces (k + 1))

@@ -11,8 +11,8 @@ use Rattle.csq_replay.specs.declared.schedule.outcome.{Outcome.{Outcome, TheVari
 use Rattle.csq_replay.specs.Lines.{IsAnswer, RepliesTo}
 use Rattle.csq_replay.specs.Outcomes.{ComesTo}
 use Rattle.csq_replay.specs.Schedule.{Numbered, run_of, Closes}
-use Rattle.csq_draw.specs.Captions.{CaptionText, new_caption, ended_caption, caption_after}
-use Rattle.csq_draw.specs.Headings.{head_text}
+use Rattle.csq_draw.specs.Captions.{CaptionText, NamedPass, new_caption, ended_caption, caption_after}
+use Rattle.csq_draw.specs.Headings.{head_text, name_beside}
 use Rattle.csq_draw.specs.declared.format.Format.{Format, TheVariants.{Svg, Text}}
 use Rattle.csq_draw.specs.declared.owners.Owner.{Owner}
 use Rattle.csq_explain.specs.declared.passes.PassNow.{PassNow}
@@ -24,13 +24,14 @@ use Rattle.csq_draw.specs.Endings.{rest_of}
 use Rattle.csq_draw.specs.Irps.{new_irp, irp_at, irp_named, with_irp, irps_after, irp_columns, irp_column}
 use Rattle.csq_draw.specs.Marks.{takes_lock, lets_go}
 use Rattle.csq_draw.specs.Owners.{owners}
-use Rattle.csq_draw.specs.Passes.{columns, column_of}
+use Rattle.csq_draw.specs.Passes.{columns, column_of, makes_step}
 use Rattle.csq_explain.specs.Passes.{all_passes}
 use Rattle.csq_draw.specs.Rows.{rows_of}
 use Rattle.csq_explain.specs.Reasons.{reason_of}
 use Rattle.csq_draw.specs.declared.element.Element.{Element}
 use Rattle.csq_draw.specs.Elements.{picture}
-use Rattle.csq_draw.specs.Terminal.{stopped_lines, closed_lines}
+use Rattle.csq_draw.specs.Layout.{left}
+use Rattle.csq_draw.specs.Terminal.{each_text, stopped_lines, closed_lines}
 use Rattle.csq_draw.specs.declared.element.Element.TheVariants as element
 use Rattle.csq_draw.specs.declared.ending.Below.TheVariants.{Bar, Refused, Because, Irp, AtRest}
 
@@ -127,9 +128,13 @@ last_elements passes irps rows n now = bars_elements (columns passes) (irp_colum
 abbrev pub word_elements : List PassNow → List IrpNow → ℕ → IrpNow → List Element
 word_elements passes irps n now = if is_some now.last then element.WordColumns (record { columns = columns passes; place = irp_column irps (record { 0 = n }); irp = record { 0 = n } }) ∷ [] else []
 
--- the head of a picture of so many columns of passes, IRPs and rows, with so many lines of text below them, and this caption
-abbrev pub picture_head : ℕ → ℕ → ℕ → ℕ → CaptionText → List ℕ
-picture_head columns irps rows lines c = head_text (record { columns = columns; irps = irps; rows = rows; lines = lines; caption = c.lines }) c.title c.below
+-- beside the number of a pass that makes a step: its name
+abbrev pub pass_name_text : List PassNow → NamedPass → List ℕ
+pass_name_text passes n = if makes_step passes n.pass then name_beside (left (column_of passes n.pass) + 130) n.name else []
+
+-- the head of a picture of these passes, and of so many IRPs and rows, with so many lines of text below them, and this caption
+abbrev pub picture_head : List PassNow → ℕ → ℕ → ℕ → CaptionText → List ℕ
+picture_head passes irps rows lines c = head_text (record { columns = columns passes; irps = irps; rows = rows; lines = lines; caption = c.lines }) c.title c.below ++ each_text (λ n name. pass_name_text passes name) 0 c.names
 
 -- of the line that ended the handling: its bar, its number, what is reported for it, and why it ended it
 abbrev pub refused_elements : ℕ → ℕ → Reason → List Element
@@ -187,7 +192,7 @@ drawn_after d n line (Stopped stop) = None
 
 -- a line that ends the handling is answered the picture of the steps before it and of itself, and any other nothing
 abbrev pub stopped_text : Size → Format → Drawn → ℕ → Stop → List ℕ
-stopped_text size Svg d n stop = picture_head (columns (all_passes size d.steps)) (irp_columns (irps_of size d.steps)) (length d.steps) 3 d.caption ++ picture (stopped_picture size d.steps n stop)
+stopped_text size Svg d n stop = picture_head (all_passes size d.steps) (irp_columns (irps_of size d.steps)) (length d.steps) 3 d.caption ++ picture (stopped_picture size d.steps n stop)
 stopped_text size Text d n stop = stopped_lines d.caption (all_passes size d.steps) (rows_of size d.steps) n (reason_of size (all_passes size d.steps) stop)
 
 abbrev pub drawn_text : Size → Format → Drawn → ℕ → Outcome → List ℕ
@@ -199,7 +204,7 @@ DrawsLine size format d n line text more = (comes : Outcome) × ComesTo size (ru
 
 -- if all lines were handled, it is the picture of the steps and of what is reported in the end
 abbrev pub closed_text : Size → Format → Drawn → List IrpLine → Bool → List ℕ
-closed_text size Svg d reported at_rest = picture_head (columns (all_passes size d.steps)) (irp_columns (irps_of size d.steps)) (length d.steps) (length reported + 1) d.caption ++ picture (closed_picture size d.steps reported at_rest)
+closed_text size Svg d reported at_rest = picture_head (all_passes size d.steps) (irp_columns (irps_of size d.steps)) (length d.steps) (length reported + 1) d.caption ++ picture (closed_picture size d.steps reported at_rest)
 closed_text size Text d reported at_rest = closed_lines d.caption (all_passes size d.steps) (irps_of size d.steps) (rows_of size d.steps) reported at_rest
 
 abbrev pub DrawsClosing : Size → Format → Drawn → List ℕ → Type 0

@@ -1,19 +1,35 @@
-//! The comment at the head of a schedule, as it stands above its picture: a title, and a caption.
-ghost use Rattle.std.specs.Prelude.{◌≡◌, ◌<◌, string_bytes, OnOk};
+//! The comment at the head of a schedule, as it stands above its picture: a title, a caption, and names of passes.
+ghost use Rattle.std.specs.Prelude.{◌≡◌, ◌==◌, ◌<◌, ◌≤◌, length, map, string_bytes, IfOk, OnOk, if◌then◌else◌};
+ghost use Rattle.std.specs.List.{list_any};
+ghost use Rattle.std.specs.Option.{option_map};
 ghost use Rattle.csq_replay.specs.Lines.{GrewBy};
-ghost use Rattle.csq_draw.specs.Captions.{printable, escaped_byte, escaped, unspaced, line_below, plain_line};
+ghost use Rattle.csq_draw.specs.Pictures.{pass_name_text};
+ghost use Rattle.csq_draw.specs.Terminal.{each_text};
+ghost use Rattle.csq_draw.specs.Captions.{printable, escaped_byte, escaped, unspaced, line_below, plain_line, pass_named, name_of};
 
+use crate::layout::left;
+use crate::passes::{column_of, makes_step};
+use csq_explain::PassNow;
+use irp_core::PassId;
 use std::alloc::{AllocError, Allocator};
 
 /// How many lines of a comment stand above a picture at most. Own rule.
 pub(crate) const MAX_LINES: u32 = 8;
 
-/// A caption: the first line of the comment and the lines below it, as XML writes them; all lines, as plain text;
-/// how many these are, and whether the comment has ended.
+/// What a line of the comment says that a pass is called, as XML writes it.
+#[derive(Drop)]
+pub(crate) struct PassName<A: Allocator> {
+    pub(crate) pass: PassId,
+    pub(crate) name: String<A>,
+}
+
+/// A caption: the first line of the comment and the lines below it, as XML writes them; the names of passes; all
+/// lines, as plain text; how many of them are no names, and whether the comment has ended.
 #[derive(Drop)]
 pub(crate) struct Caption<A: Allocator> {
     pub(crate) title: String<A>,
     pub(crate) below: String<A>,
+    pub(crate) names: Vec<PassName<A>, A>,
     pub(crate) plain: String<A>,
     pub(crate) lines: u32,
     pub(crate) ended: bool,
@@ -88,8 +104,80 @@ fn unspaced(text: &[u8]) -> &[u8]
     }
 }
 
+/// The pass that a line names, and what it is called, as in `p1: ReadFile`.
+fn pass_named(text: &[u8]) -> Option<(PassId, &[u8])>
+    ensures { option_map (λ named. record { pass = named.0; name = named.1.now }) result
+        ≡ pass_named text.now }
+{
+    match text {
+        [b'p', d, b':', b' ', name @ ..] if d.is_ascii_digit() => {
+            Some((PassId(u32::from(*d - b'0')), name))
+        }
+        [b'p', d, e, b':', b' ', name @ ..] if d.is_ascii_digit() && e.is_ascii_digit() => {
+            Some((
+                PassId(10 * u32::from(*d - b'0') + u32::from(*e - b'0')),
+                name,
+            ))
+        }
+        _ => None,
+    }
+}
+
+/// Whether a name of this pass is among these.
+fn has_name<A: Allocator>(names: &[PassName<A>], pass: PassId) -> bool
+    ensures { result ≡ list_any (λ named. named.pass.0 == pass.0) names.now }
+{
+    names.iter().any(|it| it.pass.0 == pass.0)
+}
+
+/// A name, as XML writes it.
+fn escaped_name<A: Allocator>(alloc: A, name: &[u8]) -> Result<String<A>, AllocError>
+    ensures { IfOk result (λ text. string_bytes text ≡ escaped name.now) }
+{
+    let mut text = String::new(alloc);
+    push_escaped(name, &mut text)?;
+    Ok(text)
+}
+
+/// The name of a pass, beside its number, if it makes a step.
+fn draw_name<A: Allocator, B: Allocator>(
+    passes: &[PassNow],
+    named: &PassName<B>,
+    text: &mut String<A>,
+) -> Result<(), AllocError>
+    requires { length passes.now ≤ 65 }
+    ensures { OnOk result (GrewBy (string_bytes text.old) (string_bytes text.new)
+        (pass_name_text passes.now (name_of named.now))) }
+{
+    if !makes_step(passes, named.pass) {
+        return Ok(());
+    }
+    let (x, name) = (
+        left(column_of(passes, named.pass)) + 130,
+        named.name.as_str(),
+    );
+    writeln!(text, "<text class='s' x='{x}' y='26'>{name}</text>")?;
+    Ok(())
+}
+
+/// The names of passes, each beside its number.
+pub(crate) fn draw_names<A: Allocator, B: Allocator>(
+    passes: &[PassNow],
+    names: &[PassName<B>],
+    text: &mut String<A>,
+) -> Result<(), AllocError>
+    requires { length passes.now ≤ 65 }
+    ensures { OnOk result (GrewBy (string_bytes text.old) (string_bytes text.new)
+        (each_text (λ n name. pass_name_text passes.now name) 0 (map name_of names.now))) }
+{
+    for named in names {
+        draw_name(passes, named, text)?;
+    }
+    Ok(())
+}
+
 impl<A: Allocator + Copy> Caption<A> {
-    ghost use Rattle.csq_draw.specs.Captions.{new_caption, with_line, ended_caption, caption_after, caption_of};
+    ghost use Rattle.csq_draw.specs.Captions.{new_caption, with_line, with_name, with_first_name, with_comment, ended_caption, caption_after, caption_of};
 
     /// Before the first line of a schedule.
     pub(crate) fn new(alloc: A) -> Caption<A>
@@ -98,6 +186,7 @@ impl<A: Allocator + Copy> Caption<A> {
         Caption {
             title: String::new(alloc),
             below: String::new(alloc),
+            names: Vec::new(alloc),
             plain: String::new(alloc),
             lines: 0,
             ended: false,
@@ -119,8 +208,73 @@ impl<A: Allocator + Copy> Caption<A> {
         Ok(())
     }
 
+    /// Adds the name of a pass, which this line of the comment has.
+    fn push_name(
+        &mut self,
+        alloc: A,
+        pass: PassId,
+        name: &[u8],
+        line: &[u8],
+    ) -> Result<(), AllocError>
+        ensures { OnOk result (caption_of self.new ≡ with_name (caption_of self.old)
+            (record { pass = pass; name = name.now }) line.now) }
+    {
+        let name = escaped_name(alloc, name)?;
+        self.names.push(PassName { pass, name })?;
+        push_plain(line, &mut self.plain)
+    }
+
+    /// Adds a line of the comment that has the name of a pass: the name, unless the pass has one.
+    fn push_named(
+        &mut self,
+        alloc: A,
+        is_known: bool,
+        pass: PassId,
+        name: &[u8],
+        line: &[u8],
+    ) -> Result<(), AllocError>
+        requires { self.old.lines < MAX_LINES }
+        ensures { OnOk result (caption_of self.new ≡ (if is_known then
+            with_line (caption_of self.old) line.now else with_name (caption_of self.old)
+            (record { pass = pass; name = name.now }) line.now)) }
+    {
+        if is_known {
+            self.push_line(line)
+        } else {
+            self.push_name(alloc, pass, name, line)
+        }
+    }
+
+    /// Adds the name of a pass, if it is the first one, and else the line that has it.
+    fn push_first_name(
+        &mut self,
+        alloc: A,
+        pass: PassId,
+        name: &[u8],
+        line: &[u8],
+    ) -> Result<(), AllocError>
+        requires { self.old.lines < MAX_LINES }
+        ensures { OnOk result (caption_of self.new ≡ with_first_name (caption_of self.old)
+            (record { pass = pass; name = name.now }) line.now) }
+    {
+        let is_known = has_name(&self.names, pass);
+        self.push_named(alloc, is_known, pass, name, line)
+    }
+
+    /// Adds a line of the comment: the first name of a pass, or what stands above the picture.
+    #[tactic(auto, unfolding(crate::specs::Captions::with_comment))]
+    fn push_comment(&mut self, alloc: A, line: &[u8]) -> Result<(), AllocError>
+        requires { self.old.lines < MAX_LINES }
+        ensures { OnOk result (caption_of self.new ≡ with_comment (caption_of self.old) line.now) }
+    {
+        match pass_named(line) {
+            Some((pass, name)) => self.push_first_name(alloc, pass, name, line),
+            None => self.push_line(line),
+        }
+    }
+
     /// Notes a line that was skipped. A comment is added, as long as there are few lines; an empty line ends it.
-    pub(crate) fn note(&mut self, line: &[u8]) -> Result<(), AllocError>
+    pub(crate) fn note(&mut self, alloc: A, line: &[u8]) -> Result<(), AllocError>
         ensures { OnOk result
             (caption_of self.new ≡ caption_after (caption_of self.old) line.now) }
     {
@@ -128,7 +282,7 @@ impl<A: Allocator + Copy> Caption<A> {
             return Ok(());
         }
         match line {
-            [_, text @ ..] => self.push_line(unspaced(text)),
+            [_, text @ ..] => self.push_comment(alloc, unspaced(text)),
             [] => {
                 self.end();
                 Ok(())

@@ -7,6 +7,7 @@ ghost use Rattle.irp_core.specs.Steps.{number};
 ghost use Rattle.csq_replay.specs.Lines.{GrewBy};
 ghost use Rattle.csq_draw.specs.Captions.{ended_caption, caption_of};
 ghost use Rattle.csq_draw.specs.declared.format.Format.{Format as FormatOf};
+ghost use Rattle.csq_draw.specs.Headings.{head_text};
 ghost use Rattle.csq_draw.specs.Passes.{columns};
 ghost use Rattle.csq_explain.specs.Passes.{all_passes};
 ghost use Rattle.csq_explain.specs.Reasons.{reason_of};
@@ -16,7 +17,7 @@ ghost use Rattle.csq_draw.specs.declared.words.WordValues.{WordValues};
 ghost use Rattle.csq_draw.specs.Drawings.{owner_in, DrawingStandsAfter, NotesStep, StandsInFormat};
 ghost use Rattle.csq_draw.specs.Words.{AreWordsNamed};
 
-use crate::caption::Caption;
+use crate::caption::{Caption, draw_names};
 use crate::format::Format;
 use crate::heading::{Extent, Head};
 use crate::irps::{IrpNow, irp_columns, new_irps, note_irps};
@@ -120,8 +121,8 @@ impl<A: Allocator + Copy> Drawing<A> {
         Ok(irps)
     }
 
-    /// Draws the head of a picture of so many rows, with so many lines of text below them.
-    fn draw_head(
+    /// Draws what a picture of so many rows begins with, above so many lines of text below them.
+    fn draw_heading(
         &self,
         irps: &[IrpNow],
         rows: u32,
@@ -131,8 +132,14 @@ impl<A: Allocator + Copy> Drawing<A> {
         requires few { length self.now.execution.passes.items ≤ 65 }
         requires irps { length irps.now ≤ 1024 }
         ensures { OnOk result (GrewBy (string_bytes text.old) (string_bytes text.new)
-            (picture_head (columns self.now.execution.passes.items) (irp_columns irps.now)
-            rows lines (caption_of self.now.caption))) }
+            (head_text (record {
+              columns = columns self.now.execution.passes.items;
+              irps = irp_columns irps.now;
+              rows = rows;
+              lines = lines;
+              caption = self.now.caption.lines;
+            }) (string_bytes self.now.caption.title)
+            (string_bytes self.now.caption.below))) }
     {
         let extent = Extent {
             columns: columns(&self.execution.passes),
@@ -147,6 +154,25 @@ impl<A: Allocator + Copy> Drawing<A> {
             below: self.caption.below.as_str(),
         };
         write!(text, "{head}")?;
+        Ok(())
+    }
+
+    /// Draws the head of a picture of so many rows, with so many lines of text below them.
+    fn draw_head(
+        &self,
+        irps: &[IrpNow],
+        rows: u32,
+        lines: u32,
+        text: &mut String<A>,
+    ) -> Result<(), AllocError>
+        requires few { length self.now.execution.passes.items ≤ 65 }
+        requires irps { length irps.now ≤ 1024 }
+        ensures { OnOk result (GrewBy (string_bytes text.old) (string_bytes text.new)
+            (picture_head self.now.execution.passes.items (irp_columns irps.now)
+            rows lines (caption_of self.now.caption))) }
+    {
+        self.draw_heading(irps, rows, lines, text)?;
+        draw_names(&self.execution.passes, &self.caption.names, text)?;
         Ok(())
     }
 
@@ -330,7 +356,7 @@ impl<A: Allocator + Copy> Answerer<A, Reason> for Drawing<A> {
         let held = lock_of(&self.execution.passes);
         match self.execution.handle(line) {
             Explained::Skipped => {
-                self.caption.note(line.bytes)?;
+                self.caption.note(self.alloc, line.bytes)?;
                 Ok(None)
             }
             Explained::Accepted(step) => {
@@ -354,7 +380,7 @@ impl<A: Allocator + Copy> Answerer<A, Reason> for Drawing<A> {
 /// Reads a schedule, replays its steps over a machine of IRPs 0 to `irps` - 1 and passes 1 to `passes`, and
 /// writes one SVG picture of them: the comment before the first step, up to an empty line and up to eight
 /// lines, with its first line as the title, and a question mark for a byte that isn't printable ASCII; a column
-/// for each pass that makes a step; a row for each step with the value that it found, the call that it is of,
+/// for each pass that makes a step, with the name that the first line as `p1: ReadFile` of the comment gives it; a row for each step with the value that it found, the call that it is of,
 /// who has the lock, who owes or holds which IRP, and the two words of its IRP after it; then the line that
 /// ended the handling and why, or where each IRP is and whether all is at rest.
 ///

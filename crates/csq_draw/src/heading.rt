@@ -13,7 +13,7 @@ At the right stand the Cancel flag and the cancel routine of each IRP.</desc>
 <defs><marker id='arrow' viewBox='0 0 8 8' refX='7' refY='4' markerWidth='8' markerHeight='8' orient='auto'>\
 <path class='ah' d='M0 0L8 4L0 8z'/></marker></defs>
 <style>
-.sheet{fill:#ffffff}.l{fill:#dfe4ea}.h{fill:#6e7781}.a{fill:none;stroke:#57606a;stroke-width:1.5;marker-end:url(#arrow)}.ah{fill:#57606a}
+.sheet{fill:#ffffff}.l{fill:#cfd8e3}.h{fill:#6e7781}.a{fill:none;stroke:#57606a;stroke-width:1.5;marker-end:url(#arrow)}.ah{fill:#57606a}
 .k0{color:#0969da;fill:#ddf4ff}.k1{color:#bc4c00;fill:#fff1e5}
 .k2{color:#1a7f37;fill:#dafbe1}.k3{color:#8250df;fill:#fbefff}
 .k4{color:#9a6700;fill:#fff8c5}.k5{color:#bf3989;fill:#ffeff7}
@@ -28,7 +28,7 @@ text{fill:#1f2328;stroke:none}.s,.m{font-size:10.5px}.s,.m,.n,.q{fill:#59636e}
 .p{font-weight:bold;text-anchor:middle}.o{text-anchor:middle}.q{font-size:9px;text-anchor:middle}.n,.v{text-anchor:end}
 circle.on{fill:currentColor}circle.off{fill:#ffffff}circle.b{stroke-width:3}
 .bar{fill:none;stroke-opacity:.45}.bar.on{stroke-width:6}.bar.off{stroke-width:1.5}
-@media screen and (prefers-color-scheme:dark){.sheet{fill:#0d1117}.l{fill:#2a313a}.h{fill:#8b949e}.a{stroke:#b1bac4}.ah{fill:#b1bac4}
+@media screen and (prefers-color-scheme:dark){.sheet{fill:#0d1117}.l{fill:#38424e}.h{fill:#8b949e}.a{stroke:#b1bac4}.ah{fill:#b1bac4}
 .k0{color:#58a6ff;fill:#0c2d6b}.k1{color:#f0883e;fill:#5a1e02}
 .k2{color:#3fb950;fill:#033a16}.k3{color:#bc8cff;fill:#3c1e70}
 .k4{color:#d29922;fill:#4b2900}.k5{color:#f778ba;fill:#5e103e}

@@ -1,7 +1,7 @@
 //! Who has the lock as a step is made, and the columns of the passes.
 ghost use Rattle.std.specs.Prelude.{◌≡◌, ◌<◌, ◌≤◌, length, position, IfSome};
 ghost use Rattle.irp_core.specs.Inside.{has_lock};
-ghost use Rattle.csq_draw.specs.Passes.{lock_of, lock_at, columns, column_of};
+ghost use Rattle.csq_draw.specs.Passes.{lock_of, lock_at, makes_step, columns, column_of};
 
 use csq_explain::PassNow;
 use irp_core::{Made, PassId};
@@ -33,6 +33,18 @@ pub(crate) fn lock_at(held: Option<PassId>, made: Made) -> Option<PassId>
         Some(made.pass)
     } else {
         held
+    }
+}
+
+/// Whether a pass makes a step.
+pub(crate) fn makes_step(passes: &[PassNow], pass: PassId) -> bool
+    ensures { result ≡ makes_step passes.now pass }
+{
+    let number = pass.0 as usize;
+    if number < passes.len() {
+        passes[number].makes
+    } else {
+        false
     }
 }
 

@@ -120,7 +120,8 @@ with any status: a schedule names none.
                wide line below is a word that stays set
 The comment before the first step is above, its first line as the title; an
 empty line ends it. It has at most eight lines, and a question mark for a byte
-that isn't printable ASCII.
+that isn't printable ASCII. A line as p1: ReadFile names a pass, and stands over
+its column.
 A browser describes each box and each line in words if the pointer rests on it
 and the picture is opened by itself.
 A line that ends the schedule is last, marked as refused, with its refusal and a

@@ -1,19 +1,13 @@
-use Rattle.std.proofs.Common.{ℕ, List, ◌++◌, ◌∙◌, ap, string_bytes}
-use Rattle.csq_draw.specs.declared.heading.Extent.{Extent}
-use Rattle.csq_draw.specs.Headings.{head_text}
-use Rattle.csq_draw.specs.Passes.{columns}
-use Rattle.csq_draw.proofs.Imports.{irp_columns}
+use Rattle.std.proofs.Common.{List, ◌++◌, ◌∙◌, ap, map, string_bytes}
+use Rattle.csq_draw.specs.declared.caption.PassName.{PassName}
+use Rattle.csq_draw.specs.Captions.{name_of}
+use Rattle.csq_draw.specs.Pictures.{pass_name_text}
+use Rattle.csq_explain.specs.declared.passes.PassNow.{PassNow}
+use Rattle.csq_draw.proofs.Imports.{each_text, grew_more}
 use Rattle.csq_draw.proofs.drawing.Drawing.draw_head.Goals as goal
 
 pub returns : goal.returns
 returns g c =
-    let old = string_bytes c.args.text.now in
-    let caption = c.args.self.now.caption in
-    let extent : ℕ → ℕ → Extent = λ k n. record { columns = k; irps = n; rows = c.args.rows; lines = c.args.lines; caption = caption.lines } in
-    let count = c.columns.ensures ∙ ap columns c.deref.ensures.value in
-    let head : Extent → List ℕ → List ℕ → List ℕ = λ e title below. old ++ head_text e title below in
-    let last = extent (columns c.args.self.now.execution.passes.items) (irp_columns c.args.irps.now) in
-    c.in_ok-write.ensures.bytes ∙ ap (λ k. head (extent k c.irp_columns.result) c.as_str.result.now c.as_str-2.result.now) count
-    ∙ ap (λ n. head (extent (columns c.args.self.now.execution.passes.items) n) c.as_str.result.now c.as_str-2.result.now) c.irp_columns.ensures
-    ∙ ap (λ t. head last t c.as_str-2.result.now) c.as_str.ensures.value
-    ∙ ap (head last (string_bytes caption.title)) c.as_str-2.ensures.value
+    let drawn : List PassNow → List (PassName g.row.A.Denot) → List _ = λ passes names. string_bytes c.draw_heading.new.text ++ each_text (λ n name. pass_name_text passes name) 0 (map name_of names) in
+    grew_more _ _ _ _ _ c.in_ok-draw_heading.ensures
+    (c.in_ok-draw_names.ensures ∙ ap (λ passes. drawn passes c.deref-2.result.now) c.deref.ensures.value ∙ ap (drawn c.args.self.now.execution.passes.items) c.deref-2.ensures.value)
