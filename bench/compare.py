@@ -21,7 +21,7 @@ def compare(own, plain):
 
 def ratio_text(row):
     """A ratio with its spread, which says where the machine is too noisy to tell."""
-    noisy = '' if row['spread'] <= TOO_NOISY else ', too noisy to tell'
+    noisy = '' if row['spread'] <= TOO_NOISY else ', noisy'
     return f"{row['ratio']:.2f} ({row['spread']:.0f} %{noisy})"
 
 
