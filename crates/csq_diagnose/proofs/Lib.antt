@@ -9,3 +9,4 @@ mod Nearing
 pub mod Reporting
 pub mod Reported
 mod Malforming
+mod Marking

@@ -8,19 +8,19 @@ use Rattle.csq_replay.specs.CallLine.{IsCallLine}
 use Rattle.csq_diagnose.specs.declared.grammar.Grammar.TheVariants.{Script}
 use Rattle.csq_diagnose.specs.declared.malformed.Malformed.{Malformed}
 use Rattle.csq_diagnose.specs.Malforms.{IsMalformed}
-use Rattle.csq_diagnose.specs.LineTexts.{long_text, malformed_line_text}
+use Rattle.csq_diagnose.specs.LineTexts.{long_text, fault_lines}
 
 -- the nth line of a script ends it and is reported so, or it names a call and nothing is reported
 pub data DiagnosesCall (n : ℕ) (line : List ℕ) : List ℕ → Option (Unit {0}) → Type 0 where
   is_long : 64 < length line → DiagnosesCall n line (long_text n (length line) ++ codes "\n") None
   is_skipped : IsWithinLine line → IsSkipped line → DiagnosesCall n line [] (Some tt)
   is_call : IsWithinLine line → ¬ IsSkipped line → (c : ScriptCall) → IsCallLine line c → DiagnosesCall n line [] (Some tt)
-  is_malformed : IsWithinLine line → ¬ IsSkipped line → (fault : Malformed) → IsMalformed Script line fault → DiagnosesCall n line (malformed_line_text n fault ++ codes "\n") None
+  is_malformed : IsWithinLine line → ¬ IsSkipped line → (fault : Malformed) → IsMalformed Script line fault → DiagnosesCall n line (fault_lines n line fault) None
 
 -- the nth line ends a script for this reason, and is reported so, if one that is malformed names no call
 abbrev pub ReportsCallStop : CallStop → ℕ → List ℕ → List ℕ → Type 0
 ReportsCallStop TooLong n line text = text ≡ long_text n (length line) ++ codes "\n"
-ReportsCallStop NoCall n line text = ((c : ScriptCall) → ¬ IsCallLine line c) → (fault : Malformed) × IsMalformed Script line fault × (text ≡ malformed_line_text n fault ++ codes "\n")
+ReportsCallStop NoCall n line text = ((c : ScriptCall) → ¬ IsCallLine line c) → (fault : Malformed) × IsMalformed Script line fault × (text ≡ fault_lines n line fault)
 
 -- a script is diagnosed so: by its first line that ends it, if there is one
 abbrev pub IsScriptDiagnosis : List ℕ → List ℕ → Ended → Type 0

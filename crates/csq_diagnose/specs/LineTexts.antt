@@ -1,8 +1,9 @@
 -- Lines that end a schedule or a script, in words.
-use Rattle.std.specs.Prelude.{ℕ, List, [], ◌++◌, codes, decimal, Option, Some, None}
+use Rattle.std.specs.Prelude.{ℕ, ◌-◌, ◌&&◌, nat_le, List, [], ◌++◌, length, map, replicate, codes, decimal, Option, Some, None, if◌then◌else◌}
 use Rattle.csq_replay.specs.declared.lines.TheConstants.{MAX_LINE}
 use Rattle.csq_diagnose.specs.declared.malformed.Malformed.{Malformed}
-use Rattle.csq_diagnose.specs.Texts.{malformed_text}
+use Rattle.csq_diagnose.specs.declared.found.Found.{Found, TheVariants.{Word}}
+use Rattle.csq_diagnose.specs.Texts.{malformed_text, notes_text}
 
 -- what is said of a column of the nth line, behind the name of the file
 abbrev pub at_text : ℕ → ℕ → List ℕ → List ℕ
@@ -16,7 +17,28 @@ long_text n length = decimal n ++ (codes ":65: the line has " ++ (decimal length
 abbrev pub malformed_line_text : ℕ → Malformed → List ℕ
 malformed_line_text n fault = at_text n fault.column (malformed_text fault)
 
--- what names no step, or no call, in the nth line, if anything
-abbrev pub fault_text : ℕ → Option Malformed → List ℕ
-fault_text n (Some fault) = malformed_line_text n fault ++ codes "\n"
-fault_text n None = []
+-- a byte of the line as it is shown: a question mark if it isn't printable ASCII
+abbrev pub shown : ℕ → ℕ
+shown b = if nat_le 32 b && nat_le b 126 then b else 63
+
+-- the line itself
+abbrev pub source_text : List ℕ → List ℕ
+source_text line = codes "    " ++ (map shown line ++ codes "\n")
+
+-- how many bytes are marked: those of a word, and else one
+abbrev pub marked : Found → ℕ
+marked (Word word) = length word.now
+marked _ = 1
+
+-- and the mark below them
+abbrev pub mark_text : Malformed → List ℕ
+mark_text fault = codes "    " ++ (replicate (fault.column - 1) 32 ++ (replicate (marked fault.found) 94 ++ codes "\n"))
+
+-- what names no step, or no call, in the nth line: what is wrong, the line with a mark, and which words are expected
+abbrev pub fault_lines : ℕ → List ℕ → Malformed → List ℕ
+fault_lines n line fault = (malformed_line_text n fault ++ codes "\n") ++ (source_text line ++ (mark_text fault ++ notes_text fault))
+
+-- if anything
+abbrev pub fault_text : ℕ → List ℕ → Option Malformed → List ℕ
+fault_text n line (Some fault) = fault_lines n line fault
+fault_text n line None = []

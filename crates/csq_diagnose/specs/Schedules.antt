@@ -18,13 +18,13 @@ use Rattle.csq_diagnose.specs.Reports.{IsReportUntil}
 use Rattle.csq_diagnose.specs.declared.grammar.Grammar.TheVariants.{Schedule}
 use Rattle.csq_diagnose.specs.declared.malformed.Malformed.{Malformed}
 use Rattle.csq_diagnose.specs.Malforms.{IsMalformed}
-use Rattle.csq_diagnose.specs.LineTexts.{long_text, malformed_line_text}
+use Rattle.csq_diagnose.specs.LineTexts.{long_text, fault_lines}
 use Rattle.csq_diagnose.specs.RefusedTexts.{cure_of, refused_text}
 
 -- the nth line ends the handling for this reason, and is reported so
 abbrev pub IsReportedStop : ℕ → List ℕ → Reason → Stop → List ℕ → Type 0
 IsReportedStop n line reason TooLong text = text ≡ long_text n (length line) ++ codes "\n"
-IsReportedStop n line reason NoStep text = (fault : Malformed) × IsMalformed Schedule line fault × (text ≡ malformed_line_text n fault ++ codes "\n")
+IsReportedStop n line reason NoStep text = (fault : Malformed) × IsMalformed Schedule line fault × (text ≡ fault_lines n line fault)
 IsReportedStop n line reason (Refused s cause) text = text ≡ refused_text n s reason (cure_of s reason.stop) ++ codes "\n"
 
 -- so it is reported, if a line that is malformed names no step

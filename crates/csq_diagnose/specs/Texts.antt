@@ -103,12 +103,21 @@ other_input_text e word = []
 
 -- what is found if a word is expected
 abbrev pub found_text : Expected → Option Near → Found → List ℕ
-found_text e near End = codes "the line ends before its " ++ (noun_text e ++ (codes "\n  " ++ rule_text e))
+found_text e near End = codes "the line ends before its " ++ noun_text e
 found_text e near FirstSpace = codes "a space begins the line"
 found_text e near TwoSpaces = codes "two spaces: words are separated by one"
 found_text e near LastSpace = codes "a space ends the line"
 found_text e near (Byte byte) = strange_text byte
-found_text e near (Word word) = misplaced_text word.now e ++ (hint_text near (length word.now) ++ (codes "\n  " ++ (rule_text e ++ (number_rule_text word.now ++ (steps_meant_text e word.now ++ other_input_text e word.now)))))
+found_text e near (Word word) = misplaced_text word.now e ++ hint_text near (length word.now)
+
+-- which words are expected, on lines of their own
+abbrev pub notes_of : Expected → Found → List ℕ
+notes_of e End = codes "  " ++ (rule_text e ++ codes "\n")
+notes_of e (Word word) = codes "  " ++ (rule_text e ++ (number_rule_text word.now ++ (steps_meant_text e word.now ++ (other_input_text e word.now ++ codes "\n"))))
+notes_of e _ = []
 
 abbrev pub malformed_text : Malformed → List ℕ
 malformed_text fault = found_text fault.expected fault.near fault.found
+
+abbrev pub notes_text : Malformed → List ℕ
+notes_text fault = notes_of fault.expected fault.found

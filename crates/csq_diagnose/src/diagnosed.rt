@@ -5,13 +5,15 @@ ghost use Rattle.csq_replay.specs.Pieces.{words_of};
 ghost use Rattle.csq_diagnose.specs.declared.malformed.Malformed.{Malformed as MalformedOf};
 ghost use Rattle.csq_diagnose.specs.Grammars.{AreLineWords};
 ghost use Rattle.csq_diagnose.specs.Malforms.{IsMalformed};
-ghost use Rattle.csq_diagnose.specs.LineTexts.{long_text, fault_text};
+ghost use Rattle.csq_diagnose.specs.LineTexts.{long_text, fault_lines, fault_text};
 ghost use Rattle.csq_diagnose.specs.Reports.{IsEndDiagnosis, IsReportUntil};
 
 use crate::grammar::Grammar;
 use crate::lines::{LongLine, MalformedLine};
 use crate::malformed::Malformed;
 use crate::refused::{Cure, RefusedLine};
+use crate::source::{push_mark, push_source};
+use crate::texts::Notes;
 use csq_explain::Reason;
 use csq_replay::{Answerer, CallStop, Ended, Ending, Line, Stop, answer_input};
 use std::alloc::{AllocError, Allocator};
@@ -48,6 +50,23 @@ pub(crate) fn add_long<A: Allocator>(line: Line<'_>, text: &mut String<A>) -> Re
     writeln!(text, "{}", LongLine { number, length })
 }
 
+/// Adds what names no step, or no call, in a line: what is wrong, the line with a mark, and which words are expected.
+pub(crate) fn add_fault<A: Allocator>(
+    line: Line<'_>,
+    fault: Malformed<'_>,
+    text: &mut String<A>,
+) -> Result<(), AllocError>
+    ensures { OnOk result (GrewBy (string_bytes text.old) (string_bytes text.new)
+        (fault_lines line.entry.number line.entry.bytes.now fault.entry)) }
+{
+    let number = line.number;
+    writeln!(text, "{}", MalformedLine { number, fault })?;
+    push_source(line.bytes, text)?;
+    push_mark(fault, text)?;
+    write!(text, "{}", Notes(fault))?;
+    Ok(())
+}
+
 /// Adds what names no step, or no call, in a line; nothing if it names one.
 fn add_malformed<A: Allocator + Copy>(
     alloc: A,
@@ -57,13 +76,13 @@ fn add_malformed<A: Allocator + Copy>(
 ) -> Result<(), AllocError>
     ensures { OnOk result ((fault : Option MalformedOf) × MatchOption fault
         (AreLineWords grammar (words_of line.entry.bytes.now)) (IsMalformed grammar line.entry.bytes.now)
-        × GrewBy (string_bytes text.old) (string_bytes text.new) (fault_text line.entry.number fault)) }
+        × GrewBy (string_bytes text.old) (string_bytes text.new)
+        (fault_text line.entry.number line.entry.bytes.now fault)) }
 {
     let Some(fault) = Malformed::find(alloc, grammar, line.bytes)? else {
         return Ok(());
     };
-    let number = line.number;
-    writeln!(text, "{}", MalformedLine { number, fault })?;
+    add_fault(line, fault, text)?;
     Ok(())
 }
 

@@ -13,6 +13,7 @@ mod nearest;
 mod refused;
 mod schedule;
 mod script;
+mod source;
 mod texts;
 
 pub use diagnosed::{Diagnose, Report, report_input};

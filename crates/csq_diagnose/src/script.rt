@@ -7,9 +7,8 @@ ghost use Rattle.csq_explain.specs.ExplainingCalls.{IsScriptText};
 ghost use Rattle.csq_diagnose.specs.Diagnoses.{IsScriptDiagnosis, DiagnosesScript};
 ghost use Rattle.csq_diagnose.specs.Reports.{IsReport};
 
-use crate::diagnosed::{Report, add_long, report_input};
+use crate::diagnosed::{Report, add_fault, add_long, report_input};
 use crate::grammar::Grammar;
-use crate::lines::MalformedLine;
 use crate::malformed::Malformed;
 use csq_explain::ScriptExplanation;
 use csq_list::PendingList;
@@ -72,8 +71,7 @@ impl<A: Allocator + Copy> Answerer<A, CallStop> for ScriptDiagnoser<A> {
         let Some(fault) = Malformed::find(self.alloc, Grammar::Script, line.bytes)? else {
             return Ok(None);
         };
-        let number = line.number;
-        writeln!(text, "{}", MalformedLine { number, fault })?;
+        add_fault(line, fault, text)?;
         Ok(Some(CallStop::Malformed))
     }
 

@@ -214,7 +214,7 @@ fn other_input(expected: Expected, word: &str) -> &'static str
     }
 }
 
-/// What is wrong, and which words are expected if a word is missing or is another one.
+/// What is wrong, on one line.
 impl fmt::Display for Malformed<'_> {
     ghost use Rattle.std.specs.Prelude.{Some};
     ghost use Rattle.csq_diagnose.specs.Texts.{malformed_text};
@@ -223,19 +223,42 @@ impl fmt::Display for Malformed<'_> {
 
     fn fmt<W: fmt::Write>(&self, f: &mut fmt::Formatter<W>) -> fmt::Result {
         let expected = self.expected;
-        let (noun, rule) = (noun(expected), rule(expected));
+        let noun = noun(expected);
         match self.found {
-            Found::End => write!(f, "the line ends before its {noun}\n  {rule}"),
+            Found::End => write!(f, "the line ends before its {noun}"),
             Found::FirstSpace => write!(f, "a space begins the line"),
             Found::TwoSpaces => write!(f, "two spaces: words are separated by one"),
             Found::LastSpace => write!(f, "a space ends the line"),
             Found::Byte(byte) => write!(f, "{}", Strange(byte)),
             Found::Word(word) => {
                 let (misplaced, hint) = (Misplaced { word, expected }, Hint(self.near, word.len()));
+                write!(f, "{misplaced}{hint}")
+            }
+        }
+    }
+}
+
+/// Which words are expected if one is missing or is another one, each rule on a line of its own.
+#[derive(Clone, Copy)]
+pub(crate) struct Notes<'a>(pub(crate) Malformed<'a>);
+
+impl fmt::Display for Notes<'_> {
+    ghost use Rattle.std.specs.Prelude.{Some};
+    ghost use Rattle.csq_diagnose.specs.Texts.{notes_text};
+
+    ghost output = { λ notes. Some (notes_text notes.0) };
+
+    fn fmt<W: fmt::Write>(&self, f: &mut fmt::Formatter<W>) -> fmt::Result {
+        let expected = self.0.expected;
+        let rule = rule(expected);
+        match self.0.found {
+            Found::End => writeln!(f, "  {rule}"),
+            Found::Word(word) => {
                 let (steps, number) = (steps_meant(expected, word), number_rule(word.as_bytes()));
                 let other = other_input(expected, word);
-                write!(f, "{misplaced}{hint}\n  {rule}{number}{steps}{other}")
+                writeln!(f, "  {rule}{number}{steps}{other}")
             }
+            _ => Ok(()),
         }
     }
 }

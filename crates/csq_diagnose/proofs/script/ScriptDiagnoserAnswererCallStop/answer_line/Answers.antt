@@ -19,4 +19,4 @@ pub returns : goal.returns
 returns g c = λ k s a.
     let fault = rw c.in-Some.is at c.in_ok-fault.ensures in
     let kept : ¬ IsSkipped c.args.line.bytes.now = λ skipped. let t = c.is_skipped.ensures.1 skipped in let f = c.if-is_skipped.false in cc (t, f) in
-    (_, c.in_ok-writeln.ensures.bytes, (None, is_malformed c.if-line-gt-MAX_LINE.false kept c.in-Some.fault fault, tt))
+    (_, c.in_ok-add_fault.ensures, (None, is_malformed c.if-line-gt-MAX_LINE.false kept c.in-Some.fault fault, tt))
