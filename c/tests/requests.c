@@ -1,6 +1,13 @@
 /* The calls of csq_requests.h, in one thread. */
 #include "requests_check.h"
 
+static void the_lengths_are(struct csq_requests *requests, uint32_t file, uint32_t listed, uint32_t under_way) {
+    uint32_t got_listed = UNWRITTEN, got_under_way = UNWRITTEN;
+    IS(csq_requests_len(requests, file, &got_listed, &got_under_way), CSQ_OK);
+    IS(got_listed, listed);
+    IS(got_under_way, under_way);
+}
+
 static void values_come_out_in_order(uint32_t list) {
     struct csq_requests *requests = made(4, list, NULL);
     struct csq_request first, odd;
@@ -12,7 +19,10 @@ static void values_come_out_in_order(uint32_t list) {
     IS(next(requests, 1, &odd), 1);
     IS(first.file, 0);
     IS(odd.file, 1);
-    IS(under_way(requests, CSQ_ANY), 4);
+    the_lengths_are(requests, CSQ_ANY, 2, 4);
+    the_lengths_are(requests, 0, 1, 2);
+    the_lengths_are(requests, 1, 1, 2);
+    the_lengths_are(requests, 2, 0, 0);
     IS(csq_requests_complete(requests, &odd, CSQ_STATUS_PENDING), CSQ_NOT_FINAL);
     IS(csq_requests_complete(requests, &odd, 7), CSQ_OK);
     IS(csq_requests_complete(requests, &odd, 7), CSQ_NOT_HELD);
@@ -37,6 +47,7 @@ static void a_refusal_leaves_the_value(uint32_t list) {
     struct csq_irp name = { UNWRITTEN, UNWRITTEN };
     struct csq_request taken;
     size.limit = 2;
+    size.passes = 0; /* which isn't looked at */
     IS(csq_requests_new(&requests, &size, limits, NULL), CSQ_OK);
     IS(csq_requests_new(&requests, &size, limits, NULL), CSQ_NOT_EMPTY);
     IS(csq_requests_submit(requests, number(0), FILES, 0, &name), CSQ_UNKNOWN_FILE);
@@ -54,6 +65,7 @@ static void a_refusal_leaves_the_value(uint32_t list) {
     IS(csq_requests_submit(requests, number(3), 2, 0, &name), CSQ_FILE_CLOSED);
     IS(csq_requests_cleanup(requests, FILES, 0), CSQ_UNKNOWN_FILE);
     IS(csq_requests_drain(requests, FILES, 0), CSQ_UNKNOWN_FILE);
+    IS(csq_requests_len(requests, FILES, &name.irp, &name.life), CSQ_UNKNOWN_FILE);
     IS(csq_requests_complete(requests, &taken, 0), CSQ_OK);
     IS(name.irp, UNWRITTEN);
     IS(csq_requests_free(&requests), CSQ_OK);
@@ -118,8 +130,13 @@ static void what_is_put_back_keeps_its_name(uint32_t list) {
     IS(csq_requests_complete(requests, &again, 0), CSQ_OK);
     IS(next(requests, CSQ_ANY, &again), 1);
     CHECK(again.name.irp == first.irp && again.name.life == first.life);
+    submit(requests, 4, 0, 0);
+    IS(csq_requests_put_back(requests, &again, 1), CSQ_OK);
+    IS(next(requests, 0, &again), 1);
     IS(csq_requests_put_back(requests, &again, 1), CSQ_OK);
     IS(csq_requests_cancel(requests, first, &value), CSQ_OK);
+    IS(next(requests, 0, &again), 4);
+    IS(csq_requests_complete(requests, &again, 0), CSQ_OK);
     IS(number_of(value), 1);
     first = submit(requests, 3, 2, 0);
     IS(next(requests, 2, &taken), 3);
