@@ -165,6 +165,7 @@ static void what_a_cancel_has_named_is_not_put_back(uint32_t list) {
     IS(csq_requests_drain(requests, 0, 0), CSQ_HOLDING);
     IS(csq_requests_put_back(requests, &taken, 1), CSQ_NOT_REMOVED);
     IS(csq_requests_complete(requests, &taken, CSQ_STATUS_SUCCESS), CSQ_NOT_REMOVED);
+    IS(csq_requests_complete(requests, &taken, CSQ_STATUS_FILE_CLOSED), CSQ_NOT_REMOVED);
     IS(csq_requests_complete(requests, &taken, CSQ_STATUS_CANCELLED), CSQ_OK);
     IS(csq_requests_complete(requests, &taken, CSQ_STATUS_CANCELLED), CSQ_NOT_HELD);
     IS(csq_requests_cancel(requests, name, &value), CSQ_STALE);
@@ -217,6 +218,39 @@ static void lives_end(uint32_t list) {
     IS(csq_requests_free(&requests), CSQ_OK);
 }
 
+static uint32_t last_status(struct csq_requests *requests, struct csq_irp name) {
+    uint32_t life = UNWRITTEN, status = UNWRITTEN;
+    IS(csq_read_status(&requests->pass, name.irp, &life, &status), CSQ_OK);
+    IS(life, CSQ_LAST_LIFE);
+    return status;
+}
+
+/* In its last life an IRP keeps its status. */
+static void each_way_ends_with_its_status(uint32_t list) {
+    struct csq_requests *requests = NULL;
+    struct csq_size size = size_of(4, 1, list);
+    struct csq_request taken[2];
+    struct csq_irp cancelled, drained;
+    void *value = NULL;
+    size.first_life = CSQ_LAST_LIFE;
+    IS(csq_requests_new(&requests, &size, NULL, NULL), CSQ_OK);
+    for (int at = 0; at < 2; at++) {
+        submit(requests, at, 0, 0);
+        IS(next(requests, CSQ_ANY, &taken[at]), (uint32_t)at);
+    }
+    cancelled = submit(requests, 2, 0, 0);
+    drained = submit(requests, 3, 0, 0);
+    IS(csq_requests_cancel(requests, cancelled, &value), CSQ_OK);
+    IS(csq_requests_drain(requests, 0, 0), CSQ_HOLDING);
+    IS(csq_requests_complete(requests, &taken[0], CSQ_STATUS_FILE_CLOSED), CSQ_OK);
+    IS(csq_requests_complete(requests, &taken[1], CSQ_STATUS_CANCELLED), CSQ_OK);
+    IS(last_status(requests, taken[0].name), CSQ_STATUS_FILE_CLOSED);
+    IS(last_status(requests, taken[1].name), CSQ_STATUS_CANCELLED);
+    IS(last_status(requests, cancelled), CSQ_STATUS_CANCELLED);
+    IS(last_status(requests, drained), CSQ_STATUS_CANCELLED);
+    IS(csq_requests_free(&requests), CSQ_OK);
+}
+
 /* The IRP that has been free longest is used next, so that none is spent before the others. */
 static void irps_wear_evenly(uint32_t list) {
     static const uint32_t ended[] = { 1, 2, 0 };
@@ -250,11 +284,15 @@ static void irps_wear_evenly(uint32_t list) {
 }
 
 static void a_close_leaves_what_is_listed(uint32_t list) {
-    struct csq_requests *requests = made(4, list, NULL);
+    struct csq_requests *requests = made(2, list, NULL);
     struct csq_request taken;
+    struct csq_irp name;
     submit(requests, 1, 0, 0);
     submit(requests, 2, 1, 0);
     csq_requests_close(requests);
+    /* That no IRP is free is tested after it. */
+    IS(csq_requests_submit(requests, number(3), 0, 0, &name), CSQ_CLOSED);
+    IS(csq_requests_next(requests, 2, 0, &taken), CSQ_CLOSED);
     IS(csq_requests_next(requests, 2, CSQ_FOREVER, &taken), CSQ_CLOSED);
     IS(csq_requests_next(requests, 1, CSQ_FOREVER, &taken), CSQ_OK);
     IS(csq_requests_put_back(requests, &taken, 0), CSQ_OK);
@@ -272,6 +310,7 @@ int main(void) {
     RUN_BOTH(what_a_cancel_has_named_is_not_put_back);
     RUN_BOTH(a_drain_ends_what_is_listed);
     RUN_BOTH(lives_end);
+    RUN_BOTH(each_way_ends_with_its_status);
     RUN_BOTH(irps_wear_evenly);
     RUN_BOTH(a_close_leaves_what_is_listed);
     return DONE();

@@ -240,7 +240,7 @@ static void hold_up(struct worker *worker, struct csq_requests *requests, void *
     const struct csq_requests_file *of = csq_requests_file_of(requests, 0);
     begin(worker, requests, routine);
     pthread_mutex_lock(&requests->mutex);
-    while (of->waiting + of->draining == 0) {
+    while (of->waiting + of->draining == 0 && !check_failed) {
         uint32_t ended = worker->ended;
         pthread_mutex_unlock(&requests->mutex);
         if (ended) {
