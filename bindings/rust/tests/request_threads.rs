@@ -151,3 +151,46 @@ fn each_value_comes_out_once() {
     run(List::Vector);
     run(List::Chains);
 }
+
+/// What is submitted until the file object is closed: the cleanup cancels all of it.
+#[test]
+fn a_cleanup_leaves_nothing_listed() {
+    for turn in 0..200 {
+        let queue = Requests::new(&Size::new(8, 1, 2)).unwrap();
+        let caller = queue.pass().unwrap();
+        thread::scope(|scope| {
+            let submits = scope.spawn(move || {
+                let cause = || caller.submit(turn, 0, Place::Back).err().map(|it| it.cause);
+                while cause() != Some(SubmitError::FileClosed) {}
+            });
+            while queue.is_empty() {
+                thread::yield_now();
+            }
+            drop(match turn % 2 {
+                0 => queue.pass().unwrap().cleanup(0),
+                _ => queue.owned_pass().unwrap().cleanup(0),
+            });
+            submits.join().unwrap();
+        });
+        assert_eq!(queue.len(), 0);
+    }
+}
+
+/// Its close may come at any step of the drop.
+#[test]
+fn a_queue_is_closed_as_its_last_pass_goes() {
+    for turn in 0..500 {
+        let mut queue = Requests::new(&Size::new(1, 1, 1)).unwrap();
+        let pass = queue.pass().unwrap();
+        pass.submit(turn, 0, Place::Back).unwrap();
+        let goes = thread::spawn(move || drop(pass));
+        let left = loop {
+            match queue.close() {
+                Ok(left) => break left,
+                Err(refused) => queue = refused.queue,
+            }
+        };
+        assert_eq!(left, [turn]);
+        goes.join().unwrap();
+    }
+}
