@@ -40,10 +40,12 @@ static void freed(void *block) {
     free(block);
 }
 
-/* The last nanosecond of a second. */
+/* It tells the last nanosecond of a second, long ago, so that each time limit is over. */
+static unsigned looks;
 static int tells(clockid_t clock, struct timespec *now) {
     const struct timespec still = { 7, 999999999 };
     *now = still;
+    looks++;
     return clock == CLOCK_MONOTONIC ? 0 : -1;
 }
 
@@ -144,9 +146,28 @@ static void a_time_ends_so_many_milliseconds_later(void) {
     }
 }
 
+/* A thread that waits looks at the clock once, so that no wake gives it more time. */
+static void a_limit_is_from_the_call_on(uint32_t list) {
+    struct csq_requests *requests = made(2, list, NULL);
+    struct csq_request taken;
+    looks = 0;
+    IS(csq_requests_next(requests, 0, 0, &taken), CSQ_NONE);
+    IS(csq_requests_drain(requests, 0, CSQ_FOREVER), CSQ_OK);
+    IS(looks, 0);
+    IS(csq_requests_next(requests, 0, SHORT, &taken), CSQ_NONE);
+    IS(looks, 1);
+    submit(requests, 1, 0, 0);
+    IS(next(requests, 0, &taken), 1);
+    IS(csq_requests_drain(requests, 0, SHORT), CSQ_HOLDING);
+    IS(looks, 2);
+    IS(csq_requests_complete(requests, &taken, 0), CSQ_OK);
+    IS(csq_requests_free(&requests), CSQ_OK);
+}
+
 int main(void) {
     RUN_BOTH(a_queue_that_is_refused_something_keeps_nothing);
     RUN_BOTH(no_other_call_takes_anything);
     RUN(a_time_ends_so_many_milliseconds_later);
+    RUN_BOTH(a_limit_is_from_the_call_on);
     return DONE();
 }

@@ -58,12 +58,17 @@ static void rest(void) {
 
 /* Until so many workers and drains wait for a file object, or for any. */
 static void until_it_waits(struct csq_requests *requests, uint32_t file, uint32_t count) {
-    struct csq_requests_file *of = csq_requests_file_of(requests, file);
-    for (uint32_t waiting = 0; waiting < count; sched_yield()) {
+    const struct csq_requests_file *of = csq_requests_file_of(requests, file);
+    struct timespec start;
+    uint32_t waiting = 0;
+    clock_gettime(CLOCK_MONOTONIC, &start);
+    while (waiting < count && milliseconds_since(start) < LONG) {
         pthread_mutex_lock(&requests->mutex);
         waiting = of->waiting + of->draining;
         pthread_mutex_unlock(&requests->mutex);
+        sched_yield();
     }
+    CHECK(waiting >= count);
 }
 
 static void a_submit_wakes_one_who_waits_for_it(uint32_t list) {
@@ -91,10 +96,10 @@ static void a_submit_wakes_one_who_waits_for_it(uint32_t list) {
     until_it_waits(requests, CSQ_ANY, 1);
     until_it_waits(requests, 1, 2);
     csq_requests_close(requests);
-    csq_requests_close(requests);
     end_of(&workers[0], CSQ_CLOSED, 0);
     end_of(&workers[1], CSQ_CLOSED, 0);
     end_of(&workers[2], CSQ_CLOSED, 0);
+    csq_requests_close(requests);
     IS(csq_requests_submit(requests, number(1), 0, 0, &taken.name), CSQ_CLOSED);
     IS(csq_requests_submit(requests, number(1), CSQ_ANY, 0, &taken.name), CSQ_UNKNOWN_FILE);
     IS(csq_requests_next(requests, CSQ_ANY, CSQ_FOREVER, &taken), CSQ_CLOSED);
@@ -271,39 +276,6 @@ static void who_runs_out_of_time_looks_once_more(uint32_t list) {
     IS(csq_requests_free(&requests), CSQ_OK);
 }
 
-/* Wakes it again and again, until it ends: its time doesn't begin anew. */
-static void wake_until_it_ends(struct worker *worker, uint32_t code) {
-    const struct timespec pause = { 0, SHORT * 1000000 / 8 };
-    struct csq_requests *requests = worker->requests;
-    struct timespec start;
-    uint32_t ended = 0;
-    clock_gettime(CLOCK_MONOTONIC, &start);
-    while (!ended && milliseconds_since(start) < 100 * SHORT) {
-        pthread_mutex_lock(&requests->mutex);
-        pthread_cond_broadcast(&requests->files[0].listed);
-        pthread_cond_broadcast(&requests->ended);
-        ended = worker->ended;
-        pthread_mutex_unlock(&requests->mutex);
-        nanosleep(&pause, NULL);
-    }
-    CHECK(ended);
-    end_of(worker, code, 0);
-}
-
-static void a_wake_gives_no_more_time(uint32_t list) {
-    struct csq_requests *requests = made(2, list, NULL);
-    struct worker worker;
-    struct csq_request taken;
-    begin(&worker, requests, wait_a_little);
-    wake_until_it_ends(&worker, CSQ_NONE);
-    submit(requests, 1, 0, 0);
-    IS(next(requests, 0, &taken), 1);
-    begin(&worker, requests, drain_a_little);
-    wake_until_it_ends(&worker, CSQ_HOLDING);
-    IS(csq_requests_complete(requests, &taken, 0), CSQ_OK);
-    IS(csq_requests_free(&requests), CSQ_OK);
-}
-
 /* ---- Each value comes out once, whoever gets it ---- */
 
 enum { SUBMITTERS = 3, WORKERS = 4, MOST = 20000 };
@@ -417,7 +389,6 @@ int main(int count, char **words) {
     RUN_BOTH(a_drain_waits_for_what_a_cancel_has_named);
     RUN_BOTH(each_of_several_drains_is_woken);
     RUN_BOTH(who_runs_out_of_time_looks_once_more);
-    RUN_BOTH(a_wake_gives_no_more_time);
     RUN_BOTH(each_value_comes_out_once);
     return DONE();
 }
