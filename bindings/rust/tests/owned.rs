@@ -83,6 +83,30 @@ fn an_owned_request_keeps_its_pass() {
     assert_eq!(pass.recv(Peek::Any).unwrap().complete(), 2);
 }
 
+/// A value that reports, as it is dropped, why its request can't be cancelled.
+struct Looks(Option<(OwnedPass<Looks>, RequestId, mpsc::Sender<Option<Missed>>)>);
+
+impl Drop for Looks {
+    fn drop(&mut self) {
+        if let Some((pass, id, found)) = self.0.take() {
+            found.send(pass.cancel(id).err()).unwrap();
+        }
+    }
+}
+
+#[test]
+fn a_request_is_completed_before_its_value_is_dropped() {
+    let queue = queue_of(1, 1);
+    let pass = queue.owned_pass().unwrap();
+    let (to_test, found) = mpsc::channel();
+    let id = pass.submit(Looks(None), 0, Place::Back);
+    let mut request = pass.try_recv(Peek::Any).unwrap();
+    request.value_mut().0 = Some((pass, id.ok().unwrap(), to_test));
+    drop(request);
+    assert_eq!(found.recv(), Ok(Some(Missed::Completed)));
+    assert_eq!(queue.passes_out(), 0);
+}
+
 #[test]
 fn an_owned_request_stands_where_it_was_put_back() {
     for (place, order) in [(Place::Front, ["a", "b"]), (Place::Back, ["b", "a"])] {

@@ -423,6 +423,22 @@ mod tests {
         assert_eq!(late, Some(RecvTimeoutError::Timeout));
     }
 
+    /// A pass waits for the lock to be given back, and has let go of its share by then.
+    #[test]
+    fn a_queue_that_has_no_pass_out_has_its_share_alone() {
+        let queue = Requests::<u32>::new(&Size::new(1, 1, 1)).unwrap();
+        let pass = queue.pass().unwrap();
+        let (locked, start) = (queue.queue.lock(), Instant::now());
+        let goes = thread::spawn(move || drop(pass));
+        while Arc::strong_count(&queue.shared) > 1 && start.elapsed() < Duration::from_secs(10) {
+            thread::yield_now();
+        }
+        assert_eq!(Arc::strong_count(&queue.shared), 1);
+        drop(locked);
+        goes.join().unwrap();
+        assert!(queue.close().unwrap().is_empty());
+    }
+
     /// In the last life there is no next one, so the status stays.
     #[test]
     fn each_way_ends_with_its_status() {
