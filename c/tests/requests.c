@@ -1,6 +1,13 @@
 /* The calls of csq_requests.h, in one thread. */
 #include "requests_check.h"
 
+static void the_lengths_are(struct csq_requests *requests, uint32_t file, uint32_t listed, uint32_t under_way) {
+    uint32_t got_listed = UNWRITTEN, got_under_way = UNWRITTEN;
+    IS(csq_requests_len(requests, file, &got_listed, &got_under_way), CSQ_OK);
+    IS(got_listed, listed);
+    IS(got_under_way, under_way);
+}
+
 static void values_come_out_in_order(uint32_t list) {
     struct csq_requests *requests = made(4, list, NULL);
     struct csq_request first, odd;
@@ -12,7 +19,10 @@ static void values_come_out_in_order(uint32_t list) {
     IS(next(requests, 1, &odd), 1);
     IS(first.file, 0);
     IS(odd.file, 1);
-    IS(under_way(requests, CSQ_ANY), 4);
+    the_lengths_are(requests, CSQ_ANY, 2, 4);
+    the_lengths_are(requests, 0, 1, 2);
+    the_lengths_are(requests, 1, 1, 2);
+    the_lengths_are(requests, 2, 0, 0);
     IS(csq_requests_complete(requests, &odd, CSQ_STATUS_PENDING), CSQ_NOT_FINAL);
     IS(csq_requests_complete(requests, &odd, 7), CSQ_OK);
     IS(csq_requests_complete(requests, &odd, 7), CSQ_NOT_HELD);
@@ -37,6 +47,7 @@ static void a_refusal_leaves_the_value(uint32_t list) {
     struct csq_irp name = { UNWRITTEN, UNWRITTEN };
     struct csq_request taken;
     size.limit = 2;
+    size.passes = 0; /* which isn't looked at */
     IS(csq_requests_new(&requests, &size, limits, NULL), CSQ_OK);
     IS(csq_requests_new(&requests, &size, limits, NULL), CSQ_NOT_EMPTY);
     IS(csq_requests_submit(requests, number(0), FILES, 0, &name), CSQ_UNKNOWN_FILE);
@@ -54,6 +65,7 @@ static void a_refusal_leaves_the_value(uint32_t list) {
     IS(csq_requests_submit(requests, number(3), 2, 0, &name), CSQ_FILE_CLOSED);
     IS(csq_requests_cleanup(requests, FILES, 0), CSQ_UNKNOWN_FILE);
     IS(csq_requests_drain(requests, FILES, 0), CSQ_UNKNOWN_FILE);
+    IS(csq_requests_len(requests, FILES, &name.irp, &name.life), CSQ_UNKNOWN_FILE);
     IS(csq_requests_complete(requests, &taken, 0), CSQ_OK);
     IS(name.irp, UNWRITTEN);
     IS(csq_requests_free(&requests), CSQ_OK);
@@ -118,8 +130,13 @@ static void what_is_put_back_keeps_its_name(uint32_t list) {
     IS(csq_requests_complete(requests, &again, 0), CSQ_OK);
     IS(next(requests, CSQ_ANY, &again), 1);
     CHECK(again.name.irp == first.irp && again.name.life == first.life);
+    submit(requests, 4, 0, 0);
+    IS(csq_requests_put_back(requests, &again, 1), CSQ_OK);
+    IS(next(requests, 0, &again), 1);
     IS(csq_requests_put_back(requests, &again, 1), CSQ_OK);
     IS(csq_requests_cancel(requests, first, &value), CSQ_OK);
+    IS(next(requests, 0, &again), 4);
+    IS(csq_requests_complete(requests, &again, 0), CSQ_OK);
     IS(number_of(value), 1);
     first = submit(requests, 3, 2, 0);
     IS(next(requests, 2, &taken), 3);
@@ -148,6 +165,7 @@ static void what_a_cancel_has_named_is_not_put_back(uint32_t list) {
     IS(csq_requests_drain(requests, 0, 0), CSQ_HOLDING);
     IS(csq_requests_put_back(requests, &taken, 1), CSQ_NOT_REMOVED);
     IS(csq_requests_complete(requests, &taken, CSQ_STATUS_SUCCESS), CSQ_NOT_REMOVED);
+    IS(csq_requests_complete(requests, &taken, CSQ_STATUS_FILE_CLOSED), CSQ_NOT_REMOVED);
     IS(csq_requests_complete(requests, &taken, CSQ_STATUS_CANCELLED), CSQ_OK);
     IS(csq_requests_complete(requests, &taken, CSQ_STATUS_CANCELLED), CSQ_NOT_HELD);
     IS(csq_requests_cancel(requests, name, &value), CSQ_STALE);
@@ -200,6 +218,39 @@ static void lives_end(uint32_t list) {
     IS(csq_requests_free(&requests), CSQ_OK);
 }
 
+static uint32_t last_status(struct csq_requests *requests, struct csq_irp name) {
+    uint32_t life = UNWRITTEN, status = UNWRITTEN;
+    IS(csq_read_status(&requests->pass, name.irp, &life, &status), CSQ_OK);
+    IS(life, CSQ_LAST_LIFE);
+    return status;
+}
+
+/* In its last life an IRP keeps its status. */
+static void each_way_ends_with_its_status(uint32_t list) {
+    struct csq_requests *requests = NULL;
+    struct csq_size size = size_of(4, 1, list);
+    struct csq_request taken[2];
+    struct csq_irp cancelled, drained;
+    void *value = NULL;
+    size.first_life = CSQ_LAST_LIFE;
+    IS(csq_requests_new(&requests, &size, NULL, NULL), CSQ_OK);
+    for (int at = 0; at < 2; at++) {
+        submit(requests, at, 0, 0);
+        IS(next(requests, CSQ_ANY, &taken[at]), (uint32_t)at);
+    }
+    cancelled = submit(requests, 2, 0, 0);
+    drained = submit(requests, 3, 0, 0);
+    IS(csq_requests_cancel(requests, cancelled, &value), CSQ_OK);
+    IS(csq_requests_drain(requests, 0, 0), CSQ_HOLDING);
+    IS(csq_requests_complete(requests, &taken[0], CSQ_STATUS_FILE_CLOSED), CSQ_OK);
+    IS(csq_requests_complete(requests, &taken[1], CSQ_STATUS_CANCELLED), CSQ_OK);
+    IS(last_status(requests, taken[0].name), CSQ_STATUS_FILE_CLOSED);
+    IS(last_status(requests, taken[1].name), CSQ_STATUS_CANCELLED);
+    IS(last_status(requests, cancelled), CSQ_STATUS_CANCELLED);
+    IS(last_status(requests, drained), CSQ_STATUS_CANCELLED);
+    IS(csq_requests_free(&requests), CSQ_OK);
+}
+
 /* The IRP that has been free longest is used next, so that none is spent before the others. */
 static void irps_wear_evenly(uint32_t list) {
     static const uint32_t ended[] = { 1, 2, 0 };
@@ -233,11 +284,15 @@ static void irps_wear_evenly(uint32_t list) {
 }
 
 static void a_close_leaves_what_is_listed(uint32_t list) {
-    struct csq_requests *requests = made(4, list, NULL);
+    struct csq_requests *requests = made(2, list, NULL);
     struct csq_request taken;
+    struct csq_irp name;
     submit(requests, 1, 0, 0);
     submit(requests, 2, 1, 0);
     csq_requests_close(requests);
+    /* That no IRP is free is tested after it. */
+    IS(csq_requests_submit(requests, number(3), 0, 0, &name), CSQ_CLOSED);
+    IS(csq_requests_next(requests, 2, 0, &taken), CSQ_CLOSED);
     IS(csq_requests_next(requests, 2, CSQ_FOREVER, &taken), CSQ_CLOSED);
     IS(csq_requests_next(requests, 1, CSQ_FOREVER, &taken), CSQ_OK);
     IS(csq_requests_put_back(requests, &taken, 0), CSQ_OK);
@@ -255,6 +310,7 @@ int main(void) {
     RUN_BOTH(what_a_cancel_has_named_is_not_put_back);
     RUN_BOTH(a_drain_ends_what_is_listed);
     RUN_BOTH(lives_end);
+    RUN_BOTH(each_way_ends_with_its_status);
     RUN_BOTH(irps_wear_evenly);
     RUN_BOTH(a_close_leaves_what_is_listed);
     return DONE();

@@ -5,10 +5,12 @@
 #include <sched.h>
 #include <stdatomic.h>
 
-/* A worker that waits for one request of a file object, and what it got. */
+/* A worker that waits for one request of a file object, or drains it, and what it got. */
 struct worker {
     struct csq_requests *requests;
     uint32_t file, code, value;
+    uint32_t cleans_up; /* 1 if it closes the file object before */
+    uint32_t ended;     /* read and written under the mutex */
     pthread_t thread;
 };
 
@@ -54,6 +56,21 @@ static void rest(void) {
     nanosleep(&time, NULL);
 }
 
+/* Until so many workers and drains wait for a file object, or for any. */
+static void until_it_waits(struct csq_requests *requests, uint32_t file, uint32_t count) {
+    const struct csq_requests_file *of = csq_requests_file_of(requests, file);
+    struct timespec start;
+    uint32_t waiting = 0;
+    clock_gettime(CLOCK_MONOTONIC, &start);
+    while (waiting < count && milliseconds_since(start) < LONG) {
+        pthread_mutex_lock(&requests->mutex);
+        waiting = of->waiting + of->draining;
+        pthread_mutex_unlock(&requests->mutex);
+        sched_yield();
+    }
+    CHECK(waiting >= count);
+}
+
 static void a_submit_wakes_one_who_waits_for_it(uint32_t list) {
     struct csq_requests *requests = made(4, list, NULL);
     struct csq_request taken;
@@ -75,14 +92,33 @@ static void a_submit_wakes_one_who_waits_for_it(uint32_t list) {
     submit(requests, 8, 2, 0);
     end_of(&workers[0], CSQ_OK, 8);
     start(&workers[0], requests, CSQ_ANY);
-    rest();
-    csq_requests_close(requests);
+    start(&workers[2], requests, 1);
+    until_it_waits(requests, CSQ_ANY, 1);
+    until_it_waits(requests, 1, 2);
     csq_requests_close(requests);
     end_of(&workers[0], CSQ_CLOSED, 0);
     end_of(&workers[1], CSQ_CLOSED, 0);
+    end_of(&workers[2], CSQ_CLOSED, 0);
+    csq_requests_close(requests);
     IS(csq_requests_submit(requests, number(1), 0, 0, &taken.name), CSQ_CLOSED);
     IS(csq_requests_submit(requests, number(1), CSQ_ANY, 0, &taken.name), CSQ_UNKNOWN_FILE);
     IS(csq_requests_next(requests, CSQ_ANY, CSQ_FOREVER, &taken), CSQ_CLOSED);
+    IS(csq_requests_free(&requests), CSQ_OK);
+}
+
+/* For the one file object that it is of, and for any. */
+static void a_put_back_wakes_one_who_waits_for_it(uint32_t list) {
+    struct csq_requests *requests = made(4, list, NULL);
+    struct csq_request taken;
+    struct worker worker;
+    for (int turn = 0; turn < 2; turn++) {
+        submit(requests, turn, 1, 0);
+        IS(next(requests, 1, &taken), (uint32_t)turn);
+        start(&worker, requests, turn ? CSQ_ANY : 1);
+        until_it_waits(requests, turn ? CSQ_ANY : 1, 1);
+        IS(csq_requests_put_back(requests, &taken, 0), CSQ_OK);
+        end_of(&worker, CSQ_OK, (uint32_t)turn);
+    }
     IS(csq_requests_free(&requests), CSQ_OK);
 }
 
@@ -90,10 +126,32 @@ static void *drain_it(void *of) {
     struct worker *worker = of;
     struct timespec start;
     clock_gettime(CLOCK_MONOTONIC, &start);
-    worker->code = csq_requests_drain(worker->requests, worker->file, LONG);
+    worker->code = worker->cleans_up ? csq_requests_cleanup(worker->requests, worker->file, LONG)
+                                     : csq_requests_drain(worker->requests, worker->file, LONG);
     CHECK(milliseconds_since(start) < LONG);
     worker->value = under_way(worker->requests, worker->file);
     return NULL;
+}
+
+/* Two drains and a cleanup at once: the end of the one request that is taken wakes all of them. */
+static void each_of_several_drains_is_woken(uint32_t list) {
+    struct csq_requests *requests = made(2, list, NULL);
+    struct worker drains[] = { { requests, 0, 0, 0, 0, 0, 0 }, { requests, CSQ_ANY, 0, 0, 0, 0, 0 },
+                               { requests, 0, 0, 0, 1, 0, 0 } };
+    struct csq_request taken;
+    submit(requests, 1, 0, 0);
+    IS(next(requests, 0, &taken), 1);
+    for (int at = 0; at < 3; at++) {
+        IS((unsigned)pthread_create(&drains[at].thread, NULL, drain_it, &drains[at]), 0);
+    }
+    until_it_waits(requests, 0, 2);
+    until_it_waits(requests, CSQ_ANY, 1);
+    IS(csq_requests_put_back(requests, &taken, 0), CSQ_FILE_CLOSED);
+    IS(csq_requests_complete(requests, &taken, 0), CSQ_OK);
+    for (int at = 0; at < 3; at++) {
+        end_of(&drains[at], CSQ_OK, 0);
+    }
+    IS(csq_requests_free(&requests), CSQ_OK);
 }
 
 /* Two requests are taken: one is put back and one completed, in this order or in the other. The drain is of their file
@@ -102,7 +160,7 @@ static void drain_what_is_taken(uint32_t list, int put_back_first, uint32_t file
     struct report report;
     struct csq_requests *requests = reported(4, list, &report);
     struct csq_request taken[2];
-    struct worker drain = { requests, file, 0, 0, 0 };
+    struct worker drain = { requests, file, 0, 0, 0, 0, 0 };
     for (int at = 0; at < 2; at++) {
         submit(requests, at, 0, 0);
         IS(next(requests, 0, &taken[at]), (uint32_t)at);
@@ -138,7 +196,7 @@ static void a_drain_waits_for_what_a_cancel_has_named(uint32_t list) {
     struct csq_requests *requests = made(2, list, NULL);
     struct csq_irp name = submit(requests, 1, 0, 0);
     struct csq_request taken;
-    struct worker drain = { requests, 0, 0, 0, 0 };
+    struct worker drain = { requests, 0, 0, 0, 0, 0, 0 };
     void *value = NULL;
     answered = 0;
     IS(next(requests, 0, &taken), 1);
@@ -149,6 +207,72 @@ static void a_drain_waits_for_what_a_cancel_has_named(uint32_t list) {
     answered = 1;
     IS(csq_requests_complete(requests, &taken, CSQ_STATUS_CANCELLED), CSQ_OK);
     end_of(&drain, CSQ_OK, 0);
+    IS(csq_requests_free(&requests), CSQ_OK);
+}
+
+/* ---- Whose time is over ---- */
+
+static void say_end(struct worker *worker, uint32_t code) {
+    pthread_mutex_lock(&worker->requests->mutex);
+    worker->code = code;
+    worker->ended = 1;
+    pthread_mutex_unlock(&worker->requests->mutex);
+}
+
+static void *wait_a_little(void *of) {
+    struct worker *worker = of;
+    struct csq_request taken;
+    uint32_t code = csq_requests_next(worker->requests, 0, SHORT, &taken);
+    worker->value = code == CSQ_OK ? number_of(taken.value) : 0;
+    say_end(worker, code);
+    return NULL;
+}
+
+static void *drain_a_little(void *of) {
+    struct worker *worker = of;
+    say_end(worker, csq_requests_drain(worker->requests, 0, SHORT));
+    return NULL;
+}
+
+static void begin(struct worker *worker, struct csq_requests *requests, void *(*routine)(void *)) {
+    memset(worker, 0, sizeof *worker);
+    worker->requests = requests;
+    IS((unsigned)pthread_create(&worker->thread, NULL, routine, worker), 0);
+}
+
+/* Starts one, and takes the mutex while it waits, until its time is over. One that has ended before is started again. */
+static void hold_up(struct worker *worker, struct csq_requests *requests, void *(*routine)(void *)) {
+    const struct csq_requests_file *of = csq_requests_file_of(requests, 0);
+    begin(worker, requests, routine);
+    pthread_mutex_lock(&requests->mutex);
+    while (of->waiting + of->draining == 0 && !check_failed) {
+        uint32_t ended = worker->ended;
+        pthread_mutex_unlock(&requests->mutex);
+        if (ended) {
+            IS((unsigned)pthread_join(worker->thread, NULL), 0);
+            begin(worker, requests, routine);
+        }
+        sched_yield();
+        pthread_mutex_lock(&requests->mutex);
+    }
+    rest();
+    rest();
+}
+
+/* What comes in the meantime isn't missed. */
+static void who_runs_out_of_time_looks_once_more(uint32_t list) {
+    struct csq_requests *requests = made(2, list, NULL);
+    struct worker worker;
+    struct csq_irp name = { 0, 0 };
+    hold_up(&worker, requests, wait_a_little);
+    IS(csq_requests_list(requests, number(5), 0, 0, &name), CSQ_OK);
+    pthread_mutex_unlock(&requests->mutex);
+    end_of(&worker, CSQ_OK, 5);
+    hold_up(&worker, requests, drain_a_little);
+    IS(csq_complete(&requests->pass, name, 0), CSQ_OK);
+    csq_requests_release(requests, name);
+    pthread_mutex_unlock(&requests->mutex);
+    end_of(&worker, CSQ_OK, 0);
     IS(csq_requests_free(&requests), CSQ_OK);
 }
 
@@ -231,7 +355,7 @@ static void each_value_comes_out_once(uint32_t list) {
     memset(out, 0, sizeof out);
     served = cancelled = drained = faults = 0;
     for (uint32_t at = 0; at < SUBMITTERS + WORKERS; at++) {
-        struct worker worker = { requests, at, 0, 0, 0 };
+        struct worker worker = { requests, at, 0, 0, 0, 0, 0 };
         workers[at] = worker;
         if (at >= SUBMITTERS) {
             /* One for each file object, and one for any. */
@@ -260,8 +384,11 @@ int main(int count, char **words) {
         turns = strtoul(words[1], NULL, 10);
     }
     RUN_BOTH(a_submit_wakes_one_who_waits_for_it);
+    RUN_BOTH(a_put_back_wakes_one_who_waits_for_it);
     RUN_BOTH(a_drain_waits_for_what_is_taken_and_takes_what_is_put_back);
     RUN_BOTH(a_drain_waits_for_what_a_cancel_has_named);
+    RUN_BOTH(each_of_several_drains_is_woken);
+    RUN_BOTH(who_runs_out_of_time_looks_once_more);
     RUN_BOTH(each_value_comes_out_once);
     return DONE();
 }

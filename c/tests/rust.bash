@@ -1,8 +1,8 @@
 # The tests of the Rust bindings, for c/run-tests, whose variables and functions they use: source this.
 # shellcheck disable=SC2154,SC2317 # c/run-tests sets the variables, and part calls the functions
 
-# cargo_in FOLDER WORD..: cargo there. `named` is the folder that PWD names.
-cargo_in() { (cd "$1" && PWD=${named-$PWD} cargo "${@:2}"); }
+# cargo_in FOLDER WORD..: cargo there, which is ended if a test of it doesn't end. `named` is the folder that PWD names.
+cargo_in() { (cd "$1" && PWD=${named-$PWD} timeout 1800 cargo "${@:2}"); }
 
 # refuse_library CASE LIBRARY WORDS: the build refuses this CSQ_LIBRARY in these words.
 refuse_library() {

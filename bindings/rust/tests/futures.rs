@@ -7,6 +7,7 @@ use std::sync::atomic::{AtomicU32, Ordering::SeqCst};
 use std::sync::Arc;
 use std::task::{Context, Poll, Wake, Waker};
 use std::thread::{self, Thread};
+use std::time::Duration;
 
 /// How often a task was woken.
 #[derive(Default)]
@@ -114,6 +115,71 @@ fn a_task_that_is_dropped_passes_its_wake_on() {
     drop(third);
     // It had nothing to pass on.
     assert_eq!((fourth.wakes(), other.wakes()), (0, 0));
+}
+
+#[test]
+fn a_wake_is_passed_on_to_one_who_waits_for_the_same() {
+    let both = [Peek::Any, Peek::File(0)];
+    for (peek, other) in [(both[0], both[1]), (both[1], both[0])] {
+        let (_queue, pass) = queue_of(4);
+        let mut tasks = [other, other, peek, peek].map(|peek| Task::of(pass.recv_async(peek)));
+        for task in &mut tasks {
+            assert!(task.poll().is_pending());
+        }
+        pass.submit(7, 0, Place::Back).unwrap();
+        let [others @ .., first, mut second] = tasks;
+        assert_eq!((first.wakes(), second.wakes()), (1, 0));
+        drop(first);
+        assert_eq!((second.wakes(), value(second.poll())), (1, Some(7)));
+        assert_eq!((others[0].wakes(), others[1].wakes()), (1, 0));
+    }
+}
+
+#[test]
+fn the_waker_of_the_last_poll_is_woken() {
+    let (_queue, pass) = queue_of(2);
+    let id = pass.submit(1, 0, Place::Back).unwrap();
+    let request = pass.try_recv(Peek::Any).unwrap();
+    let (mut next, mut cancelled) = (
+        Task::of(pass.recv_async(Peek::Any)),
+        Task::of(request.cancelled()),
+    );
+    assert!(next.poll().is_pending() && cancelled.poll().is_pending());
+    let before = [&mut next.wakes, &mut cancelled.wakes].map(std::mem::take);
+    assert!(next.poll().is_pending() && cancelled.poll().is_pending());
+    // The queue has let go of the one before.
+    assert_eq!([0, 1].map(|at| Arc::strong_count(&before[at])), [1, 1]);
+    pass.submit(2, 0, Place::Back).unwrap();
+    assert_eq!(pass.cancel(id), Err(Missed::Taken));
+    assert_eq!((next.wakes(), cancelled.wakes()), (1, 1));
+    assert_eq!(value(next.poll()), Some(2));
+    assert!(cancelled.poll().is_ready());
+}
+
+#[test]
+fn a_future_that_is_dropped_leaves_no_waker() {
+    let (_queue, pass) = queue_of(2);
+    pass.submit(1, 0, Place::Back).unwrap();
+    let request = pass.try_recv(Peek::Any).unwrap();
+    let (mut next, mut cancelled) = (
+        Task::of(pass.recv_async(Peek::Any)),
+        Task::of(request.cancelled()),
+    );
+    assert!(next.poll().is_pending() && cancelled.poll().is_pending());
+    let wakes = [Arc::clone(&next.wakes), Arc::clone(&cancelled.wakes)];
+    drop((next, cancelled));
+    assert_eq!(wakes.map(|wakes| Arc::strong_count(&wakes)), [1, 1]);
+}
+
+#[test]
+fn a_thread_that_timed_out_is_not_woken_in_the_place_of_a_task() {
+    let (_queue, pass) = queue_of(2);
+    let timed_out = pass.recv_timeout(Peek::Any, Duration::from_millis(20));
+    assert_eq!(timed_out.unwrap_err(), RecvTimeoutError::Timeout);
+    let mut task = Task::of(pass.recv_async(Peek::Any));
+    assert!(task.poll().is_pending());
+    pass.submit(1, 0, Place::Back).unwrap();
+    assert_eq!((task.wakes(), value(task.poll())), (1, Some(1)));
 }
 
 #[test]

@@ -83,6 +83,44 @@ fn an_owned_request_keeps_its_pass() {
     assert_eq!(pass.recv(Peek::Any).unwrap().complete(), 2);
 }
 
+/// A value that reports, as it is dropped, why its request can't be cancelled.
+struct Looks(Option<(OwnedPass<Looks>, RequestId, mpsc::Sender<Option<Missed>>)>);
+
+impl Drop for Looks {
+    fn drop(&mut self) {
+        if let Some((pass, id, found)) = self.0.take() {
+            found.send(pass.cancel(id).err()).unwrap();
+        }
+    }
+}
+
+#[test]
+fn a_request_is_completed_before_its_value_is_dropped() {
+    let queue = queue_of(1, 1);
+    let pass = queue.owned_pass().unwrap();
+    let (to_test, found) = mpsc::channel();
+    let id = pass.submit(Looks(None), 0, Place::Back);
+    let mut request = pass.try_recv(Peek::Any).unwrap();
+    request.value_mut().0 = Some((pass, id.ok().unwrap(), to_test));
+    drop(request);
+    assert_eq!(found.recv(), Ok(Some(Missed::Completed)));
+    assert_eq!(queue.passes_out(), 0);
+}
+
+#[test]
+fn an_owned_request_stands_where_it_was_put_back() {
+    for (place, order) in [(Place::Front, ["a", "b"]), (Place::Back, ["b", "a"])] {
+        let queue = queue_of(2, 1);
+        let pass = queue.owned_pass().unwrap();
+        pass.submit("b", 0, Place::Back).unwrap();
+        pass.submit("a", 0, Place::Front).unwrap();
+        let request = pass.try_recv(Peek::Any).unwrap();
+        assert_eq!(request.put_back(place).unwrap(), PutBack::Pending);
+        let rest = [(); 2].map(|()| pass.try_recv(Peek::Any).unwrap().complete());
+        assert_eq!(rest, order);
+    }
+}
+
 #[test]
 fn an_owned_request_is_cancelled_put_back_and_refused_as_any() {
     let queue = queue_of(2, 2);
@@ -120,6 +158,28 @@ fn an_owned_request_is_cancelled_put_back_and_refused_as_any() {
         pass.try_recv(Peek::Any).unwrap_err(),
         TryRecvError::ShutDown
     );
+}
+
+#[test]
+fn threads_wait_through_one_pass() {
+    let queue = queue_of::<u32>(4, 1);
+    let pass = queue.owned_pass().unwrap();
+    thread::scope(|scope| {
+        let waiting = [0, 1, 2].map(|way| {
+            let pass = pass.clone();
+            scope.spawn(move || match way {
+                0 => pass.recv(Peek::Any).ok(),
+                1 => pass.recv_timeout(Peek::Any, Duration::from_secs(60)).ok(),
+                _ => pass.iter(Peek::Any).next(),
+            })
+        });
+        thread::sleep(Duration::from_millis(20));
+        for value in [1, 10, 100] {
+            pass.submit(value, 0, Place::Back).unwrap();
+        }
+        let taken = waiting.map(|thread| thread.join().unwrap().map(OwnedRequest::complete));
+        assert_eq!(taken.into_iter().flatten().sum::<u32>(), 111);
+    });
 }
 
 /// More threads than a queue has passes, which share one; requests are completed by whatever thread gets them, and

@@ -151,3 +151,27 @@ fn each_value_comes_out_once() {
     run(List::Vector);
     run(List::Chains);
 }
+
+/// What is submitted until the file object is closed: the cleanup cancels all of it.
+#[test]
+fn a_cleanup_leaves_nothing_listed() {
+    for turn in 0..200 {
+        let queue = Requests::new(&Size::new(8, 1, 2)).unwrap();
+        let caller = queue.pass().unwrap();
+        thread::scope(|scope| {
+            let submits = scope.spawn(move || {
+                let cause = || caller.submit(turn, 0, Place::Back).err().map(|it| it.cause);
+                (0..5_000).any(|_| cause() == Some(SubmitError::FileClosed))
+            });
+            while queue.is_empty() {
+                thread::yield_now();
+            }
+            drop(match turn % 2 {
+                0 => queue.pass().unwrap().cleanup(0),
+                _ => queue.owned_pass().unwrap().cleanup(0),
+            });
+            submits.join().unwrap();
+        });
+        assert_eq!(queue.len(), 0);
+    }
+}

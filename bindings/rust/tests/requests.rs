@@ -135,6 +135,11 @@ fn numbers_wear_evenly() {
         let queue = Requests::new(&size).unwrap();
         let pass = queue.pass().unwrap();
         for value in 0..3 {
+            // A refusal has its number put back where it was.
+            for _ in 0..2 {
+                let refused = cause(pass.submit(value, 1, Place::Back));
+                assert_eq!(refused, SubmitError::UnknownFile);
+            }
             pass.submit(value, 0, Place::Back).unwrap();
             assert_eq!(pass.next(Peek::Any).unwrap().complete(), value);
         }

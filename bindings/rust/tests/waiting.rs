@@ -50,12 +50,28 @@ fn each_submit_wakes_one_who_waits() {
         thread::sleep(SHORT);
         let pass = queue.pass().unwrap();
         for value in 0..WAITING {
-            pass.submit(value, 0, Place::Back).unwrap();
+            let place = [Place::Back, Place::Front][value as usize % 2];
+            pass.submit(value, 0, place).unwrap();
         }
     });
     assert_eq!(taken.into_inner(), (1 << WAITING) - 1);
     // Those who time out find it too.
     assert!(start.elapsed() < LONG);
+}
+
+#[test]
+fn a_time_that_no_clock_reaches_is_without_a_limit() {
+    let queue = queue_of(1, 1, 2);
+    let (pass, other) = (queue.pass().unwrap(), queue.pass().unwrap());
+    thread::scope(|scope| {
+        let waiting = scope.spawn(move || {
+            let request = other.recv_timeout(Peek::Any, Duration::MAX);
+            request.map(Request::complete)
+        });
+        thread::sleep(SHORT);
+        pass.submit(3, 0, Place::Back).unwrap();
+        assert_eq!(waiting.join().unwrap(), Ok(3));
+    });
 }
 
 #[test]
@@ -113,6 +129,9 @@ fn what_is_under_way_at_a_shutdown_is_ended_as_ever() {
     let (first, second) = (pass.next(Peek::Any).unwrap(), pass.next(Peek::Any).unwrap());
     pass.shutdown();
     pass.shutdown();
+    // That no IRP is free is tested after it.
+    let refused = pass.submit(4, 0, Place::Back).unwrap_err();
+    assert_eq!(refused.cause, SubmitError::ShutDown);
     assert_eq!(first.complete(), 0);
     assert_eq!(second.put_back(Place::Back).unwrap(), PutBack::Pending);
     assert_eq!(pass.cancel(ids[2]), Ok(2));

@@ -396,3 +396,33 @@ impl<T> OwnedRequest<T> {
         self.taken.put_back(place, |taken| OwnedRequest { taken })
     }
 }
+
+// They call C, which miri doesn't run.
+#[cfg(all(test, not(miri)))]
+mod tests {
+    use super::*;
+    use crate::errors::Missed;
+    use crate::requests::Requests;
+    use crate::words::Size;
+    use std::thread;
+
+    /// While another thread has the lock, no call uses the pass.
+    #[test]
+    fn a_call_waits_for_the_lock() {
+        let queue = Requests::new(&Size::new(1, 1, 1)).unwrap();
+        let pass = queue.owned_pass().unwrap();
+        let id = pass.submit(7, 0, Place::Back).unwrap();
+        let request = pass.try_recv(Peek::Any).unwrap();
+        thread::scope(|scope| {
+            let locked = pass.seat().lock();
+            let cancels = scope.spawn(|| pass.cancel(id));
+            let looks = scope.spawn(|| request.is_cancelled());
+            thread::sleep(Duration::from_millis(20));
+            assert!(!pass.seat().is_cancelled(id) && !looks.is_finished());
+            drop(locked);
+            assert_eq!(cancels.join().unwrap(), Err(Missed::Taken));
+            looks.join().unwrap();
+        });
+        assert!(request.is_cancelled());
+    }
+}

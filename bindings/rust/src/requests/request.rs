@@ -148,7 +148,7 @@ pub enum PutBack<T> {
 
 /// A request that was taken through a pass, and isn't completed or put back.
 pub(super) struct Taken<P: Through> {
-    // Dropped before the value, so that the IRP is completed even if the drop of the value panics.
+    // Dropped before the value, so that the IRP is completed by then, whatever the drop of the value does.
     hold: Hold<P>,
     pub(super) id: RequestId,
     pub(super) value: P::Value,

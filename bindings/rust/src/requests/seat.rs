@@ -393,3 +393,69 @@ impl<T> Seat<T> {
 fn leave(waiting: &mut Waiting, peek: Peek, ticket: &mut Option<Ticket>) -> Option<Waker> {
     waiting.remove(peek, ticket.take()?)
 }
+
+// They call C, which miri doesn't run.
+#[cfg(all(test, not(miri)))]
+mod tests {
+    use super::*;
+    use crate::requests::{RequestPass, Requests};
+    use crate::words::{Size, LAST_LIFE};
+
+    fn pass_of(first_life: u32) -> RequestPass<u32> {
+        let size = Size {
+            first_life,
+            ..Size::new(6, 2, 1)
+        };
+        Requests::new(&size).unwrap().pass().unwrap()
+    }
+
+    #[test]
+    fn who_runs_out_of_time_takes_what_came_meanwhile() {
+        let pass = &pass_of(0);
+        let (seat, mut ticket) = (pass.seat(), None);
+        let waker = thread_waker();
+        assert!(seat.poll_take(Peek::Any, &mut ticket, waker).is_pending());
+        pass.submit(1, 0, Place::Back).unwrap();
+        let (held, value) = seat.take_at_last(Peek::Any, ticket).ok().unwrap();
+        seat.complete(held, FinalStatus::SUCCESS);
+        assert_eq!(value, 1);
+        let late = seat.take_at_last(Peek::Any, ticket).err();
+        assert_eq!(late, Some(RecvTimeoutError::Timeout));
+    }
+
+    /// A pass waits for the lock to be given back, and has let go of its share by then.
+    #[test]
+    fn a_queue_that_has_no_pass_out_has_its_share_alone() {
+        let queue = Requests::<u32>::new(&Size::new(1, 1, 1)).unwrap();
+        let pass = queue.pass().unwrap();
+        let (locked, start) = (queue.queue.lock(), Instant::now());
+        let goes = thread::spawn(move || drop(pass));
+        while Arc::strong_count(&queue.shared) > 1 && start.elapsed() < Duration::from_secs(10) {
+            thread::yield_now();
+        }
+        assert_eq!(Arc::strong_count(&queue.shared), 1);
+        drop(locked);
+        goes.join().unwrap();
+        assert!(queue.close().unwrap().is_empty());
+    }
+
+    /// In the last life there is no next one, so the status stays.
+    #[test]
+    fn each_way_ends_with_its_status() {
+        let pass = &pass_of(LAST_LIFE);
+        let ids = [0; 6].map(|file| pass.submit(7, file, Place::Back).unwrap());
+        let next = || pass.next(Peek::Any).unwrap();
+        assert_eq!(next().complete(), 7);
+        drop(next());
+        let cancelled = next();
+        assert_eq!(pass.cancel(ids[2]), Err(Missed::Taken));
+        let put_back = cancelled.put_back(Place::Back);
+        assert_eq!(put_back.ok(), Some(PutBack::Cancelled(7)));
+        assert_eq!(pass.cancel(ids[3]), Ok(7));
+        assert_eq!(pass.drain(Peek::Any), Ok(vec![7, 7]));
+        let statuses = ids.map(|id| pass.seat().pass.status(id.irp.irp).unwrap().1);
+        let mut expected = [Some(FinalStatus::CANCELLED); 6];
+        expected[0] = Some(FinalStatus::SUCCESS);
+        assert_eq!(statuses, expected);
+    }
+}

@@ -1,0 +1,173 @@
+/* csq_requests.h over a system that refuses each thing that csq_requests_new takes, and whose clock stands still. Macros
+ * lead its calls here. */
+#define _POSIX_C_SOURCE 200809L
+#include "csq.h"
+
+#include <errno.h>
+#include <pthread.h>
+#include <stdlib.h>
+#include <time.h>
+
+/* How many of each kind are out. */
+enum kind { BLOCK, QUEUE, PASS, ATTRIBUTES, SIGNAL, MUTEX, KINDS };
+static long out[KINDS];
+
+/* How many were asked for, and which of them is refused: 0 is none. */
+static unsigned asked, refused;
+
+static int refuses(void) {
+    asked++;
+    return asked == refused;
+}
+
+static uint32_t taken(enum kind kind, uint32_t code) {
+    out[kind] += code == 0;
+    return code;
+}
+
+static uint32_t given(enum kind kind, uint32_t code) {
+    out[kind] -= code == 0;
+    return code;
+}
+
+static void *counted(void *block) {
+    out[BLOCK] += block != NULL;
+    return block;
+}
+
+static void freed(void *block) {
+    out[BLOCK] -= block != NULL;
+    free(block);
+}
+
+/* It tells the last nanosecond of a second, long ago, so that each time limit is over. */
+static unsigned looks;
+static int tells(clockid_t clock, struct timespec *now) {
+    const struct timespec still = { 7, 999999999 };
+    *now = still;
+    looks++;
+    return clock == CLOCK_MONOTONIC ? 0 : -1;
+}
+
+#define calloc(count, bytes) (refuses() ? NULL : counted(calloc(count, bytes)))
+#define free(block) freed(block)
+#define clock_gettime(clock, now) (tells(clock, now) == 0 ? (void)0 : abort())
+
+#define TAKEN(kind, code, call) (refuses() ? (code) : taken(kind, (uint32_t)(call)))
+#define csq_new(...) TAKEN(QUEUE, CSQ_NO_MEMORY, csq_new(__VA_ARGS__))
+#define csq_new_with_file_limits(...) TAKEN(QUEUE, CSQ_NO_MEMORY, csq_new_with_file_limits(__VA_ARGS__))
+#define csq_take_pass(...) TAKEN(PASS, CSQ_NO_MEMORY, csq_take_pass(__VA_ARGS__))
+#define pthread_condattr_init(...) TAKEN(ATTRIBUTES, ENOMEM, pthread_condattr_init(__VA_ARGS__))
+#define pthread_cond_init(...) TAKEN(SIGNAL, EAGAIN, pthread_cond_init(__VA_ARGS__))
+#define pthread_mutex_init(...) TAKEN(MUTEX, EAGAIN, pthread_mutex_init(__VA_ARGS__))
+
+/* Of an empty handle too it returns CSQ_OK. */
+#define csq_free(queue) given(QUEUE, (queue)->at ? csq_free(queue) : (uint32_t)CSQ_EMPTY_HANDLE)
+#define csq_give_back(...) given(PASS, csq_give_back(__VA_ARGS__))
+#define pthread_condattr_destroy(...) given(ATTRIBUTES, (uint32_t)pthread_condattr_destroy(__VA_ARGS__))
+#define pthread_cond_destroy(...) given(SIGNAL, (uint32_t)pthread_cond_destroy(__VA_ARGS__))
+#define pthread_mutex_destroy(...) given(MUTEX, (uint32_t)pthread_mutex_destroy(__VA_ARGS__))
+
+#include "requests_check.h"
+
+static void nothing_is_out(void) {
+    for (int kind = 0; kind < KINDS; kind++) {
+        IS((unsigned long)out[kind], 0);
+    }
+}
+
+/* A queue that is made while so many things were asked for is refused one, and then nothing of it is kept. */
+static struct csq_requests *made_but_for(unsigned which, uint32_t list, const uint32_t *limits) {
+    struct csq_requests *requests = NULL;
+    struct csq_size size = size_of(4, FILES, list);
+    uint32_t code;
+    asked = 0;
+    refused = which;
+    code = csq_requests_new(&requests, &size, limits, NULL);
+    refused = 0;
+    IS(code, asked < which ? CSQ_OK : CSQ_NO_MEMORY);
+    CHECK((code == CSQ_OK) == (requests != NULL));
+    return requests;
+}
+
+static unsigned refuse_each(uint32_t list, const uint32_t *limits) {
+    struct csq_requests *requests;
+    unsigned which = 0;
+    while (!(requests = made_but_for(++which, list, limits)) && which < 100) {
+        nothing_is_out();
+    }
+    IS(csq_requests_free(&requests), CSQ_OK);
+    nothing_is_out();
+    return which - 1;
+}
+
+static void a_queue_that_is_refused_something_keeps_nothing(uint32_t list) {
+    static const uint32_t limits[FILES] = { 1, 2, 3 };
+    /* Four blocks, a queue and its pass, a mutex, the signal of the drains, those of each file object and of all, and
+     * their attributes. */
+    IS(refuse_each(list, NULL), 4 + 2 + 2 + FILES + 1 + 1);
+    IS(refuse_each(list, limits), 4 + 2 + 2 + FILES + 1 + 1);
+}
+
+/* One request's whole way, and the ends of others. */
+static void no_other_call_takes_anything(uint32_t list) {
+    struct csq_requests *requests = made(2, list, NULL);
+    struct csq_request request;
+    struct csq_irp name;
+    void *value = NULL;
+    asked = 0;
+    for (int turn = 0; turn < 5; turn++) {
+        submit(requests, 1, 0, 0);
+        name = submit(requests, 2, 1, 0);
+        IS(next(requests, 0, &request), 1);
+        IS(csq_requests_put_back(requests, &request, 0), CSQ_OK);
+        IS(csq_requests_next(requests, 0, 1, &request), CSQ_OK);
+        IS(csq_requests_complete(requests, &request, CSQ_STATUS_SUCCESS), CSQ_OK);
+        IS(csq_requests_cancel(requests, name, &value), CSQ_OK);
+        submit(requests, 3, 1, 0);
+        IS(csq_requests_drain(requests, 1, 1), CSQ_OK);
+    }
+    IS(csq_requests_cleanup(requests, 1, 1), CSQ_OK);
+    csq_requests_close(requests);
+    IS(csq_requests_free(&requests), CSQ_OK);
+    IS(asked, 0);
+    nothing_is_out();
+}
+
+static void a_time_ends_so_many_milliseconds_later(void) {
+    static const struct { uint32_t milliseconds; long seconds, nanoseconds; } rows[] = {
+        { 1, 8, 999999 }, { 999, 8, 998999999 }, { 1000, 8, 999999999 }, { 1001, 9, 999999 },
+        { CSQ_FOREVER - 1, 7 + 4294967 + 1, 293999999 }
+    };
+    for (size_t at = 0; at < sizeof rows / sizeof *rows; at++) {
+        struct timespec end = csq_requests_end_of(rows[at].milliseconds);
+        IS((unsigned long)end.tv_sec, (unsigned long)rows[at].seconds);
+        IS((unsigned long)end.tv_nsec, (unsigned long)rows[at].nanoseconds);
+    }
+}
+
+/* A thread that waits looks at the clock once, so that no wake gives it more time. */
+static void a_limit_is_from_the_call_on(uint32_t list) {
+    struct csq_requests *requests = made(2, list, NULL);
+    struct csq_request taken;
+    looks = 0;
+    IS(csq_requests_next(requests, 0, 0, &taken), CSQ_NONE);
+    IS(csq_requests_drain(requests, 0, CSQ_FOREVER), CSQ_OK);
+    IS(looks, 0);
+    IS(csq_requests_next(requests, 0, SHORT, &taken), CSQ_NONE);
+    IS(looks, 1);
+    submit(requests, 1, 0, 0);
+    IS(next(requests, 0, &taken), 1);
+    IS(csq_requests_drain(requests, 0, SHORT), CSQ_HOLDING);
+    IS(looks, 2);
+    IS(csq_requests_complete(requests, &taken, 0), CSQ_OK);
+    IS(csq_requests_free(&requests), CSQ_OK);
+}
+
+int main(void) {
+    RUN_BOTH(a_queue_that_is_refused_something_keeps_nothing);
+    RUN_BOTH(no_other_call_takes_anything);
+    RUN(a_time_ends_so_many_milliseconds_later);
+    RUN_BOTH(a_limit_is_from_the_call_on);
+    return DONE();
+}
