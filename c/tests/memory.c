@@ -392,6 +392,7 @@ static void all_passes_that_came_back_are_handed_out_without_memory(uint32_t lis
     forbid();
     hand_all_out(&queue);
     give_all_back(&queue);
+    IS(csq_close(&queue), CSQ_OK);
     IS(csq_free(&queue), CSQ_OK);
     allow();
     IS(blocks, before);
