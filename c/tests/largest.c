@@ -109,6 +109,8 @@ static void hand_out_all(struct csq_size size) {
         IS(csq_count_passes_out(&queue, &out), CSQ_OK);
         IS(out, at);
     }
+    /* However many are idle. */
+    IS(csq_close(&queue), CSQ_OK);
     IS(csq_free(&queue), CSQ_OK);
 }
 

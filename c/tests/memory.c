@@ -191,8 +191,8 @@ static void other_refusals_come_before_that_of_memory(uint32_t list) {
     refuse(0, false);
 }
 
-/* Of a large queue. */
-enum { IRPS = 1024, FILES = 256 };
+/* Of a large queue: more than the 1,024 IRPs and 256 file objects of one that isn't. */
+enum { IRPS = 2048, FILES = 512 };
 
 /* One life of each IRP: by turns removed, put back and removed again; removed by its context; cancelled before and
  * after its insert. */
@@ -367,6 +367,37 @@ static void a_pass_that_came_back_is_handed_out_without_memory(uint32_t list) {
     IS(blocks, before);
 }
 
+static struct csq_pass passes[CSQ_MOST_PASSES];
+
+static void hand_all_out(struct csq_queue *queue) {
+    for (uint32_t at = 0; at < CSQ_MOST_PASSES; at++) {
+        IS(csq_take_pass(queue, &passes[at]), CSQ_OK);
+    }
+}
+
+static void give_all_back(struct csq_queue *queue) {
+    for (uint32_t at = 0; at < CSQ_MOST_PASSES; at++) {
+        IS(csq_give_back(queue, &passes[at]), CSQ_OK);
+    }
+}
+
+/* However many passes a queue has. */
+static void all_passes_that_came_back_are_handed_out_without_memory(uint32_t list) {
+    struct csq_queue queue = CSQ_EMPTY;
+    struct csq_size size = { 1, 1, 1, CSQ_MOST_PASSES, 0, list };
+    unsigned long before = blocks;
+    IS(csq_new(&queue, &size), CSQ_OK);
+    hand_all_out(&queue);
+    give_all_back(&queue);
+    forbid();
+    hand_all_out(&queue);
+    give_all_back(&queue);
+    IS(csq_close(&queue), CSQ_OK);
+    IS(csq_free(&queue), CSQ_OK);
+    allow();
+    IS(blocks, before);
+}
+
 /* Of a new pass csq_take_pass takes memory too, and of one that came back it takes none. */
 static bool makes_a_queue(const char *call) {
     static const char *const makers[] = { "csq_new", "csq_new_with_file_limits", "csq_new_queue",
@@ -400,12 +431,12 @@ static size_t bytes_of(uint32_t irps, uint32_t list, bool limited) {
 
 /* The two kinds of list answer alike, but take different room. CSQ_AUTO is one of them, by the number of IRPs. */
 static void a_queue_has_the_list_that_was_asked_for(void) {
-    static const uint32_t few = CSQ_AUTO_VECTOR_IRPS, many = CSQ_AUTO_VECTOR_IRPS + 1;
-    for (int limited = 0; limited < 2; limited++) {
-        CHECK(bytes_of(few, CSQ_VECTOR, limited) < bytes_of(few, CSQ_CHAINS, limited));
-        CHECK(bytes_of(many, CSQ_VECTOR, limited) < bytes_of(many, CSQ_CHAINS, limited));
-        IS(bytes_of(few, CSQ_AUTO, limited), bytes_of(few, CSQ_VECTOR, limited));
-        IS(bytes_of(many, CSQ_AUTO, limited), bytes_of(many, CSQ_CHAINS, limited));
+    static const uint32_t sizes[] = { CSQ_AUTO_VECTOR_IRPS, CSQ_AUTO_VECTOR_IRPS + 1, CSQ_MOST_IRPS };
+    for (size_t at = 0; at < 2 * (sizeof sizes / sizeof *sizes); at++) {
+        uint32_t irps = sizes[at / 2], chosen = irps <= CSQ_AUTO_VECTOR_IRPS ? CSQ_VECTOR : CSQ_CHAINS;
+        bool limited = at % 2;
+        CHECK(bytes_of(irps, CSQ_VECTOR, limited) < bytes_of(irps, CSQ_CHAINS, limited));
+        IS(bytes_of(irps, CSQ_AUTO, limited), bytes_of(irps, chosen, limited));
     }
 }
 
@@ -416,6 +447,7 @@ int main(void) {
     RUN_BOTH(no_other_call_takes_memory);
     RUN_BOTH(a_pass_that_is_freed_keeps_no_memory);
     RUN_BOTH(a_pass_that_came_back_is_handed_out_without_memory);
+    RUN_BOTH(all_passes_that_came_back_are_handed_out_without_memory);
     RUN(each_call_that_makes_no_queue_was_made_without_memory);
     RUN(a_queue_has_the_list_that_was_asked_for);
     return DONE();

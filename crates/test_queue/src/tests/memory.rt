@@ -230,7 +230,8 @@ fn refuse_each_call(rt: &(impl AllocGlobal + Abort), product: Product) -> u64 {
     panic!(rt; "each call was refused")
 }
 
-/// A queue makes as many calls for memory over one list as over the other.
+/// A queue makes as many calls for memory over one list as over the other, and over one that isn't fresh: that is
+/// looked for once all memory was had.
 #[test]
 fn each_call_for_memory_is_refused_in_turn(rt: HostRuntime) {
     for product in [
@@ -238,12 +239,12 @@ fn each_call_for_memory_is_refused_in_turn(rt: HostRuntime) {
         Product::Words,
         Product::Vector,
         Product::Chains,
-        Product::UsedQueue,
     ] {
         refuse_each_call(&rt, product);
     }
     let calls = refuse_each_call(&rt, Product::Queue);
     assert!(rt; refuse_each_call(&rt, Product::ChainedQueue) == calls);
+    assert!(rt; refuse_each_call(&rt, Product::UsedQueue) == calls);
 }
 
 fn is_machine_made(rt: &impl AllocGlobal, irps: u32) -> bool {
