@@ -4,6 +4,7 @@
  * it, or to the drain of its file object. The numbers of IRPs, their lives, the queue's lock and its pass are this
  * header's own affair, and a worker waits for the next request.
  *
+ *     #define _POSIX_C_SOURCE 200809L    (before the first #include, with -std=c99 or -std=c11)
  *     struct csq_requests *requests = NULL;
  *     const struct csq_size size = { .irps = 64, .files = 4, .limit = 64, .passes = 1, .list = CSQ_AUTO };
  *     code = csq_requests_new(&requests, &size, NULL, NULL);
@@ -23,7 +24,7 @@
  * - Each call takes the queue's mutex, which is free while a thread waits and while an event is called.
  * - What a thread wrote before a submit or a put-back is seen by whoever gets the value, and what it wrote before a
  *   completion by whoever learns of that by a call of this header.
- * - A refusal, which is any code but CSQ_OK, changes nothing unless the call says so.
+ * - A refusal, which is any code but CSQ_OK, changes nothing unless the call says so. csq_name returns a code's name.
  * - csq_requests_new takes memory. No other call does.
  *
  * What the caller must uphold, which nothing checks: pointers are valid, and none is null unless the call allows it; no
@@ -43,7 +44,8 @@
 #include <stdlib.h>
 #include <time.h>
 
-#ifndef CLOCK_MONOTONIC
+/* (with -std=c99 and -pthread glibc has the clock alone, of an earlier POSIX) */
+#if !defined CLOCK_MONOTONIC || (defined _POSIX_C_SOURCE && _POSIX_C_SOURCE < 200112L)
 #error "csq_requests.h needs POSIX's clocks: define _POSIX_C_SOURCE as 200809L before the first #include"
 #endif
 
@@ -151,8 +153,8 @@ CSQ_NODISCARD static inline uint32_t csq_requests_free(struct csq_requests **req
  * Stores the request's name before anybody can take it, so *name may be a part of what `value` points to. After a refusal
  * the value is still the caller's.
  * CSQ_UNKNOWN_FILE; CSQ_CLOSED; CSQ_LIVES_SPENT (each IRP is past its last life: a queue has 2^30 requests for each, and
- * then another has to be made); CSQ_FULL (all requests are under way, or as many are listed as the limit allows);
- * CSQ_FILE_CLOSED; CSQ_FILE_FULL. */
+ * then another has to be made); CSQ_FULL (all requests are under way, or as many are listed as the limit allows: no
+ * call waits for room, so refuse the client, or try again after a completion); CSQ_FILE_CLOSED; CSQ_FILE_FULL. */
 CSQ_NODISCARD static inline uint32_t csq_requests_submit(struct csq_requests *requests, void *value, uint32_t file,
                                                          uint32_t front, struct csq_irp *name) {
     uint32_t code;
@@ -166,7 +168,8 @@ CSQ_NODISCARD static inline uint32_t csq_requests_submit(struct csq_requests *re
 }
 
 /* Takes the first request that is listed for a file object, or for any with CSQ_ANY, that no canceller has, and waits for
- * one, at most so many milliseconds: 0 is not at all, CSQ_FOREVER is without a limit.
+ * one, at most so many milliseconds: 0 is not at all, CSQ_FOREVER is without a limit. Of a file object that a cleanup has
+ * closed none comes: it waits for the close, or until its time is over.
  * CSQ_UNKNOWN_FILE; CSQ_CLOSED (the queue was closed, and none is listed); CSQ_NONE (none came in time). */
 CSQ_NODISCARD static inline uint32_t csq_requests_next(struct csq_requests *requests, uint32_t file,
                                                        uint32_t milliseconds, struct csq_request *request) {
@@ -271,7 +274,7 @@ CSQ_NODISCARD static inline uint32_t csq_requests_cancel(struct csq_requests *re
  * waits until none of it is under way, at most so many milliseconds (0, CSQ_FOREVER as of csq_requests_next). What a worker
  * puts back meanwhile is drained too. The number of the file object may have its next connection then, if nobody submits
  * for the old one any more; else it may go on for as long as they do. A thread that has taken a request of it completes it
- * first. CSQ_UNKNOWN_FILE; CSQ_HOLDING (requests of it are under way still; none is listed, or others came). */
+ * first: else it waits for itself. CSQ_UNKNOWN_FILE; CSQ_HOLDING (its time is over, and requests of it are under way). */
 CSQ_NODISCARD static inline uint32_t csq_requests_drain(struct csq_requests *requests, uint32_t file,
                                                         uint32_t milliseconds) {
     uint32_t code;

@@ -4,6 +4,7 @@
  * server busy, and hang up early now and then. In the end every request is accounted for.
  *
  *     cc -std=c99 -Iinclude c/examples/server.c c/examples/load.c LIBRARY.. -pthread -o server
+ *     cc -std=c99 -IPREFIX/include/keuvatsi server.c load.c $(pkg-config --libs csq) -pthread -o server    (installed)
  *     ./server [CONNECTIONS at once [REQUESTS of each [ROUNDS [WORKERS [DEADLINE in milliseconds]]]]] */
 #define _POSIX_C_SOURCE 200809L
 #include "csq_requests.h"

@@ -317,7 +317,7 @@ impl<Q: fmt::Debug> Error for PassesOut<Q> {}
 pub enum SubmitError {
     /// The queue was shut down.
     ShutDown,
-    /// No IRP is free: each has a request under way, or has had its last life.
+    /// No IRP is free, and some have a request under way: try again after a completion.
     NoIrp,
     /// Each IRP has had its last life, so no request can be submitted any more.
     LivesSpent,

@@ -101,7 +101,7 @@
 //!
 //! # Features
 //!
-//! `plain`: as above. `async`: futures of the next request and of a request's cancel, for any executor.
+//! `plain`: as above. `async`: `OwnedPass::recv_async` and `OwnedRequest::cancelled`, futures for any executor.
 #![deny(
     missing_docs,
     unsafe_op_in_unsafe_fn,

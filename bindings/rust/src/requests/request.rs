@@ -13,7 +13,8 @@ pub struct RequestId {
     pub(super) irp: Irp,
 }
 
-/// A request that a pass took, with its value. Dropped, it is completed with `STATUS_CANCELLED`, and its value dropped.
+/// A request that a pass took, with its value. Dropped, it is completed with `STATUS_CANCELLED`, and its value dropped. It
+/// stays in its thread: the requests of an `OwnedPass` can go to others.
 #[must_use = "a request that was taken has to be completed, and is where it is dropped"]
 pub struct Request<'pass, T> {
     taken: Taken<&'pass RequestPass<T>>,
