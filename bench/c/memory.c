@@ -59,8 +59,8 @@ struct bytes {
     size_t beside;
 };
 
-static struct bytes bytes_of(uint32_t list, uint32_t irps, uint32_t files) {
-    const struct csq_size size = { irps, files, irps, 1, 0, list };
+static struct bytes bytes_of(uint32_t list, uint32_t irps, uint32_t files, uint32_t passes) {
+    const struct csq_size size = { irps, files, irps, passes, 0, list };
     struct csq_queue queue = CSQ_EMPTY;
     struct csq_pass pass = CSQ_EMPTY;
     struct csq_requests *requests = NULL;
@@ -85,12 +85,13 @@ static void print(const char *list, const char *what, size_t least, size_t most,
 int main(void) {
     static const char *const lists[] = { "vector", "chains" };
     for (uint32_t list = CSQ_VECTOR; list <= CSQ_CHAINS; list++) {
-        struct bytes one = bytes_of(list, 1, 1), irps = bytes_of(list, CSQ_MOST_IRPS, 1);
-        struct bytes files = bytes_of(list, 1, CSQ_MOST_FILES);
+        struct bytes one = bytes_of(list, 1, 1, 1), irps = bytes_of(list, CSQ_MOST_IRPS, 1, 1);
+        struct bytes files = bytes_of(list, 1, CSQ_MOST_FILES, 1), passes = bytes_of(list, 1, 1, CSQ_MOST_PASSES);
         uint32_t more_irps = CSQ_MOST_IRPS - 1, more_files = CSQ_MOST_FILES - 1;
         print(lists[list], "queue", 0, one.queue, 1);
         print(lists[list], "queue-irp", one.queue, irps.queue, more_irps);
         print(lists[list], "queue-file", one.queue, files.queue, more_files);
+        print(lists[list], "queue-pass", one.queue, passes.queue, CSQ_MOST_PASSES - 1);
         print(lists[list], "pass", 0, one.pass, 1);
         print(lists[list], "pass-irp", one.pass, irps.pass, more_irps);
         print(lists[list], "pass-file", one.pass, files.pass, more_files);
