@@ -77,6 +77,13 @@ fn value<T>(polled: Poll<Result<OwnedRequest<T>, RecvError>>) -> Option<T> {
 fn goes_anywhere<T: Send + 'static>(_: &T) {}
 
 #[test]
+#[should_panic(expected = "there is no such file object")]
+fn a_future_of_a_file_object_that_there_is_not_panics() {
+    let queue: Requests<u32> = Requests::new(&Size::new(2, 2, 1)).unwrap();
+    drop(queue.owned_pass().unwrap().recv_async(Peek::File(2)));
+}
+
+#[test]
 fn a_task_waits_until_a_request_comes() {
     let (queue, pass) = queue_of(4);
     let mut task = Task::of(pass.recv_async(Peek::File(1)));

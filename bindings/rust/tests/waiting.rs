@@ -34,6 +34,18 @@ fn none_comes_in_time() {
 }
 
 #[test]
+#[should_panic(expected = "there is no such file object")]
+fn a_wait_for_a_file_object_that_there_is_not_panics() {
+    let queue = queue_of(2, 2, 1);
+    let pass = queue.pass().unwrap();
+    assert_eq!(
+        pass.try_recv(Peek::File(2)).unwrap_err(),
+        TryRecvError::Empty
+    );
+    drop(pass.recv(Peek::File(2)));
+}
+
+#[test]
 fn each_submit_wakes_one_who_waits() {
     const WAITING: u32 = 4;
     let queue = queue_of(8, 1, WAITING + 1);

@@ -107,6 +107,10 @@ impl<T> OwnedPass<T> {
     ///
     /// [`RecvError`]: the queue was shut down, and none is listed.
     ///
+    /// # Panics
+    ///
+    /// There is no such file object.
+    ///
     /// ```
     /// # use csq::*;
     /// # let queue = Requests::new(&Size::new(4, 2, 2))?;
@@ -125,6 +129,10 @@ impl<T> OwnedPass<T> {
     /// # Errors
     ///
     /// [`RecvTimeoutError`]: none came in time; or the queue was shut down, and none is listed.
+    ///
+    /// # Panics
+    ///
+    /// There is no such file object.
     ///
     /// ```
     /// # use csq::*;
@@ -147,6 +155,10 @@ impl<T> OwnedPass<T> {
 
     /// Takes one request after the other by [`OwnedPass::recv`], until the queue is shut down and has none for it.
     ///
+    /// # Panics
+    ///
+    /// There is no such file object.
+    ///
     /// ```
     /// # use csq::*;
     /// # let queue = Requests::new(&Size::new(4, 2, 2))?;
@@ -163,6 +175,10 @@ impl<T> OwnedPass<T> {
 
     /// The next request, once there is one: [`OwnedPass::recv`] for a task, which waits by its waker.
     ///
+    /// # Panics
+    ///
+    /// There is no such file object.
+    ///
     /// ```
     /// # use csq::*;
     /// # let queue = Requests::new(&Size::new(4, 2, 2))?;
@@ -178,6 +194,7 @@ impl<T> OwnedPass<T> {
     /// ```
     #[cfg(feature = "async")]
     pub fn recv_async(&self, peek: Peek) -> RecvFuture<T> {
+        self.seat().expect_known(peek);
         RecvFuture::new(self.clone(), peek)
     }
 

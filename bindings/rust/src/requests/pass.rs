@@ -95,12 +95,16 @@ impl<T> RequestPass<T> {
         Ok(Request::of(self, taken))
     }
 
-    /// [`RequestPass::next`], and waits until there is one. Of a file object that there isn't, or that was closed, none
-    /// comes: it waits for the shutdown.
+    /// [`RequestPass::next`], and waits until there is one. Of a file object that was closed none comes: it waits for
+    /// the shutdown.
     ///
     /// # Errors
     ///
     /// [`RecvError`]: the queue was shut down, and none is listed.
+    ///
+    /// # Panics
+    ///
+    /// There is no such file object.
     ///
     /// ```
     /// # use csq::*;
@@ -120,6 +124,10 @@ impl<T> RequestPass<T> {
     /// # Errors
     ///
     /// [`RecvTimeoutError`]: none came in time; or the queue was shut down, and none is listed.
+    ///
+    /// # Panics
+    ///
+    /// There is no such file object.
     ///
     /// ```
     /// # use csq::*;
@@ -142,6 +150,10 @@ impl<T> RequestPass<T> {
     }
 
     /// Takes one request after the other by [`RequestPass::recv`], until the queue is shut down and has none for it.
+    ///
+    /// # Panics
+    ///
+    /// There is no such file object.
     ///
     /// ```
     /// # use csq::*;

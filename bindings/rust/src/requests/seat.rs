@@ -200,6 +200,7 @@ impl<T> Seat<T> {
         if let Some(result) = self.result_now(peek) {
             return result;
         }
+        self.expect_known(peek);
         // A time that no clock reaches is none.
         let end = limit.and_then(|limit| Instant::now().checked_add(limit));
         let left = || end.map(|end| end.saturating_duration_since(Instant::now()));
@@ -356,6 +357,11 @@ impl<T> Seat<T> {
             Peek::Any => Ok(()),
             Peek::File(file) => self.pass.file_len(file).map(|_| ()),
         }
+    }
+
+    /// Panics unless there is this file object: whoever waits for another one would wait for the shutdown.
+    pub(super) fn expect_known(&self, peek: Peek) {
+        assert!(self.knows(peek).is_ok(), "there is no such file object");
     }
 
     /// Cancels each request that is listed, and takes their values. The lock is free between two of them.
