@@ -40,9 +40,9 @@ static void freed(void *block) {
     free(block);
 }
 
-/* It tells the last nanosecond of a second, long ago, so that each time limit is over. */
+/* The clock returns the last nanosecond of a second, long ago, so that each time limit is over. */
 static unsigned looks;
-static int tells(clockid_t clock, struct timespec *now) {
+static int read_clock(clockid_t clock, struct timespec *now) {
     const struct timespec still = { 7, 999999999 };
     *now = still;
     looks++;
@@ -51,7 +51,7 @@ static int tells(clockid_t clock, struct timespec *now) {
 
 #define calloc(count, bytes) (refuses() ? NULL : counted(calloc(count, bytes)))
 #define free(block) freed(block)
-#define clock_gettime(clock, now) (tells(clock, now) == 0 ? (void)0 : abort())
+#define clock_gettime(clock, now) (read_clock(clock, now) == 0 ? (void)0 : abort())
 
 #define TAKEN(kind, code, call) (refuses() ? (code) : taken(kind, (uint32_t)(call)))
 #define csq_new(...) TAKEN(QUEUE, CSQ_NO_MEMORY, csq_new(__VA_ARGS__))

@@ -111,7 +111,7 @@ static ULONG InsertsOf(PEXTENSION Extension) {
     return Inserts;
 }
 
-/* The device is idle, unless an IRP has been listed since so many were: that one waits for this DPC. */
+/* Makes the device idle, unless more IRPs were listed meanwhile than these: such a one waits for this DPC. */
 static BOOLEAN BecomesIdle(PEXTENSION Extension, ULONG Inserts) {
     BOOLEAN Idle;
     KeAcquireSpinLockAtDpcLevel(&Extension->Lock);
