@@ -1,7 +1,7 @@
 -- An arrow runs from the step that set the word.
 use Rattle.std.proofs.Common.{◌≡◌, ℕ, ◌==◌, ◌<◌, Bool, true, false, cond, List, [], ◌∷◌, ◌++◌, length, get_or, set, replicate, Option, Some, None, refl, ap, sym, ◌∙◌, subst, arith}
 use Rattle.std.proofs.lemmas.List.{get_or-set_same, get_or-set_other, get_or-replicate, length-replicate}
-use Rattle.csq_draw.proofs.Imports.{option_map_or, IrpId, IrpLife, Kind, Size, IsRun, OfIrp, number, name_of, same_id, same_id-eq, same_id-refl, Numbered, run_of, all_passes, is_of_irp, Row, IrpNow, Spot, irp_after, irp_at, irp_named, irps_after, irps_of, new_irp, with_irp}
+use Rattle.csq_draw.proofs.Imports.{option_map_or, IrpId, IrpLife, Kind, Size, IsRun, OfIrp, number, name_of, same_id, same_id-eq, same_id-refl, Numbered, run_of, all_passes, is_of_irp, Row, IrpNow, Spot, irp_after, irp_at, irp_named, irps_of, new_irp}
 use Rattle.irp_core.proofs.Growing.{run_less}
 use Rattle.irp_core.specs.declared.step.Kind.TheVariants.{Arm, Test, Disarm, End, Flag, Take, Out, Done, Renew, Rearm}
 use Rattle.csq_draw.specs.declared.arrows.Arrow.{Arrow}
@@ -12,7 +12,6 @@ use Rattle.csq_draw.specs.Rows.{row_of, rows_of}
 use Rattle.csq_draw.specs.Words.{changes_flag, changes_routine}
 use Rattle.csq_draw.proofs.Known.{after-last, length-after}
 use Rattle.csq_draw.proofs.PictureLaws.{drawn_arrows}
-use Rattle.csq_draw.proofs.Showing.{other_id}
 use Rattle.csq_explain.specs.declared.passes.PassNow.{PassNow}
 
 -- a step keeps who set a word, or changes it

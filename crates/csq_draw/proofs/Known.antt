@@ -1,6 +1,6 @@
 -- What is known of the IRPs grows with the rows.
 use Rattle.std.proofs.Common.{◌≡◌, ℕ, ◌+◌, ◌<◌, List, [], ◌∷◌, ◌++◌, length, get_or, set, take, Option, Some, None, refl, ap, sym, ◌∙◌}
-use Rattle.csq_draw.proofs.Imports.{take_more, take_all, option_map_or, IrpLife, Row, name_of, number, IrpNow, irp_after, irp_at, irps_after, new_irp, with_irp}
+use Rattle.csq_draw.proofs.Imports.{take_more, option_map_or, IrpLife, Row, name_of, number, IrpNow, irp_after, irp_at, irps_after, with_irp}
 use Rattle.std.proofs.lemmas.List.{length-set}
 
 -- one row more
@@ -12,7 +12,7 @@ after-last xs (r ∷ rows) row = after-last (with_irp xs r) rows row
 pub after-more : (xs : List IrpNow) (rows : List Row) (k : ℕ) (d : Row) → k < length rows → irps_after xs (take (k + 1) rows) ≡ with_irp (irps_after xs (take k rows)) (get_or rows k d)
 after-more xs rows k d lt = ap (λ r. irps_after xs r) (take_more rows k d lt) ∙ after-last xs (take k rows) (get_or rows k d)
 
-length-with : (xs : List IrpNow) (row : Row) → length (with_irp xs row) ≡ length xs
+pub length-with : (xs : List IrpNow) (row : Row) → length (with_irp xs row) ≡ length xs
 length-with xs row = go (name_of row.step.made.kind)
   where
     go : (o : Option IrpLife) → length (option_map_or (λ i. set xs (number i) (irp_after (irp_at xs i.irp) row)) o xs) ≡ length xs

@@ -1,11 +1,15 @@
 pub mod Imports
+pub mod Reading
 pub mod Captioning
 pub mod Growing
 pub mod Writing
 pub mod Known
 pub mod RowElements
 pub mod Showing
+pub mod WrongLaws
+pub mod WrongShown
 pub mod PictureLaws
+pub mod OrderLaws
 pub mod ArrowLaws
 pub mod OwnerLaws
 pub mod LaneLaws

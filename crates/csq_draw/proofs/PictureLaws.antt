@@ -2,7 +2,7 @@
 use Rattle.std.proofs.Common.{◌≡◌, ◌||◌, inl, inr, ℕ, ◌+◌, ◌<◌, ◌≤◌, Bool, true, false, cond, if◌then◌else◌, List, [], ◌∷◌, ◌++◌, length, get_or, replicate, Option, Some, None, option_to_list, refl, ap, sym, ◌∙◌, subst, arith, append_assoc, append-nil}
 use Rattle.std.specs.List.{position, list_any}
 use Rattle.std.proofs.lemmas.List.Quantifiers.{position-Some}
-use Rattle.csq_draw.proofs.Imports.{option_map, PassId, Made, same_pass, by, Size, IsRun, same_pass-eq, Numbered, run_of, Format, Owner, Row, owners, new_pass_now, pass_after, pass_now, lock_of, columns, column_of, each, column_elements, number_element, mark_element, call_element, shade_elements, span_elements, bars_elements, arrow_elements, behind_elements, row_after, rows_elements, new_irp, last_elements, word_elements, fresh_irps, irps_of, irp_named, irps_after, IrpNow, Seen, Spot, open_elements, closing_elements, refused_elements, at_rest_element, shown_elements, Drawn, new_drawn, drawn_text, drawn_after, closed_text, DrawsLine, DrawsClosing, all_passes, reason_of, get-table, position-None, count-more, length-passes, inside_is}
+use Rattle.csq_draw.proofs.Imports.{option_map, PassId, Made, same_pass, by, Size, IsRun, same_pass-eq, Numbered, run_of, Format, Owner, Row, owners, new_pass_now, pass_after, pass_now, lock_of, columns, column_of, each, column_elements, number_element, mark_element, call_element, shade_elements, span_elements, bars_elements, arrow_elements, behind_elements, row_after, rows_elements, new_irp, last_elements, word_elements, fresh_irps, irps_of, irp_named, IrpNow, Seen, Spot, open_elements, closing_elements, refused_elements, at_rest_element, shown_elements, Drawn, new_drawn, drawn_text, drawn_after, closed_text, DrawsLine, DrawsClosing, all_passes, reason_of, get-table, position-None, count-more, length-passes, inside_is}
 use Rattle.irp_core.specs.Inside.{inside, inside_after, has_lock}
 use Rattle.irp_core.specs.Lock.{HasLock, needs_lock}
 use Rattle.irp_core.proofs.Growing.{run_none, run_less, run_parted, HasLock-has_lock, has_lock-HasLock}
@@ -16,6 +16,7 @@ use Rattle.std.proofs.lemmas.List.{length-replicate}
 use Rattle.csq_draw.proofs.Known.{length-after}
 use Rattle.csq_draw.proofs.RowElements.{rows-last}
 use Rattle.csq_draw.specs.declared.arrows.Arrow.{Arrow}
+use Rattle.csq_draw.specs.declared.marks.Legality.TheVariants.{Legal}
 use Rattle.csq_draw.specs.declared.marks.Mark.{Mark}
 use Rattle.csq_draw.specs.declared.marks.Number.{Number}
 use Rattle.csq_draw.specs.declared.marks.Shade.{Shade}
@@ -23,7 +24,7 @@ use Rattle.csq_explain.specs.declared.passes.PassNow.{PassNow}
 use Rattle.csq_draw.specs.declared.element.Element.{Element}
 use Rattle.csq_draw.specs.Arrows.{found_in}
 use Rattle.csq_draw.specs.Marks.{takes_lock, lets_go}
-use Rattle.csq_draw.specs.Pictures.{place_named}
+use Rattle.csq_draw.specs.Pictures.{above_elements, kept_elements, place_named}
 use Rattle.csq_draw.specs.Rows.{row_of, rows_of}
 use Rattle.csq_draw.specs.Laws.{HasOnePicture, picked, added, AddsStepByStep, pick_of, mark_in, number_in, arrow_in, arrow_to, shade_by, EachStepHasOneMark, EachStepShowsItsWords, EachLineHasItsNumber, EachShadeIsOfTheLock, EachPassHasItsColumn, HasItAt, TheShadedPassHasTheLock}
 
@@ -79,19 +80,19 @@ module _ {A : Type 0} (mark : Mark → List A) (number : Number → List A) (sha
   abbrev pick : Element → List A
   pick = pick_of mark number shade arrow
 
-  picked-append : (xs ys : List Element) → picked pick (xs ++ ys) ≡ picked pick xs ++ picked pick ys
+  pub picked-append : (xs ys : List Element) → picked pick (xs ++ ys) ≡ picked pick xs ++ picked pick ys
   picked-append [] ys = refl
   picked-append (x ∷ xs) ys = ap (λ t. pick x ++ t) (picked-append xs ys) ∙ sym (append_assoc (pick x) (picked pick xs) (picked pick ys))
 
   -- and none of it is
-  none_picked : {B : Type 0} (f : ℕ → B → List Element) → ((n : ℕ) (x : B) → picked pick (f n x) ≡ []) → (n : ℕ) (xs : List B) → picked pick (each f n xs) ≡ []
+  pub none_picked : {B : Type 0} (f : ℕ → B → List Element) → ((n : ℕ) (x : B) → picked pick (f n x) ≡ []) → (n : ℕ) (xs : List B) → picked pick (each f n xs) ≡ []
   none_picked f none n [] = refl
   none_picked f none n (x ∷ xs) = picked-append (f n x) (each f (n + 1) xs) ∙ ap (λ t. t ++ picked pick (each f (n + 1) xs)) (none n x) ∙ none_picked f none (n + 1) xs
 
-  then_none : (xs ys : List Element) (zs : List A) → picked pick xs ≡ zs → picked pick ys ≡ [] → picked pick (xs ++ ys) ≡ zs
+  pub then_none : (xs ys : List Element) (zs : List A) → picked pick xs ≡ zs → picked pick ys ≡ [] → picked pick (xs ++ ys) ≡ zs
   then_none xs ys zs a b = picked-append xs ys ∙ ap (λ t. picked pick xs ++ t) b ∙ append-nil (picked pick xs) ∙ a
 
-  none_then : (xs ys : List Element) (zs : List A) → picked pick xs ≡ [] → picked pick ys ≡ zs → picked pick (xs ++ ys) ≡ zs
+  pub none_then : (xs ys : List Element) (zs : List A) → picked pick xs ≡ [] → picked pick ys ≡ zs → picked pick (xs ++ ys) ≡ zs
   none_then xs ys zs a b = picked-append xs ys ∙ ap (λ t. t ++ picked pick ys) a ∙ b
 
   -- as of a column, of a line that is kept to the end, of the names of words, of bars and of the line of an owner
@@ -104,7 +105,7 @@ module _ {A : Type 0} (mark : Mark → List A) (number : Number → List A) (sha
   no_name : (passes : List PassNow) (irps : List IrpNow) (n : ℕ) (now : IrpNow) → picked pick (word_elements passes irps n now) ≡ []
   no_name passes irps n now = grind arith
 
-  no_bars : (columns place to : ℕ) (to_the_end : Bool) (last : Option Seen) → picked pick (bars_elements columns place to to_the_end last) ≡ []
+  pub no_bars : (columns place to : ℕ) (to_the_end : Bool) (last : Option Seen) → picked pick (bars_elements columns place to to_the_end last) ≡ []
   no_bars columns place to to_the_end last = grind arith
 
   no_span : (passes : List PassNow) (row : ℕ) (now : IrpNow) (owner : Option Owner) → picked pick (span_elements passes row now owner) ≡ []
@@ -120,6 +121,16 @@ module _ {A : Type 0} (mark : Mark → List A) (number : Number → List A) (sha
   abbrev found_before : IrpNow → Row → Option Spot
   found_before before row = found_in before row.step.made.kind row.step.made.found
 
+  -- and of what stands above all rows
+  pub above_picked : (passes : List PassNow) (irps : List IrpNow) (count : ℕ) → picked pick (above_elements passes irps count) ≡ []
+  above_picked passes irps count =
+      let named = each (column_elements passes count) 0 passes in
+      let words = each (word_elements passes irps) 0 irps in
+      let last = each (last_elements passes irps count) 0 irps in
+      none_then named (words ++ last) _ (none_picked (column_elements passes count) (no_column passes count) 0 passes)
+      (none_then words last _ (none_picked (word_elements passes irps) (no_name passes irps) 0 irps)
+      (none_picked (last_elements passes irps count) (λ n now. no_bars (columns passes) _ count true now.last) 0 irps))
+
   -- behind a mark
   behind_picked : (passes : List PassNow) (irps : List IrpNow) (before : IrpNow) (row : Row)
       → picked pick (behind_elements passes irps before row) ≡ shades_with shade passes row row.lock ++ arrows_with arrow passes row (found_before before row)
@@ -133,19 +144,19 @@ module _ {A : Type 0} (mark : Mark → List A) (number : Number → List A) (sha
       (none_then bars last _ (no_bars (columns passes) (place_named irps row.step.made.kind) row.row false before.last) (arrow_picked passes row (found_before before row))))
 
   -- of a row, whoever has the lock there, and whoever wrote what its step found
-  abbrev row_with : List PassNow → List IrpNow → Row → Option PassId → Option Spot → List A
+  abbrev pub row_with : List PassNow → List IrpNow → Row → Option PassId → Option Spot → List A
   row_with passes irps row lock spot = number (record { row = row.row; line = row.line }) ++ ((shades_with shade passes row lock ++ arrows_with arrow passes row spot)
-      ++ (mark (record { row = row.row; column = column_of passes row.step.made.pass; columns = columns passes; place = place_named irps row.step.made.kind; step = row.step; words = row.words }) ++ []))
+      ++ (mark (record { row = row.row; column = column_of passes row.step.made.pass; columns = columns passes; place = place_named irps row.step.made.kind; step = row.step; legality = Legal; words = row.words }) ++ []))
 
   row_picked : (passes : List PassNow) (irps : List IrpNow) (before : IrpNow) (row : Row) → picked pick (row_after passes irps before row) ≡ row_with passes irps row row.lock (found_before before row)
   row_picked passes irps before row =
-      let last = mark_element passes irps row ∷ (call_element passes before row ∷ []) in
+      let last = mark_element passes irps row Legal ∷ (call_element passes before row ∷ []) in
       ap (λ t. number (record { row = row.row; line = row.line }) ++ t) (picked-append (behind_elements passes irps before row) last ∙ ap (λ t. t ++ picked pick last) (behind_picked passes irps before row))
 
   -- where this is what a law wants of a row
   module _ (of_row : List PassNow → List IrpNow → Row → Option Spot → List A) (is : (passes : List PassNow) (irps : List IrpNow) (row : Row) (spot : Option Spot) → row_with passes irps row row.lock spot ≡ of_row passes irps row spot) (size : Size) where
     -- of a step after the steps W
-    abbrev of_step : List PassNow → List IrpNow → Numbered → List Numbered → List A
+    abbrev pub of_step : List PassNow → List IrpNow → Numbered → List Numbered → List A
     of_step passes irps w W = of_row passes irps (row_of size w W) (found_before (irp_named (irps_of size W) w.step.kind) (row_of size w W))
 
     all_picked : (passes : List PassNow) (irps : List IrpNow) (W : List Numbered) → picked pick (rows_elements passes irps (replicate size.irps new_irp) (rows_of size W)) ≡ added (of_step passes irps) W
@@ -158,6 +169,14 @@ module _ {A : Type 0} (mark : Mark → List A) (number : Number → List A) (sha
         ∙ picked-append (rows_elements passes irps fresh (rows_of size W)) (row_after passes irps before row)
         ∙ ap (λ t. picked pick (rows_elements passes irps fresh (rows_of size W)) ++ t) (row_picked passes irps before row ∙ is passes irps row (found_before before row))
         ∙ ap (λ t. t ++ of_step passes irps w W) (all_picked passes irps W)
+
+    -- of the steps W, where the IRPs that have columns are so many
+    pub kept_picked : (passes : List PassNow) (wide irps : List IrpNow) (W : List Numbered) → fresh_irps wide ≡ replicate size.irps new_irp → picked pick (kept_elements passes wide irps (rows_of size W) (owners size.irps (run_of W)) (length W)) ≡ added (of_step passes wide) W
+    kept_picked passes wide irps W fresh =
+        let steps = rows_elements passes wide (fresh_irps wide) (rows_of size W) in
+        let kept = each (open_elements passes irps (length W)) 0 (owners size.irps (run_of W)) in
+        let all = ap (λ xs. picked pick (rows_elements passes wide xs (rows_of size W))) fresh ∙ all_picked passes wide W in
+        then_none steps kept _ all (none_picked (open_elements passes irps (length W)) (no_kept passes irps (length W)) 0 (owners size.irps (run_of W)))
 
     module _ (W : List Numbered) where
       abbrev passes : List PassNow
@@ -174,16 +193,7 @@ module _ {A : Type 0} (mark : Mark → List A) (number : Number → List A) (sha
 
       shown_picked : picked pick shown ≡ added (of_step passes irps) W
       shown_picked =
-          let named = each (column_elements passes (length W)) 0 passes in
-          let words = each (word_elements passes irps) 0 irps in
-          let last = each (last_elements passes irps (length W)) 0 irps in
-          let steps = rows_elements passes irps (fresh_irps irps) (rows_of size W) in
-          let kept = each (open_elements passes irps (length W)) 0 (owners size.irps (run_of W)) in
-          let all = ap (λ xs. picked pick (rows_elements passes irps xs (rows_of size W))) fresh_are ∙ all_picked passes irps W in
-          none_then named (words ++ (last ++ (steps ++ kept))) _ (none_picked (column_elements passes (length W)) (no_column passes (length W)) 0 passes)
-          (none_then words (last ++ (steps ++ kept)) _ (none_picked (word_elements passes irps) (no_name passes irps) 0 irps)
-          (none_then last (steps ++ kept) _ (none_picked (last_elements passes irps (length W)) (λ n now. no_bars (columns passes) _ (length W) true now.last) 0 irps)
-          (then_none steps kept _ all (none_picked (open_elements passes irps (length W)) (no_kept passes irps (length W)) 0 (owners size.irps (run_of W))))))
+          none_then (above_elements passes irps (length W)) (kept_elements passes irps irps (rows_of size W) (owners size.irps (run_of W)) (length W)) _ (above_picked passes irps (length W)) (kept_picked passes irps irps W fresh_are)
 
       all_shown : AddsStepByStep size W pick (of_step passes irps) (λ n. number (record { row = length W; line = n }))
       all_shown = record {
@@ -203,14 +213,14 @@ all_arrows : (ps : List PassNow) (row : Row) (spot : Option Spot) → arrows_wit
 all_arrows ps row spot = grind arith
 
 -- of a law for which neither shades nor arrows count
-quiet : {A : Type 0} (ps : List PassNow) (row : Row) (spot : Option Spot) → shades_with {A = A} (λ s. []) ps row row.lock ++ arrows_with {A = A} (λ a. []) ps row spot ≡ []
+pub quiet : {A : Type 0} (ps : List PassNow) (row : Row) (spot : Option Spot) → shades_with {A = A} (λ s. []) ps row row.lock ++ arrows_with {A = A} (λ a. []) ps row spot ≡ []
 quiet ps row spot = ap (λ t. t ++ arrows_with (λ a. []) ps row spot) (no_shade ps row row.lock) ∙ no_arrow ps row spot
 
 -- of the steps W
 module _ (size : Size) (W : List Numbered) where
   pub each_mark : EachStepHasOneMark size W
-  each_mark = all_shown (λ m. m ∷ []) (λ n. []) (λ s. []) (λ a. []) (λ ps irps row spot. mark_in (mark_element ps irps row))
-      (λ ps irps row spot. ap (λ t. t ++ mark_in (mark_element ps irps row)) (quiet ps row spot)) size W
+  each_mark = all_shown (λ m. m ∷ []) (λ n. []) (λ s. []) (λ a. []) (λ ps irps row spot. mark_in (mark_element ps irps row Legal))
+      (λ ps irps row spot. ap (λ t. t ++ mark_in (mark_element ps irps row Legal)) (quiet ps row spot)) size W
 
   pub each_words : EachStepShowsItsWords size W
   each_words = all_shown (λ m. option_to_list m.words) (λ n. []) (λ s. []) (λ a. []) (λ ps irps row spot. option_to_list row.words)

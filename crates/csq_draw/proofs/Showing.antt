@@ -1,6 +1,6 @@
 -- A drawing shows the run that it was noted of.
 use Rattle.std.proofs.Common.{◌≡◌, ℕ, suc, ◌+◌, ◌<◌, Bool, true, false, cond, List, [], ◌∷◌, ◌++◌, length, get_or, set, replicate, Option, Some, None, refl, ap, sym, ◌∙◌, subst, length-append, add-one, arith}
-use Rattle.csq_draw.proofs.Imports.{option_map_or, IrpId, PassId, Kind, Made, number, same_id, name_of, IrpLife, Size, OfIrp, same_id-refl, same_id-eq, Numbered, run_of, GrewBy, all_passes, reason_of, length-table, table-same, table-replicate, get-table, set-table, CaptionText, picture, stopped_lines, closed_lines, picture_head, stopped_elements, closed_elements, stopped_picture, closed_picture, IrpNow, irp_columns, irps_after, irps_of, new_irp, Owner, Row, is_of_irp, owner, owner_after, owner_named, ended_by, owners, lock_of, lock_at, columns, owner_in, with_owner, Shows, NotesStep}
+use Rattle.csq_draw.proofs.Imports.{option_map_or, IrpId, PassId, Kind, Made, number, same_id, name_of, IrpLife, Size, OfIrp, same_id-refl, same_id-eq, Numbered, run_of, GrewBy, all_passes, reason_of, length-table, table-same, table-replicate, get-table, set-table, CaptionText, picture, stopped_lines, closed_lines, picture_head, stopped_elements, closed_elements, stopped_picture, closed_picture, IrpNow, irp_columns, irps_after, irps_of, new_irp, Owner, Row, is_of_irp, owner, owner_after, owner_named, ended_by, owners, lock_of, lock_at, owner_in, with_owner, Shows, NotesStep}
 use Rattle.irp_core.specs.MachineState.{MachineState, Agrees, size_of}
 use Rattle.csq_replay.specs.declared.schedule.closing.IrpLine.{IrpLine}
 use Rattle.csq_replay.specs.declared.schedule.outcome.Stop.{Stop}

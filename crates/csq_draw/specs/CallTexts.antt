@@ -1,5 +1,5 @@
 -- The call that a step is of, and what the call returns if it ends with the step, behind an arrow; and whether its pass has the IRP from then on.
-use Rattle.std.specs.Prelude.{ℕ, ◌+◌, ◌==◌, Bool, true, false, not, List, [], ◌++◌, codes, decimal, Option, Some, None, if◌then◌else◌}
+use Rattle.std.specs.Prelude.{ℕ, ◌+◌, ◌==◌, Bool, true, false, not, List, ◌++◌, codes, decimal, Option, Some, None, if◌then◌else◌}
 use Rattle.irp_core.specs.declared.ids.IrpLife.{IrpLife}
 use Rattle.irp_core.specs.declared.inside.Inside.{Inside, TheVariants.{Cancelling, FlagSeen, FlagSeenAgain}}
 use Rattle.irp_core.specs.declared.step.Kind.{Kind, TheVariants.{Arm, Test, Disarm, End, Flag, Take, Out, Done, Renew, Rearm}}

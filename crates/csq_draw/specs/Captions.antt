@@ -1,21 +1,25 @@
 -- The comment at the head of a schedule, as it stands above its picture.
-use Rattle.std.specs.Prelude.{ℕ, ◌+◌, ◌-◌, ◌*◌, ◌==◌, ◌&&◌, Bool, true, false, not, nat_le, nat_lt, List, [], ◌∷◌, ◌++◌, map, codes, string_bytes, Option, Some, None, if◌then◌else◌}
-use Rattle.std.specs.List.{list_any}
+use Rattle.std.specs.Prelude.{ℕ, ◌+◌, ◌-◌, ◌*◌, ◌==◌, ◌&&◌, Bool, true, false, nat_le, nat_lt, List, [], ◌∷◌, ◌++◌, map, length, take, codes, string_bytes, encode_utf8, encode_utf8_all, Option, Some, None, if◌then◌else◌}
+use Rattle.std.specs.List.{flat_map, list_any}
 use Rattle.std.specs.Option.{option_map_or}
 use Rattle.irp_core.specs.declared.ids.PassId.{PassId}
+use Rattle.csq_draw.specs.Characters.{characters}
 use Rattle.csq_draw.specs.declared.caption.{Caption.{Caption}, PassName.{PassName}}
 
--- a byte that is printable ASCII, and a question mark for any other
-abbrev pub printable : ℕ → ℕ
-printable b = if nat_le 32 b && nat_le b 126 then b else 63
-
--- a byte as XML writes it
-abbrev pub escaped_byte : ℕ → List ℕ
-escaped_byte b = if b == 38 then codes "&amp;" else if b == 60 then codes "&lt;" else if b == 62 then codes "&gt;" else printable b ∷ []
+-- a character as XML writes it, in UTF-8
+abbrev pub escaped_character : ℕ → List ℕ
+escaped_character c = if c == 38 then codes "&amp;" else if c == 60 then codes "&lt;" else if c == 62 then codes "&gt;" else encode_utf8 c
 
 abbrev pub escaped : List ℕ → List ℕ
-escaped [] = []
-escaped (b ∷ bytes) = escaped_byte b ++ escaped bytes
+escaped text = flat_map escaped_character text
+
+-- a name with at most as many characters as its column holds: of a longer one the last is U+2026, an ellipsis
+abbrev pub cut : List ℕ → List ℕ
+cut name = if nat_le (length name) 24 then name else take 23 name ++ 0x2026 ∷ []
+
+-- a name, as it stands over its column
+abbrev pub drawn_name : List ℕ → List ℕ
+drawn_name name = escaped (cut (characters name))
 
 -- without the space that it may begin with
 abbrev pub unspaced : List ℕ → List ℕ
@@ -66,7 +70,7 @@ line_below text = codes "<tspan x='56' dy='18'>" ++ (escaped text ++ codes "</ts
 
 -- a line as plain text
 abbrev pub plain_line : List ℕ → List ℕ
-plain_line text = map printable text ++ codes "\n"
+plain_line text = encode_utf8_all text ++ codes "\n"
 
 -- before the first line
 abbrev pub new_caption : CaptionText
@@ -87,12 +91,16 @@ with_line c text = record {
   ended = c.ended;
 }
 
+-- with the next line, as long as there are fewer than eight
+abbrev pub with_next_line : CaptionText → List ℕ → CaptionText
+with_next_line c text = if nat_lt c.lines 8 then with_line c text else c
+
 -- with the name of a pass, which this line has
 abbrev pub with_name : CaptionText → NamedPass → List ℕ → CaptionText
 with_name c named text = record {
   title = c.title;
   below = c.below;
-  names = c.names ++ record { pass = named.pass; name = escaped named.name } ∷ [];
+  names = c.names ++ record { pass = named.pass; name = drawn_name named.name } ∷ [];
   plain = c.plain ++ plain_line text;
   lines = c.lines;
   ended = c.ended;
@@ -100,20 +108,23 @@ with_name c named text = record {
 
 -- with this name of a pass, if it is the first one, and else with the line that has it
 abbrev pub with_first_name : CaptionText → NamedPass → List ℕ → CaptionText
-with_first_name c named text = if has_name c.names named.pass then with_line c text else with_name c named text
+with_first_name c named text = if has_name c.names named.pass then with_next_line c text else with_name c named text
 
--- with a comment: a name of a pass, or a line
-unfoldable pub with_comment : CaptionText → List ℕ → CaptionText
-with_comment c text = option_map_or (λ named. with_first_name c named text) (pass_named text) (with_line c text)
+-- with a comment, of which these are the characters: a name of a pass, or a line
+unfoldable pub with_characters : CaptionText → List ℕ → List ℕ → CaptionText
+with_characters c text line = option_map_or (λ named. with_first_name c named line) (pass_named text) (with_next_line c line)
+
+abbrev pub with_comment : CaptionText → List ℕ → CaptionText
+with_comment c text = with_characters c text (characters text)
 
 -- with a line that was skipped: a comment, or an empty one, which ends it
 abbrev pub with_skipped : CaptionText → List ℕ → CaptionText
 with_skipped c [] = ended_caption c
 with_skipped c (sign ∷ text) = with_comment c (unspaced text)
 
--- after a line that was skipped, as long as the comment goes on and has fewer than eight lines
+-- after a line that was skipped, as long as the comment goes on
 abbrev pub caption_after : CaptionText → List ℕ → CaptionText
-caption_after c line = if not c.ended && nat_lt c.lines 8 then with_skipped c line else c
+caption_after c line = if c.ended then c else with_skipped c line
 
 -- what a name of a pass says, and a caption
 abbrev pub name_of : {A : Type 0} → PassName A → NamedPass

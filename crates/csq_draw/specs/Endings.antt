@@ -1,5 +1,5 @@
 -- What stands below the rows of a picture: why a line ended the handling, or where each IRP is in the end.
-use Rattle.std.specs.Prelude.{ℕ, ◌+◌, ◌*◌, Bool, not, List, [], ◌++◌, length, position, codes, decimal, slice_index_or, Option, Some, None, if◌then◌else◌}
+use Rattle.std.specs.Prelude.{ℕ, ◌+◌, ◌*◌, Bool, not, List, [], ◌++◌, position, codes, decimal, slice_index_or, Option, Some, None, if◌then◌else◌}
 use Rattle.std.specs.Option.{option_map}
 use Rattle.irp_core.specs.declared.ids.PassId.{PassId}
 use Rattle.irp_core.specs.declared.standing.IrpPlace.{IrpPlace, TheVariants.{Home, Listed, HeldBy, Completed}}
@@ -9,11 +9,13 @@ use Rattle.csq_replay.specs.declared.schedule.outcome.Stop.{Stop, TheVariants.{T
 use Rattle.csq_replay.specs.Outcomes.{stop_text}
 use Rattle.csq_replay.specs.declared.schedule.closing.IrpLine.{IrpLine}
 use Rattle.csq_explain.specs.declared.passes.PassNow.{PassNow}
+use Rattle.csq_explain.specs.declared.reasons.Reason.{Reason}
 use Rattle.csq_explain.specs.Endings.{flag_sentence}
 use Rattle.csq_explain.specs.Passes.{new_pass_now}
 use Rattle.csq_explain.specs.Sentences.{due_status_words}
-use Rattle.csq_draw.specs.declared.ending.{Below.{Below, TheVariants.{Bar, Refused, Because, Irp, AtRest}}, Rest.{Rest}}
+use Rattle.csq_draw.specs.declared.ending.{Below.{Below, TheVariants.{Bar, Refused, Because, Irp, AtRest, Broken, Harm}}, Rest.{Rest}}
 use Rattle.csq_draw.specs.declared.irps.{Claim.{Claim}, IrpNow.{IrpNow}, Spot.{Spot}}
+use Rattle.csq_explain.specs.Harms.{harm_text}
 use Rattle.csq_explain.specs.Reasons.{reason_text}
 
 -- a line that ended the handling, as it is reported: its step, if it names one, and why it ended it
@@ -35,8 +37,8 @@ in_line None = []
 -- where an IRP is of which so much is known
 abbrev pub place_text : IrpNow → IrpPlace → List ℕ
 place_text now Home = codes " wasn't inserted"
-place_text now Listed = codes " is in the list" ++ having_since (codes "owes") now.claim
-place_text now (HeldBy p) = codes " is out of the list" ++ having_since (codes "holds") now.claim
+place_text now Listed = codes " is in the list" ++ having_since (codes "has owed") now.claim
+place_text now (HeldBy p) = codes " is out of the list" ++ having_since (codes "has held") now.claim
 place_text now (Completed status p) = codes " was completed once, by " ++ (pass_text p ++ (in_line now.done ++ (codes ", with " ++ due_status_words status)))
 
 -- where it is in the end, in a sentence
@@ -62,10 +64,21 @@ unfinished_text None = codes "not all is at rest: a pass owes or holds an IRP"
 abbrev pub rest_text : Rest → List ℕ
 rest_text r = if r.at_rest then codes "all is at rest: no call is unfinished, and nobody owes or holds an IRP" else unfinished_text r.unfinished
 
--- what stands below rows that end here: the bar of the line that ended the handling, what is reported for that line in its bar, and why it ended it; or the nth line of text that is reported in the end
+-- the line in which the protocol was broken, with what was refused there
+abbrev pub broken_line : ℕ → Reason → List ℕ
+broken_line n reason = codes "the protocol is broken in line " ++ (decimal n ++ (codes ": " ++ ended_line_text reason.stop))
+
+-- below rows that end here: that line, and why it is refused
+abbrev pub broken_text : ℕ → ℕ → Reason → List ℕ
+broken_text y n reason = (codes "<text class='f' x='56' y='" ++ (decimal (y + 28) ++ (codes "'>" ++ (broken_line n reason ++ codes "</text>"))))
+    ++ (codes "<text x='56' y='" ++ (decimal (y + 48) ++ (codes "'>" ++ (reason_text reason ++ codes "</text>"))))
+
+-- what stands below rows that end here: the bar of the line that ended the handling, what is reported for that line in its bar, and why it ended it; or the nth line of text that is reported in the end; or where and why the protocol was broken, and as the nth line what goes wrong
 abbrev pub below_text : ℕ → Below → List ℕ
 below_text y Bar = codes "<rect class='bad' x='64' y='" ++ (decimal (y + 4) ++ codes "' width='660' height='52' rx='6'/>")
 below_text y (Refused stop) = codes "<text x='73' y='" ++ (decimal (y + 34) ++ (codes "'>" ++ (ended_line_text stop ++ codes "</text>")))
 below_text y (Because reason) = codes "<text x='73' y='" ++ (decimal (y + 76) ++ (codes "'>" ++ (reason_text reason ++ codes "</text>")))
 below_text y (Irp nth line now) = codes "<text x='56' y='" ++ (decimal (y + 28 + 20 * nth) ++ (codes "'>" ++ (irp_ending line now ++ codes "</text>")))
 below_text y (AtRest nth rest) = codes "<text x='56' y='" ++ (decimal (y + 28 + 20 * nth) ++ (codes "'>" ++ (rest_text rest ++ codes "</text>")))
+below_text y (Broken n reason) = broken_text y n reason
+below_text y (Harm nth h) = codes "<text x='56' y='" ++ (decimal (y + 28 + 20 * nth) ++ (codes "'>" ++ (harm_text h.step h.harm ++ codes "</text>")))

@@ -13,7 +13,7 @@ use Rattle.csq_replay.specs.declared.schedule.closing.IrpLine.{IrpLine}
 use Rattle.csq_replay.specs.declared.schedule.outcome.Stop.{Stop}
 use Rattle.csq_replay.specs.Schedule.{Numbered, run_of}
 use Rattle.csq_draw.specs.declared.format.Format.{Format}
-use Rattle.csq_draw.specs.declared.marks.{Mark.{Mark}, Number.{Number}, Shade.{Shade}}
+use Rattle.csq_draw.specs.declared.marks.{Legality.TheVariants.{Legal}, Mark.{Mark}, Number.{Number}, Shade.{Shade}}
 use Rattle.csq_draw.specs.declared.owners.{Having.{Having, TheVariants.{Owes, Holds}}, Owner.{Owner}}
 use Rattle.csq_draw.specs.declared.words.WordValues.{WordValues}
 use Rattle.csq_explain.specs.declared.passes.PassNow.{PassNow}
@@ -30,7 +30,11 @@ use Rattle.csq_draw.specs.Rows.{row_of}
 use Rattle.csq_draw.specs.Words.{words_named, changes_flag, changes_routine}
 use Rattle.csq_draw.specs.declared.element.Element.{Element}
 use Rattle.csq_draw.specs.declared.element.Element.TheVariants as element
-use Rattle.csq_draw.specs.Pictures.{IsDrawing, irps_of, place_named, stopped_picture, closed_picture}
+use Rattle.csq_draw.specs.declared.wrong_rows.WrongRow.{WrongRow}
+use Rattle.csq_draw.specs.Pictures.{IsDrawing, irps_of, place_named, broken_elements, refused_elements, stopped_picture, closed_picture}
+use Rattle.csq_draw.specs.WrongDrawings.{WrongDrawn, order_irps, order_passes, order_picture, reason_at, shown_of}
+use Rattle.csq_explain.specs.declared.harms.HarmAt.{HarmAt}
+use Rattle.csq_explain.specs.declared.reasons.Reason.{Reason}
 
 -- two pictures of one schedule in one format are the same
 abbrev pub HasOnePicture : Size → Format → List ℕ → Type 0
@@ -87,6 +91,7 @@ mark_of size passes irps w W = record {
   columns = columns passes;
   place = place_named irps w.step.kind;
   step = in_call (run_of W) w.step;
+  legality = Legal;
   words = words_named size.first (run_of (w ∷ W)) w.step.kind;
 } ∷ []
 
@@ -159,6 +164,32 @@ EachShadeIsOfTheLock size W = AddsStepByStep size W shade_in (shade_of size (all
 -- of a run, an arrow runs to each step that found a word set from the step of another pass that set it, and there are no others
 abbrev pub EachArrowIsFromTheWrite : Size → List Numbered → Type 0
 EachArrowIsFromTheWrite size W = IsRun size (run_of W) → AddsStepByStep size W arrow_in (arrow_of (all_passes size W)) (λ n. [])
+
+-- the mark of a row from a refused step on
+abbrev pub wrong_mark : List PassNow → List IrpNow → WrongRow → List Mark
+wrong_mark passes irps w = record {
+  row = w.row.row;
+  column = column_of passes w.row.step.made.pass;
+  columns = columns passes;
+  place = place_named irps w.row.step.made.kind;
+  step = w.row.step;
+  legality = w.legality;
+  words = w.row.words;
+} ∷ []
+
+-- what each of these rows adds, in order
+abbrev pub added_behind : {A : Type 0} → (WrongRow → List A) → List WrongRow → List A
+added_behind of_row [] = []
+added_behind of_row (w ∷ rows) = of_row w ++ added_behind of_row rows
+
+-- of the picture of an order: what is picked out of it is what each step up to the refusal adds, in order, then this of each row behind, and then this of the line that ended the handling
+pub record AddsUpToTheRefusal {A : Type 0} (size : Size) (d : WrongDrawn) (pick : Element → List A) (of_step : Numbered → List Numbered → List A) (of_row : WrongRow → List A) (of_line : ℕ → List A) : Type 0 where
+  pub stopped : (n : ℕ) (stop : Stop) → picked pick (order_picture (shown_of size d) (refused_elements (length d.steps) n (reason_at size d stop))) ≡ added of_step d.drawn.steps ++ (added_behind of_row d.behind ++ of_line n)
+  pub broken : (n : ℕ) (reason : Reason) (harms : List HarmAt) → picked pick (order_picture (shown_of size d) (broken_elements (length d.steps) n reason harms)) ≡ added of_step d.drawn.steps ++ added_behind of_row d.behind
+
+-- each step up to the refusal has the mark that it has in any picture with these columns, and each one behind has its own, by the words
+abbrev pub EachStepOfAnOrderHasOneMark : Size → WrongDrawn → Type 0
+EachStepOfAnOrderHasOneMark size d = AddsUpToTheRefusal size d mark_in (mark_of size (order_passes size d) (order_irps size d)) (wrong_mark (order_passes size d) (order_irps size d)) (λ n. [])
 
 -- passes that made a step of the run have columns of their own, in the order of their numbers
 abbrev pub EachPassHasItsColumn : Size → List Numbered → Type 0

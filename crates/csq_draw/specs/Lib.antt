@@ -11,6 +11,7 @@ pub mod Marks
 pub mod Spans
 pub mod Arrows
 pub mod Bars
+pub mod Characters
 pub mod Captions
 pub mod Headings
 pub mod Endings
@@ -18,4 +19,6 @@ pub mod Terminal
 pub mod Elements
 pub mod Pictures
 pub mod Drawings
+pub mod WrongRows
+pub mod WrongDrawings
 pub mod Laws

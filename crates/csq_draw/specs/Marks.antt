@@ -6,10 +6,10 @@ use Rattle.irp_core.specs.Inside.{has_lock, inside_after}
 use Rattle.irp_core.specs.Lock.{needs_lock}
 use Rattle.irp_core.specs.Steps.{number, name_of}
 use Rattle.irp_core.specs.declared.ids.IrpLife.{IrpLife}
-use Rattle.irp_core.specs.Texts.{kind_text}
+use Rattle.irp_core.specs.Texts.{kind_text, pass_text, refusal_text}
 use Rattle.csq_explain.specs.declared.sentences.StepInCall.{StepInCall}
 use Rattle.csq_explain.specs.Sentences.{sentence, status_name}
-use Rattle.csq_draw.specs.declared.marks.{Number.{Number}, Shade.{Shade}, Mark.{Mark}}
+use Rattle.csq_draw.specs.declared.marks.{Number.{Number}, Shade.{Shade}, Mark.{Mark}, Legality.{Legality, TheVariants.{Legal, Refused, Behind}}}
 use Rattle.csq_draw.specs.Circles.{circles_text}
 use Rattle.csq_draw.specs.Layout.{left, top}
 
@@ -81,13 +81,31 @@ found_by _ found status = []
 abbrev pub found_words : StepInCall → List ℕ
 found_words s = found_by s.made.kind (not (s.made.found == 0)) s.status
 
--- a step, described in a sentence too, at the upper left corner of its row: its box, what it does, what it found, its call of the WDK, and the words of its IRP
+-- how a mark looks: red if the protocol refuses its step, and grey behind that
+abbrev pub mark_class : Legality → StepInCall → List ℕ
+mark_class Legal s = step_class (claims s.made.kind s.made.found) (name_of s.made.kind)
+mark_class (Refused cause) s = codes "bad"
+mark_class Behind s = codes "e"
+
+-- a mark in words: of a step behind the refused one no call is known
+abbrev pub mark_title : Legality → StepInCall → List ℕ
+mark_title Legal s = sentence s
+mark_title (Refused cause) s = pass_text s.made.pass ++ (codes " " ++ (kind_text s.made.kind ++ (codes " refused " ++ refusal_text cause)))
+mark_title Behind s = pass_text s.made.pass ++ (codes " " ++ (kind_text s.made.kind ++ codes ", behind the refused step"))
+
+-- in the box of a refused step, at this place: its refusal
+abbrev pub refusal_at : ℕ → ℕ → Legality → List ℕ
+refusal_at x y Legal = []
+refusal_at x y (Refused cause) = codes "<text x='" ++ (decimal x ++ (codes "' y='" ++ (decimal y ++ (codes "'>refused " ++ (refusal_text cause ++ codes "</text>")))))
+refusal_at x y Behind = []
+
+-- a step, described in words too, at the upper left corner of its row: its box, what it does, what it found, its call of the WDK, its refusal, and the words of its IRP
 abbrev pub mark_at : ℕ → ℕ → Mark → List ℕ
 mark_at x y m =
-    (codes "<g class='" ++ (step_class (claims m.step.made.kind m.step.made.found) (name_of m.step.made.kind) ++ (codes "'><title>" ++ (sentence m.step ++ (codes "</title><rect x='" ++ (decimal (x + 8) ++ (codes "' y='" ++ (decimal (y + 4) ++ codes "' width='212' height='52' rx='6'/>"))))))))
+    (codes "<g class='" ++ (mark_class m.legality m.step ++ (codes "'><title>" ++ (mark_title m.legality m.step ++ (codes "</title><rect x='" ++ (decimal (x + 8) ++ (codes "' y='" ++ (decimal (y + 4) ++ codes "' width='212' height='52' rx='6'/>"))))))))
     ++ ((codes "<text class='w' x='" ++ (decimal (x + 17) ++ (codes "' y='" ++ (decimal (y + 20) ++ (codes "'>" ++ (kind_text m.step.made.kind ++ codes "</text>"))))))
     ++ ((codes "<text class='w v' x='" ++ (decimal (x + 211) ++ (codes "' y='" ++ (decimal (y + 20) ++ (codes "'>" ++ (found_words m.step ++ codes "</text>"))))))
-    ++ ((codes "<text class='m' x='" ++ (decimal (x + 17) ++ (codes "' y='" ++ (decimal (y + 35) ++ (codes "'>" ++ (wdk_text m.step.made.kind ++ codes "</text></g>"))))))
+    ++ ((codes "<text class='m' x='" ++ (decimal (x + 17) ++ (codes "' y='" ++ (decimal (y + 35) ++ (codes "'>" ++ (wdk_text m.step.made.kind ++ (codes "</text>" ++ (refusal_at (x + 17) (y + 50) m.legality ++ codes "</g>"))))))))
     ++ circles_text m m.words)))
 
 abbrev pub mark_text : Mark → List ℕ

@@ -23,6 +23,7 @@ use Rattle.csq_draw.specs.Arrows.{found_in}
 use Rattle.csq_draw.specs.Endings.{rest_of}
 use Rattle.csq_draw.specs.Irps.{new_irp, irp_at, irp_named, with_irp, irps_after, irp_columns, irp_column}
 use Rattle.csq_draw.specs.Marks.{takes_lock, lets_go}
+use Rattle.csq_draw.specs.declared.marks.Legality.{Legality, TheVariants.{Legal}}
 use Rattle.csq_draw.specs.Owners.{owners}
 use Rattle.csq_draw.specs.Passes.{columns, column_of, makes_step}
 use Rattle.csq_explain.specs.Passes.{all_passes}
@@ -33,7 +34,8 @@ use Rattle.csq_draw.specs.Elements.{picture}
 use Rattle.csq_draw.specs.Layout.{left}
 use Rattle.csq_draw.specs.Terminal.{each_text, stopped_lines, closed_lines}
 use Rattle.csq_draw.specs.declared.element.Element.TheVariants as element
-use Rattle.csq_draw.specs.declared.ending.Below.TheVariants.{Bar, Refused, Because, Irp, AtRest}
+use Rattle.csq_draw.specs.declared.ending.Below.TheVariants.{Bar, Refused, Because, Irp, AtRest, Broken, Harm}
+use Rattle.csq_explain.specs.declared.harms.HarmAt.{HarmAt}
 
 -- the elements of each, by its place, the first of which is n
 abbrev pub each : {A : Type 0} → (ℕ → A → List Element) → ℕ → List A → List Element
@@ -86,8 +88,8 @@ abbrev pub place_named : List IrpNow → Kind → ℕ
 place_named irps k = option_map_or (λ i. irp_column irps i.irp) (name_of k) 0
 
 -- a row's step, in the column of its pass
-abbrev pub mark_element : List PassNow → List IrpNow → Row → Element
-mark_element passes irps row = element.Mark (record { row = row.row; column = column_of passes row.step.made.pass; columns = columns passes; place = place_named irps row.step.made.kind; step = row.step; words = row.words })
+abbrev pub mark_element : List PassNow → List IrpNow → Row → Legality → Element
+mark_element passes irps row legality = element.Mark (record { row = row.row; column = column_of passes row.step.made.pass; columns = columns passes; place = place_named irps row.step.made.kind; step = row.step; legality = legality; words = row.words })
 
 -- the call that it is of
 abbrev pub call_element : List PassNow → IrpNow → Row → Element
@@ -104,7 +106,7 @@ behind_elements passes irps before row = shade_elements passes row row.lock ++ (
 
 -- the row of such a step: the number of its line, what stands behind its mark, its mark, and its call
 abbrev pub row_after : List PassNow → List IrpNow → IrpNow → Row → List Element
-row_after passes irps before row = number_element row ∷ (behind_elements passes irps before row ++ mark_element passes irps row ∷ (call_element passes before row ∷ []))
+row_after passes irps before row = number_element row ∷ (behind_elements passes irps before row ++ mark_element passes irps row Legal ∷ (call_element passes before row ∷ []))
 
 -- so many IRPs as these, of which nothing is known yet
 abbrev pub fresh_irps : List IrpNow → List IrpNow
@@ -149,10 +151,24 @@ closing_elements irps rows nth line = element.Below rows (Irp nth line (irp_at i
 abbrev pub at_rest_element : List PassNow → ℕ → ℕ → Bool → Element
 at_rest_element passes rows nth at_rest = element.Below rows (AtRest nth (rest_of passes at_rest))
 
+-- of an order that broke the protocol in the nth line: where and why, and what goes wrong, each on a line below
+abbrev pub harm_elements : ℕ → ℕ → HarmAt → List Element
+harm_elements rows nth h = element.Below rows (Harm (nth + 2) h) ∷ []
+
+abbrev pub broken_elements : ℕ → ℕ → Reason → List HarmAt → List Element
+broken_elements rows n reason harms = element.Below rows (Broken n reason) ∷ each (harm_elements rows) 0 harms
+
+-- what stands above so many rows of these passes and IRPs, and the words that are kept to the end
+abbrev pub above_elements : List PassNow → List IrpNow → ℕ → List Element
+above_elements passes irps count = element.Lines ∷ (each (column_elements passes count) 0 passes ++ (each (word_elements passes irps) 0 irps ++ each (last_elements passes irps count) 0 irps))
+
+-- the rows of the steps of an execution, and the owners after it, of which so much is known then: `wide` are the IRPs that have columns
+abbrev pub kept_elements : List PassNow → List IrpNow → List IrpNow → List Row → List (Option Owner) → ℕ → List Element
+kept_elements passes wide irps rows owners count = rows_elements passes wide (fresh_irps wide) rows ++ each (open_elements passes irps count) 0 owners
+
 -- of these passes, IRPs, rows and owners, as many rows as there are: what stands above them, the rows, and what is kept to the end
 abbrev pub shown_elements : List PassNow → List IrpNow → List Row → List (Option Owner) → ℕ → List Element
-shown_elements passes irps rows owners count = element.Lines ∷ (each (column_elements passes count) 0 passes ++ (each (word_elements passes irps) 0 irps
-    ++ (each (last_elements passes irps count) 0 irps ++ (rows_elements passes irps (fresh_irps irps) rows ++ each (open_elements passes irps count) 0 owners))))
+shown_elements passes irps rows owners count = above_elements passes irps count ++ kept_elements passes irps irps rows owners count
 
 -- and then of the nth line, which ended the handling for this reason
 abbrev pub stopped_elements : List PassNow → List IrpNow → List Row → List (Option Owner) → ℕ → ℕ → Reason → List Element

@@ -8,13 +8,17 @@ use Rattle.csq_explain.specs.declared.passes.PassNow.{PassNow}
 use Rattle.csq_explain.specs.declared.reasons.Reason.{Reason}
 use Rattle.csq_explain.specs.declared.sentences.StepInCall.{StepInCall}
 use Rattle.csq_explain.specs.Reasons.{reason_text}
-use Rattle.csq_draw.specs.declared.cells.Cell.{Cell, TheVariants.{Line, Lock, Pass, Step, WordValue}}
+use Rattle.csq_draw.specs.declared.cells.Cell.{Cell, TheVariants.{Line, Lock, Protocol, Pass, Step, WordValue}}
+use Rattle.csq_draw.specs.declared.marks.Legality.{Legality, TheVariants.{Legal, Refused, Behind}}
 use Rattle.csq_draw.specs.declared.rows.Row.{Row}
 use Rattle.csq_draw.specs.declared.words.WordValues.{WordValues}
+use Rattle.csq_draw.specs.declared.wrong_rows.WrongRow.{WrongRow}
+use Rattle.csq_explain.specs.declared.harms.HarmAt.{HarmAt}
+use Rattle.csq_explain.specs.WrongOrders.{harms_text}
 use Rattle.csq_draw.specs.Captions.{CaptionText}
 use Rattle.csq_draw.specs.Circles.{word_text}
 use Rattle.csq_draw.specs.declared.irps.IrpNow.{IrpNow}
-use Rattle.csq_draw.specs.Endings.{ended_line_text, irp_ending, rest_of, rest_text}
+use Rattle.csq_draw.specs.Endings.{broken_line, ended_line_text, irp_ending, rest_of, rest_text}
 use Rattle.csq_draw.specs.Irps.{irp_at}
 use Rattle.csq_draw.specs.Marks.{claims, found_words}
 use Rattle.csq_draw.specs.Passes.{columns, column_of}
@@ -44,9 +48,16 @@ abbrev pub lock_cell : Option PassId → List ℕ
 lock_cell (Some p) = pass_text p
 lock_cell None = codes "-"
 
+-- a mark at the refused step, and a question mark behind it: who has the lock isn't known then
+abbrev pub legality_cell : Legality → List ℕ
+legality_cell Legal = codes "-"
+legality_cell (Refused cause) = codes "!"
+legality_cell Behind = codes "?"
+
 abbrev pub cell_text : Cell → List ℕ
 cell_text (Line n) = decimal n
 cell_text (Lock p) = lock_cell p
+cell_text (Protocol legality) = legality_cell legality
 cell_text (Pass p) = codes " " ++ pass_text p
 cell_text (Step s) = step_cell s
 cell_text (WordValue set) = word_text set
@@ -61,10 +72,18 @@ abbrev pub words_cells : Option IrpLife → Option WordValues → List ℕ
 words_cells named (Some w) = in_width 7 (cell_text (WordValue w.flag)) ++ (cell_text (WordValue w.routine) ++ life_cell named w)
 words_cells named None = codes "-      -"
 
--- a step: the number of its line, who has the lock, and in the column of its pass what it did; and at the right the words of its IRP
-abbrev pub row_text : List PassNow → Row → List ℕ
-row_text passes row = in_width 6 (cell_text (Line row.line)) ++ (in_width 6 (cell_text (Lock row.lock)) ++ (spaces (27 * column_of passes row.step.made.pass)
+-- a step: the number of its line, this cell, and in the column of its pass what it did; and at the right the words of its IRP
+abbrev pub row_cells : List PassNow → Cell → Row → List ℕ
+row_cells passes cell row = in_width 6 (cell_text (Line row.line)) ++ (in_width 6 (cell_text cell) ++ (spaces (27 * column_of passes row.step.made.pass)
     ++ (in_width (27 * (columns passes - column_of passes row.step.made.pass)) (cell_text (Step row.step)) ++ (words_cells (name_of row.step.made.kind) row.words ++ codes "\n"))))
+
+-- with who has the lock
+abbrev pub row_text : List PassNow → Row → List ℕ
+row_text passes row = row_cells passes (Lock row.lock) row
+
+-- and from the refused step on how it stands to the protocol
+abbrev pub wrong_row_text : List PassNow → WrongRow → List ℕ
+wrong_row_text passes w = row_cells passes (Protocol w.legality) w.row
 
 -- the name of a pass that makes a step, over its column
 abbrev pub pass_cell : ℕ → PassNow → List ℕ
@@ -78,9 +97,25 @@ header_text passes = codes "line  lock  " ++ (each_text pass_cell 0 passes ++ co
 abbrev pub rows_text : List PassNow → List Row → List ℕ
 rows_text passes rows = header_text passes ++ each_text (λ n row. row_text passes row) 0 rows
 
--- the caption, the steps, and the nth line, which ended the handling for this reason
+-- the nth line, which ended the handling for this reason
+abbrev pub ended_lines : ℕ → Reason → List ℕ
+ended_lines n reason = codes "line " ++ (decimal n ++ (codes ": " ++ (ended_line_text reason.stop ++ (codes "\n  " ++ (reason_text reason ++ codes "\n")))))
+
+-- the caption, the steps, and that line
 abbrev pub stopped_lines : CaptionText → List PassNow → List Row → ℕ → Reason → List ℕ
-stopped_lines c passes rows n reason = c.plain ++ (rows_text passes rows ++ (codes "line " ++ (decimal n ++ (codes ": " ++ (ended_line_text reason.stop ++ (codes "\n  " ++ (reason_text reason ++ codes "\n")))))))
+stopped_lines c passes rows n reason = c.plain ++ (rows_text passes rows ++ ended_lines n reason)
+
+-- the caption, and all steps of an order
+abbrev pub order_lines : CaptionText → List PassNow → List Row → List WrongRow → List ℕ
+order_lines c passes rows behind = c.plain ++ (rows_text passes rows ++ each_text (λ n w. wrong_row_text passes w) 0 behind)
+
+-- and then that line
+abbrev pub wrong_stopped_lines : CaptionText → List PassNow → List Row → List WrongRow → ℕ → Reason → List ℕ
+wrong_stopped_lines c passes rows behind n reason = order_lines c passes rows behind ++ ended_lines n reason
+
+-- or the nth line, in which the protocol was broken, why, and what goes wrong
+abbrev pub broken_lines : CaptionText → List PassNow → List Row → List WrongRow → ℕ → Reason → List HarmAt → List ℕ
+broken_lines c passes rows behind n reason harms = order_lines c passes rows behind ++ ((broken_line n reason ++ (codes "\n  " ++ (reason_text reason ++ codes "\n"))) ++ harms_text harms)
 
 -- where an IRP is in the end
 abbrev pub irp_line_reported : List IrpNow → ℕ → IrpLine → List ℕ

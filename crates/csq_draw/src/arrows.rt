@@ -1,6 +1,6 @@
 //! An arrow from the step that wrote a word to the one that found it.
 ghost use Rattle.std.specs.Prelude.{◌≡◌};
-ghost use Rattle.csq_draw.specs.Arrows.{found_in, side};
+ghost use Rattle.csq_draw.specs.Arrows.{found_in, side, gutter, is_near};
 
 use crate::irps::{IrpNow, Spot};
 use crate::layout::{left, top};
@@ -39,7 +39,47 @@ fn side(column: u32, other: u32) -> u64
     }
 }
 
-/// It runs between the facing sides of the two boxes.
+/// The middle of the space beside a column, on the side that faces another one.
+fn gutter(column: u32, other: u32) -> u64
+    ensures { result ≡ gutter column other }
+{
+    if column < other {
+        left(column) + 256
+    } else {
+        left(column) - 28
+    }
+}
+
+/// Whether no box stands between two columns.
+fn is_near(column: u32, other: u32) -> bool
+    ensures { result ≡ is_near column other }
+{
+    u64::from(column) <= u64::from(other) + 1 && u64::from(other) <= u64::from(column) + 1
+}
+
+/// The way of an arrow past the boxes between its columns.
+#[derive(Clone, Copy)]
+struct Detour(Arrow);
+
+/// Beside its column to the upper edge of its row, along that, and on beside the other column; nothing for columns that
+/// have no other between them.
+impl fmt::Display for Detour {
+    ghost use Rattle.std.specs.Prelude.{Some};
+    ghost use Rattle.csq_draw.specs.Arrows.{detour_text};
+
+    ghost output = { λ detour. Some (detour_text detour.0) };
+
+    fn fmt<W: fmt::Write>(&self, f: &mut fmt::Formatter<W>) -> fmt::Result {
+        let (from, to) = (self.0.from_column, self.0.column);
+        if is_near(from, to) {
+            return Ok(());
+        }
+        let (x, y, other) = (gutter(from, to), top(self.0.row), gutter(to, from));
+        write!(f, "{x} {y}H{other}L")
+    }
+}
+
+/// It runs between the facing sides of the two boxes, past those between.
 impl fmt::Display for Arrow {
     ghost use Rattle.std.specs.Prelude.{Some};
     ghost use Rattle.csq_draw.specs.Arrows.{arrow_text};
@@ -48,8 +88,8 @@ impl fmt::Display for Arrow {
 
     fn fmt<W: fmt::Write>(&self, f: &mut fmt::Formatter<W>) -> fmt::Result {
         let x = side(self.from_column, self.column);
-        let y = top(self.from.row) + 30;
-        write!(f, "<path class='a' d='M{x} {y}L")?;
+        let (y, detour) = (top(self.from.row) + 30, Detour(*self));
+        write!(f, "<path class='a' d='M{x} {y}L{detour}")?;
         let x = side(self.column, self.from_column);
         let y = top(self.row) + 30;
         let (line, from) = (self.line, self.from.line);

@@ -5,8 +5,10 @@ ghost use Rattle.std.specs.Option.{option_map};
 ghost use Rattle.csq_replay.specs.Lines.{GrewBy};
 ghost use Rattle.csq_draw.specs.Pictures.{pass_name_text};
 ghost use Rattle.csq_draw.specs.Terminal.{each_text};
-ghost use Rattle.csq_draw.specs.Captions.{printable, escaped_byte, escaped, unspaced, line_below, plain_line, pass_named, name_of};
+ghost use Rattle.csq_draw.specs.Captions.{escaped_character, escaped, cut, drawn_name, unspaced, line_below, plain_line, pass_named, name_of};
+ghost use Rattle.csq_draw.specs.Characters.{characters};
 
+use crate::characters::characters;
 use crate::layout::left;
 use crate::passes::{column_of, makes_step};
 use csq_explain::PassNow;
@@ -15,6 +17,10 @@ use std::alloc::{AllocError, Allocator};
 
 /// How many lines of a comment stand above a picture at most. Own rule.
 pub(crate) const MAX_LINES: u32 = 8;
+
+/// How many characters of a name of a pass stand over its column at most: between the number of the pass and the next
+/// column are 154 pixels, of which a letter takes some six. Own rule.
+const MAX_NAME: usize = 24;
 
 /// What a line of the comment says that a pass is called, as XML writes it.
 #[derive(Drop)]
@@ -35,44 +41,32 @@ pub(crate) struct Caption<A: Allocator> {
     pub(crate) ended: bool,
 }
 
-/// A byte that is printable ASCII, and a question mark for any other.
-fn printable(byte: u8) -> char
-    ensures value { result ≡ printable byte }
-    ensures ascii { result < 128 }
+/// Adds a character as XML writes it.
+fn push_character<A: Allocator>(character: char, text: &mut String<A>) -> Result<(), AllocError>
+    ensures { OnOk result (GrewBy (string_bytes text.old) (string_bytes text.new)
+        (escaped_character character)) }
 {
-    if byte.is_ascii_graphic() || byte == b' ' {
-        char::from(byte)
-    } else {
-        '?'
+    match character {
+        '&' => text.push_str("&amp;"),
+        '<' => text.push_str("&lt;"),
+        '>' => text.push_str("&gt;"),
+        _ => text.push(character),
     }
 }
 
-/// Adds a byte as XML writes it.
-fn push_byte<A: Allocator>(byte: u8, text: &mut String<A>) -> Result<(), AllocError>
+/// Adds characters, each as XML writes it.
+fn push_escaped<A: Allocator>(characters: &[char], text: &mut String<A>) -> Result<(), AllocError>
     ensures { OnOk result (GrewBy (string_bytes text.old) (string_bytes text.new)
-        (escaped_byte byte)) }
+        (escaped characters.now)) }
 {
-    match byte {
-        b'&' => text.push_str("&amp;"),
-        b'<' => text.push_str("&lt;"),
-        b'>' => text.push_str("&gt;"),
-        _ => text.push(printable(byte)),
-    }
-}
-
-/// Adds bytes, each as XML writes it.
-fn push_escaped<A: Allocator>(bytes: &[u8], text: &mut String<A>) -> Result<(), AllocError>
-    ensures { OnOk result (GrewBy (string_bytes text.old) (string_bytes text.new)
-        (escaped bytes.now)) }
-{
-    for byte in bytes {
-        push_byte(*byte, text)?;
+    for character in characters {
+        push_character(*character, text)?;
     }
     Ok(())
 }
 
 /// Adds a line below the title.
-fn push_below<A: Allocator>(line: &[u8], text: &mut String<A>) -> Result<(), AllocError>
+fn push_below<A: Allocator>(line: &[char], text: &mut String<A>) -> Result<(), AllocError>
     ensures { OnOk result (GrewBy (string_bytes text.old) (string_bytes text.new)
         (line_below line.now)) }
 {
@@ -83,12 +77,12 @@ fn push_below<A: Allocator>(line: &[u8], text: &mut String<A>) -> Result<(), All
 }
 
 /// Adds a line as plain text.
-fn push_plain<A: Allocator>(line: &[u8], text: &mut String<A>) -> Result<(), AllocError>
+fn push_plain<A: Allocator>(line: &[char], text: &mut String<A>) -> Result<(), AllocError>
     ensures { OnOk result (GrewBy (string_bytes text.old) (string_bytes text.new)
         (plain_line line.now)) }
 {
-    for byte in line {
-        text.push(printable(*byte))?;
+    for character in line {
+        text.push(*character)?;
     }
     text.push('\n')?;
     Ok(())
@@ -130,12 +124,25 @@ fn has_name<A: Allocator>(names: &[PassName<A>], pass: PassId) -> bool
     names.iter().any(|it| it.pass.0 == pass.0)
 }
 
-/// A name, as XML writes it.
-fn escaped_name<A: Allocator>(alloc: A, name: &[u8]) -> Result<String<A>, AllocError>
-    ensures { IfOk result (λ text. string_bytes text ≡ escaped name.now) }
+/// Adds a name, as XML writes it: of a longer one than its column holds the characters in front, and an ellipsis.
+fn push_cut<A: Allocator>(name: &[char], text: &mut String<A>) -> Result<(), AllocError>
+    ensures { OnOk result (GrewBy (string_bytes text.old) (string_bytes text.new)
+        (escaped (cut name.now))) }
 {
+    if name.len() <= MAX_NAME {
+        return push_escaped(name, text);
+    }
+    push_escaped(&name[..MAX_NAME - 1], text)?;
+    text.push('…')
+}
+
+/// A name, as it stands over its column.
+fn drawn_name<A: Allocator + Copy>(alloc: A, name: &[u8]) -> Result<String<A>, AllocError>
+    ensures { IfOk result (λ text. string_bytes text ≡ drawn_name name.now) }
+{
+    let name = characters(alloc, name)?;
     let mut text = String::new(alloc);
-    push_escaped(name, &mut text)?;
+    push_cut(&name, &mut text)?;
     Ok(text)
 }
 
@@ -177,7 +184,7 @@ pub(crate) fn draw_names<A: Allocator, B: Allocator>(
 }
 
 impl<A: Allocator + Copy> Caption<A> {
-    ghost use Rattle.csq_draw.specs.Captions.{new_caption, with_line, with_name, with_first_name, with_comment, ended_caption, caption_after, caption_of};
+    ghost use Rattle.csq_draw.specs.Captions.{new_caption, with_line, with_next_line, with_name, with_first_name, with_characters, with_comment, ended_caption, caption_after, caption_of};
 
     /// Before the first line of a schedule.
     pub(crate) fn new(alloc: A) -> Caption<A>
@@ -194,7 +201,7 @@ impl<A: Allocator + Copy> Caption<A> {
     }
 
     /// Adds a line of the comment: the title, where it is the first.
-    fn push_line(&mut self, line: &[u8]) -> Result<(), AllocError>
+    fn push_line(&mut self, line: &[char]) -> Result<(), AllocError>
         requires { self.old.lines < MAX_LINES }
         ensures { OnOk result (caption_of self.new ≡ with_line (caption_of self.old) line.now) }
     {
@@ -208,18 +215,30 @@ impl<A: Allocator + Copy> Caption<A> {
         Ok(())
     }
 
+    /// Adds the next line of the comment, as long as there are few.
+    fn push_next_line(&mut self, line: &[char]) -> Result<(), AllocError>
+        ensures { OnOk result
+            (caption_of self.new ≡ with_next_line (caption_of self.old) line.now) }
+    {
+        if self.lines < MAX_LINES {
+            self.push_line(line)
+        } else {
+            Ok(())
+        }
+    }
+
     /// Adds the name of a pass, which this line of the comment has.
     fn push_name(
         &mut self,
         alloc: A,
         pass: PassId,
         name: &[u8],
-        line: &[u8],
+        line: &[char],
     ) -> Result<(), AllocError>
         ensures { OnOk result (caption_of self.new ≡ with_name (caption_of self.old)
             (record { pass = pass; name = name.now }) line.now) }
     {
-        let name = escaped_name(alloc, name)?;
+        let name = drawn_name(alloc, name)?;
         self.names.push(PassName { pass, name })?;
         push_plain(line, &mut self.plain)
     }
@@ -231,15 +250,14 @@ impl<A: Allocator + Copy> Caption<A> {
         is_known: bool,
         pass: PassId,
         name: &[u8],
-        line: &[u8],
+        line: &[char],
     ) -> Result<(), AllocError>
-        requires { self.old.lines < MAX_LINES }
         ensures { OnOk result (caption_of self.new ≡ (if is_known then
-            with_line (caption_of self.old) line.now else with_name (caption_of self.old)
+            with_next_line (caption_of self.old) line.now else with_name (caption_of self.old)
             (record { pass = pass; name = name.now }) line.now)) }
     {
         if is_known {
-            self.push_line(line)
+            self.push_next_line(line)
         } else {
             self.push_name(alloc, pass, name, line)
         }
@@ -251,9 +269,8 @@ impl<A: Allocator + Copy> Caption<A> {
         alloc: A,
         pass: PassId,
         name: &[u8],
-        line: &[u8],
+        line: &[char],
     ) -> Result<(), AllocError>
-        requires { self.old.lines < MAX_LINES }
         ensures { OnOk result (caption_of self.new ≡ with_first_name (caption_of self.old)
             (record { pass = pass; name = name.now }) line.now) }
     {
@@ -262,23 +279,31 @@ impl<A: Allocator + Copy> Caption<A> {
     }
 
     /// Adds a line of the comment: the first name of a pass, or what stands above the picture.
-    #[tactic(auto, unfolding(crate::specs::Captions::with_comment))]
-    fn push_comment(&mut self, alloc: A, line: &[u8]) -> Result<(), AllocError>
-        requires { self.old.lines < MAX_LINES }
-        ensures { OnOk result (caption_of self.new ≡ with_comment (caption_of self.old) line.now) }
+    #[tactic(auto, unfolding(crate::specs::Captions::with_characters))]
+    fn push_characters(&mut self, alloc: A, text: &[u8], line: &[char]) -> Result<(), AllocError>
+        ensures { OnOk result (caption_of self.new
+            ≡ with_characters (caption_of self.old) text.now line.now) }
     {
-        match pass_named(line) {
+        match pass_named(text) {
             Some((pass, name)) => self.push_first_name(alloc, pass, name, line),
-            None => self.push_line(line),
+            None => self.push_next_line(line),
         }
     }
 
-    /// Notes a line that was skipped. A comment is added, as long as there are few lines; an empty line ends it.
+    /// Adds a line of the comment, whose bytes may be no UTF-8.
+    fn push_comment(&mut self, alloc: A, text: &[u8]) -> Result<(), AllocError>
+        ensures { OnOk result (caption_of self.new ≡ with_comment (caption_of self.old) text.now) }
+    {
+        let line = characters(alloc, text)?;
+        self.push_characters(alloc, text, &line)
+    }
+
+    /// Notes a line that was skipped, as long as the comment goes on: a comment is added, and an empty line ends it.
     pub(crate) fn note(&mut self, alloc: A, line: &[u8]) -> Result<(), AllocError>
         ensures { OnOk result
             (caption_of self.new ≡ caption_after (caption_of self.old) line.now) }
     {
-        if self.ended || self.lines >= MAX_LINES {
+        if self.ended {
             return Ok(());
         }
         match line {

@@ -1,9 +1,9 @@
 //! What stands in one column of a row, where a schedule is drawn for a terminal.
 ghost use Rattle.std.specs.Prelude.{◌≡◌};
-ghost use Rattle.csq_draw.specs.Terminal.{claim_sign};
+ghost use Rattle.csq_draw.specs.Terminal.{claim_sign, legality_cell};
 
 use crate::circles::word_text;
-use crate::marks::{FoundWords, claims};
+use crate::marks::{FoundWords, Legality, claims};
 use csq_explain::StepInCall;
 use irp_core::PassId;
 use std::fmt;
@@ -15,12 +15,25 @@ pub(crate) enum Cell {
     Line(usize),
     /// Who has the lock, and a hyphen if none has it.
     Lock(Option<PassId>),
+    /// How a step stands to the protocol, from a refused one on.
+    Protocol(Legality),
     /// The name of a pass.
     Pass(PassId),
     /// What a step did, and what it found.
     Step(StepInCall),
     /// Whether a word is set.
     WordValue(bool),
+}
+
+/// A mark at the refused step, and a question mark behind it.
+fn legality_sign(legality: Legality) -> &'static str
+    ensures { result.now ≡ legality_cell legality }
+{
+    match legality {
+        Legality::Legal => "-",
+        Legality::Refused(_) => "!",
+        Legality::Behind => "?",
+    }
 }
 
 /// A star before a step that claims its IRP.
@@ -42,6 +55,7 @@ impl fmt::Display for Cell {
             Cell::Line(number) => write!(f, "{number}"),
             Cell::Lock(Some(pass)) => write!(f, "{pass}"),
             Cell::Lock(None) => write!(f, "-"),
+            Cell::Protocol(legality) => f.write_str(legality_sign(legality)),
             Cell::Pass(pass) => write!(f, " {pass}"),
             Cell::Step(step) => {
                 let (made, found) = (step.made, FoundWords(step));

@@ -27,7 +27,7 @@ use crate::picture::{Sheet, draw_closed, draw_stopped};
 use crate::rows::Row;
 use crate::terminal::{write_closed, write_stopped};
 use crate::words::words_named;
-use csq_explain::{Execution, Explained, Reason, StepInCall};
+use csq_explain::{Execution, Explained, PassNow, Reason, StepInCall};
 use csq_replay::{Answerer, Ended, IrpLine, Line, SimFault, reply};
 use irp_core::PassId;
 use std::alloc::{AllocError, Allocator};
@@ -65,7 +65,7 @@ impl<A: Allocator + Copy> Drawing<A> {
 
     /// Notes a step that was made, which this line names, and before which this pass had the lock. It ends the
     /// caption.
-    fn note(
+    pub(crate) fn note(
         &mut self,
         line: usize,
         step: StepInCall,
@@ -104,7 +104,7 @@ impl<A: Allocator + Copy> Drawing<A> {
     }
 
     /// How many rows there are. No input has so many lines that their number isn't a `u32`.
-    fn count_rows(&self) -> Result<u32, AllocError>
+    pub(crate) fn count_rows(&self) -> Result<u32, AllocError>
         ensures counted { IfOk result (λ rows. rows ≡ length self.now.rows.items) }
         ensures refused { IfErr result (λ _. ¬ (length self.now.rows.items < 2 ^ 32)) }
     {
@@ -112,7 +112,7 @@ impl<A: Allocator + Copy> Drawing<A> {
     }
 
     /// What is known of each IRP after the steps.
-    fn irps_now(&self) -> Result<Vec<IrpNow, A>, AllocError>
+    pub(crate) fn irps_now(&self) -> Result<Vec<IrpNow, A>, AllocError>
         ensures { IfOk result (λ irps. irps.items
             ≡ irps_after (replicate (length self.now.owners.items) new_irp) self.now.rows.items) }
     {
@@ -124,16 +124,17 @@ impl<A: Allocator + Copy> Drawing<A> {
     /// Draws what a picture of so many rows begins with, above so many lines of text below them.
     fn draw_heading(
         &self,
+        passes: &[PassNow],
         irps: &[IrpNow],
         rows: u32,
         lines: u32,
         text: &mut String<A>,
     ) -> Result<(), AllocError>
-        requires few { length self.now.execution.passes.items ≤ 65 }
+        requires few { length passes.now ≤ 65 }
         requires irps { length irps.now ≤ 1024 }
         ensures { OnOk result (GrewBy (string_bytes text.old) (string_bytes text.new)
             (head_text (record {
-              columns = columns self.now.execution.passes.items;
+              columns = columns passes.now;
               irps = irp_columns irps.now;
               rows = rows;
               lines = lines;
@@ -142,7 +143,7 @@ impl<A: Allocator + Copy> Drawing<A> {
             (string_bytes self.now.caption.below))) }
     {
         let extent = Extent {
-            columns: columns(&self.execution.passes),
+            columns: columns(passes),
             irps: irp_columns(irps),
             rows,
             lines,
@@ -157,27 +158,28 @@ impl<A: Allocator + Copy> Drawing<A> {
         Ok(())
     }
 
-    /// Draws the head of a picture of so many rows, with so many lines of text below them.
-    fn draw_head(
+    /// Draws the head of a picture of these passes and IRPs and of so many rows, with so many lines of text below them.
+    pub(crate) fn draw_head(
         &self,
+        passes: &[PassNow],
         irps: &[IrpNow],
         rows: u32,
         lines: u32,
         text: &mut String<A>,
     ) -> Result<(), AllocError>
-        requires few { length self.now.execution.passes.items ≤ 65 }
+        requires few { length passes.now ≤ 65 }
         requires irps { length irps.now ≤ 1024 }
         ensures { OnOk result (GrewBy (string_bytes text.old) (string_bytes text.new)
-            (picture_head self.now.execution.passes.items (irp_columns irps.now)
+            (picture_head passes.now (irp_columns irps.now)
             rows lines (caption_of self.now.caption))) }
     {
-        self.draw_heading(irps, rows, lines, text)?;
-        draw_names(&self.execution.passes, &self.caption.names, text)?;
+        self.draw_heading(passes, irps, rows, lines, text)?;
+        draw_names(passes, &self.caption.names, text)?;
         Ok(())
     }
 
     /// What a picture shows, of which so much is known of the IRPs.
-    fn sheet<'a>(&'a self, irps: &'a [IrpNow], count: u32) -> Sheet<'a>
+    pub(crate) fn sheet<'a>(&'a self, irps: &'a [IrpNow], count: u32) -> Sheet<'a>
         ensures passes { result.passes.now ≡ self.now.execution.passes.items }
         ensures irps { result.irps.now ≡ irps.now }
         ensures rows { result.rows.now ≡ self.now.rows.items }
@@ -210,7 +212,7 @@ impl<A: Allocator + Copy> Drawing<A> {
             (stopped_text size Format.Svg d line reason.stop)) }
     {
         let count = self.count_rows()?;
-        self.draw_head(irps, count, 3, text)?;
+        self.draw_head(&self.execution.passes, irps, count, 3, text)?;
         let sheet = self.sheet(irps, count);
         draw_stopped(self.alloc, sheet, line, reason, text)?;
         Ok(())
@@ -233,7 +235,8 @@ impl<A: Allocator + Copy> Drawing<A> {
             (closed_text size Format.Svg d reported.now rest)) }
     {
         let count = self.count_rows()?;
-        self.draw_head(irps, count, reported.len() as u32 + 1, text)?;
+        let (passes, lines) = (&self.execution.passes, reported.len() as u32 + 1);
+        self.draw_head(passes, irps, count, lines, text)?;
         let sheet = self.sheet(irps, count);
         draw_closed(self.alloc, sheet, reported, rest, text)?;
         Ok(())
@@ -312,7 +315,7 @@ impl<A: Allocator + Copy> Drawing<A> {
     }
 
     /// Draws the steps, and what is reported in the end.
-    fn draw_end(
+    pub(crate) fn draw_end(
         &self,
         reported: &[IrpLine],
         rest: bool,
@@ -379,10 +382,11 @@ impl<A: Allocator + Copy> Answerer<A, Reason> for Drawing<A> {
 
 /// Reads a schedule, replays its steps over a machine of IRPs 0 to `irps` - 1 and passes 1 to `passes`, and
 /// writes one SVG picture of them: the comment before the first step, up to an empty line and up to eight
-/// lines, with its first line as the title, and a question mark for a byte that isn't printable ASCII; a column
-/// for each pass that makes a step, with the name that the first line as `p1: ReadFile` of the comment gives it; a row for each step with the value that it found, the call that it is of,
-/// who has the lock, who owes or holds which IRP, and the two words of its IRP after it; then the line that
-/// ended the handling and why, or where each IRP is and whether all is at rest.
+/// lines, with its first line as the title, and a question mark for a control character and for each byte that
+/// isn't UTF-8; a column for each pass that makes a step, with the name that the first line as `p1: ReadFile` of
+/// the comment gives it; a row for each step with the value that it found, the call that it is of, who has the
+/// lock, who owes or holds which IRP, and the two words of its IRP after it; then the line that ended the
+/// handling and why, or where each IRP is and whether all is at rest.
 ///
 /// All of the input is read, up to 1,048,577 bytes; more stays unread, and is answered `input too long`.
 /// `irps` is 1 to 1,024 and `passes` 1 to 64. Faults: 1 Memory and 2 Read, after which nothing was written;
@@ -405,7 +409,7 @@ pub fn draw_schedule<A: Allocator + Copy, R: Read, W: Write>(
     reply(alloc, &mut drawing, reader, writer)
 }
 
-/// Reads a schedule as `draw_schedule` does, and writes it as lines of ASCII text for a terminal: a row for
+/// Reads a schedule as `draw_schedule` does, and writes it as lines of text for a terminal: a row for
 /// each step, with the number of its line, the pass that has the lock, in the column of its pass what it did
 /// and what it found, with a star before it if it claims its IRP, and the two words of its IRP after it;
 /// then the line that ended the handling and why, or where each IRP is and whether all is at rest. A column is

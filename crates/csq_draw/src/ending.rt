@@ -5,7 +5,7 @@ ghost use Rattle.csq_draw.specs.Endings.{is_unfinished, rest_of};
 
 use crate::irps::{Claim, IrpNow, Spot};
 use crate::layout::top;
-use csq_explain::{DueStatus, PassNow, Reason};
+use csq_explain::{DueStatus, HarmAt, PassNow, Reason};
 use csq_replay::{IrpLine, Stop};
 use irp_core::{Inside, IrpPlace, PassId};
 use std::fmt;
@@ -34,7 +34,7 @@ impl fmt::Display for StopText {
 #[derive(Clone, Copy)]
 struct HavingSince(Option<Claim>, &'static str);
 
-/// As `, and p2 owes it since line 4`.
+/// As `, and p2 has owed it since line 4`.
 impl fmt::Display for HavingSince {
     ghost use Rattle.std.specs.Prelude.{Some};
     ghost use Rattle.csq_draw.specs.Endings.{having_since};
@@ -86,8 +86,12 @@ impl fmt::Display for Place {
         let Place(place, IrpNow { claim, done, .. }) = *self;
         match place {
             IrpPlace::Home => write!(f, " wasn't inserted"),
-            IrpPlace::Listed => write!(f, " is in the list{}", HavingSince(claim, "owes")),
-            IrpPlace::HeldBy(_) => write!(f, " is out of the list{}", HavingSince(claim, "holds")),
+            IrpPlace::Listed => write!(f, " is in the list{}", HavingSince(claim, "has owed")),
+            IrpPlace::HeldBy(_) => write!(
+                f,
+                " is out of the list{}",
+                HavingSince(claim, "has held")
+            ),
             IrpPlace::Completed(status, pass) => {
                 let (line, status) = (InLine(done), DueStatus(status));
                 write!(f, " was completed once, by {pass}{line}, with {status}")
@@ -100,7 +104,7 @@ impl fmt::Display for Place {
 #[derive(Clone, Copy)]
 pub(crate) struct IrpEnding(pub(crate) IrpLine, pub(crate) IrpNow);
 
-/// As `IRP 0 is in the list, and p2 owes it since line 4; its Cancel flag is set`.
+/// As `IRP 0 is in the list, and p2 has owed it since line 4; its Cancel flag is set`.
 impl fmt::Display for IrpEnding {
     ghost use Rattle.std.specs.Prelude.{Some};
     ghost use Rattle.csq_draw.specs.Endings.{irp_ending};
@@ -179,6 +183,27 @@ pub(crate) fn rest_of(passes: &[PassNow], at_rest: bool) -> Rest
     }
 }
 
+/// The line in which the protocol was broken, and what was refused there.
+#[derive(Clone, Copy)]
+pub(crate) struct BrokenLine(pub(crate) usize, pub(crate) Reason);
+
+/// As `the protocol is broken in line 9: p3 done 0 refused NotHeld`.
+impl fmt::Display for BrokenLine {
+    ghost use Rattle.std.specs.Prelude.{Some};
+    ghost use Rattle.csq_draw.specs.Endings.{broken_line};
+
+    ghost output = { λ broken. Some (broken_line broken.0 broken.1) };
+
+    fn fmt<W: fmt::Write>(&self, f: &mut fmt::Formatter<W>) -> fmt::Result {
+        let BrokenLine(line, reason) = *self;
+        write!(
+            f,
+            "the protocol is broken in line {line}: {}",
+            StopText(reason.stop)
+        )
+    }
+}
+
 /// What stands below the rows of a picture.
 #[derive(Clone, Copy)]
 pub(crate) enum Below {
@@ -192,6 +217,10 @@ pub(crate) enum Below {
     Irp(u32, IrpLine, IrpNow),
     /// Whether all is at rest in the end, as the nth line.
     AtRest(u32, Rest),
+    /// The line in which the protocol was broken, and below it why.
+    Broken(usize, Reason),
+    /// What goes wrong at a step behind it, as the nth line.
+    Harm(u32, HarmAt),
 }
 
 /// What stands below so many rows of a picture.
@@ -226,6 +255,15 @@ impl fmt::Display for BelowRows {
             Below::AtRest(nth, rest) => {
                 let y = y + 28 + 20 * u64::from(nth);
                 write!(f, "<text x='56' y='{y}'>{rest}</text>")
+            }
+            Below::Broken(line, reason) => {
+                let (first, second, broken) = (y + 28, y + 48, BrokenLine(line, reason));
+                write!(f, "<text class='f' x='56' y='{first}'>{broken}</text>")?;
+                write!(f, "<text x='56' y='{second}'>{reason}</text>")
+            }
+            Below::Harm(nth, harm) => {
+                let y = y + 28 + 20 * u64::from(nth);
+                write!(f, "<text x='56' y='{y}'>{harm}</text>")
             }
         }
     }

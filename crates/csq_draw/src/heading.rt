@@ -22,7 +22,7 @@ At the right stand the Cancel flag and the cancel routine of each IRP.</desc>
 .k0,.k1,.k2,.k3,.k4,.k5,.k6,.k7,.e,.bad{stroke:currentColor}
 .c rect{stroke-width:3}.c .w{font-weight:bold}
 .owes,.holds{fill:none;stroke-width:3}.owes{stroke-dasharray:4 3}.g{stroke:#d1d9e0}
-text{fill:#1f2328;stroke:none}.s,.m{font-size:10.5px}.s,.m,.n,.q{fill:#59636e}
+text{fill:#1f2328;stroke:none}.f{fill:#cf222e;font-weight:bold}.s,.m{font-size:10.5px}.s,.m,.n,.q{fill:#59636e}
 .m{font-family:ui-monospace,SFMono-Regular,Consolas,'DejaVu Sans Mono',monospace;font-size:10px}
 .t{font-size:16px;font-weight:bold}.t tspan{fill:#59636e;font-size:10.5px;font-weight:normal}
 .p{font-weight:bold;text-anchor:middle}.o{text-anchor:middle}.q{font-size:9px;text-anchor:middle}.n,.v{text-anchor:end}
@@ -35,7 +35,7 @@ circle.on{fill:currentColor}circle.off{fill:#ffffff}circle.b{stroke-width:3}
 .k6{color:#2dd4bf;fill:#063b38}.k7{color:#8b949e;fill:#0d1117}
 .e{color:#8b949e;fill:#0d1117}.bad{color:#f85149;fill:#67060c}
 .owes,.holds,.bar,.a{fill:none}.g{stroke:#30363d}circle.off{fill:#0d1117}
-text{fill:#e6edf3}.s,.m,.n,.q,.t tspan{fill:#b1bac4}}
+text{fill:#e6edf3}.f{fill:#f85149}.s,.m,.n,.q,.t tspan{fill:#b1bac4}}
 </style>";
 
 /// How much a picture shows: so many columns of passes, IRPs and rows, lines of text below them, and lines of a

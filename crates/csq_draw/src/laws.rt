@@ -5,7 +5,8 @@ ghost use Rattle.irp_core.specs.declared.step.Made.{Made};
 ghost use Rattle.irp_core.specs.Runs.{Size, EachRunFrom};
 ghost use Rattle.csq_replay.specs.Schedule.{Numbered};
 ghost use Rattle.csq_draw.specs.declared.format.Format.{Format};
-ghost use Rattle.csq_draw.specs.Laws.{HasOnePicture, EachStepHasOneMark, EachStepShowsItsWords, EachLineHasItsNumber, EachShadeIsOfTheLock, EachArrowIsFromTheWrite, EachPassHasItsColumn, TheShadedPassHasTheLock, EachDrawnOwnerOwesOrHolds, NoTwoLinesShareALane, TheNinthLaneIsLast};
+ghost use Rattle.csq_draw.specs.WrongDrawings.{WrongDrawn};
+ghost use Rattle.csq_draw.specs.Laws.{HasOnePicture, EachStepHasOneMark, EachStepShowsItsWords, EachLineHasItsNumber, EachShadeIsOfTheLock, EachArrowIsFromTheWrite, EachStepOfAnOrderHasOneMark, EachPassHasItsColumn, TheShadedPassHasTheLock, EachDrawnOwnerOwesOrHolds, NoTwoLinesShareALane, TheNinthLaneIsLast};
 
 /// A schedule has at most one picture in each format, so the relation that `draw_schedule` and
 /// `draw_schedule_as_text` meet names its bytes.
@@ -40,6 +41,12 @@ pub fn each_shade_is_of_the_lock()
 /// pass's: the newest step before it that changed the word. There are no other arrows.
 pub fn each_arrow_is_from_the_write()
     ensures { (size : Size) (W : List Numbered) → EachArrowIsFromTheWrite size W }
+{}
+
+/// In a picture of an order that may break the protocol each step up to the refusal has the mark that it has in the
+/// picture of any schedule with these columns, and each step from the refused one on has one mark, by the words.
+pub fn each_step_of_an_order_has_one_mark()
+    ensures { (size : Size) (d : WrongDrawn) → EachStepOfAnOrderHasOneMark size d }
 {}
 
 /// Passes that made a step of the run have columns of their own, in the order of their numbers.

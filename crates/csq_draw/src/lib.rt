@@ -6,6 +6,7 @@ mod bars;
 mod calls;
 mod caption;
 mod cells;
+mod characters;
 mod circles;
 mod drawing;
 mod element;
@@ -17,6 +18,7 @@ mod lanes;
 mod laws;
 mod layout;
 mod marks;
+mod order_picture;
 mod owners;
 mod passes;
 mod picture;
@@ -25,6 +27,8 @@ mod rows;
 mod spans;
 mod terminal;
 mod words;
+mod wrong_drawing;
+mod wrong_rows;
 
 pub use drawing::{Drawing, draw_schedule, draw_schedule_as_text};
 pub use format::Format;
@@ -32,6 +36,7 @@ pub use heading::PICTURE_HEAD;
 pub use laws::{
     a_schedule_has_one_picture, each_arrow_is_from_the_write, each_drawn_owner_owes_or_holds,
     each_line_has_its_number, each_pass_has_its_column, each_shade_is_of_the_lock,
-    each_step_has_one_mark, each_step_shows_its_words, no_two_lines_share_a_lane,
-    the_shaded_pass_has_the_lock,
+    each_step_has_one_mark, each_step_of_an_order_has_one_mark, each_step_shows_its_words,
+    no_two_lines_share_a_lane, the_shaded_pass_has_the_lock,
 };
+pub use wrong_drawing::WrongDrawing;

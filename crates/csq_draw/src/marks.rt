@@ -6,7 +6,7 @@ use crate::circles::Circles;
 use crate::layout::{left, top};
 use crate::words::WordValues;
 use csq_explain::{Sentence, StatusName, StepInCall};
-use irp_core::{Kind, Made, NtStatus};
+use irp_core::{Kind, Made, NtStatus, StepRefused};
 use std::fmt;
 
 /// The number of a line, at the left of its row.
@@ -175,6 +175,79 @@ impl fmt::Display for FoundWords {
     }
 }
 
+/// How a step stands to the protocol.
+#[derive(Clone, Copy)]
+pub(crate) enum Legality {
+    /// The protocol allows it, and each one before it.
+    Legal,
+    /// It is the first one that the protocol refuses.
+    Refused(StepRefused),
+    /// It comes behind a refused one.
+    Behind,
+}
+
+/// How a mark looks.
+#[derive(Clone, Copy)]
+struct MarkClass(Legality, StepInCall);
+
+/// Red if the protocol refuses the step, and grey behind that.
+impl fmt::Display for MarkClass {
+    ghost use Rattle.std.specs.Prelude.{Some};
+    ghost use Rattle.csq_draw.specs.Marks.{mark_class};
+
+    ghost output = { λ class. Some (mark_class class.0 class.1) };
+
+    fn fmt<W: fmt::Write>(&self, f: &mut fmt::Formatter<W>) -> fmt::Result {
+        match self.0 {
+            Legality::Legal => StepClass(self.1.made).fmt(f),
+            Legality::Refused(_) => write!(f, "bad"),
+            Legality::Behind => write!(f, "e"),
+        }
+    }
+}
+
+/// A mark in words.
+#[derive(Clone, Copy)]
+struct MarkTitle(Legality, StepInCall);
+
+/// A sentence, or as `p2 done 0 refused NotHeld`. (Behind the refused step nothing is known of calls.)
+impl fmt::Display for MarkTitle {
+    ghost use Rattle.std.specs.Prelude.{Some};
+    ghost use Rattle.csq_draw.specs.Marks.{mark_title};
+
+    ghost output = { λ title. Some (mark_title title.0 title.1) };
+
+    fn fmt<W: fmt::Write>(&self, f: &mut fmt::Formatter<W>) -> fmt::Result {
+        let made = self.1.made;
+        let (pass, kind) = (made.pass, made.kind);
+        match self.0 {
+            Legality::Legal => Sentence(self.1).fmt(f),
+            Legality::Refused(cause) => write!(f, "{pass} {kind} refused {cause}"),
+            Legality::Behind => write!(f, "{pass} {kind}, behind the refused step"),
+        }
+    }
+}
+
+/// The refusal of a step, in its box at this place.
+#[derive(Clone, Copy)]
+struct RefusalAt(u64, u64, Legality);
+
+/// Nothing if the step isn't the refused one.
+impl fmt::Display for RefusalAt {
+    ghost use Rattle.std.specs.Prelude.{Some};
+    ghost use Rattle.csq_draw.specs.Marks.{refusal_at};
+
+    ghost output = { λ refusal. Some (refusal_at refusal.0 refusal.1 refusal.2) };
+
+    fn fmt<W: fmt::Write>(&self, f: &mut fmt::Formatter<W>) -> fmt::Result {
+        let RefusalAt(x, y, legality) = *self;
+        match legality {
+            Legality::Refused(cause) => write!(f, "<text x='{x}' y='{y}'>refused {cause}</text>"),
+            Legality::Legal | Legality::Behind => Ok(()),
+        }
+    }
+}
+
 /// A step in the column of its pass, with what it found and its call of the WDK, and right of so many columns, at
 /// the place of its IRP, the words of the IRP after it.
 #[derive(Clone, Copy)]
@@ -184,6 +257,7 @@ pub(crate) struct Mark {
     pub(crate) columns: u32,
     pub(crate) place: u32,
     pub(crate) step: StepInCall,
+    pub(crate) legality: Legality,
     pub(crate) words: Option<WordValues>,
 }
 
@@ -194,19 +268,23 @@ impl fmt::Display for Mark {
     ghost output = { λ mark. Some (mark_text mark) };
 
     fn fmt<W: fmt::Write>(&self, f: &mut fmt::Formatter<W>) -> fmt::Result {
-        let (step, kind) = (self.step, self.step.made.kind);
-        let (class, sentence, found) = (StepClass(step.made), Sentence(step), FoundWords(step));
-        let (wdk, circles) = (wdk_call(kind), Circles(*self));
+        let (step, kind, legality) = (self.step, self.step.made.kind, self.legality);
+        let (class, title) = (MarkClass(legality, step), MarkTitle(legality, step));
+        let (found, wdk, circles) = (FoundWords(step), wdk_call(kind), Circles(*self));
         let (left, top) = (left(self.column), top(self.row));
         let (x, y, end) = (left + 17, top + 20, left + 211);
         let (second, edge, upper) = (top + 35, left + 8, top + 4);
+        let refusal = RefusalAt(x, top + 50, legality);
         write!(
             f,
-            "<g class='{class}'><title>{sentence}</title><rect x='{edge}' y='{upper}' width='212' height='52' rx='6'/>"
+            "<g class='{class}'><title>{title}</title><rect x='{edge}' y='{upper}' width='212' height='52' rx='6'/>"
         )?;
         write!(f, "<text class='w' x='{x}' y='{y}'>{kind}</text>")?;
         write!(f, "<text class='w v' x='{end}' y='{y}'>{found}</text>")?;
-        write!(f, "<text class='m' x='{x}' y='{second}'>{wdk}</text></g>")?;
+        write!(
+            f,
+            "<text class='m' x='{x}' y='{second}'>{wdk}</text>{refusal}</g>"
+        )?;
         circles.fmt(f)
     }
 }

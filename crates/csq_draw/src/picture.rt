@@ -1,9 +1,9 @@
 //! A picture, element by element.
-ghost use Rattle.std.specs.Prelude.{◌≡◌, ◌≤◌, ◌∷◌, [], codes, length, string_bytes, OnOk};
+ghost use Rattle.std.specs.Prelude.{◌≡◌, ◌≤◌, ◌<◌, ◌+◌, ◌^◌, ◌∷◌, [], codes, length, string_bytes, OnOk};
 ghost use Rattle.csq_replay.specs.Lines.{GrewBy};
 ghost use Rattle.csq_draw.specs.Elements.{elements_text, picture};
 ghost use Rattle.csq_draw.specs.Passes.{columns};
-ghost use Rattle.csq_draw.specs.Pictures.{each, column_elements, word_elements, last_elements, open_elements, closing_elements, shown_elements, refused_elements, at_rest_element, stopped_elements, closed_elements};
+ghost use Rattle.csq_draw.specs.Pictures.{each, column_elements, word_elements, last_elements, open_elements, closing_elements, above_elements, kept_elements, shown_elements, refused_elements, harm_elements, broken_elements, at_rest_element, stopped_elements, closed_elements};
 
 use crate::circles::WordColumns;
 use crate::element::Element;
@@ -16,7 +16,7 @@ use crate::passes::{column_of, columns};
 use crate::row_picture::{draw_bars, draw_rows, life_in};
 use crate::rows::Row;
 use crate::spans::Span;
-use csq_explain::{PassNow, Reason};
+use csq_explain::{HarmAt, PassNow, Reason};
 use csq_replay::IrpLine;
 use irp_core::{IrpId, PassId};
 use std::alloc::{AllocError, Allocator};
@@ -248,6 +248,43 @@ pub(crate) struct Sheet<'a> {
     pub(crate) count: u32,
 }
 
+/// What stands above so many rows of these passes and IRPs, and the words that are kept to the end.
+pub(crate) fn draw_above<A: Allocator>(
+    passes: &[PassNow],
+    irps: &[IrpNow],
+    count: u32,
+    text: &mut String<A>,
+) -> Result<(), AllocError>
+    requires few { length passes.now ≤ 65 }
+    requires irps { length irps.now ≤ 1024 }
+    ensures { OnOk result (GrewBy (string_bytes text.old) (string_bytes text.new)
+        (elements_text (above_elements passes.now irps.now count))) }
+{
+    draw(Element::Lines, text)?;
+    draw_columns(passes, count, text)?;
+    draw_names(passes, irps, text)?;
+    draw_last(passes, irps, count, text)?;
+    Ok(())
+}
+
+/// The steps of an execution, and the owners after it. These IRPs have columns.
+pub(crate) fn draw_kept<A: Allocator + Copy>(
+    alloc: A,
+    sheet: Sheet<'_>,
+    wide: &[IrpNow],
+    text: &mut String<A>,
+) -> Result<(), AllocError>
+    requires few { length sheet.passes.now ≤ 65 }
+    requires irps { length wide.now ≤ 1024 }
+    ensures { OnOk result (GrewBy (string_bytes text.old) (string_bytes text.new)
+        (elements_text (kept_elements sheet.entry.passes.now wide.now sheet.entry.irps.now
+        sheet.entry.rows.now sheet.entry.owners.now sheet.entry.count))) }
+{
+    draw_rows(alloc, sheet.passes, wide, sheet.rows, text)?;
+    draw_owners(sheet.passes, sheet.irps, sheet.count, sheet.owners, text)?;
+    Ok(())
+}
+
 /// What a picture begins with, and the steps.
 fn draw_steps<A: Allocator + Copy>(
     alloc: A,
@@ -260,24 +297,13 @@ fn draw_steps<A: Allocator + Copy>(
         (elements_text (shown_elements sheet.entry.passes.now sheet.entry.irps.now sheet.entry.rows.now
         sheet.entry.owners.now sheet.entry.count))) }
 {
-    let Sheet {
-        passes,
-        irps,
-        rows,
-        owners,
-        count,
-    } = sheet;
-    draw(Element::Lines, text)?;
-    draw_columns(passes, count, text)?;
-    draw_names(passes, irps, text)?;
-    draw_last(passes, irps, count, text)?;
-    draw_rows(alloc, passes, irps, rows, text)?;
-    draw_owners(passes, irps, count, owners, text)?;
+    draw_above(sheet.passes, sheet.irps, sheet.count, text)?;
+    draw_kept(alloc, sheet, sheet.irps, text)?;
     Ok(())
 }
 
 /// The line that ended the handling, and why.
-fn draw_refused<A: Allocator>(
+pub(crate) fn draw_refused<A: Allocator>(
     rows: u32,
     line: usize,
     reason: Reason,
@@ -293,8 +319,44 @@ fn draw_refused<A: Allocator>(
     draw(Element::Below(rows, Below::Because(reason)), text)
 }
 
+/// What goes wrong at each step, below where and why the protocol was broken.
+fn draw_harms<A: Allocator>(
+    rows: u32,
+    harms: &[HarmAt],
+    text: &mut String<A>,
+) -> Result<(), AllocError>
+    requires { length harms.now + 2 < 2 ^ 32 }
+    ensures { OnOk result (GrewBy (string_bytes text.old) (string_bytes text.new)
+        (elements_text (each (harm_elements rows) 0 harms.now))) }
+{
+    for (nth, harm) in harms.iter().enumerate() {
+        draw(
+            Element::Below(rows, Below::Harm(nth as u32 + 2, *harm)),
+            text,
+        )?;
+    }
+    Ok(())
+}
+
+/// The line in which the protocol was broken, and what goes wrong.
+pub(crate) fn draw_broken<A: Allocator>(
+    rows: u32,
+    line: usize,
+    reason: Reason,
+    harms: &[HarmAt],
+    text: &mut String<A>,
+) -> Result<(), AllocError>
+    requires { length harms.now + 2 < 2 ^ 32 }
+    ensures { OnOk result (GrewBy (string_bytes text.old) (string_bytes text.new)
+        (elements_text (broken_elements rows line reason harms.now))) }
+{
+    draw(Element::Below(rows, Below::Broken(line, reason)), text)?;
+    draw_harms(rows, harms, text)?;
+    Ok(())
+}
+
 /// The end of a picture.
-fn draw_foot<A: Allocator>(text: &mut String<A>) -> Result<(), AllocError>
+pub(crate) fn draw_foot<A: Allocator>(text: &mut String<A>) -> Result<(), AllocError>
     ensures { OnOk result (GrewBy (string_bytes text.old) (string_bytes text.new)
         (codes "</svg>\n")) }
 {

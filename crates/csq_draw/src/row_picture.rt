@@ -11,7 +11,7 @@ use crate::bars::Bars;
 use crate::calls::CallLine;
 use crate::element::Element;
 use crate::irps::{IrpNow, Seen, Spot, irp_column, irp_named, new_irps, note_irp};
-use crate::marks::{Mark, Number, Shade, lets_go, takes_lock};
+use crate::marks::{Legality, Mark, Number, Shade, lets_go, takes_lock};
 use crate::passes::{column_of, columns};
 use crate::picture::draw;
 use crate::rows::Row;
@@ -104,7 +104,7 @@ pub(crate) fn draw_bars<A: Allocator>(
 
 /// An arrow from the step that wrote what a row's step found, if it was another pass's.
 #[tactic(auto, unfolding(irp_core::specs::Steps::same_pass))]
-fn draw_arrow<A: Allocator>(
+pub(crate) fn draw_arrow<A: Allocator>(
     passes: &[PassNow],
     row: Row,
     found: Option<Spot>,
@@ -142,7 +142,7 @@ fn place_named(irps: &[IrpNow], kind: Kind) -> u32
 }
 
 /// The words that the IRP of a step had until then.
-fn draw_words<A: Allocator>(
+pub(crate) fn draw_words<A: Allocator>(
     passes: &[PassNow],
     irps: &[IrpNow],
     before: IrpNow,
@@ -195,7 +195,7 @@ fn draw_behind<A: Allocator>(
 }
 
 /// The number of the line that names a step.
-fn draw_number<A: Allocator>(row: Row, text: &mut String<A>) -> Result<(), AllocError>
+pub(crate) fn draw_number<A: Allocator>(row: Row, text: &mut String<A>) -> Result<(), AllocError>
     ensures { OnOk result (GrewBy (string_bytes text.old) (string_bytes text.new)
         (elements_text (number_element row ∷ []))) }
 {
@@ -207,16 +207,17 @@ fn draw_number<A: Allocator>(row: Row, text: &mut String<A>) -> Result<(), Alloc
 }
 
 /// A step, in the column of its pass.
-fn draw_mark<A: Allocator>(
+pub(crate) fn draw_mark<A: Allocator>(
     passes: &[PassNow],
     irps: &[IrpNow],
     row: Row,
+    legality: Legality,
     text: &mut String<A>,
 ) -> Result<(), AllocError>
     requires few { length passes.now ≤ 65 }
     requires irps { length irps.now ≤ 1024 }
     ensures { OnOk result (GrewBy (string_bytes text.old) (string_bytes text.new)
-        (elements_text (mark_element passes.now irps.now row ∷ []))) }
+        (elements_text (mark_element passes.now irps.now row legality ∷ []))) }
 {
     let mark = Mark {
         row: row.row,
@@ -224,6 +225,7 @@ fn draw_mark<A: Allocator>(
         columns: columns(passes),
         place: place_named(irps, row.step.made.kind),
         step: row.step,
+        legality,
         words: row.words,
     };
     draw(Element::Mark(mark), text)
@@ -264,7 +266,7 @@ fn draw_row<A: Allocator>(
 {
     draw_number(row, text)?;
     draw_behind(passes, irps, before, row, text)?;
-    draw_mark(passes, irps, row, text)?;
+    draw_mark(passes, irps, row, Legality::Legal, text)?;
     draw_call(passes, before, row, text)?;
     Ok(())
 }

@@ -1,18 +1,21 @@
 //! A schedule, drawn for a terminal: a row for each step, with a column for each pass.
-ghost use Rattle.std.specs.Prelude.{◌≡◌, ◌-◌, ◌*◌, ◌≤◌, length, replicate, string_bytes, string_len, OnOk};
+ghost use Rattle.std.specs.Prelude.{◌≡◌, ◌-◌, ◌*◌, ◌≤◌, ◌++◌, codes, length, replicate, string_bytes, string_len, OnOk};
 ghost use Rattle.csq_replay.specs.Lines.{GrewBy};
 ghost use Rattle.csq_draw.specs.Captions.{caption_of};
+ghost use Rattle.csq_draw.specs.Endings.{broken_line};
+ghost use Rattle.csq_explain.specs.Reasons.{reason_text};
 ghost use Rattle.csq_draw.specs.Passes.{columns, column_of};
-ghost use Rattle.csq_draw.specs.Terminal.{each_text, spaces, in_width, cell_text, words_cells, row_text, pass_cell, rows_text, life_cell, irp_line_reported, rest_line, stopped_lines, closed_lines};
+ghost use Rattle.csq_draw.specs.Terminal.{each_text, spaces, in_width, cell_text, words_cells, row_cells, row_text, wrong_row_text, ended_lines, order_lines, wrong_stopped_lines, broken_lines, pass_cell, rows_text, life_cell, irp_line_reported, rest_line, stopped_lines, closed_lines};
 
 use crate::caption::Caption;
 use crate::cells::Cell;
-use crate::ending::{IrpEnding, StopText, rest_of};
+use crate::ending::{BrokenLine, IrpEnding, StopText, rest_of};
 use crate::irps::{IrpNow, irp_at};
 use crate::passes::{column_of, columns};
 use crate::rows::Row;
 use crate::words::WordValues;
-use csq_explain::{PassNow, Reason};
+use crate::wrong_rows::WrongRow;
+use csq_explain::{HarmAt, PassNow, Reason, add_harms};
 use csq_replay::IrpLine;
 use irp_core::{IrpLife, PassId};
 use std::alloc::{AllocError, Allocator};
@@ -78,7 +81,32 @@ fn push_words<A: Allocator>(
     push_life(named, words, text)
 }
 
-/// Adds the row of a step: its line, who has the lock, in the column of its pass what it did, and the words.
+/// Adds the row of a step: its line, this cell, in the column of its pass what it did, and the words.
+fn push_cells<A: Allocator>(
+    passes: &[PassNow],
+    cell: Cell,
+    row: Row,
+    text: &mut String<A>,
+) -> Result<(), AllocError>
+    requires { length passes.now ≤ 65 }
+    ensures { OnOk result (GrewBy (string_bytes text.old) (string_bytes text.new)
+        (row_cells passes.now cell row)) }
+{
+    let column = column_of(passes, row.step.made.pass) as usize;
+    let columns = columns(passes) as usize;
+    push_cell(Cell::Line(row.line), NARROW, text)?;
+    push_cell(cell, NARROW, text)?;
+    push_spaces(WIDE * column, text)?;
+    push_cell(
+        Cell::Step(row.step),
+        WIDE * columns.saturating_sub(column),
+        text,
+    )?;
+    push_words(row.step.made.kind.name(), row.words, text)?;
+    text.push('\n')
+}
+
+/// Adds the row of a step, with who has the lock.
 fn push_row<A: Allocator>(
     passes: &[PassNow],
     row: Row,
@@ -88,18 +116,20 @@ fn push_row<A: Allocator>(
     ensures { OnOk result (GrewBy (string_bytes text.old) (string_bytes text.new)
         (row_text passes.now row)) }
 {
-    let column = column_of(passes, row.step.made.pass) as usize;
-    let columns = columns(passes) as usize;
-    push_cell(Cell::Line(row.line), NARROW, text)?;
-    push_cell(Cell::Lock(row.lock), NARROW, text)?;
-    push_spaces(WIDE * column, text)?;
-    push_cell(
-        Cell::Step(row.step),
-        WIDE * columns.saturating_sub(column),
-        text,
-    )?;
-    push_words(row.step.made.kind.name(), row.words, text)?;
-    text.push('\n')
+    push_cells(passes, Cell::Lock(row.lock), row, text)
+}
+
+/// Adds the row of a refused step or of one behind it, with how it stands to the protocol.
+fn push_wrong_row<A: Allocator>(
+    passes: &[PassNow],
+    wrong: WrongRow,
+    text: &mut String<A>,
+) -> Result<(), AllocError>
+    requires { length passes.now ≤ 65 }
+    ensures { OnOk result (GrewBy (string_bytes text.old) (string_bytes text.new)
+        (wrong_row_text passes.now wrong)) }
+{
+    push_cells(passes, Cell::Protocol(wrong.legality), wrong.row, text)
 }
 
 /// Adds the name of a pass, over its column, if it makes a step.
@@ -142,6 +172,22 @@ fn push_rows<A: Allocator>(
 {
     for row in rows {
         push_row(passes, *row, text)?;
+    }
+    Ok(())
+}
+
+/// Adds the rows from the refused step on.
+fn push_behind<A: Allocator>(
+    passes: &[PassNow],
+    behind: &[WrongRow],
+    text: &mut String<A>,
+) -> Result<(), AllocError>
+    requires { length passes.now ≤ 65 }
+    ensures { OnOk result (GrewBy (string_bytes text.old) (string_bytes text.new)
+        (each_text (λ n wrong. wrong_row_text passes.now wrong) 0 behind.now)) }
+{
+    for wrong in behind {
+        push_wrong_row(passes, *wrong, text)?;
     }
     Ok(())
 }
@@ -204,6 +250,19 @@ fn push_rest<A: Allocator>(
     writeln!(text, "{rest}")
 }
 
+/// Adds the line that ended the handling, and why.
+fn push_ended<A: Allocator>(
+    line: usize,
+    reason: Reason,
+    text: &mut String<A>,
+) -> Result<(), AllocError>
+    ensures { OnOk result (GrewBy (string_bytes text.old) (string_bytes text.new)
+        (ended_lines line reason)) }
+{
+    let refusal = StopText(reason.stop);
+    writeln!(text, "line {line}: {refusal}\n  {reason}")
+}
+
 /// Writes the caption, the steps, and the line that ended the handling.
 pub(crate) fn write_stopped<A: Allocator>(
     caption: &Caption<A>,
@@ -219,8 +278,78 @@ pub(crate) fn write_stopped<A: Allocator>(
 {
     text.push_str(caption.plain.as_str())?;
     push_steps(passes, rows, text)?;
-    let refusal = StopText(reason.stop);
-    writeln!(text, "line {line}: {refusal}\n  {reason}")?;
+    push_ended(line, reason, text)?;
+    Ok(())
+}
+
+/// Writes the caption, and all steps of an order.
+fn write_order<A: Allocator>(
+    caption: &Caption<A>,
+    passes: &[PassNow],
+    rows: &[Row],
+    behind: &[WrongRow],
+    text: &mut String<A>,
+) -> Result<(), AllocError>
+    requires { length passes.now ≤ 65 }
+    ensures { OnOk result (GrewBy (string_bytes text.old) (string_bytes text.new)
+        (order_lines (caption_of caption.now) passes.now rows.now behind.now)) }
+{
+    text.push_str(caption.plain.as_str())?;
+    push_steps(passes, rows, text)?;
+    push_behind(passes, behind, text)?;
+    Ok(())
+}
+
+/// Writes the caption, all steps of an order, and the line that ended the handling.
+pub(crate) fn write_wrong_stopped<A: Allocator>(
+    caption: &Caption<A>,
+    passes: &[PassNow],
+    rows: &[Row],
+    behind: &[WrongRow],
+    line: usize,
+    reason: Reason,
+    text: &mut String<A>,
+) -> Result<(), AllocError>
+    requires { length passes.now ≤ 65 }
+    ensures { OnOk result (GrewBy (string_bytes text.old) (string_bytes text.new)
+        (wrong_stopped_lines (caption_of caption.now) passes.now rows.now behind.now line reason)) }
+{
+    write_order(caption, passes, rows, behind, text)?;
+    push_ended(line, reason, text)?;
+    Ok(())
+}
+
+/// Adds the line in which the protocol was broken, and why.
+fn push_broken<A: Allocator>(
+    line: usize,
+    reason: Reason,
+    text: &mut String<A>,
+) -> Result<(), AllocError>
+    ensures { OnOk result (GrewBy (string_bytes text.old) (string_bytes text.new)
+        (broken_line line reason ++ (codes "\n  " ++ (reason_text reason ++ codes "\n")))) }
+{
+    let broken = BrokenLine(line, reason);
+    writeln!(text, "{broken}\n  {reason}")
+}
+
+/// Writes the caption, all steps of an order, in which line it broke the protocol, why, and what goes wrong.
+pub(crate) fn write_broken<A: Allocator>(
+    caption: &Caption<A>,
+    passes: &[PassNow],
+    rows: &[Row],
+    behind: &[WrongRow],
+    line: usize,
+    reason: Reason,
+    harms: &[HarmAt],
+    text: &mut String<A>,
+) -> Result<(), AllocError>
+    requires { length passes.now ≤ 65 }
+    ensures { OnOk result (GrewBy (string_bytes text.old) (string_bytes text.new) (broken_lines
+        (caption_of caption.now) passes.now rows.now behind.now line reason harms.now)) }
+{
+    write_order(caption, passes, rows, behind, text)?;
+    push_broken(line, reason, text)?;
+    add_harms(harms, text)?;
     Ok(())
 }
 

@@ -6,4 +6,6 @@ pub mod Outcomes
 pub mod Closings
 pub mod OneText
 pub mod ScriptTexts
+pub mod WordSteps
+pub mod HarmsFound
 pub mod Wrongs

@@ -12,4 +12,6 @@ pub mod ScriptEndings
 pub mod ExplainingCalls
 pub mod ScriptExplanations
 pub mod Laws
+pub mod LineSteps
+pub mod Harms
 pub mod WrongOrders

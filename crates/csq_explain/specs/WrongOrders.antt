@@ -1,52 +1,19 @@
 -- A schedule that may break the protocol, followed by the two words of each IRP, and what comes of it.
-use Rattle.std.specs.Prelude.{◌≡◌, ℕ, ◌==◌, ◌&&◌, ◌||◌, not, Bool, true, false, slice_index_or, List, [], ◌∷◌, ◌++◌, position, is_none, codes, decimal, Option, Some, None, if◌then◌else◌}
-use Rattle.std.specs.List.{list_any}
-use Rattle.irp_core.specs.declared.ids.{IrpLife.{IrpLife}, PassId.{PassId}}
+use Rattle.std.specs.Prelude.{◌≡◌, ℕ, ◌==◌, Bool, true, false, List, [], ◌∷◌, ◌++◌, codes, decimal, Option, Some, None, if◌then◌else◌}
 use Rattle.irp_core.specs.declared.refusals.StepRefused.{StepRefused, TheVariants.{UnknownIrp, UnknownPass}}
-use Rattle.irp_core.specs.declared.step.{Kind.{Kind, TheVariants.{Arm, Disarm, Flag, Take, Done, Rearm}}, Made.{Made}, Step.{Step}}
+use Rattle.irp_core.specs.declared.step.{Made.{Made}, Step.{Step}}
 use Rattle.irp_core.specs.Runs.{Size}
-use Rattle.irp_core.specs.Steps.{is}
-use Rattle.irp_core.specs.Texts.{kind_text, pass_text, refusal_text}
-use Rattle.irp_core.specs.Words.{flagged, found_by}
+use Rattle.irp_core.specs.Texts.{refusal_text}
 use Rattle.csq_replay.specs.declared.schedule.outcome.{Outcome.{Outcome, TheVariants.{Skipped, Accepted, Stopped}}, Stop.{Stop, TheVariants.{TooLong, Malformed, Refused}}}
-use Rattle.csq_replay.specs.Outcomes.{ComesTo, step_of, stop_text}
+use Rattle.csq_replay.specs.Outcomes.{ComesTo, stop_text}
 use Rattle.csq_replay.specs.Schedule.{Numbered, run_of}
 use Rattle.csq_explain.specs.declared.reasons.Reason.{Reason}
-use Rattle.csq_explain.specs.declared.wrong.{LineStep.{LineStep}, Harm.{Harm, TheVariants.{Nothing, Twice, Stray, Lost}}, WrongOrder.{WrongOrder}}
+use Rattle.csq_explain.specs.declared.harms.HarmAt.{HarmAt}
+use Rattle.csq_explain.specs.declared.line_steps.LineStep.{LineStep}
+use Rattle.csq_explain.specs.declared.wrong.WrongOrder.{WrongOrder}
+use Rattle.csq_explain.specs.Harms.{harms_of, harm_text}
+use Rattle.csq_explain.specs.LineSteps.{by_words, line_step_text}
 use Rattle.csq_explain.specs.Executions.{Follows}
-
--- the steps, the newest first, behind these
-abbrev pub made_by : List Made → List LineStep → List Made
-made_by E [] = E
-made_by E (x ∷ steps) = made_by (x.made ∷ E) steps
-
--- a step, with the value that it found
-abbrev pub line_step_text : LineStep → List ℕ
-line_step_text x = pass_text x.made.pass ++ (codes " " ++ (kind_text x.made.kind ++ (codes " found " ++ decimal x.made.found)))
-
--- a step that sets the cancel routine of i, one that exchanges it for none, one that sets the Cancel flag, and a completion
-abbrev pub arms : Made → IrpLife → Bool
-arms m i = is (Arm i) m || is (Rearm i) m
-
-abbrev pub disarms : Made → IrpLife → Bool
-disarms m i = is (Disarm i) m || is (Take i) m
-
-abbrev pub is_flag : Made → IrpLife → Bool
-is_flag m i = is (Flag i) m
-
-abbrev pub is_done : Made → IrpLife → Bool
-is_done m i = is (Done i) m
-
--- whether the Cancel flag of i is set after a step, by whether it was before; and its cancel routine
-abbrev pub flag_with : Made → IrpLife → Bool → Bool
-flag_with m i before = is_flag m i || before
-
-abbrev pub routine_with : Made → IrpLife → Bool → Bool
-routine_with m i before = arms m i || (not (disarms m i) && before)
-
--- a step of p that the nth line names, after these: it finds what the word holds
-abbrev pub by_words : List LineStep → ℕ → PassId → Kind → LineStep
-by_words steps n p k = record { line = n; made = record { pass = p; kind = k; found = found_by (made_by [] steps) k } }
 
 -- a step that the protocol allows, or that comes behind one that it refused
 abbrev pub accepted_step : List LineStep → ℕ → ℕ → Made → LineStep
@@ -129,53 +96,10 @@ wrong_after d n (Stopped stop) = if goes_on stop then Some (with_stopped d n sto
 abbrev pub WrongLine : Size → Wrong → ℕ → List ℕ → List ℕ → Option Wrong → Type 0
 WrongLine size d n line text more = (comes : Outcome) × ComesTo size (run_of d.own) line comes × (text ≡ wrong_text d n comes) × (more ≡ wrong_after d n comes)
 
--- the place of the first of these steps that completes i
-abbrev pub first_done : List LineStep → IrpLife → Option ℕ
-first_done steps i = position (λ (x : LineStep). is_done x.made i) steps
-
--- one of these exchanges the cancel routine of i, with none or with the routine
-abbrev pub exchanges : List LineStep → IrpLife → Bool
-exchanges steps i = list_any (λ (x : LineStep). arms x.made i || disarms x.made i) steps
-
--- i, whose routine was set between these steps and those, waits for good: it was cancelled, nobody takes its routine, and nobody completed it
-abbrev pub is_lost : List LineStep → List LineStep → IrpLife → Bool
-is_lost before after i = not (exchanges after i) && ((flagged (made_by [] before) i || flagged (made_by [] after) i) && (is_none (first_done before i) && is_none (first_done after i)))
-
--- a completion of what one of these steps has completed
-abbrev pub harm_done : List LineStep → LineStep → Option ℕ → Harm
-harm_done before x (Some at) = Twice (slice_index_or before at x)
-harm_done before x None = Nothing
-
--- what goes wrong at a step of this kind, by the steps before it and those behind it
-abbrev pub harm_by : List LineStep → LineStep → List LineStep → Kind → Harm
-harm_by before x after (Done i) = harm_done before x (first_done before i)
-harm_by before x after (Take i) = if x.made.found == 1 && not (flagged (made_by [] before) i) then Stray else Nothing
-harm_by before x after (Arm i) = if is_lost before after i then Lost else Nothing
-harm_by before x after (Rearm i) = if is_lost before after i then Lost else Nothing
-harm_by before x after _ = Nothing
-
-abbrev pub harm_at : List LineStep → LineStep → List LineStep → Harm
-harm_at before x after = harm_by before x after x.made.kind
-
--- what a step did in which line
-abbrev pub deed_text : LineStep → List ℕ
-deed_text x = pass_text x.made.pass ++ (codes " " ++ (kind_text x.made.kind ++ (codes " in line " ++ decimal x.line)))
-
--- what goes wrong at a step, on a line of its own
-abbrev pub harm_line : LineStep → Harm → List ℕ
-harm_line x Nothing = []
-harm_line x (Twice first) = codes "harm: " ++ (deed_text x ++ (codes " completes what " ++ (pass_text first.made.pass ++ (codes " completed in line " ++ (decimal first.line ++ codes ": MULTIPLE_IRP_COMPLETE_REQUESTS (0x44)\n")))))
-harm_line x Stray = codes "harm: " ++ (deed_text x ++ codes " takes the routine of an IRP that nobody cancelled\n")
-harm_line x Lost = codes "harm: what " ++ (deed_text x ++ codes " lists waits for good: its Cancel flag is set, and nobody takes its routine\n")
-
--- what goes wrong at a step, by those before it and those behind it
-abbrev pub harm_step_text : List LineStep → LineStep → List LineStep → List ℕ
-harm_step_text before x after = harm_line x (harm_at before x after)
-
--- of all steps, the first of which come after these
-abbrev pub harms_text : List LineStep → List LineStep → List ℕ
-harms_text before [] = []
-harms_text before (x ∷ after) = harm_step_text before x after ++ harms_text (before ++ x ∷ []) after
+-- what goes wrong at these steps, each on a line of its own
+abbrev pub harms_text : List HarmAt → List ℕ
+harms_text [] = []
+harms_text (h ∷ harms) = (harm_text h.step h.harm ++ codes "\n") ++ harms_text harms
 
 -- in which line the protocol was broken
 abbrev pub broken_text : ℕ → List ℕ
@@ -183,7 +107,7 @@ broken_text broken = codes "the protocol is broken in line " ++ (decimal broken 
 
 -- whether the protocol was kept, and else what goes wrong
 abbrev pub end_text : ℕ → List LineStep → List ℕ
-end_text broken steps = if broken == 0 then codes "the protocol is kept\n" else broken_text broken ++ harms_text [] steps
+end_text broken steps = if broken == 0 then codes "the protocol is kept\n" else broken_text broken ++ harms_text (harms_of [] steps)
 
 abbrev pub WrongCloses : Wrong → List ℕ → Type 0
 WrongCloses d text = text ≡ end_text d.broken d.steps

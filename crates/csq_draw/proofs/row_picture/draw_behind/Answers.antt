@@ -1,4 +1,4 @@
-use Rattle.std.proofs.Common.{◌++◌, ◌∙◌, ap, false}
+use Rattle.std.proofs.Common.{◌++◌, false}
 use Rattle.csq_draw.proofs.Imports.{columns, shade_elements, span_elements, bars_elements, arrow_elements}
 use Rattle.csq_draw.specs.Arrows.{found_in}
 use Rattle.csq_draw.specs.Pictures.{place_named}

@@ -10,10 +10,9 @@ returns g c =
     let old = string_bytes c.args.text.now in
     let caption = c.args.self.now.caption in
     let extent : ℕ → ℕ → Extent = λ k n. record { columns = k; irps = n; rows = c.args.rows; lines = c.args.lines; caption = caption.lines } in
-    let count = c.columns.ensures ∙ ap columns c.deref.ensures.value in
     let head : Extent → List ℕ → List ℕ → List ℕ = λ e title below. old ++ head_text e title below in
-    let last = extent (columns c.args.self.now.execution.passes.items) (irp_columns c.args.irps.now) in
-    c.in_ok-write.ensures.bytes ∙ ap (λ k. head (extent k c.irp_columns.result) c.as_str.result.now c.as_str-2.result.now) count
-    ∙ ap (λ n. head (extent (columns c.args.self.now.execution.passes.items) n) c.as_str.result.now c.as_str-2.result.now) c.irp_columns.ensures
+    let last = extent (columns c.args.passes.now) (irp_columns c.args.irps.now) in
+    c.in_ok-write.ensures.bytes ∙ ap (λ k. head (extent k c.irp_columns.result) c.as_str.result.now c.as_str-2.result.now) c.columns.ensures
+    ∙ ap (λ n. head (extent (columns c.args.passes.now) n) c.as_str.result.now c.as_str-2.result.now) c.irp_columns.ensures
     ∙ ap (λ t. head last t c.as_str-2.result.now) c.as_str.ensures.value
     ∙ ap (head last (string_bytes caption.title)) c.as_str-2.ensures.value

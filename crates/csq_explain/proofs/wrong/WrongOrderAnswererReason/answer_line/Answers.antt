@@ -1,9 +1,8 @@
-use Rattle.std.proofs.Common.{◌≡◌, List, ℕ, Bool, true, false, cond, Option, ◌++◌, ◌∷◌, ◌∙◌, [], Some, None, ap, sym, refl, subst, append-nil, string_bytes}
-use Rattle.csq_explain.proofs.Imports.{Skipped, Accepted, Stopped, Numbered}
+use Rattle.std.proofs.Common.{cond, ◌++◌, ◌∷◌, ◌∙◌, [], Some, None, ap, sym, refl, subst, append-nil, string_bytes}
+use Rattle.csq_explain.proofs.Imports.{Skipped, Accepted, Stopped}
 use Rattle.csq_explain.specs.declared.execution.Execution.{Execution}
-use Rattle.csq_explain.specs.declared.wrong.LineStep.{LineStep}
 use Rattle.csq_explain.specs.Executions.{Follows, StopsFor}
-use Rattle.csq_explain.specs.WrongOrders.{WrongAfter, accepted_step, accepted_text, steps_behind, stopped_text, broken_behind, goes_on, with_accepted, with_stopped, wrong_text, wrong_after}
+use Rattle.csq_explain.specs.WrongOrders.{WrongAfter, accepted_step, accepted_text, steps_behind, stopped_text, broken_behind, goes_on, with_accepted, with_stopped}
 use Rattle.csq_explain.proofs.Outcomes.{was_skipped, was_accepted, was_stopped}
 use Rattle.csq_explain.proofs.Wrongs.{stopped_leaves}
 use Rattle.csq_explain.proofs.wrong.WrongOrderAnswererReason.answer_line.Goals as goal

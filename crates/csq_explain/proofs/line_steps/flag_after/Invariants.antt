@@ -1,7 +1,7 @@
 use Rattle.std.proofs.Common.{◌≡◌, [], take}
 use Rattle.irp_core.specs.Words.{flagged}
-use Rattle.csq_explain.specs.WrongOrders.{made_by}
-use Rattle.csq_explain.proofs.wrong.flag_after.Given as goal
+use Rattle.csq_explain.specs.LineSteps.{made_by}
+use Rattle.csq_explain.proofs.line_steps.flag_after.Given as goal
 
 -- the word after the steps so far
 abbrev pub invariant-loop-step : goal.invariant-loop-step

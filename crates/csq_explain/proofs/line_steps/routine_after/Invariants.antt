@@ -1,7 +1,7 @@
 use Rattle.std.proofs.Common.{◌≡◌, [], take}
 use Rattle.irp_core.specs.Words.{armed}
-use Rattle.csq_explain.specs.WrongOrders.{made_by}
-use Rattle.csq_explain.proofs.wrong.routine_after.Given as goal
+use Rattle.csq_explain.specs.LineSteps.{made_by}
+use Rattle.csq_explain.proofs.line_steps.routine_after.Given as goal
 
 -- the word after the steps so far
 abbrev pub invariant-loop-step : goal.invariant-loop-step

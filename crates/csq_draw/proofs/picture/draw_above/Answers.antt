@@ -1,0 +1,17 @@
+use Rattle.std.proofs.Common.{◌++◌, ◌∷◌, []}
+use Rattle.csq_draw.proofs.Imports.{each, column_elements, word_elements, last_elements}
+use Rattle.csq_draw.specs.declared.element.Element.TheVariants.{Lines}
+use Rattle.csq_draw.proofs.Growing.{grew_elements}
+use Rattle.csq_draw.proofs.picture.draw_above.Goals as goal
+
+pub returns : goal.returns
+returns g c =
+    let passes = c.args.passes.now in
+    let irps = c.args.irps.now in
+    let count = c.args.count in
+    let named = each (column_elements passes count) 0 passes in
+    let words = each (word_elements passes irps) 0 irps in
+    let last = each (last_elements passes irps count) 0 irps in
+    grew_elements _ _ _ (Lines ∷ []) (named ++ (words ++ last)) c.in_ok-draw.ensures
+    (grew_elements _ _ _ named (words ++ last) c.in_ok-draw_columns.ensures
+    (grew_elements _ _ _ words last c.in_ok-draw_names.ensures c.in_ok-draw_last.ensures))
