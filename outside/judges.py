@@ -1,10 +1,11 @@
 """What the tests of measures.py and refusals.py find in the ends of a program that were written by hand: nothing in
 right ones, and something in wrong ones. So a test that looks at nothing is noticed."""
+import re
 from types import SimpleNamespace
 
 import measures
 import refusals
-from measures import wrong_block, wrong_sums, wrong_time, wrong_totals
+from measures import KINDS, wrong_block, wrong_races, wrong_start, wrong_sums, wrong_time, wrong_totals
 from program import Ended
 from refusals import NO_MEMORY, NO_THREAD, ONE_RUN, wrong_memory, wrong_reads, wrong_slowly, wrong_threads, wrong_writes
 
@@ -34,6 +35,12 @@ milliseconds 1.234
 BUSY = TEXT.replace(b'completed 60', b'completed 64').replace(b'cancelled 10', b'cancelled 14').replace(
     b'irps 64\naccounted 64', b'irps 68\naccounted 68').replace(
     b'by cleanup 2\n', b'by cleanup 2\ncompleted by busy workers 4\n').replace(b'late 57\n', b'late 57\nput-backs 9\n')
+
+
+def without(kind):
+    """The totals of a run in which these threads complete nothing."""
+    return re.sub(rf'completed by {kind} \d+'.encode(), f'completed by {kind} 0'.encode(), TEXT)
+
 
 # The lines of which no sum is known: those of the calls, which rows of cases/ count, and the time.
 ALONE = (b'inserts', b'removals', b'cancelled and listed', b'milliseconds')
@@ -69,6 +76,8 @@ def right_ends():
     yield 'totals', wrong_totals(always(TEXT), 1, [], 128)
     yield 'totals of two runs', wrong_totals(always(TEXT * 2), 2, [], 128)
     yield 'totals of busy workers', wrong_totals(always(BUSY), 1, ['--busy-workers=1'], 128)
+    yield 'races', wrong_races(always(TEXT * 3 + without('cleanup') * 2), 5, 3, [])
+    yield 'a start', wrong_start(always(ONE_RUN, reported=b'sssssss'))
     yield 'a time', wrong_time(always(TEXT), b'milliseconds 1.234', {})
     yield 'a block', wrong_block(always(b'', reported=b'8 49152'), [], True)
     yield 'no block', wrong_block(always(b'', reported=b'8 49151'), [], False)
@@ -94,6 +103,11 @@ def wrong_ends():
     second = wrong_totals(always(TEXT + TEXT.replace(b'home 1', b'home 2')), 2, [], 128)
     yield 'totals of which the second are wrong', second
     yield 'totals of one run more', wrong_totals(always(TEXT * 2), 1, [], 128)
+    for kind in KINDS:
+        yield f'races without {kind}', wrong_races(always(without(kind) * 5), 5, 1, [])
+    yield 'races in too few runs', wrong_races(always(TEXT * 2 + without('cleanup') * 3), 5, 3, [])
+    for reported in (b'', b'ssssss', b'sssssse', b'ssssssss'):
+        yield f'a start of {reported}', wrong_start(always(ONE_RUN, reported=reported))
     for errors, status in [(b'why', 0), (b'', 1)]:
         yield f'totals, {errors!r} and status {status}', wrong_totals(always(TEXT, errors, status), 1, [], 128)
         late = wrong_time(always(TEXT, errors, status), b'milliseconds 1.234', {})

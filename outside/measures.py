@@ -19,9 +19,12 @@ BUSY_TOTALS = [line for it in TOTALS for line in ([it, BUSY[it]] if it in BUSY e
 # The line of what busy workers completed, 0 without such a line.
 BY_BUSY = 'completed by busy workers'
 
+# The threads that complete IRPs, if none are busy workers.
+KINDS = ('submitters', 'workers', 'cancellers', 'cleanup')
+
 # A line of a run's totals, and the lines whose numbers sum to its own.
 SUMS = [('irps', ['accounted']), ('irps', ['home', 'listed', 'completed']), ('completed', ['succeeded', 'cancelled']),
-        ('completed', [f'completed by {it}' for it in ('submitters', 'workers', 'cancellers', 'cleanup')] + [BY_BUSY]),
+        ('completed', [f'completed by {it}' for it in KINDS] + [BY_BUSY]),
         ('succeeded', ['completed by workers']), ('succeeded', ['removals that found an IRP']),
         ('cancels', ['cancels that took the routine', 'cancels too early or too late']),
         ('cancels that took the routine', ['completed by cancellers'])]
@@ -108,6 +111,22 @@ def test_totals(program, results):
         results.test(f'{program.name}: totals: {name}', wrong_totals, program, runs, [*options, *chain], removals)
 
 
+def wrong_races(program, runs, least, options):
+    """So many runs at least have a completion of each kind."""
+    got, _ = program.run(['run', '--totals', f'--repeat={runs}', *options])
+    for kind in KINDS:
+        found = len(re.findall(rf'^completed by {kind} [1-9]'.encode(), got.output, re.MULTILINE))
+        if found < least:
+            yield f'{found} of {runs} runs have a completion by {kind}; {got}'
+
+
+def test_races(program, results):
+    """The threads of a run race: of those that ran one after the other, some would complete nothing."""
+    for chain in ([], ['--chain']):
+        name = ' '.join(['each kind completes some', *chain])
+        results.test(f'{program.name}: races: {name}', wrong_races, program, 100, 15, chain)
+
+
 def wrong_time(program, time, settings):
     """By a clock of the test's own, the last line of a run is this one."""
     words = ['run', '--totals', '--irps=1', '--submitters=1', '--workers=1', '--cancellers=1', '--turns=1']
@@ -125,5 +144,17 @@ def test_times(program, results):
         results.test(f'{program.name}: times: {name}', wrong_time, program, time, settings)
 
 
+def wrong_start(program):
+    """No thread has ended when the last of seven is started, though each is started late."""
+    got, reported = program.run(['run', '--irps=8', '--turns=8'], b'', 'slow_threads')
+    if (reported, got.errors, got.status) != (b's' * 7, b'', 0):
+        yield f'{reported}; {got}'
+
+
+def test_start(program, results):
+    """The threads of a run wait for each other at the start."""
+    results.test(f'{program.name}: start: no thread ends before all have started', wrong_start, program)
+
+
 # Those that need a preloaded library, and those that don't.
-PRELOADED, TESTS = [test_chains, test_times], [test_shades, test_totals]
+PRELOADED, TESTS = [test_chains, test_times, test_start], [test_shades, test_totals, test_races]

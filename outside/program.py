@@ -37,7 +37,7 @@ def shown(text):
 class Libraries:
     """The libraries that are preloaded into a program, compiled into a folder."""
 
-    NAMES = ('refuse_memory', 'refuse_thread', 'set_clock', 'slow_io')
+    NAMES = ('refuse_memory', 'refuse_thread', 'set_clock', 'slow_io', 'slow_threads')
 
     def __init__(self, folder):
         self.folder = folder

@@ -14,14 +14,14 @@ use Rattle.csq_program.specs.declared.source.Source.{Source, TheVariants.{Standa
 -- each number is in its range
 abbrev pub IsInRange : Job → Type 0
 IsInRange (Schedule source irps passes claims explain wrong) = IsInLimits (record { irps = irps; passes = passes; first = 0 })
-IsInRange (Draw source irps passes text) = IsInLimits (record { irps = irps; passes = passes; first = 0 })
+IsInRange (Draw source irps passes text wrong) = IsInLimits (record { irps = irps; passes = passes; first = 0 })
 IsInRange (Script source irps files limit file_limit list explain) = ((1 ≤ irps) × (irps ≤ 1024)) × ((1 ≤ files) × (files ≤ 256)) × IfSome limit (λ n. (1 ≤ n) × (n ≤ 1024)) × IfSome file_limit (λ n. (1 ≤ n) × (n ≤ 1024))
 IsInRange (Run plan list totals repeat) = IsPlan plan.irps plan.files plan.submitters plan.workers plan.cancellers plan.turns × AreBusyWorkers plan.submitters plan.workers plan.cancellers plan.busy_workers × ((1 ≤ repeat) × (repeat ≤ 1000))
 
 -- the command of this name, of which any but a picture's, a script's and a run's is a schedule's
 abbrev pub IsJobOf : List ℕ → Job → Type 0
 IsJobOf name (Schedule source irps passes claims explain wrong) = (name ≢ codes "draw") × (name ≢ codes "script") × (name ≢ codes "run")
-IsJobOf name (Draw source irps passes text) = name ≡ codes "draw"
+IsJobOf name (Draw source irps passes text wrong) = name ≡ codes "draw"
 IsJobOf name (Script source irps files limit file_limit list explain) = name ≡ codes "script"
 IsJobOf name (Run plan list totals repeat) = name ≡ codes "run"
 
@@ -34,7 +34,7 @@ pub record IsFlag (options : ArgMatches) (name : List ℕ) (flag : Bool) : Type 
 -- the job's flags, if it has some, are those of the options
 abbrev pub ReportsJobFlag : ArgMatches → Job → Type 0
 ReportsJobFlag options (Schedule source irps passes claims explain wrong) = IsFlag options (codes "claims") claims × IsFlag options (codes "explain") explain × IsFlag options (codes "wrong") wrong
-ReportsJobFlag options (Draw source irps passes text) = IsFlag options (codes "text") text
+ReportsJobFlag options (Draw source irps passes text wrong) = IsFlag options (codes "text") text × IsFlag options (codes "wrong") wrong
 ReportsJobFlag options (Script source irps files limit file_limit list explain) = IsFlag options (codes "chain") (is_chained list) × IsFlag options (codes "explain") explain
 ReportsJobFlag options (Run plan list totals repeat) = IsFlag options (codes "chain") (is_chained list) × IsFlag options (codes "totals") totals
 
@@ -46,7 +46,7 @@ IsSource options (File name) = (first_value (found_of options) (codes "file") �
 -- the job's source, if it has one, is that of the options
 abbrev pub ReportsSource : ArgMatches → Job → Type 0
 ReportsSource options (Schedule source irps passes claims explain wrong) = IsSource options source
-ReportsSource options (Draw source irps passes text) = IsSource options source
+ReportsSource options (Draw source irps passes text wrong) = IsSource options source
 ReportsSource options (Script source irps files limit file_limit list explain) = IsSource options source
 ReportsSource options (Run plan list totals repeat) = Unit {0}
 
@@ -91,7 +91,7 @@ pub record AreTooMany (options : ArgMatches) (busy_workers left : ℕ) : Type 0 
 -- the job's numbers are those of the options
 abbrev pub ReportsNumbers : ArgMatches → Job → Type 0
 ReportsNumbers options (Schedule source irps passes claims explain wrong) = IsNumberOption options (codes "irps") 1024 8 irps × IsNumberOption options (codes "passes") 64 4 passes
-ReportsNumbers options (Draw source irps passes text) = IsNumberOption options (codes "irps") 1024 8 irps × IsNumberOption options (codes "passes") 64 4 passes
+ReportsNumbers options (Draw source irps passes text wrong) = IsNumberOption options (codes "irps") 1024 8 irps × IsNumberOption options (codes "passes") 64 4 passes
 ReportsNumbers options (Script source irps files limit file_limit list explain) = IsNumberOption options (codes "irps") 1024 8 irps × IsNumberOption options (codes "files") 256 4 files × IsLimit options (codes "limit") limit × IsLimit options (codes "file-limit") file_limit
 ReportsNumbers options (Run plan list totals repeat) = ArePlanned options plan × IsNumberOption options (codes "repeat") 1000 1 repeat
 

@@ -1,8 +1,19 @@
--- The sizes of a script's list.
-use Rattle.std.specs.Prelude.{ℕ, Option}
+-- What a schedule that may break the protocol is drawn as, and the sizes of a script's list.
+use Rattle.std.specs.Prelude.{ℕ, List, Option}
 use Rattle.std.specs.Option.{unwrap_or}
+use Rattle.irp_core.specs.Runs.{Size}
+use Rattle.csq_explain.specs.Executions.{StopsFor}
+use Rattle.csq_draw.specs.declared.format.Format.{Format}
+use Rattle.csq_draw.specs.WrongDrawings.{DrawsOrderClosing, DrawsOrderLine, new_wrong_drawn}
+use Rattle.csq_diagnose.specs.declared.diagnosed.Report.{Report}
+use Rattle.csq_diagnose.specs.Reports.{IsReportUntil}
+use Rattle.csq_diagnose.specs.Schedules.{ReportsReason}
 use Rattle.csq_program.specs.declared.replay.ScriptLimits.{ScriptLimits}
 
 -- the sizes of a script's list, whose limits are the number of IRPs if none is given
 abbrev pub limits_or_all : ℕ → ℕ → Option ℕ → Option ℕ → ScriptLimits
 limits_or_all irps files limit file_limit = record { irps = irps; files = files; limit = unwrap_or limit irps; file_limit = unwrap_or file_limit irps }
+
+-- a schedule that may break the protocol is drawn so, with its diagnosis
+abbrev pub IsWrongDrawingReport : {A : Type 0} → Size → Format → List ℕ → Report A → Type 0
+IsWrongDrawingReport size format = IsReportUntil (DrawsOrderLine size format) (λ d. StopsFor size d.own) (DrawsOrderClosing size format) ReportsReason new_wrong_drawn

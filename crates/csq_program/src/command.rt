@@ -32,12 +32,14 @@ pub enum Job<'a> {
         explain: bool,
         wrong: bool,
     },
-    /// To draw a schedule over this many IRPs and passes, as text or as an SVG picture.
+    /// To draw a schedule over this many IRPs and passes, as text or as an SVG picture; or to go on behind a step that
+    /// the protocol refuses.
     Draw {
         source: Source<'a>,
         irps: u32,
         passes: u32,
         text: bool,
+        wrong: bool,
     },
     /// To make the calls of a script over this many IRPs and file objects, of which `limit` IRPs may
     /// be listed at a time, and `file_limit` for each file object: all, if none is given. The list is
@@ -199,11 +201,14 @@ pub(crate) fn with_flag<'a>(
     command.arg(flag)
 }
 
+/// What the flag for wrong orders does.
+const WRONG_HELP: &str = "Goes on behind a refused step, by the two words alone";
+
 /// The command with the flag for wrong orders, of which neither claims nor sentences are reported.
 fn with_wrong<'a>(alloc: Global, command: Command<'a>) -> Result<Command<'a>, AllocError> {
     let flag = Arg::new(alloc, "wrong")
         .long("wrong")
-        .help("Goes on behind a refused step, by the two words alone")
+        .help(WRONG_HELP)
         .action(ArgAction::SetTrue)
         .conflicts_with("claims")?
         .conflicts_with("explain")?;
@@ -243,12 +248,9 @@ fn draw_command<'a>(alloc: Global) -> Result<Command<'a>, AllocError> {
     let command = machine_command(alloc, "draw")?
         .about(DRAW_ABOUT)
         .after_help(DRAW_HELP);
-    with_flag(
-        alloc,
-        command,
-        "text",
-        "Draws for a terminal, in letters alone",
-    )
+    let help = "Draws for a terminal, in letters alone";
+    let command = with_flag(alloc, command, "text", help)?;
+    with_flag(alloc, command, "wrong", WRONG_HELP)
 }
 
 /// The command line of a schedule.
@@ -389,6 +391,7 @@ fn draw_job<'a>(options: &ArgMatches<'a>) -> Job<'a>
         irps,
         passes,
         text: options.get_flag("text"),
+        wrong: options.get_flag("wrong"),
     }
 }
 

@@ -5,8 +5,9 @@ ghost use Rattle.csq_device.specs.Plans.{IsListFor};
 ghost use Rattle.csq_program.specs.Totals.{WritesRun, WritesRuns, WritesFewerRuns};
 ghost use Rattle.csq_program.specs.declared.device_run.RunFault.TheVariants.{Spawn, NotClosed};
 
+use crate::gate::Race;
 use crate::totals_text::write_run;
-use csq_device::{Device, DeviceCause, Free, Gate, Plan, RunRefused};
+use csq_device::{Device, DeviceCause, Gate, Plan, RunRefused};
 use csq_list::{AnyList, ListKind, PendingList};
 use std::alloc::{AllocError, Allocator};
 use std::io::Write;
@@ -149,7 +150,7 @@ where
         let Ok(list) = AnyList::new(rt.alloc(), kind, irps, files, irps) else {
             return Err(RunFault::Memory);
         };
-        answer_run(rt, rt.alloc(), plan, list, Free, totals, writer)?;
+        answer_run(rt, rt.alloc(), plan, list, Race::new(plan), totals, writer)?;
     }
     Ok(())
 }

@@ -119,9 +119,9 @@ with any status: a schedule names none.
                step: filled if set, bold if the step changed it or its life; a
                wide line below is a word that stays set
 The comment before the first step is above, its first line as the title; an
-empty line ends it. It has at most eight lines, and a question mark for a byte
-that isn't printable ASCII. A line as p1: ReadFile names a pass, and stands over
-its column.
+empty line ends it. It has at most eight lines, and a question mark for a
+control character and for a byte that isn't UTF-8. A line as p1: ReadFile names
+a pass, and stands over its column, cut to 24 characters.
 A browser describes each box and each line in words if the pointer rests on it
 and the picture is opened by itself.
 A line that ends the schedule is last, marked as refused, with its refusal and a
@@ -129,11 +129,18 @@ sentence why; standard error has it too. Otherwise sentences below say where
 each IRP is in the end, who completed it in which line, or who owes or holds it
 since which line, and whether all is at rest.
 
-With --text it is drawn for a terminal, in ASCII letters alone: a line for each
-step, with the pass that has the lock, in the column of its pass what it did,
-with a star before it if it claims its IRP, and the two words of the IRP after
-it. Each pass takes 27 letters, the rest 26. The comment before the first step
-is above, and the sentences of the end are below.
+With --text it is drawn for a terminal, in ASCII letters but for the comment: a
+line for each step, with the pass that has the lock, in the column of its pass
+what it did, with a star before it if it claims its IRP, and the two words of
+the IRP after it. Each pass takes 27 letters, the rest 26. The comment before
+the first step is above, and the sentences of the end are below.
+
+With --wrong a refused step is drawn all the same, in red with its refusal, and
+the schedule goes on in grey by the two words of each IRP alone, as csqsim
+schedule --wrong does: what a step found is what the word held. Nothing is known
+then of calls, of the lock, and of who owes or holds an IRP. The end says in
+which line the protocol was broken, why, and what goes wrong. With --text a !
+stands before the refused step, and a ? before those behind it.
 
 An input of more than 1048576 bytes is answered input too long, and nothing is
 drawn.
@@ -231,9 +238,10 @@ worker, of which there are none unless --busy-workers says so, removes the next
 IRP too, and puts it back at the front (IoCsqInsertIrpEx once more), or
 completes it as cancelled if it was cancelled or its file was cleaned up
 meanwhile. Each but the cleanup has as many turns as --turns says; a submitter
-or canceller ends earlier if no IRP is left for it. Threads begin one after
-the other, and many of them race more than many turns do. Once all threads have
-ended the queue is closed, and three lines are written:
+or canceller ends earlier if no IRP is left for it. Threads begin together, and
+one that is ahead waits now and then for the others, but not for long: with the
+defaults each kind of completion comes in most runs. Once all threads have ended
+the queue is closed, and three lines are written:
   irps N                  how many IRPs the device has
   accounted N             how many were never queued, are still listed, or were
                           completed by the threads' own counts

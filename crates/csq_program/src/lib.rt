@@ -3,6 +3,7 @@
 
 mod command;
 mod device_run;
+mod gate;
 mod help;
 mod program;
 mod replay;

@@ -125,7 +125,8 @@ where
             irps,
             passes,
             text,
-        } => run_drawing(rt, source, irps, passes, text),
+            wrong,
+        } => run_drawing(rt, source, irps, passes, text, wrong),
         Job::Script {
             source,
             irps,

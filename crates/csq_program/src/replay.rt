@@ -9,12 +9,12 @@ ghost use Rattle.csq_diagnose.specs.Schedules.{IsScheduleDiagnosis};
 ghost use Rattle.csq_replay.specs.declared.lines.answer.Ended.TheVariants as Ended;
 ghost use Rattle.csq_replay.specs.declared.lines.answer.SimFault.TheVariants.{Write};
 ghost use Rattle.csq_program.specs.declared.program.ProgramFault.TheVariants.{Replay};
-ghost use Rattle.csq_program.specs.Replays.{limits_or_all};
+ghost use Rattle.csq_program.specs.Replays.{limits_or_all, IsWrongDrawingReport};
 
 use crate::program::{ProgramFault, REFUSED};
 use crate::source::Source;
 use csq_diagnose::{Report, report_input, report_schedule, report_script, report_wrong_order};
-use csq_draw::{Drawing, Format};
+use csq_draw::{Drawing, Format, WrongDrawing};
 use csq_list::{AnyList, ListKind, PendingList};
 use csq_replay::{Ended, SimFault, exit_status};
 use irp_core::SizeRefused;
@@ -60,19 +60,40 @@ fn report_drawing(
     report_input(alloc, &mut drawing, input)
 }
 
-/// Draws a schedule, as text or as an SVG picture.
+/// Draws a schedule that may break the protocol, and diagnoses it.
+fn report_wrong_drawing(
+    alloc: Global,
+    irps: u32,
+    passes: u32,
+    format: Format,
+    input: &[u8],
+) -> Result<Report<Global>, AllocError>
+    requires { IsInLimits (record { irps = irps; passes = passes; first = 0 }) }
+    ensures { IfOk result
+        (IsWrongDrawingReport (record { irps = irps; passes = passes; first = 0 }) format input.now) }
+{
+    let mut drawing = WrongDrawing::new(alloc, irps, passes, format)?;
+    report_input(alloc, &mut drawing, input)
+}
+
+/// Draws a schedule, as text or as an SVG picture, or as one that may break the protocol.
 pub(crate) fn run_drawing<R: AllocGlobal + Print + Eprint + Input + Files>(
     rt: &R,
     source: Source<'_>,
     irps: u32,
     passes: u32,
     text: bool,
+    wrong: bool,
 ) -> Result<u8, ProgramFault>
     requires { IsInLimits (record { irps = irps; passes = passes; first = 0 }) }
 {
     let input = source.read(rt)?;
     let format = if text { Format::Text } else { Format::Svg };
-    let report = report_drawing(rt.alloc(), irps, passes, format, &input)?;
+    let report = if wrong {
+        report_wrong_drawing(rt.alloc(), irps, passes, format, &input)?
+    } else {
+        report_drawing(rt.alloc(), irps, passes, format, &input)?
+    };
     finish(rt, source, &report)
 }
 

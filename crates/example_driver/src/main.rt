@@ -74,7 +74,7 @@ fn queue_one<N: QueueName>(
     match queue.insert(rt, pass, irp, file, Place::Back)? {
         // The context could remove just this request later (`IoCsqRemoveIrp`).
         Inserted::Pending(_context) => {}
-        // The caller was faster: the request was cancelled before it was queued.
+        // The caller was faster: the insert found the request cancelled.
         Inserted::Cancelled(token) => queue.complete_cancelled(pass, token),
     }
     Ok(())

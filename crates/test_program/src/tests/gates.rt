@@ -11,6 +11,7 @@ use test_watched_list::{Moment, Watch, wait_for};
 /// What is told: the points of a device, and that its list has closed a file object.
 #[derive(Clone, Copy, PartialEq, Eq)]
 pub(super) enum Kind {
+    Starting,
     Submitted,
     Working,
     Removed,
@@ -25,6 +26,7 @@ pub(super) enum Kind {
 /// The kind of a point, and its number.
 fn kind_of(point: Point) -> (Kind, u32) {
     match point {
+        Point::Starting => (Kind::Starting, 0),
         Point::Submitted(IrpId(irp)) => (Kind::Submitted, irp),
         Point::Working(turn) => (Kind::Working, turn),
         Point::Removed(IrpId(irp)) => (Kind::Removed, irp),
@@ -98,6 +100,7 @@ fn bit(number: u32) -> u64 {
 /// What a device's gate was told, and what was wrong.
 #[derive(Drop)]
 pub(super) struct Told {
+    starting: Count,
     submitted: Count,
     working: Count,
     removed: Count,
@@ -116,6 +119,7 @@ pub(super) struct Told {
 impl Told {
     pub(super) fn nothing() -> Told {
         Told {
+            starting: Count::none(),
             submitted: Count::none(),
             working: Count::none(),
             removed: Count::none(),
@@ -133,6 +137,7 @@ impl Told {
     /// What was told of this kind.
     pub(super) fn of(&self, kind: Kind) -> &Count {
         match kind {
+            Kind::Starting => &self.starting,
             Kind::Submitted => &self.submitted,
             Kind::Working => &self.working,
             Kind::Removed => &self.removed,

@@ -1,7 +1,7 @@
 //! Plans of devices, what holds their threads up, and what comes of them.
 use super::gates::Holding::{InOrder, Rules, Yields};
 use super::gates::Kind::{
-    self, Cancelled, Cancelling, Cleaning, Closed, Removed, Submitted, Working,
+    self, Cancelled, Cancelling, Cleaning, Closed, Removed, Starting, Submitted, Working,
 };
 use super::gates::{Holding, Rule};
 
@@ -19,8 +19,17 @@ pub(super) struct Row<'a> {
 
 pub(super) const ALL: u64 = 1_000_000;
 
+/// All threads have started before one makes a call.
+const STARTED: &[(Kind, u64)] = &[(Starting, 11)];
+
 /// All threads meet at their first points, and the cleanup waits for the inserts.
-const MEETING: &[(Kind, u64)] = &[(Submitted, 3), (Working, 3), (Cancelling, 4), (Cleaning, 1)];
+const MEETING: &[(Kind, u64)] = &[
+    (Starting, 11),
+    (Submitted, 3),
+    (Working, 3),
+    (Cancelling, 4),
+    (Cleaning, 1),
+];
 
 /// Each turn of each thread, of threads that all run at once: of 300 IRPs the submitters insert 0 to 209, and the
 /// cancellers cancel 0 to 279. What was not inserted is home.
@@ -28,6 +37,13 @@ pub(super) const EACH_TURN: Row<'static> = Row {
     numbers: [300, 5, 3, 3, 4, 70, 0],
     limits: &[300, 300, 300, 300, 300],
     holding: Rules(&[
+        Rule {
+            at: Starting,
+            least: 0,
+            most: 0,
+            first: ALL,
+            all: STARTED,
+        },
         Rule {
             at: Submitted,
             least: 0,
@@ -65,6 +81,7 @@ pub(super) const EACH_TURN: Row<'static> = Row {
         },
     ]),
     points: &[
+        (Starting, (11, 0, 0x1)),
         (Submitted, (210, 21_945, 0xFFFF_FFFF_FFFF_FFFF)),
         (Working, (210, 7_245, 0xFFFF_FFFF_FFFF_FFFF)),
         (Cancelling, (280, 39_060, 0xFFFF_FFFF_FFFF_FFFF)),
@@ -249,8 +266,9 @@ pub(super) const SHARES: Row<'static> = Row {
     ],
 };
 
-/// Each point of a device with two IRPs was told once.
+/// Each point of a device with two IRPs was told once, and its start by each thread.
 const ONCE: &[(Kind, (u64, u64, u64))] = &[
+    (Starting, (4, 0, 0x1)),
     (Submitted, (2, 1, 0x3)),
     (Working, (64, 2_016, 0xFFFF_FFFF_FFFF_FFFF)),
     (Removed, (1, 0, 0x1)),
