@@ -166,6 +166,11 @@ def batches(edits):
     return found
 
 
+# What a function returns that may fail, and what it fails with.
+SIGNATURE = re.compile(r'.*? -> (?:\w+::)*Result<[^{]*?, (AllocError)>\s*(?:requires|ensures|where|{)|'
+                       r'.*? -> (fmt::Result) {', re.S)
+ERRORS = {'AllocError': 'AllocError', None: 'fmt::Error'}
+
 # What the prover prints of an obligation that it can't prove, at its place in the source; of an error in a written proof;
 # of a function.
 UNPROVED = re.compile(r'(?:note: )?(?:\./)?(src/\S+?):(\d+):\d+: (it is not proved that .*)')
@@ -273,7 +278,28 @@ class Trial:
             if (self.folder / part).is_dir():
                 shutil.copytree(self.folder / part, room / part)
         pairs = [pair for edit in edits for pair in edit.pairs]
+        if all(edit.function for edit in edits):
+            pairs += self.stubs({edit.function.name for edit in edits}, room)
         # (the last first, so that the places of the others stay)
         for path, at, old, new in sorted(pairs, key=lambda it: -it[1]):
             text = (room / path).read_text()
             (room / path).write_text(text[:at] + new + text[at + len(old):])
+
+    def stubs(self, edited, room):
+        """Bodies for the functions that aren't edited: whoever may fail, fails at once. The edited ones are judged by the
+        contracts of what they call, so nothing is gained by proving again what `rt ci` has proved, and this is quick to
+        prove. Removes the written proofs of these bodies, and returns the pairs."""
+        found, names = [], set()
+        for file in sorted(room.glob('src/**/*.rt')):
+            path, text = str(file.relative_to(room)), file.read_text()
+            lines = text.split('\n')
+            for function in functions(path, text):
+                head = SIGNATURE.match('\n'.join(lines[function.head - 1:function.begin]))
+                if function.name not in edited and head and function.begin < function.end - 1:
+                    at = sum(len(line) + 1 for line in lines[:function.begin])
+                    body = '\n'.join(lines[function.begin:function.end - 1])
+                    found.append((path, at, body, f'Err({ERRORS[head[1]]})'))
+                    names.add(function.name)
+        for proof in [it for it in room.glob('proofs/**/') if name_of(str(it.relative_to(room / 'proofs'))) in names]:
+            shutil.rmtree(proof)
+        return found
