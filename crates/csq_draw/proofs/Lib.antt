@@ -5,9 +5,10 @@ pub mod Growing
 pub mod Writing
 pub mod Known
 pub mod RowElements
+pub mod WindowLaws
 pub mod Showing
+pub mod OrderShowing
 pub mod WrongLaws
-pub mod WrongShown
 pub mod PictureLaws
 pub mod OrderLaws
 pub mod ArrowLaws

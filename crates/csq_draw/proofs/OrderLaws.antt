@@ -1,83 +1,129 @@
--- The laws of pictures of orders that may break the protocol.
-use Rattle.std.proofs.Common.{◌≡◌, List, [], ◌∷◌, ◌++◌, length, replicate, Option, refl, ap, ◌∙◌, append_assoc, append-nil, false}
+-- An order that may break the protocol has one picture; its marks, and those of what a window shows.
+use Rattle.std.proofs.Common.{◌≡◌, ℕ, ◌+◌, Bool, true, false, Option, Some, None, filter, List, [], ◌∷◌, ◌++◌, length, replicate, refl, ap, sym, subst, ◌∙◌}
+use Rattle.irp_core.specs.declared.refusals.StepRefused.{StepRefused}
+use Rattle.irp_core.specs.declared.step.Step.{Step}
+use Rattle.irp_core.proofs.Growing.{run_none}
+use Rattle.csq_replay.specs.declared.schedule.outcome.Outcome.{Outcome}
+use Rattle.csq_replay.specs.declared.schedule.outcome.Outcome.TheVariants.{Skipped, Accepted, Stopped}
+use Rattle.csq_replay.specs.Outcomes.{ComesTo}
+use Rattle.csq_replay.proofs.Answering.{one_input_answer}
+use Rattle.csq_replay.proofs.OneAnswer.{one_outcome}
+use Rattle.csq_explain.specs.declared.reasons.Reason.{Reason}
 use Rattle.std.proofs.lemmas.List.{length-replicate}
-use Rattle.irp_core.specs.Runs.{Size}
 use Rattle.csq_explain.specs.declared.passes.PassNow.{PassNow}
-use Rattle.csq_draw.specs.declared.arrows.Arrow.{Arrow}
 use Rattle.csq_draw.specs.declared.element.Element.{Element}
-use Rattle.csq_draw.specs.declared.marks.{Legality.TheVariants.{Legal}, Mark.{Mark}, Number.{Number}, Shade.{Shade}}
-use Rattle.csq_draw.specs.declared.wrong_rows.WrongRow.{WrongRow}
-use Rattle.csq_draw.specs.Laws.{AddsUpToTheRefusal, EachStepOfAnOrderHasOneMark, added, added_behind, mark_in, pick_of, picked}
-use Rattle.csq_draw.specs.Pictures.{above_elements, broken_elements, harm_elements, kept_elements, place_named, words_until}
-use Rattle.csq_draw.specs.WrongDrawings.{WrongDrawn, kept_irps, order_irps, order_passes, order_picture, reason_at, shown_of}
-use Rattle.csq_draw.specs.WrongRows.{wrong_row_elements, wrong_rows_elements}
-use Rattle.csq_draw.proofs.Imports.{IrpNow, Numbered, Row, Spot, column_of, columns, fresh_irps, irp_named, mark_element, new_irp, owners, refused_elements, run_of, with_irp}
-use Rattle.csq_draw.proofs.Known.{length-after}
-use Rattle.csq_draw.proofs.PictureLaws.{above_picked, kept_picked, no_bars, none_picked, none_then, of_step, picked-append, quiet, row_with}
-use Rattle.csq_draw.proofs.WrongLaws.{length-behind}
+use Rattle.csq_draw.specs.declared.element.Element.TheVariants.{Below}
+use Rattle.csq_draw.specs.declared.ending.Below.TheVariants.{AtRest}
+use Rattle.csq_draw.specs.declared.view.Window.{Window}
+use Rattle.csq_draw.specs.declared.wrong_drawing.Refusal.{Refusal}
+use Rattle.csq_draw.specs.Endings.{rest_of}
+use Rattle.csq_draw.specs.Laws.{HasOneOrderPicture, EachShownStepHasOneMark, EachStepOfAnOrderHasOneMark, added, mark_in, mark_of, mark_on, marks, marks_from, marks_in, order_marks, picked, window_marks, window_shown}
+use Rattle.csq_draw.specs.Pictures.{broken_end, harm_elements}
 use Rattle.csq_draw.specs.Rows.{rows_of}
+use Rattle.csq_draw.specs.Windows.{cut, places, shows}
+use Rattle.csq_draw.specs.WrongDrawings.{DrawsOrderClosing, DrawsOrderEnd, DrawsOrderLine, WrongDrawn, after_accepted, after_stopped, new_wrong_drawn, order_after, order_rows, order_shown, order_text, reason_at, step_behind}
+use Rattle.csq_draw.proofs.Imports.{IsRun, Made, View, run_of, IrpNow, Numbered, Row, EndShown, Shown, Size, all_passes, close_of, closing_elements, each, fresh_irps, irps_after, irps_of, mark_element, new_irp, rows_elements, shown_elements, stop_of, stopped_end}
+use Rattle.csq_draw.proofs.Known.{length-after}
+use Rattle.csq_draw.proofs.PictureLaws.{all_picked, one_closing, marks_picked, none_picked, none_then, of_rows, picked-append, quiet, then_none}
+use Rattle.csq_draw.proofs.RowElements.{rows-append}
 
-module _ {A : Type 0} (mark : Mark → List A) (number : Number → List A) (shade : Shade → List A) (arrow : Arrow → List A) where
-  abbrev pick : Element → List A
-  pick = pick_of mark number shade arrow
+-- of what is shown, before elements that are no marks
+marks_shown : (s : Shown) (e : EndShown) (zs : List _) → picked mark_in (rows_elements s.passes s.irps (fresh_irps s.irps) s.rows) ≡ zs → picked mark_in (e.below (length s.rows)) ≡ [] → marks_in s e ≡ zs
+marks_shown s e zs rows none =
+    then_none (λ m. m ∷ []) (λ n. []) (λ s. []) (λ a. []) (shown_elements s (length s.rows)) (e.below (length s.rows)) zs (of_rows (λ m. m ∷ []) (λ n. []) (λ s. []) (λ a. []) s (length s.rows) zs rows) none
 
-  -- what is picked out of a row from the refused step on
-  abbrev row_behind : List PassNow → List IrpNow → WrongRow → List A
-  row_behind passes irps w = number (record { row = w.row.row; line = w.row.line })
-      ++ (mark (record { row = w.row.row; column = column_of passes w.row.step.made.pass; columns = columns passes; place = place_named irps w.row.step.made.kind; step = w.row.step; legality = w.legality; words = w.row.words }) ++ [])
+-- what is reported in the end has none
+no_mark : (irps : List IrpNow) (count : ℕ) (reported : List _) (last : Element) → mark_in last ≡ [] → picked mark_in (each (closing_elements irps count) 0 reported ++ last ∷ []) ≡ []
+no_mark irps count reported last e =
+    none_then (λ m. m ∷ []) (λ n. []) (λ s. []) (λ a. []) (each (closing_elements irps count) 0 reported) (last ∷ []) [] (none_picked (λ m. m ∷ []) (λ n. []) (λ s. []) (λ a. []) (closing_elements irps count) (λ n line. refl) 0 reported) (ap (λ t. t ++ []) e)
 
-  wrong_picked : (passes : List PassNow) (irps : List IrpNow) (before : IrpNow) (w : WrongRow) → picked pick (wrong_row_elements passes irps before w) ≡ row_behind passes irps w
-  wrong_picked passes irps before w =
-      ap (λ t. number (record { row = w.row.row; line = w.row.line }) ++ t)
-      (none_then mark number shade arrow (words_until passes irps before w.row) (mark_element passes irps w.row w.legality ∷ []) _ (no_bars mark number shade arrow (columns passes) (place_named irps w.row.step.made.kind) w.row.row false before.last) refl)
+module _ (size : Size) (d : WrongDrawn) (refusal : Refusal) where
+  abbrev s : Shown
+  s = order_shown size d refusal
 
-  behind_picked : (passes : List PassNow) (irps known : List IrpNow) (rows : List WrongRow) → picked pick (wrong_rows_elements passes irps known rows) ≡ added_behind (row_behind passes irps) rows
-  behind_picked passes irps known [] = refl
-  behind_picked passes irps known (w ∷ rows) =
-      let one = wrong_row_elements passes irps (irp_named known w.row.step.made.kind) w in
-      let rest = wrong_rows_elements passes irps (with_irp known w.row) rows in
-      picked-append mark number shade arrow one rest ∙ ap (λ t. t ++ picked pick rest) (wrong_picked passes irps (irp_named known w.row.step.made.kind) w)
-      ∙ ap (λ t. row_behind passes irps w ++ t) (behind_picked passes irps (with_irp known w.row) rows)
+  abbrev fresh : List IrpNow
+  fresh = replicate size.irps new_irp
 
-  module _ (of_row : List PassNow → List IrpNow → Row → Option Spot → List A) (is : (passes : List PassNow) (irps : List IrpNow) (row : Row) (spot : Option Spot) → row_with mark number shade arrow passes irps row row.lock spot ≡ of_row passes irps row spot) (size : Size) (d : WrongDrawn) where
-    abbrev passes : List PassNow
-    passes = order_passes size d
+  fresh_are : fresh_irps s.irps ≡ fresh
+  fresh_are = ap (λ n. replicate n new_irp) (length-after fresh (order_rows size d) ∙ length-replicate size.irps new_irp)
 
-    abbrev wide : List IrpNow
-    wide = order_irps size d
+  order_picked : picked mark_in (rows_elements s.passes s.irps (fresh_irps s.irps) s.rows) ≡ order_marks size d s
+  order_picked =
+      let kept = rows_elements s.passes s.irps fresh (rows_of size d.drawn.steps) in
+      let behind = rows_elements s.passes s.irps (irps_after fresh (rows_of size d.drawn.steps)) d.behind in
+      ap (λ xs. picked mark_in (rows_elements s.passes s.irps xs s.rows)) fresh_are
+      ∙ ap (λ es. picked mark_in es) (rows-append s.passes s.irps fresh (rows_of size d.drawn.steps) d.behind)
+      ∙ picked-append (λ m. m ∷ []) (λ n. []) (λ s. []) (λ a. []) kept behind
+      ∙ ap (λ t. t ++ picked mark_in behind) (all_picked (λ m. m ∷ []) (λ n. []) (λ s. []) (λ a. []) (λ ps irps row spot. mark_in (mark_element ps irps row)) (λ ps irps row spot. ap (λ t. t ++ mark_in (mark_element ps irps row)) (quiet ps row spot)) size s.passes s.irps d.drawn.steps)
+      ∙ ap (λ t. added (mark_of size s.passes s.irps) d.drawn.steps ++ t) (marks_picked s.passes s.irps (irps_after fresh (rows_of size d.drawn.steps)) d.behind)
 
-    abbrev W : List Numbered
-    W = d.drawn.steps
+  pub each_order_mark : EachStepOfAnOrderHasOneMark size d refusal
+  each_order_mark = record {
+    stopped = λ n reason. marks_shown s (stopped_end n reason) _ order_picked refl;
+    broken = λ n reason harms. marks_shown s (broken_end n reason harms) _ order_picked (none_picked (λ m. m ∷ []) (λ n. []) (λ s. []) (λ a. []) (harm_elements (length s.rows)) (λ k h. refl) 0 harms);
+  }
 
-    abbrev steps : List A
-    steps = added (of_step mark number shade arrow of_row is size passes wide) W
+-- the rows that a window shows are those of the steps that it shows
+module _ (ps : List PassNow) (irps : List IrpNow) (w : Window) (pl : List ℕ) where
+  cut_marks : (n : ℕ) (rows : List Row) → marks ps irps (cut w pl n rows) ≡ marks_from ps irps n (filter (shows w) rows)
+  cut_marks n [] = refl
+  cut_marks n (row ∷ rows) = go (shows w row) refl (cut_marks (n + 1) rows) (cut_marks n rows)
+    where
+      go : (b : Bool) → shows w row ≡ b → marks ps irps (cut w pl (n + 1) rows) ≡ marks_from ps irps (n + 1) (filter (shows w) rows) → marks ps irps (cut w pl n rows) ≡ marks_from ps irps n (filter (shows w) rows)
+          → marks ps irps (cut w pl n (row ∷ rows)) ≡ marks_from ps irps n (filter (shows w) (row ∷ rows))
+      go true e shown hidden = rw e (ap (λ t. mark_on ps irps n row ∷ t) shown)
+      go false e shown hidden = rw e hidden
 
-    abbrev behind : List A
-    behind = added_behind (row_behind passes wide) d.behind
+module _ (size : Size) (W : List Numbered) (w : Window) where
+  abbrev shown : Shown
+  shown = window_shown size W w
 
-    fresh : fresh_irps wide ≡ replicate size.irps new_irp
-    fresh = ap (λ n. replicate n new_irp) (length-behind (kept_irps size d) d.behind ∙ length-after (replicate size.irps new_irp) (rows_of size W) ∙ length-replicate size.irps new_irp)
+  window_picked : picked mark_in (rows_elements shown.passes shown.irps (fresh_irps shown.irps) shown.rows) ≡ window_marks size W w
+  window_picked =
+      marks_picked shown.passes shown.irps (fresh_irps shown.irps) shown.rows ∙ cut_marks shown.passes shown.irps w (places w 0 (rows_of size W)) 0 (rows_of size W)
 
-    order_picked : (last : List Element) → picked pick (order_picture (shown_of size d) last) ≡ steps ++ (behind ++ picked pick last)
-    order_picked last =
-        let above = above_elements passes wide (length d.steps) in
-        let kept = kept_elements passes wide (kept_irps size d) (rows_of size W) (owners size.irps (run_of W)) (length W) in
-        let rows = wrong_rows_elements passes wide (kept_irps size d) d.behind in
-        let both = picked-append mark number shade arrow kept rows
-        ∙ ap (λ t. t ++ picked pick rows) (kept_picked mark number shade arrow of_row is size passes wide (kept_irps size d) W fresh)
-        ∙ ap (λ t. steps ++ t) (behind_picked passes wide (kept_irps size d) d.behind) in
-        picked-append mark number shade arrow (above ++ (kept ++ rows)) last
-        ∙ ap (λ t. t ++ picked pick last) (none_then mark number shade arrow above (kept ++ rows) _ (above_picked mark number shade arrow passes wide (length d.steps)) both)
-        ∙ append_assoc steps behind (picked pick last)
+  pub each_shown_mark : EachShownStepHasOneMark size W w
+  each_shown_mark = record {
+    stopped = λ n stop. marks_shown shown (stop_of size W n stop) _ window_picked refl;
+    closed = λ reported at_rest.
+        marks_shown shown (close_of size W reported at_rest) _ window_picked (no_mark (irps_of size W) (length shown.rows) reported (Below (length shown.rows) (AtRest (length reported) (rest_of (all_passes size W) at_rest))) refl);
+  }
 
-    all_ordered : AddsUpToTheRefusal size d pick (of_step mark number shade arrow of_row is size passes wide) (row_behind passes wide) (λ n. number (record { row = length d.steps; line = n }))
-    all_ordered = record {
-      stopped = λ n stop. order_picked (refused_elements (length d.steps) n (reason_at size d stop)) ∙ ap (λ t. steps ++ (behind ++ t)) (append-nil (number (record { row = length d.steps; line = n })));
-      broken = λ n reason harms.
-          order_picked (broken_elements (length d.steps) n reason harms)
-          ∙ ap (λ t. steps ++ (behind ++ t)) (none_picked mark number shade arrow (harm_elements (length d.steps)) (λ k h. refl) 0 harms) ∙ ap (λ t. steps ++ t) (append-nil behind);
-    }
+-- what the lines of an order led to: its execution is a run, and as long as the protocol is kept it is what is drawn
+abbrev IsOwnRun : Size → WrongDrawn → Type 0
+IsOwnRun size d = IsRun size (run_of d.own) × (d.refusal ≡ None → d.own ≡ d.drawn.steps)
 
-pub each_order_mark : (size : Size) (d : WrongDrawn) → EachStepOfAnOrderHasOneMark size d
-each_order_mark size d = all_ordered (λ m. m ∷ []) (λ n. []) (λ s. []) (λ a. []) (λ ps irps row spot. mark_in (mark_element ps irps row Legal))
-    (λ ps irps row spot. ap (λ t. t ++ mark_in (mark_element ps irps row Legal)) (quiet ps row spot)) size d
+abbrev IsOwnRunAfter : Size → Option WrongDrawn → Type 0
+IsOwnRunAfter size (Some d) = IsOwnRun size d
+IsOwnRunAfter size None = Unit {0}
+
+module _ (size : Size) (view : View) where
+  one_line : (d : WrongDrawn) (n : ℕ) (line t u : List ℕ) (m k : Option WrongDrawn) → IsOwnRun size d → DrawsOrderLine size view d n line t m → DrawsOrderLine size view d n line u k → (t ≡ u) × (m ≡ k)
+  one_line d n line t u m k r (o, comes, e, f) (p, comes', g, h) =
+      let same = one_outcome size (run_of d.own) line r.0 o p comes comes' in
+      (e ∙ ap (order_text size view d n) same ∙ sym g, f ∙ ap (order_after size d n line) same ∙ sym h)
+
+  accepted : (d : WrongDrawn) (n : ℕ) (m : Made) (refusal : Option Refusal) → d.refusal ≡ refusal → IsOwnRun size d → IsRun size (m ∷ run_of d.own) → IsOwnRun size (after_accepted d n m refusal)
+  accepted d n m None none r is = (is, λ h. ap (λ W. record { line = n; step = m } ∷ W) (r.1 none))
+  accepted d n m (Some refusal) some r is = (is, λ h. absurd (cc h))
+
+  stopped : (d : WrongDrawn) (n : ℕ) (reason : Reason) (behind : Option (Step × StepRefused)) → IsOwnRun size d → IsOwnRunAfter size (after_stopped d n reason behind)
+  stopped d n reason (Some x) r = (r.0, λ h. absurd (cc h))
+  stopped d n reason None r = tt
+
+  after_line : (d : WrongDrawn) (n : ℕ) (line : List ℕ) (o : Outcome) → IsOwnRun size d → ComesTo size (run_of d.own) line o → IsOwnRunAfter size (order_after size d n line o)
+  after_line d n line Skipped r is = r
+  after_line d n line (Accepted m) r is = accepted d n m d.refusal refl r is.1
+  after_line d n line (Stopped stop) r is = stopped d n (reason_at size d stop) (step_behind stop) r
+
+  on_line : (d e : WrongDrawn) (n : ℕ) (line text : List ℕ) → IsOwnRun size d → DrawsOrderLine size view d n line text (Some e) → IsOwnRun size e
+  on_line d e n line text r (o, comes, reported, same) = subst (IsOwnRunAfter size) (sym same) (after_line d n line o r comes)
+
+  one_end : (d : WrongDrawn) (refusal : Option Refusal) → d.refusal ≡ refusal → IsOwnRun size d → (t u : List ℕ) → DrawsOrderEnd size view d refusal t → DrawsOrderEnd size view d refusal u → t ≡ u
+  one_end d None none r t u e f = one_closing size view d.drawn (subst (λ W. IsRun size (run_of W)) (r.1 none) r.0) t u e f
+  one_end d (Some refusal) some r t u e f = e ∙ sym f
+
+pub one_order_picture : (size : Size) (view : View) (input : List ℕ) → HasOneOrderPicture size view input
+one_order_picture size view input t u e f is other =
+    one_input_answer (DrawsOrderLine size view) (DrawsOrderClosing size view) (IsOwnRun size) (one_line size view) (on_line size view)
+    (λ d x y r closed closed'. one_end size view d d.refusal refl r x y closed closed') new_wrong_drawn (run_none size, λ h. refl) input t u e f is other

@@ -27,18 +27,18 @@ use Rattle.csq_draw.specs.declared.words.WordValues.{WordValues}
 use Rattle.csq_draw.specs.Words.{words_of, words_named, routine_at}
 use Rattle.csq_replay.proofs.OneAnswer.{one_place}
 
-abbrev drawn_as : PassId → Having → ℕ → ℕ → IrpId → Option Owner
-drawn_as p having row lane n = Some (record { irp = n; pass = p; having = having; row = row; lane = lane })
+abbrev drawn_as : PassId → Having → ℕ → ℕ → IrpLife → Option Owner
+drawn_as p having row lane i = Some (record { name = i; pass = p; having = having; row = row; lane = lane })
 
--- IRP n, which stands so, is drawn with this owner
-abbrev Fits : IrpId → Standing → Option Owner → Type 0
-Fits n (Owed p) o = (row : ℕ) × (lane : ℕ) × (o ≡ drawn_as p Owes row lane n)
-Fits n (Held p status) o = (row : ℕ) × (lane : ℕ) × (o ≡ drawn_as p Holds row lane n)
-Fits n _ o = o ≡ None
+-- i, which stands so, is drawn with this owner
+abbrev Fits : IrpLife → Standing → Option Owner → Type 0
+Fits i (Owed p) o = (row : ℕ) × (lane : ℕ) × (o ≡ drawn_as p Owes row lane i)
+Fits i (Held p status) o = (row : ℕ) × (lane : ℕ) × (o ≡ drawn_as p Holds row lane i)
+Fits i _ o = o ≡ None
 
 -- IRP n of so many stands in its present life as it is drawn
 abbrev IsDrawn : Size → ℕ → IrpId → List Made → Type 0
-IsDrawn size irps n E = (s : Standing) × Stands E (present size.first E n) s × Fits n s (owner irps E n)
+IsDrawn size irps n E = (s : Standing) × Stands E (present size.first E n) s × Fits (present size.first E n) s (owner irps E n)
 
 bit_found : (b : Bool) (v : ℕ) → v ≡ bit b → (v == 1) ≡ b
 bit_found b v e = grind arith
@@ -54,47 +54,47 @@ unrenewed n k e = grind arith
 is_present : (size : Size) (n : IrpId) (E : List Made) (j : IrpLife) → j.irp ≡ n → IsPresent size.first E j → j ≡ present size.first E n
 is_present size n E j e now = named j (present size.first E n) (ap (λ (x : IrpId). x.0) e) (now ∙ ap (λ x. present_life size.first E x) e)
 
--- what a step of IRP n, which names j, makes of how it stands and is drawn; `t` says whether j is the present life
-module _ (n : IrpId) (j : IrpLife) (p : PassId) (x : Inside) where
-  armed_fits : (t : Bool) (s : Standing) (o : Option Owner) → Fits n s o → Fits n (cond t (moved (Arm j) s p x) s) o
+-- what a step that names j makes of how i stands and is drawn; `t` says whether they are one
+module _ (i j : IrpLife) (p : PassId) (x : Inside) where
+  armed_fits : (t : Bool) (s : Standing) (o : Option Owner) → Fits i s o → Fits i (cond t (moved (Arm j) s p x) s) o
   armed_fits t s o f = grind arith
 
-  tested_fits : (t : Bool) (s : Standing) (o : Option Owner) → Fits n s o → Fits n (cond t (moved (Test j) s p x) s) o
+  tested_fits : (t : Bool) (s : Standing) (o : Option Owner) → Fits i s o → Fits i (cond t (moved (Test j) s p x) s) o
   tested_fits t s o f = grind arith
 
-  flagged_fits : (t : Bool) (s : Standing) (o : Option Owner) → Fits n s o → Fits n (cond t (moved (Flag j) s p x) s) o
+  flagged_fits : (t : Bool) (s : Standing) (o : Option Owner) → Fits i s o → Fits i (cond t (moved (Flag j) s p x) s) o
   flagged_fits t s o f = grind arith
 
   -- an exchange that found no routine
-  untaken_fits : (t : Bool) (s : Standing) (o : Option Owner) → (t ≡ true → is_waiting s ≡ false) → Fits n s o → Fits n (cond t (moved (Take j) s p x) s) o
+  untaken_fits : (t : Bool) (s : Standing) (o : Option Owner) → (t ≡ true → is_waiting s ≡ false) → Fits i s o → Fits i (cond t (moved (Take j) s p x) s) o
   untaken_fits t s o w f = grind arith
 
-  missed_fits : (t : Bool) (s : Standing) (o : Option Owner) → (t ≡ true → is_waiting s ≡ false) → Fits n s o → Fits n (cond t (moved (Disarm j) s p x) s) o
+  missed_fits : (t : Bool) (s : Standing) (o : Option Owner) → (t ≡ true → is_waiting s ≡ false) → Fits i s o → Fits i (cond t (moved (Disarm j) s p x) s) o
   missed_fits t s o w f = grind arith
 
   -- one that found it, and the steps of an owner
-  module _ (row lane : ℕ) (same : j.irp ≡ n) where
-    taken_fits : (s : Standing) → is_waiting s ≡ true → Fits n (moved (Take j) s p x) (drawn_as p Owes row lane j.irp)
+  module _ (row lane : ℕ) (same : j ≡ i) where
+    taken_fits : (s : Standing) → is_waiting s ≡ true → Fits i (moved (Take j) s p x) (drawn_as p Owes row lane j)
     taken_fits s w = grind arith
 
-    disarmed_fits : (s : Standing) → is_waiting s ≡ true → Fits n (moved (Disarm j) s p x) (drawn_as p Holds row lane j.irp)
+    disarmed_fits : (s : Standing) → is_waiting s ≡ true → Fits i (moved (Disarm j) s p x) (drawn_as p Holds row lane j)
     disarmed_fits s w = grind arith
 
-    out_fits : (s : Standing) → is_owed_by p s ≡ true → Fits n (moved (Out j) s p x) (drawn_as p Holds row lane j.irp)
+    out_fits : (s : Standing) → is_owed_by p s ≡ true → Fits i (moved (Out j) s p x) (drawn_as p Holds row lane j)
     out_fits s w = grind arith
 
-  done_fits : (s : Standing) → is_held_by p s ≡ true → Fits n (moved (Done j) s p x) None
+  done_fits : (s : Standing) → is_held_by p s ≡ true → Fits i (moved (Done j) s p x) None
   done_fits s w = grind arith
 
-  rearmed_fits : (s : Standing) → is_held_by p s ≡ true → Fits n (moved (Rearm j) s p x) None
+  rearmed_fits : (s : Standing) → is_held_by p s ≡ true → Fits i (moved (Rearm j) s p x) None
   rearmed_fits s w = grind arith
 
 -- nobody is drawn as the owner of what was completed
-over_fits : (n : IrpId) (s : Standing) (ends : List Made) (o : Option Owner) → DonesAre s ends → ends ≢ [] → Fits n s o → o ≡ None
-over_fits n s ends o d ne f = grind arith
+over_fits : (i : IrpLife) (s : Standing) (ends : List Made) (o : Option Owner) → DonesAre s ends → ends ≢ [] → Fits i s o → o ≡ None
+over_fits i s ends o d ne f = grind arith
 
 -- one more step, of IRP n
-module _ (size : Size) (irps : ℕ) (n : IrpId) (p : PassId) (v : ℕ) (E : List Made) (s : Standing) (st : Stands E (present size.first E n) s) (f : Fits n s (owner irps E n)) where
+module _ (size : Size) (irps : ℕ) (n : IrpId) (p : PassId) (v : ℕ) (E : List Made) (s : Standing) (st : Stands E (present size.first E n) s) (f : Fits (present size.first E n) s (owner irps E n)) where
   abbrev now : IrpLife
   now = present size.first E n
 
@@ -114,48 +114,48 @@ module _ (size : Size) (irps : ℕ) (n : IrpId) (p : PassId) (v : ℕ) (E : List
   at_now j e b a = sym st.set_is ∙ ap (λ (y : IrpLife). armed E y) (sym e) ∙ a
 
   drawn_next : (k : Kind) → IsRun size (step k ∷ E) → is_of_irp n k ≡ true → IsDrawn size irps n (step k ∷ E)
-  drawn_next (Arm j) r e = (standing_after E (step (Arm j)) now s, stands_next (Arm j) r, rw e (armed_fits n j p (inside E p) (same_irp j now) s (owner irps E n) f))
-  drawn_next (Test j) r e = (standing_after E (step (Test j)) now s, stands_next (Test j) r, rw e (tested_fits n j p (inside E p) (same_irp j now) s (owner irps E n) f))
+  drawn_next (Arm j) r e = (standing_after E (step (Arm j)) now s, stands_next (Arm j) r, rw e (armed_fits now j p (inside E p) (same_irp j now) s (owner irps E n) f))
+  drawn_next (Test j) r e = (standing_after E (step (Test j)) now s, stands_next (Test j) r, rw e (tested_fits now j p (inside E p) (same_irp j now) s (owner irps E n) f))
   drawn_next (Disarm j) r e = (standing_after E (step (Disarm j)) now s, stands_next (Disarm j) r, go (armed E j) refl)
     where
-      go : (b : Bool) → armed E j ≡ b → Fits n (standing_after E (step (Disarm j)) now s) (owner irps (step (Disarm j) ∷ E) n)
+      go : (b : Bool) → armed E j ≡ b → Fits now (standing_after E (step (Disarm j)) now s) (owner irps (step (Disarm j) ∷ E) n)
       go true a =
           let same = same_id-eq j.irp n e in
           let named_now = is_present size n E j same (armed_present size E (run_less size (step (Disarm j)) E r) j a) in
-          rw (e, bit_found (armed E j) v r.found.0 ∙ a, names_now j named_now) (disarmed_fits n j p (inside E p) (length E) lane_now same s (at_now j named_now true a))
-      go false a = rw (e, bit_found (armed E j) v r.found.0 ∙ a) (missed_fits n j p (inside E p) (same_irp j now) s (owner irps E n) (λ t. at_now j (same_irp-eq j now t) false a) f)
+          rw (e, bit_found (armed E j) v r.found.0 ∙ a, names_now j named_now) (disarmed_fits now j p (inside E p) (length E) lane_now named_now s (at_now j named_now true a))
+      go false a = rw (e, bit_found (armed E j) v r.found.0 ∙ a) (missed_fits now j p (inside E p) (same_irp j now) s (owner irps E n) (λ t. at_now j (same_irp-eq j now t) false a) f)
   drawn_next End r e = absurd (cc e)
-  drawn_next (Flag j) r e = (standing_after E (step (Flag j)) now s, stands_next (Flag j) r, rw e (flagged_fits n j p (inside E p) (same_irp j now) s (owner irps E n) f))
+  drawn_next (Flag j) r e = (standing_after E (step (Flag j)) now s, stands_next (Flag j) r, rw e (flagged_fits now j p (inside E p) (same_irp j now) s (owner irps E n) f))
   drawn_next (Take j) r e = (standing_after E (step (Take j)) now s, stands_next (Take j) r, go (armed E j) refl)
     where
-      go : (b : Bool) → armed E j ≡ b → Fits n (standing_after E (step (Take j)) now s) (owner irps (step (Take j) ∷ E) n)
+      go : (b : Bool) → armed E j ≡ b → Fits now (standing_after E (step (Take j)) now s) (owner irps (step (Take j) ∷ E) n)
       go true a =
           let same = same_id-eq j.irp n e in
           let named_now = is_present size n E j same (armed_present size E (run_less size (step (Take j)) E r) j a) in
-          rw (e, bit_found (armed E j) v r.found.0 ∙ a, names_now j named_now) (taken_fits n j p (inside E p) (length E) lane_now same s (at_now j named_now true a))
-      go false a = rw (e, bit_found (armed E j) v r.found.0 ∙ a) (untaken_fits n j p (inside E p) (same_irp j now) s (owner irps E n) (λ t. at_now j (same_irp-eq j now t) false a) f)
+          rw (e, bit_found (armed E j) v r.found.0 ∙ a, names_now j named_now) (taken_fits now j p (inside E p) (length E) lane_now named_now s (at_now j named_now true a))
+      go false a = rw (e, bit_found (armed E j) v r.found.0 ∙ a) (untaken_fits now j p (inside E p) (same_irp j now) s (owner irps E n) (λ t. at_now j (same_irp-eq j now t) false a) f)
   drawn_next (Out j) r e =
       let same = same_id-eq j.irp n e in
       let named_now = is_present size n E j same (owed_present size E (run_less size (step (Out j)) E r) j p r.owned.0) in
       let mine : is_owed_by p s ≡ true = sym (st.owing_is p) ∙ ap (λ (y : IrpLife). owes E p y) (sym named_now) ∙ r.owned.0 in
-      (standing_after E (step (Out j)) now s, stands_next (Out j) r, rw (e, names_now j named_now) (out_fits n j p (inside E p) (length E) lane_now same s mine))
+      (standing_after E (step (Out j)) now s, stands_next (Out j) r, rw (e, names_now j named_now) (out_fits now j p (inside E p) (length E) lane_now named_now s mine))
   drawn_next (Done j) r e =
       let same = same_id-eq j.irp n e in
       let named_now = is_present size n E j same (held_present size E (run_less size (step (Done j)) E r) j p r.owned.0) in
       let mine : is_held_by p s ≡ true = sym (st.holding_is p) ∙ ap (λ (y : IrpLife). holds E p y) (sym named_now) ∙ r.owned.0 in
-      (standing_after E (step (Done j)) now s, stands_next (Done j) r, rw (e, names_now j named_now) (done_fits n j p (inside E p) s mine))
+      (standing_after E (step (Done j)) now s, stands_next (Done j) r, rw (e, names_now j named_now) (done_fits now j p (inside E p) s mine))
   drawn_next (Rearm j) r e =
       let same = same_id-eq j.irp n e in
       let held = (and_parts (holds E p j) (removed E j) r.owned.0).0 in
       let named_now = is_present size n E j same (held_present size E (run_less size (step (Rearm j)) E r) j p held) in
       let mine : is_held_by p s ≡ true = sym (st.holding_is p) ∙ ap (λ (y : IrpLife). holds E p y) (sym named_now) ∙ held in
-      (standing_after E (step (Rearm j)) now s, stands_next (Rearm j) r, rw (e, names_now j named_now) (rearmed_fits n j p (inside E p) s mine))
+      (standing_after E (step (Rearm j)) now s, stands_next (Rearm j) r, rw (e, names_now j named_now) (rearmed_fits now j p (inside E p) s mine))
   drawn_next (Renew j) r e =
       let same = same_id-eq j.irp n e in
       let was_now = is_present size n E j same r.owned.0.0 in
       let ended : dones E now ≢ [] = subst (λ (y : IrpLife). dones E y ≢ []) was_now r.owned.0.1 in
       let next = is_present size n (step (Renew j) ∷ E) (Next size p j v E r) same (renewed_present size p j v E r) in
-      (Home, subst (λ (y : IrpLife). Stands (step (Renew j) ∷ E) y Home) next (renewed_home size p j v E r), rw e (over_fits n s (dones E now) (owner irps E n) st.dones_are ended f))
+      (Home, subst (λ (y : IrpLife). Stands (step (Renew j) ∷ E) y Home) next (renewed_home size p j v E r), rw e (over_fits now s (dones E now) (owner irps E n) st.dones_are ended f))
 
 drawn : (size : Size) (irps : ℕ) (n : IrpId) (E : List Made) → IsRun size E → IsDrawn size irps n E
 drawn size irps n [] r = (Home, record { ever_is = refl; set_is = refl; claims_are = refl; owing_is = λ q. refl; holding_is = λ q. refl; done_is = λ q. refl; dones_are = refl; left_is = refl; due = refl }, refl)
@@ -167,10 +167,22 @@ drawn size irps n (m ∷ E) r = go (is_of_irp n m.kind) refl (drawn size irps n 
         let now = present size.first E n in
         let lived : present size.first E n ≡ present size.first (m ∷ E) n = named _ _ refl (sym (life_same size.first m E n (unrenewed n m.kind e))) in
         let here : Stands (m ∷ E) now d.0 = standing_kept e d.0 d.1 in
-        (d.0, subst (λ (y : IrpLife). Stands (m ∷ E) y d.0) lived here, rw e d.2)
+        (d.0, subst (λ (y : IrpLife). Stands (m ∷ E) y d.0) lived here, subst (λ (y : IrpLife). Fits y d.0 (owner irps (m ∷ E) n)) lived (rw e d.2))
       where
         standing_kept : is_of_irp n m.kind ≡ false → (s : Standing) → Stands E (present size.first E n) s → Stands (m ∷ E) (present size.first E n) s
         standing_kept e s st = stands_same m.pass m.kind m.found E (present size.first E n) s (unnamed n (present size.first E n).life m.kind e) st
+
+-- the life that it is drawn in
+abbrev name_in : IrpLife → Option Owner → IrpLife
+name_in i (Some o) = o.name
+name_in i None = i
+
+named_as : (i : IrpLife) (o : Option Owner) (s : Standing) → Fits i s o → (a : Owner) → o ≡ Some a → a.name ≡ i
+named_as i o Home f a e = absurd (cc (f, e))
+named_as i o Waiting f a e = absurd (cc (f, e))
+named_as i o (Owed q) f a e = ap (name_in i) (sym e ∙ f.2)
+named_as i o (Held q status) f a e = ap (name_in i) (sym e ∙ f.2)
+named_as i o (Finished status q) f a e = absurd (cc (f, e))
 
 -- of two owners that are one
 abbrev pass_in : PassId → Option Owner → PassId
@@ -185,32 +197,33 @@ abbrev owing : Option Owner → Bool
 owing (Some o) = is_owing o.having
 owing None = false
 
--- who is drawn as the owner of an IRP that stands so
-module _ (n : IrpId) (p : PassId) (o : Option Owner) where
-  owed_is : (s : Standing) → Fits n s o → ((row : ℕ) × (lane : ℕ) × (o ≡ drawn_as p Owes row lane n)) ↔ (is_owed_by p s ≡ true)
+-- who is drawn as the owner of i, which stands so
+module _ (i : IrpLife) (p : PassId) (o : Option Owner) where
+  owed_is : (s : Standing) → Fits i s o → ((row : ℕ) × (lane : ℕ) × (o ≡ drawn_as p Owes row lane i)) ↔ (is_owed_by p s ≡ true)
   owed_is Home f = (λ d. absurd (cc (f, d.2)), λ w. absurd (cc w))
   owed_is Waiting f = (λ d. absurd (cc (f, d.2)), λ w. absurd (cc w))
-  owed_is (Owed q) f = (λ d. same_by (sym f.2 ∙ d.2), λ w. (f.0, f.1, f.2 ∙ ap (λ y. drawn_as y Owes f.0 f.1 n) (same_pass-eq q p w)))
+  owed_is (Owed q) f = (λ d. same_by (sym f.2 ∙ d.2), λ w. (f.0, f.1, f.2 ∙ ap (λ y. drawn_as y Owes f.0 f.1 i) (same_pass-eq q p w)))
     where
-      same_by : {a b c d : ℕ} → drawn_as q Owes a b n ≡ drawn_as p Owes c d n → same_pass q p ≡ true
+      same_by : {a b c d : ℕ} → drawn_as q Owes a b i ≡ drawn_as p Owes c d i → same_pass q p ≡ true
       same_by e = subst (λ (y : PassId). same_pass q y ≡ true) (ap (pass_in q) e) (same_pass-refl q)
   owed_is (Held q status) f = (λ d. absurd (cc (ap owing (sym f.2 ∙ d.2))), λ w. absurd (cc w))
   owed_is (Finished status q) f = (λ d. absurd (cc (f, d.2)), λ w. absurd (cc w))
 
-  held_is : (s : Standing) → Fits n s o → ((row : ℕ) × (lane : ℕ) × (o ≡ drawn_as p Holds row lane n)) ↔ (is_held_by p s ≡ true)
+  held_is : (s : Standing) → Fits i s o → ((row : ℕ) × (lane : ℕ) × (o ≡ drawn_as p Holds row lane i)) ↔ (is_held_by p s ≡ true)
   held_is Home f = (λ d. absurd (cc (f, d.2)), λ w. absurd (cc w))
   held_is Waiting f = (λ d. absurd (cc (f, d.2)), λ w. absurd (cc w))
   held_is (Owed q) f = (λ d. absurd (cc (ap owing (sym f.2 ∙ d.2))), λ w. absurd (cc w))
-  held_is (Held q status) f = (λ d. same_by (sym f.2 ∙ d.2), λ w. (f.0, f.1, f.2 ∙ ap (λ y. drawn_as y Holds f.0 f.1 n) (same_pass-eq q p w)))
+  held_is (Held q status) f = (λ d. same_by (sym f.2 ∙ d.2), λ w. (f.0, f.1, f.2 ∙ ap (λ y. drawn_as y Holds f.0 f.1 i) (same_pass-eq q p w)))
     where
-      same_by : {a b c d : ℕ} → drawn_as q Holds a b n ≡ drawn_as p Holds c d n → same_pass q p ≡ true
+      same_by : {a b c d : ℕ} → drawn_as q Holds a b i ≡ drawn_as p Holds c d i → same_pass q p ≡ true
       same_by e = subst (λ (y : PassId). same_pass q y ≡ true) (ap (pass_in q) e) (same_pass-refl q)
   held_is (Finished status q) f = (λ d. absurd (cc (f, d.2)), λ w. absurd (cc w))
 
 pub each_owner : EachRunFrom EachDrawnOwnerOwesOrHolds
 each_owner size E r = record {
-  owed = λ irps n p. let d = drawn size irps n E r in let is = owed_is n p (owner irps E n) d.0 d.2 in (λ a. d.1.owing_is p ∙ is.0 a, λ b. is.1 (sym (d.1.owing_is p) ∙ b));
-  held = λ irps n p. let d = drawn size irps n E r in let is = held_is n p (owner irps E n) d.0 d.2 in (λ a. d.1.holding_is p ∙ is.0 a, λ b. is.1 (sym (d.1.holding_is p) ∙ b));
+  named = λ irps n a e. let d = drawn size irps n E r in named_as (present size.first E n) (owner irps E n) d.0 d.2 a e;
+  owed = λ irps n p. let d = drawn size irps n E r in let is = owed_is (present size.first E n) p (owner irps E n) d.0 d.2 in (λ a. d.1.owing_is p ∙ is.0 a, λ b. is.1 (sym (d.1.owing_is p) ∙ b));
+  held = λ irps n p. let d = drawn size irps n E r in let is = held_is (present size.first E n) p (owner irps E n) d.0 d.2 in (λ a. d.1.holding_is p ∙ is.0 a, λ b. is.1 (sym (d.1.holding_is p) ∙ b));
 }
 
 -- the routine is set of an IRP that is listed and that nobody owes
@@ -220,7 +233,7 @@ routine_is size irps E r n p is = let d = drawn size irps n E r in go d.0 (is_st
     at : (q : IrpPlace) → IsPlace E (present size.first E n) q → routine_at p (owner irps E n) ≡ routine_at q (owner irps E n)
     at q h = ap (λ x. routine_at x (owner irps E n)) (one_place size E r (present size.first E n) p q is h)
 
-    go : (s : Standing) → IsStanding E (present size.first E n) s → Fits n s (owner irps E n) → routine_at p (owner irps E n) ≡ is_waiting s
+    go : (s : Standing) → IsStanding E (present size.first E n) s → Fits (present size.first E n) s (owner irps E n) → routine_at p (owner irps E n) ≡ is_waiting s
     go Home h f = at place.Home h
     go Waiting h f = at place.Listed h.0 ∙ ap (λ o. routine_at place.Listed o) f
     go (Owed q) h f = at place.Listed h.0 ∙ ap (λ o. routine_at place.Listed o) f.2

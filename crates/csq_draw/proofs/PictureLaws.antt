@@ -2,7 +2,7 @@
 use Rattle.std.proofs.Common.{◌≡◌, ◌||◌, inl, inr, ℕ, ◌+◌, ◌<◌, ◌≤◌, Bool, true, false, cond, if◌then◌else◌, List, [], ◌∷◌, ◌++◌, length, get_or, replicate, Option, Some, None, option_to_list, refl, ap, sym, ◌∙◌, subst, arith, append_assoc, append-nil}
 use Rattle.std.specs.List.{position, list_any}
 use Rattle.std.proofs.lemmas.List.Quantifiers.{position-Some}
-use Rattle.csq_draw.proofs.Imports.{option_map, PassId, Made, same_pass, by, Size, IsRun, same_pass-eq, Numbered, run_of, Format, Owner, Row, owners, new_pass_now, pass_after, pass_now, lock_of, columns, column_of, each, column_elements, number_element, mark_element, call_element, shade_elements, span_elements, bars_elements, arrow_elements, behind_elements, row_after, rows_elements, new_irp, last_elements, word_elements, fresh_irps, irps_of, irp_named, IrpNow, Seen, Spot, open_elements, closing_elements, refused_elements, at_rest_element, shown_elements, Drawn, new_drawn, drawn_text, drawn_after, closed_text, DrawsLine, DrawsClosing, all_passes, reason_of, get-table, position-None, count-more, length-passes, inside_is}
+use Rattle.csq_draw.proofs.Imports.{option_map, PassId, Made, same_pass, by, Size, IsRun, same_pass-eq, Numbered, run_of, Owner, Row, View, owners, new_pass_now, pass_after, pass_now, lock_of, columns, column_of, each, column_elements, number_element, mark_element, call_elements, shade_elements, span_elements, bars_elements, arrow_elements, behind_elements, row_after, rows_elements, new_irp, last_elements, word_elements, fresh_irps, irps_of, irp_named, with_irp, IrpNow, Seen, Spot, open_elements, owners_elements, closing_elements, refused_elements, Shown, above_elements, close_of, found_at, shown_elements, steps_shown, text_of, Drawn, new_drawn, drawn_text, drawn_after, DrawsLine, DrawsClosing, all_passes, reason_of, get-table, position-None, count-more, length-passes, inside_is}
 use Rattle.irp_core.specs.Inside.{inside, inside_after, has_lock}
 use Rattle.irp_core.specs.Lock.{HasLock, needs_lock}
 use Rattle.irp_core.proofs.Growing.{run_none, run_less, run_parted, HasLock-has_lock, has_lock-HasLock}
@@ -15,8 +15,12 @@ use Rattle.csq_replay.proofs.OneAnswer.{one_close, one_outcome}
 use Rattle.std.proofs.lemmas.List.{length-replicate}
 use Rattle.csq_draw.proofs.Known.{length-after}
 use Rattle.csq_draw.proofs.RowElements.{rows-last}
+use Rattle.csq_draw.proofs.Showing.{length-rows}
 use Rattle.csq_draw.specs.declared.arrows.Arrow.{Arrow}
-use Rattle.csq_draw.specs.declared.marks.Legality.TheVariants.{Legal}
+use Rattle.csq_draw.specs.declared.element.Element.TheVariants.{Below}
+use Rattle.csq_draw.specs.declared.ending.Below.TheVariants.{AtRest}
+use Rattle.csq_draw.specs.declared.marks.Legality.{Legality}
+use Rattle.csq_draw.specs.declared.spans.LineEnd.{LineEnd, TheVariants.{Step, Refusal, Last}}
 use Rattle.csq_draw.specs.declared.marks.Mark.{Mark}
 use Rattle.csq_draw.specs.declared.marks.Number.{Number}
 use Rattle.csq_draw.specs.declared.marks.Shade.{Shade}
@@ -24,16 +28,17 @@ use Rattle.csq_explain.specs.declared.passes.PassNow.{PassNow}
 use Rattle.csq_draw.specs.declared.element.Element.{Element}
 use Rattle.csq_draw.specs.Arrows.{found_in}
 use Rattle.csq_draw.specs.Marks.{takes_lock, lets_go}
-use Rattle.csq_draw.specs.Pictures.{above_elements, kept_elements, place_named}
+use Rattle.csq_draw.specs.Endings.{rest_of}
+use Rattle.csq_draw.specs.Pictures.{place_named}
 use Rattle.csq_draw.specs.Rows.{row_of, rows_of}
-use Rattle.csq_draw.specs.Laws.{HasOnePicture, picked, added, AddsStepByStep, pick_of, mark_in, number_in, arrow_in, arrow_to, shade_by, EachStepHasOneMark, EachStepShowsItsWords, EachLineHasItsNumber, EachShadeIsOfTheLock, EachPassHasItsColumn, HasItAt, TheShadedPassHasTheLock}
+use Rattle.csq_draw.specs.Laws.{HasOnePicture, marks, picked, added, AddsStepByStep, pick_of, mark_in, number_in, arrow_in, arrow_to, shade_by, EachStepHasOneMark, EachStepShowsItsWords, EachLineHasItsNumber, EachShadeIsOfTheLock, EachPassHasItsColumn, HasItAt, TheShadedPassHasTheLock}
 
-module _ (size : Size) (format : Format) where
+module _ (size : Size) (view : View) where
   -- what is drawn of a line is one
-  one_drawn : (d : Drawn) (n : ℕ) (line t u : List ℕ) (m k : Option Drawn) → IsRun size (run_of d.steps) → DrawsLine size format d n line t m → DrawsLine size format d n line u k → (t ≡ u) × (m ≡ k)
+  one_drawn : (d : Drawn) (n : ℕ) (line t u : List ℕ) (m k : Option Drawn) → IsRun size (run_of d.steps) → DrawsLine size view d n line t m → DrawsLine size view d n line u k → (t ≡ u) × (m ≡ k)
   one_drawn d n line t u m k r (o, comes, e, f) (p, comes', g, h) =
       let same = one_outcome size (run_of d.steps) line r o p comes comes' in
-      (e ∙ ap (drawn_text size format d n) same ∙ sym g, f ∙ ap (drawn_after d n line) same ∙ sym h)
+      (e ∙ ap (drawn_text size view d n) same ∙ sym g, f ∙ ap (drawn_after d n line) same ∙ sym h)
 
   abbrev steps_in : Option Drawn → List Numbered
   steps_in (Some d) = d.steps
@@ -45,18 +50,18 @@ module _ (size : Size) (format : Format) where
   run_after d e n line (Stopped stop) r is same = absurd (cc same)
 
   -- the steps that a line leads to make a run
-  drawn_on : (d e : Drawn) (n : ℕ) (line text : List ℕ) → IsRun size (run_of d.steps) → DrawsLine size format d n line text (Some e) → IsRun size (run_of e.steps)
+  drawn_on : (d e : Drawn) (n : ℕ) (line text : List ℕ) → IsRun size (run_of d.steps) → DrawsLine size view d n line text (Some e) → IsRun size (run_of e.steps)
   drawn_on d e n line text r (o, comes, reported, same) = run_after d e n line o r comes same
 
-  one_closing : (d : Drawn) → IsRun size (run_of d.steps) → (t u : List ℕ) → DrawsClosing size format d t → DrawsClosing size format d u → t ≡ u
+  pub one_closing : (d : Drawn) → IsRun size (run_of d.steps) → (t u : List ℕ) → DrawsClosing size view d t → DrawsClosing size view d u → t ≡ u
   one_closing d r t u (reported, rest, closes, e) (other, otherwise, closes', f) =
       let same = one_close size (run_of d.steps) r reported other rest otherwise closes closes' in
-      e ∙ ap (λ x. closed_text size format d x rest) same.0 ∙ ap (λ x. closed_text size format d other x) same.1 ∙ sym f
+      e ∙ ap (λ x. text_of size view d (close_of size d.steps x rest)) same.0 ∙ ap (λ x. text_of size view d (close_of size d.steps other x)) same.1 ∙ sym f
 
-pub one_picture : (size : Size) (format : Format) (input : List ℕ) → HasOnePicture size format input
-one_picture size format input t u e f is other =
-    one_input_answer (DrawsLine size format) (DrawsClosing size format) (λ (d : Drawn). IsRun size (run_of d.steps)) (one_drawn size format) (drawn_on size format)
-    (λ d x y r closed closed'. one_closing size format d r x y closed closed') new_drawn (run_none size) input t u e f is other
+pub one_picture : (size : Size) (view : View) (input : List ℕ) → HasOnePicture size view input
+one_picture size view input t u e f is other =
+    one_input_answer (DrawsLine size view) (DrawsClosing size view) (λ (d : Drawn). IsRun size (run_of d.steps)) (one_drawn size view) (drawn_on size view)
+    (λ d x y r closed closed'. one_closing size view d r x y closed closed') new_drawn (run_none size) input t u e f is other
 
 -- what is picked out of the shade of a row, if a pass has the lock there
 abbrev shades_with : {A : Type 0} → (Shade → List A) → List PassNow → Row → Option PassId → List A
@@ -99,27 +104,28 @@ module _ {A : Type 0} (mark : Mark → List A) (number : Number → List A) (sha
   no_column : (passes : List PassNow) (rows n : ℕ) (now : PassNow) → picked pick (column_elements passes rows n now) ≡ []
   no_column passes rows n now = grind arith
 
-  no_kept : (passes : List PassNow) (irps : List IrpNow) (rows n : ℕ) (owner : Option Owner) → picked pick (open_elements passes irps rows n owner) ≡ []
-  no_kept passes irps rows n owner = grind arith
-
   no_name : (passes : List PassNow) (irps : List IrpNow) (n : ℕ) (now : IrpNow) → picked pick (word_elements passes irps n now) ≡ []
   no_name passes irps n now = grind arith
 
   pub no_bars : (columns place to : ℕ) (to_the_end : Bool) (last : Option Seen) → picked pick (bars_elements columns place to to_the_end last) ≡ []
   no_bars columns place to to_the_end last = grind arith
 
-  no_span : (passes : List PassNow) (row : ℕ) (now : IrpNow) (owner : Option Owner) → picked pick (span_elements passes row now owner) ≡ []
-  no_span passes row now owner = grind arith
+  no_span : (passes : List PassNow) (to : ℕ) (end : LineEnd) (owner : Option Owner) → picked pick (span_elements passes to end owner) ≡ []
+  no_span passes to end owner = grind arith
+
+  no_call : (passes : List PassNow) (before : IrpNow) (row : Row) (legality : Legality) → picked pick (call_elements passes before row legality) ≡ []
+  no_call passes before row legality = grind arith
+
+  -- of the owners after all rows
+  no_owner : (passes : List PassNow) (count : ℕ) (refused : Option ℕ) (owners : List (Option Owner)) → picked pick (owners_elements passes count refused owners) ≡ []
+  no_owner passes count (Some row) owners = none_picked (open_elements passes row Refusal) (λ n owner. no_span passes row Refusal owner) 0 owners
+  no_owner passes count None owners = none_picked (open_elements passes count Last) (λ n owner. no_span passes count Last owner) 0 owners
 
   arrow_picked : (passes : List PassNow) (row : Row) (spot : Option Spot) → picked pick (arrow_elements passes row spot) ≡ arrows_with arrow passes row spot
   arrow_picked passes row spot = grind (arith, append-nil)
 
   shade_picked : (passes : List PassNow) (row : Row) (lock : Option PassId) → picked pick (shade_elements passes row lock) ≡ shades_with shade passes row lock
   shade_picked passes row lock = grind (arith, append-nil)
-
-  -- who wrote what a row's step found, of whose IRP so much was known before
-  abbrev found_before : IrpNow → Row → Option Spot
-  found_before before row = found_in before row.step.made.kind row.step.made.found
 
   -- and of what stands above all rows
   pub above_picked : (passes : List PassNow) (irps : List IrpNow) (count : ℕ) → picked pick (above_elements passes irps count) ≡ []
@@ -133,33 +139,47 @@ module _ {A : Type 0} (mark : Mark → List A) (number : Number → List A) (sha
 
   -- behind a mark
   behind_picked : (passes : List PassNow) (irps : List IrpNow) (before : IrpNow) (row : Row)
-      → picked pick (behind_elements passes irps before row) ≡ shades_with shade passes row row.lock ++ arrows_with arrow passes row (found_before before row)
+      → picked pick (behind_elements passes irps before row) ≡ shades_with shade passes row row.lock ++ arrows_with arrow passes row (found_at before row)
   behind_picked passes irps before row =
-      let last = arrow_elements passes row (found_before before row) in
+      let last = arrow_elements passes row (found_at before row) in
       let bars = bars_elements (columns passes) (place_named irps row.step.made.kind) row.row false before.last in
-      let span = span_elements passes row.row before row.ended in
+      let span = span_elements passes row.row Step row.ended in
       picked-append (shade_elements passes row row.lock) (span ++ (bars ++ last))
       ∙ ap (λ t. t ++ picked pick (span ++ (bars ++ last))) (shade_picked passes row row.lock)
-      ∙ ap (λ t. shades_with shade passes row row.lock ++ t) (none_then span (bars ++ last) _ (no_span passes row.row before row.ended)
-      (none_then bars last _ (no_bars (columns passes) (place_named irps row.step.made.kind) row.row false before.last) (arrow_picked passes row (found_before before row))))
+      ∙ ap (λ t. shades_with shade passes row row.lock ++ t) (none_then span (bars ++ last) _ (no_span passes row.row Step row.ended)
+      (none_then bars last _ (no_bars (columns passes) (place_named irps row.step.made.kind) row.row false before.last) (arrow_picked passes row (found_at before row))))
+
+  -- of the mark of a row
+  abbrev mark_in_row : List PassNow → List IrpNow → Row → List A
+  mark_in_row passes irps row = mark (record { row = row.row; column = column_of passes row.step.made.pass; columns = columns passes; place = place_named irps row.step.made.kind; step = row.step; legality = row.legality; words = row.words })
 
   -- of a row, whoever has the lock there, and whoever wrote what its step found
   abbrev pub row_with : List PassNow → List IrpNow → Row → Option PassId → Option Spot → List A
-  row_with passes irps row lock spot = number (record { row = row.row; line = row.line }) ++ ((shades_with shade passes row lock ++ arrows_with arrow passes row spot)
-      ++ (mark (record { row = row.row; column = column_of passes row.step.made.pass; columns = columns passes; place = place_named irps row.step.made.kind; step = row.step; legality = Legal; words = row.words }) ++ []))
+  row_with passes irps row lock spot = number (record { row = row.row; line = row.line }) ++ ((shades_with shade passes row lock ++ arrows_with arrow passes row spot) ++ (mark_in_row passes irps row ++ []))
 
-  row_picked : (passes : List PassNow) (irps : List IrpNow) (before : IrpNow) (row : Row) → picked pick (row_after passes irps before row) ≡ row_with passes irps row row.lock (found_before before row)
+  pub row_picked : (passes : List PassNow) (irps : List IrpNow) (before : IrpNow) (row : Row) → picked pick (row_after passes irps before row) ≡ row_with passes irps row row.lock (found_at before row)
   row_picked passes irps before row =
-      let last = mark_element passes irps row Legal ∷ (call_element passes before row ∷ []) in
-      ap (λ t. number (record { row = row.row; line = row.line }) ++ t) (picked-append (behind_elements passes irps before row) last ∙ ap (λ t. t ++ picked pick last) (behind_picked passes irps before row))
+      let found = found_at before row in
+      let call = call_elements passes before row row.legality in
+      let marked = mark_in_row passes irps row in
+      ap (λ t. number (record { row = row.row; line = row.line }) ++ t) (picked-append (behind_elements passes irps before row) (mark_element passes irps row ∷ call)
+      ∙ ap (λ t. t ++ (marked ++ picked pick call)) (behind_picked passes irps before row)
+      ∙ ap (λ t. (shades_with shade passes row row.lock ++ arrows_with arrow passes row found) ++ (marked ++ t)) (no_call passes before row row.legality))
+
+  -- of what a picture shows it is what is picked out of its rows
+  pub of_rows : (s : Shown) (count : ℕ) (zs : List A) → picked pick (rows_elements s.passes s.irps (fresh_irps s.irps) s.rows) ≡ zs → picked pick (shown_elements s count) ≡ zs
+  of_rows s count zs e =
+      let rows = rows_elements s.passes s.irps (fresh_irps s.irps) s.rows in
+      let last = owners_elements s.passes count s.refused s.owners in
+      none_then (above_elements s.passes s.irps count) (rows ++ last) _ (above_picked s.passes s.irps count) (then_none rows last _ e (no_owner s.passes count s.refused s.owners))
 
   -- where this is what a law wants of a row
   module _ (of_row : List PassNow → List IrpNow → Row → Option Spot → List A) (is : (passes : List PassNow) (irps : List IrpNow) (row : Row) (spot : Option Spot) → row_with passes irps row row.lock spot ≡ of_row passes irps row spot) (size : Size) where
     -- of a step after the steps W
     abbrev pub of_step : List PassNow → List IrpNow → Numbered → List Numbered → List A
-    of_step passes irps w W = of_row passes irps (row_of size w W) (found_before (irp_named (irps_of size W) w.step.kind) (row_of size w W))
+    of_step passes irps w W = of_row passes irps (row_of size w W) (found_at (irp_named (irps_of size W) w.step.kind) (row_of size w W))
 
-    all_picked : (passes : List PassNow) (irps : List IrpNow) (W : List Numbered) → picked pick (rows_elements passes irps (replicate size.irps new_irp) (rows_of size W)) ≡ added (of_step passes irps) W
+    pub all_picked : (passes : List PassNow) (irps : List IrpNow) (W : List Numbered) → picked pick (rows_elements passes irps (replicate size.irps new_irp) (rows_of size W)) ≡ added (of_step passes irps) W
     all_picked passes irps [] = refl
     all_picked passes irps (w ∷ W) =
         let row = row_of size w W in
@@ -167,16 +187,8 @@ module _ {A : Type 0} (mark : Mark → List A) (number : Number → List A) (sha
         let before = irp_named (irps_of size W) w.step.kind in
         ap (λ es. picked pick es) (rows-last passes irps fresh (rows_of size W) row)
         ∙ picked-append (rows_elements passes irps fresh (rows_of size W)) (row_after passes irps before row)
-        ∙ ap (λ t. picked pick (rows_elements passes irps fresh (rows_of size W)) ++ t) (row_picked passes irps before row ∙ is passes irps row (found_before before row))
+        ∙ ap (λ t. picked pick (rows_elements passes irps fresh (rows_of size W)) ++ t) (row_picked passes irps before row ∙ is passes irps row (found_at before row))
         ∙ ap (λ t. t ++ of_step passes irps w W) (all_picked passes irps W)
-
-    -- of the steps W, where the IRPs that have columns are so many
-    pub kept_picked : (passes : List PassNow) (wide irps : List IrpNow) (W : List Numbered) → fresh_irps wide ≡ replicate size.irps new_irp → picked pick (kept_elements passes wide irps (rows_of size W) (owners size.irps (run_of W)) (length W)) ≡ added (of_step passes wide) W
-    kept_picked passes wide irps W fresh =
-        let steps = rows_elements passes wide (fresh_irps wide) (rows_of size W) in
-        let kept = each (open_elements passes irps (length W)) 0 (owners size.irps (run_of W)) in
-        let all = ap (λ xs. picked pick (rows_elements passes wide xs (rows_of size W))) fresh ∙ all_picked passes wide W in
-        then_none steps kept _ all (none_picked (open_elements passes irps (length W)) (no_kept passes irps (length W)) 0 (owners size.irps (run_of W)))
 
     module _ (W : List Numbered) where
       abbrev passes : List PassNow
@@ -185,25 +197,28 @@ module _ {A : Type 0} (mark : Mark → List A) (number : Number → List A) (sha
       abbrev irps : List IrpNow
       irps = irps_of size W
 
+      abbrev count : ℕ
+      count = length (rows_of size W)
+
       abbrev shown : List Element
-      shown = shown_elements passes irps (rows_of size W) (owners size.irps (run_of W)) (length W)
+      shown = shown_elements (steps_shown size W) count
 
       fresh_are : fresh_irps irps ≡ replicate size.irps new_irp
       fresh_are = ap (λ n. replicate n new_irp) (length-after (replicate size.irps new_irp) (rows_of size W) ∙ length-replicate size.irps new_irp)
 
       shown_picked : picked pick shown ≡ added (of_step passes irps) W
-      shown_picked =
-          none_then (above_elements passes irps (length W)) (kept_elements passes irps irps (rows_of size W) (owners size.irps (run_of W)) (length W)) _ (above_picked passes irps (length W)) (kept_picked passes irps irps W fresh_are)
+      shown_picked = of_rows (steps_shown size W) count _ (ap (λ xs. picked pick (rows_elements passes irps xs (rows_of size W))) fresh_are ∙ all_picked passes irps W)
 
       all_shown : AddsStepByStep size W pick (of_step passes irps) (λ n. number (record { row = length W; line = n }))
       all_shown = record {
         stopped = λ n stop.
-            let refused = refused_elements (length W) n (reason_of size passes stop) in
-            picked-append shown refused ∙ ap (λ t. t ++ picked pick refused) shown_picked ∙ ap (λ t. added (of_step passes irps) W ++ t) (append-nil (number (record { row = length W; line = n })));
+            let refused = refused_elements count n (reason_of size passes stop) in
+            let line = append-nil (number (record { row = count; line = n })) ∙ ap (λ k. number (record { row = k; line = n })) (length-rows size W) in
+            picked-append shown refused ∙ ap (λ t. t ++ picked pick refused) shown_picked ∙ ap (λ t. added (of_step passes irps) W ++ t) line;
         closed = λ reported at_rest.
-            let last = at_rest_element passes (length W) (length reported) at_rest in
-            then_none shown (each (closing_elements irps (length W)) 0 reported ++ last ∷ []) _ shown_picked
-            (none_then (each (closing_elements irps (length W)) 0 reported) (last ∷ []) [] (none_picked (closing_elements irps (length W)) (λ n line. refl) 0 reported) refl);
+            let last = Below count (AtRest (length reported) (rest_of passes at_rest)) in
+            then_none shown (each (closing_elements irps count) 0 reported ++ last ∷ []) _ shown_picked
+            (none_then (each (closing_elements irps count) 0 reported) (last ∷ []) [] (none_picked (closing_elements irps count) (λ n line. refl) 0 reported) refl);
       }
 
 all_shades : (ps : List PassNow) (irps : List IrpNow) (row : Row) (spot : Option Spot) (lock : Option PassId) → row_with (λ m. []) (λ n. []) (λ s. s ∷ []) (λ a. []) ps irps row lock spot ≡ shade_by ps row.row row.step lock
@@ -216,11 +231,21 @@ all_arrows ps row spot = grind arith
 pub quiet : {A : Type 0} (ps : List PassNow) (row : Row) (spot : Option Spot) → shades_with {A = A} (λ s. []) ps row row.lock ++ arrows_with {A = A} (λ a. []) ps row spot ≡ []
 quiet ps row spot = ap (λ t. t ++ arrows_with (λ a. []) ps row spot) (no_shade ps row row.lock) ∙ no_arrow ps row spot
 
+-- of any rows
+pub marks_picked : (ps : List PassNow) (xs known : List IrpNow) (rows : List Row) → picked mark_in (rows_elements ps xs known rows) ≡ marks ps xs rows
+marks_picked ps xs known [] = refl
+marks_picked ps xs known (row ∷ rows) =
+    let before = irp_named known row.step.made.kind in
+    let rest = rows_elements ps xs (with_irp known row) rows in
+    let one = row_picked (λ m. m ∷ []) (λ n. []) (λ s. []) (λ a. []) ps xs before row ∙ ap (λ t. t ++ mark_in (mark_element ps xs row)) (quiet ps row (found_at before row)) in
+    picked-append (λ m. m ∷ []) (λ n. []) (λ s. []) (λ a. []) (row_after ps xs before row) rest
+    ∙ ap (λ t. t ++ picked mark_in rest) one ∙ ap (λ t. mark_in (mark_element ps xs row) ++ t) (marks_picked ps xs (with_irp known row) rows)
+
 -- of the steps W
 module _ (size : Size) (W : List Numbered) where
   pub each_mark : EachStepHasOneMark size W
-  each_mark = all_shown (λ m. m ∷ []) (λ n. []) (λ s. []) (λ a. []) (λ ps irps row spot. mark_in (mark_element ps irps row Legal))
-      (λ ps irps row spot. ap (λ t. t ++ mark_in (mark_element ps irps row Legal)) (quiet ps row spot)) size W
+  each_mark = all_shown (λ m. m ∷ []) (λ n. []) (λ s. []) (λ a. []) (λ ps irps row spot. mark_in (mark_element ps irps row))
+      (λ ps irps row spot. ap (λ t. t ++ mark_in (mark_element ps irps row)) (quiet ps row spot)) size W
 
   pub each_words : EachStepShowsItsWords size W
   each_words = all_shown (λ m. option_to_list m.words) (λ n. []) (λ s. []) (λ a. []) (λ ps irps row spot. option_to_list row.words)

@@ -1,17 +1,20 @@
 -- The elements of rows grow with the rows.
-use Rattle.std.proofs.Common.{◌≡◌, ℕ, ◌+◌, ◌<◌, List, [], ◌∷◌, ◌++◌, take, length, get_or, append_assoc, append-nil, ap, sym, ◌∙◌}
+use Rattle.std.proofs.Common.{◌≡◌, ℕ, ◌+◌, ◌<◌, List, [], ◌∷◌, ◌++◌, take, length, get_or, append_assoc, append-nil, refl, ap, sym, ◌∙◌}
 use Rattle.csq_draw.proofs.Imports.{take_more, GrewBy, elements_text, Row, IrpNow, irp_named, irps_after, with_irp, row_after, rows_elements}
 use Rattle.csq_draw.proofs.Growing.{grew_elements}
 use Rattle.csq_explain.specs.declared.passes.PassNow.{PassNow}
 
 module _ (passes : List PassNow) (irps : List IrpNow) where
+  -- those of some rows, and then of others
+  pub rows-append : (known : List IrpNow) (rows others : List Row) → rows_elements passes irps known (rows ++ others) ≡ rows_elements passes irps known rows ++ rows_elements passes irps (irps_after known rows) others
+  rows-append known [] others = refl
+  rows-append known (r ∷ rows) others =
+      let first = row_after passes irps (irp_named known r.step.made.kind) r in
+      ap (λ t. first ++ t) (rows-append (with_irp known r) rows others) ∙ sym (append_assoc first (rows_elements passes irps (with_irp known r) rows) (rows_elements passes irps (irps_after (with_irp known r) rows) others))
+
   -- one row more
   pub rows-last : (known : List IrpNow) (rows : List Row) (row : Row) → rows_elements passes irps known (rows ++ row ∷ []) ≡ rows_elements passes irps known rows ++ row_after passes irps (irp_named (irps_after known rows) row.step.made.kind) row
-  rows-last known [] row = append-nil (row_after passes irps (irp_named known row.step.made.kind) row)
-  rows-last known (r ∷ rows) row =
-      let first = row_after passes irps (irp_named known r.step.made.kind) r in
-      ap (λ t. first ++ t) (rows-last (with_irp known r) rows row)
-      ∙ sym (append_assoc first (rows_elements passes irps (with_irp known r) rows) (row_after passes irps (irp_named (irps_after (with_irp known r) rows) row.step.made.kind) row))
+  rows-last known rows row = rows-append known rows (row ∷ []) ∙ ap (λ t. rows_elements passes irps known rows ++ t) (append-nil (row_after passes irps (irp_named (irps_after known rows) row.step.made.kind) row))
 
   -- one more of them was drawn
   pub grew_row : (fresh known : List IrpNow) (rows : List Row) (k : ℕ) (d : Row) (old between new : List ℕ) → k < length rows → known ≡ irps_after fresh (take k rows) → GrewBy old between (elements_text (rows_elements passes irps fresh (take k rows)))

@@ -1,11 +1,11 @@
 -- A drawing shows the run that it was noted of.
 use Rattle.std.proofs.Common.{◌≡◌, ℕ, suc, ◌+◌, ◌<◌, Bool, true, false, cond, List, [], ◌∷◌, ◌++◌, length, get_or, set, replicate, Option, Some, None, refl, ap, sym, ◌∙◌, subst, length-append, add-one, arith}
-use Rattle.csq_draw.proofs.Imports.{option_map_or, IrpId, PassId, Kind, Made, number, same_id, name_of, IrpLife, Size, OfIrp, same_id-refl, same_id-eq, Numbered, run_of, GrewBy, all_passes, reason_of, length-table, table-same, table-replicate, get-table, set-table, CaptionText, picture, stopped_lines, closed_lines, picture_head, stopped_elements, closed_elements, stopped_picture, closed_picture, IrpNow, irp_columns, irps_after, irps_of, new_irp, Owner, Row, is_of_irp, owner, owner_after, owner_named, ended_by, owners, lock_of, lock_at, owner_in, with_owner, Shows, NotesStep}
+use Rattle.csq_draw.proofs.Imports.{option_map_or, IrpId, PassId, Kind, Made, number, same_id, name_of, IrpLife, Size, OfIrp, same_id-refl, same_id-eq, Numbered, run_of, GrewBy, View, all_passes, length-table, table-same, table-replicate, get-table, set-table, CaptionText, Drawn, DrawingStandsAfter, EndShown, Shown, seen, shown_now, shown_text, steps_shown, text_of, IrpNow, irps_after, irps_of, new_irp, Owner, Row, is_of_irp, owner, owner_after, owner_named, ended_by, owners, lock_of, lock_at, owner_in, with_owner, Shows, NotesStep}
 use Rattle.irp_core.specs.MachineState.{MachineState, Agrees, size_of}
-use Rattle.csq_replay.specs.declared.schedule.closing.IrpLine.{IrpLine}
-use Rattle.csq_replay.specs.declared.schedule.outcome.Stop.{Stop}
 use Rattle.csq_explain.specs.declared.passes.PassNow.{PassNow}
-use Rattle.csq_explain.specs.declared.reasons.Reason.{Reason}
+use Rattle.csq_draw.specs.Captions.{caption_of}
+use Rattle.csq_draw.specs.declared.drawing.Drawing.{Drawing}
+use Rattle.csq_draw.specs.declared.marks.Legality.TheVariants.{Legal}
 use Rattle.csq_explain.specs.declared.sentences.StepInCall.{StepInCall}
 use Rattle.csq_explain.specs.Sentences.{in_call}
 use Rattle.csq_draw.specs.Rows.{row_of, rows_of}
@@ -91,9 +91,9 @@ module _ (m : Made) (E : List Made) (n : ℕ) where
 module _ (size : Size) (rows : List Row) (os : List (Option Owner)) (w : Numbered) (W : List Numbered) (h : Shows size rows os W) where
   row_is : (step : StepInCall) (held : Option PassId) (words : Option WordValues) → step ≡ in_call (run_of W) w.step → held ≡ lock_of (all_passes size W) → OfIrp (λ i. number i < size.irps) w.step.kind
       → words ≡ words_named size.first (run_of (w ∷ W)) w.step.kind
-      → record { row = length rows; line = w.line; step = step; lock = lock_at held step.made; ended = ended_by step.made.kind (owner_in os step.made.kind); words = words } ≡ row_of size w W
+      → record { row = length rows; line = w.line; step = step; legality = Legal; lock = lock_at held step.made; ended = ended_by step.made.kind (owner_in os step.made.kind); words = words } ≡ row_of size w W
   row_is step held words reported lock known are =
-      let row : ℕ → StepInCall → Option PassId → Option Owner → Option WordValues → Row = λ n s q o x. record { row = n; line = w.line; step = s; lock = lock_at q s.made; ended = ended_by s.made.kind o; words = x } in
+      let row : ℕ → StepInCall → Option PassId → Option Owner → Option WordValues → Row = λ n s q o x. record { row = n; line = w.line; step = s; legality = Legal; lock = lock_at q s.made; ended = ended_by s.made.kind o; words = x } in
       ap (λ n. row n step held (owner_in os step.made.kind) words) (ap length h.shown_rows ∙ length-rows size W)
       ∙ ap (λ q. row (length W) step q (owner_in os step.made.kind) words) lock
       ∙ ap (λ (s : StepInCall). row (length W) s (lock_of (all_passes size W)) (owner_in os s.made.kind) words) reported
@@ -128,49 +128,30 @@ module _ (size : Size) (rows : List Row) (os : List (Option Owner)) (w : Numbere
 pub owners_count : (size : Size) (rows : List Row) (os : List (Option Owner)) (W : List Numbered) → Shows size rows os W → length os ≡ size.irps
 owners_count size rows os W h = ap length h.shown_owners ∙ length-owners size.irps (run_of W)
 
--- what was drawn of these passes, rows and owners is the picture of the steps that they show
-module _ (size : Size) (rows : List Row) (passes : List PassNow) (irps : List IrpNow) (os : List (Option Owner)) (W : List Numbered) (kept : passes ≡ all_passes size W) (known : irps ≡ irps_of size W) (h : Shows size rows os W) where
-  rows_are : (count : ℕ) → count ≡ length rows → count ≡ length W
-  rows_are count is = is ∙ ap length h.shown_rows ∙ length-rows size W
-
-  -- and so is its head
-  pub head_shown : (count lines total : ℕ) (caption wanted : CaptionText) (old new : List ℕ) → count ≡ length rows → lines ≡ total → caption ≡ wanted → GrewBy old new (picture_head passes (irp_columns irps) count lines caption)
-      → GrewBy old new (picture_head (all_passes size W) (irp_columns (irps_of size W)) (length W) total wanted)
-  head_shown count lines total caption wanted old new is few same grew =
-      let drawn : List PassNow → List IrpNow → ℕ → ℕ → CaptionText → List ℕ = λ ps xs k n x. old ++ picture_head ps (irp_columns xs) k n x in
-      grew ∙ ap (drawn passes irps count lines) same ∙ ap (λ n. drawn passes irps count n wanted) few ∙ ap (λ k. drawn passes irps k total wanted) (rows_are count is)
-      ∙ ap (λ xs. drawn passes xs (length W) total wanted) known ∙ ap (λ ps. drawn ps (irps_of size W) (length W) total wanted) kept
-
-  -- of a sheet of these
-  module _ (old new : List ℕ) (ps : List PassNow) (xs : List IrpNow) (rs : List Row) (ys : List (Option Owner)) (k : ℕ) (a : ps ≡ passes) (b : xs ≡ irps) (c : rs ≡ rows) (d : ys ≡ os) (is : k ≡ length rows) where
-    -- what is drawn of it is drawn of the steps
-    sheet_shown : (drawn : List PassNow → List IrpNow → List Row → List (Option Owner) → ℕ → List ℕ) → drawn ps xs rs ys k ≡ drawn (all_passes size W) (irps_of size W) (rows_of size W) (owners size.irps (run_of W)) (length W)
-    sheet_shown drawn =
-        ap (λ p. drawn p xs rs ys k) (a ∙ kept) ∙ ap (λ x. drawn (all_passes size W) x rs ys k) (b ∙ known) ∙ ap (λ r. drawn (all_passes size W) (irps_of size W) r ys k) (c ∙ h.shown_rows)
-        ∙ ap (λ y. drawn (all_passes size W) (irps_of size W) (rows_of size W) y k) (d ∙ h.shown_owners) ∙ ap (drawn (all_passes size W) (irps_of size W) (rows_of size W) (owners size.irps (run_of W))) (rows_are k is)
-
-    pub stopped_shown : (n : ℕ) (stop : Stop) (reason : Reason) → reason ≡ reason_of size (all_passes size W) stop → GrewBy old new (picture (stopped_elements ps xs rs ys k n reason)) → GrewBy old new (picture (stopped_picture size W n stop))
-    stopped_shown n stop reason why grew = grew ∙ sheet_shown (λ p x r y m. old ++ picture (stopped_elements p x r y m n reason))
-        ∙ ap (λ q. old ++ picture (stopped_elements (all_passes size W) (irps_of size W) (rows_of size W) (owners size.irps (run_of W)) (length W) n q)) why
-
-    pub closed_shown : (reported : List IrpLine) (rest : Bool) → GrewBy old new (picture (closed_elements ps xs rs ys k reported rest)) → GrewBy old new (picture (closed_picture size W reported rest))
-    closed_shown reported rest grew = grew ∙ sheet_shown (λ p x r y m. old ++ picture (closed_elements p x r y m reported rest))
-
 -- what is known of so many IRPs is what the steps say
 pub irps_shown : (size : Size) (rows : List Row) (os : List (Option Owner)) (W : List Numbered) → Shows size rows os W → (irps : List IrpNow) → irps ≡ irps_after (replicate (length os) new_irp) rows → irps ≡ irps_of size W
 irps_shown size rows os W h irps is =
-    is ∙ ap (λ n. irps_after (replicate n new_irp) rows) (ap length h.shown_owners ∙ length-owners size.irps (run_of W)) ∙ ap (irps_after (replicate size.irps new_irp)) h.shown_rows
+    is ∙ ap (λ n. irps_after (replicate n new_irp) rows) (owners_count size rows os W h) ∙ ap (irps_after (replicate size.irps new_irp)) h.shown_rows
 
--- and so is the text
-module _ (size : Size) (W : List Numbered) (caption wanted : CaptionText) (rows : List Row) (passes : List PassNow) (old new : List ℕ) where
-  pub stopped_written : (n : ℕ) (stop : Stop) (reason : Reason) → caption ≡ wanted → passes ≡ all_passes size W → rows ≡ rows_of size W → reason ≡ reason_of size (all_passes size W) stop
-      → GrewBy old new (stopped_lines caption passes rows n reason) → GrewBy old new (stopped_lines wanted (all_passes size W) (rows_of size W) n (reason_of size (all_passes size W) stop))
-  stopped_written n stop reason same kept shown why grew =
-      let written : List PassNow → List Row → Reason → List ℕ = λ ps rs r. old ++ stopped_lines wanted ps rs n r in
-      grew ∙ ap (λ c. old ++ stopped_lines c passes rows n reason) same ∙ ap (written passes rows) why ∙ ap (λ rs. written passes rs (reason_of size (all_passes size W) stop)) shown ∙ ap (λ ps. written ps (rows_of size W) (reason_of size (all_passes size W) stop)) kept
+-- what is shown of these
+abbrev pub showing : Option ℕ → List PassNow → List IrpNow → List Row → List (Option Owner) → Shown
+showing refused passes irps rows owners = record { passes = passes; irps = irps; rows = rows; owners = owners; refused = refused }
 
-  pub closed_written : (irps : List IrpNow) (reported : List IrpLine) (rest : Bool) → caption ≡ wanted → passes ≡ all_passes size W → irps ≡ irps_of size W → rows ≡ rows_of size W
-      → GrewBy old new (closed_lines caption passes irps rows reported rest) → GrewBy old new (closed_lines wanted (all_passes size W) (irps_of size W) (rows_of size W) reported rest)
-  closed_written irps reported rest same kept known shown grew =
-      let written : List PassNow → List IrpNow → List Row → List ℕ = λ ps xs rs. old ++ closed_lines wanted ps xs rs reported rest in
-      grew ∙ ap (λ c. old ++ closed_lines c passes irps rows reported rest) same ∙ ap (written passes irps) shown ∙ ap (λ xs. written passes xs (rows_of size W)) known ∙ ap (λ ps. written ps (irps_of size W) (rows_of size W)) kept
+pub same_shown : (refused : Option ℕ) (ps qs : List PassNow) (xs ys : List IrpNow) (rows lines : List Row) (os vs : List (Option Owner)) → ps ≡ qs → xs ≡ ys → rows ≡ lines → os ≡ vs → showing refused ps xs rows os ≡ showing refused qs ys lines vs
+same_shown refused ps qs xs ys rows lines os vs a b c d =
+    ap (λ p. showing refused p xs rows os) a ∙ ap (λ x. showing refused qs x rows os) b ∙ ap (λ r. showing refused qs ys r os) c ∙ ap (showing refused qs ys lines) d
+
+-- a text of this view grew by what is shown below a caption
+module _ (view : View) (caption wanted : CaptionText) (s t : Shown) (old new : List ℕ) where
+  pub text_shown : (e : EndShown) → caption ≡ wanted → s ≡ t → GrewBy old new (shown_text view.format caption (seen view.window s) e) → GrewBy old new (shown_text view.format wanted (seen view.window t) e)
+  text_shown e same are grew = grew ∙ ap (λ x. old ++ shown_text view.format x (seen view.window s) e) same ∙ ap (λ x. old ++ shown_text view.format wanted (seen view.window x) e) are
+
+-- what was drawn of a drawing's steps, of which so much is known, is the text of what the lines led to
+module _ {A : Type 0} (drawing : Drawing A) (irps : List IrpNow) (size : Size) (d : Drawn) (stands : DrawingStandsAfter drawing size d) (known : irps ≡ irps_after (replicate (length drawing.owners.items) new_irp) drawing.rows.items) (old new : List ℕ) where
+  irps_are : irps ≡ irps_of size d.steps
+  irps_are = irps_shown size drawing.rows.items drawing.owners.items d.steps stands.shows irps known
+
+  pub steps_drawn : (e : EndShown) → GrewBy old new (shown_text drawing.view.format (caption_of drawing.caption) (seen drawing.view.window (shown_now drawing irps)) e) → GrewBy old new (text_of size drawing.view d e)
+  steps_drawn e =
+      text_shown drawing.view _ _ (shown_now drawing irps) (steps_shown size d.steps) old new e stands.captioned
+      (same_shown None _ _ _ _ _ _ _ _ stands.follows.passes irps_are stands.shows.shown_rows stands.shows.shown_owners)

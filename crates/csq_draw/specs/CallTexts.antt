@@ -12,7 +12,7 @@ use Rattle.csq_draw.specs.declared.irps.Claim.{Claim}
 use Rattle.csq_draw.specs.Layout.{left, top}
 
 -- a completion of what a pass claimed inside of x: of what a removal got it is none of the queue's calls
-abbrev pub completed_by : IrpLife → Inside → List ℕ
+unfoldable pub completed_by : IrpLife → Inside → List ℕ
 completed_by i (Cancelling j) = codes "cancel " ++ (name_text i ++ codes " &#8594; TRUE")
 completed_by i (FlagSeen j) = codes "insert " ++ (name_text i ++ codes " &#8594; pending")
 completed_by i (FlagSeenAgain j) = codes "put-back " ++ (name_text i ++ codes " &#8594; pending")
@@ -20,10 +20,10 @@ completed_by i _ = codes "completion"
 
 abbrev pub completion_text : IrpLife → Option Claim → List ℕ
 completion_text i (Some c) = completed_by i c.by
-completion_text i None = codes "completion"
+completion_text i None = codes ""
 
 -- of a step of this kind, whose pass was inside of x, and which found something or nothing; the IRP was claimed so
-abbrev pub call_by : Inside → Kind → Bool → Option Claim → List ℕ
+unfoldable pub call_by : Inside → Kind → Bool → Option Claim → List ℕ
 call_by x (Arm i) found claim = codes "insert " ++ name_text i
 call_by x (Test i) true claim = insert_word x ++ (codes " " ++ name_text i)
 call_by x (Test i) false claim = insert_word x ++ (codes " " ++ (name_text i ++ codes " &#8594; pending"))

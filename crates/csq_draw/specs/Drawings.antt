@@ -9,14 +9,16 @@ use Rattle.csq_replay.specs.Schedule.{Numbered, run_of}
 use Rattle.csq_explain.specs.declared.sentences.StepInCall.{StepInCall}
 use Rattle.csq_explain.specs.Executions.{Follows}
 use Rattle.csq_draw.specs.declared.drawing.Drawing.{Drawing}
-use Rattle.csq_draw.specs.declared.format.Format.{Format}
+use Rattle.csq_draw.specs.declared.marks.Legality.TheVariants.{Legal}
 use Rattle.csq_draw.specs.declared.owners.Owner.{Owner}
 use Rattle.csq_draw.specs.declared.rows.Row.{Row}
+use Rattle.csq_draw.specs.declared.view.View.{View}
 use Rattle.csq_draw.specs.declared.words.WordValues.{WordValues}
 use Rattle.csq_draw.specs.Owners.{owner_after, ended_by, owners}
 use Rattle.csq_draw.specs.Captions.{caption_of}
 use Rattle.csq_draw.specs.Passes.{lock_at}
-use Rattle.csq_draw.specs.Pictures.{Drawn}
+use Rattle.csq_draw.specs.declared.irps.IrpNow.{IrpNow}
+use Rattle.csq_draw.specs.Pictures.{Drawn, Shown}
 use Rattle.csq_draw.specs.Rows.{rows_of}
 
 -- of these owners the one of the IRP that a step of this kind names
@@ -38,11 +40,16 @@ pub record NotesStep (rows : List Row) (os : List (Option Owner)) (line : ℕ) (
     row = length rows;
     line = line;
     step = step;
+    legality = Legal;
     lock = lock_at held step.made;
     ended = ended_by step.made.kind (owner_in os step.made.kind);
     words = words;
   } ∷ []
   pub noted_owners : new_owners ≡ with_owner os step.made (length rows)
+
+-- what a drawing shows, of which so much is known of the IRPs
+abbrev pub shown_now : {A : Type 0} → Drawing A → List IrpNow → Shown
+shown_now drawing irps = record { passes = drawing.execution.passes.items; irps = irps; rows = drawing.rows.items; owners = drawing.owners.items; refused = None }
 
 -- a drawing stands where the lines so far of a schedule of this size led to
 pub record DrawingStandsAfter {A : Type 0} (drawing : Drawing A) (size : Size) (d : Drawn) : Type 0 where
@@ -50,6 +57,6 @@ pub record DrawingStandsAfter {A : Type 0} (drawing : Drawing A) (size : Size) (
   pub shows : Shows size drawing.rows.items drawing.owners.items d.steps
   pub captioned : caption_of drawing.caption ≡ d.caption
 
--- and it is of this format
-abbrev pub StandsInFormat : {A : Type 0} → Drawing A → Size × Format → Drawn → Type 0
-StandsInFormat drawing kind d = DrawingStandsAfter drawing kind.0 d × (drawing.format ≡ kind.1)
+-- and it is of this view
+abbrev pub StandsInView : {A : Type 0} → Drawing A → Size × View → Drawn → Type 0
+StandsInView drawing kind d = DrawingStandsAfter drawing kind.0 d × (drawing.view ≡ kind.1)

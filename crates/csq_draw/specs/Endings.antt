@@ -25,7 +25,7 @@ ended_line_text TooLong = stop_text TooLong
 ended_line_text Malformed = stop_text Malformed
 
 -- who owes an IRP, or holds it, and since which line
-abbrev pub having_since : List ℕ → Option Claim → List ℕ
+unfoldable pub having_since : List ℕ → Option Claim → List ℕ
 having_since verb (Some c) = codes ", and " ++ (pass_text c.spot.pass ++ (codes " " ++ (verb ++ (codes " it since line " ++ decimal c.spot.line))))
 having_since verb None = []
 
@@ -73,12 +73,12 @@ abbrev pub broken_text : ℕ → ℕ → Reason → List ℕ
 broken_text y n reason = (codes "<text class='f' x='56' y='" ++ (decimal (y + 28) ++ (codes "'>" ++ (broken_line n reason ++ codes "</text>"))))
     ++ (codes "<text x='56' y='" ++ (decimal (y + 48) ++ (codes "'>" ++ (reason_text reason ++ codes "</text>"))))
 
--- what stands below rows that end here: the bar of the line that ended the handling, what is reported for that line in its bar, and why it ended it; or the nth line of text that is reported in the end; or where and why the protocol was broken, and as the nth line what goes wrong
-abbrev pub below_text : ℕ → Below → List ℕ
+-- what stands below rows that end here: the bar of the line that ended the handling, what is reported for that line in its bar, and why it ended it; or the nth line of text that is reported in the end; or where and why the protocol was broken, and as the nth line below that what goes wrong
+unfoldable pub below_text : ℕ → Below → List ℕ
 below_text y Bar = codes "<rect class='bad' x='64' y='" ++ (decimal (y + 4) ++ codes "' width='660' height='52' rx='6'/>")
 below_text y (Refused stop) = codes "<text x='73' y='" ++ (decimal (y + 34) ++ (codes "'>" ++ (ended_line_text stop ++ codes "</text>")))
 below_text y (Because reason) = codes "<text x='73' y='" ++ (decimal (y + 76) ++ (codes "'>" ++ (reason_text reason ++ codes "</text>")))
 below_text y (Irp nth line now) = codes "<text x='56' y='" ++ (decimal (y + 28 + 20 * nth) ++ (codes "'>" ++ (irp_ending line now ++ codes "</text>")))
 below_text y (AtRest nth rest) = codes "<text x='56' y='" ++ (decimal (y + 28 + 20 * nth) ++ (codes "'>" ++ (rest_text rest ++ codes "</text>")))
 below_text y (Broken n reason) = broken_text y n reason
-below_text y (Harm nth h) = codes "<text x='56' y='" ++ (decimal (y + 28 + 20 * nth) ++ (codes "'>" ++ (harm_text h.step h.harm ++ codes "</text>")))
+below_text y (Harm nth h) = codes "<text x='56' y='" ++ (decimal (y + 68 + 20 * nth) ++ (codes "'>" ++ (harm_text h.step h.harm ++ codes "</text>")))

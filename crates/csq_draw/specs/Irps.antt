@@ -1,7 +1,7 @@
 -- What is known of each IRP as its steps are drawn: its last step, who wrote its words, who has it, and who completed it.
 use Rattle.std.specs.Prelude.{ℕ, ◌==◌, List, [], ◌∷◌, take, count_by, is_some, slice_index_or, slice_set, Option, Some, None, if◌then◌else◌}
 use Rattle.std.specs.Option.{option_map_or}
-use Rattle.irp_core.specs.declared.ids.IrpId.{IrpId}
+use Rattle.irp_core.specs.declared.ids.{IrpId.{IrpId}, Life.{Life}}
 use Rattle.irp_core.specs.declared.inside.Inside.{Inside, TheVariants.{Cancelling}}
 use Rattle.irp_core.specs.declared.step.Kind.{Kind, TheVariants.{Arm, Disarm, Flag, Take, Out, Done, Renew, Rearm}}
 use Rattle.irp_core.specs.Steps.{number, name_of}
@@ -9,9 +9,13 @@ use Rattle.csq_draw.specs.declared.irps.{Spot.{Spot}, Claim.{Claim}, Seen.{Seen}
 use Rattle.csq_draw.specs.declared.rows.Row.{Row}
 use Rattle.csq_draw.specs.declared.words.WordValues.{WordValues}
 
--- where a step is drawn, its line, and its pass
+-- the life that a step of this kind names: the first one if it names none
+abbrev pub life_named : Kind → Life
+life_named k = option_map_or (λ i. i.life) (name_of k) (record { 0 = 0 })
+
+-- where a step is drawn, its line, its pass, and the life that it names
 abbrev pub spot_of : Row → Spot
-spot_of row = record { row = row.row; line = row.line; pass = row.step.made.pass }
+spot_of row = record { row = row.row; line = row.line; pass = row.step.made.pass; life = life_named row.step.made.kind }
 
 -- who set the Cancel flag, after this kind of step at this spot: whoever found it clear, until the next life
 abbrev pub flag_after : Kind → ℕ → Spot → Option Spot → Option Spot

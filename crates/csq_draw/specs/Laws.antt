@@ -1,7 +1,7 @@
 -- What holds of every picture.
-use Rattle.std.specs.Prelude.{◌≡◌, ◌≢◌, ◌⊎◌, ◌↔◌, ℕ, ◌==◌, ◌&&◌, ◌<◌, Bool, true, false, List, [], ◌∷◌, ◌++◌, length, Option, Some, None, option_to_list, IsTrue, if◌then◌else◌}
+use Rattle.std.specs.Prelude.{◌≡◌, ◌≢◌, ◌⊎◌, ◌↔◌, ℕ, ◌+◌, ◌==◌, ◌&&◌, ◌<◌, Bool, true, false, List, [], ◌∷◌, ◌++◌, filter, length, map, Option, Some, None, option_to_list, IsTrue, if◌then◌else◌}
 use Rattle.std.specs.List.{list_any}
-use Rattle.irp_core.specs.declared.ids.{IrpId.{IrpId}, PassId.{PassId}}
+use Rattle.irp_core.specs.declared.ids.{IrpId.{IrpId}, IrpLife.{IrpLife}, PassId.{PassId}}
 use Rattle.irp_core.specs.declared.step.{Kind.{Kind, TheVariants.{Arm, Test, Disarm, Flag, Take, Rearm}}, Made.{Made}}
 use Rattle.irp_core.specs.Lives.{present}
 use Rattle.irp_core.specs.Lock.{HasLock, needs_lock}
@@ -12,7 +12,7 @@ use Rattle.csq_replay.specs.declared.lines.answer.Ended.{Ended}
 use Rattle.csq_replay.specs.declared.schedule.closing.IrpLine.{IrpLine}
 use Rattle.csq_replay.specs.declared.schedule.outcome.Stop.{Stop}
 use Rattle.csq_replay.specs.Schedule.{Numbered, run_of}
-use Rattle.csq_draw.specs.declared.format.Format.{Format}
+use Rattle.csq_draw.specs.declared.view.{View.{View}, Window.{Window}}
 use Rattle.csq_draw.specs.declared.marks.{Legality.TheVariants.{Legal}, Mark.{Mark}, Number.{Number}, Shade.{Shade}}
 use Rattle.csq_draw.specs.declared.owners.{Having.{Having, TheVariants.{Owes, Holds}}, Owner.{Owner}}
 use Rattle.csq_draw.specs.declared.words.WordValues.{WordValues}
@@ -26,19 +26,26 @@ use Rattle.csq_draw.specs.Passes.{columns, column_of}
 use Rattle.csq_explain.specs.Passes.{all_passes}
 use Rattle.csq_explain.specs.declared.sentences.StepInCall.{StepInCall}
 use Rattle.csq_explain.specs.Sentences.{in_call}
-use Rattle.csq_draw.specs.Rows.{row_of}
+use Rattle.csq_draw.specs.declared.rows.Row.{Row}
+use Rattle.csq_draw.specs.Rows.{row_of, rows_of}
+use Rattle.csq_draw.specs.Windows.{shows}
 use Rattle.csq_draw.specs.Words.{words_named, changes_flag, changes_routine}
 use Rattle.csq_draw.specs.declared.element.Element.{Element}
 use Rattle.csq_draw.specs.declared.element.Element.TheVariants as element
-use Rattle.csq_draw.specs.declared.wrong_rows.WrongRow.{WrongRow}
-use Rattle.csq_draw.specs.Pictures.{IsDrawing, irps_of, place_named, broken_elements, refused_elements, stopped_picture, closed_picture}
-use Rattle.csq_draw.specs.WrongDrawings.{WrongDrawn, order_irps, order_passes, order_picture, reason_at, shown_of}
+use Rattle.csq_draw.specs.declared.wrong_drawing.Refusal.{Refusal}
+use Rattle.csq_draw.specs.Pictures.{EndShown, IsDrawing, Shown, broken_end, close_of, irps_of, picture_of, place_named, seen, steps_shown, stop_of, stopped_end}
+use Rattle.csq_draw.specs.WrongDrawings.{IsOrderDrawing, WrongDrawn, order_shown}
+use Rattle.csq_draw.specs.Irps.{life_named}
 use Rattle.csq_explain.specs.declared.harms.HarmAt.{HarmAt}
 use Rattle.csq_explain.specs.declared.reasons.Reason.{Reason}
 
--- two pictures of one schedule in one format are the same
-abbrev pub HasOnePicture : Size → Format → List ℕ → Type 0
-HasOnePicture size format input = (text other : List ℕ) (ended otherwise : Ended) → IsDrawing size format input text ended → IsDrawing size format input other otherwise → (text ≡ other) × (ended ≡ otherwise)
+-- two pictures of one schedule in one view are the same
+abbrev pub HasOnePicture : Size → View → List ℕ → Type 0
+HasOnePicture size view input = (text other : List ℕ) (ended otherwise : Ended) → IsDrawing size view input text ended → IsDrawing size view input other otherwise → (text ≡ other) × (ended ≡ otherwise)
+
+-- and two of one order that may break the protocol
+abbrev pub HasOneOrderPicture : Size → View → List ℕ → Type 0
+HasOneOrderPicture size view input = (text other : List ℕ) (ended otherwise : Ended) → IsOrderDrawing size view input text ended → IsOrderDrawing size view input other otherwise → (text ≡ other) × (ended ≡ otherwise)
 
 -- what is picked out of these elements, in order
 abbrev pub picked : {A : Type 0} → (Element → List A) → List Element → List A
@@ -50,10 +57,14 @@ abbrev pub added : {A : Type 0} → (Numbered → List Numbered → List A) → 
 added of_step [] = []
 added of_step (w ∷ W) = added of_step W ++ of_step w W
 
+-- the picture of the steps W, and of how it ends
+abbrev pub steps_picture : Size → List Numbered → EndShown → List Element
+steps_picture size W e = picture_of (steps_shown size W) (length (rows_of size W)) e
+
 -- of the picture of the steps W, and of the nth line, which ended the handling: what is picked out of it is what each step adds, in order, and then this of that line; and of the one of the steps and of what is reported in the end it is what each step adds
 pub record AddsStepByStep {A : Type 0} (size : Size) (W : List Numbered) (pick : Element → List A) (of_step : Numbered → List Numbered → List A) (of_line : ℕ → List A) : Type 0 where
-  pub stopped : (n : ℕ) (stop : Stop) → picked pick (stopped_picture size W n stop) ≡ added of_step W ++ of_line n
-  pub closed : (reported : List IrpLine) (at_rest : Bool) → picked pick (closed_picture size W reported at_rest) ≡ added of_step W
+  pub stopped : (n : ℕ) (stop : Stop) → picked pick (steps_picture size W (stop_of size W n stop)) ≡ added of_step W ++ of_line n
+  pub closed : (reported : List IrpLine) (at_rest : Bool) → picked pick (steps_picture size W (close_of size W reported at_rest)) ≡ added of_step W
 
 -- what these pick out of an element: of a mark, of the number of a line, of a shade, of an arrow, and nothing out of any other
 abbrev pub pick_of : {A : Type 0} → (Mark → List A) → (Number → List A) → (Shade → List A) → (Arrow → List A) → Element → List A
@@ -126,7 +137,7 @@ sets_routine _ = false
 -- where the newest of the steps W stands that changed a word of IRP n, if it set the word
 abbrev pub set_in : (Kind → ℕ → Bool) → (Kind → Bool) → IrpId → List Numbered → Option Spot
 set_in changes sets n [] = None
-set_in changes sets n (w ∷ W) = if is_of_irp n w.step.kind && changes w.step.kind w.step.found then (if sets w.step.kind then Some (record { row = length W; line = w.line; pass = w.step.pass }) else None) else set_in changes sets n W
+set_in changes sets n (w ∷ W) = if is_of_irp n w.step.kind && changes w.step.kind w.step.found then (if sets w.step.kind then Some (record { row = length W; line = w.line; pass = w.step.pass; life = life_named w.step.kind }) else None) else set_in changes sets n W
 
 -- who set what this kind of step, which found this value, found set after the steps W
 abbrev pub setter : Kind → ℕ → List Numbered → Option Spot
@@ -165,31 +176,50 @@ EachShadeIsOfTheLock size W = AddsStepByStep size W shade_in (shade_of size (all
 abbrev pub EachArrowIsFromTheWrite : Size → List Numbered → Type 0
 EachArrowIsFromTheWrite size W = IsRun size (run_of W) → AddsStepByStep size W arrow_in (arrow_of (all_passes size W)) (λ n. [])
 
--- the mark of a row from a refused step on
-abbrev pub wrong_mark : List PassNow → List IrpNow → WrongRow → List Mark
-wrong_mark passes irps w = record {
-  row = w.row.row;
-  column = column_of passes w.row.step.made.pass;
+-- the mark of a row, which is drawn as the nth one, among these passes and IRPs
+abbrev pub mark_on : List PassNow → List IrpNow → ℕ → Row → Mark
+mark_on passes irps n row = record {
+  row = n;
+  column = column_of passes row.step.made.pass;
   columns = columns passes;
-  place = place_named irps w.row.step.made.kind;
-  step = w.row.step;
-  legality = w.legality;
-  words = w.row.words;
-} ∷ []
+  place = place_named irps row.step.made.kind;
+  step = row.step;
+  legality = row.legality;
+  words = row.words;
+}
 
--- what each of these rows adds, in order
-abbrev pub added_behind : {A : Type 0} → (WrongRow → List A) → List WrongRow → List A
-added_behind of_row [] = []
-added_behind of_row (w ∷ rows) = of_row w ++ added_behind of_row rows
+-- the marks of rows, each on its own
+abbrev pub marks : List PassNow → List IrpNow → List Row → List Mark
+marks passes irps rows = map (λ row. mark_on passes irps row.row row) rows
 
--- of the picture of an order: what is picked out of it is what each step up to the refusal adds, in order, then this of each row behind, and then this of the line that ended the handling
-pub record AddsUpToTheRefusal {A : Type 0} (size : Size) (d : WrongDrawn) (pick : Element → List A) (of_step : Numbered → List Numbered → List A) (of_row : WrongRow → List A) (of_line : ℕ → List A) : Type 0 where
-  pub stopped : (n : ℕ) (stop : Stop) → picked pick (order_picture (shown_of size d) (refused_elements (length d.steps) n (reason_at size d stop))) ≡ added of_step d.drawn.steps ++ (added_behind of_row d.behind ++ of_line n)
-  pub broken : (n : ℕ) (reason : Reason) (harms : List HarmAt) → picked pick (order_picture (shown_of size d) (broken_elements (length d.steps) n reason harms)) ≡ added of_step d.drawn.steps ++ added_behind of_row d.behind
+-- and on those from the nth on
+abbrev pub marks_from : List PassNow → List IrpNow → ℕ → List Row → List Mark
+marks_from passes irps n [] = []
+marks_from passes irps n (row ∷ rows) = mark_on passes irps n row ∷ marks_from passes irps (n + 1) rows
 
--- each step up to the refusal has the mark that it has in any picture with these columns, and each one behind has its own, by the words
-abbrev pub EachStepOfAnOrderHasOneMark : Size → WrongDrawn → Type 0
-EachStepOfAnOrderHasOneMark size d = AddsUpToTheRefusal size d mark_in (mark_of size (order_passes size d) (order_irps size d)) (wrong_mark (order_passes size d) (order_irps size d)) (λ n. [])
+-- the marks of a picture that ends so
+abbrev pub marks_in : Shown → EndShown → List Mark
+marks_in s e = picked mark_in (picture_of s (length s.rows) e)
+
+-- of the picture of an order that broke the protocol so: each step up to the refusal has the mark that it has in any picture with these columns, and each row from the refused step on has its own
+abbrev pub order_marks : Size → WrongDrawn → Shown → List Mark
+order_marks size d s = added (mark_of size s.passes s.irps) d.drawn.steps ++ marks s.passes s.irps d.behind
+
+pub record EachStepOfAnOrderHasOneMark (size : Size) (d : WrongDrawn) (refusal : Refusal) : Type 0 where
+  pub stopped : (n : ℕ) (reason : Reason) → marks_in (order_shown size d refusal) (stopped_end n reason) ≡ order_marks size d (order_shown size d refusal)
+  pub broken : (n : ℕ) (reason : Reason) (harms : List HarmAt) → marks_in (order_shown size d refusal) (broken_end n reason harms) ≡ order_marks size d (order_shown size d refusal)
+
+-- what a window shows of the steps W: its passes and IRPs, and the marks of those steps that it shows, on the rows from the first on
+abbrev pub window_shown : Size → List Numbered → Window → Shown
+window_shown size W w = seen (Some w) (steps_shown size W)
+
+abbrev pub window_marks : Size → List Numbered → Window → List Mark
+window_marks size W w = marks_from (all_passes size W) (window_shown size W w).irps 0 (filter (shows w) (rows_of size W))
+
+-- each step that a window shows has one mark, in order, and nothing else has one
+pub record EachShownStepHasOneMark (size : Size) (W : List Numbered) (w : Window) : Type 0 where
+  pub stopped : (n : ℕ) (stop : Stop) → marks_in (window_shown size W w) (stop_of size W n stop) ≡ window_marks size W w
+  pub closed : (reported : List IrpLine) (at_rest : Bool) → marks_in (window_shown size W w) (close_of size W reported at_rest) ≡ window_marks size W w
 
 -- passes that made a step of the run have columns of their own, in the order of their numbers
 abbrev pub EachPassHasItsColumn : Size → List Numbered → Type 0
@@ -203,14 +233,15 @@ HasItAt m E p = (IsTrue (needs_lock m.kind) × (m.pass ≡ p)) ⊎ ((needs_lock 
 abbrev pub TheShadedPassHasTheLock : Size → List Numbered → Type 0
 TheShadedPassHasTheLock size W = (w : Numbered) → IsRun size (run_of (w ∷ W)) → (p : PassId) → ((row_of size w W).lock ≡ Some p) ↔ HasItAt w.step (run_of W) p
 
--- after the run E, p is drawn as the owner of IRP n of so many, since some row and in some lane
-abbrev pub IsDrawnAs : ℕ → List Made → IrpId → PassId → Having → Type 0
-IsDrawnAs irps E n p having = (row : ℕ) × (lane : ℕ) × (owner irps E n ≡ Some (record { irp = n; pass = p; having = having; row = row; lane = lane }))
+-- after the run E, p is drawn as the owner of i, an IRP of so many in one of its lives, since some row and in some lane
+abbrev pub IsDrawnAs : ℕ → List Made → IrpLife → PassId → Having → Type 0
+IsDrawnAs irps E i p having = (row : ℕ) × (lane : ℕ) × (owner irps E i.irp ≡ Some (record { name = i; pass = p; having = having; row = row; lane = lane }))
 
--- of every run, who is drawn as an IRP's owner is its owner by the run, in its present life, and so the other way round
+-- of every run, who is drawn as the owner of an IRP in its present life is its owner by the run, and so the other way round; and nobody is drawn as its owner in another life
 pub record EachDrawnOwnerOwesOrHolds (first : ℕ) (E : List Made) : Type 0 where
-  pub owed : (irps : ℕ) (n : IrpId) (p : PassId) → (IsDrawnAs irps E n p Owes) ↔ IsTrue (owes E p (present first E n))
-  pub held : (irps : ℕ) (n : IrpId) (p : PassId) → (IsDrawnAs irps E n p Holds) ↔ IsTrue (holds E p (present first E n))
+  pub owed : (irps : ℕ) (n : IrpId) (p : PassId) → (IsDrawnAs irps E (present first E n) p Owes) ↔ IsTrue (owes E p (present first E n))
+  pub named : (irps : ℕ) (n : IrpId) (a : Owner) → owner irps E n ≡ Some a → a.name ≡ present first E n
+  pub held : (irps : ℕ) (n : IrpId) (p : PassId) → (IsDrawnAs irps E (present first E n) p Holds) ↔ IsTrue (holds E p (present first E n))
 
 -- of so many IRPs, two that one pass has after the steps E are in lanes of their own, or in the ninth
 abbrev pub NoTwoLinesShareALane : ℕ → List Made → Type 0

@@ -1,3 +1,4 @@
+pub mod Views
 pub mod Layout
 pub mod Lanes
 pub mod Owners
@@ -17,6 +18,7 @@ pub mod Headings
 pub mod Endings
 pub mod Terminal
 pub mod Elements
+pub mod Windows
 pub mod Pictures
 pub mod Drawings
 pub mod WrongRows

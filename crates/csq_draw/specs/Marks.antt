@@ -67,7 +67,7 @@ wdk_text (Renew i) = codes "IoReuseIrp"
 wdk_text (Rearm i) = codes "IoSetCancelRoutine(Irp, routine)"
 
 -- what a step of this kind, which found something or nothing, found, in words; of a completion its status, if it is known: whoever removed an IRP may complete it with any
-abbrev pub found_by : Kind → Bool → Option NtStatus → List ℕ
+unfoldable pub found_by : Kind → Bool → Option NtStatus → List ℕ
 found_by (Arm i) found status = if found then codes "was set" else codes "was none"
 found_by (Test i) found status = if found then codes "is set" else codes "is clear"
 found_by (Disarm i) found status = if found then codes "found it" else codes "found none"
@@ -81,11 +81,11 @@ found_by _ found status = []
 abbrev pub found_words : StepInCall → List ℕ
 found_words s = found_by s.made.kind (not (s.made.found == 0)) s.status
 
--- how a mark looks: red if the protocol refuses its step, and grey behind that
+-- how a mark looks: red if the protocol refuses its step; and behind that grey within the colour of its IRP, and bold if it claims it
 abbrev pub mark_class : Legality → StepInCall → List ℕ
 mark_class Legal s = step_class (claims s.made.kind s.made.found) (name_of s.made.kind)
 mark_class (Refused cause) s = codes "bad"
-mark_class Behind s = codes "e"
+mark_class Behind s = codes "d " ++ step_class (claims s.made.kind s.made.found) (name_of s.made.kind)
 
 -- a mark in words: of a step behind the refused one no call is known
 abbrev pub mark_title : Legality → StepInCall → List ℕ
@@ -96,7 +96,7 @@ mark_title Behind s = pass_text s.made.pass ++ (codes " " ++ (kind_text s.made.k
 -- in the box of a refused step, at this place: its refusal
 abbrev pub refusal_at : ℕ → ℕ → Legality → List ℕ
 refusal_at x y Legal = []
-refusal_at x y (Refused cause) = codes "<text x='" ++ (decimal x ++ (codes "' y='" ++ (decimal y ++ (codes "'>refused " ++ (refusal_text cause ++ codes "</text>")))))
+refusal_at x y (Refused cause) = codes "<text x='" ++ (decimal x ++ (codes "' y='" ++ (decimal y ++ (codes "'>not allowed: " ++ (refusal_text cause ++ codes "</text>")))))
 refusal_at x y Behind = []
 
 -- a step, described in words too, at the upper left corner of its row: its box, what it does, what it found, its call of the WDK, its refusal, and the words of its IRP

@@ -14,9 +14,9 @@ is_of_irp n k = option_map_or (λ i. same_id i.irp n) (name_of k) false
 
 -- who has an IRP after this kind of step of it, by p on this row: who claimed it or took it out, in this lane, and nobody once it is completed or put back
 abbrev pub owner_by : Kind → ℕ → PassId → ℕ → ℕ → Option Owner → Option Owner
-owner_by (Take i) found p row lane before = if found == 1 then Some (record { irp = i.irp; pass = p; having = Owes; row = row; lane = lane }) else before
-owner_by (Disarm i) found p row lane before = if found == 1 then Some (record { irp = i.irp; pass = p; having = Holds; row = row; lane = lane }) else before
-owner_by (Out i) found p row lane before = Some (record { irp = i.irp; pass = p; having = Holds; row = row; lane = lane })
+owner_by (Take i) found p row lane before = if found == 1 then Some (record { name = i; pass = p; having = Owes; row = row; lane = lane }) else before
+owner_by (Disarm i) found p row lane before = if found == 1 then Some (record { name = i; pass = p; having = Holds; row = row; lane = lane }) else before
+owner_by (Out i) found p row lane before = Some (record { name = i; pass = p; having = Holds; row = row; lane = lane })
 owner_by (Done i) found p row lane before = None
 owner_by (Rearm i) found p row lane before = None
 owner_by _ found p row lane before = before

@@ -1,7 +1,7 @@
 -- The picture of a schedule: which elements it has.
-use Rattle.std.specs.Prelude.{◌≡◌, ℕ, ◌+◌, Bool, true, false, List, [], ◌∷◌, ◌++◌, length, replicate, is_some, Option, Some, None, if◌then◌else◌}
-use Rattle.std.specs.Option.{option_map_or}
-use Rattle.irp_core.specs.declared.ids.{IrpId.{IrpId}, IrpLife.{IrpLife}, PassId.{PassId}}
+use Rattle.std.specs.Prelude.{◌≡◌, ℕ, ◌+◌, nat_lt, Bool, true, false, List, [], ◌∷◌, ◌++◌, length, map, replicate, is_some, Option, Some, None, if◌then◌else◌}
+use Rattle.std.specs.Option.{option_map, option_map_or}
+use Rattle.irp_core.specs.declared.ids.{PassId.{PassId}}
 use Rattle.irp_core.specs.declared.step.Kind.{Kind}
 use Rattle.irp_core.specs.Runs.{Size}
 use Rattle.irp_core.specs.Steps.{name_of, same_pass}
@@ -13,13 +13,15 @@ use Rattle.csq_replay.specs.Outcomes.{ComesTo}
 use Rattle.csq_replay.specs.Schedule.{Numbered, run_of, Closes}
 use Rattle.csq_draw.specs.Captions.{CaptionText, NamedPass, new_caption, ended_caption, caption_after}
 use Rattle.csq_draw.specs.Headings.{head_text, name_beside}
-use Rattle.csq_draw.specs.declared.format.Format.{Format, TheVariants.{Svg, Text}}
+use Rattle.csq_draw.specs.declared.view.{Format.{Format, TheVariants.{Svg, Text}}, View.{View}, Window.{Window}}
+use Rattle.csq_draw.specs.declared.picture.Sheet.{Sheet}
+use Rattle.csq_draw.specs.declared.spans.LineEnd.{LineEnd, TheVariants.{Step, Refusal, Last}}
 use Rattle.csq_draw.specs.declared.owners.Owner.{Owner}
 use Rattle.csq_explain.specs.declared.passes.PassNow.{PassNow}
 use Rattle.csq_explain.specs.declared.reasons.Reason.{Reason}
 use Rattle.csq_draw.specs.declared.rows.Row.{Row}
 use Rattle.csq_draw.specs.declared.irps.{IrpNow.{IrpNow}, Seen.{Seen}, Spot.{Spot}}
-use Rattle.csq_draw.specs.Arrows.{found_in}
+use Rattle.csq_draw.specs.Arrows.{found_at}
 use Rattle.csq_draw.specs.Endings.{rest_of}
 use Rattle.csq_draw.specs.Irps.{new_irp, irp_at, irp_named, with_irp, irps_after, irp_columns, irp_column}
 use Rattle.csq_draw.specs.Marks.{takes_lock, lets_go}
@@ -32,9 +34,10 @@ use Rattle.csq_explain.specs.Reasons.{reason_of}
 use Rattle.csq_draw.specs.declared.element.Element.{Element}
 use Rattle.csq_draw.specs.Elements.{picture}
 use Rattle.csq_draw.specs.Layout.{left}
-use Rattle.csq_draw.specs.Terminal.{each_text, stopped_lines, closed_lines}
+use Rattle.csq_draw.specs.Terminal.{each_text, rows_text, ended_lines, closed_lines, broken_lines}
+use Rattle.csq_draw.specs.Windows.{cut, open_in, place, places}
 use Rattle.csq_draw.specs.declared.element.Element.TheVariants as element
-use Rattle.csq_draw.specs.declared.ending.Below.TheVariants.{Bar, Refused, Because, Irp, AtRest, Broken, Harm}
+use Rattle.csq_draw.specs.declared.ending.{Below.TheVariants.{Bar, Refused, Because, Irp, AtRest, Broken as BrokenLine, Harm}, Ending.{Ending, TheVariants.{Stopped as StoppedEnd, Closed, Broken}}, Rest.{Rest}}
 use Rattle.csq_explain.specs.declared.harms.HarmAt.{HarmAt}
 
 -- the elements of each, by its place, the first of which is n
@@ -55,18 +58,10 @@ abbrev pub shade_elements : List PassNow → Row → Option PassId → List Elem
 shade_elements passes row (Some p) = element.Shade (record { row = row.row; column = column_of passes p; first = takes_lock row.step; last = lets_go row.step }) ∷ []
 shade_elements passes row None = []
 
--- the life of IRP n that so much is known of
-abbrev pub life_in : IrpId → IrpNow → IrpLife
-life_in n now = option_map_or (λ (seen : Seen). seen.words.name) now.last (record { irp = n; life = record { 0 = 0 } })
-
--- a line down the column of an owner, to this row, or to the end
-abbrev pub span_element : List PassNow → Owner → IrpNow → ℕ → Bool → Element
-span_element passes owner now row to_the_end = element.Span (record { column = column_of passes owner.pass; owner = owner; name = life_in owner.irp now; to = row; to_the_end = to_the_end })
-
--- of the owner whose time with an IRP ends on a row: a line down its column
-abbrev pub span_elements : List PassNow → ℕ → IrpNow → Option Owner → List Element
-span_elements passes row now (Some owner) = span_element passes owner now row false ∷ []
-span_elements passes row now None = []
+-- of an owner whose time with an IRP ends on a row, or who has it after all rows: a line down its column to this row, which ends so, if it came to have the IRP on an earlier one (in a window both may be before its first row)
+abbrev pub span_elements : List PassNow → ℕ → LineEnd → Option Owner → List Element
+span_elements passes to end (Some owner) = if nat_lt owner.row to then element.Span (record { column = column_of passes owner.pass; owner = owner; to = to; end = end }) ∷ [] else []
+span_elements passes to end None = []
 
 -- the words of the IRP at this place from its last step to a row, or to the end, right of so many columns
 abbrev pub bars_elements : ℕ → ℕ → ℕ → Bool → Option Seen → List Element
@@ -88,12 +83,13 @@ abbrev pub place_named : List IrpNow → Kind → ℕ
 place_named irps k = option_map_or (λ i. irp_column irps i.irp) (name_of k) 0
 
 -- a row's step, in the column of its pass
-abbrev pub mark_element : List PassNow → List IrpNow → Row → Legality → Element
-mark_element passes irps row legality = element.Mark (record { row = row.row; column = column_of passes row.step.made.pass; columns = columns passes; place = place_named irps row.step.made.kind; step = row.step; legality = legality; words = row.words })
+abbrev pub mark_element : List PassNow → List IrpNow → Row → Element
+mark_element passes irps row = element.Mark (record { row = row.row; column = column_of passes row.step.made.pass; columns = columns passes; place = place_named irps row.step.made.kind; step = row.step; legality = row.legality; words = row.words })
 
--- the call that it is of
-abbrev pub call_element : List PassNow → IrpNow → Row → Element
-call_element passes before row = element.Call (record { row = row.row; column = column_of passes row.step.made.pass; step = row.step; claim = before.claim })
+-- the call that it is of: from a refusal on nothing is known of calls
+abbrev pub call_elements : List PassNow → IrpNow → Row → Legality → List Element
+call_elements passes before row Legal = element.Call (record { row = row.row; column = column_of passes row.step.made.pass; step = row.step; claim = before.claim }) ∷ []
+call_elements passes before row _ = []
 
 -- the words that the IRP of a row's step had until then
 abbrev pub words_until : List PassNow → List IrpNow → IrpNow → Row → List Element
@@ -101,12 +97,12 @@ words_until passes irps before row = bars_elements (columns passes) (place_named
 
 -- behind the mark of a step, of whose IRP so much was known before: who has the lock, whose time with the IRP it ends, the words of the IRP until then, and who wrote what it found
 abbrev pub behind_elements : List PassNow → List IrpNow → IrpNow → Row → List Element
-behind_elements passes irps before row = shade_elements passes row row.lock ++ (span_elements passes row.row before row.ended
-    ++ (words_until passes irps before row ++ arrow_elements passes row (found_in before row.step.made.kind row.step.made.found)))
+behind_elements passes irps before row = shade_elements passes row row.lock ++ (span_elements passes row.row Step row.ended
+    ++ (words_until passes irps before row ++ arrow_elements passes row (found_at before row)))
 
 -- the row of such a step: the number of its line, what stands behind its mark, its mark, and its call
 abbrev pub row_after : List PassNow → List IrpNow → IrpNow → Row → List Element
-row_after passes irps before row = number_element row ∷ (behind_elements passes irps before row ++ mark_element passes irps row Legal ∷ (call_element passes before row ∷ []))
+row_after passes irps before row = number_element row ∷ (behind_elements passes irps before row ++ mark_element passes irps row ∷ call_elements passes before row row.legality)
 
 -- so many IRPs as these, of which nothing is known yet
 abbrev pub fresh_irps : List IrpNow → List IrpNow
@@ -117,10 +113,13 @@ abbrev pub rows_elements : List PassNow → List IrpNow → List IrpNow → List
 rows_elements passes irps known [] = []
 rows_elements passes irps known (row ∷ rows) = row_after passes irps (irp_named known row.step.made.kind) row ++ rows_elements passes irps (with_irp known row) rows
 
--- of an owner that has its IRP in the end: a line down its column
-abbrev pub open_elements : List PassNow → List IrpNow → ℕ → ℕ → Option Owner → List Element
-open_elements passes irps rows n (Some owner) = span_element passes owner (irp_at irps owner.irp) rows true ∷ []
-open_elements passes irps rows n None = []
+-- of the owners after all rows: lines that end where the protocol was broken, if it was, and else in the end
+abbrev pub open_elements : List PassNow → ℕ → LineEnd → ℕ → Option Owner → List Element
+open_elements passes to end n owner = span_elements passes to end owner
+
+abbrev pub owners_elements : List PassNow → ℕ → Option ℕ → List (Option Owner) → List Element
+owners_elements passes count (Some row) owners = each (open_elements passes row Refusal) 0 owners
+owners_elements passes count None owners = each (open_elements passes count Last) 0 owners
 
 -- of IRP n, if a step names it: the words that it has in the end
 abbrev pub last_elements : List PassNow → List IrpNow → ℕ → ℕ → IrpNow → List Element
@@ -147,49 +146,91 @@ refused_elements rows line reason = element.Below rows Bar ∷ (element.Number (
 abbrev pub closing_elements : List IrpNow → ℕ → ℕ → IrpLine → List Element
 closing_elements irps rows nth line = element.Below rows (Irp nth line (irp_at irps line.name.irp)) ∷ []
 
--- whether all is at rest in the end
-abbrev pub at_rest_element : List PassNow → ℕ → ℕ → Bool → Element
-at_rest_element passes rows nth at_rest = element.Below rows (AtRest nth (rest_of passes at_rest))
+-- of what is reported in the end: each IRP, and whether all is at rest
+abbrev pub closed_elements : List IrpNow → List IrpLine → Rest → ℕ → List Element
+closed_elements irps reported rest rows = each (closing_elements irps rows) 0 reported ++ element.Below rows (AtRest (length reported) rest) ∷ []
 
 -- of an order that broke the protocol in the nth line: where and why, and what goes wrong, each on a line below
 abbrev pub harm_elements : ℕ → ℕ → HarmAt → List Element
-harm_elements rows nth h = element.Below rows (Harm (nth + 2) h) ∷ []
+harm_elements rows nth h = element.Below rows (Harm nth h) ∷ []
 
-abbrev pub broken_elements : ℕ → ℕ → Reason → List HarmAt → List Element
-broken_elements rows n reason harms = element.Below rows (Broken n reason) ∷ each (harm_elements rows) 0 harms
+abbrev pub broken_elements : ℕ → Reason → List HarmAt → ℕ → List Element
+broken_elements n reason harms rows = element.Below rows (BrokenLine n reason) ∷ each (harm_elements rows) 0 harms
+
+-- how a picture ends: how many lines of text that takes, its elements below so many rows, and its text for a terminal
+pub record EndShown : Type 0 where
+  pub lines : ℕ
+  pub below : ℕ → List Element
+  pub text : List ℕ
+
+-- with the nth line, which ended the handling for this reason
+abbrev pub stopped_end : ℕ → Reason → EndShown
+stopped_end n reason = record { lines = 3; below = λ rows. refused_elements rows n reason; text = ended_lines n reason }
+
+-- with what is reported in the end
+abbrev pub closed_end : List IrpNow → List IrpLine → Rest → EndShown
+closed_end irps reported rest = record { lines = length reported + 1; below = closed_elements irps reported rest; text = closed_lines irps reported rest }
+
+-- with the nth line, in which the protocol was broken, and what goes wrong
+abbrev pub broken_end : ℕ → Reason → List HarmAt → EndShown
+broken_end n reason harms = record { lines = length harms + 2; below = broken_elements n reason harms; text = broken_lines n reason harms }
+
+abbrev pub end_of : Ending → EndShown
+end_of (StoppedEnd n reason) = stopped_end n reason
+end_of (Closed irps reported rest) = closed_end irps.now reported.now rest
+end_of (Broken n reason harms) = broken_end n reason harms.now
+
+-- what a picture shows: the passes, what is known of the IRPs after the rows, the rows, the owners after them, and the row of the first step that the protocol refuses
+pub record Shown : Type 0 where
+  pub passes : List PassNow
+  pub irps : List IrpNow
+  pub rows : List Row
+  pub owners : List (Option Owner)
+  pub refused : Option ℕ
+
+-- as a sheet has it
+abbrev pub shown_by : Sheet → Shown
+shown_by s = record { passes = s.passes.now; irps = s.irps.now; rows = s.rows.now; owners = s.owners.now; refused = s.refused }
 
 -- what stands above so many rows of these passes and IRPs, and the words that are kept to the end
 abbrev pub above_elements : List PassNow → List IrpNow → ℕ → List Element
 above_elements passes irps count = element.Lines ∷ (each (column_elements passes count) 0 passes ++ (each (word_elements passes irps) 0 irps ++ each (last_elements passes irps count) 0 irps))
 
--- the rows of the steps of an execution, and the owners after it, of which so much is known then: `wide` are the IRPs that have columns
-abbrev pub kept_elements : List PassNow → List IrpNow → List IrpNow → List Row → List (Option Owner) → ℕ → List Element
-kept_elements passes wide irps rows owners count = rows_elements passes wide (fresh_irps wide) rows ++ each (open_elements passes irps count) 0 owners
+-- what stands above so many rows, the rows, and the owners after them
+abbrev pub shown_elements : Shown → ℕ → List Element
+shown_elements s count = above_elements s.passes s.irps count ++ (rows_elements s.passes s.irps (fresh_irps s.irps) s.rows ++ owners_elements s.passes count s.refused s.owners)
 
--- of these passes, IRPs, rows and owners, as many rows as there are: what stands above them, the rows, and what is kept to the end
-abbrev pub shown_elements : List PassNow → List IrpNow → List Row → List (Option Owner) → ℕ → List Element
-shown_elements passes irps rows owners count = above_elements passes irps count ++ kept_elements passes irps irps rows owners count
+-- and then how it ends
+abbrev pub picture_of : Shown → ℕ → EndShown → List Element
+picture_of s count e = shown_elements s count ++ e.below count
 
--- and then of the nth line, which ended the handling for this reason
-abbrev pub stopped_elements : List PassNow → List IrpNow → List Row → List (Option Owner) → ℕ → ℕ → Reason → List Element
-stopped_elements passes irps rows owners count n reason = shown_elements passes irps rows owners count ++ refused_elements count n reason
+-- what a window shows of it
+abbrev pub by_places : Window → List ℕ → Shown → Shown
+by_places w ps s = record { passes = s.passes; irps = irps_after (fresh_irps s.irps) (cut w ps 0 s.rows); rows = cut w ps 0 s.rows; owners = map (open_in w ps) s.owners; refused = option_map (place ps) s.refused }
 
--- and then of what is reported in the end
-abbrev pub closed_elements : List PassNow → List IrpNow → List Row → List (Option Owner) → ℕ → List IrpLine → Bool → List Element
-closed_elements passes irps rows owners count reported at_rest = shown_elements passes irps rows owners count
-    ++ (each (closing_elements irps count) 0 reported ++ at_rest_element passes count (length reported) at_rest ∷ [])
+abbrev pub seen : Option Window → Shown → Shown
+seen (Some w) s = by_places w (places w 0 s.rows) s
+seen None s = s
+
+-- how it is drawn, below this caption
+abbrev pub shown_text : Format → CaptionText → Shown → EndShown → List ℕ
+shown_text Svg c s e = picture_head s.passes (irp_columns s.irps) (length s.rows) e.lines c ++ picture (picture_of s (length s.rows) e)
+shown_text Text c s e = c.plain ++ (rows_text s.passes s.rows ++ e.text)
 
 -- what is known of so many IRPs after the steps W
 abbrev pub irps_of : Size → List Numbered → List IrpNow
 irps_of size W = irps_after (replicate size.irps new_irp) (rows_of size W)
 
--- the picture of the steps W, and of the nth line, which ended the handling
-abbrev pub stopped_picture : Size → List Numbered → ℕ → Stop → List Element
-stopped_picture size W n stop = stopped_elements (all_passes size W) (irps_of size W) (rows_of size W) (owners size.irps (run_of W)) (length W) n (reason_of size (all_passes size W) stop)
+-- what the steps W show
+abbrev pub steps_shown : Size → List Numbered → Shown
+steps_shown size W = record { passes = all_passes size W; irps = irps_of size W; rows = rows_of size W; owners = owners size.irps (run_of W); refused = None }
 
--- the picture of the steps W, and of what is reported in the end
-abbrev pub closed_picture : Size → List Numbered → List IrpLine → Bool → List Element
-closed_picture size W = closed_elements (all_passes size W) (irps_of size W) (rows_of size W) (owners size.irps (run_of W)) (length W)
+-- how they end: with the nth line, which ended the handling, or with what is reported in the end
+abbrev pub stop_of : Size → List Numbered → ℕ → Stop → EndShown
+stop_of size W n stop = stopped_end n (reason_of size (all_passes size W) stop)
+
+abbrev pub close_of : Size → List Numbered → List IrpLine → Bool → EndShown
+close_of size W reported at_rest = closed_end (irps_of size W) reported (rest_of (all_passes size W) at_rest)
 
 -- what a schedule led to so far: the caption of its picture, and the steps
 pub record Drawn : Type 0 where
@@ -206,30 +247,26 @@ drawn_after d n line Skipped = Some (record { caption = caption_after d.caption 
 drawn_after d n line (Accepted m) = Some (record { caption = ended_caption d.caption; steps = record { line = n; step = m } ∷ d.steps })
 drawn_after d n line (Stopped stop) = None
 
+-- the text of a schedule that led so far, in this view, which ends so
+abbrev pub text_of : Size → View → Drawn → EndShown → List ℕ
+text_of size view d e = shown_text view.format d.caption (seen view.window (steps_shown size d.steps)) e
+
 -- a line that ends the handling is answered the picture of the steps before it and of itself, and any other nothing
-abbrev pub stopped_text : Size → Format → Drawn → ℕ → Stop → List ℕ
-stopped_text size Svg d n stop = picture_head (all_passes size d.steps) (irp_columns (irps_of size d.steps)) (length d.steps) 3 d.caption ++ picture (stopped_picture size d.steps n stop)
-stopped_text size Text d n stop = stopped_lines d.caption (all_passes size d.steps) (rows_of size d.steps) n (reason_of size (all_passes size d.steps) stop)
+abbrev pub drawn_text : Size → View → Drawn → ℕ → Outcome → List ℕ
+drawn_text size view d n (Stopped stop) = text_of size view d (stop_of size d.steps n stop)
+drawn_text size view d n _ = []
 
-abbrev pub drawn_text : Size → Format → Drawn → ℕ → Outcome → List ℕ
-drawn_text size format d n (Stopped stop) = stopped_text size format d n stop
-drawn_text size format d n _ = []
-
-abbrev pub DrawsLine : Size → Format → Drawn → ℕ → List ℕ → List ℕ → Option Drawn → Type 0
-DrawsLine size format d n line text more = (comes : Outcome) × ComesTo size (run_of d.steps) line comes × (text ≡ drawn_text size format d n comes) × (more ≡ drawn_after d n line comes)
+abbrev pub DrawsLine : Size → View → Drawn → ℕ → List ℕ → List ℕ → Option Drawn → Type 0
+DrawsLine size view d n line text more = (comes : Outcome) × ComesTo size (run_of d.steps) line comes × (text ≡ drawn_text size view d n comes) × (more ≡ drawn_after d n line comes)
 
 -- if all lines were handled, it is the picture of the steps and of what is reported in the end
-abbrev pub closed_text : Size → Format → Drawn → List IrpLine → Bool → List ℕ
-closed_text size Svg d reported at_rest = picture_head (all_passes size d.steps) (irp_columns (irps_of size d.steps)) (length d.steps) (length reported + 1) d.caption ++ picture (closed_picture size d.steps reported at_rest)
-closed_text size Text d reported at_rest = closed_lines d.caption (all_passes size d.steps) (irps_of size d.steps) (rows_of size d.steps) reported at_rest
+abbrev pub DrawsClosing : Size → View → Drawn → List ℕ → Type 0
+DrawsClosing size view d text = (reported : List IrpLine) × (at_rest : Bool) × Closes size (run_of d.steps) reported at_rest × (text ≡ text_of size view d (close_of size d.steps reported at_rest))
 
-abbrev pub DrawsClosing : Size → Format → Drawn → List ℕ → Type 0
-DrawsClosing size format d text = (reported : List IrpLine) × (at_rest : Bool) × Closes size (run_of d.steps) reported at_rest × (text ≡ closed_text size format d reported at_rest)
-
--- a schedule is drawn so, in this format: of the longest run that its lines make
-abbrev pub IsDrawing : Size → Format → List ℕ → List ℕ → Ended → Type 0
-IsDrawing size format = IsAnswer (DrawsLine size format) (DrawsClosing size format) new_drawn
+-- a schedule is drawn so, in this view: of the longest run that its lines make
+abbrev pub IsDrawing : Size → View → List ℕ → List ℕ → Ended → Type 0
+IsDrawing size view = IsAnswer (DrawsLine size view) (DrawsClosing size view) new_drawn
 
 -- of a reader and a writer whose bytes are known: a schedule was read, and its picture was written
-abbrev pub DrawsSchedule : Size → Format → Option (List ℕ) → Option (List ℕ) → Option (List ℕ) → Option (List ℕ) → Ended → Type 0
-DrawsSchedule size format = RepliesTo (IsDrawing size format)
+abbrev pub DrawsSchedule : Size → View → Option (List ℕ) → Option (List ℕ) → Option (List ℕ) → Option (List ℕ) → Ended → Type 0
+DrawsSchedule size view = RepliesTo (IsDrawing size view)

@@ -12,13 +12,12 @@ use Rattle.csq_draw.specs.declared.cells.Cell.{Cell, TheVariants.{Line, Lock, Pr
 use Rattle.csq_draw.specs.declared.marks.Legality.{Legality, TheVariants.{Legal, Refused, Behind}}
 use Rattle.csq_draw.specs.declared.rows.Row.{Row}
 use Rattle.csq_draw.specs.declared.words.WordValues.{WordValues}
-use Rattle.csq_draw.specs.declared.wrong_rows.WrongRow.{WrongRow}
+use Rattle.csq_draw.specs.declared.ending.Rest.{Rest}
 use Rattle.csq_explain.specs.declared.harms.HarmAt.{HarmAt}
 use Rattle.csq_explain.specs.WrongOrders.{harms_text}
-use Rattle.csq_draw.specs.Captions.{CaptionText}
 use Rattle.csq_draw.specs.Circles.{word_text}
 use Rattle.csq_draw.specs.declared.irps.IrpNow.{IrpNow}
-use Rattle.csq_draw.specs.Endings.{broken_line, ended_line_text, irp_ending, rest_of, rest_text}
+use Rattle.csq_draw.specs.Endings.{broken_line, ended_line_text, irp_ending, rest_text}
 use Rattle.csq_draw.specs.Irps.{irp_at}
 use Rattle.csq_draw.specs.Marks.{claims, found_words}
 use Rattle.csq_draw.specs.Passes.{columns, column_of}
@@ -77,13 +76,13 @@ abbrev pub row_cells : List PassNow → Cell → Row → List ℕ
 row_cells passes cell row = in_width 6 (cell_text (Line row.line)) ++ (in_width 6 (cell_text cell) ++ (spaces (27 * column_of passes row.step.made.pass)
     ++ (in_width (27 * (columns passes - column_of passes row.step.made.pass)) (cell_text (Step row.step)) ++ (words_cells (name_of row.step.made.kind) row.words ++ codes "\n"))))
 
--- with who has the lock
-abbrev pub row_text : List PassNow → Row → List ℕ
-row_text passes row = row_cells passes (Lock row.lock) row
+-- who has the lock at a step, and from the refused one on how it stands to the protocol
+abbrev pub state_cell : Row → Legality → Cell
+state_cell row Legal = Lock row.lock
+state_cell row legality = Protocol legality
 
--- and from the refused step on how it stands to the protocol
-abbrev pub wrong_row_text : List PassNow → WrongRow → List ℕ
-wrong_row_text passes w = row_cells passes (Protocol w.legality) w.row
+abbrev pub row_text : List PassNow → Row → List ℕ
+row_text passes row = row_cells passes (state_cell row row.legality) row
 
 -- the name of a pass that makes a step, over its column
 abbrev pub pass_cell : ℕ → PassNow → List ℕ
@@ -101,30 +100,14 @@ rows_text passes rows = header_text passes ++ each_text (λ n row. row_text pass
 abbrev pub ended_lines : ℕ → Reason → List ℕ
 ended_lines n reason = codes "line " ++ (decimal n ++ (codes ": " ++ (ended_line_text reason.stop ++ (codes "\n  " ++ (reason_text reason ++ codes "\n")))))
 
--- the caption, the steps, and that line
-abbrev pub stopped_lines : CaptionText → List PassNow → List Row → ℕ → Reason → List ℕ
-stopped_lines c passes rows n reason = c.plain ++ (rows_text passes rows ++ ended_lines n reason)
-
--- the caption, and all steps of an order
-abbrev pub order_lines : CaptionText → List PassNow → List Row → List WrongRow → List ℕ
-order_lines c passes rows behind = c.plain ++ (rows_text passes rows ++ each_text (λ n w. wrong_row_text passes w) 0 behind)
-
--- and then that line
-abbrev pub wrong_stopped_lines : CaptionText → List PassNow → List Row → List WrongRow → ℕ → Reason → List ℕ
-wrong_stopped_lines c passes rows behind n reason = order_lines c passes rows behind ++ ended_lines n reason
-
 -- or the nth line, in which the protocol was broken, why, and what goes wrong
-abbrev pub broken_lines : CaptionText → List PassNow → List Row → List WrongRow → ℕ → Reason → List HarmAt → List ℕ
-broken_lines c passes rows behind n reason harms = order_lines c passes rows behind ++ ((broken_line n reason ++ (codes "\n  " ++ (reason_text reason ++ codes "\n"))) ++ harms_text harms)
+abbrev pub broken_lines : ℕ → Reason → List HarmAt → List ℕ
+broken_lines n reason harms = (broken_line n reason ++ (codes "\n  " ++ (reason_text reason ++ codes "\n"))) ++ harms_text harms
 
 -- where an IRP is in the end
 abbrev pub irp_line_reported : List IrpNow → ℕ → IrpLine → List ℕ
 irp_line_reported irps n line = irp_ending line (irp_at irps line.name.irp) ++ codes "\n"
 
--- whether all is at rest in the end
-abbrev pub rest_line : List PassNow → Bool → List ℕ
-rest_line passes at_rest = rest_text (rest_of passes at_rest) ++ codes "\n"
-
--- the caption, the steps, where each IRP is in the end, and whether all is at rest
-abbrev pub closed_lines : CaptionText → List PassNow → List IrpNow → List Row → List IrpLine → Bool → List ℕ
-closed_lines c passes irps rows reported at_rest = c.plain ++ (rows_text passes rows ++ (each_text (irp_line_reported irps) 0 reported ++ rest_line passes at_rest))
+-- where each is, and whether all is at rest
+abbrev pub closed_lines : List IrpNow → List IrpLine → Rest → List ℕ
+closed_lines irps reported rest = each_text (irp_line_reported irps) 0 reported ++ (rest_text rest ++ codes "\n")

@@ -1,9 +1,11 @@
 //! An arrow from the step that wrote a word to the one that found it.
 ghost use Rattle.std.specs.Prelude.{◌≡◌};
-ghost use Rattle.csq_draw.specs.Arrows.{found_in, side, gutter, is_near};
+ghost use Rattle.csq_draw.specs.Arrows.{found_in, found_at, side, gutter, is_near};
 
-use crate::irps::{IrpNow, Spot};
+use crate::irps::{IrpNow, Spot, life_named};
 use crate::layout::{left, top};
+use crate::marks::Legality;
+use crate::rows::Row;
 use irp_core::{Kind, Made};
 use std::fmt;
 
@@ -18,12 +20,26 @@ pub(crate) struct Arrow {
 }
 
 /// The step that wrote what a step of an IRP found set, of what was known of the IRP before.
-pub(crate) fn found_in(before: IrpNow, made: Made) -> Option<Spot>
+fn found_in(before: IrpNow, made: Made) -> Option<Spot>
     ensures { result ≡ found_in before made.kind made.found }
 {
     match made.kind {
         Kind::Test(_) | Kind::Flag(_) if made.found == 1 => before.flag,
         Kind::Disarm(_) | Kind::Take(_) if made.found == 1 => before.routine,
+        _ => None,
+    }
+}
+
+/// The step that wrote what the step of a row found set. From a refusal on, where a step may name any life, it is one that
+/// names the same life: each life has words of its own.
+pub(crate) fn found_at(before: IrpNow, row: Row) -> Option<Spot>
+    ensures { result ≡ found_at before row }
+{
+    let made = row.step.made;
+    let found = found_in(before, made);
+    match (row.legality, found) {
+        (Legality::Legal, _) => found,
+        (_, Some(spot)) if spot.life.0 == life_named(made.kind).0 => found,
         _ => None,
     }
 }

@@ -13,17 +13,19 @@ use std::fmt;
 #[derive(Clone, Copy)]
 struct Completion(IrpLife, Option<Claim>);
 
-/// As `cancel 0`, with what the call returns, or `completion` of what a removal got.
+/// As `cancel 0`, with what the call returns, or `completion` of what a removal got. Nothing, if the step that claimed the
+/// IRP isn't shown.
 impl fmt::Display for Completion {
     ghost use Rattle.std.specs.Prelude.{Some};
     ghost use Rattle.csq_draw.specs.CallTexts.{completion_text};
 
     ghost output = { λ completion. Some (completion_text completion.0 completion.1) };
 
+    #[tactic(auto, unfolding(crate::specs::CallTexts::completed_by))]
     fn fmt<W: fmt::Write>(&self, f: &mut fmt::Formatter<W>) -> fmt::Result {
         let Completion(name, claim) = *self;
         let Some(claim) = claim else {
-            return write!(f, "completion");
+            return Ok(());
         };
         match claim.by {
             Inside::Cancelling(_) => write!(f, "cancel {name} &#8594; TRUE"),
@@ -45,6 +47,7 @@ impl fmt::Display for CallOf {
 
     ghost output = { λ call. Some (call_text call.0 call.1) };
 
+    #[tactic(auto, unfolding(crate::specs::CallTexts::call_by))]
     fn fmt<W: fmt::Write>(&self, f: &mut fmt::Formatter<W>) -> fmt::Result {
         let CallOf(step, claim) = *self;
         let StepInCall { made, inside, .. } = step;

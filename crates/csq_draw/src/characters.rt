@@ -3,20 +3,31 @@ ghost use Rattle.std.specs.Prelude.{◌≡◌, length, take, drop, map, chars, I
 ghost use Rattle.std.specs.Str.{IsUtf8};
 ghost use Rattle.std.specs.Str.Lossy.{utf8_valid_len};
 ghost use Rattle.csq_replay.specs.Lines.{GrewBy};
-ghost use Rattle.csq_draw.specs.Characters.{shown, marked, after_mark, characters};
+ghost use Rattle.csq_draw.specs.Characters.{is_hidden, shown, marked, after_mark, characters};
 
 use std::alloc::{AllocError, Allocator};
 
-/// A character as it is shown: a question mark for a control character, and for U+FFFE and U+FFFF, which XML 1.0
-/// forbids too.
+/// A character as it is shown: a question mark for a control character, for one that turns the direction of a text, and
+/// for U+FFFE and U+FFFF, which XML 1.0 forbids.
 fn shown(character: char) -> char
     ensures { result ≡ shown character }
 {
-    if character.is_control() || matches!(character, '\u{FFFE}' | '\u{FFFF}') {
+    if character.is_control() || is_hidden(character) {
         '?'
     } else {
         character
     }
+}
+
+/// Whether a character turns the direction of a text or marks it (U+061C, U+200E, U+200F, U+202A to U+202E, U+2066 to
+/// U+2069), or is one that XML 1.0 forbids.
+fn is_hidden(character: char) -> bool
+    ensures { result ≡ is_hidden character }
+{
+    matches!(
+        character,
+        '\u{061C}' | '\u{200E}'..='\u{200F}' | '\u{202A}'..='\u{202E}' | '\u{2066}'..='\u{2069}' | '\u{FFFE}' | '\u{FFFF}'
+    )
 }
 
 /// The longest front of some bytes that is UTF-8.
@@ -56,8 +67,8 @@ fn push_mark<'a, A: Allocator>(
     Ok(rest)
 }
 
-/// The characters of some bytes, as they are shown: a question mark for a control character, and for each byte that
-/// is not part of a character in UTF-8. Own rule.
+/// The characters of some bytes, as they are shown: a question mark for a control character, for one that turns the
+/// direction of a text, and for each byte that is not part of a character in UTF-8. Own rule.
 pub(crate) fn characters<A: Allocator>(alloc: A, bytes: &[u8]) -> Result<Vec<char, A>, AllocError>
     ensures value { IfOk result (λ made. made.items ≡ characters bytes.now) }
     ensures kept { IfOk result (λ made. IsUtf8 bytes.now

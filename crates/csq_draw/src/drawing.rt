@@ -1,31 +1,34 @@
 //! Schedules, drawn.
-ghost use Rattle.std.specs.Prelude.{◌≡◌, ◌≢◌, ◌<◌, ◌≤◌, ◌^◌, Option, length, replicate, string_bytes, IfOk, IfErr, OnOk};
+ghost use Rattle.std.specs.Prelude.{◌≡◌, ◌≢◌, ◌<◌, ◌≤◌, Option, length, replicate, string_bytes, IfOk, IfErr, OnOk};
 ghost use Rattle.std.specs.Io.KnownBytes.{Keeps};
 ghost use Rattle.irp_core.specs.MachineState.{size_of};
 ghost use Rattle.irp_core.specs.Runs.{Size, OfIrp, IsInLimits};
 ghost use Rattle.irp_core.specs.Steps.{number};
 ghost use Rattle.csq_replay.specs.Lines.{GrewBy};
 ghost use Rattle.csq_draw.specs.Captions.{ended_caption, caption_of};
-ghost use Rattle.csq_draw.specs.declared.format.Format.{Format as FormatOf};
+ghost use Rattle.csq_draw.specs.declared.view.View.{View as ViewOf};
 ghost use Rattle.csq_draw.specs.Headings.{head_text};
 ghost use Rattle.csq_draw.specs.Passes.{columns};
-ghost use Rattle.csq_explain.specs.Passes.{all_passes};
-ghost use Rattle.csq_explain.specs.Reasons.{reason_of};
 ghost use Rattle.csq_draw.specs.Irps.{irps_after, irp_columns, new_irp};
-ghost use Rattle.csq_draw.specs.Pictures.{Drawn, irps_of, picture_head, stopped_text, closed_text, new_drawn, DrawsSchedule};
+ghost use Rattle.csq_draw.specs.Pictures.{Drawn, by_places, close_of, end_of, new_drawn, picture_head, seen, shown_by, shown_text, stopped_end, text_of, DrawsSchedule};
+ghost use Rattle.csq_draw.specs.Views.{whole};
+ghost use Rattle.csq_draw.specs.Windows.{places};
 ghost use Rattle.csq_draw.specs.declared.words.WordValues.{WordValues};
-ghost use Rattle.csq_draw.specs.Drawings.{owner_in, DrawingStandsAfter, NotesStep, StandsInFormat};
+ghost use Rattle.csq_draw.specs.Drawings.{owner_in, DrawingStandsAfter, NotesStep, StandsInView, shown_now};
 ghost use Rattle.csq_draw.specs.Words.{AreWordsNamed};
 
 use crate::caption::{Caption, draw_names};
-use crate::format::Format;
+use crate::ending::{Ending, rest_of};
 use crate::heading::{Extent, Head};
-use crate::irps::{IrpNow, irp_columns, new_irps, note_irps};
+use crate::irps::{IrpNow, irp_columns, irps_after};
+use crate::marks::Legality;
 use crate::owners::{Owner, ended_by, new_owners, note_owner, owner_in};
 use crate::passes::{columns, lock_at, lock_of};
-use crate::picture::{Sheet, draw_closed, draw_stopped};
-use crate::rows::Row;
-use crate::terminal::{write_closed, write_stopped};
+use crate::picture::{Sheet, draw_picture};
+use crate::rows::{Row, count};
+use crate::terminal::write_text;
+use crate::view::{Format, View, Window};
+use crate::window::{cut, open_owners, place_of, places};
 use crate::words::words_named;
 use csq_explain::{Execution, Explained, PassNow, Reason, StepInCall};
 use csq_replay::{Answerer, Ended, IrpLine, Line, SimFault, reply};
@@ -38,7 +41,7 @@ use std::io::{Read, Write};
 #[derive(Drop)]
 pub struct Drawing<A: Allocator> {
     pub(crate) alloc: A,
-    pub(crate) format: Format,
+    pub(crate) view: View,
     pub(crate) caption: Caption<A>,
     pub(crate) execution: Execution<A>,
     pub(crate) rows: Vec<Row, A>,
@@ -48,14 +51,14 @@ pub struct Drawing<A: Allocator> {
 impl<A: Allocator + Copy> Drawing<A> {
     /// The drawing before the first line of a schedule of IRPs 0 to `irps` - 1 and passes 1 to `passes`. Refused if
     /// there is too little memory. Own rule.
-    pub fn new(alloc: A, irps: u32, passes: u32, format: Format) -> Result<Drawing<A>, AllocError>
+    pub fn new(alloc: A, irps: u32, passes: u32, view: View) -> Result<Drawing<A>, AllocError>
         requires { IsInLimits (record { irps = irps; passes = passes; first = 0 }) }
-        ensures { IfOk result (λ drawing. StandsInFormat drawing
-            (record { irps = irps; passes = passes; first = 0 }, format) new_drawn) }
+        ensures { IfOk result (λ drawing. StandsInView drawing
+            (record { irps = irps; passes = passes; first = 0 }, view) new_drawn) }
     {
         Ok(Drawing {
             alloc,
-            format,
+            view,
             caption: Caption::new(alloc),
             execution: Execution::new(alloc, irps, passes)?,
             rows: Vec::new(alloc),
@@ -82,9 +85,9 @@ impl<A: Allocator + Copy> Drawing<A> {
         ensures execution { self.new.execution ≡ self.old.execution }
         ensures captioned { OnOk result
             (caption_of self.new.caption ≡ ended_caption (caption_of self.old.caption)) }
-        ensures format { self.new.format ≡ self.old.format }
+        ensures view { self.new.view ≡ self.old.view }
     {
-        let row = self.count_rows()?;
+        let row = count(self.rows.len())?;
         let made = step.made;
         let lock = lock_at(held, made);
         let ended = ended_by(made.kind, owner_in(&self.owners, made.kind));
@@ -95,6 +98,7 @@ impl<A: Allocator + Copy> Drawing<A> {
             row,
             line,
             step,
+            legality: Legality::Legal,
             lock,
             ended,
             words,
@@ -103,22 +107,12 @@ impl<A: Allocator + Copy> Drawing<A> {
         Ok(())
     }
 
-    /// How many rows there are. No input has so many lines that their number isn't a `u32`.
-    pub(crate) fn count_rows(&self) -> Result<u32, AllocError>
-        ensures counted { IfOk result (λ rows. rows ≡ length self.now.rows.items) }
-        ensures refused { IfErr result (λ _. ¬ (length self.now.rows.items < 2 ^ 32)) }
-    {
-        u32::try_from(self.rows.len()).map_err(|_| AllocError)
-    }
-
-    /// What is known of each IRP after the steps.
+    /// What is known of each IRP after the rows.
     pub(crate) fn irps_now(&self) -> Result<Vec<IrpNow, A>, AllocError>
         ensures { IfOk result (λ irps. irps.items
             ≡ irps_after (replicate (length self.now.owners.items) new_irp) self.now.rows.items) }
     {
-        let mut irps = new_irps(self.alloc, self.owners.len())?;
-        note_irps(&mut irps, &self.rows);
-        Ok(irps)
+        irps_after(self.alloc, self.owners.len(), &self.rows)
     }
 
     /// Draws what a picture of so many rows begins with, above so many lines of text below them.
@@ -178,139 +172,145 @@ impl<A: Allocator + Copy> Drawing<A> {
         Ok(())
     }
 
-    /// What a picture shows, of which so much is known of the IRPs.
-    pub(crate) fn sheet<'a>(&'a self, irps: &'a [IrpNow], count: u32) -> Sheet<'a>
-        ensures passes { result.passes.now ≡ self.now.execution.passes.items }
-        ensures irps { result.irps.now ≡ irps.now }
-        ensures rows { result.rows.now ≡ self.now.rows.items }
-        ensures owners { result.owners.now ≡ self.now.owners.items }
-        ensures count { result.count ≡ count }
+    /// Draws this sheet, which ends so, as a picture.
+    fn draw_svg(
+        &self,
+        sheet: Sheet<'_>,
+        ending: Ending<'_>,
+        text: &mut String<A>,
+    ) -> Result<(), AllocError>
+        requires few { length sheet.passes.now ≤ 65 }
+        requires irps { length sheet.irps.now ≤ 1024 }
+        ensures { OnOk result (GrewBy (string_bytes text.old) (string_bytes text.new)
+            (shown_text Format.Svg (caption_of self.now.caption) (shown_by sheet.entry)
+            (end_of ending.entry))) }
     {
-        Sheet {
+        let (rows, lines) = (count(sheet.rows.len())?, ending.lines()?);
+        self.draw_head(sheet.passes, sheet.irps, rows, lines, text)?;
+        draw_picture(self.alloc, sheet, rows, ending, text)?;
+        Ok(())
+    }
+
+    /// Draws this sheet, which ends so.
+    fn draw_sheet(
+        &self,
+        sheet: Sheet<'_>,
+        ending: Ending<'_>,
+        text: &mut String<A>,
+    ) -> Result<(), AllocError>
+        requires few { length sheet.passes.now ≤ 65 }
+        requires irps { length sheet.irps.now ≤ 1024 }
+        ensures { OnOk result (GrewBy (string_bytes text.old) (string_bytes text.new)
+            (shown_text self.now.view.format (caption_of self.now.caption) (shown_by sheet.entry)
+            (end_of ending.entry))) }
+    {
+        match self.view.format {
+            Format::Svg => {
+                self.draw_svg(sheet, ending, text)?;
+                Ok(())
+            }
+            Format::Text => {
+                write_text(&self.caption, sheet.passes, sheet.rows, ending, text)?;
+                Ok(())
+            }
+        }
+    }
+
+    /// Draws what a window shows of this sheet, which ends so.
+    fn draw_window(
+        &self,
+        window: Window,
+        sheet: Sheet<'_>,
+        ending: Ending<'_>,
+        text: &mut String<A>,
+    ) -> Result<(), AllocError>
+        requires few { length sheet.passes.now ≤ 65 }
+        requires irps { length sheet.irps.now ≤ 1024 }
+        ensures { OnOk result (GrewBy (string_bytes text.old) (string_bytes text.new)
+            (shown_text self.now.view.format (caption_of self.now.caption)
+            (by_places window (places window 0 sheet.entry.rows.now) (shown_by sheet.entry))
+            (end_of ending.entry))) }
+    {
+        let places = places(self.alloc, window, sheet.rows)?;
+        let rows = cut(self.alloc, window, &places, sheet.rows)?;
+        let owners = open_owners(self.alloc, window, &places, sheet.owners)?;
+        let irps = irps_after(self.alloc, sheet.irps.len(), &rows)?;
+        let refused = place_of(&places, sheet.refused);
+        let shown = Sheet {
+            passes: sheet.passes,
+            irps: &irps,
+            rows: &rows,
+            owners: &owners,
+            refused,
+        };
+        self.draw_sheet(shown, ending, text)?;
+        Ok(())
+    }
+
+    /// Draws what the view shows of this sheet, which ends so.
+    pub(crate) fn draw_view(
+        &self,
+        sheet: Sheet<'_>,
+        ending: Ending<'_>,
+        text: &mut String<A>,
+    ) -> Result<(), AllocError>
+        requires few { length sheet.passes.now ≤ 65 }
+        requires irps { length sheet.irps.now ≤ 1024 }
+        ensures { OnOk result (GrewBy (string_bytes text.old) (string_bytes text.new)
+            (shown_text self.now.view.format (caption_of self.now.caption)
+            (seen self.now.view.window (shown_by sheet.entry)) (end_of ending.entry))) }
+    {
+        match self.view.window {
+            Some(window) => {
+                self.draw_window(window, sheet, ending, text)?;
+                Ok(())
+            }
+            None => {
+                self.draw_sheet(sheet, ending, text)?;
+                Ok(())
+            }
+        }
+    }
+
+    /// Draws the steps, of which so much is known of the IRPs, ending so.
+    fn draw_steps(
+        &self,
+        irps: &[IrpNow],
+        ending: Ending<'_>,
+        text: &mut String<A>,
+    ) -> Result<(), AllocError>
+        requires few { length self.now.execution.passes.items ≤ 65 }
+        requires irps { length irps.now ≤ 1024 }
+        ensures { OnOk result (GrewBy (string_bytes text.old) (string_bytes text.new)
+            (shown_text self.now.view.format (caption_of self.now.caption)
+            (seen self.now.view.window (shown_now self.now irps.now)) (end_of ending.entry))) }
+    {
+        let sheet = Sheet {
             passes: &self.execution.passes,
             irps,
             rows: &self.rows,
             owners: &self.owners,
-            count,
-        }
-    }
-
-    /// Draws the steps, and the line of this number, which ended the handling, as a picture.
-    fn draw_stop_as_svg(
-        &self,
-        irps: &[IrpNow],
-        line: usize,
-        reason: Reason,
-        text: &mut String<A>,
-    ) -> Result<(), AllocError>
-        requires few { length self.now.execution.passes.items ≤ 65 }
-        requires irps { length irps.now ≤ 1024 }
-        ensures { OnOk result ((size : Size) (d : Drawn) → DrawingStandsAfter self.now size d
-            → irps.now ≡ irps_of size d.steps
-            → reason ≡ reason_of size (all_passes size d.steps) reason.stop
-            → GrewBy (string_bytes text.old) (string_bytes text.new)
-            (stopped_text size Format.Svg d line reason.stop)) }
-    {
-        let count = self.count_rows()?;
-        self.draw_head(&self.execution.passes, irps, count, 3, text)?;
-        let sheet = self.sheet(irps, count);
-        draw_stopped(self.alloc, sheet, line, reason, text)?;
+            refused: None,
+        };
+        self.draw_view(sheet, ending, text)?;
         Ok(())
-    }
-
-    /// Draws the steps, and what is reported in the end, as a picture.
-    fn draw_end_as_svg(
-        &self,
-        irps: &[IrpNow],
-        reported: &[IrpLine],
-        rest: bool,
-        text: &mut String<A>,
-    ) -> Result<(), AllocError>
-        requires few { length self.now.execution.passes.items ≤ 65 }
-        requires irps { length irps.now ≤ 1024 }
-        requires reported { length reported.now ≤ 1024 }
-        ensures { OnOk result ((size : Size) (d : Drawn) → DrawingStandsAfter self.now size d
-            → irps.now ≡ irps_of size d.steps
-            → GrewBy (string_bytes text.old) (string_bytes text.new)
-            (closed_text size Format.Svg d reported.now rest)) }
-    {
-        let count = self.count_rows()?;
-        let (passes, lines) = (&self.execution.passes, reported.len() as u32 + 1);
-        self.draw_head(passes, irps, count, lines, text)?;
-        let sheet = self.sheet(irps, count);
-        draw_closed(self.alloc, sheet, reported, rest, text)?;
-        Ok(())
-    }
-
-    /// Draws the steps, of which so much is known of the IRPs, and the line of this number, which ended the handling.
-    fn draw_stop_of(
-        &self,
-        irps: &[IrpNow],
-        line: usize,
-        reason: Reason,
-        text: &mut String<A>,
-    ) -> Result<(), AllocError>
-        requires few { length self.now.execution.passes.items ≤ 65 }
-        requires irps { length irps.now ≤ 1024 }
-        ensures { OnOk result ((size : Size) (d : Drawn) → DrawingStandsAfter self.now size d
-            → irps.now ≡ irps_of size d.steps
-            → reason ≡ reason_of size (all_passes size d.steps) reason.stop
-            → GrewBy (string_bytes text.old) (string_bytes text.new)
-            (stopped_text size self.now.format d line reason.stop)) }
-    {
-        match self.format {
-            Format::Svg => {
-                self.draw_stop_as_svg(irps, line, reason, text)?;
-                Ok(())
-            }
-            Format::Text => {
-                let (caption, passes) = (&self.caption, &self.execution.passes);
-                write_stopped(caption, passes, &self.rows, line, reason, text)?;
-                Ok(())
-            }
-        }
-    }
-
-    /// Draws the steps, of which so much is known of the IRPs, and what is reported in the end.
-    fn draw_end_of(
-        &self,
-        irps: &[IrpNow],
-        reported: &[IrpLine],
-        rest: bool,
-        text: &mut String<A>,
-    ) -> Result<(), AllocError>
-        requires few { length self.now.execution.passes.items ≤ 65 }
-        requires irps { length irps.now ≤ 1024 }
-        requires reported { length reported.now ≤ 1024 }
-        ensures { OnOk result ((size : Size) (d : Drawn) → DrawingStandsAfter self.now size d
-            → irps.now ≡ irps_of size d.steps
-            → GrewBy (string_bytes text.old) (string_bytes text.new)
-            (closed_text size self.now.format d reported.now rest)) }
-    {
-        match self.format {
-            Format::Svg => {
-                self.draw_end_as_svg(irps, reported, rest, text)?;
-                Ok(())
-            }
-            Format::Text => {
-                let (caption, passes) = (&self.caption, &self.execution.passes);
-                write_closed(caption, passes, irps, &self.rows, reported, rest, text)?;
-                Ok(())
-            }
-        }
     }
 
     /// Draws the steps, and the line of this number, which ended the handling.
-    fn draw_stop(&self, line: usize, reason: Reason, text: &mut String<A>) -> Result<(), AllocError>
+    pub(crate) fn draw_stop(
+        &self,
+        line: usize,
+        reason: Reason,
+        text: &mut String<A>,
+    ) -> Result<(), AllocError>
         requires few { length self.now.execution.passes.items ≤ 65 }
         requires irps { length self.now.owners.items ≤ 1024 }
         ensures { OnOk result ((size : Size) (d : Drawn) → DrawingStandsAfter self.now size d
-            → reason ≡ reason_of size (all_passes size d.steps) reason.stop
             → GrewBy (string_bytes text.old) (string_bytes text.new)
-            (stopped_text size self.now.format d line reason.stop)) }
+            (text_of size self.now.view d (stopped_end line reason))) }
     {
         let irps = self.irps_now()?;
-        self.draw_stop_of(&irps, line, reason, text)?;
+        self.draw_steps(&irps, Ending::Stopped(line, reason), text)?;
         Ok(())
     }
 
@@ -318,32 +318,32 @@ impl<A: Allocator + Copy> Drawing<A> {
     pub(crate) fn draw_end(
         &self,
         reported: &[IrpLine],
-        rest: bool,
+        at_rest: bool,
         text: &mut String<A>,
     ) -> Result<(), AllocError>
         requires few { length self.now.execution.passes.items ≤ 65 }
         requires irps { length self.now.owners.items ≤ 1024 }
-        requires reported { length reported.now ≤ 1024 }
         ensures { OnOk result ((size : Size) (d : Drawn) → DrawingStandsAfter self.now size d
             → GrewBy (string_bytes text.old) (string_bytes text.new)
-            (closed_text size self.now.format d reported.now rest)) }
+            (text_of size self.now.view d (close_of size d.steps reported.now at_rest))) }
     {
         let irps = self.irps_now()?;
-        self.draw_end_of(&irps, reported, rest, text)?;
+        let rest = rest_of(&self.execution.passes, at_rest);
+        self.draw_steps(&irps, Ending::Closed(&irps, reported, rest), text)?;
         Ok(())
     }
 }
 
 impl<A: Allocator + Copy> Answerer<A, Reason> for Drawing<A> {
     ghost use Rattle.csq_explain.specs.Executions.{StopsFor};
-    ghost use Rattle.csq_draw.specs.Drawings.{StandsInFormat};
+    ghost use Rattle.csq_draw.specs.Drawings.{StandsInView};
     ghost use Rattle.csq_draw.specs.Pictures.{DrawsLine, DrawsClosing};
 
-    ghost Kind = { Size × FormatOf };
+    ghost Kind = { Size × ViewOf };
 
     ghost State = { Drawn };
 
-    ghost stands = { λ drawing k d. StandsInFormat drawing k d };
+    ghost stands = { λ drawing k d. StandsInView drawing k d };
 
     ghost answers = { λ k d. DrawsLine k.0 k.1 d };
 
@@ -400,12 +400,16 @@ pub fn draw_schedule<A: Allocator + Copy, R: Read, W: Write>(
 ) -> Result<Ended, SimFault>
     requires { IsInLimits (record { irps = irps; passes = passes; first = 0 }) }
     ensures drawn { IfOk result
-        (DrawsSchedule (record { irps = irps; passes = passes; first = 0 }) Format.Svg
+        (DrawsSchedule (record { irps = irps; passes = passes; first = 0 }) (whole Format.Svg)
         (R.remaining reader.old) (R.remaining reader.new) (W.contents writer.old) (W.contents writer.new)) }
     ensures unwritten { IfErr result (λ fault. fault ≢ SimFault.Write
         → Keeps (W.contents writer.old) (W.contents writer.new)) }
 {
-    let mut drawing = Drawing::new(alloc, irps, passes, Format::Svg)?;
+    let view = View {
+        format: Format::Svg,
+        window: None,
+    };
+    let mut drawing = Drawing::new(alloc, irps, passes, view)?;
     reply(alloc, &mut drawing, reader, writer)
 }
 
@@ -428,11 +432,15 @@ pub fn draw_schedule_as_text<A: Allocator + Copy, R: Read, W: Write>(
 ) -> Result<Ended, SimFault>
     requires { IsInLimits (record { irps = irps; passes = passes; first = 0 }) }
     ensures drawn { IfOk result
-        (DrawsSchedule (record { irps = irps; passes = passes; first = 0 }) Format.Text
+        (DrawsSchedule (record { irps = irps; passes = passes; first = 0 }) (whole Format.Text)
         (R.remaining reader.old) (R.remaining reader.new) (W.contents writer.old) (W.contents writer.new)) }
     ensures unwritten { IfErr result (λ fault. fault ≢ SimFault.Write
         → Keeps (W.contents writer.old) (W.contents writer.new)) }
 {
-    let mut drawing = Drawing::new(alloc, irps, passes, Format::Text)?;
+    let view = View {
+        format: Format::Text,
+        window: None,
+    };
+    let mut drawing = Drawing::new(alloc, irps, passes, view)?;
     reply(alloc, &mut drawing, reader, writer)
 }

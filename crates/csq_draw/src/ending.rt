@@ -1,13 +1,16 @@
 //! What stands below the rows of a picture: why a line ended the handling, or where each IRP is in the end.
-ghost use Rattle.std.specs.Prelude.{◌≡◌, ◌<◌, ◌≤◌, length, position, IfSome};
+ghost use Rattle.std.specs.Prelude.{◌≡◌, ◌<◌, ◌≤◌, ◌+◌, length, position, IfOk, IfSome};
 ghost use Rattle.irp_core.specs.Inside.{is_outside};
 ghost use Rattle.csq_draw.specs.Endings.{is_unfinished, rest_of};
+ghost use Rattle.csq_draw.specs.Pictures.{end_of};
 
 use crate::irps::{Claim, IrpNow, Spot};
 use crate::layout::top;
+use crate::rows::count;
 use csq_explain::{DueStatus, HarmAt, PassNow, Reason};
 use csq_replay::{IrpLine, Stop};
 use irp_core::{Inside, IrpPlace, PassId};
+use std::alloc::AllocError;
 use std::fmt;
 
 /// A line that ended the handling, as it is reported: its step, if it names one, and why it ended it.
@@ -41,6 +44,7 @@ impl fmt::Display for HavingSince {
 
     ghost output = { λ having. Some (having_since having.1.now having.0) };
 
+    #[tactic(auto, unfolding(crate::specs::Endings::having_since))]
     fn fmt<W: fmt::Write>(&self, f: &mut fmt::Formatter<W>) -> fmt::Result {
         let HavingSince(claim, verb) = *self;
         match claim {
@@ -204,6 +208,37 @@ impl fmt::Display for BrokenLine {
     }
 }
 
+/// How a picture ends.
+#[derive(Clone, Copy)]
+pub(crate) enum Ending<'a> {
+    /// The line of this number ended the handling, for this reason.
+    Stopped(usize, Reason),
+    /// All lines were handled: what is known of the IRPs, where each is, and whether all is at rest.
+    Closed(&'a [IrpNow], &'a [IrpLine], Rest),
+    /// The protocol was broken in the line of this number, for this reason, and this goes wrong.
+    Broken(usize, Reason, &'a [HarmAt]),
+}
+
+/// How many these and so many more are.
+fn count_with(number: usize, more: u32) -> Result<u32, AllocError>
+    ensures { IfOk result (λ count. count ≡ number + more) }
+{
+    count(number)?.checked_add(more).ok_or(AllocError)
+}
+
+impl Ending<'_> {
+    /// How many lines of text it takes.
+    pub(crate) fn lines(self) -> Result<u32, AllocError>
+        ensures { IfOk result (λ lines. lines ≡ (end_of self.entry).lines) }
+    {
+        match self {
+            Ending::Stopped(_, _) => Ok(3),
+            Ending::Closed(_, reported, _) => count_with(reported.len(), 1),
+            Ending::Broken(_, _, harms) => count_with(harms.len(), 2),
+        }
+    }
+}
+
 /// What stands below the rows of a picture.
 #[derive(Clone, Copy)]
 pub(crate) enum Below {
@@ -219,7 +254,7 @@ pub(crate) enum Below {
     AtRest(u32, Rest),
     /// The line in which the protocol was broken, and below it why.
     Broken(usize, Reason),
-    /// What goes wrong at a step behind it, as the nth line.
+    /// What goes wrong at a step behind it, as the nth line below that.
     Harm(u32, HarmAt),
 }
 
@@ -234,6 +269,7 @@ impl fmt::Display for BelowRows {
 
     ghost output = { λ below. Some (below_text (top below.0) below.1) };
 
+    #[tactic(auto, unfolding(crate::specs::Endings::below_text))]
     fn fmt<W: fmt::Write>(&self, f: &mut fmt::Formatter<W>) -> fmt::Result {
         let y = top(self.0);
         match self.1 {
@@ -262,7 +298,7 @@ impl fmt::Display for BelowRows {
                 write!(f, "<text x='56' y='{second}'>{reason}</text>")
             }
             Below::Harm(nth, harm) => {
-                let y = y + 28 + 20 * u64::from(nth);
+                let y = y + 68 + 20 * u64::from(nth);
                 write!(f, "<text x='56' y='{y}'>{harm}</text>")
             }
         }

@@ -8,7 +8,7 @@ use std::fmt;
 pub const PICTURE_HEAD: &str = "\
 <desc>Each column is a pass, and time runs downwards. A row is one atomic step: its line in the schedule, \
 and in the column of its pass what it did, to which IRP, what it found, and the call of the WDK that it is. \
-An arrow runs from the step that wrote a word to the one that found it. \
+An arrow runs to a step that found a word set from the step of another pass that set it. \
 At the right stand the Cancel flag and the cancel routine of each IRP.</desc>
 <defs><marker id='arrow' viewBox='0 0 8 8' refX='7' refY='4' markerWidth='8' markerHeight='8' orient='auto'>\
 <path class='ah' d='M0 0L8 4L0 8z'/></marker></defs>
@@ -20,7 +20,7 @@ At the right stand the Cancel flag and the cancel routine of each IRP.</desc>
 .k6{color:#0f766e;fill:#e6fffa}.k7{color:#57606a;fill:#ffffff}
 .e{color:#57606a;fill:#ffffff}.bad{color:#cf222e;fill:#ffebe9}
 .k0,.k1,.k2,.k3,.k4,.k5,.k6,.k7,.e,.bad{stroke:currentColor}
-.c rect{stroke-width:3}.c .w{font-weight:bold}
+.d{fill:#eaeef2}.c rect{stroke-width:3}.c .w{font-weight:bold}
 .owes,.holds{fill:none;stroke-width:3}.owes{stroke-dasharray:4 3}.g{stroke:#d1d9e0}
 text{fill:#1f2328;stroke:none}.f{fill:#cf222e;font-weight:bold}.s,.m{font-size:10.5px}.s,.m,.n,.q{fill:#59636e}
 .m{font-family:ui-monospace,SFMono-Regular,Consolas,'DejaVu Sans Mono',monospace;font-size:10px}
@@ -34,7 +34,7 @@ circle.on{fill:currentColor}circle.off{fill:#ffffff}circle.b{stroke-width:3}
 .k4{color:#d29922;fill:#4b2900}.k5{color:#f778ba;fill:#5e103e}
 .k6{color:#2dd4bf;fill:#063b38}.k7{color:#8b949e;fill:#0d1117}
 .e{color:#8b949e;fill:#0d1117}.bad{color:#f85149;fill:#67060c}
-.owes,.holds,.bar,.a{fill:none}.g{stroke:#30363d}circle.off{fill:#0d1117}
+.d{fill:#262c36}.owes,.holds,.bar,.a{fill:none}.g{stroke:#30363d}circle.off{fill:#0d1117}
 text{fill:#e6edf3}.f{fill:#f85149}.s,.m,.n,.q,.t tspan{fill:#b1bac4}}
 </style>";
 

@@ -1,20 +1,21 @@
 //! What is known of each IRP as its steps are drawn: its last step, who wrote its words, who has it, and who
 //! completed it.
 ghost use Rattle.std.specs.Prelude.{◌≡◌, ◌<◌, ◌≤◌, length, replicate, take, IfOk};
-ghost use Rattle.csq_draw.specs.Irps.{flag_after, routine_after, claim_by, done_after, last_after, irp_after, irp_at, irp_named, with_irp, irps_after, irp_columns, irp_column, new_irp};
+ghost use Rattle.csq_draw.specs.Irps.{life_named, flag_after, routine_after, claim_by, done_after, last_after, irp_after, irp_at, irp_named, with_irp, irps_after, irp_columns, irp_column, new_irp};
 
 use crate::rows::Row;
 use crate::words::WordValues;
 use csq_explain::StepInCall;
-use irp_core::{Inside, IrpId, Kind, PassId};
+use irp_core::{Inside, IrpId, Kind, Life, PassId};
 use std::alloc::{AllocError, Allocator};
 
-/// A step: its row, the number of its line, and its pass.
+/// A step: its row, the number of its line, its pass, and the life of the IRP that it names.
 #[derive(Clone, Copy)]
 pub(crate) struct Spot {
     pub(crate) row: u32,
     pub(crate) line: usize,
     pub(crate) pass: PassId,
+    pub(crate) life: Life,
 }
 
 /// The step by which the owner of an IRP came to have it, and what its pass was inside of as it claimed it.
@@ -55,6 +56,16 @@ impl IrpNow {
         claim: None,
         done: None,
     };
+}
+
+/// The life that a step of this kind names: the first one if it names none.
+pub(crate) fn life_named(kind: Kind) -> Life
+    ensures { result ≡ life_named kind }
+{
+    match kind.name() {
+        Some(name) => name.life,
+        None => Life(0),
+    }
 }
 
 /// Who set the Cancel flag, after a step of this kind.
@@ -114,6 +125,7 @@ fn irp_after(before: IrpNow, row: Row) -> IrpNow
         row: row.row,
         line: row.line,
         pass: row.step.made.pass,
+        life: life_named(kind),
     };
     IrpNow {
         last: last_after(row, before.last),
@@ -179,12 +191,25 @@ pub(crate) fn note_irp(irps: &mut [IrpNow], row: Row)
 }
 
 /// Notes all these steps.
-pub(crate) fn note_irps(irps: &mut [IrpNow], rows: &[Row])
+fn note_irps(irps: &mut [IrpNow], rows: &[Row])
     ensures { irps.new ≡ irps_after irps.old rows.now }
 {
     for row in rows {
         note_irp(irps, *row);
     }
+}
+
+/// What is known of so many IRPs after these rows.
+pub(crate) fn irps_after<A: Allocator>(
+    alloc: A,
+    count: usize,
+    rows: &[Row],
+) -> Result<Vec<IrpNow, A>, AllocError>
+    ensures { IfOk result (λ irps. irps.items ≡ irps_after (replicate count new_irp) rows.now) }
+{
+    let mut irps = new_irps(alloc, count)?;
+    note_irps(&mut irps, rows);
+    Ok(irps)
 }
 
 /// How many of these IRPs a step names: each has a column for each of its words.

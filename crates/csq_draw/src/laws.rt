@@ -4,14 +4,21 @@ ghost use Rattle.std.specs.Prelude.{ℕ, List};
 ghost use Rattle.irp_core.specs.declared.step.Made.{Made};
 ghost use Rattle.irp_core.specs.Runs.{Size, EachRunFrom};
 ghost use Rattle.csq_replay.specs.Schedule.{Numbered};
-ghost use Rattle.csq_draw.specs.declared.format.Format.{Format};
+ghost use Rattle.csq_draw.specs.declared.view.{View.{View}, Window.{Window}};
+ghost use Rattle.csq_draw.specs.declared.wrong_drawing.Refusal.{Refusal};
 ghost use Rattle.csq_draw.specs.WrongDrawings.{WrongDrawn};
-ghost use Rattle.csq_draw.specs.Laws.{HasOnePicture, EachStepHasOneMark, EachStepShowsItsWords, EachLineHasItsNumber, EachShadeIsOfTheLock, EachArrowIsFromTheWrite, EachStepOfAnOrderHasOneMark, EachPassHasItsColumn, TheShadedPassHasTheLock, EachDrawnOwnerOwesOrHolds, NoTwoLinesShareALane, TheNinthLaneIsLast};
+ghost use Rattle.csq_draw.specs.Laws.{HasOneOrderPicture, HasOnePicture, EachStepHasOneMark, EachStepShowsItsWords, EachLineHasItsNumber, EachShadeIsOfTheLock, EachArrowIsFromTheWrite, EachStepOfAnOrderHasOneMark, EachShownStepHasOneMark, EachPassHasItsColumn, TheShadedPassHasTheLock, EachDrawnOwnerOwesOrHolds, NoTwoLinesShareALane, TheNinthLaneIsLast};
 
-/// A schedule has at most one picture in each format, so the relation that `draw_schedule` and
+/// A schedule has at most one picture in each view, so the relation that `draw_schedule` and
 /// `draw_schedule_as_text` meet names its bytes.
 pub fn a_schedule_has_one_picture()
-    ensures { (size : Size) (format : Format) (input : List ℕ) → HasOnePicture size format input }
+    ensures { (size : Size) (view : View) (input : List ℕ) → HasOnePicture size view input }
+{}
+
+/// So has a schedule that may break the protocol, so the relation that `WrongDrawing` meets names its bytes: what comes
+/// behind a refused step goes by the two words alone.
+pub fn an_order_has_one_picture()
+    ensures { (size : Size) (view : View) (input : List ℕ) → HasOneOrderPicture size view input }
 {}
 
 /// The marks of a picture are one for each step of its run, in order, each on the row of its number and in
@@ -43,10 +50,17 @@ pub fn each_arrow_is_from_the_write()
     ensures { (size : Size) (W : List Numbered) → EachArrowIsFromTheWrite size W }
 {}
 
-/// In a picture of an order that may break the protocol each step up to the refusal has the mark that it has in the
-/// picture of any schedule with these columns, and each step from the refused one on has one mark, by the words.
+/// In a picture of an order that broke the protocol each step up to the refusal has the mark that it has in the picture
+/// of any schedule with these columns, and each row from the refused step on has one mark, its own.
 pub fn each_step_of_an_order_has_one_mark()
-    ensures { (size : Size) (d : WrongDrawn) → EachStepOfAnOrderHasOneMark size d }
+    ensures { (size : Size) (d : WrongDrawn) (refusal : Refusal)
+        → EachStepOfAnOrderHasOneMark size d refusal }
+{}
+
+/// In a window the marks of a picture are one for each step that the window shows, in order, from the first row on, with
+/// the value that it found.
+pub fn each_shown_step_has_one_mark()
+    ensures { (size : Size) (W : List Numbered) (w : Window) → EachShownStepHasOneMark size W w }
 {}
 
 /// Passes that made a step of the run have columns of their own, in the order of their numbers.

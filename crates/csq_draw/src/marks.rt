@@ -157,6 +157,7 @@ impl fmt::Display for FoundWords {
 
     ghost output = { λ reported. Some (found_words reported.0) };
 
+    #[tactic(auto, unfolding(crate::specs::Marks::found_by))]
     fn fmt<W: fmt::Write>(&self, f: &mut fmt::Formatter<W>) -> fmt::Result {
         let StepInCall { made, status, .. } = self.0;
         match (made.kind, made.found != 0, status) {
@@ -190,7 +191,7 @@ pub(crate) enum Legality {
 #[derive(Clone, Copy)]
 struct MarkClass(Legality, StepInCall);
 
-/// Red if the protocol refuses the step, and grey behind that.
+/// Red if the protocol refuses the step; and behind that grey within the colour of its IRP, and bold if it claims it.
 impl fmt::Display for MarkClass {
     ghost use Rattle.std.specs.Prelude.{Some};
     ghost use Rattle.csq_draw.specs.Marks.{mark_class};
@@ -201,7 +202,10 @@ impl fmt::Display for MarkClass {
         match self.0 {
             Legality::Legal => StepClass(self.1.made).fmt(f),
             Legality::Refused(_) => write!(f, "bad"),
-            Legality::Behind => write!(f, "e"),
+            Legality::Behind => {
+                let class = StepClass(self.1.made);
+                write!(f, "d {class}")
+            }
         }
     }
 }
@@ -242,7 +246,9 @@ impl fmt::Display for RefusalAt {
     fn fmt<W: fmt::Write>(&self, f: &mut fmt::Formatter<W>) -> fmt::Result {
         let RefusalAt(x, y, legality) = *self;
         match legality {
-            Legality::Refused(cause) => write!(f, "<text x='{x}' y='{y}'>refused {cause}</text>"),
+            Legality::Refused(cause) => {
+                write!(f, "<text x='{x}' y='{y}'>not allowed: {cause}</text>")
+            }
             Legality::Legal | Legality::Behind => Ok(()),
         }
     }

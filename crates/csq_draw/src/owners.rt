@@ -6,7 +6,7 @@ ghost use Rattle.csq_draw.specs.Owners.{owner_after, ended_by};
 ghost use Rattle.csq_draw.specs.Drawings.{owner_in, with_owner};
 
 use crate::lanes::lane_for;
-use irp_core::{IrpId, Kind, Made, PassId};
+use irp_core::{IrpLife, Kind, Made, PassId};
 use std::alloc::{AllocError, Allocator};
 
 /// How a pass has an IRP that it claimed.
@@ -19,7 +19,7 @@ pub(crate) enum Having {
 /// An IRP, the pass that owes or holds it, the row of the step by which it came to, and the lane of its line.
 #[derive(Clone, Copy)]
 pub(crate) struct Owner {
-    pub(crate) irp: IrpId,
+    pub(crate) name: IrpLife,
     pub(crate) pass: PassId,
     pub(crate) having: Having,
     pub(crate) row: u32,
@@ -46,15 +46,15 @@ fn owner_after(
     ensures { result ≡ owner_after owners.now before made row }
 {
     let pass = made.pass;
-    let (irp, having) = match made.kind {
-        Kind::Take(name) if made.found == 1 => (name.irp, Having::Owes),
-        Kind::Disarm(name) if made.found == 1 => (name.irp, Having::Holds),
-        Kind::Out(name) => (name.irp, Having::Holds),
+    let (name, having) = match made.kind {
+        Kind::Take(name) if made.found == 1 => (name, Having::Owes),
+        Kind::Disarm(name) if made.found == 1 => (name, Having::Holds),
+        Kind::Out(name) => (name, Having::Holds),
         Kind::Done(_) | Kind::Rearm(_) => return None,
         _ => return before,
     };
     Some(Owner {
-        irp,
+        name,
         pass,
         having,
         row,

@@ -1,21 +1,21 @@
 //! A picture, element by element.
-ghost use Rattle.std.specs.Prelude.{◌≡◌, ◌≤◌, ◌<◌, ◌+◌, ◌^◌, ◌∷◌, [], codes, length, string_bytes, OnOk};
+ghost use Rattle.std.specs.Prelude.{◌≡◌, ◌≤◌, ◌∷◌, [], codes, length, string_bytes, OnOk};
 ghost use Rattle.csq_replay.specs.Lines.{GrewBy};
 ghost use Rattle.csq_draw.specs.Elements.{elements_text, picture};
 ghost use Rattle.csq_draw.specs.Passes.{columns};
-ghost use Rattle.csq_draw.specs.Pictures.{each, column_elements, word_elements, last_elements, open_elements, closing_elements, above_elements, kept_elements, shown_elements, refused_elements, harm_elements, broken_elements, at_rest_element, stopped_elements, closed_elements};
+ghost use Rattle.csq_draw.specs.Pictures.{each, column_elements, word_elements, last_elements, span_elements, open_elements, owners_elements, closing_elements, closed_elements, above_elements, shown_by, shown_elements, refused_elements, harm_elements, broken_elements, end_of, picture_of};
 
 use crate::circles::WordColumns;
 use crate::element::Element;
-use crate::ending::{Below, rest_of};
+use crate::ending::{Below, Ending, Rest};
 use crate::heading::Column;
 use crate::irps::{IrpNow, irp_at, irp_column};
 use crate::marks::Number;
 use crate::owners::Owner;
 use crate::passes::{column_of, columns};
-use crate::row_picture::{draw_bars, draw_rows, life_in};
-use crate::rows::Row;
-use crate::spans::Span;
+use crate::row_picture::{draw_bars, draw_rows};
+use crate::rows::{Row, count};
+use crate::spans::{LineEnd, Span};
 use csq_explain::{HarmAt, PassNow, Reason};
 use csq_replay::IrpLine;
 use irp_core::{IrpId, PassId};
@@ -146,78 +146,81 @@ fn draw_names<A: Allocator>(
     Ok(())
 }
 
-/// The line of an owner that has its IRP in the end, if there is one.
-fn draw_open<A: Allocator>(
+/// The line of an owner to a row, if there is one that came to have its IRP on an earlier row.
+pub(crate) fn draw_line<A: Allocator>(
     passes: &[PassNow],
-    irps: &[IrpNow],
-    count: u32,
+    to: u32,
+    end: LineEnd,
     owner: Option<Owner>,
     text: &mut String<A>,
 ) -> Result<(), AllocError>
     requires { length passes.now ≤ 65 }
     ensures { OnOk result (GrewBy (string_bytes text.old) (string_bytes text.new)
-        (elements_text (open_elements passes.now irps.now count 0 owner))) }
+        (elements_text (span_elements passes.now to end owner))) }
 {
-    let Some(owner) = owner else {
-        return Ok(());
-    };
-    let span = Span {
-        column: column_of(passes, owner.pass),
-        owner,
-        name: life_in(owner.irp, irp_at(irps, owner.irp)),
-        to: count,
-        to_the_end: true,
-    };
-    draw(Element::Span(span), text)
+    match owner {
+        Some(owner) if owner.row < to => {
+            let span = Span {
+                column: column_of(passes, owner.pass),
+                owner,
+                to,
+                end,
+            };
+            draw(Element::Span(span), text)
+        }
+        _ => Ok(()),
+    }
 }
 
-/// The lines of the owners that have their IRPs in the end.
-fn draw_owners<A: Allocator>(
+/// The lines of the owners that have their IRPs after all rows.
+fn draw_open_all<A: Allocator>(
     passes: &[PassNow],
-    irps: &[IrpNow],
-    rows: u32,
+    to: u32,
+    end: LineEnd,
     owners: &[Option<Owner>],
     text: &mut String<A>,
 ) -> Result<(), AllocError>
     requires { length passes.now ≤ 65 }
     ensures { OnOk result (GrewBy (string_bytes text.old) (string_bytes text.new)
-        (elements_text (each (open_elements passes.now irps.now rows) 0 owners.now))) }
+        (elements_text (each (open_elements passes.now to end) 0 owners.now))) }
 {
     for owner in owners {
-        draw_open(passes, irps, rows, *owner, text)?;
+        draw_line(passes, to, end, *owner, text)?;
     }
     Ok(())
+}
+
+/// The lines of the owners after all rows: they end where the protocol was broken, if it was.
+fn draw_owners<A: Allocator>(
+    sheet: Sheet<'_>,
+    count: u32,
+    text: &mut String<A>,
+) -> Result<(), AllocError>
+    requires { length sheet.passes.now ≤ 65 }
+    ensures { OnOk result (GrewBy (string_bytes text.old) (string_bytes text.new)
+        (elements_text (owners_elements sheet.entry.passes.now count sheet.entry.refused
+        sheet.entry.owners.now))) }
+{
+    let (passes, owners) = (sheet.passes, sheet.owners);
+    match sheet.refused {
+        Some(row) => draw_open_all(passes, row, LineEnd::Refusal, owners, text),
+        None => draw_open_all(passes, count, LineEnd::Last, owners, text),
+    }
 }
 
 /// Where an IRP is in the end, as the nth line below so many rows.
 fn draw_ending<A: Allocator>(
     irps: &[IrpNow],
     rows: u32,
-    nth: u32,
+    nth: usize,
     line: IrpLine,
     text: &mut String<A>,
 ) -> Result<(), AllocError>
     ensures { OnOk result (GrewBy (string_bytes text.old) (string_bytes text.new)
         (elements_text (closing_elements irps.now rows nth line))) }
 {
-    let now = irp_at(irps, line.name.irp);
+    let (nth, now) = (count(nth)?, irp_at(irps, line.name.irp));
     draw(Element::Below(rows, Below::Irp(nth, line, now)), text)
-}
-
-/// Whether all is at rest in the end, as the nth line below so many rows.
-fn draw_rest<A: Allocator>(
-    passes: &[PassNow],
-    rows: u32,
-    nth: u32,
-    at_rest: bool,
-    text: &mut String<A>,
-) -> Result<(), AllocError>
-    requires { length passes.now ≤ 65 }
-    ensures { OnOk result (GrewBy (string_bytes text.old) (string_bytes text.new)
-        (elements_text (at_rest_element passes.now rows nth at_rest ∷ []))) }
-{
-    let rest = rest_of(passes, at_rest);
-    draw(Element::Below(rows, Below::AtRest(nth, rest)), text)
 }
 
 /// Where each IRP is in the end.
@@ -227,29 +230,45 @@ fn draw_reported<A: Allocator>(
     reported: &[IrpLine],
     text: &mut String<A>,
 ) -> Result<(), AllocError>
-    requires { length reported.now ≤ 1024 }
     ensures { OnOk result (GrewBy (string_bytes text.old) (string_bytes text.new)
         (elements_text (each (closing_elements irps.now rows) 0 reported.now))) }
 {
     for (nth, line) in reported.iter().enumerate() {
-        draw_ending(irps, rows, nth as u32, *line, text)?;
+        draw_ending(irps, rows, nth, *line, text)?;
     }
     Ok(())
 }
 
-/// What a picture shows: the passes, what is known of the IRPs in the end, the rows, how many these are, and the
-/// owners of the IRPs in the end.
+/// Where each IRP is in the end, and whether all is at rest.
+fn draw_closed<A: Allocator>(
+    irps: &[IrpNow],
+    rows: u32,
+    reported: &[IrpLine],
+    rest: Rest,
+    text: &mut String<A>,
+) -> Result<(), AllocError>
+    ensures { OnOk result (GrewBy (string_bytes text.old) (string_bytes text.new)
+        (elements_text (closed_elements irps.now reported.now rest rows))) }
+{
+    let nth = count(reported.len())?;
+    draw_reported(irps, rows, reported, text)?;
+    draw(Element::Below(rows, Below::AtRest(nth, rest)), text)?;
+    Ok(())
+}
+
+/// What a picture shows: the passes, what is known of the IRPs after the rows, the rows, the owners of the IRPs after
+/// them, and the row of the first step that the protocol refuses.
 #[derive(Clone, Copy)]
 pub(crate) struct Sheet<'a> {
     pub(crate) passes: &'a [PassNow],
     pub(crate) irps: &'a [IrpNow],
     pub(crate) rows: &'a [Row],
     pub(crate) owners: &'a [Option<Owner>],
-    pub(crate) count: u32,
+    pub(crate) refused: Option<u32>,
 }
 
 /// What stands above so many rows of these passes and IRPs, and the words that are kept to the end.
-pub(crate) fn draw_above<A: Allocator>(
+fn draw_above<A: Allocator>(
     passes: &[PassNow],
     irps: &[IrpNow],
     count: u32,
@@ -267,43 +286,26 @@ pub(crate) fn draw_above<A: Allocator>(
     Ok(())
 }
 
-/// The steps of an execution, and the owners after it. These IRPs have columns.
-pub(crate) fn draw_kept<A: Allocator + Copy>(
+/// What a picture begins with, its rows, and the owners after them.
+fn draw_shown<A: Allocator + Copy>(
     alloc: A,
     sheet: Sheet<'_>,
-    wide: &[IrpNow],
-    text: &mut String<A>,
-) -> Result<(), AllocError>
-    requires few { length sheet.passes.now ≤ 65 }
-    requires irps { length wide.now ≤ 1024 }
-    ensures { OnOk result (GrewBy (string_bytes text.old) (string_bytes text.new)
-        (elements_text (kept_elements sheet.entry.passes.now wide.now sheet.entry.irps.now
-        sheet.entry.rows.now sheet.entry.owners.now sheet.entry.count))) }
-{
-    draw_rows(alloc, sheet.passes, wide, sheet.rows, text)?;
-    draw_owners(sheet.passes, sheet.irps, sheet.count, sheet.owners, text)?;
-    Ok(())
-}
-
-/// What a picture begins with, and the steps.
-fn draw_steps<A: Allocator + Copy>(
-    alloc: A,
-    sheet: Sheet<'_>,
+    count: u32,
     text: &mut String<A>,
 ) -> Result<(), AllocError>
     requires few { length sheet.passes.now ≤ 65 }
     requires irps { length sheet.irps.now ≤ 1024 }
     ensures { OnOk result (GrewBy (string_bytes text.old) (string_bytes text.new)
-        (elements_text (shown_elements sheet.entry.passes.now sheet.entry.irps.now sheet.entry.rows.now
-        sheet.entry.owners.now sheet.entry.count))) }
+        (elements_text (shown_elements (shown_by sheet.entry) count))) }
 {
-    draw_above(sheet.passes, sheet.irps, sheet.count, text)?;
-    draw_kept(alloc, sheet, sheet.irps, text)?;
+    draw_above(sheet.passes, sheet.irps, count, text)?;
+    draw_rows(alloc, sheet.passes, sheet.irps, sheet.rows, text)?;
+    draw_owners(sheet, count, text)?;
     Ok(())
 }
 
 /// The line that ended the handling, and why.
-pub(crate) fn draw_refused<A: Allocator>(
+fn draw_refused<A: Allocator>(
     rows: u32,
     line: usize,
     reason: Reason,
@@ -319,36 +321,45 @@ pub(crate) fn draw_refused<A: Allocator>(
     draw(Element::Below(rows, Below::Because(reason)), text)
 }
 
+/// What goes wrong at a step, as the nth line below where and why the protocol was broken.
+fn draw_harm<A: Allocator>(
+    rows: u32,
+    nth: usize,
+    harm: HarmAt,
+    text: &mut String<A>,
+) -> Result<(), AllocError>
+    ensures { OnOk result (GrewBy (string_bytes text.old) (string_bytes text.new)
+        (elements_text (harm_elements rows nth harm))) }
+{
+    let nth = count(nth)?;
+    draw(Element::Below(rows, Below::Harm(nth, harm)), text)
+}
+
 /// What goes wrong at each step, below where and why the protocol was broken.
 fn draw_harms<A: Allocator>(
     rows: u32,
     harms: &[HarmAt],
     text: &mut String<A>,
 ) -> Result<(), AllocError>
-    requires { length harms.now + 2 < 2 ^ 32 }
     ensures { OnOk result (GrewBy (string_bytes text.old) (string_bytes text.new)
         (elements_text (each (harm_elements rows) 0 harms.now))) }
 {
     for (nth, harm) in harms.iter().enumerate() {
-        draw(
-            Element::Below(rows, Below::Harm(nth as u32 + 2, *harm)),
-            text,
-        )?;
+        draw_harm(rows, nth, *harm, text)?;
     }
     Ok(())
 }
 
 /// The line in which the protocol was broken, and what goes wrong.
-pub(crate) fn draw_broken<A: Allocator>(
+fn draw_broken<A: Allocator>(
     rows: u32,
     line: usize,
     reason: Reason,
     harms: &[HarmAt],
     text: &mut String<A>,
 ) -> Result<(), AllocError>
-    requires { length harms.now + 2 < 2 ^ 32 }
     ensures { OnOk result (GrewBy (string_bytes text.old) (string_bytes text.new)
-        (elements_text (broken_elements rows line reason harms.now))) }
+        (elements_text (broken_elements line reason harms.now rows))) }
 {
     draw(Element::Below(rows, Below::Broken(line, reason)), text)?;
     draw_harms(rows, harms, text)?;
@@ -356,7 +367,7 @@ pub(crate) fn draw_broken<A: Allocator>(
 }
 
 /// The end of a picture.
-pub(crate) fn draw_foot<A: Allocator>(text: &mut String<A>) -> Result<(), AllocError>
+fn draw_foot<A: Allocator>(text: &mut String<A>) -> Result<(), AllocError>
     ensures { OnOk result (GrewBy (string_bytes text.old) (string_bytes text.new)
         (codes "</svg>\n")) }
 {
@@ -364,45 +375,37 @@ pub(crate) fn draw_foot<A: Allocator>(text: &mut String<A>) -> Result<(), AllocE
     Ok(())
 }
 
-/// A picture of steps, and of the line that ended the handling, below its head.
-pub(crate) fn draw_stopped<A: Allocator + Copy>(
-    alloc: A,
-    sheet: Sheet<'_>,
-    line: usize,
-    reason: Reason,
+/// How a picture of so many rows ends.
+fn draw_end<A: Allocator>(
+    rows: u32,
+    ending: Ending<'_>,
     text: &mut String<A>,
 ) -> Result<(), AllocError>
-    requires few { length sheet.passes.now ≤ 65 }
-    requires irps { length sheet.irps.now ≤ 1024 }
     ensures { OnOk result (GrewBy (string_bytes text.old) (string_bytes text.new)
-        (picture (stopped_elements sheet.entry.passes.now sheet.entry.irps.now sheet.entry.rows.now
-        sheet.entry.owners.now sheet.entry.count line reason))) }
+        (elements_text ((end_of ending.entry).below rows))) }
 {
-    draw_steps(alloc, sheet, text)?;
-    draw_refused(sheet.count, line, reason, text)?;
-    draw_foot(text)?;
-    Ok(())
+    match ending {
+        Ending::Stopped(line, reason) => draw_refused(rows, line, reason, text),
+        Ending::Closed(irps, reported, rest) => draw_closed(irps, rows, reported, rest, text),
+        Ending::Broken(line, reason, harms) => draw_broken(rows, line, reason, harms, text),
+    }
 }
 
-/// A picture of steps, and of what is reported in the end, below its head.
-pub(crate) fn draw_closed<A: Allocator + Copy>(
+/// A picture of so many rows, below its head.
+pub(crate) fn draw_picture<A: Allocator + Copy>(
     alloc: A,
     sheet: Sheet<'_>,
-    reported: &[IrpLine],
-    at_rest: bool,
+    rows: u32,
+    ending: Ending<'_>,
     text: &mut String<A>,
 ) -> Result<(), AllocError>
     requires few { length sheet.passes.now ≤ 65 }
     requires irps { length sheet.irps.now ≤ 1024 }
-    requires reported { length reported.now ≤ 1024 }
     ensures { OnOk result (GrewBy (string_bytes text.old) (string_bytes text.new)
-        (picture (closed_elements sheet.entry.passes.now sheet.entry.irps.now sheet.entry.rows.now
-        sheet.entry.owners.now sheet.entry.count reported.now at_rest))) }
+        (picture (picture_of (shown_by sheet.entry) rows (end_of ending.entry)))) }
 {
-    let (count, nth) = (sheet.count, reported.len() as u32);
-    draw_steps(alloc, sheet, text)?;
-    draw_reported(sheet.irps, count, reported, text)?;
-    draw_rest(sheet.passes, count, nth, at_rest, text)?;
+    draw_shown(alloc, sheet, rows, text)?;
+    draw_end(rows, ending, text)?;
     draw_foot(text)?;
     Ok(())
 }

@@ -1,23 +1,23 @@
 //! The row of a step, element by element.
 ghost use Rattle.std.specs.Prelude.{◌≡◌, ◌≤◌, ◌∷◌, [], length, string_bytes, OnOk};
 ghost use Rattle.csq_replay.specs.Lines.{GrewBy};
-ghost use Rattle.csq_draw.specs.Arrows.{found_in};
+ghost use Rattle.csq_draw.specs.Arrows.{found_at};
 ghost use Rattle.csq_draw.specs.Elements.{elements_text};
 ghost use Rattle.csq_draw.specs.Irps.{irp_named, with_irp};
-ghost use Rattle.csq_draw.specs.Pictures.{shade_elements, life_in, span_elements, bars_elements, arrow_elements, words_until, place_named, number_element, mark_element, call_element, behind_elements, row_after, fresh_irps, rows_elements};
+ghost use Rattle.csq_draw.specs.Pictures.{shade_elements, bars_elements, arrow_elements, words_until, place_named, number_element, mark_element, call_elements, behind_elements, row_after, fresh_irps, rows_elements};
 
-use crate::arrows::{Arrow, found_in};
+use crate::arrows::{Arrow, found_at};
 use crate::bars::Bars;
 use crate::calls::CallLine;
 use crate::element::Element;
 use crate::irps::{IrpNow, Seen, Spot, irp_column, irp_named, new_irps, note_irp};
 use crate::marks::{Legality, Mark, Number, Shade, lets_go, takes_lock};
 use crate::passes::{column_of, columns};
-use crate::picture::draw;
+use crate::picture::{draw, draw_line};
 use crate::rows::Row;
-use crate::spans::Span;
+use crate::spans::LineEnd;
 use csq_explain::PassNow;
-use irp_core::{IrpId, IrpLife, Kind, Life};
+use irp_core::Kind;
 use std::alloc::{AllocError, Allocator};
 
 /// The shade behind a row, if a pass has the lock there.
@@ -40,40 +40,6 @@ fn draw_shade<A: Allocator>(
         last: lets_go(row.step),
     };
     draw(Element::Shade(shade), text)
-}
-
-/// The life of an IRP that so much is known of.
-pub(crate) fn life_in(irp: IrpId, now: IrpNow) -> IrpLife
-    ensures { result ≡ life_in irp now }
-{
-    match now.last {
-        Some(seen) => seen.words.name,
-        None => IrpLife { irp, life: Life(0) },
-    }
-}
-
-/// The line of the owner whose time with an IRP ends on a row, if one does. So much was known of the IRP before.
-fn draw_span<A: Allocator>(
-    passes: &[PassNow],
-    row: Row,
-    before: IrpNow,
-    text: &mut String<A>,
-) -> Result<(), AllocError>
-    requires { length passes.now ≤ 65 }
-    ensures { OnOk result (GrewBy (string_bytes text.old) (string_bytes text.new)
-        (elements_text (span_elements passes.now row.row before row.ended))) }
-{
-    let Some(owner) = row.ended else {
-        return Ok(());
-    };
-    let span = Span {
-        column: column_of(passes, owner.pass),
-        owner,
-        name: life_in(owner.irp, before),
-        to: row.row,
-        to_the_end: false,
-    };
-    draw(Element::Span(span), text)
 }
 
 /// The words of the IRP at this place from its last step to a row, or to the end.
@@ -104,7 +70,7 @@ pub(crate) fn draw_bars<A: Allocator>(
 
 /// An arrow from the step that wrote what a row's step found, if it was another pass's.
 #[tactic(auto, unfolding(irp_core::specs::Steps::same_pass))]
-pub(crate) fn draw_arrow<A: Allocator>(
+fn draw_arrow<A: Allocator>(
     passes: &[PassNow],
     row: Row,
     found: Option<Spot>,
@@ -142,7 +108,7 @@ fn place_named(irps: &[IrpNow], kind: Kind) -> u32
 }
 
 /// The words that the IRP of a step had until then.
-pub(crate) fn draw_words<A: Allocator>(
+fn draw_words<A: Allocator>(
     passes: &[PassNow],
     irps: &[IrpNow],
     before: IrpNow,
@@ -167,10 +133,9 @@ fn draw_found<A: Allocator>(
 ) -> Result<(), AllocError>
     requires { length passes.now ≤ 65 }
     ensures { OnOk result (GrewBy (string_bytes text.old) (string_bytes text.new)
-        (elements_text (arrow_elements passes.now row
-        (found_in before row.step.made.kind row.step.made.found)))) }
+        (elements_text (arrow_elements passes.now row (found_at before row)))) }
 {
-    let found = found_in(before, row.step.made);
+    let found = found_at(before, row);
     draw_arrow(passes, row, found, text)
 }
 
@@ -188,14 +153,14 @@ fn draw_behind<A: Allocator>(
         (elements_text (behind_elements passes.now irps.now before row))) }
 {
     draw_shade(passes, row, text)?;
-    draw_span(passes, row, before, text)?;
+    draw_line(passes, row.row, LineEnd::Step, row.ended, text)?;
     draw_words(passes, irps, before, row, text)?;
     draw_found(passes, before, row, text)?;
     Ok(())
 }
 
 /// The number of the line that names a step.
-pub(crate) fn draw_number<A: Allocator>(row: Row, text: &mut String<A>) -> Result<(), AllocError>
+fn draw_number<A: Allocator>(row: Row, text: &mut String<A>) -> Result<(), AllocError>
     ensures { OnOk result (GrewBy (string_bytes text.old) (string_bytes text.new)
         (elements_text (number_element row ∷ []))) }
 {
@@ -207,17 +172,16 @@ pub(crate) fn draw_number<A: Allocator>(row: Row, text: &mut String<A>) -> Resul
 }
 
 /// A step, in the column of its pass.
-pub(crate) fn draw_mark<A: Allocator>(
+fn draw_mark<A: Allocator>(
     passes: &[PassNow],
     irps: &[IrpNow],
     row: Row,
-    legality: Legality,
     text: &mut String<A>,
 ) -> Result<(), AllocError>
     requires few { length passes.now ≤ 65 }
     requires irps { length irps.now ≤ 1024 }
     ensures { OnOk result (GrewBy (string_bytes text.old) (string_bytes text.new)
-        (elements_text (mark_element passes.now irps.now row legality ∷ []))) }
+        (elements_text (mark_element passes.now irps.now row ∷ []))) }
 {
     let mark = Mark {
         row: row.row,
@@ -225,13 +189,13 @@ pub(crate) fn draw_mark<A: Allocator>(
         columns: columns(passes),
         place: place_named(irps, row.step.made.kind),
         step: row.step,
-        legality,
+        legality: row.legality,
         words: row.words,
     };
     draw(Element::Mark(mark), text)
 }
 
-/// The call that a step is of, of whose IRP so much was known before.
+/// The call that a step is of, of whose IRP so much was known before. From a refusal on nothing is known of calls.
 fn draw_call<A: Allocator>(
     passes: &[PassNow],
     before: IrpNow,
@@ -240,8 +204,11 @@ fn draw_call<A: Allocator>(
 ) -> Result<(), AllocError>
     requires { length passes.now ≤ 65 }
     ensures { OnOk result (GrewBy (string_bytes text.old) (string_bytes text.new)
-        (elements_text (call_element passes.now before row ∷ []))) }
+        (elements_text (call_elements passes.now before row row.legality))) }
 {
+    if !matches!(row.legality, Legality::Legal) {
+        return Ok(());
+    }
     let call = CallLine {
         row: row.row,
         column: column_of(passes, row.step.made.pass),
@@ -266,7 +233,7 @@ fn draw_row<A: Allocator>(
 {
     draw_number(row, text)?;
     draw_behind(passes, irps, before, row, text)?;
-    draw_mark(passes, irps, row, Legality::Legal, text)?;
+    draw_mark(passes, irps, row, text)?;
     draw_call(passes, before, row, text)?;
     Ok(())
 }

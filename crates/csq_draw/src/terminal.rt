@@ -5,16 +5,17 @@ ghost use Rattle.csq_draw.specs.Captions.{caption_of};
 ghost use Rattle.csq_draw.specs.Endings.{broken_line};
 ghost use Rattle.csq_explain.specs.Reasons.{reason_text};
 ghost use Rattle.csq_draw.specs.Passes.{columns, column_of};
-ghost use Rattle.csq_draw.specs.Terminal.{each_text, spaces, in_width, cell_text, words_cells, row_cells, row_text, wrong_row_text, ended_lines, order_lines, wrong_stopped_lines, broken_lines, pass_cell, rows_text, life_cell, irp_line_reported, rest_line, stopped_lines, closed_lines};
+ghost use Rattle.csq_draw.specs.Terminal.{each_text, spaces, in_width, cell_text, words_cells, row_cells, state_cell, row_text, ended_lines, broken_lines, pass_cell, rows_text, life_cell, irp_line_reported, closed_lines};
+ghost use Rattle.csq_draw.specs.Pictures.{end_of};
 
 use crate::caption::Caption;
 use crate::cells::Cell;
-use crate::ending::{BrokenLine, IrpEnding, StopText, rest_of};
+use crate::ending::{BrokenLine, Ending, IrpEnding, Rest, StopText};
 use crate::irps::{IrpNow, irp_at};
+use crate::marks::Legality;
 use crate::passes::{column_of, columns};
 use crate::rows::Row;
 use crate::words::WordValues;
-use crate::wrong_rows::WrongRow;
 use csq_explain::{HarmAt, PassNow, Reason, add_harms};
 use csq_replay::IrpLine;
 use irp_core::{IrpLife, PassId};
@@ -106,7 +107,17 @@ fn push_cells<A: Allocator>(
     text.push('\n')
 }
 
-/// Adds the row of a step, with who has the lock.
+/// Who has the lock at a step, and from the refused one on how it stands to the protocol.
+fn state_cell(row: Row) -> Cell
+    ensures { result ≡ state_cell row row.legality }
+{
+    match row.legality {
+        Legality::Legal => Cell::Lock(row.lock),
+        legality => Cell::Protocol(legality),
+    }
+}
+
+/// Adds the row of a step.
 fn push_row<A: Allocator>(
     passes: &[PassNow],
     row: Row,
@@ -116,20 +127,7 @@ fn push_row<A: Allocator>(
     ensures { OnOk result (GrewBy (string_bytes text.old) (string_bytes text.new)
         (row_text passes.now row)) }
 {
-    push_cells(passes, Cell::Lock(row.lock), row, text)
-}
-
-/// Adds the row of a refused step or of one behind it, with how it stands to the protocol.
-fn push_wrong_row<A: Allocator>(
-    passes: &[PassNow],
-    wrong: WrongRow,
-    text: &mut String<A>,
-) -> Result<(), AllocError>
-    requires { length passes.now ≤ 65 }
-    ensures { OnOk result (GrewBy (string_bytes text.old) (string_bytes text.new)
-        (wrong_row_text passes.now wrong)) }
-{
-    push_cells(passes, Cell::Protocol(wrong.legality), wrong.row, text)
+    push_cells(passes, state_cell(row), row, text)
 }
 
 /// Adds the name of a pass, over its column, if it makes a step.
@@ -172,22 +170,6 @@ fn push_rows<A: Allocator>(
 {
     for row in rows {
         push_row(passes, *row, text)?;
-    }
-    Ok(())
-}
-
-/// Adds the rows from the refused step on.
-fn push_behind<A: Allocator>(
-    passes: &[PassNow],
-    behind: &[WrongRow],
-    text: &mut String<A>,
-) -> Result<(), AllocError>
-    requires { length passes.now ≤ 65 }
-    ensures { OnOk result (GrewBy (string_bytes text.old) (string_bytes text.new)
-        (each_text (λ n wrong. wrong_row_text passes.now wrong) 0 behind.now)) }
-{
-    for wrong in behind {
-        push_wrong_row(passes, *wrong, text)?;
     }
     Ok(())
 }
@@ -236,17 +218,17 @@ fn push_reported<A: Allocator>(
     Ok(())
 }
 
-/// Adds whether all is at rest in the end.
-fn push_rest<A: Allocator>(
-    passes: &[PassNow],
-    at_rest: bool,
+/// Adds where each IRP is in the end, and whether all is at rest.
+fn push_closed<A: Allocator>(
+    irps: &[IrpNow],
+    reported: &[IrpLine],
+    rest: Rest,
     text: &mut String<A>,
 ) -> Result<(), AllocError>
-    requires { length passes.now ≤ 65 }
     ensures { OnOk result (GrewBy (string_bytes text.old) (string_bytes text.new)
-        (rest_line passes.now at_rest)) }
+        (closed_lines irps.now reported.now rest)) }
 {
-    let rest = rest_of(passes, at_rest);
+    push_reported(irps, reported, text)?;
     writeln!(text, "{rest}")
 }
 
@@ -263,62 +245,6 @@ fn push_ended<A: Allocator>(
     writeln!(text, "line {line}: {refusal}\n  {reason}")
 }
 
-/// Writes the caption, the steps, and the line that ended the handling.
-pub(crate) fn write_stopped<A: Allocator>(
-    caption: &Caption<A>,
-    passes: &[PassNow],
-    rows: &[Row],
-    line: usize,
-    reason: Reason,
-    text: &mut String<A>,
-) -> Result<(), AllocError>
-    requires { length passes.now ≤ 65 }
-    ensures { OnOk result (GrewBy (string_bytes text.old) (string_bytes text.new)
-        (stopped_lines (caption_of caption.now) passes.now rows.now line reason)) }
-{
-    text.push_str(caption.plain.as_str())?;
-    push_steps(passes, rows, text)?;
-    push_ended(line, reason, text)?;
-    Ok(())
-}
-
-/// Writes the caption, and all steps of an order.
-fn write_order<A: Allocator>(
-    caption: &Caption<A>,
-    passes: &[PassNow],
-    rows: &[Row],
-    behind: &[WrongRow],
-    text: &mut String<A>,
-) -> Result<(), AllocError>
-    requires { length passes.now ≤ 65 }
-    ensures { OnOk result (GrewBy (string_bytes text.old) (string_bytes text.new)
-        (order_lines (caption_of caption.now) passes.now rows.now behind.now)) }
-{
-    text.push_str(caption.plain.as_str())?;
-    push_steps(passes, rows, text)?;
-    push_behind(passes, behind, text)?;
-    Ok(())
-}
-
-/// Writes the caption, all steps of an order, and the line that ended the handling.
-pub(crate) fn write_wrong_stopped<A: Allocator>(
-    caption: &Caption<A>,
-    passes: &[PassNow],
-    rows: &[Row],
-    behind: &[WrongRow],
-    line: usize,
-    reason: Reason,
-    text: &mut String<A>,
-) -> Result<(), AllocError>
-    requires { length passes.now ≤ 65 }
-    ensures { OnOk result (GrewBy (string_bytes text.old) (string_bytes text.new)
-        (wrong_stopped_lines (caption_of caption.now) passes.now rows.now behind.now line reason)) }
-{
-    write_order(caption, passes, rows, behind, text)?;
-    push_ended(line, reason, text)?;
-    Ok(())
-}
-
 /// Adds the line in which the protocol was broken, and why.
 fn push_broken<A: Allocator>(
     line: usize,
@@ -332,44 +258,48 @@ fn push_broken<A: Allocator>(
     writeln!(text, "{broken}\n  {reason}")
 }
 
-/// Writes the caption, all steps of an order, in which line it broke the protocol, why, and what goes wrong.
-pub(crate) fn write_broken<A: Allocator>(
-    caption: &Caption<A>,
-    passes: &[PassNow],
-    rows: &[Row],
-    behind: &[WrongRow],
+/// Adds the line in which the protocol was broken, why, and what goes wrong.
+fn push_harms<A: Allocator>(
     line: usize,
     reason: Reason,
     harms: &[HarmAt],
     text: &mut String<A>,
 ) -> Result<(), AllocError>
-    requires { length passes.now ≤ 65 }
-    ensures { OnOk result (GrewBy (string_bytes text.old) (string_bytes text.new) (broken_lines
-        (caption_of caption.now) passes.now rows.now behind.now line reason harms.now)) }
+    ensures { OnOk result (GrewBy (string_bytes text.old) (string_bytes text.new)
+        (broken_lines line reason harms.now)) }
 {
-    write_order(caption, passes, rows, behind, text)?;
     push_broken(line, reason, text)?;
     add_harms(harms, text)?;
     Ok(())
 }
 
-/// Writes the caption, the steps, and what is reported in the end.
-pub(crate) fn write_closed<A: Allocator>(
+/// Adds how the picture ends.
+fn push_end<A: Allocator>(ending: Ending<'_>, text: &mut String<A>) -> Result<(), AllocError>
+    ensures { OnOk result (GrewBy (string_bytes text.old) (string_bytes text.new)
+        (end_of ending.entry).text) }
+{
+    match ending {
+        Ending::Stopped(line, reason) => push_ended(line, reason, text),
+        Ending::Closed(irps, reported, rest) => push_closed(irps, reported, rest, text),
+        Ending::Broken(line, reason, harms) => push_harms(line, reason, harms, text),
+    }
+}
+
+/// Writes a caption, the rows of these passes, and how the picture ends.
+pub(crate) fn write_text<A: Allocator>(
     caption: &Caption<A>,
     passes: &[PassNow],
-    irps: &[IrpNow],
     rows: &[Row],
-    reported: &[IrpLine],
-    at_rest: bool,
+    ending: Ending<'_>,
     text: &mut String<A>,
 ) -> Result<(), AllocError>
     requires { length passes.now ≤ 65 }
     ensures { OnOk result (GrewBy (string_bytes text.old) (string_bytes text.new)
-        (closed_lines (caption_of caption.now) passes.now irps.now rows.now reported.now at_rest)) }
+        ((caption_of caption.now).plain
+        ++ (rows_text passes.now rows.now ++ (end_of ending.entry).text))) }
 {
     text.push_str(caption.plain.as_str())?;
     push_steps(passes, rows, text)?;
-    push_reported(irps, reported, text)?;
-    push_rest(passes, at_rest, text)?;
+    push_end(ending, text)?;
     Ok(())
 }

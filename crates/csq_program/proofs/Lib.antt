@@ -2,3 +2,4 @@ mod Appending
 mod Numbers
 mod RunTexts
 mod Drawings
+mod FirstLines

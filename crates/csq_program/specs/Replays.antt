@@ -3,7 +3,7 @@ use Rattle.std.specs.Prelude.{ℕ, List, Option}
 use Rattle.std.specs.Option.{unwrap_or}
 use Rattle.irp_core.specs.Runs.{Size}
 use Rattle.csq_explain.specs.Executions.{StopsFor}
-use Rattle.csq_draw.specs.declared.format.Format.{Format}
+use Rattle.csq_draw.specs.declared.view.View.{View}
 use Rattle.csq_draw.specs.WrongDrawings.{DrawsOrderClosing, DrawsOrderLine, new_wrong_drawn}
 use Rattle.csq_diagnose.specs.declared.diagnosed.Report.{Report}
 use Rattle.csq_diagnose.specs.Reports.{IsReportUntil}
@@ -15,5 +15,5 @@ abbrev pub limits_or_all : ℕ → ℕ → Option ℕ → Option ℕ → ScriptL
 limits_or_all irps files limit file_limit = record { irps = irps; files = files; limit = unwrap_or limit irps; file_limit = unwrap_or file_limit irps }
 
 -- a schedule that may break the protocol is drawn so, with its diagnosis
-abbrev pub IsWrongDrawingReport : {A : Type 0} → Size → Format → List ℕ → Report A → Type 0
-IsWrongDrawingReport size format = IsReportUntil (DrawsOrderLine size format) (λ d. StopsFor size d.own) (DrawsOrderClosing size format) ReportsReason new_wrong_drawn
+abbrev pub IsWrongDrawingReport : {A : Type 0} → Size → View → List ℕ → Report A → Type 0
+IsWrongDrawingReport size view = IsReportUntil (DrawsOrderLine size view) (λ d. StopsFor size d.own) (DrawsOrderClosing size view) ReportsReason new_wrong_drawn

@@ -2,17 +2,16 @@
 ghost use Rattle.std.specs.Prelude.{◌≡◌, ◌≤◌, codes, IfErr, IfOk, IfSome};
 ghost use Rattle.irp_core.specs.Runs.{IsInLimits};
 ghost use Rattle.csq_list.specs.AnyLists.{is_chained};
-ghost use Rattle.csq_program.specs.Jobs.{AreTooMany, IsFlag, IsInRange, IsJobOf, IsLimit, IsNumberOption, IsRefusalOf, IsSource, ReportsJobFlag, ReportsNumbers, ReportsSource, fault_number};
+ghost use Rattle.csq_program.specs.Jobs.{IsFlag, IsGivenNumber, IsInRange, IsJobOf, IsNumberOption, IsRefusalOf, IsSource, RefusesOptions, ReportsJobFlag, ReportsNumbers, ReportsSource, fault_number};
 
-use crate::help::{
-    ABOUT, DRAW_ABOUT, DRAW_HELP, HELP, SCHEDULE_ABOUT, SCHEDULE_HELP, SCRIPT_ABOUT, SCRIPT_HELP,
-    VERSION,
-};
+use crate::draw_options::{CrossedLines, NoSuchIrp, draw_command, draw_job};
+use crate::help::{ABOUT, HELP, SCHEDULE_ABOUT, SCHEDULE_HELP, SCRIPT_ABOUT, SCRIPT_HELP, VERSION};
 use crate::run_options::{TooManyBusyWorkers, device_job, run_command};
 use crate::source::Source;
 use clap::error::ErrorKind;
 use clap::{Arg, ArgAction, ArgMatches, Command, value_parser};
 use csq_device::Plan;
+use csq_draw::View;
 use csq_list::{ListKind, MAX_FILES};
 use irp_core::{MAX_IRPS, MAX_PASSES};
 use std::alloc::{AllocError, Global};
@@ -32,13 +31,14 @@ pub enum Job<'a> {
         explain: bool,
         wrong: bool,
     },
-    /// To draw a schedule over this many IRPs and passes, as text or as an SVG picture; or to go on behind a step that
-    /// the protocol refuses.
+    /// To draw a schedule over this many IRPs and passes, so much of it and in this format, as if it ended behind
+    /// line `to` if one is named; or to go on behind a step that the protocol refuses.
     Draw {
         source: Source<'a>,
         irps: u32,
         passes: u32,
-        text: bool,
+        view: View,
+        to: Option<u32>,
         wrong: bool,
     },
     /// To make the calls of a script over this many IRPs and file objects, of which `limit` IRPs may
@@ -75,6 +75,12 @@ pub enum CommandFault {
     /// 3: it asks for more busy workers than the other threads leave passes for.
     #[error(transparent)]
     BusyWorkers(#[from] TooManyBusyWorkers),
+    /// 4: it has a picture begin behind the line that it ends with.
+    #[error(transparent)]
+    Crossed(#[from] CrossedLines),
+    /// 5: it asks for the steps of an IRP that there isn't.
+    #[error(transparent)]
+    NoSuchIrp(#[from] NoSuchIrp),
 }
 
 impl CommandFault {
@@ -86,6 +92,8 @@ impl CommandFault {
             CommandFault::Memory => 1,
             CommandFault::Refused(_) => 2,
             CommandFault::BusyWorkers(_) => 3,
+            CommandFault::Crossed(_) => 4,
+            CommandFault::NoSuchIrp(_) => 5,
         }
     }
 }
@@ -124,7 +132,7 @@ pub(crate) struct NumberOption<'a> {
 
 impl<'a> NumberOption<'a> {
     /// The option as `clap` has it.
-    fn arg(self, alloc: Global) -> Arg<'a> {
+    pub(crate) fn arg(self, alloc: Global) -> Arg<'a> {
         let arg = Arg::new(alloc, self.name)
             .long(self.name)
             .value_name("N")
@@ -202,7 +210,7 @@ pub(crate) fn with_flag<'a>(
 }
 
 /// What the flag for wrong orders does.
-const WRONG_HELP: &str = "Goes on behind a refused step, by the two words alone";
+pub(crate) const WRONG_HELP: &str = "Goes on behind a refused step, by the two words alone";
 
 /// The command with the flag for wrong orders, of which neither claims nor sentences are reported.
 fn with_wrong<'a>(alloc: Global, command: Command<'a>) -> Result<Command<'a>, AllocError> {
@@ -230,7 +238,7 @@ fn with_file<'a>(alloc: Global, command: Command<'a>) -> Result<Command<'a>, All
 }
 
 /// A command that reads a schedule, with how many IRPs and passes there are.
-fn machine_command<'a>(alloc: Global, name: &'a str) -> Result<Command<'a>, AllocError> {
+pub(crate) fn machine_command<'a>(alloc: Global, name: &'a str) -> Result<Command<'a>, AllocError> {
     let passes = NumberOption {
         name: "passes",
         help: "Passes, 1 to 64",
@@ -241,16 +249,6 @@ fn machine_command<'a>(alloc: Global, name: &'a str) -> Result<Command<'a>, Allo
     };
     let command = number_command(alloc, name, &[irps_option("8"), passes])?;
     with_file(alloc, command)
-}
-
-/// The command line of a picture.
-fn draw_command<'a>(alloc: Global) -> Result<Command<'a>, AllocError> {
-    let command = machine_command(alloc, "draw")?
-        .about(DRAW_ABOUT)
-        .after_help(DRAW_HELP);
-    let help = "Draws for a terminal, in letters alone";
-    let command = with_flag(alloc, command, "text", help)?;
-    with_flag(alloc, command, "wrong", WRONG_HELP)
 }
 
 /// The command line of a schedule.
@@ -317,13 +315,13 @@ pub(crate) fn number_in(options: &ArgMatches<'_>, name: &str, most: u32, default
     }
 }
 
-/// The limit of this name, if one is given.
-fn limit_in(options: &ArgMatches<'_>, name: &str) -> Option<u32>
-    ensures range { IfSome result (λ limit. (1 ≤ limit) × (limit ≤ 1024)) }
-    ensures limit { IsLimit options.now name.now result }
+/// The number of an option without a default, if one is given whose text is a number from `least` to `most`.
+pub(crate) fn given_in(options: &ArgMatches<'_>, name: &str, least: u32, most: u32) -> Option<u32>
+    ensures range { IfSome result (λ number. (least ≤ number) × (number ≤ most)) }
+    ensures number { IsGivenNumber options.now name.now least most result }
 {
     match options.get_one::<u32>(name) {
-        Some(limit) if 1 <= limit && limit <= MAX_IRPS => Some(limit),
+        Some(number) if least <= number && number <= most => Some(number),
         _ => None,
     }
 }
@@ -340,7 +338,7 @@ pub(crate) fn list_kind(options: &ArgMatches<'_>) -> ListKind
 }
 
 /// Where the command reads from: a file that is named, other than by -, or else standard input.
-fn source_in<'a>(options: &ArgMatches<'a>) -> Source<'a>
+pub(crate) fn source_in<'a>(options: &ArgMatches<'a>) -> Source<'a>
     ensures { IsSource options.now result }
 {
     match options.get_str("file") {
@@ -350,7 +348,7 @@ fn source_in<'a>(options: &ArgMatches<'a>) -> Source<'a>
 }
 
 /// How many IRPs and passes a machine has.
-fn machine_size(options: &ArgMatches<'_>) -> (u32, u32)
+pub(crate) fn machine_size(options: &ArgMatches<'_>) -> (u32, u32)
     ensures range { IsInLimits (record { irps = result.0; passes = result.1; first = 0 }) }
     ensures irps { IsNumberOption options.now (codes "irps") 1024 8 result.0 }
     ensures passes { IsNumberOption options.now (codes "passes") 64 4 result.1 }
@@ -378,23 +376,6 @@ fn schedule_job<'a>(options: &ArgMatches<'a>) -> Job<'a>
     }
 }
 
-fn draw_job<'a>(options: &ArgMatches<'a>) -> Job<'a>
-    ensures range { IsInRange result }
-    ensures command { IsJobOf (codes "draw") result }
-    ensures source { ReportsSource options.now result }
-    ensures flag { ReportsJobFlag options.now result }
-    ensures numbers { ReportsNumbers options.now result }
-{
-    let (irps, passes) = machine_size(options);
-    Job::Draw {
-        source: source_in(options),
-        irps,
-        passes,
-        text: options.get_flag("text"),
-        wrong: options.get_flag("wrong"),
-    }
-}
-
 fn script_job<'a>(options: &ArgMatches<'a>) -> Job<'a>
     ensures range { IsInRange result }
     ensures command { IsJobOf (codes "script") result }
@@ -406,28 +387,30 @@ fn script_job<'a>(options: &ArgMatches<'a>) -> Job<'a>
         source: source_in(options),
         irps: number_in(options, "irps", MAX_IRPS, 8),
         files: number_in(options, "files", MAX_FILES, 4),
-        limit: limit_in(options, "limit"),
-        file_limit: limit_in(options, "file-limit"),
+        limit: given_in(options, "limit", 1, MAX_IRPS),
+        file_limit: given_in(options, "file-limit", 1, MAX_IRPS),
         list: list_kind(options),
         explain: options.get_flag("explain"),
     }
 }
 
 /// What the command of this name is asked to do; `schedule` is the one that is left. A `run` is refused if it
-/// has too many busy workers.
-fn job_of<'a>(name: &str, options: &ArgMatches<'a>) -> Result<Job<'a>, TooManyBusyWorkers>
+/// has too many busy workers, and a `draw` if its lines are crossed or its IRP isn't there.
+fn job_of<'a>(name: &str, options: &ArgMatches<'a>) -> Result<Job<'a>, CommandFault>
     ensures range { IfOk result IsInRange }
     ensures command { IfOk result (IsJobOf name.now) }
     ensures source { IfOk result (ReportsSource options.now) }
     ensures flag { IfOk result (ReportsJobFlag options.now) }
     ensures numbers { IfOk result (ReportsNumbers options.now) }
-    ensures refused { IfErr result (λ refused. (name.now ≡ codes "run")
-        × AreTooMany options.now refused.busy_workers refused.left) }
+    ensures refused { IfErr result (RefusesOptions name.now options.now) }
 {
     match name {
-        "draw" => Ok(draw_job(options)),
+        "draw" => draw_job(options),
         "script" => Ok(script_job(options)),
-        "run" => device_job(options),
+        "run" => match device_job(options) {
+            Ok(job) => Ok(job),
+            Err(refused) => Err(CommandFault::BusyWorkers(refused)),
+        },
         _ => Ok(schedule_job(options)),
     }
 }
@@ -435,7 +418,8 @@ fn job_of<'a>(name: &str, options: &ArgMatches<'a>) -> Result<Job<'a>, TooManyBu
 /// Reads a command line, the program's name first.
 ///
 /// Refused: 1 Memory; 2 Refused, with `clap`'s error, which also carries the help that was asked for; 3
-/// BusyWorkers, if a run has more of these than the other threads leave passes for.
+/// BusyWorkers, if a run has more of these than the other threads leave passes for; 4 Crossed, if a picture
+/// begins behind the line that it ends with; 5 NoSuchIrp, if it is of the steps of an IRP that there isn't.
 /// Own rule.
 pub fn read_command<'a, S: AsStr>(alloc: Global, words: &'a [S]) -> Result<Job<'a>, CommandFault>
     ensures { IfOk result IsInRange }

@@ -76,12 +76,13 @@ these that holds. Standard error says more.
   NotCompleted  a renew of an IRP that isn't completed
   LivesSpent    a renew of an IRP in its last life, 1073741823
 
-With --wrong a refused step is made all the same, and the schedule goes on by
-the two words of each IRP alone, as code does that breaks the protocol there:
-each step finds what the word holds. The first refused step has its refusal
-behind it. The end says whether the protocol was kept, and what goes wrong: a
-second completion of an IRP, a cancel that nobody asked for, an IRP that waits
-for good.
+With --wrong a refused step is made all the same, unless there is no such IRP or
+pass, and the schedule goes on by the two words of each IRP alone, as code does
+that breaks the protocol there: each step finds what the word holds. The first
+refused step has its refusal behind it. The end says whether the protocol was
+kept, and what goes wrong: a second completion of an IRP, a cancel that nobody
+asked for, an IRP that waits for good. It goes with neither --claims nor
+--explain.
 
 Words are separated by one space, and the case of letters counts. A number has
 at most nine digits, and no zero before them. Empty lines, and lines that begin
@@ -120,8 +121,9 @@ with any status: a schedule names none.
                wide line below is a word that stays set
 The comment before the first step is above, its first line as the title; an
 empty line ends it. It has at most eight lines, and a question mark for a
-control character and for a byte that isn't UTF-8. A line as p1: ReadFile names
-a pass, and stands over its column, cut to 24 characters.
+control character, for one that turns a text's direction, and for a byte that
+isn't UTF-8. The first line as # p1: ReadFile names a pass, and stands over its
+column, cut to 24 characters. A comment too is too long above 64 bytes.
 A browser describes each box and each line in words if the pointer rests on it
 and the picture is opened by itself.
 A line that ends the schedule is last, marked as refused, with its refusal and a
@@ -137,10 +139,20 @@ the first step is above, and the sentences of the end are below.
 
 With --wrong a refused step is drawn all the same, in red with its refusal, and
 the schedule goes on in grey by the two words of each IRP alone, as csqsim
-schedule --wrong does: what a step found is what the word held. Nothing is known
-then of calls, of the lock, and of who owes or holds an IRP. The end says in
+schedule --wrong does: what a step found is what the word held. (A step of an
+IRP or a pass that there isn't still ends it.) Nothing is known then of calls,
+of the lock, and of who owes or holds an IRP; and where steps name several lives
+of an IRP, not each arrow is drawn. The end says in
 which line the protocol was broken, why, and what goes wrong. With --text a !
 stands before the refused step, and a ? before those behind it.
+
+A part of a long schedule is drawn with --from, --to and --irp. The steps of
+lines before that of --from are made, but not drawn. The schedule ends behind
+the line of --to, as if none came after it. With --irp the steps of other IRPs
+are made, but not drawn; those of this IRP are drawn in each of its lives. A
+line of a pass that had the IRP before begins with the first row, and no arrow,
+circle or call tells of a step that isn't drawn. The sentences of the end are of
+all steps that were made.
 
 An input of more than 1048576 bytes is answered input too long, and nothing is
 drawn.

@@ -2,7 +2,9 @@
 #![tactic(auto)]
 
 mod command;
+mod cut;
 mod device_run;
+mod draw_options;
 mod gate;
 mod help;
 mod program;
@@ -13,6 +15,7 @@ mod totals_text;
 
 pub use command::{CommandFault, Job, read_command, refuse_bytes};
 pub use device_run::{RunFault, answer_run};
+pub use draw_options::{CrossedLines, NoSuchIrp};
 pub use program::{ProgramFault, run_program, status_of};
 pub use run_options::TooManyBusyWorkers;
 pub use source::{Source, SourceFault};

@@ -98,7 +98,7 @@ fn report_command_fault<R: Print + Eprint>(
             printed.map_err(|_| SimFault::Write)?;
             Ok(DONE)
         }
-        CommandFault::BusyWorkers(refused) => {
+        refused => {
             let _ = eprintln!(rt; "csqsim: {refused}");
             Ok(REFUSED)
         }
@@ -124,9 +124,10 @@ where
             source,
             irps,
             passes,
-            text,
+            view,
+            to,
             wrong,
-        } => run_drawing(rt, source, irps, passes, text, wrong),
+        } => run_drawing(rt, source, irps, passes, view, to, wrong),
         Job::Script {
             source,
             irps,

@@ -9,12 +9,14 @@ ghost use Rattle.csq_diagnose.specs.Schedules.{IsScheduleDiagnosis};
 ghost use Rattle.csq_replay.specs.declared.lines.answer.Ended.TheVariants as Ended;
 ghost use Rattle.csq_replay.specs.declared.lines.answer.SimFault.TheVariants.{Write};
 ghost use Rattle.csq_program.specs.declared.program.ProgramFault.TheVariants.{Replay};
+ghost use Rattle.csq_program.specs.Cuts.{drawn_input};
 ghost use Rattle.csq_program.specs.Replays.{limits_or_all, IsWrongDrawingReport};
 
+use crate::cut::cut_input;
 use crate::program::{ProgramFault, REFUSED};
 use crate::source::Source;
 use csq_diagnose::{Report, report_input, report_schedule, report_script, report_wrong_order};
-use csq_draw::{Drawing, Format, WrongDrawing};
+use csq_draw::{Drawing, View, WrongDrawing};
 use csq_list::{AnyList, ListKind, PendingList};
 use csq_replay::{Ended, SimFault, exit_status};
 use irp_core::SizeRefused;
@@ -43,56 +45,60 @@ pub(crate) fn run_schedule<R: AllocGlobal + Print + Eprint + Input + Files>(
     finish(rt, source, &report)
 }
 
-/// Draws a schedule, and diagnoses it: its steps are made once.
+/// Draws a schedule up to the line that is named, and diagnoses it: its steps are made once.
 fn report_drawing(
     alloc: Global,
     irps: u32,
     passes: u32,
-    format: Format,
+    view: View,
+    to: Option<u32>,
     input: &[u8],
 ) -> Result<Report<Global>, AllocError>
     requires { IsInLimits (record { irps = irps; passes = passes; first = 0 }) }
     ensures { IfOk result
-        (IsReport (IsDrawing (record { irps = irps; passes = passes; first = 0 }) format)
-        (IsScheduleDiagnosis (record { irps = irps; passes = passes; first = 0 })) input.now) }
+        (IsReport (IsDrawing (record { irps = irps; passes = passes; first = 0 }) view)
+        (IsScheduleDiagnosis (record { irps = irps; passes = passes; first = 0 }))
+        (drawn_input to input.now)) }
 {
-    let mut drawing = Drawing::new(alloc, irps, passes, format)?;
-    report_input(alloc, &mut drawing, input)
+    let mut drawing = Drawing::new(alloc, irps, passes, view)?;
+    report_input(alloc, &mut drawing, cut_input(input, to))
 }
 
-/// Draws a schedule that may break the protocol, and diagnoses it.
+/// Draws a schedule that may break the protocol up to the line that is named, and diagnoses it.
 fn report_wrong_drawing(
     alloc: Global,
     irps: u32,
     passes: u32,
-    format: Format,
+    view: View,
+    to: Option<u32>,
     input: &[u8],
 ) -> Result<Report<Global>, AllocError>
     requires { IsInLimits (record { irps = irps; passes = passes; first = 0 }) }
     ensures { IfOk result
-        (IsWrongDrawingReport (record { irps = irps; passes = passes; first = 0 }) format input.now) }
+        (IsWrongDrawingReport (record { irps = irps; passes = passes; first = 0 }) view
+        (drawn_input to input.now)) }
 {
-    let mut drawing = WrongDrawing::new(alloc, irps, passes, format)?;
-    report_input(alloc, &mut drawing, input)
+    let mut drawing = WrongDrawing::new(alloc, irps, passes, view)?;
+    report_input(alloc, &mut drawing, cut_input(input, to))
 }
 
-/// Draws a schedule, as text or as an SVG picture, or as one that may break the protocol.
+/// Draws a schedule up to the line that is named, or as one that may break the protocol.
 pub(crate) fn run_drawing<R: AllocGlobal + Print + Eprint + Input + Files>(
     rt: &R,
     source: Source<'_>,
     irps: u32,
     passes: u32,
-    text: bool,
+    view: View,
+    to: Option<u32>,
     wrong: bool,
 ) -> Result<u8, ProgramFault>
     requires { IsInLimits (record { irps = irps; passes = passes; first = 0 }) }
 {
     let input = source.read(rt)?;
-    let format = if text { Format::Text } else { Format::Svg };
     let report = if wrong {
-        report_wrong_drawing(rt.alloc(), irps, passes, format, &input)?
+        report_wrong_drawing(rt.alloc(), irps, passes, view, to, &input)?
     } else {
-        report_drawing(rt.alloc(), irps, passes, format, &input)?
+        report_drawing(rt.alloc(), irps, passes, view, to, &input)?
     };
     finish(rt, source, &report)
 }

@@ -2,7 +2,7 @@
 use csq_device::{Device, DeviceCause, DeviceNew, Free, Plan, RunRefused};
 use csq_explain::AnsweredCall;
 use csq_list::{AnyList, ListKind, PendingList, Place};
-use csq_program::{CommandFault, ProgramFault, RunFault, status_of};
+use csq_program::{CommandFault, CrossedLines, NoSuchIrp, ProgramFault, RunFault, status_of};
 use csq_replay::{CallRefused, Reply, ScriptCall, SimFault};
 use irp_core::{FileId, IrpId};
 use linked_list_allocator::LocalHeap;
@@ -132,6 +132,20 @@ fn find_text(rt: &(impl AllocGlobal + Abort), fault: ProgramFault, text: &str) -
     Ok(())
 }
 
+/// The refusals of a picture's part have these numbers.
+fn find_part_refusals(rt: &impl Abort) -> Result<(), Fail> {
+    let (crossed, no_irp) = (
+        CrossedLines { from: 2, to: 1 },
+        NoSuchIrp { irp: 8, irps: 8 },
+    );
+    let numbers = [
+        CommandFault::Crossed(crossed).number(),
+        CommandFault::NoSuchIrp(no_irp).number(),
+    ];
+    assert_eq!(rt; numbers, [4, 5]);
+    Ok(())
+}
+
 /// What a whole run reads and writes is told by other faults than those of answers.
 #[test]
 fn faults_have_numbers_and_texts(rt: HostRuntime) -> Result<(), Fail> {
@@ -156,6 +170,7 @@ fn faults_have_numbers_and_texts(rt: HostRuntime) -> Result<(), Fail> {
         [RunFault::Write.number(), CommandFault::Memory.number()],
         [4, 1]
     );
+    find_part_refusals(&rt)?;
     find_text(&rt, ProgramFault::Run(RunFault::Write), "write failed")
 }
 

@@ -1,13 +1,14 @@
+use Rattle.csq_draw.specs.Views.{whole}
 use Rattle.csq_draw.proofs.Imports.{Size, new_drawn}
-use Rattle.csq_draw.specs.declared.format.Format.TheVariants.{Svg}
+use Rattle.csq_draw.specs.declared.view.Format.TheVariants.{Svg}
 use Rattle.csq_draw.proofs.drawing.draw_schedule.Goals as goal
 
 pub reply-requires : goal.reply-requires
 reply-requires g c =
     let size : Size = record { irps = c.args.irps; passes = c.args.passes; first = 0 } in
-    ((size, Svg), new_drawn, c.in_ok-drawing.ensures)
+    ((size, whole Svg), new_drawn, c.in_ok-drawing.ensures)
 
 pub returns-clause-drawn : goal.returns-clause-drawn
 returns-clause-drawn g c =
     let size : Size = record { irps = c.args.irps; passes = c.args.passes; first = 0 } in
-    c.reply.ensures.answered (size, Svg) new_drawn c.in_ok-drawing.ensures
+    c.reply.ensures.answered (size, whole Svg) new_drawn c.in_ok-drawing.ensures

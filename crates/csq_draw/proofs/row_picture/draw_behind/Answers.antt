@@ -1,6 +1,6 @@
 use Rattle.std.proofs.Common.{◌++◌, false}
-use Rattle.csq_draw.proofs.Imports.{columns, shade_elements, span_elements, bars_elements, arrow_elements}
-use Rattle.csq_draw.specs.Arrows.{found_in}
+use Rattle.csq_draw.specs.declared.spans.LineEnd.TheVariants.{Step}
+use Rattle.csq_draw.proofs.Imports.{columns, shade_elements, span_elements, bars_elements, arrow_elements, found_at}
 use Rattle.csq_draw.specs.Pictures.{place_named}
 use Rattle.csq_draw.proofs.Growing.{grew_elements}
 use Rattle.csq_draw.proofs.row_picture.draw_behind.Goals as goal
@@ -10,10 +10,9 @@ returns g c =
     let passes = c.args.passes.now in
     let row = c.args.row in
     let before = c.args.before in
-    let made = row.step.made in
     let shade = shade_elements passes row row.lock in
-    let span = span_elements passes row.row before row.ended in
-    let bars = bars_elements (columns passes) (place_named c.args.irps.now made.kind) row.row false before.last in
-    let arrow = arrow_elements passes row (found_in before made.kind made.found) in
+    let span = span_elements passes row.row Step row.ended in
+    let bars = bars_elements (columns passes) (place_named c.args.irps.now row.step.made.kind) row.row false before.last in
+    let arrow = arrow_elements passes row (found_at before row) in
     grew_elements _ _ _ shade (span ++ (bars ++ arrow)) c.in_ok-draw_shade.ensures
-    (grew_elements _ _ _ span (bars ++ arrow) c.in_ok-draw_span.ensures (grew_elements _ _ _ bars arrow c.in_ok-draw_words.ensures c.in_ok-draw_found.ensures))
+    (grew_elements _ _ _ span (bars ++ arrow) c.in_ok-draw_line.ensures (grew_elements _ _ _ bars arrow c.in_ok-draw_words.ensures c.in_ok-draw_found.ensures))

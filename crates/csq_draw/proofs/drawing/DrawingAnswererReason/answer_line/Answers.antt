@@ -1,5 +1,5 @@
 use Rattle.std.proofs.Common.{ℕ, ◌<◌, ◌∷◌, [], ◌∙◌, Some, None, ap, sym, refl, subst, append-nil, arith, length}
-use Rattle.csq_draw.proofs.Imports.{Size, OfIrp, number, Numbered, length-passes, caption_after, ended_caption, Format, DrawingStandsAfter, stopped_text, lock_of}
+use Rattle.csq_draw.proofs.Imports.{Size, OfIrp, number, Numbered, length-passes, caption_after, ended_caption, DrawingStandsAfter, lock_of, stop_of, stopped_end, text_of}
 use Rattle.csq_replay.specs.declared.schedule.outcome.Outcome.TheVariants.{Skipped, Accepted, Stopped}
 use Rattle.csq_explain.specs.declared.execution.Execution.{Execution}
 use Rattle.csq_explain.specs.Executions.{Follows}
@@ -74,17 +74,19 @@ returns-in_ok-note-in-Accepted g c = λ k d a.
       (
         Some (record { caption = ended_caption d.caption; steps = w ∷ W }),
         (Accepted step.made, came.0, refl, refl),
-        (record { follows = subst P (sym noted.execution) came.2; shows = shows; captioned = noted.captioned ∙ ap ended_caption a.0.captioned }, noted.format ∙ a.1),
+        (record { follows = subst P (sym noted.execution) came.2; shows = shows; captioned = noted.captioned ∙ ap ended_caption a.0.captioned }, noted.view ∙ a.1),
       ),
     )
 
 pub returns-in_ok-draw_stop-in-Stopped : goal.returns-in_ok-draw_stop-in-Stopped
 returns-in_ok-draw_stop-in-Stopped g c = λ k d a.
-    let (size, format) = k in
+    let (size, view) = k in
+    let n = c.args.line.number in
     let reason = c.in-Stopped.reason in
-    let came = was_stopped size d.steps c.args.line.number c.args.line.bytes.now _ reason (c.in-Stopped.ensures size d.steps a.0.follows) in
-    let stands : DrawingStandsAfter _ size d = record { follows = came.2; shows = a.0.shows; captioned = a.0.captioned } in (
-      stopped_text size format d c.args.line.number reason.stop,
-      grew_same _ _ (λ (f : Format). stopped_text size f d c.args.line.number reason.stop) _ _ a.1 (c.in_ok-draw_stop-in-Stopped.ensures size d stands came.1),
+    let came = was_stopped size d.steps n c.args.line.bytes.now _ reason (c.in-Stopped.ensures size d.steps a.0.follows) in
+    let stands : DrawingStandsAfter _ size d = record { follows = came.2; shows = a.0.shows; captioned = a.0.captioned } in
+    let grew = grew_same _ _ (λ v. text_of size v d (stopped_end n reason)) _ _ a.1 (c.in_ok-draw_stop-in-Stopped.ensures size d stands) in (
+      text_of size view d (stop_of size d.steps n reason.stop),
+      grew_same _ _ (λ r. text_of size view d (stopped_end n r)) _ _ came.1 grew,
       (None, (Stopped reason.stop, came.0, refl, refl), (came.0, came.1)),
     )

@@ -1,6 +1,5 @@
-use Rattle.std.proofs.Common.{List, ap, length, arith, refl}
-use Rattle.csq_draw.proofs.Imports.{length-passes, Format, closed_text}
-use Rattle.csq_replay.specs.declared.schedule.closing.IrpLine.{IrpLine}
+use Rattle.std.proofs.Common.{ap, length, arith, refl}
+use Rattle.csq_draw.proofs.Imports.{close_of, length-passes, text_of}
 use Rattle.csq_draw.proofs.Growing.{grew_same}
 use Rattle.csq_draw.proofs.Showing.{owners_count}
 use Rattle.csq_draw.proofs.drawing.DrawingAnswererReason.close.Goals as goal
@@ -21,8 +20,8 @@ pub returns : goal.returns
 returns g c = λ k d a.
     let reported = c.in_ok-closing.closing.reported.items in
     let rest = c.in_ok-closing.closing.rest in
-    let grew = grew_same _ _ (λ (ts : List IrpLine). closed_text k.0 c.args.self.now.format d ts rest) _ reported c.deref.ensures.value (c.in_ok-draw_end.ensures k.0 d a.0) in (
-      closed_text k.0 k.1 d reported rest,
-      grew_same _ _ (λ (f : Format). closed_text k.0 f d reported rest) _ _ a.1 grew,
+    let grew = grew_same _ _ (λ ts. text_of k.0 c.args.self.now.view d (close_of k.0 d.steps ts rest)) _ reported c.deref.ensures.value (c.in_ok-draw_end.ensures k.0 d a.0) in (
+      text_of k.0 k.1 d (close_of k.0 d.steps reported rest),
+      grew_same _ _ (λ v. text_of k.0 v d (close_of k.0 d.steps reported rest)) _ _ a.1 grew,
       (reported, rest, c.in_ok-closing.ensures.closes k.0 d.steps a.0.follows, refl),
     )

@@ -1,0 +1,14 @@
+use Rattle.std.proofs.Common.{List, ℕ, length}
+use Rattle.csq_draw.specs.Captions.{caption_of}
+use Rattle.csq_draw.proofs.Imports.{end_of, grew_more, irp_columns, picture, picture_head, picture_of, shown_by}
+use Rattle.csq_draw.proofs.Growing.{grew_same}
+use Rattle.csq_draw.proofs.drawing.Drawing.draw_svg.Goals as goal
+
+pub returns : goal.returns
+returns g c =
+    let s = c.args.sheet in
+    let e = end_of c.args.ending in
+    let head : ℕ → ℕ → List ℕ = λ rows lines. picture_head s.passes.now (irp_columns s.irps.now) rows lines (caption_of c.args.self.now.caption) in
+    let headed = grew_same _ _ (λ n. head n c.in_ok-lines.lines) _ (length s.rows.now) c.in_ok-rows.ensures.counted c.in_ok-draw_head.ensures in
+    grew_more _ _ _ _ (picture (picture_of (shown_by s) (length s.rows.now) e)) (grew_same _ _ (head (length s.rows.now)) _ e.lines c.in_ok-lines.ensures headed)
+    (grew_same _ _ (λ n. picture (picture_of (shown_by s) n e)) _ _ c.in_ok-rows.ensures.counted c.in_ok-draw_picture.ensures)

@@ -1,0 +1,164 @@
+//! The part of a picture that a window shows: its rows follow each other, and the lines of owners move with them.
+ghost use Rattle.std.specs.Prelude.{◌≡◌, ◌++◌, ◌∷◌, [], length, map, IfOk, OnOk};
+ghost use Rattle.std.specs.Option.{option_map};
+ghost use Rattle.csq_draw.specs.Windows.{is_wanted, shows, next, places, place, moved_owner, moved, cut, open_in};
+
+use crate::owners::Owner;
+use crate::rows::{Row, count};
+use crate::view::Window;
+use irp_core::{IrpId, Kind};
+use std::alloc::{AllocError, Allocator};
+
+/// Whether this is the IRP that a window is of, if it is of one.
+#[tactic(auto, unfolding(irp_core::specs::Steps::same_id))]
+fn is_wanted(wanted: Option<IrpId>, irp: IrpId) -> bool
+    ensures { result ≡ is_wanted wanted irp }
+{
+    match wanted {
+        Some(wanted) => irp.0 == wanted.0,
+        None => true,
+    }
+}
+
+/// Whether a window shows a row. One that is of an IRP shows no step that names none.
+fn shows(window: Window, row: Row) -> bool
+    ensures { result ≡ shows window row }
+{
+    let kind: Kind = row.step.made.kind;
+    let wanted = match kind.name() {
+        Some(name) => is_wanted(window.irp, name.irp),
+        None => window.irp.is_none(),
+    };
+    window.from <= row.line && wanted
+}
+
+/// How many rows were shown, after this one.
+fn next(window: Window, row: Row, shown: u32) -> Result<u32, AllocError>
+    ensures { IfOk result (λ shown_now. shown_now ≡ next window row shown) }
+{
+    if shows(window, row) {
+        shown.checked_add(1).ok_or(AllocError)
+    } else {
+        Ok(shown)
+    }
+}
+
+/// For each row, how many before it a window shows.
+pub(crate) fn places<A: Allocator>(
+    alloc: A,
+    window: Window,
+    rows: &[Row],
+) -> Result<Vec<u32, A>, AllocError>
+    ensures { IfOk result (λ places_now. places_now.items ≡ places window 0 rows.now) }
+{
+    let mut places = Vec::new(alloc);
+    let mut shown = 0;
+    for row in rows {
+        places.push(shown)?;
+        shown = next(window, *row, shown)?;
+    }
+    Ok(places)
+}
+
+/// How many rows are shown before this one.
+fn place(places: &[u32], row: u32) -> u32
+    ensures { result ≡ place places.now row }
+{
+    let number = row as usize;
+    if number < places.len() {
+        places[number]
+    } else {
+        0
+    }
+}
+
+/// The same of a row, if there is one.
+pub(crate) fn place_of(places: &[u32], row: Option<u32>) -> Option<u32>
+    ensures { result ≡ option_map (place places.now) row }
+{
+    match row {
+        Some(row) => Some(place(places, row)),
+        None => None,
+    }
+}
+
+/// An owner whose line begins on its row among those that are shown, or if that isn't shown on the next one that is.
+fn moved_owner(places: &[u32], owner: Owner) -> Owner
+    ensures { result ≡ moved_owner places.now owner }
+{
+    let mut moved = owner;
+    moved.row = place(places, owner.row);
+    moved
+}
+
+/// A row that is shown as the one of this number.
+fn moved(places: &[u32], number: u32, row: Row) -> Row
+    ensures { result ≡ moved places.now number row }
+{
+    let mut moved = row;
+    moved.row = number;
+    moved.ended = match row.ended {
+        Some(owner) => Some(moved_owner(places, owner)),
+        None => None,
+    };
+    moved
+}
+
+/// Adds a row, if a window shows it.
+fn push_shown<A: Allocator>(
+    window: Window,
+    places: &[u32],
+    row: Row,
+    shown: &mut Vec<Row, A>,
+) -> Result<(), AllocError>
+    ensures { OnOk result (shown.new.items
+        ≡ shown.old.items ++ cut window places.now (length shown.old.items) (row ∷ [])) }
+{
+    if shows(window, row) {
+        let number = count(shown.len())?;
+        shown.push(moved(places, number, row))?;
+    }
+    Ok(())
+}
+
+/// The rows that a window shows.
+pub(crate) fn cut<A: Allocator>(
+    alloc: A,
+    window: Window,
+    places: &[u32],
+    rows: &[Row],
+) -> Result<Vec<Row, A>, AllocError>
+    ensures { IfOk result (λ shown. shown.items ≡ cut window places.now 0 rows.now) }
+{
+    let mut shown = Vec::new(alloc);
+    for row in rows {
+        push_shown(window, places, *row, &mut shown)?;
+    }
+    Ok(shown)
+}
+
+/// An owner after all rows, if a window shows its line.
+fn open_in(window: Window, places: &[u32], owner: Option<Owner>) -> Option<Owner>
+    ensures { result ≡ open_in window places.now owner }
+{
+    match owner {
+        Some(owner) if is_wanted(window.irp, owner.name.irp) => Some(moved_owner(places, owner)),
+        _ => None,
+    }
+}
+
+/// The owners after all rows whose lines a window shows.
+pub(crate) fn open_owners<A: Allocator>(
+    alloc: A,
+    window: Window,
+    places: &[u32],
+    owners: &[Option<Owner>],
+) -> Result<Vec<Option<Owner>, A>, AllocError>
+    ensures { IfOk result (λ lines. lines.items ≡ map (open_in window places.now) owners.now) }
+{
+    let mut lines = Vec::new(alloc);
+    for owner in owners {
+        lines.push(open_in(window, places, *owner))?;
+    }
+    Ok(lines)
+}
