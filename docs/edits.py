@@ -219,7 +219,7 @@ class Trial:
     """Checks of one crate with edits, each over what the checks before have proved."""
 
     def __init__(self, crates, name, kept):
-        self.name, self.folder, self.kept, self.checks = name, crates.folder(name), kept, 0
+        self.name, self.folder, self.kept, self.checks, self.whole = name, crates.folder(name), kept, 0, set()
         # (tests whose threads wait for each other may run beside: these come first)
         self.command = ['nice', crates.kit / 'bin' / 'rattle', 'check', *crates.words(name), '--jobs', '1',
                         '--incremental', kept]
@@ -268,10 +268,17 @@ class Trial:
                                      stderr=subprocess.STDOUT, text=True, errors='replace')
                 unknown = NO_FUNCTION.search(ran.stdout) if ran.returncode == 2 else None
                 if not unknown or unknown[1] not in only:
-                    return Report(ran, self.functions)
+                    report = Report(ran, self.functions)
+                    break
                 # (the prover writes its name otherwise, or has several: then all of its module, or of the crate)
                 module = only.pop(unknown[1])
                 only[module] = ''
+        # (a body that fails at once may not compile, as where a value is owned that has to be moved on: it stays whole)
+        owning = set(report.rejected) - {it.function.name for it in edits if it.function} - self.whole
+        if all(only) and owning - {None}:
+            self.whole |= owning
+            return self.check(edits)
+        return report
 
     def copy(self, edits, room):
         for part in PARTS:
@@ -295,10 +302,11 @@ class Trial:
             lines = text.split('\n')
             for function in functions(path, text):
                 head = SIGNATURE.match('\n'.join(lines[function.head - 1:function.begin]))
-                if function.name not in edited and head and function.begin < function.end - 1:
+                if function.name not in edited | self.whole and head and function.begin < function.end - 1:
                     at = sum(len(line) + 1 for line in lines[:function.begin])
                     body = '\n'.join(lines[function.begin:function.end - 1])
-                    found.append((path, at, body, f'Err({ERRORS[head[1]]})'))
+                    # (of as many lines, since the prover names those)
+                    found.append((path, at, body, f'Err({ERRORS[head[1]]})' + '\n' * body.count('\n')))
                     names.add(function.name)
         for proof in [it for it in room.glob('proofs/**/') if name_of(str(it.relative_to(room / 'proofs'))) in names]:
             shutil.rmtree(proof)
