@@ -247,7 +247,7 @@ class Trial:
             self.try_batch(rest)
 
     def try_alone(self, edit):
-        report = self.check([edit])
+        report = self.check([edit], stubbed=False)
         if report.rejected:
             edit.fault = f"it doesn't compile: {next(iter(report.rejected.values()))}"
         elif report.is_judged and report.reasons:
@@ -255,12 +255,13 @@ class Trial:
         elif not report.is_proved:
             edit.fault = f'nothing is judged: {report.unjudged or report.last}'
 
-    def check(self, edits):
-        """Checks a copy of the crate with these edits: their functions and what these call, or all of it."""
+    def check(self, edits, stubbed=True):
+        """Checks a copy of the crate with these edits: their functions and what these call, or all of it. An edit that is
+        tried alone is refused for any reason, so no other body may be a stub then."""
         only = {it.function.name: module_of(it.function.file) for it in edits if it.function}
         with tempfile.TemporaryDirectory(prefix='try-edits-') as folder:
             room = pathlib.Path(folder)
-            self.copy(edits, room)
+            self.copy(edits, room, stubbed)
             while True:
                 self.checks += 1
                 words = [word for name in only if all(only) for word in ('--only', name)]
@@ -275,17 +276,17 @@ class Trial:
                 only[module] = ''
         # (a body that fails at once may not compile, as where a value is owned that has to be moved on: it stays whole)
         owning = set(report.rejected) - {it.function.name for it in edits if it.function} - self.whole
-        if all(only) and owning - {None}:
+        if stubbed and all(only) and owning - {None}:
             self.whole |= owning
             return self.check(edits)
         return report
 
-    def copy(self, edits, room):
+    def copy(self, edits, room, stubbed):
         for part in PARTS:
             if (self.folder / part).is_dir():
                 shutil.copytree(self.folder / part, room / part)
         pairs = [pair for edit in edits for pair in edit.pairs]
-        if all(edit.function for edit in edits):
+        if stubbed:
             pairs += self.stubs({edit.function.name for edit in edits}, room)
         # (the last first, so that the places of the others stay)
         for path, at, old, new in sorted(pairs, key=lambda it: -it[1]):
