@@ -1,16 +1,15 @@
 -- An arrow runs from the step that set the word.
-use Rattle.std.proofs.Common.{◌≡◌, ℕ, ◌==◌, ◌<◌, Bool, true, false, cond, List, [], ◌∷◌, ◌++◌, length, get_or, set, replicate, Option, Some, None, refl, ap, sym, ◌∙◌, subst, arith}
-use Rattle.std.proofs.lemmas.List.{get_or-set_same, get_or-set_other, get_or-replicate, length-replicate}
-use Rattle.csq_draw.proofs.Imports.{option_map_or, IrpId, IrpLife, Kind, Size, IsRun, OfIrp, number, name_of, same_id, same_id-eq, same_id-refl, Numbered, run_of, all_passes, is_of_irp, Row, IrpNow, Spot, irp_after, irp_at, irp_named, irps_of, new_irp}
+use Rattle.std.proofs.Common.{◌≡◌, ℕ, ◌==◌, ◌<◌, Bool, true, false, cond, List, [], ◌∷◌, ◌++◌, length, Option, Some, None, refl, ap, ◌∙◌, arith}
+use Rattle.csq_draw.proofs.Imports.{IrpId, Kind, Size, IsRun, OfIrp, number, Numbered, run_of, all_passes, is_of_irp, IrpNow, Spot, irp_after, irp_at, irp_named, irps_of}
 use Rattle.irp_core.proofs.Growing.{run_less}
 use Rattle.irp_core.specs.declared.step.Kind.TheVariants.{Arm, Test, Disarm, End, Flag, Take, Out, Done, Renew, Rearm}
 use Rattle.csq_draw.specs.declared.arrows.Arrow.{Arrow}
 use Rattle.csq_draw.specs.Arrows.{found_in}
 use Rattle.csq_draw.specs.Irps.{flag_after, routine_after, spot_of}
 use Rattle.csq_draw.specs.Laws.{added, arrow_of, arrow_to, sets_flag, sets_routine, set_in, setter, EachArrowIsFromTheWrite}
-use Rattle.csq_draw.specs.Rows.{row_of, rows_of}
+use Rattle.csq_draw.specs.Rows.{row_of}
 use Rattle.csq_draw.specs.Words.{changes_flag, changes_routine}
-use Rattle.csq_draw.proofs.Known.{after-last, length-after}
+use Rattle.csq_draw.proofs.Known.{at_next, none_yet}
 use Rattle.csq_draw.proofs.PictureLaws.{drawn_arrows}
 use Rattle.csq_explain.specs.declared.passes.PassNow.{PassNow}
 
@@ -22,47 +21,10 @@ routine_steps : (k : Kind) (found : ℕ) (spot : Spot) (before : Option Spot) �
 routine_steps k found spot before = grind arith
 
 module _ (size : Size) where
-  fresh : List IrpNow
-  fresh = replicate size.irps new_irp
-
-  long : (W : List Numbered) → length (irps_of size W) ≡ size.irps
-  long W = length-after (replicate size.irps new_irp) (rows_of size W) ∙ length-replicate size.irps new_irp
-
-  -- what is known of IRP n after one step more
-  module _ (w : Numbered) (W : List Numbered) (n : IrpId) (lt : n.0 < size.irps) where
-    abbrev row : Row
-    row = row_of size w W
-
-    abbrev xs : List IrpNow
-    xs = irps_of size W
-
-    -- after a step of IRP i
-    with_step : (i : IrpLife) (b : Bool) → same_id i.irp n ≡ b → get_or (set xs (number i) (irp_after (irp_at xs i.irp) row)) n.0 new_irp ≡ cond b (irp_after (irp_at xs n) row) (irp_at xs n)
-    with_step i true same =
-        let one : i.irp ≡ n = same_id-eq i.irp n same in
-        let P : IrpId → Type 0 = λ m. get_or (set xs m.0 (irp_after (irp_at xs m) row)) n.0 new_irp ≡ irp_after (irp_at xs n) row in
-        subst P (sym one) (get_or-set_same xs n.0 (irp_after (irp_at xs n) row) new_irp (omega (arith, lt, long W)))
-    with_step i false other = get_or-set_other xs (number i) n.0 (irp_after (irp_at xs i.irp) row) new_irp (λ e. absurd (cc (other, same_number i e)))
-      where
-        same_number : (i : IrpLife) → n.0 ≡ number i → same_id i.irp n ≡ true
-        same_number i e =
-            let one : i.irp ≡ n = ap (λ k. let m : IrpId = record { 0 = k } in m) (sym e) in
-            subst (λ (m : IrpId). same_id i.irp m ≡ true) one (same_id-refl i.irp)
-
-    at_name : (o : Option IrpLife) → irp_at (option_map_or (λ i. set xs (number i) (irp_after (irp_at xs i.irp) row)) o xs) n ≡ cond (option_map_or (λ i. same_id i.irp n) o false) (irp_after (irp_at xs n) row) (irp_at xs n)
-    at_name None = refl
-    at_name (Some i) = with_step i (same_id i.irp n) refl
-
-    at_next : irp_at (irps_of size (w ∷ W)) n ≡ cond (is_of_irp n w.step.kind) (irp_after (irp_at xs n) row) (irp_at xs n)
-    at_next = ap (λ ys. irp_at ys n) (after-last (replicate size.irps new_irp) (rows_of size W) row) ∙ at_name (name_of w.step.kind)
-
-  none_yet : (n : IrpId) → n.0 < size.irps → irp_at (irps_of size []) n ≡ new_irp
-  none_yet n lt = get_or-replicate size.irps n.0 new_irp new_irp lt
-
   -- who set the Cancel flag of IRP n
   flag_is : (W : List Numbered) (n : IrpId) → n.0 < size.irps → (irp_at (irps_of size W) n).flag ≡ set_in changes_flag sets_flag n W
-  flag_is [] n lt = ap (λ (x : IrpNow). x.flag) (none_yet n lt)
-  flag_is (w ∷ W) n lt = ap (λ (x : IrpNow). x.flag) (at_next w W n lt) ∙ go (is_of_irp n w.step.kind) refl (flag_is W n lt)
+  flag_is [] n lt = ap (λ (x : IrpNow). x.flag) (none_yet size n lt)
+  flag_is (w ∷ W) n lt = ap (λ (x : IrpNow). x.flag) (at_next size w W n lt) ∙ go (is_of_irp n w.step.kind) refl (flag_is W n lt)
     where
       go : (b : Bool) → is_of_irp n w.step.kind ≡ b → (irp_at (irps_of size W) n).flag ≡ set_in changes_flag sets_flag n W → (cond b (irp_after (irp_at (irps_of size W) n) (row_of size w W)) (irp_at (irps_of size W) n)).flag ≡ set_in changes_flag sets_flag n (w ∷ W)
       go true e before =
@@ -72,8 +34,8 @@ module _ (size : Size) where
 
   -- and its cancel routine
   routine_is : (W : List Numbered) (n : IrpId) → n.0 < size.irps → (irp_at (irps_of size W) n).routine ≡ set_in changes_routine sets_routine n W
-  routine_is [] n lt = ap (λ (x : IrpNow). x.routine) (none_yet n lt)
-  routine_is (w ∷ W) n lt = ap (λ (x : IrpNow). x.routine) (at_next w W n lt) ∙ go (is_of_irp n w.step.kind) refl (routine_is W n lt)
+  routine_is [] n lt = ap (λ (x : IrpNow). x.routine) (none_yet size n lt)
+  routine_is (w ∷ W) n lt = ap (λ (x : IrpNow). x.routine) (at_next size w W n lt) ∙ go (is_of_irp n w.step.kind) refl (routine_is W n lt)
     where
       go : (b : Bool) → is_of_irp n w.step.kind ≡ b → (irp_at (irps_of size W) n).routine ≡ set_in changes_routine sets_routine n W → (cond b (irp_after (irp_at (irps_of size W) n) (row_of size w W)) (irp_at (irps_of size W) n)).routine ≡ set_in changes_routine sets_routine n (w ∷ W)
       go true e before =

@@ -9,8 +9,10 @@ pub mod WindowLaws
 pub mod Showing
 pub mod OrderShowing
 pub mod WrongLaws
+pub mod Picking
 pub mod PictureLaws
 pub mod OrderLaws
 pub mod ArrowLaws
+pub mod BarLaws
 pub mod OwnerLaws
 pub mod LaneLaws

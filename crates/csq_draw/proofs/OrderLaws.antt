@@ -24,18 +24,19 @@ use Rattle.csq_draw.specs.Windows.{cut, places, shows}
 use Rattle.csq_draw.specs.WrongDrawings.{DrawsOrderClosing, DrawsOrderEnd, DrawsOrderLine, WrongDrawn, after_accepted, after_stopped, new_wrong_drawn, order_after, order_rows, order_shown, order_text, reason_at, step_behind}
 use Rattle.csq_draw.proofs.Imports.{IsRun, Made, View, run_of, IrpNow, Numbered, Row, EndShown, Shown, Size, all_passes, close_of, closing_elements, each, fresh_irps, irps_after, irps_of, mark_element, new_irp, rows_elements, shown_elements, stop_of, stopped_end}
 use Rattle.csq_draw.proofs.Known.{length-after}
-use Rattle.csq_draw.proofs.PictureLaws.{all_picked, one_closing, marks_picked, none_picked, none_then, of_rows, picked-append, quiet, then_none}
+use Rattle.csq_draw.proofs.Picking.{none_picked, none_then, picked-append, then_none}
+use Rattle.csq_draw.proofs.PictureLaws.{all_picked, one_closing, marks_picked, of_rows, quiet}
 use Rattle.csq_draw.proofs.RowElements.{rows-append}
 
 -- of what is shown, before elements that are no marks
 marks_shown : (s : Shown) (e : EndShown) (zs : List _) → picked mark_in (rows_elements s.passes s.irps (fresh_irps s.irps) s.rows) ≡ zs → picked mark_in (e.below (length s.rows)) ≡ [] → marks_in s e ≡ zs
 marks_shown s e zs rows none =
-    then_none (λ m. m ∷ []) (λ n. []) (λ s. []) (λ a. []) (shown_elements s (length s.rows)) (e.below (length s.rows)) zs (of_rows (λ m. m ∷ []) (λ n. []) (λ s. []) (λ a. []) s (length s.rows) zs rows) none
+    then_none mark_in (shown_elements s (length s.rows)) (e.below (length s.rows)) zs (of_rows (λ m. m ∷ []) (λ n. []) (λ s. []) (λ a. []) s (length s.rows) zs rows) none
 
 -- what is reported in the end has none
 no_mark : (irps : List IrpNow) (count : ℕ) (reported : List _) (last : Element) → mark_in last ≡ [] → picked mark_in (each (closing_elements irps count) 0 reported ++ last ∷ []) ≡ []
 no_mark irps count reported last e =
-    none_then (λ m. m ∷ []) (λ n. []) (λ s. []) (λ a. []) (each (closing_elements irps count) 0 reported) (last ∷ []) [] (none_picked (λ m. m ∷ []) (λ n. []) (λ s. []) (λ a. []) (closing_elements irps count) (λ n line. refl) 0 reported) (ap (λ t. t ++ []) e)
+    none_then mark_in (each (closing_elements irps count) 0 reported) (last ∷ []) [] (none_picked mark_in (closing_elements irps count) (λ n line. refl) 0 reported) (ap (λ t. t ++ []) e)
 
 module _ (size : Size) (d : WrongDrawn) (refusal : Refusal) where
   abbrev s : Shown
@@ -53,14 +54,14 @@ module _ (size : Size) (d : WrongDrawn) (refusal : Refusal) where
       let behind = rows_elements s.passes s.irps (irps_after fresh (rows_of size d.drawn.steps)) d.behind in
       ap (λ xs. picked mark_in (rows_elements s.passes s.irps xs s.rows)) fresh_are
       ∙ ap (λ es. picked mark_in es) (rows-append s.passes s.irps fresh (rows_of size d.drawn.steps) d.behind)
-      ∙ picked-append (λ m. m ∷ []) (λ n. []) (λ s. []) (λ a. []) kept behind
+      ∙ picked-append mark_in kept behind
       ∙ ap (λ t. t ++ picked mark_in behind) (all_picked (λ m. m ∷ []) (λ n. []) (λ s. []) (λ a. []) (λ ps irps row spot. mark_in (mark_element ps irps row)) (λ ps irps row spot. ap (λ t. t ++ mark_in (mark_element ps irps row)) (quiet ps row spot)) size s.passes s.irps d.drawn.steps)
       ∙ ap (λ t. added (mark_of size s.passes s.irps) d.drawn.steps ++ t) (marks_picked s.passes s.irps (irps_after fresh (rows_of size d.drawn.steps)) d.behind)
 
   pub each_order_mark : EachStepOfAnOrderHasOneMark size d refusal
   each_order_mark = record {
     stopped = λ n reason. marks_shown s (stopped_end n reason) _ order_picked refl;
-    broken = λ n reason harms. marks_shown s (broken_end n reason harms) _ order_picked (none_picked (λ m. m ∷ []) (λ n. []) (λ s. []) (λ a. []) (harm_elements (length s.rows)) (λ k h. refl) 0 harms);
+    broken = λ n reason harms. marks_shown s (broken_end n reason harms) _ order_picked (none_picked mark_in (harm_elements (length s.rows)) (λ k h. refl) 0 harms);
   }
 
 -- the rows that a window shows are those of the steps that it shows

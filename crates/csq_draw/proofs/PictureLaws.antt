@@ -1,5 +1,5 @@
 -- The laws of pictures.
-use Rattle.std.proofs.Common.{◌≡◌, ◌||◌, inl, inr, ℕ, ◌+◌, ◌<◌, ◌≤◌, Bool, true, false, cond, if◌then◌else◌, List, [], ◌∷◌, ◌++◌, length, get_or, replicate, Option, Some, None, option_to_list, refl, ap, sym, ◌∙◌, subst, arith, append_assoc, append-nil}
+use Rattle.std.proofs.Common.{◌≡◌, ◌||◌, inl, inr, ℕ, ◌+◌, ◌<◌, ◌≤◌, Bool, true, false, cond, if◌then◌else◌, List, [], ◌∷◌, ◌++◌, length, get_or, replicate, Option, Some, None, option_to_list, refl, ap, sym, ◌∙◌, subst, arith, append-nil}
 use Rattle.std.specs.List.{position, list_any}
 use Rattle.std.proofs.lemmas.List.Quantifiers.{position-Some}
 use Rattle.csq_draw.proofs.Imports.{option_map, PassId, Made, same_pass, by, Size, IsRun, same_pass-eq, Numbered, run_of, Owner, Row, View, owners, new_pass_now, pass_after, pass_now, lock_of, columns, column_of, each, column_elements, number_element, mark_element, call_elements, shade_elements, span_elements, bars_elements, arrow_elements, behind_elements, row_after, rows_elements, new_irp, last_elements, word_elements, fresh_irps, irps_of, irp_named, with_irp, IrpNow, Seen, Spot, open_elements, owners_elements, closing_elements, refused_elements, Shown, above_elements, close_of, found_at, shown_elements, steps_shown, text_of, Drawn, new_drawn, drawn_text, drawn_after, DrawsLine, DrawsClosing, all_passes, reason_of, get-table, position-None, count-more, length-passes, inside_is}
@@ -14,6 +14,7 @@ use Rattle.csq_replay.proofs.Answering.{one_input_answer}
 use Rattle.csq_replay.proofs.OneAnswer.{one_close, one_outcome}
 use Rattle.std.proofs.lemmas.List.{length-replicate}
 use Rattle.csq_draw.proofs.Known.{length-after}
+use Rattle.csq_draw.proofs.Picking.{none_picked, none_then, picked-append, then_none}
 use Rattle.csq_draw.proofs.RowElements.{rows-last}
 use Rattle.csq_draw.proofs.Showing.{length-rows}
 use Rattle.csq_draw.specs.declared.arrows.Arrow.{Arrow}
@@ -85,22 +86,7 @@ module _ {A : Type 0} (mark : Mark → List A) (number : Number → List A) (sha
   abbrev pick : Element → List A
   pick = pick_of mark number shade arrow
 
-  pub picked-append : (xs ys : List Element) → picked pick (xs ++ ys) ≡ picked pick xs ++ picked pick ys
-  picked-append [] ys = refl
-  picked-append (x ∷ xs) ys = ap (λ t. pick x ++ t) (picked-append xs ys) ∙ sym (append_assoc (pick x) (picked pick xs) (picked pick ys))
-
-  -- and none of it is
-  pub none_picked : {B : Type 0} (f : ℕ → B → List Element) → ((n : ℕ) (x : B) → picked pick (f n x) ≡ []) → (n : ℕ) (xs : List B) → picked pick (each f n xs) ≡ []
-  none_picked f none n [] = refl
-  none_picked f none n (x ∷ xs) = picked-append (f n x) (each f (n + 1) xs) ∙ ap (λ t. t ++ picked pick (each f (n + 1) xs)) (none n x) ∙ none_picked f none (n + 1) xs
-
-  pub then_none : (xs ys : List Element) (zs : List A) → picked pick xs ≡ zs → picked pick ys ≡ [] → picked pick (xs ++ ys) ≡ zs
-  then_none xs ys zs a b = picked-append xs ys ∙ ap (λ t. picked pick xs ++ t) b ∙ append-nil (picked pick xs) ∙ a
-
-  pub none_then : (xs ys : List Element) (zs : List A) → picked pick xs ≡ [] → picked pick ys ≡ zs → picked pick (xs ++ ys) ≡ zs
-  none_then xs ys zs a b = picked-append xs ys ∙ ap (λ t. t ++ picked pick ys) a ∙ b
-
-  -- as of a column, of a line that is kept to the end, of the names of words, of bars and of the line of an owner
+  -- nothing is of a column, of a line that is kept to the end, of the names of words, of bars and of the line of an owner
   no_column : (passes : List PassNow) (rows n : ℕ) (now : PassNow) → picked pick (column_elements passes rows n now) ≡ []
   no_column passes rows n now = grind arith
 
@@ -118,8 +104,8 @@ module _ {A : Type 0} (mark : Mark → List A) (number : Number → List A) (sha
 
   -- of the owners after all rows
   no_owner : (passes : List PassNow) (count : ℕ) (refused : Option ℕ) (owners : List (Option Owner)) → picked pick (owners_elements passes count refused owners) ≡ []
-  no_owner passes count (Some row) owners = none_picked (open_elements passes row Refusal) (λ n owner. no_span passes row Refusal owner) 0 owners
-  no_owner passes count None owners = none_picked (open_elements passes count Last) (λ n owner. no_span passes count Last owner) 0 owners
+  no_owner passes count (Some row) owners = none_picked pick (open_elements passes row Refusal) (λ n owner. no_span passes row Refusal owner) 0 owners
+  no_owner passes count None owners = none_picked pick (open_elements passes count Last) (λ n owner. no_span passes count Last owner) 0 owners
 
   arrow_picked : (passes : List PassNow) (row : Row) (spot : Option Spot) → picked pick (arrow_elements passes row spot) ≡ arrows_with arrow passes row spot
   arrow_picked passes row spot = grind (arith, append-nil)
@@ -133,9 +119,9 @@ module _ {A : Type 0} (mark : Mark → List A) (number : Number → List A) (sha
       let named = each (column_elements passes count) 0 passes in
       let words = each (word_elements passes irps) 0 irps in
       let last = each (last_elements passes irps count) 0 irps in
-      none_then named (words ++ last) _ (none_picked (column_elements passes count) (no_column passes count) 0 passes)
-      (none_then words last _ (none_picked (word_elements passes irps) (no_name passes irps) 0 irps)
-      (none_picked (last_elements passes irps count) (λ n now. no_bars (columns passes) _ count true now.last) 0 irps))
+      none_then pick named (words ++ last) _ (none_picked pick (column_elements passes count) (no_column passes count) 0 passes)
+      (none_then pick words last _ (none_picked pick (word_elements passes irps) (no_name passes irps) 0 irps)
+      (none_picked pick (last_elements passes irps count) (λ n now. no_bars (columns passes) _ count true now.last) 0 irps))
 
   -- behind a mark
   behind_picked : (passes : List PassNow) (irps : List IrpNow) (before : IrpNow) (row : Row)
@@ -144,10 +130,10 @@ module _ {A : Type 0} (mark : Mark → List A) (number : Number → List A) (sha
       let last = arrow_elements passes row (found_at before row) in
       let bars = bars_elements (columns passes) (place_named irps row.step.made.kind) row.row false before.last in
       let span = span_elements passes row.row Step row.ended in
-      picked-append (shade_elements passes row row.lock) (span ++ (bars ++ last))
+      picked-append pick (shade_elements passes row row.lock) (span ++ (bars ++ last))
       ∙ ap (λ t. t ++ picked pick (span ++ (bars ++ last))) (shade_picked passes row row.lock)
-      ∙ ap (λ t. shades_with shade passes row row.lock ++ t) (none_then span (bars ++ last) _ (no_span passes row.row Step row.ended)
-      (none_then bars last _ (no_bars (columns passes) (place_named irps row.step.made.kind) row.row false before.last) (arrow_picked passes row (found_at before row))))
+      ∙ ap (λ t. shades_with shade passes row row.lock ++ t) (none_then pick span (bars ++ last) _ (no_span passes row.row Step row.ended)
+      (none_then pick bars last _ (no_bars (columns passes) (place_named irps row.step.made.kind) row.row false before.last) (arrow_picked passes row (found_at before row))))
 
   -- of the mark of a row
   abbrev mark_in_row : List PassNow → List IrpNow → Row → List A
@@ -162,7 +148,7 @@ module _ {A : Type 0} (mark : Mark → List A) (number : Number → List A) (sha
       let found = found_at before row in
       let call = call_elements passes before row row.legality in
       let marked = mark_in_row passes irps row in
-      ap (λ t. number (record { row = row.row; line = row.line }) ++ t) (picked-append (behind_elements passes irps before row) (mark_element passes irps row ∷ call)
+      ap (λ t. number (record { row = row.row; line = row.line }) ++ t) (picked-append pick (behind_elements passes irps before row) (mark_element passes irps row ∷ call)
       ∙ ap (λ t. t ++ (marked ++ picked pick call)) (behind_picked passes irps before row)
       ∙ ap (λ t. (shades_with shade passes row row.lock ++ arrows_with arrow passes row found) ++ (marked ++ t)) (no_call passes before row row.legality))
 
@@ -171,7 +157,7 @@ module _ {A : Type 0} (mark : Mark → List A) (number : Number → List A) (sha
   of_rows s count zs e =
       let rows = rows_elements s.passes s.irps (fresh_irps s.irps) s.rows in
       let last = owners_elements s.passes count s.refused s.owners in
-      none_then (above_elements s.passes s.irps count) (rows ++ last) _ (above_picked s.passes s.irps count) (then_none rows last _ e (no_owner s.passes count s.refused s.owners))
+      none_then pick (above_elements s.passes s.irps count) (rows ++ last) _ (above_picked s.passes s.irps count) (then_none pick rows last _ e (no_owner s.passes count s.refused s.owners))
 
   -- where this is what a law wants of a row
   module _ (of_row : List PassNow → List IrpNow → Row → Option Spot → List A) (is : (passes : List PassNow) (irps : List IrpNow) (row : Row) (spot : Option Spot) → row_with passes irps row row.lock spot ≡ of_row passes irps row spot) (size : Size) where
@@ -186,7 +172,7 @@ module _ {A : Type 0} (mark : Mark → List A) (number : Number → List A) (sha
         let fresh = replicate size.irps new_irp in
         let before = irp_named (irps_of size W) w.step.kind in
         ap (λ es. picked pick es) (rows-last passes irps fresh (rows_of size W) row)
-        ∙ picked-append (rows_elements passes irps fresh (rows_of size W)) (row_after passes irps before row)
+        ∙ picked-append pick (rows_elements passes irps fresh (rows_of size W)) (row_after passes irps before row)
         ∙ ap (λ t. picked pick (rows_elements passes irps fresh (rows_of size W)) ++ t) (row_picked passes irps before row ∙ is passes irps row (found_at before row))
         ∙ ap (λ t. t ++ of_step passes irps w W) (all_picked passes irps W)
 
@@ -214,11 +200,11 @@ module _ {A : Type 0} (mark : Mark → List A) (number : Number → List A) (sha
         stopped = λ n stop.
             let refused = refused_elements count n (reason_of size passes stop) in
             let line = append-nil (number (record { row = count; line = n })) ∙ ap (λ k. number (record { row = k; line = n })) (length-rows size W) in
-            picked-append shown refused ∙ ap (λ t. t ++ picked pick refused) shown_picked ∙ ap (λ t. added (of_step passes irps) W ++ t) line;
+            picked-append pick shown refused ∙ ap (λ t. t ++ picked pick refused) shown_picked ∙ ap (λ t. added (of_step passes irps) W ++ t) line;
         closed = λ reported at_rest.
             let last = Below count (AtRest (length reported) (rest_of passes at_rest)) in
-            then_none shown (each (closing_elements irps count) 0 reported ++ last ∷ []) _ shown_picked
-            (none_then (each (closing_elements irps count) 0 reported) (last ∷ []) [] (none_picked (closing_elements irps count) (λ n line. refl) 0 reported) refl);
+            then_none pick shown (each (closing_elements irps count) 0 reported ++ last ∷ []) _ shown_picked
+            (none_then pick (each (closing_elements irps count) 0 reported) (last ∷ []) [] (none_picked pick (closing_elements irps count) (λ n line. refl) 0 reported) refl);
       }
 
 all_shades : (ps : List PassNow) (irps : List IrpNow) (row : Row) (spot : Option Spot) (lock : Option PassId) → row_with (λ m. []) (λ n. []) (λ s. s ∷ []) (λ a. []) ps irps row lock spot ≡ shade_by ps row.row row.step lock
@@ -238,7 +224,7 @@ marks_picked ps xs known (row ∷ rows) =
     let before = irp_named known row.step.made.kind in
     let rest = rows_elements ps xs (with_irp known row) rows in
     let one = row_picked (λ m. m ∷ []) (λ n. []) (λ s. []) (λ a. []) ps xs before row ∙ ap (λ t. t ++ mark_in (mark_element ps xs row)) (quiet ps row (found_at before row)) in
-    picked-append (λ m. m ∷ []) (λ n. []) (λ s. []) (λ a. []) (row_after ps xs before row) rest
+    picked-append mark_in (row_after ps xs before row) rest
     ∙ ap (λ t. t ++ picked mark_in rest) one ∙ ap (λ t. mark_in (mark_element ps xs row) ++ t) (marks_picked ps xs (with_irp known row) rows)
 
 -- of the steps W

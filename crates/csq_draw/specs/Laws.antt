@@ -1,13 +1,14 @@
 -- What holds of every picture.
-use Rattle.std.specs.Prelude.{◌≡◌, ◌≢◌, ◌⊎◌, ◌↔◌, ℕ, ◌+◌, ◌==◌, ◌&&◌, ◌<◌, Bool, true, false, List, [], ◌∷◌, ◌++◌, filter, length, map, Option, Some, None, option_to_list, IsTrue, if◌then◌else◌}
+use Rattle.std.specs.Prelude.{◌≡◌, ◌≢◌, ◌⊎◌, ◌↔◌, ℕ, zero, suc, ◌+◌, ◌==◌, ◌&&◌, ◌<◌, Bool, true, false, List, [], ◌∷◌, ◌++◌, filter, length, map, Option, Some, None, option_to_list, IsTrue, if◌then◌else◌}
 use Rattle.std.specs.List.{list_any}
+use Rattle.std.specs.Option.{option_map_or}
 use Rattle.irp_core.specs.declared.ids.{IrpId.{IrpId}, IrpLife.{IrpLife}, PassId.{PassId}}
 use Rattle.irp_core.specs.declared.step.{Kind.{Kind, TheVariants.{Arm, Test, Disarm, Flag, Take, Rearm}}, Made.{Made}}
 use Rattle.irp_core.specs.Lives.{present}
 use Rattle.irp_core.specs.Lock.{HasLock, needs_lock}
 use Rattle.irp_core.specs.Owners.{owes, holds}
 use Rattle.irp_core.specs.Runs.{Size, IsRun}
-use Rattle.irp_core.specs.Steps.{by, same_pass}
+use Rattle.irp_core.specs.Steps.{by, name_of, same_pass}
 use Rattle.csq_replay.specs.declared.lines.answer.Ended.{Ended}
 use Rattle.csq_replay.specs.declared.schedule.closing.IrpLine.{IrpLine}
 use Rattle.csq_replay.specs.declared.schedule.outcome.Stop.{Stop}
@@ -19,7 +20,8 @@ use Rattle.csq_draw.specs.declared.words.WordValues.{WordValues}
 use Rattle.csq_explain.specs.declared.passes.PassNow.{PassNow}
 use Rattle.csq_draw.specs.Lanes.{is_in_lane, is_taken}
 use Rattle.csq_draw.specs.declared.arrows.Arrow.{Arrow}
-use Rattle.csq_draw.specs.declared.irps.{IrpNow.{IrpNow}, Spot.{Spot}}
+use Rattle.csq_draw.specs.declared.bars.Bars.{Bars}
+use Rattle.csq_draw.specs.declared.irps.{IrpNow.{IrpNow}, Seen.{Seen}, Spot.{Spot}}
 use Rattle.csq_draw.specs.Marks.{takes_lock, lets_go}
 use Rattle.csq_draw.specs.Owners.{is_of_irp, owner, owners}
 use Rattle.csq_draw.specs.Passes.{columns, column_of}
@@ -29,13 +31,13 @@ use Rattle.csq_explain.specs.Sentences.{in_call}
 use Rattle.csq_draw.specs.declared.rows.Row.{Row}
 use Rattle.csq_draw.specs.Rows.{row_of, rows_of}
 use Rattle.csq_draw.specs.Windows.{shows}
-use Rattle.csq_draw.specs.Words.{words_named, changes_flag, changes_routine}
+use Rattle.csq_draw.specs.Words.{words_of, words_named, changes_flag, changes_routine}
 use Rattle.csq_draw.specs.declared.element.Element.{Element}
 use Rattle.csq_draw.specs.declared.element.Element.TheVariants as element
 use Rattle.csq_draw.specs.declared.wrong_drawing.Refusal.{Refusal}
 use Rattle.csq_draw.specs.Pictures.{EndShown, IsDrawing, Shown, broken_end, close_of, irps_of, picture_of, place_named, seen, steps_shown, stop_of, stopped_end}
 use Rattle.csq_draw.specs.WrongDrawings.{IsOrderDrawing, WrongDrawn, order_shown}
-use Rattle.csq_draw.specs.Irps.{life_named}
+use Rattle.csq_draw.specs.Irps.{irp_column, life_named}
 use Rattle.csq_explain.specs.declared.harms.HarmAt.{HarmAt}
 use Rattle.csq_explain.specs.declared.reasons.Reason.{Reason}
 
@@ -156,6 +158,36 @@ arrow_to passes p row line None = []
 abbrev pub arrow_of : List PassNow → Numbered → List Numbered → List Arrow
 arrow_of passes w W = arrow_to passes w.step.pass (length W) w.line (setter w.step.kind w.step.found W)
 
+-- the bars of an IRP's two words, if an element is such a pair
+abbrev pub bars_in : Element → List Bars
+bars_in (element.Bars b) = b ∷ []
+bars_in _ = []
+
+-- the row of the newest of the steps W that names IRP n, and the words of its present life after that step, by the run
+abbrev pub last_seen : Size → IrpId → List Numbered → Option Seen
+last_seen size n [] = None
+last_seen size n (w ∷ W) = if is_of_irp n w.step.kind then Some (record { row = length W; words = words_of (run_of (w ∷ W)) (present size.first (run_of (w ∷ W)) n) }) else last_seen size n W
+
+-- the bars at a place of what was seen last of an IRP: from there to a row, or to the end
+abbrev pub bars_from : List PassNow → ℕ → ℕ → Bool → Option Seen → List Bars
+bars_from passes place to to_the_end (Some seen) = record { columns = columns passes; place = place; from = seen.row; to = to; to_the_end = to_the_end; words = seen.words } ∷ []
+bars_from passes place to to_the_end None = []
+
+-- the bars to a step after the steps W: from the newest of them that names its IRP
+abbrev pub bars_to : Size → List PassNow → List IrpNow → Numbered → List Numbered → List Bars
+bars_to size passes irps w W = bars_from passes (place_named irps w.step.kind) (length W) false (option_map_or (λ i. last_seen size i.irp W) (name_of w.step.kind) None)
+
+-- the bars of the first n IRPs to the end: from the newest of the steps W that names each
+abbrev pub bars_to_end : Size → List PassNow → List IrpNow → List Numbered → ℕ → List Bars
+bars_to_end size passes irps W zero = []
+bars_to_end size passes irps W (suc n) =
+    let irp : IrpId = record { 0 = n } in
+    bars_to_end size passes irps W n ++ bars_from passes (irp_column irps irp) (length W) true (last_seen size irp W)
+
+-- the bars of the steps W: those to the end, and those to each step, in order
+abbrev pub bars : Size → List PassNow → List IrpNow → List Numbered → List Bars
+bars size passes irps W = bars_to_end size passes irps W size.irps ++ added (bars_to size passes irps) W
+
 -- each step has one mark, in order, and nothing else has one
 abbrev pub EachStepHasOneMark : Size → List Numbered → Type 0
 EachStepHasOneMark size W = AddsStepByStep size W mark_in (mark_of size (all_passes size W) (irps_of size W)) (λ n. [])
@@ -175,6 +207,11 @@ EachShadeIsOfTheLock size W = AddsStepByStep size W shade_in (shade_of size (all
 -- of a run, an arrow runs to each step that found a word set from the step of another pass that set it, and there are no others
 abbrev pub EachArrowIsFromTheWrite : Size → List Numbered → Type 0
 EachArrowIsFromTheWrite size W = IsRun size (run_of W) → AddsStepByStep size W arrow_in (arrow_of (all_passes size W)) (λ n. [])
+
+-- of a run, from each step of an IRP bars run to the next step of that IRP, or to the end if there is none; they show the words after the step that they run from, by the run, and there are no others
+pub record EachBarShowsTheWords (size : Size) (W : List Numbered) : Type 0 where
+  pub stopped : IsRun size (run_of W) → (n : ℕ) (stop : Stop) → picked bars_in (steps_picture size W (stop_of size W n stop)) ≡ bars size (all_passes size W) (irps_of size W) W
+  pub closed : IsRun size (run_of W) → (reported : List IrpLine) (at_rest : Bool) → picked bars_in (steps_picture size W (close_of size W reported at_rest)) ≡ bars size (all_passes size W) (irps_of size W) W
 
 -- the mark of a row, which is drawn as the nth one, among these passes and IRPs
 abbrev pub mark_on : List PassNow → List IrpNow → ℕ → Row → Mark

@@ -7,7 +7,7 @@ ghost use Rattle.csq_replay.specs.Schedule.{Numbered};
 ghost use Rattle.csq_draw.specs.declared.view.{View.{View}, Window.{Window}};
 ghost use Rattle.csq_draw.specs.declared.wrong_drawing.Refusal.{Refusal};
 ghost use Rattle.csq_draw.specs.WrongDrawings.{WrongDrawn};
-ghost use Rattle.csq_draw.specs.Laws.{HasOneOrderPicture, HasOnePicture, EachStepHasOneMark, EachStepShowsItsWords, EachLineHasItsNumber, EachShadeIsOfTheLock, EachArrowIsFromTheWrite, EachStepOfAnOrderHasOneMark, EachShownStepHasOneMark, EachPassHasItsColumn, TheShadedPassHasTheLock, EachDrawnOwnerOwesOrHolds, NoTwoLinesShareALane, TheNinthLaneIsLast};
+ghost use Rattle.csq_draw.specs.Laws.{HasOneOrderPicture, HasOnePicture, EachStepHasOneMark, EachStepShowsItsWords, EachLineHasItsNumber, EachShadeIsOfTheLock, EachArrowIsFromTheWrite, EachBarShowsTheWords, EachStepOfAnOrderHasOneMark, EachShownStepHasOneMark, EachPassHasItsColumn, TheShadedPassHasTheLock, EachDrawnOwnerOwesOrHolds, NoTwoLinesShareALane, TheNinthLaneIsLast};
 
 /// A schedule has at most one picture in each view, so the relation that `draw_schedule` and
 /// `draw_schedule_as_text` meet names its bytes.
@@ -48,6 +48,12 @@ pub fn each_shade_is_of_the_lock()
 /// pass's: the newest step before it that changed the word. There are no other arrows.
 pub fn each_arrow_is_from_the_write()
     ensures { (size : Size) (W : List Numbered) → EachArrowIsFromTheWrite size W }
+{}
+
+/// Of every run, bars run from each step of an IRP to its next step, or to the end if there is none, and show the two
+/// words of that IRP after the step that they run from, in its present life, by the run. There are no other bars.
+pub fn each_bar_shows_the_words()
+    ensures { (size : Size) (W : List Numbered) → EachBarShowsTheWords size W }
 {}
 
 /// In a picture of an order that broke the protocol each step up to the refusal has the mark that it has in the picture

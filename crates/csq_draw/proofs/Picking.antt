@@ -1,0 +1,34 @@
+-- What is picked out of the elements of a picture.
+use Rattle.std.proofs.Common.{◌≡◌, ℕ, ◌+◌, List, [], ◌∷◌, ◌++◌, length, refl, ap, sym, ◌∙◌, arith, append_assoc, append-nil}
+use Rattle.csq_draw.proofs.Imports.{each}
+use Rattle.csq_draw.specs.declared.element.Element.{Element}
+use Rattle.csq_draw.specs.Laws.{picked}
+
+module _ {A : Type 0} (pick : Element → List A) where
+  pub picked-append : (xs ys : List Element) → picked pick (xs ++ ys) ≡ picked pick xs ++ picked pick ys
+  picked-append [] ys = refl
+  picked-append (x ∷ xs) ys = ap (λ t. pick x ++ t) (picked-append xs ys) ∙ sym (append_assoc (pick x) (picked pick xs) (picked pick ys))
+
+  pub then_none : (xs ys : List Element) (zs : List A) → picked pick xs ≡ zs → picked pick ys ≡ [] → picked pick (xs ++ ys) ≡ zs
+  then_none xs ys zs a b = picked-append xs ys ∙ ap (λ t. picked pick xs ++ t) b ∙ append-nil (picked pick xs) ∙ a
+
+  pub none_then : (xs ys : List Element) (zs : List A) → picked pick xs ≡ [] → picked pick ys ≡ zs → picked pick (xs ++ ys) ≡ zs
+  none_then xs ys zs a b = picked-append xs ys ∙ ap (λ t. t ++ picked pick ys) a ∙ b
+
+  module _ {B : Type 0} (f : ℕ → B → List Element) where
+    -- nothing, where nothing is of any
+    pub none_picked : ((n : ℕ) (x : B) → picked pick (f n x) ≡ []) → (n : ℕ) (xs : List B) → picked pick (each f n xs) ≡ []
+    none_picked none n [] = refl
+    none_picked none n (x ∷ xs) = picked-append (f n x) (each f (n + 1) xs) ∙ ap (λ t. t ++ picked pick (each f (n + 1) xs)) (none n x) ∙ none_picked none (n + 1) xs
+
+    -- and one more
+    pub picked_last : (n : ℕ) (xs : List B) (x : B) → picked pick (each f n (xs ++ x ∷ [])) ≡ picked pick (each f n xs) ++ picked pick (f (n + length xs) x)
+    picked_last n [] x =
+        let one : n ≡ n + 0 = omega arith in
+        ap (λ es. picked pick es) (append-nil (f n x)) ∙ ap (λ k. picked pick (f k x)) one
+    picked_last n (y ∷ xs) x =
+        let next : n + 1 + length xs ≡ n + length (y ∷ xs) = omega arith in
+        picked-append (f n y) (each f (n + 1) (xs ++ x ∷ []))
+        ∙ ap (λ t. picked pick (f n y) ++ t) (picked_last (n + 1) xs x ∙ ap (λ k. picked pick (each f (n + 1) xs) ++ picked pick (f k x)) next)
+        ∙ sym (append_assoc (picked pick (f n y)) (picked pick (each f (n + 1) xs)) (picked pick (f (n + length (y ∷ xs)) x)))
+        ∙ ap (λ t. t ++ picked pick (f (n + length (y ∷ xs)) x)) (sym (picked-append (f n y) (each f (n + 1) xs)))
