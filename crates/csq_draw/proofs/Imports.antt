@@ -1,7 +1,7 @@
 -- The names that several proof files of this crate import, each from its home.
 pub use Rattle.csq_draw.specs.Captions.{CaptionText, caption_after, ended_caption, escaped, escaped_character}
 pub use Rattle.csq_draw.specs.Arrows.{found_at}
-pub use Rattle.csq_draw.specs.Drawings.{DrawingStandsAfter, NotesStep, Shows, owner_in, shown_now, with_owner}
+pub use Rattle.csq_draw.specs.Drawings.{DrawingStandsAfter, NotesStep, Shows, drawing_shown, owner_in, with_owner}
 pub use Rattle.csq_draw.specs.Elements.{element_text, elements_text, picture}
 pub use Rattle.csq_draw.specs.Owners.{ended_by, is_of_irp, owner, owner_after, owner_by, owner_named, owners}
 pub use Rattle.csq_draw.specs.Passes.{column_of, columns, lock_at, lock_of}

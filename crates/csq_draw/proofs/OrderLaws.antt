@@ -17,11 +17,11 @@ use Rattle.csq_draw.specs.declared.ending.Below.TheVariants.{AtRest}
 use Rattle.csq_draw.specs.declared.view.Window.{Window}
 use Rattle.csq_draw.specs.declared.wrong_drawing.Refusal.{Refusal}
 use Rattle.csq_draw.specs.Endings.{rest_of}
-use Rattle.csq_draw.specs.Laws.{HasOneOrderPicture, EachShownStepHasOneMark, EachStepOfAnOrderHasOneMark, added, mark_in, mark_of, mark_on, marks, marks_from, marks_in, order_marks, picked, window_marks, window_shown}
+use Rattle.csq_draw.specs.Laws.{HasOnePicture, EachShownStepHasOneMark, EachStepOfAnOrderHasOneMark, added, mark_in, mark_of, mark_on, marks, marks_from, marks_in, order_marks, picked, window_marks, window_shown}
 use Rattle.csq_draw.specs.Pictures.{broken_end, harm_elements}
 use Rattle.csq_draw.specs.Rows.{rows_of}
 use Rattle.csq_draw.specs.Windows.{cut, places, shows}
-use Rattle.csq_draw.specs.WrongDrawings.{DrawsOrderClosing, DrawsOrderEnd, DrawsOrderLine, WrongDrawn, after_accepted, after_stopped, new_wrong_drawn, order_after, order_rows, order_shown, order_text, reason_at, step_behind}
+use Rattle.csq_draw.specs.WrongDrawings.{DrawsOrderClosing, DrawsOrderEnd, DrawsOrderLine, IsOrderDrawing, WrongDrawn, after_accepted, after_stopped, new_wrong_drawn, order_after, order_rows, order_shown, order_text, reason_at, step_behind}
 use Rattle.csq_draw.proofs.Imports.{IsRun, Made, View, run_of, IrpNow, Numbered, Row, EndShown, Shown, Size, all_passes, close_of, closing_elements, each, fresh_irps, irps_after, irps_of, mark_element, new_irp, rows_elements, shown_elements, stop_of, stopped_end}
 use Rattle.csq_draw.proofs.Known.{length-after}
 use Rattle.csq_draw.proofs.Picking.{none_picked, none_then, picked-append, then_none}
@@ -124,7 +124,7 @@ module _ (size : Size) (view : View) where
   one_end d None none r t u e f = one_closing size view d.drawn (subst (λ W. IsRun size (run_of W)) (r.1 none) r.0) t u e f
   one_end d (Some refusal) some r t u e f = e ∙ sym f
 
-pub one_order_picture : (size : Size) (view : View) (input : List ℕ) → HasOneOrderPicture size view input
+pub one_order_picture : (size : Size) (view : View) (input : List ℕ) → HasOnePicture (IsOrderDrawing size view) input
 one_order_picture size view input t u e f is other =
     one_input_answer (DrawsOrderLine size view) (DrawsOrderClosing size view) (IsOwnRun size) (one_line size view) (on_line size view)
     (λ d x y r closed closed'. one_end size view d d.refusal refl r x y closed closed') new_wrong_drawn (run_none size, λ h. refl) input t u e f is other

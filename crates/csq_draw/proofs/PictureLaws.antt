@@ -30,7 +30,7 @@ use Rattle.csq_draw.specs.declared.element.Element.{Element}
 use Rattle.csq_draw.specs.Arrows.{found_in}
 use Rattle.csq_draw.specs.Marks.{takes_lock, lets_go}
 use Rattle.csq_draw.specs.Endings.{rest_of}
-use Rattle.csq_draw.specs.Pictures.{place_named}
+use Rattle.csq_draw.specs.Pictures.{IsDrawing, place_named}
 use Rattle.csq_draw.specs.Rows.{row_of, rows_of}
 use Rattle.csq_draw.specs.Laws.{HasOnePicture, marks, picked, added, AddsStepByStep, pick_of, mark_in, number_in, arrow_in, arrow_to, shade_by, EachStepHasOneMark, EachStepShowsItsWords, EachLineHasItsNumber, EachShadeIsOfTheLock, EachPassHasItsColumn, HasItAt, TheShadedPassHasTheLock}
 
@@ -59,7 +59,7 @@ module _ (size : Size) (view : View) where
       let same = one_close size (run_of d.steps) r reported other rest otherwise closes closes' in
       e ∙ ap (λ x. text_of size view d (close_of size d.steps x rest)) same.0 ∙ ap (λ x. text_of size view d (close_of size d.steps other x)) same.1 ∙ sym f
 
-pub one_picture : (size : Size) (view : View) (input : List ℕ) → HasOnePicture size view input
+pub one_picture : (size : Size) (view : View) (input : List ℕ) → HasOnePicture (IsDrawing size view) input
 one_picture size view input t u e f is other =
     one_input_answer (DrawsLine size view) (DrawsClosing size view) (λ (d : Drawn). IsRun size (run_of d.steps)) (one_drawn size view) (drawn_on size view)
     (λ d x y r closed closed'. one_closing size view d r x y closed closed') new_drawn (run_none size) input t u e f is other

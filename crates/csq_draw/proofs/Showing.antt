@@ -1,6 +1,6 @@
 -- A drawing shows the run that it was noted of.
 use Rattle.std.proofs.Common.{◌≡◌, ℕ, suc, ◌+◌, ◌<◌, Bool, true, false, cond, List, [], ◌∷◌, ◌++◌, length, get_or, set, replicate, Option, Some, None, refl, ap, sym, ◌∙◌, subst, length-append, add-one, arith}
-use Rattle.csq_draw.proofs.Imports.{option_map_or, IrpId, PassId, Kind, Made, number, same_id, name_of, IrpLife, Size, OfIrp, same_id-refl, same_id-eq, Numbered, run_of, GrewBy, View, all_passes, length-table, table-same, table-replicate, get-table, set-table, CaptionText, Drawn, DrawingStandsAfter, EndShown, Shown, seen, shown_now, shown_text, steps_shown, text_of, IrpNow, irps_after, irps_of, new_irp, Owner, Row, is_of_irp, owner, owner_after, owner_named, ended_by, owners, lock_of, lock_at, owner_in, with_owner, Shows, NotesStep}
+use Rattle.csq_draw.proofs.Imports.{option_map_or, IrpId, PassId, Kind, Made, number, same_id, name_of, IrpLife, Size, OfIrp, same_id-refl, same_id-eq, Numbered, run_of, GrewBy, View, all_passes, length-table, table-same, table-replicate, get-table, set-table, CaptionText, Drawn, DrawingStandsAfter, EndShown, Shown, seen, drawing_shown, shown_text, steps_shown, text_of, IrpNow, irps_after, irps_of, new_irp, Owner, Row, is_of_irp, owner, owner_after, owner_named, ended_by, owners, lock_of, lock_at, owner_in, with_owner, Shows, NotesStep}
 use Rattle.irp_core.specs.MachineState.{MachineState, Agrees, size_of}
 use Rattle.csq_explain.specs.declared.passes.PassNow.{PassNow}
 use Rattle.csq_draw.specs.Captions.{caption_of}
@@ -151,7 +151,7 @@ module _ {A : Type 0} (drawing : Drawing A) (irps : List IrpNow) (size : Size) (
   irps_are : irps ≡ irps_of size d.steps
   irps_are = irps_shown size drawing.rows.items drawing.owners.items d.steps stands.shows irps known
 
-  pub steps_drawn : (e : EndShown) → GrewBy old new (shown_text drawing.view.format (caption_of drawing.caption) (seen drawing.view.window (shown_now drawing irps)) e) → GrewBy old new (text_of size drawing.view d e)
+  pub steps_drawn : (e : EndShown) → GrewBy old new (shown_text drawing.view.format (caption_of drawing.caption) (seen drawing.view.window (drawing_shown drawing irps)) e) → GrewBy old new (text_of size drawing.view d e)
   steps_drawn e =
-      text_shown drawing.view _ _ (shown_now drawing irps) (steps_shown size d.steps) old new e stands.captioned
+      text_shown drawing.view _ _ (drawing_shown drawing irps) (steps_shown size d.steps) old new e stands.captioned
       (same_shown None _ _ _ _ _ _ _ _ stands.follows.passes irps_are stands.shows.shown_rows stands.shows.shown_owners)

@@ -48,8 +48,8 @@ pub record NotesStep (rows : List Row) (os : List (Option Owner)) (line : ℕ) (
   pub noted_owners : new_owners ≡ with_owner os step.made (length rows)
 
 -- what a drawing shows, of which so much is known of the IRPs
-abbrev pub shown_now : {A : Type 0} → Drawing A → List IrpNow → Shown
-shown_now drawing irps = record { passes = drawing.execution.passes.items; irps = irps; rows = drawing.rows.items; owners = drawing.owners.items; refused = None }
+abbrev pub drawing_shown : {A : Type 0} → Drawing A → List IrpNow → Shown
+drawing_shown drawing irps = record { passes = drawing.execution.passes.items; irps = irps; rows = drawing.rows.items; owners = drawing.owners.items; refused = None }
 
 -- a drawing stands where the lines so far of a schedule of this size led to
 pub record DrawingStandsAfter {A : Type 0} (drawing : Drawing A) (size : Size) (d : Drawn) : Type 0 where

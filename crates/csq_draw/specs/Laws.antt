@@ -13,7 +13,7 @@ use Rattle.csq_replay.specs.declared.lines.answer.Ended.{Ended}
 use Rattle.csq_replay.specs.declared.schedule.closing.IrpLine.{IrpLine}
 use Rattle.csq_replay.specs.declared.schedule.outcome.Stop.{Stop}
 use Rattle.csq_replay.specs.Schedule.{Numbered, run_of}
-use Rattle.csq_draw.specs.declared.view.{View.{View}, Window.{Window}}
+use Rattle.csq_draw.specs.declared.view.Window.{Window}
 use Rattle.csq_draw.specs.declared.marks.{Legality.TheVariants.{Legal}, Mark.{Mark}, Number.{Number}, Shade.{Shade}}
 use Rattle.csq_draw.specs.declared.owners.{Having.{Having, TheVariants.{Owes, Holds}}, Owner.{Owner}}
 use Rattle.csq_draw.specs.declared.words.WordValues.{WordValues}
@@ -35,19 +35,15 @@ use Rattle.csq_draw.specs.Words.{words_of, words_named, changes_flag, changes_ro
 use Rattle.csq_draw.specs.declared.element.Element.{Element}
 use Rattle.csq_draw.specs.declared.element.Element.TheVariants as element
 use Rattle.csq_draw.specs.declared.wrong_drawing.Refusal.{Refusal}
-use Rattle.csq_draw.specs.Pictures.{EndShown, IsDrawing, Shown, broken_end, close_of, irps_of, picture_of, place_named, seen, steps_shown, stop_of, stopped_end}
-use Rattle.csq_draw.specs.WrongDrawings.{IsOrderDrawing, WrongDrawn, order_shown}
+use Rattle.csq_draw.specs.Pictures.{EndShown, Shown, broken_end, close_of, irps_of, picture_of, place_named, seen, steps_shown, stop_of, stopped_end}
+use Rattle.csq_draw.specs.WrongDrawings.{WrongDrawn, order_shown}
 use Rattle.csq_draw.specs.Irps.{irp_column, life_named}
 use Rattle.csq_explain.specs.declared.harms.HarmAt.{HarmAt}
 use Rattle.csq_explain.specs.declared.reasons.Reason.{Reason}
 
--- two pictures of one schedule in one view are the same
-abbrev pub HasOnePicture : Size → View → List ℕ → Type 0
-HasOnePicture size view input = (text other : List ℕ) (ended otherwise : Ended) → IsDrawing size view input text ended → IsDrawing size view input other otherwise → (text ≡ other) × (ended ≡ otherwise)
-
--- and two of one order that may break the protocol
-abbrev pub HasOneOrderPicture : Size → View → List ℕ → Type 0
-HasOneOrderPicture size view input = (text other : List ℕ) (ended otherwise : Ended) → IsOrderDrawing size view input text ended → IsOrderDrawing size view input other otherwise → (text ≡ other) × (ended ≡ otherwise)
+-- two pictures of one input that are drawn so are the same, and so is how its handling ended
+abbrev pub HasOnePicture : (List ℕ → List ℕ → Ended → Type 0) → List ℕ → Type 0
+HasOnePicture IsDrawn input = (text other : List ℕ) (ended otherwise : Ended) → IsDrawn input text ended → IsDrawn input other otherwise → (text ≡ other) × (ended ≡ otherwise)
 
 -- what is picked out of these elements, in order
 abbrev pub picked : {A : Type 0} → (Element → List A) → List Element → List A
@@ -277,8 +273,8 @@ IsDrawnAs irps E i p having = (row : ℕ) × (lane : ℕ) × (owner irps E i.irp
 -- of every run, who is drawn as the owner of an IRP in its present life is its owner by the run, and so the other way round; and nobody is drawn as its owner in another life
 pub record EachDrawnOwnerOwesOrHolds (first : ℕ) (E : List Made) : Type 0 where
   pub owed : (irps : ℕ) (n : IrpId) (p : PassId) → (IsDrawnAs irps E (present first E n) p Owes) ↔ IsTrue (owes E p (present first E n))
-  pub named : (irps : ℕ) (n : IrpId) (a : Owner) → owner irps E n ≡ Some a → a.name ≡ present first E n
   pub held : (irps : ℕ) (n : IrpId) (p : PassId) → (IsDrawnAs irps E (present first E n) p Holds) ↔ IsTrue (holds E p (present first E n))
+  pub named : (irps : ℕ) (n : IrpId) (a : Owner) → owner irps E n ≡ Some a → a.name ≡ present first E n
 
 -- of so many IRPs, two that one pass has after the steps E are in lanes of their own, or in the ninth
 abbrev pub NoTwoLinesShareALane : ℕ → List Made → Type 0

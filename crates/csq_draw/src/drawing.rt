@@ -14,7 +14,7 @@ ghost use Rattle.csq_draw.specs.Pictures.{Drawn, by_places, close_of, end_of, ne
 ghost use Rattle.csq_draw.specs.Views.{whole};
 ghost use Rattle.csq_draw.specs.Windows.{places};
 ghost use Rattle.csq_draw.specs.declared.words.WordValues.{WordValues};
-ghost use Rattle.csq_draw.specs.Drawings.{owner_in, DrawingStandsAfter, NotesStep, StandsInView, shown_now};
+ghost use Rattle.csq_draw.specs.Drawings.{owner_in, DrawingStandsAfter, NotesStep, StandsInView, drawing_shown};
 ghost use Rattle.csq_draw.specs.Words.{AreWordsNamed};
 
 use crate::caption::{Caption, draw_names};
@@ -283,7 +283,7 @@ impl<A: Allocator + Copy> Drawing<A> {
         requires irps { length irps.now ≤ 1024 }
         ensures { OnOk result (GrewBy (string_bytes text.old) (string_bytes text.new)
             (shown_text self.now.view.format (caption_of self.now.caption)
-            (seen self.now.view.window (shown_now self.now irps.now)) (end_of ending.entry))) }
+            (seen self.now.view.window (drawing_shown self.now irps.now)) (end_of ending.entry))) }
     {
         let sheet = Sheet {
             passes: &self.execution.passes,

@@ -6,19 +6,20 @@ ghost use Rattle.irp_core.specs.Runs.{Size, EachRunFrom};
 ghost use Rattle.csq_replay.specs.Schedule.{Numbered};
 ghost use Rattle.csq_draw.specs.declared.view.{View.{View}, Window.{Window}};
 ghost use Rattle.csq_draw.specs.declared.wrong_drawing.Refusal.{Refusal};
-ghost use Rattle.csq_draw.specs.WrongDrawings.{WrongDrawn};
-ghost use Rattle.csq_draw.specs.Laws.{HasOneOrderPicture, HasOnePicture, EachStepHasOneMark, EachStepShowsItsWords, EachLineHasItsNumber, EachShadeIsOfTheLock, EachArrowIsFromTheWrite, EachBarShowsTheWords, EachStepOfAnOrderHasOneMark, EachShownStepHasOneMark, EachPassHasItsColumn, TheShadedPassHasTheLock, EachDrawnOwnerOwesOrHolds, NoTwoLinesShareALane, TheNinthLaneIsLast};
+ghost use Rattle.csq_draw.specs.Pictures.{IsDrawing};
+ghost use Rattle.csq_draw.specs.WrongDrawings.{IsOrderDrawing, WrongDrawn};
+ghost use Rattle.csq_draw.specs.Laws.{HasOnePicture, EachStepHasOneMark, EachStepShowsItsWords, EachLineHasItsNumber, EachShadeIsOfTheLock, EachArrowIsFromTheWrite, EachBarShowsTheWords, EachStepOfAnOrderHasOneMark, EachShownStepHasOneMark, EachPassHasItsColumn, TheShadedPassHasTheLock, EachDrawnOwnerOwesOrHolds, NoTwoLinesShareALane, TheNinthLaneIsLast};
 
 /// A schedule has at most one picture in each view, so the relation that `draw_schedule` and
 /// `draw_schedule_as_text` meet names its bytes.
 pub fn a_schedule_has_one_picture()
-    ensures { (size : Size) (view : View) (input : List ℕ) → HasOnePicture size view input }
+    ensures { (size : Size) (view : View) (input : List ℕ) → HasOnePicture (IsDrawing size view) input }
 {}
 
 /// So has a schedule that may break the protocol, so the relation that `WrongDrawing` meets names its bytes: what comes
 /// behind a refused step goes by the two words alone.
 pub fn an_order_has_one_picture()
-    ensures { (size : Size) (view : View) (input : List ℕ) → HasOneOrderPicture size view input }
+    ensures { (size : Size) (view : View) (input : List ℕ) → HasOnePicture (IsOrderDrawing size view) input }
 {}
 
 /// The marks of a picture are one for each step of its run, in order, each on the row of its number and in

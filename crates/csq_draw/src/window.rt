@@ -6,7 +6,7 @@ ghost use Rattle.csq_draw.specs.Windows.{is_wanted, shows, next, places, place, 
 use crate::owners::Owner;
 use crate::rows::{Row, count};
 use crate::view::Window;
-use irp_core::{IrpId, Kind};
+use irp_core::IrpId;
 use std::alloc::{AllocError, Allocator};
 
 /// Whether this is the IRP that a window is of, if it is of one.
@@ -24,8 +24,7 @@ fn is_wanted(wanted: Option<IrpId>, irp: IrpId) -> bool
 fn shows(window: Window, row: Row) -> bool
     ensures { result ≡ shows window row }
 {
-    let kind: Kind = row.step.made.kind;
-    let wanted = match kind.name() {
+    let wanted = match row.step.made.kind.name() {
         Some(name) => is_wanted(window.irp, name.irp),
         None => window.irp.is_none(),
     };
@@ -34,7 +33,7 @@ fn shows(window: Window, row: Row) -> bool
 
 /// How many rows were shown, after this one.
 fn next(window: Window, row: Row, shown: u32) -> Result<u32, AllocError>
-    ensures { IfOk result (λ shown_now. shown_now ≡ next window row shown) }
+    ensures { IfOk result (λ count. count ≡ next window row shown) }
 {
     if shows(window, row) {
         shown.checked_add(1).ok_or(AllocError)
@@ -49,7 +48,7 @@ pub(crate) fn places<A: Allocator>(
     window: Window,
     rows: &[Row],
 ) -> Result<Vec<u32, A>, AllocError>
-    ensures { IfOk result (λ places_now. places_now.items ≡ places window 0 rows.now) }
+    ensures { IfOk result (λ found. found.items ≡ places window 0 rows.now) }
 {
     let mut places = Vec::new(alloc);
     let mut shown = 0;

@@ -71,7 +71,7 @@ pub(crate) fn makers<A: Allocator>(
     passes: &[PassNow],
     rows: &[Row],
 ) -> Result<Vec<PassNow, A>, AllocError>
-    ensures { IfOk result (λ makers_now. makers_now.items ≡ makers passes.now rows.now) }
+    ensures { IfOk result (λ found. found.items ≡ makers passes.now rows.now) }
 {
     let mut makers = Vec::new(alloc);
     makers.extend_from_slice(passes)?;
