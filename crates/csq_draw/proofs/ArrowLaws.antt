@@ -6,9 +6,9 @@ use Rattle.irp_core.specs.declared.step.Kind.TheVariants.{Arm, Test, Disarm, End
 use Rattle.csq_draw.specs.declared.arrows.Arrow.{Arrow}
 use Rattle.csq_draw.specs.Arrows.{found_in}
 use Rattle.csq_draw.specs.Irps.{flag_after, routine_after, spot_of}
-use Rattle.csq_draw.specs.Laws.{added, arrow_of, arrow_to, sets_flag, sets_routine, set_in, setter, EachArrowIsFromTheWrite}
+use Rattle.csq_draw.specs.Laws.{added, arrow_of, arrow_to, sets_flag, sets_routine, set_in, setter, writes_routine, EachArrowIsFromTheWrite}
 use Rattle.csq_draw.specs.Rows.{row_of}
-use Rattle.csq_draw.specs.Words.{changes_flag, changes_routine}
+use Rattle.csq_draw.specs.Words.{changes_flag}
 use Rattle.csq_draw.proofs.Known.{at_next, none_yet}
 use Rattle.csq_draw.proofs.PictureLaws.{drawn_arrows}
 use Rattle.csq_explain.specs.declared.passes.PassNow.{PassNow}
@@ -17,7 +17,7 @@ use Rattle.csq_explain.specs.declared.passes.PassNow.{PassNow}
 flag_steps : (k : Kind) (found : ℕ) (spot : Spot) (before : Option Spot) → flag_after k found spot before ≡ cond (changes_flag k found) (cond (sets_flag k) (Some spot) None) before
 flag_steps k found spot before = grind arith
 
-routine_steps : (k : Kind) (found : ℕ) (spot : Spot) (before : Option Spot) → routine_after k found spot before ≡ cond (changes_routine k found) (cond (sets_routine k) (Some spot) None) before
+routine_steps : (k : Kind) (found : ℕ) (spot : Spot) (before : Option Spot) → routine_after k found spot before ≡ cond (writes_routine k found) (cond (sets_routine k) (Some spot) None) before
 routine_steps k found spot before = grind arith
 
 module _ (size : Size) where
@@ -33,14 +33,14 @@ module _ (size : Size) where
       go false e before = before ∙ rw e refl
 
   -- and its cancel routine
-  routine_is : (W : List Numbered) (n : IrpId) → n.0 < size.irps → (irp_at (irps_of size W) n).routine ≡ set_in changes_routine sets_routine n W
+  routine_is : (W : List Numbered) (n : IrpId) → n.0 < size.irps → (irp_at (irps_of size W) n).routine ≡ set_in writes_routine sets_routine n W
   routine_is [] n lt = ap (λ (x : IrpNow). x.routine) (none_yet size n lt)
   routine_is (w ∷ W) n lt = ap (λ (x : IrpNow). x.routine) (at_next size w W n lt) ∙ go (is_of_irp n w.step.kind) refl (routine_is W n lt)
     where
-      go : (b : Bool) → is_of_irp n w.step.kind ≡ b → (irp_at (irps_of size W) n).routine ≡ set_in changes_routine sets_routine n W → (cond b (irp_after (irp_at (irps_of size W) n) (row_of size w W)) (irp_at (irps_of size W) n)).routine ≡ set_in changes_routine sets_routine n (w ∷ W)
+      go : (b : Bool) → is_of_irp n w.step.kind ≡ b → (irp_at (irps_of size W) n).routine ≡ set_in writes_routine sets_routine n W → (cond b (irp_after (irp_at (irps_of size W) n) (row_of size w W)) (irp_at (irps_of size W) n)).routine ≡ set_in writes_routine sets_routine n (w ∷ W)
       go true e before =
           routine_steps w.step.kind w.step.found (spot_of (row_of size w W)) (irp_at (irps_of size W) n).routine
-          ∙ ap (λ x. cond (changes_routine w.step.kind w.step.found) (cond (sets_routine w.step.kind) (Some (spot_of (row_of size w W))) None) x) before ∙ rw e refl
+          ∙ ap (λ x. cond (writes_routine w.step.kind w.step.found) (cond (sets_routine w.step.kind) (Some (spot_of (row_of size w W))) None) x) before ∙ rw e refl
       go false e before = before ∙ rw e refl
 
   -- who set what a step of a known IRP found

@@ -3,7 +3,7 @@ use Rattle.std.specs.Prelude.{◌≡◌, ◌≢◌, ◌⊎◌, ◌↔◌, ℕ, z
 use Rattle.std.specs.List.{list_any}
 use Rattle.std.specs.Option.{option_map_or}
 use Rattle.irp_core.specs.declared.ids.{IrpId.{IrpId}, IrpLife.{IrpLife}, PassId.{PassId}}
-use Rattle.irp_core.specs.declared.step.{Kind.{Kind, TheVariants.{Arm, Test, Disarm, Flag, Take, Rearm}}, Made.{Made}}
+use Rattle.irp_core.specs.declared.step.{Kind.{Kind, TheVariants.{Arm, Test, Disarm, Flag, Take, Renew, Rearm}}, Made.{Made}}
 use Rattle.irp_core.specs.Lives.{present}
 use Rattle.irp_core.specs.Lock.{HasLock, needs_lock}
 use Rattle.irp_core.specs.Owners.{owes, holds}
@@ -31,7 +31,7 @@ use Rattle.csq_explain.specs.Sentences.{in_call}
 use Rattle.csq_draw.specs.declared.rows.Row.{Row}
 use Rattle.csq_draw.specs.Rows.{row_of, rows_of}
 use Rattle.csq_draw.specs.Windows.{shows}
-use Rattle.csq_draw.specs.Words.{words_of, words_named, changes_flag, changes_routine}
+use Rattle.csq_draw.specs.Words.{words_of, words_named, changes_flag}
 use Rattle.csq_draw.specs.declared.element.Element.{Element}
 use Rattle.csq_draw.specs.declared.element.Element.TheVariants as element
 use Rattle.csq_draw.specs.declared.wrong_drawing.Refusal.{Refusal}
@@ -121,28 +121,37 @@ shade_by passes row step None = []
 abbrev pub shade_of : Size → List PassNow → Numbered → List Numbered → List Shade
 shade_of size passes w W = shade_by passes (length W) (in_call (run_of W) w.step) (row_of size w W).lock
 
--- whether a step of this kind that changes the Cancel flag sets it
+-- whether a step of this kind that writes the Cancel flag sets it
 abbrev pub sets_flag : Kind → Bool
 sets_flag (Flag i) = true
 sets_flag _ = false
 
--- and one that changes the cancel routine
+-- and one that writes the cancel routine
 abbrev pub sets_routine : Kind → Bool
 sets_routine (Arm i) = true
 sets_routine (Rearm i) = true
 sets_routine _ = false
 
--- where the newest of the steps W stands that changed a word of IRP n, if it set the word
+-- whether a step of this kind that found this value wrote the cancel routine, or began it anew (an arm writes it whatever it finds)
+abbrev pub writes_routine : Kind → ℕ → Bool
+writes_routine (Arm i) found = true
+writes_routine (Disarm i) found = found == 1
+writes_routine (Take i) found = found == 1
+writes_routine (Renew i) found = true
+writes_routine (Rearm i) found = true
+writes_routine _ found = false
+
+-- where the newest of the steps W stands that wrote a word of IRP n, if it set the word
 abbrev pub set_in : (Kind → ℕ → Bool) → (Kind → Bool) → IrpId → List Numbered → Option Spot
-set_in changes sets n [] = None
-set_in changes sets n (w ∷ W) = if is_of_irp n w.step.kind && changes w.step.kind w.step.found then (if sets w.step.kind then Some (record { row = length W; line = w.line; pass = w.step.pass; life = life_named w.step.kind }) else None) else set_in changes sets n W
+set_in writes sets n [] = None
+set_in writes sets n (w ∷ W) = if is_of_irp n w.step.kind && writes w.step.kind w.step.found then (if sets w.step.kind then Some (record { row = length W; line = w.line; pass = w.step.pass; life = life_named w.step.kind }) else None) else set_in writes sets n W
 
 -- who set what this kind of step, which found this value, found set after the steps W
 abbrev pub setter : Kind → ℕ → List Numbered → Option Spot
 setter (Test i) found W = if found == 1 then set_in changes_flag sets_flag i.irp W else None
 setter (Flag i) found W = if found == 1 then set_in changes_flag sets_flag i.irp W else None
-setter (Disarm i) found W = if found == 1 then set_in changes_routine sets_routine i.irp W else None
-setter (Take i) found W = if found == 1 then set_in changes_routine sets_routine i.irp W else None
+setter (Disarm i) found W = if found == 1 then set_in writes_routine sets_routine i.irp W else None
+setter (Take i) found W = if found == 1 then set_in writes_routine sets_routine i.irp W else None
 setter _ found W = None
 
 -- an arrow to a step of p on this row, of this line, from the spot of another pass
@@ -150,7 +159,7 @@ abbrev pub arrow_to : List PassNow → PassId → ℕ → ℕ → Option Spot �
 arrow_to passes p row line (Some spot) = if same_pass spot.pass p then [] else record { from_column = column_of passes spot.pass; from = spot; column = column_of passes p; row = row; line = line } ∷ []
 arrow_to passes p row line None = []
 
--- the arrow to a step: from the newest step that changed the word that it found set
+-- the arrow to a step: from the newest step that wrote the word that it found set
 abbrev pub arrow_of : List PassNow → Numbered → List Numbered → List Arrow
 arrow_of passes w W = arrow_to passes w.step.pass (length W) w.line (setter w.step.kind w.step.found W)
 

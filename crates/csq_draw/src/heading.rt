@@ -20,9 +20,9 @@ At the right stand the Cancel flag and the cancel routine of each IRP.</desc>
 .k6{color:#0f766e;fill:#e6fffa}.k7{color:#57606a;fill:#ffffff}
 .e{color:#57606a;fill:#ffffff}.bad{color:#cf222e;fill:#ffebe9}
 .k0,.k1,.k2,.k3,.k4,.k5,.k6,.k7,.e,.bad{stroke:currentColor}
-.d{fill:#eaeef2;stroke-dasharray:3 2}.c rect{stroke-width:3}.c .w{font-weight:bold}
+.d{fill:#eaeef2;stroke-dasharray:3 2}.bad rect{stroke-width:3}.c rect{stroke-width:3}.c .w{font-weight:bold}
 .owes,.holds{fill:none;stroke-width:3}.owes{stroke-dasharray:4 3}.g{stroke:#d1d9e0}
-text{fill:#1f2328;stroke:none}.f{fill:#cf222e;font-weight:bold}.s,.m{font-size:10.5px}.s,.m,.n,.q{fill:#59636e}
+text{fill:#1f2328;stroke:none}.f{fill:#cf222e;font-weight:bold}.s,.m{font-size:10.5px}.s,.m,.n,.q{fill:#424a53}
 .m{font-family:ui-monospace,SFMono-Regular,Consolas,'DejaVu Sans Mono',monospace;font-size:10px}
 .t{font-size:16px;font-weight:bold}.t tspan{fill:#59636e;font-size:10.5px;font-weight:normal}
 .p{font-weight:bold;text-anchor:middle}.o{text-anchor:middle}.q{font-size:9px;text-anchor:middle}.n,.v{text-anchor:end}

@@ -63,8 +63,9 @@ pub(crate) fn changes_routine(kind: Kind, found: u64) -> bool
     ensures { result ≡ changes_routine kind found }
 {
     match kind {
+        Kind::Arm(_) | Kind::Rearm(_) => found == 0,
         Kind::Disarm(_) | Kind::Take(_) => found == 1,
-        Kind::Arm(_) | Kind::Rearm(_) | Kind::Renew(_) => true,
+        Kind::Renew(_) => true,
         _ => false,
     }
 }

@@ -22,7 +22,7 @@ first_done steps i = position (λ (x : LineStep). is_done x.made i) steps
 abbrev pub exchanges : List LineStep → IrpLife → Bool
 exchanges steps i = list_any (λ (x : LineStep). arms x.made i || disarms x.made i) steps
 
--- i, whose routine was set between these steps and those, waits for good: it was cancelled, nobody takes its routine, and nobody completed it
+-- i, whose routine was set between these steps and those, lost its cancel: its Cancel flag is set, nobody takes its routine, and nobody completed it
 abbrev pub is_lost : List LineStep → List LineStep → IrpLife → Bool
 is_lost before after i = not (exchanges after i) && ((flagged (made_by [] before) i || flagged (made_by [] after) i) && (is_none (first_done before i) && is_none (first_done after i)))
 
@@ -50,7 +50,7 @@ step_in_line x = pass_text x.made.pass ++ (codes " " ++ (kind_text x.made.kind +
 abbrev pub harm_text : LineStep → Harm → List ℕ
 harm_text x (Twice first) = codes "harm: " ++ (step_in_line x ++ (codes " completes what " ++ (pass_text first.made.pass ++ (codes " completed in line " ++ (decimal first.line ++ codes ": MULTIPLE_IRP_COMPLETE_REQUESTS (0x44)")))))
 harm_text x Stray = codes "harm: " ++ (step_in_line x ++ codes " takes the routine of an IRP that nobody cancelled")
-harm_text x Lost = codes "harm: what " ++ (step_in_line x ++ codes " lists waits for good: its Cancel flag is set, and nobody takes its routine")
+harm_text x Lost = codes "harm: the cancel of what " ++ (step_in_line x ++ codes " lists is lost: its Cancel flag is set, and nobody takes its routine")
 
 -- a step with what goes wrong at it, if something does
 abbrev pub harm_list : LineStep → Option Harm → List HarmAt

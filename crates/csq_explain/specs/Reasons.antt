@@ -43,7 +43,7 @@ next_step (FlagSeenAgain i) = codes "disarm " ++ name_text i
 
 -- how far a pass is in its call, since this line
 abbrev pub inside_text : Inside → ℕ → List ℕ
-inside_text Nothing line = codes " is inside no call, and none begins with a test or a take"
+inside_text Nothing line = codes " is inside no call: an insert begins with arm, a put-back with rearm, a cancel with flag"
 inside_text x line = codes " has been inside " ++ (call_name x ++ (codes " since line " ++ (decimal line ++ (codes "; its next step is " ++ next_step x))))
 
 -- that the pass of a step of this kind doesn't hold its IRP, or not by a removal

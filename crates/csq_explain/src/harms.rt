@@ -51,7 +51,7 @@ impl fmt::Display for HarmAt {
             ),
             Harm::Lost => write!(
                 f,
-                "harm: what {pass} {kind} in line {line} lists waits for good: its Cancel flag is set, and nobody takes its routine"
+                "harm: the cancel of what {pass} {kind} in line {line} lists is lost: its Cancel flag is set, and nobody takes its routine"
             ),
         }
     }
@@ -85,7 +85,7 @@ fn exchanges(steps: &[LineStep], name: IrpLife) -> bool
         .any(|step| arms(step.made, name) || disarms(step.made, name))
 }
 
-/// Whether an IRP whose routine was set between these steps and those waits for good: it was cancelled, nobody takes
+/// Whether an IRP whose routine was set between these steps and those lost its cancel: its flag is set, nobody takes
 /// its routine, and nobody completed it.
 fn is_lost(before: &[LineStep], after: &[LineStep], name: IrpLife) -> bool
     ensures { result ≡ is_lost before.now after.now name }

@@ -93,7 +93,7 @@ impl fmt::Display for StepRefusal {
             StepRefused::NotNext => match now.inside {
                 Inside::Nothing => write!(
                     f,
-                    "{pass} is inside no call, and none begins with a test or a take"
+                    "{pass} is inside no call: an insert begins with arm, a put-back with rearm, a cancel with flag"
                 ),
                 _ => write!(
                     f,

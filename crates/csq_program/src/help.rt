@@ -81,7 +81,7 @@ pass, and the schedule goes on by the two words of each IRP alone, as code does
 that breaks the protocol there: each step finds what the word holds. The first
 refused step has its refusal behind it. The end says whether the protocol was
 kept, and what goes wrong: a second completion of an IRP, a cancel that nobody
-asked for, an IRP that waits for good. It goes with neither --claims nor
+asked for, a cancel that is lost. It goes with neither --claims nor
 --explain.
 
 Words are separated by one space, and the case of letters counts. A number has
