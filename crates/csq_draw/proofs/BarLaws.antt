@@ -1,6 +1,8 @@
 -- Bars run from each step of an IRP to its next one.
-use Rattle.std.proofs.Common.{◌≡◌, ℕ, zero, suc, ◌+◌, ◌<◌, ◌≤◌, Bool, true, false, cond, List, [], ◌∷◌, ◌++◌, length, replicate, take, Option, Some, None, refl, ap, sym, ◌∙◌, arith}
-use Rattle.csq_draw.proofs.Imports.{option_map, option_map_or, length-take-le, take_all, take_more, IrpId, IrpLife, Kind, Size, IsRun, OfIrp, Owner, PassId, number, name_of, same_id, same_id-eq, Numbered, run_of, all_passes, is_of_irp, Row, IrpNow, Seen, Spot, above_elements, arrow_elements, bars_elements, behind_elements, call_elements, closing_elements, column_elements, each, fresh_irps, irp_after, irp_at, irp_named, irps_of, last_elements, mark_element, new_irp, open_elements, owners_elements, reason_of, refused_elements, row_after, rows_elements, shade_elements, shown_elements, span_elements, steps_shown, word_elements}
+use Rattle.std.proofs.Common.{◌≡◌, ◌||◌, ℕ, zero, suc, ◌+◌, ◌<◌, ◌≤◌, Bool, true, false, cond, List, [], ◌∷◌, ◌++◌, length, replicate, take, Option, Some, None, refl, ap, sym, ◌∙◌, arith}
+use Rattle.std.specs.Prelude.{is_some}
+use Rattle.std.specs.List.{list_any}
+use Rattle.csq_draw.proofs.Imports.{count-more, option_map, option_map_or, length-take-le, take_all, take_more, IrpId, IrpLife, Kind, Size, IsRun, OfIrp, Owner, PassId, number, name_of, same_id, same_id-eq, Numbered, run_of, all_passes, is_of_irp, Row, IrpNow, Seen, Spot, above_elements, arrow_elements, bars_elements, behind_elements, call_elements, closing_elements, column_elements, each, fresh_irps, irp_after, irp_at, irp_named, irps_of, last_elements, mark_element, new_irp, open_elements, owners_elements, reason_of, refused_elements, row_after, rows_elements, shade_elements, shown_elements, span_elements, steps_shown, word_elements}
 use Rattle.irp_core.proofs.Growing.{run_less}
 use Rattle.irp_core.specs.Lives.{present}
 use Rattle.irp_core.specs.declared.step.Kind.TheVariants.{Arm, Test, Disarm, End, Flag, Take, Out, Done, Renew, Rearm}
@@ -11,7 +13,7 @@ use Rattle.csq_draw.specs.declared.spans.LineEnd.{LineEnd, TheVariants.{Step, La
 use Rattle.csq_draw.specs.Arrows.{found_at}
 use Rattle.csq_draw.specs.Endings.{rest_of}
 use Rattle.csq_draw.specs.Irps.{irp_column, last_by}
-use Rattle.csq_draw.specs.Laws.{added, bars, bars_from, bars_in, bars_to, bars_to_end, last_seen, picked, EachBarShowsTheWords}
+use Rattle.csq_draw.specs.Laws.{added, bars, bars_from, bars_in, bars_of, bars_to, bars_to_end, last_seen, picked, EachBarShowsTheWords, EachIrpHasItsPlace}
 use Rattle.csq_draw.specs.Passes.{columns}
 use Rattle.csq_draw.specs.Pictures.{place_named}
 use Rattle.csq_draw.specs.Rows.{row_of, rows_of}
@@ -77,18 +79,21 @@ module _ (size : Size) where
       go true e before = named w W n (irp_at (irps_of size W) n).last (name_of w.step.kind) e ∙ rw e refl
       go false e before = before ∙ rw e refl
 
-  -- and so of the IRP that a step names
-  named_is : (k : Kind) (W : List Numbered) → OfIrp (λ i. number i < size.irps) k → (irp_named (irps_of size W) k).last ≡ option_map_or (λ i. last_seen size i.irp W) (name_of k) None
-  named_is (Arm i) W lt = last_is W i.irp lt
-  named_is (Test i) W lt = last_is W i.irp lt
-  named_is (Disarm i) W lt = last_is W i.irp lt
-  named_is (Flag i) W lt = last_is W i.irp lt
-  named_is (Take i) W lt = last_is W i.irp lt
-  named_is (Out i) W lt = last_is W i.irp lt
-  named_is (Done i) W lt = last_is W i.irp lt
-  named_is (Renew i) W lt = last_is W i.irp lt
-  named_is (Rearm i) W lt = last_is W i.irp lt
-  named_is End W lt = refl
+  of_last : (passes : List PassNow) (irps : List IrpNow) (W : List Numbered) (i : IrpLife) → number i < size.irps → bars_from passes (irp_column irps i.irp) (length W) false (irp_at (irps_of size W) i.irp).last ≡ bars_of size passes irps W false i.irp
+  of_last passes irps W i lt = ap (λ s. bars_from passes (irp_column irps i.irp) (length W) false s) (last_is W i.irp lt)
+
+  -- and so are the bars to a step, of the IRP that it names
+  named_bars : (passes : List PassNow) (irps : List IrpNow) (k : Kind) (W : List Numbered) → OfIrp (λ i. number i < size.irps) k → bars_from passes (place_named irps k) (length W) false (irp_named (irps_of size W) k).last ≡ option_map_or (λ i. bars_of size passes irps W false i.irp) (name_of k) []
+  named_bars passes irps (Arm i) W lt = of_last passes irps W i lt
+  named_bars passes irps (Test i) W lt = of_last passes irps W i lt
+  named_bars passes irps (Disarm i) W lt = of_last passes irps W i lt
+  named_bars passes irps (Flag i) W lt = of_last passes irps W i lt
+  named_bars passes irps (Take i) W lt = of_last passes irps W i lt
+  named_bars passes irps (Out i) W lt = of_last passes irps W i lt
+  named_bars passes irps (Done i) W lt = of_last passes irps W i lt
+  named_bars passes irps (Renew i) W lt = of_last passes irps W i lt
+  named_bars passes irps (Rearm i) W lt = of_last passes irps W i lt
+  named_bars passes irps End W lt = refl
 
   -- of a run, the bars of its rows
   rows_bars : (passes : List PassNow) (irps : List IrpNow) (W : List Numbered) → IsRun size (run_of W) → picked bars_in (rows_elements passes irps (replicate size.irps new_irp) (rows_of size W)) ≡ added (bars_to size passes irps) W
@@ -99,8 +104,7 @@ module _ (size : Size) where
       let before = irp_named (irps_of size W) w.step.kind in
       ap (λ es. picked bars_in es) (rows-last passes irps fresh (rows_of size W) row)
       ∙ picked-append bars_in (rows_elements passes irps fresh (rows_of size W)) (row_after passes irps before row)
-      ∙ ap (λ t. picked bars_in (rows_elements passes irps fresh (rows_of size W)) ++ t) (row_bars passes irps before row
-      ∙ ap (λ s. bars_from passes (place_named irps w.step.kind) (length W) false s) (named_is w.step.kind W r.known.0.irp))
+      ∙ ap (λ t. picked bars_in (rows_elements passes irps fresh (rows_of size W)) ++ t) (row_bars passes irps before row ∙ named_bars passes irps w.step.kind W r.known.0.irp)
       ∙ ap (λ t. t ++ bars_to size passes irps w W) (rows_bars passes irps W (run_less size w.step (run_of W) r))
 
   module _ (W : List Numbered) where
@@ -164,3 +168,19 @@ each_bar size W =
           then_none bars_in shown (each (closing_elements irps count) 0 reported ++ last ∷ []) _ (shown_bars size W r)
           (none_then bars_in (each (closing_elements irps count) 0 reported) (last ∷ []) [] (none_picked bars_in (closing_elements irps count) (λ n line. refl) 0 reported) refl);
     }
+
+-- an IRP that a step names was seen
+module _ (size : Size) where
+  was_seen : (n : IrpId) (W : List Numbered) → list_any (λ m. is_of_irp n m.kind) (run_of W) ≡ true → is_some (last_seen size n W) ≡ true
+  was_seen n [] h = absurd (cc h)
+  was_seen n (w ∷ W) h = go (is_of_irp n w.step.kind) refl (was_seen n W)
+    where
+      go : (b : Bool) → is_of_irp n w.step.kind ≡ b → (list_any (λ m. is_of_irp n m.kind) (run_of W) ≡ true → is_some (last_seen size n W) ≡ true) → is_some (last_seen size n (w ∷ W)) ≡ true
+      go true e less = rw e refl
+      go false e less = rw e (less (sym (ap (λ b. b || list_any (λ m. is_of_irp n m.kind) (run_of W)) e) ∙ h))
+
+  pub own_place : (W : List Numbered) → EachIrpHasItsPlace size W
+  own_place W r n k below among named =
+      let irps = irps_of size W in
+      let at : n.0 < length irps = omega (arith, among, long size W) in
+      count-more (λ (now : IrpNow). is_some now.last) irps n.0 k.0 new_irp at below (ap (λ s. is_some s) (last_is size W n among) ∙ was_seen n W named)

@@ -163,12 +163,12 @@ arrow_to passes p row line None = []
 abbrev pub arrow_of : List PassNow → Numbered → List Numbered → List Arrow
 arrow_of passes w W = arrow_to passes w.step.pass (length W) w.line (setter w.step.kind w.step.found W)
 
--- the bars of an IRP's two words, if an element is such a pair
+-- the pair of bars of an IRP's two words, if an element is one
 abbrev pub bars_in : Element → List Bars
 bars_in (element.Bars b) = b ∷ []
 bars_in _ = []
 
--- the row of the newest of the steps W that names IRP n, and the words of its present life after that step, by the run
+-- the row of the newest of the steps W that names IRP n, and the words of that IRP's present life after that step, by the run
 abbrev pub last_seen : Size → IrpId → List Numbered → Option Seen
 last_seen size n [] = None
 last_seen size n (w ∷ W) = if is_of_irp n w.step.kind then Some (record { row = length W; words = words_of (run_of (w ∷ W)) (present size.first (run_of (w ∷ W)) n) }) else last_seen size n W
@@ -178,16 +178,18 @@ abbrev pub bars_from : List PassNow → ℕ → ℕ → Bool → Option Seen →
 bars_from passes place to to_the_end (Some seen) = record { columns = columns passes; place = place; from = seen.row; to = to; to_the_end = to_the_end; words = seen.words } ∷ []
 bars_from passes place to to_the_end None = []
 
--- the bars to a step after the steps W: from the newest of them that names its IRP
-abbrev pub bars_to : Size → List PassNow → List IrpNow → Numbered → List Numbered → List Bars
-bars_to size passes irps w W = bars_from passes (place_named irps w.step.kind) (length W) false (option_map_or (λ i. last_seen size i.irp W) (name_of w.step.kind) None)
+-- the bars of IRP n to a row, or to the end: from the newest of the steps W that names it, at its place
+abbrev pub bars_of : Size → List PassNow → List IrpNow → List Numbered → Bool → IrpId → List Bars
+bars_of size passes irps W to_the_end n = bars_from passes (irp_column irps n) (length W) to_the_end (last_seen size n W)
 
--- the bars of the first n IRPs to the end: from the newest of the steps W that names each
+-- the bars to a step after the steps W, if it names an IRP
+abbrev pub bars_to : Size → List PassNow → List IrpNow → Numbered → List Numbered → List Bars
+bars_to size passes irps w W = option_map_or (λ i. bars_of size passes irps W false i.irp) (name_of w.step.kind) []
+
+-- the bars of the first n IRPs to the end
 abbrev pub bars_to_end : Size → List PassNow → List IrpNow → List Numbered → ℕ → List Bars
 bars_to_end size passes irps W zero = []
-bars_to_end size passes irps W (suc n) =
-    let irp : IrpId = record { 0 = n } in
-    bars_to_end size passes irps W n ++ bars_from passes (irp_column irps irp) (length W) true (last_seen size irp W)
+bars_to_end size passes irps W (suc n) = bars_to_end size passes irps W n ++ bars_of size passes irps W true (record { 0 = n })
 
 -- the bars of the steps W: those to the end, and those to each step, in order
 abbrev pub bars : Size → List PassNow → List IrpNow → List Numbered → List Bars
@@ -213,7 +215,7 @@ EachShadeIsOfTheLock size W = AddsStepByStep size W shade_in (shade_of size (all
 abbrev pub EachArrowIsFromTheWrite : Size → List Numbered → Type 0
 EachArrowIsFromTheWrite size W = IsRun size (run_of W) → AddsStepByStep size W arrow_in (arrow_of (all_passes size W)) (λ n. [])
 
--- of a run, from each step of an IRP bars run to the next step of that IRP, or to the end if there is none; they show the words after the step that they run from, by the run, and there are no others
+-- of a run, from each step of an IRP a pair of bars runs to the next step of that IRP, or to the end if there is none, at the place of that IRP; it shows the words after the step that it runs from, by the run, and there are no others
 pub record EachBarShowsTheWords (size : Size) (W : List Numbered) : Type 0 where
   pub stopped : IsRun size (run_of W) → (n : ℕ) (stop : Stop) → picked bars_in (steps_picture size W (stop_of size W n stop)) ≡ bars size (all_passes size W) (irps_of size W) W
   pub closed : IsRun size (run_of W) → (reported : List IrpLine) (at_rest : Bool) → picked bars_in (steps_picture size W (close_of size W reported at_rest)) ≡ bars size (all_passes size W) (irps_of size W) W
@@ -266,6 +268,10 @@ pub record EachShownStepHasOneMark (size : Size) (W : List Numbered) (w : Window
 -- passes that made a step of the run have columns of their own, in the order of their numbers
 abbrev pub EachPassHasItsColumn : Size → List Numbered → Type 0
 EachPassHasItsColumn size W = (p q : PassId) → p.0 < q.0 → p.0 < size.passes → IsTrue (list_any (by p) (run_of W)) → column_of (all_passes size W) p < column_of (all_passes size W) q
+
+-- IRPs that a step of the run names have places of their own, in the order of their numbers
+abbrev pub EachIrpHasItsPlace : Size → List Numbered → Type 0
+EachIrpHasItsPlace size W = IsRun size (run_of W) → (n k : IrpId) → n.0 < k.0 → n.0 < size.irps → IsTrue (list_any (λ m. is_of_irp n m.kind) (run_of W)) → irp_column (irps_of size W) n < irp_column (irps_of size W) k
 
 -- as this step is made, p has the lock: it makes the step, and that needs the lock, or has it before a step that needs none
 abbrev pub HasItAt : Made → List Made → PassId → Type 0

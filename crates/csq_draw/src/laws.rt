@@ -8,7 +8,7 @@ ghost use Rattle.csq_draw.specs.declared.view.{View.{View}, Window.{Window}};
 ghost use Rattle.csq_draw.specs.declared.wrong_drawing.Refusal.{Refusal};
 ghost use Rattle.csq_draw.specs.Pictures.{IsDrawing};
 ghost use Rattle.csq_draw.specs.WrongDrawings.{IsOrderDrawing, WrongDrawn};
-ghost use Rattle.csq_draw.specs.Laws.{HasOnePicture, EachStepHasOneMark, EachStepShowsItsWords, EachLineHasItsNumber, EachShadeIsOfTheLock, EachArrowIsFromTheWrite, EachBarShowsTheWords, EachStepOfAnOrderHasOneMark, EachShownStepHasOneMark, EachPassHasItsColumn, TheShadedPassHasTheLock, EachDrawnOwnerOwesOrHolds, NoTwoLinesShareALane, TheNinthLaneIsLast};
+ghost use Rattle.csq_draw.specs.Laws.{HasOnePicture, EachStepHasOneMark, EachStepShowsItsWords, EachLineHasItsNumber, EachShadeIsOfTheLock, EachArrowIsFromTheWrite, EachBarShowsTheWords, EachStepOfAnOrderHasOneMark, EachShownStepHasOneMark, EachPassHasItsColumn, EachIrpHasItsPlace, TheShadedPassHasTheLock, EachDrawnOwnerOwesOrHolds, NoTwoLinesShareALane, TheNinthLaneIsLast};
 
 /// A schedule has at most one picture in each view, so the relation that `draw_schedule` and
 /// `draw_schedule_as_text` meet names its bytes.
@@ -51,8 +51,9 @@ pub fn each_arrow_is_from_the_write()
     ensures { (size : Size) (W : List Numbered) → EachArrowIsFromTheWrite size W }
 {}
 
-/// Of every run, bars run from each step of an IRP to its next step, or to the end if there is none, and show the two
-/// words of that IRP after the step that they run from, in its present life, by the run. There are no other bars.
+/// Of every run, in the whole picture, a pair of bars runs from each step of an IRP to its next step, or to the end if
+/// there is none, and shows the two words of that IRP after the step that it runs from, in its present life, by the
+/// run. There are no other bars.
 pub fn each_bar_shows_the_words()
     ensures { (size : Size) (W : List Numbered) → EachBarShowsTheWords size W }
 {}
@@ -73,6 +74,11 @@ pub fn each_shown_step_has_one_mark()
 /// Passes that made a step of the run have columns of their own, in the order of their numbers.
 pub fn each_pass_has_its_column()
     ensures { (size : Size) (W : List Numbered) → EachPassHasItsColumn size W }
+{}
+
+/// IRPs that a step of the run names have places of their own at the right, in the order of their numbers.
+pub fn each_irp_has_its_place()
+    ensures { (size : Size) (W : List Numbered) → EachIrpHasItsPlace size W }
 {}
 
 /// Of every run, the pass whose column is shaded behind a step is the one that has the lock as it is made:
