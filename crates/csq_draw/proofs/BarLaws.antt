@@ -1,8 +1,8 @@
 -- Bars run from each step of an IRP to its next one.
-use Rattle.std.proofs.Common.{◌≡◌, ◌||◌, ℕ, zero, suc, ◌+◌, ◌<◌, ◌≤◌, Bool, true, false, cond, List, [], ◌∷◌, ◌++◌, length, replicate, take, Option, Some, None, refl, ap, sym, ◌∙◌, arith}
+use Rattle.std.proofs.Common.{◌≡◌, ◌||◌, ℕ, zero, suc, ◌+◌, ◌<◌, ◌≤◌, Bool, true, false, cond, List, [], ◌∷◌, ◌++◌, length, replicate, take, Option, Some, None, refl, ap, sym, ◌∙◌, subst, arith}
 use Rattle.std.specs.Prelude.{is_some}
 use Rattle.std.specs.List.{list_any}
-use Rattle.csq_draw.proofs.Imports.{count-more, option_map, option_map_or, length-take-le, take_all, take_more, IrpId, IrpLife, Kind, Size, IsRun, OfIrp, Owner, PassId, number, name_of, same_id, same_id-eq, Numbered, run_of, all_passes, is_of_irp, Row, IrpNow, Seen, Spot, above_elements, arrow_elements, bars_elements, behind_elements, call_elements, closing_elements, column_elements, each, fresh_irps, irp_after, irp_at, irp_named, irps_of, last_elements, mark_element, new_irp, open_elements, owners_elements, reason_of, refused_elements, row_after, rows_elements, shade_elements, shown_elements, span_elements, steps_shown, word_elements}
+use Rattle.csq_draw.proofs.Imports.{count-more, option_map, option_map_or, length-take-le, take_all, take_more, IrpId, IrpLife, Kind, Made, Size, IsRun, OfIrp, Owner, PassId, number, name_of, same_id, same_id-eq, Numbered, run_of, all_passes, is_of_irp, Row, IrpNow, Seen, Spot, above_elements, arrow_elements, bars_elements, behind_elements, call_elements, closing_elements, column_elements, each, fresh_irps, irp_after, irp_at, irp_named, irps_of, last_elements, mark_element, new_irp, open_elements, owners_elements, reason_of, refused_elements, row_after, rows_elements, shade_elements, shown_elements, span_elements, steps_shown, word_elements}
 use Rattle.irp_core.proofs.Growing.{run_less}
 use Rattle.irp_core.specs.Lives.{present}
 use Rattle.irp_core.specs.declared.step.Kind.TheVariants.{Arm, Test, Disarm, End, Flag, Take, Out, Done, Renew, Rearm}
@@ -15,9 +15,10 @@ use Rattle.csq_draw.specs.Endings.{rest_of}
 use Rattle.csq_draw.specs.Irps.{irp_column, last_by}
 use Rattle.csq_draw.specs.Laws.{added, bars, bars_from, bars_in, bars_of, bars_to, bars_to_end, last_seen, picked, EachBarShowsTheWords, EachIrpHasItsPlace}
 use Rattle.csq_draw.specs.Passes.{columns}
-use Rattle.csq_draw.specs.Pictures.{place_named}
+use Rattle.csq_draw.specs.Pictures.{place_named, words_until}
+use Rattle.csq_draw.specs.Words.{words_named}
 use Rattle.csq_draw.specs.Rows.{row_of, rows_of}
-use Rattle.csq_draw.specs.Words.{words_of}
+use Rattle.csq_explain.specs.WordValues.{words_of}
 use Rattle.csq_draw.proofs.Known.{at_next, long, none_yet}
 use Rattle.csq_draw.proofs.Picking.{none_picked, none_then, picked-append, picked_last, then_none}
 use Rattle.csq_draw.proofs.RowElements.{rows-last}
@@ -47,18 +48,24 @@ no_arrow passes row spot = grind arith
 no_call : (passes : List PassNow) (before : IrpNow) (row : Row) (legality : Legality) → picked bars_in (call_elements passes before row legality) ≡ []
 no_call passes before row legality = grind arith
 
--- of a row: the bars of its IRP until then
-row_bars : (passes : List PassNow) (irps : List IrpNow) (before : IrpNow) (row : Row) → picked bars_in (row_after passes irps before row) ≡ bars_from passes (place_named irps row.step.made.kind) row.row false before.last
+-- of a row: the bars of its IRP until then, if it shows words
+words_bars : (passes : List PassNow) (irps : List IrpNow) (before : IrpNow) (row : Row) → picked bars_in (words_until passes irps before row) ≡ cond (is_some row.words) (bars_from passes (place_named irps row.step.made.kind) row.row false before.last) []
+words_bars passes irps before row = go (is_some row.words)
+  where
+    go : (b : Bool) → picked bars_in (cond b (bars_elements (columns passes) (place_named irps row.step.made.kind) row.row false before.last) []) ≡ cond b (bars_from passes (place_named irps row.step.made.kind) row.row false before.last) []
+    go true = a_bar passes (place_named irps row.step.made.kind) row.row false before.last
+    go false = refl
+
+row_bars : (passes : List PassNow) (irps : List IrpNow) (before : IrpNow) (row : Row) → picked bars_in (row_after passes irps before row) ≡ cond (is_some row.words) (bars_from passes (place_named irps row.step.made.kind) row.row false before.last) []
 row_bars passes irps before row =
-    let place = place_named irps row.step.made.kind in
     let shade = shade_elements passes row row.lock in
     let span = span_elements passes row.row Step row.ended in
-    let until = bars_elements (columns passes) place row.row false before.last in
+    let until = words_until passes irps before row in
     let arrow = arrow_elements passes row (found_at before row) in
     let call = call_elements passes before row row.legality in
     let behind = none_then bars_in shade (span ++ (until ++ arrow)) _ (no_shade passes row row.lock)
     (none_then bars_in span (until ++ arrow) _ (no_span passes row.row Step row.ended)
-    (then_none bars_in until arrow _ (a_bar passes place row.row false before.last) (no_arrow passes row (found_at before row)))) in
+    (then_none bars_in until arrow _ (words_bars passes irps before row) (no_arrow passes row (found_at before row)))) in
     then_none bars_in (behind_elements passes irps before row) (mark_element passes irps row ∷ call) _ behind (no_call passes before row row.legality)
 
 module _ (size : Size) where
@@ -83,17 +90,17 @@ module _ (size : Size) where
   of_last passes irps W i lt = ap (λ s. bars_from passes (irp_column irps i.irp) (length W) false s) (last_is W i.irp lt)
 
   -- and so are the bars to a step, of the IRP that it names
-  named_bars : (passes : List PassNow) (irps : List IrpNow) (k : Kind) (W : List Numbered) → OfIrp (λ i. number i < size.irps) k → bars_from passes (place_named irps k) (length W) false (irp_named (irps_of size W) k).last ≡ option_map_or (λ i. bars_of size passes irps W false i.irp) (name_of k) []
-  named_bars passes irps (Arm i) W lt = of_last passes irps W i lt
-  named_bars passes irps (Test i) W lt = of_last passes irps W i lt
-  named_bars passes irps (Disarm i) W lt = of_last passes irps W i lt
-  named_bars passes irps (Flag i) W lt = of_last passes irps W i lt
-  named_bars passes irps (Take i) W lt = of_last passes irps W i lt
-  named_bars passes irps (Out i) W lt = of_last passes irps W i lt
-  named_bars passes irps (Done i) W lt = of_last passes irps W i lt
-  named_bars passes irps (Renew i) W lt = of_last passes irps W i lt
-  named_bars passes irps (Rearm i) W lt = of_last passes irps W i lt
-  named_bars passes irps End W lt = refl
+  named_bars : (passes : List PassNow) (irps : List IrpNow) (E : List Made) (k : Kind) (W : List Numbered) → OfIrp (λ i. number i < size.irps) k → cond (is_some (words_named size.first E k)) (bars_from passes (place_named irps k) (length W) false (irp_named (irps_of size W) k).last) [] ≡ option_map_or (λ i. bars_of size passes irps W false i.irp) (name_of k) []
+  named_bars passes irps E (Arm i) W lt = of_last passes irps W i lt
+  named_bars passes irps E (Test i) W lt = of_last passes irps W i lt
+  named_bars passes irps E (Disarm i) W lt = of_last passes irps W i lt
+  named_bars passes irps E (Flag i) W lt = of_last passes irps W i lt
+  named_bars passes irps E (Take i) W lt = of_last passes irps W i lt
+  named_bars passes irps E (Out i) W lt = of_last passes irps W i lt
+  named_bars passes irps E (Done i) W lt = of_last passes irps W i lt
+  named_bars passes irps E (Renew i) W lt = of_last passes irps W i lt
+  named_bars passes irps E (Rearm i) W lt = of_last passes irps W i lt
+  named_bars passes irps E End W lt = refl
 
   -- of a run, the bars of its rows
   rows_bars : (passes : List PassNow) (irps : List IrpNow) (W : List Numbered) → IsRun size (run_of W) → picked bars_in (rows_elements passes irps (replicate size.irps new_irp) (rows_of size W)) ≡ added (bars_to size passes irps) W
@@ -104,7 +111,7 @@ module _ (size : Size) where
       let before = irp_named (irps_of size W) w.step.kind in
       ap (λ es. picked bars_in es) (rows-last passes irps fresh (rows_of size W) row)
       ∙ picked-append bars_in (rows_elements passes irps fresh (rows_of size W)) (row_after passes irps before row)
-      ∙ ap (λ t. picked bars_in (rows_elements passes irps fresh (rows_of size W)) ++ t) (row_bars passes irps before row ∙ named_bars passes irps w.step.kind W r.known.0.irp)
+      ∙ ap (λ t. picked bars_in (rows_elements passes irps fresh (rows_of size W)) ++ t) (row_bars passes irps before row ∙ named_bars passes irps (run_of (w ∷ W)) w.step.kind W r.known.0.irp)
       ∙ ap (λ t. t ++ bars_to size passes irps w W) (rows_bars passes irps W (run_less size w.step (run_of W) r))
 
   module _ (W : List Numbered) where
@@ -179,8 +186,33 @@ module _ (size : Size) where
       go true e less = rw e refl
       go false e less = rw e (less (sym (ap (λ b. b || list_any (λ m. is_of_irp n m.kind) (run_of W)) e) ∙ h))
 
+  -- an IRP that a step names is one of the pool
+  known_by : (n : IrpId) (i : IrpLife) → same_id i.irp n ≡ true → number i < size.irps → n.0 < size.irps
+  known_by n i e lt = subst (λ (m : IrpId). m.0 < size.irps) (same_id-eq i.irp n e) lt
+
+  known_kind : (n : IrpId) (k : Kind) → is_of_irp n k ≡ true → OfIrp (λ i. number i < size.irps) k → n.0 < size.irps
+  known_kind n (Arm i) e lt = known_by n i e lt
+  known_kind n (Test i) e lt = known_by n i e lt
+  known_kind n (Disarm i) e lt = known_by n i e lt
+  known_kind n (Flag i) e lt = known_by n i e lt
+  known_kind n (Take i) e lt = known_by n i e lt
+  known_kind n (Out i) e lt = known_by n i e lt
+  known_kind n (Done i) e lt = known_by n i e lt
+  known_kind n (Renew i) e lt = known_by n i e lt
+  known_kind n (Rearm i) e lt = known_by n i e lt
+  known_kind n End e lt = absurd (cc e)
+
+  named_known : (n : IrpId) (W : List Numbered) → IsRun size (run_of W) → list_any (λ m. is_of_irp n m.kind) (run_of W) ≡ true → n.0 < size.irps
+  named_known n [] r h = absurd (cc h)
+  named_known n (w ∷ W) r h = go (is_of_irp n w.step.kind) refl (named_known n W (run_less size w.step (run_of W) r))
+    where
+      go : (b : Bool) → is_of_irp n w.step.kind ≡ b → (list_any (λ m. is_of_irp n m.kind) (run_of W) ≡ true → n.0 < size.irps) → n.0 < size.irps
+      go true e less = known_kind n w.step.kind e r.known.0.irp
+      go false e less = less (sym (ap (λ b. b || list_any (λ m. is_of_irp n m.kind) (run_of W)) e) ∙ h)
+
   pub own_place : (W : List Numbered) → EachIrpHasItsPlace size W
-  own_place W r n k below among named =
+  own_place W r n k below named =
       let irps = irps_of size W in
+      let among = named_known n W r named in
       let at : n.0 < length irps = omega (arith, among, long size W) in
       count-more (λ (now : IrpNow). is_some now.last) irps n.0 k.0 new_irp at below (ap (λ s. is_some s) (last_is size W n among) ∙ was_seen n W named)

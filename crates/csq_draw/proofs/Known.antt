@@ -1,6 +1,11 @@
 -- What is known of the IRPs grows with the rows.
 use Rattle.std.proofs.Common.{◌≡◌, ℕ, ◌+◌, ◌<◌, Bool, true, false, cond, List, [], ◌∷◌, ◌++◌, length, get_or, set, take, replicate, Option, Some, None, refl, ap, sym, ◌∙◌, subst, arith}
-use Rattle.csq_draw.proofs.Imports.{take_more, option_map_or, IrpId, IrpLife, Size, Numbered, Row, is_of_irp, name_of, number, same_id, same_id-eq, same_id-refl, IrpNow, irp_after, irp_at, irps_after, irps_of, new_irp, with_irp}
+use Rattle.csq_draw.proofs.Imports.{take_more, option_map, option_map_or, IrpId, IrpLife, Size, Numbered, Row, is_of_irp, name_of, number, same_id, same_id-eq, same_id-refl, IrpNow, irp_after, irp_at, irps_after, irps_of, new_irp, with_irp}
+use Rattle.irp_core.specs.declared.step.Made.{Made}
+use Rattle.irp_core.specs.Lives.{present}
+use Rattle.csq_replay.specs.Schedule.{run_of}
+use Rattle.csq_explain.specs.declared.word_values.WordValues.{WordValues}
+use Rattle.csq_explain.specs.WordValues.{words_of}
 use Rattle.csq_draw.specs.Rows.{row_of, rows_of}
 use Rattle.std.proofs.lemmas.List.{get_or-set_same, get_or-set_other, get_or-replicate, length-replicate, length-set}
 
@@ -14,10 +19,10 @@ pub after-more : (xs : List IrpNow) (rows : List Row) (k : ℕ) (d : Row) → k 
 after-more xs rows k d lt = ap (λ r. irps_after xs r) (take_more rows k d lt) ∙ after-last xs (take k rows) (get_or rows k d)
 
 pub length-with : (xs : List IrpNow) (row : Row) → length (with_irp xs row) ≡ length xs
-length-with xs row = go (name_of row.step.made.kind)
+length-with xs row = go row.words
   where
-    go : (o : Option IrpLife) → length (option_map_or (λ i. set xs (number i) (irp_after (irp_at xs i.irp) row)) o xs) ≡ length xs
-    go (Some i) = length-set xs (number i) (irp_after (irp_at xs i.irp) row)
+    go : (o : Option WordValues) → length (option_map_or (λ (w : WordValues). set xs (number w.name) (irp_after (irp_at xs w.name.irp) row)) o xs) ≡ length xs
+    go (Some w) = length-set xs (number w.name) (irp_after (irp_at xs w.name.irp) row)
     go None = refl
 
 -- none is added
@@ -39,6 +44,9 @@ module _ (size : Size) where
     abbrev row : Row
     row = row_of size w W
 
+    abbrev E : List Made
+    E = run_of (w ∷ W)
+
     abbrev xs : List IrpNow
     xs = irps_of size W
 
@@ -55,7 +63,7 @@ module _ (size : Size) where
             let one : i.irp ≡ n = ap (λ k. let m : IrpId = record { 0 = k } in m) (sym e) in
             subst (λ (m : IrpId). same_id i.irp m ≡ true) one (same_id-refl i.irp)
 
-    at_name : (o : Option IrpLife) → irp_at (option_map_or (λ i. set xs (number i) (irp_after (irp_at xs i.irp) row)) o xs) n ≡ cond (option_map_or (λ i. same_id i.irp n) o false) (irp_after (irp_at xs n) row) (irp_at xs n)
+    at_name : (o : Option IrpLife) → irp_at (option_map_or (λ (v : WordValues). set xs (number v.name) (irp_after (irp_at xs v.name.irp) row)) (option_map (λ i. words_of E (present size.first E i.irp)) o) xs) n ≡ cond (option_map_or (λ i. same_id i.irp n) o false) (irp_after (irp_at xs n) row) (irp_at xs n)
     at_name None = refl
     at_name (Some i) = with_step i (same_id i.irp n) refl
 

@@ -8,6 +8,7 @@ use Rattle.csq_replay.specs.declared.schedule.outcome.Outcome.TheVariants.{Skipp
 use Rattle.csq_replay.specs.Outcomes.{ComesTo}
 use Rattle.csq_replay.proofs.Answering.{one_input_answer}
 use Rattle.csq_replay.proofs.OneAnswer.{one_outcome}
+use Rattle.csq_explain.specs.declared.harms.HarmAt.{HarmAt}
 use Rattle.csq_explain.specs.declared.reasons.Reason.{Reason}
 use Rattle.std.proofs.lemmas.List.{length-replicate}
 use Rattle.csq_explain.specs.declared.passes.PassNow.{PassNow}
@@ -18,7 +19,7 @@ use Rattle.csq_draw.specs.declared.view.Window.{Window}
 use Rattle.csq_draw.specs.declared.wrong_drawing.Refusal.{Refusal}
 use Rattle.csq_draw.specs.Endings.{rest_of}
 use Rattle.csq_draw.specs.Laws.{HasOnePicture, EachShownStepHasOneMark, EachStepOfAnOrderHasOneMark, added, mark_in, mark_of, mark_on, marks, marks_from, marks_in, order_marks, picked, window_marks, window_shown}
-use Rattle.csq_draw.specs.Pictures.{broken_end, harm_elements}
+use Rattle.csq_draw.specs.Pictures.{broken_end, harm_elements, harms_elements}
 use Rattle.csq_draw.specs.Rows.{rows_of}
 use Rattle.csq_draw.specs.Windows.{cut, places, shows}
 use Rattle.csq_draw.specs.WrongDrawings.{DrawsOrderClosing, DrawsOrderEnd, DrawsOrderLine, IsOrderDrawing, WrongDrawn, after_accepted, after_stopped, new_wrong_drawn, order_after, order_rows, order_shown, order_text, reason_at, step_behind}
@@ -32,6 +33,11 @@ use Rattle.csq_draw.proofs.RowElements.{rows-append}
 marks_shown : (s : Shown) (e : EndShown) (zs : List _) → picked mark_in (rows_elements s.passes s.irps (fresh_irps s.irps) s.rows) ≡ zs → picked mark_in (e.below (length s.rows)) ≡ [] → marks_in s e ≡ zs
 marks_shown s e zs rows none =
     then_none mark_in (shown_elements s (length s.rows)) (e.below (length s.rows)) zs (of_rows (λ m. m ∷ []) (λ n. []) (λ s. []) (λ a. []) s (length s.rows) zs rows) none
+
+-- what goes wrong has none
+no_harm_mark : (rows : ℕ) (harms : List HarmAt) → picked mark_in (harms_elements rows harms) ≡ []
+no_harm_mark rows [] = refl
+no_harm_mark rows (h ∷ harms) = none_picked mark_in (harm_elements rows) (λ k x. refl) 0 (h ∷ harms)
 
 -- what is reported in the end has none
 no_mark : (irps : List IrpNow) (count : ℕ) (reported : List _) (last : Element) → mark_in last ≡ [] → picked mark_in (each (closing_elements irps count) 0 reported ++ last ∷ []) ≡ []
@@ -61,7 +67,7 @@ module _ (size : Size) (d : WrongDrawn) (refusal : Refusal) where
   pub each_order_mark : EachStepOfAnOrderHasOneMark size d refusal
   each_order_mark = record {
     stopped = λ n reason. marks_shown s (stopped_end n reason) _ order_picked refl;
-    broken = λ n reason harms. marks_shown s (broken_end n reason harms) _ order_picked (none_picked mark_in (harm_elements (length s.rows)) (λ k h. refl) 0 harms);
+    broken = λ n reason harms. marks_shown s (broken_end n reason harms) _ order_picked (no_harm_mark (length s.rows) harms);
   }
 
 -- the rows that a window shows are those of the steps that it shows

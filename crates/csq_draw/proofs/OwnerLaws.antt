@@ -23,8 +23,9 @@ use Rattle.csq_draw.specs.declared.owners.Having.{Having}
 use Rattle.csq_draw.specs.declared.owners.Having.TheVariants.{Owes, Holds}
 use Rattle.csq_draw.specs.Laws.{EachDrawnOwnerOwesOrHolds}
 use Rattle.csq_draw.specs.Lanes.{lane_for}
-use Rattle.csq_draw.specs.declared.words.WordValues.{WordValues}
-use Rattle.csq_draw.specs.Words.{words_of, words_named, routine_at}
+use Rattle.csq_explain.specs.declared.word_values.WordValues.{WordValues}
+use Rattle.csq_explain.specs.WordValues.{words_of}
+use Rattle.csq_draw.specs.Words.{words_named, routine_at}
 use Rattle.csq_replay.proofs.OneAnswer.{one_place}
 
 abbrev drawn_as : PassId → Having → ℕ → ℕ → IrpLife → Option Owner

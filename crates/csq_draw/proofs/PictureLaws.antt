@@ -1,6 +1,7 @@
 -- The laws of pictures.
 use Rattle.std.proofs.Common.{◌≡◌, ◌||◌, inl, inr, ℕ, ◌+◌, ◌<◌, ◌≤◌, Bool, true, false, cond, if◌then◌else◌, List, [], ◌∷◌, ◌++◌, length, get_or, replicate, Option, Some, None, option_to_list, refl, ap, sym, ◌∙◌, subst, arith, append-nil}
 use Rattle.std.specs.List.{position, list_any}
+use Rattle.std.specs.Prelude.{is_some}
 use Rattle.std.proofs.lemmas.List.Quantifiers.{position-Some}
 use Rattle.csq_draw.proofs.Imports.{option_map, PassId, Made, same_pass, by, Size, IsRun, same_pass-eq, Numbered, run_of, Owner, Row, View, owners, new_pass_now, pass_after, pass_now, lock_of, columns, column_of, each, column_elements, number_element, mark_element, call_elements, shade_elements, span_elements, bars_elements, arrow_elements, behind_elements, row_after, rows_elements, new_irp, last_elements, word_elements, fresh_irps, irps_of, irp_named, with_irp, IrpNow, Seen, Spot, open_elements, owners_elements, closing_elements, refused_elements, Shown, above_elements, close_of, found_at, shown_elements, steps_shown, text_of, Drawn, new_drawn, drawn_text, drawn_after, DrawsLine, DrawsClosing, all_passes, reason_of, get-table, position-None, count-more, length-passes, inside_is}
 use Rattle.irp_core.specs.Inside.{inside, inside_after, has_lock}
@@ -30,7 +31,7 @@ use Rattle.csq_draw.specs.declared.element.Element.{Element}
 use Rattle.csq_draw.specs.Arrows.{found_in}
 use Rattle.csq_draw.specs.Marks.{takes_lock, lets_go}
 use Rattle.csq_draw.specs.Endings.{rest_of}
-use Rattle.csq_draw.specs.Pictures.{IsDrawing, place_named}
+use Rattle.csq_draw.specs.Pictures.{IsDrawing, place_named, words_until}
 use Rattle.csq_draw.specs.Rows.{row_of, rows_of}
 use Rattle.csq_draw.specs.Laws.{HasOnePicture, marks, picked, added, AddsStepByStep, pick_of, mark_in, number_in, arrow_in, arrow_to, shade_by, EachStepHasOneMark, EachStepShowsItsWords, EachLineHasItsNumber, EachShadeIsOfTheLock, EachPassHasItsColumn, HasItAt, TheShadedPassHasTheLock}
 
@@ -123,17 +124,24 @@ module _ {A : Type 0} (mark : Mark → List A) (number : Number → List A) (sha
       (none_then pick words last _ (none_picked pick (word_elements passes irps) (no_name passes irps) 0 irps)
       (none_picked pick (last_elements passes irps count) (λ n now. no_bars (columns passes) _ count true now.last) 0 irps))
 
+  no_words : (passes : List PassNow) (irps : List IrpNow) (before : IrpNow) (row : Row) → picked pick (words_until passes irps before row) ≡ []
+  no_words passes irps before row = go (is_some row.words)
+    where
+      go : (b : Bool) → picked pick (cond b (bars_elements (columns passes) (place_named irps row.step.made.kind) row.row false before.last) []) ≡ []
+      go true = no_bars (columns passes) (place_named irps row.step.made.kind) row.row false before.last
+      go false = refl
+
   -- behind a mark
   behind_picked : (passes : List PassNow) (irps : List IrpNow) (before : IrpNow) (row : Row)
       → picked pick (behind_elements passes irps before row) ≡ shades_with shade passes row row.lock ++ arrows_with arrow passes row (found_at before row)
   behind_picked passes irps before row =
       let last = arrow_elements passes row (found_at before row) in
-      let bars = bars_elements (columns passes) (place_named irps row.step.made.kind) row.row false before.last in
+      let bars = words_until passes irps before row in
       let span = span_elements passes row.row Step row.ended in
       picked-append pick (shade_elements passes row row.lock) (span ++ (bars ++ last))
       ∙ ap (λ t. t ++ picked pick (span ++ (bars ++ last))) (shade_picked passes row row.lock)
       ∙ ap (λ t. shades_with shade passes row row.lock ++ t) (none_then pick span (bars ++ last) _ (no_span passes row.row Step row.ended)
-      (none_then pick bars last _ (no_bars (columns passes) (place_named irps row.step.made.kind) row.row false before.last) (arrow_picked passes row (found_at before row))))
+      (none_then pick bars last _ (no_words passes irps before row) (arrow_picked passes row (found_at before row))))
 
   -- of the mark of a row
   abbrev mark_in_row : List PassNow → List IrpNow → Row → List A

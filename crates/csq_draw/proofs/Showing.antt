@@ -9,7 +9,7 @@ use Rattle.csq_draw.specs.declared.marks.Legality.TheVariants.{Legal}
 use Rattle.csq_explain.specs.declared.sentences.StepInCall.{StepInCall}
 use Rattle.csq_explain.specs.Sentences.{in_call}
 use Rattle.csq_draw.specs.Rows.{row_of, rows_of}
-use Rattle.csq_draw.specs.declared.words.WordValues.{WordValues}
+use Rattle.csq_explain.specs.declared.word_values.WordValues.{WordValues}
 use Rattle.csq_draw.specs.Words.{words_named, AreWordsNamed}
 
 pub length-rows : (size : Size) (W : List Numbered) → length (rows_of size W) ≡ length W

@@ -3,9 +3,7 @@ use Rattle.std.specs.Prelude.{ℕ, ◌+◌, ◌-◌, ◌==◌, ◌&&◌, Bool, n
 use Rattle.irp_core.specs.declared.step.Kind.{Kind, TheVariants.{Test, Disarm, Flag, Take}}
 use Rattle.csq_draw.specs.declared.arrows.Arrow.{Arrow}
 use Rattle.csq_draw.specs.declared.irps.{Spot.{Spot}, IrpNow.{IrpNow}}
-use Rattle.csq_draw.specs.declared.marks.Legality.{Legality, TheVariants.{Legal}}
 use Rattle.csq_draw.specs.declared.rows.Row.{Row}
-use Rattle.csq_draw.specs.Irps.{life_named}
 use Rattle.csq_draw.specs.Layout.{left, top}
 
 -- who wrote what this kind of step found set: the Cancel flag, or the cancel routine
@@ -16,18 +14,9 @@ found_in before (Disarm i) found = if found == 1 then before.routine else None
 found_in before (Take i) found = if found == 1 then before.routine else None
 found_in before _ found = None
 
--- of a spot: if it is of this kind of step's life
-abbrev pub of_life : Kind → Option Spot → Option Spot
-of_life k (Some spot) = if spot.life.0 == (life_named k).0 then Some spot else None
-of_life k None = None
-
--- who wrote what the step of a row found set; from a refusal on only a step of the life that it names, as each life has words of its own
-abbrev pub found_by : Legality → Kind → Option Spot → Option Spot
-found_by Legal k spot = spot
-found_by _ k spot = of_life k spot
-
+-- who wrote what the step of a row found set
 abbrev pub found_at : IrpNow → Row → Option Spot
-found_at before row = found_by row.legality row.step.made.kind (found_in before row.step.made.kind row.step.made.found)
+found_at before row = found_in before row.step.made.kind row.step.made.found
 
 -- the side of a box in one column that faces another one
 abbrev pub side : ℕ → ℕ → ℕ

@@ -5,7 +5,7 @@ use Rattle.irp_core.specs.Steps.{name_of}
 use Rattle.irp_core.specs.Texts.{irp_text, name_text}
 use Rattle.csq_draw.specs.declared.circles.WordColumns.{WordColumns}
 use Rattle.csq_draw.specs.declared.marks.Mark.{Mark}
-use Rattle.csq_draw.specs.declared.words.WordValues.{WordValues}
+use Rattle.csq_explain.specs.declared.word_values.WordValues.{WordValues}
 use Rattle.csq_draw.specs.Layout.{top, flag_x, routine_x}
 use Rattle.csq_draw.specs.Words.{changes_flag, changes_routine}
 

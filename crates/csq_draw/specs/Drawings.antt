@@ -13,7 +13,7 @@ use Rattle.csq_draw.specs.declared.marks.Legality.TheVariants.{Legal}
 use Rattle.csq_draw.specs.declared.owners.Owner.{Owner}
 use Rattle.csq_draw.specs.declared.rows.Row.{Row}
 use Rattle.csq_draw.specs.declared.view.View.{View}
-use Rattle.csq_draw.specs.declared.words.WordValues.{WordValues}
+use Rattle.csq_explain.specs.declared.word_values.WordValues.{WordValues}
 use Rattle.csq_draw.specs.Owners.{owner_after, ended_by, owners}
 use Rattle.csq_draw.specs.Captions.{caption_of}
 use Rattle.csq_draw.specs.Passes.{lock_at}

@@ -13,8 +13,9 @@ use Rattle.csq_explain.specs.declared.reasons.Reason.{Reason}
 use Rattle.csq_explain.specs.Endings.{flag_sentence}
 use Rattle.csq_explain.specs.Passes.{new_pass_now}
 use Rattle.csq_explain.specs.Sentences.{due_status_words}
-use Rattle.csq_draw.specs.declared.ending.{Below.{Below, TheVariants.{Bar, Refused, Because, Irp, AtRest, Broken, Harm}}, Rest.{Rest}}
+use Rattle.csq_draw.specs.declared.ending.{Below.{Below, TheVariants.{Bar, Refused, Because, Irp, AtRest, Broken, Harm, NoHarm}}, Rest.{Rest}}
 use Rattle.csq_draw.specs.declared.irps.{Claim.{Claim}, IrpNow.{IrpNow}, Spot.{Spot}}
+use Rattle.csq_explain.specs.declared.harms.TheConstants.{NO_HARM}
 use Rattle.csq_explain.specs.Harms.{harm_text}
 use Rattle.csq_explain.specs.Reasons.{reason_text}
 
@@ -81,4 +82,5 @@ below_text y (Because reason) = codes "<text x='73' y='" ++ (decimal (y + 76) ++
 below_text y (Irp nth line now) = codes "<text x='56' y='" ++ (decimal (y + 28 + 20 * nth) ++ (codes "'>" ++ (irp_ending line now ++ codes "</text>")))
 below_text y (AtRest nth rest) = codes "<text x='56' y='" ++ (decimal (y + 28 + 20 * nth) ++ (codes "'>" ++ (rest_text rest ++ codes "</text>")))
 below_text y (Broken n reason) = broken_text y n reason
+below_text y NoHarm = codes "<text x='56' y='" ++ (decimal (y + 68) ++ (codes "'>" ++ (NO_HARM.now ++ codes "</text>")))
 below_text y (Harm nth h) = codes "<text x='56' y='" ++ (decimal (y + 68 + 20 * nth) ++ (codes "'>" ++ (harm_text h.step h.harm ++ codes "</text>")))

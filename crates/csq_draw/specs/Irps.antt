@@ -1,21 +1,17 @@
 -- What is known of each IRP as its steps are drawn: its last step, who wrote its words, who has it, and who completed it.
 use Rattle.std.specs.Prelude.{ℕ, ◌==◌, List, [], ◌∷◌, take, count_by, is_some, slice_index_or, slice_set, Option, Some, None, if◌then◌else◌}
 use Rattle.std.specs.Option.{option_map_or}
-use Rattle.irp_core.specs.declared.ids.{IrpId.{IrpId}, Life.{Life}}
+use Rattle.irp_core.specs.declared.ids.IrpId.{IrpId}
 use Rattle.irp_core.specs.declared.inside.Inside.{Inside, TheVariants.{Cancelling}}
 use Rattle.irp_core.specs.declared.step.Kind.{Kind, TheVariants.{Arm, Disarm, Flag, Take, Out, Done, Renew, Rearm}}
 use Rattle.irp_core.specs.Steps.{number, name_of}
 use Rattle.csq_draw.specs.declared.irps.{Spot.{Spot}, Claim.{Claim}, Seen.{Seen}, IrpNow.{IrpNow}}
 use Rattle.csq_draw.specs.declared.rows.Row.{Row}
-use Rattle.csq_draw.specs.declared.words.WordValues.{WordValues}
+use Rattle.csq_explain.specs.declared.word_values.WordValues.{WordValues}
 
--- the life that a step of this kind names: the first one if it names none
-abbrev pub life_named : Kind → Life
-life_named k = option_map_or (λ i. i.life) (name_of k) (record { 0 = 0 })
-
--- where a step is drawn, its line, its pass, and the life that it names
+-- where a step is drawn, its line, and its pass
 abbrev pub spot_of : Row → Spot
-spot_of row = record { row = row.row; line = row.line; pass = row.step.made.pass; life = life_named row.step.made.kind }
+spot_of row = record { row = row.row; line = row.line; pass = row.step.made.pass }
 
 -- who set the Cancel flag, after this kind of step at this spot: whoever found it clear, until the next life
 abbrev pub flag_after : Kind → ℕ → Spot → Option Spot → Option Spot
@@ -77,9 +73,9 @@ irp_at irps n = slice_index_or irps n.0 new_irp
 abbrev pub irp_named : List IrpNow → Kind → IrpNow
 irp_named irps k = option_map_or (λ i. irp_at irps i.irp) (name_of k) new_irp
 
--- after a step
+-- after a step of an IRP's words (one that shows none is of another life, or of no IRP, and changes nothing)
 abbrev pub with_irp : List IrpNow → Row → List IrpNow
-with_irp irps row = option_map_or (λ i. slice_set irps (number i) (irp_after (irp_at irps i.irp) row)) (name_of row.step.made.kind) irps
+with_irp irps row = option_map_or (λ (w : WordValues). slice_set irps (number w.name) (irp_after (irp_at irps w.name.irp) row)) row.words irps
 
 -- and after all of these steps, in order
 abbrev pub irps_after : List IrpNow → List Row → List IrpNow

@@ -16,7 +16,7 @@ use Rattle.csq_replay.specs.Schedule.{Numbered, run_of}
 use Rattle.csq_draw.specs.declared.view.Window.{Window}
 use Rattle.csq_draw.specs.declared.marks.{Legality.TheVariants.{Legal}, Mark.{Mark}, Number.{Number}, Shade.{Shade}}
 use Rattle.csq_draw.specs.declared.owners.{Having.{Having, TheVariants.{Owes, Holds}}, Owner.{Owner}}
-use Rattle.csq_draw.specs.declared.words.WordValues.{WordValues}
+use Rattle.csq_explain.specs.declared.word_values.WordValues.{WordValues}
 use Rattle.csq_explain.specs.declared.passes.PassNow.{PassNow}
 use Rattle.csq_draw.specs.Lanes.{is_in_lane, is_taken}
 use Rattle.csq_draw.specs.declared.arrows.Arrow.{Arrow}
@@ -31,13 +31,14 @@ use Rattle.csq_explain.specs.Sentences.{in_call}
 use Rattle.csq_draw.specs.declared.rows.Row.{Row}
 use Rattle.csq_draw.specs.Rows.{row_of, rows_of}
 use Rattle.csq_draw.specs.Windows.{shows}
-use Rattle.csq_draw.specs.Words.{words_of, words_named, changes_flag}
+use Rattle.csq_draw.specs.Words.{words_named, changes_flag}
 use Rattle.csq_draw.specs.declared.element.Element.{Element}
 use Rattle.csq_draw.specs.declared.element.Element.TheVariants as element
 use Rattle.csq_draw.specs.declared.wrong_drawing.Refusal.{Refusal}
 use Rattle.csq_draw.specs.Pictures.{EndShown, Shown, broken_end, close_of, irps_of, picture_of, place_named, seen, steps_shown, stop_of, stopped_end}
 use Rattle.csq_draw.specs.WrongDrawings.{WrongDrawn, order_shown}
-use Rattle.csq_draw.specs.Irps.{irp_column, life_named}
+use Rattle.csq_draw.specs.Irps.{irp_column}
+use Rattle.csq_explain.specs.WordValues.{words_of}
 use Rattle.csq_explain.specs.declared.harms.HarmAt.{HarmAt}
 use Rattle.csq_explain.specs.declared.reasons.Reason.{Reason}
 
@@ -144,7 +145,7 @@ writes_routine _ found = false
 -- where the newest of the steps W stands that wrote a word of IRP n, if it set the word
 abbrev pub set_in : (Kind → ℕ → Bool) → (Kind → Bool) → IrpId → List Numbered → Option Spot
 set_in writes sets n [] = None
-set_in writes sets n (w ∷ W) = if is_of_irp n w.step.kind && writes w.step.kind w.step.found then (if sets w.step.kind then Some (record { row = length W; line = w.line; pass = w.step.pass; life = life_named w.step.kind }) else None) else set_in writes sets n W
+set_in writes sets n (w ∷ W) = if is_of_irp n w.step.kind && writes w.step.kind w.step.found then (if sets w.step.kind then Some (record { row = length W; line = w.line; pass = w.step.pass }) else None) else set_in writes sets n W
 
 -- who set what this kind of step, which found this value, found set after the steps W
 abbrev pub setter : Kind → ℕ → List Numbered → Option Spot
@@ -271,7 +272,7 @@ EachPassHasItsColumn size W = (p q : PassId) → p.0 < q.0 → p.0 < size.passes
 
 -- IRPs that a step of the run names have places of their own, in the order of their numbers
 abbrev pub EachIrpHasItsPlace : Size → List Numbered → Type 0
-EachIrpHasItsPlace size W = IsRun size (run_of W) → (n k : IrpId) → n.0 < k.0 → n.0 < size.irps → IsTrue (list_any (λ m. is_of_irp n m.kind) (run_of W)) → irp_column (irps_of size W) n < irp_column (irps_of size W) k
+EachIrpHasItsPlace size W = IsRun size (run_of W) → (n k : IrpId) → n.0 < k.0 → IsTrue (list_any (λ m. is_of_irp n m.kind) (run_of W)) → irp_column (irps_of size W) n < irp_column (irps_of size W) k
 
 -- as this step is made, p has the lock: it makes the step, and that needs the lock, or has it before a step that needs none
 abbrev pub HasItAt : Made → List Made → PassId → Type 0

@@ -1,5 +1,5 @@
 -- What is drawn on the row of a step: the number of its line, and the step itself; and who has the lock.
-use Rattle.std.specs.Prelude.{ℕ, ◌+◌, ◌%◌, ◌==◌, ◌&&◌, Bool, true, false, not, List, [], ◌++◌, codes, decimal, Option, Some, None, if◌then◌else◌}
+use Rattle.std.specs.Prelude.{ℕ, ◌+◌, ◌%◌, ◌==◌, ◌&&◌, Bool, true, false, not, List, [], ◌++◌, codes, decimal, Option, Some, None, is_none, is_some, if◌then◌else◌}
 use Rattle.irp_core.specs.declared.step.Kind.{Kind, TheVariants.{Arm, Test, Disarm, End, Flag, Take, Out, Done, Renew, Rearm}}
 use Rattle.irp_core.specs.declared.status.NtStatus.{NtStatus}
 use Rattle.irp_core.specs.Inside.{has_lock, inside_after}
@@ -8,6 +8,7 @@ use Rattle.irp_core.specs.Steps.{number, name_of}
 use Rattle.irp_core.specs.declared.ids.IrpLife.{IrpLife}
 use Rattle.irp_core.specs.Texts.{kind_text, pass_text, refusal_text}
 use Rattle.csq_explain.specs.declared.sentences.StepInCall.{StepInCall}
+use Rattle.csq_explain.specs.declared.word_values.WordValues.{WordValues}
 use Rattle.csq_explain.specs.Sentences.{sentence, status_name}
 use Rattle.csq_draw.specs.declared.marks.{Number.{Number}, Shade.{Shade}, Mark.{Mark}, Legality.{Legality, TheVariants.{Legal, Refused, Behind}}}
 use Rattle.csq_draw.specs.Circles.{circles_text}
@@ -81,6 +82,10 @@ found_by _ found status = []
 abbrev pub found_words : StepInCall → List ℕ
 found_words s = found_by s.made.kind (not (s.made.found == 0)) s.status
 
+-- what it found, beside these words: one that names an IRP and has none is of another life
+abbrev pub finding : StepInCall → Option WordValues → List ℕ
+finding s words = if is_none words && is_some (name_of s.made.kind) then codes "another life" else found_words s
+
 -- how a mark looks: red if the protocol refuses its step; and behind that grey within the colour of its IRP, and bold if it claims it
 abbrev pub mark_class : Legality → StepInCall → List ℕ
 mark_class Legal s = step_class (claims s.made.kind s.made.found) (name_of s.made.kind)
@@ -104,7 +109,7 @@ abbrev pub mark_at : ℕ → ℕ → Mark → List ℕ
 mark_at x y m =
     (codes "<g class='" ++ (mark_class m.legality m.step ++ (codes "'><title>" ++ (mark_title m.legality m.step ++ (codes "</title><rect x='" ++ (decimal (x + 8) ++ (codes "' y='" ++ (decimal (y + 4) ++ codes "' width='212' height='52' rx='6'/>"))))))))
     ++ ((codes "<text class='w' x='" ++ (decimal (x + 17) ++ (codes "' y='" ++ (decimal (y + 20) ++ (codes "'>" ++ (kind_text m.step.made.kind ++ codes "</text>"))))))
-    ++ ((codes "<text class='w v' x='" ++ (decimal (x + 211) ++ (codes "' y='" ++ (decimal (y + 20) ++ (codes "'>" ++ (found_words m.step ++ codes "</text>"))))))
+    ++ ((codes "<text class='w v' x='" ++ (decimal (x + 211) ++ (codes "' y='" ++ (decimal (y + 20) ++ (codes "'>" ++ (finding m.step m.words ++ codes "</text>"))))))
     ++ ((codes "<text class='m' x='" ++ (decimal (x + 17) ++ (codes "' y='" ++ (decimal (y + 35) ++ (codes "'>" ++ (wdk_text m.step.made.kind ++ (codes "</text>" ++ (refusal_at (x + 17) (y + 50) m.legality ++ codes "</g>"))))))))
     ++ circles_text m m.words)))
 

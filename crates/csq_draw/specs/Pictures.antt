@@ -37,7 +37,7 @@ use Rattle.csq_draw.specs.Layout.{left}
 use Rattle.csq_draw.specs.Terminal.{each_text, rows_text, ended_lines, closed_lines, broken_lines}
 use Rattle.csq_draw.specs.Windows.{cut, open_in, place, places}
 use Rattle.csq_draw.specs.declared.element.Element.TheVariants as element
-use Rattle.csq_draw.specs.declared.ending.{Below.TheVariants.{Bar, Refused, Because, Irp, AtRest, Broken as BrokenLine, Harm}, Ending.{Ending, TheVariants.{Stopped as StoppedEnd, Closed, Broken}}, Rest.{Rest}}
+use Rattle.csq_draw.specs.declared.ending.{Below.TheVariants.{Bar, Refused, Because, Irp, AtRest, Broken as BrokenLine, Harm, NoHarm}, Ending.{Ending, TheVariants.{Stopped as StoppedEnd, Closed, Broken}}, Rest.{Rest}}
 use Rattle.csq_explain.specs.declared.harms.HarmAt.{HarmAt}
 
 -- the elements of each, by its place, the first of which is n
@@ -91,9 +91,9 @@ abbrev pub call_elements : List PassNow → IrpNow → Row → Legality → List
 call_elements passes before row Legal = element.Call (record { row = row.row; column = column_of passes row.step.made.pass; step = row.step; claim = before.claim }) ∷ []
 call_elements passes before row _ = []
 
--- the words that the IRP of a row's step had until then
+-- the words that the IRP of a row's step had until then, if it shows them after it
 abbrev pub words_until : List PassNow → List IrpNow → IrpNow → Row → List Element
-words_until passes irps before row = bars_elements (columns passes) (place_named irps row.step.made.kind) row.row false before.last
+words_until passes irps before row = if is_some row.words then bars_elements (columns passes) (place_named irps row.step.made.kind) row.row false before.last else []
 
 -- behind the mark of a step, of whose IRP so much was known before: who has the lock, whose time with the IRP it ends, the words of the IRP until then, and who wrote what it found
 abbrev pub behind_elements : List PassNow → List IrpNow → IrpNow → Row → List Element
@@ -154,8 +154,18 @@ closed_elements irps reported rest rows = each (closing_elements irps rows) 0 re
 abbrev pub harm_elements : ℕ → ℕ → HarmAt → List Element
 harm_elements rows nth h = element.Below rows (Harm nth h) ∷ []
 
+-- or that nothing does
+abbrev pub harms_elements : ℕ → List HarmAt → List Element
+harms_elements rows [] = element.Below rows NoHarm ∷ []
+harms_elements rows (h ∷ harms) = each (harm_elements rows) 0 (h ∷ harms)
+
 abbrev pub broken_elements : ℕ → Reason → List HarmAt → ℕ → List Element
-broken_elements n reason harms rows = element.Below rows (BrokenLine n reason) ∷ each (harm_elements rows) 0 harms
+broken_elements n reason harms rows = element.Below rows (BrokenLine n reason) ∷ harms_elements rows harms
+
+-- how many lines of text that takes below where the protocol was broken
+abbrev pub harm_lines : List HarmAt → ℕ
+harm_lines [] = 1
+harm_lines (h ∷ harms) = length (h ∷ harms)
 
 -- how a picture ends: how many lines of text that takes, its elements below so many rows, and its text for a terminal
 pub record EndShown : Type 0 where
@@ -173,7 +183,7 @@ closed_end irps reported rest = record { lines = length reported + 1; below = cl
 
 -- with the nth line, in which the protocol was broken, and what goes wrong
 abbrev pub broken_end : ℕ → Reason → List HarmAt → EndShown
-broken_end n reason harms = record { lines = length harms + 2; below = broken_elements n reason harms; text = broken_lines n reason harms }
+broken_end n reason harms = record { lines = harm_lines harms + 2; below = broken_elements n reason harms; text = broken_lines n reason harms }
 
 abbrev pub end_of : Ending → EndShown
 end_of (StoppedEnd n reason) = stopped_end n reason

@@ -11,15 +11,15 @@ use Rattle.csq_explain.specs.Reasons.{reason_text}
 use Rattle.csq_draw.specs.declared.cells.Cell.{Cell, TheVariants.{Line, Lock, Protocol, Pass, Step, WordValue}}
 use Rattle.csq_draw.specs.declared.marks.Legality.{Legality, TheVariants.{Legal, Refused, Behind}}
 use Rattle.csq_draw.specs.declared.rows.Row.{Row}
-use Rattle.csq_draw.specs.declared.words.WordValues.{WordValues}
+use Rattle.csq_explain.specs.declared.word_values.WordValues.{WordValues}
 use Rattle.csq_draw.specs.declared.ending.Rest.{Rest}
 use Rattle.csq_explain.specs.declared.harms.HarmAt.{HarmAt}
-use Rattle.csq_explain.specs.WrongOrders.{harms_text}
+use Rattle.csq_explain.specs.WrongOrders.{harms_report}
 use Rattle.csq_draw.specs.Circles.{word_text}
 use Rattle.csq_draw.specs.declared.irps.IrpNow.{IrpNow}
 use Rattle.csq_draw.specs.Endings.{broken_line, ended_line_text, irp_ending, rest_text}
 use Rattle.csq_draw.specs.Irps.{irp_at}
-use Rattle.csq_draw.specs.Marks.{claims, found_words}
+use Rattle.csq_draw.specs.Marks.{claims, finding}
 use Rattle.csq_draw.specs.Passes.{columns, column_of}
 
 -- the texts of each, by its place, the first of which is n
@@ -39,8 +39,8 @@ abbrev pub claim_sign : Bool → List ℕ
 claim_sign claims = if claims then codes "*" else codes " "
 
 -- what a step did, and what it found
-abbrev pub step_cell : StepInCall → List ℕ
-step_cell s = claim_sign (claims s.made.kind s.made.found) ++ (kind_text s.made.kind ++ (codes " " ++ found_words s))
+abbrev pub step_cell : StepInCall → Option WordValues → List ℕ
+step_cell s words = claim_sign (claims s.made.kind s.made.found) ++ (kind_text s.made.kind ++ (codes " " ++ finding s words))
 
 -- a pass that has the lock, and a hyphen if none has it
 abbrev pub lock_cell : Option PassId → List ℕ
@@ -58,7 +58,7 @@ cell_text (Line n) = decimal n
 cell_text (Lock p) = lock_cell p
 cell_text (Protocol legality) = legality_cell legality
 cell_text (Pass p) = codes " " ++ pass_text p
-cell_text (Step s) = step_cell s
+cell_text (Step s words) = step_cell s words
 cell_text (WordValue set) = word_text set
 
 -- after a step that names another life of its IRP, or ends it: the life that the words are of
@@ -74,7 +74,7 @@ words_cells named None = codes "-      -"
 -- a step: the number of its line, this cell, and in the column of its pass what it did; and at the right the words of its IRP
 abbrev pub row_cells : List PassNow → Cell → Row → List ℕ
 row_cells passes cell row = in_width 6 (cell_text (Line row.line)) ++ (in_width 6 (cell_text cell) ++ (spaces (27 * column_of passes row.step.made.pass)
-    ++ (in_width (27 * (columns passes - column_of passes row.step.made.pass)) (cell_text (Step row.step)) ++ (words_cells (name_of row.step.made.kind) row.words ++ codes "\n"))))
+    ++ (in_width (27 * (columns passes - column_of passes row.step.made.pass)) (cell_text (Step row.step row.words)) ++ (words_cells (name_of row.step.made.kind) row.words ++ codes "\n"))))
 
 -- who has the lock at a step, and from the refused one on how it stands to the protocol
 abbrev pub state_cell : Row → Legality → Cell
@@ -102,7 +102,7 @@ ended_lines n reason = codes "line " ++ (decimal n ++ (codes ": " ++ (ended_line
 
 -- or the nth line, in which the protocol was broken, why, and what goes wrong
 abbrev pub broken_lines : ℕ → Reason → List HarmAt → List ℕ
-broken_lines n reason harms = (broken_line n reason ++ (codes "\n  " ++ (reason_text reason ++ codes "\n"))) ++ harms_text harms
+broken_lines n reason harms = (broken_line n reason ++ (codes "\n  " ++ (reason_text reason ++ codes "\n"))) ++ harms_report harms
 
 -- where an IRP is in the end
 abbrev pub irp_line_reported : List IrpNow → ℕ → IrpLine → List ℕ

@@ -1,22 +1,17 @@
 -- The two words of an IRP, as they are drawn beside a step.
 use Rattle.std.specs.Prelude.{◌≡◌, ℕ, ◌==◌, Bool, true, false, List, Option, None}
 use Rattle.std.specs.Option.{option_map}
-use Rattle.irp_core.specs.declared.ids.IrpLife.{IrpLife}
 use Rattle.irp_core.specs.declared.standing.IrpPlace.{IrpPlace, TheVariants.{Listed}}
 use Rattle.irp_core.specs.declared.step.{Kind.{Kind, TheVariants.{Arm, Disarm, Flag, Take, Renew, Rearm}}, Made.{Made}}
 use Rattle.irp_core.specs.Lives.{present}
 use Rattle.irp_core.specs.MachineState.{MachineState, Agrees, size_of}
 use Rattle.irp_core.specs.Steps.{name_of}
-use Rattle.irp_core.specs.Words.{flagged, armed}
 use Rattle.csq_draw.specs.declared.owners.Owner.{Owner}
-use Rattle.csq_draw.specs.declared.words.WordValues.{WordValues}
+use Rattle.csq_explain.specs.declared.word_values.WordValues.{WordValues}
+use Rattle.csq_explain.specs.WordValues.{words_of}
 use Rattle.csq_draw.specs.Owners.{owner_named}
 
--- the words of i after E
-abbrev pub words_of : List Made → IrpLife → WordValues
-words_of E i = record { name = i; flag = flagged E i; routine = armed E i }
-
--- those of the IRP that a step of this kind names, in its present life
+-- the words of the IRP that a step of this kind names, in its present life
 abbrev pub words_named : ℕ → List Made → Kind → Option WordValues
 words_named first E k = option_map (λ i. words_of E (present first E i.irp)) (name_of k)
 

@@ -39,7 +39,7 @@ first_refusal None refusal = refusal
 
 -- the row of a step after these, from the refused one on
 abbrev pub row_behind : List LineStep → LineStep → Legality → Row
-row_behind steps x legality = wrong_row (steps ++ x ∷ []) (length steps) x legality
+row_behind steps x legality = wrong_row steps (length steps) x legality
 
 -- what a schedule led to: its caption and the steps up to the refusal, as they are drawn; the steps of the execution, which leaves out what it refuses; all steps; the rows from the refused one on; and the refusal
 pub record WrongDrawn : Type 0 where

@@ -2,9 +2,8 @@
 ghost use Rattle.std.specs.Prelude.{◌≡◌};
 ghost use Rattle.csq_draw.specs.Arrows.{found_in, found_at, side, gutter, is_near};
 
-use crate::irps::{IrpNow, Spot, life_named};
+use crate::irps::{IrpNow, Spot};
 use crate::layout::{left, top};
-use crate::marks::Legality;
 use crate::rows::Row;
 use irp_core::{Kind, Made};
 use std::fmt;
@@ -30,18 +29,11 @@ fn found_in(before: IrpNow, made: Made) -> Option<Spot>
     }
 }
 
-/// The step that wrote what the step of a row found set. From a refusal on, where a step may name any life, it is one that
-/// names the same life: each life has words of its own.
+/// The step that wrote what the step of a row found set.
 pub(crate) fn found_at(before: IrpNow, row: Row) -> Option<Spot>
     ensures { result ≡ found_at before row }
 {
-    let made = row.step.made;
-    let found = found_in(before, made);
-    match (row.legality, found) {
-        (Legality::Legal, _) => found,
-        (_, Some(spot)) if spot.life.0 == life_named(made.kind).0 => found,
-        _ => None,
-    }
+    found_in(before, row.step.made)
 }
 
 /// The side of a box in one column that faces another one.

@@ -3,7 +3,7 @@ ghost use Rattle.std.specs.Prelude.{◌≡◌};
 ghost use Rattle.csq_draw.specs.Bars.{set_class};
 
 use crate::layout::{flag_x, routine_x, top};
-use crate::words::WordValues;
+use csq_explain::WordValues;
 use std::fmt;
 
 /// The bars of the two words that an IRP has from a row to the next one that names it, between the circles of the two;

@@ -3,8 +3,8 @@ ghost use Rattle.std.specs.Prelude.{◌≡◌};
 ghost use Rattle.csq_draw.specs.Terminal.{claim_sign, legality_cell};
 
 use crate::circles::word_text;
-use crate::marks::{FoundWords, Legality, claims};
-use csq_explain::StepInCall;
+use crate::marks::{Finding, Legality, claims};
+use csq_explain::{StepInCall, WordValues};
 use irp_core::PassId;
 use std::fmt;
 
@@ -19,8 +19,8 @@ pub(crate) enum Cell {
     Protocol(Legality),
     /// The name of a pass.
     Pass(PassId),
-    /// What a step did, and what it found.
-    Step(StepInCall),
+    /// What a step did, and what it found, beside these words.
+    Step(StepInCall, Option<WordValues>),
     /// Whether a word is set.
     WordValue(bool),
 }
@@ -57,8 +57,8 @@ impl fmt::Display for Cell {
             Cell::Lock(None) => write!(f, "-"),
             Cell::Protocol(legality) => f.write_str(legality_sign(legality)),
             Cell::Pass(pass) => write!(f, " {pass}"),
-            Cell::Step(step) => {
-                let (made, found) = (step.made, FoundWords(step));
+            Cell::Step(step, words) => {
+                let (made, found) = (step.made, Finding(step, words));
                 write!(f, "{}{} {found}", claim_sign(claims(made)), made.kind)
             }
             Cell::WordValue(set) => f.write_str(word_text(set)),

@@ -6,7 +6,8 @@ ghost use Rattle.csq_draw.specs.Words.{changes_flag, changes_routine};
 
 use crate::layout::{flag_x, routine_x, top};
 use crate::marks::Mark;
-use crate::words::{WordValues, changes_flag, changes_routine};
+use crate::words::{changes_flag, changes_routine};
+use csq_explain::WordValues;
 use irp_core::IrpId;
 use std::fmt;
 

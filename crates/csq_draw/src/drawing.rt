@@ -13,7 +13,7 @@ ghost use Rattle.csq_draw.specs.Irps.{irps_after, irp_columns, new_irp};
 ghost use Rattle.csq_draw.specs.Pictures.{Drawn, by_places, close_of, end_of, new_drawn, picture_head, seen, shown_by, shown_text, stopped_end, text_of, DrawsSchedule};
 ghost use Rattle.csq_draw.specs.Views.{whole};
 ghost use Rattle.csq_draw.specs.Windows.{places};
-ghost use Rattle.csq_draw.specs.declared.words.WordValues.{WordValues};
+ghost use Rattle.csq_explain.specs.declared.word_values.WordValues.{WordValues};
 ghost use Rattle.csq_draw.specs.Drawings.{owner_in, DrawingStandsAfter, NotesStep, StandsInView, drawing_shown};
 ghost use Rattle.csq_draw.specs.Words.{AreWordsNamed};
 

@@ -7,7 +7,7 @@ ghost use Rattle.csq_draw.specs.Pictures.{end_of};
 use crate::irps::{Claim, IrpNow, Spot};
 use crate::layout::top;
 use crate::rows::count;
-use csq_explain::{DueStatus, HarmAt, PassNow, Reason};
+use csq_explain::{DueStatus, HarmAt, NO_HARM, PassNow, Reason};
 use csq_replay::{IrpLine, Stop};
 use irp_core::{Inside, IrpPlace, PassId};
 use std::alloc::AllocError;
@@ -234,6 +234,7 @@ impl Ending<'_> {
         match self {
             Ending::Stopped(_, _) => Ok(3),
             Ending::Closed(_, reported, _) => count_with(reported.len(), 1),
+            Ending::Broken(_, _, []) => Ok(3),
             Ending::Broken(_, _, harms) => count_with(harms.len(), 2),
         }
     }
@@ -256,6 +257,8 @@ pub(crate) enum Below {
     Broken(usize, Reason),
     /// What goes wrong at a step behind it, as the nth line below that.
     Harm(u32, HarmAt),
+    /// That nothing does.
+    NoHarm,
 }
 
 /// What stands below so many rows of a picture.
@@ -301,6 +304,7 @@ impl fmt::Display for BelowRows {
                 let y = y + 68 + 20 * u64::from(nth);
                 write!(f, "<text x='56' y='{y}'>{harm}</text>")
             }
+            Below::NoHarm => write!(f, "<text x='56' y='{}'>{NO_HARM}</text>", y + 68),
         }
     }
 }

@@ -1,21 +1,19 @@
 //! What is known of each IRP as its steps are drawn: its last step, who wrote its words, who has it, and who
 //! completed it.
 ghost use Rattle.std.specs.Prelude.{◌≡◌, ◌<◌, ◌≤◌, length, replicate, take, IfOk};
-ghost use Rattle.csq_draw.specs.Irps.{life_named, flag_after, routine_after, claim_by, done_after, last_after, irp_after, irp_at, irp_named, with_irp, irps_after, irp_columns, irp_column, new_irp};
+ghost use Rattle.csq_draw.specs.Irps.{flag_after, routine_after, claim_by, done_after, last_after, irp_after, irp_at, irp_named, with_irp, irps_after, irp_columns, irp_column, new_irp};
 
 use crate::rows::Row;
-use crate::words::WordValues;
-use csq_explain::StepInCall;
-use irp_core::{Inside, IrpId, Kind, Life, PassId};
+use csq_explain::{StepInCall, WordValues};
+use irp_core::{Inside, IrpId, Kind, PassId};
 use std::alloc::{AllocError, Allocator};
 
-/// A step: its row, the number of its line, its pass, and the life of the IRP that it names.
+/// A step: its row, the number of its line, and its pass.
 #[derive(Clone, Copy)]
 pub(crate) struct Spot {
     pub(crate) row: u32,
     pub(crate) line: usize,
     pub(crate) pass: PassId,
-    pub(crate) life: Life,
 }
 
 /// The step by which the owner of an IRP came to have it, and what its pass was inside of as it claimed it.
@@ -56,16 +54,6 @@ impl IrpNow {
         claim: None,
         done: None,
     };
-}
-
-/// The life that a step of this kind names: the first one if it names none.
-pub(crate) fn life_named(kind: Kind) -> Life
-    ensures { result ≡ life_named kind }
-{
-    match kind.name() {
-        Some(name) => name.life,
-        None => Life(0),
-    }
 }
 
 /// Who set the Cancel flag, after a step of this kind.
@@ -125,7 +113,6 @@ fn irp_after(before: IrpNow, row: Row) -> IrpNow
         row: row.row,
         line: row.line,
         pass: row.step.made.pass,
-        life: life_named(kind),
     };
     IrpNow {
         last: last_after(row, before.last),
@@ -178,12 +165,12 @@ pub(crate) fn irp_at(irps: &[IrpNow], irp: IrpId) -> IrpNow
     }
 }
 
-/// Notes a step of an IRP.
+/// Notes a step of an IRP's words. One that shows none is of another life, or of no IRP, and changes nothing.
 pub(crate) fn note_irp(irps: &mut [IrpNow], row: Row)
     ensures { irps.new ≡ with_irp irps.old row }
 {
-    if let Some(name) = row.step.made.kind.name() {
-        let number = name.irp.0 as usize;
+    if let Some(words) = row.words {
+        let number = words.name.irp.0 as usize;
         if number < irps.len() {
             irps[number] = irp_after(irps[number], row);
         }

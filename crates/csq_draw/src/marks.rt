@@ -4,8 +4,7 @@ ghost use Rattle.csq_draw.specs.Marks.{shade_height, takes_lock, lets_go, claims
 
 use crate::circles::Circles;
 use crate::layout::{left, top};
-use crate::words::WordValues;
-use csq_explain::{Sentence, StatusName, StepInCall};
+use csq_explain::{Sentence, StatusName, StepInCall, WordValues};
 use irp_core::{Kind, Made, NtStatus, StepRefused};
 use std::fmt;
 
@@ -148,7 +147,7 @@ fn wdk_call(kind: Kind) -> &'static str
 
 /// What a step found, in words.
 #[derive(Clone, Copy)]
-pub(crate) struct FoundWords(pub(crate) StepInCall);
+struct FoundWords(StepInCall);
 
 /// As `found it`.
 impl fmt::Display for FoundWords {
@@ -172,6 +171,27 @@ impl fmt::Display for FoundWords {
             (Kind::Done(_), _, Some(status)) => StatusName(status).fmt(f),
             (Kind::End | Kind::Out(_) | Kind::Done(_), _, _) => Ok(()),
             (Kind::Renew(_), _, _) => write!(f, "next life"),
+        }
+    }
+}
+
+/// What a step found, beside these words.
+#[derive(Clone, Copy)]
+pub(crate) struct Finding(pub(crate) StepInCall, pub(crate) Option<WordValues>);
+
+/// As `found it`; of a step of another life than the words', which finds nothing in them, that it is.
+impl fmt::Display for Finding {
+    ghost use Rattle.std.specs.Prelude.{Some};
+    ghost use Rattle.csq_draw.specs.Marks.{finding};
+
+    ghost output = { λ reported. Some (finding reported.0 reported.1) };
+
+    fn fmt<W: fmt::Write>(&self, f: &mut fmt::Formatter<W>) -> fmt::Result {
+        let Finding(step, words) = *self;
+        if words.is_none() && step.made.kind.name().is_some() {
+            write!(f, "another life")
+        } else {
+            FoundWords(step).fmt(f)
         }
     }
 }
@@ -276,7 +296,8 @@ impl fmt::Display for Mark {
     fn fmt<W: fmt::Write>(&self, f: &mut fmt::Formatter<W>) -> fmt::Result {
         let (step, kind, legality) = (self.step, self.step.made.kind, self.legality);
         let (class, title) = (MarkClass(legality, step), MarkTitle(legality, step));
-        let (found, wdk, circles) = (FoundWords(step), wdk_call(kind), Circles(*self));
+        let found = Finding(step, self.words);
+        let (wdk, circles) = (wdk_call(kind), Circles(*self));
         let (left, top) = (left(self.column), top(self.row));
         let (x, y, end) = (left + 17, top + 20, left + 211);
         let (second, edge, upper) = (top + 35, left + 8, top + 4);

@@ -3,7 +3,7 @@ ghost use Rattle.std.specs.Prelude.{◌≡◌, ◌≤◌, ◌∷◌, [], codes, 
 ghost use Rattle.csq_replay.specs.Lines.{GrewBy};
 ghost use Rattle.csq_draw.specs.Elements.{elements_text, picture};
 ghost use Rattle.csq_draw.specs.Passes.{columns};
-ghost use Rattle.csq_draw.specs.Pictures.{each, column_elements, word_elements, last_elements, span_elements, open_elements, owners_elements, closing_elements, closed_elements, above_elements, shown_by, shown_elements, refused_elements, harm_elements, broken_elements, end_of, picture_of};
+ghost use Rattle.csq_draw.specs.Pictures.{each, column_elements, word_elements, last_elements, span_elements, open_elements, owners_elements, closing_elements, closed_elements, above_elements, shown_by, shown_elements, refused_elements, harm_elements, harms_elements, broken_elements, end_of, picture_of};
 
 use crate::circles::WordColumns;
 use crate::element::Element;
@@ -336,7 +336,7 @@ fn draw_harm<A: Allocator>(
 }
 
 /// What goes wrong at each step, below where and why the protocol was broken.
-fn draw_harms<A: Allocator>(
+fn draw_each_harm<A: Allocator>(
     rows: u32,
     harms: &[HarmAt],
     text: &mut String<A>,
@@ -348,6 +348,22 @@ fn draw_harms<A: Allocator>(
         draw_harm(rows, nth, *harm, text)?;
     }
     Ok(())
+}
+
+/// What goes wrong at each step, or that nothing does.
+fn draw_harms<A: Allocator>(
+    rows: u32,
+    harms: &[HarmAt],
+    text: &mut String<A>,
+) -> Result<(), AllocError>
+    ensures { OnOk result (GrewBy (string_bytes text.old) (string_bytes text.new)
+        (elements_text (harms_elements rows harms.now))) }
+{
+    if harms.is_empty() {
+        draw(Element::Below(rows, Below::NoHarm), text)
+    } else {
+        draw_each_harm(rows, harms, text)
+    }
 }
 
 /// The line in which the protocol was broken, and what goes wrong.

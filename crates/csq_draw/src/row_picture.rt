@@ -120,6 +120,9 @@ fn draw_words<A: Allocator>(
     ensures { OnOk result (GrewBy (string_bytes text.old) (string_bytes text.new)
         (elements_text (words_until passes.now irps.now before row))) }
 {
+    if row.words.is_none() {
+        return Ok(());
+    }
     let (columns, place) = (columns(passes), place_named(irps, row.step.made.kind));
     draw_bars(columns, place, row.row, false, before.last, text)
 }

@@ -3,8 +3,7 @@ ghost use Rattle.std.specs.Prelude.{◌≡◌, ◌<◌, ◌^◌, IfErr, IfOk};
 
 use crate::marks::Legality;
 use crate::owners::Owner;
-use crate::words::WordValues;
-use csq_explain::StepInCall;
+use csq_explain::{StepInCall, WordValues};
 use irp_core::PassId;
 use std::alloc::AllocError;
 

@@ -15,8 +15,7 @@ use crate::irps::{IrpNow, irp_at};
 use crate::marks::Legality;
 use crate::passes::{column_of, columns};
 use crate::rows::Row;
-use crate::words::WordValues;
-use csq_explain::{HarmAt, PassNow, Reason, add_harms};
+use csq_explain::{HarmAt, PassNow, Reason, WordValues, add_harms};
 use csq_replay::IrpLine;
 use irp_core::{IrpLife, PassId};
 use std::alloc::{AllocError, Allocator};
@@ -99,7 +98,7 @@ fn push_cells<A: Allocator>(
     push_cell(cell, NARROW, text)?;
     push_spaces(WIDE * column, text)?;
     push_cell(
-        Cell::Step(row.step),
+        Cell::Step(row.step, row.words),
         WIDE * columns.saturating_sub(column),
         text,
     )?;

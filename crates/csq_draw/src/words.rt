@@ -6,16 +6,9 @@ ghost use Rattle.irp_core.specs.Steps.{number};
 ghost use Rattle.csq_draw.specs.Words.{routine_at, AreWordsNamed, changes_flag, changes_routine};
 
 use crate::owners::Owner;
+use csq_explain::WordValues;
 use irp_core::{IrpLife, IrpPlace, Kind, Machine};
 use std::alloc::Allocator;
-
-/// An IRP in its present life, and whether its Cancel flag and its cancel routine are set.
-#[derive(Clone, Copy)]
-pub(crate) struct WordValues {
-    pub(crate) name: IrpLife,
-    pub(crate) flag: bool,
-    pub(crate) routine: bool,
-}
 
 /// Whether the routine is set of an IRP at this place, which has this owner: as long as it is listed and nobody
 /// owes it.

@@ -12,7 +12,7 @@ ghost use Rattle.csq_draw.specs.Drawings.{owner_in, NotesStep};
 ghost use Rattle.csq_draw.specs.Pictures.{broken_end, end_of, stopped_end};
 ghost use Rattle.csq_draw.specs.Words.{AreWordsNamed};
 ghost use Rattle.csq_draw.specs.WrongDrawings.{WrongDrawn, WrongDrawingStands, new_wrong_drawn, legality_of, first_refusal, row_behind, step_behind, broken_text, order_stop_text, StandsInView};
-ghost use Rattle.csq_draw.specs.declared.words.WordValues.{WordValues};
+ghost use Rattle.csq_explain.specs.declared.word_values.WordValues.{WordValues};
 
 use crate::drawing::Drawing;
 use crate::ending::Ending;
@@ -140,8 +140,8 @@ impl<A: Allocator + Copy> WrongDrawing<A> {
     {
         let number = count(self.steps.len())?;
         let step = by_words(&self.steps, line, pass, kind);
-        self.steps.push(step)?;
         let row = wrong_row(&self.steps, number, step, legality);
+        self.steps.push(step)?;
         self.drawing.rows.push(row)?;
         Ok(())
     }

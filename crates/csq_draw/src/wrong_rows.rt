@@ -1,78 +1,36 @@
 //! The rows of a refused step, and of what comes behind it by the two words of each IRP alone.
-ghost use Rattle.std.specs.Prelude.{◌≡◌, IfOk, Some};
-ghost use Rattle.irp_core.specs.Steps.{is};
-ghost use Rattle.irp_core.specs.declared.step.Kind.TheVariants.{Renew};
-ghost use Rattle.csq_draw.specs.WrongRows.{begun_words, is_renewed, words_in, words_by, wrong_row, with_maker, makers};
+ghost use Rattle.std.specs.Prelude.{◌≡◌, IfOk};
+ghost use Rattle.csq_draw.specs.WrongRows.{words_in, words_by, wrong_row, with_maker, makers};
 
 use crate::marks::Legality;
 use crate::rows::Row;
-use crate::words::WordValues;
-use csq_explain::{LineStep, PassNow, StepInCall, flag_after, routine_after};
-use irp_core::{Inside, IrpLife, Kind, Life, Made, PassId};
+use csq_explain::{LineStep, PassNow, StepInCall, WordValues, words_at};
+use irp_core::{Inside, IrpLife, Kind, PassId};
 use std::alloc::{AllocError, Allocator};
 
-/// The words that a renew of this life begins: both are clear, in the next life, if the IRP has one.
-fn begun_words(ended: IrpLife) -> Option<WordValues>
-    ensures { result ≡ begun_words ended }
-{
-    let IrpLife { irp, life } = ended;
-    if life.0 >= Life::LAST.0 {
-        return None;
-    }
-    Some(WordValues {
-        name: IrpLife {
-            irp,
-            life: Life(life.0 + 1),
-        },
-        flag: false,
-        routine: false,
-    })
-}
-
-/// Whether a step renews this life.
+/// These words after a step of this kind, which names an IRP so: none if they are of another life, which the step doesn't
+/// change.
 #[tactic(auto, unfolding(irp_core::specs::Steps::same_irp))]
-fn renews(made: Made, name: IrpLife) -> bool
-    ensures { result ≡ is (Renew name) made }
+fn words_in(words: WordValues, name: IrpLife, kind: Kind) -> Option<WordValues>
+    ensures { result ≡ words_in words name kind }
 {
-    match made.kind {
-        Kind::Renew(other) => other == name,
-        _ => false,
+    if name == words.name {
+        Some(words.after(kind))
+    } else {
+        None
     }
 }
 
-/// Whether one of these steps renews it, so that its words are another life's from there on.
-fn is_renewed(steps: &[LineStep], name: IrpLife) -> bool
-    ensures { result ≡ is_renewed steps.now name }
-{
-    steps.iter().any(|step| renews(step.made, name))
-}
-
-/// The words of a life after these steps, if they are there still.
-fn words_in(steps: &[LineStep], name: IrpLife) -> Option<WordValues>
-    ensures { result ≡ words_in steps.now (Some name) }
-{
-    if is_renewed(steps, name) {
-        return None;
-    }
-    Some(WordValues {
-        name,
-        flag: flag_after(steps, name),
-        routine: routine_after(steps, name),
-    })
-}
-
-/// The words of the IRP that a step of this kind names, after these steps: in the life that it names, or that it begins.
+/// The words of the IRP that a step of this kind names, after these steps and that one.
 fn words_by(steps: &[LineStep], kind: Kind) -> Option<WordValues>
     ensures { result ≡ words_by steps.now kind }
 {
-    match kind {
-        Kind::Renew(ended) => begun_words(ended),
-        _ => words_in(steps, kind.name()?),
-    }
+    let name = kind.name()?;
+    words_in(words_at(steps, name.irp), name, kind)
 }
 
-/// The row of this number, of the last one of these steps. Behind a refused step nothing is known of calls, of the lock
-/// and of owners.
+/// The row of this number, of a step after these. Behind a refused step nothing is known of calls, of the lock and of
+/// owners.
 pub(crate) fn wrong_row(steps: &[LineStep], number: u32, step: LineStep, legality: Legality) -> Row
     ensures { result ≡ wrong_row steps.now number step legality }
 {

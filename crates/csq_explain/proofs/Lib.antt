@@ -7,5 +7,6 @@ pub mod Closings
 pub mod OneText
 pub mod ScriptTexts
 pub mod WordSteps
+pub mod WordLaws
 pub mod HarmsFound
 pub mod Wrongs

@@ -11,6 +11,7 @@ pub mod CallSentences
 pub mod ScriptEndings
 pub mod ExplainingCalls
 pub mod ScriptExplanations
+pub mod WordValues
 pub mod Laws
 pub mod LineSteps
 pub mod Harms

@@ -8,7 +8,7 @@ use Rattle.csq_replay.specs.declared.schedule.outcome.{Outcome.{Outcome, TheVari
 use Rattle.csq_replay.specs.Outcomes.{ComesTo, stop_text}
 use Rattle.csq_replay.specs.Schedule.{Numbered, run_of}
 use Rattle.csq_explain.specs.declared.reasons.Reason.{Reason}
-use Rattle.csq_explain.specs.declared.harms.HarmAt.{HarmAt}
+use Rattle.csq_explain.specs.declared.harms.{HarmAt.{HarmAt}, TheConstants.{NO_HARM}}
 use Rattle.csq_explain.specs.declared.line_steps.LineStep.{LineStep}
 use Rattle.csq_explain.specs.declared.wrong.WrongOrder.{WrongOrder}
 use Rattle.csq_explain.specs.Harms.{harms_of, harm_text}
@@ -101,13 +101,18 @@ abbrev pub harms_text : List HarmAt → List ℕ
 harms_text [] = []
 harms_text (h ∷ harms) = (harm_text h.step h.harm ++ codes "\n") ++ harms_text harms
 
+-- or that nothing does
+abbrev pub harms_report : List HarmAt → List ℕ
+harms_report [] = NO_HARM.now ++ codes "\n"
+harms_report (h ∷ harms) = harms_text (h ∷ harms)
+
 -- in which line the protocol was broken
 abbrev pub broken_text : ℕ → List ℕ
 broken_text broken = codes "the protocol is broken in line " ++ (decimal broken ++ codes "\n")
 
 -- whether the protocol was kept, and else what goes wrong
 abbrev pub end_text : ℕ → List LineStep → List ℕ
-end_text broken steps = if broken == 0 then codes "the protocol is kept\n" else broken_text broken ++ harms_text (harms_of [] steps)
+end_text broken steps = if broken == 0 then codes "the protocol is kept\n" else broken_text broken ++ harms_report (harms_of [] steps)
 
 abbrev pub WrongCloses : Wrong → List ℕ → Type 0
 WrongCloses d text = text ≡ end_text d.broken d.steps

@@ -1,9 +1,11 @@
-//! What holds of every explanation, of a schedule and of a script. Each function stands for a law: its
-//! contract is the law, and there is nothing to run.
-ghost use Rattle.std.specs.Prelude.{ℕ, Bool, List};
-ghost use Rattle.irp_core.specs.Runs.{Size};
+//! What holds of every explanation, of a schedule and of a script, and of the words that wrong orders go by. Each
+//! function stands for a law: its contract is the law, and there is nothing to run.
+ghost use Rattle.std.specs.Prelude.{ℕ, Bool, List, []};
+ghost use Rattle.irp_core.specs.Runs.{Size, IsRun, EachRunFrom};
 ghost use Rattle.csq_words.specs.Queue.{Limits};
-ghost use Rattle.csq_explain.specs.Laws.{HasOneExplanation, HasOneScriptExplanation};
+ghost use Rattle.csq_explain.specs.declared.line_steps.LineStep.{LineStep};
+ghost use Rattle.csq_explain.specs.LineSteps.{made_by};
+ghost use Rattle.csq_explain.specs.Laws.{HasOneExplanation, HasOneScriptExplanation, TheWordsAreTheRuns, EachNextStepFindsTheWords};
 
 /// A schedule has at most one explanation, so the relation that `explain_schedule` meets names its bytes.
 pub fn a_schedule_has_one_explanation()
@@ -13,4 +15,16 @@ pub fn a_schedule_has_one_explanation()
 /// A script has at most one explanation, so the relation that `explain_script` meets names its bytes.
 pub fn a_script_has_one_explanation()
     ensures { (l : Limits) (input : List ℕ) → HasOneScriptExplanation l input }
+{}
+
+/// As long as the protocol is kept, the words of each IRP are those that the protocol says its present life has.
+pub fn the_words_are_those_of_the_run()
+    ensures { EachRunFrom TheWordsAreTheRuns }
+{}
+
+/// As long as the protocol is kept, the next step that it allows, with the value that it says that one finds, is the step
+/// by the words.
+pub fn each_next_step_finds_the_words()
+    ensures { (size : Size) (steps : List LineStep) → IsRun size (made_by [] steps)
+        → EachNextStepFindsTheWords size steps }
 {}

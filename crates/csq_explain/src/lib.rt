@@ -13,6 +13,7 @@ mod reasons;
 mod script_endings;
 mod script_explanation;
 mod sentences;
+mod word_values;
 mod words;
 mod wrong;
 
@@ -20,12 +21,16 @@ pub use call_sentences::{AnsweredCall, CallStopSentence};
 pub use endings::{IrpSentence, RestSentence};
 pub use execution::{Closing, Execution, Explained};
 pub use explanation::{Explanation, answer_schedule, explain_schedule};
-pub use harms::{Harm, HarmAt, harms_of};
-pub use laws::{a_schedule_has_one_explanation, a_script_has_one_explanation};
-pub use line_steps::{LineStep, by_words, flag_after, routine_after};
+pub use harms::{Harm, HarmAt, NO_HARM, harms_of};
+pub use laws::{
+    a_schedule_has_one_explanation, a_script_has_one_explanation, each_next_step_finds_the_words,
+    the_words_are_those_of_the_run,
+};
+pub use line_steps::{LineStep, by_words, words_at};
 pub use passes::PassNow;
 pub use reasons::Reason;
 pub use script_explanation::{ScriptExplanation, answer_script, explain_script};
 pub use sentences::{DueStatus, InsertWord, Sentence, StatusName, StepInCall};
+pub use word_values::WordValues;
 pub use words::{CALLS, STEPS};
 pub use wrong::{WrongOrder, add_harms, goes_on, why_ended};

@@ -1,9 +1,11 @@
 //! The steps of an order that may break the protocol, and what each finds by the two words of each IRP alone.
-ghost use Rattle.std.specs.Prelude.{◌≡◌, [], IfSome};
-ghost use Rattle.irp_core.specs.Words.{flagged, armed, found_by};
-ghost use Rattle.csq_explain.specs.LineSteps.{made_by, arms, disarms, is_flag, flag_with, routine_with, by_words};
+ghost use Rattle.std.specs.Prelude.{◌≡◌, []};
+ghost use Rattle.irp_core.specs.Steps.{is};
+ghost use Rattle.csq_explain.specs.LineSteps.{made_by, words_at, by_words};
+ghost use Rattle.csq_explain.specs.WordValues.{found_after};
 
-use irp_core::{IrpLife, Kind, Made, PassId};
+use crate::word_values::WordValues;
+use irp_core::{IrpId, Kind, Life, Made, PassId};
 use std::fmt;
 
 /// A step with the value that it found, and the number of the line that names it.
@@ -28,86 +30,33 @@ impl fmt::Display for LineStep {
     }
 }
 
-/// Whether a step sets the cancel routine of this IRP.
+/// Whether a step is of this kind, and names the same life of the same IRP.
 #[tactic(auto, unfolding(irp_core::specs::Steps::same_irp))]
-pub(crate) fn arms(made: Made, name: IrpLife) -> bool
-    ensures { result ≡ arms made name }
+pub(crate) fn is(kind: Kind, made: Made) -> bool
+    ensures { result ≡ is kind made }
 {
-    match made.kind {
-        Kind::Arm(other) | Kind::Rearm(other) => other == name,
-        _ => false,
-    }
+    made.kind == kind
 }
 
-/// Whether it exchanges the cancel routine of this IRP for none.
-#[tactic(auto, unfolding(irp_core::specs::Steps::same_irp))]
-pub(crate) fn disarms(made: Made, name: IrpLife) -> bool
-    ensures { result ≡ disarms made name }
+/// The words of an IRP after these steps. Own rule.
+pub fn words_at(steps: &[LineStep], irp: IrpId) -> WordValues
+    ensures { result ≡ words_at steps.now irp }
 {
-    match made.kind {
-        Kind::Disarm(other) | Kind::Take(other) => other == name,
-        _ => false,
-    }
-}
-
-/// Whether it sets the Cancel flag of this IRP.
-#[tactic(auto, unfolding(irp_core::specs::Steps::same_irp))]
-fn is_flag(made: Made, name: IrpLife) -> bool
-    ensures { result ≡ is_flag made name }
-{
-    match made.kind {
-        Kind::Flag(other) => other == name,
-        _ => false,
-    }
-}
-
-/// Whether the Cancel flag of an IRP is set after a step, by whether it was before.
-fn flag_with(made: Made, name: IrpLife, before: bool) -> bool
-    ensures { result ≡ flag_with made name before }
-{
-    is_flag(made, name) || before
-}
-
-/// And its cancel routine.
-fn routine_with(made: Made, name: IrpLife, before: bool) -> bool
-    ensures { result ≡ routine_with made name before }
-{
-    arms(made, name) || (!disarms(made, name) && before)
-}
-
-/// Whether the Cancel flag of an IRP is set after these steps. Own rule.
-pub fn flag_after(steps: &[LineStep], name: IrpLife) -> bool
-    ensures { result ≡ flagged (made_by [] steps.now) name }
-{
-    let mut set = false;
+    let mut words = WordValues::clear(irp, Life(0));
     for step in steps {
-        set = flag_with(step.made, name, set);
+        words = words.after(step.made.kind);
     }
-    set
+    words
 }
 
-/// Whether the cancel routine of an IRP is set after these steps. Own rule.
-pub fn routine_after(steps: &[LineStep], name: IrpLife) -> bool
-    ensures { result ≡ armed (made_by [] steps.now) name }
+/// The value that a step of this kind finds after these: what the words of its IRP hold, whether the protocol allows the
+/// step or not.
+fn found_after(steps: &[LineStep], kind: Kind) -> u64
+    ensures { result ≡ found_after (made_by [] steps.now) kind }
 {
-    let mut set = false;
-    for step in steps {
-        set = routine_with(step.made, name, set);
-    }
-    set
-}
-
-/// The value that a step of this kind finds after these steps: the word's, whether the protocol allows the step or
-/// not.
-fn value_after(steps: &[LineStep], kind: Kind) -> u64
-    ensures { result ≡ found_by (made_by [] steps.now) kind }
-{
-    match kind {
-        Kind::Test(name) | Kind::Flag(name) => u64::from(flag_after(steps, name)),
-        Kind::Arm(name) | Kind::Rearm(name) | Kind::Disarm(name) | Kind::Take(name) => {
-            u64::from(routine_after(steps, name))
-        }
-        Kind::End | Kind::Out(_) | Kind::Done(_) | Kind::Renew(_) => 0,
+    match kind.name() {
+        Some(name) => words_at(steps, name.irp).found(kind),
+        None => 0,
     }
 }
 
@@ -115,7 +64,7 @@ fn value_after(steps: &[LineStep], kind: Kind) -> u64
 pub fn by_words(steps: &[LineStep], line: usize, pass: PassId, kind: Kind) -> LineStep
     ensures { result ≡ by_words steps.now line pass kind }
 {
-    let found = value_after(steps, kind);
+    let found = found_after(steps, kind);
     LineStep {
         line,
         made: Made { pass, kind, found },

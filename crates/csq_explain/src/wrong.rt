@@ -4,10 +4,10 @@ ghost use Rattle.std.specs.Prelude.{◌≡◌, ◌∷◌, ◌++◌, [], string_b
 ghost use Rattle.irp_core.specs.Runs.{IsInLimits};
 ghost use Rattle.csq_replay.specs.Lines.{GrewBy};
 ghost use Rattle.csq_explain.specs.Harms.{harms_of};
-ghost use Rattle.csq_explain.specs.WrongOrders.{accepted_step, refused_step, accepted_text, refused_text, broken_at, WrongAfter, new_wrong, harms_text, goes_on, broken_text, end_text, why_ended, steps_behind, stopped_text, broken_behind};
+ghost use Rattle.csq_explain.specs.WrongOrders.{accepted_step, refused_step, accepted_text, refused_text, broken_at, WrongAfter, new_wrong, harms_text, harms_report, goes_on, broken_text, end_text, why_ended, steps_behind, stopped_text, broken_behind};
 
 use crate::execution::{Execution, Explained};
-use crate::harms::{HarmAt, harms_of};
+use crate::harms::{HarmAt, NO_HARM, harms_of};
 use crate::line_steps::{LineStep, by_words};
 use crate::reasons::Reason;
 use csq_replay::{Answerer, Line, Stop};
@@ -154,8 +154,8 @@ fn add_broken<A: Allocator>(broken: usize, text: &mut String<A>) -> Result<(), A
     writeln!(text, "the protocol is broken in line {broken}")
 }
 
-/// Adds what goes wrong, each on a line of its own. Refused if there is too little memory. Own rule.
-pub fn add_harms<A: Allocator>(harms: &[HarmAt], text: &mut String<A>) -> Result<(), AllocError>
+/// Adds what goes wrong, each on a line of its own.
+fn add_each_harm<A: Allocator>(harms: &[HarmAt], text: &mut String<A>) -> Result<(), AllocError>
     ensures { OnOk result (GrewBy (string_bytes text.old) (string_bytes text.new)
         (harms_text harms.now)) }
 {
@@ -165,6 +165,18 @@ pub fn add_harms<A: Allocator>(harms: &[HarmAt], text: &mut String<A>) -> Result
     Ok(())
 }
 
+/// Adds what goes wrong, each on a line of its own, or that nothing does. Refused if there is too little memory. Own rule.
+pub fn add_harms<A: Allocator>(harms: &[HarmAt], text: &mut String<A>) -> Result<(), AllocError>
+    ensures { OnOk result (GrewBy (string_bytes text.old) (string_bytes text.new)
+        (harms_report harms.now)) }
+{
+    if harms.is_empty() {
+        writeln!(text, "{NO_HARM}")
+    } else {
+        add_each_harm(harms, text)
+    }
+}
+
 /// Adds what goes wrong at these steps.
 fn add_harms_of<A: Allocator + Copy>(
     alloc: A,
@@ -172,7 +184,7 @@ fn add_harms_of<A: Allocator + Copy>(
     text: &mut String<A>,
 ) -> Result<(), AllocError>
     ensures { OnOk result (GrewBy (string_bytes text.old) (string_bytes text.new)
-        (harms_text (harms_of [] steps.now))) }
+        (harms_report (harms_of [] steps.now))) }
 {
     let harms = harms_of(alloc, steps)?;
     add_harms(&harms, text)?;

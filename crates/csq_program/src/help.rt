@@ -78,11 +78,12 @@ these that holds. Standard error says more.
 
 With --wrong a refused step is made all the same, unless there is no such IRP or
 pass, and the schedule goes on by the two words of each IRP alone, as code does
-that breaks the protocol there: each step finds what the word holds. The first
-refused step has its refusal behind it. The end says whether the protocol was
-kept, and what goes wrong: a second completion of an IRP, a cancel that nobody
-asked for, a cancel that is lost. It goes with neither --claims nor
---explain.
+that breaks the protocol there: each step finds what the word holds. A step that
+names another life of an IRP than its present one finds 0, and changes nothing.
+The first refused step has its refusal behind it. The end says whether the
+protocol was kept, and which of these is found in the lines: a second completion
+of an IRP in one life, a routine taken of an IRP that isn't cancelled, a cancel
+that is lost. It goes with neither --claims nor --explain.
 
 Words are separated by one space, and the case of letters counts. A number has
 at most nine digits, and no zero before them. Empty lines, and lines that begin
@@ -141,10 +142,11 @@ With --wrong a refused step is drawn all the same, in red with its refusal, and
 the schedule goes on in grey by the two words of each IRP alone, as csqsim
 schedule --wrong does: what a step found is what the word held. (A step of an
 IRP or a pass that there isn't still ends it.) Nothing is known then of calls,
-of the lock, and of who owes or holds an IRP; and where steps name several lives
-of an IRP, not each arrow is drawn. The end says in
-which line the protocol was broken, why, and what goes wrong. With --text a !
-stands before the refused step, and a ? before those behind it.
+of the lock, and of who owes or holds an IRP. A step that names another life of
+an IRP than its present one finds nothing in the words, changes nothing, and
+shows none. The end says in which line the protocol was broken, why, and what
+goes wrong. With --text a ! stands before the refused step, and a ? before those
+behind it.
 
 A part of a long schedule is drawn with --from, --to and --irp. The steps of
 lines before that of --from are made, but not drawn. The schedule ends behind

@@ -1,7 +1,7 @@
-use Rattle.std.proofs.Common.{◌++◌, false}
+use Rattle.std.proofs.Common.{◌++◌}
 use Rattle.csq_draw.specs.declared.spans.LineEnd.TheVariants.{Step}
-use Rattle.csq_draw.proofs.Imports.{columns, shade_elements, span_elements, bars_elements, arrow_elements, found_at}
-use Rattle.csq_draw.specs.Pictures.{place_named}
+use Rattle.csq_draw.proofs.Imports.{shade_elements, span_elements, arrow_elements, found_at}
+use Rattle.csq_draw.specs.Pictures.{words_until}
 use Rattle.csq_draw.proofs.Growing.{grew_elements}
 use Rattle.csq_draw.proofs.row_picture.draw_behind.Goals as goal
 
@@ -12,7 +12,7 @@ returns g c =
     let before = c.args.before in
     let shade = shade_elements passes row row.lock in
     let span = span_elements passes row.row Step row.ended in
-    let bars = bars_elements (columns passes) (place_named c.args.irps.now row.step.made.kind) row.row false before.last in
+    let bars = words_until passes c.args.irps.now before row in
     let arrow = arrow_elements passes row (found_at before row) in
     grew_elements _ _ _ shade (span ++ (bars ++ arrow)) c.in_ok-draw_shade.ensures
     (grew_elements _ _ _ span (bars ++ arrow) c.in_ok-draw_line.ensures (grew_elements _ _ _ bars arrow c.in_ok-draw_words.ensures c.in_ok-draw_found.ensures))

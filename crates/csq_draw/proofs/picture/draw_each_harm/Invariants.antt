@@ -1,7 +1,7 @@
 use Rattle.std.proofs.Common.{take, string_bytes}
 use Rattle.csq_draw.proofs.Imports.{GrewBy, elements_text, each}
 use Rattle.csq_draw.specs.Pictures.{harm_elements}
-use Rattle.csq_draw.proofs.picture.draw_harms.Given as goal
+use Rattle.csq_draw.proofs.picture.draw_each_harm.Given as goal
 
 -- the elements of those so far were added
 abbrev pub invariant-loop-nth : goal.invariant-loop-nth

@@ -1,7 +1,7 @@
 use Rattle.std.proofs.Common.{take, string_bytes}
 use Rattle.csq_replay.specs.Lines.{GrewBy}
 use Rattle.csq_explain.specs.WrongOrders.{harms_text}
-use Rattle.csq_explain.proofs.wrong.add_harms.Given as goal
+use Rattle.csq_explain.proofs.wrong.add_each_harm.Given as goal
 
 -- the harms so far were added
 abbrev pub invariant-loop-harm : goal.invariant-loop-harm

@@ -1,6 +1,0 @@
-use Rattle.std.proofs.Common.{arith}
-use Rattle.csq_explain.proofs.WordSteps.{flag_more}
-use Rattle.csq_explain.proofs.line_steps.flag_after.Goals as goal
-
-pub loop-step-preserved : goal.loop-step-preserved
-loop-step-preserved c = flag_more c.args.steps.now c.args.name c.loop-step.step-index _ _ _ (omega arith) c.loop-step.invariant c.flag_with-set.ensures
