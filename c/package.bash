@@ -9,13 +9,6 @@ csq_refuse() {
   exit 1
 }
 
-# Prints what stands at the script's head, and ends it, if its first argument is --help.
-csq_help() {
-  if [[ ${1-} != --help && ${1-} != -h ]]; then return; fi
-  sed -n '2,/^[^#]/s/^# \{0,1\}//p' "$0"
-  exit
-}
-
 # Refuses where one of these tools isn't there.
 csq_need() {
   local tool
@@ -44,12 +37,18 @@ csq_archives() {
   fi
 }
 
-# Prints the line of the kit that proved these archives, or nothing if they aren't known to be proved: csq_kit has the
-# arguments of csq_archives. Of FILE.. the caller says so, by CSQ_KIT.
+# Prints the line of the kit that proved these archives, or nothing if they aren't known to be proved: only a receipt beside
+# the first of them says so, in which the checksums are those of all, and of no other.
 csq_kit() {
-  local kit=${CSQ_KIT-}
-  if (($# == 0)); then kit=$(rt version 2>/dev/null || true); elif [[ $1 == --plain ]]; then kit=; fi
-  [[ $kit =~ ^[A-Za-z0-9\ ._:,+/()=-]*$ ]] || csq_refuse "not a kit's line" "CSQ_KIT is '$kit', not what rt version prints"
+  local receipt=$1.receipt kit
+  if [[ ! -f $receipt ]]; then return; fi
+  if ! grep -q '^verdict logic=proved ' "$receipt" || [[ $(grep '^sha256 ' "$receipt") != "$(csq_sums "$@")" ]]; then
+    echo "c/${0##*/}: not said to be proved: $receipt is of other archives" >&2
+    return
+  fi
+  kit=$(sed -n 's/^kit //p' "$receipt")
+  [[ $kit =~ ^[A-Za-z0-9\ ._:,+/()=-]+$ ]] ||
+    csq_refuse "not a kit's line" "$receipt names '$kit', not what rt version prints"
   echo "$kit"
 }
 

@@ -57,7 +57,8 @@
  * a call that takes a queue and a filled pass returns CSQ_OTHER_QUEUE of it. A refusal, which is any code but CSQ_OK
  * and the CSQ_CANCELLED of csq_insert and csq_put_back, changes nothing and writes nothing, but for the life that
  * csq_read_status stores. (csq_drain and csq_cleanup are made of several calls: what they did before a refusal stays
- * done.) CSQ_EMPTY_HANDLE of a handle that is filled says that two calls had it at once: the lock is missing somewhere.
+ * done.) CSQ_EMPTY_HANDLE of a handle that is filled says that two calls had it at once: the lock is
+ * missing somewhere. (csq_take_pass returns it also of a queue that has no number yet.)
  *
  * What the caller must uphold, which nothing checks:
  *
@@ -147,7 +148,7 @@ enum csq_code {
     CSQ_BAD_SIZE = 19,
     /* Memory was refused. */
     CSQ_NO_MEMORY = 20,
-    /* A handle that has to be filled is empty. */
+    /* A handle that has to be filled is empty, or a queue has no number yet (csq_take_pass). */
     CSQ_EMPTY_HANDLE = 21,
     /* A handle that is to be filled isn't empty. */
     CSQ_NOT_EMPTY = 22,
@@ -260,7 +261,7 @@ struct csq_left {
 /* ---- A queue's beginning and end ---- */
 
 /* What csq_new and csq_new_with_file_limits call, which then give the queue its number. For these two, and for bindings
- * to other languages, which do as they do. */
+ * to other languages, which do as they do: until then the queue hands out no pass. */
 CSQ_NODISCARD uint32_t csq_new_queue(struct csq_queue *queue, const struct csq_size *size);
 CSQ_NODISCARD uint32_t csq_new_queue_with_file_limits(struct csq_queue *queue, const struct csq_size *size,
                                                       const uint32_t *file_limits, size_t count);
@@ -336,7 +337,8 @@ const char *csq_build(void);
 
 /* Hands out a pass, which holds and owes nothing: one that was given back, if there is one, else a new one. Only a new
  * one takes memory. After CSQ_NO_MEMORY it can be asked for again.
- * CSQ_EMPTY_HANDLE; CSQ_NOT_EMPTY; CSQ_CLOSED; CSQ_NO_PASS; CSQ_NO_MEMORY. Lock: held. */
+ * CSQ_EMPTY_HANDLE (also of a queue whose number is 0, as csq_new_queue leaves it); CSQ_NOT_EMPTY;
+ * CSQ_CLOSED; CSQ_NO_PASS; CSQ_NO_MEMORY. Lock: held. */
 CSQ_NODISCARD uint32_t csq_take_pass(struct csq_queue *queue, struct csq_pass *pass);
 
 /* Gives a pass back, which then isn't out any more. The handle is empty then.

@@ -17,14 +17,17 @@
  *     }
  *
  * - A request is under way from its submit to its completion. It is listed first, and once a worker has taken it it is
- *   taken until it is completed or put back. A name (struct csq_irp) is of one request alone: what comes late for it is
- *   refused as CSQ_STALE, and takes nothing of a later one.
+ *   taken until it is completed or put back. A name (struct csq_irp) is of one request alone: a
+ *   cancel that comes late for it is refused as CSQ_STALE, a completion or a put-back as
+ *   CSQ_NOT_HELD, and none takes anything of a later one.
  * - All calls may be made by several threads at once, but csq_requests_new and csq_requests_free. There is no handle to
  *   keep for each thread, and a request may be completed by another thread than the one that took it.
  * - Each call takes the queue's mutex, which is free while a thread waits and while an event is called.
  * - What a thread wrote before a submit or a put-back is seen by whoever gets the value, and what it wrote before a
  *   completion by whoever learns of that by a call of this header.
- * - A refusal, which is any code but CSQ_OK, changes nothing unless the call says so. csq_name returns a code's name.
+ * - A refusal, which is any code but CSQ_OK, changes nothing unless the call says so. If several
+ *   would fit it is the first that the call's comment names, but for CSQ_NO_MEMORY. csq_name
+ *   returns a code's name.
  * - csq_requests_new takes memory. No other call does.
  *
  * What the caller must uphold, which nothing checks: pointers are valid, and none is null unless the call allows it; no
@@ -56,11 +59,14 @@ extern "C" {
 /* In the place of a number of milliseconds: without a limit. */
 #define CSQ_FOREVER UINT32_MAX
 
-/* Functions that are called round the completion of a request that a cancel, a drain or a cleanup ends, with its name and
- * its value, and what they are called with. Either may be NULL. The mutex is free then. Before the completion the request
- * isn't listed, and is the calling thread's alone; after it, it isn't under way any more, and its IRP may have the next
- * one. They return to their caller (by no exception and no longjmp), and may make any call but csq_requests_free. Neither
- * waits for its own request to end. */
+/* Functions that are called round the completion of a request that a cancel, a drain, a cleanup or
+ * csq_requests_free ends, with its name and its value, and what they are called with. Either may be
+ * NULL. The mutex is free then. Before the completion the request isn't listed, and is the calling
+ * thread's alone: by its name nobody completes it or puts it back (CSQ_NOT_HELD), also not in the
+ * event. After it, it isn't under way any more, and its IRP may have the next one. They return to
+ * their caller (by no exception and no longjmp), and may make any call but csq_requests_free.
+ * Neither waits for its own request to end, nor for one whose event waits for this one. A drain
+ * doesn't wait for another thread's after_completion: what that uses is freed after it. */
 struct csq_requests_events {
     void (*before_completion)(void *context, struct csq_irp name, void *value);
     void (*after_completion)(void *context, struct csq_irp name, void *value);
@@ -115,8 +121,9 @@ CSQ_NODISCARD static inline uint32_t csq_requests_new(struct csq_requests **requ
     return code;
 }
 
-/* Refuses each further submit as CSQ_CLOSED, and wakes all who wait: they get what is listed, and then CSQ_CLOSED. What is
- * under way is completed, put back, cancelled and drained as ever. Closing it again is no fault. */
+/* Refuses each further submit as CSQ_CLOSED, and wakes all who wait in csq_requests_next: they get
+ * what is listed, and then CSQ_CLOSED. What is under way is completed, put back, cancelled and
+ * drained as ever. Closing it again is no fault. */
 static inline void csq_requests_close(struct csq_requests *requests) {
     uint32_t file;
     pthread_mutex_lock(&requests->mutex);
@@ -152,9 +159,10 @@ CSQ_NODISCARD static inline uint32_t csq_requests_free(struct csq_requests **req
 /* Submits a value for a file object, at the list's end, or at its front if `front` isn't 0, and wakes one who waits for it.
  * Stores the request's name before anybody can take it, so *name may be a part of what `value` points to. After a refusal
  * the value is still the caller's.
- * CSQ_UNKNOWN_FILE; CSQ_CLOSED; CSQ_LIVES_SPENT (each IRP is past its last life: a queue has 2^30 requests for each, and
- * then another has to be made); CSQ_FULL (all requests are under way, or as many are listed as the limit allows: no
- * call waits for room, so refuse the client, or try again after a completion); CSQ_FILE_CLOSED; CSQ_FILE_FULL. */
+ * CSQ_UNKNOWN_FILE; CSQ_CLOSED; CSQ_LIVES_SPENT (each IRP is past its last life: a queue has 2^30
+ * requests for each, and then another has to be made); CSQ_FULL (all requests are under way: no
+ * call waits for room, so refuse the client, or try again after a completion); CSQ_FILE_CLOSED;
+ * CSQ_FILE_FULL; CSQ_FULL (as many are listed as the limit allows). */
 CSQ_NODISCARD static inline uint32_t csq_requests_submit(struct csq_requests *requests, void *value, uint32_t file,
                                                          uint32_t front, struct csq_irp *name) {
     uint32_t code;
@@ -200,14 +208,20 @@ CSQ_NODISCARD static inline uint32_t csq_requests_next(struct csq_requests *requ
 
 /* Completes a request that was taken, with any status but STATUS_PENDING. Its value is the caller's. (Once it is put back
  * it isn't the caller's to complete: whoever takes it next has it by the same name.)
- * CSQ_UNKNOWN_IRP; CSQ_NOT_HELD (it isn't taken: it was completed or put back); CSQ_NOT_REMOVED (its put-back returned
- * CSQ_CANCELLED, and the status is another than STATUS_CANCELLED); CSQ_NOT_FINAL. */
+ * CSQ_UNKNOWN_IRP; CSQ_NOT_HELD (it isn't taken: it was completed or put back, or a cancel, a drain
+ * or a cleanup is ending it); CSQ_NOT_REMOVED (its put-back returned CSQ_CANCELLED, and the status
+ * is another than STATUS_CANCELLED); CSQ_NOT_FINAL. */
 CSQ_NODISCARD static inline uint32_t csq_requests_complete(struct csq_requests *requests,
                                                            const struct csq_request *request, uint32_t status) {
     uint32_t code;
     pthread_mutex_lock(&requests->mutex);
-    code = status == CSQ_STATUS_CANCELLED ? csq_complete_cancelled(&requests->pass, request->name)
-                                          : csq_complete(&requests->pass, request->name, status);
+    if (csq_requests_use_of(requests, request->name.irp) == CSQ_REQUESTS_ENDING) {
+        code = CSQ_NOT_HELD;
+    } else if (status == CSQ_STATUS_CANCELLED) {
+        code = csq_complete_cancelled(&requests->pass, request->name);
+    } else {
+        code = csq_complete(&requests->pass, request->name, status);
+    }
     if (code == CSQ_OK) {
         csq_requests_release(requests, request->name);
     }
@@ -217,15 +231,18 @@ CSQ_NODISCARD static inline uint32_t csq_requests_complete(struct csq_requests *
 
 /* Puts a request back that was taken, at the list's end, or at its front if `front` isn't 0, and wakes one who waits
  * for it: for a worker that can't serve it now. It keeps its name. After a refusal it is still taken, so the worker
- * completes it, and a drain waits for that. CSQ_UNKNOWN_IRP; CSQ_NOT_HELD; CSQ_NOT_REMOVED (a put-back before returned
- * CSQ_CANCELLED); CSQ_FILE_CLOSED; CSQ_FILE_FULL; CSQ_FULL; CSQ_CANCELLED (a cancel has named it in the meantime: it is
- * completed with STATUS_CANCELLED alone, and can't be put back). */
+ * completes it, and a drain waits for that.
+ * CSQ_UNKNOWN_IRP; CSQ_NOT_HELD (as of csq_requests_complete); CSQ_NOT_REMOVED (a put-back before
+ * returned CSQ_CANCELLED); CSQ_FILE_CLOSED; CSQ_FILE_FULL; CSQ_FULL; CSQ_CANCELLED (a cancel has
+ * named it in the meantime: it is completed with STATUS_CANCELLED alone, and can't be put back). */
 CSQ_NODISCARD static inline uint32_t csq_requests_put_back(struct csq_requests *requests,
                                                            const struct csq_request *request, uint32_t front) {
     struct csq_irp context = { 0, 0 };
-    uint32_t code;
+    uint32_t code = CSQ_NOT_HELD;
     pthread_mutex_lock(&requests->mutex);
-    code = csq_put_back(&requests->queue, &requests->pass, request->name, front, &context);
+    if (csq_requests_use_of(requests, request->name.irp) != CSQ_REQUESTS_ENDING) {
+        code = csq_put_back(&requests->queue, &requests->pass, request->name, front, &context);
+    }
     if (code == CSQ_OK) {
         csq_requests_signal(requests, requests->slots[request->name.irp].file);
     }
@@ -233,18 +250,24 @@ CSQ_NODISCARD static inline uint32_t csq_requests_put_back(struct csq_requests *
     return code;
 }
 
-/* Whether a cancel has named a request that was taken, so that nobody waits for it: 1, or 0. */
+/* Whether a cancel has named a request that was taken, so that nobody waits for it: 1, or 0, as of
+ * one that isn't under way any more. Of one that is being ended: 1 if a cancel has named it. */
 static inline uint32_t csq_requests_is_cancelled(struct csq_requests *requests, const struct csq_request *request) {
-    uint32_t life = 0, cancelled = 0, code;
+    uint32_t life = 0, cancelled = 0, code = CSQ_STALE;
     pthread_mutex_lock(&requests->mutex);
-    code = csq_read_cancel(&requests->pass, request->name.irp, &life, &cancelled);
+    /* Of one that is free the flag is that of its last request. */
+    if (csq_requests_use_of(requests, request->name.irp) != CSQ_REQUESTS_FREE) {
+        code = csq_read_cancel(&requests->pass, request->name.irp, &life, &cancelled);
+    }
     pthread_mutex_unlock(&requests->mutex);
     return code == CSQ_OK && life == request->name.life && cancelled;
 }
 
-/* Cancels a request by its name. CSQ_OK: it was listed; it is completed as cancelled, with the events, and *value is its
- * value, as the events have left it. CSQ_NONE: it is taken, and whoever has it learns of the cancel (csq_requests_is_cancelled,
- * csq_requests_put_back). CSQ_STALE: it is not under way any more. CSQ_UNKNOWN_IRP: there is no such IRP. */
+/* Cancels a request by its name. CSQ_UNKNOWN_IRP: there is no such IRP. CSQ_STALE: it is not under
+ * way any more. CSQ_NONE: it is taken, and whoever has it learns of the cancel
+ * (csq_requests_is_cancelled, csq_requests_put_back); or a cancel, a drain or a cleanup is ending
+ * it already. CSQ_OK: it was listed; it is completed as cancelled, with the events, and *value is
+ * its value, which the events were called with. */
 CSQ_NODISCARD static inline uint32_t csq_requests_cancel(struct csq_requests *requests, struct csq_irp name,
                                                          void **value) {
     uint32_t code = CSQ_STALE, found = 0;
@@ -253,7 +276,7 @@ CSQ_NODISCARD static inline uint32_t csq_requests_cancel(struct csq_requests *re
     }
     pthread_mutex_lock(&requests->mutex);
     /* Of one that is free no cancel is noted, or the next submit would find it. */
-    if (requests->slots[name.irp].used) {
+    if (csq_requests_use_of(requests, name.irp) != CSQ_REQUESTS_FREE) {
         code = csq_mark_cancel(&requests->pass, name, &found);
     }
     if (code == CSQ_OK && !found) {

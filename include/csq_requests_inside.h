@@ -6,11 +6,15 @@
 #error "csq_requests_inside.h is a part of csq_requests.h: include that"
 #endif
 
+/* Whether a request of an IRP is under way, and whether a cancel, a drain or a cleanup holds it,
+ * which is ending it. */
+enum csq_requests_use { CSQ_REQUESTS_FREE, CSQ_REQUESTS_UNDER_WAY, CSQ_REQUESTS_ENDING };
+
 /* What is known of an IRP. */
 struct csq_requests_slot {
     void *value;
     uint32_t file;
-    uint32_t used; /* 1 while a request of it is under way */
+    uint32_t use; /* of enum csq_requests_use */
 };
 
 /* What is known of a file object, and of all of them. */
@@ -45,6 +49,11 @@ static inline struct csq_requests_file *csq_requests_file_of(struct csq_requests
 
 static inline uint32_t csq_requests_knows(const struct csq_requests *requests, uint32_t file) {
     return file == CSQ_ANY || file < requests->size.files;
+}
+
+/* The use of an IRP, in whatever life; free if there is no such IRP. */
+static inline uint32_t csq_requests_use_of(const struct csq_requests *requests, uint32_t irp) {
+    return irp < requests->size.irps ? requests->slots[irp].use : (uint32_t)CSQ_REQUESTS_FREE;
 }
 
 /* When so many milliseconds are over; not looked at if nobody waits, or there is no limit. */
@@ -107,23 +116,26 @@ static inline void csq_requests_release(struct csq_requests *requests, struct cs
     } else { /* CSQ_LIVES_SPENT */
         requests->spent++;
     }
-    slot->used = 0;
+    slot->use = CSQ_REQUESTS_FREE;
     csq_requests_file_of(requests, slot->file)->under_way--;
     csq_requests_file_of(requests, CSQ_ANY)->under_way--;
     csq_requests_wake_drains(requests, slot->file);
 }
 
-/* Completes a request as cancelled that the pass holds, with the events. The mutex is held before and after. */
+/* Completes a request as cancelled that the pass holds, with the events. The mutex is held before
+ * and after. There is one pass for all, so it doesn't say who holds a request: while this call
+ * does, the slot says so. */
 static inline void *csq_requests_end_cancelled(struct csq_requests *requests, struct csq_irp name) {
     const struct csq_requests_events events = requests->events;
     void *value = requests->slots[name.irp].value;
     uint32_t code;
+    requests->slots[name.irp].use = CSQ_REQUESTS_ENDING;
     if (events.before_completion) {
         pthread_mutex_unlock(&requests->mutex);
         events.before_completion(events.context, name, value);
         pthread_mutex_lock(&requests->mutex);
     }
-    /* Never refused: the pass holds the IRP, and nobody else names it to a call that ends it. */
+    /* Never refused: the pass holds the IRP, and no other call ends what is ending. */
     code = csq_complete_cancelled(&requests->pass, name);
     (void)code;
     csq_requests_release(requests, name);
@@ -150,7 +162,7 @@ static inline uint32_t csq_requests_list(struct csq_requests *requests, void *va
     /* Never CSQ_CANCELLED: a cancel by the name of a free IRP is refused. */
     code = csq_insert(&requests->queue, &requests->pass, irp, file, front, name);
     if (code == CSQ_OK) {
-        struct csq_requests_slot slot = { value, file, 1 };
+        struct csq_requests_slot slot = { value, file, CSQ_REQUESTS_UNDER_WAY };
         requests->slots[irp] = slot;
         requests->free_first = (requests->free_first + 1) % requests->size.irps;
         requests->free_count--;

@@ -257,7 +257,7 @@ static struct pass *new_pass(struct queue *at) {
 
 uint32_t csq_take_pass(struct csq_queue *queue, struct csq_pass *pass) {
     struct queue *at = queue_in(queue);
-    if (!at) {
+    if (!at || queue->number == 0) {
         return CSQ_EMPTY_HANDLE;
     }
     if (pass->at) {

@@ -216,6 +216,42 @@ static void a_pass_is_known_by_the_number_of_its_queue(void) {
     end_pair(&pair);
 }
 
+static uint32_t bare_of(struct arguments a) { return csq_new_queue(a.queue, &small); }
+static uint32_t bare_limited_of(struct arguments a) {
+    return csq_new_queue_with_file_limits(a.queue, &small, one_limit, 1);
+}
+
+/* Whoever leaves the number out, as a binding may, has no queue whose passes are known: two such have one number, and
+ * each would take the other's passes. So such a queue hands none out, whatever else stands in the way. */
+static void refuse_a_pass_without_a_number(call make) {
+    struct csq_queue queue = CSQ_EMPTY;
+    struct csq_pass pass = CSQ_EMPTY;
+    struct arguments both = { &queue, &pass };
+    uint32_t out = UNWRITTEN;
+    IS(make(both), CSQ_OK);
+    IS(queue.number, 0);
+    IS(pass_of(both), CSQ_EMPTY_HANDLE);
+    CHECK(pass.at == NULL && pass.queue == 0);
+    IS(csq_count_passes_out(&queue, &out), CSQ_OK);
+    IS(out, 0);
+    queue.number = (uintptr_t)queue.at;
+    IS(pass_of(both), CSQ_OK);
+    queue.number = 0;
+    IS(pass_of(both), CSQ_EMPTY_HANDLE);
+    queue.number = (uintptr_t)queue.at;
+    IS(pass_of(both), CSQ_NOT_EMPTY);
+    IS(csq_give_back(&queue, &pass), CSQ_OK);
+    IS(csq_close(&queue), CSQ_OK);
+    queue.number = 0;
+    IS(pass_of(both), CSQ_EMPTY_HANDLE);
+    IS(csq_free(&queue), CSQ_OK);
+}
+
+static void a_queue_without_a_number_hands_out_no_pass(void) {
+    refuse_a_pass_without_a_number(bare_of);
+    refuse_a_pass_without_a_number(bare_limited_of);
+}
+
 /* A queue that stands where another was is another: its memory may be the same. */
 static void a_queue_made_after_another_is_another(void) {
     struct csq_queue queue = CSQ_EMPTY;
@@ -382,6 +418,7 @@ int main(void) {
     RUN(what_is_empty_is_freed_again);
     RUN(a_pass_of_another_queue_is_refused_before_anything_else);
     RUN(a_pass_is_known_by_the_number_of_its_queue);
+    RUN(a_queue_without_a_number_hands_out_no_pass);
     RUN(a_queue_made_after_another_is_another);
     RUN(a_closed_queue_refuses_every_other_call);
     RUN(what_takes_the_lock_itself_refuses_an_empty_queue);

@@ -147,9 +147,27 @@ fails_at_the_eleventh() {
 # from_a_clone ARGUMENT..: it is installed from a clone in a folder with a space.
 from_a_clone() {
   local clone="$work/a clone"
-  mkdir -p "$clone/bench" && cp -R "$top"/{c,include,iocsq} "$clone" && cp -R "$top/bench/c" "$clone/bench" &&
-    TMPDIR=$clone CSQ_KIT='' "$clone/c/install" "$work/from a clone" "$@" && listed "$work/from a clone"
+  mkdir "$clone" && (cd "$top" && cp -R --parents c include iocsq bench/c outside/cases crates/csq_program/src "$clone") &&
+    TMPDIR=$clone "$clone/c/install" "$work/from a clone" "$@" && listed "$work/from a clone"
 }
+
+# built_by_rt PREFIX VERDICT: c/install in that clone builds the library by a stand-in for the kit, which says this of it.
+built_by_rt() {
+  local clone="$work/a clone" stand_in=$work/stand_in
+  mkdir -p "$clone/crates/csq_c/out" "$stand_in"/{bin,c}
+  csq_plain_library "$top" "$work/built.a" "$CC" -O2 -fPIC && ar rc "$stand_in/c/liblibc_c.a" || return 1
+  cat >"$stand_in/bin/rt" <<END
+#!/bin/sh
+case \$1 in
+  lib) cp "$work/built.a" out/libcsq_c.a && echo "$2" ;;
+  version) echo "$kit" ;;
+esac
+END
+  chmod +x "$stand_in/bin/rt"
+  PATH="$stand_in/bin:$PATH" "$clone/c/install" "$1"
+}
+is_said_proved() { built_by_rt "$work/said" "logic=proved functions=1" && grep -xF "kit=$kit" "$work/said/lib/pkgconfig/csq.pc"; }
+is_not_installed() { ! built_by_rt "$work/not" "logic=refused" && [[ ! -e $work/not ]]; }
 
 # by_pkg_config PREFIX shared|static TEXT COMPILER FLAG.. SOURCE: the program is linked so, and writes this text.
 by_pkg_config() {
@@ -256,11 +274,40 @@ completes_words() (
       $(completed csqsim draw c) == csqsim ]]
 )
 
-# unknown ARCHIVE..: it isn't said that they are proved.
+# unknown ARCHIVE..: it isn't said that they are proved, whatever the environment has.
 unknown() {
-  "$top/c/install" "$work/unknown" "$@" && grep -x proved=no "$work/unknown/lib/pkgconfig/csq.pc" &&
+  CSQ_KIT="$kit" "$top/c/install" "$work/unknown" "$@" && grep -x proved=no "$work/unknown/lib/pkgconfig/csq.pc" &&
     [[ ! -e $work/unknown/bin ]]
 }
+
+# copy_to FOLDER ARCHIVE..: sets `copies` to copies of these archives there, which have no receipt.
+copy_to() {
+  local folder=$1
+  shift
+  mkdir "$folder" && cp "$@" "$folder"
+  copies=("${@##*/}")
+  copies=("${copies[@]/#/"$folder"/}")
+}
+
+# Only a receipt says that archives are proved, and only of its own: run_receipts ARCHIVE..
+run_receipts() {
+  local folder=$work/receipts copies
+  copy_to "$folder" "$@"
+  csq_plain_library "$top" "$folder/plain.a" "$CC" -O1 -fPIC
+  ar rc "$folder/empty.a"
+  expect "install: a plain archive under another name" unknown "$folder/plain.a"
+  expect "install: archives without a receipt" unknown "${copies[@]}"
+  expect "install: what isn't proved gets no receipt" gets_none "${copies[@]}"
+  csq_receipt "$kit" "logic=proved functions=1" "${copies[@]}"
+  expect "install: a receipt of fewer archives" unknown "${copies[@]}" "$folder/empty.a"
+  cp "$folder/plain.a" "${copies[0]}"
+  expect "install: a receipt of another archive" unknown "${copies[@]}"
+  csq_receipt "$kit" "logic=proved functions=1" "$folder/plain.a"
+  CSQSIM=$folder/empty.a expect "install: no csqsim" refused "no csqsim" "$work/none" "$folder/plain.a"
+  csq_receipt 'a "kit"' "logic=proved functions=1" "$folder/plain.a"
+  expect "install: no line of a kit" refused "not a kit's line" "$work/none" "$folder/plain.a"
+}
+gets_none() { ! csq_receipt "$kit" "logic=refused" "$@" && ! csq_receipt "$kit" "" "$@" && [[ ! -e $1.receipt ]]; }
 
 # refuses ERROR ARGUMENT..: c/install ends with the error of this name.
 refuses() { ! "$top/c/install" "${@:2}" 2>"$work/refusal" && grep "^c/install: $1: " "$work/refusal"; }
@@ -286,16 +333,19 @@ newer_than_its_sources() {
 # shellcheck disable=SC2016 # the parameters are that shell's
 program_of() { env -u CSQSIM bash -c 'source "$1/c/package.bash" && csq_program "$2"' run-tests "$top" "$1"; }
 
-# --help prints how each script is called, and nothing else.
+# helps SCRIPT: --help and -h print how it is called, and nothing else is done.
 helps() {
-  local script
-  for script in install dist; do
-    "$top/c/$script" --help >"$work/help" && grep -x " *c/$script .*--plain .*" "$work/help" && ! grep '^#\|pipefail' "$work/help"
+  local option
+  mkdir -p "$work/helped"
+  for option in --help -h; do
+    (cd "$work/helped" && "$top/$1" $option) >"$work/help" && grep "^ *$1 " "$work/help" &&
+      ! grep '^#\|pipefail\|shellcheck\|^[0-9]* passed' "$work/help" && [[ ! $(ls -A "$work/helped") ]] || return 1
   done
 }
 
 # What c/install refuses, before it leaves anything.
 run_refusals() {
+  local script
   csq_plain_library "$top" "$work/part.a" "$1" -O2 -fPIC
   mkdir -p "$work/taken/lib/libcsq.a"
   touch "$work/file"
@@ -304,18 +354,21 @@ run_refusals() {
   expect "install: prefix not writable" refused "prefix not writable" "$work/file/none" --plain
   expect "install: a folder in a file's place" refused "prefix not writable" "$work/taken" --plain
   expect "install: a prefix that csq.pc can't name" refused "not a prefix" "$work/\$none" --plain
-  expect "install and dist: --help" helps
+  for script in c/{install,dist,run-tests,instrumented,package/made} bench/c/{run,memory}; do
+    expect "$script: --help and -h" helps "$script"
+  done
   expect "install and dist: csqsim, if it is newer than its sources" newer_than_its_sources
   OBJCOPY=no-objcopy expect "install: no tool" refused "no tool" "$work/none" --plain
-  CSQ_KIT='a "kit"' expect "install: no line of a kit" refused "not a kit's line" "$work/none" "$work/part.a"
-  CSQSIM=$work/file expect "install: no csqsim" refused "no csqsim" "$work/none" "$work/part.a"
 }
 
-# What c/install makes of archives that a kit has proved: run_archives ARCHIVE..
+# What c/install makes of archives that a kit has proved, by their receipt: run_archives ARCHIVE..
 run_archives() {
-  local prefix="$work/the prefix"
+  local prefix="$work/the prefix" copies
+  copy_to "$work/proved" "$@"
+  csq_receipt "$kit" "logic=proved functions=1" "${copies[@]}"
+  set -- "${copies[@]}"
   expect "archives: c/install" "$top/c/install" "$prefix" "$@"
-  run_install archives "$prefix" "proved, by this kit: $CSQ_KIT" "$CSQ_KIT" "$@"
+  run_install archives "$prefix" "proved, by this kit: $kit" "$kit" "$@"
   if command -v mandoc man >/dev/null; then
     expect "install: the man pages" well_formed "$prefix"/share/man/man{3/csq,3/csq_requests,1/csqsim}.*
   else
@@ -327,18 +380,20 @@ run_archives() {
 run_install_script() {
   expect "install: nobody reads what it prints" unread
   run_refusals "$CC"
-  CSQ_KIT='' expect "install: archives of which no kit is known" unknown "$@"
+  run_receipts "$@"
   expect "install: --uninstall" removed "$work/removed" "$@"
   expect "install: all or nothing, a file refused" interrupted "$work/interrupted" true "$@"
   # shellcheck disable=SC2016 # the script's own process
   expect "install: all or nothing, ended" interrupted "$work/ended" 'kill -TERM $PPID' "$@"
   expect "install: from a clone in a folder with a space" from_a_clone "$@"
+  expect "install: what rt lib proves is said to be proved" is_said_proved
+  expect "install: what rt lib doesn't prove isn't installed" is_not_installed
 }
 
 # run_installs COMPILER ARCHIVE..: installs the plain C queue, as `installed`, and begins the tests of it, of these archives,
 # which are those that are tested, and of what refuses to be installed.
 run_installs() {
-  local tool file
+  local tool file kit="the kit of this test"
   local -x CC=$1
   shift
   for tool in ld objcopy ar nm readelf; do
@@ -349,10 +404,10 @@ run_installs() {
   for file in examples/{driver.c,server.c,load.c,load.h} tests/{header.c,header.cpp,CMakeLists.txt}; do
     sed -E 's|"(csq[a-z_]*\.h)"|<keuvatsi/\1>|' "$top/c/$file" >"$programs/${file##*/}"
   done
-  # A stand-in for csqsim, and a kit's line that --plain has no use for.
+  # A stand-in for csqsim.
   printf '#!/bin/sh\n' >"$programs/csqsim"
   chmod +x "$programs/csqsim"
-  local -x CSQSIM=$programs/csqsim CSQ_KIT="the kit of this test"
+  local -x CSQSIM=$programs/csqsim
   expect "plain: c/install" "$top/c/install" "$installed" --plain
   part run_install plain "$installed" "Nothing of it is proved" "" --plain
   part run_archives "$@"

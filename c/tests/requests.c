@@ -174,6 +174,75 @@ static void what_a_cancel_has_named_is_not_put_back(uint32_t list) {
     IS(csq_requests_free(&requests), CSQ_OK);
 }
 
+/* What a worker does by mistake that comes in the event of a request that is being ended, and what
+ * csq_requests_is_cancelled says then. */
+struct intruder {
+    struct csq_requests *requests;
+    uint32_t cancelled;
+    uint32_t comes;
+};
+
+static void come_in_between(void *context, struct csq_irp name, void *value) {
+    static const uint32_t statuses[] = { CSQ_STATUS_SUCCESS, CSQ_STATUS_PENDING,
+                                         CSQ_STATUS_CANCELLED };
+    struct intruder *intruder = context;
+    struct csq_requests *requests = intruder->requests;
+    struct csq_request late = { name, 0, value };
+    void *none = NULL;
+    for (int at = 0; at < 3; at++) {
+        IS(csq_requests_complete(requests, &late, statuses[at]), CSQ_NOT_HELD);
+        IS(csq_requests_put_back(requests, &late, (uint32_t)at % 2), CSQ_NOT_HELD);
+    }
+    IS(csq_requests_is_cancelled(requests, &late), intruder->cancelled);
+    IS(csq_requests_cancel(requests, name, &none), CSQ_NONE);
+    CHECK(!none);
+    IS(under_way(requests, 0), 1);
+    intruder->comes++;
+}
+
+/* The four calls that end a request which is listed. */
+static uint32_t end_by_cancel(struct csq_requests **requests, struct csq_irp name) {
+    void *value = NULL;
+    uint32_t code = csq_requests_cancel(*requests, name, &value);
+    IS(number_of(value), 1);
+    return code;
+}
+static uint32_t end_by_drain(struct csq_requests **requests, struct csq_irp name) {
+    (void)name;
+    return csq_requests_drain(*requests, 0, 0);
+}
+static uint32_t end_by_cleanup(struct csq_requests **requests, struct csq_irp name) {
+    (void)name;
+    return csq_requests_cleanup(*requests, 0, 0);
+}
+static uint32_t end_by_free(struct csq_requests **requests, struct csq_irp name) {
+    (void)name;
+    return csq_requests_free(requests);
+}
+
+static void what_is_being_ended_is_nobody_elses_to_end(uint32_t list) {
+    uint32_t (*const ends[])(struct csq_requests **, struct csq_irp) = {
+        end_by_cancel, end_by_drain, end_by_cleanup, end_by_free
+    };
+    for (int at = 0; at < 4; at++) {
+        struct intruder intruder = { NULL, ends[at] == end_by_cancel, 0 };
+        struct csq_requests_events events = { come_in_between, NULL, &intruder };
+        struct csq_requests *requests = intruder.requests = made(2, list, &events);
+        struct csq_irp name = submit(requests, 1, 0, 0);
+        struct csq_request late = { name, 0, NULL };
+        IS(ends[at](&requests, name), CSQ_OK);
+        IS(intruder.comes, 1);
+        if (!requests) {
+            continue;
+        }
+        IS(csq_requests_complete(requests, &late, CSQ_STATUS_CANCELLED), CSQ_NOT_HELD);
+        IS(csq_requests_is_cancelled(requests, &late), 0);
+        IS(csq_requests_drain(requests, 0, 0), CSQ_OK);
+        the_lengths_are(requests, CSQ_ANY, 0, 0);
+        IS(csq_requests_free(&requests), CSQ_OK);
+    }
+}
+
 static void a_drain_ends_what_is_listed(uint32_t list) {
     static const uint32_t drained[] = { 1, 101, 3, 103 };
     struct report report;
@@ -216,6 +285,102 @@ static void lives_end(uint32_t list) {
     IS(csq_requests_submit(requests, number(9), 0, 0, &name), CSQ_LIVES_SPENT);
     IS(csq_requests_cancel(requests, taken.name, &value), CSQ_STALE);
     IS(csq_requests_free(&requests), CSQ_OK);
+}
+
+/* Of a request that is over, also where its IRP has no next life. */
+static void what_is_over_is_not_cancelled(uint32_t list) {
+    struct csq_requests *requests = NULL;
+    struct csq_size size = size_of(1, 1, list);
+    struct csq_request taken;
+    void *value = NULL;
+    size.first_life = CSQ_LAST_LIFE - 1;
+    IS(csq_requests_new(&requests, &size, NULL, NULL), CSQ_OK);
+    for (int turn = 0; turn < 2; turn++) {
+        submit(requests, turn, 0, 0);
+        IS(next(requests, CSQ_ANY, &taken), (uint32_t)turn);
+        IS(csq_requests_cancel(requests, taken.name, &value), CSQ_NONE);
+        IS(csq_requests_is_cancelled(requests, &taken), 1);
+        IS(csq_requests_complete(requests, &taken, 0), CSQ_OK);
+        IS(csq_requests_is_cancelled(requests, &taken), 0);
+    }
+    taken.name.irp = 1;
+    IS(csq_requests_is_cancelled(requests, &taken), 0);
+    IS(csq_requests_free(&requests), CSQ_OK);
+}
+
+/* A queue in which a submit may be refused for several causes, and the first of them. It has two
+ * file objects, and the first may have one request listed. */
+struct causes {
+    uint32_t irps;
+    uint32_t limit;
+    uint32_t spent;       /* how many IRPs are past their last life */
+    uint32_t taken;       /* how many requests are taken, of the second file object */
+    uint32_t others;      /* how many are listed for it */
+    uint32_t listed;      /* and for the first */
+    uint32_t file_closed; /* 1 if a cleanup closed the first */
+    uint32_t closed;      /* 1 if the queue is closed */
+    uint32_t file;        /* for which the submit is */
+    uint32_t code;
+};
+
+/* Submits so many requests for the second file object, and takes each. Returns the last. */
+static struct csq_request take_some(struct csq_requests *requests, uint32_t count) {
+    struct csq_request taken = { { 0, 0 }, 0, NULL };
+    for (uint32_t at = 0; at < count; at++) {
+        submit(requests, 1, 1, 0);
+        IS(next(requests, 1, &taken), 1);
+    }
+    return taken;
+}
+
+static void refuse_by_the_first(const struct causes *row, uint32_t list) {
+    static const uint32_t limits[] = { 1, 2 };
+    struct csq_requests *requests = NULL;
+    struct csq_size size = size_of(row->irps, 2, list);
+    struct csq_request taken;
+    struct csq_irp name = { UNWRITTEN, UNWRITTEN };
+    size.limit = row->limit;
+    size.first_life = CSQ_LAST_LIFE;
+    IS(csq_requests_new(&requests, &size, row->irps == 1 ? NULL : limits, NULL), CSQ_OK);
+    taken = take_some(requests, row->spent + row->taken);
+    if (row->spent) {
+        IS(csq_requests_complete(requests, &taken, 0), CSQ_OK);
+    }
+    for (uint32_t at = 0; at < row->others + row->listed; at++) {
+        submit(requests, 2, at < row->others, 0);
+    }
+    if (row->file_closed) {
+        IS(csq_requests_cleanup(requests, 0, 0), CSQ_OK);
+    }
+    if (row->closed) {
+        csq_requests_close(requests);
+    }
+    IS(csq_requests_submit(requests, number(3), row->file, 0, &name), row->code);
+    IS(name.irp, UNWRITTEN);
+    if (row->taken) {
+        IS(csq_requests_complete(requests, &taken, 0), CSQ_OK);
+    }
+    IS(csq_requests_free(&requests), CSQ_OK);
+}
+
+/* Each cause beside the next one that can hold with it, in the order of the header's comment. */
+static void the_first_cause_of_a_refused_submit_is_told(uint32_t list) {
+    static const struct causes rows[] = {
+        /* irps, limit, spent, taken, others, listed, file_closed, closed, file, code */
+        { 2, 2, 0, 0, 0, 0, 0, 1, 2, CSQ_UNKNOWN_FILE },
+        { 2, 2, 0, 0, 0, 0, 0, 1, CSQ_ANY, CSQ_UNKNOWN_FILE },
+        { 1, 1, 1, 0, 0, 0, 0, 1, 0, CSQ_CLOSED },
+        { 1, 1, 0, 1, 0, 0, 0, 1, 0, CSQ_CLOSED },
+        { 1, 1, 1, 0, 0, 0, 1, 0, 0, CSQ_LIVES_SPENT },
+        { 1, 1, 0, 1, 0, 0, 1, 0, 0, CSQ_FULL },
+        { 1, 1, 0, 0, 0, 1, 0, 0, 0, CSQ_FULL },
+        { 2, 1, 0, 0, 1, 0, 1, 0, 0, CSQ_FILE_CLOSED },
+        { 2, 1, 0, 0, 0, 1, 0, 0, 0, CSQ_FILE_FULL },
+        { 2, 1, 0, 0, 1, 0, 0, 0, 0, CSQ_FULL },
+    };
+    for (size_t at = 0; at < sizeof rows / sizeof *rows; at++) {
+        refuse_by_the_first(&rows[at], list);
+    }
 }
 
 static uint32_t last_status(struct csq_requests *requests, struct csq_irp name) {
@@ -308,8 +473,11 @@ int main(void) {
     RUN_BOTH(a_cancel_gets_the_value_or_says_why_not);
     RUN_BOTH(what_is_put_back_keeps_its_name);
     RUN_BOTH(what_a_cancel_has_named_is_not_put_back);
+    RUN_BOTH(what_is_being_ended_is_nobody_elses_to_end);
     RUN_BOTH(a_drain_ends_what_is_listed);
     RUN_BOTH(lives_end);
+    RUN_BOTH(what_is_over_is_not_cancelled);
+    RUN_BOTH(the_first_cause_of_a_refused_submit_is_told);
     RUN_BOTH(each_way_ends_with_its_status);
     RUN_BOTH(irps_wear_evenly);
     RUN_BOTH(a_close_leaves_what_is_listed);

@@ -106,6 +106,28 @@ static void a_submit_wakes_one_who_waits_for_it(uint32_t list) {
     IS(csq_requests_free(&requests), CSQ_OK);
 }
 
+/* Of two that are listed before anybody has woken, one is for who waits for their file object, and
+ * one for who waits for any. */
+static void each_submit_wakes_another_one(uint32_t list) {
+    struct csq_requests *requests = made(4, list, NULL);
+    struct worker workers[2];
+    struct csq_irp name;
+    start(&workers[0], requests, CSQ_ANY);
+    start(&workers[1], requests, 1);
+    until_it_waits(requests, CSQ_ANY, 1);
+    until_it_waits(requests, 1, 1);
+    pthread_mutex_lock(&requests->mutex);
+    IS(csq_requests_list(requests, number(1), 1, 0, &name), CSQ_OK);
+    IS(csq_requests_list(requests, number(2), 1, 0, &name), CSQ_OK);
+    pthread_mutex_unlock(&requests->mutex);
+    for (int at = 0; at < 2; at++) {
+        IS((unsigned)pthread_join(workers[at].thread, NULL), 0);
+        IS(workers[at].code, CSQ_OK);
+    }
+    IS(workers[0].value + workers[1].value, 3);
+    IS(csq_requests_free(&requests), CSQ_OK);
+}
+
 /* For the one file object that it is of, and for any. */
 static void a_put_back_wakes_one_who_waits_for_it(uint32_t list) {
     struct csq_requests *requests = made(4, list, NULL);
@@ -152,6 +174,27 @@ static void each_of_several_drains_is_woken(uint32_t list) {
         end_of(&drains[at], CSQ_OK, 0);
     }
     IS(csq_requests_free(&requests), CSQ_OK);
+}
+
+static void a_drain_waits_after_a_close_too(uint32_t list) {
+    struct csq_requests *requests = made(2, list, NULL);
+    struct worker drain = { requests, 0, 0, 0, 0, 0, 0 };
+    struct csq_request taken;
+    submit(requests, 1, 0, 0);
+    IS(next(requests, 0, &taken), 1);
+    csq_requests_close(requests);
+    IS((unsigned)pthread_create(&drain.thread, NULL, drain_it, &drain), 0);
+    until_it_waits(requests, 0, 1);
+    IS(csq_requests_complete(requests, &taken, 0), CSQ_OK);
+    end_of(&drain, CSQ_OK, 0);
+    IS(csq_requests_free(&requests), CSQ_OK);
+}
+
+/* The end of a wait is a time: less than a second of nanoseconds, whatever the clock says now. */
+static void the_end_of_a_wait_is_a_time(void) {
+    for (uint32_t milliseconds = 1; milliseconds < 3000; milliseconds++) {
+        CHECK(csq_requests_end_of(milliseconds).tv_nsec < 1000000000);
+    }
 }
 
 /* Two requests are taken: one is put back and one completed, in this order or in the other. The drain is of their file
@@ -207,6 +250,57 @@ static void a_drain_waits_for_what_a_cancel_has_named(uint32_t list) {
     answered = 1;
     IS(csq_requests_complete(requests, &taken, CSQ_STATUS_CANCELLED), CSQ_OK);
     end_of(&drain, CSQ_OK, 0);
+    IS(csq_requests_free(&requests), CSQ_OK);
+}
+
+/* A worker that completes by mistake what it put back, while another thread is ending it. */
+struct late {
+    struct csq_requests *requests;
+    struct csq_request request;
+    atomic_uint is_ending, came;
+};
+
+static void until_it_is_set(const atomic_uint *flag) {
+    struct timespec start;
+    clock_gettime(CLOCK_MONOTONIC, &start);
+    while (!atomic_load(flag) && milliseconds_since(start) < LONG) {
+        sched_yield();
+    }
+    CHECK(atomic_load(flag));
+}
+
+static void let_it_come(void *context, struct csq_irp name, void *value) {
+    struct late *late = context;
+    (void)name;
+    (void)value;
+    late->is_ending = 1;
+    until_it_is_set(&late->came);
+}
+
+static void *come_late(void *of) {
+    struct late *late = of;
+    until_it_is_set(&late->is_ending);
+    IS(csq_requests_complete(late->requests, &late->request, CSQ_STATUS_CANCELLED), CSQ_NOT_HELD);
+    IS(csq_requests_put_back(late->requests, &late->request, 1), CSQ_NOT_HELD);
+    late->came = 1;
+    return NULL;
+}
+
+static void who_comes_late_spoils_nothing(uint32_t list) {
+    struct late late;
+    struct csq_requests_events events = { let_it_come, NULL, &late };
+    struct csq_requests *requests = late.requests = made(2, list, &events);
+    pthread_t thread;
+    late.is_ending = late.came = 0;
+    submit(requests, 1, 0, 0);
+    IS(next(requests, 0, &late.request), 1);
+    IS(csq_requests_put_back(requests, &late.request, 0), CSQ_OK);
+    IS((unsigned)pthread_create(&thread, NULL, come_late, &late), 0);
+    IS(csq_requests_drain(requests, 0, 0), CSQ_OK);
+    IS((unsigned)pthread_join(thread, NULL), 0);
+    IS(csq_requests_complete(requests, &late.request, CSQ_STATUS_CANCELLED), CSQ_NOT_HELD);
+    IS(under_way(requests, CSQ_ANY), 0);
+    IS(csq_requests_drain(requests, CSQ_ANY, 0), CSQ_OK);
     IS(csq_requests_free(&requests), CSQ_OK);
 }
 
@@ -296,9 +390,16 @@ static void comes_out(struct csq_irp name, const struct value *value, atomic_ulo
     ++*by;
 }
 
+/* What is over, or is being ended, ends for nobody who comes late by its name. */
+static void comes_late(struct csq_requests *requests, struct csq_irp name) {
+    struct csq_request late = { name, 0, NULL };
+    fault_unless(csq_requests_complete(requests, &late, CSQ_STATUS_CANCELLED) == CSQ_NOT_HELD);
+    fault_unless(csq_requests_put_back(requests, &late, 0) == CSQ_NOT_HELD);
+}
+
 static void count_drained(void *context, struct csq_irp name, void *value) {
-    (void)context;
     comes_out(name, value, &drained);
+    comes_late(*(struct csq_requests **)context, name);
 }
 
 /* Of a cancel too: its value comes by the event, and is the same that the call stores. */
@@ -343,15 +444,17 @@ static void *work(void *of) {
             comes_out(taken.name, taken.value, &served);
             fault_unless(csq_requests_complete(worker->requests, &taken, code == CSQ_CANCELLED ? CSQ_STATUS_CANCELLED
                                                                                                : 0) == CSQ_OK);
+            comes_late(worker->requests, taken.name);
         }
     }
     return NULL;
 }
 
 static void each_value_comes_out_once(uint32_t list) {
-    struct csq_requests_events events = { count_drained, NULL, NULL };
-    struct csq_requests *requests = made(16, list, &events);
+    struct csq_requests *requests = NULL;
+    struct csq_requests_events events = { count_drained, NULL, &requests };
     struct worker workers[SUBMITTERS + WORKERS];
+    requests = made(16, list, &events);
     memset(out, 0, sizeof out);
     served = cancelled = drained = faults = 0;
     for (uint32_t at = 0; at < SUBMITTERS + WORKERS; at++) {
@@ -384,9 +487,13 @@ int main(int count, char **words) {
         turns = strtoul(words[1], NULL, 10);
     }
     RUN_BOTH(a_submit_wakes_one_who_waits_for_it);
+    RUN_BOTH(each_submit_wakes_another_one);
     RUN_BOTH(a_put_back_wakes_one_who_waits_for_it);
     RUN_BOTH(a_drain_waits_for_what_is_taken_and_takes_what_is_put_back);
     RUN_BOTH(a_drain_waits_for_what_a_cancel_has_named);
+    RUN_BOTH(a_drain_waits_after_a_close_too);
+    RUN(the_end_of_a_wait_is_a_time);
+    RUN_BOTH(who_comes_late_spoils_nothing);
     RUN_BOTH(each_of_several_drains_is_woken);
     RUN_BOTH(who_runs_out_of_time_looks_once_more);
     RUN_BOTH(each_value_comes_out_once);

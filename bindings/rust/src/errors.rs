@@ -421,13 +421,13 @@ impl<T> From<Refused<T>> for SubmitError {
     }
 }
 
-/// No request comes any more: the queue was shut down, and none is listed.
+/// No request comes any more: the queue was shut down or dropped, and none is listed.
 #[derive(Clone, Copy, Debug, PartialEq, Eq, Hash)]
 pub struct RecvError;
 
 impl fmt::Display for RecvError {
     fn fmt(&self, f: &mut fmt::Formatter<'_>) -> fmt::Result {
-        f.write_str("the queue was shut down")
+        f.write_str("the queue was shut down or dropped")
     }
 }
 
@@ -439,13 +439,13 @@ impl Error for RecvError {}
 pub enum TryRecvError {
     /// None is listed that no canceller has.
     Empty,
-    /// None is listed, and the queue was shut down.
+    /// None is listed, and the queue was shut down or dropped.
     ShutDown,
 }
 
 refusal!(TryRecvError {
     Empty => "no request is listed",
-    ShutDown => "the queue was shut down",
+    ShutDown => "the queue was shut down or dropped",
 });
 
 /// Why no request is taken in a time.
@@ -454,13 +454,13 @@ refusal!(TryRecvError {
 pub enum RecvTimeoutError {
     /// None came in time.
     Timeout,
-    /// None is listed, and the queue was shut down.
+    /// None is listed, and the queue was shut down or dropped.
     ShutDown,
 }
 
 refusal!(RecvTimeoutError {
     Timeout => "no request came in time",
-    ShutDown => "the queue was shut down",
+    ShutDown => "the queue was shut down or dropped",
 });
 
 /// Why a cancel of a request got no value.

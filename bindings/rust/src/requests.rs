@@ -23,6 +23,7 @@ use crate::queue::Queue;
 use crate::words::Size;
 use slots::Slots;
 use std::fmt;
+use std::ops::Deref;
 use std::sync::atomic::{AtomicU64, Ordering};
 use std::sync::{Arc, MutexGuard};
 use std::task::Waker;
@@ -65,7 +66,26 @@ use std::task::Waker;
 /// [`OwnedRequest`] keeps its pass too.)
 ///
 /// A worker waits for the next request ([`RequestPass::recv`], [`RequestPass::recv_timeout`], [`RequestPass::iter`]), and
-/// a submit or a put-back wakes one who waits for it, until the queue is shut down ([`Requests::shutdown`]).
+/// a submit or a put-back wakes one who waits for it, until the queue is shut down ([`Requests::shutdown`]) or dropped.
+///
+/// Passes borrow nothing, so a queue may be dropped while threads wait through them. Then all are woken, and from then on
+/// nobody waits: what is listed is still taken, and where nothing is, a worker learns what it learns after a shutdown.
+/// Passes do the rest as before; only a shutdown refuses submits. So keep the queue for as long as workers are to wait.
+///
+/// ```
+/// # use csq::*;
+/// let queue = Requests::new(&Size::new(4, 2, 2))?;
+/// let pass = queue.owned_pass()?;
+/// let worker = std::thread::spawn({
+///     let pass = pass.clone();
+///     move || pass.recv(Peek::Any).map(|request| request.complete())
+/// });
+/// drop(queue);
+/// assert_eq!(worker.join().unwrap(), Err(RecvError));
+/// pass.submit("job", 0, Place::Back)?;
+/// assert_eq!(pass.recv(Peek::Any)?.complete(), "job");
+/// # Ok::<(), Box<dyn std::error::Error>>(())
+/// ```
 ///
 /// What crosses threads, where its values may (`T: Send`): the queue and an [`OwnedPass`] are shared by threads; these
 /// two, a [`RequestPass`] and an [`OwnedRequest`] go to others.
@@ -121,8 +141,27 @@ use std::task::Waker;
 ///
 /// [`SubmitError::LivesSpent`]: crate::SubmitError::LivesSpent
 pub struct Requests<T> {
-    queue: Queue,
+    queue: Kept,
     shared: Arc<Shared<T>>,
+}
+
+/// The queue of a queue of requests, which ends all waits where it is dropped. None once it was closed.
+struct Kept(Option<Queue>);
+
+impl Deref for Kept {
+    type Target = Queue;
+
+    fn deref(&self) -> &Queue {
+        self.0.as_ref().expect("the queue until its close")
+    }
+}
+
+impl Drop for Kept {
+    fn drop(&mut self) {
+        if let Some(queue) = &self.0 {
+            wake_those(queue.lock(), Waiting::end);
+        }
+    }
 }
 
 /// What a queue of requests and its passes share, beside the queue itself.
@@ -138,9 +177,9 @@ struct Entry<T> {
     file: u32,
 }
 
-/// Refuses each further submit, and wakes all who wait.
-fn shut_down(mut locked: MutexGuard<'_, Locked>) {
-    let wakers = locked.waiting.shut_down();
+/// Wakes those whom this takes out, once the lock is free.
+fn wake_those(mut locked: MutexGuard<'_, Locked>, taken: impl FnOnce(&mut Waiting) -> Vec<Waker>) {
+    let wakers = taken(&mut locked.waiting);
     drop(locked);
     wakers.into_iter().for_each(Waker::wake);
 }
@@ -195,7 +234,7 @@ impl<T> Requests<T> {
         static NAMES: AtomicU64 = AtomicU64::new(0);
         queue.lock().free = Free::new(size.irps);
         Requests {
-            queue,
+            queue: Kept(Some(queue)),
             shared: Arc::new(Shared {
                 slots: Slots::new(size.irps),
                 name: NAMES.fetch_add(1, Ordering::Relaxed),
@@ -323,7 +362,7 @@ impl<T> Requests<T> {
     /// # Ok::<(), Box<dyn std::error::Error>>(())
     /// ```
     pub fn shutdown(&self) {
-        shut_down(self.queue.lock());
+        wake_those(self.queue.lock(), Waiting::shut_down);
     }
 
     /// Closes the queue, once no pass is out, and hands over the values that are still listed, in the list's order. Those
@@ -343,10 +382,15 @@ impl<T> Requests<T> {
     /// # Ok::<(), Box<dyn std::error::Error>>(())
     /// ```
     pub fn close(self) -> Result<Vec<T>, PassesOut<Requests<T>>> {
-        let Requests { queue, shared } = self;
+        let Requests {
+            queue: mut kept,
+            shared,
+        } = self;
+        let queue = kept.0.take().expect("the queue until its close");
         let closed = match queue.close() {
             Ok(closed) => closed,
             Err(PassesOut { queue, out }) => {
+                let queue = Kept(Some(queue));
                 let queue = Requests { queue, shared };
                 return Err(PassesOut { queue, out });
             }

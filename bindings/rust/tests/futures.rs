@@ -102,6 +102,20 @@ fn a_task_waits_until_a_request_comes() {
 }
 
 #[test]
+fn a_drop_of_the_queue_wakes_tasks_too() {
+    let (queue, pass) = queue_of(4);
+    let mut task = Task::of(pass.recv_async(Peek::Any));
+    assert!(task.poll().is_pending());
+    drop(queue);
+    assert_eq!(task.wakes(), 1);
+    assert!(matches!(task.poll(), Poll::Ready(Err(RecvError))));
+    pass.submit(7, 0, Place::Back).unwrap();
+    let mut task = Task::of(pass.recv_async(Peek::Any));
+    assert_eq!(value(task.poll()), Some(7));
+    assert!(matches!(task.poll(), Poll::Ready(Err(RecvError))));
+}
+
+#[test]
 fn a_task_that_is_dropped_passes_its_wake_on() {
     let (_queue, pass) = queue_of(4);
     let mut tasks = [(); 4].map(|()| Task::of(pass.recv_async(Peek::Any)));
@@ -244,4 +258,52 @@ fn tasks_of_threads_take_each_value_once() {
     });
     let sum = u64::from(VALUES) * u64::from(VALUES + 1) / 2;
     assert_eq!(sums.iter().sum::<u64>(), sum);
+}
+
+/// A task that calls the queue as it is woken.
+struct Looks(OwnedPass<u32>);
+
+impl Wake for Looks {
+    fn wake(self: Arc<Self>) {
+        let _ = self.0.try_recv(Peek::Any);
+    }
+}
+
+#[test]
+fn a_task_may_call_the_queue_as_it_is_woken() {
+    let (queue, pass) = queue_of(1);
+    let waker = Waker::from(Arc::new(Looks(pass.clone())));
+    let mut next = Box::pin(pass.recv_async(Peek::Any));
+    let mut context = Context::from_waker(&waker);
+    assert!(next.as_mut().poll(&mut context).is_pending());
+    drop(queue);
+    assert!(next.as_mut().poll(&mut context).is_ready());
+}
+
+#[test]
+fn a_cancel_after_the_drop_of_the_queue_wakes_its_task() {
+    let (queue, pass) = queue_of(1);
+    let id = pass.submit(1, 0, Place::Back).unwrap();
+    let request = pass.recv(Peek::Any).unwrap();
+    let mut cancelled = Task::of(Box::pin(request.cancelled()));
+    assert!(cancelled.poll().is_pending());
+    drop(queue);
+    assert_eq!(pass.cancel(id), Err(Missed::Taken));
+    assert_eq!(cancelled.wakes(), 1);
+    assert!(cancelled.poll().is_ready());
+}
+
+#[test]
+fn the_future_of_a_completed_request_does_not_end_by_the_next_ones_cancel() {
+    let (_queue, pass) = queue_of(1);
+    pass.submit(1, 0, Place::Back).unwrap();
+    let request = pass.recv(Peek::Any).unwrap();
+    let mut cancelled = Task::of(Box::pin(request.cancelled()));
+    assert!(cancelled.poll().is_pending());
+    request.complete();
+    let next = pass.submit(2, 0, Place::Back).unwrap();
+    let again = pass.recv(Peek::Any).unwrap();
+    assert_eq!(pass.cancel(next), Err(Missed::Taken));
+    assert!(cancelled.poll().is_pending());
+    again.complete();
 }

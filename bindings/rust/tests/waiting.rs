@@ -133,6 +133,53 @@ fn a_shutdown_wakes_all_once_nothing_is_listed() {
     );
 }
 
+/// Passes outlive their queue, so a thread may wait while it is dropped. It is woken, and passes go on but for waiting.
+#[test]
+fn a_drop_of_the_queue_wakes_all_once_nothing_is_listed() {
+    let queue = queue_of(4, 2, 4);
+    let (pass, start) = (queue.pass().unwrap(), Instant::now());
+    let waiting = [0, 1, 0].map(|file| {
+        let pass = queue.pass().unwrap();
+        thread::spawn(move || {
+            let taken = pass.recv_timeout(Peek::File(file), LONG);
+            taken.map(Request::complete)
+        })
+    });
+    thread::sleep(SHORT);
+    pass.submit(5, 1, Place::Back).unwrap();
+    drop(queue);
+    let ends = waiting.map(|thread| thread.join().unwrap());
+    let ended = Err(RecvTimeoutError::ShutDown);
+    assert_eq!(ends, [ended, Ok(5), ended]);
+    assert!(start.elapsed() < LONG);
+    let id = pass.submit(6, 0, Place::Back).unwrap();
+    pass.submit(7, 1, Place::Back).unwrap();
+    assert_eq!(pass.recv(Peek::File(1)).unwrap().complete(), 7);
+    assert_eq!(pass.cancel(id), Ok(6));
+    assert_eq!(
+        pass.try_recv(Peek::Any).unwrap_err(),
+        TryRecvError::ShutDown
+    );
+    assert_eq!(pass.recv(Peek::Any).unwrap_err(), RecvError);
+    pass.shutdown();
+    let refused = pass.submit(8, 0, Place::Back).unwrap_err();
+    assert_eq!(refused.cause, SubmitError::ShutDown);
+}
+
+/// A close that is refused drops nothing: those who wait go on.
+#[test]
+fn a_refused_close_wakes_nobody() {
+    let queue = queue_of(1, 1, 2);
+    let (pass, other) = (queue.pass().unwrap(), queue.pass().unwrap());
+    let waiting = thread::spawn(move || other.recv(Peek::Any).map(Request::complete));
+    thread::sleep(SHORT);
+    let refused = queue.close().unwrap_err();
+    assert_eq!(refused.out, 2);
+    assert_eq!(pass.try_recv(Peek::Any).unwrap_err(), TryRecvError::Empty);
+    pass.submit(3, 0, Place::Back).unwrap();
+    assert_eq!(waiting.join().unwrap(), Ok(3));
+}
+
 #[test]
 fn what_is_under_way_at_a_shutdown_is_ended_as_ever() {
     let queue = queue_of(4, 1, 1);

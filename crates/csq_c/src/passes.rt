@@ -13,15 +13,18 @@ use crate::hold::{put, take};
 use std::alloc::Global;
 
 /// Hands out a pass, one that came back before a new one, under the caller's lock: CSQ_OK, else
-/// CSQ_EMPTY_HANDLE, CSQ_NOT_EMPTY, CSQ_CLOSED, CSQ_NO_PASS or CSQ_NO_MEMORY. Own rule.
+/// CSQ_EMPTY_HANDLE (also of a queue whose number is 0, which nobody has set yet), CSQ_NOT_EMPTY,
+/// CSQ_CLOSED, CSQ_NO_PASS or CSQ_NO_MEMORY. Own rule.
 #[unsafe(no_mangle)]
 pub extern "C" fn csq_take_pass(alloc: Global, queue: &mut CsqQueue, pass: &mut CsqPass) -> u32
-    ensures refused { IfSome (take_cause queue.old.boxed.body pass.old.boxed.body)
+    ensures numberless { queue.old.number ≡ 0 → result ≡ number_of Code.EmptyHandle }
+    ensures refused { 0 < queue.old.number → IfSome
+        (take_cause queue.old.boxed.body pass.old.boxed.body)
         (λ cause. result ≡ number_of cause) }
-    ensures none { IfSome (open_of queue.old.boxed.body)
+    ensures none { 0 < queue.old.number → IfSome (open_of queue.old.boxed.body)
         (λ q. pass.old.boxed.body ≡ None → ((result ≡ number_of Code.NoPass)
         ↔ ((q.left ≡ 0) × NoneIsIdle q.idle))) }
-    ensures cause { IfSome (open_of queue.old.boxed.body)
+    ensures cause { 0 < queue.old.number → IfSome (open_of queue.old.boxed.body)
         (λ q. pass.old.boxed.body ≡ None → (result ≡ number_of Code.Done)
         ⊎ ((result ≡ number_of Code.NoPass) ⊎ (result ≡ number_of Code.NoMemory))) }
     ensures made { result ≡ number_of Code.Done → (body body' : QueueBodyState)
@@ -32,6 +35,10 @@ pub extern "C" fn csq_take_pass(alloc: Global, queue: &mut CsqQueue, pass: &mut 
     ensures kept { 0 < result → AreHandlesKept queue.old queue.new pass.old pass.new }
 {
     lend!(body in queue);
+    // By its number a queue knows its passes, so one without a number has none.
+    if queue.number == 0 {
+        return Code::EmptyHandle.number();
+    }
     if pass.boxed.is_filled() {
         return Code::NotEmpty.number();
     }
@@ -39,7 +46,6 @@ pub extern "C" fn csq_take_pass(alloc: Global, queue: &mut CsqQueue, pass: &mut 
         Err(code) => code.number(),
         Ok(by) => {
             put(&mut pass.boxed, by);
-            // By this number a call knows a pass of another queue.
             pass.queue = queue.number;
             Code::Done.number()
         }

@@ -86,7 +86,7 @@ impl<T> OwnedPass<T> {
     ///
     /// # Errors
     ///
-    /// [`TryRecvError`]: none is listed; and then also the shutdown.
+    /// [`TryRecvError`]: none is listed; it says whether the queue was shut down or dropped.
     ///
     /// ```
     /// # use csq::*;
@@ -105,7 +105,7 @@ impl<T> OwnedPass<T> {
     ///
     /// # Errors
     ///
-    /// [`RecvError`]: the queue was shut down, and none is listed.
+    /// [`RecvError`]: the queue was shut down or dropped, and none is listed.
     ///
     /// # Panics
     ///
@@ -128,7 +128,7 @@ impl<T> OwnedPass<T> {
     ///
     /// # Errors
     ///
-    /// [`RecvTimeoutError`]: none came in time; or the queue was shut down, and none is listed.
+    /// [`RecvTimeoutError`]: none came in time; or the queue was shut down or dropped, and none is listed.
     ///
     /// # Panics
     ///
@@ -153,7 +153,7 @@ impl<T> OwnedPass<T> {
         Ok(self.request(self.seat().wait(peek, Some(limit))?))
     }
 
-    /// Takes one request after the other by [`OwnedPass::recv`], until the queue is shut down and has none for it.
+    /// Takes one request after the other by [`OwnedPass::recv`], until it returns an error.
     ///
     /// # Panics
     ///
@@ -357,7 +357,7 @@ impl<T> OwnedRequest<T> {
         self.taken.is_cancelled()
     }
 
-    /// Ends once a cancel has named the request ([`OwnedRequest::is_cancelled`]). Of one that is completed or put back
+    /// Ends once a cancel has named the request ([`OwnedRequest::is_cancelled`]). Of one that is completed
     /// before, it never ends.
     ///
     /// ```

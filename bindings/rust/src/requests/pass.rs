@@ -79,7 +79,7 @@ impl<T> RequestPass<T> {
     ///
     /// # Errors
     ///
-    /// [`TryRecvError`]: none is listed; and then also the shutdown.
+    /// [`TryRecvError`]: none is listed; it says whether the queue was shut down or dropped.
     ///
     /// ```
     /// # use csq::*;
@@ -96,11 +96,11 @@ impl<T> RequestPass<T> {
     }
 
     /// [`RequestPass::next`], and waits until there is one. Of a file object that was closed none comes: it waits for
-    /// the shutdown.
+    /// the shutdown or the drop.
     ///
     /// # Errors
     ///
-    /// [`RecvError`]: the queue was shut down, and none is listed.
+    /// [`RecvError`]: the queue was shut down or dropped, and none is listed.
     ///
     /// # Panics
     ///
@@ -123,7 +123,7 @@ impl<T> RequestPass<T> {
     ///
     /// # Errors
     ///
-    /// [`RecvTimeoutError`]: none came in time; or the queue was shut down, and none is listed.
+    /// [`RecvTimeoutError`]: none came in time; or the queue was shut down or dropped, and none is listed.
     ///
     /// # Panics
     ///
@@ -149,7 +149,7 @@ impl<T> RequestPass<T> {
         Ok(Request::of(self, taken))
     }
 
-    /// Takes one request after the other by [`RequestPass::recv`], until the queue is shut down and has none for it.
+    /// Takes one request after the other by [`RequestPass::recv`], until it returns an error.
     ///
     /// # Panics
     ///

@@ -122,14 +122,14 @@ impl<T> Seat<T> {
     pub(super) fn try_take(&self, peek: Peek) -> Result<(Held, T), TryRecvError> {
         let mut locked = self.lock();
         let taken = self.take(&mut locked, peek);
-        taken.ok_or(if locked.waiting.shut {
+        taken.ok_or(if locked.waiting.ended {
             TryRecvError::ShutDown
         } else {
             TryRecvError::Empty
         })
     }
 
-    /// Takes a match, or waits in the list with this waker, and the ticket names it there. None once the queue is shut down.
+    /// Takes a match, or waits in the list with this waker, and the ticket names it there. None once the queue is shut down or dropped.
     pub(super) fn poll_take(
         &self,
         peek: Peek,
@@ -141,7 +141,7 @@ impl<T> Seat<T> {
         let mut locked = self.lock();
         _stale = leave(&mut locked.waiting, peek, ticket);
         let taken = self.take(&mut locked, peek);
-        if taken.is_some() || locked.waiting.shut {
+        if taken.is_some() || locked.waiting.ended {
             return Poll::Ready(taken);
         }
         *ticket = Some(locked.waiting.add(peek, waker));
@@ -380,7 +380,7 @@ impl<T> Seat<T> {
 
     /// Refuses each further submit, and wakes all who wait.
     pub(super) fn shut_down(&self) {
-        super::shut_down(self.lock());
+        super::wake_those(self.lock(), Waiting::shut_down);
     }
 
     /// Whether a cancel named this request, in its life.
@@ -407,17 +407,19 @@ mod tests {
     use crate::requests::{RequestPass, Requests};
     use crate::words::{Size, LAST_LIFE};
 
-    fn pass_of(first_life: u32) -> RequestPass<u32> {
+    fn queue_and_pass(first_life: u32) -> (Requests<u32>, RequestPass<u32>) {
         let size = Size {
             first_life,
             ..Size::new(6, 2, 1)
         };
-        Requests::new(&size).unwrap().pass().unwrap()
+        let queue = Requests::new(&size).unwrap();
+        let pass = queue.pass().unwrap();
+        (queue, pass)
     }
 
     #[test]
     fn who_runs_out_of_time_takes_what_came_meanwhile() {
-        let pass = &pass_of(0);
+        let (_queue, pass) = &queue_and_pass(0);
         let (seat, mut ticket) = (pass.seat(), None);
         let waker = thread_waker();
         assert!(seat.poll_take(Peek::Any, &mut ticket, waker).is_pending());
@@ -448,7 +450,7 @@ mod tests {
     /// In the last life there is no next one, so the status stays.
     #[test]
     fn each_way_ends_with_its_status() {
-        let pass = &pass_of(LAST_LIFE);
+        let (_queue, pass) = &queue_and_pass(LAST_LIFE);
         let ids = [0; 6].map(|file| pass.submit(7, file, Place::Back).unwrap());
         let next = || pass.next(Peek::Any).unwrap();
         assert_eq!(next().complete(), 7);

@@ -28,8 +28,10 @@ pub(crate) struct Waiting {
     /// By the file object, or none for any.
     waiters: BTreeMap<(Option<u32>, Ticket), Waker>,
     tickets: u64,
-    /// Whether the queue was shut down.
+    /// Whether the queue was shut down, so that submits are refused.
     pub(crate) shut: bool,
+    /// Whether nobody waits any more, since the queue was shut down or dropped.
+    pub(crate) ended: bool,
     /// Those who wait for the cancel of an IRP that was taken.
     #[cfg(feature = "async")]
     watchers: BTreeMap<(Irp, Ticket), Waker>,
@@ -90,6 +92,12 @@ impl Waiting {
     /// Shuts the queue down, and takes all out.
     pub(crate) fn shut_down(&mut self) -> Vec<Waker> {
         self.shut = true;
+        self.end()
+    }
+
+    /// Ends all waits, and takes all out.
+    pub(crate) fn end(&mut self) -> Vec<Waker> {
+        self.ended = true;
         std::mem::take(&mut self.waiters).into_values().collect()
     }
 }
@@ -204,9 +212,17 @@ mod tests {
     #[test]
     fn a_shutdown_wakes_all() {
         let (mut waiting, waiters) = waiting_for([Peek::Any, Peek::File(7)]);
-        assert!(!waiting.shut);
+        assert!(!waiting.shut && !waiting.ended);
         waiting.shut_down().into_iter().for_each(Waker::wake);
-        assert!(waiting.shut);
+        assert!(waiting.shut && waiting.ended);
+        assert_eq!(wakes(&waiters), [1, 1]);
+    }
+
+    #[test]
+    fn an_end_wakes_all_and_refuses_nothing() {
+        let (mut waiting, waiters) = waiting_for([Peek::File(7), Peek::Any]);
+        waiting.end().into_iter().for_each(Waker::wake);
+        assert!(waiting.ended && !waiting.shut);
         assert_eq!(wakes(&waiters), [1, 1]);
     }
 }
