@@ -19,6 +19,11 @@ typedef struct _IOCSQ_POLICY {
     BOOLEAN AnyOrder;
     /* PeekContext null doesn't mean any IRP to this driver: the whole list can't be looked at. */
     BOOLEAN NoAudit;
+    /* CsqPeekNextIrp does more than return an IRP: it notes which one is next, say, or that none is
+     * and the device is idle. So iocsq calls it only where the framework does, and judges those
+     * calls. Otherwise it also calls it to look through the list, and at times to the last match
+     * before a removal. */
+    BOOLEAN PeekHasEffects;
     /* CsqCompleteCanceledIrp may return before the IRP is completed, which the driver does later. */
     BOOLEAN CompletesLater;
     /* What never happens in the queue, so that IocsqCoverage doesn't ask for it: nothing is inserted (a queue for what a
@@ -144,8 +149,9 @@ enum { IOCSQ_TESTED_NOTHING = 71 };
 
 /* A disagreement ends the program with this status, after its report on standard error. */
 enum { IOCSQ_DISAGREES = 70 };
-/* The end of a program that asked the driver what it need not understand, as a peek context of null: the policy has to
- * say so. */
+/* The end of a program where the driver is wrong, or its policy lacks something: iocsq asked the
+ * driver what it need not understand, as a peek context of null; or the driver peeks with a context
+ * that is no file object. */
 enum { IOCSQ_NO_POLICY = 72 };
 #ifdef __cplusplus
 }

@@ -151,6 +151,8 @@ struct iocsq_own {
     uintptr_t callback; /* the driver's that it called last, but for CsqPeekNextIrp; 0: none */
     uintptr_t blamed;   /* the callback that its report is about; 0: none */
     bool is_processor;
+    uint32_t removals;  /* of it before which iocsq might look ahead */
+    int report_status;  /* with which its report ends the program; 0: IOCSQ_DISAGREES */
     bool asks_alone; /* it is in an audit with null as peek context, and the driver itself has never used null */
 };
 extern _Thread_local struct iocsq_own iocsq_own;
@@ -304,6 +306,8 @@ void iocsq_let_go_of_device(const void *object);
 void iocsq_check_links_deleted(void);
 
 /* ---- search.c ---- */
+/* For the end of a report: says so if iocsq called CsqPeekNextIrp where the framework doesn't. */
+void iocsq_show_own_peeks(void);
 /* As the driver uses a bad address: if this thread is in a peek with null that only iocsq asks for, ends the program with
  * a report that the policy is missing. */
 void iocsq_ask_for_policy(void);

@@ -318,8 +318,19 @@ static bool take(struct iocsq_queue *q, struct iocsq_irp *answer) {
     return verdict == CSQ_REMOVE_AGREES;
 }
 
+/* What a peek context means is the policy's to say, unless it is null or a file object. */
+static void check_peek_context(const struct iocsq_queue *q, PVOID context) {
+    if (context && !q->policy.Match && iocsq_file_number(context) == IOCSQ_FILES) {
+        iocsq_own.report_status = IOCSQ_NO_POLICY;
+        iocsq_set_hint("  If the driver means it, the Match of its policy says what it means. Otherwise it isn't "
+                       "IoGetCurrentIrpStackLocation(Irp)->FileObject, but its FsContext, say.");
+        iocsq_disagree(NULL, "IoCsqRemoveNextIrp with a peek context that is no file object");
+    }
+}
+
 PIRP NTAPI IoCsqRemoveNextIrp(PIO_CSQ Csq, PVOID PeekContext) {
     struct iocsq_queue *q = iocsq_queue_of(Csq);
+    check_peek_context(q, PeekContext);
     q->calls++;
     struct held held = enter(q);
     struct iocsq_search s = { .q = q, .context = PeekContext, .when = "in IoCsqRemoveNextIrp" };

@@ -49,7 +49,8 @@ struct iocsq_search {
 };
 /* The driver's next answer, which agrees with the reference. Null: none. */
 struct iocsq_irp *iocsq_peek(struct iocsq_search *s);
-/* All of the driver's answers to peeks with this search's context, without their effect on it. */
+/* Now and then: all of the driver's answers to peeks with this search's context, without their
+ * effect on the search. Never if the policy says that peeks have effects on the driver. */
 void iocsq_look_ahead(const struct iocsq_search *of);
 /* Compares the driver's whole list, as peeks give it, with the reference's. */
 void iocsq_audit(struct iocsq_queue *q, const char *when);

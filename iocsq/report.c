@@ -166,6 +166,7 @@ static void show_history(const struct iocsq_irp *of) {
 void iocsq_show_last_calls(void) {
     fprintf(stderr, "  All calls, the last ones:\n");
     show(lines, next_line, LINES, SHOWN);
+    iocsq_show_own_peeks();
     fflush(stderr);
 }
 
@@ -191,7 +192,7 @@ void iocsq_disagree(const struct iocsq_irp *about, const char *format, ...) {
         iocsq_show_schedule(about);
     }
     iocsq_show_last_calls();
-    _exit(IOCSQ_DISAGREES);
+    _exit(iocsq_own.report_status ? iocsq_own.report_status : IOCSQ_DISAGREES);
 }
 
 void iocsq_fail(const char *format, ...) {

@@ -4,7 +4,24 @@
 
 #include <unistd.h>
 
-enum { AUDITED = 64 }; /* a longer list is looked through now and then alone */
+enum { AUDITED = 64 };  /* a longer list is looked through now and then alone */
+enum { LOOKED_IN = 16 }; /* of so many removals of a thread one is looked ahead of */
+
+static _Atomic bool has_own_peeks; /* iocsq called CsqPeekNextIrp where the framework doesn't */
+
+void iocsq_show_own_peeks(void) {
+    if (has_own_peeks) {
+        fprintf(stderr, "  iocsq itself called CsqPeekNextIrp too, where the framework does not. If a "
+                        "call of it does more than return an IRP, the driver's policy says "
+                        "PeekHasEffects.\n");
+    }
+}
+
+/* The address sanitizer calls this as it reports. */
+void __asan_on_error(void);
+void __asan_on_error(void) {
+    iocsq_show_own_peeks();
+}
 
 static bool matches(const struct iocsq_search *s, struct iocsq_irp *i) {
     if (s->q->policy.Match) {
@@ -35,9 +52,6 @@ static uint32_t start_of(const struct iocsq_search *s) {
 static struct iocsq_judgement judge_by_queue(const struct iocsq_search *s, uint32_t answer) {
     struct iocsq_judgement made = { CSQ_PEEK_SKIPS, IOCSQ_NONE };
     uint32_t start = start_of(s), file = s->context ? iocsq_file_number(s->context) : CSQ_ANY;
-    if (file == IOCSQ_FILES) {
-        iocsq_fail("a peek context that is no file object: IocsqSetPolicy says what such a one means");
-    }
     if (s->before == NULL || start != CSQ_ANY) {
         made.verdict = iocsq_reference_judge(&s->q->reference, start, file, answer, &made.skipped);
     } /* else the last answer has gone meanwhile, and no match can be named */
@@ -127,9 +141,17 @@ struct iocsq_irp *iocsq_peek(struct iocsq_search *s) {
     return answer;
 }
 
+/* All answers from the first on, which are judged. */
+static void peek_to_the_last(struct iocsq_search *s) {
+    has_own_peeks = true;
+    while (iocsq_peek(s)) {
+    }
+}
+
 void iocsq_audit(struct iocsq_queue *q, const char *when) {
     struct iocsq_search s = { .q = q, .when = when, .audits = true };
-    if (q->policy.NoAudit || (iocsq_reference_len(&q->reference) > AUDITED && !iocsq_rarely(16))) {
+    if (q->policy.NoAudit || q->policy.PeekHasEffects ||
+        (iocsq_reference_len(&q->reference) > AUDITED && !iocsq_rarely(16))) {
         return;
     }
     const char *hint = iocsq_own.hint;
@@ -139,25 +161,31 @@ void iocsq_audit(struct iocsq_queue *q, const char *when) {
         iocsq_set_hint("  iocsq asked with null as peek context, which the driver never does: if null doesn't mean any "
                        "IRP to it, its policy says NoAudit.");
     }
-    while (iocsq_peek(&s)) {
-    }
+    peek_to_the_last(&s);
     iocsq_own.asks_alone = false;
     iocsq_set_hint(hint);
 }
 
-/* The framework goes on from an answer that is a canceller's, which seldom happens: so all matches are looked at before. With
- * null as context the audit has done so as the lock was taken. */
+/* With null as context the audit has looked as the lock was taken. Nothing is drawn here, so that a
+ * seed's run is the same as without; in the bounded mode it would be a choice. */
+static bool may_look_ahead(const struct iocsq_search *of) {
+    const IOCSQ_POLICY *policy = &of->q->policy;
+    bool may = !policy->PeekHasEffects && (of->context || policy->NoAudit);
+    return may && (iocsq_is_bounded() || iocsq_own.removals++ % LOOKED_IN == 0);
+}
+
+/* The framework goes on only from an answer that is a canceller's, which seldom happens: so that a
+ * peek which goes on wrongly is seen, all matches are looked at before. */
 void iocsq_look_ahead(const struct iocsq_search *of) {
-    struct iocsq_search s = *of;
-    const char *hint = iocsq_own.hint;
-    if (!s.context && !s.q->policy.NoAudit) {
+    if (!may_look_ahead(of)) {
         return;
     }
+    struct iocsq_search s = *of;
+    const char *hint = iocsq_own.hint;
     s.ahead = true;
     iocsq_set_hint("  iocsq peeks at all matches first, each time after the last answer, as the framework does past an IRP "
                    "that a canceller has.");
-    while (iocsq_peek(&s)) {
-    }
+    peek_to_the_last(&s);
     iocsq_set_hint(hint);
 }
 

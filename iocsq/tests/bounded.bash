@@ -33,11 +33,12 @@ ends_with() {
   ((status == 0)) && tail -1 "$work/said" | grep -qxE "$line"
 }
 
-# Each schedule of some scenarios with at most one preemption, for each right driver; of each scenario for one of them.
+# Each schedule of some scenarios with at most one preemption, for each right driver, and for those of the usual ones whose
+# peeks have effects; of each scenario for one of them.
 # With the address sanitizer each run is a process of its own: the schedules are as many.
 run_bounded_right() {
   local driver program=$work/bounded count scenarios=$top/iocsq/scenarios
-  for driver in "${drivers[@]}"; do
+  for driver in "${drivers[@]}" usual/{current,idle}; do
     if ! TEST=bounded iocsq_build "$program" "$driver" 0 "${compilers[0]}" -O1 2>"$work/errors"; then
       fail "bounded, $driver: not compiled" "$work/errors"
     else
@@ -59,6 +60,16 @@ run_bounded_right() {
       expect "bounded: its report" ends_so "$sanitizer" "use-after-poison" "1 wrong$" "$program" 1 \
         "$scenarios/cancel-removal.txt"
   fi
+}
+
+# The rows of the table in docs/DRIVERS.md with fewer than 20,000 schedules: they are counted again.
+run_counts() {
+  local -a small
+  need gcc "the table of schedules" || return
+  awk '/^\| [a-z]+\/[a-z]+ \| 2 \| [0-9]+ \|$/ && $6 < 20000' "$top/docs/DRIVERS.md" >"$work/table"
+  mapfile -t small < <(awk '{ print $2 }' "$work/table")
+  expect "the schedules of ${#small[@]} drivers are as many as DRIVERS says" diff "$work/table" \
+    <("$top/iocsq/count-schedules" "${small[@]}")
 }
 
 # bounded_wrong PROGRAM SCENARIO PREEMPTIONS TEXT: a wrong driver's schedule with so many preemptions, and none with

@@ -42,6 +42,15 @@ ends_so() {
   ((status == want)) && grep -qE -- "$first" "$work/said" && grep -qE -- "$second" "$work/said"
 }
 
+# never_peeked COMMAND..: it disagrees, and its report doesn't say that iocsq itself has peeked.
+never_peeked() {
+  local status
+  { "$@"; } >"$work/said" 2>&1
+  status=$?
+  cat "$work/said"
+  ((status == disagrees)) && ! grep -qF "iocsq itself" "$work/said"
+}
+
 # Where a report comes from: the driver's lines, and those of what it did last where it isn't at work any more; the
 # history of an IRP whose last call was long ago; a bad address by either signal.
 run_places() {
@@ -56,6 +65,11 @@ run_places() {
   iocsq_build "$storm" drivers/priority 2 "$@" &&
     expect "places: the peek" ends_so "$disagrees" "^  at priority.c:[0-9]+, in (Write|Cleanup)$" \
       "^  the callback at priority.c:[0-9]+, in PeekRead$" "$storm" 6 3000 1 turns
+  iocsq_build "$storm" usual/idle 3 "$@" &&
+    expect "places: a wrong peek context" ends_so "$policy" "^  at idle.c:[0-9]+, in Cleanup$" \
+      "^  If the driver means it, the Match of its policy says what it means. Otherwise it isn't" "$storm" 6 3000 1 turns
+  iocsq_build "$storm" usual/current 1 "$@" &&
+    expect "places: no peek but the framework's, as the policy says" never_peeked "$storm" 6 3000 1 turns
   iocsq_build "$storm" drivers/filter 3 "$@" &&
     expect "places: a bad address" ends_so 139 "^iocsq: t[0-9]+: the driver used a bad address$" \
       "^  (called by|at) filter.c:[0-9]+, in PassOn$" "$storm" 6 3000 1 turns

@@ -4,7 +4,8 @@
  *     storm THREADS TURNS SEED turns [SWITCHES]   one runs at a time, as the seed draws; at most so many switches
  *
  * It ends with status 0, with 70 after a report (IOCSQ_DISAGREES), and with 71 where something never happened without
- * which the run says nothing of the driver's queue (IOCSQ_TESTED_NOTHING). 72: a policy is missing (IOCSQ_NO_POLICY).
+ * which the run says nothing of the driver's queue (IOCSQ_TESTED_NOTHING). 72: a policy is missing, or a
+ * peek context isn't what it says (IOCSQ_NO_POLICY).
  * 2: an argument is wrong.
  */
 #include "program.h"
