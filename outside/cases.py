@@ -9,7 +9,7 @@ case without `rows` is one row. The keys:
     last            a further word, which need not be text
     files           files that lie where the program runs, by name
     stdin           "fails": an input that can't be read
-    stdout, stderr  "full": a device that takes nothing
+    stdout, stderr  "full": a device that takes nothing; stdout also "closed": a pipe that nobody reads
     input           the input, empty unless it is given
     output, errors  what the program writes, whole; nothing unless it is given, or one of the next is
     output-start, output-parts, output-end, errors-start, errors-parts
@@ -35,8 +35,8 @@ TYPES = {'words': TEXT, 'over': str, 'slowly': bool, 'last': TEXT, 'files': dict
          'stderr': str, 'input': TEXT, 'output': TEXT, 'output-start': TEXT, 'output-parts': TEXT, 'output-end': TEXT,
          'errors': TEXT, 'errors-start': TEXT, 'errors-parts': TEXT, 'counts': dict, 'status': int}
 
-# The one value of each of these keys.
-VALUES = {'over': 'both lists', 'slowly': True, 'stdin': 'fails', 'stdout': 'full', 'stderr': 'full'}
+# The values of each of these keys.
+VALUES = {'over': ['both lists'], 'slowly': [True], 'stdin': ['fails'], 'stdout': ['full', 'closed'], 'stderr': ['full']}
 
 
 class Case:
@@ -45,7 +45,7 @@ class Case:
     def __init__(self, name, keys, texts):
         self.name, self.keys, self.texts = name, keys, texts
         for key, value in keys.items():
-            if not isinstance(value, TYPES.get(key, ())) or value != VALUES.get(key, value):
+            if not isinstance(value, TYPES.get(key, ())) or value not in VALUES.get(key, [value]):
                 raise Trouble(f'{name}: a case has no {key} = {value!r}')
         # (no word at all is a command line too, but a list of none would run nothing)
         if keys.get('words', []) == []:
@@ -101,8 +101,12 @@ class Case:
             folder = opened.enter_context(tempfile.TemporaryDirectory(dir=program.folder))
             for name, text in self.keys.get('files', {}).items():
                 pathlib.Path(folder, name).write_bytes(self.text(text))
-            full = [key for key in ('stdout', 'stderr') if key in self.keys]
+            full = [key for key in ('stdout', 'stderr') if self.keys.get(key) == 'full']
             streams = {key: opened.enter_context(open('/dev/full', 'wb')) for key in full}
+            if self.keys.get('stdout') == 'closed':
+                reader, streams['stdout'] = os.pipe()
+                os.close(reader)
+                opened.callback(os.close, streams['stdout'])
             if 'stdin' in self.keys:
                 # A folder can be opened, but not read.
                 streams['stdin'] = os.open(folder, os.O_RDONLY)

@@ -7,7 +7,7 @@ import measures
 import refusals
 from measures import KINDS, wrong_block, wrong_races, wrong_start, wrong_sums, wrong_time, wrong_totals
 from program import Ended
-from refusals import NO_MEMORY, NO_THREAD, ONE_RUN, wrong_memory, wrong_reads, wrong_slowly, wrong_threads, wrong_writes
+from refusals import NO_MEMORY, NO_READ, NO_THREAD, NO_WRITE, ONE_RUN, wrong_memory, wrong_reads, wrong_slowly, wrong_threads, wrong_writes
 
 # The totals of a run.
 TEXT = b'''irps 64
@@ -67,7 +67,7 @@ def writes(last):
     """A program that reports each write that fails, up to the last."""
     def answer(settings):
         at = int(settings.get('FAIL_WRITE', last + 1))
-        return (Ended(ONE_RUN[:at], b'csqsim: write failed\n', 1) if at <= last else Ended(ONE_RUN, b'', 0)), b''
+        return (Ended(ONE_RUN[:at], NO_WRITE, 1) if at <= last else Ended(ONE_RUN, b'', 0)), b''
     return ends(answer)
 
 
@@ -122,7 +122,7 @@ def wrong_ends():
     yield 'one thread more', wrong_threads(up_to(7, NO_THREAD, 'REFUSE_THREAD'), ['run'], 7, {})
     yield 'memory that is never refused', wrong_memory(always(ONE_RUN, reported=b''), ['run'], b'', 0, {})
     yield 'memory that is reported otherwise', wrong_memory(up_to(3, NO_MEMORY, 'REFUSE_AT'), ['schedule'], b'', 5, {})
-    yield 'reads that are not reported', wrong_reads(always(b'all'), [], b'p1 end\n', b'csqsim: read failed\n')
+    yield 'reads that are not reported', wrong_reads(always(b'all'), [], b'p1 end\n', NO_READ)
     slow = ends(lambda settings: (Ended(b'half' if 'INTERRUPTED' in settings else b'whole', b'', 0), b''))
     yield 'an answer that is cut', wrong_slowly(slow, [], b'')
 

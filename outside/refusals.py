@@ -122,12 +122,21 @@ def wrong_slowly(program, words, data):
             yield f'{settings}: {got}'
 
 
+# Why standard input can't be read.
+NO_READ = b'csqsim: read failed: Input/output error (os error 5)\n'
+
+
 def wrong_reads(program, words, data, errors, descriptor='0'):
     """Lets the read after each number of bytes fail, of this descriptor."""
     for at in range(len(data) + 1):
         got, _ = program.run(words, data, 'slow_io', FAIL_READ=str(at), READS=descriptor)
         if got != Ended(b'', errors, 1):
             yield f'the read after {at} bytes fails: {got}'
+
+
+# Why a write fails, and why one that takes nothing does.
+NO_WRITE = b'csqsim: write failed: Input/output error (os error 5)\n'
+NOTHING_TAKEN = b'csqsim: write failed: failed to write whole buffer\n'
 
 
 def wrong_writes(program, words, data, settings):
@@ -137,7 +146,8 @@ def wrong_writes(program, words, data, settings):
         yield f'nothing is written: {plain}'
     for at in range(len(ONE_RUN) if '--totals' in words else len(plain.output)):
         got, _ = program.run(words, data, 'slow_io', FAIL_WRITE=str(at), **settings)
-        if got != Ended(plain.output[:at], b'csqsim: write failed\n', 1):
+        why = NOTHING_TAKEN if 'TAKES_NOTHING' in settings else NO_WRITE
+        if got != Ended(plain.output[:at], why, 1):
             yield f'the write after {at} bytes fails: {got}'
 
 
@@ -146,11 +156,11 @@ def test_bytes(program, results):
     for words, data in BYTES:
         name = f'{program.name}: bytes: {" ".join(words)}'
         results.test(f'{name}: one at a time', wrong_slowly, program, words, data)
-        results.test(f'{name}: each read fails', wrong_reads, program, words, data, b'csqsim: read failed\n')
+        results.test(f'{name}: each read fails', wrong_reads, program, words, data, NO_READ)
         results.test(f'{name}: each write fails', wrong_writes, program, words, data, {})
         results.test(f'{name}: each write takes nothing', wrong_writes, program, words, data, {'TAKES_NOTHING': '1'})
     name = f'{program.name}: bytes: draw: each read fails'
-    results.test(name, wrong_reads, program, ['draw'], SCHEDULE, b'csqsim: read failed\n')
+    results.test(name, wrong_reads, program, ['draw'], SCHEDULE, NO_READ)
 
 
 def test_files(program, results):

@@ -1,9 +1,9 @@
 -- The words of a line, one after the other.
 use Rattle.std.proofs.Common.{◌≡◌, ℕ, zero, suc, ◌+◌, ◌-◌, ◌<◌, ◌≤◌, ◌^◌, Bool, true, false, List, [], ◌∷◌, take, drop, length, refl, ap, sym, ◌∙◌, subst, arith, Option, Some, None, add-one, length-append}
-use Rattle.std.specs.Option.{option_map, option_map_or}
+use Rattle.std.specs.Option.{option_map}
 use Rattle.std.proofs.lemmas.List.{take_all}
 use Rattle.std.proofs.lemmas.List.Splits.{length-slice_split, join_with_byte-slice_split}
-use Rattle.csq_diagnose.proofs.Imports.{slice_get, slice_index_or, is_some, is_none, not, IfSome, IfNone, MatchOption, ◌==◌, Bor, join_with_byte, words_of, Expected, Admits, Fit, expected_at, StandsThere, IsEnd, IsFirstMisfit, column_of}
+use Rattle.csq_diagnose.proofs.Imports.{slice_get, slice_index_or, is_some, is_none, not, IfSome, IfNone, MatchOption, ◌==◌, Bor, join_with_byte, words_of, Expected, Admits, Fit, expected_at, StandsThere, IsEnd, IsFirstMisfit, column_of, words_after}
 use Rattle.csq_diagnose.specs.declared.misfit.Misfit.{Misfit}
 
 -- one word more fits
@@ -36,9 +36,15 @@ length_left zero (x ∷ ws) e = absurd cc
 length_left (suc n) [] e = omega arith
 length_left (suc n) (x ∷ ws) e = let le = length_left n ws e in omega (arith, le)
 
--- the words after the first of a text
-abbrev pub words_after : Option (Bor (List ℕ)) → List (List ℕ)
-words_after after = option_map_or (λ (rest : Bor (List ℕ)). words_of rest.now) after []
+-- where nothing is left, nothing is left after one more
+none_after_more : (n : ℕ) (ws : List (List ℕ)) → drop n ws ≡ [] → drop (suc n) ws ≡ []
+none_after_more zero [] e = refl
+none_after_more zero (x ∷ ws) e = absurd cc
+none_after_more (suc n) [] e = refl
+none_after_more (suc n) (x ∷ ws) e = none_after_more n ws e
+
+pub none_left_after : (n : ℕ) (ws : List (List ℕ)) → drop n ws ≡ [] → drop (n + 1) ws ≡ []
+none_left_after n ws e = ap (λ k. drop k ws) (add-one n) ∙ none_after_more n ws e
 
 has_word : (ps : List (List ℕ)) → 1 ≤ length ps → is_none (slice_get ps 0) ≡ false
 has_word [] le = absurd (omega (arith, le))

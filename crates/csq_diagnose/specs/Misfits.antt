@@ -1,7 +1,8 @@
 -- Where a line is no step, or no call.
-use Rattle.std.specs.Prelude.{◌≡◌, ◌↔◌, ℕ, ◌+◌, ◌-◌, ◌^◌, ◌<◌, ◌≤◌, List, [], ◌∷◌, ◌++◌, take, drop, length, None, slice_get, is_none, IfSome, IfNone}
+use Rattle.std.specs.Prelude.{◌≡◌, ◌↔◌, ℕ, ◌+◌, ◌-◌, ◌^◌, ◌<◌, ◌≤◌, List, [], ◌∷◌, ◌++◌, take, drop, length, None, slice_get, is_none, Option, IfSome, IfNone}
 use Rattle.std.specs.List.{join_with_byte}
-use Rattle.std.specs.Option.{option_map}
+use Rattle.std.specs.Borrow.{Bor}
+use Rattle.std.specs.Option.{option_map, option_map_or}
 use Rattle.csq_replay.specs.Pieces.{words_of}
 use Rattle.csq_diagnose.specs.declared.expected.Expected.{Expected}
 use Rattle.csq_diagnose.specs.declared.grammar.Grammar.{Grammar}
@@ -12,6 +13,10 @@ use Rattle.csq_diagnose.specs.Grammars.{Fit, expected_at, MayBegin}
 -- the column of the text that is left of a line, from 1 on
 abbrev pub column_of : List ℕ → List (List ℕ) → ℕ
 column_of line left = length line - length (join_with_byte 32 left) + 1
+
+-- the words of what is left of a line, if anything is
+abbrev pub words_after : Option (Bor (List ℕ)) → List (List ℕ)
+words_after left = option_map_or (λ (text : Bor (List ℕ)). words_of text.now) left []
 
 -- what stands in the place of a misfit: a word, of which it is said whether it is the last, or the end of the line
 pub record StandsThere (line : List ℕ) (m : Misfit) : Type 0 where

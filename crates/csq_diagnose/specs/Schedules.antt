@@ -8,7 +8,6 @@ use Rattle.irp_core.specs.declared.step.Step.{Step}
 use Rattle.csq_replay.specs.Outcomes.{ComesTo}
 use Rattle.csq_replay.specs.StepLine.{IsStepLine}
 use Rattle.csq_replay.specs.Schedule.{Numbered, run_of, grown}
-use Rattle.csq_explain.specs.Passes.{all_passes}
 use Rattle.csq_explain.specs.Reasons.{reason_of}
 use Rattle.csq_explain.specs.declared.reasons.Reason.{Reason}
 use Rattle.csq_explain.specs.Executions.{StopsFor}
@@ -19,13 +18,13 @@ use Rattle.csq_diagnose.specs.declared.grammar.Grammar.TheVariants.{Schedule}
 use Rattle.csq_diagnose.specs.declared.malformed.Malformed.{Malformed}
 use Rattle.csq_diagnose.specs.Malforms.{IsMalformed}
 use Rattle.csq_diagnose.specs.LineTexts.{long_text, fault_lines}
-use Rattle.csq_diagnose.specs.RefusedTexts.{cure_of, refused_text}
+use Rattle.csq_diagnose.specs.RefusedTexts.{refused_lines}
 
 -- the nth line ends the handling for this reason, and is reported so
 abbrev pub IsReportedStop : ℕ → List ℕ → Reason → Stop → List ℕ → Type 0
 IsReportedStop n line reason TooLong text = text ≡ long_text n (length line) ++ codes "\n"
 IsReportedStop n line reason NoStep text = (fault : Malformed) × IsMalformed Schedule line fault × (text ≡ fault_lines n line fault)
-IsReportedStop n line reason (Refused s cause) text = text ≡ refused_text n s reason (cure_of s reason.stop) ++ codes "\n"
+IsReportedStop n line reason (Refused s cause) text = text ≡ refused_lines n line s cause reason
 
 -- so it is reported, if a line that is malformed names no step
 abbrev pub ReportsReason : Reason → ℕ → List ℕ → List ℕ → Type 0
@@ -33,7 +32,7 @@ ReportsReason reason n line text = (reason.stop ≡ NoStep → (s : Step) → ¬
 
 -- after the steps W this is reported for the nth line, of which this came
 abbrev pub IsReportedOutcome : Size → List Numbered → ℕ → List ℕ → Outcome → List ℕ → Type 0
-IsReportedOutcome size W n line (Stopped stop) text = IsReportedStop n line (reason_of size (all_passes size W) stop) stop text
+IsReportedOutcome size W n line (Stopped stop) text = IsReportedStop n line (reason_of size W stop) stop text
 IsReportedOutcome size W n line _ text = text ≡ []
 
 -- after the steps W the nth line is reported so, by what comes of it, which W grows by
@@ -46,7 +45,7 @@ IsScheduleDiagnosis size = IsAnswer (DiagnosesStep size) (λ W text. text ≡ []
 
 -- a schedule that may break the protocol is followed so, with its diagnosis
 abbrev pub IsWrongReport : {A : Type 0} → Size → List ℕ → Report A → Type 0
-IsWrongReport size = IsReportUntil (WrongLine size) (λ d. StopsFor size d.own) WrongCloses ReportsReason new_wrong
+IsWrongReport size = IsReportUntil (WrongLine size) (λ d. StopsFor size d.own) (WrongCloses size) ReportsReason new_wrong
 
 -- of a reader and a writer whose bytes are known: a schedule was read, and its diagnosis was written
 abbrev pub DiagnosesSchedule : Size → Option (List ℕ) → Option (List ℕ) → Option (List ℕ) → Option (List ℕ) → Ended → Type 0

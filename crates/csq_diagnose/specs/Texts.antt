@@ -1,10 +1,12 @@
 -- Diagnoses in words.
-use Rattle.std.specs.Prelude.{ℕ, ◌/◌, max, ◌==◌, ◌&&◌, nat_le, nat_lt, Bool, true, false, List, [], ◌∷◌, ◌++◌, length, codes, decimal, Option, Some, None, if◌then◌else◌}
+use Rattle.std.specs.Prelude.{ℕ, ◌/◌, max, ◌==◌, ◌&&◌, ◌||◌, not, nat_le, nat_lt, Bool, true, false, List, [], ◌∷◌, ◌++◌, length, codes, decimal, Option, Some, None, if◌then◌else◌}
 use Rattle.std.specs.List.{list_all}
 use Rattle.std.specs.Str.{bytes_eq}
+use Rattle.csq_replay.specs.Pieces.{pieces}
 use Rattle.csq_explain.specs.Words.{step_words, call_words, listed}
 use Rattle.csq_diagnose.specs.declared.expected.Expected.{Expected, TheVariants.{Pass, Step, ScriptCall, IrpInLife, Irp, File, Peek, Place, Status, Nothing}}
 use Rattle.csq_diagnose.specs.Expecting.{is_call_word, place_words}
+use Rattle.csq_diagnose.specs.Grammars.{first_word, second_word}
 use Rattle.csq_diagnose.specs.declared.found.Found.{Found, TheVariants.{End, FirstSpace, TwoSpaces, LastSpace, Byte, Word}}
 use Rattle.csq_diagnose.specs.declared.malformed.Malformed.{Malformed}
 use Rattle.csq_diagnose.specs.declared.nearest.Near.{Near}
@@ -35,13 +37,13 @@ rule_text Place = codes "a place is " ++ listed 0 place_words
 rule_text Status = codes "a status is eight hexadecimal digits, as C0000120"
 rule_text Nothing = codes "the line may end before it"
 
--- a byte that no word has
-abbrev pub strange_text : ℕ → List ℕ
-strange_text byte =
+-- a byte that no word has, the first of the input or not
+abbrev pub strange_text : ℕ → Bool → List ℕ
+strange_text byte first =
     if byte == 13 then codes "a carriage return: a line ends in a line feed alone, so save the file with LF"
     else if byte == 9 then codes "a tab: words are separated by one space"
-    else if byte == 239 then codes "byte 239 is above 127, as of a byte order mark: save the file without one"
-    else if nat_le 254 byte then codes "byte " ++ (decimal byte ++ codes " is above 127, as of UTF-16: save the file as ASCII")
+    else if byte == 239 && first then codes "byte 239 is above 127, as of a byte order mark: save the file without one"
+    else if nat_le 254 byte && first then codes "byte " ++ (decimal byte ++ codes " is above 127, as of UTF-16: save the file as ASCII")
     else if nat_le 128 byte then codes "byte " ++ (decimal byte ++ codes " is above 127: words are of ASCII letters and digits")
     else codes "byte " ++ (decimal byte ++ codes " is no letter, digit or sign")
 
@@ -81,14 +83,41 @@ abbrev pub begins_with_zero : List ℕ → Bool
 begins_with_zero (first ∷ second ∷ more) = first == 48
 begins_with_zero _ = false
 
--- which rule a word breaks, by whether it is of digits, is too long and begins with a zero
-abbrev pub broken_rule : Bool → Bool → Bool → List ℕ
-broken_rule true true zero = codes "\n  a number has at most nine digits"
-broken_rule true false true = codes "\n  a number has no zero in front"
-broken_rule _ _ _ = codes ""
+-- it begins as a number does, with or without a sign
+abbrev pub begins_as_number : List ℕ → Bool
+begins_as_number [] = false
+begins_as_number (first ∷ more) = is_digit first || (first == 45 || first == 43)
+
+-- which rule of numbers a word breaks, by whether it is of digits, is too long, begins with a zero and begins as a number does
+abbrev pub broken_rule : Bool → Bool → Bool → Bool → List ℕ
+broken_rule true true zero begins = codes "\n  a number has at most nine digits"
+broken_rule true false true begins = codes "\n  a number has no zero in front"
+broken_rule false long zero true = codes "\n  a number is of decimal digits"
+broken_rule _ _ _ _ = codes ""
 
 abbrev pub number_rule_text : List ℕ → List ℕ
-number_rule_text word = broken_rule (list_all is_digit word) (nat_lt 9 (length word)) (begins_with_zero word)
+number_rule_text word = broken_rule (list_all is_digit word) (nat_lt 9 (length word)) (begins_with_zero word) (begins_as_number word)
+
+abbrev pub keeps_rules : List ℕ → Bool
+keeps_rules word = list_all is_digit word && (nat_le (length word) 9 && not (begins_with_zero word))
+
+-- what stands after the letter of a pass
+abbrev pub after_letter : List ℕ → List ℕ
+after_letter [] = []
+after_letter (letter ∷ number) = if letter == 112 then number else []
+
+-- the number of an IRP in one of its lives, and that of the life if the IRP's is one
+abbrev pub wrong_in_life : List ℕ → List ℕ
+wrong_in_life word = if keeps_rules (first_word (pieces 64 word)) then second_word (pieces 64 word) else first_word (pieces 64 word)
+
+-- which part of a word has to be a number
+abbrev pub number_in : Expected → List ℕ → List ℕ
+number_in Pass word = after_letter word
+number_in IrpInLife word = wrong_in_life word
+number_in Irp word = word
+number_in File word = word
+number_in Peek word = word
+number_in e word = []
 
 -- the word begins with the letter p and a digit, as a pass does
 abbrev pub begins_a_step : List ℕ → Bool
@@ -101,23 +130,23 @@ other_input_text Pass word = if is_call_word word then codes "\n  a script has c
 other_input_text ScriptCall word = if begins_a_step word then codes "\n  a schedule has steps: csqsim schedule reads it" else []
 other_input_text e word = []
 
--- what is found if a word is expected
-abbrev pub found_text : Expected → Option Near → Found → List ℕ
-found_text e near End = codes "the line ends before its " ++ noun_text e
-found_text e near FirstSpace = codes "a space begins the line"
-found_text e near TwoSpaces = codes "two spaces: words are separated by one"
-found_text e near LastSpace = codes "a space ends the line"
-found_text e near (Byte byte) = strange_text byte
-found_text e near (Word word) = misplaced_text word.now e ++ hint_text near (length word.now)
+-- what is found if a word is expected, the first byte of the input or not
+abbrev pub found_text : Expected → Option Near → Bool → Found → List ℕ
+found_text e near first End = codes "the line ends before its " ++ noun_text e
+found_text e near first FirstSpace = codes "a space begins the line"
+found_text e near first TwoSpaces = codes "two spaces: words are separated by one"
+found_text e near first LastSpace = codes "a space ends the line"
+found_text e near first (Byte byte) = strange_text byte first
+found_text e near first (Word word) = misplaced_text word.now e ++ hint_text near (length word.now)
 
 -- which words are expected, on lines of their own
 abbrev pub notes_of : Expected → Found → List ℕ
 notes_of e End = codes "  " ++ (rule_text e ++ codes "\n")
-notes_of e (Word word) = codes "  " ++ (rule_text e ++ (number_rule_text word.now ++ (steps_meant_text e word.now ++ (other_input_text e word.now ++ codes "\n"))))
+notes_of e (Word word) = codes "  " ++ (rule_text e ++ (number_rule_text (number_in e word.now) ++ (steps_meant_text e word.now ++ (other_input_text e word.now ++ codes "\n"))))
 notes_of e _ = []
 
-abbrev pub malformed_text : Malformed → List ℕ
-malformed_text fault = found_text fault.expected fault.near fault.found
+abbrev pub malformed_text : Malformed → Bool → List ℕ
+malformed_text fault first = found_text fault.expected fault.near first fault.found
 
 abbrev pub notes_text : Malformed → List ℕ
 notes_text fault = notes_of fault.expected fault.found

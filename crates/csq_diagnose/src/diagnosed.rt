@@ -6,16 +6,18 @@ ghost use Rattle.csq_diagnose.specs.declared.malformed.Malformed.{Malformed as M
 ghost use Rattle.csq_diagnose.specs.Grammars.{AreLineWords};
 ghost use Rattle.csq_diagnose.specs.Malforms.{IsMalformed};
 ghost use Rattle.csq_diagnose.specs.LineTexts.{long_text, fault_lines, fault_text};
+ghost use Rattle.csq_diagnose.specs.RefusedTexts.{refused_lines};
 ghost use Rattle.csq_diagnose.specs.Reports.{IsEndDiagnosis, IsReportUntil};
 
 use crate::grammar::Grammar;
 use crate::lines::{LongLine, MalformedLine};
 use crate::malformed::Malformed;
-use crate::refused::{Cure, RefusedLine};
-use crate::source::{push_mark, push_source};
+use crate::refused::{Cure, RefusedLine, words_before};
+use crate::source::{Mark, push_marked};
 use crate::texts::Notes;
 use csq_explain::Reason;
 use csq_replay::{Answerer, CallStop, Ended, Ending, Line, Stop, answer_input};
+use irp_core::{Step, StepRefused};
 use std::alloc::{AllocError, Allocator};
 
 /// The answer to an input, and why a line ended its handling.
@@ -61,8 +63,7 @@ pub(crate) fn add_fault<A: Allocator>(
 {
     let number = line.number;
     writeln!(text, "{}", MalformedLine { number, fault })?;
-    push_source(line.bytes, text)?;
-    push_mark(fault, text)?;
+    push_marked(line.bytes, Mark::of_fault(fault), text)?;
     write!(text, "{}", Notes(fault))?;
     Ok(())
 }
@@ -86,6 +87,30 @@ fn add_malformed<A: Allocator + Copy>(
     Ok(())
 }
 
+/// Adds why the step of a line is refused, and the line with a mark below what is at fault.
+fn add_refused<A: Allocator>(
+    line: Line<'_>,
+    step: Step,
+    cause: StepRefused,
+    reason: Reason,
+    text: &mut String<A>,
+) -> Result<(), AllocError>
+    ensures { OnOk result (GrewBy (string_bytes text.old) (string_bytes text.new)
+        (refused_lines line.entry.number line.entry.bytes.now step cause reason)) }
+{
+    let mark = Mark::of_word(line.bytes, words_before(cause));
+    let refused = RefusedLine {
+        number: line.number,
+        column: mark.column,
+        step,
+        cause,
+        reason,
+        cure: Cure::of(step, cause),
+    };
+    writeln!(text, "{refused}")?;
+    push_marked(line.bytes, mark, text)
+}
+
 impl<A: Allocator + Copy> Diagnose<A> for Reason {
     ghost use Rattle.csq_diagnose.specs.Schedules.{ReportsReason};
 
@@ -95,15 +120,7 @@ impl<A: Allocator + Copy> Diagnose<A> for Reason {
         match self.stop {
             Stop::TooLong => add_long(line, text),
             Stop::Malformed => add_malformed(alloc, Grammar::Schedule, line, text),
-            Stop::Refused(step, _) => {
-                let refused = RefusedLine {
-                    number: line.number,
-                    step,
-                    reason: self,
-                    cure: Cure::of(step, self.stop),
-                };
-                writeln!(text, "{refused}")
-            }
+            Stop::Refused(step, cause) => add_refused(line, step, cause, self, text),
         }
     }
 }

@@ -1,6 +1,6 @@
 //! What may stand in each place of a line.
 ghost use Rattle.std.specs.Prelude.{◌≡◌};
-ghost use Rattle.csq_replay.specs.Pieces.{words_of};
+ghost use Rattle.csq_replay.specs.Pieces.{pieces, words_of};
 ghost use Rattle.csq_diagnose.specs.Grammars.{call_places, first_word, places_of, second_word, step_places};
 
 use crate::expected::Expected;
@@ -18,19 +18,19 @@ pub enum Grammar {
     Script,
 }
 
-/// The first word of a line.
-fn first_word(line: &[u8]) -> &[u8]
-    ensures { result.now ≡ first_word (words_of line.now) }
+/// What stands before the first byte of this value in a text.
+pub(crate) fn first_piece(text: &[u8], byte: u8) -> &[u8]
+    ensures { result.now ≡ first_word (pieces byte text.now) }
 {
-    split_piece(line, b' ').0
+    split_piece(text, byte).0
 }
 
-/// The second word of a line, or none.
-fn second_word(line: &[u8]) -> &[u8]
-    ensures { result.now ≡ second_word (words_of line.now) }
+/// What stands between the first and the second one, or nothing.
+pub(crate) fn second_piece(text: &[u8], byte: u8) -> &[u8]
+    ensures { result.now ≡ second_word (pieces byte text.now) }
 {
-    match split_piece(line, b' ').1 {
-        Some(rest) => first_word(rest),
+    match split_piece(text, byte).1 {
+        Some(rest) => first_piece(rest, byte),
         None => &[],
     }
 }
@@ -76,8 +76,8 @@ impl Grammar {
         ensures { result.now ≡ places_of self (words_of line.now) }
     {
         match self {
-            Grammar::Schedule => step_places(second_word(line)),
-            Grammar::Script => call_places(first_word(line)),
+            Grammar::Schedule => step_places(second_piece(line, b' ')),
+            Grammar::Script => call_places(first_piece(line, b' ')),
         }
     }
 }

@@ -1,5 +1,6 @@
 //! Lines that end a schedule or a script, in words.
 use crate::malformed::Malformed;
+use crate::texts::Wrong;
 use csq_replay::MAX_LINE;
 use std::fmt;
 
@@ -41,7 +42,8 @@ impl fmt::Display for MalformedLine<'_> {
     ghost output = { λ line. Some (malformed_line_text line.number line.fault) };
 
     fn fmt<W: fmt::Write>(&self, f: &mut fmt::Formatter<W>) -> fmt::Result {
-        let (number, column, fault) = (self.number, self.fault.column, self.fault);
-        write!(f, "{number}:{column}: {fault}")
+        let (number, column) = (self.number, self.fault.column);
+        let wrong = Wrong(self.fault, number == 1 && column == 1);
+        write!(f, "{number}:{column}: {wrong}")
     }
 }

@@ -1,10 +1,14 @@
 //! The line that ends a schedule or a script, with a mark below what is wrong.
-ghost use Rattle.std.specs.Prelude.{◌<◌, ◌≡◌, map, replicate, string_bytes, OnOk};
+ghost use Rattle.std.specs.Prelude.{◌<◌, ◌≤◌, ◌≡◌, drop, length, map, replicate, string_bytes, OnOk};
+ghost use Rattle.std.specs.Option.{ForSome};
 ghost use Rattle.csq_replay.specs.Lines.{GrewBy};
-ghost use Rattle.csq_diagnose.specs.LineTexts.{mark_text, marked, shown, source_text};
+ghost use Rattle.csq_replay.specs.Pieces.{words_of};
+ghost use Rattle.csq_diagnose.specs.LineTexts.{mark_of_fault, mark_of_word, mark_text, marked, marked_text, shown, source_text};
+ghost use Rattle.csq_diagnose.specs.Misfits.{words_after};
 
 use crate::found::Found;
 use crate::malformed::Malformed;
+use csq_replay::split_piece;
 use std::alloc::{AllocError, Allocator};
 
 /// A byte of the line as it is shown: a question mark if it isn't printable ASCII.
@@ -47,7 +51,7 @@ fn push_repeated<A: Allocator>(
 }
 
 /// Adds the line itself.
-pub(crate) fn push_source<A: Allocator>(line: &[u8], text: &mut String<A>) -> Result<(), AllocError>
+fn push_source<A: Allocator>(line: &[u8], text: &mut String<A>) -> Result<(), AllocError>
     ensures { OnOk result (GrewBy (string_bytes text.old) (string_bytes text.new)
         (source_text line.now)) }
 {
@@ -57,7 +61,16 @@ pub(crate) fn push_source<A: Allocator>(line: &[u8], text: &mut String<A>) -> Re
     Ok(())
 }
 
-/// How many bytes are marked: those of a word, and else one.
+/// Bytes of a line that are marked.
+#[derive(Clone, Copy)]
+pub(crate) struct Mark {
+    /// The column of the first, from 1 on.
+    pub(crate) column: usize,
+    /// How many they are.
+    pub(crate) width: usize,
+}
+
+/// How many bytes are marked of what is wrong: those of a word, and otherwise one.
 fn marked(found: Found<'_>) -> usize
     ensures { result ≡ marked found.entry }
 {
@@ -67,17 +80,71 @@ fn marked(found: Found<'_>) -> usize
     }
 }
 
-/// Adds a mark below what is wrong.
-pub(crate) fn push_mark<A: Allocator>(
-    fault: Malformed<'_>,
+impl Mark {
+    /// The bytes that are wrong in a line that names no step, or no call.
+    pub(crate) fn of_fault(fault: Malformed<'_>) -> Mark
+        ensures { result ≡ mark_of_fault fault.entry }
+    {
+        Mark {
+            column: fault.column,
+            width: marked(fault.found),
+        }
+    }
+
+    /// The word of a line before which so many words stand, if there is one.
+    pub(crate) fn of_word(line: &[u8], before: usize) -> Mark
+        ensures { result ≡ mark_of_word line.now before }
+    {
+        match text_after(line, before) {
+            Some(text) => Mark {
+                column: line.len() - text.len() + 1,
+                width: split_piece(text, b' ').0.len(),
+            },
+            None => Mark {
+                column: line.len() + 1,
+                width: 0,
+            },
+        }
+    }
+}
+
+/// What stands after the first words of a line, so many of them, if it has more.
+fn text_after(line: &[u8], count: usize) -> Option<&[u8]>
+    ensures words { words_after result ≡ drop count (words_of line.now) }
+    ensures short { ForSome result (λ text. length text.now ≤ length line.now) }
+{
+    let mut text = Some(line);
+    for _ in 0..count {
+        text = match text {
+            Some(left) => split_piece(left, b' ').1,
+            None => None,
+        };
+    }
+    text
+}
+
+/// Adds a mark below the bytes of a line.
+fn push_mark<A: Allocator>(mark: Mark, text: &mut String<A>) -> Result<(), AllocError>
+    ensures { OnOk result (GrewBy (string_bytes text.old) (string_bytes text.new)
+        (mark_text mark)) }
+{
+    text.push_str("    ")?;
+    push_repeated(mark.column.saturating_sub(1), ' ', text)?;
+    push_repeated(mark.width, '^', text)?;
+    text.push_str("\n")?;
+    Ok(())
+}
+
+/// Adds the line with a mark below what is wrong.
+pub(crate) fn push_marked<A: Allocator>(
+    line: &[u8],
+    mark: Mark,
     text: &mut String<A>,
 ) -> Result<(), AllocError>
     ensures { OnOk result (GrewBy (string_bytes text.old) (string_bytes text.new)
-        (mark_text fault.entry)) }
+        (marked_text line.now mark)) }
 {
-    text.push_str("    ")?;
-    push_repeated(fault.column.saturating_sub(1), ' ', text)?;
-    push_repeated(marked(fault.found), '^', text)?;
-    text.push_str("\n")?;
+    push_source(line, text)?;
+    push_mark(mark, text)?;
     Ok(())
 }

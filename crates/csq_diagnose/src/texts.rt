@@ -1,10 +1,11 @@
 //! Diagnoses of lines that name no step, or no call, in words.
 ghost use Rattle.std.specs.Prelude.{◌≡◌};
 ghost use Rattle.std.specs.List.{list_all};
-ghost use Rattle.csq_diagnose.specs.Texts.{begins_a_step, begins_with_zero, in_steps_text, is_digit, noun_text, number_rule_text, other_input_text, rule_text, steps_meant_text};
+ghost use Rattle.csq_diagnose.specs.Texts.{after_letter, begins_a_step, begins_as_number, begins_with_zero, in_steps_text, is_digit, keeps_rules, noun_text, number_in, number_rule_text, other_input_text, rule_text, steps_meant_text, wrong_in_life};
 
 use crate::expected::{Expected, is_call_word};
 use crate::found::Found;
+use crate::grammar::{first_piece, second_piece};
 use crate::malformed::Malformed;
 use crate::nearest::Near;
 use std::fmt;
@@ -46,30 +47,30 @@ fn rule(expected: Expected) -> &'static str
     }
 }
 
-/// A byte that no word has.
+/// A byte that no word has, and whether it is the first of the input.
 #[derive(Clone, Copy)]
-struct Strange(u8);
+struct Strange(u8, bool);
 
 /// As `a tab: words are separated by one space`.
 impl fmt::Display for Strange {
     ghost use Rattle.std.specs.Prelude.{Some};
     ghost use Rattle.csq_diagnose.specs.Texts.{strange_text};
 
-    ghost output = { λ byte. Some (strange_text byte.0) };
+    ghost output = { λ byte. Some (strange_text byte.0 byte.1) };
 
     fn fmt<W: fmt::Write>(&self, f: &mut fmt::Formatter<W>) -> fmt::Result {
-        let byte = self.0;
+        let Strange(byte, first) = *self;
         match byte {
             b'\r' => write!(
                 f,
                 "a carriage return: a line ends in a line feed alone, so save the file with LF"
             ),
             b'\t' => write!(f, "a tab: words are separated by one space"),
-            239 => write!(
+            239 if first => write!(
                 f,
                 "byte 239 is above 127, as of a byte order mark: save the file without one"
             ),
-            254.. => write!(
+            254.. if first => write!(
                 f,
                 "byte {byte} is above 127, as of UTF-16: save the file as ASCII"
             ),
@@ -170,14 +171,66 @@ fn begins_with_zero(word: &[u8]) -> bool
     }
 }
 
-/// Which rule a word breaks that is of digits: a further line, or nothing.
+/// Whether a word begins as a number does, with or without a sign.
+fn begins_as_number(word: &[u8]) -> bool
+    ensures { result ≡ begins_as_number word.now }
+{
+    match word {
+        [first, ..] => is_digit(*first) || *first == b'-' || *first == b'+',
+        [] => false,
+    }
+}
+
+/// Which rule of numbers a word breaks: a further line, or nothing.
 fn number_rule(word: &[u8]) -> &'static str
     ensures { result.now ≡ number_rule_text word.now }
 {
     match (is_number(word), word.len() > 9, begins_with_zero(word)) {
         (true, true, _) => "\n  a number has at most nine digits",
         (true, false, true) => "\n  a number has no zero in front",
+        (false, _, _) if begins_as_number(word) => "\n  a number is of decimal digits",
         _ => "",
+    }
+}
+
+/// Whether a word breaks none of these rules.
+fn keeps_rules(word: &[u8]) -> bool
+    ensures { result ≡ keeps_rules word.now }
+{
+    is_number(word) && word.len() <= 9 && !begins_with_zero(word)
+}
+
+/// What stands after the letter of a pass, if that begins a word.
+fn after_letter(word: &[u8]) -> &[u8]
+    ensures { result.now ≡ after_letter word.now }
+{
+    match word {
+        [b'p', number @ ..] => number,
+        _ => &[],
+    }
+}
+
+/// The number of an IRP in one of its lives; that of the life, if the IRP's is one.
+fn wrong_in_life(word: &[u8]) -> &[u8]
+    ensures { result.now ≡ wrong_in_life word.now }
+{
+    let irp = first_piece(word, b'@');
+    if keeps_rules(irp) {
+        second_piece(word, b'@')
+    } else {
+        irp
+    }
+}
+
+/// Which part of a word has to be a number, or isn't one where two have to be; nothing if none has to be.
+fn number_in(expected: Expected, word: &[u8]) -> &[u8]
+    ensures { result.now ≡ number_in expected word.now }
+{
+    match expected {
+        Expected::Pass => after_letter(word),
+        Expected::IrpInLife => wrong_in_life(word),
+        Expected::Irp | Expected::File | Expected::Peek => word,
+        _ => &[],
     }
 }
 
@@ -214,24 +267,32 @@ fn other_input(expected: Expected, word: &str) -> &'static str
     }
 }
 
-/// What is wrong, on one line.
-impl fmt::Display for Malformed<'_> {
+/// What is wrong, and whether with the first byte of the input.
+#[derive(Clone, Copy)]
+pub(crate) struct Wrong<'a>(pub(crate) Malformed<'a>, pub(crate) bool);
+
+/// As `"tset" is no step; did you mean "test"?`.
+impl fmt::Display for Wrong<'_> {
     ghost use Rattle.std.specs.Prelude.{Some};
     ghost use Rattle.csq_diagnose.specs.Texts.{malformed_text};
 
-    ghost output = { λ fault. Some (malformed_text fault) };
+    ghost output = { λ wrong. Some (malformed_text wrong.0 wrong.1) };
 
     fn fmt<W: fmt::Write>(&self, f: &mut fmt::Formatter<W>) -> fmt::Result {
-        let expected = self.expected;
+        let Wrong(fault, first) = *self;
+        let expected = fault.expected;
         let noun = noun(expected);
-        match self.found {
+        match fault.found {
             Found::End => write!(f, "the line ends before its {noun}"),
             Found::FirstSpace => write!(f, "a space begins the line"),
             Found::TwoSpaces => write!(f, "two spaces: words are separated by one"),
             Found::LastSpace => write!(f, "a space ends the line"),
-            Found::Byte(byte) => write!(f, "{}", Strange(byte)),
+            Found::Byte(byte) => write!(f, "{}", Strange(byte, first)),
             Found::Word(word) => {
-                let (misplaced, hint) = (Misplaced { word, expected }, Hint(self.near, word.len()));
+                let (misplaced, hint) = (
+                    Misplaced { word, expected },
+                    Hint(fault.near, word.len()),
+                );
                 write!(f, "{misplaced}{hint}")
             }
         }
@@ -254,7 +315,8 @@ impl fmt::Display for Notes<'_> {
         match self.0.found {
             Found::End => writeln!(f, "  {rule}"),
             Found::Word(word) => {
-                let (steps, number) = (steps_meant(expected, word), number_rule(word.as_bytes()));
+                let number = number_rule(number_in(expected, word.as_bytes()));
+                let steps = steps_meant(expected, word);
                 let other = other_input(expected, word);
                 writeln!(f, "  {rule}{number}{steps}{other}")
             }

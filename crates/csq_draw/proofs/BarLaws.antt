@@ -169,7 +169,7 @@ each_bar size W =
     let count = length (rows_of size W) in
     let shown = shown_elements (steps_shown size W) count in
     record {
-      stopped = λ r n stop. then_none bars_in shown (refused_elements count n (reason_of size passes stop)) _ (shown_bars size W r) refl;
+      stopped = λ r n stop. then_none bars_in shown (refused_elements count n (reason_of size W stop)) _ (shown_bars size W r) refl;
       closed = λ r reported at_rest.
           let last = Below count (AtRest (length reported) (rest_of passes at_rest)) in
           then_none bars_in shown (each (closing_elements irps count) 0 reported ++ last ∷ []) _ (shown_bars size W r)

@@ -6,6 +6,7 @@ pub mod Writing
 pub mod Known
 pub mod RowElements
 pub mod WindowLaws
+pub mod WindowColumns
 pub mod Showing
 pub mod OrderShowing
 pub mod WrongLaws

@@ -206,7 +206,7 @@ module _ {A : Type 0} (mark : Mark → List A) (number : Number → List A) (sha
       all_shown : AddsStepByStep size W pick (of_step passes irps) (λ n. number (record { row = length W; line = n }))
       all_shown = record {
         stopped = λ n stop.
-            let refused = refused_elements count n (reason_of size passes stop) in
+            let refused = refused_elements count n (reason_of size W stop) in
             let line = append-nil (number (record { row = count; line = n })) ∙ ap (λ k. number (record { row = k; line = n })) (length-rows size W) in
             picked-append pick shown refused ∙ ap (λ t. t ++ picked pick refused) shown_picked ∙ ap (λ t. added (of_step passes irps) W ++ t) line;
         closed = λ reported at_rest.

@@ -1,5 +1,5 @@
 -- An arrow from the step that wrote a word to the one that found it.
-use Rattle.std.specs.Prelude.{ℕ, ◌+◌, ◌-◌, ◌==◌, ◌&&◌, Bool, nat_le, nat_lt, List, [], ◌++◌, codes, decimal, Option, None, Some, if◌then◌else◌}
+use Rattle.std.specs.Prelude.{ℕ, ◌+◌, ◌-◌, ◌==◌, ◌&&◌, Bool, nat_le, nat_lt, List, [], ◌++◌, codes, decimal, Option, None, if◌then◌else◌}
 use Rattle.irp_core.specs.declared.step.Kind.{Kind, TheVariants.{Test, Disarm, Flag, Take}}
 use Rattle.csq_draw.specs.declared.arrows.Arrow.{Arrow}
 use Rattle.csq_draw.specs.declared.irps.{Spot.{Spot}, IrpNow.{IrpNow}}

@@ -2,12 +2,12 @@
 use Rattle.std.specs.Prelude.{ℕ, ◌+◌, ◌-◌, ◌*◌, ◌==◌, max, List, [], ◌++◌, length, codes, decimal, if◌then◌else◌}
 use Rattle.irp_core.specs.declared.ids.PassId.{PassId}
 use Rattle.irp_core.specs.Texts.{pass_text}
-use Rattle.csq_draw.specs.declared.heading.{Extent.{Extent}, Column.{Column}, TheConstants.{PICTURE_HEAD}}
+use Rattle.csq_draw.specs.declared.heading.{Extent.{Extent}, Column.{Column}, TheConstants.{LEAST_WIDTH, PICTURE_HEAD}}
 use Rattle.csq_draw.specs.Layout.{left, top, flag_x}
 
--- a picture's width, at least that of its longest line of text
+-- a picture's width, at least that of its widest line of text
 abbrev pub width : Extent → ℕ
-width e = max (flag_x e.columns e.irps + 8) 780
+width e = max (max (flag_x e.columns e.irps + 8) LEAST_WIDTH) (56 + e.text_width + 8)
 
 -- how much of it the caption takes, above all else
 abbrev pub above : Extent → ℕ

@@ -1,5 +1,5 @@
 -- What holds of every picture.
-use Rattle.std.specs.Prelude.{◌≡◌, ◌≢◌, ◌⊎◌, ◌↔◌, ℕ, zero, suc, ◌+◌, ◌==◌, ◌&&◌, ◌<◌, Bool, true, false, List, [], ◌∷◌, ◌++◌, filter, length, map, Option, Some, None, option_to_list, IsTrue, if◌then◌else◌}
+use Rattle.std.specs.Prelude.{◌≤◌, ◌≡◌, ◌≢◌, ◌⊎◌, ◌↔◌, ℕ, zero, suc, ◌+◌, ◌==◌, ◌&&◌, ◌<◌, Bool, true, false, List, [], ◌∷◌, ◌++◌, filter, length, map, Option, Some, None, option_to_list, IsTrue, if◌then◌else◌}
 use Rattle.std.specs.List.{list_any}
 use Rattle.std.specs.Option.{option_map_or}
 use Rattle.irp_core.specs.declared.ids.{IrpId.{IrpId}, IrpLife.{IrpLife}, PassId.{PassId}}
@@ -24,13 +24,13 @@ use Rattle.csq_draw.specs.declared.bars.Bars.{Bars}
 use Rattle.csq_draw.specs.declared.irps.{IrpNow.{IrpNow}, Seen.{Seen}, Spot.{Spot}}
 use Rattle.csq_draw.specs.Marks.{takes_lock, lets_go}
 use Rattle.csq_draw.specs.Owners.{is_of_irp, owner, owners}
-use Rattle.csq_draw.specs.Passes.{columns, column_of}
+use Rattle.csq_draw.specs.Passes.{columns, column_of, makes_step}
 use Rattle.csq_explain.specs.Passes.{all_passes}
 use Rattle.csq_explain.specs.declared.sentences.StepInCall.{StepInCall}
 use Rattle.csq_explain.specs.Sentences.{in_call}
 use Rattle.csq_draw.specs.declared.rows.Row.{Row}
 use Rattle.csq_draw.specs.Rows.{row_of, rows_of}
-use Rattle.csq_draw.specs.Windows.{shows}
+use Rattle.csq_draw.specs.Windows.{is_shown, shows}
 use Rattle.csq_draw.specs.Words.{words_named, changes_flag}
 use Rattle.csq_draw.specs.declared.element.Element.{Element}
 use Rattle.csq_draw.specs.declared.element.Element.TheVariants as element
@@ -259,7 +259,7 @@ abbrev pub window_shown : Size → List Numbered → Window → Shown
 window_shown size W w = seen (Some w) (steps_shown size W)
 
 abbrev pub window_marks : Size → List Numbered → Window → List Mark
-window_marks size W w = marks_from (all_passes size W) (window_shown size W w).irps 0 (filter (shows w) (rows_of size W))
+window_marks size W w = marks_from (window_shown size W w).passes (window_shown size W w).irps 0 (filter (shows w) (rows_of size W))
 
 -- each step that a window shows has one mark, in order, and nothing else has one
 pub record EachShownStepHasOneMark (size : Size) (W : List Numbered) (w : Window) : Type 0 where
@@ -269,6 +269,11 @@ pub record EachShownStepHasOneMark (size : Size) (W : List Numbered) (w : Window
 -- passes that made a step of the run have columns of their own, in the order of their numbers
 abbrev pub EachPassHasItsColumn : Size → List Numbered → Type 0
 EachPassHasItsColumn size W = (p q : PassId) → p.0 < q.0 → p.0 < size.passes → IsTrue (list_any (by p) (run_of W)) → column_of (all_passes size W) p < column_of (all_passes size W) q
+
+-- in a window just those passes have columns that its rows show, or its owners after them, in the order of their numbers
+pub record EachShownPassHasItsColumn (size : Size) (W : List Numbered) (w : Window) : Type 0 where
+  pub just : (p : PassId) → p.0 ≤ size.passes → makes_step (window_shown size W w).passes p ≡ is_shown (window_shown size W w).rows (window_shown size W w).owners p
+  pub own : (p q : PassId) → p.0 < q.0 → p.0 ≤ size.passes → IsTrue (is_shown (window_shown size W w).rows (window_shown size W w).owners p) → column_of (window_shown size W w).passes p < column_of (window_shown size W w).passes q
 
 -- IRPs that a step of the run names have places of their own, in the order of their numbers
 abbrev pub EachIrpHasItsPlace : Size → List Numbered → Type 0

@@ -34,8 +34,8 @@ use Rattle.csq_explain.specs.Reasons.{reason_of}
 use Rattle.csq_draw.specs.declared.element.Element.{Element}
 use Rattle.csq_draw.specs.Elements.{picture}
 use Rattle.csq_draw.specs.Layout.{left}
-use Rattle.csq_draw.specs.Terminal.{each_text, rows_text, ended_lines, closed_lines, broken_lines}
-use Rattle.csq_draw.specs.Windows.{cut, open_in, place, places}
+use Rattle.csq_draw.specs.Terminal.{each_text, rows_text, widest_line, ended_lines, closed_lines, broken_lines}
+use Rattle.csq_draw.specs.Windows.{cut, open_in, place, places, shown_passes}
 use Rattle.csq_draw.specs.declared.element.Element.TheVariants as element
 use Rattle.csq_draw.specs.declared.ending.{Below.TheVariants.{Bar, Refused, Because, Irp, AtRest, Broken as BrokenLine, Harm, NoHarm}, Ending.{Ending, TheVariants.{Stopped as StoppedEnd, Closed, Broken}}, Rest.{Rest}}
 use Rattle.csq_explain.specs.declared.harms.HarmAt.{HarmAt}
@@ -133,9 +133,9 @@ word_elements passes irps n now = if is_some now.last then element.WordColumns (
 abbrev pub pass_name_text : List PassNow → NamedPass → List ℕ
 pass_name_text passes n = if makes_step passes n.pass then name_beside (left (column_of passes n.pass) + 130) n.name else []
 
--- the head of a picture of these passes, and of so many IRPs and rows, with so many lines of text below them, and this caption
-abbrev pub picture_head : List PassNow → ℕ → ℕ → ℕ → CaptionText → List ℕ
-picture_head passes irps rows lines c = head_text (record { columns = columns passes; irps = irps; rows = rows; lines = lines; caption = c.lines }) c.title c.below ++ each_text (λ n name. pass_name_text passes name) 0 c.names
+-- the head of a picture of these passes, and of so many IRPs and rows, with so many lines of text below them, the widest of so many pixels, and this caption
+abbrev pub picture_head : List PassNow → ℕ → ℕ → ℕ → ℕ → CaptionText → List ℕ
+picture_head passes irps rows lines text_width c = head_text (record { columns = columns passes; irps = irps; rows = rows; lines = lines; text_width = text_width; caption = c.lines }) c.title c.below ++ each_text (λ n name. pass_name_text passes name) 0 c.names
 
 -- of the line that ended the handling: its bar, its number, what is reported for it, and why it ended it
 abbrev pub refused_elements : ℕ → ℕ → Reason → List Element
@@ -216,7 +216,7 @@ picture_of s count e = shown_elements s count ++ e.below count
 
 -- what a window shows of it
 abbrev pub by_places : Window → List ℕ → Shown → Shown
-by_places w ps s = record { passes = s.passes; irps = irps_after (fresh_irps s.irps) (cut w ps 0 s.rows); rows = cut w ps 0 s.rows; owners = map (open_in w ps) s.owners; refused = option_map (place ps) s.refused }
+by_places w ps s = record { passes = shown_passes s.passes (cut w ps 0 s.rows) (map (open_in w ps) s.owners); irps = irps_after (fresh_irps s.irps) (cut w ps 0 s.rows); rows = cut w ps 0 s.rows; owners = map (open_in w ps) s.owners; refused = option_map (place ps) s.refused }
 
 abbrev pub seen : Option Window → Shown → Shown
 seen (Some w) s = by_places w (places w 0 s.rows) s
@@ -224,7 +224,7 @@ seen None s = s
 
 -- how it is drawn, below this caption
 abbrev pub shown_text : Format → CaptionText → Shown → EndShown → List ℕ
-shown_text Svg c s e = picture_head s.passes (irp_columns s.irps) (length s.rows) e.lines c ++ picture (picture_of s (length s.rows) e)
+shown_text Svg c s e = picture_head s.passes (irp_columns s.irps) (length s.rows) e.lines (widest_line 0 e.text) c ++ picture (picture_of s (length s.rows) e)
 shown_text Text c s e = c.plain ++ (rows_text s.passes s.rows ++ e.text)
 
 -- what is known of so many IRPs after the steps W
@@ -237,7 +237,7 @@ steps_shown size W = record { passes = all_passes size W; irps = irps_of size W;
 
 -- how they end: with the nth line, which ended the handling, or with what is reported in the end
 abbrev pub stop_of : Size → List Numbered → ℕ → Stop → EndShown
-stop_of size W n stop = stopped_end n (reason_of size (all_passes size W) stop)
+stop_of size W n stop = stopped_end n (reason_of size W stop)
 
 abbrev pub close_of : Size → List Numbered → List IrpLine → Bool → EndShown
 close_of size W reported at_rest = closed_end (irps_of size W) reported (rest_of (all_passes size W) at_rest)

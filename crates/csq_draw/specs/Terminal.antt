@@ -1,5 +1,5 @@
 -- A schedule, drawn for a terminal: a row for each step, with a column for each pass.
-use Rattle.std.specs.Prelude.{ℕ, ◌+◌, ◌-◌, ◌*◌, ◌==◌, max, Bool, List, [], ◌∷◌, ◌++◌, length, replicate, codes, decimal, Option, Some, None, if◌then◌else◌}
+use Rattle.std.specs.Prelude.{ℕ, ◌+◌, ◌-◌, ◌*◌, ◌==◌, ◌&&◌, nat_le, max, Bool, List, [], ◌∷◌, ◌++◌, length, replicate, codes, decimal, Option, Some, None, if◌then◌else◌}
 use Rattle.irp_core.specs.declared.ids.{IrpLife.{IrpLife}, PassId.{PassId}}
 use Rattle.irp_core.specs.Steps.{name_of}
 use Rattle.irp_core.specs.Texts.{kind_text, name_text, pass_text}
@@ -103,6 +103,15 @@ ended_lines n reason = codes "line " ++ (decimal n ++ (codes ": " ++ (ended_line
 -- or the nth line, in which the protocol was broken, why, and what goes wrong
 abbrev pub broken_lines : ℕ → Reason → List HarmAt → List ℕ
 broken_lines n reason harms = (broken_line n reason ++ (codes "\n  " ++ (reason_text reason ++ codes "\n"))) ++ harms_report harms
+
+-- how wide a letter of a text below a picture is taken to be, in pixels: a capital letter is wider
+abbrev pub letter_width : ℕ → ℕ
+letter_width byte = if nat_le 65 byte && nat_le byte 90 then 9 else 6
+
+-- and the widest line of a text, if so much of its first line stands before
+abbrev pub widest_line : ℕ → List ℕ → ℕ
+widest_line before [] = before
+widest_line before (byte ∷ text) = if byte == 10 then max before (widest_line 0 text) else widest_line (before + letter_width byte) text
 
 -- where an IRP is in the end
 abbrev pub irp_line_reported : List IrpNow → ℕ → IrpLine → List ℕ

@@ -1,8 +1,12 @@
 -- The part of a picture that a window shows.
-use Rattle.std.specs.Prelude.{ℕ, ◌+◌, ◌&&◌, Bool, true, nat_le, is_none, List, [], ◌∷◌, slice_index_or, Option, Some, None, if◌then◌else◌}
+use Rattle.std.specs.Prelude.{ℕ, ◌+◌, ◌&&◌, ◌||◌, Bool, true, false, nat_le, nat_lt, is_none, List, [], ◌∷◌, length, slice_index_or, Option, Some, None, if◌then◌else◌}
+use Rattle.std.specs.List.{list_any}
 use Rattle.std.specs.Option.{option_map, option_map_or}
-use Rattle.irp_core.specs.declared.ids.IrpId.{IrpId}
-use Rattle.irp_core.specs.Steps.{name_of, same_id}
+use Rattle.irp_core.specs.declared.ids.{IrpId.{IrpId}, PassId.{PassId}}
+use Rattle.irp_core.specs.Steps.{name_of, same_id, same_pass}
+use Rattle.csq_explain.specs.declared.passes.PassNow.{PassNow}
+use Rattle.csq_explain.specs.Passes.{new_pass_now}
+use Rattle.csq_explain.specs.Tables.{table}
 use Rattle.csq_draw.specs.declared.owners.Owner.{Owner}
 use Rattle.csq_draw.specs.declared.rows.Row.{Row}
 use Rattle.csq_draw.specs.declared.view.Window.{Window}
@@ -46,3 +50,32 @@ cut w ps n (row ∷ rows) = if shows w row then moved ps n row ∷ cut w ps (n +
 abbrev pub open_in : Window → List ℕ → Option Owner → Option Owner
 open_in w ps (Some o) = if is_wanted w.irp o.name.irp then Some (moved_owner ps o) else None
 open_in w ps None = None
+
+-- whether this is p, if it is a pass, and whether an owner is
+abbrev pub is_pass : PassId → Option PassId → Bool
+is_pass p (Some q) = same_pass q p
+is_pass p None = false
+
+abbrev pub is_owner : PassId → Option Owner → Bool
+is_owner p (Some o) = same_pass o.pass p
+is_owner p None = false
+
+-- whether a row shows p: it makes the step, has the lock, or no longer owes or holds an IRP
+abbrev pub row_shows : PassId → Row → Bool
+row_shows p row = same_pass row.step.made.pass p || (is_pass p row.lock || is_owner p row.ended)
+
+-- whether an owner after so many rows is p, and has a line on them
+abbrev pub has_line : ℕ → PassId → Option Owner → Bool
+has_line count p (Some o) = nat_lt o.row count && same_pass o.pass p
+has_line count p None = false
+
+-- whether these rows show p, or these owners after them
+abbrev pub is_shown : List Row → List (Option Owner) → PassId → Bool
+is_shown rows owners p = list_any (row_shows p) rows || list_any (has_line (length rows) p) owners
+
+-- what is known of a pass in a window: it has a column if it is shown
+abbrev pub shown_pass : PassNow → Bool → PassNow
+shown_pass now shown = record { inside = now.inside; line = now.line; makes = shown }
+
+abbrev pub shown_passes : List PassNow → List Row → List (Option Owner) → List PassNow
+shown_passes passes rows owners = table (λ n. shown_pass (slice_index_or passes n new_pass_now) (is_shown rows owners (record { 0 = n }))) (length passes)

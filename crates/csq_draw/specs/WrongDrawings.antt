@@ -13,6 +13,7 @@ use Rattle.csq_explain.specs.declared.reasons.Reason.{Reason}
 use Rattle.csq_explain.specs.Executions.{Follows}
 use Rattle.csq_explain.specs.Harms.{harms_of}
 use Rattle.csq_explain.specs.LineSteps.{by_words}
+use Rattle.csq_explain.specs.Orders.{OrderStands}
 use Rattle.csq_explain.specs.Passes.{all_passes}
 use Rattle.csq_explain.specs.Reasons.{reason_of}
 use Rattle.csq_explain.specs.WrongOrders.{goes_on}
@@ -39,9 +40,9 @@ first_refusal None refusal = refusal
 
 -- the row of a step after these, from the refused one on
 abbrev pub row_behind : List LineStep → LineStep → Legality → Row
-row_behind steps x legality = wrong_row steps (length steps) x legality
+row_behind V x legality = wrong_row V (length V) x legality
 
--- what a schedule led to: its caption and the steps up to the refusal, as they are drawn; the steps of the execution, which leaves out what it refuses; all steps; the rows from the refused one on; and the refusal
+-- what a schedule led to: its caption and the steps up to the refusal, as they are drawn; the steps of the execution, which leaves out what it refuses, and all steps, the newest first; the rows from the refused one on; and the refusal
 pub record WrongDrawn : Type 0 where
   pub drawn : Drawn
   pub own : List Numbered
@@ -62,14 +63,14 @@ abbrev pub after_accepted : WrongDrawn → ℕ → Made → Option Refusal → W
 after_accepted d n m None = record {
   drawn = record { caption = ended_caption d.drawn.caption; steps = record { line = n; step = m } ∷ d.drawn.steps };
   own = record { line = n; step = m } ∷ d.own;
-  steps = d.steps ++ record { line = n; made = m } ∷ [];
+  steps = record { line = n; made = m } ∷ d.steps;
   behind = d.behind;
   refusal = None;
 }
 after_accepted d n m (Some refusal) = record {
   drawn = d.drawn;
   own = record { line = n; step = m } ∷ d.own;
-  steps = d.steps ++ by_words d.steps n m.pass m.kind ∷ [];
+  steps = by_words d.steps n m.pass m.kind ∷ d.steps;
   behind = d.behind ++ row_behind d.steps (by_words d.steps n m.pass m.kind) Behind ∷ [];
   refusal = Some refusal;
 }
@@ -79,7 +80,7 @@ abbrev pub after_refused : WrongDrawn → ℕ → Step → StepRefused → Reaso
 after_refused d n s cause reason = record {
   drawn = record { caption = ended_caption d.drawn.caption; steps = d.drawn.steps };
   own = d.own;
-  steps = d.steps ++ by_words d.steps n s.pass s.kind ∷ [];
+  steps = by_words d.steps n s.pass s.kind ∷ d.steps;
   behind = d.behind ++ row_behind d.steps (by_words d.steps n s.pass s.kind) (legality_of d.refusal cause) ∷ [];
   refusal = Some (first_refusal d.refusal (record { line = n; row = length d.steps; reason = reason }));
 }
@@ -97,7 +98,7 @@ after_stopped d n reason None = None
 
 -- why it stops there
 abbrev pub reason_at : Size → WrongDrawn → Stop → Reason
-reason_at size d stop = reason_of size (all_passes size d.own) stop
+reason_at size d stop = reason_of size d.own stop
 
 -- what the nth line leads to
 abbrev pub order_after : Size → WrongDrawn → ℕ → List ℕ → Outcome → Option WrongDrawn
@@ -143,7 +144,7 @@ DrawsOrderLine size view d n line text more = (comes : Outcome) × ComesTo size 
 -- in the end: one that kept it is drawn as any schedule
 abbrev pub DrawsOrderEnd : Size → View → WrongDrawn → Option Refusal → List ℕ → Type 0
 DrawsOrderEnd size view d None text = DrawsClosing size view d.drawn text
-DrawsOrderEnd size view d (Some refusal) text = text ≡ broken_text size view d refusal (broken_end refusal.line refusal.reason (harms_of [] d.steps))
+DrawsOrderEnd size view d (Some refusal) text = text ≡ broken_text size view d refusal (broken_end refusal.line refusal.reason (harms_of size.irps d.steps))
 
 abbrev pub DrawsOrderClosing : Size → View → WrongDrawn → List ℕ → Type 0
 DrawsOrderClosing size view d text = DrawsOrderEnd size view d d.refusal text
@@ -158,7 +159,8 @@ pub record WrongDrawingStands {A : Type 0} (w : WrongDrawing A) (size : Size) (d
   pub rows : w.drawing.rows.items ≡ order_rows size d
   pub owned : w.drawing.owners.items ≡ owners size.irps (run_of d.drawn.steps)
   pub captioned : caption_of w.drawing.caption ≡ d.drawn.caption
-  pub all : w.steps.items ≡ d.steps
+  pub all : OrderStands w.order size.irps d.steps
+  pub numbered : length w.drawing.rows.items ≡ length d.steps
   pub since : w.refusal ≡ d.refusal
   pub kept : d.refusal ≡ None → (d.own ≡ d.drawn.steps) × (d.behind ≡ [])
 

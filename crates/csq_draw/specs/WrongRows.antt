@@ -1,4 +1,4 @@
--- The rows of a refused step, and of what comes behind it by the two words of each IRP alone.
+-- The rows of a refused step, and of what comes after it by the two words of each IRP alone.
 use Rattle.std.specs.Prelude.{ℕ, true, List, [], ◌∷◌, slice_index_or, slice_set, Option, Some, None, if◌then◌else◌}
 use Rattle.std.specs.Option.{option_and_then}
 use Rattle.irp_core.specs.declared.ids.{IrpLife.{IrpLife}, PassId.{PassId}}
@@ -8,9 +8,9 @@ use Rattle.irp_core.specs.Steps.{name_of, same_irp}
 use Rattle.csq_explain.specs.declared.line_steps.LineStep.{LineStep}
 use Rattle.csq_explain.specs.declared.passes.PassNow.{PassNow}
 use Rattle.csq_explain.specs.declared.word_values.WordValues.{WordValues}
-use Rattle.csq_explain.specs.LineSteps.{words_at}
+use Rattle.csq_explain.specs.LineSteps.{made_in}
 use Rattle.csq_explain.specs.Passes.{new_pass_now}
-use Rattle.csq_explain.specs.WordValues.{words_with}
+use Rattle.csq_explain.specs.WordValues.{words_after, words_with}
 use Rattle.csq_draw.specs.declared.marks.Legality.{Legality}
 use Rattle.csq_draw.specs.declared.rows.Row.{Row}
 
@@ -18,20 +18,20 @@ use Rattle.csq_draw.specs.declared.rows.Row.{Row}
 abbrev pub words_in : WordValues → IrpLife → Kind → Option WordValues
 words_in w i k = if same_irp i w.name then Some (words_with w k) else None
 
--- the words of the IRP that a step of this kind names, after these steps and that one
+-- the words of the IRP that a step of this kind names, after these steps, the newest first, and that one
 abbrev pub words_by : List LineStep → Kind → Option WordValues
-words_by steps k = option_and_then (λ i. words_in (words_at steps i.irp) i k) (name_of k)
+words_by V k = option_and_then (λ i. words_in (words_after (made_in V) i.irp) i k) (name_of k)
 
 -- the nth row, of a step after these: nothing is known of calls, of the lock and of owners
 abbrev pub wrong_row : List LineStep → ℕ → LineStep → Legality → Row
-wrong_row steps n x legality = record {
+wrong_row V n x legality = record {
   row = n;
   line = x.line;
   step = record { made = x.made; inside = Nothing; status = None };
   legality = legality;
   lock = None;
   ended = None;
-  words = words_by steps x.made.kind;
+  words = words_by V x.made.kind;
 }
 
 -- p makes a step

@@ -26,9 +26,9 @@ use crate::owners::{Owner, ended_by, new_owners, note_owner, owner_in};
 use crate::passes::{columns, lock_at, lock_of};
 use crate::picture::{Sheet, draw_picture};
 use crate::rows::{Row, count};
-use crate::terminal::write_text;
+use crate::terminal::{width_below, write_text};
 use crate::view::{Format, View, Window};
-use crate::window::{cut, open_owners, place_of, places};
+use crate::window::{cut, open_owners, place_of, places, shown_passes};
 use crate::words::words_named;
 use csq_explain::{Execution, Explained, PassNow, Reason, StepInCall};
 use csq_replay::{Answerer, Ended, IrpLine, Line, SimFault, reply};
@@ -115,13 +115,15 @@ impl<A: Allocator + Copy> Drawing<A> {
         irps_after(self.alloc, self.owners.len(), &self.rows)
     }
 
-    /// Draws what a picture of so many rows begins with, above so many lines of text below them.
+    /// Draws what a picture of so many rows begins with, above so many lines of text below them, the widest of so
+    /// many pixels.
     fn draw_heading(
         &self,
         passes: &[PassNow],
         irps: &[IrpNow],
         rows: u32,
         lines: u32,
+        text_width: u32,
         text: &mut String<A>,
     ) -> Result<(), AllocError>
         requires few { length passes.now ≤ 65 }
@@ -132,6 +134,7 @@ impl<A: Allocator + Copy> Drawing<A> {
               irps = irp_columns irps.now;
               rows = rows;
               lines = lines;
+              text_width = text_width;
               caption = self.now.caption.lines;
             }) (string_bytes self.now.caption.title)
             (string_bytes self.now.caption.below))) }
@@ -141,6 +144,7 @@ impl<A: Allocator + Copy> Drawing<A> {
             irps: irp_columns(irps),
             rows,
             lines,
+            text_width,
             caption: self.caption.lines,
         };
         let head = Head {
@@ -152,22 +156,24 @@ impl<A: Allocator + Copy> Drawing<A> {
         Ok(())
     }
 
-    /// Draws the head of a picture of these passes and IRPs and of so many rows, with so many lines of text below them.
+    /// Draws the head of a picture of these passes and IRPs and of so many rows, with so many lines of text below them,
+    /// the widest of so many pixels.
     pub(crate) fn draw_head(
         &self,
         passes: &[PassNow],
         irps: &[IrpNow],
         rows: u32,
         lines: u32,
+        text_width: u32,
         text: &mut String<A>,
     ) -> Result<(), AllocError>
         requires few { length passes.now ≤ 65 }
         requires irps { length irps.now ≤ 1024 }
         ensures { OnOk result (GrewBy (string_bytes text.old) (string_bytes text.new)
             (picture_head passes.now (irp_columns irps.now)
-            rows lines (caption_of self.now.caption))) }
+            rows lines text_width (caption_of self.now.caption))) }
     {
-        self.draw_heading(passes, irps, rows, lines, text)?;
+        self.draw_heading(passes, irps, rows, lines, text_width, text)?;
         draw_names(passes, &self.caption.names, text)?;
         Ok(())
     }
@@ -186,7 +192,8 @@ impl<A: Allocator + Copy> Drawing<A> {
             (end_of ending.entry))) }
     {
         let (rows, lines) = (count(sheet.rows.len())?, ending.lines()?);
-        self.draw_head(sheet.passes, sheet.irps, rows, lines, text)?;
+        let text_width = width_below(self.alloc, ending)?;
+        self.draw_head(sheet.passes, sheet.irps, rows, lines, text_width, text)?;
         draw_picture(self.alloc, sheet, rows, ending, text)?;
         Ok(())
     }
@@ -236,8 +243,9 @@ impl<A: Allocator + Copy> Drawing<A> {
         let owners = open_owners(self.alloc, window, &places, sheet.owners)?;
         let irps = irps_after(self.alloc, sheet.irps.len(), &rows)?;
         let refused = place_of(&places, sheet.refused);
+        let passes = shown_passes(self.alloc, sheet.passes, &rows, &owners)?;
         let shown = Sheet {
-            passes: sheet.passes,
+            passes: &passes,
             irps: &irps,
             rows: &rows,
             owners: &owners,

@@ -38,26 +38,33 @@ circle.on{fill:currentColor}circle.off{fill:#ffffff}circle.b{stroke-width:3}
 text{fill:#e6edf3}.f{fill:#f85149}.s,.m,.n,.q,.t tspan{fill:#b1bac4}}
 </style>";
 
-/// How much a picture shows: so many columns of passes, IRPs and rows, lines of text below them, and lines of a
-/// caption above.
+/// How much a picture shows: so many columns of passes, IRPs and rows, lines of text below them, pixels of the widest of
+/// these lines, and lines of a caption above.
 #[derive(Clone, Copy)]
 pub(crate) struct Extent {
     pub(crate) columns: u32,
     pub(crate) irps: u32,
     pub(crate) rows: u32,
     pub(crate) lines: u32,
+    pub(crate) text_width: u32,
     pub(crate) caption: u32,
 }
+
+/// The least width of a picture: a line that ended the handling has a bar of 724 pixels. Own rule.
+const LEAST_WIDTH: u64 = 780;
 
 impl Extent {
     ghost use Rattle.std.specs.Prelude.{◌≡◌};
     ghost use Rattle.csq_draw.specs.Headings.{width, above, height};
 
-    /// The picture's width, at least that of its longest line of text.
+    /// The picture's width, at least that of its widest line of text, which begins 56 pixels from the left.
     fn width(&self) -> u64
         ensures { result ≡ width self.now }
     {
-        (flag_x(self.columns, self.irps) + 8).max(780)
+        let text = 56 + u64::from(self.text_width) + 8;
+        (flag_x(self.columns, self.irps) + 8)
+            .max(LEAST_WIDTH)
+            .max(text)
     }
 
     /// How much of the picture the caption takes, above all else.

@@ -8,7 +8,7 @@ ghost use Rattle.csq_draw.specs.declared.view.{View.{View}, Window.{Window}};
 ghost use Rattle.csq_draw.specs.declared.wrong_drawing.Refusal.{Refusal};
 ghost use Rattle.csq_draw.specs.Pictures.{IsDrawing};
 ghost use Rattle.csq_draw.specs.WrongDrawings.{IsOrderDrawing, WrongDrawn};
-ghost use Rattle.csq_draw.specs.Laws.{HasOnePicture, EachStepHasOneMark, EachStepShowsItsWords, EachLineHasItsNumber, EachShadeIsOfTheLock, EachArrowIsFromTheWrite, EachBarShowsTheWords, EachStepOfAnOrderHasOneMark, EachShownStepHasOneMark, EachPassHasItsColumn, EachIrpHasItsPlace, TheShadedPassHasTheLock, EachDrawnOwnerOwesOrHolds, NoTwoLinesShareALane, TheNinthLaneIsLast};
+ghost use Rattle.csq_draw.specs.Laws.{HasOnePicture, EachStepHasOneMark, EachStepShowsItsWords, EachLineHasItsNumber, EachShadeIsOfTheLock, EachArrowIsFromTheWrite, EachBarShowsTheWords, EachStepOfAnOrderHasOneMark, EachShownStepHasOneMark, EachPassHasItsColumn, EachShownPassHasItsColumn, EachIrpHasItsPlace, TheShadedPassHasTheLock, EachDrawnOwnerOwesOrHolds, NoTwoLinesShareALane, TheNinthLaneIsLast};
 
 /// A schedule has at most one picture in each view, so the relation that `draw_schedule` and
 /// `draw_schedule_as_text` meet names its bytes.
@@ -74,6 +74,13 @@ pub fn each_shown_step_has_one_mark()
 /// Passes that made a step of the run have columns of their own, in the order of their numbers.
 pub fn each_pass_has_its_column()
     ensures { (size : Size) (W : List Numbered) → EachPassHasItsColumn size W }
+{}
+
+/// In a window just those passes have columns that it shows, in the order of their numbers: who makes a step there, has
+/// the lock at one, or owes or holds an IRP.
+pub fn each_shown_pass_has_its_column()
+    ensures { (size : Size) (W : List Numbered) (w : Window)
+        → EachShownPassHasItsColumn size W w }
 {}
 
 /// IRPs that a step of the run names have places of their own at the right, in the order of their numbers.

@@ -35,9 +35,9 @@ pub use heading::PICTURE_HEAD;
 pub use laws::{
     a_schedule_has_one_picture, an_order_has_one_picture, each_arrow_is_from_the_write,
     each_drawn_owner_owes_or_holds, each_line_has_its_number, each_pass_has_its_column,
-    each_shade_is_of_the_lock, each_shown_step_has_one_mark, each_step_has_one_mark,
-    each_step_of_an_order_has_one_mark, each_step_shows_its_words, no_two_lines_share_a_lane,
-    the_shaded_pass_has_the_lock,
+    each_shade_is_of_the_lock, each_shown_pass_has_its_column, each_shown_step_has_one_mark,
+    each_step_has_one_mark, each_step_of_an_order_has_one_mark, each_step_shows_its_words,
+    no_two_lines_share_a_lane, the_shaded_pass_has_the_lock,
 };
 pub use view::{Format, View, Window};
 pub use wrong_drawing::WrongDrawing;

@@ -1,11 +1,11 @@
 //! A schedule, drawn for a terminal: a row for each step, with a column for each pass.
-ghost use Rattle.std.specs.Prelude.{◌≡◌, ◌-◌, ◌*◌, ◌≤◌, ◌++◌, codes, length, replicate, string_bytes, string_len, OnOk};
+ghost use Rattle.std.specs.Prelude.{◌≡◌, ◌-◌, ◌*◌, ◌<◌, ◌≤◌, ◌^◌, ◌++◌, codes, length, replicate, string_bytes, string_len, IfOk, OnOk};
 ghost use Rattle.csq_replay.specs.Lines.{GrewBy};
 ghost use Rattle.csq_draw.specs.Captions.{caption_of};
 ghost use Rattle.csq_draw.specs.Endings.{broken_line};
 ghost use Rattle.csq_explain.specs.Reasons.{reason_text};
 ghost use Rattle.csq_draw.specs.Passes.{columns, column_of};
-ghost use Rattle.csq_draw.specs.Terminal.{each_text, spaces, in_width, cell_text, words_cells, row_cells, state_cell, row_text, ended_lines, broken_lines, pass_cell, rows_text, life_cell, irp_line_reported, closed_lines};
+ghost use Rattle.csq_draw.specs.Terminal.{each_text, spaces, in_width, cell_text, words_cells, row_cells, state_cell, row_text, ended_lines, broken_lines, pass_cell, rows_text, life_cell, irp_line_reported, closed_lines, letter_width, widest_line};
 ghost use Rattle.csq_draw.specs.Pictures.{end_of};
 
 use crate::caption::Caption;
@@ -14,7 +14,7 @@ use crate::ending::{BrokenLine, Ending, IrpEnding, Rest, StopText};
 use crate::irps::{IrpNow, irp_at};
 use crate::marks::Legality;
 use crate::passes::{column_of, columns};
-use crate::rows::Row;
+use crate::rows::{Row, count};
 use csq_explain::{HarmAt, PassNow, Reason, WordValues, add_harms};
 use csq_replay::IrpLine;
 use irp_core::{IrpLife, PassId};
@@ -282,6 +282,41 @@ fn push_end<A: Allocator>(ending: Ending<'_>, text: &mut String<A>) -> Result<()
         Ending::Closed(irps, reported, rest) => push_closed(irps, reported, rest, text),
         Ending::Broken(line, reason, harms) => push_harms(line, reason, harms, text),
     }
+}
+
+/// How wide a letter of a text below a picture is taken to be, in pixels: a capital letter is wider. Own rule.
+fn letter_width(byte: u8) -> usize
+    ensures value { result ≡ letter_width byte }
+    ensures most { result ≤ 9 }
+{
+    if byte >= b'A' && byte <= b'Z' { 9 } else { 6 }
+}
+
+/// How wide the widest line of a text is, in pixels.
+fn widest_line(text: &[u8]) -> usize
+    requires { length text.now < 2 ^ 32 }
+    ensures { result ≡ widest_line 0 text.now }
+{
+    let (mut widest, mut width) = (0_usize, 0_usize);
+    for byte in text {
+        if *byte == b'\n' {
+            widest = widest.max(width);
+            width = 0;
+        } else {
+            width += letter_width(*byte);
+        }
+    }
+    widest.max(width)
+}
+
+/// How wide the widest line of text is with which a picture ends, in pixels.
+pub(crate) fn width_below<A: Allocator>(alloc: A, ending: Ending<'_>) -> Result<u32, AllocError>
+    ensures { IfOk result (λ width. width ≡ widest_line 0 (end_of ending.entry).text) }
+{
+    let mut text = String::new(alloc);
+    push_end(ending, &mut text)?;
+    count(text.len())?;
+    count(widest_line(text.as_bytes()))
 }
 
 /// Writes a caption, the rows of these passes, and how the picture ends.

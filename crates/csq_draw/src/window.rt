@@ -1,12 +1,15 @@
-//! The part of a picture that a window shows: its rows follow each other, and the lines of owners move with them.
-ghost use Rattle.std.specs.Prelude.{◌≡◌, ◌++◌, ◌∷◌, [], length, map, IfOk, OnOk};
+//! The part of a picture that a window shows: its rows follow each other, the lines of owners move with them, and a pass
+//! that it doesn't show has no column.
+ghost use Rattle.std.specs.Prelude.{◌≡◌, ◌≤◌, ◌++◌, ◌∷◌, [], length, map, IfOk, OnOk};
+ghost use Rattle.std.specs.List.{list_any};
 ghost use Rattle.std.specs.Option.{option_map};
-ghost use Rattle.csq_draw.specs.Windows.{is_wanted, shows, next, places, place, moved_owner, moved, cut, open_in};
+ghost use Rattle.csq_draw.specs.Windows.{is_wanted, shows, next, places, place, moved_owner, moved, cut, open_in, is_pass, is_owner, has_line, row_shows, shown_pass, shown_passes};
 
 use crate::owners::Owner;
 use crate::rows::{Row, count};
 use crate::view::Window;
-use irp_core::IrpId;
+use csq_explain::PassNow;
+use irp_core::{IrpId, PassId};
 use std::alloc::{AllocError, Allocator};
 
 /// Whether this is the IRP that a window is of, if it is of one.
@@ -160,4 +163,87 @@ pub(crate) fn open_owners<A: Allocator>(
         lines.push(open_in(window, places, *owner))?;
     }
     Ok(lines)
+}
+
+/// Whether this is a pass, and the one that is asked for.
+#[tactic(auto, unfolding(irp_core::specs::Steps::same_pass))]
+fn is_pass(pass: PassId, found: Option<PassId>) -> bool
+    ensures { result ≡ is_pass pass found }
+{
+    match found {
+        Some(found) => found.0 == pass.0,
+        None => false,
+    }
+}
+
+/// Whether there is an owner, and this pass is it.
+#[tactic(auto, unfolding(irp_core::specs::Steps::same_pass))]
+fn is_owner(pass: PassId, owner: Option<Owner>) -> bool
+    ensures { result ≡ is_owner pass owner }
+{
+    match owner {
+        Some(owner) => owner.pass.0 == pass.0,
+        None => false,
+    }
+}
+
+/// Whether a row shows a pass: it makes the step, has the lock, or no longer owes or holds an IRP.
+#[tactic(auto, unfolding(irp_core::specs::Steps::same_pass))]
+fn row_shows(pass: PassId, row: Row) -> bool
+    ensures { result ≡ row_shows pass row }
+{
+    row.step.made.pass.0 == pass.0 || is_pass(pass, row.lock) || is_owner(pass, row.ended)
+}
+
+/// Whether one of these rows shows a pass.
+fn has_row(rows: &[Row], pass: PassId) -> bool
+    ensures { result ≡ list_any (row_shows pass) rows.now }
+{
+    rows.iter().any(|row| row_shows(pass, *row))
+}
+
+/// Whether an owner after so many rows is this pass, and has a line on them.
+#[tactic(auto, unfolding(irp_core::specs::Steps::same_pass))]
+fn has_line(count: usize, pass: PassId, owner: Option<Owner>) -> bool
+    ensures { result ≡ has_line count pass owner }
+{
+    match owner {
+        Some(owner) => (owner.row as usize) < count && owner.pass.0 == pass.0,
+        None => false,
+    }
+}
+
+/// Whether one of these owners after so many rows is a pass, and has a line on them.
+fn has_owner(count: usize, owners: &[Option<Owner>], pass: PassId) -> bool
+    ensures { result ≡ list_any (has_line count pass) owners.now }
+{
+    owners.iter().any(|owner| has_line(count, pass, *owner))
+}
+
+/// What is known of a pass in a window: it has a column if it is shown.
+fn shown_pass(now: PassNow, shown: bool) -> PassNow
+    ensures { result ≡ shown_pass now shown }
+{
+    let mut known = now;
+    known.makes = shown;
+    known
+}
+
+/// These passes, of which just those have columns that these rows show, or these owners after them.
+pub(crate) fn shown_passes<A: Allocator>(
+    alloc: A,
+    passes: &[PassNow],
+    rows: &[Row],
+    owners: &[Option<Owner>],
+) -> Result<Vec<PassNow, A>, AllocError>
+    requires { length passes.now ≤ 65 }
+    ensures { IfOk result (λ shown. shown.items ≡ shown_passes passes.now rows.now owners.now) }
+{
+    let mut shown = Vec::new(alloc);
+    for number in 0..passes.len() {
+        let pass = PassId(number as u32);
+        let is_shown = has_row(rows, pass) || has_owner(rows.len(), owners, pass);
+        shown.push(shown_pass(passes[number], is_shown))?;
+    }
+    Ok(shown)
 }

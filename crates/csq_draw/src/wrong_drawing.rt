@@ -1,17 +1,20 @@
-//! Schedules that may break the protocol, drawn: up to the first refused step as any schedule, and behind it by the two
+//! Schedules that may break the protocol, drawn: up to the first refused step as any schedule, and after it by the two
 //! words of each IRP alone.
-ghost use Rattle.std.specs.Prelude.{◌≡◌, ◌≤◌, ◌<◌, ◌∷◌, ◌++◌, [], Option, Some, length, string_bytes, IfOk, OnOk};
+ghost use Rattle.std.specs.Prelude.{◌≡◌, ◌≤◌, ◌<◌, ◌∷◌, ◌++◌, [], ℕ, List, Option, Some, length, string_bytes, IfOk, OnOk};
 ghost use Rattle.irp_core.specs.MachineState.{size_of};
 ghost use Rattle.irp_core.specs.Runs.{Size, OfIrp, IsInLimits};
 ghost use Rattle.irp_core.specs.Steps.{number};
 ghost use Rattle.csq_replay.specs.Lines.{GrewBy};
 ghost use Rattle.csq_explain.specs.Harms.{harms_of};
+ghost use Rattle.csq_explain.specs.declared.line_steps.LineStep.{LineStep as LineStepOf};
 ghost use Rattle.csq_explain.specs.LineSteps.{by_words};
+ghost use Rattle.csq_explain.specs.Orders.{irps_in, OrderStands};
 ghost use Rattle.csq_draw.specs.Captions.{caption_of, ended_caption};
 ghost use Rattle.csq_draw.specs.Drawings.{owner_in, NotesStep};
 ghost use Rattle.csq_draw.specs.Pictures.{broken_end, end_of, stopped_end};
 ghost use Rattle.csq_draw.specs.Words.{AreWordsNamed};
-ghost use Rattle.csq_draw.specs.WrongDrawings.{WrongDrawn, WrongDrawingStands, new_wrong_drawn, legality_of, first_refusal, row_behind, step_behind, broken_text, order_stop_text, StandsInView};
+ghost use Rattle.csq_draw.specs.WrongRows.{wrong_row};
+ghost use Rattle.csq_draw.specs.WrongDrawings.{WrongDrawn, WrongDrawingStands, new_wrong_drawn, legality_of, first_refusal, step_behind, broken_text, order_stop_text, StandsInView};
 ghost use Rattle.csq_explain.specs.declared.word_values.WordValues.{WordValues};
 
 use crate::drawing::Drawing;
@@ -22,7 +25,7 @@ use crate::picture::Sheet;
 use crate::rows::count;
 use crate::view::View;
 use crate::wrong_rows::{makers, wrong_row};
-use csq_explain::{Explained, LineStep, Reason, StepInCall, by_words, goes_on, harms_of};
+use csq_explain::{Explained, LineStep, Order, Reason, StepInCall, goes_on};
 use csq_replay::{Answerer, Line, Stop};
 use irp_core::{Kind, PassId, Step, StepRefused};
 use std::alloc::{AllocError, Allocator};
@@ -35,12 +38,12 @@ pub struct Refusal {
     pub(crate) reason: Reason,
 }
 
-/// The drawing, all steps, and the first refused one. Up to that the drawing's rows are those of its execution, and behind
+/// The drawing, the order of all steps, and the first refused one. Up to that the drawing's rows are those of its execution, and behind
 /// it they go by the words.
 #[derive(Drop)]
 pub struct WrongDrawing<A: Allocator> {
     pub(crate) drawing: Drawing<A>,
-    pub(crate) steps: Vec<LineStep, A>,
+    pub(crate) order: Order<A>,
     pub(crate) refusal: Option<Refusal>,
 }
 
@@ -84,7 +87,7 @@ impl<A: Allocator + Copy> WrongDrawing<A> {
     {
         Ok(WrongDrawing {
             drawing: Drawing::new(alloc, irps, passes, view)?,
-            steps: Vec::new(alloc),
+            order: Order::new(alloc, irps)?,
             refusal: None,
         })
     }
@@ -99,6 +102,7 @@ impl<A: Allocator + Copy> WrongDrawing<A> {
         requires owner { OfIrp (λ i. number i < length self.old.drawing.owners.items) step.made.kind }
         requires irp { OfIrp (λ i. number i < (size_of self.old.drawing.execution.machine).irps)
             step.made.kind }
+        requires order { OfIrp (λ i. number i < irps_in self.old.order) step.made.kind }
         ensures noted { OnOk result ((words : Option WordValues)
             × AreWordsNamed self.old.drawing.execution.machine step.made.kind
             (owner_in self.new.drawing.owners.items step.made.kind) words
@@ -108,13 +112,13 @@ impl<A: Allocator + Copy> WrongDrawing<A> {
         ensures captioned { OnOk result (caption_of self.new.drawing.caption
             ≡ ended_caption (caption_of self.old.drawing.caption)) }
         ensures view { self.new.drawing.view ≡ self.old.drawing.view }
-        ensures steps { OnOk result (self.new.steps.items
-            ≡ self.old.steps.items ++ record { line = line; made = step.made } ∷ []) }
+        ensures order { OnOk result ((irps : ℕ) (V : List LineStepOf) → OrderStands self.old.order irps V
+            → OrderStands self.new.order irps (record { line = line; made = step.made } ∷ V)) }
         ensures refusal { self.new.refusal ≡ self.old.refusal }
     {
         self.drawing.note(line, step, held)?;
         let made = step.made;
-        self.steps.push(LineStep { line, made })?;
+        self.order.add(LineStep { line, made })?;
         Ok(())
     }
 
@@ -126,11 +130,12 @@ impl<A: Allocator + Copy> WrongDrawing<A> {
         kind: Kind,
         legality: Legality,
     ) -> Result<(), AllocError>
-        ensures steps { OnOk result (self.new.steps.items
-            ≡ self.old.steps.items ++ by_words self.old.steps.items line pass kind ∷ []) }
-        ensures rows { OnOk result (self.new.drawing.rows.items ≡ self.old.drawing.rows.items
-            ++ row_behind self.old.steps.items
-            (by_words self.old.steps.items line pass kind) legality ∷ []) }
+        requires { OfIrp (λ i. number i < irps_in self.old.order) kind }
+        ensures order { OnOk result ((irps : ℕ) (V : List LineStepOf) → OrderStands self.old.order irps V
+            → OrderStands self.new.order irps (by_words V line pass kind ∷ V)) }
+        ensures rows { OnOk result ((irps : ℕ) (V : List LineStepOf) → OrderStands self.old.order irps V
+            → self.new.drawing.rows.items ≡ self.old.drawing.rows.items
+            ++ wrong_row V (length self.old.drawing.rows.items) (by_words V line pass kind) legality ∷ []) }
         ensures execution { self.new.drawing.execution ≡ self.old.drawing.execution }
         ensures owners { self.new.drawing.owners ≡ self.old.drawing.owners }
         ensures captioned { caption_of self.new.drawing.caption
@@ -138,10 +143,10 @@ impl<A: Allocator + Copy> WrongDrawing<A> {
         ensures view { self.new.drawing.view ≡ self.old.drawing.view }
         ensures refusal { self.new.refusal ≡ self.old.refusal }
     {
-        let number = count(self.steps.len())?;
-        let step = by_words(&self.steps, line, pass, kind);
-        let row = wrong_row(&self.steps, number, step, legality);
-        self.steps.push(step)?;
+        let number = count(self.drawing.rows.len())?;
+        let step = self.order.by_words(line, pass, kind);
+        let row = wrong_row(&self.order, number, step, legality);
+        self.order.add(step)?;
         self.drawing.rows.push(row)?;
         Ok(())
     }
@@ -154,21 +159,22 @@ impl<A: Allocator + Copy> WrongDrawing<A> {
         cause: StepRefused,
         reason: Reason,
     ) -> Result<(), AllocError>
-        ensures steps { OnOk result (self.new.steps.items
-            ≡ self.old.steps.items ++ by_words self.old.steps.items line step.pass step.kind ∷ []) }
-        ensures rows { OnOk result (self.new.drawing.rows.items ≡ self.old.drawing.rows.items
-            ++ row_behind self.old.steps.items
-            (by_words self.old.steps.items line step.pass step.kind)
+        requires { OfIrp (λ i. number i < irps_in self.old.order) step.kind }
+        ensures order { OnOk result ((irps : ℕ) (V : List LineStepOf) → OrderStands self.old.order irps V
+            → OrderStands self.new.order irps (by_words V line step.pass step.kind ∷ V)) }
+        ensures rows { OnOk result ((irps : ℕ) (V : List LineStepOf) → OrderStands self.old.order irps V
+            → self.new.drawing.rows.items ≡ self.old.drawing.rows.items
+            ++ wrong_row V (length self.old.drawing.rows.items) (by_words V line step.pass step.kind)
             (legality_of self.old.refusal cause) ∷ []) }
         ensures refusal { OnOk result (self.new.refusal ≡ Some (first_refusal self.old.refusal
-            (record { line = line; row = length self.old.steps.items; reason = reason }))) }
+            (record { line = line; row = length self.old.drawing.rows.items; reason = reason }))) }
         ensures execution { self.new.drawing.execution ≡ self.old.drawing.execution }
         ensures owners { self.new.drawing.owners ≡ self.old.drawing.owners }
         ensures captioned { OnOk result (caption_of self.new.drawing.caption
             ≡ ended_caption (caption_of self.old.drawing.caption)) }
         ensures view { self.new.drawing.view ≡ self.old.drawing.view }
     {
-        let row = count(self.steps.len())?;
+        let row = count(self.drawing.rows.len())?;
         let legality = legality_of(self.refusal, cause);
         self.refusal = Some(first_refusal(self.refusal, Refusal { line, row, reason }));
         self.drawing.caption.end();
@@ -229,9 +235,9 @@ impl<A: Allocator + Copy> WrongDrawing<A> {
         ensures { OnOk result ((size : Size) (d : WrongDrawn) → WrongDrawingStands self.now size d
             → GrewBy (string_bytes text.old) (string_bytes text.new)
             (broken_text size self.now.drawing.view d refusal
-            (broken_end refusal.line refusal.reason (harms_of [] d.steps)))) }
+            (broken_end refusal.line refusal.reason (harms_of size.irps d.steps)))) }
     {
-        let harms = harms_of(self.drawing.alloc, &self.steps)?;
+        let harms = self.order.harms(self.drawing.alloc)?;
         let Refusal { line, reason, .. } = refusal;
         self.draw_behind(refusal, Ending::Broken(line, reason, &harms), text)?;
         Ok(())

@@ -1,10 +1,14 @@
-//! The rows of a refused step, and of what comes behind it by the two words of each IRP alone.
-ghost use Rattle.std.specs.Prelude.{◌≡◌, IfOk};
+//! The rows of a refused step, and of what comes after it by the two words of each IRP alone.
+ghost use Rattle.std.specs.Prelude.{◌≡◌, ◌<◌, ℕ, List, IfOk};
+ghost use Rattle.irp_core.specs.Runs.{OfIrp};
+ghost use Rattle.irp_core.specs.Steps.{number};
+ghost use Rattle.csq_explain.specs.declared.line_steps.LineStep.{LineStep as LineStepOf};
+ghost use Rattle.csq_explain.specs.Orders.{irps_in, OrderStands};
 ghost use Rattle.csq_draw.specs.WrongRows.{words_in, words_by, wrong_row, with_maker, makers};
 
 use crate::marks::Legality;
 use crate::rows::Row;
-use csq_explain::{LineStep, PassNow, StepInCall, WordValues, words_at};
+use csq_explain::{LineStep, Order, PassNow, StepInCall, WordValues};
 use irp_core::{Inside, IrpLife, Kind, PassId};
 use std::alloc::{AllocError, Allocator};
 
@@ -21,22 +25,32 @@ fn words_in(words: WordValues, name: IrpLife, kind: Kind) -> Option<WordValues>
     }
 }
 
-/// The words of the IRP that a step of this kind names, after these steps and that one.
-fn words_by(steps: &[LineStep], kind: Kind) -> Option<WordValues>
-    ensures { result ≡ words_by steps.now kind }
+/// The words of the IRP that a step of this kind names, after this order and that step.
+fn words_by<A: Allocator + Copy>(order: &Order<A>, kind: Kind) -> Option<WordValues>
+    requires { OfIrp (λ i. number i < irps_in order.now) kind }
+    ensures { (irps : ℕ) (V : List LineStepOf) → OrderStands order.now irps V → result ≡ words_by V kind }
 {
-    let name = kind.name()?;
-    words_in(words_at(steps, name.irp), name, kind)
+    match kind.name() {
+        Some(name) => words_in(order.words(name.irp), name, kind),
+        None => None,
+    }
 }
 
-/// The row of this number, of a step after these. Behind a refused step nothing is known of calls, of the lock and of
+/// The row of this number, of a step after this order. After a refused step nothing is known of calls, of the lock and of
 /// owners.
-pub(crate) fn wrong_row(steps: &[LineStep], number: u32, step: LineStep, legality: Legality) -> Row
-    ensures { result ≡ wrong_row steps.now number step legality }
+pub(crate) fn wrong_row<A: Allocator + Copy>(
+    order: &Order<A>,
+    row: u32,
+    step: LineStep,
+    legality: Legality,
+) -> Row
+    requires { OfIrp (λ i. number i < irps_in order.now) step.made.kind }
+    ensures { (irps : ℕ) (V : List LineStepOf) → OrderStands order.now irps V
+        → result ≡ wrong_row V row step legality }
 {
     let LineStep { line, made } = step;
     Row {
-        row: number,
+        row,
         line,
         step: StepInCall {
             made,
@@ -46,7 +60,7 @@ pub(crate) fn wrong_row(steps: &[LineStep], number: u32, step: LineStep, legalit
         legality,
         lock: None,
         ended: None,
-        words: words_by(steps, made.kind),
+        words: words_by(order, made.kind),
     }
 }
 

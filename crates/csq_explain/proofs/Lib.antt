@@ -1,12 +1,15 @@
 pub mod Imports
 pub mod Tables
 pub mod Following
+pub mod MovedIrps
 pub mod Statuses
 pub mod Outcomes
 pub mod Closings
 pub mod OneText
 pub mod ScriptTexts
-pub mod WordSteps
+pub mod Records
+pub mod HarmLaws
+pub mod Orders
 pub mod WordLaws
-pub mod HarmsFound
+pub mod RestLaws
 pub mod Wrongs

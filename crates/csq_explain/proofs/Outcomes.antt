@@ -1,6 +1,6 @@
 -- What came of a line, by what is reported for it.
 use Rattle.std.proofs.Common.{◌≡◌, ℕ, List, ◌∷◌, ap, sym, subst}
-use Rattle.csq_explain.proofs.Imports.{Made, Size, Skipped, Accepted, Stopped, Numbered, run_of, StepInCall, Follows, Explains, all_passes, reason_of, in_call}
+use Rattle.csq_explain.proofs.Imports.{Made, Size, Skipped, Accepted, Stopped, Numbered, run_of, StepInCall, Follows, Explains, reason_of, in_call}
 use Rattle.csq_replay.specs.declared.schedule.outcome.Stop.{Stop}
 use Rattle.csq_replay.specs.Outcomes.{ComesTo}
 use Rattle.csq_explain.specs.declared.execution.Execution.{Execution}
@@ -27,11 +27,11 @@ module _ {A : Type 0} (size : Size) (W : List Numbered) (n : ℕ) (line : List �
 
   -- it ends the handling for this reason, and the execution stays
   pub was_stopped : (reason : Reason) → Explains size W n line (explained.Stopped reason) new
-      → ComesTo size (run_of W) line (Stopped reason.stop) × (reason ≡ reason_of size (all_passes size W) reason.stop) × Follows size new W
+      → ComesTo size (run_of W) line (Stopped reason.stop) × (reason ≡ reason_of size W reason.stop) × Follows size new W
   was_stopped reason (Skipped, comes, is, on) = absurd (cc is)
   was_stopped reason (Accepted m, comes, is, on) = absurd (cc is)
   was_stopped reason (Stopped stop, comes, is, on) =
-      let reported : reason ≡ reason_of size (all_passes size W) stop = cc is in
+      let reported : reason ≡ reason_of size W stop = cc is in
       let same : stop ≡ reason.stop = sym (ap (λ (r : Reason). r.stop) reported) in
-      let P : Stop → Type 0 = λ x. ComesTo size (run_of W) line (Stopped x) × (reason ≡ reason_of size (all_passes size W) x) × Follows size new W in
+      let P : Stop → Type 0 = λ x. ComesTo size (run_of W) line (Stopped x) × (reason ≡ reason_of size W x) × Follows size new W in
       subst P same (comes, reported, on)

@@ -12,7 +12,7 @@ use Rattle.irp_core.proofs.Lives.{life_same, life_next, used_begun, armed_presen
 use Rattle.irp_core.proofs.MachineStates.{tested_present}
 use Rattle.irp_core.proofs.Names.{named, other_irp, same_id-eq, same_irp-eq, same_irp-refl}
 use Rattle.csq_explain.specs.declared.line_steps.LineStep.{LineStep}
-use Rattle.csq_explain.specs.LineSteps.{made_by}
+use Rattle.csq_explain.specs.LineSteps.{made_in}
 use Rattle.csq_explain.specs.Laws.{TheWordsAreTheRuns, EachNextStepFindsTheWords}
 use Rattle.csq_explain.specs.WordValues.{words_after, words_with, words_of, clear_words, changed, found_after}
 
@@ -160,7 +160,7 @@ found_is size E r z p (Out i) v f = found_nothing (same_irp i (words_after E i.i
 found_is size E r z p (Done i) v f = found_nothing (same_irp i (words_after E i.irp).name)
 found_is size E r z p (Renew i) v f = found_nothing (same_irp i (words_after E i.irp).name)
 
-pub found_words : (size : Size) (steps : List LineStep) → IsRun size (made_by [] steps) → EachNextStepFindsTheWords size steps
-found_words size steps r z n m f =
+pub found_words : (size : Size) (V : List LineStep) → IsRun size (made_in V) → EachNextStepFindsTheWords size V
+found_words size V r z n m f =
     let with_value : ℕ → LineStep = λ v. record { line = n; made = record { pass = m.pass; kind = m.kind; found = v } } in
-    ap with_value (sym (f.found ∙ found_is size (made_by [] steps) r z m.pass m.kind m.found f))
+    ap with_value (sym (f.found ∙ found_is size (made_in V) r z m.pass m.kind m.found f))

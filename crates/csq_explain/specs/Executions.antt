@@ -13,16 +13,18 @@ use Rattle.csq_replay.specs.Schedule.{Numbered, run_of}
 use Rattle.csq_explain.specs.declared.execution.{Execution.{Execution}, Explained.{Explained}}
 use Rattle.csq_explain.specs.declared.execution.Explained.TheVariants as explained
 use Rattle.csq_explain.specs.declared.reasons.Reason.{Reason}
+use Rattle.csq_explain.specs.Irps.{all_irps}
 use Rattle.csq_explain.specs.Passes.{all_passes}
 use Rattle.csq_explain.specs.Reasons.{reason_of}
 use Rattle.csq_explain.specs.Sentences.{in_call}
 
--- the machine agrees with the steps W, and the passes are as these left them
+-- the machine agrees with the steps W, and the passes and IRPs are as these left them
 pub record Follows {A : Type 0} (size : Size) (execution : Execution A) (W : List Numbered) : Type 0 where
   pub same : size_of execution.machine ≡ size
   pub limits : IsInLimits size
   pub agrees : Agrees execution.machine (run_of W)
   pub passes : execution.passes.items ≡ all_passes size W
+  pub irps : execution.irps.items ≡ all_irps size W
 
 -- it follows some execution
 abbrev pub IsFollowing : {A : Type 0} → Execution A → Type 0
@@ -37,7 +39,7 @@ steps_after W n _ = W
 abbrev pub explained_of : Size → List Numbered → Outcome → Explained
 explained_of size W Skipped = explained.Skipped
 explained_of size W (Accepted m) = explained.Accepted (in_call (run_of W) m)
-explained_of size W (Stopped stop) = explained.Stopped (reason_of size (all_passes size W) stop)
+explained_of size W (Stopped stop) = explained.Stopped (reason_of size W stop)
 
 -- after the steps W this comes of the nth line, and is reported so, and the execution goes on
 abbrev pub Explains : {A : Type 0} → Size → List Numbered → ℕ → List ℕ → Explained → Execution A → Type 0
@@ -45,7 +47,7 @@ Explains size W n line reported new = (comes : Outcome) × ComesTo size (run_of 
 
 -- after the steps W the nth line ends the handling for this reason
 abbrev pub StopsFor : Size → List Numbered → ℕ → List ℕ → Reason → Type 0
-StopsFor size W n line reason = ComesTo size (run_of W) line (Stopped reason.stop) × (reason ≡ reason_of size (all_passes size W) reason.stop)
+StopsFor size W n line reason = ComesTo size (run_of W) line (Stopped reason.stop) × (reason ≡ reason_of size W reason.stop)
 
 -- the status with which an IRP at this place was completed
 abbrev pub status_of_place : IrpPlace → Option NtStatus

@@ -11,7 +11,6 @@ use Rattle.csq_replay.specs.declared.schedule.outcome.Outcome.{Outcome, TheVaria
 use Rattle.csq_replay.specs.Lines.{IsAnswer, RepliesTo}
 use Rattle.csq_replay.specs.Schedule.{Numbered, run_of, ReportsLine, answer_text, irp_line_text, rest_text, claim_line, exchanged_irp, Closes, IsScheduleAnswer}
 use Rattle.csq_explain.specs.Endings.{irp_sentence, rest_sentence}
-use Rattle.csq_explain.specs.Passes.{all_passes}
 use Rattle.csq_explain.specs.Reasons.{reason_of, reason_text}
 use Rattle.csq_explain.specs.Sentences.{in_call, sentence}
 
@@ -23,7 +22,7 @@ remark text = codes "  " ++ (text ++ codes "\n")
 abbrev pub line_remark : Size → List Numbered → Outcome → List ℕ
 line_remark size W Skipped = []
 line_remark size W (Accepted m) = remark (sentence (in_call (run_of W) m))
-line_remark size W (Stopped stop) = remark (reason_text (reason_of size (all_passes size W) stop))
+line_remark size W (Stopped stop) = remark (reason_text (reason_of size W stop))
 
 -- the answer to the nth line, and a sentence
 abbrev pub explained_text : Size → List Numbered → ℕ → List ℕ → Outcome → List ℕ

@@ -1,6 +1,7 @@
 pub mod Tables
 pub mod Words
 pub mod Passes
+pub mod Irps
 pub mod Sentences
 pub mod Reasons
 pub mod Endings
@@ -14,5 +15,7 @@ pub mod ScriptExplanations
 pub mod WordValues
 pub mod Laws
 pub mod LineSteps
+pub mod IrpRecords
 pub mod Harms
+pub mod Orders
 pub mod WrongOrders

@@ -9,9 +9,12 @@ use Rattle.irp_core.specs.Runs.{Size}
 use Rattle.irp_core.specs.Texts.{name_text, pass_text, life_text}
 use Rattle.csq_replay.specs.declared.schedule.outcome.Stop.{Stop, TheVariants.{TooLong, Malformed, Refused}}
 use Rattle.csq_replay.specs.declared.lines.TheConstants.{MAX_LINE}
+use Rattle.csq_replay.specs.Schedule.{Numbered}
+use Rattle.csq_explain.specs.declared.irps.IrpState.{IrpState}
 use Rattle.csq_explain.specs.declared.passes.PassNow.{PassNow}
 use Rattle.csq_explain.specs.declared.reasons.Reason.{Reason}
-use Rattle.csq_explain.specs.Passes.{new_pass_now}
+use Rattle.csq_explain.specs.Irps.{all_irps, irp_asked}
+use Rattle.csq_explain.specs.Passes.{all_passes, new_pass_now}
 use Rattle.csq_explain.specs.Words.{step_words, listed}
 
 -- the pass that a line's end is a matter of: who has the lock, or else who would make the step
@@ -74,11 +77,16 @@ stop_reason irps passes now (Refused s cause) = cause_text irps passes now s.pas
 unfoldable pub reason_text : Reason → List ℕ
 reason_text reason = stop_reason reason.irps reason.passes reason.now reason.stop
 
--- why a line ends the handling, by what is known of these passes
-abbrev pub reason_of : Size → List PassNow → Stop → Reason
-reason_of size passes stop = record {
+-- why a line ends the handling, by what is known of these passes and IRPs
+abbrev pub reason_by : Size → List PassNow → List IrpState → Stop → Reason
+reason_by size passes irps stop = record {
   stop = stop;
   irps = size.irps;
   passes = size.passes;
   now = slice_index_or passes (pass_asked stop).0 new_pass_now;
+  irp = irp_asked irps stop;
 }
+
+-- and after the steps W
+abbrev pub reason_of : Size → List Numbered → Stop → Reason
+reason_of size W stop = reason_by size (all_passes size W) (all_irps size W) stop

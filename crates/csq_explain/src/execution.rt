@@ -9,8 +9,9 @@ ghost use Rattle.csq_replay.specs.declared.schedule.closing.IrpLine.{IrpLine as 
 ghost use Rattle.csq_replay.specs.Schedule.{Numbered, run_of, AreReportedOf, IsReportedOf, Closes};
 ghost use Rattle.csq_explain.specs.Executions.{Follows, IsFollowing, Explains, IsStatusAfter};
 ghost use Rattle.csq_explain.specs.Passes.{new_pass_now, pass_after};
-ghost use Rattle.csq_explain.specs.Reasons.{reason_of};
+ghost use Rattle.csq_explain.specs.Reasons.{reason_by};
 
+use crate::irps::{IrpState, irp_asked, new_irps, note_irp};
 use crate::passes::{PassNow, new_passes, pass_after};
 use crate::reasons::{Reason, pass_asked};
 use crate::sentences::StepInCall;
@@ -18,13 +19,15 @@ use csq_replay::{IrpLine, Line, Outcome, Stop, handle_line, irp_line};
 use irp_core::{Inside, IrpId, IrpPlace, Kind, Machine, Made, NtStatus};
 use std::alloc::{AllocError, Allocator};
 
-/// A machine, and what is known of each pass, by its number; pass 0 makes no step.
+/// A machine, and what is known of each pass and of each IRP, by its number; pass 0 makes no step.
 #[derive(Drop)]
 pub struct Execution<A: Allocator> {
     /// What the steps were made on.
     pub machine: Machine<A>,
     /// What each pass is inside of.
     pub passes: Vec<PassNow, A>,
+    /// Where each IRP is.
+    pub irps: Vec<IrpState, A>,
 }
 
 /// What comes of a line of a schedule, and what is known of it.
@@ -77,6 +80,7 @@ impl<A: Allocator + Copy> Execution<A> {
         Ok(Execution {
             machine,
             passes: new_passes(alloc, passes as usize + 1)?,
+            irps: new_irps(alloc, irps as usize)?,
         })
     }
 
@@ -92,6 +96,7 @@ impl<A: Allocator + Copy> Execution<A> {
             Outcome::Skipped => Explained::Skipped,
             Outcome::Accepted(made) => {
                 let inside = self.note_pass(line.number, made);
+                note_irp(&mut self.irps, line.number, made);
                 let status = status_after(&self.machine, made.kind);
                 Explained::Accepted(StepInCall {
                     made,
@@ -113,6 +118,7 @@ impl<A: Allocator + Copy> Execution<A> {
         ensures passes { self.new.passes.items ≡ slice_set self.old.passes.items made.pass.0
             (pass_after (slice_index_or self.old.passes.items made.pass.0 new_pass_now)
             (record { line = line; step = made })) }
+        ensures irps { self.new.irps ≡ self.old.irps }
         ensures machine { self.new.machine ≡ self.old.machine }
     {
         let at = made.pass.0 as usize;
@@ -123,7 +129,8 @@ impl<A: Allocator + Copy> Execution<A> {
 
     /// Why a line ends the handling.
     fn reason(&self, stop: Stop) -> Reason
-        ensures { result ≡ reason_of (size_of self.now.machine) self.now.passes.items stop }
+        ensures { result ≡ reason_by (size_of self.now.machine) self.now.passes.items
+            self.now.irps.items stop }
     {
         let asked = pass_asked(stop).0 as usize;
         Reason {
@@ -131,6 +138,7 @@ impl<A: Allocator + Copy> Execution<A> {
             irps: self.machine.irps(),
             passes: self.machine.passes(),
             now: self.passes.get(asked).copied().unwrap_or(PassNow::NEW),
+            irp: irp_asked(&self.irps, stop),
         }
     }
 

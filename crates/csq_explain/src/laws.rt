@@ -4,8 +4,8 @@ ghost use Rattle.std.specs.Prelude.{ℕ, Bool, List, []};
 ghost use Rattle.irp_core.specs.Runs.{Size, IsRun, EachRunFrom};
 ghost use Rattle.csq_words.specs.Queue.{Limits};
 ghost use Rattle.csq_explain.specs.declared.line_steps.LineStep.{LineStep};
-ghost use Rattle.csq_explain.specs.LineSteps.{made_by};
-ghost use Rattle.csq_explain.specs.Laws.{HasOneExplanation, HasOneScriptExplanation, TheWordsAreTheRuns, EachNextStepFindsTheWords};
+ghost use Rattle.csq_explain.specs.LineSteps.{made_in};
+ghost use Rattle.csq_explain.specs.Laws.{HasOneExplanation, HasOneScriptExplanation, TheWordsAreTheRuns, EachNextStepFindsTheWords, NothingGoesWrongAtRest, BrokenLawsAreHarms};
 
 /// A schedule has at most one explanation, so the relation that `explain_schedule` meets names its bytes.
 pub fn a_schedule_has_one_explanation()
@@ -25,6 +25,17 @@ pub fn the_words_are_those_of_the_run()
 /// As long as the protocol is kept, the next step that it allows, with the value that it says that one finds, is the step
 /// by the words.
 pub fn each_next_step_finds_the_words()
-    ensures { (size : Size) (steps : List LineStep) → IsRun size (made_by [] steps)
-        → EachNextStepFindsTheWords size steps }
+    ensures { (size : Size) (V : List LineStep) → IsRun size (made_in V)
+        → EachNextStepFindsTheWords size V }
+{}
+
+/// In an execution that has come to rest nothing goes wrong.
+pub fn nothing_goes_wrong_at_rest()
+    ensures { (size : Size) (V : List LineStep) → IsRun size (made_in V) → NothingGoesWrongAtRest size V }
+{}
+
+/// Of an order that ends with a life completed twice, completed and still listed or armed, or flagged and listed with nobody
+/// who owes it, something is reported.
+pub fn each_broken_law_is_a_harm()
+    ensures { (irps : ℕ) (W U : List LineStep) → BrokenLawsAreHarms irps W U }
 {}

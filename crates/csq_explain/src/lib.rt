@@ -6,8 +6,11 @@ mod endings;
 mod execution;
 mod explanation;
 mod harms;
+mod irp_record;
+mod irps;
 mod laws;
 mod line_steps;
+mod order;
 mod passes;
 mod reasons;
 mod script_endings;
@@ -21,12 +24,14 @@ pub use call_sentences::{AnsweredCall, CallStopSentence};
 pub use endings::{IrpSentence, RestSentence};
 pub use execution::{Closing, Execution, Explained};
 pub use explanation::{Explanation, answer_schedule, explain_schedule};
-pub use harms::{Harm, HarmAt, NO_HARM, harms_of};
+pub use harms::{Harm, HarmAt, NO_HARM};
+pub use irps::{IrpState, LastMove};
 pub use laws::{
-    a_schedule_has_one_explanation, a_script_has_one_explanation, each_next_step_finds_the_words,
-    the_words_are_those_of_the_run,
+    a_schedule_has_one_explanation, a_script_has_one_explanation, each_broken_law_is_a_harm,
+    each_next_step_finds_the_words, nothing_goes_wrong_at_rest, the_words_are_those_of_the_run,
 };
-pub use line_steps::{LineStep, by_words, words_at};
+pub use line_steps::LineStep;
+pub use order::Order;
 pub use passes::PassNow;
 pub use reasons::Reason;
 pub use script_explanation::{ScriptExplanation, answer_script, explain_script};

@@ -1,11 +1,9 @@
-//! The steps of an order that may break the protocol, and what each finds by the two words of each IRP alone.
-ghost use Rattle.std.specs.Prelude.{◌≡◌, []};
-ghost use Rattle.irp_core.specs.Steps.{is};
-ghost use Rattle.csq_explain.specs.LineSteps.{made_by, words_at, by_words};
-ghost use Rattle.csq_explain.specs.WordValues.{found_after};
+//! The steps of an order that may break the protocol, each with the value that it finds and its line.
+ghost use Rattle.std.specs.Prelude.{◌≡◌};
+ghost use Rattle.csq_explain.specs.Harms.{at_step};
 
-use crate::word_values::WordValues;
-use irp_core::{IrpId, Kind, Life, Made, PassId};
+use crate::harms::{Harm, HarmAt};
+use irp_core::Made;
 use std::fmt;
 
 /// A step with the value that it found, and the number of the line that names it.
@@ -15,6 +13,15 @@ pub struct LineStep {
     pub line: usize,
     /// The step.
     pub made: Made,
+}
+
+impl LineStep {
+    /// This goes wrong at the step.
+    pub(crate) fn with_harm(self, harm: Harm) -> HarmAt
+        ensures { result ≡ at_step self harm }
+    {
+        HarmAt { step: self, harm }
+    }
 }
 
 /// As `p2 take 0 found 1`.
@@ -30,43 +37,34 @@ impl fmt::Display for LineStep {
     }
 }
 
-/// Whether a step is of this kind, and names the same life of the same IRP.
-#[tactic(auto, unfolding(irp_core::specs::Steps::same_irp))]
-pub(crate) fn is(kind: Kind, made: Made) -> bool
-    ensures { result ≡ is kind made }
-{
-    made.kind == kind
-}
+/// A step and its line, as `p2 take 0 in line 3`.
+#[derive(Clone, Copy)]
+pub(crate) struct InLine(pub(crate) LineStep);
 
-/// The words of an IRP after these steps. Own rule.
-pub fn words_at(steps: &[LineStep], irp: IrpId) -> WordValues
-    ensures { result ≡ words_at steps.now irp }
-{
-    let mut words = WordValues::clear(irp, Life(0));
-    for step in steps {
-        words = words.after(step.made.kind);
-    }
-    words
-}
+impl fmt::Display for InLine {
+    ghost use Rattle.std.specs.Prelude.{Some};
+    ghost use Rattle.csq_explain.specs.LineSteps.{step_in_line};
 
-/// The value that a step of this kind finds after these: what the words of its IRP hold, whether the protocol allows the
-/// step or not.
-fn found_after(steps: &[LineStep], kind: Kind) -> u64
-    ensures { result ≡ found_after (made_by [] steps.now) kind }
-{
-    match kind.name() {
-        Some(name) => words_at(steps, name.irp).found(kind),
-        None => 0,
+    ghost output = { λ it. Some (step_in_line it.0) };
+
+    fn fmt<W: fmt::Write>(&self, f: &mut fmt::Formatter<W>) -> fmt::Result {
+        let LineStep { line, made } = self.0;
+        write!(f, "{} {} in line {line}", made.pass, made.kind)
     }
 }
 
-/// A step that this line names, with the value that it finds after these steps by the words alone. Own rule.
-pub fn by_words(steps: &[LineStep], line: usize, pass: PassId, kind: Kind) -> LineStep
-    ensures { result ≡ by_words steps.now line pass kind }
-{
-    let found = found_after(steps, kind);
-    LineStep {
-        line,
-        made: Made { pass, kind, found },
+/// Whose completion a step is, and its line, as `p1 completed in line 4`.
+#[derive(Clone, Copy)]
+pub(crate) struct Completed(pub(crate) LineStep);
+
+impl fmt::Display for Completed {
+    ghost use Rattle.std.specs.Prelude.{Some};
+    ghost use Rattle.csq_explain.specs.LineSteps.{completed_in_line};
+
+    ghost output = { λ it. Some (completed_in_line it.0) };
+
+    fn fmt<W: fmt::Write>(&self, f: &mut fmt::Formatter<W>) -> fmt::Result {
+        let LineStep { line, made } = self.0;
+        write!(f, "{} completed in line {line}", made.pass)
     }
 }

@@ -2,13 +2,14 @@
 ghost use Rattle.std.specs.Prelude.{◌≡◌};
 ghost use Rattle.csq_explain.specs.Reasons.{call_name, pass_asked};
 
+use crate::irps::IrpState;
 use crate::passes::PassNow;
 use csq_replay::{MAX_LINE, Stop};
 use irp_core::{Inside, Kind, PassId, Step, StepRefused};
 use std::fmt;
 
 /// Why a line ends the handling: the numbers of IRPs and passes, and what is known of the pass that it
-/// comes from.
+/// comes from and of the IRP that it names.
 #[derive(Clone, Copy)]
 pub struct Reason {
     /// Why the line can't go on.
@@ -19,6 +20,8 @@ pub struct Reason {
     pub passes: u32,
     /// Who has the lock, or else the pass of the step.
     pub now: PassNow,
+    /// Where the IRP of the step is.
+    pub irp: IrpState,
 }
 
 /// The pass that a line's end is a matter of: who has the lock, or else who would make the step.

@@ -43,7 +43,7 @@ impl WordValues {
 
     /// Whether a step of this kind is of their life.
     #[tactic(auto, unfolding(irp_core::specs::Steps::same_irp))]
-    fn are_of(self, kind: Kind) -> bool
+    pub(crate) fn are_of(self, kind: Kind) -> bool
         ensures { result ≡ names self.name kind }
     {
         match kind.name() {
@@ -53,7 +53,7 @@ impl WordValues {
     }
 
     /// The words after a step of their life.
-    fn changed(self, kind: Kind) -> WordValues
+    pub(crate) fn changed(self, kind: Kind) -> WordValues
         ensures { result ≡ changed self kind }
     {
         let WordValues {

@@ -1,26 +1,30 @@
-//! A schedule that may break the protocol: behind the first step that the protocol refuses it goes on by the two words
-//! of each IRP alone, and says what comes of it.
-ghost use Rattle.std.specs.Prelude.{◌≡◌, ◌∷◌, ◌++◌, [], string_bytes, IfOk, OnOk};
-ghost use Rattle.irp_core.specs.Runs.{IsInLimits};
+//! A schedule that may break the protocol: after the first step that the protocol refuses it goes on by the two words of
+//! each IRP alone, and says what comes of it.
+ghost use Rattle.std.specs.Prelude.{◌≡◌, ◌<◌, ◌∷◌, ℕ, List, string_bytes, IfOk, OnOk};
+ghost use Rattle.irp_core.specs.Runs.{IsInLimits, OfIrp};
+ghost use Rattle.irp_core.specs.Steps.{number};
 ghost use Rattle.csq_replay.specs.Lines.{GrewBy};
+ghost use Rattle.csq_explain.specs.declared.line_steps.LineStep.{LineStep as LineStepOf};
 ghost use Rattle.csq_explain.specs.Harms.{harms_of};
-ghost use Rattle.csq_explain.specs.WrongOrders.{accepted_step, refused_step, accepted_text, refused_text, broken_at, WrongAfter, new_wrong, harms_text, harms_report, goes_on, broken_text, end_text, why_ended, steps_behind, stopped_text, broken_behind};
+ghost use Rattle.csq_explain.specs.Orders.{irps_in, OrderStands};
+ghost use Rattle.csq_explain.specs.WrongOrders.{accepted_step, refused_step, accepted_text, refused_text, broken_at, WrongAfter, new_wrong, harms_text, harms_report, goes_on, broken_text, end_text, why_ended, steps_after, stopped_text, broken_after, IsOfKnown};
 
 use crate::execution::{Execution, Explained};
-use crate::harms::{HarmAt, NO_HARM, harms_of};
-use crate::line_steps::{LineStep, by_words};
+use crate::harms::{HarmAt, NO_HARM};
+use crate::line_steps::LineStep;
+use crate::order::Order;
 use crate::reasons::Reason;
 use csq_replay::{Answerer, Line, Stop};
 use irp_core::{Made, Step, StepRefused};
 use std::alloc::{AllocError, Allocator};
 
-/// A schedule that may break the protocol: the execution of the steps that the protocol allows, all steps, and the line
-/// of the first one that it refuses, or 0.
+/// A schedule that may break the protocol: the execution of the steps that the protocol allows, the order of all steps, and
+/// the line of the first one that it refuses, or 0.
 #[derive(Drop)]
 pub struct WrongOrder<A: Allocator> {
     pub(crate) alloc: A,
     pub(crate) execution: Execution<A>,
-    pub(crate) steps: Vec<LineStep, A>,
+    pub(crate) order: Order<A>,
     pub(crate) broken: usize,
 }
 
@@ -35,28 +39,29 @@ impl<A: Allocator + Copy> WrongOrder<A> {
         Ok(WrongOrder {
             alloc,
             execution: Execution::new(alloc, irps, passes)?,
-            steps: Vec::new(alloc),
+            order: Order::new(alloc, irps)?,
             broken: 0,
         })
     }
 
-    /// Adds a step that the execution made: as it made it, or behind a refused one by the words.
+    /// Adds a step that the execution made: as it made it, or after a refused one by the words.
     fn add_accepted(
         &mut self,
         line: usize,
         made: Made,
         text: &mut String<A>,
     ) -> Result<(), AllocError>
-        ensures steps { OnOk result (self.new.steps.items
-            ≡ self.old.steps.items ++ accepted_step self.old.steps.items self.old.broken line made ∷ []) }
-        ensures text { OnOk result (GrewBy (string_bytes text.old) (string_bytes text.new)
-            (accepted_text self.old.steps.items self.old.broken line made)) }
+        requires { OfIrp (λ i. number i < irps_in self.old.order) made.kind }
+        ensures added { OnOk result ((irps : ℕ) (V : List LineStepOf) → OrderStands self.old.order irps V
+            → (OrderStands self.new.order irps (accepted_step V self.old.broken line made ∷ V))
+            × (GrewBy (string_bytes text.old) (string_bytes text.new)
+            (accepted_text V self.old.broken line made))) }
         ensures execution { self.new.execution ≡ self.old.execution }
         ensures broken { self.new.broken ≡ self.old.broken }
     {
-        let step = accepted_step(&self.steps, self.broken, line, made);
+        let step = accepted_step(&self.order, self.broken, line, made);
         writeln!(text, "{step}")?;
-        self.steps.push(step)?;
+        self.order.add(step)?;
         Ok(())
     }
 
@@ -68,21 +73,22 @@ impl<A: Allocator + Copy> WrongOrder<A> {
         cause: StepRefused,
         text: &mut String<A>,
     ) -> Result<(), AllocError>
-        ensures steps { OnOk result (self.new.steps.items
-            ≡ self.old.steps.items ++ refused_step self.old.steps.items line step ∷ []) }
-        ensures text { OnOk result (GrewBy (string_bytes text.old) (string_bytes text.new)
-            (refused_text self.old.steps.items self.old.broken line step cause)) }
+        requires { OfIrp (λ i. number i < irps_in self.old.order) step.kind }
+        ensures added { OnOk result ((irps : ℕ) (V : List LineStepOf) → OrderStands self.old.order irps V
+            → (OrderStands self.new.order irps (refused_step V line step ∷ V))
+            × (GrewBy (string_bytes text.old) (string_bytes text.new)
+            (refused_text V self.old.broken line step cause))) }
         ensures execution { self.new.execution ≡ self.old.execution }
         ensures broken { OnOk result (self.new.broken ≡ broken_at self.old.broken line) }
     {
-        let step = by_words(&self.steps, line, step.pass, step.kind);
+        let step = self.order.by_words(line, step.pass, step.kind);
         if self.broken == 0 {
             self.broken = line;
             writeln!(text, "{step} refused {cause}")?;
         } else {
             writeln!(text, "{step}")?;
         }
-        self.steps.push(step)?;
+        self.order.add(step)?;
         Ok(())
     }
 
@@ -93,11 +99,13 @@ impl<A: Allocator + Copy> WrongOrder<A> {
         stop: Stop,
         text: &mut String<A>,
     ) -> Result<(), AllocError>
-        ensures steps { OnOk result (self.new.steps.items ≡ steps_behind self.old.steps.items line stop) }
-        ensures text { OnOk result (GrewBy (string_bytes text.old) (string_bytes text.new)
-            (stopped_text self.old.steps.items self.old.broken line stop)) }
+        requires { IsOfKnown (irps_in self.old.order) stop }
+        ensures added { OnOk result ((irps : ℕ) (V : List LineStepOf) → OrderStands self.old.order irps V
+            → (OrderStands self.new.order irps (steps_after V line stop))
+            × (GrewBy (string_bytes text.old) (string_bytes text.new)
+            (stopped_text V self.old.broken line stop))) }
         ensures execution { self.new.execution ≡ self.old.execution }
-        ensures broken { OnOk result (self.new.broken ≡ broken_behind self.old.broken line stop) }
+        ensures broken { OnOk result (self.new.broken ≡ broken_after self.old.broken line stop) }
     {
         match stop {
             Stop::Refused(step, cause) if goes_on(stop) => {
@@ -112,18 +120,26 @@ impl<A: Allocator + Copy> WrongOrder<A> {
     }
 }
 
-/// A step that the execution made, as it made it; or behind a refused one, whose line isn't 0, by the words.
-fn accepted_step(steps: &[LineStep], broken: usize, line: usize, made: Made) -> LineStep
-    ensures { result ≡ accepted_step steps.now broken line made }
+/// A step that the execution made, as it made it; or after a refused one, whose line isn't 0, by the words.
+fn accepted_step<A: Allocator + Copy>(
+    order: &Order<A>,
+    broken: usize,
+    line: usize,
+    made: Made,
+) -> LineStep
+    requires { OfIrp (λ i. number i < irps_in order.now) made.kind }
+    ensures kind { result.made.kind ≡ made.kind }
+    ensures step { (irps : ℕ) (V : List LineStepOf) → OrderStands order.now irps V
+        → result ≡ accepted_step V broken line made }
 {
     if broken == 0 {
         LineStep { line, made }
     } else {
-        by_words(steps, line, made.pass, made.kind)
+        order.by_words(line, made.pass, made.kind)
     }
 }
 
-/// Whether an order may go on behind a line that ends a schedule: it names a step, and there are its IRP and its pass. Own
+/// Whether an order may go on after a line that ends a schedule: it names a step, and there are its IRP and its pass. Own
 /// rule.
 pub fn goes_on(stop: Stop) -> bool
     ensures { result ≡ goes_on stop }
@@ -177,35 +193,35 @@ pub fn add_harms<A: Allocator>(harms: &[HarmAt], text: &mut String<A>) -> Result
     }
 }
 
-/// Adds what goes wrong at these steps.
+/// Adds what goes wrong in an order.
 fn add_harms_of<A: Allocator + Copy>(
     alloc: A,
-    steps: &[LineStep],
+    order: &Order<A>,
     text: &mut String<A>,
 ) -> Result<(), AllocError>
-    ensures { OnOk result (GrewBy (string_bytes text.old) (string_bytes text.new)
-        (harms_report (harms_of [] steps.now))) }
+    ensures { OnOk result ((irps : ℕ) (V : List LineStepOf) → OrderStands order.now irps V
+        → GrewBy (string_bytes text.old) (string_bytes text.new) (harms_report (harms_of irps V))) }
 {
-    let harms = harms_of(alloc, steps)?;
+    let harms = order.harms(alloc)?;
     add_harms(&harms, text)?;
     Ok(())
 }
 
-/// Adds whether the protocol was kept, and else what goes wrong. (If it was kept, what is unfinished isn't wrong.)
+/// Adds whether the protocol was kept, and otherwise what goes wrong. (If it was kept, what is unfinished isn't wrong.)
 fn add_end<A: Allocator + Copy>(
     alloc: A,
     broken: usize,
-    steps: &[LineStep],
+    order: &Order<A>,
     text: &mut String<A>,
 ) -> Result<(), AllocError>
-    ensures { OnOk result (GrewBy (string_bytes text.old) (string_bytes text.new)
-        (end_text broken steps.now)) }
+    ensures { OnOk result ((irps : ℕ) (V : List LineStepOf) → OrderStands order.now irps V
+        → GrewBy (string_bytes text.old) (string_bytes text.new) (end_text irps broken V)) }
 {
     if broken == 0 {
         return writeln!(text, "the protocol is kept");
     }
     add_broken(broken, text)?;
-    add_harms_of(alloc, steps, text)?;
+    add_harms_of(alloc, order, text)?;
     Ok(())
 }
 
@@ -224,7 +240,7 @@ impl<A: Allocator + Copy> Answerer<A, Reason> for WrongOrder<A> {
 
     ghost stops = { λ size d. StopsFor size d.own };
 
-    ghost closes = { λ size d. WrongCloses d };
+    ghost closes = { λ size d. WrongCloses size d };
 
     fn answer_line(
         &mut self,
@@ -246,7 +262,7 @@ impl<A: Allocator + Copy> Answerer<A, Reason> for WrongOrder<A> {
     }
 
     fn close(&self, text: &mut String<A>) -> Result<(), AllocError> {
-        add_end(self.alloc, self.broken, &self.steps, text)?;
+        add_end(self.alloc, self.broken, &self.order, text)?;
         Ok(())
     }
 }

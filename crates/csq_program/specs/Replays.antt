@@ -8,11 +8,17 @@ use Rattle.csq_draw.specs.WrongDrawings.{DrawsOrderClosing, DrawsOrderLine, new_
 use Rattle.csq_diagnose.specs.declared.diagnosed.Report.{Report}
 use Rattle.csq_diagnose.specs.Reports.{IsReportUntil}
 use Rattle.csq_diagnose.specs.Schedules.{ReportsReason}
+use Rattle.csq_program.specs.declared.program.ProgramFault.{ProgramFault, TheVariants.{Write}}
 use Rattle.csq_program.specs.declared.replay.ScriptLimits.{ScriptLimits}
 
 -- the sizes of a script's list, whose limits are the number of IRPs if none is given
 abbrev pub limits_or_all : ℕ → ℕ → Option ℕ → Option ℕ → ScriptLimits
 limits_or_all irps files limit file_limit = record { irps = irps; files = files; limit = unwrap_or limit irps; file_limit = unwrap_or file_limit irps }
+
+-- an answer couldn't be written
+abbrev pub IsWriteFault : ProgramFault → Type 0
+IsWriteFault (Write cause) = Unit {0}
+IsWriteFault _ = ⊥
 
 -- a schedule that may break the protocol is drawn so, with its diagnosis
 abbrev pub IsWrongDrawingReport : {A : Type 0} → Size → View → List ℕ → Report A → Type 0

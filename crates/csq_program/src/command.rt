@@ -210,7 +210,7 @@ pub(crate) fn with_flag<'a>(
 }
 
 /// What the flag for wrong orders does.
-pub(crate) const WRONG_HELP: &str = "Goes on behind a refused step, by the two words alone";
+pub(crate) const WRONG_HELP: &str = "Goes on after a refused step, by the two words alone";
 
 /// The command with the flag for wrong orders, of which neither claims nor sentences are reported.
 fn with_wrong<'a>(alloc: Global, command: Command<'a>) -> Result<Command<'a>, AllocError> {

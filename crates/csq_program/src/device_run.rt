@@ -1,11 +1,13 @@
 //! Devices that the program runs.
-ghost use Rattle.std.specs.Prelude.{◌≡◌, ◌≢◌, None, OnOk, IfErr};
+ghost use Rattle.std.specs.Prelude.{◌≡◌, ◌≢◌, None, string_bytes, OnOk, IfErr, IfOk};
 ghost use Rattle.std.specs.Io.KnownBytes.{Keeps};
 ghost use Rattle.csq_device.specs.Plans.{IsListFor};
-ghost use Rattle.csq_program.specs.Totals.{WritesRun, WritesRuns, WritesFewerRuns};
+ghost use Rattle.csq_program.specs.Replays.{IsWriteFault};
+ghost use Rattle.csq_program.specs.Totals.{IsRunText, WritesRun, WritesRuns, WritesFewerRuns};
 ghost use Rattle.csq_program.specs.declared.device_run.RunFault.TheVariants.{Spawn, NotClosed};
 
 use crate::gate::Race;
+use crate::program::ProgramFault;
 use crate::totals_text::write_run;
 use csq_device::{Device, DeviceCause, Gate, Plan, RunRefused};
 use csq_list::{AnyList, ListKind, PendingList};
@@ -79,6 +81,41 @@ fn time_since<R: Clock>(rt: &R, start: Option<Instant>) -> Option<Duration>
     start?.elapsed(rt).ok()
 }
 
+/// Runs a device of this plan over a list that fits it, its threads held up by the gate, and returns what is reported for
+/// it: as `answer_run` writes it.
+fn device_text<L, G, R, A>(
+    rt: &R,
+    alloc: A,
+    plan: Plan,
+    list: L,
+    gate: G,
+    totals: bool,
+) -> Result<String<A>, RunFault>
+where
+    L: PendingList + Drop + Send,
+    G: Gate + Drop,
+    R: Clock + Threads + Wait + Sync,
+    A: Allocator + Copy + Send + Sync,
+    requires { IsListFor plan.irps plan.files (L.listing list) }
+    ensures reported { IfOk result (λ text. IsRunText plan totals (string_bytes text)) }
+    ensures fault { IfErr result (λ fault. fault ≢ RunFault.Write) }
+{
+    let device = match Device::new(alloc, plan, list, gate) {
+        Ok(device) => device,
+        Err(refused) => match refused.cause {
+            DeviceCause::Memory => return Err(RunFault::Memory),
+            // The list was made for this plan, and nothing was inserted into it.
+            DeviceCause::ListNotFresh => unreachable!(),
+        },
+    };
+    let start = Instant::now(rt).ok();
+    let found = device.run(rt, alloc)?;
+    let took = time_since(rt, start);
+    let mut text = String::new(alloc);
+    write_run(&found, totals, plan.busy_workers > 0, took, &mut text)?;
+    Ok(text)
+}
+
 /// Runs a device of this plan over a list that fits it, its threads held up by the gate, and writes how
 /// many IRPs there are, how many are home, listed or were completed by a thread's own count, and how many
 /// are cancelled and listed; with `totals` each count by itself too, the calls that the threads made, and
@@ -107,19 +144,7 @@ where
     ensures unwritten { IfErr result (λ fault. fault ≢ RunFault.Write
         → Keeps (W.contents writer.old) (W.contents writer.new)) }
 {
-    let device = match Device::new(alloc, plan, list, gate) {
-        Ok(device) => device,
-        Err(refused) => match refused.cause {
-            DeviceCause::Memory => return Err(RunFault::Memory),
-            // The list was made for this plan, and nothing was inserted into it.
-            DeviceCause::ListNotFresh => unreachable!(),
-        },
-    };
-    let start = Instant::now(rt).ok();
-    let found = device.run(rt, alloc)?;
-    let took = time_since(rt, start);
-    let mut text = String::new(alloc);
-    write_run(&found, totals, plan.busy_workers > 0, took, &mut text)?;
+    let text = device_text(rt, alloc, plan, list, gate, totals)?;
     match writer.write_all(text.as_bytes()) {
         Ok(()) => Ok(()),
         Err(_) => Err(RunFault::Write),
@@ -128,7 +153,7 @@ where
 
 /// Runs so many devices of this plan, one after the other, each over a fresh list of this kind, and writes
 /// of each what `answer_run` writes. The first fault ends it, which is as there, or Memory if there is
-/// too little for a list; unless it is Write, what was written is all of the devices before.
+/// too little for a list; unless the writer gave it, what was written is all of the devices before.
 pub(crate) fn answer_runs<R, W>(
     rt: &R,
     plan: Plan,
@@ -136,21 +161,24 @@ pub(crate) fn answer_runs<R, W>(
     totals: bool,
     repeat: u32,
     writer: &mut W,
-) -> Result<(), RunFault>
+) -> Result<(), ProgramFault>
 where
     R: AllocGlobal + Clock + Threads + Wait + Sync,
     W: Write,
     ensures written { OnOk result (WritesRuns plan totals repeat (W.contents writer.old)
         (W.contents writer.new)) }
-    ensures unwritten { IfErr result (λ fault. fault ≢ RunFault.Write
+    ensures unwritten { IfErr result (λ fault. ¬ IsWriteFault fault
         → WritesFewerRuns plan totals repeat (W.contents writer.old) (W.contents writer.new)) }
 {
     let Plan { irps, files, .. } = plan;
     for _run in 0..repeat {
         let Ok(list) = AnyList::new(rt.alloc(), kind, irps, files, irps) else {
-            return Err(RunFault::Memory);
+            return Err(ProgramFault::from(AllocError));
         };
-        answer_run(rt, rt.alloc(), plan, list, Race::new(plan), totals, writer)?;
+        let text = device_text(rt, rt.alloc(), plan, list, Race::new(plan), totals)?;
+        if let Err(cause) = writer.write_all(text.as_bytes()) {
+            return Err(ProgramFault::Write(cause));
+        }
     }
     Ok(())
 }

@@ -80,10 +80,23 @@ With --wrong a refused step is made all the same, unless there is no such IRP or
 pass, and the schedule goes on by the two words of each IRP alone, as code does
 that breaks the protocol there: each step finds what the word holds. A step that
 names another life of an IRP than its present one finds 0, and changes nothing.
-The first refused step has its refusal behind it. The end says whether the
-protocol was kept, and which of these is found in the lines: a second completion
-of an IRP in one life, a routine taken of an IRP that isn't cancelled, a cancel
-that is lost. It goes with neither --claims nor --explain.
+The first refused step has its refusal after it. The end says whether the
+protocol was kept, and otherwise which of these is found in the lines:
+
+  - an IRP is completed a second time in one life
+  - an IRP is completed while its cancel routine is set
+  - an IRP that was completed is taken out of the list, or listed, or is in the
+    list in the end
+  - an IRP that is in the list is listed or renewed, or one that isn't there is
+    taken out
+  - an IRP is taken out or completed in another life than its present one
+  - a cancel takes the routine of an IRP whose Cancel flag is clear, and isn't
+    set before the IRP is completed
+  - a cancel is lost: in the end an IRP that wasn't completed is in the list,
+    with its Cancel flag and its routine set
+
+Of each step at most one is reported. Line numbers count comments too.
+--wrong goes with neither --claims nor --explain.
 
 Words are separated by one space, and the case of letters counts. A number has
 at most nine digits, and no zero before them. Empty lines, and lines that begin

@@ -12,6 +12,7 @@ mod replay;
 mod run_options;
 mod source;
 mod totals_text;
+mod visible;
 
 pub use command::{CommandFault, Job, read_command, refuse_bytes};
 pub use device_run::{RunFault, answer_run};

@@ -6,6 +6,7 @@ use crate::command::{CommandFault, Job, read_command, refuse_bytes};
 use crate::device_run::{RunFault, answer_runs};
 use crate::replay::{ScriptLimits, run_drawing, run_limited_script, run_schedule};
 use crate::source::SourceFault;
+use crate::visible::Visible;
 use csq_replay::SimFault;
 use std::alloc::AllocError;
 use std::io;
@@ -25,9 +26,22 @@ pub enum ProgramFault {
     /// A schedule or a script has no answer.
     #[error(transparent)]
     Replay(#[from] SimFault),
-    /// A device's totals were not written.
+    /// A device has no totals.
     #[error(transparent)]
     Run(#[from] RunFault),
+    /// What is said on standard output could not be written, for this cause.
+    #[error("write failed: {0}")]
+    Write(io::Error),
+}
+
+impl ProgramFault {
+    /// Whether whoever read standard output has closed it: there is nobody to tell.
+    fn is_closed_pipe(&self) -> bool {
+        match self {
+            ProgramFault::Write(cause) => cause.kind() == ErrorKind::BrokenPipe,
+            _ => false,
+        }
+    }
 }
 
 impl From<AllocError> for ProgramFault {
@@ -82,21 +96,31 @@ where
     }
 }
 
+/// Prints why clap refuses a command line, of which the text may show words.
+fn print_refusal<R: AllocGlobal + Print + Eprint>(rt: &R, error: &clap::Error) {
+    let _ = match format!(in rt.alloc(); "{error}") {
+        Ok(text) => eprint!(rt; "{}", Visible::lines(&text)),
+        Err(AllocError) => error.print(rt),
+    };
+}
+
 /// Prints why a command line was refused, or the help that it asks for. A refusal that can't be written is
 /// one all the same; a help that can't be written is a fault.
-fn report_command_fault<R: Print + Eprint>(
+fn report_command_fault<R: AllocGlobal + Print + Eprint>(
     rt: &R,
     fault: CommandFault,
 ) -> Result<u8, ProgramFault> {
     match fault {
         CommandFault::Memory => Err(ProgramFault::from(AllocError)),
         CommandFault::Refused(error) => {
-            let printed = error.print(rt);
             if error.use_stderr() {
+                print_refusal(rt, &error);
                 return Ok(REFUSED);
             }
-            printed.map_err(|_| SimFault::Write)?;
-            Ok(DONE)
+            match error.print(rt) {
+                Ok(()) => Ok(DONE),
+                Err(cause) => Err(ProgramFault::Write(cause)),
+            }
         }
         refused => {
             let _ = eprintln!(rt; "csqsim: {refused}");
@@ -165,14 +189,18 @@ pub fn status_of(ended: &Result<u8, ProgramFault>) -> u8
 
 /// Does what the command line of this process asks for, and returns the exit status: 0 if all went
 /// well, 2 where a line ended the handling or the command line or the size of the list was refused, and 1
-/// with a line on standard error if there was a fault. Own rule.
+/// with a line on standard error if there was a fault; with none if whoever read standard output has closed it.
+/// Own rule.
 pub fn run_program<R>(rt: &R) -> ExitCode
 where
     R: AllocGlobal + Print + Eprint + Input + Clock + Env + Files + Threads + Wait + Sync,
 {
     let ended = run_command_line(rt);
-    if let Err(fault) = &ended {
-        let _ = eprintln!(rt; "csqsim: {fault}");
+    match &ended {
+        Err(fault) if !fault.is_closed_pipe() => {
+            let _ = eprintln!(rt; "csqsim: {fault}");
+        }
+        _ => {}
     }
     ExitCode::from(status_of(&ended))
 }

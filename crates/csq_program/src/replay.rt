@@ -7,10 +7,9 @@ ghost use Rattle.csq_draw.specs.Pictures.{IsDrawing};
 ghost use Rattle.csq_diagnose.specs.Reports.{IsReport};
 ghost use Rattle.csq_diagnose.specs.Schedules.{IsScheduleDiagnosis};
 ghost use Rattle.csq_replay.specs.declared.lines.answer.Ended.TheVariants as Ended;
-ghost use Rattle.csq_replay.specs.declared.lines.answer.SimFault.TheVariants.{Write};
 ghost use Rattle.csq_program.specs.declared.program.ProgramFault.TheVariants.{Replay};
 ghost use Rattle.csq_program.specs.Cuts.{drawn_input};
-ghost use Rattle.csq_program.specs.Replays.{limits_or_all, IsWrongDrawingReport};
+ghost use Rattle.csq_program.specs.Replays.{limits_or_all, IsWriteFault, IsWrongDrawingReport};
 
 use crate::cut::cut_input;
 use crate::program::{ProgramFault, REFUSED};
@@ -121,10 +120,10 @@ fn finish<R: Print + Eprint>(
 ) -> Result<u8, ProgramFault>
     ensures all { report.now.ended ≡ Ended.AllHandled → IfOk result (λ status. status ≡ 0) }
     ensures stopped { report.now.ended ≡ Ended.Stopped → IfOk result (λ status. status ≡ 2) }
-    ensures fault { IfErr result (λ fault. fault ≡ Replay Write) }
+    ensures fault { IfErr result IsWriteFault }
 {
-    if rt.write_all(report.text.as_bytes()).is_err() {
-        return Err(ProgramFault::Replay(SimFault::Write));
+    if let Err(cause) = rt.write_all(report.text.as_bytes()) {
+        return Err(ProgramFault::Write(cause));
     }
     if let Ended::Stopped = report.ended {
         let diagnosis = report.diagnosis.as_str();

@@ -2,6 +2,7 @@
 ghost use Rattle.std.specs.Prelude.{◌≡◌, take, IfOk, IfSome};
 ghost use Rattle.csq_program.specs.Sources.{read_limit};
 
+use crate::visible::Visible;
 use csq_replay::{MAX_INPUT, SimFault};
 use std::alloc::{AllocError, Global};
 use std::io::{ErrorKind, Read};
@@ -24,7 +25,7 @@ impl fmt::Display for Source<'_> {
     fn fmt<W: fmt::Write>(&self, f: &mut fmt::Formatter<W>) -> fmt::Result {
         match self {
             Source::Standard => write!(f, "<stdin>:"),
-            Source::File(name) => write!(f, "{name}:"),
+            Source::File(name) => write!(f, "{}:", Visible::word(name)),
         }
     }
 }
@@ -35,10 +36,10 @@ pub enum SourceFault {
     /// 1: there is too little memory.
     #[error("out of memory")]
     Memory,
-    /// 2: standard input could not be read.
-    #[error("read failed")]
-    Standard,
-    /// 3: the file of this name could not be opened or read, for this cause.
+    /// 2: standard input could not be read, for this cause.
+    #[error("read failed: {0}")]
+    Standard(io::Error),
+    /// 3: the file of this name, as it is shown, could not be opened or read, for this cause.
     #[error("{name}: {cause}")]
     File { name: String, cause: io::Error },
 }
@@ -56,8 +57,8 @@ impl<'a> Source<'a> {
             return SourceFault::Memory;
         }
         match self {
-            Source::Standard => SourceFault::Standard,
-            Source::File(name) => match String::from_str(alloc, name) {
+            Source::Standard => SourceFault::Standard(cause),
+            Source::File(name) => match format!(in alloc; "{}", Visible::word(name)) {
                 Ok(name) => SourceFault::File { name, cause },
                 Err(AllocError) => SourceFault::Memory,
             },

@@ -1,6 +1,6 @@
 use Rattle.std.proofs.Common.{◌+◌, ◌<◌, ◌^◌, length, subst, refl, sym, ap, ◌∙◌, arith, rules}
-use Rattle.csq_diagnose.proofs.Imports.{Expected, Admits, expected_at}
-use Rattle.csq_diagnose.proofs.Walking.{words_after, stands_there, one_more_fits, left_after, ended, item_expected, nothing_past}
+use Rattle.csq_diagnose.proofs.Imports.{Expected, Admits, expected_at, words_after}
+use Rattle.csq_diagnose.proofs.Walking.{stands_there, one_more_fits, left_after, ended, item_expected, nothing_past}
 use Rattle.csq_diagnose.proofs.misfit.first_misfit.Goals as goal
 
 pub returns-then-not-admits : goal.returns-then-not-admits

@@ -1,27 +1,10 @@
-use Rattle.std.proofs.Common.{◌*◌, ◌≤◌, min, ap, ◌∙◌, subst, rules}
+use Rattle.std.proofs.Common.{List, ℕ, string_bytes, rules, subst}
 use Rattle.std.specs.Io.KnownBytes.{Appends}
-use Rattle.csq_device.specs.declared.plan.Plan.{Plan}
-use Rattle.csq_program.specs.Totals.{has_busy, reported_text, AreTotalsOf}
-use Rattle.csq_program.proofs.RunTexts.{reported_run}
 use Rattle.csq_program.proofs.device_run.answer_run.Goals as goal
 
-pub returns-in-Ok-write_all-clause-written : goal.returns-in-Ok-write_all-clause-written
-returns-in-Ok-write_all-clause-written g c =
-    let found = c.in_ok-found.found in
-    let reported = c.in_ok-found.ensures in
-    let made = c.in-Ok.ensures.made in
-    let totals : AreTotalsOf c.args.plan found = record {
-      irps = reported.irps ∙ ap (λ (p : Plan). p.irps) made;
-      sum = reported.sum;
-      flagged = reported.flagged;
-      statuses = reported.statuses;
-      handed = reported.handed;
-      kinds = reported.kinds;
-      inserts = reported.inserts ∙ ap (λ (p : Plan). min p.irps (p.submitters * p.turns)) made;
-      removals = reported.removals ∙ ap (λ (p : Plan). p.workers * p.turns) made;
-      cancels = reported.cancels ∙ ap (λ (p : Plan). min p.irps (p.cancellers * p.turns)) made;
-      put_backs = subst (λ (p : Plan). found.put_backs.made ≤ p.busy_workers * p.turns) made reported.put_backs;
-    } in
-    let text = reported_text c.args.totals (has_busy c.args.plan) found c.time_since-took.result in
-    let written : Appends (g.W.Write.contents c.args.writer.now) (g.W.Write.contents c.write_all.new.self) text = search rules in
-    (text, reported_run c.args.plan found c.time_since-took.result c.args.totals totals, written)
+pub returns-in-Ok-clause-written : goal.returns-in-Ok-clause-written
+returns-in-Ok-clause-written g c =
+    let text = c.in_ok-text.text in
+    let Grew : List ℕ → Type 0 = λ t. Appends (g.W.Write.contents c.args.writer.now) (g.W.Write.contents c.write_all.new.self) t in
+    let written : Grew c.as_bytes.result.now = search rules in
+    (string_bytes text, c.in_ok-text.ensures.reported, subst Grew c.as_bytes.ensures.value written)

@@ -9,7 +9,7 @@ pub returns : goal.returns
 returns g c =
     let old = string_bytes c.args.text.now in
     let caption = c.args.self.now.caption in
-    let extent : ℕ → ℕ → Extent = λ k n. record { columns = k; irps = n; rows = c.args.rows; lines = c.args.lines; caption = caption.lines } in
+    let extent : ℕ → ℕ → Extent = λ k n. record { columns = k; irps = n; rows = c.args.rows; lines = c.args.lines; text_width = c.args.text_width; caption = caption.lines } in
     let head : Extent → List ℕ → List ℕ → List ℕ = λ e title below. old ++ head_text e title below in
     let last = extent (columns c.args.passes.now) (irp_columns c.args.irps.now) in
     c.in_ok-write.ensures.bytes ∙ ap (λ k. head (extent k c.irp_columns.result) c.as_str.result.now c.as_str-2.result.now) c.columns.ensures

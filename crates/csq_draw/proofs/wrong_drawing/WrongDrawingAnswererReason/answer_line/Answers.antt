@@ -1,17 +1,18 @@
 use Rattle.std.proofs.Common.{◌≡◌, ◌<◌, ℕ, List, [], ◌∷◌, ◌++◌, ◌∙◌, Option, Some, None, ap, sym, refl, subst, append-nil, append_assoc, arith, length}
 use Rattle.csq_replay.specs.declared.schedule.outcome.Outcome.TheVariants.{Skipped, Accepted, Stopped}
 use Rattle.csq_explain.specs.declared.execution.Execution.{Execution}
-use Rattle.csq_explain.specs.declared.line_steps.LineStep.{LineStep}
 use Rattle.csq_explain.specs.Executions.{Follows}
 use Rattle.csq_explain.specs.LineSteps.{by_words}
 use Rattle.csq_explain.proofs.Outcomes.{was_skipped, was_accepted, was_stopped}
+use Rattle.csq_explain.proofs.Wrongs.{stopped_known}
 use Rattle.csq_draw.specs.declared.marks.Legality.TheVariants.{Behind}
 use Rattle.csq_draw.specs.declared.wrong_drawing.Refusal.{Refusal}
 use Rattle.csq_draw.specs.Rows.{rows_of}
-use Rattle.csq_draw.specs.WrongDrawings.{WrongDrawingStands, after_accepted, after_refused, after_skipped, after_stopped, first_refusal, legality_of, order_rows, order_stop_text, reason_at, row_behind, step_behind, stop_text}
+use Rattle.csq_draw.specs.WrongDrawings.{WrongDrawingStands, after_accepted, after_refused, after_skipped, after_stopped, first_refusal, legality_of, order_rows, order_stop_text, reason_at, step_behind, stop_text}
+use Rattle.csq_draw.specs.WrongRows.{wrong_row}
 use Rattle.csq_draw.proofs.Imports.{OfIrp, number, Numbered, Row, View, length-passes, caption_after, ended_caption, lock_of}
 use Rattle.csq_draw.proofs.Growing.{grew_same}
-use Rattle.csq_draw.proofs.OrderShowing.{kept_stands, order_owners}
+use Rattle.csq_draw.proofs.OrderShowing.{behind_known, kept_stands, order_owners, row_more}
 use Rattle.csq_draw.proofs.Showing.{shows_more}
 use Rattle.csq_draw.proofs.wrong_drawing.WrongDrawingAnswererReason.answer_line.Goals as goal
 
@@ -27,6 +28,30 @@ note_kept-requires-clause-owner g c =
     let came = was_accepted k.0 d.own c.args.line.number c.args.line.bytes.now _ c.in-Accepted.step (c.in-Accepted.ensures k.0 d.own a.0.follows) in
     let P : ℕ → Type 0 = λ n. OfIrp (λ i. number i < n) c.in-Accepted.step.made.kind in
     subst P (sym (order_owners _ k.0 d a.0)) came.0.1.known.0.irp
+
+pub note_kept-requires-clause-order : goal.note_kept-requires-clause-order
+note_kept-requires-clause-order g c =
+    let (k, d, a) = c.requires in
+    let came = was_accepted k.0 d.own c.args.line.number c.args.line.bytes.now _ c.in-Accepted.step (c.in-Accepted.ensures k.0 d.own a.0.follows) in
+    let P : ℕ → Type 0 = λ n. OfIrp (λ i. number i < n) c.in-Accepted.step.made.kind in
+    subst P (sym a.0.all.count) came.0.1.known.0.irp
+
+pub note_by_words-requires : goal.note_by_words-requires
+note_by_words-requires g c =
+    let (k, d, a) = c.requires in
+    let came = was_accepted k.0 d.own c.args.line.number c.args.line.bytes.now _ c.in-Accepted.step (c.in-Accepted.ensures k.0 d.own a.0.follows) in
+    let P : ℕ → Type 0 = λ n. OfIrp (λ i. number i < n) c.in-Accepted.step.made.kind in
+    subst P (sym a.0.all.count) came.0.1.known.0.irp
+
+pub note_refused-requires : goal.note_refused-requires
+note_refused-requires g c =
+    let (k, d, a) = c.requires in
+    let reason = c.in-Stopped.reason in
+    let came = was_stopped k.0 d.own c.args.line.number c.args.line.bytes.now _ reason (c.in-Stopped.ensures k.0 d.own a.0.follows) in
+    let goes : step_behind reason.stop ≡ Some (c.in-Some-step_behind.step, c.in-Some-step_behind.cause) = sym c.step_behind.ensures ∙ c.in-Some-step_behind.is in
+    let known = behind_known k.0.irps reason.stop c.in-Some-step_behind.step c.in-Some-step_behind.cause (stopped_known k.0 _ c.args.line.bytes.now reason.stop came.0) goes in
+    let P : ℕ → Type 0 = λ n. OfIrp (λ i. number i < n) c.in-Some-step_behind.step.kind in
+    subst P (sym a.0.all.count) known
 
 pub draw_stop-requires-clause-irps : goal.draw_stop-requires-clause-irps
 draw_stop-requires-clause-irps g c =
@@ -51,7 +76,7 @@ returns-in_ok-note-in-Skipped g c = λ k d a.
       (
         Some (after_skipped d line),
         (Skipped, came.0, refl, refl),
-        (record { follows = came.1; rows = a.0.rows; owned = a.0.owned; captioned = captioned; all = a.0.all; since = a.0.since; kept = a.0.kept }, a.1),
+        (record { follows = came.1; rows = a.0.rows; owned = a.0.owned; captioned = captioned; all = a.0.all; numbered = a.0.numbered; since = a.0.since; kept = a.0.kept }, a.1),
       ),
     )
 
@@ -85,7 +110,8 @@ returns-in_ok-note_kept-in-None g c = λ k d a.
             rows = rows;
             owned = shows.shown_owners;
             captioned = noted.captioned ∙ ap ended_caption a.0.captioned;
-            all = noted.steps ∙ ap (λ (xs : List LineStep). xs ++ record { line = n; made = step.made } ∷ []) a.0.all;
+            all = noted.order size.irps d.steps a.0.all;
+            numbered = row_more _ _ _ (record { line = n; made = step.made }) d.steps notes.noted_rows a.0.numbered;
             since = noted.refusal ∙ c.in-None.is;
             kept = λ h. (ap (λ x. w ∷ x) kept.0, kept.1);
           },
@@ -103,9 +129,9 @@ returns-in_ok-note_by_words-in-Some g c = λ k d a.
     let came = was_accepted size d.own n c.args.line.bytes.now _ c.in-Accepted.step (c.in-Accepted.ensures size d.own a.0.follows) in
     let noted = c.in_ok-note_by_words-in-Some.ensures in
     let P : Execution _ → Type 0 = λ x. Follows size x (record { line = n; step = made } ∷ d.own) in
-    let x : List LineStep → LineStep = λ xs. by_words xs n made.pass made.kind in
-    let row : List LineStep → List Row = λ xs. row_behind xs (x xs) Behind ∷ [] in
-    let rows = noted.rows ∙ ap (λ rs. rs ++ row c.args.self.now.steps.items) a.0.rows ∙ ap (λ xs. order_rows size d ++ row xs) a.0.all ∙ append_assoc (rows_of size d.drawn.steps) d.behind (row d.steps) in (
+    let row : ℕ → List Row = λ m. wrong_row d.steps m (by_words d.steps n made.pass made.kind) Behind ∷ [] in
+    let added = noted.rows size.irps d.steps a.0.all in
+    let rows = added ∙ ap (λ rs. rs ++ row (length c.args.self.now.drawing.rows.items)) a.0.rows ∙ ap (λ m. order_rows size d ++ row m) a.0.numbered ∙ append_assoc (rows_of size d.drawn.steps) d.behind (row (length d.steps)) in (
       [],
       sym (append-nil _),
       (
@@ -117,7 +143,8 @@ returns-in_ok-note_by_words-in-Some g c = λ k d a.
             rows = rows;
             owned = ap (λ os. os.items) noted.owners ∙ a.0.owned;
             captioned = noted.captioned ∙ a.0.captioned;
-            all = noted.steps ∙ ap (λ xs. xs ++ x xs ∷ []) a.0.all;
+            all = noted.order size.irps d.steps a.0.all;
+            numbered = row_more _ _ _ (by_words d.steps n made.pass made.kind) d.steps added a.0.numbered;
             since = noted.refusal ∙ c.in-Some.is;
             kept = λ h. absurd (cc h);
           },
@@ -139,10 +166,11 @@ returns-in_ok-note_refused-in-Some-step_behind g c = λ k d a.
     let due = reason_at size d reason.stop in
     let noted = c.in_ok-note_refused-in-Some-step_behind.ensures in
     let P : Execution _ → Type 0 = λ x. Follows size x d.own in
-    let x : List LineStep → LineStep = λ xs. by_words xs n step.pass step.kind in
-    let row : List LineStep → Option Refusal → List Row = λ xs r. row_behind xs (x xs) (legality_of r cause) ∷ [] in
-    let rows = noted.rows ∙ ap (λ rs. rs ++ row self.steps.items self.refusal) a.0.rows ∙ ap (λ xs. order_rows size d ++ row xs self.refusal) a.0.all ∙ ap (λ r. order_rows size d ++ row d.steps r) a.0.since
-    ∙ append_assoc (rows_of size d.drawn.steps) d.behind (row d.steps d.refusal) in
+    let row : ℕ → Option Refusal → List Row = λ m r. wrong_row d.steps m (by_words d.steps n step.pass step.kind) (legality_of r cause) ∷ [] in
+    let added = noted.rows size.irps d.steps a.0.all in
+    let count = length self.drawing.rows.items in
+    let rows = added ∙ ap (λ rs. rs ++ row count self.refusal) a.0.rows ∙ ap (λ m. order_rows size d ++ row m self.refusal) a.0.numbered ∙ ap (λ r. order_rows size d ++ row (length d.steps) r) a.0.since
+    ∙ append_assoc (rows_of size d.drawn.steps) d.behind (row (length d.steps) d.refusal) in
     let first : Option Refusal → ℕ → Option Refusal = λ r m. Some (first_refusal r (record { line = n; row = m; reason = reason })) in (
       [],
       sym (append-nil _),
@@ -160,8 +188,9 @@ returns-in_ok-note_refused-in-Some-step_behind g c = λ k d a.
             rows = rows;
             owned = ap (λ os. os.items) noted.owners ∙ a.0.owned;
             captioned = noted.captioned ∙ ap ended_caption a.0.captioned;
-            all = noted.steps ∙ ap (λ xs. xs ++ x xs ∷ []) a.0.all;
-            since = noted.refusal ∙ ap (λ r. first r (length self.steps.items)) a.0.since ∙ ap (first d.refusal) (ap length a.0.all);
+            all = noted.order size.irps d.steps a.0.all;
+            numbered = row_more _ _ _ (by_words d.steps n step.pass step.kind) d.steps added a.0.numbered;
+            since = noted.refusal ∙ ap (λ r. first r count) a.0.since ∙ ap (first d.refusal) a.0.numbered;
             kept = λ h. absurd (cc h);
           },
           noted.view ∙ a.1,
@@ -177,7 +206,7 @@ returns-in_ok-draw_stop-in-None-step_behind g c = λ k d a.
     let came = was_stopped size d.own n c.args.line.bytes.now _ reason (c.in-Stopped.ensures size d.own a.0.follows) in
     let ends : step_behind reason.stop ≡ None = sym c.step_behind.ensures ∙ c.in-None-step_behind.is in
     let due = reason_at size d reason.stop in
-    let stands : WrongDrawingStands _ size d = record { follows = came.2; rows = a.0.rows; owned = a.0.owned; captioned = a.0.captioned; all = a.0.all; since = a.0.since; kept = a.0.kept } in
+    let stands : WrongDrawingStands _ size d = record { follows = came.2; rows = a.0.rows; owned = a.0.owned; captioned = a.0.captioned; all = a.0.all; numbered = a.0.numbered; since = a.0.since; kept = a.0.kept } in
     let drawn : View → Option Refusal → List ℕ = λ v r. order_stop_text size v d n reason r in
     let grew = grew_same _ _ (λ v. drawn v c.args.self.now.refusal) _ _ a.1 (c.in_ok-draw_stop-in-None-step_behind.ensures size d stands) in
     let since = grew_same _ _ (drawn view) _ _ a.0.since grew in (

@@ -1,4 +1,4 @@
-use Rattle.std.proofs.Common.{[], Option, ◌∙◌, ap, sym, subst, length, arith, refl}
+use Rattle.std.proofs.Common.{Option, ◌∙◌, ap, sym, subst, length, arith, refl}
 use Rattle.csq_explain.specs.Harms.{harms_of}
 use Rattle.csq_draw.specs.declared.wrong_drawing.Refusal.{Refusal}
 use Rattle.csq_draw.specs.Pictures.{broken_end}
@@ -50,7 +50,7 @@ pub returns-in_ok-draw_broken-in-Some : goal.returns-in_ok-draw_broken-in-Some
 returns-in_ok-draw_broken-in-Some g c = λ k d a.
     let some = sym a.0.since ∙ c.in-Some.is in
     let refusal = c.in-Some.refusal in
-    let e = broken_end refusal.line refusal.reason (harms_of [] d.steps) in
+    let e = broken_end refusal.line refusal.reason (harms_of k.0.irps d.steps) in
     let text = broken_text k.0 k.1 d refusal e in
     let Q : Option Refusal → Type 0 = λ r. DrawsOrderEnd k.0 k.1 d r text in (
       text,

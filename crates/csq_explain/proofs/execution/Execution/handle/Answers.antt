@@ -1,7 +1,8 @@
-use Rattle.std.proofs.Common.{◌∷◌, ◌∙◌, ap, sym, refl, subst, arith, length}
-use Rattle.csq_explain.proofs.Imports.{MachineState, Agrees, size_of, Size, Skipped, Accepted, Stopped, Numbered, run_of, comes_of_size, IsStatusAfter, reason_of}
+use Rattle.std.proofs.Common.{◌∷◌, ◌∙◌, ap, sym, refl, subst, arith, length, Vec}
+use Rattle.csq_explain.proofs.Imports.{MachineState, Agrees, size_of, Size, Skipped, Accepted, Stopped, Numbered, run_of, all_passes, comes_of_size, IsStatusAfter, reason_by, reason_of}
 use Rattle.csq_explain.specs.declared.execution.Explained.TheVariants as explained
 use Rattle.csq_explain.proofs.Following.{length-passes, passes_noted, noted_inside, reported_in_call}
+use Rattle.csq_explain.proofs.MovedIrps.{irps_noted}
 use Rattle.csq_explain.proofs.Statuses.{status_is}
 use Rattle.csq_explain.proofs.execution.Execution.handle.Goals as goal
 
@@ -15,7 +16,7 @@ note_pass-inside-requires g c =
 pub returns-in-Skipped : goal.returns-in-Skipped
 returns-in-Skipped g c = λ size W a.
     let comes = c.in-Skipped.ensures.comes (run_of W) a.agrees in
-    (Skipped, comes_of_size _ _ (run_of W) c.args.line.bytes.now Skipped a.same comes.0, refl, record { same = c.in-Skipped.ensures.size ∙ a.same; limits = a.limits; agrees = comes.1; passes = a.passes })
+    (Skipped, comes_of_size _ _ (run_of W) c.args.line.bytes.now Skipped a.same comes.0, refl, record { same = c.in-Skipped.ensures.size ∙ a.same; limits = a.limits; agrees = comes.1; passes = a.passes; irps = a.irps })
 
 pub returns-in-Accepted : goal.returns-in-Accepted
 returns-in-Accepted g c = λ size W a.
@@ -38,6 +39,7 @@ returns-in-Accepted g c = λ size W a.
         limits = a.limits;
         agrees = agrees;
         passes = passes_noted size W w to _ a.passes _ c.note_pass-inside.ensures.passes;
+        irps = irps_noted size W w comes.1.known.0.irp _ _ (ap (λ (v : Vec _ _). v.items) c.note_pass-inside.ensures.irps ∙ a.irps) c.note_irp.ensures;
       },
     )
 
@@ -47,6 +49,7 @@ returns-in-Stopped g c = λ size W a.
     let comes = c.in-Stopped.ensures.comes (run_of W) a.agrees in (
       Stopped stop,
       comes_of_size _ _ (run_of W) c.args.line.bytes.now (Stopped stop) a.same comes.0,
-      ap explained.Stopped (c.reason.ensures ∙ ap (λ n. reason_of n c.args.self.now.passes.items stop) (c.in-Stopped.ensures.size ∙ a.same) ∙ ap (λ ps. reason_of size ps stop) a.passes),
-      record { same = c.in-Stopped.ensures.size ∙ a.same; limits = a.limits; agrees = comes.1; passes = a.passes },
+      ap explained.Stopped (c.reason.ensures ∙ ap (λ n. reason_by n c.args.self.now.passes.items c.args.self.now.irps.items stop) (c.in-Stopped.ensures.size ∙ a.same)
+          ∙ ap (λ ps. reason_by size ps c.args.self.now.irps.items stop) a.passes ∙ ap (λ is. reason_by size (all_passes size W) is stop) a.irps),
+      record { same = c.in-Stopped.ensures.size ∙ a.same; limits = a.limits; agrees = comes.1; passes = a.passes; irps = a.irps },
     )

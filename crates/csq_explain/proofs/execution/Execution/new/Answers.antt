@@ -1,5 +1,6 @@
 use Rattle.irp_core.specs.Runs.{Size}
 use Rattle.csq_explain.proofs.Following.{passes_none}
+use Rattle.csq_explain.proofs.MovedIrps.{irps_none}
 use Rattle.csq_explain.proofs.execution.Execution.new.Goals as goal
 
 pub returns : goal.returns
@@ -10,4 +11,5 @@ returns g c =
       limits = c.requires;
       agrees = c.in-Ok.ensures.agrees;
       passes = passes_none size _ c.in_ok-new_passes.ensures;
+      irps = irps_none size _ c.in_ok-new_irps.ensures;
     }
