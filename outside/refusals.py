@@ -38,6 +38,9 @@ MEMORY = [
     (['schedule', 'absent.txt'], b'', 1),
 ]
 
+# Command lines that are refused: without memory for the text of its refusal the program prints that as it is.
+REFUSED = [[], ['walk'], ['schedule', '--irps', '0']]
+
 # Options of a run, and its threads: those of the options, and the one that cleans up.
 THREADS = [
     ([], 7),
@@ -86,7 +89,7 @@ def wrong_memory(program, words, data, do_without, settings):
 
 def test_memory(program, results):
     """Each call for memory of the whole program is refused, alone and with all that follow."""
-    rows = [(words, data, do_without if settings is ALONE else 0, settings, how)
+    rows = [(words, data, (words in REFUSED) + (do_without if settings is ALONE else 0), settings, how)
             for words, data, do_without in MEMORY for how, settings in HOW]
     for words, data, do_without, settings, how in rows:
         name = f'{program.name}: memory: {" ".join(words) or "no word"} {data[:12]!r}: {how} is refused'
