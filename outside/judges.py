@@ -28,13 +28,16 @@ removals that found an IRP 50
 cancels 64
 cancels that took the routine 7
 cancels too early or too late 57
+cancels before the insert 1
+cancels during the insert 1
+cancels after the removal 55
 milliseconds 1.234
 '''
 
 # The same with busy workers.
 BUSY = TEXT.replace(b'completed 60', b'completed 64').replace(b'cancelled 10', b'cancelled 14').replace(
     b'irps 64\naccounted 64', b'irps 68\naccounted 68').replace(
-    b'by cleanup 2\n', b'by cleanup 2\ncompleted by busy workers 4\n').replace(b'late 57\n', b'late 57\nput-backs 9\n')
+    b'by cleanup 2\n', b'by cleanup 2\ncompleted by busy workers 4\n').replace(b'removal 55\n', b'removal 55\nput-backs 9\n')
 
 
 def without(kind):

@@ -9,11 +9,12 @@ TOTALS = [rb'irps \d+', rb'accounted \d+', rb'cancelled and listed 0', rb'home \
           rb'succeeded \d+', rb'cancelled \d+', rb'completed by submitters \d+', rb'completed by workers \d+',
           rb'completed by cancellers \d+', rb'completed by cleanup \d+', rb'inserts \d+', rb'removals \d+',
           rb'removals that found an IRP \d+', rb'cancels \d+', rb'cancels that took the routine \d+',
-          rb'cancels too early or too late \d+', rb'milliseconds \d+\.\d{3}']
+          rb'cancels too early or too late \d+', rb'cancels before the insert \d+', rb'cancels during the insert \d+',
+          rb'cancels after the removal \d+', rb'milliseconds \d+\.\d{3}']
 
 # With busy workers there are two lines more, each behind one of these.
 BUSY = {rb'completed by cleanup \d+': rb'completed by busy workers \d+',
-        rb'cancels too early or too late \d+': rb'put-backs \d+'}
+        rb'cancels after the removal \d+': rb'put-backs \d+'}
 BUSY_TOTALS = [line for it in TOTALS for line in ([it, BUSY[it]] if it in BUSY else [it])]
 
 # The line of what busy workers completed, 0 without such a line.
@@ -22,11 +23,15 @@ BY_BUSY = 'completed by busy workers'
 # The threads that complete IRPs, if none are busy workers.
 KINDS = ('submitters', 'workers', 'cancellers', 'cleanup')
 
+# The cancels that missed, by when they came.
+MISSES = [f'cancels {when}' for when in ('before the insert', 'during the insert', 'after the removal')]
+
 # A line of a run's totals, and the lines whose numbers sum to its own.
 SUMS = [('irps', ['accounted']), ('irps', ['home', 'listed', 'completed']), ('completed', ['succeeded', 'cancelled']),
         ('completed', [f'completed by {it}' for it in KINDS] + [BY_BUSY]),
         ('succeeded', ['completed by workers']), ('succeeded', ['removals that found an IRP']),
         ('cancels', ['cancels that took the routine', 'cancels too early or too late']),
+        ('cancels too early or too late', MISSES),
         ('cancels that took the routine', ['completed by cancellers'])]
 
 # A schedule with each step that lets the lock go, and how high the shades of its picture are, in order.

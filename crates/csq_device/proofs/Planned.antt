@@ -234,6 +234,7 @@ calls_in plan calls h = record {
   removals = h.removals ∙ removals_in plan;
   cancels = h.cancels ∙ cancels_in plan;
   put_backs = let most = h.put_backs in let all = put_backs_in plan in omega arith;
+  raced = h.raced;
 }
 
 pub calls_few : (plan : Plan) → AreFew (duties_from plan 1 (roles_in plan))

@@ -53,6 +53,7 @@ pub record AreCallsBy (plan : Plan) (role : Role) (calls : CallsByKind) : Type 0
   pub removals : calls.removals.made ≡ removals_by plan role
   pub cancels : calls.cancels.made ≡ cancels_by plan role
   pub put_backs : calls.put_backs.made ≤ put_backs_by plan role
+  pub raced : calls.raced ≤ calls.inserts.completed
 
 -- how many calls of a kind threads with these duties make
 abbrev pub total_by : (Plan → Role → ℕ) → List Duty → ℕ
@@ -72,6 +73,7 @@ pub record AreCallsOfAll (duties : List Duty) (calls : CallsByKind) : Type 0 whe
   pub removals : calls.removals.made ≡ total_by removals_by duties
   pub cancels : calls.cancels.made ≡ total_by cancels_by duties
   pub put_backs : calls.put_backs.made ≤ total_by put_backs_by duties
+  pub raced : calls.raced ≤ calls.inserts.completed
 
 -- the duties that these have, each its own
 abbrev pub duties_of : {A : Type 0} → List A → (A → Duty) → List Duty
@@ -93,3 +95,4 @@ pub record AreCallsOf (plan : Plan) (calls : CallsByKind) : Type 0 where
   pub removals : calls.removals.made ≡ plan.workers * plan.turns
   pub cancels : calls.cancels.made ≡ min plan.irps (plan.cancellers * plan.turns)
   pub put_backs : calls.put_backs.made ≤ plan.busy_workers * plan.turns
+  pub raced : calls.raced ≤ calls.inserts.completed

@@ -9,6 +9,8 @@ use crate::calls::CallCounts;
 #[derive(Clone, Copy)]
 pub(crate) struct CallsByKind {
     pub(crate) inserts: CallCounts,
+    /// The inserts that completed an IRP whose Cancel flag was clear just before them.
+    pub(crate) raced: u32,
     pub(crate) removals: CallCounts,
     pub(crate) cancels: CallCounts,
     pub(crate) put_backs: CallCounts,
@@ -21,10 +23,12 @@ impl CallsByKind {
         ensures removals { result.removals.made ≡ 0 }
         ensures cancels { result.cancels.made ≡ 0 }
         ensures put_backs { result.put_backs.made ≡ 0 }
+        ensures raced { result.raced ≡ 0 }
         ensures completed { completed_by result ≡ 0 }
     {
         CallsByKind {
             inserts: CallCounts::none(),
+            raced: 0,
             removals: CallCounts::none(),
             cancels: CallCounts::none(),
             put_backs: CallCounts::none(),
@@ -45,16 +49,19 @@ impl CallsByKind {
     /// These calls and others.
     pub(crate) fn plus(self, other: CallsByKind) -> CallsByKind
         requires inserts { self.inserts.made + other.inserts.made < 2 ^ 32 }
+        requires raced { self.raced + other.raced < 2 ^ 32 }
         requires removals { self.removals.made + other.removals.made < 2 ^ 32 }
         requires cancels { self.cancels.made + other.cancels.made < 2 ^ 32 }
         requires put_backs { self.put_backs.made + other.put_backs.made < 2 ^ 32 }
         ensures inserts { AddsUp self.inserts other.inserts result.inserts }
+        ensures raced { result.raced ≡ self.raced + other.raced }
         ensures removals { AddsUp self.removals other.removals result.removals }
         ensures cancels { AddsUp self.cancels other.cancels result.cancels }
         ensures put_backs { AddsUp self.put_backs other.put_backs result.put_backs }
     {
         CallsByKind {
             inserts: self.inserts.plus(other.inserts),
+            raced: self.raced + other.raced,
             removals: self.removals.plus(other.removals),
             cancels: self.cancels.plus(other.cancels),
             put_backs: self.put_backs.plus(other.put_backs),

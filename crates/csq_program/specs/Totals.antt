@@ -34,9 +34,13 @@ states_text t = line (codes "home ") t.home ++ line (codes "listed ") t.listed +
 abbrev pub completions_text : Bool → Totals → List ℕ
 completions_text busy t = line (codes "completed by submitters ") t.inserts.completed ++ line (codes "completed by workers ") t.removals.completed ++ line (codes "completed by cancellers ") t.cancels.completed ++ line (codes "completed by cleanup ") t.cleaned ++ line_if busy (codes "completed by busy workers ") t.put_backs.completed
 
+-- the lines of the cancels that took no routine: all; those before an insert, during one, and after a removal
+abbrev pub missed_text : Totals → List ℕ
+missed_text t = line (codes "cancels too early or too late ") (t.cancels.made - t.cancels.completed) ++ line (codes "cancels before the insert ") (t.flagged_home + (t.inserts.completed - t.raced)) ++ line (codes "cancels during the insert ") t.raced ++ line (codes "cancels after the removal ") (t.cancels.made - t.cancels.completed - (t.flagged_home + t.inserts.completed))
+
 -- the lines of the calls that the threads made, with the put-backs of busy workers if there are some
 abbrev pub calls_text : Bool → Totals → List ℕ
-calls_text busy t = line (codes "inserts ") t.inserts.made ++ line (codes "removals ") t.removals.made ++ line (codes "removals that found an IRP ") t.removals.completed ++ line (codes "cancels ") t.cancels.made ++ line (codes "cancels that took the routine ") t.cancels.completed ++ line (codes "cancels too early or too late ") (t.cancels.made - t.cancels.completed) ++ line_if busy (codes "put-backs ") t.put_backs.made
+calls_text busy t = line (codes "inserts ") t.inserts.made ++ line (codes "removals ") t.removals.made ++ line (codes "removals that found an IRP ") t.removals.completed ++ line (codes "cancels ") t.cancels.made ++ line (codes "cancels that took the routine ") t.cancels.completed ++ missed_text t ++ line_if busy (codes "put-backs ") t.put_backs.made
 
 -- a number below 1,000 with three digits, zeros before it
 abbrev pub three_digits : ℕ → List ℕ

@@ -90,12 +90,12 @@ protocol was kept, and otherwise which of these is found in the lines:
   - an IRP that is in the list is listed or renewed, or one that isn't there is
     taken out
   - an IRP is taken out or completed in another life than its present one
-  - a cancel takes the routine of an IRP whose Cancel flag is clear, and isn't
-    set before the IRP is completed
+  - a cancel takes the routine of an IRP whose Cancel flag is clear, and stays
+    clear until the IRP is completed
   - a cancel is lost: in the end an IRP that wasn't completed is in the list,
     with its Cancel flag and its routine set
 
-Of each step at most one is reported. Line numbers count comments too.
+For each step at most one is reported. Line numbers count comments too.
 --wrong goes with neither --claims nor --explain.
 
 Words are separated by one space, and the case of letters counts. A number has
@@ -141,15 +141,17 @@ column, cut to 24 characters. A comment too is too long above 64 bytes.
 A browser describes each box and each line in words if the pointer rests on it
 and the picture is opened by itself.
 A line that ends the schedule is last, marked as refused, with its refusal and a
-sentence why; standard error has it too. Otherwise sentences below say where
-each IRP is in the end, who completed it in which line, or who owes or holds it
-since which line, and whether all is at rest.
+sentence why; standard error has it too. Otherwise sentences below say who
+completed each earlier life of an IRP in which line; where each IRP is in the
+end, who completed it in which line, or who owes or holds it since which line;
+and whether all is at rest.
 
 With --text it is drawn for a terminal, in ASCII letters but for the comment: a
 line for each step, with the pass that has the lock, in the column of its pass
 what it did, with a star before it if it claims its IRP, and the two words of
-the IRP after it. Each pass takes 27 letters, the rest 26. The comment before
-the first step is above, and the sentences of the end are below.
+the IRP after it. In a picture of several IRPs a column says whose words they
+are. Each pass takes 27 letters, the rest 26, or 32 with that column. The
+comment before the first step is above, and the sentences of the end are below.
 
 With --wrong a refused step is drawn all the same, in red with its refusal, and
 the schedule goes on in grey by the two words of each IRP alone, as csqsim
@@ -301,7 +303,17 @@ With --totals further lines follow:
                           those that returned TRUE
   cancels too early or too late N
                           those that returned FALSE: the IRP wasn't queued yet,
-                          or was removed, cancelled or completed already
+                          or was removed, cancelled or completed already; they
+                          are the next three together
+  cancels before the insert N
+                          those whose Cancel flag the submitter saw before its
+                          insert, which then completed the IRP; and those of
+                          IRPs that no insert accepted
+  cancels during the insert N
+                          those that set the flag later: the insert found it
+                          set, and completed the IRP
+  cancels after the removal N
+                          those of IRPs that were already removed
   put-backs N             calls of IoCsqInsertIrpEx by busy workers, at most
                           --busy-workers times --turns
   milliseconds N          how long the run took, with three digits after the

@@ -35,7 +35,7 @@ pub enum ProgramFault {
 }
 
 impl ProgramFault {
-    /// Whether whoever read standard output has closed it: there is nobody to tell.
+    /// Whether the reader of standard output has closed it: there is nobody to tell.
     fn is_closed_pipe(&self) -> bool {
         match self {
             ProgramFault::Write(cause) => cause.kind() == ErrorKind::BrokenPipe,
@@ -189,7 +189,7 @@ pub fn status_of(ended: &Result<u8, ProgramFault>) -> u8
 
 /// Does what the command line of this process asks for, and returns the exit status: 0 if all went
 /// well, 2 where a line ended the handling or the command line or the size of the list was refused, and 1
-/// with a line on standard error if there was a fault; with none if whoever read standard output has closed it.
+/// with a line on standard error if there was a fault; with none if the reader of standard output has closed it.
 /// Own rule.
 pub fn run_program<R>(rt: &R) -> ExitCode
 where

@@ -1,6 +1,6 @@
 //! The text of a device's totals.
 ghost use Rattle.std.specs.Prelude.{◌≡◌, ◌++◌, codes, if◌then◌else◌, string_bytes, OnOk};
-ghost use Rattle.csq_program.specs.Totals.{line_if, totals_text, states_text, completions_text, calls_text, time_text, reported_text};
+ghost use Rattle.csq_program.specs.Totals.{line_if, totals_text, states_text, completions_text, missed_text, calls_text, time_text, reported_text};
 
 use csq_device::Totals;
 use std::alloc::{AllocError, Allocator};
@@ -91,6 +91,21 @@ fn write_put_backs<A: Allocator>(
     writeln!(text, "put-backs {made}")
 }
 
+/// The lines of the cancels that took no routine, by when they came.
+fn write_missed<A: Allocator>(totals: &Totals, text: &mut String<A>) -> Result<(), AllocError>
+    ensures { OnOk result (string_bytes text.new
+        ≡ string_bytes text.old ++ missed_text totals.now) }
+{
+    let missed = totals.cancels.missed();
+    let before = totals.missed_before();
+    let during = totals.missed_during();
+    let after = totals.missed_after();
+    writeln!(text, "cancels too early or too late {missed}")?;
+    writeln!(text, "cancels before the insert {before}")?;
+    writeln!(text, "cancels during the insert {during}")?;
+    writeln!(text, "cancels after the removal {after}")
+}
+
 /// The lines of the calls that the threads made.
 fn write_calls<A: Allocator>(
     totals: &Totals,
@@ -106,7 +121,7 @@ fn write_calls<A: Allocator>(
         cancels,
         ..
     } = *totals;
-    let (inserts, missed) = (inserts.made, cancels.missed());
+    let inserts = inserts.made;
     let (removals, found) = (removals.made, removals.completed);
     let (cancels, took) = (cancels.made, cancels.completed);
     writeln!(text, "inserts {inserts}")?;
@@ -114,7 +129,7 @@ fn write_calls<A: Allocator>(
     writeln!(text, "removals that found an IRP {found}")?;
     writeln!(text, "cancels {cancels}")?;
     writeln!(text, "cancels that took the routine {took}")?;
-    writeln!(text, "cancels too early or too late {missed}")?;
+    write_missed(totals, text)?;
     write_put_backs(totals, busy, text)
 }
 

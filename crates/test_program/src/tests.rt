@@ -4,6 +4,7 @@ mod answers;
 mod devices;
 mod gates;
 mod held_up;
+mod misses;
 mod plans;
 mod put_backs;
 mod refusals;

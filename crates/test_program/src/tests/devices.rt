@@ -2,6 +2,7 @@
 ghost use Rattle.csq_device.specs.Plans.{IsListFor};
 
 use super::gates::{Held, Kind, Told};
+use super::misses::{CANCELLED_BEFORE, CANCELLED_DURING};
 use super::plans::{
     AT_FEWER_POINTS, EACH_TURN, IN_ORDER, LIMITED, ONE_ANOTHER, REFUSED, Row, SHARES, SMALL,
     YIELDING,
@@ -63,12 +64,12 @@ where
         .with_busy_workers(busy_workers)
         .ok_or("a plan with busy workers")?;
     let list = AnyList::with_file_limits(rt.alloc(), kind, irps, files, irps, row.limits)?;
-    let watched = WatchedList { list, watch: told };
     let gate = Held {
         told,
         holding: row.holding,
         heap,
     };
+    let watched = WatchedList { list, watch: &gate };
     Ok(run_over(rt, watched, plan, gate, heap))
 }
 
@@ -106,6 +107,7 @@ fn find_counts(rt: &impl Abort, told: &Told, text: &str, row: Row<'_>) {
         assert_eq!(rt; number_of(text, words), Some(times), "{words}");
     }
     find_put_backs(rt, told, text, row);
+    find_misses(rt, text);
     assert_eq!(rt; told.of(Kind::Cleaning).told().0, 1);
     let irps = Some(u64::from(row.numbers[0]));
     assert_eq!(rt;
@@ -119,6 +121,17 @@ fn find_counts(rt: &impl Abort, told: &Told, text: &str, row: Row<'_>) {
         sum_of(text, ["succeeded", "cancelled", "cancelled and listed"]),
         completed
     );
+}
+
+/// Each cancel that took no routine came before its insert, during it or after a removal.
+fn find_misses(rt: &impl Abort, text: &str) {
+    let misses = [
+        "cancels before the insert",
+        "cancels during the insert",
+        "cancels after the removal",
+    ];
+    let missed = number_of(text, "cancels too early or too late");
+    assert_eq!(rt; sum_of(text, misses), missed);
 }
 
 /// The put-backs are written if there are busy workers, each of which takes each turn.
@@ -201,6 +214,8 @@ const WAITING: &[Row<'static>] = &[
     PUT_BACK_CANCELLED,
     PUT_BACK_CLOSED,
     PUT_BACK_FULL,
+    CANCELLED_BEFORE,
+    CANCELLED_DURING,
 ];
 
 #[test]

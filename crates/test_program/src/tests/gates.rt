@@ -8,7 +8,7 @@ use std::thread::yield_now;
 use test_heap::RefusingHeap;
 use test_watched_list::{Moment, Watch, wait_for};
 
-/// What is told: the points of a device, and that its list has closed a file object.
+/// What is told: the points of a device, and that its list is to insert an IRP, or has closed a file object.
 #[derive(Clone, Copy, PartialEq, Eq)]
 pub(super) enum Kind {
     Starting,
@@ -20,6 +20,7 @@ pub(super) enum Kind {
     Cancelling,
     Cancelled,
     Cleaning,
+    Inserting,
     Closed,
 }
 
@@ -109,6 +110,7 @@ pub(super) struct Told {
     cancelling: Count,
     cancelled: Count,
     cleaning: Count,
+    inserting: Count,
     closed: Count,
     // Some wait came to its end unanswered.
     gave_up: AtomicBool,
@@ -128,6 +130,7 @@ impl Told {
             cancelling: Count::none(),
             cancelled: Count::none(),
             cleaning: Count::none(),
+            inserting: Count::none(),
             closed: Count::none(),
             gave_up: AtomicBool::new(false),
             wrong: AtomicBool::new(false),
@@ -146,6 +149,7 @@ impl Told {
             Kind::Cancelling => &self.cancelling,
             Kind::Cancelled => &self.cancelled,
             Kind::Cleaning => &self.cleaning,
+            Kind::Inserting => &self.inserting,
             Kind::Closed => &self.closed,
         }
     }
@@ -181,15 +185,7 @@ impl Told {
     }
 }
 
-impl Watch for Told {
-    fn at(&self, moment: Moment) {
-        if matches!(moment, Moment::Closed) {
-            self.closed.add(0);
-        }
-    }
-}
-
-/// The gate of a device whose memory is of this heap.
+/// The gate of a device whose memory is of this heap, and the watch of its list.
 #[derive(Clone, Copy)]
 pub(super) struct Held<'a> {
     pub(super) told: &'a Told,
@@ -197,10 +193,10 @@ pub(super) struct Held<'a> {
     pub(super) heap: &'a RefusingHeap<Global>,
 }
 
-impl Gate for Held<'_> {
-    fn at(&self, point: Point) {
+impl Held<'_> {
+    /// Counts what is told, and waits as it is held up there.
+    fn hold(&self, kind: Kind, number: u32) {
         let told = self.told;
-        let (kind, number) = kind_of(point);
         told.judge(kind, number);
         if self.heap.has_refused() {
             told.wrong.store(true, Ordering::SeqCst);
@@ -219,6 +215,23 @@ impl Gate for Held<'_> {
                     yield_now();
                 }
             }
+        }
+    }
+}
+
+impl Gate for Held<'_> {
+    fn at(&self, point: Point) {
+        let (kind, number) = kind_of(point);
+        self.hold(kind, number);
+    }
+}
+
+impl Watch for Held<'_> {
+    fn at(&self, moment: Moment) {
+        match moment {
+            Moment::Inserting(FileId(file)) => self.hold(Kind::Inserting, file),
+            Moment::Closed => self.hold(Kind::Closed, 0),
+            _ => {}
         }
     }
 }

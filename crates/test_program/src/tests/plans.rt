@@ -160,6 +160,9 @@ pub(super) const IN_ORDER: Row<'static> = Row {
         ("cancels", 7),
         ("cancels that took the routine", 3),
         ("cancels too early or too late", 4),
+        ("cancels before the insert", 0),
+        ("cancels during the insert", 0),
+        ("cancels after the removal", 4),
     ],
 };
 
@@ -210,6 +213,8 @@ pub(super) const REFUSED: Row<'static> = Row {
         ("inserts", 14),
         ("removals", 14),
         ("cancels", 7),
+        ("cancels before the insert", 2),
+        ("cancels after the removal", 0),
     ],
 };
 

@@ -125,6 +125,7 @@ pub(super) const PUT_BACK_CANCELLED: Row<'static> = Row {
         ("completed by cancellers", 0),
         ("completed by busy workers", 1),
         ("cancels too early or too late", 1),
+        ("cancels after the removal", 1),
         ("put-backs", 1),
     ],
 };

@@ -45,6 +45,12 @@ loop-handle-preserved g c =
           let one = kept.0.put_backs in
           let rest = ap (λ hs. total_by put_backs_by (duties_of hs (λ h. h.promise))) step.0 in
           omega (arith, before, more, one, rest);
+      raced =
+          let before = was.raced in
+          let more = plus.raced in
+          let inserts = plus.inserts.completed in
+          let one = kept.0.raced in
+          omega (arith, before, more, inserts, one);
       handed =
           let before = was.handed in
           let inserts = plus.inserts.completed in
