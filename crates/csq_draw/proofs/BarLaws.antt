@@ -2,12 +2,11 @@
 use Rattle.std.proofs.Common.{◌≡◌, ◌||◌, ℕ, zero, suc, ◌+◌, ◌<◌, ◌≤◌, Bool, true, false, cond, List, [], ◌∷◌, ◌++◌, length, replicate, take, Option, Some, None, refl, ap, sym, ◌∙◌, subst, arith}
 use Rattle.std.specs.Prelude.{is_some}
 use Rattle.std.specs.List.{list_any}
-use Rattle.csq_draw.proofs.Imports.{count-more, option_map, option_map_or, length-take-le, take_all, take_more, IrpId, IrpLife, Kind, Made, Size, IsRun, OfIrp, Owner, PassId, number, name_of, same_id, same_id-eq, Numbered, run_of, all_passes, is_of_irp, Row, IrpNow, Seen, Spot, above_elements, arrow_elements, bars_elements, behind_elements, call_elements, closing_elements, column_elements, each, fresh_irps, irp_after, irp_at, irp_named, irps_of, last_elements, mark_element, new_irp, open_elements, owners_elements, reason_of, refused_elements, row_after, rows_elements, shade_elements, shown_elements, span_elements, steps_shown, word_elements}
+use Rattle.csq_draw.proofs.Imports.{count-more, option_map, option_map_or, length-take-le, take_all, take_more, IrpId, IrpLife, Kind, Made, Size, IsRun, OfIrp, Owner, PassId, number, name_of, same_id, same_id-eq, Numbered, run_of, all_passes, is_of_irp, Row, IrpNow, Seen, Spot, above_elements, arrow_elements, bars_elements, behind_elements, call_elements, closed_elements, column_elements, each, fresh_irps, irp_after, irp_at, irp_named, irps_of, last_elements, mark_element, new_irp, open_elements, owners_elements, reason_of, refused_elements, row_after, rows_elements, shade_elements, shown_elements, span_elements, steps_shown, word_elements}
 use Rattle.irp_core.proofs.Growing.{run_less}
 use Rattle.irp_core.specs.Lives.{present}
 use Rattle.irp_core.specs.declared.step.Kind.TheVariants.{Arm, Test, Disarm, End, Flag, Take, Out, Done, Renew, Rearm}
-use Rattle.csq_draw.specs.declared.element.Element.TheVariants.{Below}
-use Rattle.csq_draw.specs.declared.ending.Below.TheVariants.{AtRest}
+use Rattle.csq_draw.specs.Lives.{past_lives}
 use Rattle.csq_draw.specs.declared.marks.Legality.{Legality}
 use Rattle.csq_draw.specs.declared.spans.LineEnd.{LineEnd, TheVariants.{Step, Last}}
 use Rattle.csq_draw.specs.Arrows.{found_at}
@@ -20,7 +19,7 @@ use Rattle.csq_draw.specs.Words.{words_named}
 use Rattle.csq_draw.specs.Rows.{row_of, rows_of}
 use Rattle.csq_explain.specs.WordValues.{words_of}
 use Rattle.csq_draw.proofs.Known.{at_next, long, none_yet}
-use Rattle.csq_draw.proofs.Picking.{none_picked, none_then, picked-append, picked_last, then_none}
+use Rattle.csq_draw.proofs.Picking.{none_closed, none_picked, none_then, picked-append, picked_last, then_none}
 use Rattle.csq_draw.proofs.RowElements.{rows-last}
 use Rattle.csq_draw.proofs.Showing.{length-rows}
 use Rattle.csq_explain.specs.declared.passes.PassNow.{PassNow}
@@ -171,9 +170,9 @@ each_bar size W =
     record {
       stopped = λ r n stop. then_none bars_in shown (refused_elements count n (reason_of size W stop)) _ (shown_bars size W r) refl;
       closed = λ r reported at_rest.
-          let last = Below count (AtRest (length reported) (rest_of passes at_rest)) in
-          then_none bars_in shown (each (closing_elements irps count) 0 reported ++ last ∷ []) _ (shown_bars size W r)
-          (none_then bars_in (each (closing_elements irps count) 0 reported) (last ∷ []) [] (none_picked bars_in (closing_elements irps count) (λ n line. refl) 0 reported) refl);
+          let rest = rest_of passes at_rest in
+          let lives = past_lives irps (rows_of size W) in
+          then_none bars_in shown (closed_elements irps lives reported rest count) _ (shown_bars size W r) (none_closed bars_in (λ n b. refl) irps lives reported rest count);
     }
 
 -- an IRP that a step names was seen

@@ -5,6 +5,7 @@ pub mod Growing
 pub mod Writing
 pub mod Known
 pub mod RowElements
+pub mod PastLaws
 pub mod WindowLaws
 pub mod WindowColumns
 pub mod Showing

@@ -12,9 +12,7 @@ use Rattle.csq_explain.specs.declared.harms.HarmAt.{HarmAt}
 use Rattle.csq_explain.specs.declared.reasons.Reason.{Reason}
 use Rattle.std.proofs.lemmas.List.{length-replicate}
 use Rattle.csq_explain.specs.declared.passes.PassNow.{PassNow}
-use Rattle.csq_draw.specs.declared.element.Element.{Element}
-use Rattle.csq_draw.specs.declared.element.Element.TheVariants.{Below}
-use Rattle.csq_draw.specs.declared.ending.Below.TheVariants.{AtRest}
+use Rattle.csq_draw.specs.Lives.{past_lives}
 use Rattle.csq_draw.specs.declared.view.Window.{Window}
 use Rattle.csq_draw.specs.declared.wrong_drawing.Refusal.{Refusal}
 use Rattle.csq_draw.specs.Endings.{rest_of}
@@ -23,9 +21,9 @@ use Rattle.csq_draw.specs.Pictures.{broken_end, harm_elements, harms_elements}
 use Rattle.csq_draw.specs.Rows.{rows_of}
 use Rattle.csq_draw.specs.Windows.{cut, places, shows}
 use Rattle.csq_draw.specs.WrongDrawings.{DrawsOrderClosing, DrawsOrderEnd, DrawsOrderLine, IsOrderDrawing, WrongDrawn, after_accepted, after_stopped, new_wrong_drawn, order_after, order_rows, order_shown, order_text, reason_at, step_behind}
-use Rattle.csq_draw.proofs.Imports.{IsRun, Made, View, run_of, IrpNow, Numbered, Row, EndShown, Shown, Size, all_passes, close_of, closing_elements, each, fresh_irps, irps_after, irps_of, mark_element, new_irp, rows_elements, shown_elements, stop_of, stopped_end}
+use Rattle.csq_draw.proofs.Imports.{IsRun, Made, View, run_of, IrpNow, Numbered, Row, EndShown, Shown, Size, all_passes, close_of, fresh_irps, irps_after, irps_of, mark_element, new_irp, rows_elements, shown_elements, stop_of, stopped_end}
 use Rattle.csq_draw.proofs.Known.{length-after}
-use Rattle.csq_draw.proofs.Picking.{none_picked, none_then, picked-append, then_none}
+use Rattle.csq_draw.proofs.Picking.{none_closed, none_picked, picked-append, then_none}
 use Rattle.csq_draw.proofs.PictureLaws.{all_picked, one_closing, marks_picked, of_rows, quiet}
 use Rattle.csq_draw.proofs.RowElements.{rows-append}
 
@@ -38,11 +36,6 @@ marks_shown s e zs rows none =
 no_harm_mark : (rows : ℕ) (harms : List HarmAt) → picked mark_in (harms_elements rows harms) ≡ []
 no_harm_mark rows [] = refl
 no_harm_mark rows (h ∷ harms) = none_picked mark_in (harm_elements rows) (λ k x. refl) 0 (h ∷ harms)
-
--- what is reported in the end has none
-no_mark : (irps : List IrpNow) (count : ℕ) (reported : List _) (last : Element) → mark_in last ≡ [] → picked mark_in (each (closing_elements irps count) 0 reported ++ last ∷ []) ≡ []
-no_mark irps count reported last e =
-    none_then mark_in (each (closing_elements irps count) 0 reported) (last ∷ []) [] (none_picked mark_in (closing_elements irps count) (λ n line. refl) 0 reported) (ap (λ t. t ++ []) e)
 
 module _ (size : Size) (d : WrongDrawn) (refusal : Refusal) where
   abbrev s : Shown
@@ -93,7 +86,7 @@ module _ (size : Size) (W : List Numbered) (w : Window) where
   each_shown_mark = record {
     stopped = λ n stop. marks_shown shown (stop_of size W n stop) _ window_picked refl;
     closed = λ reported at_rest.
-        marks_shown shown (close_of size W reported at_rest) _ window_picked (no_mark (irps_of size W) (length shown.rows) reported (Below (length shown.rows) (AtRest (length reported) (rest_of (all_passes size W) at_rest))) refl);
+        marks_shown shown (close_of size W reported at_rest) _ window_picked (none_closed mark_in (λ n b. refl) (irps_of size W) (past_lives (irps_of size W) (rows_of size W)) reported (rest_of (all_passes size W) at_rest) (length shown.rows));
   }
 
 -- what the lines of an order led to: its execution is a run, and as long as the protocol is kept it is what is drawn

@@ -1,7 +1,11 @@
 -- What is picked out of the elements of a picture.
 use Rattle.std.proofs.Common.{◌≡◌, ℕ, ◌+◌, List, [], ◌∷◌, ◌++◌, length, refl, ap, sym, ◌∙◌, arith, append_assoc, append-nil}
-use Rattle.csq_draw.proofs.Imports.{each}
-use Rattle.csq_draw.specs.declared.element.Element.{Element}
+use Rattle.csq_replay.specs.declared.schedule.closing.IrpLine.{IrpLine}
+use Rattle.csq_draw.proofs.Imports.{IrpNow, closed_elements, closing_elements, each}
+use Rattle.csq_draw.specs.declared.element.Element.{Element, TheVariants.{Below}}
+use Rattle.csq_draw.specs.declared.ending.{Below.{Below as BelowRows, TheVariants.{AtRest}}, Rest.{Rest}}
+use Rattle.csq_draw.specs.declared.lives.PastLife.{PastLife}
+use Rattle.csq_draw.specs.Pictures.{past_elements}
 use Rattle.csq_draw.specs.Laws.{picked}
 
 module _ {A : Type 0} (pick : Element → List A) where
@@ -32,3 +36,13 @@ module _ {A : Type 0} (pick : Element → List A) where
         ∙ ap (λ t. picked pick (f n y) ++ t) (picked_last (n + 1) xs x ∙ ap (λ k. picked pick (each f (n + 1) xs) ++ picked pick (f k x)) next)
         ∙ sym (append_assoc (picked pick (f n y)) (picked pick (each f (n + 1) xs)) (picked pick (f (n + length (y ∷ xs)) x)))
         ∙ ap (λ t. t ++ picked pick (f (n + length (y ∷ xs)) x)) (sym (picked-append (f n y) (each f (n + 1) xs)))
+
+  -- nothing of what is reported in the end, where nothing is of what stands below the rows
+  module _ (none : (rows : ℕ) (b : BelowRows) → pick (Below rows b) ≡ []) where
+    pub none_closed : (irps : List IrpNow) (lives : List PastLife) (reported : List IrpLine) (rest : Rest) (rows : ℕ) → picked pick (closed_elements irps lives reported rest rows) ≡ []
+    none_closed irps lives reported rest rows =
+        let alone : (b : BelowRows) → picked pick (Below rows b ∷ []) ≡ [] = λ b. ap (λ t. t ++ []) (none rows b) in
+        let closing = closing_elements irps rows (length lives) in
+        let last = Below rows (AtRest (length reported + length lives) rest) in
+        none_then (each (past_elements rows) 0 lives) (each closing 0 reported ++ last ∷ []) [] (none_picked (past_elements rows) (λ n life. alone _) 0 lives)
+        (none_then (each closing 0 reported) (last ∷ []) [] (none_picked closing (λ n line. alone _) 0 reported) (alone _))

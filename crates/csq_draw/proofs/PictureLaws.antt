@@ -3,7 +3,7 @@ use Rattle.std.proofs.Common.{◌≡◌, ◌||◌, inl, inr, ℕ, ◌+◌, ◌<�
 use Rattle.std.specs.List.{position, list_any}
 use Rattle.std.specs.Prelude.{is_some}
 use Rattle.std.proofs.lemmas.List.Quantifiers.{position-Some}
-use Rattle.csq_draw.proofs.Imports.{option_map, PassId, Made, same_pass, by, Size, IsRun, same_pass-eq, Numbered, run_of, Owner, Row, View, owners, new_pass_now, pass_after, pass_now, lock_of, columns, column_of, each, column_elements, number_element, mark_element, call_elements, shade_elements, span_elements, bars_elements, arrow_elements, behind_elements, row_after, rows_elements, new_irp, last_elements, word_elements, fresh_irps, irps_of, irp_named, with_irp, IrpNow, Seen, Spot, open_elements, owners_elements, closing_elements, refused_elements, Shown, above_elements, close_of, found_at, shown_elements, steps_shown, text_of, Drawn, new_drawn, drawn_text, drawn_after, DrawsLine, DrawsClosing, all_passes, reason_of, get-table, position-None, count-more, length-passes, inside_is}
+use Rattle.csq_draw.proofs.Imports.{option_map, PassId, Made, same_pass, by, Size, IsRun, same_pass-eq, Numbered, run_of, Owner, Row, View, owners, new_pass_now, pass_after, pass_now, lock_of, columns, column_of, each, column_elements, number_element, mark_element, call_elements, shade_elements, span_elements, bars_elements, arrow_elements, behind_elements, row_after, rows_elements, new_irp, last_elements, word_elements, fresh_irps, irps_of, irp_named, with_irp, IrpNow, Seen, Spot, open_elements, owners_elements, closed_elements, refused_elements, Shown, above_elements, close_of, found_at, shown_elements, steps_shown, text_of, Drawn, new_drawn, drawn_text, drawn_after, DrawsLine, DrawsClosing, all_passes, reason_of, get-table, position-None, count-more, length-passes, inside_is}
 use Rattle.irp_core.specs.Inside.{inside, inside_after, has_lock}
 use Rattle.irp_core.specs.Lock.{HasLock, needs_lock}
 use Rattle.irp_core.proofs.Growing.{run_none, run_less, run_parted, HasLock-has_lock, has_lock-HasLock}
@@ -15,12 +15,11 @@ use Rattle.csq_replay.proofs.Answering.{one_input_answer}
 use Rattle.csq_replay.proofs.OneAnswer.{one_close, one_outcome}
 use Rattle.std.proofs.lemmas.List.{length-replicate}
 use Rattle.csq_draw.proofs.Known.{length-after}
-use Rattle.csq_draw.proofs.Picking.{none_picked, none_then, picked-append, then_none}
+use Rattle.csq_draw.proofs.Picking.{none_closed, none_picked, none_then, picked-append, then_none}
 use Rattle.csq_draw.proofs.RowElements.{rows-last}
 use Rattle.csq_draw.proofs.Showing.{length-rows}
 use Rattle.csq_draw.specs.declared.arrows.Arrow.{Arrow}
-use Rattle.csq_draw.specs.declared.element.Element.TheVariants.{Below}
-use Rattle.csq_draw.specs.declared.ending.Below.TheVariants.{AtRest}
+use Rattle.csq_draw.specs.Lives.{past_lives}
 use Rattle.csq_draw.specs.declared.marks.Legality.{Legality}
 use Rattle.csq_draw.specs.declared.spans.LineEnd.{LineEnd, TheVariants.{Step, Refusal, Last}}
 use Rattle.csq_draw.specs.declared.marks.Mark.{Mark}
@@ -210,9 +209,9 @@ module _ {A : Type 0} (mark : Mark → List A) (number : Number → List A) (sha
             let line = append-nil (number (record { row = count; line = n })) ∙ ap (λ k. number (record { row = k; line = n })) (length-rows size W) in
             picked-append pick shown refused ∙ ap (λ t. t ++ picked pick refused) shown_picked ∙ ap (λ t. added (of_step passes irps) W ++ t) line;
         closed = λ reported at_rest.
-            let last = Below count (AtRest (length reported) (rest_of passes at_rest)) in
-            then_none pick shown (each (closing_elements irps count) 0 reported ++ last ∷ []) _ shown_picked
-            (none_then pick (each (closing_elements irps count) 0 reported) (last ∷ []) [] (none_picked pick (closing_elements irps count) (λ n line. refl) 0 reported) refl);
+            let rest = rest_of passes at_rest in
+            let lives = past_lives irps (rows_of size W) in
+            then_none pick shown (closed_elements irps lives reported rest count) _ shown_picked (none_closed pick (λ n b. refl) irps lives reported rest count);
       }
 
 all_shades : (ps : List PassNow) (irps : List IrpNow) (row : Row) (spot : Option Spot) (lock : Option PassId) → row_with (λ m. []) (λ n. []) (λ s. s ∷ []) (λ a. []) ps irps row lock spot ≡ shade_by ps row.row row.step lock

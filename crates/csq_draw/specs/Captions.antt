@@ -1,5 +1,5 @@
 -- The comment at the head of a schedule, as it stands above its picture.
-use Rattle.std.specs.Prelude.{ℕ, ◌+◌, ◌-◌, ◌*◌, ◌==◌, ◌&&◌, Bool, true, false, nat_le, nat_lt, List, [], ◌∷◌, ◌++◌, map, length, take, codes, string_bytes, encode_utf8, encode_utf8_all, Option, Some, None, if◌then◌else◌}
+use Rattle.std.specs.Prelude.{ℕ, ◌+◌, ◌-◌, ◌*◌, ◌==◌, ◌&&◌, ◌||◌, count_by, Bool, true, false, nat_le, nat_lt, List, [], ◌∷◌, ◌++◌, map, length, take, codes, string_bytes, encode_utf8, encode_utf8_all, Option, Some, None, if◌then◌else◌}
 use Rattle.std.specs.List.{flat_map, list_any}
 use Rattle.std.specs.Option.{option_map_or}
 use Rattle.irp_core.specs.declared.ids.PassId.{PassId}
@@ -17,9 +17,25 @@ escaped text = flat_map escaped_character text
 abbrev pub cut : List ℕ → List ℕ
 cut name = if nat_le (length name) 24 then name else take 23 name ++ 0x2026 ∷ []
 
--- a name, as it stands over its column
+-- whether a letter is wide: a capital, an m, a w, or one of a script whose letters are as wide as they are high
+abbrev pub is_wide_letter : ℕ → Bool
+is_wide_letter c = (nat_le 65 c && nat_le c 90) || (c == 109 || (c == 119 || nat_le 0x1100 c))
+
+-- how wide these characters are taken to be, in pixels: a letter six, and a wide one ten
+abbrev pub name_width : List ℕ → ℕ
+name_width name = 6 * length name + 4 * count_by is_wide_letter name
+
+-- whether the characters of a name that stand over its column may be wider than that
+abbrev pub is_wide : List ℕ → Bool
+is_wide name = nat_lt 154 (name_width (take 24 name))
+
+-- how wide a name is drawn that may be wider than its column, and the end of its element's tag
+abbrev pub width_kept : Bool → List ℕ
+width_kept wide = if wide then codes " textLength='154' lengthAdjust='spacingAndGlyphs'>" else codes ">"
+
+-- a name, as it stands over its column, after the end of its element's tag
 abbrev pub drawn_name : List ℕ → List ℕ
-drawn_name name = escaped (cut (characters name))
+drawn_name name = width_kept (is_wide (characters name)) ++ escaped (cut (characters name))
 
 -- without the space that it may begin with
 abbrev pub unspaced : List ℕ → List ℕ

@@ -13,11 +13,12 @@ use Rattle.csq_explain.specs.declared.reasons.Reason.{Reason}
 use Rattle.csq_explain.specs.Endings.{flag_sentence}
 use Rattle.csq_explain.specs.Passes.{new_pass_now}
 use Rattle.csq_explain.specs.Sentences.{due_status_words}
-use Rattle.csq_draw.specs.declared.ending.{Below.{Below, TheVariants.{Bar, Refused, Because, Irp, AtRest, Broken, Harm, NoHarm}}, Rest.{Rest}}
+use Rattle.csq_draw.specs.declared.ending.{Below.{Below, TheVariants.{Bar, Refused, Because, Past, Irp, AtRest, Broken, Harm, NoHarm}}, Rest.{Rest}}
 use Rattle.csq_draw.specs.declared.irps.{Claim.{Claim}, IrpNow.{IrpNow}, Spot.{Spot}}
 use Rattle.csq_explain.specs.declared.harms.TheConstants.{NO_HARM}
 use Rattle.csq_explain.specs.Harms.{harm_text}
 use Rattle.csq_explain.specs.Reasons.{reason_text}
+use Rattle.csq_draw.specs.Lives.{past_text}
 
 -- a line that ended the handling, as it is reported: its step, if it names one, and why it ended it
 unfoldable pub ended_line_text : Stop → List ℕ
@@ -79,6 +80,7 @@ unfoldable pub below_text : ℕ → Below → List ℕ
 below_text y Bar = codes "<rect class='bad' x='64' y='" ++ (decimal (y + 4) ++ codes "' width='660' height='52' rx='6'/>")
 below_text y (Refused stop) = codes "<text x='73' y='" ++ (decimal (y + 34) ++ (codes "'>" ++ (ended_line_text stop ++ codes "</text>")))
 below_text y (Because reason) = codes "<text x='73' y='" ++ (decimal (y + 76) ++ (codes "'>" ++ (reason_text reason ++ codes "</text>")))
+below_text y (Past nth life) = codes "<text x='56' y='" ++ (decimal (y + 28 + 20 * nth) ++ (codes "'>" ++ (past_text life ++ codes "</text>")))
 below_text y (Irp nth line now) = codes "<text x='56' y='" ++ (decimal (y + 28 + 20 * nth) ++ (codes "'>" ++ (irp_ending line now ++ codes "</text>")))
 below_text y (AtRest nth rest) = codes "<text x='56' y='" ++ (decimal (y + 28 + 20 * nth) ++ (codes "'>" ++ (rest_text rest ++ codes "</text>")))
 below_text y (Broken n reason) = broken_text y n reason

@@ -55,7 +55,7 @@ column_at x bottom p = (codes "<path class='g' d='M" ++ (decimal x ++ (codes " 3
 
 -- what a pass is called, beside its name
 abbrev pub name_beside : ℕ → List ℕ → List ℕ
-name_beside x name = codes "<text class='s' x='" ++ (decimal x ++ (codes "' y='26'>" ++ (name ++ codes "</text>\n")))
+name_beside x name = codes "<text class='s' x='" ++ (decimal x ++ (codes "' y='26'" ++ (name ++ codes "</text>\n")))
 
 abbrev pub column_text : Column → List ℕ
 column_text c = column_at (left c.column + 114) (top c.rows) c.pass

@@ -1,5 +1,5 @@
 -- What is known of each IRP as its steps are drawn: its last step, who wrote its words, who has it, and who completed it.
-use Rattle.std.specs.Prelude.{ℕ, ◌==◌, List, [], ◌∷◌, take, count_by, is_some, slice_index_or, slice_set, Option, Some, None, if◌then◌else◌}
+use Rattle.std.specs.Prelude.{ℕ, ◌==◌, nat_lt, Bool, List, [], ◌∷◌, take, count_by, is_some, slice_index_or, slice_set, Option, Some, None, if◌then◌else◌}
 use Rattle.std.specs.Option.{option_map_or}
 use Rattle.irp_core.specs.declared.ids.IrpId.{IrpId}
 use Rattle.irp_core.specs.declared.inside.Inside.{Inside, TheVariants.{Cancelling}}
@@ -85,6 +85,10 @@ irps_after irps (row ∷ rows) = irps_after (with_irp irps row) rows
 -- how many of these a step names: each has a column for each of its words
 abbrev pub irp_columns : List IrpNow → ℕ
 irp_columns irps = count_by (λ (now : IrpNow). is_some now.last) irps
+
+-- whether a step names more than one of these
+abbrev pub has_several : List IrpNow → Bool
+has_several irps = nat_lt 1 (irp_columns irps)
 
 -- the place of IRP n among those that a step names, from 0 on
 abbrev pub irp_column : List IrpNow → IrpId → ℕ

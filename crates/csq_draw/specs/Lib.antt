@@ -6,6 +6,7 @@ pub mod Passes
 pub mod Words
 pub mod Rows
 pub mod Irps
+pub mod Lives
 pub mod CallTexts
 pub mod Circles
 pub mod Marks

@@ -23,7 +23,7 @@ use Rattle.csq_draw.specs.declared.rows.Row.{Row}
 use Rattle.csq_draw.specs.declared.irps.{IrpNow.{IrpNow}, Seen.{Seen}, Spot.{Spot}}
 use Rattle.csq_draw.specs.Arrows.{found_at}
 use Rattle.csq_draw.specs.Endings.{rest_of}
-use Rattle.csq_draw.specs.Irps.{new_irp, irp_at, irp_named, with_irp, irps_after, irp_columns, irp_column}
+use Rattle.csq_draw.specs.Irps.{new_irp, irp_at, irp_named, with_irp, irps_after, irp_columns, irp_column, has_several}
 use Rattle.csq_draw.specs.Marks.{takes_lock, lets_go}
 use Rattle.csq_draw.specs.declared.marks.Legality.{Legality, TheVariants.{Legal}}
 use Rattle.csq_draw.specs.Owners.{owners}
@@ -37,8 +37,10 @@ use Rattle.csq_draw.specs.Layout.{left}
 use Rattle.csq_draw.specs.Terminal.{each_text, rows_text, widest_line, ended_lines, closed_lines, broken_lines}
 use Rattle.csq_draw.specs.Windows.{cut, open_in, place, places, shown_passes}
 use Rattle.csq_draw.specs.declared.element.Element.TheVariants as element
-use Rattle.csq_draw.specs.declared.ending.{Below.TheVariants.{Bar, Refused, Because, Irp, AtRest, Broken as BrokenLine, Harm, NoHarm}, Ending.{Ending, TheVariants.{Stopped as StoppedEnd, Closed, Broken}}, Rest.{Rest}}
+use Rattle.csq_draw.specs.declared.ending.{Below.TheVariants.{Bar, Refused, Because, Past, Irp, AtRest, Broken as BrokenLine, Harm, NoHarm}, Ending.{Ending, TheVariants.{Stopped as StoppedEnd, Closed, Broken}}, Rest.{Rest}}
 use Rattle.csq_explain.specs.declared.harms.HarmAt.{HarmAt}
+use Rattle.csq_draw.specs.declared.lives.PastLife.{PastLife}
+use Rattle.csq_draw.specs.Lives.{past_lives}
 
 -- the elements of each, by its place, the first of which is n
 abbrev pub each : {A : Type 0} → (ℕ → A → List Element) → ℕ → List A → List Element
@@ -133,7 +135,7 @@ word_elements passes irps n now = if is_some now.last then element.WordColumns (
 abbrev pub pass_name_text : List PassNow → NamedPass → List ℕ
 pass_name_text passes n = if makes_step passes n.pass then name_beside (left (column_of passes n.pass) + 130) n.name else []
 
--- the head of a picture of these passes, and of so many IRPs and rows, with so many lines of text below them, the widest of so many pixels, and this caption
+-- the head of a picture of these passes, by the numbers of its IRPs, of its rows and of the lines of text below them, by how many pixels the widest of these lines takes, and by its caption
 abbrev pub picture_head : List PassNow → ℕ → ℕ → ℕ → ℕ → CaptionText → List ℕ
 picture_head passes irps rows lines text_width c = head_text (record { columns = columns passes; irps = irps; rows = rows; lines = lines; text_width = text_width; caption = c.lines }) c.title c.below ++ each_text (λ n name. pass_name_text passes name) 0 c.names
 
@@ -142,13 +144,18 @@ abbrev pub refused_elements : ℕ → ℕ → Reason → List Element
 refused_elements rows line reason = element.Below rows Bar ∷ (element.Number (record { row = rows; line = line })
     ∷ (element.Below rows (Refused reason.stop) ∷ (element.Below rows (Because reason) ∷ [])))
 
--- of an IRP that is reported in the end
-abbrev pub closing_elements : List IrpNow → ℕ → ℕ → IrpLine → List Element
-closing_elements irps rows nth line = element.Below rows (Irp nth line (irp_at irps line.name.irp)) ∷ []
+-- of an earlier life of an IRP: how it ended
+abbrev pub past_elements : ℕ → ℕ → PastLife → List Element
+past_elements rows nth life = element.Below rows (Past nth life) ∷ []
 
--- of what is reported in the end: each IRP, and whether all is at rest
-abbrev pub closed_elements : List IrpNow → List IrpLine → Rest → ℕ → List Element
-closed_elements irps reported rest rows = each (closing_elements irps rows) 0 reported ++ element.Below rows (AtRest (length reported) rest) ∷ []
+-- of an IRP that is reported in the end, below the first lines
+abbrev pub closing_elements : List IrpNow → ℕ → ℕ → ℕ → IrpLine → List Element
+closing_elements irps rows first nth line = element.Below rows (Irp (nth + first) line (irp_at irps line.name.irp)) ∷ []
+
+-- of what is reported in the end: each earlier life, each IRP, and whether all is at rest
+abbrev pub closed_elements : List IrpNow → List PastLife → List IrpLine → Rest → ℕ → List Element
+closed_elements irps lives reported rest rows = each (past_elements rows) 0 lives
+    ++ (each (closing_elements irps rows (length lives)) 0 reported ++ element.Below rows (AtRest (length reported + length lives) rest) ∷ [])
 
 -- of an order that broke the protocol in the nth line: where and why, and what goes wrong, each on a line below
 abbrev pub harm_elements : ℕ → ℕ → HarmAt → List Element
@@ -178,8 +185,8 @@ abbrev pub stopped_end : ℕ → Reason → EndShown
 stopped_end n reason = record { lines = 3; below = λ rows. refused_elements rows n reason; text = ended_lines n reason }
 
 -- with what is reported in the end
-abbrev pub closed_end : List IrpNow → List IrpLine → Rest → EndShown
-closed_end irps reported rest = record { lines = length reported + 1; below = closed_elements irps reported rest; text = closed_lines irps reported rest }
+abbrev pub closed_end : List IrpNow → List PastLife → List IrpLine → Rest → EndShown
+closed_end irps lives reported rest = record { lines = length reported + (length lives + 1); below = closed_elements irps lives reported rest; text = closed_lines irps lives reported rest }
 
 -- with the nth line, in which the protocol was broken, and what goes wrong
 abbrev pub broken_end : ℕ → Reason → List HarmAt → EndShown
@@ -187,7 +194,7 @@ broken_end n reason harms = record { lines = harm_lines harms + 2; below = broke
 
 abbrev pub end_of : Ending → EndShown
 end_of (StoppedEnd n reason) = stopped_end n reason
-end_of (Closed irps reported rest) = closed_end irps.now reported.now rest
+end_of (Closed irps lives reported rest) = closed_end irps.now lives.now reported.now rest
 end_of (Broken n reason harms) = broken_end n reason harms.now
 
 -- what a picture shows: the passes, what is known of the IRPs after the rows, the rows, the owners after them, and the row of the first step that the protocol refuses
@@ -225,7 +232,7 @@ seen None s = s
 -- how it is drawn, below this caption
 abbrev pub shown_text : Format → CaptionText → Shown → EndShown → List ℕ
 shown_text Svg c s e = picture_head s.passes (irp_columns s.irps) (length s.rows) e.lines (widest_line 0 e.text) c ++ picture (picture_of s (length s.rows) e)
-shown_text Text c s e = c.plain ++ (rows_text s.passes s.rows ++ e.text)
+shown_text Text c s e = c.plain ++ (rows_text s.passes (has_several s.irps) s.rows ++ e.text)
 
 -- what is known of so many IRPs after the steps W
 abbrev pub irps_of : Size → List Numbered → List IrpNow
@@ -240,7 +247,7 @@ abbrev pub stop_of : Size → List Numbered → ℕ → Stop → EndShown
 stop_of size W n stop = stopped_end n (reason_of size W stop)
 
 abbrev pub close_of : Size → List Numbered → List IrpLine → Bool → EndShown
-close_of size W reported at_rest = closed_end (irps_of size W) reported (rest_of (all_passes size W) at_rest)
+close_of size W reported at_rest = closed_end (irps_of size W) (past_lives (irps_of size W) (rows_of size W)) reported (rest_of (all_passes size W) at_rest)
 
 -- what a schedule led to so far: the caption of its picture, and the steps
 pub record Drawn : Type 0 where

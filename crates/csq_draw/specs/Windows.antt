@@ -64,7 +64,7 @@ is_owner p None = false
 abbrev pub row_shows : PassId → Row → Bool
 row_shows p row = same_pass row.step.made.pass p || (is_pass p row.lock || is_owner p row.ended)
 
--- whether an owner after so many rows is p, and has a line on them
+-- whether an owner after this number of rows is p, and has a line on them
 abbrev pub has_line : ℕ → PassId → Option Owner → Bool
 has_line count p (Some o) = nat_lt o.row count && same_pass o.pass p
 has_line count p None = false

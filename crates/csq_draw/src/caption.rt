@@ -1,11 +1,11 @@
 //! The comment at the head of a schedule, as it stands above its picture: a title, a caption, and names of passes.
-ghost use Rattle.std.specs.Prelude.{◌≡◌, ◌==◌, ◌<◌, ◌≤◌, length, map, string_bytes, IfOk, OnOk, if◌then◌else◌};
+ghost use Rattle.std.specs.Prelude.{◌≡◌, ◌==◌, ◌<◌, ◌≤◌, ◌^◌, length, map, take, string_bytes, IfOk, OnOk, if◌then◌else◌};
 ghost use Rattle.std.specs.List.{list_any};
 ghost use Rattle.std.specs.Option.{option_map};
 ghost use Rattle.csq_replay.specs.Lines.{GrewBy};
 ghost use Rattle.csq_draw.specs.Pictures.{pass_name_text};
 ghost use Rattle.csq_draw.specs.Terminal.{each_text};
-ghost use Rattle.csq_draw.specs.Captions.{escaped_character, escaped, cut, drawn_name, unspaced, line_below, plain_line, pass_named, name_of};
+ghost use Rattle.csq_draw.specs.Captions.{escaped_character, escaped, cut, drawn_name, unspaced, is_wide_letter, name_width, is_wide, width_kept, line_below, plain_line, pass_named, name_of};
 ghost use Rattle.csq_draw.specs.Characters.{characters};
 
 use crate::characters::characters;
@@ -22,7 +22,10 @@ pub(crate) const MAX_LINES: u32 = 8;
 /// column are 154 pixels, of which a letter takes some six. Own rule.
 const MAX_NAME: usize = 24;
 
-/// What a line of the comment says that a pass is called, as XML writes it.
+/// How wide they may be, in pixels, and so how wide a name of wide letters is drawn. Own rule.
+const NAME_WIDTH: usize = 154;
+
+/// What a line of the comment says that a pass is called, as XML writes it, after the end of its element's tag.
 #[derive(Drop)]
 pub(crate) struct PassName<A: Allocator> {
     pub(crate) pass: PassId,
@@ -136,12 +139,58 @@ fn push_cut<A: Allocator>(name: &[char], text: &mut String<A>) -> Result<(), All
     text.push('…')
 }
 
-/// A name, as it stands over its column.
+/// Whether a letter is wide: a capital, an m, a w, or one of a script whose letters are as wide as they are high.
+fn is_wide_letter(character: char) -> bool
+    ensures { result ≡ is_wide_letter character }
+{
+    (character >= 'A' && character <= 'Z')
+        || character == 'm'
+        || character == 'w'
+        || character >= '\u{1100}'
+}
+
+/// How wide these characters are taken to be, in pixels: a letter six, and a wide one ten. Own rule.
+fn name_width(name: &[char]) -> usize
+    requires { length name.now < 2 ^ 32 }
+    ensures { result ≡ name_width name.now }
+{
+    let wide = name.iter().filter(|it| is_wide_letter(**it)).count();
+    6 * name.len() + 4 * wide
+}
+
+/// The characters of a name that stand over its column, but for an ellipsis.
+fn front(name: &[char]) -> &[char]
+    ensures value { result.now ≡ take 24 name.now }
+    ensures bound { length result.now ≤ 24 }
+{
+    &name[..name.len().min(MAX_NAME)]
+}
+
+/// Whether these may be wider than the column.
+fn is_wide(name: &[char]) -> bool
+    ensures { result ≡ is_wide name.now }
+{
+    name_width(front(name)) > NAME_WIDTH
+}
+
+/// How wide a name is drawn that may be wider than its column: else it would run over the heading beside it.
+fn width_kept(is_wide: bool) -> &'static str
+    ensures { result.now ≡ width_kept is_wide }
+{
+    if is_wide {
+        " textLength='154' lengthAdjust='spacingAndGlyphs'>"
+    } else {
+        ">"
+    }
+}
+
+/// A name, as it stands over its column, after the end of its element's tag.
 fn drawn_name<A: Allocator + Copy>(alloc: A, name: &[u8]) -> Result<String<A>, AllocError>
     ensures { IfOk result (λ text. string_bytes text ≡ drawn_name name.now) }
 {
     let name = characters(alloc, name)?;
     let mut text = String::new(alloc);
+    text.push_str(width_kept(is_wide(&name)))?;
     push_cut(&name, &mut text)?;
     Ok(text)
 }
@@ -163,7 +212,7 @@ fn draw_name<A: Allocator, B: Allocator>(
         left(column_of(passes, named.pass)) + 130,
         named.name.as_str(),
     );
-    writeln!(text, "<text class='s' x='{x}' y='26'>{name}</text>")?;
+    writeln!(text, "<text class='s' x='{x}' y='26'{name}</text>")?;
     Ok(())
 }
 

@@ -21,6 +21,8 @@ pub(crate) enum Cell {
     Pass(PassId),
     /// What a step did, and what it found, beside these words.
     Step(StepInCall, Option<WordValues>),
+    /// The IRP that these words are of, and a hyphen if there are none.
+    Irp(Option<WordValues>),
     /// Whether a word is set.
     WordValue(bool),
 }
@@ -61,6 +63,8 @@ impl fmt::Display for Cell {
                 let (made, found) = (step.made, Finding(step, words));
                 write!(f, "{}{} {found}", claim_sign(claims(made)), made.kind)
             }
+            Cell::Irp(Some(words)) => write!(f, "{}", words.name.irp),
+            Cell::Irp(None) => write!(f, "-"),
             Cell::WordValue(set) => f.write_str(word_text(set)),
         }
     }

@@ -21,6 +21,7 @@ use crate::caption::{Caption, draw_names};
 use crate::ending::{Ending, rest_of};
 use crate::heading::{Extent, Head};
 use crate::irps::{IrpNow, irp_columns, irps_after};
+use crate::lives::past_lives;
 use crate::marks::Legality;
 use crate::owners::{Owner, ended_by, new_owners, note_owner, owner_in};
 use crate::passes::{columns, lock_at, lock_of};
@@ -115,8 +116,8 @@ impl<A: Allocator + Copy> Drawing<A> {
         irps_after(self.alloc, self.owners.len(), &self.rows)
     }
 
-    /// Draws what a picture of so many rows begins with, above so many lines of text below them, the widest of so
-    /// many pixels.
+    /// Draws what a picture with this number of rows begins with. Below the rows stand `lines` lines of text, of which
+    /// the widest takes `text_width` pixels.
     fn draw_heading(
         &self,
         passes: &[PassNow],
@@ -156,8 +157,8 @@ impl<A: Allocator + Copy> Drawing<A> {
         Ok(())
     }
 
-    /// Draws the head of a picture of these passes and IRPs and of so many rows, with so many lines of text below them,
-    /// the widest of so many pixels.
+    /// Draws the head of a picture of these passes and IRPs with this number of rows. Below the rows stand `lines` lines
+    /// of text, of which the widest takes `text_width` pixels.
     pub(crate) fn draw_head(
         &self,
         passes: &[PassNow],
@@ -217,7 +218,14 @@ impl<A: Allocator + Copy> Drawing<A> {
                 Ok(())
             }
             Format::Text => {
-                write_text(&self.caption, sheet.passes, sheet.rows, ending, text)?;
+                write_text(
+                    &self.caption,
+                    sheet.passes,
+                    sheet.irps,
+                    sheet.rows,
+                    ending,
+                    text,
+                )?;
                 Ok(())
             }
         }
@@ -336,8 +344,10 @@ impl<A: Allocator + Copy> Drawing<A> {
             (text_of size self.now.view d (close_of size d.steps reported.now at_rest))) }
     {
         let irps = self.irps_now()?;
+        let lives = past_lives(self.alloc, &irps, &self.rows)?;
         let rest = rest_of(&self.execution.passes, at_rest);
-        self.draw_steps(&irps, Ending::Closed(&irps, reported, rest), text)?;
+        let ending = Ending::Closed(&irps, &lives, reported, rest);
+        self.draw_steps(&irps, ending, text)?;
         Ok(())
     }
 }
@@ -394,7 +404,7 @@ impl<A: Allocator + Copy> Answerer<A, Reason> for Drawing<A> {
 /// isn't UTF-8; a column for each pass that makes a step, with the name that the first line as `p1: ReadFile` of
 /// the comment gives it; a row for each step with the value that it found, the call that it is of, who has the
 /// lock, who owes or holds which IRP, and the two words of its IRP after it; then the line that ended the
-/// handling and why, or where each IRP is and whether all is at rest.
+/// handling and why, or how each earlier life of an IRP ended, where each IRP is and whether all is at rest.
 ///
 /// All of the input is read, up to 1,048,577 bytes; more stays unread, and is answered `input too long`.
 /// `irps` is 1 to 1,024 and `passes` 1 to 64. Faults: 1 Memory and 2 Read, after which nothing was written;
@@ -423,10 +433,10 @@ pub fn draw_schedule<A: Allocator + Copy, R: Read, W: Write>(
 
 /// Reads a schedule as `draw_schedule` does, and writes it as lines of text for a terminal: a row for
 /// each step, with the number of its line, the pass that has the lock, in the column of its pass what it did
-/// and what it found, with a star before it if it claims its IRP, and the two words of its IRP after it;
-/// then the line that ended the handling and why, or where each IRP is and whether all is at rest. A column is
-/// 27 letters wide; behind a longer text stands one space. The caption stands above. It doesn't show who owes or
-/// holds which IRP.
+/// and what it found, with a star before it if it claims its IRP, and the two words of its IRP after it, in a
+/// picture of several IRPs with the number of that one; then the line that ended the handling and why, or how each
+/// earlier life of an IRP ended, where each IRP is and whether all is at rest. A column is 27 letters wide; after
+/// a longer text stands one space. The caption stands above. It doesn't show who owes or holds which IRP.
 ///
 /// All of the input is read, up to 1,048,577 bytes; more stays unread, and is answered `input too long`.
 /// `irps` is 1 to 1,024 and `passes` 1 to 64. Faults: 1 Memory and 2 Read, after which nothing was written;

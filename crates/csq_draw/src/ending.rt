@@ -6,6 +6,7 @@ ghost use Rattle.csq_draw.specs.Pictures.{end_of};
 
 use crate::irps::{Claim, IrpNow, Spot};
 use crate::layout::top;
+use crate::lives::PastLife;
 use crate::rows::count;
 use csq_explain::{DueStatus, HarmAt, NO_HARM, PassNow, Reason};
 use csq_replay::{IrpLine, Stop};
@@ -213,14 +214,14 @@ impl fmt::Display for BrokenLine {
 pub(crate) enum Ending<'a> {
     /// The line of this number ended the handling, for this reason.
     Stopped(usize, Reason),
-    /// All lines were handled: what is known of the IRPs, where each is, and whether all is at rest.
-    Closed(&'a [IrpNow], &'a [IrpLine], Rest),
+    /// All lines were handled: what is known of the IRPs, their earlier lives, where each is, and whether all is at rest.
+    Closed(&'a [IrpNow], &'a [PastLife], &'a [IrpLine], Rest),
     /// The protocol was broken in the line of this number, for this reason, and this goes wrong.
     Broken(usize, Reason, &'a [HarmAt]),
 }
 
 /// How many these and so many more are.
-fn count_with(number: usize, more: u32) -> Result<u32, AllocError>
+pub(crate) fn count_with(number: usize, more: u32) -> Result<u32, AllocError>
     ensures { IfOk result (λ count. count ≡ number + more) }
 {
     count(number)?.checked_add(more).ok_or(AllocError)
@@ -233,7 +234,9 @@ impl Ending<'_> {
     {
         match self {
             Ending::Stopped(_, _) => Ok(3),
-            Ending::Closed(_, reported, _) => count_with(reported.len(), 1),
+            Ending::Closed(_, lives, reported, _) => {
+                count_with(reported.len(), count_with(lives.len(), 1)?)
+            }
             Ending::Broken(_, _, []) => Ok(3),
             Ending::Broken(_, _, harms) => count_with(harms.len(), 2),
         }
@@ -249,6 +252,8 @@ pub(crate) enum Below {
     Refused(Stop),
     /// Why it ended the handling, below its bar.
     Because(Reason),
+    /// How an earlier life of an IRP ended, as the nth line.
+    Past(u32, PastLife),
     /// Where an IRP is in the end, as the nth line.
     Irp(u32, IrpLine, IrpNow),
     /// Whether all is at rest in the end, as the nth line.
@@ -287,6 +292,10 @@ impl fmt::Display for BelowRows {
                 write!(f, "<text x='73' y='{}'>{}</text>", y + 34, StopText(stop))
             }
             Below::Because(reason) => write!(f, "<text x='73' y='{}'>{reason}</text>", y + 76),
+            Below::Past(nth, life) => {
+                let y = y + 28 + 20 * u64::from(nth);
+                write!(f, "<text x='56' y='{y}'>{life}</text>")
+            }
             Below::Irp(nth, line, now) => {
                 let (y, sentence) = (y + 28 + 20 * u64::from(nth), IrpEnding(line, now));
                 write!(f, "<text x='56' y='{y}'>{sentence}</text>")

@@ -38,8 +38,8 @@ circle.on{fill:currentColor}circle.off{fill:#ffffff}circle.b{stroke-width:3}
 text{fill:#e6edf3}.f{fill:#f85149}.s,.m,.n,.q,.t tspan{fill:#b1bac4}}
 </style>";
 
-/// How much a picture shows: so many columns of passes, IRPs and rows, lines of text below them, pixels of the widest of
-/// these lines, and lines of a caption above.
+/// How much a picture shows: the numbers of its columns of passes, of its IRPs, of its rows and of the lines of text
+/// below them, how many pixels the widest of these lines takes, and the number of lines of the caption above.
 #[derive(Clone, Copy)]
 pub(crate) struct Extent {
     pub(crate) columns: u32,

@@ -1,7 +1,7 @@
 //! What is known of each IRP as its steps are drawn: its last step, who wrote its words, who has it, and who
 //! completed it.
 ghost use Rattle.std.specs.Prelude.{◌≡◌, ◌<◌, ◌≤◌, length, replicate, take, IfOk};
-ghost use Rattle.csq_draw.specs.Irps.{flag_after, routine_after, claim_by, done_after, last_after, irp_after, irp_at, irp_named, with_irp, irps_after, irp_columns, irp_column, new_irp};
+ghost use Rattle.csq_draw.specs.Irps.{flag_after, routine_after, claim_by, done_after, last_after, irp_after, irp_at, irp_named, with_irp, irps_after, irp_columns, irp_column, has_several, new_irp};
 
 use crate::rows::Row;
 use csq_explain::{StepInCall, WordValues};
@@ -205,6 +205,14 @@ pub(crate) fn irp_columns(irps: &[IrpNow]) -> u32
     ensures { result ≡ irp_columns irps.now }
 {
     irps.iter().filter(|now| now.last.is_some()).count() as u32
+}
+
+/// Whether a step names more than one of these IRPs.
+pub(crate) fn has_several(irps: &[IrpNow]) -> bool
+    requires { length irps.now ≤ 1024 }
+    ensures { result ≡ has_several irps.now }
+{
+    irp_columns(irps) > 1
 }
 
 /// The place of an IRP among those that a step names, from 0 on.

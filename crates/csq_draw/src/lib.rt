@@ -16,6 +16,7 @@ mod irps;
 mod lanes;
 mod laws;
 mod layout;
+mod lives;
 mod marks;
 mod owners;
 mod passes;

@@ -3,13 +3,14 @@ ghost use Rattle.std.specs.Prelude.{◌≡◌, ◌≤◌, ◌∷◌, [], codes, 
 ghost use Rattle.csq_replay.specs.Lines.{GrewBy};
 ghost use Rattle.csq_draw.specs.Elements.{elements_text, picture};
 ghost use Rattle.csq_draw.specs.Passes.{columns};
-ghost use Rattle.csq_draw.specs.Pictures.{each, column_elements, word_elements, last_elements, span_elements, open_elements, owners_elements, closing_elements, closed_elements, above_elements, shown_by, shown_elements, refused_elements, harm_elements, harms_elements, broken_elements, end_of, picture_of};
+ghost use Rattle.csq_draw.specs.Pictures.{each, column_elements, word_elements, last_elements, span_elements, open_elements, owners_elements, past_elements, closing_elements, closed_elements, above_elements, shown_by, shown_elements, refused_elements, harm_elements, harms_elements, broken_elements, end_of, picture_of};
 
 use crate::circles::WordColumns;
 use crate::element::Element;
-use crate::ending::{Below, Ending, Rest};
+use crate::ending::{Below, Ending, Rest, count_with};
 use crate::heading::Column;
 use crate::irps::{IrpNow, irp_at, irp_column};
+use crate::lives::PastLife;
 use crate::marks::Number;
 use crate::owners::Owner;
 use crate::passes::{column_of, columns};
@@ -208,50 +209,84 @@ fn draw_owners<A: Allocator>(
     }
 }
 
-/// Where an IRP is in the end, as the nth line below so many rows.
+/// How an earlier life of an IRP ended, as the nth line below these rows.
+fn draw_past<A: Allocator>(
+    rows: u32,
+    nth: usize,
+    life: PastLife,
+    text: &mut String<A>,
+) -> Result<(), AllocError>
+    ensures { OnOk result (GrewBy (string_bytes text.old) (string_bytes text.new)
+        (elements_text (past_elements rows nth life))) }
+{
+    let nth = count(nth)?;
+    draw(Element::Below(rows, Below::Past(nth, life)), text)
+}
+
+/// How the earlier lives of IRPs ended.
+fn draw_lives<A: Allocator>(
+    rows: u32,
+    lives: &[PastLife],
+    text: &mut String<A>,
+) -> Result<(), AllocError>
+    ensures { OnOk result (GrewBy (string_bytes text.old) (string_bytes text.new)
+        (elements_text (each (past_elements rows) 0 lives.now))) }
+{
+    for (nth, life) in lives.iter().enumerate() {
+        draw_past(rows, nth, *life, text)?;
+    }
+    Ok(())
+}
+
+/// Where an IRP is in the end, as the nth line after the first ones below these rows.
 fn draw_ending<A: Allocator>(
     irps: &[IrpNow],
     rows: u32,
+    first: u32,
     nth: usize,
     line: IrpLine,
     text: &mut String<A>,
 ) -> Result<(), AllocError>
     ensures { OnOk result (GrewBy (string_bytes text.old) (string_bytes text.new)
-        (elements_text (closing_elements irps.now rows nth line))) }
+        (elements_text (closing_elements irps.now rows first nth line))) }
 {
-    let (nth, now) = (count(nth)?, irp_at(irps, line.name.irp));
+    let (nth, now) = (count_with(nth, first)?, irp_at(irps, line.name.irp));
     draw(Element::Below(rows, Below::Irp(nth, line, now)), text)
 }
 
-/// Where each IRP is in the end.
+/// Where each IRP is in the end, below this number of lines.
 fn draw_reported<A: Allocator>(
     irps: &[IrpNow],
     rows: u32,
+    first: u32,
     reported: &[IrpLine],
     text: &mut String<A>,
 ) -> Result<(), AllocError>
     ensures { OnOk result (GrewBy (string_bytes text.old) (string_bytes text.new)
-        (elements_text (each (closing_elements irps.now rows) 0 reported.now))) }
+        (elements_text (each (closing_elements irps.now rows first) 0 reported.now))) }
 {
     for (nth, line) in reported.iter().enumerate() {
-        draw_ending(irps, rows, nth, *line, text)?;
+        draw_ending(irps, rows, first, nth, *line, text)?;
     }
     Ok(())
 }
 
-/// Where each IRP is in the end, and whether all is at rest.
+/// How the earlier lives of IRPs ended, where each IRP is in the end, and whether all is at rest.
 fn draw_closed<A: Allocator>(
     irps: &[IrpNow],
+    lives: &[PastLife],
     rows: u32,
     reported: &[IrpLine],
     rest: Rest,
     text: &mut String<A>,
 ) -> Result<(), AllocError>
     ensures { OnOk result (GrewBy (string_bytes text.old) (string_bytes text.new)
-        (elements_text (closed_elements irps.now reported.now rest rows))) }
+        (elements_text (closed_elements irps.now lives.now reported.now rest rows))) }
 {
-    let nth = count(reported.len())?;
-    draw_reported(irps, rows, reported, text)?;
+    let first = count(lives.len())?;
+    let nth = count_with(reported.len(), first)?;
+    draw_lives(rows, lives, text)?;
+    draw_reported(irps, rows, first, reported, text)?;
     draw(Element::Below(rows, Below::AtRest(nth, rest)), text)?;
     Ok(())
 }
@@ -402,7 +437,9 @@ fn draw_end<A: Allocator>(
 {
     match ending {
         Ending::Stopped(line, reason) => draw_refused(rows, line, reason, text),
-        Ending::Closed(irps, reported, rest) => draw_closed(irps, rows, reported, rest, text),
+        Ending::Closed(irps, lives, reported, rest) => {
+            draw_closed(irps, lives, rows, reported, rest, text)
+        }
         Ending::Broken(line, reason, harms) => draw_broken(rows, line, reason, harms, text),
     }
 }

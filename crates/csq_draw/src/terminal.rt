@@ -3,15 +3,17 @@ ghost use Rattle.std.specs.Prelude.{◌≡◌, ◌-◌, ◌*◌, ◌<◌, ◌≤
 ghost use Rattle.csq_replay.specs.Lines.{GrewBy};
 ghost use Rattle.csq_draw.specs.Captions.{caption_of};
 ghost use Rattle.csq_draw.specs.Endings.{broken_line};
+ghost use Rattle.csq_draw.specs.Irps.{has_several};
 ghost use Rattle.csq_explain.specs.Reasons.{reason_text};
 ghost use Rattle.csq_draw.specs.Passes.{columns, column_of};
-ghost use Rattle.csq_draw.specs.Terminal.{each_text, spaces, in_width, cell_text, words_cells, row_cells, state_cell, row_text, ended_lines, broken_lines, pass_cell, rows_text, life_cell, irp_line_reported, closed_lines, letter_width, widest_line};
+ghost use Rattle.csq_draw.specs.Terminal.{each_text, spaces, in_width, cell_text, irp_cell, words_header, words_cells, row_words, row_cells, state_cell, row_text, ended_lines, broken_lines, pass_cell, rows_text, life_cell, past_line, irp_line_reported, closed_lines, letter_width, widest_line};
 ghost use Rattle.csq_draw.specs.Pictures.{end_of};
 
 use crate::caption::Caption;
 use crate::cells::Cell;
 use crate::ending::{BrokenLine, Ending, IrpEnding, Rest, StopText};
-use crate::irps::{IrpNow, irp_at};
+use crate::irps::{IrpNow, has_several, irp_at};
+use crate::lives::PastLife;
 use crate::marks::Legality;
 use crate::passes::{column_of, columns};
 use crate::rows::{Row, count};
@@ -20,7 +22,7 @@ use csq_replay::IrpLine;
 use irp_core::{IrpLife, PassId};
 use std::alloc::{AllocError, Allocator};
 
-/// How many letters the number of a line takes, and who has the lock.
+/// How many letters the number of a line takes, who has the lock, and the number of an IRP.
 const NARROW: usize = 6;
 
 /// How many letters the column of a pass takes.
@@ -64,6 +66,23 @@ fn push_life<A: Allocator>(
     }
 }
 
+/// Adds the number of the IRP that the words beside it are of, in a picture of several: the words of one row are often
+/// not those of the row above.
+fn push_irp<A: Allocator>(
+    several: bool,
+    words: Option<WordValues>,
+    text: &mut String<A>,
+) -> Result<(), AllocError>
+    ensures { OnOk result (GrewBy (string_bytes text.old) (string_bytes text.new)
+        (irp_cell several words)) }
+{
+    if several {
+        push_cell(Cell::Irp(words), NARROW, text)
+    } else {
+        Ok(())
+    }
+}
+
 /// Adds the words of an IRP, after a step that names it.
 fn push_words<A: Allocator>(
     named: Option<IrpLife>,
@@ -81,16 +100,30 @@ fn push_words<A: Allocator>(
     push_life(named, words, text)
 }
 
-/// Adds the row of a step: its line, this cell, in the column of its pass what it did, and the words.
+/// Adds the words of the IRP that a row's step names, in a picture of several IRPs after the number of that one.
+fn push_row_words<A: Allocator>(
+    several: bool,
+    row: Row,
+    text: &mut String<A>,
+) -> Result<(), AllocError>
+    ensures { OnOk result (GrewBy (string_bytes text.old) (string_bytes text.new)
+        (row_words several row)) }
+{
+    push_irp(several, row.words, text)?;
+    push_words(row.step.made.kind.name(), row.words, text)
+}
+
+/// Adds the row of a step: its line, this cell, in the column of its pass what it did, and the words of its IRP.
 fn push_cells<A: Allocator>(
     passes: &[PassNow],
+    several: bool,
     cell: Cell,
     row: Row,
     text: &mut String<A>,
 ) -> Result<(), AllocError>
     requires { length passes.now ≤ 65 }
     ensures { OnOk result (GrewBy (string_bytes text.old) (string_bytes text.new)
-        (row_cells passes.now cell row)) }
+        (row_cells passes.now several cell row)) }
 {
     let column = column_of(passes, row.step.made.pass) as usize;
     let columns = columns(passes) as usize;
@@ -102,7 +135,7 @@ fn push_cells<A: Allocator>(
         WIDE * columns.saturating_sub(column),
         text,
     )?;
-    push_words(row.step.made.kind.name(), row.words, text)?;
+    push_row_words(several, row, text)?;
     text.push('\n')
 }
 
@@ -119,14 +152,15 @@ fn state_cell(row: Row) -> Cell
 /// Adds the row of a step.
 fn push_row<A: Allocator>(
     passes: &[PassNow],
+    several: bool,
     row: Row,
     text: &mut String<A>,
 ) -> Result<(), AllocError>
     requires { length passes.now ≤ 65 }
     ensures { OnOk result (GrewBy (string_bytes text.old) (string_bytes text.new)
-        (row_text passes.now row)) }
+        (row_text passes.now several row)) }
 {
-    push_cells(passes, state_cell(row), row, text)
+    push_cells(passes, several, state_cell(row), row, text)
 }
 
 /// Adds the name of a pass, over its column, if it makes a step.
@@ -160,33 +194,47 @@ fn push_passes<A: Allocator>(passes: &[PassNow], text: &mut String<A>) -> Result
 /// Adds the rows of all steps.
 fn push_rows<A: Allocator>(
     passes: &[PassNow],
+    several: bool,
     rows: &[Row],
     text: &mut String<A>,
 ) -> Result<(), AllocError>
     requires { length passes.now ≤ 65 }
     ensures { OnOk result (GrewBy (string_bytes text.old) (string_bytes text.new)
-        (each_text (λ n row. row_text passes.now row) 0 rows.now)) }
+        (each_text (λ n row. row_text passes.now several row) 0 rows.now)) }
 {
     for row in rows {
-        push_row(passes, *row, text)?;
+        push_row(passes, several, *row, text)?;
     }
     Ok(())
+}
+
+/// What stands over the words, in a picture of several IRPs beside what stands over their numbers.
+fn words_header(several: bool) -> &'static str
+    ensures { result.now ≡ words_header several }
+{
+    if several {
+        "IRP   flag   routine\n"
+    } else {
+        "flag   routine\n"
+    }
 }
 
 /// Adds what stands above the rows, and the rows.
 fn push_steps<A: Allocator>(
     passes: &[PassNow],
+    several: bool,
     rows: &[Row],
     text: &mut String<A>,
 ) -> Result<(), AllocError>
     requires { length passes.now ≤ 65 }
     ensures { OnOk result (GrewBy (string_bytes text.old) (string_bytes text.new)
-        (rows_text passes.now rows.now)) }
+        (rows_text passes.now several rows.now)) }
 {
     text.push_str("line  lock  ")?;
     push_passes(passes, text)?;
-    text.push_str("flag   routine\n")?;
-    push_rows(passes, rows, text)
+    text.push_str(words_header(several))?;
+    push_rows(passes, several, rows, text)?;
+    Ok(())
 }
 
 /// Adds where an IRP is in the end.
@@ -217,16 +265,37 @@ fn push_reported<A: Allocator>(
     Ok(())
 }
 
-/// Adds where each IRP is in the end, and whether all is at rest.
+/// Adds how an earlier life of an IRP ended.
+fn push_past<A: Allocator>(life: PastLife, text: &mut String<A>) -> Result<(), AllocError>
+    ensures { OnOk result (GrewBy (string_bytes text.old) (string_bytes text.new)
+        (past_line 0 life)) }
+{
+    writeln!(text, "{life}")
+}
+
+/// Adds how the earlier lives of IRPs ended.
+fn push_lives<A: Allocator>(lives: &[PastLife], text: &mut String<A>) -> Result<(), AllocError>
+    ensures { OnOk result (GrewBy (string_bytes text.old) (string_bytes text.new)
+        (each_text past_line 0 lives.now)) }
+{
+    for life in lives {
+        push_past(*life, text)?;
+    }
+    Ok(())
+}
+
+/// Adds how the earlier lives of IRPs ended, where each IRP is in the end, and whether all is at rest.
 fn push_closed<A: Allocator>(
     irps: &[IrpNow],
+    lives: &[PastLife],
     reported: &[IrpLine],
     rest: Rest,
     text: &mut String<A>,
 ) -> Result<(), AllocError>
     ensures { OnOk result (GrewBy (string_bytes text.old) (string_bytes text.new)
-        (closed_lines irps.now reported.now rest)) }
+        (closed_lines irps.now lives.now reported.now rest)) }
 {
+    push_lives(lives, text)?;
     push_reported(irps, reported, text)?;
     writeln!(text, "{rest}")
 }
@@ -279,7 +348,9 @@ fn push_end<A: Allocator>(ending: Ending<'_>, text: &mut String<A>) -> Result<()
 {
     match ending {
         Ending::Stopped(line, reason) => push_ended(line, reason, text),
-        Ending::Closed(irps, reported, rest) => push_closed(irps, reported, rest, text),
+        Ending::Closed(irps, lives, reported, rest) => {
+            push_closed(irps, lives, reported, rest, text)
+        }
         Ending::Broken(line, reason, harms) => push_harms(line, reason, harms, text),
     }
 }
@@ -319,21 +390,23 @@ pub(crate) fn width_below<A: Allocator>(alloc: A, ending: Ending<'_>) -> Result<
     count(widest_line(text.as_bytes()))
 }
 
-/// Writes a caption, the rows of these passes, and how the picture ends.
+/// Writes a caption, the rows of these passes and IRPs, and how the picture ends.
 pub(crate) fn write_text<A: Allocator>(
     caption: &Caption<A>,
     passes: &[PassNow],
+    irps: &[IrpNow],
     rows: &[Row],
     ending: Ending<'_>,
     text: &mut String<A>,
 ) -> Result<(), AllocError>
-    requires { length passes.now ≤ 65 }
+    requires few { length passes.now ≤ 65 }
+    requires irps { length irps.now ≤ 1024 }
     ensures { OnOk result (GrewBy (string_bytes text.old) (string_bytes text.new)
         ((caption_of caption.now).plain
-        ++ (rows_text passes.now rows.now ++ (end_of ending.entry).text))) }
+        ++ (rows_text passes.now (has_several irps.now) rows.now ++ (end_of ending.entry).text))) }
 {
     text.push_str(caption.plain.as_str())?;
-    push_steps(passes, rows, text)?;
+    push_steps(passes, has_several(irps), rows, text)?;
     push_end(ending, text)?;
     Ok(())
 }

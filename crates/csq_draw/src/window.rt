@@ -202,7 +202,7 @@ fn has_row(rows: &[Row], pass: PassId) -> bool
     rows.iter().any(|row| row_shows(pass, *row))
 }
 
-/// Whether an owner after so many rows is this pass, and has a line on them.
+/// Whether an owner after `count` rows is this pass, and has a line on them.
 #[tactic(auto, unfolding(irp_core::specs::Steps::same_pass))]
 fn has_line(count: usize, pass: PassId, owner: Option<Owner>) -> bool
     ensures { result ≡ has_line count pass owner }
@@ -213,7 +213,7 @@ fn has_line(count: usize, pass: PassId, owner: Option<Owner>) -> bool
     }
 }
 
-/// Whether one of these owners after so many rows is a pass, and has a line on them.
+/// Whether one of these owners after `count` rows is this pass, and has a line on them.
 fn has_owner(count: usize, owners: &[Option<Owner>], pass: PassId) -> bool
     ensures { result ≡ list_any (has_line count pass) owners.now }
 {

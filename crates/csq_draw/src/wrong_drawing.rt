@@ -38,8 +38,8 @@ pub struct Refusal {
     pub(crate) reason: Reason,
 }
 
-/// The drawing, the order of all steps, and the first refused one. Up to that the drawing's rows are those of its execution, and behind
-/// it they go by the words.
+/// The drawing, the order of all steps, and the first refused one. Up to that the drawing's rows are those of its
+/// execution, and from there on they go by the words.
 #[derive(Drop)]
 pub struct WrongDrawing<A: Allocator> {
     pub(crate) drawing: Drawing<A>,

@@ -4,4 +4,4 @@ use Rattle.csq_draw.proofs.Growing.{grew_each}
 use Rattle.csq_draw.proofs.picture.draw_reported.Goals as goal
 
 pub loop-nth-preserved : goal.loop-nth-preserved
-loop-nth-preserved g c = grew_each (closing_elements c.args.irps.now c.args.rows) c.args.reported.now c.loop-nth.nth _ _ _ _ (omega arith) c.loop-nth.invariant c.in_ok-draw_ending.ensures
+loop-nth-preserved g c = grew_each (closing_elements c.args.irps.now c.args.rows c.args.first) c.args.reported.now c.loop-nth.nth _ _ _ _ (omega arith) c.loop-nth.invariant c.in_ok-draw_ending.ensures
