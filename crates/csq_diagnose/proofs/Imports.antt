@@ -1,7 +1,7 @@
 -- The names that several proof files of this crate import, each from its home.
 pub use Rattle.csq_diagnose.specs.Expecting.{Admits, IsOneOf}
 pub use Rattle.csq_diagnose.specs.Grammars.{AreLineWords, Fit, MayBegin, expected_at, named, operands, places_of}
-pub use Rattle.csq_diagnose.specs.Misfits.{IsEnd, IsFirstMisfit, IsMisfit, StandsThere, column_of, words_after}
+pub use Rattle.csq_diagnose.specs.Misfits.{IsEnd, IsFirstMisfit, IsMisfit, StandsThere, column_of, words_left}
 pub use Rattle.csq_diagnose.specs.declared.expected.Expected.{Expected}
 pub use Rattle.csq_diagnose.specs.declared.expected.Expected.TheVariants.{ScriptCall, File, Irp, IrpInLife, Nothing, Pass, Peek, Place, Status, Step}
 pub use Rattle.csq_replay.specs.Pieces.{IsNumber, words_of}

@@ -9,4 +9,3 @@ mod Nearing
 pub mod Reporting
 pub mod Reported
 mod Malforming
-mod Marking

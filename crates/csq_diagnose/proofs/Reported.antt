@@ -1,5 +1,5 @@
 -- Schedules and scripts that were reported have their diagnoses.
-use Rattle.std.proofs.Common.{◌≡◌, ℕ, Bool, true, false, List, [], Some, None, refl, sym, subst}
+use Rattle.std.proofs.Common.{◌≡◌, ℕ, Bool, true, false, List, [], Some, None, refl, subst}
 use Rattle.irp_core.specs.Runs.{Size}
 use Rattle.csq_words.specs.Queue.{Limits}
 use Rattle.csq_replay.specs.declared.lines.answer.Ended.{Ended}
@@ -41,8 +41,7 @@ step_on size W V n line (outcome.Stopped stop) came e = absurd (cc e)
 pub step_ends : (size : Size) (W : List Numbered) (n : ℕ) (line said : List ℕ) (reason : Reason) → StopsFor size W n line reason → ReportsReason reason n line said → DiagnosesStep size W n line said None
 step_ends size W n line said reason (came, is) reported =
     let Comes : Stop → Type 0 = λ stop. ComesTo size (run_of W) line (outcome.Stopped stop) in
-    let Says : Reason → Type 0 = λ r. IsReportedStop n line r reason.stop said in
-    (outcome.Stopped reason.stop, came, subst Says is (reported (λ same. (subst Comes same came).2)), refl)
+    (outcome.Stopped reason.stop, came, reported (λ same. (subst Comes same came).2), refl)
 
 schedule_text : (explains : Bool) (size : Size) (claims : Bool) (input text : List ℕ) (e : Ended)
     → IsAnswer (ReportsLine (line_text explains size) size) (IsTextClosing explains size claims) [] input text e → IsScheduleText explains size claims input text e
@@ -65,11 +64,10 @@ call_on l s t u n line (call.Answered c r) came e = is_call (call_is_within line
 call_on l s t u n line (call.Stopped stop) came e = absurd (cc e)
 
 call_ends : (l : Limits) (s : Script) (n : ℕ) (line said : List ℕ) (stop : CallStop) → CallStopsFor l s n line stop → ReportsCallStop stop n line said → DiagnosesCall n line said None
-call_ends l s n line said TooLong (t, came) reported = let P : List ℕ → Type 0 = λ u. DiagnosesCall n line u None in subst P (sym reported) (is_long came.0)
+call_ends l s n line said TooLong (t, came) reported = is_long said came.0 reported
 call_ends l s n line said Malformed (t, came) reported =
-    let (fault, is, text) = reported came.2 in
-    let P : List ℕ → Type 0 = λ u. DiagnosesCall n line u None in
-    subst P (sym text) (is_malformed came.0 came.1 fault is)
+    let (fault, is, at) = reported came.2 in
+    is_malformed came.0 came.1 fault is said at
 
 script_text : (explains : Bool) (l : Limits) (input text : List ℕ) (e : Ended)
     → IsAnswer (ReportsCall (call_line_text explains l) l) (λ s text. text ≡ closing_text explains l s) (new_script l) input text e → IsScriptText explains l input text e

@@ -3,7 +3,7 @@ use Rattle.std.proofs.Common.{◌≡◌, ℕ, zero, suc, ◌+◌, ◌-◌, ◌<�
 use Rattle.std.specs.Option.{option_map}
 use Rattle.std.proofs.lemmas.List.{take_all}
 use Rattle.std.proofs.lemmas.List.Splits.{length-slice_split, join_with_byte-slice_split}
-use Rattle.csq_diagnose.proofs.Imports.{slice_get, slice_index_or, is_some, is_none, not, IfSome, IfNone, MatchOption, ◌==◌, Bor, join_with_byte, words_of, Expected, Admits, Fit, expected_at, StandsThere, IsEnd, IsFirstMisfit, column_of, words_after}
+use Rattle.csq_diagnose.proofs.Imports.{slice_get, slice_index_or, is_some, is_none, not, IfSome, IfNone, MatchOption, ◌==◌, Bor, join_with_byte, words_of, Expected, Admits, Fit, expected_at, StandsThere, IsEnd, IsFirstMisfit, column_of, words_left}
 use Rattle.csq_diagnose.specs.declared.misfit.Misfit.{Misfit}
 
 -- one word more fits
@@ -56,7 +56,7 @@ not_some None false e = absurd cc
 not_some (Some rest) true e = absurd cc
 not_some (Some rest) false e = refl
 
-none_after : (after : Option (Bor (List ℕ))) → is_none after ≡ is_none (slice_get (words_after after) 0)
+none_after : (after : Option (Bor (List ℕ))) → is_none after ≡ is_none (slice_get (words_left after) 0)
 none_after None = refl
 none_after (Some rest) = sym (has_word (words_of rest.now) (let e = length-slice_split (λ b. b == 32) rest.now in omega (arith, e)))
 
@@ -71,13 +71,13 @@ first_length : (w : List ℕ) (ws : List (List ℕ)) → length w ≤ length (jo
 first_length w [] = omega arith
 first_length w (x ∷ ws) = let sum = length-append w (32 ∷ join_with_byte 32 (x ∷ ws)) in omega (arith, sum)
 
-module _ (line text word : List ℕ) (after : Option (Bor (List ℕ))) (n : ℕ) (left : drop n (words_of line) ≡ words_of text) (cut : words_of text ≡ word ∷ words_after after) where
+module _ (line text word : List ℕ) (after : Option (Bor (List ℕ))) (n : ℕ) (left : drop n (words_of line) ≡ words_of text) (cut : words_of text ≡ word ∷ words_left after) where
   stands : slice_get (words_of line) n ≡ Some word
-  stands = (first_left n (words_of line) word (words_after after) (left ∙ cut)).0
+  stands = (first_left n (words_of line) word (words_left after) (left ∙ cut)).0
 
   -- what is left behind the word
-  pub left_after : drop (n + 1) (words_of line) ≡ words_after after
-  left_after = ap (λ k. drop k (words_of line)) (add-one n) ∙ (first_left n (words_of line) word (words_after after) (left ∙ cut)).1
+  pub left_after : drop (n + 1) (words_of line) ≡ words_left after
+  left_after = ap (λ k. drop k (words_of line)) (add-one n) ∙ (first_left n (words_of line) word (words_left after) (left ∙ cut)).1
 
   pub one_more_fits : (es : List Expected) → Fit (take n es) (take n (words_of line)) → n < length es → Admits (expected_at es n) word → Fit (take (n + 1) es) (take (n + 1) (words_of line))
   one_more_fits es f lt a = subst (λ k. Fit (take k es) (take k (words_of line))) (sym (add-one n)) (fit_suc n es (words_of line) word f lt stands a)
@@ -91,7 +91,7 @@ module _ (line text word : List ℕ) (after : Option (Bor (List ℕ))) (n : ℕ)
         column ∙ ap (λ t. length line - length t + 1) (sym joined);
     last = rw is (not_some after m.is_last last ∙ none_after after ∙ ap (λ l. is_none (slice_get l 0)) (sym left_after) ∙ ap is_none (sym (head_left (n + 1) (words_of line))) ∙ ap (λ k. is_none (slice_get (words_of line) (k + 1))) (sym before));
     unfit = rw (is, shows) unfit;
-    small = rw (is, shows) (let whole = ap length (sym (join_with_byte-slice_split 32 text)) in let part = first_length word (words_after after) in let cuts = ap (λ ws. length (join_with_byte 32 ws)) cut in omega (arith, column, few, short, whole, part, cuts));
+    small = rw (is, shows) (let whole = ap length (sym (join_with_byte-slice_split 32 text)) in let part = first_length word (words_left after) in let cuts = ap (λ ws. length (join_with_byte 32 ws)) cut in omega (arith, column, few, short, whole, part, cuts));
   }
 
 -- where the line ends, a missing word is one

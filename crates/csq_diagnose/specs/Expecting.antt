@@ -1,7 +1,5 @@
 -- What may stand in a place of a line.
-use Rattle.std.specs.Prelude.{◌≡◌, ◌⊎◌, ℕ, Bool, List, [], ◌∷◌, codes, map}
-use Rattle.std.specs.List.{list_any}
-use Rattle.std.specs.Str.{bytes_eq}
+use Rattle.std.specs.Prelude.{◌≡◌, ◌⊎◌, ℕ, List, [], ◌∷◌, codes, map}
 use Rattle.irp_core.specs.declared.ids.{PassId.{PassId}, IrpLife.{IrpLife}}
 use Rattle.irp_core.specs.declared.status.NtStatus.{NtStatus}
 use Rattle.csq_replay.specs.Pieces.{IsNumber}
@@ -9,10 +7,6 @@ use Rattle.csq_replay.specs.StepLine.{IsPassWord, IsNameWord}
 use Rattle.csq_replay.specs.CallLine.{IsHexStatus}
 use Rattle.csq_explain.specs.Words.{step_words, call_words}
 use Rattle.csq_diagnose.specs.declared.expected.{TheConstants.{PLACES}, Expected.{Expected, TheVariants.{Pass, Step, ScriptCall, IrpInLife, Irp, File, Peek, Place, Status, Nothing}}}
-
--- whether a word begins a call
-abbrev pub is_call_word : List ℕ → Bool
-is_call_word word = list_any (λ one. bytes_eq one word) call_words
 
 -- where an insert or a put-back puts its IRP
 abbrev pub place_words : List (List ℕ)

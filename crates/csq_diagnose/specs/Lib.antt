@@ -4,9 +4,7 @@ pub mod Misfits
 pub mod Nearness
 pub mod Founds
 pub mod Malforms
-pub mod Texts
-pub mod LineTexts
+pub mod Columns
 pub mod Diagnoses
-pub mod RefusedTexts
 pub mod Schedules
 pub mod Reports

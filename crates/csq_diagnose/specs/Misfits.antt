@@ -15,8 +15,8 @@ abbrev pub column_of : List ℕ → List (List ℕ) → ℕ
 column_of line left = length line - length (join_with_byte 32 left) + 1
 
 -- the words of what is left of a line, if anything is
-abbrev pub words_after : Option (Bor (List ℕ)) → List (List ℕ)
-words_after left = option_map_or (λ (text : Bor (List ℕ)). words_of text.now) left []
+abbrev pub words_left : Option (Bor (List ℕ)) → List (List ℕ)
+words_left left = option_map_or (λ (text : Bor (List ℕ)). words_of text.now) left []
 
 -- what stands in the place of a misfit: a word, of which it is said whether it is the last, or the end of the line
 pub record StandsThere (line : List ℕ) (m : Misfit) : Type 0 where

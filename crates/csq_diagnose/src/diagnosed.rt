@@ -1,23 +1,20 @@
 //! Answers to inputs, each with its diagnosis.
-ghost use Rattle.std.specs.Prelude.{◌≡◌, ◌++◌, ℕ, List, Option, length, codes, OnOk, IfOk, MatchOption, string_bytes};
+ghost use Rattle.std.specs.Prelude.{ℕ, List, Option, OnOk, IfOk, MatchOption, string_bytes};
 ghost use Rattle.csq_replay.specs.Lines.{GrewBy};
 ghost use Rattle.csq_replay.specs.Pieces.{words_of};
 ghost use Rattle.csq_diagnose.specs.declared.malformed.Malformed.{Malformed as MalformedOf};
 ghost use Rattle.csq_diagnose.specs.Grammars.{AreLineWords};
 ghost use Rattle.csq_diagnose.specs.Malforms.{IsMalformed};
-ghost use Rattle.csq_diagnose.specs.LineTexts.{long_text, fault_lines, fault_text};
-ghost use Rattle.csq_diagnose.specs.RefusedTexts.{refused_lines};
+ghost use Rattle.csq_diagnose.specs.Columns.{GrewAt, IsOfFault, at_text, column_after, words_before};
 ghost use Rattle.csq_diagnose.specs.Reports.{IsEndDiagnosis, IsReportUntil};
 
 use crate::grammar::Grammar;
-use crate::lines::{LongLine, MalformedLine};
 use crate::malformed::Malformed;
-use crate::refused::{Cure, RefusedLine, words_before};
-use crate::source::{Mark, push_marked};
-use crate::texts::Notes;
+use crate::refused::{Refusal, refused_words, words_before};
+use crate::source::Mark;
+use crate::texts::fault_words;
 use csq_explain::Reason;
-use csq_replay::{Answerer, CallStop, Ended, Ending, Line, Stop, answer_input};
-use irp_core::{Step, StepRefused};
+use csq_replay::{Answerer, CallStop, Ended, Ending, Line, MAX_LINE, Stop, answer_input};
 use std::alloc::{AllocError, Allocator};
 
 /// The answer to an input, and why a line ended its handling.
@@ -29,6 +26,87 @@ pub struct Report<A: Allocator> {
     pub text: String<A>,
     /// Which line ended the handling, and why; empty if all lines were handled.
     pub diagnosis: String<A>,
+}
+
+/// Adds the numbers of a line and of a column of it, and what is said of them.
+fn add_at<A: Allocator>(
+    line: Line<'_>,
+    column: usize,
+    words: &str,
+    text: &mut String<A>,
+) -> Result<(), AllocError>
+    ensures { OnOk result (GrewBy (string_bytes text.old) (string_bytes text.new)
+        (at_text line.entry.number column words.now)) }
+{
+    let number = line.number;
+    write!(text, "{number}:{column}: {words}")
+}
+
+/// Adds that a line is too long, of its first byte too many.
+fn add_long<A: Allocator + Copy>(
+    alloc: A,
+    line: Line<'_>,
+    text: &mut String<A>,
+) -> Result<(), AllocError>
+    ensures { OnOk result (GrewAt line.entry.number 65
+        (string_bytes text.old) (string_bytes text.new)) }
+{
+    let length = line.bytes.len();
+    let mut words = String::new(alloc);
+    writeln!(
+        words,
+        "the line has {length} bytes, and at most {MAX_LINE} are allowed"
+    )?;
+    add_at(line, MAX_LINE + 1, words.as_str(), text)
+}
+
+/// Adds what names no step, or no call, in a line: what is wrong, the line with a mark, and which words are expected.
+fn add_fault<A: Allocator + Copy>(
+    alloc: A,
+    line: Line<'_>,
+    fault: Malformed<'_>,
+    text: &mut String<A>,
+) -> Result<(), AllocError>
+    ensures { OnOk result (GrewAt line.entry.number fault.entry.column
+        (string_bytes text.old) (string_bytes text.new)) }
+{
+    let words = fault_words(alloc, line, fault)?;
+    add_at(line, fault.column, words.as_str(), text)
+}
+
+/// Adds what names no step, or no call, in a line; nothing if it names one.
+fn add_malformed<A: Allocator + Copy>(
+    alloc: A,
+    grammar: Grammar,
+    line: Line<'_>,
+    text: &mut String<A>,
+) -> Result<(), AllocError>
+    ensures { OnOk result ((fault : Option MalformedOf) × MatchOption fault
+        (AreLineWords grammar (words_of line.entry.bytes.now)) (IsMalformed grammar line.entry.bytes.now)
+        × (added : List ℕ) × GrewBy (string_bytes text.old) (string_bytes text.new) added
+        × IsOfFault line.entry.number fault added) }
+{
+    let Some(fault) = Malformed::find(alloc, grammar, line.bytes)? else {
+        return Ok(());
+    };
+    add_fault(alloc, line, fault, text)?;
+    Ok(())
+}
+
+/// Adds why the step of a line is refused, and the line with a mark below what is at fault.
+fn add_refused<A: Allocator + Copy>(
+    alloc: A,
+    line: Line<'_>,
+    refusal: Refusal,
+    text: &mut String<A>,
+) -> Result<(), AllocError>
+    ensures { OnOk result (GrewAt line.entry.number
+        (column_after line.entry.bytes.now (words_before refusal.cause))
+        (string_bytes text.old) (string_bytes text.new)) }
+{
+    let mark = Mark::of_word(line.bytes, words_before(refusal.cause));
+    let words = refused_words(alloc, line.bytes, refusal, mark)?;
+    add_at(line, mark.column, words.as_str(), text)
 }
 
 /// Why a line ends the handling of an input.
@@ -43,74 +121,6 @@ pub trait Diagnose<A: Allocator> {
             × reports self line.entry.number line.entry.bytes.now added) };
 }
 
-/// Adds that a line is too long.
-pub(crate) fn add_long<A: Allocator>(line: Line<'_>, text: &mut String<A>) -> Result<(), AllocError>
-    ensures { OnOk result (GrewBy (string_bytes text.old) (string_bytes text.new)
-        (long_text line.entry.number (length line.entry.bytes.now) ++ codes "\n")) }
-{
-    let (number, length) = (line.number, line.bytes.len());
-    writeln!(text, "{}", LongLine { number, length })
-}
-
-/// Adds what names no step, or no call, in a line: what is wrong, the line with a mark, and which words are expected.
-pub(crate) fn add_fault<A: Allocator>(
-    line: Line<'_>,
-    fault: Malformed<'_>,
-    text: &mut String<A>,
-) -> Result<(), AllocError>
-    ensures { OnOk result (GrewBy (string_bytes text.old) (string_bytes text.new)
-        (fault_lines line.entry.number line.entry.bytes.now fault.entry)) }
-{
-    let number = line.number;
-    writeln!(text, "{}", MalformedLine { number, fault })?;
-    push_marked(line.bytes, Mark::of_fault(fault), text)?;
-    write!(text, "{}", Notes(fault))?;
-    Ok(())
-}
-
-/// Adds what names no step, or no call, in a line; nothing if it names one.
-fn add_malformed<A: Allocator + Copy>(
-    alloc: A,
-    grammar: Grammar,
-    line: Line<'_>,
-    text: &mut String<A>,
-) -> Result<(), AllocError>
-    ensures { OnOk result ((fault : Option MalformedOf) × MatchOption fault
-        (AreLineWords grammar (words_of line.entry.bytes.now)) (IsMalformed grammar line.entry.bytes.now)
-        × GrewBy (string_bytes text.old) (string_bytes text.new)
-        (fault_text line.entry.number line.entry.bytes.now fault)) }
-{
-    let Some(fault) = Malformed::find(alloc, grammar, line.bytes)? else {
-        return Ok(());
-    };
-    add_fault(line, fault, text)?;
-    Ok(())
-}
-
-/// Adds why the step of a line is refused, and the line with a mark below what is at fault.
-fn add_refused<A: Allocator>(
-    line: Line<'_>,
-    step: Step,
-    cause: StepRefused,
-    reason: Reason,
-    text: &mut String<A>,
-) -> Result<(), AllocError>
-    ensures { OnOk result (GrewBy (string_bytes text.old) (string_bytes text.new)
-        (refused_lines line.entry.number line.entry.bytes.now step cause reason)) }
-{
-    let mark = Mark::of_word(line.bytes, words_before(cause));
-    let refused = RefusedLine {
-        number: line.number,
-        column: mark.column,
-        step,
-        cause,
-        reason,
-        cure: Cure::of(step, cause),
-    };
-    writeln!(text, "{refused}")?;
-    push_marked(line.bytes, mark, text)
-}
-
 impl<A: Allocator + Copy> Diagnose<A> for Reason {
     ghost use Rattle.csq_diagnose.specs.Schedules.{ReportsReason};
 
@@ -118,9 +128,16 @@ impl<A: Allocator + Copy> Diagnose<A> for Reason {
 
     fn diagnose(self, alloc: A, line: Line<'_>, text: &mut String<A>) -> Result<(), AllocError> {
         match self.stop {
-            Stop::TooLong => add_long(line, text),
+            Stop::TooLong => add_long(alloc, line, text),
             Stop::Malformed => add_malformed(alloc, Grammar::Schedule, line, text),
-            Stop::Refused(step, cause) => add_refused(line, step, cause, self, text),
+            Stop::Refused(step, cause) => {
+                let refusal = Refusal {
+                    step,
+                    cause,
+                    reason: self,
+                };
+                add_refused(alloc, line, refusal, text)
+            }
         }
     }
 }
@@ -132,7 +149,7 @@ impl<A: Allocator + Copy> Diagnose<A> for CallStop {
 
     fn diagnose(self, alloc: A, line: Line<'_>, text: &mut String<A>) -> Result<(), AllocError> {
         match self {
-            CallStop::TooLong => add_long(line, text),
+            CallStop::TooLong => add_long(alloc, line, text),
             CallStop::Malformed => add_malformed(alloc, Grammar::Script, line, text),
         }
     }

@@ -2,7 +2,7 @@
 ghost use Rattle.std.specs.Prelude.{◌≡◌, ◌↔◌, map, IsTrue};
 ghost use Rattle.std.specs.List.{list_any};
 ghost use Rattle.std.specs.Str.{bytes_eq};
-ghost use Rattle.csq_diagnose.specs.Expecting.{Admits, IsOneOf, expected_words, is_call_word};
+ghost use Rattle.csq_diagnose.specs.Expecting.{Admits, IsOneOf, expected_words};
 
 use csq_explain::{CALLS, STEPS};
 use csq_replay::{parse_name, parse_number, parse_pass, parse_status};
@@ -50,9 +50,7 @@ fn is_one_of(word: &[u8], words: &[&str]) -> bool
 }
 
 /// Whether a word begins a call.
-pub(crate) fn is_call_word(word: &[u8]) -> bool
-    ensures { result ≡ is_call_word word.now }
-{
+pub(crate) fn is_call_word(word: &[u8]) -> bool {
     has_word(&CALLS, word)
 }
 

@@ -1,10 +1,9 @@
 //! The line that ends a schedule or a script, with a mark below what is wrong.
-ghost use Rattle.std.specs.Prelude.{◌<◌, ◌≤◌, ◌≡◌, drop, length, map, replicate, string_bytes, OnOk};
+ghost use Rattle.std.specs.Prelude.{◌≡◌, ◌≤◌, drop, length};
 ghost use Rattle.std.specs.Option.{ForSome};
-ghost use Rattle.csq_replay.specs.Lines.{GrewBy};
 ghost use Rattle.csq_replay.specs.Pieces.{words_of};
-ghost use Rattle.csq_diagnose.specs.LineTexts.{mark_of_fault, mark_of_word, mark_text, marked, marked_text, shown, source_text};
-ghost use Rattle.csq_diagnose.specs.Misfits.{words_after};
+ghost use Rattle.csq_diagnose.specs.Columns.{column_after};
+ghost use Rattle.csq_diagnose.specs.Misfits.{words_left};
 
 use crate::found::Found;
 use crate::malformed::Malformed;
@@ -12,10 +11,7 @@ use csq_replay::split_piece;
 use std::alloc::{AllocError, Allocator};
 
 /// A byte of the line as it is shown: a question mark if it isn't printable ASCII.
-fn shown(byte: u8) -> char
-    ensures value { result ≡ shown byte }
-    ensures ascii { result < 128 }
-{
+fn shown(byte: u8) -> char {
     if byte.is_ascii_graphic() || byte == b' ' {
         char::from(byte)
     } else {
@@ -24,40 +20,22 @@ fn shown(byte: u8) -> char
 }
 
 /// Adds the bytes of the line as they are shown.
-fn push_shown<A: Allocator>(line: &[u8], text: &mut String<A>) -> Result<(), AllocError>
-    ensures { OnOk result (GrewBy (string_bytes text.old) (string_bytes text.new)
-        (map shown line.now)) }
-{
+fn push_shown<A: Allocator>(line: &[u8], text: &mut String<A>) -> Result<(), AllocError> {
     for byte in line {
         text.push(shown(*byte))?;
     }
     Ok(())
 }
 
-/// Adds an ASCII sign so often.
+/// Adds a sign, `count` times.
 fn push_repeated<A: Allocator>(
     count: usize,
     sign: char,
     text: &mut String<A>,
-) -> Result<(), AllocError>
-    requires { sign < 128 }
-    ensures { OnOk result (GrewBy (string_bytes text.old) (string_bytes text.new)
-        (replicate count sign)) }
-{
+) -> Result<(), AllocError> {
     for _ in 0..count {
         text.push(sign)?;
     }
-    Ok(())
-}
-
-/// Adds the line itself.
-fn push_source<A: Allocator>(line: &[u8], text: &mut String<A>) -> Result<(), AllocError>
-    ensures { OnOk result (GrewBy (string_bytes text.old) (string_bytes text.new)
-        (source_text line.now)) }
-{
-    text.push_str("    ")?;
-    push_shown(line, text)?;
-    text.push_str("\n")?;
     Ok(())
 }
 
@@ -71,9 +49,7 @@ pub(crate) struct Mark {
 }
 
 /// How many bytes are marked of what is wrong: those of a word, and otherwise one.
-fn marked(found: Found<'_>) -> usize
-    ensures { result ≡ marked found.entry }
-{
+fn marked(found: Found<'_>) -> usize {
     match found {
         Found::Word(word) => word.len(),
         _ => 1,
@@ -82,18 +58,16 @@ fn marked(found: Found<'_>) -> usize
 
 impl Mark {
     /// The bytes that are wrong in a line that names no step, or no call.
-    pub(crate) fn of_fault(fault: Malformed<'_>) -> Mark
-        ensures { result ≡ mark_of_fault fault.entry }
-    {
+    pub(crate) fn of_fault(fault: Malformed<'_>) -> Mark {
         Mark {
             column: fault.column,
             width: marked(fault.found),
         }
     }
 
-    /// The word of a line before which so many words stand, if there is one.
+    /// The word of a line that stands after the given number of words, if there is one.
     pub(crate) fn of_word(line: &[u8], before: usize) -> Mark
-        ensures { result ≡ mark_of_word line.now before }
+        ensures { result.column ≡ column_after line.now before }
     {
         match text_after(line, before) {
             Some(text) => Mark {
@@ -108,9 +82,9 @@ impl Mark {
     }
 }
 
-/// What stands after the first words of a line, so many of them, if it has more.
+/// What stands after the first `count` words of a line, if it has more.
 fn text_after(line: &[u8], count: usize) -> Option<&[u8]>
-    ensures words { words_after result ≡ drop count (words_of line.now) }
+    ensures words { words_left result ≡ drop count (words_of line.now) }
     ensures short { ForSome result (λ text. length text.now ≤ length line.now) }
 {
     let mut text = Some(line);
@@ -123,28 +97,17 @@ fn text_after(line: &[u8], count: usize) -> Option<&[u8]>
     text
 }
 
-/// Adds a mark below the bytes of a line.
-fn push_mark<A: Allocator>(mark: Mark, text: &mut String<A>) -> Result<(), AllocError>
-    ensures { OnOk result (GrewBy (string_bytes text.old) (string_bytes text.new)
-        (mark_text mark)) }
-{
-    text.push_str("    ")?;
-    push_repeated(mark.column.saturating_sub(1), ' ', text)?;
-    push_repeated(mark.width, '^', text)?;
-    text.push_str("\n")?;
-    Ok(())
-}
-
-/// Adds the line with a mark below what is wrong.
+/// Adds the line, and a mark below what is wrong.
 pub(crate) fn push_marked<A: Allocator>(
     line: &[u8],
     mark: Mark,
     text: &mut String<A>,
-) -> Result<(), AllocError>
-    ensures { OnOk result (GrewBy (string_bytes text.old) (string_bytes text.new)
-        (marked_text line.now mark)) }
-{
-    push_source(line, text)?;
-    push_mark(mark, text)?;
+) -> Result<(), AllocError> {
+    text.push_str("    ")?;
+    push_shown(line, text)?;
+    text.push_str("\n    ")?;
+    push_repeated(mark.column.saturating_sub(1), ' ', text)?;
+    push_repeated(mark.width, '^', text)?;
+    text.push_str("\n")?;
     Ok(())
 }

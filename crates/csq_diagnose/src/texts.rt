@@ -1,19 +1,17 @@
 //! Diagnoses of lines that name no step, or no call, in words.
-ghost use Rattle.std.specs.Prelude.{◌≡◌};
-ghost use Rattle.std.specs.List.{list_all};
-ghost use Rattle.csq_diagnose.specs.Texts.{after_letter, begins_a_step, begins_as_number, begins_with_zero, in_steps_text, is_digit, keeps_rules, noun_text, number_in, number_rule_text, other_input_text, rule_text, steps_meant_text, wrong_in_life};
 
 use crate::expected::{Expected, is_call_word};
 use crate::found::Found;
 use crate::grammar::{first_piece, second_piece};
 use crate::malformed::Malformed;
 use crate::nearest::Near;
+use crate::source::{Mark, push_marked};
+use csq_replay::Line;
+use std::alloc::{AllocError, Allocator};
 use std::fmt;
 
 /// What is expected, as `step`.
-fn noun(expected: Expected) -> &'static str
-    ensures { result.now ≡ noun_text expected }
-{
+fn noun(expected: Expected) -> &'static str {
     match expected {
         Expected::Pass => "pass",
         Expected::Step => "step",
@@ -28,9 +26,7 @@ fn noun(expected: Expected) -> &'static str
 }
 
 /// Which words are expected, as `a place is back or front`.
-fn rule(expected: Expected) -> &'static str
-    ensures { result.now ≡ rule_text expected }
-{
+fn rule(expected: Expected) -> &'static str {
     match expected {
         Expected::Pass => "a pass is the letter p and its number, as p1",
         Expected::Step => "a step is arm, test, disarm, end, flag, take, out, done, renew or rearm",
@@ -49,28 +45,26 @@ fn rule(expected: Expected) -> &'static str
 
 /// A byte that no word has, and whether it is the first of the input.
 #[derive(Clone, Copy)]
-struct Strange(u8, bool);
+struct Strange {
+    byte: u8,
+    begins_input: bool,
+}
 
 /// As `a tab: words are separated by one space`.
 impl fmt::Display for Strange {
-    ghost use Rattle.std.specs.Prelude.{Some};
-    ghost use Rattle.csq_diagnose.specs.Texts.{strange_text};
-
-    ghost output = { λ byte. Some (strange_text byte.0 byte.1) };
-
     fn fmt<W: fmt::Write>(&self, f: &mut fmt::Formatter<W>) -> fmt::Result {
-        let Strange(byte, first) = *self;
+        let Strange { byte, begins_input } = *self;
         match byte {
             b'\r' => write!(
                 f,
                 "a carriage return: a line ends in a line feed alone, so save the file with LF"
             ),
             b'\t' => write!(f, "a tab: words are separated by one space"),
-            239 if first => write!(
+            239 if begins_input => write!(
                 f,
                 "byte 239 is above 127, as of a byte order mark: save the file without one"
             ),
-            254.. if first => write!(
+            254.. if begins_input => write!(
                 f,
                 "byte {byte} is above 127, as of UTF-16: save the file as ASCII"
             ),
@@ -92,11 +86,6 @@ struct Misplaced<'a> {
 
 /// As `"tset" is no step`.
 impl fmt::Display for Misplaced<'_> {
-    ghost use Rattle.std.specs.Prelude.{Some};
-    ghost use Rattle.csq_diagnose.specs.Texts.{misplaced_text};
-
-    ghost output = { λ misplaced. Some (misplaced_text misplaced.word.now misplaced.expected) };
-
     fn fmt<W: fmt::Write>(&self, f: &mut fmt::Formatter<W>) -> fmt::Result {
         let (word, noun) = (self.word, noun(self.expected));
         match self.expected {
@@ -116,11 +105,6 @@ struct Hint(Option<Near>, usize);
 
 /// As `; did you mean "test"?`, or nothing.
 impl fmt::Display for Hint {
-    ghost use Rattle.std.specs.Prelude.{Some};
-    ghost use Rattle.csq_diagnose.specs.Texts.{hint_text};
-
-    ghost output = { λ hint. Some (hint_text hint.0 hint.1) };
-
     fn fmt<W: fmt::Write>(&self, f: &mut fmt::Formatter<W>) -> fmt::Result {
         let Hint(near, letters) = *self;
         match near {
@@ -133,9 +117,7 @@ impl fmt::Display for Hint {
 }
 
 /// Which steps a call of a script is in a schedule: a further line, or nothing.
-fn in_steps(word: &str) -> &'static str
-    ensures { result.now ≡ in_steps_text word.now }
-{
+fn in_steps(word: &str) -> &'static str {
     match word {
         "insert" => "\n  an insert is arm, test and, if the test finds 1, disarm",
         "remove" => "\n  a removal is disarm, and after one that finds 0 another, or end",
@@ -145,9 +127,7 @@ fn in_steps(word: &str) -> &'static str
 }
 
 /// The same if a step is expected.
-fn steps_meant(expected: Expected, word: &str) -> &'static str
-    ensures { result.now ≡ steps_meant_text expected word.now }
-{
+fn steps_meant(expected: Expected, word: &str) -> &'static str {
     match expected {
         Expected::Step => in_steps(word),
         _ => "",
@@ -155,16 +135,12 @@ fn steps_meant(expected: Expected, word: &str) -> &'static str
 }
 
 /// Whether a word is of digits alone.
-fn is_number(word: &[u8]) -> bool
-    ensures { result ≡ list_all is_digit word.now }
-{
+fn is_number(word: &[u8]) -> bool {
     word.iter().all(|byte| is_digit(*byte))
 }
 
 /// Whether a zero stands in front of other bytes.
-fn begins_with_zero(word: &[u8]) -> bool
-    ensures { result ≡ begins_with_zero word.now }
-{
+fn begins_with_zero(word: &[u8]) -> bool {
     match word {
         [first, _, ..] => *first == b'0',
         _ => false,
@@ -172,9 +148,7 @@ fn begins_with_zero(word: &[u8]) -> bool
 }
 
 /// Whether a word begins as a number does, with or without a sign.
-fn begins_as_number(word: &[u8]) -> bool
-    ensures { result ≡ begins_as_number word.now }
-{
+fn begins_as_number(word: &[u8]) -> bool {
     match word {
         [first, ..] => is_digit(*first) || *first == b'-' || *first == b'+',
         [] => false,
@@ -182,9 +156,7 @@ fn begins_as_number(word: &[u8]) -> bool
 }
 
 /// Which rule of numbers a word breaks: a further line, or nothing.
-fn number_rule(word: &[u8]) -> &'static str
-    ensures { result.now ≡ number_rule_text word.now }
-{
+fn number_rule(word: &[u8]) -> &'static str {
     match (is_number(word), word.len() > 9, begins_with_zero(word)) {
         (true, true, _) => "\n  a number has at most nine digits",
         (true, false, true) => "\n  a number has no zero in front",
@@ -194,16 +166,12 @@ fn number_rule(word: &[u8]) -> &'static str
 }
 
 /// Whether a word breaks none of these rules.
-fn keeps_rules(word: &[u8]) -> bool
-    ensures { result ≡ keeps_rules word.now }
-{
+fn keeps_rules(word: &[u8]) -> bool {
     is_number(word) && word.len() <= 9 && !begins_with_zero(word)
 }
 
 /// What stands after the letter of a pass, if that begins a word.
-fn after_letter(word: &[u8]) -> &[u8]
-    ensures { result.now ≡ after_letter word.now }
-{
+fn after_letter(word: &[u8]) -> &[u8] {
     match word {
         [b'p', number @ ..] => number,
         _ => &[],
@@ -211,9 +179,7 @@ fn after_letter(word: &[u8]) -> &[u8]
 }
 
 /// The number of an IRP in one of its lives; that of the life, if the IRP's is one.
-fn wrong_in_life(word: &[u8]) -> &[u8]
-    ensures { result.now ≡ wrong_in_life word.now }
-{
+fn wrong_in_life(word: &[u8]) -> &[u8] {
     let irp = first_piece(word, b'@');
     if keeps_rules(irp) {
         second_piece(word, b'@')
@@ -223,9 +189,7 @@ fn wrong_in_life(word: &[u8]) -> &[u8]
 }
 
 /// Which part of a word has to be a number, or isn't one where two have to be; nothing if none has to be.
-fn number_in(expected: Expected, word: &[u8]) -> &[u8]
-    ensures { result.now ≡ number_in expected word.now }
-{
+fn number_in(expected: Expected, word: &[u8]) -> &[u8] {
     match expected {
         Expected::Pass => after_letter(word),
         Expected::IrpInLife => wrong_in_life(word),
@@ -235,16 +199,12 @@ fn number_in(expected: Expected, word: &[u8]) -> &[u8]
 }
 
 /// Whether a byte is a digit.
-fn is_digit(byte: u8) -> bool
-    ensures { result ≡ is_digit byte }
-{
+fn is_digit(byte: u8) -> bool {
     byte >= b'0' && byte <= b'9'
 }
 
 /// Whether a word begins with the letter p and a digit, as a pass does.
-fn begins_a_step(word: &[u8]) -> bool
-    ensures { result ≡ begins_a_step word.now }
-{
+fn begins_a_step(word: &[u8]) -> bool {
     match word {
         [letter, digit, ..] => *letter == b'p' && *digit >= b'0' && *digit <= b'9',
         _ => false,
@@ -253,9 +213,7 @@ fn begins_a_step(word: &[u8]) -> bool
 
 /// Which command reads a line that begins with this word, if it isn't the one that was given: a further
 /// line, as `a script has calls: csqsim script reads it`, or nothing.
-fn other_input(expected: Expected, word: &str) -> &'static str
-    ensures { result.now ≡ other_input_text expected word.now }
-{
+fn other_input(expected: Expected, word: &str) -> &'static str {
     match expected {
         Expected::Pass if is_call_word(word.as_bytes()) => {
             "\n  a script has calls: csqsim script reads it"
@@ -269,17 +227,18 @@ fn other_input(expected: Expected, word: &str) -> &'static str
 
 /// What is wrong, and whether with the first byte of the input.
 #[derive(Clone, Copy)]
-pub(crate) struct Wrong<'a>(pub(crate) Malformed<'a>, pub(crate) bool);
+struct Wrong<'a> {
+    fault: Malformed<'a>,
+    begins_input: bool,
+}
 
 /// As `"tset" is no step; did you mean "test"?`.
 impl fmt::Display for Wrong<'_> {
-    ghost use Rattle.std.specs.Prelude.{Some};
-    ghost use Rattle.csq_diagnose.specs.Texts.{malformed_text};
-
-    ghost output = { λ wrong. Some (malformed_text wrong.0 wrong.1) };
-
     fn fmt<W: fmt::Write>(&self, f: &mut fmt::Formatter<W>) -> fmt::Result {
-        let Wrong(fault, first) = *self;
+        let Wrong {
+            fault,
+            begins_input,
+        } = *self;
         let expected = fault.expected;
         let noun = noun(expected);
         match fault.found {
@@ -287,7 +246,7 @@ impl fmt::Display for Wrong<'_> {
             Found::FirstSpace => write!(f, "a space begins the line"),
             Found::TwoSpaces => write!(f, "two spaces: words are separated by one"),
             Found::LastSpace => write!(f, "a space ends the line"),
-            Found::Byte(byte) => write!(f, "{}", Strange(byte, first)),
+            Found::Byte(byte) => write!(f, "{}", Strange { byte, begins_input }),
             Found::Word(word) => {
                 let (misplaced, hint) = (
                     Misplaced { word, expected },
@@ -301,14 +260,9 @@ impl fmt::Display for Wrong<'_> {
 
 /// Which words are expected if one is missing or is another one, each rule on a line of its own.
 #[derive(Clone, Copy)]
-pub(crate) struct Notes<'a>(pub(crate) Malformed<'a>);
+struct Notes<'a>(Malformed<'a>);
 
 impl fmt::Display for Notes<'_> {
-    ghost use Rattle.std.specs.Prelude.{Some};
-    ghost use Rattle.csq_diagnose.specs.Texts.{notes_text};
-
-    ghost output = { λ notes. Some (notes_text notes.0) };
-
     fn fmt<W: fmt::Write>(&self, f: &mut fmt::Formatter<W>) -> fmt::Result {
         let expected = self.0.expected;
         let rule = rule(expected);
@@ -323,4 +277,25 @@ impl fmt::Display for Notes<'_> {
             _ => Ok(()),
         }
     }
+}
+
+/// As `"tset" is no step; did you mean "test"?`, the line with a mark below what is wrong, and which words are expected.
+pub(crate) fn fault_words<A: Allocator>(
+    alloc: A,
+    line: Line<'_>,
+    fault: Malformed<'_>,
+) -> Result<String<A>, AllocError> {
+    let begins_input = line.number == 1 && fault.column == 1;
+    let mut words = String::new(alloc);
+    writeln!(
+        words,
+        "{}",
+        Wrong {
+            fault,
+            begins_input
+        }
+    )?;
+    push_marked(line.bytes, Mark::of_fault(fault), &mut words)?;
+    write!(words, "{}", Notes(fault))?;
+    Ok(words)
 }

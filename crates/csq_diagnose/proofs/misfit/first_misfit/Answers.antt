@@ -1,5 +1,5 @@
 use Rattle.std.proofs.Common.{◌+◌, ◌<◌, ◌^◌, length, subst, refl, sym, ap, ◌∙◌, arith, rules}
-use Rattle.csq_diagnose.proofs.Imports.{Expected, Admits, expected_at, words_after}
+use Rattle.csq_diagnose.proofs.Imports.{Expected, Admits, expected_at, words_left}
 use Rattle.csq_diagnose.proofs.Walking.{stands_there, one_more_fits, left_after, ended, item_expected, nothing_past}
 use Rattle.csq_diagnose.proofs.misfit.first_misfit.Goals as goal
 
@@ -31,7 +31,7 @@ returns-in_default c =
     let item = item_expected c.loop-expected.expected-index c.args.places.now _ test ∙ ap (λ k. expected_at c.args.places.now k) (sym counted) in
     let admitted = c.admits.ensures.0 c.if-not-admits.false in
     let fits = one_more_fits line text word c.split_piece.result.1 c.loop-expected.before inv.left cut c.args.places.now inv.begun (omega (arith, counted, test)) (subst (λ (e : Expected). Admits e word) item admitted) in
-    let left = left_after line text word c.split_piece.result.1 c.loop-expected.before inv.left cut ∙ ap words_after c.in_default.is in
+    let left = left_after line text word c.split_piece.result.1 c.loop-expected.before inv.left cut ∙ ap words_left c.in_default.is in
     ended c.args.places.now line (c.loop-expected.before + 1) c.missing.result fits left c.missing.ensures.none c.missing.ensures.some
 
 pub loop-expected-preserved : goal.loop-expected-preserved
@@ -50,7 +50,7 @@ loop-expected-preserved c =
     record {
       counted = ap (λ k. k + 1) counted;
       begun = one_more_fits line text word c.split_piece.result.1 c.loop-expected.before inv.left cut c.args.places.now inv.begun (omega (arith, counted, test)) (subst (λ (e : Expected). Admits e word) item admitted);
-      left = left_after line text word c.split_piece.result.1 c.loop-expected.before inv.left cut ∙ ap words_after c.in-Some.is;
+      left = left_after line text word c.split_piece.result.1 c.loop-expected.before inv.left cut ∙ ap words_left c.in-Some.is;
       short = omega (arith, shorter, short);
     }
 

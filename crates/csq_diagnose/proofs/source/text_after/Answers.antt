@@ -1,5 +1,5 @@
 use Rattle.std.proofs.Common.{ap, sym, ◌∙◌, arith}
-use Rattle.csq_diagnose.proofs.Imports.{words_after}
+use Rattle.csq_diagnose.proofs.Imports.{words_left}
 use Rattle.csq_diagnose.proofs.Walking.{left_after, none_left_after}
 use Rattle.csq_diagnose.proofs.source.text_after.Goals as goal
 use Rattle.csq_diagnose.proofs.source.text_after.Goals.{in-Some, in-None}
@@ -10,9 +10,9 @@ loop-preserved c =
     let n = c.loop.counter in
     elim c.match-text.branch [
       | in-Some w ↦
-          let before = sym inv.words ∙ ap words_after w.in-Some.is in
+          let before = sym inv.words ∙ ap words_left w.in-Some.is in
           record {
-            words = ap words_after w.text-is ∙ sym (left_after c.args.line.now w.in-Some.left.now w.split_piece.result.0.now w.split_piece.result.1 n before w.split_piece.ensures.pieces);
+            words = ap words_left w.text-is ∙ sym (left_after c.args.line.now w.in-Some.left.now w.split_piece.result.0.now w.split_piece.result.1 n before w.split_piece.ensures.pieces);
             short = λ x e.
                 let shorter = w.split_piece.ensures.shorter x (sym w.text-is ∙ e) in
                 let short = inv.short w.in-Some.left w.in-Some.is in
@@ -20,7 +20,7 @@ loop-preserved c =
           }
       | in-None w ↦
           record {
-            words = ap words_after w.text-is ∙ sym (none_left_after n _ (sym inv.words ∙ ap words_after w.in-None.is));
+            words = ap words_left w.text-is ∙ sym (none_left_after n _ (sym inv.words ∙ ap words_left w.in-None.is));
             short = λ x e. absurd (cc (w.text-is, e));
           }
     ]
